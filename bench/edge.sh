@@ -3,6 +3,7 @@
 # one file, kinds of files and of faults, and what a refusal is to a user. It needs no root and no strace; as root two
 # rows are left out. To be run by hand, from any folder: `bench/edge.sh`, or `SDCA=PROGRAM bench/edge.sh` with a program
 # that is built already. A row that holds prints nothing. The last line is `N passed, M failed`.
+[ $# -eq 0 ] || { echo "edge.sh takes no argument: SDCA=PROGRAM bench/edge.sh" >&2; exit 2; }
 . "$(dirname "$0")/shared.sh"
 
 passed=0

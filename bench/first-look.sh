@@ -13,7 +13,7 @@ first=${FIRST:-1}
 last=${LAST:-1000}
 
 "$program" help | sed -n 's/^  \([a-z]*\( [A-Z][A-Z]*\)\{1,\}\)  .*/\1/p' >table
-sed -n 's|^    /// `\([a-z]* [A-Z ]*\)`: .*|\1|p' "$top/crates/sd_command_table/src/command.rt" >comments
+sed -n 's|^    /// `\([a-z]* [A-Z ]*\)`: .*|\1|p' "$top/crates/sd_command_line/src/command.rt" >comments
 cmp -s table comments || fail "the comments of Command aren't the table that help prints"
 
 git clone -q "$top" clone

@@ -18,7 +18,7 @@ use Rattle.serde_json.specs.Data.{Data, array}
 use Rattle.serde_json.specs.View.{items_of}
 use Rattle.serde_json.specs.Written.{compact_text, items_outline, outline}
 use Rattle.serde_json.proofs.Texts.{print-outline}
-use Rattle.sd_base.proofs.Numbers.{same_number}
+use Rattle.sd_base.proofs.Arithmetic.{same_number}
 use Rattle.sd_book.specs.Commands.{last_period, revoked}
 use Rattle.sd_accounts.specs.Accounts.{AccountsValue}
 use Rattle.sd_accounts.specs.Kept.{accounts_in}

@@ -1,4 +1,10 @@
 pub mod Bools
-pub mod Numbers
+pub mod Arithmetic
 pub mod Ranges
 pub mod Lists
+pub mod Fields
+pub mod Same
+pub mod Words
+pub mod Changes
+pub mod Writes
+pub mod Endian

@@ -1,1 +1,4 @@
 pub mod Count
+pub mod Types
+pub mod Bits
+pub mod Spans

@@ -1,8 +1,13 @@
-//! What nearly all crates share: counts of I/O errors and misses, out of memory, and a counter of generator steps.
+//! What nearly all crates share: fields of bits, counts of I/O errors, out of memory, and a counter of generator steps.
 #![tactic(auto)]
 
+mod field;
+pub mod laws;
 mod memory;
+pub mod numbers;
 mod steps;
+mod word;
 
+pub use field::{get, set};
 pub use memory::NoMemory;
 pub use steps::Steps;

@@ -6,7 +6,7 @@ ghost use Rattle.std.specs.Str.Parse.{digits_value};
 ghost use Rattle.sd_base_text.specs.Number.{decimal_after, decimal_value, fitting, is_decimal};
 
 /// Why a line has no number of 32 bits.
-#[derive(Clone, Copy, Debug, PartialEq, Eq)]
+#[derive(Clone, Copy, PartialEq, Eq)]
 pub enum NumberFault {
     /// The line isn't the word and a decimal.
     Malformed,

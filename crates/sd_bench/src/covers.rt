@@ -4,8 +4,7 @@ ghost use Rattle.std.specs.Prelude.{◌≡◌, ℕ, ◌^◌, ◌<◌, List, All,
 ghost use Rattle.std.specs.List.Sorted.{IsStrictlyIncreasing};
 
 use sd_base::Steps;
-use sd_cover::CoverIndex;
-use sd_steiner::cover;
+use sd_cover::{CoverIndex, cover};
 use sd_tree::{Height, Leaf, SetName};
 use std::alloc::{AllocError, Global};
 use std::marker::Brand;

@@ -8,11 +8,11 @@ mod crcs;
 mod emms;
 mod traces;
 
-use sd_bits::fields;
+use sd_base::fields;
+use sd_keystream::{Parity, scramble};
 use sd_packet::{Packet, is_positional};
 use sd_ports::MemSink;
 use sd_sample::sample;
-use sd_scramble::{Parity, scramble};
 use std::alloc::{AllocError, Global};
 use std::process::ExitCode;
 use std::{env, io};

@@ -1,7 +1,7 @@
 use sd_tree::Leaf;
 
 /// A line of a book.
-#[derive(Clone, Copy, Debug, PartialEq, Eq)]
+#[derive(Clone, Copy, PartialEq, Eq)]
 pub enum Command {
     /// The leaf is no longer revoked.
     Subscribe(Leaf),

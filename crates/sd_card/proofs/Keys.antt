@@ -14,11 +14,11 @@ use Rattle.sd_label.specs.Names.{given}
 use Rattle.sd_label.specs.declared.name.Name.TheVariants.{Pair}
 use Rattle.sd_label.proofs.Hanging.{hangs}
 use Rattle.sd_label.proofs.Pairs.{given_is_hanging, hanging_is_given}
-use Rattle.sd_card_secrets.specs.Hanging.{IsHanging}
-use Rattle.sd_card_secrets.specs.Secrets.{secret_of, HoldsSecret, key_held}
-use Rattle.sd_card_secrets.proofs.Held.{AreOfLeaf, own_among}
-use Rattle.sd_card_secrets.proofs.Keys.{pair_node, hangs_below, held_at}
-use Rattle.sd_card_secrets.proofs.Once.{given_once}
+use Rattle.sd_card.specs.Hanging.{IsHanging}
+use Rattle.sd_card.specs.Secrets.{secret_of, HoldsSecret, key_held}
+use Rattle.sd_card.proofs.Held.{AreOfLeaf, own_among}
+use Rattle.sd_card.proofs.SecretKeys.{pair_node, hangs_below, held_at}
+use Rattle.sd_card.proofs.Once.{given_once}
 use Rattle.sd_card.specs.Fields.{CardFields, card_of, card_key}
 use Rattle.sd_card.proofs.Places.{pair_at}
 

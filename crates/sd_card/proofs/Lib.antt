@@ -2,3 +2,11 @@ pub mod Places
 pub mod Keys
 pub mod Made
 pub mod Spellings
+pub mod Paths
+pub mod MadeSecrets
+pub mod Joined
+pub mod Written
+pub mod Heads
+pub mod Once
+pub mod Held
+pub mod SecretKeys

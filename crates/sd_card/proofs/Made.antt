@@ -6,8 +6,8 @@ use Rattle.sd_label.specs.Names.{given, given_under}
 use Rattle.sd_label.specs.declared.name.Name.{Name}
 use Rattle.sd_label.specs.declared.name.Name.TheVariants.{Whole}
 use Rattle.sd_label.proofs.Counts.{length_given, length_given_under}
-use Rattle.sd_card_secrets.specs.Secrets.{secret_of}
-use Rattle.sd_card_secrets.proofs.Made.{names_first, secrets_long}
+use Rattle.sd_card.specs.Secrets.{secret_of}
+use Rattle.sd_card.proofs.MadeSecrets.{names_first, secrets_long}
 use Rattle.sd_card.specs.Fields.{IsCard, card_of}
 
 -- all pairs of an ancestor

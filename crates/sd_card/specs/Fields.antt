@@ -3,8 +3,8 @@ use Rattle.std.specs.Prelude.{◌≡◌, ℕ, ◌+◌, ◌*◌, ◌/◌, ◌^◌
 use Rattle.sd_tree.specs.Limits.{highest}
 use Rattle.sd_tree.specs.declared.set.SetName.{SetName}
 use Rattle.sd_label.specs.Names.{given}
-use Rattle.sd_card_secrets.specs.Files.{AreSecrets, head_of, file_bytes}
-use Rattle.sd_card_secrets.specs.Secrets.{secret_of, DerivesKey, key_held}
+use Rattle.sd_card.specs.Files.{AreSecrets, head_of, file_bytes}
+use Rattle.sd_card.specs.Secrets.{secret_of, DerivesKey, key_held}
 use Rattle.sd_card.specs.declared.card.Card.{Card}
 
 -- the bytes that a card's file begins with, and its version [this project, docs/FORMATS.md, Card]

@@ -1,2 +1,5 @@
 pub mod Fields
 pub mod Faults
+pub mod Hanging
+pub mod Secrets
+pub mod Files

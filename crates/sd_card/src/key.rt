@@ -7,8 +7,8 @@ ghost use Rattle.sd_card.specs.Fields.{fields_of, card_of, card_key, CardDerives
 
 use crate::card::Card;
 use crate::place::place;
+use crate::{hanging_above, key_below};
 use sd_base::Steps;
-use sd_card_secrets::{hanging_above, key_below};
 use sd_tree::{SetName, contains, depth};
 use std::sync::ledger::Ledger;
 

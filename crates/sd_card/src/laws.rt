@@ -1,12 +1,13 @@
-//! What the definitions of a card, its keys and its file come to.
+//! What the definitions of secrets, of a card, its keys and its file come to.
 
-ghost use Rattle.std.specs.Prelude.{◌≡◌, ◌≤◌, ◌<◌, ◌^◌, ℕ, List, None, true};
+ghost use Rattle.std.specs.Prelude.{◌≡◌, ◌≤◌, ◌<◌, ◌^◌, ℕ, List, None, true, ◌≢◌, AllPairs};
 ghost use Rattle.sd_tree.specs.Leaves.{is_member};
 ghost use Rattle.sd_tree.specs.Limits.{highest};
 ghost use Rattle.sd_tree.specs.SetNames.{IsOfHeight};
 ghost use Rattle.sd_label.specs.Keys.{key_of};
 ghost use Rattle.sd_card.specs.Fields.{CardFields, IsCard, card_of, card_bytes, card_key};
 ghost use Rattle.sd_card.specs.Faults.{fault_in};
+ghost use Rattle.sd_label.specs.Names.{given};
 
 use sd_tree::SetName;
 
@@ -29,4 +30,10 @@ pub fn made_cards()
 pub fn made_keys()
     ensures { (master : List ℕ) (ca d u : ℕ) (name : SetName) → d ≤ highest → u < 2 ^ d → IsOfHeight d name →
         is_member d name u ≡ true → card_key (card_of master ca d u) name ≡ key_of master name }
+{}
+
+/// A leaf is given each name once.
+#[tactic(auto, using(crate::proofs::Once::given_once))]
+pub fn names_once()
+    ensures { (d u : ℕ) → u < 2 ^ d → AllPairs (λ a b. a ≢ b) (given d u) }
 {}

@@ -1,12 +1,12 @@
 ghost use Rattle.std.specs.Prelude.{◌≡◌, ◌+◌, ◌/◌, ◌^◌, ◌<◌, ◌≤◌, ◌*◌, length, IfOk, map};
 ghost use Rattle.sd_label.specs.Names.{given};
-ghost use Rattle.sd_card_secrets.specs.Secrets.{secret_of};
+ghost use Rattle.sd_card.specs.Secrets.{secret_of};
 ghost use Rattle.sd_card.specs.Fields.{fields_of, card_of};
 
 use crate::card::Card;
 use crate::count::count_at;
+use crate::push_labels;
 use sd_base::{NoMemory, Steps};
-use sd_card_secrets::push_labels;
 use sd_label::whole_key;
 use sd_site::Site;
 use sd_tree::{HIGHEST, Leaf};

@@ -6,7 +6,7 @@ use crate::card::Card;
 use crate::count::count_at;
 use crate::fault::CardFault;
 use crate::format::{CA_AT, HEIGHT_AT, LEAF_AT, MAGIC, SECRETS_AT, VERSION, VERSION_AT};
-use sd_card_secrets::{CHECK_BYTES, SECRET_BYTES, byte_at, checks, four_at, secrets_in, two_at};
+use crate::{CHECK_BYTES, SECRET_BYTES, byte_at, checks, four_at, secrets_in, two_at};
 use sd_tree::{Height, Leaf};
 use std::alloc::Global;
 

@@ -3,8 +3,8 @@ ghost use Rattle.sd_card.specs.Fields.{IsCard, fields_of, card_bytes};
 
 use crate::card::Card;
 use crate::format::{MAGIC, VERSION};
+use crate::{write_file, write_head};
 use sd_base::NoMemory;
-use sd_card_secrets::{write_file, write_head};
 use std::alloc::Global;
 
 impl Card {

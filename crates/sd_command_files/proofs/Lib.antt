@@ -6,3 +6,5 @@ pub mod Thirds
 pub mod Streamed
 pub mod Others
 pub mod Printed
+pub mod Lines
+pub mod PrintedPeriods

@@ -17,7 +17,7 @@ use Rattle.sd_command_files.specs.Both.{both_by}
 use Rattle.sd_command_files.specs.Files.{told_site, told_book, told_low, site_of_file, book_of_file, low_site_of_file}
 use Rattle.sd_command_files.specs.Files.{most_book_bytes, most_site_bytes}
 use Rattle.sd_command_files.specs.Leaves.{told_leaves, leaves_of_file}
-use Rattle.sd_leaves.specs.Text.{leaves_of_text}
+use Rattle.sd_command_files.specs.Text.{leaves_of_text}
 
 -- no step but the words' own answers `Usage`
 abbrev pub IsOther : {A : Type 0} → Result A Status → Type 0

@@ -1,6 +1,6 @@
 -- Public meaning: what a file of leaves says [this project, docs/FORMATS.md, Leaves].
 use Rattle.std.specs.Prelude.{ℕ, List, Option, Result, Ok, Err}
-use Rattle.sd_leaves.specs.Text.{leaves_of_text}
+use Rattle.sd_command_files.specs.Text.{leaves_of_text}
 use Rattle.sd_command_status.specs.declared.status.Status.{Status}
 use Rattle.sd_command_status.specs.declared.status.Status.TheVariants.{BadBook}
 use Rattle.sd_command_status.specs.declared.status.LimitKind.TheVariants.{BookBytes}

@@ -6,3 +6,5 @@ pub mod Shown
 pub mod Streams
 pub mod Turned
 pub mod Printed
+pub mod Text
+pub mod Periods

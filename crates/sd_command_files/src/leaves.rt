@@ -1,14 +1,14 @@
 ghost use Rattle.std.specs.Prelude.{◌^◌, ◌<◌, All, IfOk};
-ghost use Rattle.sd_leaves.specs.Text.{leaves_of_text};
+ghost use Rattle.sd_command_files.specs.Text.{leaves_of_text};
 ghost use Rattle.sd_command_status.specs.Outside.{depot_state};
 ghost use Rattle.sd_command_status.specs.Reads.{JudgedOutcome, FileOutcome};
 ghost use Rattle.sd_command_files.specs.Leaves.{leaves_of_file, told_leaves};
 ghost use Rattle.sd_command_files.specs.Shown.{shown_word};
 
+use crate::LeavesFault;
 use crate::files::{MOST_BOOK_BYTES, read_bytes};
 use crate::word::Word;
 use sd_command_status::{LimitKind, Status};
-use sd_leaves::LeavesFault;
 use sd_ports::Depot;
 use sd_tree::{Height, Leaf};
 use std::alloc::Global;
@@ -33,7 +33,7 @@ fn judge_leaves(alloc: Global, word: u8, bytes: &[u8], h: Height) -> Result<Vec<
     ensures value { JudgedOutcome (λ leaves. leaves.items) (told_leaves word (leaves_of_text h bytes.now)) result }
     ensures fits { IfOk result (λ leaves. All (λ u. u < 2 ^ h) leaves.items) }
 {
-    match sd_leaves::read(alloc, bytes, h) {
+    match crate::read(alloc, bytes, h) {
         Ok(leaves) => Ok(leaves),
         Err(LeavesFault::Line(line)) => Err(Status::BadBook { word, line }),
         Err(LeavesFault::NoMemory) => Err(Status::NoMemory),

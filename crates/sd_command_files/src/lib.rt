@@ -1,12 +1,17 @@
-//! What commands share: their words, the files that they read and make, and how they print.
+//! What commands share: the files that they read and make, how they print, and the lines of a book's periods.
 #![tactic(auto)]
 
 mod both;
 mod files;
 mod leaves;
+mod listing;
 mod made;
 mod print;
+mod printing;
+mod reading;
 mod replay;
+mod sets;
+mod text;
 mod turn;
 mod word;
 
@@ -16,8 +21,12 @@ pub use files::{
     read_site,
 };
 pub use leaves::read_leaves;
+pub use listing::Listing;
 pub use made::{make_file, told};
 pub use print::print_text;
+pub use printing::print_periods;
+pub use reading::{LeavesFault, read};
 pub use replay::replay_from;
+pub use sets::cover_sets;
 pub use turn::{close_both, open_both, opening_fault};
 pub use word::{Number, Word};

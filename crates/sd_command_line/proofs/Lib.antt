@@ -1,3 +1,6 @@
 pub mod Rows
 pub mod Sound
 pub mod Words
+pub mod Items
+pub mod Others
+pub mod Printing

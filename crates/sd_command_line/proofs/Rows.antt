@@ -4,10 +4,10 @@ use Rattle.std.proofs.Common.{slice_get, refl, sym, ap, ◌∙◌, arith}
 use Rattle.std.proofs.Common.{option_map, length, map, drop, get_or, string_bytes, String, Global, ◌<◌, ◌≢◌, ◌||◌}
 use Rattle.std.proofs.Common.{Bool, true, false, drop-cons, bytes_eq, ◌≤◌, ◌-◌, append_assoc}
 use Rattle.std.specs.List.{list_any}
-use Rattle.sd_command_table.specs.declared.operand.Operand.{Operand}
-use Rattle.sd_command_table.specs.declared.operand.Kind.{Kind}
-use Rattle.sd_command_table.specs.declared.operand.Kind.TheVariants as kind
-use Rattle.sd_command_table.specs.Operands.{operand_kind}
+use Rattle.sd_command_line.specs.declared.operand.Operand.{Operand}
+use Rattle.sd_command_line.specs.declared.operand.Kind.{Kind}
+use Rattle.sd_command_line.specs.declared.operand.Kind.TheVariants as kind
+use Rattle.sd_command_line.specs.Operands.{operand_kind}
 use Rattle.sd_command_status.specs.declared.status.Status.{Status}
 use Rattle.sd_command_line.specs.declared.argument.Argument.{Argument}
 use Rattle.sd_command_line.specs.Words as words

@@ -3,12 +3,12 @@ use Rattle.std.proofs.Common.{◌≡◌, ℕ, zero, suc, ◌+◌, ◌==◌, ◌|
 use Rattle.std.proofs.Common.{Option, Some, None, Result, Ok, Err, IfOk, refl, sym, subst, arith, inl, inr}
 use Rattle.std.proofs.Common.{lt-ltb, le-ltb, if◌then◌else◌}
 use Rattle.std.proofs.lemmas.Bool.{cases_lt}
-use Rattle.sd_command_table.specs.declared.command.Command.{Command}
-use Rattle.sd_command_table.specs.declared.operand.Operand.{Operand}
-use Rattle.sd_command_table.specs.declared.operand.Kind.{Kind}
-use Rattle.sd_command_table.specs.declared.operand.Kind.TheVariants as kind
-use Rattle.sd_command_table.specs.Commands.{command_named, operands_of}
-use Rattle.sd_command_table.specs.Operands.{operand_kind}
+use Rattle.sd_command_line.specs.declared.command.Command.{Command}
+use Rattle.sd_command_line.specs.declared.operand.Operand.{Operand}
+use Rattle.sd_command_line.specs.declared.operand.Kind.{Kind}
+use Rattle.sd_command_line.specs.declared.operand.Kind.TheVariants as kind
+use Rattle.sd_command_line.specs.Commands.{command_named, operands_of}
+use Rattle.sd_command_line.specs.Operands.{operand_kind}
 use Rattle.sd_base_text.specs.Number.{decimal_value}
 use Rattle.sd_command_status.specs.declared.status.Status.{Status}
 use Rattle.sd_command_status.specs.declared.status.Status.TheVariants.{Usage, BadWord}

@@ -1,2 +1,9 @@
 pub mod Orders
 pub mod Words
+pub mod Commands
+pub mod Exits
+pub mod Operands
+pub mod Explained
+pub mod Reasons
+pub mod Help
+pub mod Pages

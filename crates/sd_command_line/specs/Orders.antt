@@ -1,10 +1,10 @@
 -- Public meaning: what an order that was read is, and when its words are refused.
 use Rattle.std.specs.Prelude.{◌≡◌, ◌+◌, ◌≤◌, ◌⊎◌, ℕ, List, [], ◌∷◌, Result, Ok, Err}
-use Rattle.sd_command_table.specs.declared.operand.Operand.{Operand}
-use Rattle.sd_command_table.specs.declared.operand.Kind.{Kind}
-use Rattle.sd_command_table.specs.declared.operand.Kind.TheVariants as kind
-use Rattle.sd_command_table.specs.Commands.{operands_of}
-use Rattle.sd_command_table.specs.Operands.{operand_kind}
+use Rattle.sd_command_line.specs.declared.operand.Operand.{Operand}
+use Rattle.sd_command_line.specs.declared.operand.Kind.{Kind}
+use Rattle.sd_command_line.specs.declared.operand.Kind.TheVariants as kind
+use Rattle.sd_command_line.specs.Commands.{operands_of}
+use Rattle.sd_command_line.specs.Operands.{operand_kind}
 use Rattle.sd_command_status.specs.declared.status.Status.{Status}
 use Rattle.sd_command_status.specs.declared.status.Status.TheVariants.{Usage, BadWord}
 use Rattle.sd_command_files.specs.Shown.{word_at}

@@ -5,13 +5,13 @@ use Rattle.std.specs.Prelude.{bytes_eq, ◌||◌}
 use Rattle.std.specs.Prelude.{if◌then◌else◌, Option, Some, None, Bool, false, Result, Ok, Err}
 use Rattle.std.specs.List.{list_any}
 use Rattle.sd_base_text.specs.Number.{decimal_value}
-use Rattle.sd_command_table.specs.declared.command.Command.{Command}
-use Rattle.sd_command_table.specs.declared.command.Command.TheVariants as commands
-use Rattle.sd_command_table.specs.declared.operand.Operand.{Operand}
-use Rattle.sd_command_table.specs.declared.operand.Kind.{Kind}
-use Rattle.sd_command_table.specs.declared.operand.Kind.TheVariants as kind
-use Rattle.sd_command_table.specs.Commands.{command_named, operands_of}
-use Rattle.sd_command_table.specs.Operands.{operand_kind}
+use Rattle.sd_command_line.specs.declared.command.Command.{Command}
+use Rattle.sd_command_line.specs.declared.command.Command.TheVariants as commands
+use Rattle.sd_command_line.specs.declared.operand.Operand.{Operand}
+use Rattle.sd_command_line.specs.declared.operand.Kind.{Kind}
+use Rattle.sd_command_line.specs.declared.operand.Kind.TheVariants as kind
+use Rattle.sd_command_line.specs.Commands.{command_named, operands_of}
+use Rattle.sd_command_line.specs.Operands.{operand_kind}
 use Rattle.sd_command_status.specs.Spec.{FileArgument}
 use Rattle.sd_command_files.specs.Shown.{NumberArgument, word_at}
 use Rattle.sd_command_status.specs.declared.status.Status.{Status}

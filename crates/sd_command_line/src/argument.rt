@@ -5,11 +5,11 @@ ghost use Rattle.sd_command_line.specs.Orders.{all_said, argument_said, argument
 ghost use Rattle.sd_command_line.specs.Words.{argument_of, arguments_from, counted, file, files_in, number, number_in};
 ghost use Rattle.sd_command_line.specs.Words.{out_in};
 
+use crate::{Kind, Operand};
 use arrayvec::ArrayVec;
 use sd_base_text::number_after;
 use sd_command_files::{Number, Word};
 use sd_command_status::Status;
-use sd_command_table::{Kind, Operand};
 
 /// What an argument says.
 #[derive(Clone, Copy)]

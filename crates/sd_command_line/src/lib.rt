@@ -1,10 +1,23 @@
-//! The words of the command line, read as an order by the table of commands.
+//! The table of commands, the arguments that it reads, what help prints of it, and what a refusal is to a user.
 #![tactic(auto)]
 
 mod argument;
+mod command;
+mod exit;
+mod explain;
+mod found;
+mod help_command;
 mod named;
+mod operand;
 mod order;
+mod page;
+mod reason;
 
 pub use argument::{Argument, Arguments};
+pub use command::{COMMANDS, Command};
+pub use exit::Exit;
+pub use explain::explanation;
+pub use help_command::{help, version};
 pub use named::{files_of, holds_secrets, out_of};
+pub use operand::{Files, Kind, Operand};
 pub use order::{Order, is_help, is_version, read_words};

@@ -2,7 +2,7 @@
 use Rattle.std.proofs.Common.{◌≡◌, ◌≢◌, ℕ, Bool, cond, List, Option, Some, None, refl, sym, ap}
 use Rattle.std.specs.Prelude.{nat_eq}
 use Rattle.std.specs.FinMap.{get}
-use Rattle.sd_base.proofs.Numbers.{same_number, other_number_back}
+use Rattle.sd_base.proofs.Arithmetic.{same_number, other_number_back}
 use Rattle.sd_ports.specs.Files.{Files}
 use Rattle.sd_command_status.specs.Spec.{FileArgument, Readings, contents_of, IsGiven, IsGot}
 

@@ -4,7 +4,7 @@ use Rattle.std.proofs.Common.{inr, arith}
 use Rattle.std.proofs.KnownBytes.{Appends-nil}
 use Rattle.std.specs.Io.KnownBytes.{Appends}
 use Rattle.sd_base.specs.Count.{HasRisen, HasNotRisen as IsStill}
-use Rattle.sd_base.proofs.Numbers.{still_or_rose}
+use Rattle.sd_base.proofs.Arithmetic.{still_or_rose}
 use Rattle.sd_ports.specs.Files.{Files}
 use Rattle.sd_command_status.specs.declared.status.Status.{Status}
 use Rattle.sd_command_status.specs.declared.status.Status.TheVariants.{Done, Usage, Missing, DepotFault, PrintFault}

@@ -12,7 +12,7 @@ use sd_site::SiteFault;
 use std::alloc::AllocError;
 
 /// The outcome of a run of the program (docs/FORMATS.md, Exits). Arguments are numbered from 0, the command.
-#[derive(Clone, Copy, Debug, PartialEq, Eq)]
+#[derive(Clone, Copy)]
 pub enum Status {
     /// Exit 0: the work is done. The command's text is printed and its file made.
     Done,
@@ -86,7 +86,7 @@ impl Status {
 }
 
 /// Why a packet of a clear stream is refused.
-#[derive(Clone, Copy, Debug, PartialEq, Eq)]
+#[derive(Clone, Copy)]
 pub enum ClearCause {
     /// The stream breaks at it.
     Broken(BreakCause),
@@ -105,7 +105,7 @@ pub enum ClearCause {
 }
 
 /// Why a packet of a stream is refused.
-#[derive(Clone, Copy, Debug, PartialEq, Eq)]
+#[derive(Clone, Copy)]
 pub enum StreamCause {
     /// The stream breaks at it.
     Broken(BreakCause),
@@ -132,7 +132,7 @@ pub enum StreamCause {
 }
 
 /// What is over its limit.
-#[derive(Clone, Copy, Debug, PartialEq, Eq)]
+#[derive(Clone, Copy)]
 pub enum LimitKind {
     /// A site file has at most 4,096 bytes.
     SiteBytes,
@@ -157,7 +157,7 @@ pub enum LimitKind {
 }
 
 /// Why two broadcasts may not go out under one set of cards. Sites are numbered from 1.
-#[derive(Clone, Copy, Debug, PartialEq, Eq)]
+#[derive(Clone, Copy)]
 pub enum Clash {
     /// Their trees have two heights.
     Heights,

@@ -6,11 +6,12 @@ use Rattle.std.proofs.lemmas.Nat.{pow_pos}
 use Rattle.std.proofs.lemmas.Bool.{cases_Bool, cond-false}
 use Rattle.std.proofs.lemmas.List.Sums.{sum_by-cons}
 use Rattle.sd_tree.specs.Leaves.{is_below}
-use Rattle.sd_steiner.specs.Chains.{IsInTree}
-use Rattle.sd_steiner.specs.Walk.{node_at}
-use Rattle.sd_steiner.proofs.Ends.{AreLeaves}
-use Rattle.sd_steiner.proofs.Levels.{StandsAt, below_by_halvings, below_either, below_one, in_tree_from, in_tree_to}
-use Rattle.sd_steiner.proofs.Lists.{counted_some, counted_either, member_first, member_later}
+use Rattle.sd_cover.specs.Chains.{IsInTree}
+use Rattle.sd_cover.specs.Walk.{node_at}
+use Rattle.sd_cover.proofs.Ends.{AreLeaves}
+use Rattle.sd_cover.specs.Walk.{StandsAt}
+use Rattle.sd_cover.proofs.Levels.{below_by_halvings, below_either, below_one, in_tree_from, in_tree_to}
+use Rattle.sd_cover.proofs.Lists.{counted_some, counted_either, member_first, member_later}
 use Rattle.sd_cover.specs.Index.{count_below}
 
 -- a count above 0 is of some member

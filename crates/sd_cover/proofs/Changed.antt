@@ -4,8 +4,8 @@ use Rattle.std.proofs.Common.{arith, sym, ap, subst, refl}
 use Rattle.std.specs.List.{list_any}
 use Rattle.sd_tree.specs.Leaves.{leaves, with_leaf, without_leaf}
 use Rattle.sd_tree.specs.declared.set.SetName.{SetName}
-use Rattle.sd_steiner.specs.Chains.{IsChainCover}
-use Rattle.sd_steiner.proofs.Names.{one_cover}
+use Rattle.sd_cover.specs.Chains.{IsChainCover}
+use Rattle.sd_cover.proofs.Names.{one_cover}
 use Rattle.sd_cover.specs.Changes.{Change, Revokes, Subscribes, revoked_with, ends_revoked, last_revoked}
 use Rattle.sd_cover.proofs.Ranges.{filter_same, filter_twice, passes}
 use Rattle.sd_cover.proofs.Indexes.{none_passes}

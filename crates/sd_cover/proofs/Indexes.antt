@@ -10,14 +10,15 @@ use Rattle.std.specs.Prelude.{Option}
 use Rattle.std.proofs.lemmas.List.Sums.{count_by-le-length}
 use Rattle.std.proofs.lemmas.List.FromFn.{length-range_with_len}
 use Rattle.sd_base.proofs.Bools.{or_true, or_false, and_false, or_swap}
-use Rattle.sd_steiner.proofs.Lists.{counted_some}
+use Rattle.sd_cover.proofs.Lists.{counted_some}
 use Rattle.std.proofs.lemmas.Bool.{cases_Bool, cond-true, cond-false}
 use Rattle.std.proofs.lemmas.Bool.Decides.{eqb_tells, nat_tests}
 use Rattle.std.proofs.lemmas.Nat.{pow_pos}
 use Rattle.sd_tree.specs.Leaves.{is_below, leaves, with_leaf, without_leaf}
 use Rattle.sd_tree.proofs.Levels.{doubled}
 use Rattle.sd_tree.proofs.Ancestors.{leaf_level}
-use Rattle.sd_steiner.proofs.Levels.{StandsAt, below_by_halvings}
+use Rattle.sd_cover.specs.Walk.{StandsAt}
+use Rattle.sd_cover.proofs.Levels.{below_by_halvings}
 use Rattle.sd_cover.specs.Tally.{tally_at}
 use Rattle.sd_cover.specs.Path.{met_by}
 use Rattle.sd_cover.specs.Index.{IndexValue, count_below, counts_one, revoked_by, IsIndex}

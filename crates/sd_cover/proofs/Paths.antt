@@ -12,8 +12,9 @@ use Rattle.std.proofs.Math.Pow.{pow_mono}
 use Rattle.sd_tree.specs.Leaves.{is_below}
 use Rattle.sd_tree.proofs.Ancestors.{node_level}
 use Rattle.sd_tree.proofs.Levels.{IsAtLevel, same_level, halved_level}
-use Rattle.sd_steiner.specs.Walk.{node_at}
-use Rattle.sd_steiner.proofs.Levels.{StandsAt, node_stands, below_by_halvings}
+use Rattle.sd_cover.specs.Walk.{node_at}
+use Rattle.sd_cover.specs.Walk.{StandsAt}
+use Rattle.sd_cover.proofs.Levels.{node_stands, below_by_halvings}
 use Rattle.sd_cover.specs.Tally.{tally_at, with_count}
 use Rattle.sd_cover.specs.Path.{met_by}
 use Rattle.sd_cover.proofs.Tables.{counted, get_with_count, count_counted}

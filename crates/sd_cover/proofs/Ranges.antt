@@ -8,7 +8,7 @@ use Rattle.std.proofs.lemmas.Bool.Decides.{eqb_tells}
 use Rattle.std.proofs.lemmas.List.Sums.{sum_by-cons}
 use Rattle.std.proofs.lemmas.Map.Views.{any-filter_same}
 use Rattle.sd_tree.proofs.Counting.{count_interval, count_split}
-use Rattle.sd_steiner.proofs.Lists.{found_member, member_cases}
+use Rattle.sd_cover.proofs.Lists.{found_member, member_cases}
 
 -- the count by a test of what passes another is the count by both
 pub count_filter : (p q : ℕ → Bool) (xs : List ℕ) → count_by q (filter p xs) ≡ count_by (λ w. p w && q w) xs

@@ -9,22 +9,22 @@ use Rattle.std.proofs.lemmas.Bool.{cond-true}
 use Rattle.std.proofs.lemmas.List.Elements.{All-contains, All-filter}
 use Rattle.std.proofs.lemmas.List.Kept.{IsStrictlyIncreasing-filter}
 use Rattle.std.proofs.lemmas.List.Sums.{sum_by-cons}
-use Rattle.sd_steiner.proofs.Ancestry.{leaf_to_root}
-use Rattle.sd_steiner.proofs.Lists.{member_first, member_later}
+use Rattle.sd_cover.proofs.Ancestry.{leaf_to_root}
+use Rattle.sd_cover.proofs.Lists.{member_first, member_later}
 use Rattle.sd_tree.specs.SetNames.{set_cmp, AreAscending}
 use Rattle.sd_tree.specs.Leaves.{is_below, leaves}
 use Rattle.sd_tree.specs.declared.set.SetName.{SetName}
 use Rattle.sd_tree.specs.declared.set.SetName.TheVariants.{Whole}
 use Rattle.sd_tree.proofs.Members.{leaves_below, leaves_ascending}
-use Rattle.sd_steiner.specs.Chains.{IsInTree, HasOneChild, HasTwoChildren, IsChainCover}
-use Rattle.sd_steiner.specs.Walk.{node_at, of_ends, IsOnChain, AddsChains}
-use Rattle.sd_steiner.proofs.Ends.{AreLeaves}
-use Rattle.sd_steiner.proofs.Levels.{StandsAt, child_stands, below_by_halvings, in_tree_to}
-use Rattle.sd_steiner.proofs.AtNode.{walk_leaf, walk_one, walk_two, on_chain_child, on_chain_begun}
-use Rattle.sd_steiner.proofs.Walks.{on_chain_left, on_chain_right}
-use Rattle.sd_steiner.specs.Cover.{cover_of}
-use Rattle.sd_steiner.proofs.There.{the_cover}
-use Rattle.sd_steiner.proofs.Sorting.{sorted_chains}
+use Rattle.sd_cover.specs.Chains.{IsInTree, HasOneChild, HasTwoChildren, IsChainCover}
+use Rattle.sd_cover.specs.Walk.{StandsAt, node_at, of_ends, IsOnChain, AddsChains}
+use Rattle.sd_cover.proofs.Ends.{AreLeaves}
+use Rattle.sd_cover.proofs.Levels.{child_stands, below_by_halvings, in_tree_to}
+use Rattle.sd_cover.proofs.AtNode.{walk_leaf, walk_one, walk_two, on_chain_child, on_chain_begun}
+use Rattle.sd_cover.proofs.TreeWalks.{on_chain_left, on_chain_right}
+use Rattle.sd_cover.specs.Cover.{cover_of}
+use Rattle.sd_cover.proofs.There.{the_cover}
+use Rattle.sd_cover.proofs.Sorting.{sorted_chains}
 use Rattle.sd_cover.specs.Tally.{tally_at}
 use Rattle.sd_cover.specs.Index.{count_below, counts_one, revoked_by, IsIndex, AreRevocable}
 use Rattle.sd_cover.proofs.Bridge.{counts_in_tree, count_children, stands_low, stands_high}

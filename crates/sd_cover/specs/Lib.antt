@@ -3,3 +3,7 @@ pub mod Table
 pub mod Index
 pub mod Path
 pub mod Changes
+pub mod Partition
+pub mod Chains
+pub mod Cover
+pub mod Walk

@@ -1,5 +1,5 @@
-//! The incremental index of the cover, and not the cover itself: that is `sd_steiner`.
-//! It keeps the revoked leaves from period to period, and gives the sets of their cover.
+//! The cover by chains of the Steiner tree, and its incremental index, which keeps the revoked leaves between periods.
+//! Other crates cite its definition, `cover_of`, and the laws on it.
 #![tactic(auto)]
 
 mod counts;
@@ -7,6 +7,12 @@ mod index;
 pub mod laws;
 mod path;
 mod sets;
+mod walk;
 
 pub use counts::{Counts, MOST_ROOM, NODES};
 pub use index::{CoverIndex, MOST_SPARE};
+pub use laws::{
+    cover_is_listed, cover_is_small, cover_unites, one_cover, same_leaves_same_cover,
+    same_nodes_same_cover, sets_are_of_height,
+};
+pub use walk::{CoverFault, cover};

@@ -1,9 +1,8 @@
 ghost use Rattle.std.specs.Prelude.{◌≡◌, ℕ, ◌+◌, ◌-◌, ◌*◌, ◌^◌, ◌<◌, ◌≤◌, ◌++◌, All, IfOk, OnOk, length};
-ghost use Rattle.sd_steiner.specs.Chains.{IsChainCover};
-ghost use Rattle.sd_steiner.specs.Cover.{cover_of};
+ghost use Rattle.sd_cover.specs.Chains.{IsChainCover};
+ghost use Rattle.sd_cover.specs.Cover.{cover_of};
 ghost use Rattle.sd_tree.specs.declared.height.TheConstants.{HIGHEST};
-ghost use Rattle.sd_steiner.specs.Walk.{of_ends, IsOnChain, AddsChains};
-ghost use Rattle.sd_steiner.proofs.Levels.{StandsAt};
+ghost use Rattle.sd_cover.specs.Walk.{of_ends, IsOnChain, AddsChains, StandsAt};
 ghost use Rattle.sd_cover.specs.Tally.{tally_at};
 ghost use Rattle.sd_cover.specs.Index.{IsIndex, AreRevocable, revoked_by};
 

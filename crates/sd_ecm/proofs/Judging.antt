@@ -3,7 +3,7 @@ use Rattle.std.proofs.Common.{◌≡◌, inl, inr, ℕ, ◌-◌, ◌^◌, ◌<�
 use Rattle.std.proofs.Common.{◌∙◌, subst}
 use Rattle.std.proofs.lemmas.Bool.{cases_eq, ne_eqb, false≢true}
 use Rattle.std.specs.Prelude.{replicate}
-use Rattle.sd_bits.proofs.Fields.{field_below}
+use Rattle.sd_base.proofs.Fields.{field_below}
 use Rattle.sd_message.proofs.Items.{length_items, each_read}
 use Rattle.sd_message.proofs.Pieces.{filled_items, filled_rest}
 use Rattle.sd_ecm.specs.Versions.{IsVersion, IsNamed, IsBefore, IsSince}

@@ -2,7 +2,7 @@ ghost use Rattle.std.specs.Prelude.{◌≡◌};
 ghost use Rattle.sd_ecm.specs.Faults.{ecm_fault_name};
 
 /// Why a section isn't a part of a control message that this project writes.
-#[derive(Clone, Copy, Debug, PartialEq, Eq)]
+#[derive(Clone, Copy, PartialEq, Eq)]
 pub enum EcmFault {
     /// The number of positions differs from the number that the length leaves room for, or that the part must have.
     Count,

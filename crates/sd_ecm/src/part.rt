@@ -7,7 +7,7 @@ use crate::format::POSITIONS;
 use crate::message::EcmHead;
 
 /// A PID and its position, its extended continuity counter (docs/FORMATS.md, Positions).
-#[derive(Clone, Copy, Debug, PartialEq, Eq)]
+#[derive(Clone, Copy, PartialEq, Eq)]
 pub struct Place {
     /// The PID.
     pub pid: u16,
@@ -22,7 +22,7 @@ pub const NOTHING: Place = Place {
 };
 
 /// One section of a control message (docs/FORMATS.md, Messages).
-#[derive(Clone, Copy, Debug, PartialEq, Eq)]
+#[derive(Clone, Copy, PartialEq, Eq)]
 pub struct EcmPart {
     /// The version, 1, 2 or 3.
     pub version: u8,

@@ -23,7 +23,7 @@ use crate::format::{
 };
 use crate::order::are_ascending;
 use crate::part::{EcmPart, NOTHING, Place};
-use sd_bits::fields;
+use sd_base::fields;
 use sd_message::section_in;
 use sd_packet::{Packet, is_positional};
 use sd_section::Section;

@@ -7,7 +7,7 @@ use Rattle.sd_tree.specs.declared.set.SetName.{SetName}
 use Rattle.sd_tree.specs.declared.set.SetName.TheVariants.{Whole, Diff}
 use Rattle.sd_tree.specs.SetNames.{IsPair, IsOfHeight}
 use Rattle.std.proofs.Math.Pow.{pow_mono}
-use Rattle.sd_bits.specs.Bits.{field}
+use Rattle.sd_base.specs.Bits.{field}
 use Rattle.sd_message.proofs.Numbers.{word_again}
 use Rattle.sd_emm.specs.Spelled.{name_bytes}
 use Rattle.sd_emm.specs.Form.{IsSetBeside}

@@ -6,7 +6,7 @@ use Rattle.std.specs.Prelude.{Bool, true, false, is_some, ◌-◌, slice_index, 
 use Rattle.std.specs.Int.{w16, w32, to_be_bytes}
 use Rattle.std.proofs.lemmas.Bool.{cases_lt}
 use Rattle.std.proofs.lemmas.List.{get_or_default, drop_more, take_all, take-append-drop}
-use Rattle.sd_bits.specs.Bits.{field}
+use Rattle.sd_base.specs.Bits.{field}
 use Rattle.sd_message.proofs.Numbers.{IsBytes, bytes_drop, word_spelled, half_spelled}
 use Rattle.sd_message.proofs.Items as Items
 use Rattle.sd_message.proofs.Items.{items_spelled}

@@ -6,7 +6,7 @@ use crate::format::MOST_ENTRIES;
 use sd_tree::SetName;
 
 /// A set of receivers, and the period key wrapped under the set's key.
-#[derive(Clone, Copy, Debug, PartialEq, Eq)]
+#[derive(Clone, Copy, PartialEq, Eq)]
 pub struct Entry {
     /// The set.
     pub name: SetName,
@@ -21,7 +21,7 @@ pub const NOTHING: Entry = Entry {
 };
 
 /// One section of an entitlement management message, with some of a period's sets (docs/FORMATS.md, Messages).
-#[derive(Clone, Copy, Debug, PartialEq, Eq)]
+#[derive(Clone, Copy, PartialEq, Eq)]
 pub struct Emm {
     /// The period.
     pub period: u32,

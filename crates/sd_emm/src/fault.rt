@@ -2,7 +2,7 @@ ghost use Rattle.std.specs.Prelude.{◌≡◌};
 ghost use Rattle.sd_emm.specs.Faults.{emm_fault_name};
 
 /// Why a section of entitlements isn't one that this project writes.
-#[derive(Clone, Copy, Debug, PartialEq, Eq)]
+#[derive(Clone, Copy, PartialEq, Eq)]
 pub enum EmmFault {
     /// The count of entries, the number of sections or the index isn't what the number of sets and the length come to.
     Count,

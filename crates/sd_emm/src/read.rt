@@ -22,7 +22,7 @@ use crate::format::{
     head_length,
 };
 use crate::order::are_ascending;
-use sd_bits::fields;
+use sd_base::fields;
 use sd_message::section_in;
 use sd_packet::Packet;
 use sd_section::Section;

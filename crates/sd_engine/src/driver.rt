@@ -18,7 +18,7 @@ pub const MOST_PACKETS: u64 = 1 << 48;
 const ROOM: usize = 352 * SIZE;
 
 /// Why a stream was not driven to its end.
-#[derive(Clone, Copy, Debug, PartialEq, Eq)]
+#[derive(Clone, Copy, PartialEq, Eq)]
 pub enum DriveFault<F> {
     /// Its bytes are no packets from here on.
     Broken(StreamBreak),

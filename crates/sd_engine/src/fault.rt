@@ -1,5 +1,5 @@
 /// Why bytes are no stream of packets (ISO/IEC 13818-1, 2.4.3.2).
-#[derive(Clone, Copy, Debug, PartialEq, Eq)]
+#[derive(Clone, Copy, PartialEq, Eq)]
 pub enum BreakCause {
     /// Fewer than 188 bytes are left over at the end.
     Torn,
@@ -8,7 +8,7 @@ pub enum BreakCause {
 }
 
 /// Where and why bytes are no stream of packets.
-#[derive(Clone, Copy, Debug, PartialEq, Eq)]
+#[derive(Clone, Copy, PartialEq, Eq)]
 pub struct StreamBreak {
     /// The number of the packet at which they break.
     pub packet: u64,

@@ -17,7 +17,7 @@ pub struct Span {
 }
 
 /// Why no packet came.
-#[derive(Clone, Copy, Debug, PartialEq, Eq)]
+#[derive(Clone, Copy)]
 pub enum FeedFault {
     /// A read failed.
     Read,

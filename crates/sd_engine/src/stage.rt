@@ -8,7 +8,7 @@ use sd_ports::Sink;
 use std::sync::ledger::Ledger;
 
 /// Why a stage stopped.
-#[derive(Clone, Copy, Debug, PartialEq, Eq)]
+#[derive(Clone, Copy, PartialEq, Eq)]
 pub enum StageFault<F> {
     /// A write failed.
     Write,

@@ -39,7 +39,7 @@ use Rattle.sd_book.specs.Value.{BookValue}
 use Rattle.sd_spec_broadcast.specs.declared.fault.ClearFault.{ClearFault}
 use Rattle.sd_spec_broadcast.specs.Sent.{body}
 use Rattle.sd_head.specs.Schedule.{begins_with}
-use Rattle.sd_head_periods.specs.Kept.{HasBegun}
+use Rattle.sd_head.specs.Kept.{HasBegun}
 use Rattle.sd_field.specs.declared.seat.Seat.{Seat}
 
 -- a field that hasn't failed was not cut short

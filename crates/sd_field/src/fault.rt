@@ -7,7 +7,7 @@ use std::alloc::AllocFailed;
 
 /// Why bytes are no script. Lines are numbered from 1 and judged in order, and the first bad line decides [this
 /// project, docs/FORMATS.md, Field].
-#[derive(Clone, Copy, Debug, PartialEq, Eq)]
+#[derive(Clone, Copy)]
 pub enum ScriptFault {
     /// The line of this number isn't in the grammar.
     Line(u32),
@@ -28,7 +28,7 @@ impl<T: Drop> From<AllocFailed<T>> for ScriptFault {
 }
 
 /// Why a field stopped [this project, docs/FORMATS.md, Field].
-#[derive(Clone, Copy, Debug, PartialEq, Eq)]
+#[derive(Clone, Copy)]
 pub enum FieldFault {
     /// The head end refuses the clear packet that a send sends, for this reason.
     Clear(ClearFault),

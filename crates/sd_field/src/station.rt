@@ -5,7 +5,7 @@ ghost use Rattle.sd_spec_broadcast.specs.declared.fault.ClearFault.{ClearFault a
 ghost use Rattle.sd_spec_broadcast.specs.Plan.{Plan};
 ghost use Rattle.sd_spec_broadcast.specs.Refused.{refusal_of};
 ghost use Rattle.sd_spec_broadcast.specs.Sent.{body};
-ghost use Rattle.sd_head_periods.specs.Kept.{plan_of};
+ghost use Rattle.sd_head.specs.Kept.{plan_of};
 ghost use Rattle.sd_head.specs.Schedule.{begins_with};
 ghost use Rattle.sd_head.specs.Staged.{IsReady};
 ghost use Rattle.sd_field.specs.Stations.{IsStation};

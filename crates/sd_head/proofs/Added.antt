@@ -18,11 +18,11 @@ use Rattle.sd_spec_broadcast.specs.Messages.{period_at, message_at, places_after
 use Rattle.sd_spec_broadcast.specs.Sent.{Item, Controls, Carries, tables_at, tables_before, message_before, added}
 use Rattle.sd_spec_broadcast.specs.Sent.{closing_of, packets_from, sent, bytes_added}
 use Rattle.sd_spec_broadcast.proofs.Sending.{sent_more}
-use Rattle.sd_head_periods.specs.declared.crypto.CryptoPeriod.{CryptoPeriod}
-use Rattle.sd_head_periods.specs.declared.entitling.Entitling.{Entitling}
-use Rattle.sd_head_periods.specs.Crypto.{crypto_in}
-use Rattle.sd_head_periods.specs.Packets.{period_packets}
-use Rattle.sd_head_periods.specs.Kept.{uncounted, IsOf}
+use Rattle.sd_head.specs.declared.crypto.CryptoPeriod.{CryptoPeriod}
+use Rattle.sd_head.specs.declared.entitling.Entitling.{Entitling}
+use Rattle.sd_head.specs.Crypto.{crypto_in}
+use Rattle.sd_head.specs.Packets.{period_packets}
+use Rattle.sd_head.specs.Kept.{uncounted, IsOf}
 use Rattle.sd_head.specs.Messages.{head_of, message_due}
 use Rattle.sd_head.specs.Items.{HasSent, HasCountersAfter, tables_bytes, message_bytes}
 use Rattle.sd_head.specs.declared.sender.Sender.{Sender}

@@ -20,7 +20,7 @@ use Rattle.sd_ecm.specs.Parts.{message_of, parts_of}
 use Rattle.sd_ecm.specs.declared.message.EcmHead.{EcmHead}
 use Rattle.sd_ecm.specs.declared.part.Place.{Place}
 use Rattle.sd_spec_broadcast.proofs.Sending.{packets_in_turn}
-use Rattle.sd_head_periods.specs.Kept.{uncounted}
+use Rattle.sd_head.specs.Kept.{uncounted}
 use Rattle.sd_head.specs.Sending.{counter_after, numbered, recounted, packed_part}
 use Rattle.sd_head.specs.Items.{is_entitlement, is_control, tables_bytes, message_bytes, parts_in, HasSent}
 use Rattle.sd_head.specs.Items.{HasCountersAfter}

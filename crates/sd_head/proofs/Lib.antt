@@ -6,3 +6,15 @@ mod Starting
 mod Added
 mod Stepping
 pub mod Chained
+pub mod ClearKinds
+pub mod Refusing
+pub mod Carrying
+pub mod Marking
+pub mod Moving
+pub mod Placing
+pub mod Beginning
+mod Replayed
+mod Listing
+pub mod Packing
+mod Sets
+pub mod Periods

@@ -4,7 +4,7 @@ use Rattle.std.proofs.Common.{refl, sym, ap, subst, ◌∙◌, arith}
 use Rattle.std.specs.Prelude.{map, slice_set, slice_index_or, Result}
 use Rattle.std.specs.List.{concat, flat_map}
 use Rattle.sd_engine.specs.Stage.{SinkState}
-use Rattle.sd_head_periods.specs.Kept.{uncounted, AreAlike}
+use Rattle.sd_head.specs.Kept.{uncounted, AreAlike}
 use Rattle.sd_head.specs.Sending.{SendsBytes, counter_after, numbered, recounted}
 use Rattle.sd_head.proofs.Sends.{counter_shift}
 

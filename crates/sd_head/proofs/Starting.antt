@@ -8,8 +8,8 @@ use Rattle.std.proofs.lemmas.Nat.{div-add-mod'}
 use Rattle.sd_site.specs.Fields.{SiteFields}
 use Rattle.sd_spec_broadcast.specs.Plan.{Plan, IsPlan, crypto_length, crypto_of, word_of, period_of}
 use Rattle.sd_spec_broadcast.proofs.Schedule.{crypto_length_some}
-use Rattle.sd_head_periods.specs.Kept.{IsOf, IsBefore, begins_period, revoked_before}
-use Rattle.sd_head_periods.specs.declared.entitling.Entitling.{Entitling}
+use Rattle.sd_head.specs.Kept.{IsOf, IsBefore, begins_period, revoked_before}
+use Rattle.sd_head.specs.declared.entitling.Entitling.{Entitling}
 use Rattle.sd_head.specs.Messages.{number_due}
 use Rattle.sd_head.specs.Schedule.{IsAt, begins_with, periods_begun}
 use Rattle.sd_book.specs.Commands.{revoked}

@@ -17,9 +17,9 @@ use Rattle.sd_spec_broadcast.specs.Messages.{places_after}
 use Rattle.sd_spec_broadcast.specs.Refused.{refusal_of, refusal_from, IsClear}
 use Rattle.sd_spec_broadcast.specs.declared.fault.ClearFault.{ClearFault}
 use Rattle.sd_spec_broadcast.specs.Sent.{Item, sent, sent_from, bytes_added, closing_of, packets_from, message_before}
-use Rattle.sd_head_clear.specs.After.{IsAfter as IsKept}
-use Rattle.sd_head_periods.specs.Kept.{plan_of, uncounted, AreAlike, IsOf}
-use Rattle.sd_head_periods.specs.declared.entitling.Entitling.{Entitling}
+use Rattle.sd_head.specs.After.{IsAfter as IsKept}
+use Rattle.sd_head.specs.Kept.{plan_of, uncounted, AreAlike, IsOf}
+use Rattle.sd_head.specs.declared.entitling.Entitling.{Entitling}
 use Rattle.sd_head.specs.Messages.{head_of, message_due}
 use Rattle.sd_head.specs.Items.{HasSent, HasPlaced, HasCountersAfter, tables_bytes, message_bytes}
 use Rattle.sd_head.specs.Schedule.{IsAt}

@@ -6,9 +6,9 @@ use Rattle.sd_site.specs.Forms.{IsWithin, messages_line}
 use Rattle.sd_site.specs.Fields.{SiteFields}
 use Rattle.sd_ecm.specs.declared.message.EcmHead.{EcmHead}
 use Rattle.sd_ecm.specs.declared.part.Place.{Place}
-use Rattle.sd_head_clear.proofs.Placing.{positioned, ascending, short}
+use Rattle.sd_head.proofs.Placing.{positioned, ascending, short}
 use Rattle.sd_spec_broadcast.specs.Messages.{places_after}
-use Rattle.sd_head_periods.specs.declared.crypto.CryptoPeriod.{CryptoPeriod}
+use Rattle.sd_head.specs.declared.crypto.CryptoPeriod.{CryptoPeriod}
 use Rattle.sd_head.specs.Messages.{head_of, message_due, number_due}
 use Rattle.std.specs.List.{concat}
 use Rattle.std.proofs.Common.{Vec, Global}

@@ -3,3 +3,9 @@ pub mod Messages
 pub mod Items
 pub mod Schedule
 pub mod Staged
+pub mod Known
+pub mod After
+pub mod Crypto
+pub mod Packets
+pub mod Kept
+pub mod Lending

@@ -3,7 +3,7 @@ use Rattle.std.specs.Prelude.{ℕ, ◌/◌, ◌%◌, ◌==◌, Bool, false, if�
 use Rattle.sd_site.specs.Fields.{SiteFields, run_name_of}
 use Rattle.sd_ecm.specs.declared.message.EcmHead.{EcmHead}
 use Rattle.sd_spec_broadcast.specs.Plan.{since_of}
-use Rattle.sd_head_periods.specs.declared.crypto.CryptoPeriod.{CryptoPeriod}
+use Rattle.sd_head.specs.declared.crypto.CryptoPeriod.{CryptoPeriod}
 
 -- the message of this number in a crypto period, after so many clear packets [this project, docs/FORMATS.md, Messages]
 unfoldable pub head_of : SiteFields → CryptoPeriod → ℕ → ℕ → Bool → EcmHead

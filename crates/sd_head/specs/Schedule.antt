@@ -2,8 +2,8 @@
 use Rattle.std.specs.Prelude.{◌≡◌, ℕ, zero, suc, ◌+◌, ◌%◌, ◌==◌, ◌&&◌, Bool, true, List, [], length, Option, Some, None}
 use Rattle.sd_spec_broadcast.specs.Plan.{Plan, crypto_length, crypto_of, period_of}
 use Rattle.sd_spec_broadcast.specs.Refused.{refusal_of}
-use Rattle.sd_head_periods.specs.declared.entitling.Entitling.{Entitling}
-use Rattle.sd_head_periods.specs.Kept.{begins_period, IsNew, IsOf}
+use Rattle.sd_head.specs.declared.entitling.Entitling.{Entitling}
+use Rattle.sd_head.specs.Kept.{begins_period, IsNew, IsOf}
 use Rattle.sd_head.specs.declared.fault.HeadFault.{HeadFault}
 use Rattle.sd_head.specs.declared.fault.HeadFault.TheVariants.{Clear, NoMemory}
 

@@ -5,8 +5,8 @@ use Rattle.sd_spec_broadcast.specs.Plan.{Plan, period_of}
 use Rattle.sd_book.specs.Commands.{revoked}
 use Rattle.sd_spec_broadcast.specs.Refused.{refusal_of, IsClear}
 use Rattle.sd_spec_broadcast.specs.Sent.{sent, closing_of, bytes_added, packets_from}
-use Rattle.sd_head_clear.specs.After.{IsAfter as IsKept}
-use Rattle.sd_head_periods.specs.Kept.{plan_of}
+use Rattle.sd_head.specs.After.{IsAfter as IsKept}
+use Rattle.sd_head.specs.Kept.{plan_of}
 use Rattle.sd_head.specs.Items.{HasSent}
 use Rattle.sd_head.specs.Schedule.{IsAt, IsDue}
 use Rattle.sd_head.specs.declared.fault.HeadFault.{HeadFault}

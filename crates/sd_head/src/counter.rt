@@ -3,7 +3,7 @@ ghost use Rattle.std.specs.Prelude.{◌≡◌, ◌+◌, ◌%◌, ◌<◌};
 use std::marker::Model;
 
 /// The next continuity counter of a PID, of four bits (ISO/IEC 13818-1, 2.4.3.3).
-#[derive(Clone, Copy, Debug, PartialEq, Eq)]
+#[derive(Clone, Copy)]
 pub struct Counter {
     value: u8,
 }

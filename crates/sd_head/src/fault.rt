@@ -1,7 +1,7 @@
 use sd_spec_broadcast::ClearFault;
 
 /// Why the head end stopped.
-#[derive(Clone, Copy, Debug, PartialEq, Eq)]
+#[derive(Clone, Copy, PartialEq, Eq)]
 pub enum HeadFault {
     /// A clear packet is refused.
     Clear(ClearFault),

@@ -1,18 +1,17 @@
 ghost use Rattle.std.specs.Prelude.{◌≡◌, ℕ, List, [], IfOk, length};
 ghost use Rattle.sd_spec_broadcast.specs.Plan.{Plan};
-ghost use Rattle.sd_head_periods.specs.Kept.{plan_of, revoked_before};
+ghost use Rattle.sd_head.specs.Kept.{plan_of, revoked_before};
 ghost use Rattle.sd_head.specs.Schedule.{periods_begun};
 ghost use Rattle.sd_head.specs.Staged.{head_does, head_ends, head_refuses, IsAfter, IsReady};
 
 use crate::fault::HeadFault;
 use crate::schedule::{admit, finish};
 use crate::sender::Sender;
+use crate::{Clear, Entitling};
 use sd_base::{NoMemory, Steps};
 use sd_book::Book;
 use sd_cover::CoverIndex;
 use sd_engine::{Stage, StageFault};
-use sd_head_clear::Clear;
-use sd_head_periods::Entitling;
 use sd_packet::Packet;
 use sd_ports::Sink;
 use sd_site::Site;

@@ -1,6 +1,6 @@
-//! What a head end writes of the packets of a stream.
+//! What a head end writes of the packets of a stream, and what the positions of a message come to.
 
-ghost use Rattle.std.specs.Prelude.{◌≡◌, ◌++◌, ◌∷◌, [], ℕ, List, Option, Some};
+ghost use Rattle.std.specs.Prelude.{◌≡◌, ◌++◌, ◌∷◌, [], ℕ, List, Option, Some, ◌^◌, ◌<◌, length};
 ghost use Rattle.std.specs.List.{concat};
 ghost use Rattle.sd_engine.specs.Stage.{Chain};
 ghost use Rattle.sd_engine.specs.Driving.{ChainToEnd, ChainToRefusal};
@@ -12,6 +12,8 @@ ghost use Rattle.sd_head.specs.declared.fault.HeadFault.{HeadFault as Faults};
 ghost use Rattle.sd_head.specs.declared.fault.HeadFault.TheVariants.{Clear as ClearOf};
 ghost use Rattle.sd_head.specs.declared.head.Head.{Head as Heads};
 ghost use Rattle.sd_head.specs.Staged.{head_does, head_ends, head_refuses, IsAfter};
+ghost use Rattle.sd_ecm.specs.Form.{ArePositioned, AreAscending, AreShort};
+ghost use Rattle.sd_spec_broadcast.specs.Messages.{places_after};
 
 /// Of packets that it is offered one after the other from its beginning a head end writes the broadcast but for the
 /// closing message, and the packets are clear.
@@ -51,4 +53,11 @@ pub fn refusals_leave_bodies()
         (bytes : List ℕ) (steps : ℕ) → IsAfter plan [] s →
         ChainToRefusal head_does head_refuses s packets (Some packet) (ClearOf fault) t bytes steps →
         refusal_from plan.site [] (packets ++ packet ∷ rest) ≡ Some fault }
+{}
+
+/// The positions after packets are ones that a message may have, but for their count.
+pub fn places_may_be_told()
+    ensures positioned { (before : List (List ℕ)) → ArePositioned (places_after before) }
+    ensures ascending { (before : List (List ℕ)) → AreAscending (places_after before) }
+    ensures short { (before : List (List ℕ)) → length before < 2 ^ 32 → AreShort (places_after before) }
 {}

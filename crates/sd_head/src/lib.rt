@@ -1,17 +1,31 @@
 //! The head end: a stage that makes the scrambled broadcast of a clear stream, packet by packet.
 #![tactic(auto)]
 
+mod carry;
 mod cat;
+mod clear;
 mod counter;
+mod crypto;
+mod entitling;
+mod entries;
 mod fault;
 mod head;
 mod inserting;
+mod judge;
 pub mod laws;
+mod make;
 mod message;
+mod places;
+mod replay;
 mod schedule;
+mod sections;
 mod sender;
 mod sending;
+mod take;
 
+pub use clear::Clear;
+pub use crypto::CryptoPeriod;
+pub use entitling::Entitling;
 pub use fault::HeadFault;
 pub use head::Head;
 pub use sd_spec_broadcast::ClearFault;

@@ -3,8 +3,8 @@ ghost use Rattle.sd_site.specs.Fields.{fields_of};
 ghost use Rattle.sd_spec_broadcast.specs.Plan.{since_of};
 ghost use Rattle.sd_head.specs.Messages.{head_of};
 
+use crate::CryptoPeriod;
 use sd_ecm::EcmHead;
-use sd_head_periods::CryptoPeriod;
 use sd_site::Site;
 
 /// What the control message of this number says in a crypto period after so many clear packets, beside its positions

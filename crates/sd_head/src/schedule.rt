@@ -2,16 +2,15 @@ ghost use Rattle.std.specs.Prelude.{◌≡◌, ◌-◌, ◌%◌, ◌^◌, ◌==�
 ghost use Rattle.sd_site.specs.Fields.{fields_of};
 ghost use Rattle.sd_spec_broadcast.specs.Plan.{crypto_length, crypto_of, word_of};
 ghost use Rattle.sd_spec_broadcast.specs.Refused.{refusal_of};
-ghost use Rattle.sd_head_clear.specs.After.{IsAfter as IsKept, MayFollow, IsKindAfter};
-ghost use Rattle.sd_head_periods.specs.Kept.{plan_of, IsOf};
+ghost use Rattle.sd_head.specs.After.{IsAfter as IsKept, MayFollow, IsKindAfter};
+ghost use Rattle.sd_head.specs.Kept.{plan_of, IsOf};
 ghost use Rattle.sd_head.specs.declared.fault.HeadFault.{HeadFault as Faults};
 ghost use Rattle.sd_head.specs.Messages.{number_due};
 ghost use Rattle.sd_head.specs.Schedule.{begins_with, IsAt, IsDue};
 
 use crate::fault::HeadFault;
+use crate::{Clear, Entitling};
 use sd_base::{NoMemory, Steps};
-use sd_head_clear::Clear;
-use sd_head_periods::Entitling;
 use sd_packet::Packet;
 use sd_site::Site;
 use sd_spec_broadcast::Kind;

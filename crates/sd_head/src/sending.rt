@@ -6,7 +6,7 @@ ghost use Rattle.sd_ecm.specs.declared.format.TheConstants.{MOST_PLACES};
 ghost use Rattle.sd_ecm.specs.Versions.{IsVersion, IsNamed, IsSince};
 ghost use Rattle.sd_ecm.specs.Form.{ArePositioned, AreAscending, AreShort};
 ghost use Rattle.sd_ecm.specs.Parts.{message_of, parts_of};
-ghost use Rattle.sd_head_periods.specs.Kept.{AreAlike};
+ghost use Rattle.sd_head.specs.Kept.{AreAlike};
 ghost use Rattle.sd_head.specs.Sending.{SendsBytes, counter_after, numbered, packed_part, recounted};
 
 use crate::counter::Counter;

@@ -1,1 +1,3 @@
 pub mod Keystream
+pub mod Wrapping
+pub mod Scrambling

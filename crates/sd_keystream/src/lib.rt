@@ -1,7 +1,11 @@
-//! The keystream under which keys are wrapped and payloads are scrambled, and its laying over a text.
+//! The keystream, and what is laid under it: keys wrapped under keys, and packets scrambled under control words.
 #![tactic(auto)]
 
+mod key;
 mod keystream;
 pub mod laws;
+mod payload;
 
+pub use key::{unwrap_checked, wrap};
 pub use keystream::{fill, first_bytes, lay, payload_stream};
+pub use payload::{Parity, descramble, scramble};

@@ -10,11 +10,11 @@ use std::sync::ledger::Ledger;
 
 /// The label of a pair of nodes, from which the labels of all pairs below it are made
 /// (Naor, Naor and Lotspiech, 2001, 3.2).
-#[derive(Clone, Copy, Debug, PartialEq, Eq)]
+#[derive(Clone, Copy)]
 pub struct Label(pub [u8; 32]);
 
 /// Which child of its parent a node is.
-#[derive(Clone, Copy, Debug, PartialEq, Eq)]
+#[derive(Clone, Copy)]
 pub enum Side {
     /// The left child, of an even number.
     Left,

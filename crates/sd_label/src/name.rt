@@ -1,5 +1,5 @@
 /// What a receiver is given a secret of: the whole set, or the label of node w under its ancestor i.
-#[derive(Clone, Copy, Debug, PartialEq, Eq)]
+#[derive(Clone, Copy, PartialEq, Eq)]
 pub enum Name {
     /// The set of all leaves.
     Whole,

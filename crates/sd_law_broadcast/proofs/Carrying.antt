@@ -12,8 +12,8 @@ use Rattle.sd_site.specs.Fields.{SiteFields}
 use Rattle.sd_psi.specs.Rewriting.{rewrite_fault}
 use Rattle.sd_psi.specs.Undone.{IsPacket}
 use Rattle.sd_psi.proofs.Keeping.{rewritten_keeps, rewritten_packet_keeps}
-use Rattle.sd_scramble.specs.Scrambling.{control_of, payload_under, laid_under}
-use Rattle.sd_scramble.proofs.Scramblings.{prefix_is, laid_reads, control_fits, pid_by_bytes}
+use Rattle.sd_keystream.specs.Scrambling.{control_of, payload_under, laid_under}
+use Rattle.sd_keystream.proofs.Scramblings.{prefix_is, laid_reads, control_fits, pid_by_bytes}
 use Rattle.sd_spec_broadcast.specs.Plan.{word_of}
 use Rattle.sd_spec_broadcast.specs.Kinds.{kind_of}
 use Rattle.sd_spec_broadcast.specs.Carried.{parity_of, place_after, pmt_carried, veiled, carried_as, carried}

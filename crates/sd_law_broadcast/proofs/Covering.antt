@@ -10,10 +10,10 @@ use Rattle.sd_tree.specs.declared.set.SetName.{SetName}
 use Rattle.sd_label.specs.Names.{given}
 use Rattle.sd_book.specs.Commands.{revoked, entitled}
 use Rattle.sd_book.proofs.Revocations.{below}
-use Rattle.sd_steiner.specs.Partition.{IsPartition}
-use Rattle.sd_steiner.proofs.Covers.{cover_partition}
-use Rattle.sd_steiner.proofs.Partitions.{among_unrevoked}
-use Rattle.sd_steiner.proofs.Lists.{counted_some}
+use Rattle.sd_cover.specs.Partition.{IsPartition}
+use Rattle.sd_cover.proofs.Covers.{cover_partition}
+use Rattle.sd_cover.proofs.Partitions.{among_unrevoked}
+use Rattle.sd_cover.proofs.Lists.{counted_some}
 use Rattle.sd_reach.specs.Reach.{ReachesNoneOf}
 use Rattle.sd_reach.proofs.Covers.{revoked_reach_none}
 use Rattle.sd_spec_broadcast.specs.Plan.{Plan, IsPlan, sets_at, period_of}

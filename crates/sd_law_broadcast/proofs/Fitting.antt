@@ -21,17 +21,17 @@ use Rattle.sd_keystream.proofs.Streams.{keystream_length, xored_length}
 use Rattle.sd_packet.specs.Positions.{is_positional, position_of}
 use Rattle.sd_packet.proofs.Positions.{moved_by_near}
 use Rattle.sd_label.specs.Keys.{key_of, period_key_of, control_word_of, check_value_of}
-use Rattle.sd_wrap.specs.Wrapping.{wrapped as under}
+use Rattle.sd_keystream.specs.Wrapping.{wrapped as under}
 use Rattle.sd_site.specs.Fields.{SiteFields, AreInRange}
 use Rattle.sd_book.specs.Commands.{last_period, revoked}
 use Rattle.sd_book.proofs.Revocations.{below}
 use Rattle.sd_book.proofs.Cuts.{revoked_past}
-use Rattle.sd_steiner.specs.Chains.{IsChainCover}
-use Rattle.sd_steiner.specs.Partition.{IsSmall}
-use Rattle.sd_steiner.proofs.Covers.{cover_small}
-use Rattle.sd_steiner.proofs.Ends.{AreLeaves}
-use Rattle.sd_steiner.proofs.There.{the_cover}
-use Rattle.sd_steiner.proofs.Heights.{of_height}
+use Rattle.sd_cover.specs.Chains.{IsChainCover}
+use Rattle.sd_cover.specs.Partition.{IsSmall}
+use Rattle.sd_cover.proofs.Covers.{cover_small}
+use Rattle.sd_cover.proofs.Ends.{AreLeaves}
+use Rattle.sd_cover.proofs.There.{the_cover}
+use Rattle.sd_cover.proofs.Heights.{of_height}
 use Rattle.sd_emm.specs.Spelled.{names_in}
 use Rattle.sd_emm.specs.Form.{IsSetBeside, AreSets, AreWrapped}
 use Rattle.sd_emm.specs.Period.{IsPeriod}

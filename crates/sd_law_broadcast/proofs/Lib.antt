@@ -1,3 +1,9 @@
+pub mod Joined
+pub mod Cut
+pub mod Spelled
+pub mod Synced
+pub mod Counted
+pub mod Taken
 pub mod Clear
 pub mod Fitting
 pub mod Carrying

@@ -24,7 +24,7 @@ use Rattle.sd_spec_broadcast.specs.Sent.{Item, sent, closing_of, broadcast}
 use Rattle.sd_spec_broadcast.proofs.Items.{all_are_of_broadcast}
 use Rattle.sd_spec_broadcast.proofs.Schedule.{period_short}
 use Rattle.sd_spec_broadcast.proofs.Periods.{number_is}
-use Rattle.sd_steiner.proofs.Lists.{member_cases, member_first, member_later, no_member}
+use Rattle.sd_cover.proofs.Lists.{member_cases, member_first, member_later, no_member}
 use Rattle.sd_law_broadcast.specs.Packets.{AreLong}
 use Rattle.sd_law_broadcast.specs.Named.{names_at, sets_named}
 use Rattle.sd_law_broadcast.proofs.Fitting.{period_names, period_fits}

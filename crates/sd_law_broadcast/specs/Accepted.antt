@@ -1,6 +1,6 @@
 -- Public meaning: what the head end knows of a packet that it takes.
 use Rattle.std.specs.Prelude.{◌≡◌, ◌≢◌, ◌-◌, ◌^◌, ◌≤◌, false, length, None}
-use Rattle.sd_spec_types.specs.Types.{Packet, Packets}
+use Rattle.sd_base.specs.Types.{Packet, Packets}
 use Rattle.sd_packet.specs.Header.{pid_of, scrambling_of}
 use Rattle.sd_site.specs.Fields.{SiteFields}
 use Rattle.sd_spec_broadcast.specs.Plan.{word_of}

@@ -1,6 +1,6 @@
 -- Public meaning: the header of a clear packet as it is carried.
 use Rattle.std.specs.Prelude.{◌≡◌, ℕ, ◌+◌, ◌%◌}
-use Rattle.sd_spec_types.specs.Types.{Packet, WordNumber}
+use Rattle.sd_base.specs.Types.{Packet, WordNumber}
 use Rattle.sd_packet.specs.Header.{unit_start_of, pid_of, scrambling_of, adaptation_of, counter_of, payload_start_of}
 use Rattle.sd_spec_broadcast.specs.declared.kind.Kind.{Kind}
 use Rattle.sd_spec_broadcast.specs.declared.kind.Kind.TheVariants.{Passed, Pmt, Scrambled}

@@ -1,3 +1,4 @@
+pub mod Synced
 pub mod Accepted
 pub mod Narrowed
 pub mod Packets

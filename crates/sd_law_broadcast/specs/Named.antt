@@ -3,13 +3,13 @@ use Rattle.std.specs.Prelude.{◌≡◌, ℕ, ◌==◌, ◌&&◌, false, List, [
 use Rattle.std.specs.Prelude.{None, Result, Ok, Err, All, Contains, if◌then◌else◌}
 use Rattle.std.specs.List.{range_with_len}
 use Rattle.std.specs.Option.{option_map_or}
-use Rattle.sd_spec_types.specs.Types.{Packets, Pid, Height, LeafNumber, PeriodNumber}
+use Rattle.sd_base.specs.Types.{Packets, Pid, Height, LeafNumber, PeriodNumber}
 use Rattle.sd_tree.specs.declared.set.SetName.{SetName}
 use Rattle.sd_tree.specs.Leaves.{is_member}
 use Rattle.sd_packet.specs.Header.{pid_of}
 use Rattle.sd_label.specs.Names.{given}
 use Rattle.sd_book.specs.Commands.{revoked, entitled}
-use Rattle.sd_steiner.specs.Partition.{IsPartition, IsSmall}
+use Rattle.sd_cover.specs.Partition.{IsPartition, IsSmall}
 use Rattle.sd_reach.specs.Reach.{ReachesNoneOf}
 use Rattle.sd_emm.specs.Spelled.{listed_entries, names_in}
 use Rattle.sd_emm.specs.Judged.{emm_read}

@@ -1,5 +1,5 @@
 -- Public meaning: a site that may use other control words.
-use Rattle.sd_spec_types.specs.Types.{WordNumber}
+use Rattle.sd_base.specs.Types.{WordNumber}
 use Rattle.sd_site.specs.Fields.{SiteFields}
 use Rattle.sd_spec_broadcast.specs.Plan.{Plan}
 

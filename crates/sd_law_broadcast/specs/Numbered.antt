@@ -1,6 +1,6 @@
 -- Public meaning: the control messages of a broadcast by their numbers.
 use Rattle.std.specs.Prelude.{◌-◌, ◌*◌, true, false, nat_lt, length, take, if◌then◌else◌}
-use Rattle.sd_spec_types.specs.Types.{Packets, MessageNumber}
+use Rattle.sd_base.specs.Types.{Packets, MessageNumber}
 use Rattle.sd_ecm.specs.Parts.{Message}
 use Rattle.sd_spec_broadcast.specs.Plan.{Plan, closing_number}
 use Rattle.sd_spec_broadcast.specs.Messages.{message_at}

@@ -1,6 +1,6 @@
 -- Public meaning: packets as they are read and written: 188 bytes.
 use Rattle.std.specs.Prelude.{◌≡◌, ℕ, ◌<◌, length, slice_index, All}
-use Rattle.sd_spec_types.specs.Types.{Packet, Packets}
+use Rattle.sd_base.specs.Types.{Packet, Packets}
 
 -- all bytes of a transport packet are there [ISO/IEC 13818-1, 2.4.3.2]
 pub record IsWholePacket (packet : Packet) : Type 0 where

@@ -1,6 +1,6 @@
 -- Public meaning: what is still to be sent from a packet on.
 use Rattle.std.specs.Prelude.{◌≡◌, ◌-◌, ◌/◌, ◌%◌, ◌<◌, ◌≤◌, true, false, [], length, take, get_or, Contains}
-use Rattle.sd_spec_types.specs.Types.{Packets, PacketNumber}
+use Rattle.sd_base.specs.Types.{Packets, PacketNumber}
 use Rattle.sd_emm.specs.Period.{emms_of}
 use Rattle.sd_emm.specs.declared.emm.Emm.{Emm}
 use Rattle.sd_ecm.specs.Parts.{parts_of}

@@ -1,4 +1,4 @@
-//! What is known of a broadcast: laws on its messages, on what they name, and on their order.
+//! What a broadcast sends, and that the packets of its file are those that it was made of.
 #![tactic(auto)]
 
 pub mod laws;

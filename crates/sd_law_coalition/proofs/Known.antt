@@ -16,10 +16,10 @@ use Rattle.sd_tree.specs.declared.set.SetName.{SetName}
 use Rattle.sd_label.specs.Names.{given}
 use Rattle.sd_book.specs.Commands.{entitled, last_period}
 use Rattle.sd_book.proofs.Revocations.{below}
-use Rattle.sd_steiner.specs.Chains.{IsChainCover}
-use Rattle.sd_steiner.proofs.Heights.{of_height}
-use Rattle.sd_steiner.proofs.There.{the_cover}
-use Rattle.sd_steiner.proofs.Paths.{the_only_leaf}
+use Rattle.sd_cover.specs.Chains.{IsChainCover}
+use Rattle.sd_cover.proofs.Heights.{of_height}
+use Rattle.sd_cover.proofs.There.{the_cover}
+use Rattle.sd_cover.proofs.TreePaths.{the_only_leaf}
 use Rattle.sd_reach.specs.Reach.{Secret, Named, Key, IsGeneratorStep, IsHeld, IsReached}
 use Rattle.sd_reach.proofs.Derivation.{Reach, at_first, by_rule, from_derived, to_derived, passes}
 use Rattle.sd_reach.proofs.Reached.{held_is_reached, next_is_reached, reached_by_one}

@@ -2,12 +2,12 @@
 -- names and not of bytes.
 use Rattle.std.specs.Prelude.{◌≡◌, ℕ, ◌≤◌, ◌/◌, min, List, Contains, Any}
 use Rattle.std.specs.List.{flat_map}
-use Rattle.sd_spec_types.specs.Types.{Height, Leaves, PeriodNumber, WordNumber}
+use Rattle.sd_base.specs.Types.{Height, Leaves, PeriodNumber, WordNumber}
 use Rattle.sd_tree.specs.declared.set.SetName.{SetName}
 use Rattle.sd_label.specs.Names.{given}
 use Rattle.sd_book.specs.declared.command.Command.{Command}
 use Rattle.sd_book.specs.Commands.{last_period, revoked}
-use Rattle.sd_steiner.specs.Cover.{cover_of}
+use Rattle.sd_cover.specs.Cover.{cover_of}
 use Rattle.sd_reach.specs.Derivation.{IsDerived}
 use Rattle.sd_reach.specs.Reach.{Secret, Key, IsGeneratorStep, IsHeld}
 

@@ -2,7 +2,7 @@
 
 ghost use Rattle.std.specs.Prelude.{◌≡◌, ◌^◌, ◌<◌, ◌≤◌, ◌↔◌, Bool, true, false, [], ◌∷◌, All, Any, Contains};
 ghost use Rattle.std.specs.List.{list_any, flat_map};
-ghost use Rattle.sd_spec_types.specs.Types.{LeafNumber, Leaves, PeriodNumber, WordNumber};
+ghost use Rattle.sd_base.specs.Types.{LeafNumber, Leaves, PeriodNumber, WordNumber};
 ghost use Rattle.sd_tree.specs.Leaves.{is_member};
 ghost use Rattle.sd_label.specs.declared.name.Name.{Name};
 ghost use Rattle.sd_label.specs.Names.{given};

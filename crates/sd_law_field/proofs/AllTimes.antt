@@ -12,7 +12,7 @@ use Rattle.sd_spec_broadcast.specs.Plan.{Plan, IsPlan}
 use Rattle.sd_spec_broadcast.specs.Refused.{IsClear}
 use Rattle.sd_spec_broadcast.specs.Sent.{sent}
 use Rattle.sd_law_broadcast.specs.Packets.{AreWholePackets}
-use Rattle.sd_law_file.specs.Synced.{AreSynced}
+use Rattle.sd_law_broadcast.specs.Synced.{AreSynced}
 use Rattle.sd_spec_receiver.specs.Offered.{out_from}
 use Rattle.sd_law_losses.specs.Confirmed.{packet_at, packets_at, is_confirmed_at}
 use Rattle.sd_law_losses.proofs.Losses.{all_second}

@@ -22,10 +22,10 @@ use Rattle.sd_spec_broadcast.proofs.Bodies.{packets_many}
 use Rattle.sd_law_broadcast.specs.Packets.{AreWholePackets}
 use Rattle.sd_law_broadcast.proofs.Clear.{prefix_clear}
 use Rattle.sd_law_broadcast.proofs.Fitting.{sets_small, period_count, message_before_fits, word_low}
-use Rattle.sd_law_file.specs.Synced.{AreSynced}
-use Rattle.sd_law_file.proofs.Counted.{parts_few}
-use Rattle.sd_law_file.proofs.Joined.{joined_long}
-use Rattle.sd_law_file.proofs.Synced.{body_synced}
+use Rattle.sd_law_broadcast.specs.Synced.{AreSynced}
+use Rattle.sd_law_broadcast.proofs.Counted.{parts_few}
+use Rattle.sd_law_broadcast.proofs.Joined.{joined_long}
+use Rattle.sd_law_broadcast.proofs.Synced.{body_synced}
 use Rattle.sd_spec_field.proofs.Fitting.{revoked_few}
 use Rattle.sd_law_field.specs.Times.{most_added}
 

@@ -8,7 +8,7 @@ use Rattle.sd_spec_broadcast.specs.Sent.{Cat, sent, closing_of, packets_from, bo
 use Rattle.sd_spec_broadcast.proofs.Sending.{packets_in_turn}
 use Rattle.sd_spec_broadcast.proofs.Bodies.{packets_many}
 use Rattle.sd_law_broadcast.specs.Packets.{AreWholePackets}
-use Rattle.sd_law_file.specs.Synced.{AreSynced}
+use Rattle.sd_law_broadcast.specs.Synced.{AreSynced}
 use Rattle.sd_spec_receiver.specs.Offered.{out_from, break_from}
 use Rattle.sd_law_losses.specs.Chosen.{chosen}
 use Rattle.sd_law_losses.specs.Confirmed.{packets_at, confirmed}

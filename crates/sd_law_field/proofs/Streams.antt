@@ -4,9 +4,9 @@ use Rattle.sd_spec_broadcast.specs.Plan.{Plan, IsPlan}
 use Rattle.sd_spec_broadcast.specs.Refused.{IsClear}
 use Rattle.sd_spec_broadcast.specs.Sent.{body}
 use Rattle.sd_law_broadcast.specs.Packets.{AreWholePackets}
-use Rattle.sd_law_file.specs.Synced.{AreSynced}
-use Rattle.sd_law_file.proofs.Joined.{packets_again}
-use Rattle.sd_law_file.proofs.Synced.{body_synced}
+use Rattle.sd_law_broadcast.specs.Synced.{AreSynced}
+use Rattle.sd_law_broadcast.proofs.Joined.{packets_again}
+use Rattle.sd_law_broadcast.proofs.Synced.{body_synced}
 use Rattle.sd_spec_field.specs.Watch.{stream}
 
 -- they are those of the broadcast without its closing message

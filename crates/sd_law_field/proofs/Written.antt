@@ -14,8 +14,8 @@ use Rattle.sd_spec_broadcast.specs.Refused.{IsClear}
 use Rattle.sd_spec_broadcast.specs.Sent.{sent, body}
 use Rattle.sd_spec_broadcast.proofs.Bodies.{packets_many}
 use Rattle.sd_law_broadcast.specs.Packets.{AreWholePackets}
-use Rattle.sd_law_file.specs.Synced.{IsSynced, AreSynced}
-use Rattle.sd_law_file.proofs.Joined.{joined_long}
+use Rattle.sd_law_broadcast.specs.Synced.{IsSynced, AreSynced}
+use Rattle.sd_law_broadcast.proofs.Joined.{joined_long}
 use Rattle.sd_spec_receiver.specs.Offered.{break_from}
 use Rattle.sd_law_losses.specs.Confirmed.{packet_at, packets_at, is_revoked_in}
 use Rattle.sd_law_losses.proofs.Losses.{all_second}

@@ -2,7 +2,7 @@
 -- listed with the newest first.
 use Rattle.std.specs.Prelude.{ℕ, nat_eq, List, filter, length, map, take}
 use Rattle.std.specs.List.{flat_map, list_any, range_with_len}
-use Rattle.sd_spec_types.specs.Types.{Packets, Arrived, LeafNumber, PacketNumber}
+use Rattle.sd_base.specs.Types.{Packets, Arrived, LeafNumber, PacketNumber}
 use Rattle.sd_card.specs.Fields.{CardFields, card_of}
 use Rattle.sd_spec_broadcast.specs.Plan.{Plan}
 use Rattle.sd_spec_broadcast.specs.Sent.{Item, Cat, sent}

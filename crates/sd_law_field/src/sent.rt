@@ -2,12 +2,12 @@
 
 ghost use Rattle.std.specs.Prelude.{◌≡◌, ◌*◌, ◌<◌, ◌≤◌, ◌++◌, ◌∷◌, [], get_or, length};
 ghost use Rattle.std.specs.List.{concat};
-ghost use Rattle.sd_spec_types.specs.Types.{Packet, Packets, PacketNumber};
+ghost use Rattle.sd_base.specs.Types.{Packet, Packets, PacketNumber};
 ghost use Rattle.sd_spec_broadcast.specs.Plan.{Plan, IsPlan};
 ghost use Rattle.sd_spec_broadcast.specs.Refused.{IsClear};
 ghost use Rattle.sd_spec_broadcast.specs.Sent.{Cat, Carries, added, sent, body};
 ghost use Rattle.sd_law_broadcast.specs.Packets.{AreWholePackets};
-ghost use Rattle.sd_law_file.specs.Synced.{AreSynced};
+ghost use Rattle.sd_law_broadcast.specs.Synced.{AreSynced};
 ghost use Rattle.sd_spec_field.specs.Watch.{stream};
 ghost use Rattle.sd_law_field.specs.Times.{most_added};
 

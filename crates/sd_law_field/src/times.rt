@@ -3,11 +3,11 @@
 ghost use Rattle.std.specs.Prelude.{◌≡◌, ◌*◌, ◌^◌, ◌<◌, ◌≤◌, [], ℕ, false, List, Some, None, All, length, slice_get};
 ghost use Rattle.std.specs.List.{concat};
 ghost use Rattle.std.specs.List.Sorted.{IsStrictlyIncreasing};
-ghost use Rattle.sd_spec_types.specs.Types.{Packets, LeafNumber, PacketNumber};
+ghost use Rattle.sd_base.specs.Types.{Packets, LeafNumber, PacketNumber};
 ghost use Rattle.sd_spec_broadcast.specs.Plan.{Plan, IsPlan, period_of};
 ghost use Rattle.sd_spec_broadcast.specs.Refused.{IsClear};
 ghost use Rattle.sd_law_broadcast.specs.Packets.{AreWholePackets};
-ghost use Rattle.sd_law_file.specs.Synced.{AreSynced};
+ghost use Rattle.sd_law_broadcast.specs.Synced.{AreSynced};
 ghost use Rattle.sd_spec_receiver.specs.Offered.{break_from};
 ghost use Rattle.sd_law_losses.specs.Confirmed.{packets_at, is_revoked_in};
 ghost use Rattle.sd_spec_field.specs.declared.event.Event.{Event};

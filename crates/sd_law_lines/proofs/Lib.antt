@@ -1,2 +1,4 @@
+pub mod Fielded
+pub mod Never
 pub mod Tried
 pub mod Ends

@@ -7,7 +7,7 @@ use Rattle.std.specs.List.{All, concat, range_with_len}
 use Rattle.std.proofs.lemmas.List.FromFn.{length-range_with_len, get_or-range_with_len}
 use Rattle.std.proofs.lemmas.List.Elements.{All-nil, All-cons, All-head, All-tail, All-get_or, All-from_get_or}
 use Rattle.std.proofs.lemmas.List.Elements.{All-filter}
-use Rattle.sd_base.proofs.Numbers.{packets_in}
+use Rattle.sd_base.proofs.Arithmetic.{packets_in}
 use Rattle.sd_card.specs.Fields.{CardFields, card_of}
 use Rattle.sd_engine.specs.Taken.{StreamEnd, Whole, Breaks, RunsOn, taken_of, end_of}
 use Rattle.sd_spec_broadcast.specs.Plan.{Plan, IsPlan, period_of}
@@ -15,11 +15,11 @@ use Rattle.sd_spec_broadcast.specs.Refused.{IsClear, refusal_from}
 use Rattle.sd_spec_broadcast.specs.declared.fault.ClearFault.{ClearFault}
 use Rattle.sd_spec_broadcast.specs.Sent.{broadcast}
 use Rattle.sd_law_broadcast.specs.Packets.{AreWholePackets}
-use Rattle.sd_law_file.specs.Synced.{IsSynced, AreSynced, AreBytes}
-use Rattle.sd_law_file.proofs.Joined.{joined_long}
-use Rattle.sd_law_file.proofs.Cut.{taken_synced, taken_joined, taken_whole}
-use Rattle.sd_law_file.proofs.Synced.{broadcast_synced}
-use Rattle.sd_law_file.proofs.Taken.{broadcast_taken}
+use Rattle.sd_law_broadcast.specs.Synced.{IsSynced, AreSynced, AreBytes}
+use Rattle.sd_law_broadcast.proofs.Joined.{joined_long}
+use Rattle.sd_law_broadcast.proofs.Cut.{taken_synced, taken_joined, taken_whole}
+use Rattle.sd_law_broadcast.proofs.Synced.{broadcast_synced}
+use Rattle.sd_law_broadcast.proofs.Taken.{broadcast_taken}
 use Rattle.sd_spec_receiver.specs.Offered.{out_from, break_from}
 use Rattle.sd_spec_receiver.specs.Ending.{ending_of}
 use Rattle.sd_law_losses.specs.Confirmed.{packet_at, packets_at, opened_by, is_revoked_in}
@@ -29,16 +29,17 @@ use Rattle.sd_command_status.specs.declared.status.Status.{Status}
 use Rattle.sd_command_status.specs.declared.status.Status.TheVariants.{Done}
 use Rattle.sd_command_status.specs.Spec.{FileArgument, Readings, and_then, value, ◌>>=◌}
 use Rattle.sd_ports.specs.Bytes.{Prefix}
-use Rattle.sd_run_head.specs.Head.{sent_of, sent_status, status_where}
-use Rattle.sd_run_head.proofs.Sending.{sent_unrefused}
-use Rattle.sd_run_receive.specs.Receive.{ending_status, ended_status, received_of, received_status}
-use Rattle.sd_run_receive.proofs.Received.{none_refused, bytes_are}
-use Rattle.sd_run_trial.specs.Trial.{clear_line, trial_lines, lines_to, receiver_line, sent_or, then_line, told_line}
+use Rattle.sd_run_broadcasts.specs.Head.{sent_of, sent_status, status_where}
+use Rattle.sd_run_broadcasts.proofs.HeadSending.{sent_unrefused}
+use Rattle.sd_run_broadcasts.specs.Receive.{ending_status, ended_status, received_of, received_status}
+use Rattle.sd_run_broadcasts.proofs.Received.{none_refused, bytes_are}
+use Rattle.sd_run_broadcasts.specs.Trial.{clear_line, trial_lines, lines_to, receiver_line, sent_or, then_line}
+use Rattle.sd_run_broadcasts.specs.Trial.{told_line}
 use Rattle.sd_command_files.specs.Printed.{printing}
-use Rattle.sd_run_trial.specs.Trial.{plan_meaning, told_sent, trial_meaning, trial_text, trying}
-use Rattle.sd_run_trial.specs.Prefixes.{prefix_of_file}
-use Rattle.sd_run_trial.specs.Trial.{most_clear_bytes}
-use Rattle.sd_run_trial.proofs.Prefixes.{whole_prefix}
+use Rattle.sd_run_broadcasts.specs.Trial.{plan_meaning, told_sent, trial_meaning, trial_text, trying}
+use Rattle.sd_run_broadcasts.specs.Prefixes.{prefix_of_file}
+use Rattle.sd_run_broadcasts.specs.Trial.{most_clear_bytes}
+use Rattle.sd_run_broadcasts.proofs.Prefixes.{whole_prefix}
 use Rattle.sd_law_lines.specs.Trials.{line_by, opened_line, opened_lines}
 
 long_packets : (packets : List (List ℕ)) → AreSynced packets → length (concat packets) / 188 ≡ length packets

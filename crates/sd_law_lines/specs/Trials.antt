@@ -1,11 +1,11 @@
 -- Public meaning: what a trial of a broadcast prints [this project, docs/FORMATS.md, Trial].
 use Rattle.std.specs.Prelude.{ℕ, zero, suc, ◌++◌, length, Option, Some, None}
-use Rattle.sd_spec_types.specs.Types.{Bytes, Packets, LeafNumber, PeriodNumber}
+use Rattle.sd_base.specs.Types.{Bytes, Packets, LeafNumber, PeriodNumber}
 use Rattle.sd_spec_broadcast.specs.Plan.{Plan}
 use Rattle.sd_spec_broadcast.specs.Sent.{broadcast}
 use Rattle.sd_law_losses.specs.Confirmed.{opened_by}
 use Rattle.sd_law_losses.specs.Endings.{first_revoked}
-use Rattle.sd_run_trial.specs.Trial.{clear_line, done_line, revoked_line}
+use Rattle.sd_run_broadcasts.specs.Trial.{clear_line, done_line, revoked_line}
 
 -- the line of a leaf's receiver by the number of packets that it wrote and the first period in which the leaf is
 -- revoked

@@ -1,5 +1,6 @@
-//! What the lines that `trial` and `opens` print tell, by the theorems on broadcasts and on pooled cards.
+//! What the printed lines of `opens`, `trial` and `field` say of a broadcast.
 #![tactic(auto)]
 
+pub mod laws;
 pub mod pools;
 pub mod trials;

@@ -3,7 +3,7 @@
 
 ghost use Rattle.std.specs.Prelude.{◌≡◌, ◌^◌, ◌<◌, ◌≤◌, ◌↔◌, All, Any, Contains};
 ghost use Rattle.std.specs.List.{flat_map};
-ghost use Rattle.sd_spec_types.specs.Types.{Height, Leaves, PeriodNumber};
+ghost use Rattle.sd_base.specs.Types.{Height, Leaves, PeriodNumber};
 ghost use Rattle.sd_tree.specs.Limits.{highest};
 ghost use Rattle.sd_tree.specs.declared.set.SetName.{SetName};
 ghost use Rattle.sd_tree.specs.SetNames.{IsOfHeight};

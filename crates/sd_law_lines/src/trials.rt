@@ -1,15 +1,15 @@
 //! Laws on what a trial prints, by the theorems on the head end and the receiver.
 
 ghost use Rattle.std.specs.Prelude.{◌≡◌, ◌^◌, ◌≤◌, Some, Ok, false, length};
-ghost use Rattle.sd_spec_types.specs.Types.{Bytes};
+ghost use Rattle.sd_base.specs.Types.{Bytes};
 ghost use Rattle.sd_ports.specs.Bytes.{Prefix};
 ghost use Rattle.sd_engine.specs.Taken.{Whole, taken_of, end_of};
 ghost use Rattle.sd_spec_broadcast.specs.Plan.{Plan, IsPlan};
 ghost use Rattle.sd_spec_broadcast.specs.Refused.{IsClear};
-ghost use Rattle.sd_law_file.specs.Synced.{AreBytes};
+ghost use Rattle.sd_law_broadcast.specs.Synced.{AreBytes};
 ghost use Rattle.sd_command_status.specs.Spec.{FileArgument, Readings};
 ghost use Rattle.sd_command_files.specs.Printed.{printing};
-ghost use Rattle.sd_run_trial.specs.Trial.{most_clear_bytes, plan_meaning, trial_meaning, trial_text};
+ghost use Rattle.sd_run_broadcasts.specs.Trial.{most_clear_bytes, plan_meaning, trial_meaning, trial_text};
 ghost use Rattle.sd_law_lines.specs.Trials.{opened_lines};
 
 /// Take a site and a book within the limits, and a clear stream of packets of which none is refused. Then the work of

@@ -12,7 +12,7 @@ use Rattle.sd_label.specs.Keys.{control_word_of}
 use Rattle.sd_spec_broadcast.specs.Plan.{since_of}
 use Rattle.sd_spec_broadcast.specs.Sent.{Item}
 use Rattle.sd_label.specs.Keys.{period_key_of}
-use Rattle.sd_wrap.specs.Wrapping.{wrapped as under}
+use Rattle.sd_keystream.specs.Wrapping.{wrapped as under}
 use Rattle.sd_spec_broadcast.specs.Plan.{period_of}
 use Rattle.sd_spec_receiver.specs.Stretches.{Stretch, held_in}
 use Rattle.sd_spec_receiver.specs.Keys.{key_at}

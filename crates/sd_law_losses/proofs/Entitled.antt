@@ -11,7 +11,7 @@ use Rattle.std.proofs.lemmas.List.Elements.{All-head, All-tail}
 use Rattle.sd_base.proofs.Lists.{any_there}
 use Rattle.sd_tree.specs.Leaves.{is_member}
 use Rattle.sd_book.specs.Commands.{revoked}
-use Rattle.sd_steiner.proofs.Partitions.{among_unrevoked}
+use Rattle.sd_cover.proofs.Partitions.{among_unrevoked}
 use Rattle.sd_emm.specs.Spelled.{listed_entries}
 use Rattle.sd_emm.specs.Period.{emms_of}
 use Rattle.sd_emm.specs.declared.emm.Emm.{Emm}

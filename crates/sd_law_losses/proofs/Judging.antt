@@ -12,7 +12,7 @@ use Rattle.sd_packet.specs.Header.{pid_of, scrambling_of}
 use Rattle.sd_packet.specs.Positions.{is_placed, is_moving}
 use Rattle.sd_packet.proofs.Positions.{next_position, own_moves}
 use Rattle.sd_label.specs.Keys.{control_word_of}
-use Rattle.sd_scramble.specs.Scrambling.{descrambled}
+use Rattle.sd_keystream.specs.Scrambling.{descrambled}
 use Rattle.sd_ecm.specs.declared.part.Place.{Place}
 use Rattle.sd_spec_broadcast.specs.Plan.{word_of, since_of}
 use Rattle.sd_spec_broadcast.specs.Kinds.{kind_of, has_moved, is_scrambled}

@@ -30,14 +30,14 @@ use Rattle.sd_law_broadcast.specs.Headers.{control_in, IsCarriedWith}
 use Rattle.sd_law_broadcast.proofs.Clear.{each_clear, accepted}
 use Rattle.sd_law_broadcast.proofs.Carrying.{carried_keeps, moves_alike, kind_placed}
 use Rattle.sd_law_broadcast.proofs.Numbers.{numbered_fits}
-use Rattle.sd_law_heard.specs.Told.{heard_of}
-use Rattle.sd_law_heard.proofs.Alike.{any_two}
-use Rattle.sd_law_heard.proofs.Keyed.{key_due, check_due, word_due, word_check_due}
-use Rattle.sd_law_heard.proofs.Hearing.{cat_taken, no_other_taken, items_heard}
-use Rattle.sd_law_heard.proofs.Back.{clear_back, scrambled_back}
-use Rattle.sd_law_heard.proofs.Lists.{reverse_cons}
-use Rattle.sd_law_heard.proofs.Parts.{some_part, part_stands, parts_tell}
-use Rattle.sd_law_heard.proofs.Later.{never_back}
+use Rattle.sd_law_losses.specs.Told.{heard_of}
+use Rattle.sd_law_losses.proofs.Alike.{any_two}
+use Rattle.sd_law_losses.proofs.Keyed.{key_due, check_due, word_due, word_check_due}
+use Rattle.sd_law_losses.proofs.HeardHearing.{cat_taken, no_other_taken, items_heard}
+use Rattle.sd_law_losses.proofs.Back.{clear_back, scrambled_back}
+use Rattle.sd_law_losses.proofs.Lists.{reverse_cons}
+use Rattle.sd_law_losses.proofs.HeardParts.{some_part, part_stands, parts_tell}
+use Rattle.sd_law_losses.proofs.HeardLater.{never_back}
 use Rattle.sd_spec_receiver.specs.Stretches.{message_told}
 use Rattle.sd_spec_receiver.specs.Keys.{key_from}
 use Rattle.sd_law_losses.specs.Confirmed.{packet_at}

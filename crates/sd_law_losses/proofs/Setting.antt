@@ -7,10 +7,10 @@ use Rattle.sd_tree.specs.Leaves.{is_member}
 use Rattle.sd_packet.specs.Header.{pid_of, scrambling_of}
 use Rattle.sd_packet.specs.Positions.{is_placed, moved}
 use Rattle.sd_label.specs.Keys.{period_key_of, control_word_of, check_value_of}
-use Rattle.sd_scramble.specs.Scrambling.{descrambled}
+use Rattle.sd_keystream.specs.Scrambling.{descrambled}
 use Rattle.sd_site.specs.Fields.{AreInRange}
 use Rattle.sd_card.specs.Fields.{CardFields}
-use Rattle.sd_wrap.specs.Wrapping.{wrapped as under}
+use Rattle.sd_keystream.specs.Wrapping.{wrapped as under}
 use Rattle.sd_emm.specs.Spelled.{listed_entries}
 use Rattle.sd_emm.specs.Period.{emms_of}
 use Rattle.sd_emm.specs.declared.emm.Emm.{Emm}

@@ -2,8 +2,8 @@
 use Rattle.std.specs.Prelude.{ℕ, ◌+◌, ◌*◌, ◌/◌, ◌&&◌, ◌||◌, Bool, true, false, not, nat_eq, nat_le, min}
 use Rattle.std.specs.Prelude.{List, [], length, take, map, filter, get_or, Option, Some, None}
 use Rattle.std.specs.List.{list_any, range_with_len}
-use Rattle.sd_spec_types.specs.Types.{Packet, Packets, Pid, Position, LeafNumber, PeriodNumber, PacketNumber}
-use Rattle.sd_spec_types.specs.Types.{MessageNumber}
+use Rattle.sd_base.specs.Types.{Packet, Packets, Pid, Position, LeafNumber, PeriodNumber, PacketNumber}
+use Rattle.sd_base.specs.Types.{MessageNumber}
 use Rattle.sd_packet.specs.Header.{pid_of}
 use Rattle.sd_packet.specs.Positions.{position_of, moved_by}
 use Rattle.sd_book.specs.Commands.{revoked}

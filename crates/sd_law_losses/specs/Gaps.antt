@@ -1,6 +1,6 @@
 -- Public meaning: gaps in the positions of kept packets.
 use Rattle.std.specs.Prelude.{◌+◌, ◌*◌, ◌&&◌, Bool, nat_le, List, [], ◌∷◌, map, filter, take, if◌then◌else◌}
-use Rattle.sd_spec_types.specs.Types.{Packets, Arrived, Pid, Position, MessageNumber}
+use Rattle.sd_base.specs.Types.{Packets, Arrived, Pid, Position, MessageNumber}
 use Rattle.sd_packet.specs.Positions.{is_moving, moved, position_of}
 use Rattle.sd_spec_broadcast.specs.Plan.{Plan}
 use Rattle.sd_spec_broadcast.specs.Sent.{Item}

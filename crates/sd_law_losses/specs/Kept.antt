@@ -2,7 +2,7 @@
 use Rattle.std.specs.Prelude.{ℕ, ◌+◌, ◌-◌, ◌==◌, ◌&&◌, ◌||◌, Bool, true, false, nat_le, nat_lt, List, [], ◌∷◌}
 use Rattle.std.specs.Prelude.{filter, if◌then◌else◌, Option, Some, None}
 use Rattle.std.specs.List.{list_any, list_all, range_with_len}
-use Rattle.sd_spec_types.specs.Types.{Height, LeafNumber, PeriodNumber, PacketNumber, MessageNumber}
+use Rattle.sd_base.specs.Types.{Height, LeafNumber, PeriodNumber, PacketNumber, MessageNumber}
 use Rattle.sd_tree.specs.Leaves.{is_member}
 use Rattle.sd_emm.specs.Spelled.{listed_entries}
 use Rattle.sd_spec_broadcast.specs.Sent.{Item, Cat, Entitles, Controls, Carries}

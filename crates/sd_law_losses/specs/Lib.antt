@@ -4,3 +4,12 @@ pub mod Confirmed
 pub mod Gaps
 pub mod Endings
 pub mod Taken
+pub mod Told
+pub mod Parts
+pub mod Pieces
+pub mod Together
+pub mod Channel
+pub mod Many
+pub mod Ends
+pub mod Switched
+pub mod Keys

@@ -1,6 +1,6 @@
 -- Public meaning: what `messages` prints of a broadcast [this project, docs/FORMATS.md, Messages printed].
 use Rattle.std.specs.Prelude.{suc, List, [], ◌∷◌, Some}
-use Rattle.sd_spec_types.specs.Types.{Bytes, PacketNumber}
+use Rattle.sd_base.specs.Types.{Bytes, PacketNumber}
 use Rattle.sd_site.specs.Fields.{SiteFields}
 use Rattle.sd_spec_broadcast.specs.Sent.{Item, Cat, Entitles, Controls, Carries}
 use Rattle.sd_monitor.specs.Lines.{ecm_data, emm_data, line_with}

@@ -1,7 +1,7 @@
 -- Public meaning: what is so where two sites with their books may not go out under one set of cards
 -- [this project, docs/FORMATS.md, Apart].
 use Rattle.std.specs.Prelude.{◌≡◌, ◌≢◌, ◌⊎◌, ◌↔◌, ℕ, ◌<◌, ◌≤◌, List, Contains}
-use Rattle.sd_spec_types.specs.Types.{LeafNumber, Leaves, PeriodNumber, WordNumber}
+use Rattle.sd_base.specs.Types.{LeafNumber, Leaves, PeriodNumber, WordNumber}
 use Rattle.sd_book.specs.Commands.{revoked}
 use Rattle.sd_spec_broadcast.specs.Plan.{Plan}
 use Rattle.sd_law_several.specs.Runs.{HasWords}

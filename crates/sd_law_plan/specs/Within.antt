@@ -1,7 +1,7 @@
 -- Public meaning: what a broadcast has of what `plan` prints for a stream of so many packets and PIDs
 -- [this project, docs/FORMATS.md, Plan].
 use Rattle.std.specs.Prelude.{◌≡◌, ℕ, ◌+◌, ◌*◌, ◌<◌, ◌≤◌, ◌==◌, Bool, false, List, ◌++◌, length, count_by, Contains}
-use Rattle.sd_spec_types.specs.Types.{Packets, PeriodNumber, WordNumber, PacketNumber}
+use Rattle.sd_base.specs.Types.{Packets, PeriodNumber, WordNumber, PacketNumber}
 use Rattle.sd_ecm.specs.Versions.{positions_for}
 use Rattle.sd_ecm.specs.declared.part.EcmPart.{EcmPart}
 use Rattle.sd_spec_broadcast.specs.Plan.{Plan, period_of, word_of}

@@ -1,7 +1,7 @@
 //! What `messages` prints of a broadcast.
 
 ghost use Rattle.std.specs.Prelude.{◌≡◌, ◌++◌};
-ghost use Rattle.sd_spec_types.specs.Types.{Packets};
+ghost use Rattle.sd_base.specs.Types.{Packets};
 ghost use Rattle.sd_spec_broadcast.specs.Plan.{Plan, IsPlan};
 ghost use Rattle.sd_spec_broadcast.specs.Refused.{IsClear};
 ghost use Rattle.sd_spec_broadcast.specs.Sent.{broadcast, closing_of, sent};

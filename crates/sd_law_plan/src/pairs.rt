@@ -1,7 +1,7 @@
 //! What it means that two sites with their books are taken or refused.
 
 ghost use Rattle.std.specs.Prelude.{◌≡◌, ◌<◌, ◌≤◌, ◌∷◌, ℕ, List, None, Some, length, slice_get};
-ghost use Rattle.sd_spec_types.specs.Types.{Key};
+ghost use Rattle.sd_base.specs.Types.{Key};
 ghost use Rattle.sd_site.specs.Fields.{AreInRange};
 ghost use Rattle.sd_spec_broadcast.specs.Plan.{Plan};
 ghost use Rattle.sd_law_several.specs.Runs.{Run, IsRun, HasWords, ShareNoWord, HaveOwnWords, AgreeOnPeriods, AllAgree};

@@ -1,7 +1,7 @@
 //! What a plan says of streams, and of a broadcast after it.
 
 ghost use Rattle.std.specs.Prelude.{◌≡◌, ◌+◌, ◌^◌, ◌<◌, ◌≤◌, ℕ, length, false};
-ghost use Rattle.sd_spec_types.specs.Types.{Packets, PacketNumber};
+ghost use Rattle.sd_base.specs.Types.{Packets, PacketNumber};
 ghost use Rattle.sd_site.specs.Fields.{SiteFields, AreInRange};
 ghost use Rattle.sd_spec_broadcast.specs.Kinds.{moved_pids};
 ghost use Rattle.sd_spec_broadcast.specs.Plan.{Plan, IsPlan, period_of, word_of};

@@ -24,14 +24,14 @@ use Rattle.sd_command_status.specs.Work.{Work}
 use Rattle.sd_command_status.proofs.Follow.{then_is}
 use Rattle.sd_command_files.specs.Files.{most_card_bytes}
 use Rattle.sd_command_line.specs.Words.{ReceiveOf}
-use Rattle.sd_run_receive.specs.Receive.{told_card, card_of_file, ending_status, ended_status}
-use Rattle.sd_run_receive.specs.Receive.{received_of, received_status, received_steps, receiving, stream_meaning}
-use Rattle.sd_run_receive.specs.Receive.{receive_meaning}
+use Rattle.sd_run_broadcasts.specs.Receive.{told_card, card_of_file, ending_status, ended_status}
+use Rattle.sd_run_broadcasts.specs.Receive.{received_of, received_status, received_steps, receiving, stream_meaning}
+use Rattle.sd_run_broadcasts.specs.Receive.{receive_meaning}
 use Rattle.sd_law_run.specs.Good.{IsGoodReceive}
 use Rattle.sd_law_run.specs.Opened.{entitled_periods, revoked_status, IsBroadcastTo, IsOpened}
 use Rattle.sd_run.specs.Meaning.{meaning}
-use Rattle.sd_run_receive.proofs.Cards.{card_read}
-use Rattle.sd_run_receive.proofs.Received.{none_refused, bytes_are, unrefused_steps, scaled}
+use Rattle.sd_run_broadcasts.proofs.Cards.{card_read}
+use Rattle.sd_run_broadcasts.proofs.Received.{none_refused, bytes_are, unrefused_steps, scaled}
 use Rattle.sd_law_run.proofs.Keyed.{keys_taken}
 use Rattle.sd_law_run.proofs.Goodness.{ordered}
 

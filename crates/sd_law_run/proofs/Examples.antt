@@ -1,11 +1,11 @@
 -- Each exit's line and each example, by computation.
 use Rattle.std.proofs.Common.{◌≡◌, refl, take}
 use Rattle.std.specs.Fmt.{digits}
-use Rattle.sd_command_table.specs.declared.command.Command.{Command}
-use Rattle.sd_command_table.specs.declared.operand.Files.{Files}
-use Rattle.sd_command_table.specs.declared.operand.Files.TheVariants.{Inputs, Output, Both}
-use Rattle.sd_command_table.specs.Commands.{example_of}
-use Rattle.sd_command_table.specs.Exits.{exit_line}
+use Rattle.sd_command_line.specs.declared.command.Command.{Command}
+use Rattle.sd_command_line.specs.declared.operand.Files.{Files}
+use Rattle.sd_command_line.specs.declared.operand.Files.TheVariants.{Inputs, Output, Both}
+use Rattle.sd_command_line.specs.Commands.{example_of}
+use Rattle.sd_command_line.specs.Exits.{exit_line}
 use Rattle.sd_command_status.specs.Exits.{code_of}
 use Rattle.sd_command_status.specs.declared.status.Status.{Status}
 use Rattle.sd_command_status.specs.declared.status.Status.TheVariants.{Done, Usage, Missing, Revoked, DepotFault}

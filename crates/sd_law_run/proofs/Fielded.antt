@@ -20,8 +20,8 @@ use Rattle.sd_field.specs.Script.{by_run, judged as judged_line, put_before, scr
 use Rattle.sd_field.specs.declared.fault.ScriptFault.{ScriptFault}
 use Rattle.sd_field.proofs.Scripts.{IsGood, line_good}
 use Rattle.sd_law_broadcast.specs.Packets.{IsWholePacket, AreWholePackets}
-use Rattle.sd_law_file.specs.Synced.{IsSynced, AreSynced}
-use Rattle.sd_law_file.proofs.Cut.{taken_synced, taken_whole}
+use Rattle.sd_law_broadcast.specs.Synced.{IsSynced, AreSynced}
+use Rattle.sd_law_broadcast.proofs.Cut.{taken_synced, taken_whole}
 use Rattle.sd_command_status.specs.declared.status.Status.{Status}
 use Rattle.sd_command_status.specs.declared.status.Status.TheVariants.{Limit}
 use Rattle.sd_command_status.specs.declared.status.LimitKind.TheVariants.{BookBytes, FieldHeight, FieldPackets}
@@ -31,9 +31,9 @@ use Rattle.sd_command_files.specs.Files.{low_site_of_file, most_book_bytes, site
 use Rattle.sd_command_files.specs.Printed.{printing}
 use Rattle.sd_run_field.specs.Field.{Inputs, clear_of_file, field_meaning, field_text, inputs_by, inputs_meaning}
 use Rattle.sd_run_field.specs.Field.{most_clear_bytes, most_height, script_of_file, told_clear, told_script, unbroken}
-use Rattle.sd_law_field_lines.specs.Fielded.{confirmed_lines}
-use Rattle.sd_law_field_lines.specs.Fielded as fielded
-use Rattle.sd_law_field_lines.proofs.Fielded.{text_is_confirmed}
+use Rattle.sd_law_lines.specs.Fielded.{confirmed_lines}
+use Rattle.sd_law_lines.specs.Fielded as fielded
+use Rattle.sd_law_lines.proofs.Fielded.{text_is_confirmed}
 use Rattle.sd_command_line.specs.Words.{FieldOf}
 use Rattle.sd_run.specs.Meaning.{meaning}
 use Rattle.sd_law_run.specs.Good.{IsGoodSite}

@@ -39,9 +39,9 @@ use Rattle.sd_law_run.specs.Good.{IsGoodTables}
 use Rattle.std.specs.List.{concat}
 use Rattle.sd_engine.specs.Taken.{Whole, taken_of}
 use Rattle.sd_spec_broadcast.specs.Sent.{broadcast}
-use Rattle.sd_run_head.specs.Head.{plan_by, plan_meaning, sending, sending_of, sent_of, sent_status, head_meaning}
+use Rattle.sd_run_broadcasts.specs.Head.{plan_by, plan_meaning, sending, sending_of, sent_of, sent_status, head_meaning}
 use Rattle.sd_law_run.specs.Good.{plan_told, IsGoodHead}
-use Rattle.sd_run_head.proofs.Sending.{sent_unrefused}
+use Rattle.sd_run_broadcasts.proofs.HeadSending.{sent_unrefused}
 use Rattle.sd_run.specs.Meaning.{order_meaning, meaning}
 
 pub file_read : (word most : ℕ) (kind : LimitKind) (bytes : List ℕ) → length bytes ≤ most →

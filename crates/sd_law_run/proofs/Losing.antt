@@ -13,7 +13,7 @@ use Rattle.sd_command_status.specs.Spec.{contents_of}
 use Rattle.sd_command_status.specs.Outside.{Outside}
 use Rattle.sd_command_status.specs.Results.{RunResult}
 use Rattle.sd_command_files.specs.Shown.{word_at}
-use Rattle.sd_run_receive.specs.Receive.{receiving, received_steps, receive_meaning}
+use Rattle.sd_run_broadcasts.specs.Receive.{receiving, received_steps, receive_meaning}
 use Rattle.sd_law_run.specs.Headline.{Names, file_in, AreGiven, IsUndisturbed, card_for}
 use Rattle.sd_law_run.specs.Lost.{kept_items, LossResult}
 use Rattle.sd_law_run.proofs.Broadcasts.{received}

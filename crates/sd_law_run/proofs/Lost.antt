@@ -11,10 +11,10 @@ use Rattle.sd_spec_broadcast.specs.Plan.{Plan, IsPlan}
 use Rattle.sd_spec_broadcast.specs.Refused.{IsClear}
 use Rattle.sd_spec_broadcast.specs.Sent.{sent, closing_of, broadcast}
 use Rattle.sd_law_broadcast.specs.Packets.{AreWholePackets}
-use Rattle.sd_law_file.specs.Synced.{IsSynced, AreSynced}
-use Rattle.sd_law_file.proofs.Joined.{taken_again, joined_whole}
-use Rattle.sd_law_file.proofs.Synced.{broadcast_synced}
-use Rattle.sd_law_file.proofs.Counted.{broadcast_short}
+use Rattle.sd_law_broadcast.specs.Synced.{IsSynced, AreSynced}
+use Rattle.sd_law_broadcast.proofs.Joined.{taken_again, joined_whole}
+use Rattle.sd_law_broadcast.proofs.Synced.{broadcast_synced}
+use Rattle.sd_law_broadcast.proofs.Counted.{broadcast_short}
 use Rattle.sd_spec_receiver.specs.declared.ending.Ending.{Ending}
 use Rattle.sd_spec_receiver.specs.declared.ending.Ending.TheVariants as end
 use Rattle.sd_spec_receiver.specs.Offered.{out_from, break_from}
@@ -30,13 +30,13 @@ use Rattle.sd_law_losses.proofs.Later.{chosen_all_of}
 use Rattle.sd_command_status.specs.declared.status.Status.TheVariants.{Revoked}
 use Rattle.sd_command_status.specs.Spec.{Readings}
 use Rattle.sd_command_status.specs.Work.{Work}
-use Rattle.sd_run_receive.specs.Receive.{ending_status, ended_status, received_of, received_status, received_steps}
-use Rattle.sd_run_receive.specs.Receive.{receiving}
+use Rattle.sd_run_broadcasts.specs.Receive.{ending_status, ended_status, received_of, received_status, received_steps}
+use Rattle.sd_run_broadcasts.specs.Receive.{receiving}
 use Rattle.sd_law_run.specs.Good.{IsGoodReceive}
 use Rattle.sd_command_files.specs.Turned.{is_break}
 use Rattle.sd_law_run.specs.Lost.{kept_items, kept_periods, IsRestTo, IsConfirmed}
 use Rattle.sd_run.specs.Meaning.{meaning}
-use Rattle.sd_run_receive.proofs.Received.{none_refused, bytes_are, unrefused_steps}
+use Rattle.sd_run_broadcasts.proofs.Received.{none_refused, bytes_are, unrefused_steps}
 use Rattle.sd_law_run.proofs.Broadcasts.{receive_good}
 
 -- no more are chosen than there are, and each is one of them

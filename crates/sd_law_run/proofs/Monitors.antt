@@ -3,7 +3,7 @@ use Rattle.std.proofs.Common.{◌≡◌, ℕ, ◌^◌, ◌<◌, ◌≤◌, List,
 use Rattle.sd_card.specs.Fields.{CardFields, IsCard, card_bytes, card_of}
 use Rattle.sd_card.proofs.Made.{made_is_card}
 use Rattle.sd_card.proofs.Spellings.{written_is_good}
-use Rattle.sd_card_secrets.specs.Files.{check_in}
+use Rattle.sd_card.specs.Files.{check_in}
 use Rattle.sd_command_status.specs.declared.status.Status.TheVariants.{Done}
 use Rattle.sd_command_status.specs.declared.status.LimitKind.TheVariants.{CardBytes}
 use Rattle.sd_command_status.specs.Spec.{Readings, all_of, judged, value, within, ◌>>=◌}

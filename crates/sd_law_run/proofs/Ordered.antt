@@ -12,14 +12,14 @@ use Rattle.sd_command_status.specs.Spec.{Readings, judged, ◌>>=◌}
 use Rattle.sd_command_status.specs.Outside.{Outside}
 use Rattle.sd_command_status.specs.Outcome.{OutcomeWithin, Implements}
 use Rattle.sd_command_status.specs.Results.{RunResult, with_page}
-use Rattle.sd_command_table.specs.declared.command.Command.TheVariants.{Card}
-use Rattle.sd_command_table.specs.Commands.{command_named, command_name, operands_of}
+use Rattle.sd_command_line.specs.declared.command.Command.TheVariants.{Card}
+use Rattle.sd_command_line.specs.Commands.{command_named, command_name, operands_of}
 use Rattle.sd_command_line.specs.Words.{InputOf, OutOf, Order, HeadOf, CardOf, ReceiveOf, at_most, before, number_in}
 use Rattle.sd_command_line.specs.Words.{named_words, numbered, order_of, ordered}
 use Rattle.sd_command_files.specs.Shown.{word_at}
 use Rattle.sd_run_cards.specs.Card.{card_meaning}
-use Rattle.sd_run_head.specs.Head.{head_meaning}
-use Rattle.sd_run_receive.specs.Receive.{receive_meaning}
+use Rattle.sd_run_broadcasts.specs.Head.{head_meaning}
+use Rattle.sd_run_broadcasts.specs.Receive.{receive_meaning}
 use Rattle.sd_run.specs.Meaning.{order_meaning, meaning}
 use Rattle.sd_law_run.specs.Good.{IsGoodSite}
 use Rattle.sd_law_run.specs.Headline.{Names, head_run, card_run, receive_run}

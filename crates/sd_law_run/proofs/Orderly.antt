@@ -7,13 +7,13 @@ use Rattle.sd_command_status.specs.declared.status.Status.TheVariants.{Usage}
 use Rattle.sd_command_status.specs.Spec.{Readings, judged, ◌>>=◌}
 use Rattle.sd_command_status.specs.Work.{Work, work_of_text}
 use Rattle.sd_command_files.specs.Shown.{word_at}
-use Rattle.sd_run_help.specs.Pages.{help_text, version_text}
-use Rattle.sd_command_table.specs.declared.command.Command.{Command}
-use Rattle.sd_command_table.specs.declared.operand.Operand.{Operand}
-use Rattle.sd_command_table.specs.declared.operand.Kind.{Kind}
-use Rattle.sd_command_table.specs.declared.operand.Kind.TheVariants as kind
-use Rattle.sd_command_table.specs.Commands.{command_named, operands_of}
-use Rattle.sd_command_table.specs.Operands.{operand_kind}
+use Rattle.sd_command_line.specs.Pages.{help_text, version_text}
+use Rattle.sd_command_line.specs.declared.command.Command.{Command}
+use Rattle.sd_command_line.specs.declared.operand.Operand.{Operand}
+use Rattle.sd_command_line.specs.declared.operand.Kind.{Kind}
+use Rattle.sd_command_line.specs.declared.operand.Kind.TheVariants as kind
+use Rattle.sd_command_line.specs.Commands.{command_named, operands_of}
+use Rattle.sd_command_line.specs.Operands.{operand_kind}
 use Rattle.sd_command_line.specs.Words.{Argument, OutOf, Order, CommandOf, HelpOf, VersionOf, file, file_of, before}
 use Rattle.sd_command_line.specs.Words.{out_text, or_output}
 use Rattle.sd_command_line.specs.Words.{argument_of, arguments_from, out_is_read, ordered, command_words, words_of}

@@ -16,9 +16,9 @@ use Rattle.sd_spec_broadcast.specs.Sent.{broadcast}
 use Rattle.sd_law_broadcast.specs.Named.{sets_named, NamesPeriod}
 use Rattle.sd_law_broadcast.specs.Packets.{IsWholePacket, AreWholePackets, AreLong}
 use Rattle.sd_law_broadcast.proofs.Covering.{period_named}
-use Rattle.sd_law_file.specs.Synced.{AreSynced}
-use Rattle.sd_law_file.proofs.Cut.{taken_synced, taken_whole}
-use Rattle.sd_law_file.proofs.Taken.{broadcast_taken}
+use Rattle.sd_law_broadcast.specs.Synced.{AreSynced}
+use Rattle.sd_law_broadcast.proofs.Cut.{taken_synced, taken_whole}
+use Rattle.sd_law_broadcast.proofs.Taken.{broadcast_taken}
 use Rattle.sd_law_losses.specs.Confirmed.{opened_by}
 use Rattle.sd_command_status.specs.declared.status.Status.{Status}
 use Rattle.sd_command_status.specs.declared.status.Status.TheVariants.{Done, BadWord}
@@ -32,9 +32,9 @@ use Rattle.sd_command_files.specs.Files.{site_in}
 use Rattle.sd_command_files.specs.Made.{making}
 use Rattle.sd_command_files.specs.Turned.{turning}
 use Rattle.sd_run_cards.specs.Card.{told_card, card_meaning}
-use Rattle.sd_run_head.specs.Head.{plan_meaning, sending_of, sent_status, head_meaning}
-use Rattle.sd_run_head.proofs.Sending.{sent_unrefused}
-use Rattle.sd_run_receive.specs.Receive.{receiving, received_steps, receive_meaning}
+use Rattle.sd_run_broadcasts.specs.Head.{plan_meaning, sending_of, sent_status, head_meaning}
+use Rattle.sd_run_broadcasts.proofs.HeadSending.{sent_unrefused}
+use Rattle.sd_run_broadcasts.specs.Receive.{receiving, received_steps, receive_meaning}
 use Rattle.sd_law_run.specs.Good.{IsGoodSite, IsGoodBook}
 use Rattle.sd_law_run.specs.Headline.{Names, file_in, AreGiven, IsUndisturbed, card_for}
 use Rattle.sd_law_run.specs.Headline.{HeadResult, CardResult, ReceiveResult}

@@ -1,6 +1,6 @@
 -- Good files of a site, a book and leaves mean work.
 use Rattle.std.proofs.Common.{◌≡◌, ℕ, ◌+◌, cond, List, length, Option, Some, Ok, Err, ap, ◌∙◌, le-ltb}
-use Rattle.sd_leaves.specs.Text.{leaves_of_text}
+use Rattle.sd_command_files.specs.Text.{leaves_of_text}
 use Rattle.sd_trace.specs.Trace.{not_among, trace_of}
 use Rattle.sd_tree.specs.Limits.{most_revoked}
 use Rattle.sd_command_status.specs.declared.status.Status.TheVariants.{Limit}

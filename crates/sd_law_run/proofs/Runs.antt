@@ -1,7 +1,7 @@
 -- What a run leaves where no device failed and memory was not out.
 use Rattle.std.proofs.Common.{◌≡◌, ◌≢◌, ℕ, Some, Result, Ok, sym, ap, subst, ◌∙◌}
 use Rattle.sd_base.specs.Count.{HasNotRisen}
-use Rattle.sd_base.proofs.Numbers.{still_or_rose}
+use Rattle.sd_base.proofs.Arithmetic.{still_or_rose}
 use Rattle.sd_ports.specs.Files.{Files}
 use Rattle.sd_command_status.specs.declared.status.Status.{Status}
 use Rattle.sd_command_status.specs.declared.status.Status.TheVariants.{PrintFault, NoMemory}

@@ -23,9 +23,9 @@ use Rattle.sd_spec_broadcast.specs.declared.fault.ClearFault.{ClearFault}
 use Rattle.sd_law_broadcast.specs.Named.{sets_named, NamesPeriod}
 use Rattle.sd_law_broadcast.specs.Packets.{IsWholePacket}
 use Rattle.sd_law_broadcast.proofs.Covering.{period_named}
-use Rattle.sd_law_file.specs.Synced.{AreBytes}
-use Rattle.sd_law_file.proofs.Cut.{taken_synced, taken_whole}
-use Rattle.sd_law_file.proofs.Taken.{broadcast_taken}
+use Rattle.sd_law_broadcast.specs.Synced.{AreBytes}
+use Rattle.sd_law_broadcast.proofs.Cut.{taken_synced, taken_whole}
+use Rattle.sd_law_broadcast.proofs.Taken.{broadcast_taken}
 use Rattle.sd_command_status.specs.declared.status.Status.{Status}
 use Rattle.sd_command_status.specs.declared.status.Status.TheVariants.{Done}
 use Rattle.sd_command_status.specs.Spec.{Spec, FileArgument, Readings, contents_of, and_then, all_of, judged, value}
@@ -38,12 +38,13 @@ use Rattle.sd_command_status.specs.declared.status.LimitKind.TheVariants.{SiteBy
 use Rattle.sd_command_line.specs.Words.{Order, HeadOf, order_of}
 use Rattle.sd_command_files.specs.Files.{most_site_bytes, most_book_bytes, told_site, told_book, site_of_file}
 use Rattle.sd_command_files.specs.Files.{book_of_file}
-use Rattle.sd_run_head.specs.Head.{status_where, sent_status, sending, sending_of, plan_by, plan_meaning, head_meaning}
+use Rattle.sd_run_broadcasts.specs.Head.{status_where, sent_status, sending, sending_of, plan_by, plan_meaning}
+use Rattle.sd_run_broadcasts.specs.Head.{head_meaning}
 use Rattle.sd_run.specs.Meaning.{order_meaning, meaning}
 use Rattle.sd_law_run.specs.Sent.{IsSent}
 use Rattle.sd_law_run.proofs.Plans.{ca_fits}
 use Rattle.sd_law_run.proofs.Outs.{done_leaves}
-use Rattle.sd_run_head.proofs.Sending.{sent_unrefused}
+use Rattle.sd_run_broadcasts.proofs.HeadSending.{sent_unrefused}
 
 -- what came before a step that came to a value
 pub record ThenOk {A B : Type 0} (first : Spec A) (next : A → Spec B) (y : B) : Type 0 where

@@ -13,7 +13,7 @@ use Rattle.sd_engine.specs.Taken.{StreamEnd, Whole, Breaks, RunsOn, taken_of, en
 use Rattle.sd_spec_broadcast.specs.Plan.{Plan, IsPlan}
 use Rattle.sd_spec_broadcast.specs.Refused.{IsClear, refusal_from}
 use Rattle.sd_spec_broadcast.specs.declared.fault.ClearFault.{ClearFault}
-use Rattle.sd_law_file.specs.Synced.{AreBytes}
+use Rattle.sd_law_broadcast.specs.Synced.{AreBytes}
 use Rattle.sd_command_status.specs.declared.status.Status.{Status}
 use Rattle.sd_command_status.specs.declared.status.Status.TheVariants.{Done, Usage, Missing, Revoked, DepotFault}
 use Rattle.sd_command_status.specs.declared.status.Status.TheVariants.{PrintFault}
@@ -29,15 +29,15 @@ use Rattle.sd_command_status.specs.Outcome.{PrintsAll}
 use Rattle.sd_command_status.specs.Results.{RunResult}
 use Rattle.sd_command_files.specs.Files.{most_site_bytes, most_book_bytes, told_site, told_book, site_of_file}
 use Rattle.sd_command_files.specs.Files.{book_of_file, low_site_of_file, told_low}
-use Rattle.sd_run_head.specs.Head.{sent_of, sent_status, status_where}
-use Rattle.sd_run_trial.specs.Trial.{most_height}
-use Rattle.sd_run_trial.specs.Trial.{most_clear_bytes}
-use Rattle.sd_run_trial.specs.Prefixes.{prefix_of_file}
-use Rattle.sd_run_trial.proofs.Prefixes.{whole_prefix}
-use Rattle.sd_run_trial.specs.Trial.{plan_by, plan_meaning, sent_or, told_sent, told_line}
+use Rattle.sd_run_broadcasts.specs.Head.{sent_of, sent_status, status_where}
+use Rattle.sd_run_broadcasts.specs.Trial.{most_height}
+use Rattle.sd_run_broadcasts.specs.Trial.{most_clear_bytes}
+use Rattle.sd_run_broadcasts.specs.Prefixes.{prefix_of_file}
+use Rattle.sd_run_broadcasts.proofs.Prefixes.{whole_prefix}
+use Rattle.sd_run_broadcasts.specs.Trial.{plan_by, plan_meaning, sent_or, told_sent, told_line}
 use Rattle.sd_command_files.specs.Printed.{printing}
-use Rattle.sd_run_trial.specs.Trial.{receiver_line, then_line, lines_to, trial_lines, clear_line, trial_text}
-use Rattle.sd_run_trial.specs.Trial.{trying, trial_meaning}
+use Rattle.sd_run_broadcasts.specs.Trial.{receiver_line, then_line, lines_to, trial_lines, clear_line, trial_text}
+use Rattle.sd_run_broadcasts.specs.Trial.{trying, trial_meaning}
 use Rattle.sd_law_lines.specs.Trials.{opened_lines}
 use Rattle.sd_law_lines.proofs.Tried.{trial_right, trial_done}
 use Rattle.sd_law_run.specs.Tried.{IsTried}

@@ -9,10 +9,10 @@ use Rattle.sd_command_status.specs.Spec.{FileArgument, Readings, judged, value, 
 use Rattle.sd_command_status.proofs.Follow.{then_is}
 use Rattle.sd_command_files.specs.Files.{site_in, book_in, low_site_of_file, told_low}
 use Rattle.sd_command_line.specs.Words.{TrialOf}
-use Rattle.sd_run_trial.specs.Trial.{most_height}
+use Rattle.sd_run_broadcasts.specs.Trial.{most_height}
 use Rattle.sd_law_lines.specs.Trials.{opened_lines}
 use Rattle.sd_command_files.specs.Printed.{printing}
-use Rattle.sd_run_trial.specs.Trial.{plan_by, plan_meaning}
+use Rattle.sd_run_broadcasts.specs.Trial.{plan_by, plan_meaning}
 use Rattle.sd_law_lines.proofs.Tried as opened
 use Rattle.sd_law_run.specs.Good.{IsGoodSite, IsGoodBook}
 use Rattle.sd_law_run.specs.Tried.{IsGoodTrial, plan_tried}

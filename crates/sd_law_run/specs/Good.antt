@@ -1,6 +1,6 @@
 -- Public meaning: arguments and files that mean work: they are there, in their grammars and within their limits.
 use Rattle.std.specs.Prelude.{◌≡◌, ℕ, List, Option, Some, Ok, ◌≤◌, [], ◌++◌, ◌+◌, length, None, ◌^◌, ◌<◌}
-use Rattle.sd_spec_types.specs.Types.{Bytes, Packets, Height, Leaves}
+use Rattle.sd_base.specs.Types.{Bytes, Packets, Height, Leaves}
 use Rattle.sd_command_status.specs.Spec.{FileArgument, Readings}
 use Rattle.sd_command_line.specs.Words.{SampleOf, order_of, ReceiveOf, CoverOf, CardOf, TablesOf, HeadOf}
 use Rattle.sd_command_line.specs.Words.{AccountsOf, ApartOf, BookOf, LayeredOf, LcardOf, MessagesOf, OpensOf, PlanOf}
@@ -14,9 +14,9 @@ use Rattle.sd_site.specs.Fields.{SiteFields}
 use Rattle.sd_command_files.specs.Shown.{NumberArgument}
 use Rattle.sd_spec_broadcast.specs.Plan.{Plan}
 use Rattle.sd_spec_broadcast.specs.Refused.{IsClear, refusal_from}
-use Rattle.sd_law_file.specs.Synced.{AreBytes}
+use Rattle.sd_law_broadcast.specs.Synced.{AreBytes}
 use Rattle.sd_site.specs.Text.{IsSite}
-use Rattle.sd_leaves.specs.Text.{leaves_of_text}
+use Rattle.sd_command_files.specs.Text.{leaves_of_text}
 use Rattle.sd_trace.specs.Trace.{not_among}
 use Rattle.sd_tree.specs.Limits.{most_revoked}
 use Rattle.sd_run_books.specs.Air.{last_word_for}

@@ -3,12 +3,12 @@ use Rattle.std.specs.Prelude.{◌≡◌, ◌≢◌, ◌+◌, ◌-◌, ◌*◌, �
 use Rattle.std.specs.FinMap.{get}
 use Rattle.std.specs.List.{concat}
 use Rattle.std.specs.Option.{option_and_then}
-use Rattle.sd_spec_types.specs.Types.{Bytes, FileName, Packets, LeafNumber, PeriodNumber}
+use Rattle.sd_base.specs.Types.{Bytes, FileName, Packets, LeafNumber, PeriodNumber}
 use Rattle.sd_base.specs.Count.{HasNotRisen}
 use Rattle.sd_label.specs.Names.{given}
 use Rattle.sd_site.specs.Fields.{SiteFields}
-use Rattle.sd_card_secrets.specs.Secrets.{secret_of}
-use Rattle.sd_card_secrets.specs.Files.{file_bytes}
+use Rattle.sd_card.specs.Secrets.{secret_of}
+use Rattle.sd_card.specs.Files.{file_bytes}
 use Rattle.sd_card.specs.Fields.{card_head}
 use Rattle.sd_engine.specs.Taken.{taken_of}
 use Rattle.sd_spec_broadcast.specs.Plan.{Plan, period_of}

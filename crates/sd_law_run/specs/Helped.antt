@@ -2,11 +2,11 @@
 use Rattle.std.specs.Prelude.{◌≡◌, ℕ, ◌-◌, List, ◌∷◌, ◌++◌, length, replicate, Ok}
 use Rattle.std.specs.List.{flat_map}
 use Rattle.std.specs.Fmt.{decimal}
-use Rattle.sd_spec_types.specs.Types.{Bytes}
-use Rattle.sd_command_table.specs.declared.command.Command.{Command}
-use Rattle.sd_command_table.specs.declared.exit.Exit.{Exit}
-use Rattle.sd_command_table.specs.declared.exit.Exit.TheVariants as exit
-use Rattle.sd_command_table.specs.Commands.{example_of}
+use Rattle.sd_base.specs.Types.{Bytes}
+use Rattle.sd_command_line.specs.declared.command.Command.{Command}
+use Rattle.sd_command_line.specs.declared.exit.Exit.{Exit}
+use Rattle.sd_command_line.specs.declared.exit.Exit.TheVariants as exit
+use Rattle.sd_command_line.specs.Commands.{example_of}
 use Rattle.sd_command_status.specs.declared.status.Status.{Status}
 use Rattle.sd_command_status.specs.declared.status.Status.TheVariants.{Done, Usage, Missing, Revoked, DepotFault}
 use Rattle.sd_command_status.specs.declared.status.Status.TheVariants.{PrintFault}

@@ -1,7 +1,7 @@
 -- Public meaning: what a run leaves in the files, whatever it answers [this project, docs/FORMATS.md, What OUT holds].
 use Rattle.std.specs.Prelude.{◌≡◌, Some, Result, Ok}
 use Rattle.std.specs.FinMap.{insert}
-use Rattle.sd_spec_types.specs.Types.{Bytes}
+use Rattle.sd_base.specs.Types.{Bytes}
 use Rattle.sd_base.specs.Count.{with_added}
 use Rattle.sd_ports.specs.Files.{Files}
 use Rattle.sd_ports.specs.Bytes.{IsPrefix}

@@ -2,7 +2,7 @@
 -- Receiver].
 use Rattle.std.specs.Prelude.{◌≡◌, ◌≢◌, ℕ, ◌+◌, ◌-◌, ◌*◌, ◌≤◌, ◌++◌, Bool, true, false, List, [], length, Some, Ok}
 use Rattle.std.specs.List.{concat, list_any}
-use Rattle.sd_spec_types.specs.Types.{Bytes, FileName, Packets, Arrived, LeafNumber, PeriodNumber}
+use Rattle.sd_base.specs.Types.{Bytes, FileName, Packets, Arrived, LeafNumber, PeriodNumber}
 use Rattle.sd_card.specs.Fields.{card_of, card_bytes}
 use Rattle.sd_spec_broadcast.specs.Plan.{Plan, period_of}
 use Rattle.sd_spec_broadcast.specs.Sent.{Item, sent, closing_of, broadcast}
@@ -17,7 +17,7 @@ use Rattle.sd_command_status.specs.Outside.{Outside}
 use Rattle.sd_command_status.specs.Spec.{FileArgument, Readings}
 use Rattle.sd_command_status.specs.Work.{UpTo, Work}
 use Rattle.sd_command_line.specs.Words.{ReceiveOf, order_of}
-use Rattle.sd_run_receive.specs.Receive.{ending_status}
+use Rattle.sd_run_broadcasts.specs.Receive.{ending_status}
 use Rattle.sd_law_run.specs.Headline.{Names, file_in}
 
 -- the things of a broadcast that are kept

@@ -1,7 +1,7 @@
 -- Public meaning: what `receive` writes of a whole broadcast [this project, docs/FORMATS.md, Receiver].
 use Rattle.std.specs.Prelude.{◌≡◌, ℕ, ◌+◌, ◌-◌, ◌*◌, ◌≤◌, nat_le, ◌&&◌, not, List, [], length, Option, Some, None, Ok}
 use Rattle.std.specs.List.{concat}
-use Rattle.sd_spec_types.specs.Types.{Bytes, Packets, LeafNumber, PeriodNumber}
+use Rattle.sd_base.specs.Types.{Bytes, Packets, LeafNumber, PeriodNumber}
 use Rattle.sd_card.specs.Fields.{card_of, card_bytes}
 use Rattle.sd_engine.specs.Taken.{Whole, taken_of, end_of}
 use Rattle.sd_spec_broadcast.specs.Plan.{Plan, period_of}

@@ -1,8 +1,8 @@
 -- Public meaning: what a caller may rely on after every run, whatever its arguments.
 use Rattle.std.specs.Prelude.{◌≡◌, List, [], ◌∷◌, Option, Some, None, Result, Ok}
-use Rattle.sd_spec_types.specs.Types.{Bytes, FileName}
-use Rattle.sd_command_table.specs.declared.command.Command.{Command}
-use Rattle.sd_command_table.specs.Commands.{command_named, operands_of}
+use Rattle.sd_base.specs.Types.{Bytes, FileName}
+use Rattle.sd_command_line.specs.declared.command.Command.{Command}
+use Rattle.sd_command_line.specs.Commands.{command_named, operands_of}
 use Rattle.sd_command_line.specs.Words.{out_text}
 use Rattle.sd_command_status.specs.declared.status.Status.{Status}
 use Rattle.sd_command_status.specs.declared.status.Status.TheVariants.{Done}

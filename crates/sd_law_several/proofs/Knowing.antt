@@ -6,7 +6,7 @@ use Rattle.std.specs.List.{flat_map}
 use Rattle.std.proofs.lemmas.List.Elements.{All-contains}
 use Rattle.sd_tree.specs.declared.set.SetName.{SetName}
 use Rattle.sd_label.specs.Names.{given}
-use Rattle.sd_steiner.proofs.Lists.{member_cases, member_first, no_member}
+use Rattle.sd_cover.proofs.Lists.{member_cases, member_first, no_member}
 use Rattle.sd_reach.specs.Reach.{Secret, Named, Key, IsGeneratorStep, IsHeld, IsReached}
 use Rattle.sd_reach.proofs.Derivation.{Reach, at_first, by_rule, from_derived, to_derived, passes}
 use Rattle.sd_reach.proofs.Reached.{from_one, to_all, held_is_reached, next_is_reached, reached_by_one}

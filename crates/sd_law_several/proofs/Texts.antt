@@ -8,11 +8,11 @@ use Rattle.std.proofs.lemmas.List.Elements.{All-map, All-contains, All-get_or}
 use Rattle.sd_tree.specs.declared.set.SetName.{SetName}
 use Rattle.sd_packet.specs.Header.{payload_of}
 use Rattle.sd_keystream.specs.Keystream.{keystream, xored}
-use Rattle.sd_wrap.specs.Wrapping.{wrapped}
+use Rattle.sd_keystream.specs.Wrapping.{wrapped}
 use Rattle.sd_label.specs.Keys.{key_of, period_key_of, control_word_of}
 use Rattle.sd_site.specs.Fields.{SiteFields}
-use Rattle.sd_scramble.specs.Scrambling.{control_of, payload_under}
-use Rattle.sd_scramble.proofs.Scramblings.{laid_reads, control_fits}
+use Rattle.sd_keystream.specs.Scrambling.{control_of, payload_under}
+use Rattle.sd_keystream.proofs.Scramblings.{laid_reads, control_fits}
 use Rattle.sd_emm.specs.Spelled.{listed_entries}
 use Rattle.sd_emm.specs.Period.{emms_of}
 use Rattle.sd_emm.specs.declared.emm.Emm.{Emm}

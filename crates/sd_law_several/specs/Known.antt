@@ -1,7 +1,7 @@
 -- Public meaning: what a coalition that pools its cards makes of the messages of several broadcasts of one master. It
 -- is said of names and not of bytes.
 use Rattle.std.specs.Prelude.{◌≡◌, List, All, Contains}
-use Rattle.sd_spec_types.specs.Types.{Height, Leaves, PeriodNumber, WordNumber}
+use Rattle.sd_base.specs.Types.{Height, Leaves, PeriodNumber, WordNumber}
 use Rattle.sd_tree.specs.declared.set.SetName.{SetName}
 use Rattle.sd_reach.specs.Derivation.{IsDerived}
 use Rattle.sd_reach.specs.Reach.{Secret, Key, IsGeneratorStep}

@@ -1,12 +1,12 @@
 -- Public meaning: what a broadcast lays keystreams over.
 use Rattle.std.specs.Prelude.{ℕ, List, [], ◌∷◌, Bool, true, false, take, map, if◌then◌else◌}
 use Rattle.std.specs.List.{flat_map}
-use Rattle.sd_spec_types.specs.Types.{Bytes, Key, PeriodNumber, WordNumber, PacketNumber}
+use Rattle.sd_base.specs.Types.{Bytes, Key, PeriodNumber, WordNumber, PacketNumber}
 use Rattle.sd_tree.specs.declared.set.SetName.{SetName}
 use Rattle.sd_packet.specs.Header.{pid_of, payload_of}
 use Rattle.sd_label.specs.Keys.{key_of, period_key_of, control_word_of}
 use Rattle.sd_keystream.specs.Keystream.{keystream, xored}
-use Rattle.sd_scramble.specs.Scrambling.{stream_number}
+use Rattle.sd_keystream.specs.Scrambling.{stream_number}
 use Rattle.sd_emm.specs.Spelled.{listed_entries}
 use Rattle.sd_emm.specs.declared.emm.Emm.{Emm}
 use Rattle.sd_emm.specs.declared.emm.Entry.{Entry}

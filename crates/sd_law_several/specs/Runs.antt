@@ -1,8 +1,8 @@
 -- Public meaning: broadcasts under one master, and what each of them uses.
 use Rattle.std.specs.Prelude.{◌≡◌, ◌⊎◌, ℕ, ◌-◌, ◌<◌, ◌≤◌, List, ◌++◌, length, get_or, take, slice_get, Some, All, Bool}
 use Rattle.std.specs.Prelude.{[]}
-use Rattle.sd_spec_types.specs.Types.{Packet, Packets, Key, Leaves, PeriodNumber, CryptoNumber, WordNumber}
-use Rattle.sd_spec_types.specs.Types.{PacketNumber}
+use Rattle.sd_base.specs.Types.{Packet, Packets, Key, Leaves, PeriodNumber, CryptoNumber, WordNumber}
+use Rattle.sd_base.specs.Types.{PacketNumber}
 use Rattle.sd_site.specs.Fields.{SiteFields}
 use Rattle.sd_book.specs.Commands.{revoked}
 use Rattle.sd_spec_broadcast.specs.Plan.{Plan, IsPlan, crypto_of, word_in, period_in}

@@ -1,7 +1,7 @@
 //! No keystream is used twice, in one broadcast or in several of one master.
 
 ghost use Rattle.std.specs.Prelude.{◌≡◌, ◌⊎◌, ◌<◌, ◌↔◌, ℕ, true, false, List, Some, All, Contains, length, slice_get};
-ghost use Rattle.sd_spec_types.specs.Types.{Packet, Key, PacketNumber};
+ghost use Rattle.sd_base.specs.Types.{Packet, Key, PacketNumber};
 ghost use Rattle.sd_packet.specs.Header.{payload_of};
 ghost use Rattle.sd_emm.specs.Spelled.{listed_entries};
 ghost use Rattle.sd_emm.specs.declared.emm.Emm.{Emm};

@@ -2,7 +2,7 @@
 
 ghost use Rattle.std.specs.Prelude.{◌≡◌, ◌^◌, ◌<◌, ◌≤◌, ◌↔◌, Bool, true, List, [], ◌∷◌, All, Any, Contains};
 ghost use Rattle.std.specs.List.{flat_map};
-ghost use Rattle.sd_spec_types.specs.Types.{Key, Height, Leaves, PeriodNumber, WordNumber};
+ghost use Rattle.sd_base.specs.Types.{Key, Height, Leaves, PeriodNumber, WordNumber};
 ghost use Rattle.sd_label.specs.Names.{given};
 ghost use Rattle.sd_book.specs.Commands.{entitled};
 ghost use Rattle.sd_reach.specs.Reach.{Secret, IsReached};

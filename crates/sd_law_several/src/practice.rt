@@ -2,7 +2,7 @@
 
 ghost use Rattle.std.specs.Prelude.{◌≡◌, ◌≢◌, ◌+◌, ◌-◌, ◌*◌, ◌^◌, ◌<◌, ◌≤◌, ◌++◌, ◌↔◌, false, List, Contains};
 ghost use Rattle.std.specs.Prelude.{length};
-ghost use Rattle.sd_spec_types.specs.Types.{Key, PeriodNumber, WordNumber, PacketNumber};
+ghost use Rattle.sd_base.specs.Types.{Key, PeriodNumber, WordNumber, PacketNumber};
 ghost use Rattle.sd_site.specs.Fields.{SiteFields, AreInRange};
 ghost use Rattle.sd_book.specs.declared.command.Command.{Command};
 ghost use Rattle.sd_book.specs.Commands.{last_period};

@@ -5,7 +5,7 @@ use Rattle.std.specs.Prelude.{Contains, filter}
 use Rattle.std.specs.List.{range_with_len, flat_map}
 use Rattle.std.proofs.lemmas.List.Concat.{flat_map-cons}
 use Rattle.std.proofs.lemmas.List.Elements.{filter-append}
-use Rattle.sd_steiner.proofs.Lists.{member_cases, member_first, member_later, no_member}
+use Rattle.sd_cover.proofs.Lists.{member_cases, member_first, member_later, no_member}
 
 -- what is kept is of the list and passes
 from_by : {X : Type 0} (test : X → Bool) (y : X) (xs kept : List X) (x : X)

@@ -24,9 +24,9 @@ use Rattle.sd_label.specs.Names.{given, given_under, IsGivenPair}
 use Rattle.sd_label.proofs.Counts.{length_given_under}
 use Rattle.sd_label.proofs.Descents.{child_level}
 use Rattle.sd_label.proofs.Pairs.{given_is_hanging}
-use Rattle.sd_card_secrets.proofs.Made.{path_half}
-use Rattle.sd_lsd_sets.specs.Layers.{is_useful, layer_end}
-use Rattle.sd_lsd_sets.proofs.Layers.{useful_everywhere}
+use Rattle.sd_card.proofs.MadeSecrets.{path_half}
+use Rattle.sd_lsd.specs.Layers.{is_useful, layer_end}
+use Rattle.sd_lsd.proofs.Layers.{useful_everywhere}
 use Rattle.sd_lsd.specs.LayerNames.{set_of, is_useful_name, layer_given, pairs_under, pairs_above, layer_count}
 use Rattle.sd_lsd.proofs.Pairs.{under_within, place_within}
 use Rattle.sd_lsd.proofs.Filters.{all_kept, first_kept, lists_kept}

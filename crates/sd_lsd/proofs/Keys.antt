@@ -11,13 +11,13 @@ use Rattle.sd_label.specs.Keys.{key_of}
 use Rattle.sd_label.specs.Names.{given}
 use Rattle.sd_label.specs.declared.name.Name.TheVariants.{Pair}
 use Rattle.sd_label.proofs.Pairs.{given_is_hanging}
-use Rattle.sd_card_secrets.specs.Hanging.{IsHanging}
-use Rattle.sd_card_secrets.specs.Secrets.{secret_of, HoldsSecret, key_held}
-use Rattle.sd_card_secrets.proofs.Held.{AreOfLeaf, own_among}
-use Rattle.sd_card_secrets.proofs.Keys.{pair_node, hangs_below, held_at}
-use Rattle.sd_card_secrets.proofs.Once.{given_once}
-use Rattle.sd_lsd_sets.specs.Layers.{is_useful}
-use Rattle.sd_lsd_sets.proofs.Layers.{useful_upwards}
+use Rattle.sd_card.specs.Hanging.{IsHanging}
+use Rattle.sd_card.specs.Secrets.{secret_of, HoldsSecret, key_held}
+use Rattle.sd_card.proofs.Held.{AreOfLeaf, own_among}
+use Rattle.sd_card.proofs.SecretKeys.{pair_node, hangs_below, held_at}
+use Rattle.sd_card.proofs.Once.{given_once}
+use Rattle.sd_lsd.specs.Layers.{is_useful}
+use Rattle.sd_lsd.proofs.Layers.{useful_upwards}
 use Rattle.sd_lsd.specs.LayerNames.{layer_given, is_useful_name, pairs_under, pairs_above}
 use Rattle.sd_lsd.specs.Fields.{LayerFields, layer_card_of, layer_key}
 use Rattle.sd_lsd.proofs.Pairs.{useful_within}

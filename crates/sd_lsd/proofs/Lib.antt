@@ -5,3 +5,9 @@ pub mod Reaching
 pub mod Made
 pub mod Keys
 pub mod Spellings
+pub mod Layers
+pub mod Parts
+pub mod Doubling
+pub mod Order
+pub mod Once
+pub mod Covers

@@ -8,7 +8,7 @@ use Rattle.std.proofs.lemmas.Bool.{leb-true}
 use Rattle.std.proofs.lemmas.List.Sums.{sum_by-cons, sum_by-append}
 use Rattle.sd_tree.specs.Node.{depth}
 use Rattle.sd_tree.specs.declared.set.SetName.TheVariants.{Diff}
-use Rattle.sd_lsd_sets.specs.Layers.{layer_end, is_useful}
+use Rattle.sd_lsd.specs.Layers.{layer_end, is_useful}
 use Rattle.sd_lsd.specs.LayerNames.{pairs_under, pairs_above, layer_count}
 
 -- one number more in a row

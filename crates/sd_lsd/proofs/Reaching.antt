@@ -18,16 +18,16 @@ use Rattle.sd_label.specs.declared.name.Name.TheVariants.{Whole, Pair}
 use Rattle.sd_label.specs.Names.{given}
 use Rattle.sd_label.proofs.Pairs.{given_pairs, given_whole}
 use Rattle.sd_label.proofs.Hanging.{hangs}
-use Rattle.sd_steiner.proofs.Ends.{AreLeaves}
-use Rattle.sd_steiner.proofs.Lists.{counted_some, found_member}
-use Rattle.sd_steiner.proofs.Partitions.{among_unrevoked}
+use Rattle.sd_cover.proofs.Ends.{AreLeaves}
+use Rattle.sd_cover.proofs.Lists.{counted_some, found_member}
+use Rattle.sd_cover.proofs.Partitions.{among_unrevoked}
 use Rattle.sd_reach.specs.Reach.{Secret, Named, Key, IsReached, source_of}
 use Rattle.sd_reach.proofs.Reached.{reached_is_found, found_is_reached}
 use Rattle.sd_reach.proofs.Own.{reaches_its_sets}
-use Rattle.sd_lsd_sets.specs.Layers.{is_useful}
-use Rattle.sd_lsd_sets.specs.Cover.{IsLayerCover}
-use Rattle.sd_lsd_sets.proofs.Layers.{useful_upwards}
-use Rattle.sd_lsd_sets.proofs.Covers.{layer_cover_unites, layer_cover_useful}
+use Rattle.sd_lsd.specs.Layers.{is_useful}
+use Rattle.sd_lsd.specs.Cover.{IsLayerCover}
+use Rattle.sd_lsd.proofs.Layers.{useful_upwards}
+use Rattle.sd_lsd.proofs.Covers.{layer_cover_unites, layer_cover_useful}
 use Rattle.sd_lsd.specs.LayerNames.{layer_given, is_useful_name, ReachesItsUseful}
 use Rattle.sd_lsd.proofs.Filters.{from_filter, to_filter}
 

@@ -9,7 +9,7 @@ use Rattle.sd_label.specs.declared.name.Name.{Name}
 use Rattle.sd_label.specs.declared.name.Name.TheVariants.{Whole, Pair}
 use Rattle.sd_label.specs.Names.{given}
 use Rattle.sd_reach.specs.Reach.{Named, Key, IsReached, source_of}
-use Rattle.sd_lsd_sets.specs.Layers.{is_useful, layer_end}
+use Rattle.sd_lsd.specs.Layers.{is_useful, layer_end}
 
 -- the set whose key is made from the name's secret alone
 abbrev pub set_of : Name → SetName

@@ -2,7 +2,7 @@ ghost use Rattle.std.specs.Prelude.{◌≡◌, ◌+◌, ◌^◌, ◌<◌, ◌≤
 ghost use Rattle.sd_tree.specs.declared.height.TheConstants.{HIGHEST};
 ghost use Rattle.sd_lsd.specs.LayerNames.{layer_count};
 
-use sd_lsd_sets::Width;
+use crate::Width;
 use sd_tree::{Height, Leaf};
 
 /// What a receiver is given once in layers: the whole set's key and the labels of its leaf's pairs of useful sets, in

@@ -3,7 +3,7 @@ ghost use Rattle.sd_tree.specs.declared.height.TheConstants.{HIGHEST};
 ghost use Rattle.sd_lsd.specs.LayerNames.{pairs_under as pairs_of, pairs_above as pairs_before};
 ghost use Rattle.sd_lsd.specs.LayerNames.{layer_count as count_of};
 
-use sd_lsd_sets::{Width, layer_end};
+use crate::{Width, layer_end};
 use sd_tree::{HIGHEST, Height};
 
 // How many pairs of its ancestor at this depth a leaf is given.

@@ -2,14 +2,14 @@ ghost use Rattle.std.specs.Prelude.{◌≡◌, ℕ, ◌+◌, ◌-◌, ◌<◌, �
 ghost use Rattle.sd_tree.specs.Leaves.{is_member};
 ghost use Rattle.sd_tree.specs.SetNames.{IsOfHeight};
 ghost use Rattle.sd_label.specs.Keys.{key_of};
-ghost use Rattle.sd_lsd_sets.specs.Layers.{is_useful};
+ghost use Rattle.sd_lsd.specs.Layers.{is_useful};
 ghost use Rattle.sd_lsd.specs.LayerNames.{pairs_under, pairs_above, layer_count};
 ghost use Rattle.sd_lsd.specs.Fields.{fields_of, layer_card_of, layer_key, LayerDerives};
 
 use crate::card::LayerCard;
 use crate::counts;
 use sd_base::Steps;
-use sd_card_secrets::{hanging_above, key_below};
+use sd_card::{hanging_above, key_below};
 use sd_tree::{SetName, contains, depth};
 use std::sync::ledger::Ledger;
 

@@ -1,17 +1,23 @@
-//! The layer card of a receiver: what its leaf is given in layers, the keys of useful sets, and the file that keeps it.
+//! Layered Subset Difference: the sets that are useful in layers of the tree, the cover by them, and the layer card.
 #![tactic(auto)]
 
 mod card;
 mod counts;
+mod cover;
 mod fault;
 mod format;
 mod key;
 pub mod laws;
+mod layer;
 mod make;
 mod names;
 mod read;
+mod width;
 mod write;
 
 pub use card::LayerCard;
+pub use cover::layered_cover;
 pub use fault::LayerFault;
+pub use layer::{layer_end, useful};
 pub use names::layered_names;
+pub use width::Width;

@@ -2,9 +2,9 @@ ghost use Rattle.std.specs.Prelude.{◌≡◌, ◌^◌, ◌<◌, ◌≤◌, IfOk
 ghost use Rattle.sd_tree.specs.SetNames.{IsOfHeight};
 ghost use Rattle.sd_lsd.specs.LayerNames.{layer_given, is_useful_name, set_of, ReachesItsUseful};
 
+use crate::{Width, useful};
 use sd_base::NoMemory;
 use sd_label::Name;
-use sd_lsd_sets::{Width, useful};
 use sd_reach::names_of;
 use sd_tree::{HIGHEST, Height, Leaf, SetName};
 use std::alloc::{AllocError, Global};
@@ -39,7 +39,7 @@ fn useful_names(alloc: Global, h: Height, w: Width, names: &[Name]) -> Result<Ve
 }
 
 // Whether the name is that of a useful set.
-#[tactic(auto, unfolding(sd_lsd_sets::specs::Layers::is_useful))]
+#[tactic(auto, unfolding(crate::specs::Layers::is_useful))]
 fn is_of_useful(h: Height, w: Width, name: Name) -> bool
     requires width { w ≤ h }
     requires name { IsOfHeight h (set_of name) }

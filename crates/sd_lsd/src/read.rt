@@ -2,12 +2,12 @@ ghost use Rattle.std.specs.Prelude.{◌≡◌, ◌+◌, ◌≤◌, Some, None, l
 ghost use Rattle.sd_lsd.specs.Fields.{LayerFields, IsLayerCard, fields_of, layer_bytes};
 ghost use Rattle.sd_lsd.specs.Faults.{height_in, width_in, leaf_in, length_at as length_of, fault_in, IsFaultOf};
 
+use crate::Width;
 use crate::card::LayerCard;
 use crate::counts::layer_count;
 use crate::fault::LayerFault;
 use crate::format::{CA_AT, HEIGHT_AT, LEAF_AT, MAGIC, SECRETS_AT, VERSION, VERSION_AT, WIDTH_AT};
-use sd_card_secrets::{CHECK_BYTES, SECRET_BYTES, byte_at, checks, four_at, secrets_in, two_at};
-use sd_lsd_sets::Width;
+use sd_card::{CHECK_BYTES, SECRET_BYTES, byte_at, checks, four_at, secrets_in, two_at};
 use sd_tree::{Height, Leaf};
 use std::alloc::Global;
 

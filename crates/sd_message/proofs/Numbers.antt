@@ -6,9 +6,9 @@ use Rattle.std.specs.Int.{w16, w32, w64, to_be_bytes}
 use Rattle.std.proofs.lemmas.Bool.{cases_lt}
 use Rattle.std.proofs.lemmas.List.{drop_more, get_or_past, length-take}
 use Rattle.std.proofs.lemmas.Nat.{or_shifted}
-use Rattle.sd_bits.specs.Bits.{field}
-use Rattle.sd_bits.proofs.Fields.{field_below, field_split}
-use Rattle.sd_bits.proofs.Words.{byte_more, no_byte}
+use Rattle.sd_base.specs.Bits.{field}
+use Rattle.sd_base.proofs.Fields.{field_below, field_split}
+use Rattle.sd_base.proofs.Words.{byte_more, no_byte}
 
 -- each is a byte
 abbrev pub IsBytes : List ℕ → Type 0

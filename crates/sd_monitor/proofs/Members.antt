@@ -1,7 +1,7 @@
 -- The members of what is shown, put into an object.
 use Rattle.std.proofs.Common.{◌≡◌, ◌∙◌, ℕ, List, ◌++◌, Option, Some, None, refl, ap}
 use Rattle.serde_json.specs.Data.{Data, object, no_members}
-use Rattle.sd_tables_line.specs.Members.{put_all}
+use Rattle.sd_tables.specs.Members.{put_all}
 use Rattle.sd_ecm.specs.declared.part.EcmPart.{EcmPart}
 use Rattle.sd_monitor.specs.Lines.{ecm_data}
 use Rattle.sd_monitor.specs.Members.{ecm_members, run_members}

@@ -20,7 +20,7 @@ use Rattle.sd_ecm.specs.declared.part.Place.{Place}
 use Rattle.sd_ecm.specs.declared.part.EcmPart.{EcmPart}
 use Rattle.sd_ecm.specs.declared.fault.EcmFault.{EcmFault}
 use Rattle.sd_ecm.specs.Faults.{ecm_fault_name}
-use Rattle.sd_tables_line.specs.Lines.{num, list_data}
+use Rattle.sd_tables.specs.Lines.{num, list_data}
 
 -- the name of a set, as `cover` prints it [this project, docs/FORMATS.md, Cover]
 unfoldable pub set_word : SetName → List ℕ

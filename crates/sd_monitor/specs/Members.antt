@@ -4,7 +4,7 @@ use Rattle.hex.specs.Hex.{encode_lower}
 use Rattle.serde_json.specs.Data.{Data, boolean, string}
 use Rattle.sd_ecm.specs.Spelled.{listed_places as places_of}
 use Rattle.sd_ecm.specs.declared.part.EcmPart.{EcmPart}
-use Rattle.sd_tables_line.specs.Lines.{num, list_data}
+use Rattle.sd_tables.specs.Lines.{num, list_data}
 use Rattle.sd_monitor.specs.Lines.{place_data}
 
 -- those of each part [this project, docs/FORMATS.md, Messages printed]

@@ -1,13 +1,13 @@
 ghost use Rattle.std.specs.Prelude.{◌≡◌, ◌≤◌, ◌++◌, IfOk, OnOk, map};
 ghost use Rattle.serde_json.specs.View.{view};
-ghost use Rattle.sd_tables_line.specs.Lines.{list_data as list_of};
+ghost use Rattle.sd_tables.specs.Lines.{list_data as list_of};
 ghost use Rattle.sd_ecm.specs.declared.format.TheConstants.{POSITIONS};
-ghost use Rattle.sd_tables_line.specs.Members.{named_data};
+ghost use Rattle.sd_tables.specs.Members.{named_data};
 ghost use Rattle.sd_monitor.specs.Lines.{ecm_data, place_data};
 ghost use Rattle.sd_monitor.specs.Members.{ecm_members, run_members};
 
 use sd_ecm::{EcmPart, Place};
-use sd_tables_line::object_of;
+use sd_tables::object_of;
 use serde_json::{Value, json};
 use std::alloc::{AllocError, Global};
 

@@ -1,13 +1,13 @@
 ghost use Rattle.std.specs.Prelude.{◌≡◌, ◌++◌, ◌≤◌, IfOk, OnOk, map, string_bytes};
 ghost use Rattle.serde_json.specs.View.{view};
 ghost use Rattle.serde_json.specs.Data.{string};
-ghost use Rattle.sd_tables_line.specs.Lines.{list_data as list_of};
+ghost use Rattle.sd_tables.specs.Lines.{list_data as list_of};
 ghost use Rattle.sd_emm.specs.Spelled.{names_in};
 ghost use Rattle.sd_emm.specs.declared.format.TheConstants.{MOST_ENTRIES};
 ghost use Rattle.sd_monitor.specs.Lines.{emm_data, name_data, set_word};
 
 use sd_emm::{Emm, Entry};
-use sd_tables_line::object_of;
+use sd_tables::object_of;
 use sd_tree::SetName;
 use serde_json::Value;
 use std::alloc::{AllocError, Global};

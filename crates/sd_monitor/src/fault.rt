@@ -2,7 +2,7 @@ ghost use Rattle.std.specs.Prelude.{◌≡◌, IfOk};
 ghost use Rattle.serde_json.specs.View.{view};
 ghost use Rattle.sd_monitor.specs.Lines.{fault_data};
 
-use sd_tables_line::object_of;
+use sd_tables::object_of;
 use serde_json::Value;
 use std::alloc::{AllocError, Global};
 

@@ -2,9 +2,9 @@
 use Rattle.std.proofs.Common.{ℕ, ◌+◌, ◌*◌, ◌/◌, ◌%◌, ◌<◌, ◌≤◌, ◌≡◌, List, [], ◌∷◌, length, get_or, refl, sym, ◌∙◌, inl}
 use Rattle.std.proofs.Common.{arith}
 use Rattle.std.specs.Prelude.{slice_index}
-use Rattle.sd_bits.specs.Bits.{field, KeepsOthers}
-use Rattle.sd_bits.proofs.Fields.{field_split, apart_stays}
-use Rattle.sd_bits.proofs.Words.{byte_field}
+use Rattle.sd_base.specs.Bits.{field, KeepsOthers}
+use Rattle.sd_base.proofs.Fields.{field_split, apart_stays}
+use Rattle.sd_base.proofs.Words.{byte_field}
 use Rattle.sd_packet.specs.Header.{error_of, unit_start_of, priority_of, pid_of, scrambling_of, adaptation_of}
 use Rattle.sd_packet.specs.Header.{counter_of}
 use Rattle.sd_packet.specs.Packing.{section_header}

@@ -5,7 +5,7 @@ use Rattle.std.specs.Prelude.{slice_index, slice_set, replicate, Bool, true, fal
 use Rattle.std.proofs.Math.Seq.{drop-append-add}
 use Rattle.std.proofs.lemmas.Bool.{and_parts, leb-true}
 use Rattle.std.proofs.lemmas.List.{drop-replicate, length-replicate, drop_all, append-nil}
-use Rattle.sd_bits.proofs.Fields.{field_below}
+use Rattle.sd_base.proofs.Fields.{field_below}
 use Rattle.sd_packet.specs.Header.{error_of, unit_start_of, priority_of, pid_of, scrambling_of, adaptation_of}
 use Rattle.sd_packet.specs.Header.{counter_of, payload_start_of}
 use Rattle.sd_packet.specs.Packing.{section_header, packed, IsSectionPacket}

@@ -6,7 +6,7 @@ use Rattle.std.specs.List.{list_any}
 use Rattle.std.proofs.lemmas.Bool.{cases_Bool, cases_lt, eq-eqb, and_parts}
 use Rattle.std.proofs.lemmas.Bool.Decides.{nat_tests}
 use Rattle.std.proofs.lemmas.List.{take_more}
-use Rattle.sd_bits.proofs.Fields.{field_below}
+use Rattle.sd_base.proofs.Fields.{field_below}
 use Rattle.sd_packet.specs.Header.{counter_of, pid_of, has_payload}
 use Rattle.sd_packet.specs.Positions.{advanced, IsNext, is_moving, moved, moved_by, position_of}
 use Rattle.sd_packet.specs.Positions.{is_positional, is_placed}

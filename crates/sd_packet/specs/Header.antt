@@ -1,7 +1,7 @@
 -- Public meaning: the header and the payload of a transport packet of 188 bytes.
 use Rattle.std.specs.Prelude.{ℕ, ◌+◌, ◌*◌, ◌%◌, ◌==◌, ◌&&◌, Bool, List, drop, slice_index, slice_set, nat_le, nat_lt}
 use Rattle.std.specs.Prelude.{if◌then◌else◌}
-use Rattle.sd_bits.specs.Bits.{field}
+use Rattle.sd_base.specs.Bits.{field}
 
 -- transport_error_indicator [ISO/IEC 13818-1, 2.4.3.2]
 abbrev pub error_of : List ℕ → ℕ

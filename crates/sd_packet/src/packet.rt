@@ -6,7 +6,7 @@ ghost use Rattle.sd_packet.specs.Positions.{is_placed as is_placed_packet};
 
 use crate::position::is_positional;
 use crate::section::put;
-use sd_bits::fields;
+use sd_base::fields;
 use std::marker::Model;
 
 /// How many bytes a transport packet has (ISO/IEC 13818-1, 2.4.3.2).

@@ -2,7 +2,7 @@ ghost use Rattle.std.specs.Prelude.{◌≡◌, ◌+◌, ◌<◌, ◌≤◌, ◌+
 ghost use Rattle.sd_packet.specs.Packing.{section_header, packed, IsSectionPacket};
 
 use crate::packet::{Packet, SIZE};
-use sd_bits::fields;
+use sd_base::fields;
 
 const STUFFING: u8 = 0xFF;
 

@@ -9,7 +9,7 @@ use crate::whole::{ReadAllFault, read_all, write_all};
 use std::alloc::Global;
 
 /// Why a whole file wasn't read or written.
-#[derive(Clone, Copy, Debug, PartialEq, Eq)]
+#[derive(Clone, Copy, PartialEq, Eq)]
 pub enum FileFault {
     /// There is no such file.
     Missing = 1,

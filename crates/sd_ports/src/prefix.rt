@@ -47,7 +47,7 @@ impl Taken {
 }
 
 /// Why the first bytes of an input weren't read.
-#[derive(Clone, Copy, Debug, PartialEq, Eq)]
+#[derive(Clone, Copy, PartialEq, Eq)]
 pub enum ReadMostFault {
     /// A read failed.
     Failed,

@@ -11,7 +11,7 @@ use crate::source::Source;
 use std::alloc::Global;
 
 /// Why a whole input wasn't read.
-#[derive(Clone, Copy, Debug, PartialEq, Eq)]
+#[derive(Clone, Copy, PartialEq, Eq)]
 pub enum ReadAllFault {
     /// It has more bytes than were allowed.
     TooBig,

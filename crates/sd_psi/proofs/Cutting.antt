@@ -5,7 +5,7 @@ use Rattle.std.proofs.Common.{arith}
 use Rattle.std.specs.List.{list_all}
 use Rattle.std.proofs.lemmas.List.{take_all, take_rest, drop-drop}
 use Rattle.std.proofs.lemmas.Bool.{eqb-true}
-use Rattle.sd_bits.specs.Bits.{field}
+use Rattle.sd_base.specs.Bits.{field}
 use Rattle.sd_section.proofs.Judging.{field_take}
 use Rattle.sd_psi.specs.declared.items.Kind.{Kind}
 use Rattle.sd_psi.specs.declared.items.Kind.TheVariants.{Program, Descriptor, Stream}

@@ -6,9 +6,9 @@ use Rattle.std.specs.Prelude.{slice_set}
 use Rattle.std.specs.Int.{w32, to_be_bytes}
 use Rattle.std.proofs.lemmas.List.{drop_all, get_or_past}
 use Rattle.std.proofs.lemmas.Bool.{cases_lt}
-use Rattle.sd_bits.specs.Bits.{field}
-use Rattle.sd_bits.proofs.Fields.{field_below, field_split}
-use Rattle.sd_bits.proofs.Words.{byte_field}
+use Rattle.sd_base.specs.Bits.{field}
+use Rattle.sd_base.proofs.Fields.{field_below, field_split}
+use Rattle.sd_base.proofs.Words.{byte_field}
 use Rattle.sd_section.specs.Header.{crc_in, crc_due}
 use Rattle.sd_section.specs.Written.{sealed}
 use Rattle.sd_psi.specs.Rewriting.{with_twelve, with_lengths}

@@ -6,7 +6,7 @@ use Rattle.std.specs.Prelude.{Option, Some, None, nat_le, replicate}
 use Rattle.std.specs.List.{list_all}
 use Rattle.std.proofs.lemmas.List.{take_at, drop_at, drop-drop}
 use Rattle.std.proofs.lemmas.Bool.{and_parts, eqb-true, leb-true, le-leb}
-use Rattle.sd_bits.specs.Bits.{field}
+use Rattle.sd_base.specs.Bits.{field}
 use Rattle.sd_packet.specs.Header.{adaptation_of, payload_start_of, payload_of}
 use Rattle.sd_packet.proofs.Packets.{start_within}
 use Rattle.sd_section.proofs.Judging.{field_take}

@@ -3,7 +3,7 @@ use Rattle.std.proofs.Common.{ℕ, ◌+◌, ◌<◌, ◌≤◌, ◌≡◌, Bool,
 use Rattle.std.proofs.Common.{◌∙◌, arith}
 use Rattle.std.specs.Prelude.{Option, Some, None, ◌≢◌, replicate}
 use Rattle.std.proofs.lemmas.List.{take_at}
-use Rattle.sd_bits.specs.Bits.{field}
+use Rattle.sd_base.specs.Bits.{field}
 use Rattle.sd_packet.specs.Header.{payload_start_of}
 use Rattle.sd_packet.proofs.Packets.{start_within}
 use Rattle.sd_section.proofs.Judging.{field_take}

@@ -5,7 +5,7 @@ use Rattle.std.specs.Prelude.{◌≢◌}
 use Rattle.std.specs.List.{list_all}
 use Rattle.std.proofs.lemmas.List.{drop-take, drop-drop}
 use Rattle.std.proofs.lemmas.Bool.{and_parts, eqb-true, ne_eqb, false_from_ne_true}
-use Rattle.sd_bits.specs.Bits.{field}
+use Rattle.sd_base.specs.Bits.{field}
 use Rattle.sd_section.specs.Header.{table_id_of, body_of}
 use Rattle.sd_psi.specs.declared.items.Kind.TheVariants.{Program, Descriptor, Stream}
 use Rattle.sd_psi.specs.Items.{size_of, items_of, is_whole_item, are_whole}

@@ -5,9 +5,9 @@ use Rattle.std.specs.Prelude.{◌&&◌, Bool, false, Some, None, nat_le, replica
 use Rattle.std.proofs.lemmas.Bool.{le-leb, leb-true, and_parts}
 use Rattle.std.proofs.lemmas.Bool.Decides.{nat_tests}
 use Rattle.std.proofs.lemmas.List.{drop_at}
-use Rattle.sd_bits.specs.Bits.{field}
-use Rattle.sd_bits.proofs.Fields.{field_split, field_below}
-use Rattle.sd_bits.proofs.Words.{byte_field}
+use Rattle.sd_base.specs.Bits.{field}
+use Rattle.sd_base.proofs.Fields.{field_split, field_below}
+use Rattle.sd_base.proofs.Words.{byte_field}
 use Rattle.sd_packet.specs.Header.{has_payload}
 use Rattle.sd_packet.specs.Packing.{packed}
 use Rattle.sd_packet.proofs.Packets.{packet_reads}

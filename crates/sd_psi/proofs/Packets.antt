@@ -7,7 +7,7 @@ use Rattle.std.proofs.lemmas.List.{drop-drop, take-take}
 use Rattle.std.proofs.lemmas.Slice.Eq.{bytes_eq-Decides}
 use Rattle.std.proofs.lemmas.Bool.{and_parts, leb-true, le-leb, cases_lt}
 use borrow.Rule.Slice.PartMut.{put_mid}
-use Rattle.sd_base.proofs.Numbers.{above_fails}
+use Rattle.sd_base.proofs.Arithmetic.{above_fails}
 use Rattle.sd_packet.specs.Header.{payload_start_of, payload_of}
 use Rattle.sd_section.proofs.Judging.{field_take}
 use Rattle.sd_section.specs.Header.{section_length_of, whole_of, body_of}

@@ -6,8 +6,8 @@ use Rattle.std.specs.Prelude.{slice_range}
 use Rattle.std.proofs.lemmas.Bool.{le-leb, cases_lt}
 use Rattle.std.proofs.lemmas.List.{take_at, drop_at, drop-drop, drop-take, take-take}
 use Rattle.std.proofs.lemmas.Slice.Eq.{bytes_eq-Decides}
-use Rattle.sd_bits.specs.Bits.{field}
-use Rattle.sd_bits.proofs.Words.{byte_field}
+use Rattle.sd_base.specs.Bits.{field}
+use Rattle.sd_base.proofs.Words.{byte_field}
 use Rattle.sd_section.specs.Header.{table_id_of, syntax_of, section_length_of, section_number_of, last_number_of}
 use Rattle.sd_section.specs.Header.{body_of}
 use Rattle.sd_section.specs.Header.{crc_in, crc_due}

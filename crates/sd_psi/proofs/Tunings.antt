@@ -5,7 +5,7 @@ use Rattle.std.specs.Prelude.{◌≢◌, ◌<◌, nat_le, find, option_map, Some
 use Rattle.std.proofs.lemmas.Bool.{le-leb, lt-ltb, le-ltb, eqb-true, ne_eqb, and_parts}
 use Rattle.std.proofs.lemmas.List.{get_or-drop}
 use Rattle.sd_base.proofs.Bools.{and_false}
-use Rattle.sd_bits.specs.Bits.{bit, field}
+use Rattle.sd_base.specs.Bits.{bit, field}
 use Rattle.sd_psi.specs.Access.{is_ca}
 use Rattle.sd_psi.specs.Tables.{tag_of, content_of}
 use Rattle.sd_packet.specs.Header.{pid_of, has_payload, payload_start_of}

@@ -5,10 +5,10 @@ use Rattle.std.specs.Prelude.{slice_set}
 use Rattle.std.proofs.lemmas.List.{drop_all, length-set}
 use Rattle.std.proofs.lemmas.Bool.{cases_eq, cases_lt}
 use Rattle.std.proofs.lemmas.Grind.{same_number_lists}
-use Rattle.sd_bits.specs.Bits.{field, KeepsOthers}
-use Rattle.sd_bits.proofs.Fields.{field_below, field_split, apart_stays}
-use Rattle.sd_bits.proofs.Same.{byte_stays}
-use Rattle.sd_bits.proofs.Words.{byte_field}
+use Rattle.sd_base.specs.Bits.{field, KeepsOthers}
+use Rattle.sd_base.proofs.Fields.{field_below, field_split, apart_stays}
+use Rattle.sd_base.proofs.Same.{byte_stays}
+use Rattle.sd_base.proofs.Words.{byte_field}
 use Rattle.sd_psi.specs.Rewriting.{ca_descriptor, with_twelve, with_lengths}
 
 -- a list of six, each written out

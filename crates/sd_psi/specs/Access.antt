@@ -1,6 +1,6 @@
 -- Public meaning: CA_descriptors.
 use Rattle.std.specs.Prelude.{ℕ, ◌==◌, ◌&&◌, Bool, nat_le, List, length, drop}
-use Rattle.sd_bits.specs.Bits.{field}
+use Rattle.sd_base.specs.Bits.{field}
 use Rattle.sd_psi.specs.Tables.{tag_of, content_of}
 
 -- the descriptor is a CA_descriptor, whose descriptor_tag is 9, in which CA_system_ID and CA_PID are there

@@ -1,7 +1,7 @@
 -- Public meaning: items that stand one after the other, each of which says in its first bytes how long it is.
 use Rattle.std.specs.Prelude.{ℕ, zero, suc, ◌+◌, ◌==◌, Bool, List, [], ◌∷◌, ◌++◌, length, take, drop}
 use Rattle.std.specs.List.{list_all}
-use Rattle.sd_bits.specs.Bits.{field}
+use Rattle.sd_base.specs.Bits.{field}
 use Rattle.sd_psi.specs.declared.items.Kind.{Kind}
 use Rattle.sd_psi.specs.declared.items.Kind.TheVariants.{Program, Descriptor, Stream}
 

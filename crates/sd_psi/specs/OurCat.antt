@@ -1,7 +1,7 @@
 -- Public meaning: the project's CAT, and the two PIDs that a receiver takes from a CAT.
 use Rattle.std.specs.Prelude.{◌≡◌, true, ℕ, ◌/◌, ◌%◌, ◌+◌, ◌==◌, ◌&&◌, Bool, not, List, [], ◌∷◌, length, find, is_none}
 use Rattle.std.specs.Prelude.{if◌then◌else◌, Option, None, option_map}
-use Rattle.sd_bits.specs.Bits.{field}
+use Rattle.sd_base.specs.Bits.{field}
 use Rattle.sd_packet.specs.Header.{pid_of, has_payload}
 use Rattle.sd_packet.specs.Positions.{is_positional}
 use Rattle.sd_section.specs.Header.{body_of}

@@ -1,7 +1,7 @@
 -- Public meaning: what stands in a PAT, a CAT and a PMT.
 use Rattle.std.specs.Prelude.{◌≡◌, ℕ, ◌+◌, ◌==◌, ◌&&◌, Bool, List, length, take, drop, map, filter, not, nat_le}
 use Rattle.std.specs.List.{list_all}
-use Rattle.sd_bits.specs.Bits.{field}
+use Rattle.sd_base.specs.Bits.{field}
 use Rattle.sd_section.specs.Header.{table_id_of, body_of}
 use Rattle.sd_psi.specs.declared.items.Kind.TheVariants.{Program, Descriptor}
 use Rattle.sd_psi.specs.declared.items.Kind.TheVariants as Item

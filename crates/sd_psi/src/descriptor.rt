@@ -3,7 +3,7 @@ ghost use Rattle.sd_psi.specs.Tables.{descriptors_of, are_descriptors, tag_of, c
 ghost use Rattle.sd_psi.specs.Access.{is_ca, system_of, ca_pid_of, private_of};
 
 use crate::items::{Kind, first};
-use sd_bits::fields;
+use sd_base::fields;
 
 /// descriptor_tag of a CA_descriptor (ISO/IEC 13818-1, 2.6.1).
 pub const CA_TAG: u8 = 9;

@@ -1,5 +1,5 @@
 /// Why a packet isn't one section of a PAT, a CAT or a PMT by itself, in the order in which it is judged.
-#[derive(Clone, Copy, Debug, PartialEq, Eq)]
+#[derive(Clone, Copy, PartialEq, Eq)]
 pub enum FormFault {
     /// No unit start, or the pointer isn't 0.
     Pointer,

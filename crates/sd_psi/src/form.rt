@@ -6,7 +6,7 @@ ghost use Rattle.sd_psi.specs.Forms.{has_length as has_length_of, table_crc_faul
 ghost use Rattle.sd_psi.specs.Forms.{bytes_fault, outer_fault};
 
 use crate::fault::FormFault;
-use sd_bits::fields;
+use sd_base::fields;
 use sd_packet::Packet;
 use sd_section::{Section, SectionFault, read_one};
 

@@ -1,7 +1,7 @@
 ghost use Rattle.std.specs.Prelude.{◌≡◌, ◌<◌, ◌≤◌, ◌↔◌, [], ◌∷◌, true, false, IsNone, IfSome, length};
 ghost use Rattle.sd_psi.specs.Items.{size_of, items_of, are_whole};
 
-use sd_bits::fields;
+use sd_base::fields;
 
 /// What stands one after the other in tables.
 #[derive(Clone, Copy)]

@@ -6,7 +6,7 @@ ghost use Rattle.sd_psi.specs.Tables.{descriptors_of};
 
 use crate::cat::cat_of;
 use crate::descriptor::{CA_TAG, CaDescriptor, Descriptor, Descriptors};
-use sd_bits::fields;
+use sd_base::fields;
 use sd_packet::{Packet, is_positional};
 use sd_section::Header;
 
@@ -22,7 +22,7 @@ pub const CAT_HEADER: Header = Header {
 };
 
 /// The PIDs of a broadcast's messages.
-#[derive(Clone, Copy, Debug, PartialEq, Eq)]
+#[derive(Clone, Copy, PartialEq, Eq)]
 pub struct Tuning {
     /// The PID of entitlements.
     pub emm: u16,

@@ -12,7 +12,7 @@ use crate::fault::FormFault;
 use crate::form::{Table, read};
 use crate::items::{Kind, fill, size};
 use crate::stream::Streams;
-use sd_bits::fields;
+use sd_base::fields;
 use sd_packet::Packet;
 use sd_section::Section;
 

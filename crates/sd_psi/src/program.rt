@@ -4,7 +4,7 @@ ghost use Rattle.sd_psi.specs.declared.items.Kind.TheVariants.{Program};
 ghost use Rattle.sd_psi.specs.Tables.{programs_in, pmt_pids_in};
 
 use crate::items::{Kind, first};
-use sd_bits::fields;
+use sd_base::fields;
 
 /// The programs that fill some bytes of a PAT, one after the other (ISO/IEC 13818-1, 2.4.4.3).
 #[derive(Clone, Copy)]

@@ -14,7 +14,7 @@ use crate::descriptor::CA_TAG;
 use crate::fault::FormFault;
 use crate::form::{Table, read};
 use crate::pmt::pmt_in;
-use sd_bits::fields;
+use sd_base::fields;
 use sd_packet::Packet;
 use sd_section::seal;
 

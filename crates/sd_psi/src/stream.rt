@@ -3,7 +3,7 @@ ghost use Rattle.sd_psi.specs.Tables.{are_descriptors, stream_of, streams_in, ar
 
 use crate::descriptor::Descriptors;
 use crate::items::{Kind, first};
-use sd_bits::fields;
+use sd_base::fields;
 
 // Where the descriptors of a stream begin.
 const DESCRIPTORS: usize = 5;

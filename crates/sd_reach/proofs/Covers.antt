@@ -13,12 +13,12 @@ use Rattle.sd_book.specs.declared.command.Command.{Command}
 use Rattle.sd_book.specs.Commands.{revoked}
 use Rattle.sd_book.proofs.Revocations.{below}
 use Rattle.sd_label.specs.Names.{given}
-use Rattle.sd_steiner.specs.Chains.{IsChainCover}
-use Rattle.sd_steiner.proofs.Covers.{cover_partition}
-use Rattle.sd_steiner.proofs.Heights.{of_height}
-use Rattle.sd_steiner.proofs.Partitions.{among_unrevoked}
-use Rattle.sd_steiner.proofs.Ends.{AreLeaves}
-use Rattle.sd_steiner.proofs.Lists.{counted_some, found_member}
+use Rattle.sd_cover.specs.Chains.{IsChainCover}
+use Rattle.sd_cover.proofs.Covers.{cover_partition}
+use Rattle.sd_cover.proofs.Heights.{of_height}
+use Rattle.sd_cover.proofs.Partitions.{among_unrevoked}
+use Rattle.sd_cover.proofs.Ends.{AreLeaves}
+use Rattle.sd_cover.proofs.Lists.{counted_some, found_member}
 use Rattle.sd_reach.specs.Reach.{IsReached, Named, Key, ReachesNoneOf, source_of}
 use Rattle.sd_reach.proofs.Reached.{reached_by_one}
 use Rattle.sd_reach.proofs.Own.{reaches_its_sets}

@@ -1,7 +1,7 @@
 -- What is derived is the least that has what is held and is closed under the rules.
 use Rattle.std.proofs.Common.{◌≡◌, Bool, true, List, [], ◌∷◌, subst, inl, inr}
 use Rattle.std.specs.Prelude.{Contains}
-use Rattle.sd_steiner.proofs.Lists.{member_cases, member_first, no_member}
+use Rattle.sd_cover.proofs.Lists.{member_cases, member_first, no_member}
 use Rattle.sd_reach.specs.Derivation.{IsDerivation, IsDerived}
 
 -- what is had, by how it came in

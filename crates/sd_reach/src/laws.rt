@@ -7,7 +7,7 @@ ghost use Rattle.sd_label.specs.declared.name.Name.{Name};
 ghost use Rattle.sd_label.specs.Names.{given};
 ghost use Rattle.sd_book.specs.declared.command.Command.{Command};
 ghost use Rattle.sd_book.specs.Commands.{revoked as revoked_in};
-ghost use Rattle.sd_steiner.specs.Chains.{IsChainCover};
+ghost use Rattle.sd_cover.specs.Chains.{IsChainCover};
 ghost use Rattle.sd_reach.specs.Reach.{Secret, Named, Key, IsGeneratorStep, IsReached, LeadsTo, ReachesItsSets};
 ghost use Rattle.sd_reach.specs.Reach.{ReachesNoneOf};
 

@@ -15,8 +15,8 @@ use Rattle.sd_spec_receiver.specs.Heard.{Heard}
 use Rattle.sd_spec_receiver.specs.Offered.{heard}
 use Rattle.sd_spec_receiver.specs.Ending.{periods_told, is_unkeyed, ending_with, run_ending, joined, run_wrote}
 use Rattle.sd_spec_receiver.specs.Ending.{ended_before, ending_of}
-use Rattle.sd_receive_ecm.specs.Collected.{IsMessageKept}
-use Rattle.sd_receive_emm.specs.Entitled.{is_told_revoked}
+use Rattle.sd_receive.specs.Collected.{IsMessageKept}
+use Rattle.sd_receive.specs.Entitled.{is_told_revoked}
 use Rattle.sd_receive.specs.Listening.{IsListenerAfter}
 use Rattle.sd_receive.specs.Receiving.{card_in, IsAfter}
 use Rattle.sd_receive.specs.declared.listener.Listener.{Listener}

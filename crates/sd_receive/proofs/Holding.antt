@@ -4,7 +4,7 @@ use Rattle.std.proofs.Common.{true, false, arith}
 use Rattle.std.specs.Prelude.{Option, Some, None, nat_lt, nat_le, option_map, if◌then◌else◌}
 use Rattle.std.proofs.lemmas.Bool.{cases_lt, lt-ltb, le-ltb}
 use Rattle.sd_card.specs.Fields.{CardFields}
-use Rattle.sd_wrap.specs.Wrapping.{wrapped as under}
+use Rattle.sd_keystream.specs.Wrapping.{wrapped as under}
 use Rattle.sd_ecm.specs.Parts.{Message, message_of}
 use Rattle.sd_ecm.specs.declared.part.EcmPart.{EcmPart}
 use Rattle.sd_ecm.specs.declared.part.Place.{Place}

@@ -7,3 +7,12 @@ pub mod Listening
 pub mod Receiving
 pub mod Endings
 pub mod Chained
+pub mod Periods
+pub mod Keeping
+pub mod Finding
+pub mod Judging
+pub mod Pairs
+pub mod Alike
+pub mod Gathering
+pub mod Collecting
+pub mod Walking

@@ -23,12 +23,12 @@ use Rattle.sd_spec_receiver.specs.Keys.{key_from, key_at}
 use Rattle.sd_spec_receiver.specs.Offered.{Offering, no_offering, refuses, key_offering, key_if_none, is_mixed}
 use Rattle.sd_spec_receiver.specs.Offered.{emm_offering}
 use Rattle.sd_spec_receiver.specs.Offered.{heard_offering}
-use Rattle.sd_receive_emm.specs.Entitled.{IsEntitled}
-use Rattle.sd_receive_emm.specs.declared.entitled.Entitled.{Entitled}
-use Rattle.sd_receive_emm.proofs.Keeping.{nothing_told}
-use Rattle.sd_receive_ecm.specs.Collected.{IsCollected, IsWaiting, IsComplete, fault_of}
-use Rattle.sd_receive_ecm.specs.declared.collect.Collect.{Collect}
-use Rattle.sd_receive_ecm.proofs.Collecting as Collecting
+use Rattle.sd_receive.specs.Entitled.{IsEntitled}
+use Rattle.sd_receive.specs.declared.entitled.Entitled.{Entitled}
+use Rattle.sd_receive.proofs.Keeping.{nothing_told}
+use Rattle.sd_receive.specs.Collected.{IsCollected, IsWaiting, IsComplete, fault_of}
+use Rattle.sd_receive.specs.declared.collect.Collect.{Collect}
+use Rattle.sd_receive.proofs.Collecting as Collecting
 use Rattle.sd_receive_hold.specs.Holding.{Holding, held_more}
 use Rattle.sd_receive_hold.proofs.Sinks.{took_none}
 use Rattle.sd_receive.specs.Listening.{IsListenerAfter, IsListenerAtMessage, CountsMore, PassesOffering}

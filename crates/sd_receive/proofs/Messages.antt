@@ -18,9 +18,9 @@ use Rattle.sd_spec_receiver.specs.Stretches.{newest, completes, current}
 use Rattle.sd_spec_receiver.specs.Keys.{key_at}
 use Rattle.sd_spec_receiver.specs.Confirmed.{Wrote}
 use Rattle.sd_spec_receiver.specs.Offered.{Offering, word_fault, wrote_or, heard_offering}
-use Rattle.sd_receive_emm.specs.Entitled.{IsEntitled}
-use Rattle.sd_receive_emm.specs.declared.entitled.Entitled.{Entitled}
-use Rattle.sd_receive_ecm.specs.Collected.{IsCollected}
+use Rattle.sd_receive.specs.Entitled.{IsEntitled}
+use Rattle.sd_receive.specs.declared.entitled.Entitled.{Entitled}
+use Rattle.sd_receive.specs.Collected.{IsCollected}
 use Rattle.sd_receive_hold.specs.Holding.{Holding, after_message}
 use Rattle.sd_receive.specs.Held.{word_under, holding_in, pair_wrote}
 use Rattle.sd_receive.specs.Listening.{IsListenerAfter, IsListenerAtMessage, capped, CountsMore, PassesOffering}

@@ -1,7 +1,7 @@
 -- Public meaning: the packets that a receiver buffers (holds) after what was heard.
 use Rattle.std.specs.Prelude.{ℕ, nat_le, nat_lt, List, [], length, if◌then◌else◌, Option, Some, None, option_map}
 use Rattle.sd_card.specs.Fields.{CardFields}
-use Rattle.sd_wrap.specs.Wrapping.{wrapped as under}
+use Rattle.sd_keystream.specs.Wrapping.{wrapped as under}
 use Rattle.sd_ecm.specs.Parts.{Message}
 use Rattle.sd_ecm.specs.declared.part.Place.{Place}
 use Rattle.sd_ecm.specs.declared.message.EcmHead.{EcmHead}

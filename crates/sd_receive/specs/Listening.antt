@@ -12,8 +12,8 @@ use Rattle.sd_psi.specs.declared.our_cat.Tuning.{Tuning}
 use Rattle.sd_spec_receiver.specs.Heard.{Heard, Controls}
 use Rattle.sd_spec_receiver.specs.Stretches.{is_closed}
 use Rattle.sd_spec_receiver.specs.Offered.{Offering, heard_offering}
-use Rattle.sd_receive_emm.specs.Entitled.{IsEntitled}
-use Rattle.sd_receive_ecm.specs.Collected.{IsCollected, IsComplete}
+use Rattle.sd_receive.specs.Entitled.{IsEntitled}
+use Rattle.sd_receive.specs.Collected.{IsCollected, IsComplete}
 use Rattle.sd_receive.specs.Held.{holding_in}
 use Rattle.sd_receive.specs.declared.listener.Listener.{Listener}
 

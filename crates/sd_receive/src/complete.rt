@@ -8,7 +8,7 @@ ghost use Rattle.sd_engine.specs.Stage.{vessel};
 ghost use Rattle.sd_spec_receiver.specs.Heard.{Heard, Controls};
 ghost use Rattle.sd_spec_receiver.specs.Keys.{key_at};
 ghost use Rattle.sd_spec_receiver.specs.Offered.{word_fault};
-ghost use Rattle.sd_receive_ecm.specs.Collected.{IsCollected, IsComplete};
+ghost use Rattle.sd_receive.specs.Collected.{IsCollected, IsComplete};
 ghost use Rattle.sd_receive_hold.specs.Holding.{after_message};
 ghost use Rattle.sd_receive_hold.specs.Writing.{WriteOutcome};
 ghost use Rattle.sd_receive.specs.Held.{pair_wrote};

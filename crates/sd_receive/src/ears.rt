@@ -10,7 +10,7 @@ use sd_packet::Packet;
 use sd_psi::{CAT_PID, Tuning};
 
 /// Which of the PIDs of a receiver that took a CAT a packet is on [this project, docs/FORMATS.md, Receiver].
-#[derive(Clone, Copy, Debug, PartialEq, Eq)]
+#[derive(Clone, Copy, PartialEq, Eq)]
 pub enum Channel {
     /// PID 1, that of the CAT.
     Cat,

@@ -1,10 +1,15 @@
-//! What a receiver does with packets that are offered one after the other.
+//! What a receiver does with packets that are offered one after the other, and which packets change nothing it keeps.
 
-ghost use Rattle.std.specs.Prelude.{◌≡◌, ℕ, ◌+◌, ◌-◌, ◌*◌, ◌^◌, ◌<◌, ◌≤◌, ◌++◌, ◌∷◌, [], List, length};
+ghost use Rattle.std.specs.Prelude.{◌≡◌, ℕ, ◌+◌, ◌-◌, ◌*◌, ◌^◌, ◌<◌, ◌≤◌, ◌++◌, ◌∷◌, [], List, length, true};
 ghost use Rattle.sd_engine.specs.Stage.{Chain};
 ghost use Rattle.sd_spec_receiver.specs.declared.fault.StreamFault.{StreamFault};
 ghost use Rattle.sd_receive.specs.Receiving.{card_in, IsAfter, taken_keys, receiver_does, Refusing, OutcomeOf, BreakAt};
 ghost use Rattle.sd_receive.specs.declared.receiver.Receiver.{Receiver};
+ghost use Rattle.sd_card.specs.Fields.{CardFields};
+ghost use Rattle.sd_spec_receiver.specs.Heard.{Heard};
+ghost use Rattle.sd_spec_receiver.specs.Stretches.{current, seen};
+ghost use Rattle.sd_receive.specs.Entitled.{IsEntitled, tells_nothing};
+ghost use Rattle.sd_receive.specs.declared.entitled.Entitled.{Entitled};
 
 /// If none of the packets is refused, a receiver writes what the specification says of them, and its state is the one
 /// after them. The steps of the generator that it takes are at most the height of the tree times the number of packets
@@ -23,4 +28,22 @@ pub fn refusals_come_first()
         (first last : List ℕ) (m k : ℕ) → IsAfter [] s → length packets < 2 ^ 64 - 1 →
         Chain receiver_does s packets mid first m → Refusing mid packet why last k →
         BreakAt (card_in s) packets packet more why (first ++ last) (m + k) }
+{}
+
+/// The sections that were seen of an earlier period than the current one stay as they are.
+#[tactic(auto, using(crate::proofs::Periods::past_stands))]
+pub fn past_periods_stand()
+    ensures { (q : ℕ) (heard : Heard) (tr : List Heard) → q < current tr → seen q (heard ∷ tr) ≡ seen q tr }
+{}
+
+/// No section of a later period than the current one was seen.
+#[tactic(auto, using(crate::proofs::Periods::ahead_none))]
+pub fn nothing_ahead()
+    ensures { (q : ℕ) (tr : List Heard) → current tr < q → seen q tr ≡ [] }
+{}
+
+/// A packet that is no section and completes no message changes nothing that is kept.
+pub fn others_leave_it()
+    ensures { (card : CardFields) (heard : Heard) (tr : List Heard) (state : Entitled) →
+        tells_nothing tr heard ≡ true → IsEntitled card tr state → IsEntitled card (heard ∷ tr) state }
 {}

@@ -14,6 +14,7 @@ ghost use Rattle.sd_receive.specs.Receiving.{takes_key_of};
 
 use crate::ears::Heard;
 use crate::listener::Listener;
+use crate::{Collect, Entitled, Taken};
 use sd_base::{NoMemory, Steps};
 use sd_card::Card;
 use sd_ecm::EcmPart;
@@ -21,8 +22,6 @@ use sd_engine::StageFault;
 use sd_packet::Packet;
 use sd_ports::Sink;
 use sd_psi::Tuning;
-use sd_receive_ecm::{Collect, Taken};
-use sd_receive_emm::Entitled;
 use sd_receive_hold::Segment;
 use sd_spec_receiver::StreamFault;
 use std::alloc::Global;

@@ -1,5 +1,4 @@
-use sd_receive_ecm::Collect;
-use sd_receive_emm::Entitled;
+use crate::{Collect, Entitled};
 use sd_receive_hold::Segment;
 
 // What a receiver that took a CAT keeps of the current run.

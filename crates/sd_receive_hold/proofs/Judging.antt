@@ -9,7 +9,7 @@ use Rattle.sd_packet.specs.Header.{pid_of, scrambling_of}
 use Rattle.sd_packet.specs.Positions.{is_placed, moved_by}
 use Rattle.sd_psi.specs.Rewriting.{restored, restore_fault}
 use Rattle.sd_psi.specs.declared.fault.FormFault.{FormFault}
-use Rattle.sd_scramble.specs.Scrambling.{descrambled}
+use Rattle.sd_keystream.specs.Scrambling.{descrambled}
 use Rattle.sd_spec_receiver.specs.Confirmed.{Segment, position_in, tracked, is_confirmed, is_odd, unmarked, judged}
 use Rattle.sd_receive_hold.specs.declared.held.Held.{Held}
 use Rattle.sd_receive_hold.specs.declared.confirm.Confirming.{Confirming}

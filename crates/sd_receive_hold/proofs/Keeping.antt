@@ -6,7 +6,7 @@ use Rattle.std.specs.Prelude.{vec_capacity}
 use Rattle.std.specs.Global.{Vec}
 use Rattle.std.proofs.lemmas.List.{length-map, length_push, map-append, length-replicate, get_or-replicate}
 use Rattle.std.proofs.lemmas.List.Elements.{All-nil, All-weaker}
-use Rattle.sd_bits.proofs.Fields.{field_below}
+use Rattle.sd_base.proofs.Fields.{field_below}
 use Rattle.sd_packet.specs.Header.{pid_of}
 use Rattle.sd_packet.specs.Positions.{moved, moved_by, is_positional, first_position}
 use Rattle.sd_packet.proofs.Positions.{one_more, positional_small}

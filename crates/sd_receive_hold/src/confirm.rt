@@ -14,10 +14,10 @@ use crate::fault::SegmentFault;
 use crate::held::{Held, Word};
 use crate::tracks::Tracks;
 use sd_ecm::Place;
+use sd_keystream::descramble;
 use sd_packet::Packet;
 use sd_ports::{Sink, write_all};
 use sd_psi::restore_pmt;
-use sd_scramble::descramble;
 
 // The greatest distance of a confirmed position above the one that the buffered packets lead to.
 const RESIDUAL: u64 = 15;

@@ -1,5 +1,5 @@
 /// Why `Segment::write` stopped.
-#[derive(Clone, Copy, Debug, PartialEq, Eq)]
+#[derive(Clone, Copy, PartialEq, Eq)]
 pub enum SegmentFault {
     /// A write into the sink failed.
     Write,

@@ -1,8 +1,8 @@
 -- What the example of a command comes to.
 use Rattle.std.specs.Prelude.{◌≡◌, ℕ, ◌==◌, if◌then◌else◌, List, [], ◌∷◌, Result, Ok, Err}
 use Rattle.std.specs.List.{flat_map}
-use Rattle.sd_command_table.specs.declared.command.Command.{Command}
-use Rattle.sd_command_table.specs.Commands.{example_of}
+use Rattle.sd_command_line.specs.declared.command.Command.{Command}
+use Rattle.sd_command_line.specs.Commands.{example_of}
 use Rattle.sd_command_status.specs.declared.status.Status.{Status}
 use Rattle.sd_command_line.specs.Words.{Argument, Order, CommandOf, HelpOf, VersionOf, order_of}
 

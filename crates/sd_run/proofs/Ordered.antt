@@ -8,11 +8,11 @@ use Rattle.sd_command_status.specs.Work.{Work}
 use Rattle.sd_command_status.specs.Outcome.{IsRefusal, refused, OutcomeWithin, Implements}
 use Rattle.sd_command_status.proofs.Givens.{any_given}
 use Rattle.sd_command_files.proofs.Others.{IsOther}
-use Rattle.sd_run_help.proofs.Others.{other_help, other_version}
-use Rattle.sd_command_table.specs.declared.command.Command.TheVariants.{Plan, Sample}
+use Rattle.sd_command_line.proofs.Others.{other_help, other_version}
+use Rattle.sd_command_line.specs.declared.command.Command.TheVariants.{Plan, Sample}
 use Rattle.sd_command_line.specs.Words.{Argument, InputOf, OutOf, NumberOf, Order, CommandOf, HelpOf, VersionOf, number}
 use Rattle.sd_command_line.specs.Words.{order_of}
-use Rattle.sd_command_table.specs.Commands.{operands_of}
+use Rattle.sd_command_line.specs.Commands.{operands_of}
 use Rattle.sd_command_line.specs.Orders.{AreOf, RefusesWords}
 use Rattle.sd_run.specs.Meaning.{order_meaning, meaning}
 use Rattle.sd_run.proofs.Rows.{other_command}

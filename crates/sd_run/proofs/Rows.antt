@@ -1,4 +1,4 @@
--- What is said of each command of the table: here, and nowhere else above its own crate, has a command its row.
+-- What is said of each command of the table, a row for each.
 use Rattle.std.proofs.Common.{ℕ, ◌+◌, List, [], ◌∷◌, Option, Some, None, refl}
 use Rattle.sd_engine.specs.Taken.{end_of}
 use Rattle.sd_command_status.specs.Spec.{FileArgument, Readings, all_of, judged, value, ◌>>=◌}
@@ -13,48 +13,48 @@ use Rattle.sd_run_books.specs.Apart.{apart_meaning, plan_of_both, told_apart}
 use Rattle.sd_run_books.specs.Book.{longer_book, book_meaning}
 use Rattle.sd_run_cards.specs.Card.{told_card, card_meaning}
 use Rattle.sd_run_covers.specs.Cover.{covering, cover_meaning}
-use Rattle.sd_run_head.specs.Head.{plan_meaning as head_plan, sent_of, sent_status, sending}
-use Rattle.sd_run_head.specs.Head.{sending_of, head_meaning}
+use Rattle.sd_run_broadcasts.specs.Head.{plan_meaning as head_plan, sent_of, sent_status, sending}
+use Rattle.sd_run_broadcasts.specs.Head.{sending_of, head_meaning}
 use Rattle.sd_run_covers.specs.Layered.{layers_of_file, layering, layered_meaning}
 use Rattle.sd_run_cards.specs.Lcard.{told_leaf, told_width, carding, lcard_meaning}
 use Rattle.sd_run_streams.specs.Messages.{messages_meaning, monitoring, stream_meaning as monitor_meaning}
 use Rattle.sd_run_covers.specs.Opens.{opening, opens_meaning}
 use Rattle.sd_run_books.specs.Air.{plan_meaning as air_meaning, planning, roomy_site_of_file}
-use Rattle.sd_run_receive.specs.Receive.{received_status}
-use Rattle.sd_run_receive.specs.Receive.{card_in, received_of, received_steps, receiving, stream_meaning}
-use Rattle.sd_run_receive.specs.Receive.{receive_meaning}
+use Rattle.sd_run_broadcasts.specs.Receive.{received_status}
+use Rattle.sd_run_broadcasts.specs.Receive.{card_in, received_of, received_steps, receiving, stream_meaning}
+use Rattle.sd_run_broadcasts.specs.Receive.{receive_meaning}
 use Rattle.sd_run_streams.specs.Sample.{sample_meaning}
 use Rattle.sd_run_cards.specs.Show.{line_of_file, show_meaning}
 use Rattle.sd_run_streams.specs.Tables.{inspecting, tables_meaning}
 use Rattle.sd_run_covers.specs.Trace.{traced, trace_meaning}
 use Rattle.sd_command_files.specs.Printed.{printing}
 use Rattle.sd_run_field.specs.Field.{field_meaning, field_text, inputs_meaning, script_of_file}
-use Rattle.sd_run_trial.specs.Prefixes.{prefix_of_file}
-use Rattle.sd_run_trial.specs.Trial.{plan_meaning as trial_plan, trial_text, trying, trial_meaning}
-use Rattle.sd_run_trial.specs.Trial.{most_clear_bytes}
+use Rattle.sd_run_broadcasts.specs.Prefixes.{prefix_of_file}
+use Rattle.sd_run_broadcasts.specs.Trial.{plan_meaning as trial_plan, trial_text, trying, trial_meaning}
+use Rattle.sd_run_broadcasts.specs.Trial.{most_clear_bytes}
 use Rattle.sd_sample.specs.Sample.{sample_of}
 use Rattle.sd_site.specs.Fields.{SiteFields}
 use Rattle.sd_book.specs.Text.{text_of}
 use Rattle.sd_lsd.specs.Fields.{layer_card_of, layer_bytes}
-use Rattle.sd_command_table.specs.declared.command.Command.{Command}
-use Rattle.sd_command_table.specs.declared.command.Command.TheVariants.{Accounts, Book, Card, Cover, Field, Head}
-use Rattle.sd_command_table.specs.declared.command.Command.TheVariants.{Layered}
-use Rattle.sd_command_table.specs.declared.command.Command.TheVariants.{Lcard}
-use Rattle.sd_command_table.specs.declared.command.Command.TheVariants.{Apart, Messages, Opens, Plan as Air, Receive}
-use Rattle.sd_command_table.specs.declared.command.Command.TheVariants.{Sample}
-use Rattle.sd_command_table.specs.declared.command.Command.TheVariants.{Show}
-use Rattle.sd_command_table.specs.declared.command.Command.TheVariants.{Tables, Trace, Trial}
-use Rattle.sd_command_table.specs.declared.operand.Operand.{Operand}
-use Rattle.sd_command_table.specs.Commands.{command_named, example_of, command_name, operands_of}
-use Rattle.sd_command_table.specs.Operands.{operand_kind}
+use Rattle.sd_command_line.specs.declared.command.Command.{Command}
+use Rattle.sd_command_line.specs.declared.command.Command.TheVariants.{Accounts, Book, Card, Cover, Field, Head}
+use Rattle.sd_command_line.specs.declared.command.Command.TheVariants.{Layered}
+use Rattle.sd_command_line.specs.declared.command.Command.TheVariants.{Lcard}
+use Rattle.sd_command_line.specs.declared.command.Command.TheVariants.{Apart, Messages, Opens, Plan as Air, Receive}
+use Rattle.sd_command_line.specs.declared.command.Command.TheVariants.{Sample}
+use Rattle.sd_command_line.specs.declared.command.Command.TheVariants.{Show}
+use Rattle.sd_command_line.specs.declared.command.Command.TheVariants.{Tables, Trace, Trial}
+use Rattle.sd_command_line.specs.declared.operand.Operand.{Operand}
+use Rattle.sd_command_line.specs.Commands.{command_named, example_of, command_name, operands_of}
+use Rattle.sd_command_line.specs.Operands.{operand_kind}
 use Rattle.sd_command_line.specs.Words.{Argument, file, number, named_words, or_output}
 use Rattle.sd_run.specs.Meaning.{command_meaning}
 use Rattle.sd_command_files.proofs.Others.{IsOther}
 use Rattle.sd_run_covers.proofs.Others.{other_cover}
 use Rattle.sd_run_cards.proofs.Others.{other_card_order}
 use Rattle.sd_run_streams.proofs.Others.{other_tables}
-use Rattle.sd_run_head.proofs.Others.{other_head}
-use Rattle.sd_run_receive.proofs.Others.{other_receive}
+use Rattle.sd_run_broadcasts.proofs.HeadOthers.{other_head}
+use Rattle.sd_run_broadcasts.proofs.ReceiveOthers.{other_receive}
 use Rattle.sd_run_books.proofs.Others.{other_accounts}
 use Rattle.sd_run_books.proofs.Others.{other_apart}
 use Rattle.sd_run_books.proofs.Others.{other_book_order}
@@ -66,7 +66,7 @@ use Rattle.sd_run_covers.proofs.Others.{other_opens}
 use Rattle.sd_run_books.proofs.Others.{other_plan}
 use Rattle.sd_run_cards.proofs.Others.{other_show}
 use Rattle.sd_run_covers.proofs.Others.{other_trace}
-use Rattle.sd_run_trial.proofs.Others.{other_trial}
+use Rattle.sd_run_broadcasts.proofs.Others.{other_trial}
 use Rattle.sd_run.proofs.Works.{AreOrderly, orderly_after, same_name, made_whole, turned, none_made, sent_apart}
 use Rattle.sd_run.proofs.Works.{stream_apart, stream_received, text_quiet}
 use Rattle.sd_run.proofs.Examples.{IsExample, words_in, onto_first, arguments_in}

@@ -18,8 +18,8 @@ use Rattle.sd_command_status.specs.Work.{StepBound, Out, Work}
 use Rattle.sd_command_files.specs.Made.{making}
 use Rattle.sd_command_files.specs.Turned.{turning}
 use Rattle.sd_command_files.specs.Streams.{stream_status}
-use Rattle.sd_run_head.specs.Head.{status_where, sent_status}
-use Rattle.sd_run_receive.specs.Receive.{ended_status, ending_status, status_at, unless_refused, received_status}
+use Rattle.sd_run_broadcasts.specs.Head.{status_where, sent_status}
+use Rattle.sd_run_broadcasts.specs.Receive.{ended_status, ending_status, status_at, unless_refused, received_status}
 use Rattle.sd_command_files.specs.Printed.{printing}
 use Rattle.sd_command_line.specs.Words.{number}
 use Rattle.sd_run.specs.Refusals.{RefusesFirst}

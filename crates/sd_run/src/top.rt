@@ -5,25 +5,21 @@ ghost use Rattle.sd_command_status.specs.Outside.{outside, page_state, depot_sta
 ghost use Rattle.sd_command_status.specs.Spec.{contents_of};
 ghost use Rattle.sd_command_status.specs.Outcome.{Implements, status_of};
 ghost use Rattle.sd_command_status.specs.Results.{RunResult, HasAnswerCause, IsMeant, IsToldAs};
-ghost use Rattle.sd_command_table.specs.Commands.{operands_of};
+ghost use Rattle.sd_command_line.specs.Commands.{operands_of};
 ghost use Rattle.sd_command_line.specs.Words.{order_of};
 ghost use Rattle.sd_run.specs.Meaning.{command_meaning, meaning, order_meaning};
 ghost use Rattle.sd_command_line.specs.Orders.{arguments_said, order_said, AreOf, IsSound};
 
 use sd_base::Steps;
-use sd_command_line::{Arguments, Order, read_words};
+use sd_command_line::{Arguments, Command, Order, help, read_words, version};
 use sd_command_status::{Status, tell};
-use sd_command_table::Command;
 use sd_ports::{Depot, Sink};
 use sd_run_books::{apart, plan};
+use sd_run_broadcasts::{head, receive, trial};
 use sd_run_cards::{card, lcard, show};
 use sd_run_covers::{cover, layered, opens, trace};
 use sd_run_field::field;
-use sd_run_head::head;
-use sd_run_help::{help, version};
-use sd_run_receive::receive;
 use sd_run_streams::{messages, sample, tables};
-use sd_run_trial::trial;
 use std::alloc::Global;
 use std::sync::ledger::Ledger;
 
@@ -57,7 +53,7 @@ pub fn run<D: Depot, P: Sink, L: Ledger>(
 {
     match obey(alloc, words, depot, print, steps) {
         Ok(()) => Status::Done,
-        Err(status) if status == Status::PrintFault => status,
+        Err(Status::PrintFault) => Status::PrintFault,
         Err(status) => tell(alloc, print, status),
     }
 }

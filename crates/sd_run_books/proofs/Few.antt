@@ -4,9 +4,9 @@ use Rattle.std.specs.Prelude.{All, Contains}
 use Rattle.std.proofs.lemmas.List.Elements.{All-contains}
 use Rattle.sd_tree.specs.Limits.{highest, most_revoked}
 use Rattle.sd_emm.specs.declared.format.TheConstants.{MOST_SETS}
-use Rattle.sd_steiner.specs.Cover.{cover_of}
-use Rattle.sd_steiner.proofs.Covers.{cover_small}
-use Rattle.sd_steiner.proofs.There.{list_is_cover}
+use Rattle.sd_cover.specs.Cover.{cover_of}
+use Rattle.sd_cover.proofs.Covers.{cover_small}
+use Rattle.sd_cover.proofs.There.{list_is_cover}
 
 pub sets_few : (d : ℕ) (leaves : List ℕ) → d ≤ highest → All (λ u. u < 2 ^ d) leaves →
     length leaves ≤ most_revoked → length (cover_of d leaves) ≤ MOST_SETS

@@ -3,7 +3,7 @@ use Rattle.std.proofs.Common.{◌≡◌, ◌≢◌, ℕ, Bool, true, false, cond
 use Rattle.std.proofs.Common.{refl, sym, ap, subst, ◌∙◌, inl, inr, arith, Ok}
 use Rattle.std.specs.Prelude.{nat_eq}
 use Rattle.std.specs.Io.KnownBytes.{Appends}
-use Rattle.sd_base.proofs.Numbers.{same_number, other_number_back}
+use Rattle.sd_base.proofs.Arithmetic.{same_number, other_number_back}
 use Rattle.sd_ports.specs.Bytes.{AppendsPrefix}
 use Rattle.sd_ports.specs.Files.{Files}
 use Rattle.sd_command_status.specs.declared.status.Status.{Status}

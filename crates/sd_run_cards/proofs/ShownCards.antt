@@ -1,6 +1,6 @@
 -- The line of a card's file that was read.
 use Rattle.std.proofs.Common.{◌≡◌, ◌⊎◌, ℕ, List, Option, None, Ok, Err, refl, sym, ap, subst, ◌∙◌, inl, inr}
-use Rattle.sd_card_secrets.specs.Files.{check_in}
+use Rattle.sd_card.specs.Files.{check_in}
 use Rattle.sd_card.specs.declared.fault.CardFault.{CardFault}
 use Rattle.sd_card.specs.declared.fault.CardFault.TheVariants as fault
 use Rattle.sd_card.specs.Faults.{height_in, leaf_in, ca_in, fault_in, IsFaultOf}

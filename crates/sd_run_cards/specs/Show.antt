@@ -5,8 +5,8 @@ use Rattle.serde_json.specs.Data.{Data, string, object, member, no_members}
 use Rattle.serde_json.specs.Written.{compact_text}
 use Rattle.sd_card.specs.declared.fault.CardFault.{CardFault}
 use Rattle.sd_card.specs.Faults.{height_in, leaf_in, ca_in, fault_in}
-use Rattle.sd_tables_line.specs.Lines.{num}
-use Rattle.sd_card_secrets.specs.Files.{check_in}
+use Rattle.sd_tables.specs.Lines.{num}
+use Rattle.sd_card.specs.Files.{check_in}
 use Rattle.sd_command_status.specs.declared.status.Status.{Status}
 use Rattle.sd_command_status.specs.declared.status.Status.TheVariants.{BadCard}
 use Rattle.sd_command_status.specs.declared.status.LimitKind.TheVariants.{CardBytes}

@@ -11,8 +11,7 @@ ghost use Rattle.sd_run_cards.specs.Lcard.{lcard_meaning, told_leaf, told_width}
 use sd_base::Steps;
 use sd_command_files::{Number, Word, make_file, read_site};
 use sd_command_status::Status;
-use sd_lsd::LayerCard;
-use sd_lsd_sets::Width;
+use sd_lsd::{LayerCard, Width};
 use sd_ports::Depot;
 use sd_site::Site;
 use sd_tree::{HIGHEST, Height, Leaf};

@@ -9,10 +9,10 @@ use Rattle.sd_tree.specs.SetNames.{IsOfHeight}
 use Rattle.sd_book.specs.declared.command.Command.{Command}
 use Rattle.sd_book.specs.Commands.{revoked}
 use Rattle.sd_book.proofs.Revocations.{below}
-use Rattle.sd_steiner.specs.Partition.{IsPartition}
-use Rattle.sd_lsd_sets.specs.Layers.{is_useful}
-use Rattle.sd_lsd_sets.specs.Cover.{IsLayerCover, IsDoubleSmall, layer_cover_of}
-use Rattle.sd_lsd_sets.proofs.Covers.{cover_listed, layer_cover_useful, layer_cover_unites, layer_cover_small}
+use Rattle.sd_cover.specs.Partition.{IsPartition}
+use Rattle.sd_lsd.specs.Layers.{is_useful}
+use Rattle.sd_lsd.specs.Cover.{IsLayerCover, IsDoubleSmall, layer_cover_of}
+use Rattle.sd_lsd.proofs.Covers.{cover_listed, layer_cover_useful, layer_cover_unites, layer_cover_small}
 
 -- the useful sets of a cover are of the tree's height
 pub cover_of_height : (d w : ℕ) (revoked : List ℕ) (sets : List SetName) → d ≤ highest → 1 ≤ w →

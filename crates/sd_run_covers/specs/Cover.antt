@@ -1,10 +1,10 @@
 -- Public meaning: `cover SITE BOOK` [this project, docs/FORMATS.md, Cover].
 use Rattle.std.specs.Prelude.{ℕ, List}
 use Rattle.sd_book.specs.declared.command.Command.{Command}
-use Rattle.sd_steiner.specs.Cover.{cover_of}
+use Rattle.sd_cover.specs.Cover.{cover_of}
 use Rattle.sd_command_status.specs.Spec.{Spec, FileArgument, Readings, value, ◌>>=◌}
 use Rattle.sd_command_status.specs.Work.{Work}
-use Rattle.sd_command_periods.specs.Periods.{bare_end, listing}
+use Rattle.sd_command_files.specs.Periods.{bare_end, listing}
 use Rattle.sd_command_files.specs.Both.{both_meaning}
 
 -- prints the sets of each period of a book for a tree of this height [Naor, Naor, Lotspiech 2001, 3.2]

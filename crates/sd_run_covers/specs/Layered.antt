@@ -1,12 +1,12 @@
 -- Public meaning: `layered SITE BOOK WIDTH` [this project, docs/FORMATS.md, Layers].
 use Rattle.std.specs.Prelude.{ℕ, ◌&&◌, nat_le, if◌then◌else◌, List, Option, Result, Ok, Err}
 use Rattle.sd_book.specs.declared.command.Command.{Command}
-use Rattle.sd_lsd_sets.specs.Cover.{layer_cover_of}
+use Rattle.sd_lsd.specs.Cover.{layer_cover_of}
 use Rattle.sd_command_status.specs.declared.status.Status.{Status}
 use Rattle.sd_command_status.specs.declared.status.Status.TheVariants.{BadWord}
 use Rattle.sd_command_status.specs.Spec.{Spec, FileArgument, Readings, judged, value, ◌>>=◌}
 use Rattle.sd_command_status.specs.Work.{Work}
-use Rattle.sd_command_periods.specs.Periods.{bare_end, listing}
+use Rattle.sd_command_files.specs.Periods.{bare_end, listing}
 use Rattle.sd_command_files.specs.Shown.{NumberArgument}
 use Rattle.sd_command_files.specs.Files.{site_of_file, book_in}
 

@@ -4,10 +4,10 @@ use Rattle.std.specs.List.{list_any}
 use Rattle.sd_tree.specs.declared.set.SetName.{SetName}
 use Rattle.sd_tree.specs.Leaves.{is_member}
 use Rattle.sd_book.specs.declared.command.Command.{Command}
-use Rattle.sd_steiner.specs.Cover.{cover_of}
+use Rattle.sd_cover.specs.Cover.{cover_of}
 use Rattle.sd_command_status.specs.Spec.{Spec, FileArgument, Readings, value, ◌>>=◌}
 use Rattle.sd_command_status.specs.Work.{Work}
-use Rattle.sd_command_periods.specs.Periods.{listing, text_at}
+use Rattle.sd_command_files.specs.Periods.{listing, text_at}
 use Rattle.sd_command_files.specs.Both.{both_meaning}
 use Rattle.sd_command_files.specs.Leaves.{leaves_in}
 

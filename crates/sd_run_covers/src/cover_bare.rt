@@ -1,5 +1,5 @@
 use sd_base::NoMemory;
-use sd_command_periods::{Listing, cover_sets};
+use sd_command_files::{Listing, cover_sets};
 use sd_tree::{Height, Leaf, SetName};
 use std::alloc::Global;
 
@@ -8,8 +8,8 @@ use std::alloc::Global;
 pub(crate) struct Bare;
 
 impl Listing for Bare {
-    ghost use Rattle.sd_steiner.specs.Cover.{cover_of};
-    ghost use Rattle.sd_command_periods.specs.Periods.{bare_end};
+    ghost use Rattle.sd_cover.specs.Cover.{cover_of};
+    ghost use Rattle.sd_command_files.specs.Periods.{bare_end};
 
     ghost fits = { λ _ _. Unit {0} };
 

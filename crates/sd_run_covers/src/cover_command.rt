@@ -7,8 +7,7 @@ ghost use Rattle.sd_run_covers.specs.Cover.{cover_meaning};
 ghost use Rattle.sd_command_files.specs.Shown.{shown_word};
 
 use crate::cover_bare::Bare;
-use sd_command_files::{Word, read_both};
-use sd_command_periods::print_periods;
+use sd_command_files::{Word, print_periods, read_both};
 use sd_command_status::Status;
 use sd_ports::{Depot, Sink};
 use std::alloc::Global;

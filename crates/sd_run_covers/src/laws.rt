@@ -7,9 +7,9 @@ ghost use Rattle.sd_tree.specs.Leaves.{unrevoked};
 ghost use Rattle.sd_tree.specs.SetNames.{IsOfHeight};
 ghost use Rattle.sd_book.specs.declared.command.Command.{Command};
 ghost use Rattle.sd_book.specs.Commands.{revoked};
-ghost use Rattle.sd_steiner.specs.Partition.{IsPartition};
-ghost use Rattle.sd_lsd_sets.specs.Layers.{is_useful};
-ghost use Rattle.sd_lsd_sets.specs.Cover.{IsDoubleSmall, layer_cover_of};
+ghost use Rattle.sd_cover.specs.Partition.{IsPartition};
+ghost use Rattle.sd_lsd.specs.Layers.{is_useful};
+ghost use Rattle.sd_lsd.specs.Cover.{IsDoubleSmall, layer_cover_of};
 ghost use Rattle.sd_trace.specs.Trace.{IsTrace, trace_of};
 ghost use Rattle.sd_run_covers.specs.Trace.{revoked_last, trace_text, traced};
 

@@ -8,10 +8,9 @@ ghost use Rattle.sd_command_files.specs.Shown.{shown_number, shown_word};
 ghost use Rattle.sd_run_covers.specs.Layered.{layered_meaning, layers_of_file, shown_layers, told_layers};
 
 use crate::layered_useful::UsefulSets;
-use sd_command_files::{Number, Word, read_book, read_site};
-use sd_command_periods::print_periods;
+use sd_command_files::{Number, Word, print_periods, read_book, read_site};
 use sd_command_status::Status;
-use sd_lsd_sets::Width;
+use sd_lsd::Width;
 use sd_ports::{Depot, Sink};
 use sd_tree::{HIGHEST, Height};
 use std::alloc::Global;

@@ -1,7 +1,7 @@
 use sd_base::NoMemory;
-use sd_command_periods::Listing;
-use sd_lsd_sets::{Width, layered_cover};
-use sd_steiner::CoverFault;
+use sd_command_files::Listing;
+use sd_cover::CoverFault;
+use sd_lsd::{Width, layered_cover};
 use sd_tree::{HIGHEST, Height, Leaf, SetName};
 use std::alloc::Global;
 
@@ -13,8 +13,8 @@ pub(crate) struct UsefulSets {
 
 impl Listing for UsefulSets {
     ghost use Rattle.std.specs.Prelude.{◌≤◌};
-    ghost use Rattle.sd_lsd_sets.specs.Cover.{layer_cover_of};
-    ghost use Rattle.sd_command_periods.specs.Periods.{bare_end};
+    ghost use Rattle.sd_lsd.specs.Cover.{layer_cover_of};
+    ghost use Rattle.sd_command_files.specs.Periods.{bare_end};
 
     ghost fits = { λ x h. x.width ≤ h };
 

@@ -7,8 +7,7 @@ ghost use Rattle.sd_command_files.specs.Shown.{shown_word};
 ghost use Rattle.sd_run_covers.specs.Opens.{opens_meaning};
 
 use crate::opens_pool::Pool;
-use sd_command_files::{Word, read_both, read_leaves};
-use sd_command_periods::print_periods;
+use sd_command_files::{Word, print_periods, read_both, read_leaves};
 use sd_command_status::Status;
 use sd_ports::{Depot, Sink};
 use std::alloc::Global;

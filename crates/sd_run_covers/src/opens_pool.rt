@@ -1,5 +1,5 @@
 use sd_base::NoMemory;
-use sd_command_periods::{Listing, cover_sets};
+use sd_command_files::{Listing, cover_sets};
 use sd_reach::opens;
 use sd_tree::{Height, Leaf, SetName};
 use std::alloc::Global;
@@ -12,7 +12,7 @@ pub(crate) struct Pool {
 
 impl Listing for Pool {
     ghost use Rattle.std.specs.Prelude.{◌^◌, ◌<◌, All};
-    ghost use Rattle.sd_steiner.specs.Cover.{cover_of};
+    ghost use Rattle.sd_cover.specs.Cover.{cover_of};
     ghost use Rattle.sd_run_covers.specs.Opens.{pool_end};
 
     ghost fits = { λ x h. All (λ u. u < 2 ^ h) x.leaves.items };

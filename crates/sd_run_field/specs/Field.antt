@@ -26,7 +26,7 @@ use Rattle.sd_command_status.specs.Spec.{Spec, FileArgument, Readings, judged, v
 use Rattle.sd_command_status.specs.Work.{Work}
 use Rattle.sd_command_files.specs.Files.{low_site_of_file, most_book_bytes}
 use Rattle.sd_command_files.specs.Printed.{printing}
-use Rattle.sd_run_head.specs.Head.{refused_status}
+use Rattle.sd_run_broadcasts.specs.Head.{refused_status}
 
 -- the greatest height of a field's tree
 abbrev pub most_height : ℕ

@@ -5,7 +5,7 @@ use Rattle.sd_spec_broadcast.specs.declared.fault.ClearFault.{ClearFault}
 use Rattle.sd_field.specs.Fields.{FieldValue, after_next, next_refusal, taken}
 use Rattle.sd_command_status.specs.declared.status.Status.{Status}
 use Rattle.sd_command_status.specs.declared.status.Status.TheVariants.{NoMemory}
-use Rattle.sd_run_head.specs.Head.{refused_status}
+use Rattle.sd_run_broadcasts.specs.Head.{refused_status}
 use Rattle.sd_run_field.specs.Field.{done_field}
 
 -- one event was done, or none was left, or the clear packet that it sends is refused, or memory didn't suffice

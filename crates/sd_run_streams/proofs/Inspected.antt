@@ -12,7 +12,7 @@ use Rattle.sd_base.specs.Count.{IsCaused}
 use Rattle.sd_base.specs.declared.memory.NoMemory.{NoMemory as OutOfMemory}
 use Rattle.sd_base.proofs.Lists.{nothing_joined}
 use Rattle.sd_packet.specs.Header.{pid_of}
-use Rattle.sd_tables_line.specs.Lines.{section_line}
+use Rattle.sd_tables.specs.Lines.{section_line}
 use Rattle.sd_ports.specs.Bytes.{IsPrefix, AppendsPrefix}
 use Rattle.sd_ports.proofs.Starts.{prefix_of_prefix, after_first, nothing_after, pieces_first}
 use Rattle.sd_engine.specs.Stage.{Chain}

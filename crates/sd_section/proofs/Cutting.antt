@@ -5,8 +5,8 @@ use Rattle.std.proofs.Common.{length-drop, ◌∙◌, arith}
 use Rattle.std.specs.Prelude.{nat_le, nat_lt}
 use Rattle.std.proofs.lemmas.Bool.{and_parts, leb-true, le-leb, lt-ltb, cases_lt}
 use Rattle.std.proofs.lemmas.List.{get_or_append_left, take-append-le, drop_all, length-take}
-use Rattle.sd_bits.specs.Bits.{field}
-use Rattle.sd_bits.proofs.Fields.{same_by_bits}
+use Rattle.sd_base.specs.Bits.{field}
+use Rattle.sd_base.proofs.Fields.{same_by_bits}
 use Rattle.sd_section.specs.Header.{body_of, section_length_of, whole_of}
 use Rattle.sd_section.specs.Assembled.{is_overlong, is_whole, Cut, no_cut, with_section, cut_from}
 use Rattle.sd_section.specs.OneMore.{cut_more}

@@ -4,3 +4,8 @@ pub mod Spelling
 pub mod Cutting
 pub mod Adding
 pub mod After
+pub mod Xor
+pub mod Registers
+pub mod Numbers
+pub mod Words
+pub mod Rows

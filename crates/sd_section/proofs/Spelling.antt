@@ -5,11 +5,11 @@ use Rattle.std.specs.Prelude.{None, slice_index, ◌==◌}
 use Rattle.std.specs.Int.{w32, to_be_bytes}
 use Rattle.std.proofs.lemmas.Bool.{le-leb}
 use Rattle.std.proofs.lemmas.List.{take_at, drop_at}
-use Rattle.sd_bits.specs.Bits.{field}
-use Rattle.sd_bits.proofs.Fields.{field_below, field_split}
-use Rattle.sd_bits.proofs.Words.{byte_field}
-use Rattle.sd_crc.specs.Crc.{crc_of}
-use Rattle.sd_crc.proofs.Words.{crc_below}
+use Rattle.sd_base.specs.Bits.{field}
+use Rattle.sd_base.proofs.Fields.{field_below, field_split}
+use Rattle.sd_base.proofs.Words.{byte_field}
+use Rattle.sd_section.specs.Crc.{crc_of}
+use Rattle.sd_section.proofs.Words.{crc_below}
 use Rattle.sd_section.specs.Header.{syntax_of, private_of, section_length_of, extension_of, version_of, current_of}
 use Rattle.sd_section.specs.Header.{whole_of, body_of, crc_in, crc_due}
 use Rattle.sd_section.specs.Judged.{unless, crc_fault, section_fault}

@@ -1,10 +1,10 @@
 -- Headers are written field by field.
 use Rattle.std.proofs.Common.{ℕ, ◌+◌, ◌*◌, ◌/◌, ◌%◌, ◌<◌, ◌≤◌, ◌≡◌, List, [], ◌∷◌, length, get_or, refl, sym, ◌∙◌, inl}
 use Rattle.std.proofs.Common.{arith}
-use Rattle.sd_bits.specs.Bits.{field, KeepsOthers}
-use Rattle.sd_bits.proofs.Fields.{field_split, apart_stays}
-use Rattle.sd_bits.proofs.Words.{byte_field}
-use Rattle.sd_crc.proofs.Words.{eight_listed}
+use Rattle.sd_base.specs.Bits.{field, KeepsOthers}
+use Rattle.sd_base.proofs.Fields.{field_split, apart_stays}
+use Rattle.sd_base.proofs.Words.{byte_field}
+use Rattle.sd_section.proofs.Words.{eight_listed}
 
 -- eight bytes are a header where their fields are
 header_by_fields : (xs : List ℕ) (t n e s l : ℕ) → length xs ≡ 8 → ((i : ℕ) → get_or xs i 0 < 256) →

@@ -1,7 +1,7 @@
 -- Public meaning: a section in the long form: its header of eight bytes, its body, its CRC.
 use Rattle.std.specs.Prelude.{ℕ, ◌+◌, ◌-◌, List, length, take, drop, slice_range}
-use Rattle.sd_bits.specs.Bits.{field}
-pub use Rattle.sd_crc.specs.Crc.{crc_of}
+use Rattle.sd_base.specs.Bits.{field}
+pub use Rattle.sd_section.specs.Crc.{crc_of}
 
 -- the fewest bytes that section_length counts in the long form: the other five of the header, and the CRC
 -- [ISO/IEC 13818-1, 2.4.4]

@@ -3,3 +3,5 @@ pub mod Judged
 pub mod Written
 pub mod Assembled
 pub mod OneMore
+pub mod Crc
+pub mod Steps

@@ -1,7 +1,7 @@
 -- Public meaning: sections that this project writes.
 use Rattle.std.specs.Prelude.{◌≡◌, ℕ, ◌+◌, ◌/◌, ◌%◌, ◌^◌, ◌<◌, List, [], ◌∷◌, ◌++◌, length}
 use Rattle.std.specs.Int.{w32, to_be_bytes}
-use Rattle.sd_crc.specs.Crc.{crc_of}
+use Rattle.sd_section.specs.Crc.{crc_of}
 use Rattle.sd_section.specs.Header.{least_length, table_id_of, syntax_of, private_of, section_length_of, extension_of}
 use Rattle.sd_section.specs.Header.{version_of, current_of, section_number_of, last_number_of, body_of}
 use Rattle.sd_section.specs.declared.write.Header.{Header}

@@ -2,7 +2,7 @@ ghost use Rattle.std.specs.Prelude.{◌≡◌, ◌+◌, ◌≤◌, length};
 ghost use Rattle.sd_section.specs.OneMore.{begun_of};
 
 use crate::limits::{MOST_LENGTH, UP_TO_LENGTH};
-use sd_bits::fields;
+use sd_base::fields;
 
 /// What is there of a section.
 #[derive(Clone, Copy)]

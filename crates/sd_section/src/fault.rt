@@ -1,5 +1,5 @@
 /// Why bytes don't begin with a section in the long form (ISO/IEC 13818-1, 2.4.4).
-#[derive(Clone, Copy, Debug, PartialEq, Eq)]
+#[derive(Clone, Copy, PartialEq, Eq)]
 pub enum SectionFault {
     /// There are fewer than three bytes, or fewer than section_length says.
     Short,

@@ -6,7 +6,7 @@ use crate::crc32;
 use crate::fault::SectionFault;
 use crate::limits::{LEAST_LENGTH, MOST_LENGTH, UP_TO_LENGTH};
 use crate::section::Section;
-use sd_bits::fields;
+use sd_base::fields;
 
 /// The section in the long form with which the bytes begin.
 #[tactic(auto, using(crate::proofs::Judging::head_is_first, crate::proofs::Judging::short_first, crate::proofs::Judging::crc_first, crate::proofs::Judging::none_wrong))]

@@ -4,7 +4,7 @@ ghost use Rattle.sd_section.specs.Header.{extension_of, version_of, current_of, 
 ghost use Rattle.sd_section.specs.Header.{body_of};
 ghost use Rattle.sd_section.specs.Header.{crc_in, crc_due};
 
-use sd_bits::fields;
+use sd_base::fields;
 
 /// A section in the long form whose CRC is right (ISO/IEC 13818-1, 2.4.4).
 #[derive(Clone, Copy)]

@@ -4,7 +4,7 @@ ghost use Rattle.sd_section.specs.Written.{header_bytes, sealed};
 
 use crate::crc32;
 use crate::limits::LEAST_LENGTH;
-use sd_bits::fields;
+use sd_base::fields;
 
 /// What tells the sections that this project writes from one another. They are current, and their version is 0.
 #[derive(Clone, Copy)]

@@ -27,7 +27,7 @@ pub const MOST_FIRST_PERIOD: u32 = 4_294_967_295;
 
 /// A site: its tree's height, its master secret, its conditional access system and PIDs, its messages' schedule and
 /// version, and the numbers of a run's control words and periods.
-#[derive(Clone, Copy, Debug, PartialEq, Eq)]
+#[derive(Clone, Copy)]
 pub struct Site {
     /// The height of the tree of receivers.
     pub height: Height,

@@ -1,14 +1,14 @@
 -- Public meaning: what a clear packet becomes.
 use Rattle.std.specs.Prelude.{◌%◌, ◌==◌, length, is_none, if◌then◌else◌}
-use Rattle.sd_spec_types.specs.Types.{Packet, Packets, Position, WordNumber}
+use Rattle.sd_base.specs.Types.{Packet, Packets, Position, WordNumber}
 use Rattle.sd_packet.specs.Header.{pid_of}
 use Rattle.sd_packet.specs.Positions.{moved, position_of}
 use Rattle.sd_label.specs.Keys.{control_word_of}
 use Rattle.sd_site.specs.Fields.{SiteFields}
 use Rattle.sd_psi.specs.Rewriting.{rewritten, rewrite_fault}
-use Rattle.sd_scramble.specs.Scrambling.{scrambled}
-use Rattle.sd_scramble.specs.declared.payload.Parity.{Parity}
-use Rattle.sd_scramble.specs.declared.payload.Parity.TheVariants.{Even, Odd}
+use Rattle.sd_keystream.specs.Scrambling.{scrambled}
+use Rattle.sd_keystream.specs.declared.payload.Parity.{Parity}
+use Rattle.sd_keystream.specs.declared.payload.Parity.TheVariants.{Even, Odd}
 use Rattle.sd_spec_broadcast.specs.Plan.{word_of}
 use Rattle.sd_spec_broadcast.specs.Kinds.{kind_of}
 use Rattle.sd_spec_broadcast.specs.declared.kind.Kind.{Kind}

@@ -3,7 +3,7 @@ use Rattle.std.specs.Prelude.{ℕ, ◌==◌, ◌&&◌, Bool, true, false, nat_eq
 use Rattle.std.specs.Prelude.{reverse, is_none, if◌then◌else◌, Option}
 use Rattle.std.specs.List.{list_any, range_with_len}
 use Rattle.std.specs.Option.{option_map_or}
-use Rattle.sd_spec_types.specs.Types.{Packet, Packets, Pid}
+use Rattle.sd_base.specs.Types.{Packet, Packets, Pid}
 use Rattle.sd_packet.specs.Header.{pid_of, has_payload}
 use Rattle.sd_packet.specs.Positions.{is_placed, is_moving}
 use Rattle.sd_section.specs.Header.{current_of}

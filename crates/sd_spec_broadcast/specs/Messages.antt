@@ -1,11 +1,11 @@
 -- Public meaning: what the messages of a broadcast say.
 use Rattle.std.specs.Prelude.{Bool, List, length, map}
-use Rattle.sd_spec_types.specs.Types.{Packets, PeriodNumber, PacketNumber, MessageNumber}
+use Rattle.sd_base.specs.Types.{Packets, PeriodNumber, PacketNumber, MessageNumber}
 use Rattle.sd_tree.specs.declared.set.SetName.{SetName}
 use Rattle.sd_label.specs.Keys.{key_of, period_key_of, control_word_of, check_value_of}
 use Rattle.sd_packet.specs.Positions.{position_of}
 use Rattle.sd_site.specs.Fields.{SiteFields, run_name_of}
-use Rattle.sd_wrap.specs.Wrapping.{wrapped as under}
+use Rattle.sd_keystream.specs.Wrapping.{wrapped as under}
 use Rattle.sd_emm.specs.Period.{Period}
 use Rattle.sd_emm.specs.declared.emm.Entry.{Entry}
 use Rattle.sd_ecm.specs.Parts.{Message}

@@ -2,7 +2,7 @@
 use Rattle.std.specs.Prelude.{◌≡◌, ◌-◌, ◌^◌, ◌==◌, ◌&&◌, ◌||◌, Bool, true, false, not, nat_le, nat_lt}
 use Rattle.std.specs.Prelude.{[], ◌∷◌, ◌++◌, length, is_none, if◌then◌else◌, Option, Some, None}
 use Rattle.std.specs.Option.{option_map_or}
-use Rattle.sd_spec_types.specs.Types.{Packet, Packets, Pid, PacketNumber}
+use Rattle.sd_base.specs.Types.{Packet, Packets, Pid, PacketNumber}
 use Rattle.sd_packet.specs.Header.{pid_of, scrambling_of, has_payload}
 use Rattle.sd_packet.specs.Positions.{is_placed}
 use Rattle.sd_site.specs.Fields.{SiteFields}

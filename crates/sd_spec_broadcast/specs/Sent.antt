@@ -2,7 +2,7 @@
 use Rattle.std.specs.Prelude.{◌-◌, ◌/◌, ◌%◌, ◌==◌, Bool, true, false, List, [], ◌∷◌, ◌++◌, length, map}
 use Rattle.std.specs.Prelude.{count_by, if◌then◌else◌}
 use Rattle.std.specs.List.{concat}
-use Rattle.sd_spec_types.specs.Types.{Bytes, Packet, Packets, PacketNumber}
+use Rattle.sd_base.specs.Types.{Bytes, Packet, Packets, PacketNumber}
 use Rattle.sd_packet.specs.Packing.{packed}
 use Rattle.sd_psi.specs.OurCat.{cat_section}
 use Rattle.sd_site.specs.Fields.{SiteFields}

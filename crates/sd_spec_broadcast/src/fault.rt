@@ -1,7 +1,7 @@
 use sd_psi::FormFault;
 
 /// Why a clear packet is refused. The first number is the packet's.
-#[derive(Clone, Copy, Debug, PartialEq, Eq)]
+#[derive(Clone, Copy, PartialEq, Eq)]
 pub enum ClearFault {
     /// It is scrambled.
     AlreadyScrambled(u64),

@@ -1,5 +1,5 @@
 /// What becomes of a clear packet.
-#[derive(Clone, Copy, Debug, PartialEq, Eq)]
+#[derive(Clone, Copy, PartialEq, Eq)]
 pub enum Kind {
     /// It is passed.
     Passed,

@@ -4,7 +4,7 @@ ghost use Rattle.std.specs.Prelude.{◌≡◌, ◌⊎◌, ◌+◌, ◌-◌, ◌*
 ghost use Rattle.std.specs.Prelude.{All, true, false, length, take};
 ghost use Rattle.std.specs.Prelude.{if◌then◌else◌};
 ghost use Rattle.std.specs.List.{concat};
-ghost use Rattle.sd_spec_types.specs.Types.{Packet, Packets, PacketNumber, MessageNumber};
+ghost use Rattle.sd_base.specs.Types.{Packet, Packets, PacketNumber, MessageNumber};
 ghost use Rattle.sd_packet.specs.Header.{pid_of};
 ghost use Rattle.sd_packet.specs.Positions.{is_placed};
 ghost use Rattle.sd_site.specs.Fields.{SiteFields, AreInRange};

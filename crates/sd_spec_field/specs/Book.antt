@@ -1,7 +1,7 @@
 -- Public meaning: the book that the events of a field make. Events are listed with the newest first.
 use Rattle.std.specs.Prelude.{ℕ, zero, suc, ◌+◌, ◌-◌, ◌/◌, ◌==◌, nat_le, List, [], ◌∷◌, ◌++◌, map, filter}
 use Rattle.std.specs.Prelude.{max, min, replicate, if◌then◌else◌}
-use Rattle.sd_spec_types.specs.Types.{PeriodNumber, PacketNumber}
+use Rattle.sd_base.specs.Types.{PeriodNumber, PacketNumber}
 use Rattle.sd_site.specs.Fields.{SiteFields}
 use Rattle.sd_book.specs.declared.command.Command.{Command}
 use Rattle.sd_book.specs.Limits.{most_periods}

@@ -1,6 +1,6 @@
 -- Public meaning: what the events of a field are about.
 use Rattle.std.specs.Prelude.{ℕ, suc, ◌^◌, Bool, true, false, nat_lt, if◌then◌else◌}
-use Rattle.sd_spec_types.specs.Types.{Height}
+use Rattle.sd_base.specs.Types.{Height}
 use Rattle.sd_spec_field.specs.declared.event.Event.{Event}
 use Rattle.sd_spec_field.specs.declared.event.Event.TheVariants.{Subscribe, Revoke, Send, Offer, Lose, Off, On}
 

@@ -3,7 +3,7 @@
 use Rattle.std.specs.Prelude.{ℕ, suc, ◌==◌, ◌&&◌, Bool, true, false, not, nat_lt, List, [], ◌∷◌, map}
 use Rattle.std.specs.Prelude.{length, take, reverse, get_or, if◌then◌else◌}
 use Rattle.std.specs.List.{concat, flat_map}
-use Rattle.sd_spec_types.specs.Types.{Packets, LeafNumber, PacketNumber}
+use Rattle.sd_base.specs.Types.{Packets, LeafNumber, PacketNumber}
 use Rattle.sd_card.specs.Fields.{CardFields}
 use Rattle.sd_engine.specs.Stream.{packets_of}
 use Rattle.sd_spec_broadcast.specs.Plan.{Plan}

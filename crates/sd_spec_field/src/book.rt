@@ -1,7 +1,7 @@
 //! The book that the events of a field make, and what is sent by it. Events are listed with the newest first.
 
 ghost use Rattle.std.specs.Prelude.{◌≡◌, ◌⊎◌, ◌+◌, ◌^◌, ◌<◌, ◌≤◌, ◌++◌, ℕ, true, List, All, count_by, length, max, min};
-ghost use Rattle.sd_spec_types.specs.Types.{Packets, Height, PeriodNumber, PacketNumber};
+ghost use Rattle.sd_base.specs.Types.{Packets, Height, PeriodNumber, PacketNumber};
 ghost use Rattle.sd_site.specs.Fields.{SiteFields, AreInRange};
 ghost use Rattle.sd_book.specs.declared.command.Command.{Command};
 ghost use Rattle.sd_book.specs.Limits.{most_periods};

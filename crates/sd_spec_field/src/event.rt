@@ -1,7 +1,7 @@
 use sd_tree::Leaf;
 
 /// One event of a field: a command for the book, a clear packet that is sent, or what happens to one receiver.
-#[derive(Clone, Copy, Debug, PartialEq, Eq)]
+#[derive(Clone, Copy)]
 pub enum Event {
     /// The leaf is no longer revoked, from the command's period on.
     Subscribe(Leaf),

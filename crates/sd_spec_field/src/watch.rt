@@ -4,7 +4,7 @@ ghost use Rattle.std.specs.Prelude.{◌≡◌, ◌≢◌, ◌<◌, ◌≤◌, �
 ghost use Rattle.std.specs.Prelude.{get_or, length, reverse, take};
 ghost use Rattle.std.specs.List.{concat};
 ghost use Rattle.std.specs.List.Sorted.{IsStrictlyIncreasing};
-ghost use Rattle.sd_spec_types.specs.Types.{Packets, LeafNumber};
+ghost use Rattle.sd_base.specs.Types.{Packets, LeafNumber};
 ghost use Rattle.sd_site.specs.Fields.{SiteFields, AreInRange};
 ghost use Rattle.sd_card.specs.Fields.{CardFields};
 ghost use Rattle.sd_spec_broadcast.specs.Plan.{Plan};

@@ -2,11 +2,11 @@
 use Rattle.std.specs.Prelude.{◌+◌, ◌%◌, ◌==◌, ◌&&◌, ◌||◌, Bool, false, not, nat_le, List, [], ◌∷◌, ◌++◌}
 use Rattle.std.specs.Prelude.{find, is_none, if◌then◌else◌, Option, Some, None, option_map, Result, Ok, Err}
 use Rattle.std.specs.Option.{option_map_or}
-use Rattle.sd_spec_types.specs.Types.{Packet, Packets, Pid, Position, SystemId, Key, PacketNumber}
+use Rattle.sd_base.specs.Types.{Packet, Packets, Pid, Position, SystemId, Key, PacketNumber}
 use Rattle.sd_packet.specs.Header.{pid_of, scrambling_of}
 use Rattle.sd_packet.specs.Positions.{is_placed, first_position, moved_by}
 use Rattle.sd_psi.specs.Rewriting.{restored, restore_fault}
-use Rattle.sd_scramble.specs.Scrambling.{descrambled}
+use Rattle.sd_keystream.specs.Scrambling.{descrambled}
 use Rattle.sd_ecm.specs.Parts.{Message}
 use Rattle.sd_ecm.specs.declared.part.Place.{Place}
 

@@ -1,6 +1,6 @@
 -- Public meaning: what a receiver hears: one thing for each packet after the CAT that it took.
 use Rattle.std.specs.Prelude.{◌==◌, if◌then◌else◌, Option, Some, None, Result, Ok, Err}
-use Rattle.sd_spec_types.specs.Types.{Packet, Height, PacketNumber}
+use Rattle.sd_base.specs.Types.{Packet, Height, PacketNumber}
 use Rattle.sd_packet.specs.Header.{pid_of}
 use Rattle.sd_emm.specs.declared.emm.Emm.{Emm}
 use Rattle.sd_emm.specs.declared.fault.EmmFault.{EmmFault}

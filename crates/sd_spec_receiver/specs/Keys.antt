@@ -1,9 +1,9 @@
 -- Public meaning: the key of a period.
 use Rattle.std.specs.Prelude.{List, [], ◌∷◌, find, Option, Some, None, option_map}
-use Rattle.sd_spec_types.specs.Types.{Key, PeriodNumber}
+use Rattle.sd_base.specs.Types.{Key, PeriodNumber}
 use Rattle.sd_tree.specs.Leaves.{is_member}
 use Rattle.sd_card.specs.Fields.{CardFields, card_key}
-use Rattle.sd_wrap.specs.Wrapping.{wrapped as under}
+use Rattle.sd_keystream.specs.Wrapping.{wrapped as under}
 use Rattle.sd_emm.specs.Spelled.{listed_entries}
 use Rattle.sd_emm.specs.declared.emm.Emm.{Emm}
 use Rattle.sd_spec_receiver.specs.Heard.{Heard}

@@ -4,10 +4,10 @@ use Rattle.std.specs.Prelude.{◌++◌, length, map, bytes_eq, flat_map, if◌th
 use Rattle.std.specs.Prelude.{None}
 use Rattle.std.specs.List.{list_any}
 use Rattle.std.specs.Option.{option_map_or}
-use Rattle.sd_spec_types.specs.Types.{Packet, Packets, Key, PacketNumber}
+use Rattle.sd_base.specs.Types.{Packet, Packets, Key, PacketNumber}
 use Rattle.sd_label.specs.Keys.{check_value_of}
 use Rattle.sd_card.specs.Fields.{CardFields}
-use Rattle.sd_wrap.specs.Wrapping.{wrapped as under}
+use Rattle.sd_keystream.specs.Wrapping.{wrapped as under}
 use Rattle.sd_emm.specs.declared.emm.Emm.{Emm}
 use Rattle.sd_emm.specs.declared.fault.EmmFault.TheVariants as Emms
 use Rattle.sd_ecm.specs.Versions.{most_places}

@@ -1,6 +1,6 @@
 -- Public meaning: runs of one channel that follow one another. All lists of what was heard have the newest first.
 use Rattle.std.specs.Prelude.{◌==◌, Bool, true, false, not, List, [], ◌∷◌, if◌then◌else◌, Option, Some, None}
-use Rattle.sd_spec_types.specs.Types.{RunName}
+use Rattle.sd_base.specs.Types.{RunName}
 use Rattle.sd_spec_receiver.specs.Heard.{Heard, Dropped, Entitles, Controls, BadEmm, BadEcm, Other}
 
 -- the name of the run to which a message without a fault belongs: a control word's number in version 3, and none in

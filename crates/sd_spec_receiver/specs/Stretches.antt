@@ -3,7 +3,7 @@
 use Rattle.std.specs.Prelude.{◌+◌, ◌==◌, ◌&&◌, Bool, true, false, nat_le, nat_lt, max, List, [], ◌∷◌, flat_map}
 use Rattle.std.specs.Prelude.{reverse, if◌then◌else◌, Option, Some, None}
 use Rattle.std.specs.Option.{option_map_or}
-use Rattle.sd_spec_types.specs.Types.{Packet, PeriodNumber, PacketNumber}
+use Rattle.sd_base.specs.Types.{Packet, PeriodNumber, PacketNumber}
 use Rattle.sd_emm.specs.declared.emm.Emm.{Emm}
 use Rattle.sd_ecm.specs.Spelled.{listed_places}
 use Rattle.sd_ecm.specs.Parts.{Message, message_of, ecm_head_of}

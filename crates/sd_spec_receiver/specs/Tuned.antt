@@ -1,6 +1,6 @@
 -- Public meaning: the CAT that a receiver takes.
 use Rattle.std.specs.Prelude.{[], ◌∷◌, Option, Some, None}
-use Rattle.sd_spec_types.specs.Types.{Packets, SystemId}
+use Rattle.sd_base.specs.Types.{Packets, SystemId}
 use Rattle.sd_psi.specs.OurCat.{cat_tuning}
 use Rattle.sd_psi.specs.declared.our_cat.Tuning.{Tuning}
 

@@ -5,7 +5,7 @@ ghost use Rattle.sd_spec_receiver.specs.Ending.{joined, rank_of};
 /// if its closing control message is complete. Each run has the first ending of the order `Unclosed`, `Revoked`,
 /// `Unheard`, `Gaps`, `Opened` that is true of it. A stream has the first of that order that is the ending of some run,
 /// and `NoCat` if no CAT was taken.
-#[derive(Clone, Copy, Debug, PartialEq, Eq)]
+#[derive(Clone, Copy, PartialEq, Eq)]
 pub enum Ending {
     /// Each run is closed, the key of each of its periods is known, and no fewer clear packets were written than its
     /// closing message counts.

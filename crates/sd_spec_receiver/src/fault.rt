@@ -3,7 +3,7 @@ use sd_emm::EmmFault;
 
 /// Why a receiver refuses a packet. Packets are numbered from 0, the first of the stream [this project,
 /// docs/FORMATS.md, Receiver].
-#[derive(Clone, Copy, Debug, PartialEq, Eq)]
+#[derive(Clone, Copy, PartialEq, Eq)]
 pub enum StreamFault {
     /// The check value of the period key that a section of entitlements gives isn't the one in the section.
     WrongKey {

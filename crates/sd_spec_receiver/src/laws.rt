@@ -1,7 +1,7 @@
 //! Laws on what a receiver writes.
 
 ghost use Rattle.std.specs.Prelude.{◌≡◌, ◌++◌, ◌∷◌, [], None};
-ghost use Rattle.sd_spec_types.specs.Types.{Packet, Packets};
+ghost use Rattle.sd_base.specs.Types.{Packet, Packets};
 ghost use Rattle.sd_card.specs.Fields.{CardFields};
 ghost use Rattle.sd_spec_receiver.specs.Offered.{offered, out_from};
 

@@ -9,7 +9,7 @@ use Rattle.std.proofs.lemmas.List.{get_or-set_same, get_or-set_other, get_or-rep
 use Rattle.std.proofs.lemmas.List.Folds.{list_any-append}
 use Rattle.sd_packet.specs.Header.{pid_of, unit_start_of, counter_of, payload_of}
 use Rattle.sd_section.specs.Assembled.{Fed, Assembling, completed_by, assembler_after, all_lent}
-use Rattle.sd_tables_line.specs.Lines.{section_line}
+use Rattle.sd_tables.specs.Lines.{section_line}
 use Rattle.sd_tables.specs.Inspected.{fed_of, on_pid, pat_sections_at, pids_named_by, named_in, is_watched, watched_on}
 use Rattle.sd_tables.specs.Inspected.{sections_at}
 use Rattle.sd_tables.specs.Watching.{is_named_pid, naming, IsLearned, IsAssembledFrom, AreMarked, ArePlaced, IsAfter}

@@ -4,7 +4,7 @@ use Rattle.std.proofs.Common.{append-nil, append_assoc, arith}
 use Rattle.std.specs.List.{flat_map}
 use Rattle.sd_base.proofs.Lists.{reversed}
 use Rattle.sd_packet.specs.Header.{pid_of}
-use Rattle.sd_tables_line.specs.Lines.{section_line}
+use Rattle.sd_tables.specs.Lines.{section_line}
 use Rattle.sd_engine.specs.Stage.{Chain}
 use Rattle.sd_tables.specs.Inspected.{lines_in, sections_at}
 use Rattle.sd_tables.specs.Staged.{seen, inspector_does, IsStateAfter}

@@ -15,11 +15,11 @@ use Rattle.sd_psi.specs.Tables.{pmt_pids_of, is_pat}
 use Rattle.sd_psi.specs.declared.pat.Pat.{Pat}
 use Rattle.sd_psi.specs.declared.cat.Cat.{Cat}
 use Rattle.sd_psi.specs.declared.pmt.Pmt.{Pmt}
-use Rattle.sd_tables_line.specs.Judged.{is_table, IsTableOf, IsTableOn}
-use Rattle.sd_tables_line.specs.declared.table.Table.{Table}
-use Rattle.sd_tables_line.specs.declared.table.Table.TheVariants as Tables
-use Rattle.sd_tables_line.specs.declared.table.TableFault.{TableFault}
-use Rattle.sd_tables_line.specs.declared.table.TableFault.TheVariants.{Length, Crc, Form}
+use Rattle.sd_tables.specs.Judged.{is_table, IsTableOf, IsTableOn}
+use Rattle.sd_tables.specs.declared.table.Table.{Table}
+use Rattle.sd_tables.specs.declared.table.Table.TheVariants as Tables
+use Rattle.sd_tables.specs.declared.table.TableFault.{TableFault}
+use Rattle.sd_tables.specs.declared.table.TableFault.TheVariants.{Length, Crc, Form}
 use Rattle.sd_tables.specs.Inspected.{is_sound, pids_named_by, is_watched, named_in}
 use Rattle.sd_tables.specs.Watching.{is_named_pid, naming, AreAdded, IsLearned, AreMarked}
 

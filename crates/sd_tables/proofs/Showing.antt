@@ -6,7 +6,7 @@ use Rattle.std.specs.List.{flat_map, list_any}
 use Rattle.std.proofs.lemmas.List.Folds.{list_any-append}
 use Rattle.sd_base.proofs.Bools.{or_false, or_assoc}
 use Rattle.sd_section.specs.Assembled.{Assembling, all_lent}
-use Rattle.sd_tables_line.specs.Lines.{section_line}
+use Rattle.sd_tables.specs.Lines.{section_line}
 use Rattle.sd_tables.specs.Inspected.{pids_named_by}
 use Rattle.sd_tables.specs.Watching.{is_named_pid, naming, IsLearned, IsLearning}
 

@@ -7,7 +7,7 @@ use Rattle.sd_section.specs.Header.{whole_of}
 use Rattle.sd_section.specs.Judged.{section_fault}
 use Rattle.sd_section.specs.Assembled.{Fed, completed_by}
 use Rattle.sd_psi.specs.Tables.{pmt_pids_of, is_pat}
-use Rattle.sd_tables_line.specs.Lines.{section_line}
+use Rattle.sd_tables.specs.Lines.{section_line}
 
 -- what an assembler takes of a packet
 abbrev pub fed_of : List ℕ → Fed

@@ -1,3 +1,6 @@
 pub mod Inspected
 pub mod Watching
 pub mod Staged
+pub mod Lines
+pub mod Judged
+pub mod Members

@@ -4,7 +4,7 @@ use Rattle.std.specs.List.{flat_map}
 use Rattle.sd_base.specs.declared.memory.NoMemory.{NoMemory}
 use Rattle.sd_packet.specs.Header.{pid_of}
 use Rattle.sd_section.specs.Assembled.{Assembling}
-use Rattle.sd_tables_line.specs.Lines.{section_line}
+use Rattle.sd_tables.specs.Lines.{section_line}
 use Rattle.sd_tables.specs.Inspected.{sections_at}
 use Rattle.sd_tables.specs.Watching.{IsAfter}
 use Rattle.sd_tables.specs.declared.inspector.Inspector.{Inspector}

@@ -3,15 +3,15 @@ ghost use Rattle.std.specs.Prelude.{string_bytes, vec_len};
 ghost use Rattle.std.specs.List.{flat_map};
 ghost use Rattle.sd_packet.specs.Header.{pid_of};
 ghost use Rattle.sd_section.specs.Assembled.{Fed, assembler_after, all_lent};
-ghost use Rattle.sd_tables_line.specs.Lines.{section_line};
+ghost use Rattle.sd_tables.specs.Lines.{section_line};
 ghost use Rattle.sd_tables.specs.Inspected.{sections_at};
 ghost use Rattle.sd_tables.specs.Watching.{naming, IsLearned, IsAssembledFrom, AreIdle, IsAfter};
 
 use crate::watched::{PIDS, Watched};
+use crate::{push_line, table_on};
 use sd_base::NoMemory;
 use sd_packet::Packet;
 use sd_section::Assembler;
-use sd_tables_line::{push_line, table_on};
 use std::alloc::Global;
 
 /// The PIDs that are watched, and what is assembled on each of them.

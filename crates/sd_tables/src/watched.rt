@@ -2,12 +2,12 @@ ghost use Rattle.std.specs.Prelude.{◌≡◌, ◌<◌, ℕ, List, false, None, 
 ghost use Rattle.sd_section.specs.Header.{whole_of};
 ghost use Rattle.sd_section.specs.Judged.{section_fault};
 ghost use Rattle.sd_psi.specs.Tables.{pmt_pids_of};
-ghost use Rattle.sd_tables_line.specs.Judged.{IsTableOf, IsTableOn};
+ghost use Rattle.sd_tables.specs.Judged.{IsTableOf, IsTableOn};
 ghost use Rattle.sd_tables.specs.Watching.{naming, AreMarked, AreAdded, IsLearned};
 
+use crate::{Table, TableFault};
 use sd_base::NoMemory;
 use sd_psi::Pat;
-use sd_tables_line::{Table, TableFault};
 use std::alloc::Global;
 
 /// How many PIDs there are.

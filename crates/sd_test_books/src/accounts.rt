@@ -27,17 +27,26 @@ static MADE: [(&str, &str, &str); 4] = [
     ),
 ];
 
+// Whether these accounts make this book and this report.
+fn are_made(alloc: Global, text: &str, book: &str, report: &str) -> Result<bool, Fail> {
+    let accounts = Accounts::read(alloc, text.as_bytes(), height(3)?)
+        .ok()
+        .ok_or("accounts")?;
+    let made = accounts.book().write(alloc)?;
+    let told = accounts.report(alloc)?;
+    Ok(made.as_slice() == book.as_bytes() && told.as_slice() == report.as_bytes())
+}
+
 #[test]
 fn accounts_make_a_book_and_a_report(rt: HostRuntime) -> Result<(), Fail> {
-    let alloc = rt.alloc();
     for (text, book, report) in &MADE {
-        let accounts = Accounts::read(alloc, text.as_bytes(), height(3)?)
-            .ok()
-            .ok_or("accounts")?;
-        assert_eq!(rt; accounts.book().write(alloc)?.as_slice(), book.as_bytes());
-        assert_eq!(rt; accounts.report(alloc)?.as_slice(), report.as_bytes());
+        assert!(rt; are_made(rt.alloc(), text, book, report)?);
     }
     Ok(())
+}
+
+fn fault_of(alloc: Global, d: u8, text: &[u8]) -> Result<Option<AccountFault>, Fail> {
+    Ok(Accounts::read(alloc, text, height(d)?).err())
 }
 
 // Accounts, and what is wrong with them.
@@ -74,8 +83,7 @@ static FAULTS: [(&[u8], AccountFault); 21] = [
 #[test]
 fn faults_come_at_their_lines(rt: HostRuntime) -> Result<(), Fail> {
     for (text, fault) in &FAULTS {
-        let accounts = Accounts::read(rt.alloc(), text, height(3)?);
-        assert_eq!(rt; accounts.err(), Some(*fault));
+        assert!(rt; fault_of(rt.alloc(), 3, text)? == Some(*fault));
     }
     Ok(())
 }
@@ -116,8 +124,7 @@ static LIMITS: [(u8, u32, u32, &str, Option<AccountFault>); 3] = [
 fn limits_come_after_the_other_faults(rt: HostRuntime) -> Result<(), Fail> {
     for (d, names, periods, last, fault) in &LIMITS {
         let text = text_of(rt.alloc(), *names, *periods, last)?;
-        let accounts = Accounts::read(rt.alloc(), text.as_bytes(), height(*d)?);
-        assert_eq!(rt; accounts.err(), *fault);
+        assert!(rt; fault_of(rt.alloc(), *d, text.as_bytes())? == *fault);
     }
     Ok(())
 }

@@ -69,11 +69,23 @@ fn commands_of_each_period(rt: HostRuntime) -> Result<(), Fail> {
     .ok_or("a book")?;
     let mut place = Place::new();
     let none: &[Command] = &[];
-    assert_eq!(rt; place.next_commands(&book), Some([five].as_slice()));
-    assert_eq!(rt; place.next_commands(&book), Some(none));
-    assert_eq!(rt; place.next_commands(&book), Some([two, five].as_slice()));
-    assert_eq!(rt; place.next_commands(&book), None);
-    assert_eq!(rt; place.next_period(), 3);
+    let periods = [
+        place.next_commands(&book),
+        place.next_commands(&book),
+        place.next_commands(&book),
+        place.next_commands(&book),
+    ];
+    let (first, last) = ([five], [two, five]);
+    assert!(rt;
+        periods
+            == [
+                Some(first.as_slice()),
+                Some(none),
+                Some(last.as_slice()),
+                None
+            ]
+    );
+    assert!(rt; place.next_period() == 3);
     Ok(())
 }
 
@@ -111,18 +123,18 @@ static LIMITS: [(u8, u32, u32, Option<BookFault>); 5] = [
     (17, 65_537, 1, Some(BookFault::Limit(BookLimit::Revoked(0)))),
 ];
 
+fn fault_of(alloc: Global, d: u8, text: &[u8]) -> Result<Option<BookFault>, Fail> {
+    Ok(Book::read(alloc, text, height(d)?).err())
+}
+
 #[test]
 fn faults(rt: HostRuntime) -> Result<(), Fail> {
     for (text, fault) in &FAULTS {
-        assert_eq!(rt;
-            Book::read(rt.alloc(), text, height(3)?).err(),
-            Some(*fault)
-        );
+        assert!(rt; fault_of(rt.alloc(), 3, text)? == Some(*fault));
     }
     for (d, revokes, periods, fault) in &LIMITS {
         let text = text_of(rt.alloc(), *revokes, *periods)?;
-        let book = Book::read(rt.alloc(), text.as_bytes(), height(*d)?);
-        assert_eq!(rt; book.err(), *fault);
+        assert!(rt; fault_of(rt.alloc(), *d, text.as_bytes())? == *fault);
     }
     Ok(())
 }
@@ -133,25 +145,15 @@ fn longer_books(rt: HostRuntime) -> Result<(), Fail> {
     let h = height(3)?;
     let five = Leaf::new(h, 5).ok_or("a leaf")?;
     let mut draft = Draft::new(alloc, h)?;
-    assert_eq!(rt; draft.push(Command::Revoke(five)), Ok(()));
+    assert!(rt; draft.push(Command::Revoke(five)) == Ok(()));
     let mut book = draft.finish().ok().ok_or("a book")?;
-    assert_eq!(rt;
-        book.apply(&[Command::Period, Command::Subscribe(five)]),
-        Ok(())
-    );
+    assert!(rt; book.apply(&[Command::Period, Command::Subscribe(five)]) == Ok(()));
     let text = book.write(alloc)?;
-    assert_eq!(rt;
-        text.as_slice(),
-        b"revoke 5\nperiod\nsubscribe 5\n".as_slice()
-    );
+    assert!(rt; text.as_slice() == b"revoke 5\nperiod\nsubscribe 5\n".as_slice());
     let again = Book::read(alloc, &text, h).ok().ok_or("a book")?;
-    assert_eq!(rt; again.commands(), book.commands());
-    assert_eq!(rt; again.commands().len(), 3);
+    assert!(rt; again.commands() == book.commands() && again.commands().len() == 3);
     let too_many = vec![in alloc; Command::Period; 1023]?;
-    assert_eq!(rt;
-        book.apply(&too_many),
-        Err(BookFault::Limit(BookLimit::Periods))
-    );
-    assert_eq!(rt; book.commands(), again.commands());
+    assert!(rt; book.apply(&too_many) == Err(BookFault::Limit(BookLimit::Periods)));
+    assert!(rt; book.commands() == again.commands());
     Ok(())
 }

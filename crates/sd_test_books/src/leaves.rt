@@ -1,4 +1,4 @@
-use sd_leaves::{LeavesFault, read};
+use sd_command_files::{LeavesFault, read};
 use sd_tree::Height;
 use std::alloc::Global;
 use std::test::Fail;
@@ -19,34 +19,33 @@ fn leaves_of(alloc: Global, height: u8, text: &[u8]) -> Option<Result<Vec<u32>, 
     }
 }
 
-// A height, a file of leaves, and its leaves.
-static GOOD: [(u8, &[u8], &[u32]); 4] = [
-    (3, b"", &[]),
-    (3, b"1\n6\n", &[1, 6]),
-    (3, b"0\n7", &[0, 7]),
-    (20, b"1048575\n", &[1_048_575]),
+// A height, a file of leaves, and its leaves or its first bad line.
+static FILES: [(u8, &[u8], Result<&[u32], u32>); 11] = [
+    (3, b"", Ok(&[])),
+    (3, b"1\n6\n", Ok(&[1, 6])),
+    (3, b"0\n7", Ok(&[0, 7])),
+    (20, b"1048575\n", Ok(&[1_048_575])),
+    (3, b"8\n", Err(1)),
+    (3, b"1\n0\n", Err(2)),
+    (3, b"1\n1\n", Err(2)),
+    (3, b"0\n\n1\n", Err(2)),
+    (3, b"07\n", Err(1)),
+    (3, b"1\n2\n4294967296\n", Err(3)),
+    (3, b"1\r\n", Err(1)),
 ];
 
-// A height, a file, and its first bad line.
-static BAD: [(u8, &[u8], u32); 7] = [
-    (3, b"8\n", 1),
-    (3, b"1\n0\n", 2),
-    (3, b"1\n1\n", 2),
-    (3, b"0\n\n1\n", 2),
-    (3, b"07\n", 1),
-    (3, b"1\n2\n4294967296\n", 3),
-    (3, b"1\r\n", 1),
-];
+// Whether a text says these leaves at this height, or has this first bad line.
+fn says(alloc: Global, height: u8, text: &[u8], due: Result<&[u32], u32>) -> Option<bool> {
+    match leaves_of(alloc, height, text)? {
+        Ok(numbers) => Some(due == Ok(numbers.as_slice())),
+        Err(line) => Some(due == Err(line)),
+    }
+}
 
 #[test]
 fn leaves_are_read_line_by_line(rt: HostRuntime) -> Result<(), Fail> {
-    for (height, text, due) in &GOOD {
-        let leaves = leaves_of(rt.alloc(), *height, text).ok_or("no leaves")?;
-        assert!(rt; leaves.is_ok_and(|numbers| numbers.as_slice() == *due));
-    }
-    for (height, text, due) in &BAD {
-        let leaves = leaves_of(rt.alloc(), *height, text).ok_or("no leaves")?;
-        assert!(rt; leaves.is_err_and(|line| line == *due));
+    for (height, text, due) in &FILES {
+        assert!(rt; says(rt.alloc(), *height, text, *due).ok_or("no leaves")?);
     }
     Ok(())
 }

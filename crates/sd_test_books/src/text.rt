@@ -11,16 +11,23 @@ static TEXTS: [(&[u8], &[&[u8]]); 6] = [
     (b"a\r\n", &[b"a\r"]),
 ];
 
+// Whether these are the lines of the text.
+fn are_lines(text: &[u8], lines: &[&[u8]]) -> Option<bool> {
+    let mut rest = text;
+    for line in lines {
+        let (first, after) = next_line(rest)?;
+        if first != *line {
+            return Some(false);
+        }
+        rest = after;
+    }
+    Some(next_line(rest).is_none())
+}
+
 #[test]
 fn a_text_is_its_lines(rt: HostRuntime) -> Result<(), Fail> {
     for (text, lines) in &TEXTS {
-        let mut rest = *text;
-        for line in *lines {
-            let (first, after) = next_line(rest).ok_or("no line")?;
-            assert_eq!(rt; first, *line);
-            rest = after;
-        }
-        assert!(rt; next_line(rest).is_none());
+        assert!(rt; are_lines(text, lines).ok_or("no line")?);
     }
     Ok(())
 }
@@ -51,6 +58,6 @@ static NUMBERS: [(&[u8], Result<u32, NumberFault>); 16] = [
 #[test]
 fn a_number_is_read_after_its_word(rt: HostRuntime) {
     for (line, number) in &NUMBERS {
-        assert_eq!(rt; number_after(b"revoke ", line), *number);
+        assert!(rt; number_after(b"revoke ", line) == *number);
     }
 }

@@ -1,5 +1,5 @@
 use crate::leaves::{are_ascending, are_of_height, has_bit, marked};
-use sd_lsd_sets::{Width, layered_cover};
+use sd_lsd::{Width, layered_cover};
 use sd_tree::{Height, SetName, depth};
 use std::alloc::Global;
 use std::test::*;
@@ -64,23 +64,25 @@ fn are_of_layers(w: u8, bits: u32, sets: &[SetName]) -> bool {
     sets.len() <= most && sets.iter().all(|name| is_of_a_layer(u32::from(w), *name))
 }
 
+// Whether the cover of width w where the leaves of these bits are revoked is as it should be.
+fn is_right(alloc: Global, d: u8, leaves: u32, w: u8, bits: u32) -> Option<bool> {
+    let sets = covered(alloc, d, w, bits)?;
+    Some(are_apart(d, leaves, bits, &sets) && are_of_layers(w, bits, &sets))
+}
+
 // Heights, and how many leaves each has.
 static HEIGHTS: [(u8, u32); 3] = [(1, 2), (2, 4), (3, 8)];
 
 #[test]
-fn all_revoked_leaves_of_small_trees(rt: HostRuntime) -> Result<(), Fail> {
+fn all_revoked_leaves_of_small_trees(rt: HostRuntime) {
     for (d, leaves) in &HEIGHTS {
         for w in 1..=*d {
             for bits in 0..1u32.wrapping_shl(*leaves) {
-                let sets = covered(rt.alloc(), *d, w, bits).ok_or("the leaves have a cover")?;
-                assert!(rt;
-                    are_apart(*d, *leaves, bits, &sets) && are_of_layers(w, bits, &sets),
-                    "height {d}, width {w}, revoked {bits}"
-                );
+                let told = is_right(rt.alloc(), *d, *leaves, w, bits);
+                assert!(rt; told == Some(true), "height {d}, width {w}, revoked {bits}");
             }
         }
     }
-    Ok(())
 }
 
 const CUT: &[SetName] = &[

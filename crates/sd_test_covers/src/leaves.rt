@@ -1,17 +1,19 @@
 ghost use Rattle.std.specs.Prelude.{◌^◌, ◌<◌, All, IsTrue};
 ghost use Rattle.std.specs.List.Sorted.{IsStrictlyIncreasing};
 
-use sd_steiner::cover;
+use sd_cover::cover;
 use sd_tree::{Height, Leaf, SetName};
 use std::alloc::Global;
 
-/// The leaves below each node of a tree of height 1, 2 and 3, by bits.
-pub(crate) const HEIGHT_1: [u32; 16] = [0, 3, 1, 2, 0, 0, 0, 0, 0, 0, 0, 0, 0, 0, 0, 0];
-
-pub(crate) const HEIGHT_2: [u32; 16] = [0, 15, 3, 12, 1, 2, 4, 8, 0, 0, 0, 0, 0, 0, 0, 0];
-
-pub(crate) const HEIGHT_3: [u32; 16] = [
-    0, 255, 15, 240, 3, 12, 48, 192, 1, 2, 4, 8, 16, 32, 64, 128,
+/// Heights, how many leaves a tree of each has, and those below each of its nodes, by bits.
+pub(crate) static TREES: [(u8, u32, [u32; 16]); 3] = [
+    (1, 2, [0, 3, 1, 2, 0, 0, 0, 0, 0, 0, 0, 0, 0, 0, 0, 0]),
+    (2, 4, [0, 15, 3, 12, 1, 2, 4, 8, 0, 0, 0, 0, 0, 0, 0, 0]),
+    (
+        3,
+        8,
+        [0, 255, 15, 240, 3, 12, 48, 192, 1, 2, 4, 8, 16, 32, 64, 128],
+    ),
 ];
 
 /// Whether this bit is set.

@@ -1,7 +1,7 @@
 use crate::names::{closure, names};
 use sd_book::Book;
+use sd_cover::cover;
 use sd_label::Name;
-use sd_steiner::cover;
 use sd_tree::{Height, SetName};
 use std::alloc::{AllocError, Global};
 use std::test::*;

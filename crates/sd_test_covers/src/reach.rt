@@ -1,4 +1,4 @@
-use crate::leaves::{HEIGHT_1, HEIGHT_2, HEIGHT_3, has_bit};
+use crate::leaves::{TREES, has_bit};
 use crate::names::{closure, names};
 use sd_label::Name;
 use sd_reach::{names_of, opens, reaches};
@@ -97,17 +97,17 @@ static REACHED: [(SetName, bool); 4] = [
 fn names_of_leaf_5(rt: HostRuntime) -> Result<(), Fail> {
     let held = names(rt.alloc(), 3, 5).ok_or("names")?;
     assert!(rt; held.as_slice() == NAMES_OF_5.as_slice());
-    for (name, reached) in &REACHED {
-        assert!(rt; reaches(&held, *name) == *reached, "{name:?}");
+    for (place, (name, reached)) in REACHED.iter().enumerate() {
+        assert!(rt; reaches(&held, *name) == *reached, "set {place}");
     }
     Ok(())
 }
 
 #[test]
 fn leaves_reach_their_sets(rt: HostRuntime) {
-    assert!(rt; agree(rt.alloc(), 1, 2, &HEIGHT_1));
-    assert!(rt; agree(rt.alloc(), 2, 4, &HEIGHT_2));
-    assert!(rt; agree(rt.alloc(), 3, 8, &HEIGHT_3));
+    for (d, count, below) in &TREES {
+        assert!(rt; agree(rt.alloc(), *d, *count, below), "height {d}");
+    }
 }
 
 static ODD: [Name; 6] = [
@@ -135,8 +135,8 @@ fn reaches_by_the_rules(alloc: Global, name: Name) -> Option<bool> {
 
 #[test]
 fn odd_names_reach_by_the_rules(rt: HostRuntime) {
-    for name in &ODD {
+    for (place, name) in ODD.iter().enumerate() {
         let reached = reaches_by_the_rules(rt.alloc(), *name);
-        assert!(rt; reached == Some(true), "{name:?}");
+        assert!(rt; reached == Some(true), "name {place}");
     }
 }

@@ -77,7 +77,7 @@ fn is_covered(alloc: Global, row: &Row) -> Option<bool> {
 
 #[test]
 fn covers_of_spaced_leaves(rt: HostRuntime) {
-    for row in &SPACED {
-        assert!(rt; is_covered(rt.alloc(), row) == Some(true), "{row:?}");
+    for (place, row) in SPACED.iter().enumerate() {
+        assert!(rt; is_covered(rt.alloc(), row) == Some(true), "row {place}");
     }
 }

@@ -1,8 +1,6 @@
 ghost use Rattle.std.specs.Prelude.{◌≡◌, ◌<◌, ◌≤◌, ℕ, IfSome};
 
-use crate::leaves::{
-    HEIGHT_1, HEIGHT_2, HEIGHT_3, are_ascending, are_of_height, covered, has_bit, marked,
-};
+use crate::leaves::{TREES, are_ascending, are_of_height, covered, has_bit, marked};
 use sd_trace::{CoalitionBox, TestBox, trace_all};
 use sd_tree::{Height, Leaf, MOST_REVOKED, SetName};
 use std::alloc::Global;
@@ -187,11 +185,11 @@ fn bits_of(alloc: Global, bits: u32) -> Option<Vec<u32>> {
 }
 
 // Whether each coalition is traced as it is read plainly, whichever leaves are revoked.
-fn agrees(alloc: Global, height: u8, below: [u32; 16]) -> Option<bool> {
+fn agrees(alloc: Global, height: u8, below: &[u32; 16]) -> Option<bool> {
     for coalition in 0..=below[1] {
         let plain = Plain {
             height: Height::new(height)?,
-            below,
+            below: *below,
             coalition,
         };
         let members = bits_of(alloc, coalition)?;
@@ -207,9 +205,10 @@ fn agrees(alloc: Global, height: u8, below: [u32; 16]) -> Option<bool> {
 
 #[test]
 fn small_coalitions_are_traced_as_read(rt: HostRuntime) {
-    assert_eq!(rt; agrees(rt.alloc(), 1, HEIGHT_1), Some(true));
-    assert_eq!(rt; agrees(rt.alloc(), 2, HEIGHT_2), Some(true));
-    assert_eq!(rt; agrees(rt.alloc(), 3, HEIGHT_3), Some(true));
+    for (height, _, below) in &TREES {
+        let agreed = agrees(rt.alloc(), *height, below);
+        assert!(rt; agreed == Some(true), "height {height}");
+    }
 }
 
 // A box that keeps how many sets it was asked for at each probe.

@@ -3,7 +3,7 @@ ghost use Rattle.std.specs.Prelude.{◌≡◌, ◌<◌};
 use crate::sections::ALL;
 use sd_base::Steps;
 use sd_book::Book;
-use sd_head_periods::{CryptoPeriod, Entitling};
+use sd_head::{CryptoPeriod, Entitling};
 use sd_packet::{SIZE, pack_section};
 use sd_test_texts::{BOOK, SITE, site};
 use std::alloc::Global;
@@ -11,7 +11,7 @@ use std::marker::Brand;
 use std::sync::ledger::{Blank, Ledger};
 
 // The entitlements of period 1, of S(1,13).
-const OTHERS: [u8; 79] = [
+static OTHERS: [u8; 79] = [
     0x82, 0xB0, 0x4C, 0x00, 0x00, 0xC1, 0x00, 0x00, 0x00, 0x00, 0x00, 0x01, 0x00, 0x00, 0x00, 0x01,
     0x00, 0x01, 0x1D, 0xCD, 0x30, 0x91, 0x3B, 0x9A, 0x37, 0xB4, 0x77, 0x26, 0x94, 0xD7, 0x8C, 0x1D,
     0x7F, 0x2F, 0x01, 0x00, 0x00, 0x00, 0x01, 0x00, 0x00, 0x00, 0x0D, 0x40, 0x62, 0x1E, 0xBE, 0xFD,
@@ -20,11 +20,11 @@ const OTHERS: [u8; 79] = [
 ];
 
 // The check values of the control words.
-const FIRST_CHECK: [u8; 16] = [
+static FIRST_CHECK: [u8; 16] = [
     0x16, 0xF2, 0x1B, 0xEC, 0x8B, 0x49, 0xA2, 0x9A, 0x6B, 0xF9, 0x44, 0xDA, 0x8F, 0xBB, 0x98, 0xBB,
 ];
 
-const SECOND_CHECK: [u8; 16] = [
+static SECOND_CHECK: [u8; 16] = [
     0xBF, 0xA8, 0x80, 0x7F, 0x78, 0x5E, 0x1F, 0xC8, 0xF7, 0xF0, 0x55, 0xA5, 0x75, 0x33, 0x72, 0xB8,
 ];
 
@@ -52,20 +52,25 @@ fn uncounted(alloc: Global, is_second: bool) -> Option<Begun> {
     counted::<Brand>(alloc, is_second, Blank::new(1))
 }
 
+// Whether the packets are that of these entitlements alone.
+fn are_of(emms: &[[u8; SIZE]], section: &[u8; 79]) -> bool {
+    emms == [*pack_section(section, 496, 0).bytes()].as_slice()
+}
+
+// Whether the crypto period and the period of a number are begun, with these entitlements and this check value.
+fn is_begun(begun: &Begun, section: &[u8; 79], number: u32, check: &[u8; 16]) -> bool {
+    let (emms, crypto) = begun;
+    are_of(emms, section)
+        && (crypto.number, crypto.period) == (number, number)
+        && crypto.check == *check
+}
+
 #[test]
 fn periods_begin_with_their_sets(rt: HostRuntime) {
     let first = uncounted(rt.alloc(), false);
     let second = uncounted(rt.alloc(), true);
-    assert!(rt; first.is_some() && second.is_some());
-    if let (Some(first), Some(second)) = (first, second) {
-        assert!(rt; first.0.as_slice() == [*pack_section(&ALL, 496, 0).bytes()].as_slice());
-        assert!(rt; second.0.as_slice() == [*pack_section(&OTHERS, 496, 0).bytes()].as_slice());
-        for (crypto, number, check) in [(first.1, 0, FIRST_CHECK), (second.1, 1, SECOND_CHECK)] {
-            assert_eq!(rt; crypto.number, number);
-            assert_eq!(rt; crypto.period, number);
-            assert_eq!(rt; crypto.check, check);
-        }
-    }
+    assert!(rt; first.is_some_and(|begun| is_begun(&begun, &ALL, 0, &FIRST_CHECK)));
+    assert!(rt; second.is_some_and(|begun| is_begun(&begun, &OTHERS, 1, &SECOND_CHECK)));
 }
 
 // Runs that begin at control word 7: with period 1, and with one after the book's last.
@@ -74,7 +79,7 @@ static LATER: &str = site!("messages 2\nfirst-word 7\nlast-word 8\nfirst-period 
 static LAST: &str = site!("messages 2\nfirst-word 7\nlast-word 8\nfirst-period 4294967295\n");
 
 // The check value of control word 7.
-const SEVENTH_CHECK: [u8; 16] = [
+static SEVENTH_CHECK: [u8; 16] = [
     0x1B, 0x74, 0x70, 0xF9, 0xAA, 0xB7, 0xBC, 0x5E, 0xC2, 0xB2, 0x3E, 0x36, 0x70, 0x39, 0x51, 0x26,
 ];
 
@@ -98,18 +103,19 @@ fn first_begun(alloc: Global, site: &[u8]) -> Option<(Begun, usize)> {
     begun::<Brand>(alloc, site, Blank::new(1))
 }
 
+// Whether control word 7 and this period are begun with a packet of entitlements, and there is one set.
+fn is_begun_at(begun: &Begun, sets: usize, period: u32) -> bool {
+    let (emms, crypto) = begun;
+    (crypto.number, crypto.period, sets) == (7, period, 1)
+        && crypto.check == SEVENTH_CHECK
+        && emms.len() == 1
+        && (period > 1 || are_of(emms, &OTHERS))
+}
+
 #[test]
 fn a_run_begins_at_its_first_word_and_period(rt: HostRuntime) {
     for (site, period) in [(LATER, 1), (LAST, 4_294_967_295)] {
         let begun = first_begun(rt.alloc(), site.as_bytes());
-        assert!(rt; begun.is_some());
-        if let Some(((emms, crypto), sets)) = begun {
-            assert_eq!(rt; (crypto.number, crypto.period, sets), (7, period, 1));
-            assert_eq!(rt; crypto.check, SEVENTH_CHECK);
-            assert!(rt; emms.len() == 1);
-            assert!(rt;
-                period > 1 || emms.as_slice() == [*pack_section(&OTHERS, 496, 0).bytes()].as_slice()
-            );
-        }
+        assert!(rt; begun.is_some_and(|(begun, sets)| is_begun_at(&begun, sets, period)));
     }
 }

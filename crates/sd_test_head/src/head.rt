@@ -1,15 +1,15 @@
 ghost use Rattle.std.specs.Prelude.{◌≡◌, ◌<◌, ◌≤◌};
 
+use crate::made::{Made, NULL, SCRAMBLED};
 use crate::sections::{ALL, PAT, PMT, REWRITTEN};
 use sd_base::Steps;
 use sd_book::Book;
 use sd_engine::{DriveFault, drive};
 use sd_head::{ClearFault, Head, HeadFault};
-use sd_packet::pack_section;
 use sd_ports::MemSink;
 use sd_ports_memory::MemSource;
 use sd_test_texts::{BOOK, SITE, site};
-use std::alloc::{AllocError, Global};
+use std::alloc::Global;
 use std::marker::Brand;
 use std::sync::ledger::{Blank, Ledger};
 
@@ -97,50 +97,83 @@ fn sent(
 }
 
 // The packets' bytes, one after the other.
-fn joined(alloc: Global, packets: &[[u8; 188]]) -> Result<Vec<u8>, AllocError> {
+fn joined(alloc: Global, packets: &[Made]) -> Option<Vec<u8>> {
     let mut bytes = Vec::new(alloc);
     for packet in packets {
-        bytes.extend_from_slice(packet)?;
+        bytes.extend_from_slice(packet.packet()?.bytes()).ok()?;
     }
-    Ok(bytes)
+    Some(bytes)
 }
 
-// A null packet with this transport_scrambling_control.
-fn null(scrambling: u8) -> [u8; 188] {
-    let mut bytes = [0xFF; 188];
-    bytes[..4].copy_from_slice(&[0x47, 0x1F, 0xFF, 0x10 | scrambling << 6]);
-    bytes
+// Clear packets, whether messages have version 2, the answer, and what is written.
+type Row = (&'static [Made], bool, Answer, &'static [Made]);
+
+static STREAMS: [Row; 3] = [
+    // A PAT, a PMT and a null packet.
+    (
+        &[
+            Made::Section(&PAT, 0, 0),
+            Made::Section(&PMT, 0x1000, 0),
+            NULL,
+        ],
+        false,
+        Ok(3),
+        &[
+            Made::Section(&CAT, 1, 0),
+            Made::Section(&ALL, 496, 0),
+            Made::Section(&FIRST, 497, 0),
+            Made::Section(&PAT, 0, 0),
+            Made::Section(&REWRITTEN, 0x1000, 0),
+            NULL,
+            Made::Section(&CLOSING, 497, 1),
+        ],
+    ),
+    // No packet.
+    (
+        &[],
+        false,
+        Ok(0),
+        &[
+            Made::Section(&CAT, 1, 0),
+            Made::Section(&ALL, 496, 0),
+            Made::Section(&ALONE, 497, 0),
+        ],
+    ),
+    // A packet that is scrambled, in messages of version 2.
+    (
+        &[Made::Section(&PAT, 0, 0), SCRAMBLED],
+        true,
+        Err(DriveFault::Refused(HeadFault::Clear(ClearFault::AlreadyScrambled(1)))),
+        &[
+            Made::Section(&CAT, 1, 0),
+            Made::Section(&ALL, 496, 0),
+            Made::Section(&FIRST_2, 497, 0),
+            Made::Section(&PAT, 0, 0),
+        ],
+    ),
+];
+
+// Whether the row's answer is given and its packets are written, of one set, with at most so many bytes a read and a
+// write.
+fn is_sent(alloc: Global, row: &Row, most: usize) -> Option<bool>
+    requires { 1 ≤ most }
+{
+    let (clear, second, answer, due) = row;
+    let clear = joined(alloc, clear)?;
+    let due = joined(alloc, due)?;
+    Some(sent(alloc, clear, *second, most) == Some((*answer, due, 1)))
 }
 
 #[test]
-fn streams_are_broadcast(rt: HostRuntime) -> Result<(), AllocError> {
-    let alloc = rt.alloc();
-    let pat = *pack_section(&PAT, 0, 0).bytes();
-    let pmt = *pack_section(&PMT, 0x1000, 0).bytes();
-    let rewritten = *pack_section(&REWRITTEN, 0x1000, 0).bytes();
-    let cat = *pack_section(&CAT, 1, 0).bytes();
-    let emm = *pack_section(&ALL, 496, 0).bytes();
-    let first = *pack_section(&FIRST, 497, 0).bytes();
-    let first_2 = *pack_section(&FIRST_2, 497, 0).bytes();
-    let closing = *pack_section(&CLOSING, 497, 1).bytes();
-    let alone = *pack_section(&ALONE, 497, 0).bytes();
-    let scrambled = HeadFault::Clear(ClearFault::AlreadyScrambled(1));
+fn streams_are_broadcast(rt: HostRuntime) {
     for most in [1, 1000] {
-        // A PAT, a PMT and a null packet.
-        let clear = joined(alloc, &[pat, pmt, null(0)])?;
-        let due = joined(alloc, &[cat, emm, first, pat, rewritten, null(0), closing])?;
-        assert!(rt; sent(alloc, clear, false, most) == Some((Ok(3), due, 1)));
-        // No packet.
-        let due = joined(alloc, &[cat, emm, alone])?;
-        assert!(rt; sent(alloc, Vec::new(alloc), false, most) == Some((Ok(0), due, 1)));
-        // A packet that is scrambled, in messages of version 2.
-        let clear = joined(alloc, &[pat, null(2)])?;
-        let due = joined(alloc, &[cat, emm, first_2, pat])?;
-        assert!(rt;
-            sent(alloc, clear, true, most) == Some((Err(DriveFault::Refused(scrambled)), due, 1))
-        );
+        for (place, row) in STREAMS.iter().enumerate() {
+            assert!(rt;
+                is_sent(rt.alloc(), row, most) == Some(true),
+                "stream {place}"
+            );
+        }
     }
-    Ok(())
 }
 
 // A run that begins at control word 9 and at period 2, which is after the last of its book.
@@ -187,12 +220,15 @@ fn later(alloc: Global) -> Option<Vec<u8>> {
     ended::<Brand>(alloc, Blank::new(1))
 }
 
+// The packets of this run.
+static LATER_SENT: [Made; 3] = [
+    Made::Section(&CAT, 1, 0),
+    Made::Section(&LATER_EMM, 496, 0),
+    Made::Section(&LATER_ALONE, 497, 0),
+];
+
 #[test]
-fn a_run_without_packets_uses_its_first_word_and_period(rt: HostRuntime) -> Result<(), AllocError> {
-    let cat = *pack_section(&CAT, 1, 0).bytes();
-    let emm = *pack_section(&LATER_EMM, 496, 0).bytes();
-    let alone = *pack_section(&LATER_ALONE, 497, 0).bytes();
-    let due = joined(rt.alloc(), &[cat, emm, alone])?;
-    assert!(rt; later(rt.alloc()) == Some(due));
-    Ok(())
+fn a_run_without_packets_uses_its_first_word_and_period(rt: HostRuntime) {
+    let due = joined(rt.alloc(), &LATER_SENT);
+    assert!(rt; due.is_some() && later(rt.alloc()) == due);
 }

@@ -8,4 +8,6 @@ mod entitling;
 #[cfg(test)]
 mod head;
 #[cfg(test)]
+mod made;
+#[cfg(test)]
 mod sections;

@@ -72,21 +72,22 @@ impl MetadataExt for Numbered {
     }
 }
 
+// A device and an inode number there, and whether they are the file's: the same file; its number on another device;
+// another number on its device; and the two exchanged.
+static FILES: [(u64, u64, bool); 4] = [(3, 7, true), (4, 7, false), (3, 8, false), (7, 3, false)];
+
 #[test]
 fn devices_are_told_apart(rt: HostRuntime) {
     let file = Identity::of(&Numbered(3, 7));
-    // The same file; its number on another device; another number on its device; and the two exchanged.
-    for (device, inode, is_same) in [(3, 7, true), (4, 7, false), (3, 8, false), (7, 3, false)] {
-        let other = Identity::of(&Numbered(device, inode));
-        assert!(rt; (other == file) == is_same, "{device} {inode}");
-        for kind in [Kind::Regular, Kind::Block] {
-            assert!(rt;
-                may_make(&[file], kind, other) != is_same,
-                "{device} {inode}"
-            );
-        }
+    for (device, inode, is_same) in &FILES {
+        let other = Identity::of(&Numbered(*device, *inode));
+        let may = [
+            may_make(&[file], Kind::Regular, other),
+            may_make(&[file], Kind::Block, other),
+            may_read(Some(file), Kind::Regular, other),
+        ];
         assert!(rt;
-            may_read(Some(file), Kind::Regular, other) != is_same,
+            (other == file) == *is_same && may == [!*is_same; 3],
             "{device} {inode}"
         );
     }

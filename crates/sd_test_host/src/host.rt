@@ -13,63 +13,77 @@ fn a_full_writer_is_a_fault(rt: HostRuntime) {
     assert!(rt; printed == Err(PortFault) && &paper == b"abc");
 }
 
+const FILE: &str = "sd_host_file";
+
+const BELOW: &str = "sd_host_file/x";
+
+const LOOPED: &str = "sd_host_loop";
+
+// A name that is too long for a file.
+static LONG_NAME: [u8; 300] = [b'x'; 300];
+
+// Names, and what is read there.
+static READ: [(&str, Result<&str, FileFault>); 6] = [
+    ("/dev/null", Ok("")),
+    ("/dev/zero", Err(FileFault::TooBig)),
+    ("/dev", Err(FileFault::Failed)),
+    ("no such file", Err(FileFault::Missing)),
+    (BELOW, Err(FileFault::Missing)),
+    (LOOPED, Err(FileFault::Failed)),
+];
+
+// Names, and why nothing is written there.
+static UNWRITTEN: [(&str, FileFault); 4] = [
+    ("no such folder/file", FileFault::Missing),
+    (BELOW, FileFault::Missing),
+    ("/dev", FileFault::Failed),
+    (LOOPED, FileFault::Failed),
+];
+
 #[test]
 fn the_host_opens_files(rt: HostRuntime) -> io::Result<()> {
     let alloc = rt.alloc();
     let mut depot = HostDepot::new(alloc, &rt, false);
-    let (file, below, looped, long) = (
-        "sd_host_file",
-        "sd_host_file/x",
-        "sd_host_loop",
-        [b'x'; 300],
-    );
-    let long = str::from_utf8(&long).unwrap_or("");
-    fs::write(&rt, file, TEXT)?;
-    symlink(&rt, looped, looped)?;
-    for (name, want) in [
-        ("/dev/null", Ok("")),
-        ("/dev/zero", Err(FileFault::TooBig)),
-        ("/dev", Err(FileFault::Failed)),
-        ("no such file", Err(FileFault::Missing)),
-        (below, Err(FileFault::Missing)),
-        (looped, Err(FileFault::Failed)),
-        (long, Err(FileFault::Failed)),
-    ] {
-        assert!(rt; gives(alloc, &mut depot, name, 200000, want), "{name}");
+    fs::write(&rt, FILE, TEXT)?;
+    symlink(&rt, LOOPED, LOOPED)?;
+    for (name, want) in &READ {
+        assert!(rt; gives(alloc, &mut depot, name, 200000, *want), "{name}");
     }
-    for (name, want) in [
-        ("no such folder/file", FileFault::Missing),
-        (below, FileFault::Missing),
-        ("/dev", FileFault::Failed),
-        (looped, FileFault::Failed),
-        (long, FileFault::Failed),
-    ] {
+    for (name, want) in &UNWRITTEN {
         assert!(rt;
-            write_file(alloc, &mut depot, name, TEXT) == Err(want),
+            write_file(alloc, &mut depot, name, TEXT) == Err(*want),
             "{name}"
         );
     }
-    fs::remove_file(&rt, file)?;
-    fs::remove_file(&rt, looped)
+    let long = str::from_utf8(&LONG_NAME).unwrap_or("");
+    assert!(rt; gives(alloc, &mut depot, long, 200000, Err(FileFault::Failed)));
+    assert!(rt; write_file(alloc, &mut depot, long, TEXT) == Err(FileFault::Failed));
+    fs::remove_file(&rt, FILE)?;
+    fs::remove_file(&rt, LOOPED)
 }
+
+static LONG: [u8; 70000] = [7; 70000];
+
+// Names, how many bytes are written there, and what comes of it.
+static WRITTEN: [(&str, usize, Result<(), FileFault>); 3] = [
+    ("sd_host_written", 70000, Ok(())),
+    ("/dev/full", 1, Err(FileFault::Failed)),
+    ("/dev/full", 70000, Err(FileFault::Failed)),
+];
 
 #[test]
 fn the_host_writes_files(rt: HostRuntime) {
     let alloc = rt.alloc();
     let mut depot = HostDepot::new(rt.alloc(), &rt, false);
-    let bytes = [7; 70000];
-    for (name, size, want) in [
-        ("sd_host_written", 70000, Ok(())),
-        ("/dev/full", 1, Err(FileFault::Failed)),
-        ("/dev/full", 70000, Err(FileFault::Failed)),
-    ] {
-        assert!(rt; write_file(alloc, &mut depot, name, &bytes[..size]) == want);
+    for (name, size, want) in &WRITTEN {
+        let bytes = LONG.get(..*size).unwrap_or(&[]);
+        assert!(rt; write_file(alloc, &mut depot, name, bytes) == *want);
     }
     // A device may be read and written.
     assert!(rt; gives(alloc, &mut depot, "/dev/null", 7, Ok("")));
     assert!(rt; write_file(alloc, &mut depot, "/dev/null", TEXT) == Ok(()));
     let read = read_file(alloc, &mut depot, "sd_host_written", 70000);
-    assert!(rt; read.is_ok_and(|read| read.as_slice() == bytes.as_slice()));
+    assert!(rt; read.is_ok_and(|read| read.as_slice() == LONG.as_slice()));
     assert!(rt; fs::remove_file(&rt, "sd_host_written").is_ok());
 }
 
@@ -77,8 +91,7 @@ fn the_host_writes_files(rt: HostRuntime) {
 fn long_pieces_follow_what_waits(rt: HostRuntime) -> io::Result<()> {
     let alloc = rt.alloc();
     let name = "sd_host_pieces";
-    let long = [7; 70000];
-    let pieces = [TEXT, &long, &long, TEXT];
+    let pieces = [TEXT, &LONG, &LONG, TEXT];
     for trouble in [Trouble::None, Trouble::Signals] {
         let machine = Machine {
             rt: &rt,
@@ -112,37 +125,48 @@ fn are_in_turn(bytes: &[u8], pieces: &[&[u8]]) -> bool {
     rest.is_empty()
 }
 
+const INPUT: &str = "sd_host_input";
+
+const HARD: &str = "sd_host_hard";
+
+const SYMBOLIC: &str = "sd_host_symbolic";
+
+const OTHER: &str = "sd_host_other";
+
+const SPACED: &str = "sd_host_input ";
+
+// Names of the two files that are read.
+static INPUTS: [&str; 6] = [
+    INPUT,
+    "./sd_host_input",
+    HARD,
+    SYMBOLIC,
+    OTHER,
+    "./sd_host_other",
+];
+
+static MADE: [&str; 5] = [INPUT, HARD, SYMBOLIC, OTHER, SPACED];
+
 #[test]
 fn an_input_is_never_made_anew(rt: HostRuntime) -> io::Result<()> {
     let alloc = rt.alloc();
-    let (name, hard, symbolic) = ("sd_host_input", "sd_host_hard", "sd_host_symbolic");
-    let (other, spaced) = ("sd_host_other", "sd_host_input ");
     let mut depot = HostDepot::new(alloc, &rt, false);
-    assert!(rt; write_file(alloc, &mut depot, name, TEXT) == Ok(()));
-    fs::write(&rt, other, b"longer than the first")?;
-    fs::hard_link(&rt, name, hard)?;
-    symlink(&rt, name, symbolic)?;
+    assert!(rt; write_file(alloc, &mut depot, INPUT, TEXT) == Ok(()));
+    fs::write(&rt, OTHER, b"longer than the first")?;
+    fs::hard_link(&rt, INPUT, HARD)?;
+    symlink(&rt, INPUT, SYMBOLIC)?;
     // Until the file is opened for reading, it is made anew.
-    assert!(rt; write_file(alloc, &mut depot, hard, b"abc") == Ok(()));
-    assert!(rt; gives(alloc, &mut depot, name, 7, Ok("abc")));
-    assert!(rt; gives(alloc, &mut depot, other, 70, Ok("longer than the first")));
-    for alias in [
-        name,
-        "./sd_host_input",
-        hard,
-        symbolic,
-        other,
-        "./sd_host_other",
-    ] {
-        assert!(rt;
-            write_file(alloc, &mut depot, alias, TEXT) == Err(FileFault::Failed),
-            "{alias}"
-        );
-        assert!(rt; gives(alloc, &mut depot, name, 7, Ok("abc")));
+    assert!(rt; write_file(alloc, &mut depot, HARD, b"abc") == Ok(()));
+    assert!(rt; gives(alloc, &mut depot, INPUT, 7, Ok("abc")));
+    assert!(rt; gives(alloc, &mut depot, OTHER, 70, Ok("longer than the first")));
+    for alias in &INPUTS {
+        let made = write_file(alloc, &mut depot, alias, TEXT);
+        let is_kept = gives(alloc, &mut depot, INPUT, 7, Ok("abc"));
+        assert!(rt; made == Err(FileFault::Failed) && is_kept, "{alias}");
     }
     // Another file isn't, though its name differs by a space.
-    assert!(rt; write_file(alloc, &mut depot, spaced, TEXT) == Ok(()));
-    for file in [name, hard, symbolic, other, spaced] {
+    assert!(rt; write_file(alloc, &mut depot, SPACED, TEXT) == Ok(()));
+    for file in &MADE {
         fs::remove_file(&rt, file)?;
     }
     Ok(())
@@ -156,39 +180,42 @@ fn private_files_are_their_owners_alone(rt: HostRuntime) -> io::Result<()> {
     fs::remove_file(&rt, name)?;
     for (private, want) in [(true, 0o100600), (false, shared)] {
         let mut depot = HostDepot::new(rt.alloc(), &rt, private);
-        assert!(rt; write_file(rt.alloc(), &mut depot, name, TEXT) == Ok(()));
-        assert_eq!(rt; fs::metadata(&rt, name)?.mode(), want);
+        let written = write_file(rt.alloc(), &mut depot, name, TEXT);
+        assert!(rt; (written, fs::metadata(&rt, name)?.mode()) == (Ok(()), want));
         // A file that was there keeps its mode.
         fs::set_permissions(&rt, name, Permissions::from_mode(0o640))?;
-        assert!(rt; write_file(rt.alloc(), &mut depot, name, TEXT) == Ok(()));
-        assert_eq!(rt; fs::metadata(&rt, name)?.mode(), 0o100640);
+        let again = write_file(rt.alloc(), &mut depot, name, TEXT);
+        assert!(rt; (again, fs::metadata(&rt, name)?.mode()) == (Ok(()), 0o100640));
         fs::remove_file(&rt, name)?;
     }
     Ok(())
 }
 
+const OUTPUT: &str = "sd_host_output";
+
+static OUTPUTS: [&str; 3] = [OUTPUT, "./sd_host_output", "/dev/stdout"];
+
 #[test]
 fn the_output_is_written_through(rt: HostRuntime) -> io::Result<()> {
     let alloc = rt.alloc();
-    let output = "sd_host_output";
     let machine = Machine {
         rt: &rt,
-        output,
+        output: OUTPUT,
         trouble: Trouble::None,
     };
-    for name in [output, "./sd_host_output", "/dev/stdout"] {
-        fs::write(&rt, output, b"kept ")?;
+    for name in &OUTPUTS {
+        fs::write(&rt, OUTPUT, b"kept ")?;
         let mut depot = HostDepot::new(alloc, &machine, false);
         assert!(rt; depot.is_output(name) && write_file(alloc, &mut depot, name, TEXT) == Ok(()));
         // It may not be read.
-        assert!(rt; gives(alloc, &mut depot, output, 70, Err(FileFault::Failed)));
-        let read = read_file(alloc, &mut HostDepot::new(alloc, &rt, false), output, 70);
+        assert!(rt; gives(alloc, &mut depot, OUTPUT, 70, Err(FileFault::Failed)));
+        let mut reader = HostDepot::new(alloc, &rt, false);
         assert!(rt;
-            read.is_ok_and(|bytes| bytes.as_slice() == b"kept abcdefg".as_slice()),
+            gives(alloc, &mut reader, OUTPUT, 70, Ok("kept abcdefg")),
             "{name}"
         );
     }
-    fs::remove_file(&rt, output)?;
+    fs::remove_file(&rt, OUTPUT)?;
     let machine = Machine {
         rt: &rt,
         output: "/dev/null",
@@ -199,36 +226,32 @@ fn the_output_is_written_through(rt: HostRuntime) -> io::Result<()> {
     Ok(())
 }
 
+// Troubles, and what is then read and written.
+static TROUBLES: [(Trouble, Result<&str, FileFault>, Result<(), FileFault>); 3] = [
+    (Trouble::Signals, Ok("abcdefg"), Ok(())),
+    (
+        Trouble::Failure,
+        Err(FileFault::Failed),
+        Err(FileFault::Failed),
+    ),
+    (Trouble::Uncut, Ok("abcdefg"), Err(FileFault::Failed)),
+];
+
 #[test]
 fn troubles_are_told(rt: HostRuntime) -> io::Result<()> {
     let alloc = rt.alloc();
     let name = "sd_host_trouble";
-    for (trouble, reads, writes) in [
-        (Trouble::Signals, Ok("abcdefg"), Ok(())),
-        (
-            Trouble::Failure,
-            Err(FileFault::Failed),
-            Err(FileFault::Failed),
-        ),
-        (Trouble::Uncut, Ok("abcdefg"), Err(FileFault::Failed)),
-    ] {
+    for (trouble, reads, writes) in &TROUBLES {
         fs::write(&rt, name, TEXT)?;
         let machine = Machine {
             rt: &rt,
             output: "no such file",
-            trouble,
+            trouble: *trouble,
         };
-        assert!(rt;
-            gives(
-                alloc,
-                &mut HostDepot::new(alloc, &machine, false),
-                name,
-                7,
-                reads
-            )
-        );
+        let mut reader = HostDepot::new(alloc, &machine, false);
+        assert!(rt; gives(alloc, &mut reader, name, 7, *reads));
         let mut depot = HostDepot::new(alloc, &machine, false);
-        assert!(rt; write_file(alloc, &mut depot, name, TEXT) == writes);
+        assert!(rt; write_file(alloc, &mut depot, name, TEXT) == *writes);
     }
     fs::remove_file(&rt, name)
 }

@@ -63,60 +63,72 @@ const WORD_4294967295: Halves = (
 );
 
 // A pair of nodes, its label and its key.
-static PAIRS: [(u32, u32, Option<Halves>, Option<Halves>); 4] = [
+static PAIRS: [(u32, u32, Option<(Halves, Halves)>); 4] = [
     (
         1,
         13,
         Some((
-            0x63b4e117086347255283da4db2a136c1,
-            0x77238518ad9fe01f3a2a66cdb78cb933,
-        )),
-        Some((
-            0xec8a1538ef286b0f1d9c79fb6426c66f,
-            0x9516a27c2da9fc9562387d2b4d0f75bf,
+            (
+                0x63b4e117086347255283da4db2a136c1,
+                0x77238518ad9fe01f3a2a66cdb78cb933,
+            ),
+            (
+                0xec8a1538ef286b0f1d9c79fb6426c66f,
+                0x9516a27c2da9fc9562387d2b4d0f75bf,
+            ),
         )),
     ),
     (
         3,
         12,
         Some((
-            0x48954a872ea73ecca7c88349a7d5558e,
-            0xa323dfebd65bf59142ace49371da03b0,
-        )),
-        Some((
-            0xa0219e9d2a0b688b1e4c57469a2bfb17,
-            0x39dd879d2e5203a633a07140d6a71610,
+            (
+                0x48954a872ea73ecca7c88349a7d5558e,
+                0xa323dfebd65bf59142ace49371da03b0,
+            ),
+            (
+                0xa0219e9d2a0b688b1e4c57469a2bfb17,
+                0x39dd879d2e5203a633a07140d6a71610,
+            ),
         )),
     ),
     (
         1,
         2097151,
         Some((
-            0x48dede0015a5d35fbc356c979ccc2cf7,
-            0xc091a99b6c0fd383505b6054462c8989,
-        )),
-        Some((
-            0x06b94fc900a3fb057928c5668bbd19b0,
-            0x7e9b2f77b1d623822dd8bfc1183d2731,
+            (
+                0x48dede0015a5d35fbc356c979ccc2cf7,
+                0xc091a99b6c0fd383505b6054462c8989,
+            ),
+            (
+                0x06b94fc900a3fb057928c5668bbd19b0,
+                0x7e9b2f77b1d623822dd8bfc1183d2731,
+            ),
         )),
     ),
-    (2, 13, None, None),
+    (2, 13, None),
 ];
+
+// Whether the master's label of a node, its keys and its control word are so.
+fn has_hashes(master: &[u8; 32]) -> bool {
+    halves(&root_label(master, 524288).0) == NODE_524288
+        && halves(&whole_key(master)) == WHOLE_KEY
+        && halves(&period_key(master, 256)) == PERIOD_256
+        && halves(&control_word(master, u32::MAX)) == WORD_4294967295
+}
+
+// Whether the check values of the master's keys are so.
+fn has_checks(master: &[u8; 32]) -> bool {
+    number(&check_value(&whole_key(master))) == 0xbdf6d2d5d2e5015346f79d69446d9e46
+        && number(&check_value(&period_key(master, 1))) == 0x1dcd30913b9a37b4772694d78c1d7f2f
+}
 
 #[test]
 fn labels_and_keys_of_a_site(rt: HostRuntime) {
     let master = master();
-    assert_eq!(rt; halves(&root_label(&master, 524288).0), NODE_524288);
-    assert_eq!(rt; halves(&whole_key(&master)), WHOLE_KEY);
-    assert_eq!(rt; halves(&period_key(&master, 256)), PERIOD_256);
-    assert_eq!(rt; halves(&control_word(&master, u32::MAX)), WORD_4294967295);
-    for (i, j, label, key) in &PAIRS {
-        let found = pair(*i, *j);
-        assert_eq!(rt; found.map(|pair| pair.0), *label, "label of ({i},{j})");
-        assert_eq!(rt; found.map(|pair| pair.1), *key, "key of ({i},{j})");
+    assert!(rt; has_hashes(&master));
+    assert!(rt; has_checks(&master));
+    for (i, j, label_and_key) in &PAIRS {
+        assert!(rt; pair(*i, *j) == *label_and_key, "({i},{j})");
     }
-    let of_whole = number(&check_value(&whole_key(&master)));
-    assert_eq!(rt; of_whole, 0xbdf6d2d5d2e5015346f79d69446d9e46);
-    let of_period_1 = number(&check_value(&period_key(&master, 1)));
-    assert_eq!(rt; of_period_1, 0x1dcd30913b9a37b4772694d78c1d7f2f);
 }

@@ -1,5 +1,5 @@
+use sd_keystream::{Parity, descramble, scramble};
 use sd_packet::{Packet, is_positional};
-use sd_scramble::{Parity, descramble, scramble};
 
 // A packet, a control word, a position and a parity, and the scrambled packet.
 type Row = ([u8; 188], [u8; 32], u64, Parity, [u8; 188]);

@@ -14,14 +14,18 @@ fn on_path(depth: u32) -> Option<u32> {
     }
 }
 
+// Depths, and the nodes of the path there.
+static PATH: [(u32, u32); 4] = [(0, 1), (1, 3), (2, 6), (3, 13)];
+
+static SIBLINGS: [(u32, u32); 3] = [(3, 2), (6, 7), (13, 12)];
+
 #[test]
 fn path_of_leaf_5(rt: HostRuntime) {
-    for (depth, node) in [(0, 1), (1, 3), (2, 6), (3, 13)] {
-        assert_eq!(rt; on_path(depth), Some(node), "depth {depth}");
+    for (depth, node) in &PATH {
+        assert!(rt; on_path(*depth) == Some(*node), "depth {depth}");
     }
-    for (node, due) in [(3, 2), (6, 7), (13, 12)] {
-        assert!(rt; 1 <= node);
-        assert_eq!(rt; sibling(node), due, "sibling of {node}");
+    for (node, due) in &SIBLINGS {
+        assert!(rt; 1 <= *node && sibling(*node) == *due, "sibling of {node}");
     }
 }
 
@@ -49,20 +53,25 @@ static SETS: [(u32, u32, u32); 10] = [
     (0, 5, 0),
 ];
 
+// Whether the set holds these of the eight leaves and no ninth, and is no set where they are 0.
+fn has_leaves(i: u32, j: u32, leaves: u32) -> bool {
+    let known = leaves != 0;
+    for u in 0..8u32 {
+        if holds(i, j, u) != known.then_some(leaves >> u & 1 == 1) {
+            return false;
+        }
+    }
+    holds(i, j, 8) == None
+}
+
 #[test]
 fn sets_of_eight_leaves(rt: HostRuntime) {
     for (i, j, leaves) in &SETS {
-        let known = *leaves != 0;
-        assert_eq!(rt;
-            size(*i, *j),
-            known.then_some(leaves.count_ones()),
-            "size of ({i},{j})"
+        let due = (*leaves != 0).then_some(leaves.count_ones());
+        assert!(rt;
+            size(*i, *j) == due && has_leaves(*i, *j, *leaves),
+            "({i},{j})"
         );
-        for u in 0..8u32 {
-            let held = known.then_some(*leaves >> u & 1 == 1);
-            assert_eq!(rt; holds(*i, *j, u), held, "leaf {u} in ({i},{j})");
-        }
-        assert_eq!(rt; holds(*i, *j, 8), None);
     }
 }
 
@@ -74,15 +83,18 @@ static NAMES: [SetName; 5] = [
     SetName::Diff { i: 4, j: 8 },
 ];
 
+// Heights, and whether they are some tree's.
+static HEIGHTS: [(u8, bool); 4] = [(0, false), (1, true), (20, true), (21, false)];
+
 #[test]
 fn names_in_order(rt: HostRuntime) {
     for (at, name) in NAMES.iter().enumerate() {
         for (other_at, other) in NAMES.iter().enumerate() {
-            assert_eq!(rt; compare_names(*name, *other), at.cmp(&other_at));
+            assert!(rt; compare_names(*name, *other) == at.cmp(&other_at));
         }
     }
-    for (d, known) in [(0, false), (1, true), (20, true), (21, false)] {
-        assert_eq!(rt; Height::new(d).is_some(), known, "height {d}");
+    for (d, known) in &HEIGHTS {
+        assert!(rt; Height::new(*d).is_some() == *known, "height {d}");
     }
 }
 
@@ -105,19 +117,23 @@ static ANCESTORS: [(u32, u32, bool, Option<u32>); 7] = [
     (13, 6, false, None),
 ];
 
+// Nodes and their depths.
+static DEPTHS: [(u32, u32); 5] = [(1, 0), (2, 1), (3, 1), (13, 3), (1_048_581, 20)];
+
+// Two nodes, and their lowest common ancestor, where a node is its own.
+static COMMON: [(u32, u32, u32); 5] = [(8, 10, 2), (8, 15, 1), (12, 13, 6), (5, 5, 5), (13, 3, 3)];
+
 #[test]
 fn nodes_and_ancestors(rt: HostRuntime) {
-    for (v, level) in [(1, 0), (2, 1), (3, 1), (13, 3), (1_048_581, 20)] {
-        assert!(rt; 1 <= v);
-        assert_eq!(rt; depth(v), level, "depth of {v}");
+    for (v, level) in &DEPTHS {
+        assert!(rt; 1 <= *v && depth(*v) == *level, "depth of {v}");
     }
     for (i, j, above, towards) in &ANCESTORS {
-        assert!(rt; 1 <= *i && 1 <= *j);
-        assert_eq!(rt; is_above(*i, *j), *above, "{i} above {j}");
-        assert_eq!(rt; child(*i, *j), *towards, "child of {i} towards {j}");
+        let is_due = 1 <= *i && 1 <= *j && is_above(*i, *j) == *above && child(*i, *j) == *towards;
+        assert!(rt; is_due, "{i} above {j}");
     }
-    for (a, b, common) in [(8, 10, 2), (8, 15, 1), (12, 13, 6), (5, 5, 5), (13, 3, 3)] {
-        assert!(rt; 1 <= a && 1 <= b);
-        assert_eq!(rt; lowest_common(a, b), common, "{a} and {b}");
+    for (a, b, common) in &COMMON {
+        let is_due = 1 <= *a && 1 <= *b && lowest_common(*a, *b) == *common;
+        assert!(rt; is_due, "{a} and {b}");
     }
 }

@@ -5,11 +5,11 @@ use sd_test_texts::site_start;
 use std::alloc::{AllocError, Global};
 use std::test::Fail;
 
-const PAT: [u8; 16] = [
+static PAT: [u8; 16] = [
     0x00, 0xB0, 0x0D, 0x00, 0x01, 0xC1, 0x00, 0x00, 0x00, 0x01, 0xF0, 0x00, 0x2A, 0xB1, 0x04, 0xB2,
 ];
 
-const PMT: [u8; 26] = [
+static PMT: [u8; 26] = [
     0x02, 0xB0, 0x17, 0x00, 0x01, 0xC1, 0x00, 0x00, 0xE1, 0x00, 0xF0, 0x00, 0x1B, 0xE1, 0x00, 0xF0,
     0x00, 0x0F, 0xE1, 0x01, 0xF0, 0x00, 0x2F, 0x44, 0xB9, 0x9B,
 ];
@@ -148,29 +148,37 @@ fn first_wrong(alloc: Global, layout: Layout) -> Result<Option<u32>, Fail> {
     Ok(None)
 }
 
-#[test]
-fn every_choice_of_packets_gives_what_is_confirmed(rt: HostRuntime) -> Result<(), Fail> {
-    let layout = Layout {
+// A broadcast in one period; one in which the leaf is revoked in the next period; and one of version 2 with later words
+// and periods.
+static LAYOUTS: [Layout; 3] = [
+    Layout {
         version: 1,
         first_word: 0,
         first: 0,
         later: 0,
         revoked: false,
-    };
-    let next_revoked = Layout {
+    },
+    Layout {
+        version: 1,
+        first_word: 0,
+        first: 0,
         later: 1,
         revoked: true,
-        ..layout
-    };
-    let later_words = Layout {
+    },
+    Layout {
         version: 2,
         first_word: 7,
         first: 1,
         later: 2,
-        ..layout
-    };
-    for layout in [layout, next_revoked, later_words] {
-        assert_eq!(rt; first_wrong(rt.alloc(), layout)?, None);
+        revoked: false,
+    },
+];
+
+#[test]
+fn every_choice_of_packets_gives_what_is_confirmed(rt: HostRuntime) -> Result<(), Fail> {
+    for layout in &LAYOUTS {
+        let wrong = first_wrong(rt.alloc(), *layout)?;
+        assert!(rt; wrong.is_none(), "{wrong:?}");
     }
     Ok(())
 }

@@ -146,8 +146,8 @@ fn is_due(alloc: Global, row: Row) -> Result<bool, Fail> {
 
 #[test]
 fn losses_are_answered_as_worked(rt: HostRuntime) -> Result<(), Fail> {
-    for row in &ROWS {
-        assert!(rt; is_due(rt.alloc(), *row)?, "{row:?}");
+    for (place, row) in ROWS.iter().enumerate() {
+        assert!(rt; is_due(rt.alloc(), *row)?, "row {place}");
     }
     Ok(())
 }

@@ -1,8 +1,8 @@
-use sd_site::{SiteFault, read};
+use sd_site::{Site, SiteFault, read};
 use std::alloc::{AllocError, Global};
 use std::test::*;
 
-const LINES: [&str; 9] = [
+static LINES: [&str; 9] = [
     "height 3",
     "master 000102030405060708090a0b0c0d0e0f101112131415161718191a1b1c1d1e1f",
     "ca 1234",
@@ -55,15 +55,18 @@ fn is_read(bytes: &[u8], messages: u8) -> bool {
         && site.messages == messages
 }
 
+// Whether the text is read so as it is, and without the end of its last line, which it may lack.
+fn is_read_both_ways(whole: &[u8], messages: u8) -> bool {
+    let cut = whole.get(..whole.len().saturating_sub(1));
+    is_read(whole, messages) && cut.is_some_and(|cut| is_read(cut, messages))
+}
+
 #[test]
 fn a_site_is_read(rt: HostRuntime) -> Result<(), Fail> {
     for (count, k, line, messages) in &GOOD {
         let text = text(rt.alloc(), *count, *k, line)?;
-        let whole = text.as_bytes();
-        assert!(rt; is_read(whole, *messages), "{count} lines with {line}");
-        // The last line may lack its end.
-        let cut = whole.get(..whole.len().saturating_sub(1)).ok_or("a line")?;
-        assert!(rt; is_read(cut, *messages), "{count} lines with {line}, cut");
+        let is_due = is_read_both_ways(text.as_bytes(), *messages);
+        assert!(rt; is_due, "{count} lines with {line}");
     }
     Ok(())
 }
@@ -145,7 +148,7 @@ static BAD: [(usize, usize, &str, SiteFault); 34] = [
 fn the_first_bad_line_decides(rt: HostRuntime) -> Result<(), Fail> {
     for (count, k, line, fault) in &BAD {
         let text = text(rt.alloc(), *count, *k, line)?;
-        assert!(rt; read(text.as_bytes()) == Err(*fault), "at {line}");
+        assert!(rt; read(text.as_bytes()).err() == Some(*fault), "at {line}");
     }
     Ok(())
 }
@@ -166,15 +169,17 @@ static NAMED: [(&str, (u32, u32, u32)); 4] = [
     ),
 ];
 
+// The site of the first eight lines and these.
+fn site_with(alloc: Global, lines: &str) -> Result<Site, Fail> {
+    let text = text(alloc, 9, 9, lines)?;
+    Ok(read(text.as_bytes()).ok().ok_or("the text is a site file")?)
+}
+
 #[test]
 fn a_site_names_its_words_and_its_first_period(rt: HostRuntime) -> Result<(), Fail> {
     for (lines, named) in &NAMED {
-        let text = text(rt.alloc(), 9, 9, lines)?;
-        let site = read(text.as_bytes()).ok().ok_or("the text is a site file")?;
-        assert_eq!(rt;
-            (site.first_word, site.last_word, site.first_period),
-            *named
-        );
+        let site = site_with(rt.alloc(), lines)?;
+        assert!(rt; (site.first_word, site.last_word, site.first_period) == *named);
     }
     Ok(())
 }
@@ -193,9 +198,7 @@ static RUNS: [(&str, Option<u32>); 4] = [
 #[test]
 fn a_run_is_named_by_its_first_word(rt: HostRuntime) -> Result<(), Fail> {
     for (lines, name) in &RUNS {
-        let text = text(rt.alloc(), 9, 9, lines)?;
-        let site = read(text.as_bytes()).ok().ok_or("the text is a site file")?;
-        assert_eq!(rt; site.name(), *name);
+        assert!(rt; site_with(rt.alloc(), lines)?.name() == *name);
     }
     Ok(())
 }

@@ -1,5 +1,5 @@
-use sd_bits::laws::{get_after_set, set_of_get};
-use sd_bits::{fields, get, set};
+use sd_base::laws::{get_after_set, set_of_get};
+use sd_base::{fields, get, set};
 
 #[test]
 fn a_header_is_read(rt: HostRuntime) {
@@ -18,10 +18,10 @@ fn a_header_is_read(rt: HostRuntime) {
     let read = [
         sync_byte, error, unit_start, priority, pid, scrambling, adaptation, counter,
     ];
-    assert_eq!(rt; read, [0x47, 0, 1, 0, 0x123, 2, 1, 10]);
+    assert!(rt; read == [0x47, 0, 1, 0, 0x123, 2, 1, 10]);
     // 32 bits that touch five bytes
     let bytes = [0x12, 0x34, 0x56, 0x78, 0x9A];
-    assert_eq!(rt; get::<4, 32>(&bytes), 0x2345_6789);
+    assert!(rt; get::<4, 32>(&bytes) == 0x2345_6789);
 }
 
 #[test]
@@ -29,16 +29,15 @@ fn a_header_is_written(rt: HostRuntime) {
     // Each field among ones and among zeros: no other bit is changed.
     let mut among_ones = [0xFF; 4];
     fields! { &mut among_ones; pid: 11, 13 = 0x123; scrambling: 24, 2 = 2; }
-    assert_eq!(rt; among_ones, [0xFF, 0xE1, 0x23, 0xBF]);
     let mut among_zeros = [0; 4];
     fields! { &mut among_zeros; pid: 11, 13 = 0x1FFF; counter: 28, 4 = 10; }
-    assert_eq!(rt; among_zeros, [0x00, 0x1F, 0xFF, 0x0A]);
+    assert!(rt; among_ones == [0xFF, 0xE1, 0x23, 0xBF] && among_zeros == [0x00, 0x1F, 0xFF, 0x0A]);
     let mut five = [0xF0, 0, 0, 0, 0x0F];
     set::<4, 32>(&mut five, 0x2345_6789);
-    assert_eq!(rt; five, [0xF2, 0x34, 0x56, 0x78, 0x9F]);
+    assert!(rt; five == [0xF2, 0x34, 0x56, 0x78, 0x9F]);
     // What is written is read, and what is read may be written.
-    assert_eq!(rt; get_after_set::<9, 5>(&mut five, 21), 21);
+    assert!(rt; get_after_set::<9, 5>(&mut five, 21) == 21);
     let before = five;
     set_of_get::<7, 13>(&mut five);
-    assert_eq!(rt; five, before);
+    assert!(rt; five == before);
 }

@@ -48,12 +48,12 @@ fn sections_are_read(rt: HostRuntime) -> Result<(), Fail> {
     stuffed[..16].copy_from_slice(&PAT);
     for bytes in [PAT.as_slice(), stuffed.as_slice()] {
         let section = read_one(bytes).ok().ok_or("no section")?;
-        assert_eq!(rt; header_of(&section), (0, 1, 0, true, 0, 0));
-        assert_eq!(rt; section.body(), [0x00, 0x01, 0xF0, 0x00].as_slice());
-        assert_eq!(rt; section.whole(), PAT.as_slice());
+        assert!(rt; header_of(&section) == (0, 1, 0, true, 0, 0));
+        let body = [0x00, 0x01, 0xF0, 0x00];
+        assert!(rt; section.body() == body.as_slice() && section.whole() == PAT.as_slice());
     }
     for (place, byte, count, fault) in &FAULTS {
-        assert_eq!(rt; fault_of(*place, *byte, *count), Some(*fault));
+        assert!(rt; fault_of(*place, *byte, *count) == Some(*fault));
     }
     Ok(())
 }
@@ -68,13 +68,13 @@ fn long_sections(rt: HostRuntime) -> Result<(), Fail> {
         bytes[2] = low;
         seal(&mut bytes);
         let fault = read_one(&bytes).err();
-        assert_eq!(rt;
-            fault,
-            if length == 4093 {
-                None
-            } else {
-                Some(SectionFault::Length)
-            }
+        assert!(rt;
+            fault
+                == if length == 4093 {
+                    None
+                } else {
+                    Some(SectionFault::Length)
+                }
         );
     }
     Ok(())
@@ -92,17 +92,14 @@ fn sections_are_written(rt: HostRuntime) {
     section[..8].copy_from_slice(&header.bytes(4));
     section[8..12].copy_from_slice(&[0x00, 0x01, 0xF0, 0x00]);
     seal(&mut section);
-    assert_eq!(rt; section, PAT);
+    assert!(rt; section == PAT);
     let other = Header {
         table_id: 0x82,
         extension: 0x1234,
         number: 5,
         last_number: 6,
     };
-    assert_eq!(rt;
-        other.bytes(147),
-        [0x82, 0xB0, 0x9C, 0x12, 0x34, 0xC1, 0x05, 0x06]
-    );
+    assert!(rt; other.bytes(147) == [0x82, 0xB0, 0x9C, 0x12, 0x34, 0xC1, 0x05, 0x06]);
 }
 
 // A packet: whether a unit starts in it, its counter and its payload.
@@ -185,14 +182,22 @@ static FED: [(&[Fed], &[usize]); 9] = [
     (&[(true, 1, OVERLONG), (false, 2, SECTION)], &[0, 0]),
 ];
 
+// Whether the sections are this PAT, one after the other.
+fn are_pats(sections: &[u8]) -> bool {
+    for section in sections.chunks(16) {
+        if section != PAT.as_slice() {
+            return false;
+        }
+    }
+    true
+}
+
 #[test]
 fn sections_are_assembled(rt: HostRuntime) -> Result<(), Fail> {
     for (packets, counts) in &FED {
         let (each, bytes) = assembled(rt.alloc(), packets)?;
-        assert_eq!(rt; each.as_slice(), *counts);
-        for section in bytes.as_slice().chunks(16) {
-            assert_eq!(rt; section, PAT.as_slice());
-        }
+        assert!(rt; each.as_slice() == *counts);
+        assert!(rt; are_pats(&bytes));
     }
     Ok(())
 }

@@ -100,36 +100,52 @@ fn packet(number: u8) -> [u8; SIZE] {
     bytes
 }
 
+// The packet that is refused, the bytes of a read, the read and the write that fail, the answer, how many packets are
+// copied, and how many bytes are left to read.
+type Drive = (
+    u64,
+    usize,
+    u32,
+    u32,
+    Result<u64, DriveFault<u64>>,
+    usize,
+    usize,
+);
+
+static DRIVES: [Drive; 8] = [
+    (9, 1, 999, 999, Ok(5), 5, 0),
+    (9, 187, 999, 999, Ok(5), 5, 0),
+    (9, 189, 999, 999, Ok(5), 5, 0),
+    (9, 376, 999, 999, Ok(5), 5, 0),
+    (2, 188, 999, 999, Err(DriveFault::Refused(2)), 2, 376),
+    (2, 376, 999, 999, Err(DriveFault::Refused(2)), 2, 188),
+    (9, 188, 999, 1, Err(DriveFault::WriteFault), 1, 564),
+    (9, 188, 3, 999, Err(DriveFault::ReadFault), 3, 376),
+];
+
+// Whether the packets before this one were copied, and the last bytes, so many, were left.
+fn is_split(stream: &[u8], out: &[u8], copied: usize, left: &[u8], rest: usize) -> bool {
+    Some(out) == stream.get(..copied.saturating_mul(SIZE))
+        && Some(left) == stream.get(stream.len().saturating_sub(rest)..)
+}
+
 #[test]
 fn packets_are_offered_up_to_the_first_fault(rt: HostRuntime) -> Result<(), AllocError> {
     let packets = [packet(0), packet(1), packet(2), packet(3), packet(4)];
     let stream = packets.as_flattened();
-    // The packet that is refused, the bytes of a read, the read and the write that fail, the answer, how many packets
-    // are copied, and how many bytes are left to read.
-    let table = [
-        (9, 1, 999, 999, Ok(5), 5, 0),
-        (9, 187, 999, 999, Ok(5), 5, 0),
-        (9, 189, 999, 999, Ok(5), 5, 0),
-        (9, 376, 999, 999, Ok(5), 5, 0),
-        (2, 188, 999, 999, Err(DriveFault::Refused(2)), 2, 376),
-        (2, 376, 999, 999, Err(DriveFault::Refused(2)), 2, 188),
-        (9, 188, 999, 1, Err(DriveFault::WriteFault), 1, 564),
-        (9, 188, 3, 999, Err(DriveFault::ReadFault), 3, 376),
-    ];
-    for (bad, most, read, write, answer, copied, rest) in table {
-        assert!(rt; most >= 1 && copied <= 5 && rest <= stream.len());
+    for (bad, most, read, write, answer, copied, rest) in &DRIVES {
+        assert!(rt; *most >= 1);
         let (result, out, left) = driven::<Brand>(
             rt.alloc(),
             Blank::new(1),
             stream,
-            bad,
-            most,
-            read,
-            write,
+            *bad,
+            *most,
+            *read,
+            *write,
         )?;
-        assert!(rt; result == answer);
-        assert!(rt; out.as_slice() == packets[..copied].as_flattened());
-        assert!(rt; left.as_slice() == &stream[stream.len() - rest..]);
+        assert!(rt; result == *answer);
+        assert!(rt; is_split(stream, &out, *copied, &left, *rest));
     }
     Ok(())
 }

@@ -1,90 +1,97 @@
 use sd_card::CardFault;
-use sd_command_refusals::explanation;
+use sd_command_line::explanation;
 use sd_command_status::Status;
 use sd_site::SiteFault;
-use std::alloc::AllocError;
+use std::alloc::{AllocError, Global};
+
+// The arguments, the status, and what a user is told.
+static EXPLAINED: [(&str, Status, &str); 15] = [
+    (
+        "cover S B",
+        Status::Missing(2),
+        "sdca: BOOK B: no such file\n",
+    ),
+    (
+        "card S 5 K",
+        Status::Missing(3),
+        "sdca: OUT K: no such folder\n",
+    ),
+    (
+        "cover S B",
+        Status::BadSite(SiteFault::Line(4)),
+        "sdca: SITE S: line 4 is malformed\n",
+    ),
+    (
+        "apart S B T B",
+        Status::BadSite(SiteFault::Line(4)),
+        "sdca: SITE S or SITE T: line 4 is malformed\n",
+    ),
+    (
+        "receive K X O",
+        Status::BadCard(CardFault::Magic),
+        "sdca: CARD K: it is no card\n",
+    ),
+    (
+        "opens S B L",
+        Status::BadBook { word: 3, line: 2 },
+        "sdca: LEAVES L: line 2 is refused; LEAVES is the coalition: one leaf per line, ascending\n",
+    ),
+    (
+        "card S 9 K",
+        Status::BadWord(2),
+        "sdca: LEAF 9: not a decimal number in its range; LEAF is the receiver's number, from 0 to 2^height - 1\n",
+    ),
+    (
+        "cover S",
+        Status::Usage,
+        "sdca: cover: wrong number of arguments; see sdca help cover\n",
+    ),
+    (
+        "card S 5 S",
+        Status::Usage,
+        "sdca: OUT S: it is one of the inputs\n",
+    ),
+    (
+        "frob",
+        Status::Usage,
+        "sdca: frob: unknown command; see sdca help\n",
+    ),
+    (
+        "help frob",
+        Status::Usage,
+        "sdca: frob: unknown command; see sdca help\n",
+    ),
+    (
+        "help version",
+        Status::Usage,
+        "sdca: version: it has no page of its own; see sdca help\n",
+    ),
+    (
+        "--help cover card",
+        Status::Usage,
+        "sdca: --help: wrong number of arguments; see sdca help\n",
+    ),
+    (
+        "version S",
+        Status::Usage,
+        "sdca: version: wrong number of arguments; see sdca help\n",
+    ),
+    ("cover S B", Status::DepotFault, ""),
+];
+
+// Whether a user who gave these arguments is told this of the status.
+fn is_explained(alloc: Global, text: &str, status: Status, want: &str) -> Result<bool, AllocError> {
+    let mut words = Vec::new(alloc);
+    for word in text.split(' ') {
+        words.push(String::from_str(alloc, word)?)?;
+    }
+    Ok(explanation(alloc, &words, status)?.as_str() == want)
+}
 
 #[test]
 fn refusals_are_explained(rt: HostRuntime) -> Result<(), AllocError> {
-    let alloc = rt.alloc();
-    for (text, status, want) in [
-        (
-            "cover S B",
-            Status::Missing(2),
-            "sdca: BOOK B: no such file\n",
-        ),
-        (
-            "card S 5 K",
-            Status::Missing(3),
-            "sdca: OUT K: no such folder\n",
-        ),
-        (
-            "cover S B",
-            Status::BadSite(SiteFault::Line(4)),
-            "sdca: SITE S: line 4 is malformed\n",
-        ),
-        (
-            "apart S B T B",
-            Status::BadSite(SiteFault::Line(4)),
-            "sdca: SITE S or SITE T: line 4 is malformed\n",
-        ),
-        (
-            "receive K X O",
-            Status::BadCard(CardFault::Magic),
-            "sdca: CARD K: it is no card\n",
-        ),
-        (
-            "opens S B L",
-            Status::BadBook { word: 3, line: 2 },
-            "sdca: LEAVES L: line 2 is refused; LEAVES is the coalition: one leaf per line, ascending\n",
-        ),
-        (
-            "card S 9 K",
-            Status::BadWord(2),
-            "sdca: LEAF 9: not a decimal number in its range; LEAF is the receiver's number, from 0 to 2^height - 1\n",
-        ),
-        (
-            "cover S",
-            Status::Usage,
-            "sdca: cover: wrong number of arguments; see sdca help cover\n",
-        ),
-        (
-            "card S 5 S",
-            Status::Usage,
-            "sdca: OUT S: it is one of the inputs\n",
-        ),
-        (
-            "frob",
-            Status::Usage,
-            "sdca: frob: unknown command; see sdca help\n",
-        ),
-        (
-            "help frob",
-            Status::Usage,
-            "sdca: frob: unknown command; see sdca help\n",
-        ),
-        (
-            "help version",
-            Status::Usage,
-            "sdca: version: it has no page of its own; see sdca help\n",
-        ),
-        (
-            "--help cover card",
-            Status::Usage,
-            "sdca: --help: wrong number of arguments; see sdca help\n",
-        ),
-        (
-            "version S",
-            Status::Usage,
-            "sdca: version: wrong number of arguments; see sdca help\n",
-        ),
-        ("cover S B", Status::DepotFault, ""),
-    ] {
-        let mut words = Vec::new(alloc);
-        for word in text.split(' ') {
-            words.push(String::from_str(alloc, word)?)?;
-        }
-        assert_eq!(rt; explanation(alloc, &words, status)?.as_str(), want);
+    for (text, status, want) in &EXPLAINED {
+        assert!(rt; is_explained(rt.alloc(), text, *status, want)?);
     }
     Ok(())
 }

@@ -1,5 +1,6 @@
 use crate::sections::{PAT, PMT};
-use sd_tables_line::{push_line, table_on};
+use sd_tables::{push_line, table_on};
+use std::alloc::Global;
 use std::test::Fail;
 
 const CAT: [u8; 20] = [
@@ -34,62 +35,81 @@ const PROTECTED: [u8; 41] = [
     0x0F, 0xE1, 0x01, 0xF0, 0x00, 0x00, 0xD8, 0x37, 0x3F,
 ];
 
+// The packet and the PID of a section, the section, and its line.
+static SHOWN: [(u64, u16, &[u8], &str); 7] = [
+    (
+        0,
+        0,
+        &PAT,
+        r#"{"packet":0,"pid":0,"programs":[{"number":1,"pid":4096}],"stream":1,"table":"pat","version":0}"#,
+    ),
+    (
+        0,
+        1,
+        &CAT,
+        r#"{"ca":[{"pid":496,"system":4660}],"packet":0,"pid":1,"table":"cat","version":0}"#,
+    ),
+    (
+        1,
+        4096,
+        &PMT,
+        r#"{"ca":[],"packet":1,"pcr":256,"pid":4096,"program":1,"streams":[{"ca":[],"pid":256,"type":27},{"ca":[],"pid":257,"type":15}],"table":"pmt","version":0}"#,
+    ),
+    (
+        4,
+        4096,
+        &REWRITTEN,
+        r#"{"ca":[{"pid":497,"system":4660}],"packet":4,"pcr":256,"pid":4096,"program":1,"streams":[{"ca":[],"pid":256,"type":27},{"ca":[],"pid":257,"type":15}],"table":"pmt","version":0}"#,
+    ),
+    (
+        269,
+        4352,
+        &LATER,
+        r#"{"ca":[],"packet":269,"pcr":512,"pid":4352,"program":1,"streams":[{"ca":[],"pid":512,"type":27},{"ca":[],"pid":513,"type":15}],"table":"pmt","version":3}"#,
+    ),
+    (
+        1,
+        32,
+        &DESCRIBED,
+        r#"{"ca":[],"packet":1,"pcr":65,"pid":32,"program":1,"streams":[{"ca":[],"pid":65,"type":27},{"ca":[],"pid":66,"type":3}],"table":"pmt","version":0}"#,
+    ),
+    (
+        9,
+        300,
+        &PROTECTED,
+        r#"{"ca":[],"packet":9,"pcr":256,"pid":300,"program":7,"streams":[{"ca":[{"pid":4387,"system":100}],"pid":256,"type":27},{"ca":[],"pid":257,"type":15}],"table":"pmt","version":5}"#,
+    ),
+];
+
 #[test]
 fn sections_are_shown(rt: HostRuntime) -> Result<(), Fail> {
     let alloc = rt.alloc();
-    let rows: [(u64, u16, &[u8], &str); 7] = [
-        (
-            0,
-            0,
-            &PAT,
-            r#"{"packet":0,"pid":0,"programs":[{"number":1,"pid":4096}],"stream":1,"table":"pat","version":0}"#,
-        ),
-        (
-            0,
-            1,
-            &CAT,
-            r#"{"ca":[{"pid":496,"system":4660}],"packet":0,"pid":1,"table":"cat","version":0}"#,
-        ),
-        (
-            1,
-            4096,
-            &PMT,
-            r#"{"ca":[],"packet":1,"pcr":256,"pid":4096,"program":1,"streams":[{"ca":[],"pid":256,"type":27},{"ca":[],"pid":257,"type":15}],"table":"pmt","version":0}"#,
-        ),
-        (
-            4,
-            4096,
-            &REWRITTEN,
-            r#"{"ca":[{"pid":497,"system":4660}],"packet":4,"pcr":256,"pid":4096,"program":1,"streams":[{"ca":[],"pid":256,"type":27},{"ca":[],"pid":257,"type":15}],"table":"pmt","version":0}"#,
-        ),
-        (
-            269,
-            4352,
-            &LATER,
-            r#"{"ca":[],"packet":269,"pcr":512,"pid":4352,"program":1,"streams":[{"ca":[],"pid":512,"type":27},{"ca":[],"pid":513,"type":15}],"table":"pmt","version":3}"#,
-        ),
-        (
-            1,
-            32,
-            &DESCRIBED,
-            r#"{"ca":[],"packet":1,"pcr":65,"pid":32,"program":1,"streams":[{"ca":[],"pid":65,"type":27},{"ca":[],"pid":66,"type":3}],"table":"pmt","version":0}"#,
-        ),
-        (
-            9,
-            300,
-            &PROTECTED,
-            r#"{"ca":[],"packet":9,"pcr":256,"pid":300,"program":7,"streams":[{"ca":[{"pid":4387,"system":100}],"pid":256,"type":27},{"ca":[],"pid":257,"type":15}],"table":"pmt","version":5}"#,
-        ),
-    ];
     let mut text = String::new(alloc);
     let mut due = String::new(alloc);
-    for (packet, pid, section, line) in rows {
-        assert!(rt; push_line(alloc, &mut text, packet, pid, &table_on(pid, section)).is_ok());
+    for (packet, pid, section, line) in &SHOWN {
+        assert!(rt; push_line(alloc, &mut text, *packet, *pid, &table_on(*pid, section)).is_ok());
         due.push_str(line)?;
         due.push('\n')?;
     }
-    assert_eq!(rt; text.as_str(), due.as_str());
+    assert!(rt; text.as_str() == due.as_str());
     Ok(())
+}
+
+// PIDs, sections that they may not carry, and the fault.
+static FAULTS: [(u16, &[u8], &str); 5] = [
+    (0, &[], "length"),
+    (1, &PAT, "table"),
+    (4096, &PAT, "table"),
+    (0, &CAT, "table"),
+    (0, &PMT, "table"),
+];
+
+// Whether the line of the section says that it has this fault.
+fn is_faulty(alloc: Global, pid: u16, section: &[u8], fault: &str) -> Result<bool, Fail> {
+    let mut text = String::new(alloc);
+    let is_pushed = push_line(alloc, &mut text, 7, pid, &table_on(pid, section)).is_ok();
+    let due = format!(in alloc; "{{\"fault\":\"{fault}\",\"packet\":7,\"pid\":{pid}}}\n")?;
+    Ok(is_pushed && text == due)
 }
 
 #[test]
@@ -99,21 +119,11 @@ fn faults_are_shown(rt: HostRuntime) -> Result<(), Fail> {
     damaged[15] ^= 1;
     let mut short_form = PAT;
     short_form[1] &= 0x7F;
-    let rows: [(u16, &[u8], &str); 8] = [
-        (0, &damaged, "crc"),
-        (0, &short_form, "length"),
-        (0, &PAT[..15], "length"),
-        (0, &[], "length"),
-        (1, &PAT, "table"),
-        (4096, &PAT, "table"),
-        (0, &CAT, "table"),
-        (0, &PMT, "table"),
-    ];
-    for (pid, section, fault) in rows {
-        let mut text = String::new(alloc);
-        assert!(rt; push_line(alloc, &mut text, 7, pid, &table_on(pid, section)).is_ok());
-        let due = format!(in alloc; "{{\"fault\":\"{fault}\",\"packet\":7,\"pid\":{pid}}}\n")?;
-        assert_eq!(rt; text, due);
+    assert!(rt; is_faulty(alloc, 0, &damaged, "crc")?);
+    assert!(rt; is_faulty(alloc, 0, &short_form, "length")?);
+    assert!(rt; is_faulty(alloc, 0, &PAT[..15], "length")?);
+    for (pid, section, fault) in &FAULTS {
+        assert!(rt; is_faulty(alloc, *pid, section, fault)?, "pid {pid}");
     }
     Ok(())
 }

@@ -8,7 +8,7 @@ use sd_base::Steps;
 use sd_card::Card;
 use sd_emm::{Emm, EmmFault, read_emm};
 use sd_packet::Packet;
-use sd_receive_emm::Entitled;
+use sd_receive::Entitled;
 use sd_section::seal;
 use sd_spec_receiver::StreamFault;
 use std::alloc::Global;
@@ -125,7 +125,7 @@ fn kept(alloc: Global, leaf: u32, rows: &[Row]) -> Option<Result<Kept, StreamFau
 }
 
 // The keys of periods 0, 1 and 2.
-const KEYS: [&str; 3] = [
+static KEYS: [&str; 3] = [
     "e9d9e51b1cde0cbaccbda5ec3d4ae31f9272291f6616d93ba6aa026ccbfa0936",
     "58051f549ecdc36b3be133e50897d53baa1554ef7dc846a1e1fd585066a595be",
     "b06c0d43278e31db25b9e7674bed115c89e00d759ad4b0251f8c9851a3f7608e",
@@ -135,51 +135,54 @@ fn key_of(period: Option<usize>) -> Option<[u8; 32]> {
     <[u8; 32] as FromHex>::from_hex(KEYS.get(period?)?).ok()
 }
 
-#[test]
-fn keys_and_periods_are_kept(rt: HostRuntime) -> Result<(), Fail> {
-    // The leaf, the rows, of which period there is a key after them, the first period that is revoked.
-    let table: [(u32, &[(usize, u8)], Option<usize>, Option<u32>); 8] = [
-        (5, &[], None, None),
-        (5, &[(0, 0)], Some(0), None),
-        (5, &[(0, 0), (0, 0), (1, 0)], None, Some(1)),
-        (5, &[(0, 0), (1, 0), (3, 0)], None, Some(1)),
-        // A section of a past period is passed.
-        (5, &[(1, 0), (0, 0)], None, Some(1)),
-        (5, &[(0, 0), (3, 0)], None, Some(2)),
-        (0, &[(0, 0), (1, 0)], Some(1), None),
-        (0, &[(0, 0), (2, 0), (3, 0)], Some(2), None),
-    ];
-    for (leaf, rows, period, revoked) in table {
-        let key = key_of(period);
-        assert_eq!(rt; key.is_some(), period.is_some());
-        assert_eq!(rt;
-            kept(rt.alloc(), leaf, rows),
-            Some(Ok((key, revoked, revoked)))
-        );
-    }
-    Ok(())
+// Whether a leaf has the key of one period, or none, after the rows of some runs, and another is the first revoked one.
+fn is_kept(
+    alloc: Global,
+    leaf: u32,
+    runs: &[&[Row]],
+    period: Option<usize>,
+    revoked: Option<u32>,
+) -> bool {
+    let key = key_of(period);
+    key.is_some() == period.is_some()
+        && kept_of(alloc, leaf, runs) == Some(Ok((key, revoked, revoked)))
 }
 
+// The leaf, the rows, of which period there is a key after them, the first period that is revoked.
+static KEPT: [(u32, &[Row], Option<usize>, Option<u32>); 8] = [
+    (5, &[], None, None),
+    (5, &[(0, 0)], Some(0), None),
+    (5, &[(0, 0), (0, 0), (1, 0)], None, Some(1)),
+    (5, &[(0, 0), (1, 0), (3, 0)], None, Some(1)),
+    // A section of a past period is passed.
+    (5, &[(1, 0), (0, 0)], None, Some(1)),
+    (5, &[(0, 0), (3, 0)], None, Some(2)),
+    (0, &[(0, 0), (1, 0)], Some(1), None),
+    (0, &[(0, 0), (2, 0), (3, 0)], Some(2), None),
+];
+
 #[test]
-fn what_was_heard_of_another_run_is_forgotten(rt: HostRuntime) -> Result<(), Fail> {
-    // The leaf, the rows of each run, of which period there is a key after them, the first period that is revoked.
-    let table: [(u32, &[&[Row]], Option<usize>, Option<u32>); 4] = [
-        (5, &[&[(0, 0), (1, 0)], &[]], None, None),
-        // A section of a lower period than those of the run before.
-        (5, &[&[(0, 0), (3, 0)], &[(0, 0)]], Some(0), None),
-        // A section that says otherwise than one of the run before.
-        (0, &[&[(1, 0)], &[(2, 0)]], Some(1), None),
-        (5, &[&[(0, 0)], &[(1, 0)]], None, Some(1)),
-    ];
-    for (leaf, runs, period, revoked) in table {
-        let key = key_of(period);
-        assert_eq!(rt; key.is_some(), period.is_some());
-        assert_eq!(rt;
-            kept_of(rt.alloc(), leaf, runs),
-            Some(Ok((key, revoked, revoked)))
-        );
+fn keys_and_periods_are_kept(rt: HostRuntime) {
+    for (leaf, rows, period, revoked) in &KEPT {
+        assert!(rt; is_kept(rt.alloc(), *leaf, &[*rows], *period, *revoked));
     }
-    Ok(())
+}
+
+// The leaf, the rows of each run, of which period there is a key after them, the first period that is revoked.
+static FORGOTTEN: [(u32, &[&[Row]], Option<usize>, Option<u32>); 4] = [
+    (5, &[&[(0, 0), (1, 0)], &[]], None, None),
+    // A section of a lower period than those of the run before.
+    (5, &[&[(0, 0), (3, 0)], &[(0, 0)]], Some(0), None),
+    // A section that says otherwise than one of the run before.
+    (0, &[&[(1, 0)], &[(2, 0)]], Some(1), None),
+    (5, &[&[(0, 0)], &[(1, 0)]], None, Some(1)),
+];
+
+#[test]
+fn what_was_heard_of_another_run_is_forgotten(rt: HostRuntime) {
+    for (leaf, runs, period, revoked) in &FORGOTTEN {
+        assert!(rt; is_kept(rt.alloc(), *leaf, runs, *period, *revoked));
+    }
 }
 
 #[test]
@@ -194,8 +197,8 @@ fn sections_that_say_otherwise_are_refused(rt: HostRuntime) -> Result<(), Fail> 
         found,
         due,
     };
-    assert_eq!(rt; kept(rt.alloc(), 5, &[(0, 1)]), Some(Err(fault)));
+    assert!(rt; kept(rt.alloc(), 5, &[(0, 1)]) == Some(Err(fault)));
     let mixed = StreamFault::BadEmm(9, EmmFault::Mixed);
-    assert_eq!(rt; kept(rt.alloc(), 5, &[(1, 0), (2, 0)]), Some(Err(mixed)));
+    assert!(rt; kept(rt.alloc(), 5, &[(1, 0), (2, 0)]) == Some(Err(mixed)));
     Ok(())
 }

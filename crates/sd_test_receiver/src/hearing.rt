@@ -9,7 +9,7 @@ use sd_tree::Height;
 use std::test::Fail;
 
 // A CAT for system 0x1234, with entitlements on PID 0x1F0 and control messages on PID 0x1F1.
-const CAT: [u8; 20] = [
+static CAT: [u8; 20] = [
     0x01, 0xB0, 0x11, 0xFF, 0xFF, 0xC1, 0x00, 0x00, 0x09, 0x06, 0x12, 0x34, 0xE1, 0xF0, 0xE1, 0xF1,
     0x92, 0xF9, 0x4E, 0xEB,
 ];
@@ -24,26 +24,51 @@ const ECM: &str =
     f4430b125468c6302b38b7573085294b1e2d9a320ffe227acf4837b303010000000000009f01010000000000411000000000\
     0000119e493e13";
 
+// What is taken of the CAT on PID 1, and on PID 2, where this byte stands at a place in it.
+fn tunings(place: usize, byte: u8) -> Option<(Option<Tuning>, Option<Tuning>)> {
+    let mut section = CAT;
+    *section.get_mut(place)? = byte;
+    seal(&mut section);
+    Some((
+        cat_tuning(0x1234, &pack_section(&section, 1, 0)),
+        cat_tuning(0x1234, &pack_section(&section, 2, 0)),
+    ))
+}
+
+// A place in the CAT, the byte that stands there, and the PIDs that are taken.
+static TUNINGS: [(usize, u8, Option<(u16, u16)>); 6] = [
+    (15, 0xF1, Some((0x1F0, 0x1F1))),
+    (12, 0xE0, Some((0x0F0, 0x1F1))),
+    // Another tag, another system, equal PIDs, a PID that has no positions.
+    (8, 0x0A, None),
+    (11, 0x35, None),
+    (15, 0xF0, None),
+    (12, 0xFF, None),
+];
+
 #[test]
 fn a_cat_for_the_system_is_taken(rt: HostRuntime) {
-    // A place in the CAT, the byte that stands there, and the PIDs that are taken.
-    let table = [
-        (15, 0xF1, Some((0x1F0, 0x1F1))),
-        (12, 0xE0, Some((0x0F0, 0x1F1))),
-        // Another tag, another system, equal PIDs, a PID that has no positions.
-        (8, 0x0A, None),
-        (11, 0x35, None),
-        (15, 0xF0, None),
-        (12, 0xFF, None),
-    ];
-    for (place, byte, due) in table {
-        let mut section = CAT;
-        section[place] = byte;
-        seal(&mut section);
+    for (place, byte, due) in &TUNINGS {
         let due = due.map(|(emm, ecm)| Tuning { emm, ecm });
-        assert_eq!(rt; cat_tuning(0x1234, &pack_section(&section, 1, 0)), due);
-        assert_eq!(rt; cat_tuning(0x1234, &pack_section(&section, 2, 0)), None);
+        assert!(rt; tunings(*place, *byte) == Some((due, None)));
     }
+}
+
+// Whether these are read as entitlements for period 1 and a part of control message 1, and neither as the other.
+fn are_read(h: Height, emm: &Packet, ecm: &Packet) -> bool {
+    let period = read_emm(h, emm).ok().flatten().map(|emm| emm.period);
+    let number = read_ecm(ecm).ok().flatten().map(|part| part.number);
+    (period, number) == (Some(1), Some(1))
+        && read_emm(h, ecm) == Ok(None)
+        && read_ecm(emm) == Ok(None)
+}
+
+// The packet of entitlements with a number of sections that the number of sets doesn't come to.
+fn miscounted(emm: &Packet) -> Option<Packet> {
+    let mut section = *emm.bytes();
+    section[22] = 2;
+    seal(&mut section[5..84]);
+    Packet::new(section)
 }
 
 #[test]
@@ -56,33 +81,19 @@ fn packets_are_heard_by_their_pids(rt: HostRuntime) -> Result<(), Fail> {
         emm: 0x1F0,
         ecm: 0x1F1,
     };
-    assert_eq!(rt; channel_of(tuned, &emm), Channel::Emm);
-    assert_eq!(rt; channel_of(tuned, &ecm), Channel::Ecm);
-    assert_eq!(rt; channel_of(tuned, &cat), Channel::Cat);
     let other = Tuning {
         emm: 0x100,
         ecm: 0x101,
     };
-    assert_eq!(rt; channel_of(other, &emm), Channel::Other);
-    assert!(rt;
-        read_emm(h, &emm)
-            .ok()
-            .flatten()
-            .is_some_and(|emm| emm.period == 1)
-    );
-    assert!(rt;
-        read_ecm(&ecm)
-            .ok()
-            .flatten()
-            .is_some_and(|part| part.number == 1)
-    );
-    assert_eq!(rt; read_emm(h, &ecm), Ok(None));
-    assert_eq!(rt; read_ecm(&emm), Ok(None));
-    // A number of sections that the number of sets doesn't come to.
-    let mut section = *emm.bytes();
-    section[22] = 2;
-    seal(&mut section[5..84]);
-    let bad = Packet::new(section).ok_or("no packet")?;
-    assert_eq!(rt; read_emm(h, &bad), Err(EmmFault::Count));
+    let channels = [
+        channel_of(tuned, &emm),
+        channel_of(tuned, &ecm),
+        channel_of(tuned, &cat),
+        channel_of(other, &emm),
+    ];
+    assert!(rt; channels == [Channel::Emm, Channel::Ecm, Channel::Cat, Channel::Other]);
+    assert!(rt; are_read(h, &emm, &ecm));
+    let bad = miscounted(&emm).ok_or("no packet")?;
+    assert!(rt; read_emm(h, &bad) == Err(EmmFault::Count));
     Ok(())
 }

@@ -23,7 +23,7 @@ const CARD: &str = "\
      c963b493c4075571946f3c3980e9d12312e36057a5c45afdecb73654e952b3c8";
 
 // The packets of a broadcast of four clear packets that an independent implementation made, up to the stuffing.
-const PACKETS: [&str; 8] = [
+static PACKETS: [&str; 8] = [
     "474001100001b011ffffc1000009061234e1f0e1f192f94eeb",
     ALL,
     "4741f1100080b04b0000c1000000000000000000000000000000000000008229606edb4eb380c6745a1a0ef112fb4f37fd1a5ac322f2\
@@ -97,28 +97,30 @@ fn uncounted(
     counted::<Brand>(alloc, bytes, most, Blank::new(1))
 }
 
+// Whether these are the four clear packets.
+fn are_clear(bytes: &[u8]) -> Option<bool> {
+    Some(Sha256::digest(bytes) == <[u8; 32]>::from_hex(CLEAR).ok()?)
+}
+
+// How many packets are left out at the end, how many bytes are read and written at a time, the ending, and how many
+// bytes are written.
+static STREAMS: [(usize, usize, Ending, usize); 5] = [
+    (0, 1000, Ending::Opened, 752),
+    (0, 1, Ending::Opened, 752),
+    (1, 1000, Ending::Unclosed(1), 0),
+    (6, 1, Ending::Unclosed(0), 0),
+    (8, 1, Ending::NoCat, 0),
+];
+
 #[test]
 fn streams_are_opened(rt: HostRuntime) -> Result<(), Fail> {
-    // How many packets are left out at the end, how many bytes are read and written at a time, the ending, and how many
-    // bytes are written.
-    for (left_out, most, due, count) in [
-        (0, 1000, Ending::Opened, 752),
-        (0, 1, Ending::Opened, 752),
-        (1, 1000, Ending::Unclosed(1), 0),
-        (6, 1, Ending::Unclosed(0), 0),
-        (8, 1, Ending::NoCat, 0),
-    ] {
-        let bytes = stream(rt.alloc(), left_out).ok_or("no stream")?;
-        let (result, ending, clear) = uncounted(rt.alloc(), bytes, most).ok_or("no receiver")?;
-        assert_eq!(rt; result, Ok(8 - left_out as u64));
-        assert_eq!(rt; ending, due);
-        assert_eq!(rt; clear.len(), count);
-        if count > 0 {
-            assert_eq!(rt;
-                Sha256::digest(&clear),
-                <[u8; 32]>::from_hex(CLEAR).map_err(|_| "no hash")?
-            );
-        }
+    for (left_out, most, due, count) in &STREAMS {
+        assert!(rt; 1 <= *most);
+        let bytes = stream(rt.alloc(), *left_out).ok_or("no stream")?;
+        let (result, ending, clear) = uncounted(rt.alloc(), bytes, *most).ok_or("no receiver")?;
+        let read = 8u64.saturating_sub(*left_out as u64);
+        assert!(rt; (result, ending, clear.len()) == (Ok(read), *due, *count));
+        assert!(rt; *count == 0 || are_clear(&clear) == Some(true));
     }
     Ok(())
 }

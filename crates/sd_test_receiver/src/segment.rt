@@ -69,54 +69,128 @@ fn written(
     Ok((result, sink.into_bytes()))
 }
 
+// What is held or written: the packet under the word, the same in the clear, the PMT with the descriptor, that without.
+#[derive(Clone, Copy)]
+enum Kind {
+    Dark,
+    Clear,
+    Marked,
+    Plain,
+}
+
+impl Kind {
+    // A packet of this kind.
+    fn packet(self) -> Packet {
+        match self {
+            Kind::Dark => packet(0xB3, 0xD6),
+            Kind::Clear => packet(0x33, 0xCF),
+            Kind::Marked => pack_section(&MARKED, 0x1000, 7),
+            Kind::Plain => pack_section(&PMT, 0x1000, 7),
+        }
+    }
+}
+
+// The packet held, the word's number, where its PID starts, where a PID then is, the answer, the packet written.
+type Row = (
+    Kind,
+    u32,
+    u64,
+    (u16, u64),
+    Result<u64, SegmentFault>,
+    Option<Kind>,
+);
+
+static CONFIRMED: [Row; 8] = [
+    (
+        Kind::Dark,
+        8,
+        999_987,
+        (PID, 1_000_003),
+        Ok(1),
+        Some(Kind::Clear),
+    ),
+    (
+        Kind::Dark,
+        8,
+        1_000_002,
+        (PID, 1_000_018),
+        Ok(1),
+        Some(Kind::Clear),
+    ),
+    (Kind::Dark, 8, 1_000_002, (PID, 1_000_019), Ok(0), None),
+    (Kind::Dark, 8, 1_000_002, (PID, 1_000_002), Ok(0), None),
+    (Kind::Dark, 8, 1_000_002, (0x0201, 1_000_003), Ok(0), None),
+    (
+        Kind::Dark,
+        9,
+        1_000_002,
+        (PID, 1_000_003),
+        Err(SegmentFault::Parity(7)),
+        None,
+    ),
+    (
+        Kind::Clear,
+        8,
+        1_000_002,
+        (0x0201, 0),
+        Ok(1),
+        Some(Kind::Clear),
+    ),
+    (
+        Kind::Marked,
+        8,
+        1_000_002,
+        (0x0201, 0),
+        Ok(1),
+        Some(Kind::Plain),
+    ),
+];
+
+// Whether these are the bytes of one such packet, or none.
+fn are_of(bytes: &[u8], due: Option<Kind>) -> bool {
+    match due {
+        Some(kind) => bytes == kind.packet().bytes().as_slice(),
+        None => bytes.is_empty(),
+    }
+}
+
+// Whether the row's packet, held once, is answered and written as the row says.
+fn is_written(alloc: Global, row: &Row) -> Result<bool, AllocError> {
+    let (held, number, from, (pid, position), answer, due) = *row;
+    if from >= 1 << 48 || position >= 1 << 48 {
+        return Ok(false);
+    }
+    let next = Place { pid, position };
+    let (result, bytes) = written(alloc, (&held.packet(), 1), (number, from), next, 376)?;
+    Ok(result == answer && are_of(&bytes, due))
+}
+
 #[test]
 fn packets_are_written_as_they_are_confirmed(rt: HostRuntime) -> Result<(), AllocError> {
-    let dark = packet(0xB3, 0xD6);
-    let clear = packet(0x33, 0xCF);
-    let marked = pack_section(&MARKED, 0x1000, 7);
-    let pmt = pack_section(&PMT, 0x1000, 7);
-    let parity = Err(SegmentFault::Parity(7));
-    // The packet held, the word's number, where its PID starts, where a PID then is, the answer, the packet written.
-    let table = [
-        (dark, 8, 999_987, (PID, 1_000_003), Ok(1), Some(clear)),
-        (dark, 8, 1_000_002, (PID, 1_000_018), Ok(1), Some(clear)),
-        (dark, 8, 1_000_002, (PID, 1_000_019), Ok(0), None),
-        (dark, 8, 1_000_002, (PID, 1_000_002), Ok(0), None),
-        (dark, 8, 1_000_002, (0x0201, 1_000_003), Ok(0), None),
-        (dark, 9, 1_000_002, (PID, 1_000_003), parity, None),
-        (clear, 8, 1_000_002, (0x0201, 0), Ok(1), Some(clear)),
-        (marked, 8, 1_000_002, (0x0201, 0), Ok(1), Some(pmt)),
-    ];
-    for (packet, number, from, (pid, position), answer, due) in table {
-        let next = Place { pid, position };
-        assert!(rt; from < 1 << 48 && next.position < 1 << 48);
-        let (result, bytes) = written(rt.alloc(), (&packet, 1), (number, from), next, 376)?;
-        assert!(rt; result == answer);
-        match due {
-            Some(due) => assert_eq!(rt; bytes.as_slice(), due.bytes().as_slice()),
-            None => assert!(rt; bytes.is_empty()),
-        }
+    for row in &CONFIRMED {
+        assert!(rt; is_written(rt.alloc(), row)?);
     }
     Ok(())
 }
 
+// How often the packet is held, the packets that there is room for, the answer, how many are written.
+static HELD: [(u64, u16, Result<u64, SegmentFault>, u16); 3] = [
+    (4096, 4096, Ok(4096), 4096),
+    (4097, 4097, Ok(0), 0),
+    (2, 1, Err(SegmentFault::Write), 1),
+];
+
 #[test]
 fn so_many_packets_are_held(rt: HostRuntime) -> Result<(), AllocError> {
-    let clear = packet(0x33, 0xCF);
+    let clear = Kind::Clear.packet();
     let first = Place {
         pid: PID,
         position: 15,
     };
-    // How often the packet is held, the packets that there is room for, the answer, how many are written.
-    let table = [
-        (4096, 4096, Ok(4096), 4096),
-        (4097, 4097, Ok(0), 0),
-        (2, 1, Err(SegmentFault::Write), 1),
-    ];
-    for (count, room, answer, taken) in table {
-        let (result, bytes) = written(rt.alloc(), (&clear, count), (8, 15), first, room * 188)?;
-        assert!(rt; result == answer);
-        assert_eq!(rt; bytes.len(), taken * 188);
+    for (count, room, answer, taken) in &HELD {
+        let room = usize::from(*room) * 188;
+        let (result, bytes) = written(rt.alloc(), (&clear, *count), (8, 15), first, room)?;
+        assert!(rt; (result, bytes.len()) == (*answer, usize::from(*taken) * 188));
     }
     Ok(())
 }

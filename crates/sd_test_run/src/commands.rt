@@ -70,7 +70,7 @@ impl<'a> Whole<'a> {
             None => self.command.makes.is_empty(),
         };
         let printed = has_sum(&left.printed, self.command.prints);
-        left.status == Status::Done
+        matches!(left.status, Status::Done)
             && out
             && (printed || left.printed.is_empty() && self.command.prints.is_empty())
             && !left.failed
@@ -89,7 +89,7 @@ impl<'a> Whole<'a> {
             Some(whole) if is_made => left.is_prefix_of(whole),
             _ => left.out.is_none(),
         };
-        left.status == Status::DepotFault
+        matches!(left.status, Status::DepotFault)
             && left.status.code() == 4
             && self.is_told(&left.printed, b"device fault\n")
             && is_prefix
@@ -110,9 +110,9 @@ impl<'a> Whole<'a> {
     /// Whether printing failed after so many bytes, and OUT is whole; or all is done where nothing is printed.
     fn is_cut_off(&self, left: &Leaving, length: usize) -> bool {
         let is_told = if self.left.printed.is_empty() {
-            left.status == Status::Done && left.printed.is_empty()
+            matches!(left.status, Status::Done) && left.printed.is_empty()
         } else {
-            left.status == Status::PrintFault
+            matches!(left.status, Status::PrintFault)
                 && left.status.code() == 5
                 && left.printed.len() == length
                 && self.left.printed.starts_with(&left.printed)
@@ -124,35 +124,32 @@ impl<'a> Whole<'a> {
             && left.stayed
     }
 
-    /// The first call of the depot that fails and isn't told so: one opens each file that is read, and two make OUT and
+    /// Whether each call of the depot is told where it fails: one opens each file that is read, and two make OUT and
     /// close it.
-    fn wrong_call(&self, alloc: Global) -> Result<Option<u32>, AllocError> {
+    fn fails_at_calls(&self, alloc: Global) -> Result<bool, AllocError> {
         let reads = self.command.reads.len();
         let calls = if self.left.out.is_some() { 2 } else { 0 };
         for place in 0..reads.saturating_add(calls) {
             let number = u32::try_from(place).unwrap_or(u32::MAX);
             let left = self.left(alloc, Fault::Call(number))?;
             if !self.is_failed(&left, reads < place) {
-                return Ok(Some(number));
+                return Ok(false);
             }
         }
-        Ok(None)
+        Ok(true)
     }
 
-    /// The first file of which the first or the second call fails and isn't told so.
-    fn wrong_port(&self, alloc: Global) -> Result<Option<&'a str>, AllocError> {
+    /// Whether the first and the second call of each file are told where they fail.
+    fn fails_at_ports(&self, alloc: Global) -> Result<bool, AllocError> {
         let mut rest = self.command.reads.len();
         for name in self.command.reads {
             rest = rest.saturating_sub(1);
             let is_made = self.command.streams && rest == 0;
             if !self.fails_at(alloc, name, is_made)? {
-                return Ok(Some(name));
+                return Ok(false);
             }
         }
-        if self.left.out.is_some() && !self.fails_at(alloc, "O", true)? {
-            return Ok(Some("O"));
-        }
-        Ok(None)
+        Ok(self.left.out.is_none() || self.fails_at(alloc, "O", true)?)
     }
 
     /// Whether the first and the second call of the port of this name are told where they fail.
@@ -167,6 +164,15 @@ impl<'a> Whole<'a> {
         let first = self.left(alloc, Fault::Print(0))?;
         let second = self.left(alloc, Fault::Print(1))?;
         Ok(self.is_cut_off(&first, 0) && self.is_cut_off(&second, PIECE))
+    }
+
+    /// Whether each call is told where it fails.
+    fn fails_as_told(&self, alloc: Global) -> Result<bool, AllocError> {
+        Ok(
+            self.fails_at_calls(alloc)?
+                && self.fails_at_ports(alloc)?
+                && self.fails_at_prints(alloc)?,
+        )
     }
 }
 
@@ -309,9 +315,7 @@ fn failing_calls_are_told_by_each_command(rt: HostRuntime) -> Result<(), Fail> {
         let words = row.0;
         let whole = whole_run(alloc, &files, *row)?;
         assert!(rt; whole.is_done(), "{words:?}");
-        assert_eq!(rt; whole.wrong_call(alloc)?, None, "{words:?}");
-        assert_eq!(rt; whole.wrong_port(alloc)?, None, "{words:?}");
-        assert!(rt; whole.fails_at_prints(alloc)?, "{words:?}");
+        assert!(rt; whole.fails_as_told(alloc)?, "{words:?}");
     }
     Ok(())
 }

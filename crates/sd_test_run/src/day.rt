@@ -203,7 +203,7 @@ pub(crate) fn comes(
     printed: &str,
 ) -> Result<bool, AllocError> {
     let answer = answered(alloc, depot, words)?;
-    Ok(answer.0 == status && answer.1.as_slice() == printed.as_bytes())
+    Ok(answer.0.code() == status.code() && answer.1.as_slice() == printed.as_bytes())
 }
 
 /// What the words come to, and what is printed.

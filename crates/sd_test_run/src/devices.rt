@@ -1,5 +1,5 @@
 use crate::changes::{Change, PACKET, changed};
-use crate::hostile::{PMT, PMT_AT, Sent, broadcast, card, received};
+use crate::hostile::{PMT, PMT_AT, RECEIVE, Sent, broadcast, card, received};
 use sd_test_memory::{Fault, left};
 use sd_test_texts::BOOK;
 use std::alloc::{AllocError, Global};
@@ -96,8 +96,7 @@ fn is_due(alloc: Global, sent: &Sent, card: &[u8], row: Row<'_>) -> Result<bool,
     let card = changed(alloc, card, row.card)?;
     let stream = changed(alloc, &sent.stream, row.stream)?;
     let files = received(alloc, &card, &stream)?;
-    let words = ["receive", "K", "X", "O"];
-    let left = left(alloc, &files, &words, PACKET, row.fault)?;
+    let left = left(alloc, &files, &RECEIVE, PACKET, row.fault)?;
     let length = match &left.out {
         Some(out) => out.len(),
         None => 0,

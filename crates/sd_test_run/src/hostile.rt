@@ -1,6 +1,6 @@
 use crate::changes::{Change, PACKET, changed};
 use crate::sums::has_sum;
-use sd_test_memory::{Fault, Files, Leaving, left, made};
+use sd_test_memory::{Fault, Files, left, made};
 use sd_test_texts::BOOK;
 use std::alloc::{AllocError, Global};
 use std::test::Fail;
@@ -45,6 +45,9 @@ pub(crate) const PMT: [u8; 32] = [
     0x02, 0xB0, 0x17, 0x00, 0x01, 0xC1, 0x00, 0x00, 0xE1, 0x00, 0xF0, 0x00, 0x1B, 0xE1, 0x00, 0xF0,
     0x00, 0x0F, 0xE1, 0x01, 0xF0, 0x00, 0x2F, 0x44, 0xB9, 0x9B, 0xFF, 0xFF, 0xFF, 0xFF, 0xFF, 0xFF,
 ];
+
+/// The arguments under which the card is received.
+pub(crate) static RECEIVE: [&str; 4] = ["receive", "K", "X", "O"];
 
 /// Where the PMT section of packet 4 begins.
 pub(crate) const PMT_AT: usize = 4 * PACKET + 5;
@@ -167,8 +170,7 @@ fn is_due(alloc: Global, sent: &Sent, card: &[u8], row: Row, exit: u8) -> Result
     let (changes, sum, line, length) = row;
     let stream = changed(alloc, &sent.stream, changes)?;
     let files = received(alloc, card, &stream)?;
-    let words = ["receive", "K", "X", "O"];
-    let left = left(alloc, &files, &words, 1000, Fault::Nowhere)?;
+    let left = left(alloc, &files, &RECEIVE, 1000, Fault::Nowhere)?;
     let written = match &left.out {
         Some(out) => out.len(),
         None => 0,
@@ -191,8 +193,8 @@ fn changed_streams_are_refused_by_name(rt: HostRuntime) -> Result<(), Fail> {
     let card = card(alloc, "0")?;
     for row in &REFUSED {
         let line = row.2;
-        let is_refused = is_due(alloc, &short, &card, *row, STREAM_IS_REFUSED)?;
-        assert!(rt; is_refused, "{line}");
+        let is_due = is_due(alloc, &short, &card, *row, STREAM_IS_REFUSED)?;
+        assert!(rt; is_due, "{line}");
     }
     assert!(rt; is_due(alloc, &short, &card, UNWRITTEN, DONE)?);
     Ok(())
@@ -220,22 +222,30 @@ static CARDS: [(Change<'static>, &str); 7] = [
     ),
 ];
 
-/// What `receive` leaves with the card after a change.
-fn after_change(alloc: Global, card: &[u8], change: Change<'_>) -> Result<Leaving, AllocError> {
+/// Whether `receive` refuses the card after a change, and prints this line.
+fn is_refused(
+    alloc: Global,
+    card: &[u8],
+    change: Change<'_>,
+    line: &str,
+) -> Result<bool, AllocError> {
     let card = changed(alloc, card, &[change])?;
     let files = received(alloc, &card, b"")?;
-    let words = ["receive", "K", "X", "O"];
-    left(alloc, &files, &words, 100, Fault::Nowhere)
+    let left = left(alloc, &files, &RECEIVE, 100, Fault::Nowhere)?;
+    Ok(
+        left.status.code() == 8
+            && left.printed.as_slice() == line.as_bytes()
+            && left.out.is_none()
+            && left.stayed
+            && !left.failed,
+    )
 }
 
 #[test]
 fn changed_cards_are_refused_by_name(rt: HostRuntime) -> Result<(), Fail> {
     let whole = card(rt.alloc(), "5")?;
     for (change, line) in &CARDS {
-        let left = after_change(rt.alloc(), &whole, *change)?;
-        assert!(rt; left.status.code() == 8, "{line}");
-        assert!(rt; left.printed.as_slice() == line.as_bytes(), "{line}");
-        assert!(rt; left.out.is_none() && left.stayed && !left.failed, "{line}");
+        assert!(rt; is_refused(rt.alloc(), &whole, *change, line)?, "{line}");
     }
     Ok(())
 }

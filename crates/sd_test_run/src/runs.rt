@@ -297,18 +297,24 @@ fn words_and_periods_are_those_of_the_site(rt: HostRuntime) -> Result<(), AllocE
     Ok(())
 }
 
+/// The broadcast without these packets.
+fn lossy(alloc: Global, depot: &MemDepot, lost: &[usize]) -> Result<Vec<u8>, AllocError> {
+    let mut left = file(alloc, depot, "sent")?;
+    for packet in lost.iter().rev() {
+        left = without(alloc, &left, *packet)?;
+    }
+    Ok(left)
+}
+
 #[test]
 fn losses_of_a_later_run_are_counted(rt: HostRuntime) -> Result<(), AllocError> {
     let alloc = rt.alloc();
     let mut depot = shelf(alloc, LATER)?;
     answered(alloc, &mut depot, "head site book clear sent")?;
     for (lost, row) in &LOSSES {
-        let mut lossy = file(alloc, &depot, "sent")?;
-        for packet in lost.iter().rev() {
-            lossy = without(alloc, &lossy, *packet)?;
-        }
+        let lossy = lossy(alloc, &depot, lost)?;
         put(alloc, &mut depot, "lossy", &lossy)?;
-        assert!(rt; goes(alloc, &mut depot, *row)?, "{lost:?} {row:?}");
+        assert!(rt; goes(alloc, &mut depot, *row)?, "{row:?}");
     }
     Ok(())
 }

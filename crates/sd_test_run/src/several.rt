@@ -80,10 +80,9 @@ pub(crate) fn two_time_pads(one: &Run, two: &Run) -> Option<usize> {
 fn words_of_their_own_keep_keystreams_apart(rt: HostRuntime) -> Result<(), AllocError> {
     let alloc = rt.alloc();
     let first = broadcast_of(alloc, "", "sample 7 60 clear")?;
-    assert_eq!(rt; first.sent.len(), 57);
     let again = broadcast_of(alloc, "", "sample 8 60 clear")?;
-    assert_eq!(rt; two_time_pads(&first, &again), Some(57));
     let apart = broadcast_of(alloc, "messages 1\nfirst-word 2\n", "sample 8 60 clear")?;
-    assert_eq!(rt; two_time_pads(&first, &apart), Some(0));
+    assert!(rt; first.sent.len() == 57 && two_time_pads(&first, &again) == Some(57));
+    assert!(rt; two_time_pads(&first, &apart) == Some(0));
     Ok(())
 }

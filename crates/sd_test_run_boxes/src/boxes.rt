@@ -2,7 +2,8 @@ use crate::broadcasts::{
     FIRST, LONG, OLDER_FIRST, OLDER_SECOND, SECOND, SECOND_REVOKING, THIRD, file, has_digest, shelf,
 };
 use crate::receptions::{Row, is_due};
-use std::alloc::AllocError;
+use sd_ports_memory::MemDepot;
+use std::alloc::{AllocError, Global};
 
 // Whole broadcasts of version 3 one behind the other.
 static WHOLE: [Row; 4] = [
@@ -207,48 +208,66 @@ static HELD: [Row; 2] = [
     },
 ];
 
+/// The first row of which a receiver makes something else than it says.
+fn wrong_row(
+    alloc: Global,
+    depot: &mut MemDepot,
+    rows: &'static [Row],
+) -> Result<Option<&'static Row>, AllocError> {
+    for row in rows {
+        if !is_due(alloc, depot, row)? {
+            return Ok(Some(row));
+        }
+    }
+    Ok(None)
+}
+
+/// The first wrong row over the broadcasts of these commands.
+fn first_wrong(
+    alloc: Global,
+    heads: &[&str],
+    rows: &'static [Row],
+) -> Result<Option<&'static Row>, AllocError> {
+    let mut depot = shelf(alloc, heads)?;
+    wrong_row(alloc, &mut depot, rows)
+}
+
 #[test]
 fn whole_broadcasts_are_written_in_any_order(rt: HostRuntime) -> Result<(), AllocError> {
-    let mut depot = shelf(rt.alloc(), &[FIRST, SECOND, THIRD])?;
-    for row in &WHOLE {
-        assert!(rt; is_due(rt.alloc(), &mut depot, row)?, "{row:?}");
-    }
+    let wrong = first_wrong(rt.alloc(), &[FIRST, SECOND, THIRD], &WHOLE)?;
+    assert!(rt; wrong.is_none(), "{wrong:?}");
     Ok(())
 }
 
 #[test]
 fn only_version_3_names_its_broadcast(rt: HostRuntime) -> Result<(), AllocError> {
-    let mut depot = shelf(rt.alloc(), &[OLDER_FIRST, OLDER_SECOND, SECOND])?;
-    for row in &OLDER {
-        assert!(rt; is_due(rt.alloc(), &mut depot, row)?, "{row:?}");
-    }
+    let wrong = first_wrong(rt.alloc(), &[OLDER_FIRST, OLDER_SECOND, SECOND], &OLDER)?;
+    assert!(rt; wrong.is_none(), "{wrong:?}");
     Ok(())
 }
 
 #[test]
 fn broadcasts_that_broke_off_end_at_the_next(rt: HostRuntime) -> Result<(), AllocError> {
-    let mut depot = shelf(rt.alloc(), &[FIRST, SECOND, OLDER_FIRST, OLDER_SECOND])?;
-    for row in &BROKEN {
-        assert!(rt; is_due(rt.alloc(), &mut depot, row)?, "{row:?}");
-    }
+    let wrong = first_wrong(
+        rt.alloc(),
+        &[FIRST, SECOND, OLDER_FIRST, OLDER_SECOND],
+        &BROKEN,
+    )?;
+    assert!(rt; wrong.is_none(), "{wrong:?}");
     Ok(())
 }
 
 #[test]
 fn revocations_are_those_of_each_broadcast(rt: HostRuntime) -> Result<(), AllocError> {
-    let mut depot = shelf(rt.alloc(), &[FIRST, SECOND_REVOKING, THIRD])?;
-    for row in &REVOKED {
-        assert!(rt; is_due(rt.alloc(), &mut depot, row)?, "{row:?}");
-    }
+    let wrong = first_wrong(rt.alloc(), &[FIRST, SECOND_REVOKING, THIRD], &REVOKED)?;
+    assert!(rt; wrong.is_none(), "{wrong:?}");
     Ok(())
 }
 
 #[test]
 fn losses_cost_their_own_broadcast_alone(rt: HostRuntime) -> Result<(), AllocError> {
-    let mut depot = shelf(rt.alloc(), &[FIRST, SECOND, THIRD])?;
-    for row in &LOSSES {
-        assert!(rt; is_due(rt.alloc(), &mut depot, row)?, "{row:?}");
-    }
+    let wrong = first_wrong(rt.alloc(), &[FIRST, SECOND, THIRD], &LOSSES)?;
+    assert!(rt; wrong.is_none(), "{wrong:?}");
     Ok(())
 }
 
@@ -259,8 +278,7 @@ fn packets_held_at_a_seam_are_dropped(rt: HostRuntime) -> Result<(), AllocError>
         let broadcast = file(rt.alloc(), &depot, name)?;
         assert!(rt; has_digest(&broadcast, digest), "{name}");
     }
-    for row in &HELD {
-        assert!(rt; is_due(rt.alloc(), &mut depot, row)?, "{row:?}");
-    }
+    let wrong = wrong_row(rt.alloc(), &mut depot, &HELD)?;
+    assert!(rt; wrong.is_none(), "{wrong:?}");
     Ok(())
 }

@@ -26,7 +26,7 @@ pub(crate) const OLDER_FIRST: &str = "head site-older-first empty clear-7 older-
 pub(crate) const OLDER_SECOND: &str = "head site-older-second empty clear-8 older-second";
 
 /// The commands of two broadcasts of 4,200 clear packets, whose second ECM is behind 4,096 of them.
-pub(crate) const LONG: [&str; 4] = [
+pub(crate) static LONG: [&str; 4] = [
     "sample 7 4200 long-clear-7",
     "sample 8 4200 long-clear-8",
     "head site-long-first empty long-clear-7 long-first",

@@ -17,9 +17,11 @@ static DIGESTS: [(&str, &str); 4] = [
 const EMM: &str = "8ab0500000c1000000000001000000010001\
 1dcd30913b9a37b4772694d78c1d7f2f0000000201";
 
-// The packets of the second broadcast with its ECMs: how each section begins, then t, and `since` with the run's name
-// behind it.
-static ECMS: [(usize, [u8; 3], [u8; 4], [u8; 8]); 4] = [
+/// A packet of the second broadcast with an ECM: how its section begins, then t, and `since` with the run's name behind
+/// it.
+type Ecm = (usize, [u8; 3], [u8; 4], [u8; 8]);
+
+static ECMS: [Ecm; 4] = [
     (
         2,
         [0x88, 0xB0, 0x53],
@@ -71,22 +73,38 @@ fn has(stream: &[u8], packet: usize, at: usize, due: &[u8]) -> bool {
     }
 }
 
+/// Whether the EMM section stands in packet 1 of a stream.
+fn has_emm(stream: &[u8]) -> bool {
+    match <[u8; 39]>::from_hex(EMM) {
+        Ok(emm) => has(stream, 1, 0, &emm),
+        Err(_) => false,
+    }
+}
+
+/// Whether a stream has an ECM as its row says.
+fn has_ecm(stream: &[u8], row: &Ecm) -> bool {
+    let (packet, first, t, since) = row;
+    has(stream, *packet, 0, first)
+        && has(stream, *packet, T, t)
+        && has(stream, *packet, SINCE, since)
+}
+
 #[test]
 fn messages_name_their_run(rt: HostRuntime) -> Result<(), AllocError> {
     let alloc = rt.alloc();
     let depot = shelf(alloc, &[FIRST, SECOND, THIRD, SECOND_REVOKING])?;
     for (name, digest) in &DIGESTS {
         let broadcast = file(alloc, &depot, name)?;
-        assert_eq!(rt; broadcast.len(), 608 * PACKET, "{name}");
-        assert!(rt; has_digest(&broadcast, digest), "{name}");
+        assert!(rt;
+            broadcast.len() == 608 * PACKET && has_digest(&broadcast, digest),
+            "{name}"
+        );
     }
     let stream = file(alloc, &depot, "second")?;
-    let emm = <[u8; 39]>::from_hex(EMM).unwrap_or([0; 39]);
-    assert!(rt; has(&stream, 1, 0, &emm));
-    for (packet, first, t, since) in &ECMS {
-        assert!(rt; has(&stream, *packet, 0, first), "{packet}");
-        assert!(rt; has(&stream, *packet, T, t), "{packet}");
-        assert!(rt; has(&stream, *packet, SINCE, since), "{packet}");
+    assert!(rt; has_emm(&stream));
+    for row in &ECMS {
+        let packet = row.0;
+        assert!(rt; has_ecm(&stream, row), "{packet}");
     }
     Ok(())
 }
@@ -96,11 +114,11 @@ fn lines_of_messages_have_the_run(rt: HostRuntime) -> Result<(), AllocError> {
     let alloc = rt.alloc();
     let mut depot = shelf(alloc, &[SECOND])?;
     let (status, printed) = answered(alloc, &mut depot, "messages site-second second")?;
-    assert_eq!(rt; status.code(), 0);
     let mut lines = printed.split(|byte| *byte == b'\n');
-    assert!(rt; lines.next() == Some(EMM_LINE.as_bytes()));
+    assert!(rt; status.code() == 0 && lines.next() == Some(EMM_LINE.as_bytes()));
     let (status, printed) = answered(alloc, &mut depot, "head site-version-4 empty clear-7 O")?;
-    assert_eq!(rt; status.code(), 6);
-    assert!(rt; printed.as_slice() == b"site line 9 is out of range\n".as_slice());
+    assert!(rt;
+        status.code() == 6 && printed.as_slice() == b"site line 9 is out of range\n".as_slice()
+    );
     Ok(())
 }

@@ -26,21 +26,6 @@ example
   sdca tables broadcast.ts
 ";
 
-// A command, and the lines of exits 1 and 2 in its page: with inputs and OUT, and with OUT alone. They are lines 10
-// and 11 of the page of a command with three arguments.
-static EXITS: [(&str, &str, &str); 2] = [
-    (
-        "receive",
-        "   1  usage: unknown command, wrong number of arguments, text not in UTF-8, or OUT is an input",
-        "   2  the file that argument N names does not exist; for OUT, its folder does not exist",
-    ),
-    (
-        "sample",
-        "   1  usage: unknown command, wrong number of arguments, or text not in UTF-8",
-        "   2  the folder of OUT does not exist",
-    ),
-];
-
 /// The sites of examples/site-1.txt and examples/site-2.txt.
 const FIRST_SITE: &str = site!("messages 3\nfirst-word 0\nlast-word 999\n");
 
@@ -51,8 +36,8 @@ const VERSION: &str = "sdca 1.0.0
 proved in logic dac8208d650f15bf (rattle-kit-13f)
 ";
 
-// The lines of `help` that stand at its ends and beside the longest words.
-static LISTED: [(usize, &str); 4] = [
+/// The lines of `help` that stand at its ends and beside the longest words.
+const LISTED: [(usize, &str); 4] = [
     (
         0,
         "sdca: conditional access for transport streams, by Subset Difference",
@@ -68,6 +53,35 @@ static LISTED: [(usize, &str); 4] = [
     (
         19,
         "  trial SITE BOOK CLEAR        prints what each receiver writes from a broadcast",
+    ),
+];
+
+// The words of `help`, and lines of what it prints: of the list; and of exits 1 and 2 in the page of a command, with
+// inputs and OUT, and with OUT alone. They are lines 10 and 11 of the page of a command with three arguments.
+static PAGES: [(&[&str], &[(usize, &str)]); 3] = [
+    (&["help"], &LISTED),
+    (
+        &["help", "receive"],
+        &[
+            (
+                10,
+                "   1  usage: unknown command, wrong number of arguments, text not in UTF-8, or OUT is an input",
+            ),
+            (
+                11,
+                "   2  the file that argument N names does not exist; for OUT, its folder does not exist",
+            ),
+        ],
+    ),
+    (
+        &["help", "sample"],
+        &[
+            (
+                10,
+                "   1  usage: unknown command, wrong number of arguments, or text not in UTF-8",
+            ),
+            (11, "   2  the folder of OUT does not exist"),
+        ],
     ),
 ];
 
@@ -126,7 +140,7 @@ impl<'a> Due<'a> {
             Some(bytes) => self.out == Some(bytes.as_slice()),
             None => self.out.is_none(),
         };
-        left.status == self.status
+        left.status.code() == self.status.code()
             && left.printed.as_slice() == self.printed.as_bytes()
             && out
             && left.stayed
@@ -147,7 +161,7 @@ fn accounts_are_refused_by_their_line(rt: HostRuntime) -> Result<(), AllocError>
     Ok(())
 }
 
-const HEAD: [&str; 5] = ["head", "S", "B", "C", "O"];
+static HEAD: [&str; 5] = ["head", "S", "B", "C", "O"];
 
 const TORN: Status = Status::BadClear {
     packet: 0,
@@ -166,21 +180,24 @@ fn is_broadcast(alloc: Global, most: usize) -> Result<bool, AllocError>
     };
     let torn = after(alloc, &HEAD, &[("B", b""), ("C", b"period\n")], most)?;
     let is_torn = ending(TORN, "clear packet 0: torn\n", Some(b"")).is_left(&torn);
-    Ok(left.status == Status::Done && is_whole && is_torn)
+    Ok(matches!(left.status, Status::Done) && is_whole && is_torn)
 }
 
-#[test]
-fn broadcasts_are_made(rt: HostRuntime) -> Result<(), AllocError> {
-    let alloc = rt.alloc();
-    assert!(rt; is_broadcast(alloc, 1)?);
-    assert!(rt; is_broadcast(alloc, 1000)?);
+/// Whether a device's fault is told where there is room for a part of a broadcast alone.
+fn is_cut(alloc: Global) -> Result<bool, AllocError> {
     let mut files = Files::new(alloc)?;
     files.add(alloc, "B", b"")?;
     files.add(alloc, "C", b"")?;
     files.room = 200;
     let cut = left(alloc, &files, &HEAD, 100, Fault::Nowhere)?;
-    assert!(rt; cut.status == Status::DepotFault);
-    assert!(rt; cut.out.is_some_and(|out| out.len() < 564));
+    Ok(matches!(cut.status, Status::DepotFault) && cut.out.is_some_and(|out| out.len() < 564))
+}
+
+#[test]
+fn broadcasts_are_made(rt: HostRuntime) -> Result<(), AllocError> {
+    let alloc = rt.alloc();
+    assert!(rt; is_broadcast(alloc, 1)? && is_broadcast(alloc, 1000)?);
+    assert!(rt; is_cut(alloc)?);
     Ok(())
 }
 
@@ -241,22 +258,37 @@ fn messages_are_printed(rt: HostRuntime) -> Result<(), AllocError> {
     Ok(())
 }
 
-#[test]
-fn cards_are_shown(rt: HostRuntime) -> Result<(), AllocError> {
-    let alloc = rt.alloc();
-    let line =
-        "{\"card\":\"plain\",\"check\":\"058ed3587196e436f13871ca96cfc690\",\"height\":1,\"labels\":1,\"leaf\":0,\"system\":38646}\n";
-    let mut card = hex::decode(
+/// What `show` prints of a card.
+const SHOWN: &str =
+    "{\"card\":\"plain\",\"check\":\"058ed3587196e436f13871ca96cfc690\",\"height\":1,\"labels\":1,\"leaf\":0,\"system\":38646}\n";
+
+/// The card.
+fn shown_card(alloc: Global) -> Result<Vec<u8>, AllocError> {
+    hex::decode(
         alloc,
         "5344434401010000000096f685e5892971494fcc50e75b868272f7e50f7f27effca8c87c30598ab380d78ee67ab9bfe7bcc2714019729b03ccf923995ff581dd4f2a0798390b367dfa2294ff058ed3587196e436f13871ca96cfc690",
     )
-    .map_err(|_| AllocError)?;
-    let left = after(alloc, &["show", "K"], &[("K", &card)], 100)?;
-    assert!(rt; printed(line).is_left(&left));
+    .map_err(|_| AllocError)
+}
+
+/// Whether `show` has this exit for a card, prints this line and makes nothing.
+fn is_shown(alloc: Global, card: &[u8], exit: u8, line: &str) -> Result<bool, AllocError> {
+    let left = after(alloc, &["show", "K"], &[("K", card)], 100)?;
+    Ok(
+        left.status.code() == exit
+            && left.printed.as_slice() == line.as_bytes()
+            && left.out.is_none()
+            && left.stayed,
+    )
+}
+
+#[test]
+fn cards_are_shown(rt: HostRuntime) -> Result<(), AllocError> {
+    let alloc = rt.alloc();
+    let mut card = shown_card(alloc)?;
+    assert!(rt; is_shown(alloc, &card, 0, SHOWN)?);
     card.truncate(91);
-    let left = after(alloc, &["show", "K"], &[("K", &card)], 100)?;
-    assert!(rt; left.status.code() == 8);
-    assert!(rt; left.printed.as_slice() == b"card: length\n".as_slice());
+    assert!(rt; is_shown(alloc, &card, 8, "card: length\n")?);
     Ok(())
 }
 
@@ -267,23 +299,35 @@ static HELPS: [(&[&str], Status, &str); 3] = [
     (&["help", "Tables"], Status::Usage, "usage\n"),
 ];
 
+/// Whether the words have this status and print this text.
+fn is_helped(
+    alloc: Global,
+    words: &[&str],
+    status: Status,
+    text: &str,
+) -> Result<bool, AllocError> {
+    let left = after(alloc, words, &[], 4096)?;
+    Ok(ending(status, text, None).is_left(&left))
+}
+
+/// Whether `help` with these words prints these lines at their places.
+fn are_on_page(alloc: Global, words: &[&str], lines: &[(usize, &str)]) -> Result<bool, AllocError> {
+    let page = after(alloc, words, &[], 4096)?;
+    for (place, line) in lines {
+        if !has_line(&page.printed, *place, line.as_bytes()) {
+            return Ok(false);
+        }
+    }
+    Ok(true)
+}
+
 #[test]
 fn help_and_version_are_printed(rt: HostRuntime) -> Result<(), AllocError> {
     for (words, status, text) in &HELPS {
-        let left = after(rt.alloc(), words, &[], 4096)?;
-        assert!(rt; ending(*status, text, None).is_left(&left), "{words:?}");
+        assert!(rt; is_helped(rt.alloc(), words, *status, text)?, "{words:?}");
     }
-    let list = after(rt.alloc(), &["help"], &[], 4096)?;
-    for (place, line) in &LISTED {
-        assert!(rt; has_line(&list.printed, *place, line.as_bytes()), "{line}");
-    }
-    for (command, usage, missing) in &EXITS {
-        let page = after(rt.alloc(), &["help", command], &[], 4096)?;
-        assert!(rt; has_line(&page.printed, 10, usage.as_bytes()), "{command}");
-        assert!(rt;
-            has_line(&page.printed, 11, missing.as_bytes()),
-            "{command}"
-        );
+    for (words, lines) in &PAGES {
+        assert!(rt; are_on_page(rt.alloc(), words, lines)?, "{words:?}");
     }
     Ok(())
 }
@@ -371,8 +415,8 @@ static OPENED: [Row; 7] = [
 
 #[test]
 fn sets_are_open_or_shut(rt: HostRuntime) -> Result<(), AllocError> {
-    for row in &OPENED {
-        assert!(rt; is_answered(rt.alloc(), "opens", *row)?, "{row:?}");
+    for (place, row) in OPENED.iter().enumerate() {
+        assert!(rt; is_answered(rt.alloc(), "opens", *row)?, "row {place}");
     }
     Ok(())
 }
@@ -407,8 +451,8 @@ static TRACED: [Row; 5] = [
 
 #[test]
 fn coalitions_are_traced(rt: HostRuntime) -> Result<(), AllocError> {
-    for row in &TRACED {
-        assert!(rt; is_answered(rt.alloc(), "trace", *row)?, "{row:?}");
+    for (place, row) in TRACED.iter().enumerate() {
+        assert!(rt; is_answered(rt.alloc(), "trace", *row)?, "row {place}");
     }
     Ok(())
 }

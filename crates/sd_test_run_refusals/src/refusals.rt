@@ -531,13 +531,26 @@ fn length(left: &Leaving) -> Option<usize> {
     left.out.as_ref().map(|out| out.len())
 }
 
+/// Whether a command ended with this exit, and printed this line.
+fn is_ended(left: &Leaving, exit: u8, line: &str) -> bool {
+    left.status.code() == exit && left.printed.as_slice() == line.as_bytes()
+}
+
+/// Whether a command is done, and prints so many lines that begin so.
+fn is_listed(left: &Leaving, start: &str, lines: usize) -> bool {
+    left.status.code() == 0
+        && left.printed.starts_with(start.as_bytes())
+        && left.printed.iter().filter(|byte| **byte == b'\n').count() == lines
+}
+
 #[test]
 fn refusals_are_by_name(rt: HostRuntime) -> Result<(), AllocError> {
     for (words, site, f, g, exit, line) in &REFUSALS {
         let left = after(rt.alloc(), words, *site, f, g)?;
-        assert_eq!(rt; left.status.code(), *exit, "{words} {line}");
-        assert_eq!(rt; left.printed.as_slice(), line.as_bytes(), "{words}");
-        assert!(rt; left.out.is_none(), "{words} {line}");
+        assert!(rt;
+            is_ended(&left, *exit, line) && left.out.is_none(),
+            "{words} {line}"
+        );
     }
     Ok(())
 }
@@ -546,13 +559,7 @@ fn refusals_are_by_name(rt: HostRuntime) -> Result<(), AllocError> {
 fn lists_at_a_limit_are_printed(rt: HostRuntime) -> Result<(), AllocError> {
     for (words, site, f, g, start, lines) in &LISTED {
         let left = after(rt.alloc(), words, *site, f, g)?;
-        assert_eq!(rt; left.status.code(), 0, "{words} {start}");
-        assert!(rt;
-            left.printed.starts_with(start.as_bytes()),
-            "{words} {start}"
-        );
-        let count = left.printed.iter().filter(|byte| **byte == b'\n').count();
-        assert_eq!(rt; count, *lines, "{words} {start}");
+        assert!(rt; is_listed(&left, start, *lines), "{words} {start}");
     }
     Ok(())
 }
@@ -561,9 +568,10 @@ fn lists_at_a_limit_are_printed(rt: HostRuntime) -> Result<(), AllocError> {
 fn unfit_streams_are_refused_by_name(rt: HostRuntime) -> Result<(), AllocError> {
     for (clear, line, out) in &UNFIT {
         let left = after(rt.alloc(), "head S F G O", S, NONE, clear)?;
-        assert_eq!(rt; left.status.code(), 9, "{line}");
-        assert_eq!(rt; left.printed.as_slice(), line.as_bytes());
-        assert_eq!(rt; length(&left), Some(*out), "{line}");
+        assert!(rt;
+            is_ended(&left, 9, line) && length(&left) == Some(*out),
+            "{line}"
+        );
     }
     Ok(())
 }
@@ -580,12 +588,7 @@ fn a_refusal_is_answered_if_out_fails_to_close(rt: HostRuntime) -> Result<(), Al
         SCRAMBLED,
         Fault::Call(4),
     )?;
-    assert!(rt; left.failed);
-    assert_eq!(rt; left.status.code(), 9);
-    assert_eq!(rt;
-        left.printed.as_slice(),
-        "clear packet 1: already scrambled\n".as_bytes()
-    );
+    assert!(rt; left.failed && is_ended(&left, 9, "clear packet 1: already scrambled\n"));
     Ok(())
 }
 
@@ -593,9 +596,10 @@ fn a_refusal_is_answered_if_out_fails_to_close(rt: HostRuntime) -> Result<(), Al
 fn streams_at_a_limit_are_broadcast(rt: HostRuntime) -> Result<(), AllocError> {
     for (site, book, clear, out) in &FIT {
         let left = after(rt.alloc(), "head S F G O", *site, book, clear)?;
-        assert_eq!(rt; left.status.code(), 0, "{out}");
-        assert!(rt; left.printed.is_empty(), "{out}");
-        assert_eq!(rt; length(&left), Some(*out));
+        assert!(rt;
+            is_ended(&left, 0, "") && length(&left) == Some(*out),
+            "{out}"
+        );
     }
     Ok(())
 }

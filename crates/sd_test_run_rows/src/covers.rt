@@ -71,7 +71,7 @@ fn is_as_defined(alloc: Global, site: &str, d: u32, leaves: u32) -> Result<bool,
         65_536,
         Fault::Nowhere,
     )?;
-    Ok(status == Status::Done && printed.as_slice() == due.as_bytes())
+    Ok(matches!(status, Status::Done) && printed.as_slice() == due.as_bytes())
 }
 
 #[test]

@@ -118,7 +118,7 @@ fn is_printed(alloc: Global, row: &Row) -> Result<bool, AllocError> {
     let (more, script, first, wrote) = row;
     let left = after(alloc, more, script)?;
     let due = lines(alloc, first, wrote)?;
-    Ok(left.status == Status::Done && left.printed.as_slice() == due.as_bytes())
+    Ok(matches!(left.status, Status::Done) && left.printed.as_slice() == due.as_bytes())
 }
 
 #[test]
@@ -136,8 +136,15 @@ const ONE_WORD: &str = "messages 1\nfirst-word 7\nlast-word 7\nfirst-period 0\n"
 #[test]
 fn refused_sends_are_told_alone(rt: HostRuntime) -> Result<(), AllocError> {
     let left = after(rt.alloc(), ONE_WORD, "send 401\noffer 0 405\n")?;
-    let cause = ClearCause::TooLong;
-    assert!(rt; left.status == Status::BadClear { packet: 400, cause });
-    assert!(rt; left.printed.as_slice() == b"clear packet 400: too long\n".as_slice());
+    let is_refused = matches!(
+        left.status,
+        Status::BadClear {
+            packet: 400,
+            cause: ClearCause::TooLong
+        }
+    );
+    assert!(rt;
+        is_refused && left.printed.as_slice() == b"clear packet 400: too long\n".as_slice()
+    );
     Ok(())
 }

@@ -1,4 +1,5 @@
-//! Tests of the program's one call: rows of words, books, sites and files, and the covers of all books of small trees.
+//! Tests of the program's one call: rows of words, books, sites, files and fields, and the covers of all books of small
+//! trees.
 #![tactic(auto)]
 
 #[cfg(test)]

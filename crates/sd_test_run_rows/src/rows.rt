@@ -140,7 +140,7 @@ static BOOKS: [(&[u8], Status, &str); 19] = [
 fn is_answered(alloc: Global, book: &[u8], status: Status, text: &str) -> Result<bool, AllocError> {
     for most in [1, 3, 1000] {
         let (told, printed) = covered(alloc, SITE.as_bytes(), book, most, Fault::Nowhere)?;
-        if told != status || printed.as_slice() != text.as_bytes() {
+        if told.code() != status.code() || printed.as_slice() != text.as_bytes() {
             return Ok(false);
         }
     }
@@ -261,7 +261,11 @@ fn is_judged(
     text: &str,
 ) -> Result<bool, AllocError> {
     let left = over(alloc, words, site, b"revoke 5\n", 7, Fault::Nowhere)?;
-    Ok(left.status == status && left.printed.as_slice() == text.as_bytes() && left.out.is_none())
+    Ok(
+        left.status.code() == status.code()
+            && left.printed.as_slice() == text.as_bytes()
+            && left.out.is_none(),
+    )
 }
 
 /// A site with a byte more than a site has at most.
@@ -301,12 +305,12 @@ fn is_card_made(alloc: Global) -> Result<bool, AllocError> {
     let made = left_in(alloc, 252, &words, 100, Fault::Print(0))?;
     let cut = left_in(alloc, 251, &words, 100, Fault::Nowhere)?;
     Ok(
-        made.status == Status::Done
+        matches!(made.status, Status::Done)
             && made.printed.is_empty()
             && made
                 .out
                 .is_some_and(|out| out.as_slice() == card.as_slice())
-            && cut.status == Status::DepotFault
+            && matches!(cut.status, Status::DepotFault)
             && cut.printed.as_slice() == b"device fault\n".as_slice()
             && cut
                 .out
@@ -325,7 +329,7 @@ fn is_sampled(
     let words = ["sample", "0", packets, "O"];
     let made = left_in(alloc, 1000, &words, 1000, Fault::Nowhere)?;
     Ok(
-        made.status == Status::Done
+        matches!(made.status, Status::Done)
             && made
                 .out
                 .is_some_and(|out| has_fourth(out.as_slice(), length, start)),
@@ -337,15 +341,20 @@ fn has_fourth(stream: &[u8], length: usize, start: &[u8]) -> bool {
     stream.len() == length && stream.get(564..).is_none_or(|last| last.starts_with(start))
 }
 
+/// Whether a device's fault is told where there is room for a part of a sample stream alone.
+fn is_sample_cut(alloc: Global) -> Result<bool, AllocError> {
+    let words = ["sample", "0", "4", "O"];
+    let cut = left_in(alloc, 564, &words, 100, Fault::Nowhere)?;
+    Ok(matches!(cut.status, Status::DepotFault) && cut.out.is_some_and(|out| out.len() < 752))
+}
+
 #[test]
 fn files_are_made(rt: HostRuntime) -> Result<(), AllocError> {
     let alloc = rt.alloc();
     assert!(rt; is_card_made(alloc)?);
     assert!(rt; is_sampled(alloc, "0", 0, b"")?);
     assert!(rt; is_sampled(alloc, "4", 752, &[0x47, 1, 1, 0x10, 0x14])?);
-    let cut = left_in(alloc, 564, &["sample", "0", "4", "O"], 100, Fault::Nowhere)?;
-    assert!(rt; cut.status == Status::DepotFault);
-    assert!(rt; cut.out.is_some_and(|out| out.len() < 752));
+    assert!(rt; is_sample_cut(alloc)?);
     Ok(())
 }
 
@@ -375,7 +384,7 @@ fn is_tabled(
     let left = over(alloc, &["tables", "S"], stream, b"", 100, Fault::Nowhere)?;
     let mut due = Vec::from_slice(alloc, lines.as_bytes())?;
     due.extend_from_slice(last.as_bytes())?;
-    Ok(left.status == status && left.printed.as_slice() == due.as_slice())
+    Ok(left.status.code() == status.code() && left.printed.as_slice() == due.as_slice())
 }
 
 const TORN: Status = Status::BadStream {
@@ -388,6 +397,28 @@ const NO_SYNC: Status = Status::BadStream {
     cause: StreamCause::Broken(BreakCause::NoSync),
 };
 
+/// Whether a byte more is told after all tables, and after the first where it stands behind the first packet.
+fn is_told_longer(alloc: Global, whole: &[u8], first: &str) -> Result<bool, AllocError> {
+    let torn = with_byte(alloc, whole, 564, 0x47)?;
+    let shifted = with_byte(alloc, whole, 188, 0xFF)?;
+    Ok(
+        is_tabled(alloc, &torn, TORN, TABLES, "stream packet 3: torn\n")?
+            && is_tabled(
+                alloc,
+                &shifted,
+                NO_SYNC,
+                first,
+                "stream packet 1: no sync\n",
+            )?,
+    )
+}
+
+/// Whether the first line alone is printed where the second print fails.
+fn is_print_failed(alloc: Global, whole: &[u8], first: &str) -> Result<bool, AllocError> {
+    let left = over(alloc, &["tables", "S"], whole, b"", 100, Fault::Print(1))?;
+    Ok(matches!(left.status, Status::PrintFault) && left.printed.as_slice() == first.as_bytes())
+}
+
 #[test]
 fn tables_are_printed(rt: HostRuntime) -> Result<(), AllocError> {
     let alloc = rt.alloc();
@@ -395,21 +426,8 @@ fn tables_are_printed(rt: HostRuntime) -> Result<(), AllocError> {
     let first = &TABLES[..PAT_LINE];
     assert!(rt; is_tabled(alloc, b"", Status::Done, "", "")?);
     assert!(rt; is_tabled(alloc, &whole, Status::Done, TABLES, "")?);
-    let torn = with_byte(alloc, &whole, 564, 0x47)?;
-    assert!(rt; is_tabled(alloc, &torn, TORN, TABLES, "stream packet 3: torn\n")?);
-    let shifted = with_byte(alloc, &whole, 188, 0xFF)?;
-    assert!(rt;
-        is_tabled(
-            alloc,
-            &shifted,
-            NO_SYNC,
-            first,
-            "stream packet 1: no sync\n"
-        )?
-    );
-    let left = over(alloc, &["tables", "S"], &whole, b"", 100, Fault::Print(1))?;
-    assert!(rt; left.status == Status::PrintFault);
-    assert!(rt; left.printed.as_slice() == first.as_bytes());
+    assert!(rt; is_told_longer(alloc, &whole, first)?);
+    assert!(rt; is_print_failed(alloc, &whole, first)?);
     Ok(())
 }
 
@@ -431,12 +449,9 @@ fn a_failed_print_is_told(rt: HostRuntime) -> Result<(), AllocError> {
             4,
             Fault::Print(*failing),
         )?;
+        let is_told = matches!(status, Status::PrintFault) && status.code() == 5;
         assert!(rt;
-            status == Status::PrintFault && status.code() == 5,
-            "{prefix}"
-        );
-        assert!(rt;
-            printed.as_slice().starts_with(prefix.as_bytes()),
+            is_told && printed.starts_with(prefix.as_bytes()),
             "{prefix}"
         );
     }
@@ -451,11 +466,10 @@ fn lines_are_counted(rt: HostRuntime) -> Result<(), AllocError> {
         book.extend_from_slice(b"revoke 5\n")?;
     }
     let (status, _) = covered(alloc, SITE.as_bytes(), &book, 65_536, Fault::Nowhere)?;
-    assert_eq!(rt; status, Status::Limit(LimitKind::Book(BookLimit::Lines)));
+    assert!(rt; matches!(status, Status::Limit(LimitKind::Book(BookLimit::Lines))));
     book.truncate(9 * 1_048_576);
     let (status, printed) = covered(alloc, SITE.as_bytes(), &book, 65_536, Fault::Nowhere)?;
-    assert_eq!(rt; status, Status::Done);
-    assert_eq!(rt; printed.as_slice(), ALL_BUT_FIVE.as_bytes());
+    assert!(rt; matches!(status, Status::Done) && printed.as_slice() == ALL_BUT_FIVE.as_bytes());
     Ok(())
 }
 

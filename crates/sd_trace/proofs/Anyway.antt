@@ -7,12 +7,12 @@ use Rattle.std.proofs.lemmas.Bool.{cases_eq}
 use Rattle.std.proofs.Math.Nat.{le-max_left, le-max_right}
 use Rattle.std.proofs.lemmas.List.Kept.{AllPairs-cons}
 use Rattle.sd_tree.specs.declared.set.SetName.{SetName}
-use Rattle.sd_steiner.specs.Cover.{cover_of}
-use Rattle.sd_steiner.specs.Chains.{IsChainCover}
-use Rattle.sd_steiner.proofs.Covers.{cover_small}
-use Rattle.sd_steiner.proofs.Ends.{AreLeaves}
-use Rattle.sd_steiner.proofs.Lists.{member_first, member_later}
-use Rattle.sd_steiner.proofs.There.{the_cover}
+use Rattle.sd_cover.specs.Cover.{cover_of}
+use Rattle.sd_cover.specs.Chains.{IsChainCover}
+use Rattle.sd_cover.proofs.Covers.{cover_small}
+use Rattle.sd_cover.proofs.Ends.{AreLeaves}
+use Rattle.sd_cover.proofs.Lists.{member_first, member_later}
+use Rattle.sd_cover.proofs.There.{the_cover}
 use Rattle.sd_trace.specs.declared.found.Found.{Found}
 use Rattle.sd_trace.specs.Trace.{IsRound, IsTrace, IsAnyRound, AreAnyRounds, IsCheap}
 use Rattle.sd_trace.proofs.Inside.{round_inside}

@@ -5,8 +5,8 @@ use Rattle.std.specs.Prelude.{◌↔◌, All, Contains}
 use Rattle.std.proofs.lemmas.List.Elements.{All-contains, Contains-get_or}
 use Rattle.sd_tree.specs.declared.set.SetName.{SetName}
 use Rattle.sd_tree.specs.declared.set.SetName.TheVariants.{Whole}
-use Rattle.sd_steiner.proofs.Lists.{member_cases, member_first, member_later}
-use Rattle.sd_steiner.proofs.There.{same_leaves}
+use Rattle.sd_cover.proofs.Lists.{member_cases, member_first, member_later}
+use Rattle.sd_cover.proofs.There.{same_leaves}
 use Rattle.sd_trace.specs.declared.found.Found.{Found}
 use Rattle.sd_trace.specs.Halves.{narrowed}
 use Rattle.sd_trace.specs.Search.{halvings, IsLastOpen}

@@ -14,12 +14,12 @@ use Rattle.sd_tree.specs.declared.set.SetName.{SetName}
 use Rattle.sd_tree.specs.declared.set.SetName.TheVariants.{Whole, Diff}
 use Rattle.sd_tree.proofs.Levels.{depth_at}
 use Rattle.sd_tree.proofs.Members.{member_within}
-use Rattle.sd_steiner.specs.Chains.{IsChainCover}
-use Rattle.sd_steiner.specs.Cover.{cover_of}
-use Rattle.sd_steiner.proofs.Ends.{AreLeaves}
-use Rattle.sd_steiner.proofs.Heights.{of_height}
-use Rattle.sd_steiner.proofs.Lists.{member_cases, member_first, member_later, no_member}
-use Rattle.sd_steiner.proofs.There.{the_cover}
+use Rattle.sd_cover.specs.Chains.{IsChainCover}
+use Rattle.sd_cover.specs.Cover.{cover_of}
+use Rattle.sd_cover.proofs.Ends.{AreLeaves}
+use Rattle.sd_cover.proofs.Heights.{of_height}
+use Rattle.sd_cover.proofs.Lists.{member_cases, member_first, member_later, no_member}
+use Rattle.sd_cover.proofs.There.{the_cover}
 use Rattle.sd_trace.specs.declared.found.Found.{Found}
 use Rattle.sd_trace.specs.Trace.{IsRound, IsTrace}
 use Rattle.sd_trace.proofs.Opening.{leaf_is_fresh}

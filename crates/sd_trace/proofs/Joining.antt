@@ -10,7 +10,7 @@ use Rattle.std.proofs.lemmas.List.Kept.{AllPairs-from_increasing}
 use Rattle.std.proofs.lemmas.List.Sorted.{Contains-permutation, IsPermutation-sym, IsNonDecreasingBy-from_sort}
 use Rattle.std.proofs.lemmas.Map.Keys.{IsDistinct-IsPermutation, IsStrictlyIncreasing-from_distinct}
 use Rattle.std.proofs.lemmas.Map.Made.{IsDistinct-from_AllPairs}
-use Rattle.sd_steiner.proofs.Lists.{once_append, member_cases, no_member}
+use Rattle.sd_cover.proofs.Lists.{once_append, member_cases, no_member}
 
 number_tells : (x y : ℕ) → Decides (nat_eq x y) (x ≡ y)
 number_tells x y = (λ e. eqb-true x y e, λ e. eq-eqb x y e)

@@ -6,7 +6,7 @@ use Rattle.std.specs.Prelude.{◌⊎◌, ◌↔◌, All, Contains, filter, if◌
 use Rattle.std.specs.List.{list_any, range_with_len}
 use Rattle.std.proofs.lemmas.Bool.{cases_eq, cases_lt}
 use Rattle.sd_base.proofs.Lists.{is_found}
-use Rattle.sd_steiner.proofs.Lists.{found_member}
+use Rattle.sd_cover.proofs.Lists.{found_member}
 use Rattle.sd_trace.specs.Trace.{not_among}
 use Rattle.sd_trace.specs.declared.found.Found.{Found}
 use Rattle.sd_trace.specs.Trace.{IsRound}

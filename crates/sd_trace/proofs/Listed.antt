@@ -7,11 +7,11 @@ use Rattle.std.specs.Option.{option_map_or}
 use Rattle.std.proofs.lemmas.List.Elements.{All-nil, All-cons, All-contains, All-weaker}
 use Rattle.std.proofs.lemmas.List.Kept.{AllPairs-cons}
 use Rattle.sd_tree.specs.declared.set.SetName.{SetName}
-use Rattle.sd_steiner.specs.Chains.{IsChainCover}
-use Rattle.sd_steiner.specs.Cover.{cover_of}
-use Rattle.sd_steiner.proofs.Ends.{AreLeaves}
-use Rattle.sd_steiner.proofs.Lists.{member_cases, member_first, member_later}
-use Rattle.sd_steiner.proofs.There.{the_cover}
+use Rattle.sd_cover.specs.Chains.{IsChainCover}
+use Rattle.sd_cover.specs.Cover.{cover_of}
+use Rattle.sd_cover.proofs.Ends.{AreLeaves}
+use Rattle.sd_cover.proofs.Lists.{member_cases, member_first, member_later}
+use Rattle.sd_cover.proofs.There.{the_cover}
 use Rattle.sd_trace.specs.declared.found.Found.{Found}
 use Rattle.sd_trace.specs.Halves.{has_some}
 use Rattle.sd_trace.specs.Search.{IsLastOpen}

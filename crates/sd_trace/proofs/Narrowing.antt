@@ -14,9 +14,10 @@ use Rattle.sd_tree.proofs.Levels.{IsAtLevel, doubled, halved_level, depth_at}
 use Rattle.sd_tree.proofs.Ancestors.{depth_within, leaves_from_above, properly_above_by_levels, above_left, above_right}
 use Rattle.sd_tree.proofs.Members.{lower_is_node, upper_is_node}
 use Rattle.sd_tree.specs.Paths.{sibling_of}
-use Rattle.sd_steiner.proofs.Ends.{sibling_cases}
-use Rattle.sd_steiner.proofs.Levels.{StandsAt, below_either, below_one}
-use Rattle.sd_steiner.proofs.Ancestry.{below_root}
+use Rattle.sd_cover.proofs.Ends.{sibling_cases}
+use Rattle.sd_cover.specs.Walk.{StandsAt}
+use Rattle.sd_cover.proofs.Levels.{below_either, below_one}
+use Rattle.sd_cover.proofs.Ancestry.{below_root}
 use Rattle.sd_trace.specs.Halves.{child_to, halves_of, halves_below, cuts_left, AreHalves, IfHalves}
 
 -- the child towards the lower node is a node between, one level below the upper, and a child

@@ -12,10 +12,10 @@ use Rattle.sd_base.proofs.Lists.{is_found}
 use Rattle.sd_tree.specs.Leaves.{is_member}
 use Rattle.sd_tree.specs.declared.set.SetName.{SetName}
 use Rattle.sd_tree.specs.declared.set.SetName.TheVariants.{Whole}
-use Rattle.sd_steiner.specs.Chains.{IsChainCover}
-use Rattle.sd_steiner.proofs.Covers.{cover_partition}
-use Rattle.sd_steiner.proofs.Partitions.{among_unrevoked}
-use Rattle.sd_steiner.proofs.Lists.{counted_some, found_member}
+use Rattle.sd_cover.specs.Chains.{IsChainCover}
+use Rattle.sd_cover.proofs.Covers.{cover_partition}
+use Rattle.sd_cover.proofs.Partitions.{among_unrevoked}
+use Rattle.sd_cover.proofs.Lists.{counted_some, found_member}
 use Rattle.sd_trace.specs.declared.found.Found.{Found}
 use Rattle.sd_trace.specs.Halves.{has_some, narrowed}
 use Rattle.sd_trace.specs.Search.{IsLastOpen, halvings, opens_some, right_from}

@@ -7,11 +7,11 @@ use Rattle.std.proofs.lemmas.List.Elements.{All-contains, Contains-get_or}
 use Rattle.sd_tree.specs.declared.set.SetName.{SetName}
 use Rattle.sd_tree.specs.declared.set.SetName.TheVariants.{Whole}
 use Rattle.sd_tree.specs.declared.leaf.TheConstants.{MOST_REVOKED}
-use Rattle.sd_steiner.specs.Chains.{IsChainCover}
-use Rattle.sd_steiner.specs.Cover.{cover_of}
-use Rattle.sd_steiner.proofs.Covers.{cover_small}
-use Rattle.sd_steiner.proofs.Heights.{of_height}
-use Rattle.sd_steiner.proofs.There.{the_cover}
+use Rattle.sd_cover.specs.Chains.{IsChainCover}
+use Rattle.sd_cover.specs.Cover.{cover_of}
+use Rattle.sd_cover.proofs.Covers.{cover_small}
+use Rattle.sd_cover.proofs.Heights.{of_height}
+use Rattle.sd_cover.proofs.There.{the_cover}
 use Rattle.sd_trace.specs.declared.found.Found.{Found}
 use Rattle.sd_trace.specs.Rounds.{IsRoundCover, FindsIn, IsLastIn, FindsLast, RoundOf, RoundOfCoalition}
 use Rattle.sd_trace.specs.Trace.{IsAnyRound}

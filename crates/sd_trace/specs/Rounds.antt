@@ -7,8 +7,8 @@ use Rattle.sd_tree.specs.Leaves.{is_member}
 use Rattle.sd_tree.specs.SetNames.{IsOfHeight}
 use Rattle.sd_tree.specs.declared.set.SetName.{SetName}
 use Rattle.sd_tree.specs.declared.set.SetName.TheVariants.{Whole}
-use Rattle.sd_steiner.specs.Chains.{IsChainCover}
-use Rattle.sd_steiner.specs.Cover.{cover_of}
+use Rattle.sd_cover.specs.Chains.{IsChainCover}
+use Rattle.sd_cover.specs.Cover.{cover_of}
 use Rattle.std.specs.List.Sorted.{IsStrictlyIncreasing}
 use Rattle.sd_trace.specs.declared.found.Found.{Found}
 use Rattle.sd_trace.specs.Halves.{has_some, narrowed}

@@ -7,7 +7,7 @@ use Rattle.std.specs.Option.{option_map_or}
 use Rattle.sd_tree.specs.Leaves.{leaves}
 use Rattle.sd_tree.specs.declared.set.SetName.{SetName}
 use Rattle.sd_tree.specs.declared.set.SetName.TheVariants.{Whole}
-use Rattle.sd_steiner.specs.Cover.{cover_of}
+use Rattle.sd_cover.specs.Cover.{cover_of}
 use Rattle.sd_trace.specs.declared.found.Found.{Found}
 use Rattle.sd_trace.specs.Halves.{has_some, narrowed}
 use Rattle.sd_trace.specs.Search.{halvings, IsLastOpen}

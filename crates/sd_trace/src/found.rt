@@ -2,7 +2,7 @@ use sd_tree::Leaf;
 use std::alloc::AllocError;
 
 /// A leaf that was found, with the probes and the cuts that its round took.
-#[derive(Clone, Copy, Debug, PartialEq, Eq)]
+#[derive(Clone, Copy)]
 pub struct Found {
     /// The leaf.
     pub leaf: Leaf,
@@ -13,7 +13,7 @@ pub struct Found {
 }
 
 /// Why a search didn't end.
-#[derive(Clone, Copy, Debug, PartialEq, Eq)]
+#[derive(Clone, Copy)]
 pub enum TraceFault {
     /// A leaf was found while 65,536 were revoked or found.
     TooMany,

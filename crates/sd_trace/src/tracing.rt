@@ -13,7 +13,7 @@ use crate::found::{Found, TraceFault};
 use crate::narrow::narrow;
 use crate::search::last_open;
 use crate::target::TestBox;
-use sd_steiner::{CoverFault, cover};
+use sd_cover::{CoverFault, cover};
 use sd_tree::{Height, Leaf, MOST_REVOKED, SetName};
 use std::alloc::{AllocError, Global};
 

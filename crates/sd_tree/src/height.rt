@@ -6,7 +6,7 @@ use std::marker::Model;
 pub const HIGHEST: u8 = 20;
 
 /// The height of a tree of receivers, 1 to 20.
-#[derive(Clone, Copy, Debug, PartialEq, Eq)]
+#[derive(Clone, Copy, PartialEq, Eq)]
 pub struct Height {
     depth: u8,
 }

@@ -9,7 +9,7 @@ use std::marker::Model;
 pub const MOST_REVOKED: usize = 65_536;
 
 /// A leaf of a tree of receivers, numbered from 0 at the left.
-#[derive(Clone, Copy, Debug, PartialEq, Eq, PartialOrd, Ord)]
+#[derive(Clone, Copy, PartialEq, Eq, PartialOrd, Ord)]
 pub struct Leaf {
     number: u32,
 }

@@ -10,7 +10,7 @@ use std::cmp::Ordering;
 
 /// The name of a set of leaves: all of them, or S(i,j), those below node i that aren't below j
 /// (Naor, Naor and Lotspiech, 2001, 3.2). The order is `Whole` first, then by i, then by j.
-#[derive(Clone, Copy, Debug, PartialEq, Eq, PartialOrd, Ord)]
+#[derive(Clone, Copy, PartialEq, Eq, PartialOrd, Ord)]
 pub enum SetName {
     /// The set of all leaves.
     Whole,

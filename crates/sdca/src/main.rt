@@ -4,5 +4,5 @@
 use std::process::ExitCode;
 
 fn main(rt: HostRuntime) -> ExitCode {
-    sd_main::start(&rt, rt.stdout(), rt.stderr())
+    sd_run::start(&rt, rt.stdout(), rt.stderr())
 }

@@ -2,8 +2,8 @@ use Rattle.std.proofs.Common.{◌≡◌, ◌-◌, ◌++◌, ◌∙◌, ◌∷◌
 use Rattle.std.proofs.lemmas.List.{length-map}
 use Rattle.sd_label.specs.Names.{given, given_under}
 use Rattle.sd_label.proofs.Counts.{length_given}
-use Rattle.sd_card_secrets.specs.Secrets.{secret_of}
-use Rattle.sd_card_secrets.proofs.Made.{secrets_first, secrets_more}
+use Rattle.sd_card.specs.Secrets.{secret_of}
+use Rattle.sd_card.proofs.MadeSecrets.{secrets_first, secrets_more}
 use Rattle.sd_card.proofs.Made.{all_given}
 use Rattle.sd_card.proofs.make.secrets.Goals as goal
 

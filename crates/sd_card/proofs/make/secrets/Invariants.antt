@@ -1,6 +1,6 @@
 use Rattle.std.proofs.Common.{◌≡◌, ◌-◌, map}
-use Rattle.sd_card_secrets.specs.Secrets.{secret_of}
-use Rattle.sd_card_secrets.proofs.Made.{names_first}
+use Rattle.sd_card.specs.Secrets.{secret_of}
+use Rattle.sd_card.proofs.MadeSecrets.{names_first}
 use Rattle.sd_card.proofs.make.secrets.Given as goal
 
 -- all pairs of the ancestors that the loop has come by

@@ -1,5 +1,5 @@
 use Rattle.std.proofs.lemmas.Result.{err_from_is_err_and}
-use Rattle.sd_leaves.specs.Text.{leaves_of_text}
+use Rattle.sd_command_files.specs.Text.{leaves_of_text}
 use Rattle.sd_command_status.specs.declared.status.LimitKind.TheVariants.{BookBytes}
 use Rattle.sd_command_status.specs.Outside.{depot_state}
 use Rattle.sd_command_status.specs.Spec.{within, judged}

@@ -1,5 +1,5 @@
 use Rattle.std.proofs.Common.{rules, ◌≢◌, ◌∙◌}
-use Rattle.sd_command_table.specs.declared.operand.Kind.TheVariants as kind
+use Rattle.sd_command_line.specs.declared.operand.Kind.TheVariants as kind
 use Rattle.sd_command_line.proofs.Rows.{out_later}
 use Rattle.sd_command_line.proofs.order.out_among.Goals as goal
 

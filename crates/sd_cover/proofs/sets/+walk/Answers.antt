@@ -4,8 +4,8 @@ use Rattle.std.specs.FinMap.{FinMap}
 use Rattle.std.proofs.Math.Pow.{pow_mono}
 use Rattle.std.proofs.lemmas.Result.{on_ok_weaker}
 use Rattle.sd_tree.specs.declared.height.TheConstants.{HIGHEST}
-use Rattle.sd_steiner.specs.Walk.{IsOnChain}
-use Rattle.sd_steiner.proofs.Levels.{StandsAt}
+use Rattle.sd_cover.specs.Walk.{IsOnChain}
+use Rattle.sd_cover.specs.Walk.{StandsAt}
 use Rattle.sd_cover.specs.Index.{IsIndex, revoked_by}
 use Rattle.sd_cover.specs.declared.counts.TheConstants.{NODES}
 use Rattle.sd_cover.proofs.Bridge.{stands_high}

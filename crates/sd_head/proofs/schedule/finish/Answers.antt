@@ -1,5 +1,5 @@
 use Rattle.std.proofs.lemmas.Result.{on_ok_weaker}
-use Rattle.sd_head_periods.specs.Kept.{plan_of}
+use Rattle.sd_head.specs.Kept.{plan_of}
 use Rattle.sd_head.proofs.Starting.{first_at}
 use Rattle.sd_head.proofs.schedule.finish.Goals as goal
 

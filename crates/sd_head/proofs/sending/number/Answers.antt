@@ -1,6 +1,6 @@
 use Rattle.std.proofs.Common.{◌∙◌, ap}
 use Rattle.std.specs.Prelude.{map}
-use Rattle.sd_head_periods.specs.Kept.{uncounted}
+use Rattle.sd_head.specs.Kept.{uncounted}
 use Rattle.sd_head.proofs.Numbering.{number_more, first_alike}
 use Rattle.sd_head.proofs.Sends.{counter_next}
 use Rattle.sd_head.proofs.sending.number.Goals as goal

@@ -1,8 +1,8 @@
-use Rattle.std.proofs.Common.{rules, ◌≡◌, [], sym, subst}
+use Rattle.std.proofs.Common.{rules, ◌≡◌, subst}
 use Rattle.std.specs.Prelude.{map, string_bytes}
 use Rattle.sd_command_status.specs.declared.status.Status.{Status}
 use Rattle.sd_command_status.specs.declared.status.Status.TheVariants.{Done, PrintFault}
-use Rattle.sd_command_status.specs.Texts.{line_of}
+use Rattle.sd_command_status.specs.Outcome.{Implements}
 use Rattle.sd_command_status.specs.Outside.{depot_state, page_state, outside}
 use Rattle.sd_command_status.specs.Results.{RunResult}
 use Rattle.sd_command_status.proofs.Told.{done_line, cut_line, lineless_answers, usage_meant}
@@ -18,17 +18,20 @@ returns-in-Ok-clause-value g c =
     (outside (depot_state g.D.Depot c.obey.new.depot) (page_state g.P.Sink c.obey.new.print) c.obey.new.steps)
     Done done_line c.in-Ok.ensures.value
 
-pub returns-in-Err-clause-value : goal.returns-in-Err-clause-value
-returns-in-Err-clause-value g c =
-    let status = c.in-Err.status in
-    let cut : status ≡ PrintFault = search rules in
+pub returns-in-Err-PrintFault-clause-value : goal.returns-in-Err-PrintFault-clause-value
+returns-in-Err-PrintFault-clause-value g c =
+    let cut : c.in-Err-PrintFault.field-0 ≡ PrintFault = search rules in
     lineless_answers (meaning (map string_bytes c.args.words.now))
     (outside (depot_state g.D.Depot c.args.depot.now) (page_state g.P.Sink c.args.print.now) c.args.steps.now)
     (outside (depot_state g.D.Depot c.obey.new.depot) (page_state g.P.Sink c.obey.new.print) c.obey.new.steps)
-    status (subst (λ (s : Status). line_of s ≡ []) (sym cut) cut_line) c.in-Err.ensures.value
+    PrintFault cut_line (
+    subst (λ (status : Status). Implements (meaning (map string_bytes c.args.words.now))
+    (outside (depot_state g.D.Depot c.args.depot.now) (page_state g.P.Sink c.args.print.now) c.args.steps.now)
+    (outside (depot_state g.D.Depot c.obey.new.depot) (page_state g.P.Sink c.obey.new.print) c.obey.new.steps)
+    status) cut c.in-Err-PrintFault.ensures.value)
 
-pub returns-in-Err-2-clause-usage : goal.returns-in-Err-2-clause-usage
-returns-in-Err-2-clause-usage g c is =
+pub returns-in-Err-clause-usage : goal.returns-in-Err-clause-usage
+returns-in-Err-clause-usage g c is =
     let words = map string_bytes c.args.words.now in
     let answers : RunResult (meaning words)
     (outside (depot_state g.D.Depot c.args.depot.now) (page_state g.P.Sink c.args.print.now) c.args.steps.now)

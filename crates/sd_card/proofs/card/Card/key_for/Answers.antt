@@ -4,7 +4,7 @@ use Rattle.std.proofs.lemmas.Option.{slice_get_read}
 use Rattle.sd_tree.specs.Leaves.{is_member}
 use Rattle.sd_tree.specs.SetNames.{IsPair}
 use Rattle.sd_label.specs.Names.{given}
-use Rattle.sd_card_secrets.proofs.Keys.{derived_is_held, first_is_held}
+use Rattle.sd_card.proofs.SecretKeys.{derived_is_held, first_is_held}
 use Rattle.sd_card.specs.Fields.{fields_of}
 use Rattle.sd_card.proofs.Keys.{given_of_leaf, own_gives_key}
 use Rattle.sd_card.proofs.card.Card.key_for.Goals as goal

@@ -4,7 +4,7 @@ use Rattle.std.proofs.lemmas.Option.{slice_get_read}
 use Rattle.sd_tree.specs.Node.{depth}
 use Rattle.sd_tree.proofs.Members.{member_of_pair}
 use Rattle.sd_label.specs.Names.{given}
-use Rattle.sd_card_secrets.proofs.Keys.{hangs_below}
+use Rattle.sd_card.proofs.SecretKeys.{hangs_below}
 use Rattle.sd_card.proofs.Keys.{place_of, pair_held}
 use Rattle.sd_card.proofs.card.Card.pair_key.Goals as goal
 

@@ -1,4 +1,4 @@
-use Rattle.sd_card_secrets.proofs.Heads.{read_once}
+use Rattle.sd_card.proofs.Heads.{read_once}
 use Rattle.sd_card.specs.declared.fault.CardFault.TheVariants.{NoMemory}
 use Rattle.sd_card.specs.Fields.{IsCard, fields_of, card_bytes}
 use Rattle.sd_card.specs.Faults.{fault_in}

@@ -1,4 +1,4 @@
-use Rattle.sd_head_periods.specs.Kept.{plan_of}
+use Rattle.sd_head.specs.Kept.{plan_of}
 use Rattle.sd_field.proofs.Stations.{first_station}
 use Rattle.sd_field.proofs.station.Station.new.Goals as goal
 

@@ -3,11 +3,11 @@ use Rattle.std.specs.Prelude.{map, Some, None}
 use Rattle.sd_site.specs.Fields.{fields_of}
 use Rattle.sd_engine.specs.Stage.{vessel}
 use Rattle.sd_spec_broadcast.specs.Plan.{closing_number, crypto_of}
-use Rattle.sd_head_periods.specs.Kept.{uncounted, IsOf}
-use Rattle.sd_head_periods.specs.Lending.{with_emms}
-use Rattle.sd_head_periods.proofs.Periods.{still_of, left_alike}
+use Rattle.sd_head.specs.Kept.{uncounted, IsOf}
+use Rattle.sd_head.specs.Lending.{with_emms}
+use Rattle.sd_head.proofs.Periods.{still_of, left_alike}
 use Rattle.sd_head.specs.Staged.{plan_in}
-use Rattle.sd_head_periods.specs.declared.crypto.CryptoPeriod.{CryptoPeriod}
+use Rattle.sd_head.specs.declared.crypto.CryptoPeriod.{CryptoPeriod}
 use Rattle.sd_head.specs.Messages.{head_of}
 use Rattle.sd_head.specs.Items.{tables_bytes, message_bytes}
 use Rattle.sd_head.specs.Schedule.{IsDue}

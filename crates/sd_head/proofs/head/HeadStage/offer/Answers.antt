@@ -4,10 +4,10 @@ use Rattle.sd_label.specs.Keys.{control_word_of}
 use Rattle.sd_site.specs.Fields.{fields_of}
 use Rattle.sd_engine.specs.Stage.{vessel}
 use Rattle.sd_spec_broadcast.specs.Plan.{Plan, crypto_of}
-use Rattle.sd_head_periods.specs.declared.crypto.CryptoPeriod.{CryptoPeriod}
-use Rattle.sd_head_periods.specs.Kept.{uncounted}
-use Rattle.sd_head_periods.specs.Lending.{with_emms}
-use Rattle.sd_head_periods.proofs.Periods.{still_of, left_alike}
+use Rattle.sd_head.specs.declared.crypto.CryptoPeriod.{CryptoPeriod}
+use Rattle.sd_head.specs.Kept.{uncounted}
+use Rattle.sd_head.specs.Lending.{with_emms}
+use Rattle.sd_head.proofs.Periods.{still_of, left_alike}
 use Rattle.sd_head.specs.Messages.{message_due}
 use Rattle.sd_head.specs.Sending.{counter_after}
 use Rattle.sd_head.specs.Items.{tables_bytes, message_bytes, parts_in}

@@ -5,8 +5,8 @@ use Rattle.sd_engine.specs.Stage.{vessel}
 use Rattle.sd_spec_receiver.specs.declared.fault.StreamFault.TheVariants.{BadEcm}
 use Rattle.sd_spec_receiver.specs.Heard.{Heard, Controls}
 use Rattle.sd_spec_receiver.specs.Stretches.{current}
-use Rattle.sd_receive_ecm.specs.Collected.{IsCollected, IsComplete, PartOutcome}
-use Rattle.sd_receive_ecm.specs.declared.collect.Taken.{Taken}
+use Rattle.sd_receive.specs.Collected.{IsCollected, IsComplete, PartOutcome}
+use Rattle.sd_receive.specs.declared.collect.Taken.{Taken}
 use Rattle.sd_receive.specs.Listening.{TakesHeard, RefusesHeard, TakesMessage, RefusesMessage}
 use Rattle.sd_receive.specs.declared.listener.Listener.{Listener}
 use Rattle.sd_receive.proofs.Listening.{took_nothing, part_waiting, part_bad, comes_weaker, message_heard}

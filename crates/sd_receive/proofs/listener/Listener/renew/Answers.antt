@@ -1,6 +1,6 @@
 use Rattle.std.proofs.Common.{subst, sym, ◌∷◌}
 use Rattle.sd_spec_receiver.specs.Heard.{Controls}
-use Rattle.sd_receive_ecm.specs.Collected.{IsCollected}
+use Rattle.sd_receive.specs.Collected.{IsCollected}
 use Rattle.sd_receive.specs.declared.listener.Listener.{Listener}
 use Rattle.sd_receive.proofs.listener.Listener.renew.Goals as goal
 use Rattle.sd_receive.proofs.listener.Listener.renew.Goals.{in-Some, in-None}

@@ -2,7 +2,7 @@ use Rattle.std.proofs.Common.{◌≡◌, ◌==◌, ℕ, List, [], ◌∷◌, tru
 use Rattle.std.specs.Prelude.{Ok}
 use Rattle.std.proofs.lemmas.Bool.{ne_eqb}
 use Rattle.sd_packet.specs.Header.{pid_of, scrambling_of}
-use Rattle.sd_scramble.specs.Scrambling.{descrambled}
+use Rattle.sd_keystream.specs.Scrambling.{descrambled}
 use Rattle.sd_spec_receiver.specs.Confirmed.{is_odd, is_confirmed}
 use Rattle.sd_receive_hold.specs.Writing.{segment_in, segment_of}
 use Rattle.sd_receive_hold.proofs.Judging.{judged_near}

@@ -1,7 +1,7 @@
 use Rattle.std.proofs.Common.{ℕ, List, refl, inl, ap, ◌∷◌, ◌++◌, ◌∙◌, arith}
 use Rattle.std.specs.List.{flat_map}
 use Rattle.sd_packet.specs.Header.{pid_of}
-use Rattle.sd_tables_line.specs.Lines.{section_line}
+use Rattle.sd_tables.specs.Lines.{section_line}
 use Rattle.sd_engine.specs.Stage.{vessel}
 use Rattle.sd_tables.specs.Inspected.{sections_at}
 use Rattle.sd_engine.proofs.Vessels.{cut_short, too_short}

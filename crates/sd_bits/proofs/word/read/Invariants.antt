@@ -1,6 +1,0 @@
-use Rattle.std.proofs.Common.{◌≡◌, ◌*◌}
-use Rattle.sd_bits.specs.Bits.{field}
-use Rattle.sd_bits.proofs.word.read.Given as goal
-
-abbrev pub invariant-loop-i : goal.invariant-loop-i
-invariant-loop-i l = l.word ≡ field l.bytes (8 * l.first) (8 * l.i)

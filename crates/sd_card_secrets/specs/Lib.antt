@@ -1,3 +1,0 @@
-pub mod Hanging
-pub mod Secrets
-pub mod Files

@@ -1,0 +1,123 @@
+-- Public meaning: what a refusal is to a user, on the standard error [this project, docs/FORMATS.md, Explanations].
+use Rattle.std.specs.Prelude.{ℕ, List, [], ◌∷◌, ◌++◌, codes, length, slice_get, Option, Some, None, zero, suc}
+use Rattle.std.specs.Prelude.{if◌then◌else◌, ◌==◌, ◌||◌, Bool, false, bytes_eq}
+use Rattle.sd_command_line.specs.declared.command.Command.{Command}
+use Rattle.sd_command_line.specs.declared.operand.Operand.{Operand}
+use Rattle.sd_command_line.specs.Commands.{command_named, operands_of}
+use Rattle.sd_command_line.specs.Operands.{operand_name}
+use Rattle.sd_command_status.specs.declared.status.Status.{Status}
+use Rattle.sd_command_status.specs.declared.status.Status.TheVariants.{Usage, Missing, BadSite, BadBook, BadCard}
+use Rattle.sd_command_status.specs.declared.status.Status.TheVariants.{BadWord}
+use Rattle.sd_command_line.specs.declared.found.Argument.{Argument}
+use Rattle.sd_command_line.specs.Words.{is_help, is_version}
+use Rattle.sd_command_line.specs.Reasons.{card_reason, line_reason, miscounted_reason, missing_reason}
+use Rattle.sd_command_line.specs.Reasons.{no_page_reason, output_reason, range_reason, site_reason, unknown_reason}
+
+-- what an argument is, and its text
+abbrev pub shown : Argument → Operand × List ℕ
+shown argument = (argument.operand, argument.text.now)
+
+-- both, where both are there
+abbrev pub both : Option Operand → Option (List ℕ) → Option (Operand × List ℕ)
+both (Some operand) (Some text) = Some (operand, text)
+both (Some operand) None = None
+both None text = None
+
+-- the argument of this number of the words after a command's name, numbered from 0
+abbrev pub argument_at : Option Command → List (List ℕ) → ℕ → Option (Operand × List ℕ)
+argument_at None texts place = None
+argument_at (Some command) texts place = both (slice_get (operands_of command) place) (slice_get texts place)
+
+-- the argument of this number, numbered from 1, where the first word is a command that takes as many
+abbrev pub argument_of : List (List ℕ) → ℕ → Option (Operand × List ℕ)
+argument_of words zero = None
+argument_of [] (suc place) = None
+argument_of (command ∷ texts) (suc place) = argument_at (command_named command) texts place
+
+-- the line of an argument: its name, its text and why it is refused
+unfoldable pub argument_line : List ℕ → Operand × List ℕ → List ℕ
+argument_line reason (operand, text) =
+    codes "sdca: " ++ (operand_name operand ++ (codes " " ++ (text ++ (codes ": " ++ (reason ++ codes "\n")))))
+
+-- the line of the argument that was found, or none
+abbrev pub found_line : Option (Operand × List ℕ) → (Operand → List ℕ) → List ℕ
+found_line None reason = []
+found_line (Some argument) reason = argument_line (reason argument.0) argument
+
+-- the line of the argument of this number
+abbrev pub of_argument : List (List ℕ) → ℕ → (Operand → List ℕ) → List ℕ
+of_argument words number reason = found_line (argument_of words number) reason
+
+-- the words are of a command that reads two sites, the first and the third of its arguments
+abbrev pub has_two_sites : List (List ℕ) → Bool
+has_two_sites [] = false
+has_two_sites (name ∷ texts) = bytes_eq name (codes "apart")
+
+-- the line of two sites of which one is refused: the status doesn't say which
+unfoldable pub sites_line : List ℕ → List ℕ → List ℕ → List ℕ
+sites_line reason first second =
+    codes "sdca: SITE " ++ (first ++ (codes " or SITE " ++ (second ++ (codes ": " ++ (reason ++ codes "\n")))))
+
+-- the line of the two sites that were found, or none
+abbrev pub of_sites : Option (Operand × List ℕ) → Option (Operand × List ℕ) → List ℕ → List ℕ
+of_sites None second reason = []
+of_sites (Some first) None reason = []
+of_sites (Some first) (Some second) reason = sites_line reason first.1 second.1
+
+-- the line of a refused site
+abbrev pub site_line : List (List ℕ) → List ℕ → List ℕ
+site_line words reason =
+    if has_two_sites words then of_sites (argument_of words 1) (argument_of words 3) reason
+    else of_argument words 1 (λ operand. reason)
+
+-- the line of a word that is refused, which leads to the list of commands
+unfoldable pub word_line : List ℕ → List ℕ → List ℕ
+word_line reason word = codes "sdca: " ++ (word ++ (codes ": " ++ (reason ++ codes "; see sdca help\n")))
+
+-- the line of a command with a wrong number of arguments, which leads to the command's page
+unfoldable pub count_line : List ℕ → List ℕ
+count_line name =
+    codes "sdca: " ++ (name ++ (codes ": wrong number of arguments; see sdca help " ++ (name ++ codes "\n")))
+
+-- the line of words that begin with a command's name: OUT, the last of so many arguments, is one of the inputs, or the
+-- command takes another number of them
+abbrev pub command_line : List (List ℕ) → List ℕ → ℕ → Option Command → List ℕ
+command_line words name count None = word_line unknown_reason name
+command_line words name count (Some command) =
+    if count == length (operands_of command) then of_argument words count (λ operand. output_reason)
+    else count_line name
+
+-- the line of a word after help that names no page: help and version are no unknown commands, but have none
+abbrev pub topic_line : List ℕ → List ℕ
+topic_line topic =
+    if is_help topic || is_version topic then word_line no_page_reason topic
+    else word_line unknown_reason topic
+
+-- the line of help with these arguments
+abbrev pub help_line : List ℕ → List (List ℕ) → List ℕ
+help_line name [] = word_line miscounted_reason name
+help_line name (topic ∷ []) = topic_line topic
+help_line name (topic ∷ word ∷ words) = word_line miscounted_reason name
+
+-- the line of words that begin with this name
+abbrev pub named_line : List (List ℕ) → List ℕ → List (List ℕ) → List ℕ
+named_line words name texts =
+    if is_help name then help_line name texts
+    else if is_version name then word_line miscounted_reason name
+    else command_line words name (length texts) (command_named name)
+
+-- the line of words that are refused
+unfoldable pub usage_line : List (List ℕ) → List ℕ
+usage_line [] = codes "sdca: no command is given; see sdca help\n"
+usage_line (name ∷ texts) = named_line (name ∷ texts) name texts
+
+-- The line that explains a status to a user, or no text if the status is about no argument. The site and the card are
+-- the first arguments of their commands.
+unfoldable pub explained : List (List ℕ) → Status → List ℕ
+explained words Usage = usage_line words
+explained words (Missing word) = of_argument words word (λ operand. missing_reason operand)
+explained words (BadSite fault) = site_line words (site_reason fault)
+explained words (BadBook word line) = of_argument words word (λ operand. line_reason operand line)
+explained words (BadCard fault) = of_argument words 1 (λ operand. card_reason fault)
+explained words (BadWord word) = of_argument words word (λ operand. range_reason operand)
+explained words status = []

@@ -1,0 +1,271 @@
+ghost use Rattle.std.specs.Prelude.{◌≡◌, ◌↔◌, ◌⊎◌, ◌≤◌, length, true};
+ghost use Rattle.sd_command_line.specs.Commands.{example_of, exits_of, command_name, operands_of, command_named};
+ghost use Rattle.sd_command_line.specs.Commands.{files_of, work_of};
+
+use crate::exit::{self, Exit};
+use crate::operand::{Files, Operand};
+
+/// A command of the program that takes files, numbers or both.
+#[derive(Clone, Copy)]
+pub enum Command {
+    /// `accounts SITE ACCOUNTS OUT`: makes the book from subscriber accounts.
+    Accounts,
+    /// `apart SITE BOOK SITE BOOK`: checks whether two broadcasts may share cards.
+    Apart,
+    /// `book SITE BOOK COMMANDS OUT`: appends commands to a book.
+    Book,
+    /// `card SITE LEAF OUT`: makes a receiver's card.
+    Card,
+    /// `cover SITE BOOK`: prints the Subset Difference cover of each period.
+    Cover,
+    /// `field SITE CLEAR SCRIPT`: prints what receivers write that miss packets or lose power.
+    Field,
+    /// `head SITE BOOK CLEAR OUT`: makes the scrambled broadcast.
+    Head,
+    /// `layered SITE BOOK WIDTH`: prints the layered cover of each period.
+    Layered,
+    /// `lcard SITE LEAF WIDTH OUT`: makes a receiver's card for layered covers.
+    Lcard,
+    /// `messages SITE STREAM`: prints the EMM sections and ECMs of a broadcast.
+    Messages,
+    /// `opens SITE BOOK LEAVES`: prints which sets a coalition of cards opens.
+    Opens,
+    /// `plan SITE BOOK PACKETS PIDS`: prints the size of a broadcast on air.
+    Plan,
+    /// `receive CARD STREAM OUT`: writes the clear packets that a card opens.
+    Receive,
+    /// `sample NUMBER PACKETS OUT`: makes a clear stream for tests.
+    Sample,
+    /// `show CARD`: prints the fields of a card's file, without its keys.
+    Show,
+    /// `tables STREAM`: prints the PSI tables of a stream as JSON.
+    Tables,
+    /// `trace SITE BOOK LEAVES`: finds the cards in a decoder by queries.
+    Trace,
+    /// `trial SITE BOOK CLEAR`: prints what each receiver writes from a broadcast.
+    Trial,
+}
+
+/// All commands, by their names.
+pub const COMMANDS: [Command; 18] = [
+    Command::Accounts,
+    Command::Apart,
+    Command::Book,
+    Command::Card,
+    Command::Cover,
+    Command::Field,
+    Command::Head,
+    Command::Layered,
+    Command::Lcard,
+    Command::Messages,
+    Command::Opens,
+    Command::Plan,
+    Command::Receive,
+    Command::Sample,
+    Command::Show,
+    Command::Tables,
+    Command::Trace,
+    Command::Trial,
+];
+
+impl Command {
+    /// The command of this name, or none if no command has it.
+    #[tactic(auto, unfolding(crate::specs::Commands::command_named, crate::specs::Commands::command_name))]
+    pub fn of(word: &str) -> Option<Command>
+        ensures { result ≡ command_named word.now }
+    {
+        match word {
+            "accounts" => Some(Command::Accounts),
+            "apart" => Some(Command::Apart),
+            "book" => Some(Command::Book),
+            "card" => Some(Command::Card),
+            "cover" => Some(Command::Cover),
+            "field" => Some(Command::Field),
+            "head" => Some(Command::Head),
+            "layered" => Some(Command::Layered),
+            "lcard" => Some(Command::Lcard),
+            "messages" => Some(Command::Messages),
+            "opens" => Some(Command::Opens),
+            "plan" => Some(Command::Plan),
+            "receive" => Some(Command::Receive),
+            "sample" => Some(Command::Sample),
+            "show" => Some(Command::Show),
+            "tables" => Some(Command::Tables),
+            "trace" => Some(Command::Trace),
+            "trial" => Some(Command::Trial),
+            _ => None,
+        }
+    }
+
+    /// The command's name.
+    #[tactic(auto, unfolding(crate::specs::Commands::command_name))]
+    pub fn name(self) -> &'static str
+        ensures { result.now ≡ command_name self }
+    {
+        match self {
+            Command::Accounts => "accounts",
+            Command::Apart => "apart",
+            Command::Book => "book",
+            Command::Card => "card",
+            Command::Cover => "cover",
+            Command::Field => "field",
+            Command::Head => "head",
+            Command::Layered => "layered",
+            Command::Lcard => "lcard",
+            Command::Messages => "messages",
+            Command::Opens => "opens",
+            Command::Plan => "plan",
+            Command::Receive => "receive",
+            Command::Sample => "sample",
+            Command::Show => "show",
+            Command::Tables => "tables",
+            Command::Trace => "trace",
+            Command::Trial => "trial",
+        }
+    }
+
+    /// The arguments after the command's name, at most four.
+    #[tactic(auto, unfolding(crate::specs::Commands::operands_of))]
+    pub fn operands(self) -> &'static [Operand]
+        ensures value { result.now ≡ operands_of self }
+        ensures few { length result.now ≤ 4 }
+    {
+        match self {
+            Command::Accounts => &[Operand::Site, Operand::Accounts, Operand::Out],
+            Command::Apart => &[Operand::Site, Operand::Book, Operand::Site, Operand::Book],
+            Command::Book => &[
+                Operand::Site,
+                Operand::Book,
+                Operand::Commands,
+                Operand::Out,
+            ],
+            Command::Card => &[Operand::Site, Operand::Leaf, Operand::Out],
+            Command::Cover => &[Operand::Site, Operand::Book],
+            Command::Field => &[Operand::Site, Operand::Clear, Operand::Script],
+            Command::Head => &[Operand::Site, Operand::Book, Operand::Clear, Operand::Out],
+            Command::Layered => &[Operand::Site, Operand::Book, Operand::Width],
+            Command::Lcard => &[Operand::Site, Operand::Leaf, Operand::Width, Operand::Out],
+            Command::Messages => &[Operand::Site, Operand::Stream],
+            Command::Opens => &[Operand::Site, Operand::Book, Operand::Leaves],
+            Command::Plan => &[Operand::Site, Operand::Book, Operand::Clears, Operand::Pids],
+            Command::Receive => &[Operand::Card, Operand::Stream, Operand::Out],
+            Command::Sample => &[Operand::Number, Operand::Packets, Operand::Out],
+            Command::Show => &[Operand::Card],
+            Command::Tables => &[Operand::Stream],
+            Command::Trace => &[Operand::Site, Operand::Book, Operand::Leaves],
+            Command::Trial => &[Operand::Site, Operand::Book, Operand::Clear],
+        }
+    }
+
+    /// The files that the arguments name.
+    #[tactic(auto, unfolding(crate::specs::Commands::operands_of))]
+    pub fn files(self) -> Files
+        ensures { result ≡ files_of self }
+    {
+        match self {
+            Command::Accounts
+            | Command::Book
+            | Command::Card
+            | Command::Head
+            | Command::Lcard
+            | Command::Receive => Files::Both,
+            Command::Sample => Files::Output,
+            Command::Apart
+            | Command::Cover
+            | Command::Field
+            | Command::Layered
+            | Command::Messages
+            | Command::Opens
+            | Command::Plan
+            | Command::Show
+            | Command::Tables
+            | Command::Trace
+            | Command::Trial => Files::Inputs,
+        }
+    }
+
+    /// Whether OUT holds the secrets of a receiver.
+    pub fn holds_secrets(self) -> bool
+        ensures { (result ≡ true) ↔ ((self ≡ Command.Card) ⊎ (self ≡ Command.Lcard)) }
+    {
+        matches!(self, Command::Card | Command::Lcard)
+    }
+
+    /// The command's line in help: what it does.
+    #[tactic(auto, unfolding(crate::specs::Commands::work_of))]
+    pub fn work(self) -> &'static str
+        ensures { result.now ≡ work_of self }
+    {
+        match self {
+            Command::Accounts =>
+                "makes the book from the accounts of named subscribers, and reports them",
+            Command::Apart => "checks whether two broadcasts may share cards",
+            Command::Book => "makes a longer book: its commands, then those of COMMANDS",
+            Command::Card => "makes the card of a receiver",
+            Command::Cover => "prints the sets of each period's cover",
+            Command::Field => "prints what receivers write that miss packets or lose power",
+            Command::Head => "makes the scrambled broadcast of a clear stream",
+            Command::Layered => "prints the sets of each period's layered cover",
+            Command::Lcard => "makes the smaller card of a receiver for layered covers",
+            Command::Messages => "prints the messages of a broadcast, one line each",
+            Command::Opens => "prints which sets of each period the cards of a coalition open",
+            Command::Plan => "prints the size of a broadcast on air, before it is made",
+            Command::Receive =>
+                "writes the clear packets that a card opens, of one broadcast or of several in a row",
+            Command::Sample => "makes a clear stream for tests",
+            Command::Show => "prints the fields of a card's file, without its keys",
+            Command::Tables => "prints the tables of a stream, one line of JSON each",
+            Command::Trace => "prints the receivers whose cards a decoder holds, found by queries",
+            Command::Trial => "prints what each receiver writes from a broadcast",
+        }
+    }
+
+    /// The exits that the command may have, in ascending order.
+    #[tactic(auto, unfolding(crate::specs::Commands::exits_of))]
+    pub fn exits(self) -> &'static [Exit]
+        ensures { result.now ≡ exits_of self }
+    {
+        match self {
+            Command::Accounts | Command::Book | Command::Cover | Command::Opens | Command::Trace =>
+                { exit::of_books() }
+            Command::Apart => exit::of_pairs(),
+            Command::Card | Command::Lcard => exit::of_cards(),
+            Command::Field | Command::Head | Command::Trial => exit::of_clear_streams(),
+            Command::Layered | Command::Plan => exit::of_layers(),
+            Command::Messages => exit::of_monitors(),
+            Command::Receive => exit::of_receivers(),
+            Command::Sample => exit::of_samples(),
+            Command::Show => exit::of_shown_cards(),
+            Command::Tables => exit::of_tables(),
+        }
+    }
+
+    /// An example of the command's arguments, as help prints it.
+    #[tactic(auto, unfolding(crate::specs::Commands::example_of))]
+    pub fn example(self) -> &'static str
+        ensures { result.now ≡ example_of self }
+    {
+        match self {
+            Command::Accounts => "accounts examples/site.txt examples/accounts.txt book.txt",
+            Command::Apart =>
+                "apart examples/site-1.txt examples/book.txt examples/site-2.txt examples/book.txt",
+            Command::Book =>
+                "book examples/site.txt examples/book.txt examples/today.txt longer.txt",
+            Command::Card => "card examples/site.txt 2 card-2",
+            Command::Cover => "cover examples/site.txt examples/book.txt",
+            Command::Field => "field examples/site.txt clear.ts examples/script.txt",
+            Command::Head => "head examples/site.txt examples/book.txt clear.ts broadcast.ts",
+            Command::Layered => "layered examples/site.txt examples/book.txt 2",
+            Command::Lcard => "lcard examples/site.txt 2 2 layer-card-2",
+            Command::Messages => "messages examples/site.txt broadcast.ts",
+            Command::Opens => "opens examples/site.txt examples/book.txt examples/pooled.txt",
+            Command::Plan => "plan examples/site.txt examples/book.txt 600 3",
+            Command::Receive => "receive card-2 broadcast.ts opened.ts",
+            Command::Sample => "sample 7 600 clear.ts",
+            Command::Show => "show card-2",
+            Command::Tables => "tables broadcast.ts",
+            Command::Trace => "trace examples/site.txt examples/book.txt examples/pair.txt",
+            Command::Trial => "trial examples/site.txt examples/book.txt clear.ts",
+        }
+    }
+}

@@ -1,0 +1,52 @@
+ghost use Rattle.std.specs.Prelude.{◌≡◌, map, option_map, slice_get, string_bytes, Some};
+ghost use Rattle.sd_command_line.specs.Commands.{operands_of};
+ghost use Rattle.sd_command_line.specs.Explained.{argument_at as argument_there, argument_of, shown};
+
+use crate::{Command, Operand};
+
+/// An argument of a command.
+#[derive(Clone, Copy)]
+pub(crate) struct Argument<'a> {
+    pub(crate) operand: Operand,
+    pub(crate) text: &'a str,
+}
+
+/// The argument of this number, if the first word is a command that takes as many. They are numbered from 1.
+pub(crate) fn find_argument(words: &[String], number: u8) -> Option<Argument<'_>>
+    ensures { option_map shown result ≡ argument_of (map string_bytes words.now) number }
+{
+    let place = usize::from(number).checked_sub(1)?;
+    let [name, texts @ ..] = words else {
+        return None;
+    };
+    argument_at(Command::of(name.as_str())?, texts, place)
+}
+
+/// The argument at this place behind the command's name.
+fn argument_at(command: Command, texts: &[String], place: usize) -> Option<Argument<'_>>
+    ensures { option_map shown result ≡ argument_there (Some command) (map string_bytes texts.now) place }
+{
+    match (operand_at(command, place), text_at(texts, place)) {
+        (Some(operand), Some(text)) => Some(Argument { operand, text }),
+        _ => None,
+    }
+}
+
+/// What the argument at this place is.
+#[tactic(auto, using(crate::proofs::Items::copied_here))]
+fn operand_at(command: Command, place: usize) -> Option<Operand>
+    ensures { result ≡ slice_get (operands_of command) place }
+{
+    command.operands().get(place).copied()
+}
+
+/// The text at this place.
+#[tactic(auto, using(crate::proofs::Items::text_here))]
+fn text_at(texts: &[String], place: usize) -> Option<&str>
+    ensures { option_map (λ text. text.now) result ≡ slice_get (map string_bytes texts.now) place }
+{
+    match texts.get(place) {
+        Some(text) => Some(text.as_str()),
+        None => None,
+    }
+}

@@ -1,0 +1,145 @@
+ghost use Rattle.std.specs.Prelude.{◌≡◌};
+ghost use Rattle.sd_command_line.specs.Operands.{operand_kind, meaning_of, operand_name};
+
+/// What an argument is.
+#[derive(Clone, Copy, PartialEq, Eq)]
+pub enum Kind {
+    /// A file that is read.
+    Input,
+    /// The file that is made.
+    Output,
+    /// A number that is at most this.
+    Number(u32),
+    /// A number that is at least 1 and at most this.
+    Count(u32),
+}
+
+/// The files that the arguments of a command name.
+#[derive(Clone, Copy)]
+pub enum Files {
+    /// Files that are read.
+    Inputs,
+    /// The file that is made.
+    Output,
+    /// Files that are read, and the file that is made.
+    Both,
+}
+
+/// An argument that a command takes.
+#[derive(Clone, Copy)]
+pub enum Operand {
+    /// SITE, the site file.
+    Site,
+    /// BOOK, the file of the revocation log.
+    Book,
+    /// ACCOUNTS, the file of the subscriber accounts.
+    Accounts,
+    /// COMMANDS, a file of commands to append to BOOK.
+    Commands,
+    /// CLEAR, a clear transport stream.
+    Clear,
+    /// SCRIPT, the file of the events of a field.
+    Script,
+    /// STREAM, a transport stream.
+    Stream,
+    /// CARD, a receiver's card.
+    Card,
+    /// LEAVES, a file with one leaf per line, ascending.
+    Leaves,
+    /// LEAF, a receiver's number, from 0 to 2^height - 1.
+    Leaf,
+    /// WIDTH, the width of the layers, from 1 to the height.
+    Width,
+    /// NUMBER, the seed of a sample, below 2^32.
+    Number,
+    /// PACKETS of `sample`, at most 1,000,000.
+    Packets,
+    /// PACKETS of `plan`, from 1 to 2^32 - 1, for which the control words of SITE suffice.
+    Clears,
+    /// PIDS, the number of PIDs that have positions, at most 256.
+    Pids,
+    /// OUT, the output file.
+    Out,
+}
+
+impl Operand {
+    /// The argument's name in help, in capital letters.
+    #[tactic(auto, unfolding(crate::specs::Operands::operand_name))]
+    pub fn name(self) -> &'static str
+        ensures { result.now ≡ operand_name self }
+    {
+        match self {
+            Operand::Site => "SITE",
+            Operand::Book => "BOOK",
+            Operand::Accounts => "ACCOUNTS",
+            Operand::Commands => "COMMANDS",
+            Operand::Clear => "CLEAR",
+            Operand::Script => "SCRIPT",
+            Operand::Stream => "STREAM",
+            Operand::Card => "CARD",
+            Operand::Leaves => "LEAVES",
+            Operand::Leaf => "LEAF",
+            Operand::Width => "WIDTH",
+            Operand::Number => "NUMBER",
+            Operand::Packets | Operand::Clears => "PACKETS",
+            Operand::Pids => "PIDS",
+            Operand::Out => "OUT",
+        }
+    }
+
+    /// The argument's kind: an input, the output, or a number and its range.
+    pub fn kind(self) -> Kind
+        ensures { result ≡ operand_kind self }
+    {
+        match self {
+            Operand::Site
+            | Operand::Book
+            | Operand::Accounts
+            | Operand::Commands
+            | Operand::Clear
+            | Operand::Script
+            | Operand::Stream
+            | Operand::Card
+            | Operand::Leaves => Kind::Input,
+            Operand::Leaf | Operand::Width | Operand::Number => Kind::Number(u32::MAX),
+            Operand::Packets => Kind::Number(1_000_000),
+            Operand::Clears => Kind::Count(u32::MAX),
+            Operand::Pids => Kind::Number(256),
+            Operand::Out => Kind::Output,
+        }
+    }
+
+    /// What help says of the argument.
+    #[tactic(auto, unfolding(crate::specs::Operands::meaning_of))]
+    pub fn meaning(self) -> &'static str
+        ensures { result.now ≡ meaning_of self }
+    {
+        match self {
+            Operand::Site =>
+                "the site file: height, master, PIDs, period lengths, version of messages, control words, first period",
+            Operand::Book =>
+                "the book: one command per line, subscribe LEAF, revoke LEAF or period",
+            Operand::Accounts => {
+                "the accounts: one change per line, assign NAME LEAF, drop NAME, restore NAME or period"
+            }
+            Operand::Commands => "the commands to append to BOOK, in the form of a book",
+            Operand::Clear => "a clear transport stream; /dev/stdin for a pipe",
+            Operand::Script => {
+                "the events: lines send N, offer LEAF N, lose LEAF N, off LEAF, on LEAF, subscribe LEAF or revoke LEAF"
+            }
+            Operand::Stream => "a transport stream; /dev/stdin for a pipe",
+            Operand::Card => "the card of a receiver, made by the command card",
+            Operand::Leaves => "the coalition: one leaf per line, ascending",
+            Operand::Leaf => "the receiver's number, from 0 to 2^height - 1",
+            Operand::Width => "the width of the layers, from 1 to the height",
+            Operand::Number => "the seed of the stream, a number below 2^32",
+            Operand::Packets => "the number of packets, at most 1000000",
+            Operand::Clears => {
+                "how many clear packets: 1 to 4294967295, at most ecm-every * crypto-ecms for each control word of SITE"
+            }
+            Operand::Pids => "the number of PIDs from 32 to 8175 that carry payload, at most 256",
+            Operand::Out =>
+                "the output file; /dev/stdout for a pipe, and all lines then go to standard error",
+        }
+    }
+}

@@ -1,0 +1,9 @@
+use Rattle.std.proofs.Common.{◌≡◌, take}
+use Rattle.std.specs.Prelude.{map}
+use Rattle.sd_site.specs.Fields.{fields_of}
+use Rattle.sd_spec_broadcast.specs.Messages.{entry_of}
+use Rattle.sd_head.proofs.entries.listed.Given as goal
+
+-- the sets so far have their entries
+abbrev pub invariant-loop-name : goal.invariant-loop-name
+invariant-loop-name g l = l.entries.items ≡ map (entry_of (fields_of l.site) l.q) (take l.name-index l.sets)

@@ -1,0 +1,27 @@
+ghost use Rattle.std.specs.Prelude.{◌≡◌, ◌≤◌, vec_len, vec_capacity};
+ghost use Rattle.sd_ecm.specs.declared.format.TheConstants.{MOST_PLACES};
+ghost use Rattle.sd_head.specs.Known.{AreKnown, AreNear};
+
+/// How many PIDs there are (ISO/IEC 13818-1, 2.4.3.2).
+pub(crate) const PIDS: usize = 8192;
+
+/// The position of a PID that no packet has moved.
+pub(crate) const FIRST_POSITION: u64 = 15;
+
+/// What is kept of the clear packets that were taken.
+#[derive(Drop)]
+pub struct Clear {
+    pub(crate) count: u32,
+    // By PID.
+    pub(crate) positions: Vec<u64>,
+    // Those whose positions have moved, ascending.
+    pub(crate) pids: Vec<u16>,
+    // By PID: whether the PAT in force names it.
+    pub(crate) pmts: Vec<bool>,
+    pub ghost positions_long: { vec_len positions ≡ 8192 },
+    pub ghost pmts_long: { vec_len pmts ≡ 8192 },
+    pub ghost pids_few: { vec_len pids ≤ MOST_PLACES },
+    pub ghost pids_room: { MOST_PLACES ≤ vec_capacity pids },
+    pub ghost pids_known: { AreKnown pids.items },
+    pub ghost positions_near: { AreNear count positions.items },
+}

@@ -1,5 +1,0 @@
-use Rattle.sd_head_clear.proofs.Placing.{positioned, ascending, short}
-use Rattle.sd_head_clear.proofs.laws.places_may_be_told.Goals as goal
-
-pub returns : goal.returns
-returns c = record { positioned = positioned; ascending = ascending; short = short }

@@ -1,5 +1,0 @@
-mod Replayed
-mod Listing
-pub mod Packing
-mod Sets
-pub mod Periods

@@ -1,4 +1,0 @@
-pub mod Crypto
-pub mod Packets
-pub mod Kept
-pub mod Lending

@@ -1,4 +1,0 @@
-//! Laws on what the lines of a field say.
-#![tactic(auto)]
-
-pub mod laws;

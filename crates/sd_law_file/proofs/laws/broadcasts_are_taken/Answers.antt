@@ -1,8 +1,0 @@
-use Rattle.sd_law_file.proofs.Taken.{broadcast_taken, body_taken}
-use Rattle.sd_law_file.proofs.laws.broadcasts_are_taken.Goals as goal
-
-pub returns-clause-whole : goal.returns-clause-whole
-returns-clause-whole c = broadcast_taken
-
-pub returns-clause-body : goal.returns-clause-body
-returns-clause-body c = body_taken

@@ -1,6 +1,0 @@
-use Rattle.sd_spec_broadcast.proofs.Periods.{section_number}
-use Rattle.sd_law_heard.proofs.Alike.{any_two, none_mixed}
-use Rattle.sd_law_heard.proofs.laws.sections_say_same.Goals as goal
-
-pub returns : goal.returns
-returns c = record { period = section_number; two = any_two; mixed = none_mixed }

@@ -1,5 +1,0 @@
-use Rattle.sd_law_heard.proofs.Keyed.{word_due, word_check_due}
-use Rattle.sd_law_heard.proofs.laws.words_are_due.Goals as goal
-
-pub returns : goal.returns
-returns c = record { word = word_due; check = word_check_due }

@@ -1,5 +1,0 @@
-use Rattle.sd_law_successive.proofs.Keys.{taken_is}
-use Rattle.sd_law_successive.proofs.laws.streams_are_their_pieces.Goals as goal
-
-pub returns-clause-keys : goal.returns-clause-keys
-returns-clause-keys c = taken_is

@@ -1,5 +1,0 @@
-use Rattle.sd_law_successive.proofs.Finishing.{pieces_end}
-use Rattle.sd_law_successive.proofs.laws.switches_are_followed.Goals as goal
-
-pub returns-clause-ending : goal.returns-clause-ending
-returns-clause-ending c = pieces_end

@@ -1,5 +1,0 @@
-use Rattle.sd_law_successive.proofs.WholeEnds.{whole_end}
-use Rattle.sd_law_successive.proofs.laws.whole_runs_are_opened.Goals as goal
-
-pub returns-clause-ending : goal.returns-clause-ending
-returns-clause-ending c = whole_end

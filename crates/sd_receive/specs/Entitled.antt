@@ -1,0 +1,112 @@
+-- Public meaning: what a receiver keeps of the sections of entitlements that it heard, and of the periods of control
+-- messages.
+use Rattle.std.specs.Prelude.{◌≡◌, ℕ, ◌==◌, ◌&&◌, ◌^◌, ◌<◌, Bool, true, false, not, nat_le, nat_lt, List, [], ◌∷◌, All}
+use Rattle.std.specs.Prelude.{bytes_eq, find, filter, get_or, take, drop, replicate, ◌++◌, is_none, if◌then◌else◌}
+use Rattle.std.specs.Prelude.{Option, Some, None}
+use Rattle.std.specs.Prelude.{Result, MatchResult}
+use Rattle.std.specs.List.{list_any, list_all}
+use Rattle.std.specs.Option.{option_map_or}
+use Rattle.sd_card.specs.Fields.{CardFields}
+use Rattle.sd_emm.specs.declared.emm.Emm.{Emm}
+use Rattle.sd_spec_receiver.specs.declared.fault.StreamFault.{StreamFault}
+use Rattle.sd_spec_receiver.specs.Heard.{Heard, Dropped, Entitles, Controls, BadEmm, BadEcm, Other}
+use Rattle.sd_spec_receiver.specs.Stretches.{completes, current, seen}
+use Rattle.sd_spec_receiver.specs.Keys.{key_at}
+use Rattle.sd_spec_receiver.specs.Ending.{periods_told, is_unkeyed, is_all_seen}
+use Rattle.sd_receive.specs.declared.says.Says.{Says}
+use Rattle.sd_receive.specs.declared.entitled.Entitled.{Entitled}
+
+-- what a section says of its period
+abbrev pub says_in : Emm → Says
+says_in emm = record { sets = emm.sets; sections = emm.sections; check = emm.check }
+
+-- what the newest of some sections says
+abbrev pub said : List Emm → Option Says
+said [] = None
+said (emm ∷ sections) = Some (says_in emm)
+
+-- each of these sections says this of its period, and its index is below the number of sections that it says
+abbrev pub SayAlike : Option Says → List Emm → Type 0
+SayAlike says sections =
+    All (λ emm. (says ≡ Some (says_in emm)) × ((emm.index < emm.sections) × (emm.sections < 2 ^ 16))) sections
+
+-- the section disagrees with what was said, if something was
+abbrev pub is_said_otherwise : Option Says → Emm → Bool
+is_said_otherwise None emm = false
+is_said_otherwise (Some says) emm =
+    not ((says.sets == emm.sets) && ((says.sections == emm.sections) && bytes_eq says.check emm.check))
+
+-- one of these sections has the index
+abbrev pub has_index : ℕ → List Emm → Bool
+has_index x sections = list_any (λ emm. emm.index == x) sections
+
+-- the marks of all sections that a period is said to have are set
+abbrev pub all_marked : Option Says → List Bool → Bool
+all_marked None marks = false
+all_marked (Some says) marks = list_all (λ mark. mark) (take says.sections marks)
+
+-- the marks without those of a period's sections
+abbrev pub cleared : Option Says → List Bool → List Bool
+cleared None marks = marks
+cleared (Some says) marks = replicate says.sections false ++ drop says.sections marks
+
+-- all sections of the period were seen, and its key isn't known
+abbrev pub is_told_revoked : CardFields → List Heard → ℕ → Bool
+is_told_revoked card tr q = is_unkeyed card tr q && is_all_seen tr q
+
+-- the periods below q of the complete messages, the oldest first
+unfoldable pub told_below : ℕ → List Heard → List ℕ
+told_below q tr = filter (λ p. nat_lt p q) (periods_told tr)
+
+-- each complete message was of the period that was current then, or of a later one
+unfoldable pub is_in_turn : List Heard → Bool
+is_in_turn [] = true
+is_in_turn (heard ∷ tr) = option_map_or (λ message. nat_le (current tr) message.period) (completes tr heard) true
+    && is_in_turn tr
+
+-- what is kept of what was heard, if q is the current period or a later one that begins [this project, docs/FORMATS.md,
+-- Receiver]
+pub record IsStateAt (card : CardFields) (tr : List Heard) (q : ℕ) (state : Entitled) : Type 0 where
+  pub period : state.period ≡ q
+  pub says : state.says ≡ said (seen q tr)
+  pub alike : SayAlike state.says (seen q tr)
+  pub marks : (x : ℕ) → x < 2 ^ 16 → get_or state.marks.items x false ≡ has_index x (seen q tr)
+  pub told : state.told ≡ list_any (λ p. p == q) (periods_told tr)
+  pub key : state.key ≡ key_at card tr q
+  pub revoked : state.revoked ≡ find (is_told_revoked card tr) (told_below q tr)
+  pub unkeyed : state.unkeyed ≡ find (is_unkeyed card tr) (told_below q tr)
+  pub in_turn : is_in_turn tr ≡ true
+
+-- what is kept of what was heard, the newest first [this project, docs/FORMATS.md, Receiver]
+abbrev pub IsEntitled : CardFields → List Heard → Entitled → Type 0
+IsEntitled card tr state = IsStateAt card tr (current tr) state
+
+-- the key of period q, if q is the current period and its key is known
+abbrev pub key_kept : Entitled → ℕ → Option (List ℕ)
+key_kept state q = if state.period == q then state.key else None
+
+-- the same with this key of the current period
+abbrev pub with_key : Entitled → Option (List ℕ) → Entitled
+with_key state key = record {
+  period = state.period;
+  says = state.says;
+  marks = state.marks;
+  told = state.told;
+  key = key;
+  revoked = state.revoked;
+  unkeyed = state.unkeyed;
+  long = state.long;
+}
+
+-- the result is this fault if there is one, and no fault else
+abbrev pub HasFault : {X : Type 0} → Result X StreamFault → Option StreamFault → Type 0
+HasFault result due = MatchResult result (λ _. due ≡ None) (λ fault. due ≡ Some fault)
+
+-- what comes is no section, and completes no message
+abbrev pub tells_nothing : List Heard → Heard → Bool
+tells_nothing tr (Entitles emm) = false
+tells_nothing tr (Controls part) = is_none (completes tr (Controls part))
+tells_nothing tr Dropped = true
+tells_nothing tr (BadEmm fault) = true
+tells_nothing tr (BadEcm fault) = true
+tells_nothing tr (Other n packet) = true

@@ -1,0 +1,155 @@
+ghost use Rattle.std.specs.Prelude.{◌≡◌, ◌↔◌, ◌+◌, ◌≤◌, ◌∷◌, [], List, None, option_map, length, if◌then◌else◌, IfOk};
+ghost use Rattle.std.specs.Prelude.{IfSome, IsTrue};
+ghost use Rattle.sd_ecm.specs.Spelled.{listed_places};
+ghost use Rattle.sd_ecm.specs.Form.{IsEcm};
+ghost use Rattle.sd_ecm.specs.Parts.{ecm_head_of};
+ghost use Rattle.sd_ecm.specs.declared.format.TheConstants.{POSITIONS, MOST_PLACES};
+ghost use Rattle.sd_ecm.specs.declared.part.EcmPart.{EcmPart};
+ghost use Rattle.sd_spec_receiver.specs.Stretches.{run_with};
+ghost use Rattle.sd_spec_receiver.specs.Offered.{part_fault, is_after as stands_after};
+ghost use Rattle.sd_receive.specs.Gathered.{next_run, IsNext, IsPart, IsGathered, GatherOutcome};
+
+use crate::run::Run;
+use sd_base::NoMemory;
+use sd_ecm::{EcmFault, EcmHead, EcmPart, MOST_PLACES, Place};
+use std::alloc::Global;
+
+impl Run {
+    /// Before any part. Room for all positions of a message is allocated here.
+    #[tactic(auto, using(crate::proofs::Gathering::none_gathered))]
+    pub fn new(alloc: Global) -> Result<Run, NoMemory>
+        ensures { IfOk result (λ run. IsGathered [] run.part run.places.items) }
+    {
+        match Vec::with_capacity(alloc, MOST_PLACES) {
+            Ok(places) => Ok(Run { part: None, places }),
+            Err(_) => Err(NoMemory),
+        }
+    }
+
+    /// Forgets the parts.
+    #[tactic(auto, using(crate::proofs::Gathering::none_gathered))]
+    pub fn clear(&mut self)
+        ensures { IsGathered [] self.new.part self.new.places.items }
+    {
+        self.part = None;
+        self.places.clear();
+    }
+
+    /// Whether there is no part.
+    pub fn is_empty(&self) -> bool
+        ensures { IsTrue result ↔ (self.now.part ≡ None) }
+    {
+        self.part.is_none()
+    }
+
+    /// What the newest part says of its message, but for the positions.
+    pub fn head(&self) -> Option<EcmHead>
+        ensures { result ≡ option_map ecm_head_of self.now.part }
+    {
+        self.part.as_ref().map(EcmPart::head)
+    }
+
+    /// Takes a part of a later message than the newest complete one, or says what is wrong with it. Part 0 begins a
+    /// message, the part that is awaited next is added, and any other drops what was collected. Nothing is allocated.
+    pub fn take(&mut self, part: &EcmPart) -> Result<(), EcmFault>
+        requires { IsEcm part.now }
+        ensures { (run : List EcmPart) → IsGathered run self.old.part self.old.places.items →
+            GatherOutcome (next_run run part.now) self.new.part self.new.places.items result }
+    {
+        if part.part == 0 {
+            self.clear();
+            return self.add(part);
+        }
+        if self.goes_on(part) {
+            return self.add(part);
+        }
+        self.clear();
+        Ok(())
+    }
+
+    // Whether the part is the next of the message that is collected.
+    fn goes_on(&self, part: &EcmPart) -> bool
+        ensures value { (run : List EcmPart) → IsGathered run self.now.part self.now.places.items →
+            run_with part.now run ≡ (if result then part.now ∷ run else []) }
+        ensures next { (run : List EcmPart) → IsGathered run self.now.part self.now.places.items → IsTrue result →
+            IsNext run part.now }
+    {
+        match &self.part {
+            Some(before) => {
+                before.number == part.number && u16::from(before.part) + 1 == u16::from(part.part)
+            }
+            None => false,
+        }
+    }
+
+    // Adds the next part, if nothing is wrong with it.
+    fn add(&mut self, part: &EcmPart) -> Result<(), EcmFault>
+        requires { IsEcm part.now }
+        ensures { (run : List EcmPart) → IsGathered run self.old.part self.old.places.items →
+            IsNext run part.now → GatherOutcome (part.now ∷ run) self.new.part self.new.places.items result }
+    {
+        if let Some(fault) = self.fault(part) {
+            return Err(fault);
+        }
+        self.put(part);
+        Ok(())
+    }
+
+    // What is wrong with the part as the next one.
+    #[tactic(auto, using(crate::proofs::Gathering::few))]
+    fn fault(&self, part: &EcmPart) -> Option<EcmFault>
+        requires { IsEcm part.now }
+        ensures value { (run : List EcmPart) → IsGathered run self.now.part self.now.places.items →
+            result ≡ part_fault (part.now ∷ run) }
+        ensures room { result ≡ None → length self.now.places.items + length (listed_places part.now) ≤ MOST_PLACES }
+    {
+        if let Some(before) = &self.part {
+            if !before.same_header(part) {
+                return Some(EcmFault::Mixed);
+            }
+            if !is_after(before, part) {
+                return Some(EcmFault::Order);
+            }
+        }
+        if self.places.len() + part.listed().len() > MOST_PLACES {
+            return Some(EcmFault::Count);
+        }
+        None
+    }
+
+    // Adds the part.
+    fn put(&mut self, part: &EcmPart)
+        requires form { IsEcm part.now }
+        requires room { length self.old.places.items + length (listed_places part.now) ≤ MOST_PLACES }
+        ensures { (run : List EcmPart) → IsGathered run self.old.part self.old.places.items →
+            IsNext run part.now → part_fault (part.now ∷ run) ≡ None →
+            IsGathered (part.now ∷ run) self.new.part self.new.places.items }
+    {
+        self.places.extend_from_slice(positions_of(part)).unwrap();
+        self.part = Some(*part);
+    }
+}
+
+// Whether every PID of the part is above every one of the part before it.
+#[tactic(auto, using(crate::proofs::Gathering::few))]
+fn is_after(before: &EcmPart, part: &EcmPart) -> bool
+    requires few { before.now.count ≤ POSITIONS }
+    requires form { IsEcm part.now }
+    ensures { IsEcm before.now → (run : List EcmPart) → result ≡ stands_after part.now (before.now ∷ run) }
+{
+    match (before.listed().last(), part.listed().first()) {
+        (Some(last), Some(first)) => last.pid < first.pid,
+        _ => true,
+    }
+}
+
+// The positions of the part.
+#[tactic(auto, using(crate::proofs::Gathering::few))]
+fn positions_of(part: &EcmPart) -> &[Place]
+    requires { IsEcm part.now }
+    ensures value { result.now ≡ listed_places part.now }
+    ensures form { IsPart part.now }
+{
+    let positions: &[Place] = &part.positions;
+    &positions[..usize::from(part.count)]
+}

@@ -1,0 +1,117 @@
+ghost use Rattle.std.specs.Prelude.{◌≡◌, ◌≤◌, [], ◌∷◌, List, Some, None, IfOk, find, is_none, ◌&&◌, if◌then◌else◌};
+ghost use Rattle.std.specs.Option.{option_or};
+ghost use Rattle.sd_card.specs.Fields.{CardFields};
+ghost use Rattle.sd_ecm.specs.Parts.{Message};
+ghost use Rattle.sd_ecm.specs.declared.part.EcmPart.{EcmPart};
+ghost use Rattle.sd_spec_receiver.specs.Heard.{Heard, Controls};
+ghost use Rattle.sd_spec_receiver.specs.Stretches.{completes, current};
+ghost use Rattle.sd_spec_receiver.specs.Ending.{periods_told, is_unkeyed};
+ghost use Rattle.sd_receive.specs.Entitled.{IsEntitled, IsStateAt, is_told_revoked, all_marked};
+
+use crate::entitled::Entitled;
+use crate::marks::{SECTIONS, are_all_marked, clear};
+use sd_base::NoMemory;
+use std::alloc::Global;
+
+impl Entitled {
+    /// Before anything was heard. All memory is allocated here.
+    pub fn new(alloc: Global) -> Result<Entitled, NoMemory>
+        ensures { IfOk result (λ entitled. (card : CardFields) → IsEntitled card [] entitled) }
+    {
+        let Ok(marks) = vec![in alloc; false; SECTIONS] else {
+            return Err(NoMemory);
+        };
+        Ok(Entitled {
+            period: 0,
+            says: None,
+            marks,
+            told: false,
+            key: None,
+            revoked: None,
+            unkeyed: None,
+        })
+    }
+
+    /// The current entitlement period, 0 before anything was heard.
+    pub fn period(&self) -> u32
+        ensures { result ≡ self.now.period }
+    {
+        self.period
+    }
+
+    /// The key of the current period, if that is known.
+    pub fn key(&self) -> Option<[u8; 32]>
+        ensures { result ≡ self.now.key }
+    {
+        self.key
+    }
+
+    /// Takes a complete control message of this period, which must not be before the current one.
+    pub fn message(&mut self, period: u32)
+        requires { self.old.period ≤ period }
+        ensures { (card : CardFields) (tr : List Heard) (part : EcmPart) (message : Message) →
+            IsEntitled card tr self.old → completes tr (Controls part) ≡ Some message → message.period ≡ period →
+            IsEntitled card (Controls part ∷ tr) self.new }
+    {
+        self.move_to(period);
+        self.told = true;
+    }
+
+    /// The first period of a complete control message of which all sections were seen and no key is known.
+    pub fn revoked(&self) -> Option<u32>
+        ensures { (card : CardFields) (tr : List Heard) → IsEntitled card tr self.now →
+            result ≡ find (is_told_revoked card tr) (periods_told tr) }
+    {
+        self.or_this(self.revoked, self.shuts_out())
+    }
+
+    /// The first period of a complete control message of which no key is known.
+    pub fn unkeyed(&self) -> Option<u32>
+        ensures { (card : CardFields) (tr : List Heard) → IsEntitled card tr self.now →
+            result ≡ find (is_unkeyed card tr) (periods_told tr) }
+    {
+        self.or_this(self.unkeyed, self.lacks_key())
+    }
+
+    // The first of the earlier periods, or else the current one if it is such a one.
+    fn or_this(&self, first: Option<u32>, is_such: bool) -> Option<u32>
+        ensures { result ≡ option_or first (if is_such then Some self.now.period else None) }
+    {
+        first.or(is_such.then_some(self.period))
+    }
+
+    // Whether a complete control message was of the current period, and its key isn't known.
+    fn lacks_key(&self) -> bool
+        ensures { result ≡ (self.now.told && is_none self.now.key) }
+    {
+        self.told && self.key.is_none()
+    }
+
+    // Whether a complete control message was of the current period, its key isn't known, and all its sections were
+    // seen.
+    fn shuts_out(&self) -> bool
+        ensures { result ≡ ((self.now.told && is_none self.now.key) && all_marked self.now.says self.now.marks.items) }
+    {
+        self.lacks_key() && are_all_marked(&self.marks, self.says)
+    }
+
+    // Makes this period the current one, if it isn't yet. The one before it is judged.
+    pub(crate) fn move_to(&mut self, period: u32)
+        requires { self.old.period ≤ period }
+        ensures { (card : CardFields) (tr : List Heard) → IsEntitled card tr self.old →
+            IsStateAt card tr period self.new }
+    {
+        if period == self.period {
+            return;
+        }
+        let revoked = self.revoked();
+        let unkeyed = self.unkeyed();
+        clear(&mut self.marks, self.says);
+        self.period = period;
+        self.says = None;
+        self.told = false;
+        self.key = None;
+        self.revoked = revoked;
+        self.unkeyed = unkeyed;
+    }
+}

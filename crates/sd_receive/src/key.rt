@@ -1,0 +1,69 @@
+ghost use Rattle.std.specs.Prelude.{◌≡◌, ◌+◌, ◌≤◌, None, IsNone, IfOk, option_map};
+ghost use Rattle.sd_emm.specs.Form.{AreSets};
+ghost use Rattle.sd_emm.specs.Spelled.{listed_entries};
+ghost use Rattle.sd_emm.specs.declared.format.TheConstants.{MOST_ENTRIES};
+ghost use Rattle.sd_card.specs.Fields.{fields_of};
+ghost use Rattle.sd_keystream.specs.Wrapping.{wrapped};
+ghost use Rattle.sd_spec_receiver.specs.Keys.{key_from};
+ghost use Rattle.sd_spec_receiver.specs.Offered.{key_offering};
+ghost use Rattle.sd_receive.specs.Entitled.{HasFault};
+
+use sd_base::Steps;
+use sd_card::Card;
+use sd_emm::Emm;
+use sd_keystream::unwrap_checked;
+use sd_spec_receiver::StreamFault;
+use std::sync::ledger::Ledger;
+
+/// The period key in the first entry whose set has the card's leaf, still wrapped, after the key of that set. It takes
+/// at most as many steps of the generator as the tree is high, and none if there is no such entry.
+pub fn wrapped_key_in<L: Ledger>(
+    card: &Card,
+    emm: &Emm,
+    steps: &mut Steps<L>,
+) -> Option<([u8; 32], [u8; 32])>
+    requires count { emm.now.count ≤ MOST_ENTRIES }
+    requires sets { AreSets card.now.height emm.now.sets (listed_entries emm.now) }
+    ensures value { option_map (λ pair. wrapped pair.0 emm.now.period pair.1) result
+        ≡ key_from (fields_of card.now) emm.now }
+    ensures steps { (steps.old ≤ steps.new) × (steps.new ≤ steps.old + card.now.height) }
+    ensures unchanged { IsNone result → steps.new ≡ steps.old }
+{
+    for entry in emm.listed() {
+        if let Some(key) = card.key_for(entry.name, steps) {
+            return Some((key, entry.wrapped));
+        }
+    }
+    None
+}
+
+/// The period key in the first entry whose set has the card's leaf, if there is one. `WrongKey` if its check value
+/// isn't the one in the section; `number` is the section's packet.
+pub fn good_key_in<L: Ledger>(
+    card: &Card,
+    number: u64,
+    emm: &Emm,
+    steps: &mut Steps<L>,
+) -> Result<Option<[u8; 32]>, StreamFault>
+    requires count { emm.now.count ≤ MOST_ENTRIES }
+    requires sets { AreSets card.now.height emm.now.sets (listed_entries emm.now) }
+    ensures value { IfOk result (λ key. key ≡ key_from (fields_of card.now) emm.now) }
+    ensures fault { HasFault result (key_offering number emm.now (key_from (fields_of card.now) emm.now)).fault }
+    ensures steps { (steps.old ≤ steps.new) × (steps.new ≤ steps.old + card.now.height) }
+    ensures unchanged { key_from (fields_of card.now) emm.now ≡ None → steps.new ≡ steps.old }
+{
+    let Some(pair) = wrapped_key_in(card, emm, steps) else {
+        return Ok(None);
+    };
+    let key = pair.0;
+    let text = pair.1;
+    match unwrap_checked(&key, u64::from(emm.period), &text, &emm.check) {
+        Ok(own) => Ok(Some(own)),
+        Err(found) => Err(StreamFault::WrongKey {
+            packet: number,
+            period: emm.period,
+            found,
+            due: emm.check,
+        }),
+    }
+}

@@ -1,0 +1,95 @@
+ghost use Rattle.std.specs.Prelude.{◌≡◌, ◌+◌, ◌≤◌, ◌<◌, ◌==◌, ◌∷◌, false, List, None, Some, OnOk, IfOk, IfErr};
+ghost use Rattle.std.specs.Prelude.{is_some, if◌then◌else◌, ℕ, Option};
+ghost use Rattle.sd_emm.specs.Form.{IsEmm, AreSets};
+ghost use Rattle.sd_emm.specs.Spelled.{listed_entries};
+ghost use Rattle.sd_emm.specs.declared.format.TheConstants.{MOST_ENTRIES};
+ghost use Rattle.sd_card.specs.Fields.{CardFields, fields_of};
+ghost use Rattle.sd_spec_receiver.specs.Heard.{Heard, Entitles};
+ghost use Rattle.sd_spec_receiver.specs.Stretches.{current, seen};
+ghost use Rattle.sd_spec_receiver.specs.Keys.{first_key, key_from, key_at};
+ghost use Rattle.sd_spec_receiver.specs.Offered.{emm_offering, is_mixed};
+ghost use Rattle.sd_receive.specs.Entitled.{IsEntitled, IsStateAt, HasFault, is_said_otherwise, key_kept, with_key};
+ghost use Rattle.sd_spec_receiver.specs.Taken.{takes_key};
+
+use crate::entitled::Entitled;
+use crate::key::good_key_in;
+use crate::says::Says;
+use sd_base::Steps;
+use sd_card::Card;
+use sd_emm::{Emm, EmmFault};
+use sd_spec_receiver::StreamFault;
+use std::sync::ledger::Ledger;
+
+impl Entitled {
+    /// Takes a section of entitlements, packet `number` of the stream. A section of an earlier period changes nothing.
+    /// The key of its period is derived if it isn't known yet.
+    ///
+    /// It returns `BadEmm` with `Mixed` if the section disagrees with earlier ones of its period, and `WrongKey` if the
+    /// key has another check value than the section names. Then all that is kept is as it was.
+    pub fn section<L: Ledger>(
+        &mut self,
+        card: &Card,
+        number: u64,
+        emm: &Emm,
+        steps: &mut Steps<L>,
+    ) -> Result<(), StreamFault>
+        requires form { IsEmm emm.now }
+        requires sets { AreSets card.now.height emm.now.sets (listed_entries emm.now) }
+        ensures ok { OnOk result ((tr : List Heard) → IsEntitled (fields_of card.now) tr self.old →
+            IsEntitled (fields_of card.now) (Entitles emm.now ∷ tr) self.new) }
+        ensures fault { (tr : List Heard) → IsEntitled (fields_of card.now) tr self.old →
+            HasFault result (emm_offering (fields_of card.now) number tr emm.now).fault }
+        ensures unchanged { IfErr result (λ _. self.new ≡ self.old) }
+        ensures rise { steps.old ≤ steps.new }
+        ensures steps { (tr : List Heard) → IsEntitled (fields_of card.now) tr self.old → steps.new ≤
+            steps.old + (if takes_key (fields_of card.now) tr emm.now then card.now.height else 0) }
+    {
+        if emm.period < self.period {
+            return Ok(());
+        }
+        if self.differs(emm) {
+            return Err(StreamFault::BadEmm(number, EmmFault::Mixed));
+        }
+        // A key that is known isn't copied for each section of its period.
+        if self.knows_key(emm.period) {
+            self.mark(emm);
+            return Ok(());
+        }
+        let key = good_key_in(card, number, emm, steps)?;
+        self.move_to(emm.period);
+        self.key = key;
+        self.mark(emm);
+        Ok(())
+    }
+
+    // Whether a section disagrees with those seen before it on the current period. One of a later period doesn't.
+    fn differs(&self, emm: &Emm) -> bool
+        ensures { result ≡
+            (if self.now.period == emm.now.period then is_said_otherwise self.now.says emm.now else false) }
+    {
+        match self.says {
+            Some(says) => emm.period == self.period && says != Says::of(emm),
+            None => false,
+        }
+    }
+
+    // Whether this is the current period, and its key is known.
+    fn knows_key(&self, period: u32) -> bool
+        ensures { result ≡ is_some (key_kept self.now period) }
+    {
+        period == self.period && self.key.is_some()
+    }
+
+    // Keeps a section of the current period, whose key is kept.
+    fn mark(&mut self, emm: &Emm)
+        ensures { (card : CardFields) (tr : List Heard) (before : Option (List ℕ)) →
+            IsStateAt card tr emm.now.period (with_key self.old before) →
+            current tr ≤ emm.now.period → is_mixed (seen emm.now.period tr) emm.now ≡ false →
+            emm.now.index < emm.now.sections →
+            self.old.key ≡ first_key (key_at card tr emm.now.period) (key_from card emm.now) →
+            IsEntitled card (Entitles emm.now ∷ tr) self.new }
+    {
+        self.says = Some(Says::of(emm));
+        self.marks[usize::from(emm.index)] = true;
+    }
+}

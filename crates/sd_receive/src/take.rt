@@ -1,0 +1,127 @@
+ghost use Rattle.std.specs.Prelude.{◌≡◌, ◌≤◌, ◌∷◌, [], List, Option, IfOk};
+ghost use Rattle.sd_ecm.specs.Form.{IsEcm, AreAscending};
+ghost use Rattle.sd_ecm.specs.Parts.{Message, message_of};
+ghost use Rattle.sd_ecm.specs.declared.part.EcmPart.{EcmPart};
+ghost use Rattle.sd_spec_receiver.specs.Heard.{Heard, Controls};
+ghost use Rattle.sd_spec_receiver.specs.Stretches.{current as current_period, exceeds, newest};
+ghost use Rattle.sd_spec_receiver.specs.Offered.{is_back as back};
+ghost use Rattle.sd_ecm.specs.declared.message.EcmHead.{EcmHead};
+ghost use Rattle.sd_receive.specs.Collected.{IsMessageKept, IsCollected, IsComplete, PartOutcome};
+
+use crate::collect::{Collect, Taken};
+use crate::order::goes_back;
+use crate::run::Run;
+use sd_base::NoMemory;
+use sd_ecm::{EcmFault, EcmHead, EcmPart, MOST_PLACES, Place};
+use std::alloc::Global;
+use std::mem::swap;
+
+impl Collect {
+    /// Before any part. All memory is allocated here.
+    pub fn new(alloc: Global) -> Result<Collect, NoMemory>
+        ensures { IfOk result (λ state. IsCollected [] state) }
+    {
+        let run = Run::new(alloc)?;
+        match Vec::with_capacity(alloc, MOST_PLACES) {
+            Ok(places) => Ok(Collect {
+                run,
+                last: None,
+                places,
+            }),
+            Err(_) => Err(NoMemory),
+        }
+    }
+
+    /// Takes a part of a control message, or says why it is refused. `current` is the current entitlement period. After
+    /// `Complete`, `settle` must be called before the next part is taken [this project, docs/FORMATS.md, Receiver].
+    pub fn take(&mut self, current: u32, part: &EcmPart) -> Result<Taken, EcmFault>
+        requires form { IsEcm part.now }
+        ensures value { (past : List Heard) → IsCollected past self.old → current_period past ≡ current →
+            PartOutcome past part.now self.new result }
+    {
+        if !self.counts(part) {
+            return Ok(Taken::Waits);
+        }
+        if let Err(fault) = self.run.take(part) {
+            return Err(fault);
+        }
+        if self.run.is_empty() || part.part != part.last_part {
+            return Ok(Taken::Waits);
+        }
+        let head = part.head();
+        if self.is_back(current, &head) {
+            return Err(EcmFault::Back);
+        }
+        Ok(Taken::Complete(head))
+    }
+}
+
+impl Collect {
+    /// Keeps the message that the newest part completed, instead of the one before it.
+    pub fn settle(&mut self)
+        ensures places { self.new.places.items ≡ self.old.run.places.items }
+        ensures value { (past : List Heard) (part : EcmPart) (head : EcmHead) → IsComplete past part head self.old →
+            IsCollected (Controls part ∷ past) self.new }
+    {
+        swap(&mut self.places, &mut self.run.places);
+        self.last = self.run.head();
+        self.run.clear();
+    }
+
+    /// Forgets all messages and parts.
+    pub fn begin(&mut self)
+        ensures { IsCollected [] self.new }
+    {
+        self.run.clear();
+        self.last = None;
+        self.places.clear();
+    }
+
+    /// What the newest complete message says, but for its positions; `None` if there is none.
+    pub fn last(&self) -> Option<EcmHead>
+        ensures { result ≡ self.now.last }
+    {
+        self.last
+    }
+
+    /// The PIDs and positions of the newest complete message.
+    pub fn places(&self) -> &[Place]
+        ensures { result.now ≡ self.now.places.items }
+    {
+        &self.places
+    }
+
+    /// The PIDs and positions in the parts of the next message that arrived.
+    pub fn coming(&self) -> &[Place]
+        ensures { result.now ≡ self.now.run.places.items }
+    {
+        &self.run.places
+    }
+
+    // Whether the part is of a later message than the newest complete one.
+    fn counts(&self, part: &EcmPart) -> bool
+        ensures { (message : Option Message) → IsMessageKept message self.now.last self.now.places.items →
+            result ≡ exceeds message part.now }
+    {
+        match &self.last {
+            Some(last) => last.number < part.number,
+            None => true,
+        }
+    }
+
+    // Whether a message is of an earlier period than the current one, or goes back behind the newest complete one.
+    #[tactic(auto, unfolding(sd_spec_receiver::specs::Offered::is_back))]
+    fn is_back(&self, current: u32, head: &EcmHead) -> bool
+        ensures { (past : List Heard) → IsMessageKept (newest past).message self.now.last self.now.places.items →
+            AreAscending self.now.run.places.items → current_period past ≡ current →
+            result ≡ back past (message_of head.now self.now.run.places.items) }
+    {
+        if head.period < current {
+            return true;
+        }
+        match &self.last {
+            Some(last) => goes_back(head, &self.run.places, last, &self.places),
+            None => false,
+        }
+    }
+}

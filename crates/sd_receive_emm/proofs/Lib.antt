@@ -1,4 +1,0 @@
-pub mod Periods
-pub mod Keeping
-pub mod Finding
-pub mod Judging

@@ -1,5 +1,0 @@
-use Rattle.sd_receive_emm.proofs.Keeping.{nothing_told}
-use Rattle.sd_receive_emm.proofs.laws.others_leave_it.Goals as goal
-
-pub returns : goal.returns
-returns c = nothing_told

@@ -1,0 +1,108 @@
+ghost use Rattle.std.specs.Prelude.{◌≡◌, ◌<◌, ℕ, None, Err, map, string_bytes};
+ghost use Rattle.std.specs.Process.{exit_status};
+ghost use Rattle.sd_command_status.specs.Exits.{code_of};
+ghost use Rattle.sd_command_status.specs.Outside.{outside, page_state, depot_state, Outside};
+ghost use Rattle.sd_command_status.specs.Results.{RunResult, IsToldAs};
+ghost use Rattle.sd_command_line.specs.Words.{order_of};
+ghost use Rattle.sd_run.specs.Meaning.{meaning};
+
+use crate::edge::{makes_secrets, names_output};
+use crate::lines::Lines;
+use crate::run;
+use sd_base::Steps;
+use sd_command_line::explanation;
+use sd_command_status::{Status, tell};
+use sd_host::{HostDepot, StdPrint};
+use sd_ports::{Depot, Sink, write_all};
+use std::alloc::Global;
+use std::env;
+use std::fs::Files;
+use std::io::{ErrorKind, Write};
+use std::marker::Brand;
+use std::process::ExitCode;
+use std::rt::Env;
+use std::sync::ledger::{Blank, Ledger};
+
+/// Runs the process's words over the machine's files. Its exit is the number of the status.
+pub fn start<R: Env + Files + Print + AllocGlobal, O: Write + Drop, E: Write + Copy + Drop>(
+    rt: &R,
+    output: O,
+    error: E,
+) -> ExitCode
+    ensures { (status : Status) × (exit_status result ≡ code_of status) }
+{
+    match words(rt) {
+        Ok(words) => exit_of(answer(rt, &words, output, error)),
+        Err(status) => exit_of(tell(rt.alloc(), &mut StdPrint::new(output), status)),
+    }
+}
+
+/// The exit of a status.
+fn exit_of(status: Status) -> ExitCode
+    ensures { exit_status result ≡ code_of status }
+{
+    ExitCode::from(status.code())
+}
+
+/// The words after the program's name. Words that aren't UTF-8 are a faulty command line.
+fn words(rt: &(impl Env + AllocGlobal)) -> Result<Vec<String>, Status> {
+    match env::args(rt) {
+        Ok(args) => Ok(args.skip(1).collect(rt.alloc())?),
+        Err(error) if error.kind() == ErrorKind::OutOfMemory => Err(Status::NoMemory),
+        Err(_) => Err(Status::Usage),
+    }
+}
+
+/// Runs the words. If a file that they name is the standard output, all lines go to the standard error, so that none
+/// comes into a stream. A refusal is explained on the standard error, too.
+fn answer<R: Files + Print + AllocGlobal, O: Write + Drop, E: Write + Copy + Drop>(
+    rt: &R,
+    words: &[String],
+    output: O,
+    error: E,
+) -> Status
+    // The answer is one of `run` to these words, over files of which nothing is known.
+    ensures value { (a b : Outside) × (a.place.files ≡ None) ×
+        RunResult (meaning (map string_bytes words.now)) a b result }
+    ensures words { (status : Status) → order_of (map string_bytes words.now) ≡ Err status → IsToldAs status result }
+{
+    let alloc = rt.alloc();
+    let mut depot = HostDepot::new(alloc, rt, makes_secrets(words));
+    let to_error = names_output(&depot, words);
+    let mut print = StdPrint::new(Lines {
+        output,
+        error,
+        to_error,
+    });
+    let status = counted::<Brand, _, _>(alloc, words, &mut depot, &mut print, Blank::new(1));
+    explain(alloc, words, status, error);
+    status
+}
+
+/// Runs the words with a counter over a new ledger.
+fn counted<L: Ledger, D: Depot, P: Sink>(
+    alloc: Global,
+    words: &[String],
+    depot: &mut D,
+    print: &mut P,
+    blank: Blank,
+) -> Status
+    requires name { blank.name ≡ L.name }
+    requires parts { blank.parts ≡ L.parts }
+    requires some { 0 < blank.parts }
+    ensures value { (steps : ℕ) × RunResult (meaning (map string_bytes words.now))
+        (outside (depot_state D.Depot depot.old) (page_state P.Sink print.old) 0)
+        (outside (depot_state D.Depot depot.new) (page_state P.Sink print.new) steps) result }
+    ensures words { (status : Status) → order_of (map string_bytes words.now) ≡ Err status → IsToldAs status result }
+{
+    let mut steps = Steps::<L>::new(blank);
+    run(alloc, words, depot, print, &mut steps)
+}
+
+/// Says to a user what is wrong with an argument. The status and its line are the answer, so it doesn't matter if this
+/// can't be said.
+fn explain<E: Write + Drop>(alloc: Global, words: &[String], status: Status, error: E) {
+    if let Ok(text) = explanation(alloc, words, status) {
+        write_all(&mut StdPrint::new(error), text.as_bytes()).ok();
+    }
+}

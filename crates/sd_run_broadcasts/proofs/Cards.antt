@@ -1,0 +1,108 @@
+-- What a card's file says by its fields.
+use Rattle.std.proofs.Common.{◌≡◌, ◌⊎◌, ℕ, ◌+◌, ◌*◌, ◌/◌, List, [], ◌∷◌, ◌++◌, length, take}
+use Rattle.std.proofs.Common.{drop, append_assoc, Option, None, Ok, Err, refl, sym, ap}
+use Rattle.std.proofs.Common.{subst, ◌∙◌, inl, inr}
+use Rattle.std.specs.List.{concat}
+use Rattle.std.proofs.lemmas.List.{take_at, drop_at}
+use Rattle.sd_card.specs.Files.{AreSecrets, check_of, file_body}
+use Rattle.sd_card.proofs.Written.{after_head}
+use Rattle.sd_card.specs.declared.fault.CardFault.{CardFault}
+use Rattle.sd_card.specs.declared.fault.CardFault.TheVariants as fault
+use Rattle.sd_card.specs.Faults.{height_in, fault_in, IsFaultOf}
+use Rattle.sd_card.specs.Fields.{CardFields, IsCard, card_head, card_bytes}
+use Rattle.sd_card.proofs.Spellings.{height_written, leaf_written, ca_written, written_is_good}
+use Rattle.sd_command_status.specs.declared.status.Status.{Status}
+use Rattle.sd_command_status.specs.declared.status.Status.TheVariants.{BadCard, NoMemory}
+use Rattle.sd_command_status.specs.Outcome.{IsRefusal, IsEnding}
+use Rattle.sd_command_files.specs.Files.{refused_card}
+use Rattle.sd_run_broadcasts.specs.Receive.{secrets_of, card_said, card_unless, told_card}
+
+-- secrets that were joined are found again
+secrets_again : (secrets : List (List ℕ)) (rest : List ℕ) → AreSecrets secrets →
+    secrets_of (length secrets) (concat secrets ++ rest) ≡ secrets
+unfolding secrets_of
+secrets_again [] rest long = refl
+secrets_again (secret ∷ secrets) rest long =
+    let joined : concat (secret ∷ secrets) ++ rest ≡ secret ++ (concat secrets ++ rest) =
+    append_assoc secret (concat secrets) rest in
+    ap (λ (bytes : List ℕ). take 32 bytes ∷ secrets_of (length secrets) (drop 32 bytes)) joined
+    ∙ ap (λ (first : List ℕ). first ∷ secrets_of (length secrets) (drop 32 (secret ++ (concat secrets ++ rest))))
+    (take_at secret (concat secrets ++ rest) 32 long.0)
+    ∙ ap (λ (bytes : List ℕ). secret ∷ secrets_of (length secrets) bytes)
+    (drop_at secret (concat secrets ++ rest) 32 long.0)
+    ∙ ap (λ (more : List (List ℕ)). secret ∷ more) (secrets_again secrets rest long.1)
+
+after_card_head : (card : CardFields) → drop 12 (card_bytes card)
+    ≡ concat card.secrets ++ check_of (file_body (card_head card.height card.leaf card.ca) card.secrets)
+unfolding card_bytes card_head
+after_card_head card = after_head (card_head card.height card.leaf card.ca) card.secrets 12 refl
+
+-- a card's file says that card
+pub said_again : (card : CardFields) → IsCard card → card_said (card_bytes card) ≡ card
+unfolding card_said
+said_again card is =
+    let secrets : secrets_of (card.height * (card.height + 1) / 2 + 1) (drop 12 (card_bytes card)) ≡ card.secrets =
+    ap (λ (n : ℕ). secrets_of n (drop 12 (card_bytes card))) (sym is.count)
+    ∙ ap (secrets_of (length card.secrets)) (after_card_head card)
+    ∙ secrets_again card.secrets _ is.secrets in
+    let height : height_in (card_bytes card) ≡ card.height = height_written card in
+    rw (height, leaf_written card is, ca_written card is, secrets) refl
+
+unless_none : (fault : Option CardFault) (card : CardFields) → fault ≡ None → card_unless fault card ≡ Ok card
+unless_none fault card none = ap (λ (f : Option CardFault). card_unless f card) none
+
+-- so the card that was read is the one that is told
+pub card_read : (bytes : List ℕ) (card : CardFields) → IsCard card → bytes ≡ card_bytes card → told_card bytes ≡ Ok card
+unfolding told_card
+card_read bytes card is e =
+    unless_none (fault_in bytes) (card_said bytes) (ap fault_in e ∙ written_is_good card is)
+    ∙ ap Ok (ap card_said e ∙ said_again card is)
+
+-- and a fault that isn't out of memory is told
+pub card_faulty : (bytes : List ℕ) (found : CardFault) → IsFaultOf bytes found → (found ≡ fault.NoMemory → ⊥) →
+    told_card bytes ≡ Err (BadCard found)
+unfolding told_card
+card_faulty bytes found (inl some) other = ap (λ (f : Option CardFault). card_unless f (card_said bytes)) some
+card_faulty bytes found (inr memory) other = absurd (other memory.0)
+
+-- so what is answered to it is meant
+pub card_refused : (bytes : List ℕ) (found : CardFault) (status : Status) → status ≡ refused_card found →
+    IsFaultOf bytes found →
+    ((told_card bytes ≡ Err status) × IsRefusal status × IsEnding status) ⊎ (status ≡ NoMemory)
+card_refused bytes fault.Magic status is h =
+    inl (
+      card_faulty bytes fault.Magic h (λ e. cc) ∙ ap Err (sym is),
+      subst IsRefusal (sym is) tt,
+      subst IsEnding (sym is) tt,
+    )
+card_refused bytes fault.Version status is h =
+    inl (
+      card_faulty bytes fault.Version h (λ e. cc) ∙ ap Err (sym is),
+      subst IsRefusal (sym is) tt,
+      subst IsEnding (sym is) tt,
+    )
+card_refused bytes fault.Height status is h =
+    inl (
+      card_faulty bytes fault.Height h (λ e. cc) ∙ ap Err (sym is),
+      subst IsRefusal (sym is) tt,
+      subst IsEnding (sym is) tt,
+    )
+card_refused bytes fault.Leaf status is h =
+    inl (
+      card_faulty bytes fault.Leaf h (λ e. cc) ∙ ap Err (sym is),
+      subst IsRefusal (sym is) tt,
+      subst IsEnding (sym is) tt,
+    )
+card_refused bytes fault.Length status is h =
+    inl (
+      card_faulty bytes fault.Length h (λ e. cc) ∙ ap Err (sym is),
+      subst IsRefusal (sym is) tt,
+      subst IsEnding (sym is) tt,
+    )
+card_refused bytes (fault.Check found due) status is h =
+    inl (
+      card_faulty bytes (fault.Check found due) h (λ e. cc) ∙ ap Err (sym is),
+      subst IsRefusal (sym is) tt,
+      subst IsEnding (sym is) tt,
+    )
+card_refused bytes fault.NoMemory status is h = inr is

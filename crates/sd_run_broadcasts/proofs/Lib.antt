@@ -1,0 +1,12 @@
+pub mod Prefixes
+pub mod Sending
+pub mod Trying
+pub mod Others
+pub mod HeadSending
+pub mod Heading
+pub mod HeadOthers
+pub mod Planned
+pub mod Cards
+pub mod Received
+pub mod ReceiveOthers
+pub mod Unmade

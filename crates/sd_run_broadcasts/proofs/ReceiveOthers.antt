@@ -1,0 +1,34 @@
+-- `receive` never means `Usage`.
+use Rattle.std.proofs.Common.{ℕ, List, Option, Some, None}
+use Rattle.sd_card.specs.declared.fault.CardFault.{CardFault}
+use Rattle.sd_card.specs.Fields.{CardFields}
+use Rattle.sd_card.specs.Faults.{fault_in}
+use Rattle.sd_command_status.specs.declared.status.LimitKind.TheVariants.{CardBytes}
+use Rattle.sd_command_status.specs.Spec.{FileArgument, Readings, all_of, judged, value, within}
+use Rattle.sd_command_files.specs.Files.{most_card_bytes}
+use Rattle.sd_command_files.proofs.Others.{IsOther, other_after, other_file, other_stream}
+use Rattle.sd_run_broadcasts.specs.Receive.{card_said, card_unless, told_card, card_of_file, receiving, stream_meaning}
+use Rattle.sd_run_broadcasts.specs.Receive.{receive_meaning}
+
+other_unless : (fault : Option CardFault) (card : CardFields) → IsOther (card_unless fault card)
+other_unless None card = tt
+other_unless (Some fault) card = λ e. cc
+
+other_receiver : (bytes : List ℕ) → IsOther (told_card bytes)
+unfolding told_card
+other_receiver bytes = other_unless (fault_in bytes) (card_said bytes)
+
+other_card_file : (word : ℕ) (got : Option (List ℕ)) → IsOther (card_of_file word got).result
+unfolding card_of_file
+other_card_file word got =
+    other_after (within word most_card_bytes CardBytes got).calls (within word most_card_bytes CardBytes got).result
+    (λ bytes. judged (told_card bytes)) (other_file word most_card_bytes CardBytes got) other_receiver
+
+pub other_receive : (card stream out : FileArgument) (given : Readings) →
+    IsOther (receive_meaning card stream out given).result
+unfolding receive_meaning
+other_receive card stream out given =
+    other_after (card_of_file card.number (given card)).calls (card_of_file card.number (given card)).result
+    (λ fields. stream_meaning fields stream out given) (other_card_file card.number (given card))
+    (λ fields. other_after (all_of stream.number (given stream)).calls (all_of stream.number (given stream)).result
+    (λ bytes. value (receiving fields out bytes)) (other_stream stream.number (given stream)) (λ bytes. tt))

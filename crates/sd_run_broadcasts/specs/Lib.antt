@@ -1,0 +1,4 @@
+pub mod Prefixes
+pub mod Trial
+pub mod Head
+pub mod Receive

@@ -1,0 +1,140 @@
+-- Public meaning: `receive CARD STREAM OUT` [this project, docs/FORMATS.md, Receiver].
+use Rattle.std.specs.Prelude.{ℕ, zero, suc, ◌+◌, ◌*◌, ◌/◌, ◌≤◌, List, [], ◌∷◌, take, drop, reverse, Option}
+use Rattle.std.specs.Prelude.{Some, None, is_none, if◌then◌else◌, Result, Ok, Err}
+use Rattle.std.specs.List.{concat}
+use Rattle.sd_engine.specs.Taken.{StreamEnd, Whole, Breaks, RunsOn, taken_of, end_of, IsLeft}
+use Rattle.sd_engine.specs.Driving.{most_packets}
+use Rattle.sd_engine.specs.declared.driver.DriveFault.{DriveFault}
+use Rattle.sd_engine.specs.declared.driver.DriveFault.TheVariants as drive
+use Rattle.sd_card.specs.declared.file.TheConstants.{SECRET_BYTES}
+use Rattle.sd_card.specs.declared.format.TheConstants.{SECRETS_AT}
+use Rattle.sd_card.specs.declared.fault.CardFault.{CardFault}
+use Rattle.sd_card.specs.Faults.{height_in, leaf_in, ca_in, fault_in}
+use Rattle.sd_card.specs.Fields.{CardFields, saying}
+use Rattle.sd_spec_receiver.specs.declared.fault.StreamFault.{StreamFault}
+use Rattle.sd_spec_receiver.specs.declared.fault.StreamFault.TheVariants as fault
+use Rattle.sd_spec_receiver.specs.declared.ending.Ending.{Ending}
+use Rattle.sd_spec_receiver.specs.declared.ending.Ending.TheVariants as end
+use Rattle.sd_spec_receiver.specs.Offered.{offered, out_from, break_from}
+use Rattle.sd_spec_receiver.specs.Ending.{ending_of}
+use Rattle.sd_receive.specs.Receiving.{taken_keys}
+use Rattle.sd_command_status.specs.declared.status.Status.{Status}
+use Rattle.sd_command_status.specs.declared.status.Status.TheVariants.{Done, Revoked, DepotFault, BadCard, BadStream}
+use Rattle.sd_command_status.specs.declared.status.Status.TheVariants.{Unheard}
+use Rattle.sd_command_status.specs.declared.status.Status.TheVariants.{Unclosed, Gaps, NoCat}
+use Rattle.sd_command_status.specs.declared.status.StreamCause.TheVariants.{Broken, TooLong, WrongKey, WrongWord}
+use Rattle.sd_command_status.specs.declared.status.StreamCause.TheVariants.{BadEmm}
+use Rattle.sd_command_status.specs.declared.status.StreamCause.TheVariants.{BadEcm, Parity}
+use Rattle.sd_command_status.specs.declared.status.LimitKind.TheVariants.{CardBytes}
+use Rattle.sd_command_status.specs.Spec.{Spec, FileArgument, Readings, all_of, within, judged, value, ◌>>=◌}
+use Rattle.sd_command_status.specs.Work.{UpTo, Work}
+use Rattle.sd_command_files.specs.Files.{most_card_bytes}
+use Rattle.sd_command_files.specs.Turned.{turning, Wrote}
+
+-- the first n secrets in these bytes
+unfoldable pub secrets_of : ℕ → List ℕ → List (List ℕ)
+secrets_of zero bytes = []
+secrets_of (suc n) bytes = take SECRET_BYTES bytes ∷ secrets_of n (drop SECRET_BYTES bytes)
+
+-- what a card's file says by its fields [this project, docs/FORMATS.md, Card]
+unfoldable pub card_said : List ℕ → CardFields
+card_said bytes =
+    saying (height_in bytes) (leaf_in bytes) (ca_in bytes)
+    (secrets_of (height_in bytes * (height_in bytes + 1) / 2 + 1) (drop SECRETS_AT bytes))
+
+-- a card, unless there is a fault
+abbrev pub card_unless : Option CardFault → CardFields → Result CardFields Status
+card_unless None card = Ok card
+card_unless (Some fault) card = Err (BadCard fault)
+
+-- the card of a file of these bytes, or the status of its fault
+unfoldable pub told_card : List ℕ → Result CardFields Status
+told_card bytes = card_unless (fault_in bytes) (card_said bytes)
+
+-- the card in the file of argument `word`
+unfoldable pub card_of_file : ℕ → Option (List ℕ) → Spec CardFields
+card_of_file word got = within word most_card_bytes CardBytes got >>= λ bytes. judged (told_card bytes)
+
+-- the card in the file of this argument
+abbrev pub card_in : Readings → FileArgument → Spec CardFields
+card_in given word = card_of_file word.number (given word)
+
+-- the status of a packet that is refused
+abbrev pub refused_status : StreamFault → Status
+refused_status (fault.WrongKey packet period found due) = BadStream packet (WrongKey period found due)
+refused_status (fault.WrongWord packet word found due) = BadStream packet (WrongWord word found due)
+refused_status (fault.BadEmm packet emm) = BadStream packet (BadEmm emm)
+refused_status (fault.BadEcm packet ecm) = BadStream packet (BadEcm ecm)
+refused_status (fault.Parity packet) = BadStream packet Parity
+
+-- the status of how a stream ended for the receiver of this leaf
+abbrev pub ending_status : ℕ → Ending → Status
+ending_status leaf end.Opened = Done
+ending_status leaf (end.Revoked period) = Revoked leaf period
+ending_status leaf (end.Unheard period) = Unheard leaf period
+ending_status leaf end.NoCat = NoCat
+ending_status leaf (end.Unclosed number) = Unclosed number
+ending_status leaf (end.Gaps packets) = Gaps packets
+
+-- how a stream ended for a card after all its packets
+unfoldable pub ended_status : CardFields → List (List ℕ) → Status
+ended_status card packets = ending_status card.leaf (ending_of card (reverse packets))
+
+-- the status of a stream of which no packet is refused
+abbrev pub status_at : CardFields → List (List ℕ) → StreamEnd → Status
+status_at card packets Whole = ended_status card packets
+status_at card packets (Breaks found) = BadStream found.packet (Broken found.cause)
+status_at card packets RunsOn = BadStream most_packets TooLong
+
+-- this status, unless a packet is refused
+abbrev pub unless_refused : Option StreamFault → Status → Status
+unless_refused None status = status
+unless_refused (Some fault) status = refused_status fault
+
+-- what the receiver of a card writes of a stream of these bytes
+unfoldable pub received_of : CardFields → List ℕ → List ℕ
+received_of card bytes = concat (out_from card [] (taken_of bytes))
+
+-- the status with which the receiver of a card ends a stream of these bytes
+unfoldable pub received_status : CardFields → List ℕ → Status
+received_status card bytes =
+    unless_refused (break_from card [] (taken_of bytes)) (status_at card (taken_of bytes) (end_of bytes))
+
+-- the first of these packets, up to the one that is refused, after others [this project, docs/FORMATS.md, Receiver]
+unfoldable pub upto_break : CardFields → List (List ℕ) → List (List ℕ) → List (List ℕ)
+upto_break card past [] = []
+upto_break card past (packet ∷ packets) =
+    packet ∷ (if is_none (offered card past packet).fault then upto_break card (packet ∷ past) packets else [])
+
+-- the tree's height in steps of the generator for each key that is taken, up to the packet that is refused
+unfoldable pub received_steps : CardFields → List ℕ → ℕ
+received_steps card bytes = card.height * taken_keys card [] (upto_break card [] (taken_of bytes))
+
+-- the work that makes OUT of what a card opens of a stream of these bytes
+abbrev pub receiving : CardFields → FileArgument → List ℕ → Work
+receiving card out bytes =
+    turning (UpTo (received_steps card bytes)) out (received_of card bytes) (received_status card bytes)
+
+-- the work of `receive` once the card is known
+abbrev pub stream_meaning : CardFields → FileArgument → FileArgument → Readings → Spec Work
+stream_meaning card stream out given = all_of stream.number (given stream) >>= λ bytes. value (receiving card out bytes)
+
+-- the work of `receive CARD STREAM OUT` [this project, docs/FORMATS.md, Receiver]
+unfoldable pub receive_meaning : FileArgument → FileArgument → FileArgument → Readings → Spec Work
+receive_meaning card stream out given = card_in given card >>= λ fields. stream_meaning fields stream out given
+
+-- the status of a drive that didn't reach the end of its stream
+abbrev pub stopped_status : DriveFault StreamFault → Status
+stopped_status (drive.Broken found) = BadStream found.packet (Broken found.cause)
+stopped_status drive.TooLong = BadStream most_packets TooLong
+stopped_status drive.ReadFault = DepotFault
+stopped_status drive.WriteFault = DepotFault
+stopped_status (drive.Refused fault) = refused_status fault
+
+-- what a card opens of the rest of a stream was written, as far as the two ports went, within its steps
+pub record ReceivesLeft (card : CardFields) (left held now : Option (List ℕ)) (from to : ℕ) (status : Status) : Type 0
+  where
+    pub bytes : List ℕ
+    pub is_left : IsLeft left bytes
+    pub wrote : Wrote (received_of card bytes) (received_status card bytes) held now status
+    pub steps : to ≤ from + received_steps card bytes

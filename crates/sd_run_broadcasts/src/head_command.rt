@@ -1,0 +1,93 @@
+ghost use Rattle.std.specs.Prelude.{◌≡◌, ◌≢◌, []};
+ghost use Rattle.sd_head.specs.Staged.{plan_in, IsAfter};
+ghost use Rattle.sd_command_status.specs.Outside.{PageState, outside, depot_state};
+ghost use Rattle.sd_command_status.specs.Outcome.{Implements, status_of};
+ghost use Rattle.sd_run_broadcasts.specs.Head.{head_meaning, refusal_in, refused_status};
+ghost use Rattle.sd_run_broadcasts.specs.Head.{sent_told, SendsLeft};
+ghost use Rattle.sd_command_files.specs.Turned.{HasPortCause};
+ghost use Rattle.sd_command_files.specs.Shown.{shown_word};
+
+use sd_base::Steps;
+use sd_command_files::{Word, close_both, open_both, read_both};
+use sd_command_status::{ClearCause, Status};
+use sd_engine::{DriveFault, MOST_PACKETS, drive};
+use sd_head::{ClearFault, Head, HeadFault};
+use sd_ports::{Depot, Sink, Source};
+use std::alloc::Global;
+use std::sync::ledger::Ledger;
+
+/// Does `head SITE BOOK CLEAR OUT`: the clear stream is read and what is sent for it is written in turn.
+#[inline(never)]
+pub fn head<D: Depot, L: Ledger>(
+    alloc: Global,
+    depot: &mut D,
+    site: Word<'_>,
+    book: Word<'_>,
+    clear: Word<'_>,
+    out: Word<'_>,
+    steps: &mut Steps<L>,
+) -> Result<(), Status>
+    requires { (site.number ≢ book.number) × (site.number ≢ clear.number) × (book.number ≢ clear.number) }
+    ensures { (page : PageState) →
+        Implements (head_meaning (shown_word site.entry) (shown_word book.entry) (shown_word clear.entry)
+        (shown_word out.entry))
+        (outside (depot_state D.Depot depot.old) page steps.old) (outside (depot_state D.Depot depot.new) page steps.new)
+        (status_of result) }
+{
+    let (site, book) = read_both(alloc, depot, site, book)?;
+    let mut head = Head::new(alloc, site, book)?;
+    let (mut inlet, mut outlet) = open_both(alloc, depot, clear, out)?;
+    let sent = send(&mut inlet, &mut outlet, &mut head, steps);
+    close_both(depot, inlet, outlet, out, sent)
+}
+
+/// Sends what is sent for the clear stream that is left of a source.
+pub fn send<S: Source, K: Sink, L: Ledger>(
+    source: &mut S,
+    sink: &mut K,
+    head: &mut Head,
+    steps: &mut Steps<L>,
+) -> Result<(), Status>
+    requires { IsAfter (plan_in head.old) [] head.old }
+    ensures value { SendsLeft (plan_in head.old) (S.left source.old) (K.held sink.old) (K.held sink.new)
+        (status_of result) }
+    ensures cause { HasPortCause (S.faults source.old) (S.faults source.new) (K.faults sink.old) (K.faults sink.new)
+        (status_of result) }
+{
+    told(drive(source, sink, head, steps))
+}
+
+/// What is answered once the stream was driven.
+fn told(driven: Result<u64, DriveFault<HeadFault>>) -> Result<(), Status>
+    ensures { status_of result ≡ sent_told refusal_in driven }
+{
+    match driven {
+        Ok(_) => Ok(()),
+        Err(DriveFault::Broken(found)) => Err(Status::BadClear {
+            packet: found.packet,
+            cause: ClearCause::Broken(found.cause),
+        }),
+        Err(DriveFault::TooLong) => Err(Status::BadClear {
+            packet: MOST_PACKETS,
+            cause: ClearCause::TooLong,
+        }),
+        Err(DriveFault::ReadFault | DriveFault::WriteFault) => Err(Status::DepotFault),
+        Err(DriveFault::Refused(HeadFault::Clear(fault))) => Err(refused(fault)),
+        Err(DriveFault::Refused(HeadFault::NoMemory)) => Err(Status::NoMemory),
+    }
+}
+
+/// The status of a clear packet that is refused.
+pub fn refused(fault: ClearFault) -> Status
+    ensures { result ≡ refused_status fault }
+{
+    let (packet, cause) = match fault {
+        ClearFault::AlreadyScrambled(packet) => (packet, ClearCause::AlreadyScrambled),
+        ClearFault::PidTaken(packet, pid) => (packet, ClearCause::PidTaken(pid)),
+        ClearFault::PatForm(packet, form) => (packet, ClearCause::PatForm(form)),
+        ClearFault::PmtForm(packet, form) => (packet, ClearCause::PmtForm(form)),
+        ClearFault::TooManyPids(packet) => (packet, ClearCause::TooManyPids),
+        ClearFault::TooLong(packet) => (packet, ClearCause::TooLong),
+    };
+    Status::BadClear { packet, cause }
+}

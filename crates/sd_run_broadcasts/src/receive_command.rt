@@ -1,0 +1,171 @@
+ghost use Rattle.std.specs.Prelude.{◌≡◌, ◌≢◌, [], List, ℕ, IfOk, length, reverse};
+ghost use Rattle.sd_engine.specs.Stage.{vessel};
+ghost use Rattle.sd_engine.specs.Driving.{moment, DriveOutcome};
+ghost use Rattle.sd_spec_receiver.specs.Offered.{out_from};
+ghost use Rattle.sd_spec_receiver.specs.Ending.{ending_of};
+ghost use Rattle.sd_receive.specs.Receiving.{IsAfter, card_in, receiver_does, receiver_ends, receiver_refuses};
+ghost use Rattle.sd_command_status.specs.Outside.{PageState, outside, depot_state};
+ghost use Rattle.sd_command_status.specs.Reads.{JudgedOutcome, FileOutcome};
+ghost use Rattle.sd_command_status.specs.Outcome.{Implements, IsEnding, status_of};
+ghost use Rattle.sd_command_files.specs.Turned.{HasPortCause};
+ghost use Rattle.sd_run_broadcasts.specs.Receive.{ReceivesLeft, card_of_file, told_card, receive_meaning};
+ghost use Rattle.sd_run_broadcasts.specs.Receive.{stream_meaning};
+ghost use Rattle.sd_run_broadcasts.specs.Receive.{ending_status, refused_status, stopped_status};
+ghost use Rattle.sd_command_files.specs.Shown.{shown_word};
+
+use sd_base::Steps;
+use sd_card::Card;
+use sd_command_files::{Word, card_fault, close_both, open_both, read_card_bytes};
+use sd_command_status::{Status, StreamCause};
+use sd_engine::{DriveFault, MOST_PACKETS, drive};
+use sd_ports::{Depot, Sink, Source};
+use sd_receive::{Ending, Receiver, StreamFault};
+use std::alloc::Global;
+use std::sync::ledger::Ledger;
+
+/// Runs `receive CARD STREAM OUT`: the stream goes through the receiver of the card into OUT [this project,
+/// docs/FORMATS.md, Receiver].
+#[inline(never)]
+pub fn receive<D: Depot, L: Ledger>(
+    alloc: Global,
+    depot: &mut D,
+    card: Word<'_>,
+    stream: Word<'_>,
+    out: Word<'_>,
+    steps: &mut Steps<L>,
+) -> Result<(), Status>
+    requires { card.number ≢ stream.number }
+    ensures value { (page : PageState) →
+        Implements (receive_meaning (shown_word card.entry) (shown_word stream.entry) (shown_word out.entry))
+        (outside (depot_state D.Depot depot.old) page steps.old) (outside (depot_state D.Depot depot.new) page steps.new)
+        (status_of result) }
+    // Out of memory, OUT isn't made.
+    ensures memory { status_of result ≡ Status.NoMemory →
+        (depot_state D.Depot depot.new).made ≡ (depot_state D.Depot depot.old).made }
+{
+    let receiver = read_receiver(alloc, depot, card)?;
+    receive_file(alloc, depot, receiver, stream, out, steps)
+}
+
+/// The receiver of the card in the file of this argument, before the first packet. All memory that it needs is
+/// allocated here.
+fn read_receiver<D: Depot>(alloc: Global, depot: &mut D, word: Word<'_>) -> Result<Receiver, Status>
+    ensures value { FileOutcome card_in (card_of_file word.entry.number) word.entry.text.now
+        (depot_state D.Depot depot.old) (depot_state D.Depot depot.new) result }
+    ensures new { IfOk result (IsAfter []) }
+{
+    let bytes = read_card_bytes(alloc, depot, word)?;
+    judge_card(alloc, &bytes)
+}
+
+/// The receiver of the card that a file's bytes say.
+fn judge_card(alloc: Global, bytes: &[u8]) -> Result<Receiver, Status>
+    ensures value { JudgedOutcome card_in (told_card bytes.now) result }
+    ensures new { IfOk result (IsAfter []) }
+{
+    match Card::read(alloc, bytes) {
+        Ok(card) => Ok(Receiver::new(alloc, card)?),
+        Err(fault) => Err(card_fault(fault)),
+    }
+}
+
+/// Turns the file of a stream into OUT, through the receiver.
+fn receive_file<D: Depot, L: Ledger>(
+    alloc: Global,
+    depot: &mut D,
+    receiver: Receiver,
+    stream: Word<'_>,
+    out: Word<'_>,
+    steps: &mut Steps<L>,
+) -> Result<(), Status>
+    requires new { IsAfter [] receiver }
+    ensures value { (page : PageState) →
+        Implements (stream_meaning (card_in receiver) (shown_word stream.entry) (shown_word out.entry))
+        (outside (depot_state D.Depot depot.old) page steps.old) (outside (depot_state D.Depot depot.new) page steps.new)
+        (status_of result) }
+    ensures memory { status_of result ≡ Status.NoMemory →
+        (depot_state D.Depot depot.new).made ≡ (depot_state D.Depot depot.old).made }
+{
+    let (mut inlet, mut outlet) = open_both(alloc, depot, stream, out)?;
+    let ended = receive_all(&mut inlet, &mut outlet, receiver, steps);
+    close_both(depot, inlet, outlet, out, ended)
+}
+
+/// Writes what the receiver opens of the rest of a source's stream, and returns how the stream ended.
+pub fn receive_all<S: Source, K: Sink, L: Ledger>(
+    source: &mut S,
+    sink: &mut K,
+    mut receiver: Receiver,
+    steps: &mut Steps<L>,
+) -> Result<(), Status>
+    requires new { IsAfter [] receiver }
+    ensures value { ReceivesLeft (card_in receiver) (S.left source.old) (K.held sink.old) (K.held sink.new)
+        steps.old steps.new (status_of result) }
+    ensures cause { HasPortCause (S.faults source.old) (S.faults source.new) (K.faults sink.old) (K.faults sink.new)
+        (status_of result) }
+    ensures memory { status_of result ≢ Status.NoMemory }
+{
+    match drive(source, sink, &mut receiver, steps) {
+        Ok(_) => ended(&receiver),
+        Err(fault) => Err(stopped(fault)),
+    }
+}
+
+/// The result of a stream that was read to its end, of which no packet was refused.
+fn ended(receiver: &Receiver) -> Result<(), Status>
+    ensures ending { IsEnding (status_of result) }
+    ensures value { (past : List (List ℕ)) → IsAfter past receiver.now → status_of result
+        ≡ ending_status receiver.now.card.leaf (ending_of (card_in receiver.now) past) }
+{
+    let leaf = receiver.leaf().get();
+    match receiver.ending() {
+        Ending::Opened => Ok(()),
+        Ending::Revoked(period) => Err(Status::Revoked { leaf, period }),
+        Ending::Unheard(period) => Err(Status::Unheard { leaf, period }),
+        Ending::NoCat => Err(Status::NoCat),
+        Ending::Unclosed(number) => Err(Status::Unclosed(number)),
+        Ending::Gaps(packets) => Err(Status::Gaps(packets)),
+    }
+}
+
+/// The status of a stream that wasn't read to its end.
+fn stopped(fault: DriveFault<StreamFault>) -> Status
+    ensures { result ≡ stopped_status fault }
+{
+    match fault {
+        DriveFault::Broken(found) => Status::BadStream {
+            packet: found.packet,
+            cause: StreamCause::Broken(found.cause),
+        },
+        DriveFault::TooLong => Status::BadStream {
+            packet: MOST_PACKETS,
+            cause: StreamCause::TooLong,
+        },
+        DriveFault::ReadFault | DriveFault::WriteFault => Status::DepotFault,
+        DriveFault::Refused(fault) => refused(fault),
+    }
+}
+
+/// The status of a packet that is refused.
+fn refused(fault: StreamFault) -> Status
+    ensures { result ≡ refused_status fault }
+{
+    let (packet, cause) = match fault {
+        StreamFault::WrongKey {
+            packet,
+            period,
+            found,
+            due,
+        } => (packet, StreamCause::WrongKey { period, found, due }),
+        StreamFault::WrongWord {
+            packet,
+            word,
+            found,
+            due,
+        } => (packet, StreamCause::WrongWord { word, found, due }),
+        StreamFault::BadEmm(packet, fault) => (packet, StreamCause::BadEmm(fault)),
+        StreamFault::BadEcm(packet, fault) => (packet, StreamCause::BadEcm(fault)),
+        StreamFault::Parity(packet) => (packet, StreamCause::Parity),
+    };
+    Status::BadStream { packet, cause }
+}

@@ -1,0 +1,34 @@
+ghost use Rattle.std.specs.Prelude.{◌≡◌, ◌≢◌, IfOk};
+ghost use Rattle.sd_site.specs.Fields.{fields_of};
+ghost use Rattle.sd_command_status.specs.Outside.{depot_state};
+ghost use Rattle.sd_command_status.specs.Reads.{FilesOutcome};
+ghost use Rattle.sd_command_files.specs.Shown.{shown_word};
+ghost use Rattle.sd_run_broadcasts.specs.Trial.{plan_meaning};
+
+use sd_book::Book;
+use sd_command_files::{Word, read_book, read_low_site};
+use sd_command_status::{LimitKind, Status};
+use sd_ports::Depot;
+use sd_site::Site;
+use std::alloc::Global;
+
+/// The greatest height of a trial's tree.
+pub const MOST_HEIGHT: u8 = 6;
+
+/// Reads the site, whose tree must be of height at most 6, and then the book for its tree.
+pub fn read_plan<D: Depot>(
+    alloc: Global,
+    depot: &mut D,
+    site: Word<'_>,
+    book: Word<'_>,
+) -> Result<(Site, Book), Status>
+    requires { site.number ≢ book.number }
+    ensures value { FilesOutcome (λ plan. record { site = fields_of plan.0; commands = plan.1.commands })
+        (plan_meaning (shown_word site.entry) (shown_word book.entry))
+        (depot_state D.Depot depot.old) (depot_state D.Depot depot.new) result }
+    ensures height { IfOk result (λ plan. plan.1.height ≡ plan.0.height) }
+{
+    let site = read_low_site(alloc, depot, site, MOST_HEIGHT, LimitKind::TrialHeight)?;
+    let book = read_book(alloc, depot, book, site.height)?;
+    Ok((site, book))
+}

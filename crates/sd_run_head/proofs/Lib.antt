@@ -1,4 +1,0 @@
-pub mod Sending
-pub mod Heading
-pub mod Others
-pub mod Planned

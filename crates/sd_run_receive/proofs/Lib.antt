@@ -1,4 +1,0 @@
-pub mod Cards
-pub mod Received
-pub mod Others
-pub mod Unmade

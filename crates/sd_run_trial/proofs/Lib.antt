@@ -1,4 +1,0 @@
-pub mod Prefixes
-pub mod Sending
-pub mod Trying
-pub mod Others

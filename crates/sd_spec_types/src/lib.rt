@@ -1,2 +1,0 @@
-//! What the lists and numbers in signatures of definitions are.
-#![tactic(auto)]

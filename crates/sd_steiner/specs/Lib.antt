@@ -1,4 +1,0 @@
-pub mod Partition
-pub mod Chains
-pub mod Cover
-pub mod Walk
