@@ -214,15 +214,24 @@ for pair in "cover S no:sdca: BOOK no: no such file" "card S 5 no/x:sdca: OUT no
     row "${pair%%:*}: explained" is "$(cat err)" "${pair#*:}"
 done
 
-# --- the examples of help, in an order in which each finds the files that it reads
+# --- the examples of help; one whose files are missing (exit 2) is tried again after the others
 mkdir shown
 ln -s "$top/examples" shown/examples
-for command in sample accounts apart book card cover field head layered lcard messages opens plan receive show tables \
-    trace trial; do
-    example=$("$program" help "$command" | sed -n 's/^  sdca //p')
-    # shellcheck disable=SC2086 # the arguments of a command
-    (cd shown && "$program" $example) >lines 2>err
-    row "the example of help $command is done" is "$? $(cat err)" "0 "
+commands=$("$program" help | sed -n 's/^  \([a-z]*\) [A-Z].*/\1/p')
+for turn in 1 2 3; do
+    missing=
+    for command in $commands; do
+        example=$("$program" help "$command" | sed -n 's/^  sdca //p')
+        # shellcheck disable=SC2086 # the arguments of a command
+        (cd shown && "$program" $example) >lines 2>err
+        ended=$?
+        if [ $ended = 2 ] && [ $turn != 3 ]; then
+            missing="$missing $command"
+        else
+            row "the example of help $command is done" is "$ended $(cat err)" "0 "
+        fi
+    done
+    commands=$missing
 done
 
 # --- limits of the machine
