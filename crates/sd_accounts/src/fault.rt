@@ -4,25 +4,19 @@ ghost use Rattle.sd_accounts.specs.Fault.{as_fault};
 
 use sd_book::{BookFault, BookLimit};
 use std::alloc::{AllocError, AllocFailed};
-use thiserror::Error;
 
 /// Why bytes are no accounts. Lines are counted from 1 and judged in order; the first bad line decides.
-#[derive(Clone, Copy, Debug, PartialEq, Eq, Error)]
+#[derive(Clone, Copy, PartialEq, Eq)]
 pub enum AccountFault {
     /// The line is not in the grammar, or its leaf not in the tree.
-    #[error("line {0} says nothing of an account")]
     Line(u32),
     /// The line drops or restores a name that no earlier line assigned.
-    #[error("the name on line {0} is not assigned")]
     Unknown(u32),
     /// The line assigns a name or a leaf that is assigned already.
-    #[error("the name or the leaf on line {0} is assigned already")]
     Taken(u32),
     /// The book that the lines make breaks a limit.
-    #[error("the book breaks a limit: {0}")]
     Limit(BookLimit),
     /// Out of memory.
-    #[error("out of memory")]
     NoMemory,
 }
 

@@ -2,36 +2,28 @@ ghost use Rattle.std.specs.Prelude.{◌≡◌};
 ghost use Rattle.sd_book.specs.declared.fault.BookFault.TheVariants.{NoMemory};
 
 use std::alloc::{AllocError, AllocFailed};
-use thiserror::Error;
 
 /// A limit of a book.
-#[derive(Clone, Copy, Debug, PartialEq, Eq, Error)]
+#[derive(Clone, Copy, PartialEq, Eq)]
 pub enum BookLimit {
     /// It has at most [`MOST_COMMANDS`](crate::MOST_COMMANDS) commands.
-    #[error("it has too many commands")]
     Lines,
     /// It has at most [`MOST_PERIODS`](crate::MOST_PERIODS) Period commands.
-    #[error("it has too many periods")]
     Periods,
     /// At most [`MOST_REVOKED`](sd_tree::MOST_REVOKED) leaves are revoked at the end of this period.
-    #[error("too many leaves are revoked in period {0}")]
     Revoked(u32),
 }
 
 /// Why bytes are no book. Lines are counted from 1 and judged in order; the first bad line decides.
-#[derive(Clone, Copy, Debug, PartialEq, Eq, Error)]
+#[derive(Clone, Copy, PartialEq, Eq)]
 pub enum BookFault {
     /// The line is no command.
-    #[error("line {0} is no command")]
     Line(u32),
     /// The line's leaf is not in the tree.
-    #[error("the leaf on line {0} is not in the tree")]
     Leaf(u32),
     /// The book breaks a limit.
-    #[error("the book breaks a limit: {0}")]
     Limit(BookLimit),
     /// Out of memory.
-    #[error("out of memory")]
     NoMemory,
 }
 
