@@ -3,20 +3,18 @@ use Rattle.std.proofs.Common.{arith, ◌≡◌, ℕ, suc, ◌+◌, ◌/◌, ◌^
 use Rattle.std.proofs.Common.{Ok, Err}
 use Rattle.std.specs.Prelude.{None, Option}
 use Rattle.std.specs.List.{concat}
-use Rattle.sd_site.specs.Fields.{SiteFields}
 use Rattle.sd_book.specs.declared.command.Command.{Command}
 use Rattle.sd_book.specs.Commands.{last_period}
 use Rattle.sd_spec_broadcast.specs.Sent.{body}
 use Rattle.sd_spec_broadcast.specs.declared.fault.ClearFault.{ClearFault}
-use Rattle.sd_spec_field.specs.declared.event.Event.{Event}
 use Rattle.sd_field.specs.Fields.{FieldValue, IsSentCut, plan_in, sends_of, taken, written_of}
 use Rattle.sd_field.proofs.Fields.{unsent}
 use Rattle.sd_command_status.specs.declared.status.Status.{Status}
 use Rattle.sd_command_status.specs.Outcome.{IsEnding}
 use Rattle.sd_command_files.specs.Printed.{MemoryOutcome}
-use Rattle.sd_run_field.specs.Field.{digest_of, done_field, field_text, first_line, lines_to, receiver_line, text_in}
+use Rattle.sd_run_field.specs.Field.{digest_of, first_line, lines_to, receiver_line, text_in}
 use Rattle.sd_run_field.specs.Field.{unrefused, wrote_line}
-use Rattle.sd_run_field.specs.Played.{PlayOutcome}
+use Rattle.sd_run_field.specs.Played.{PlayOutcome, all_done}
 
 -- the first line
 pub first_told : (v : FieldValue) (sends packets period : ℕ) (sent text : List ℕ) (commands : List Command) →
@@ -43,36 +41,22 @@ next_told v u text more wrote digest so_far same known is =
     ∙ (ap (λ (d : List ℕ). lines_to v u ++ receiver_line u (length wrote / 188) d) known
     ∙ (ap (λ (bytes : List ℕ). lines_to v u ++ wrote_line u bytes) same ∙ ap (lines_to v) (sym next))))
 
-abbrev new_field : SiteFields → List (List ℕ) → List Event → FieldValue
-new_field site clear events = record { site = site; clear = clear; events = events; done = 0; failed = None }
-
 -- a field that stopped has no text
-pub text_stopped : {X : Type 0} (view : X → List ℕ) (before now : FieldValue) (site : SiteFields)
-    (clear : List (List ℕ)) (events : List Event) (status : Status) → before ≡ new_field site clear events →
-    PlayOutcome before now (Err status) → MemoryOutcome view (field_text site clear events) (Err status)
+pub text_stopped : {X : Type 0} (view : X → List ℕ) (before now : FieldValue) (status : Status) →
+    PlayOutcome before now (Err status) → MemoryOutcome view (text_in (all_done before)) (Err status)
 unfolding text_in
-text_stopped view before now site clear events status is plays =
-    by_cause (subst (λ (v : FieldValue). PlayOutcome v now (Err status)) is plays)
-  where
-    v : FieldValue
-    v = done_field site clear events
-
-    by_cause : PlayOutcome (new_field site clear events) now (Err status) →
-        MemoryOutcome view (field_text site clear events) (Err status)
-    by_cause (inl (fault, refused, told)) = inl (
-      ap (λ (r : Option ClearFault). unrefused r (lines_to v (2 ^ site.height))) refused
-          ∙ ap (λ (s : Status). Err s) (sym told),
-      subst IsEnding (sym told) tt,
-    )
-    by_cause (inr out) = inr out
+text_stopped view before now status (inl (fault, refused, told)) = inl (
+  ap (λ (r : Option ClearFault). unrefused r (lines_to (all_done before) (2 ^ before.site.height))) refused
+      ∙ ap (λ (s : Status). Err s) (sym told),
+  subst IsEnding (sym told) tt,
+)
+text_stopped view before now status (inr out) = inr out
 
 -- one whose events are all done has the text of its lines
-pub text_told : (before now : FieldValue) (site : SiteFields) (clear : List (List ℕ)) (events : List Event)
-    (text : List ℕ) → before ≡ new_field site clear events → PlayOutcome before now (Ok tt) →
-    text ≡ lines_to now (2 ^ site.height) → field_text site clear events ≡ Ok text
+pub text_told : (before now : FieldValue) (text : List ℕ) → PlayOutcome before now (Ok tt) →
+    text ≡ lines_to now (2 ^ before.site.height) → text_in (all_done before) ≡ Ok text
 unfolding text_in
-text_told before now site clear events text is plays told =
-    let p = subst (λ (v : FieldValue). PlayOutcome v now (Ok tt)) is plays in
-    let v : FieldValue = done_field site clear events in
-    ap (λ (r : Option ClearFault). unrefused r (lines_to v (2 ^ site.height))) p.1
-    ∙ ap (λ (xs : List ℕ). Ok xs) (sym (told ∙ ap (λ (w : FieldValue). lines_to w (2 ^ site.height)) p.0))
+text_told before now text plays told =
+    ap (λ (r : Option ClearFault). unrefused r (lines_to (all_done before) (2 ^ before.site.height))) plays.1
+    ∙ ap (λ (xs : List ℕ). Ok xs)
+    (sym (told ∙ ap (λ (v : FieldValue). lines_to v (2 ^ before.site.height)) plays.0))

@@ -1,11 +1,12 @@
-ghost use Rattle.std.specs.Prelude.{◌≡◌, ◌≢◌, ◌≤◌, All, length, string_bytes, true};
+ghost use Rattle.std.specs.Prelude.{◌≡◌, ◌≢◌, ◌≤◌, All, None, length, string_bytes, true};
 ghost use Rattle.sd_site.specs.Fields.{fields_of};
 ghost use Rattle.sd_spec_field.specs.Events.{is_of};
 ghost use Rattle.sd_command_status.specs.Outside.{outside, page_state, depot_state};
 ghost use Rattle.sd_command_status.specs.Outcome.{Implements, status_of};
 ghost use Rattle.sd_command_files.specs.Printed.{MemoryOutcome};
 ghost use Rattle.sd_command_files.specs.Shown.{shown_word};
-ghost use Rattle.sd_run_field.specs.Field.{field_meaning, field_text};
+ghost use Rattle.sd_run_field.specs.Field.{field_meaning, field_text, text_in};
+ghost use Rattle.sd_run_field.specs.Played.{all_done};
 
 use crate::inputs::read_inputs;
 use crate::lines::lines;
@@ -19,6 +20,7 @@ use sd_packet::Packet;
 use sd_ports::{Depot, Sink};
 use sd_site::Site;
 use sd_spec_field::Event;
+use sd_tree::Height;
 use std::alloc::Global;
 use std::sync::ledger::Ledger;
 
@@ -61,7 +63,23 @@ fn text_of<L: Ledger>(
     requires leaves { All (λ event. is_of site.height event ≡ true) events.items }
     ensures { MemoryOutcome (λ text. string_bytes text) (field_text (fields_of site) clear.items events.items) result }
 {
+    let h = site.height;
     let mut field = Field::new(alloc, site, clear, events, steps)?;
-    play(&mut field, steps)?;
-    Ok(lines(alloc, &field, site.height)?)
+    text_after(alloc, &mut field, h, steps)
+}
+
+/// Runs all events of a new field of this height, and returns its lines.
+fn text_after<L: Ledger>(
+    alloc: Global,
+    field: &mut Field,
+    h: Height,
+    steps: &mut Steps<L>,
+) -> Result<String, Status>
+    requires height { h ≡ field.old.site.height }
+    requires new { field.old.done ≡ 0 }
+    requires calm { field.old.failed ≡ None }
+    ensures { MemoryOutcome (λ text. string_bytes text) (text_in (all_done field.old)) result }
+{
+    play(field, steps)?;
+    Ok(lines(alloc, field, h)?)
 }
