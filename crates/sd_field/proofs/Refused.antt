@@ -1,7 +1,7 @@
 -- Which clear packet of those that a field's events send is the first that is refused.
 use Rattle.std.proofs.Common.{arith, ◌≡◌, ◌∙◌, ℕ, zero, suc, ◌+◌, ◌-◌, ◌<◌, List, [], ◌∷◌, ◌++◌, refl, ap, sym, subst}
 use Rattle.std.proofs.Common.{append-nil, append_assoc, inl, inr, length, take}
-use Rattle.std.specs.Prelude.{◌↔◌, Option, None, Some, drop, get_or, option_and_then, reverse}
+use Rattle.std.specs.Prelude.{◌↔◌, Option, None, Some, drop, get_or, option_and_then, reverse, slice_get}
 use Rattle.std.proofs.Math.Seq.{take-add}
 use Rattle.std.proofs.lemmas.Bool.{cases_lt}
 use Rattle.std.proofs.lemmas.List.{reverse-append}
@@ -158,3 +158,12 @@ goes_on_clear v inside clear none =
       | inl left ↦ sent is left
       | inr end ↦ quiet Send is (ap (λ (k : ℕ). take k v.clear) (none_to_send v is end))
     ]
+
+-- once all events are done none is refused
+pub done_unrefused : (v : FieldValue) → v.done ≡ length v.events → next_refusal v ≡ None
+done_unrefused v end = ap (option_and_then (refusal_at v)) (past_end v.events v.done end)
+  where
+    past_end : (xs : List Event) (k : ℕ) → k ≡ length xs → slice_get xs k ≡ None
+    past_end [] k end = refl
+    past_end (x ∷ xs) zero end = absurd (omega (arith, end))
+    past_end (x ∷ xs) (suc k) end = past_end xs k (omega (arith, end))

@@ -3,12 +3,14 @@ use Rattle.std.proofs.Common.{arith, ◌≡◌, ℕ, suc, ◌+◌, ◌<◌, ◌�
 use Rattle.std.proofs.Common.{true, false}
 use Rattle.std.proofs.Common.{inl, inr, length, zero}
 use Rattle.std.specs.Prelude.{◌⊎◌, ◌&&◌, ◌==◌, get_or, map, nat_lt, not, reverse, slice_get, IsSome, is_some, Option}
-use Rattle.std.specs.Prelude.{None, Some}
+use Rattle.std.specs.Prelude.{None, Some, Result, Ok, Err, IfOk}
 use Rattle.std.specs.List.{concat, flat_map}
 use Rattle.std.proofs.lemmas.Bool.Decides.{nat_tests}
 use Rattle.std.proofs.lemmas.List.Folds.{concat-append}
+use Rattle.std.proofs.lemmas.Option.{get_or_from_slice_get, slice_get_within}
 use Rattle.sd_site.specs.declared.site.Site.{Site}
-use Rattle.sd_card.specs.Fields.{CardFields, card_of}
+use Rattle.sd_card.specs.declared.card.Card.{Card}
+use Rattle.sd_card.specs.Fields.{CardFields, card_of, fields_of}
 use Rattle.sd_spec_broadcast.specs.Plan.{Plan}
 use Rattle.sd_ports.specs.Memory.{Store}
 use Rattle.sd_spec_receiver.specs.Offered.{out_from, break_from}
@@ -315,3 +317,32 @@ seats_more site total seats more old new u seat there = elim (before_or_last sea
 pub some_there : {A : Type 0} (value : Option A) → IsSome value → ((x : A) → value ≡ Some x → ⊥) → ⊥
 some_there None some never = absurd (let none = some in cc)
 some_there (Some x) some never = never x refl
+
+-- a receiver has the card that it was made with
+pub has_card : {E : Type 0} (made : Result Receiver E) (card : Card) (fields : CardFields) →
+    IfOk made (λ receiver. receiver.card ≡ card) → fields_of card ≡ fields →
+    IfOk made (λ receiver. card_in receiver ≡ fields)
+has_card (Ok receiver) card fields is same = ap fields_of is ∙ same
+has_card (Err fault) card fields is same = tt
+
+-- a seat that passed all packets stays as it is
+pub none_passed : (plan : Plan) (card : CardFields) (clear : List (List ℕ)) (total u n : ℕ) (w : Watch) (seat : Seat) →
+    n ≤ seat.cursor → IsSeated plan card clear total w seat →
+    IsSeated plan card clear total (watched u n (Offer u) w) seat
+none_passed plan card clear total u n w seat none seated =
+    let test : ((u == u) && nat_lt w.cursor n) ≡ false = grind (arith, nat_tests, none, seated.cursor) in
+    rw test seated
+
+-- a packet that is there is the next of the stream
+pub record IsNext (sent all : List (List ℕ)) (k : ℕ) (packet : List ℕ) : Type 0 where
+  pub left : k < length sent
+  pub is : packet ≡ get_or all k []
+
+pub next_there : (sent all : List (List ℕ)) (i k : ℕ) (packet : List ℕ) → Some packet ≡ slice_get sent i → i ≡ k →
+    sent ≡ all → IsNext sent all k packet
+next_there sent all i k packet there same stream =
+    let is : slice_get sent k ≡ Some packet = ap (slice_get sent) (sym same) ∙ sym there in
+    record {
+      left = slice_get_within sent k packet is;
+      is = sym (get_or_from_slice_get sent k packet [] is) ∙ ap (λ (xs : List (List ℕ)). get_or xs k []) stream;
+    }

@@ -1,7 +1,9 @@
-ghost use Rattle.std.specs.Prelude.{◌≡◌, option_map};
-ghost use Rattle.sd_base_text.specs.Number.{fitting, decimal_value};
+ghost use Rattle.std.specs.Prelude.{◌≡◌, None, codes, option_map};
+ghost use Rattle.sd_base_text.specs.Number.{fitting, decimal_value, rest_after};
+ghost use Rattle.sd_spec_field.specs.declared.event.Event.TheVariants.{Lose, Off, Offer, On};
 ghost use Rattle.sd_field.specs.Line.{leaf_in, pair_in, events_in_run, times_in};
-ghost use Rattle.sd_field.specs.Script.{count_of, counted, cut_at_space, leaf_and_count, spoken};
+ghost use Rattle.sd_field.specs.Script.{alone, by_word, count_of, counted, cut_at_space, leaf_and_count, repeated};
+ghost use Rattle.sd_field.specs.Script.{spoken};
 
 use memchr::memchr;
 use sd_base_text::{NumberFault, number_after};
@@ -21,34 +23,54 @@ pub(crate) enum LineFault {
 }
 
 /// The event that a line says, and how often.
-#[tactic(auto, unfolding(crate::specs::Script::spoken, crate::specs::Script::alone, crate::specs::Script::sends_said, crate::specs::Script::repeated, sd_base_text::specs::Number::rest_after))]
+#[tactic(auto, unfolding(crate::specs::Script::spoken, crate::specs::Script::alone, crate::specs::Script::sends_said))]
 pub(crate) fn run_on(line: &[u8], h: Height) -> Result<(Event, u32), LineFault>
     ensures { result ≡ events_in_run h (spoken line.now) }
 {
-    if let Some(text) = line.strip_prefix(b"subscribe ".as_slice()) {
+    if let Some(text) = text_after(b"subscribe ", line) {
         return Ok((Event::Subscribe(leaf_in(text, h)?), 1));
     }
-    if let Some(text) = line.strip_prefix(b"revoke ".as_slice()) {
+    if let Some(text) = text_after(b"revoke ", line) {
         return Ok((Event::Revoke(leaf_in(text, h)?), 1));
     }
-    if let Some(text) = line.strip_prefix(b"send ".as_slice()) {
-        return Ok((Event::Send, times_in(text)?));
+    match text_after(b"send ", line) {
+        Some(text) => Ok((Event::Send, times_in(text)?)),
+        None => run_at_leaf(line, h),
     }
-    if let Some(text) = line.strip_prefix(b"offer ".as_slice()) {
+}
+
+/// The event of a leaf's receiver that a line says, and how often.
+#[tactic(auto, unfolding(crate::specs::Script::alone, crate::specs::Script::repeated))]
+fn run_at_leaf(line: &[u8], h: Height) -> Result<(Event, u32), LineFault>
+    ensures { result ≡ events_in_run h
+        (by_word (rest_after (codes "offer ") line.now) (repeated Offer)
+        (by_word (rest_after (codes "lose ") line.now) (repeated Lose)
+        (by_word (rest_after (codes "off ") line.now) (alone Off)
+        (by_word (rest_after (codes "on ") line.now) (alone On) None)))) }
+{
+    if let Some(text) = text_after(b"offer ", line) {
         let (leaf, times) = leaf_times(text, h)?;
         return Ok((Event::Offer(leaf), times));
     }
-    if let Some(text) = line.strip_prefix(b"lose ".as_slice()) {
+    if let Some(text) = text_after(b"lose ", line) {
         let (leaf, times) = leaf_times(text, h)?;
         return Ok((Event::Lose(leaf), times));
     }
-    if let Some(text) = line.strip_prefix(b"off ".as_slice()) {
+    if let Some(text) = text_after(b"off ", line) {
         return Ok((Event::Off(leaf_in(text, h)?), 1));
     }
-    match line.strip_prefix(b"on ".as_slice()) {
+    match text_after(b"on ", line) {
         Some(text) => Ok((Event::On(leaf_in(text, h)?), 1)),
         None => Err(LineFault::Form),
     }
+}
+
+/// The text after a word, if the line begins with it.
+#[tactic(auto, unfolding(sd_base_text::specs::Number::rest_after))]
+fn text_after<'a>(word: &[u8], line: &'a [u8]) -> Option<&'a [u8]>
+    ensures { option_map (λ text. text.now) result ≡ rest_after word.now line.now }
+{
+    line.strip_prefix(word)
 }
 
 /// The leaf that a text says.

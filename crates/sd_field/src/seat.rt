@@ -4,7 +4,7 @@ ghost use Rattle.std.specs.List.{concat};
 ghost use Rattle.sd_card.specs.Fields.{CardFields, card_of};
 ghost use Rattle.sd_engine.specs.Stream.{packets_of};
 ghost use Rattle.sd_spec_broadcast.specs.Plan.{Plan};
-ghost use Rattle.sd_receive.specs.Receiving.{IsCountable, IsLive};
+ghost use Rattle.sd_receive.specs.Receiving.{IsAfter, IsCountable, IsLive, card_in};
 ghost use Rattle.sd_spec_field.specs.declared.event.Event.TheVariants.{Lose, Off, Offer, On};
 ghost use Rattle.sd_spec_field.specs.Watch.{Watch, present, stream, watched, written};
 ghost use Rattle.sd_field.specs.Heard.{HasRoom};
@@ -38,6 +38,23 @@ pub(crate) fn sink_of(alloc: Global, room: usize) -> Result<MemSink, NoMemory>
     MemSink::new(alloc, room, usize::MAX, Vec::new(alloc))
 }
 
+/// A new receiver with the card of a leaf.
+fn receiver_of<L: Ledger>(
+    alloc: Global,
+    site: &Site,
+    u: Leaf,
+    steps: &mut Steps<L>,
+) -> Result<Receiver, NoMemory>
+    requires leaf { u < 2 ^ site.now.height }
+    ensures value { IfOk result (IsAfter []) }
+    ensures card { IfOk result (λ receiver. card_in receiver
+        ≡ card_of site.now.master site.now.ca site.now.height u) }
+    ensures live { IfOk result IsLive }
+{
+    let card = Card::make(alloc, site, u, steps)?;
+    Receiver::new(alloc, card)
+}
+
 impl Seat {
     /// The seat of a leaf whose receiver is on and new, with room for `room` bytes.
     pub fn new<L: Ledger>(
@@ -50,9 +67,8 @@ impl Seat {
         requires leaf { u < 2 ^ site.now.height }
         ensures { IfOk result (IsNew (card_of site.now.master site.now.ca site.now.height u) room) }
     {
-        let card = Card::make(alloc, site, u, steps)?;
         Ok(Seat {
-            receiver: Some(Receiver::new(alloc, card)?),
+            receiver: Some(receiver_of(alloc, site, u, steps)?),
             cursor: 0,
             written: sink_of(alloc, room)?,
         })
@@ -150,8 +166,7 @@ impl Seat {
         if self.receiver.is_some() {
             return Ok(());
         }
-        let card = Card::make(alloc, site, u, steps)?;
-        self.receiver = Some(Receiver::new(alloc, card)?);
+        self.receiver = Some(receiver_of(alloc, site, u, steps)?);
         Ok(())
     }
 
