@@ -1,10 +1,10 @@
 -- The positions of a message.
 use Rattle.std.proofs.Common.{◌≡◌, ℕ, zero, suc, ◌+◌, ◌^◌, ◌<◌, ◌≤◌, Bool, true, false, List, ◌∷◌}
-use Rattle.std.proofs.Common.{length, get_or, map, filter}
-use Rattle.std.proofs.Common.{refl, ap, ◌∙◌, arith}
+use Rattle.std.proofs.Common.{[], ◌++◌, length, get_or, map, take, filter}
+use Rattle.std.proofs.Common.{refl, sym, ap, ◌∙◌, arith}
 use Rattle.std.specs.List.{range_with_len}
 use Rattle.std.proofs.lemmas.Bool.Decides.{nat_tests}
-use Rattle.std.proofs.lemmas.List.{get_or-map, length-map}
+use Rattle.std.proofs.lemmas.List.{get_or-map, length-map, length-take-le, map-append, take_more}
 use Rattle.sd_packet.specs.Positions.{is_positional, position_of}
 use Rattle.sd_packet.proofs.Positions.{moved_by_near}
 use Rattle.sd_ecm.specs.Form.{ArePositioned, AreAscending, AreShort}
@@ -132,3 +132,18 @@ ascending before i j d below h =
 pub short : (before : List (List ℕ)) → length before < 2 ^ 32 → AreShort (places_after before)
 short before few k d h =
     rw (told_at before k d h) (omega (arith, few, moved_by_near (get_or (moved_pids before) k 0) 15 before))
+
+-- one position more
+pub one_more_place : (positions pids : List ℕ) (places : List Place) (n : ℕ) → n < length pids →
+    places ≡ map (place_at positions) (take n pids) →
+    places ++ place_at positions (get_or pids n 0) ∷ [] ≡ map (place_at positions) (take (n + 1) pids)
+one_more_place positions pids places n within is =
+    ap (λ (ps : List Place). ps ++ place_at positions (get_or pids n 0) ∷ []) is
+    ∙ (sym (map-append (place_at positions) (take n pids) (get_or pids n 0 ∷ []))
+    ∙ ap (map (place_at positions)) (sym (take_more pids n 0 within)))
+
+-- as many positions as PIDs so far
+pub as_many_places : (positions pids : List ℕ) (places : List Place) (n : ℕ) → n ≤ length pids →
+    places ≡ map (place_at positions) (take n pids) → length places ≡ n
+as_many_places positions pids places n within is =
+    ap length is ∙ (length-map (take n pids) (place_at positions) ∙ length-take-le n pids within)

@@ -10,7 +10,6 @@ use sd_packet::SIZE;
 
 /// Fills the list with the packets of the sections of period q, each with counter 0. They name the run where a name is
 /// given.
-#[tactic(auto, using(crate::proofs::Packing::section_more, crate::proofs::Packing::all_sections))]
 pub fn pack_sections(
     packets: &mut Vec<[u8; SIZE]>,
     pid: u16,
@@ -28,7 +27,9 @@ pub fn pack_sections(
     for index in 0..section_count(entries.len()) {
         let emm = Emm::of_period(run, q, check, entries, index);
         let packet = write_emm(&emm, pid, 0);
-        packets.push(*packet.bytes()).map_err(|_| NoMemory)?;
+        if packets.push(*packet.bytes()).is_err() {
+            return Err(NoMemory);
+        }
     }
     Ok(())
 }
