@@ -1,6 +1,6 @@
 -- What comes of a command that reads two files, then two others, and goes on from what they said.
 use Rattle.std.proofs.Common.{◌≡◌, ◌≢◌, ℕ, Bool, true, false, cond, List, Option, Some, None, append-nil}
-use Rattle.std.proofs.Common.{refl, sym, ap, subst, ◌∙◌, inl, inr, arith, Ok}
+use Rattle.std.proofs.Common.{refl, sym, ap, subst, ◌∙◌, inl, inr, arith, Ok, Err}
 use Rattle.std.specs.Prelude.{nat_eq}
 use Rattle.std.specs.Io.KnownBytes.{Appends}
 use Rattle.sd_base.proofs.Arithmetic.{same_number, other_number_back}
@@ -13,6 +13,7 @@ use Rattle.sd_command_status.specs.Work.{Work, work_of_text}
 use Rattle.sd_command_status.specs.Outcome.{IsEnding, ended, cut_off, OutcomeWithin, Implements}
 use Rattle.sd_command_status.specs.Prints.{PrintsText}
 use Rattle.sd_command_status.specs.Reads.{FilesOutcome}
+use Rattle.sd_command_status.proofs.Firsts.{first_obeys}
 use Rattle.sd_command_status.proofs.Moves.{then_obeys}
 
 either_same : (b : Bool) (got : Option (List ℕ)) → cond b got got ≡ got
@@ -81,6 +82,20 @@ pair_follows {Y = Y} view by next a b c d h p q page steps out x status ac ad bc
           (then_obeys (by (read.given a) (read.given b)) (view x) (λ y. next y (h c) (h d)) p q page steps out status
           read.gives.0 read.gives.1 obeys)));
     }
+
+-- the first two files were refused, or not read
+pub pair_refused : {X Y : Type 0} (view : X → Y) (by : Option (List ℕ) → Option (List ℕ) → Spec Y)
+    (next : Y → Option (List ℕ) → Option (List ℕ) → Spec Work) (a b c d : FileArgument) (p q : DepotState)
+    (page : PageState) (steps : ℕ) (status : Status) →
+    FilesOutcome view (λ given. by (given a) (given b)) p q (Err status) →
+    Implements (λ given. by (given a) (given b) >>= λ y. next y (given c) (given d)) (outside p page steps)
+    (outside q page steps) status
+pair_refused view by next a b c d p q page steps status read = record {
+  given = read.given;
+  is_given = read.is_given;
+  obeyed = first_obeys (by (read.given a) (read.given b)) (λ y. next y (read.given c) (read.given d)) p q page steps
+      status read.gives;
+}
 
 -- a text was printed, or a prefix of it
 pub text_said : (text : List ℕ) (q : DepotState) (page now : PageState) (steps : ℕ) (status : Status) →

@@ -2,6 +2,7 @@
 
 ghost use Rattle.std.specs.Prelude.{◌≡◌, ◌≢◌, ℕ, IfOk, IfErr};
 ghost use Rattle.sd_site.specs.Fields.{fields_of};
+ghost use Rattle.sd_book.specs.Text.{text_of};
 ghost use Rattle.sd_accounts.specs.Judged.{book_of};
 ghost use Rattle.sd_command_status.specs.Spec.{value};
 ghost use Rattle.sd_command_status.specs.Outside.{outside, page_state, depot_state};
@@ -35,8 +36,24 @@ pub fn accounts<D: Depot, P: Sink>(
         (outside (depot_state D.Depot depot.new) (page_state P.Sink print.new) steps) (status_of result) }
 {
     let accounts = accounts_of_site(alloc, depot, site, accounts)?;
+    make_book(alloc, depot, print, out, &accounts)
+}
+
+/// Makes OUT the book of the accounts, and only then prints their report.
+fn make_book<D: Depot, P: Sink>(
+    alloc: Global,
+    depot: &mut D,
+    print: &mut P,
+    out: Word<'_>,
+    accounts: &Accounts,
+) -> Result<(), Status>
+    ensures { (steps : ℕ) → OutcomeWithin
+        (value (making_then (shown_word out.entry) (text_of accounts.now.book.commands) (report_line accounts.now)))
+        (outside (depot_state D.Depot depot.old) (page_state P.Sink print.old) steps)
+        (outside (depot_state D.Depot depot.new) (page_state P.Sink print.new) steps) (status_of result) }
+{
     let book = accounts.book().write(alloc)?;
-    let report = report_text(alloc, &accounts)?;
+    let report = report_text(alloc, accounts)?;
     make_and_print(alloc, depot, print, out, &book, &report)
 }
 

@@ -1,13 +1,14 @@
 //! Whether two books agree on the periods of both.
 
-ghost use Rattle.std.specs.Prelude.{◌≡◌, ◌≤◌, ℕ, Bool, filter, IfOk};
+ghost use Rattle.std.specs.Prelude.{◌≡◌, ◌≤◌, ◌+◌, ℕ, Bool, filter, IfOk, OnOk};
 ghost use Rattle.std.specs.List.{range_with_len};
+ghost use Rattle.sd_book.specs.Commands.{last_period, revoked};
 ghost use Rattle.sd_site.specs.Fields.{fields_of};
 ghost use Rattle.sd_run_books.specs.Apart.{books_clash, first_differing};
 
 use crate::apart_sites::last_due;
 use sd_base::NoMemory;
-use sd_book::Book;
+use sd_book::{Book, Periods};
 use sd_command_files::replay_from;
 use sd_command_status::Clash;
 use sd_site::Site;
@@ -37,18 +38,38 @@ pub(crate) fn clash_of_books(
     let mut left = replay_from(alloc, book, first.min(last))?;
     let mut right = replay_from(alloc, more, first.min(last_more))?;
     for before in 0..count {
-        let Some(a) = left.next(alloc)? else {
-            unreachable!();
-        };
-        let Some(b) = right.next(alloc)? else {
-            unreachable!();
-        };
-        if let Some(leaf) = first_apart(&a, &b) {
+        let apart = next_apart(alloc, &mut left, &mut right)?;
+        if let Some(leaf) = apart {
             let period = first + before;
             return Ok(Some(Clash::Books { leaf, period }));
         }
     }
     Ok(None)
+}
+
+/// The least leaf that is revoked in the next period of one of two replays alone, where both have a next one.
+fn next_apart(
+    alloc: Global,
+    left: &mut Periods<'_>,
+    right: &mut Periods<'_>,
+) -> Result<Option<u32>, NoMemory>
+    requires left { left.old.next ≤ last_period left.old.commands }
+    requires right { right.old.next ≤ last_period right.old.commands }
+    ensures value { (one other : ℕ → Bool) (n : ℕ) →
+        revoked left.old.height left.old.commands left.old.next ≡ filter one (range_with_len 0 n) →
+        revoked right.old.height right.old.commands right.old.next ≡ filter other (range_with_len 0 n) →
+        IfOk result (λ leaf. leaf ≡ first_differing one other n) }
+    ensures heights { (left.new.height ≡ left.old.height) × (right.new.height ≡ right.old.height) }
+    ensures commands { (left.new.commands ≡ left.old.commands) × (right.new.commands ≡ right.old.commands) }
+    ensures next { OnOk result ((left.new.next ≡ left.old.next + 1) × (right.new.next ≡ right.old.next + 1)) }
+{
+    let Some(a) = left.next(alloc)? else {
+        unreachable!();
+    };
+    let Some(b) = right.next(alloc)? else {
+        unreachable!();
+    };
+    Ok(first_apart(&a, &b))
 }
 
 /// The least leaf that one of two ascending lists has and the other doesn't: where each list is what a test lets

@@ -1,7 +1,7 @@
-use Rattle.std.proofs.Common.{◌≡◌, ◌≤◌, ◌<◌, ◌+◌, ◌-◌, ◌∙◌, ℕ, Some, None, arith, ap, sym}
+use Rattle.std.proofs.Common.{◌≡◌, ◌≤◌, ◌<◌, ◌+◌, ◌-◌, ◌∙◌, ℕ, min, Some, None, arith, ap, refl, sym}
 use Rattle.std.specs.List.{range_with_len}
 use Rattle.std.specs.Option.{option_map}
-use Rattle.sd_book.specs.Commands.{last_period}
+use Rattle.sd_book.specs.Commands.{last_period, revoked}
 use Rattle.sd_spec_broadcast.specs.Plan.{Plan}
 use Rattle.sd_site.specs.Fields.{fields_of}
 use Rattle.sd_command_status.specs.declared.status.Clash.TheVariants.{Books}
@@ -10,14 +10,14 @@ use Rattle.sd_run_books.proofs.Agreeing.{clash_is, first_found, none_more}
 use Rattle.sd_run_books.proofs.apart_books.clash_of_books.Goals as goal
 
 -- the books disagree in this period, the first one
-pub returns-in-Some-first_apart : goal.returns-in-Some-first_apart
+pub returns-in-Some : goal.returns-in-Some
 unfolding books_clash
-returns-in-Some-first_apart c =
+returns-in-Some c =
     let turn = c.loop-before.invariant in
     let a : Plan = record { site = fields_of c.args.site.now; commands = c.args.book.now.commands } in
     let b : Plan = record { site = fields_of c.args.other.now; commands = c.args.more.now.commands } in
     let before = c.loop-before.before in
-    let leaf = c.in-Some-first_apart.leaf in
+    let leaf = c.in-Some.leaf in
     let last = c.last_period-last.ensures.value in
     let last_more = c.last_period-last_more.ensures.value in
     let due = c.last_due.ensures.value a.commands last in
@@ -58,13 +58,14 @@ returns-in-Some-first_apart c =
       c.loop-before-test.true,
       c.loop-before.auto.before-end,
     ) in
-    let one = rw (turn.height, turn.commands, turn.next, c.in-Some.is) at c.in_ok-a.ensures.value in
-    let two = rw (turn.height_more, turn.commands_more, turn.next_more, c.in-Some-2.is) at c.in_ok-b.ensures.value in
-    let found = rw (c.deref.ensures.value, c.deref-in-loop-before.ensures.value) at c.first_apart.ensures in
+    let found = rw (turn.height, turn.commands, turn.next, turn.height_more, turn.commands_more, turn.next_more)
+    at c.in_ok-apart.ensures.value in
+    let one = revoked a.site.height a.commands (min (first_shared a b) (last_period a.commands) + before) in
+    let two = revoked b.site.height b.commands (min (first_shared a b) (last_period b.commands) + before) in
     let heights : a.site.height ≡ b.site.height = c.requires.heights in
     let clash : clash_in a b (first_shared a b + before) ≡ Some (Books leaf (first_shared a b + before)) =
-    clash_is a b before c.in-Some.a.items c.in-Some-2.b.items c.first_apart.result heights low high one two found
-    ∙ ap (option_map (λ u. Books u (first_shared a b + before))) c.in-Some-first_apart.is in
+    clash_is a b before one two c.in_ok-apart.apart heights low high refl refl found
+    ∙ ap (option_map (λ u. Books u (first_shared a b + before))) c.in-Some.is in
     ap (λ (k : ℕ). Some (Books leaf (k + before))) c.max-first.ensures
     ∙ sym (first_found (clash_in a b) (first_shared a b) before (shared_count a b)
     (Books leaf (first_shared a b + before)) inside turn.none clash)
@@ -102,23 +103,23 @@ loop-before-preserved c =
       c.loop-before-test.true,
       c.loop-before.auto.before-end,
     ) in
-    let one = rw (turn.height, turn.commands, turn.next, c.in-Some.is) at c.in_ok-a.ensures.value in
-    let two = rw (turn.height_more, turn.commands_more, turn.next_more, c.in-Some-2.is) at c.in_ok-b.ensures.value in
-    let found = rw (c.deref.ensures.value, c.deref-in-loop-before.ensures.value) at c.first_apart.ensures in
+    let found = rw (turn.height, turn.commands, turn.next, turn.height_more, turn.commands_more, turn.next_more)
+    at c.in_ok-apart.ensures.value in
+    let one = revoked a.site.height a.commands (min (first_shared a b) (last_period a.commands) + before) in
+    let two = revoked b.site.height b.commands (min (first_shared a b) (last_period b.commands) + before) in
     let heights : a.site.height ≡ b.site.height = c.requires.heights in
     let clash : clash_in a b (first_shared a b + before) ≡ None =
-    clash_is a b before c.in-Some.a.items c.in-Some-2.b.items c.first_apart.result heights low high one two found
-    ∙ ap (option_map (λ u. Books u (first_shared a b + before))) c.in_default-first_apart.is in
-    let next = rw c.in-Some.is at c.in_ok-a.ensures.next in
-    let next_more = rw c.in-Some-2.is at c.in_ok-b.ensures.next in
+    clash_is a b before one two c.in_ok-apart.apart heights low high refl refl found
+    ∙ ap (option_map (λ u. Books u (first_shared a b + before))) c.in_default.is in
+    let next = c.in_ok-apart.ensures.next in
     record {
       none = none_more (clash_in a b) (first_shared a b) before turn.none clash;
-      height = c.in_ok-a.ensures.height ∙ turn.height;
-      commands = c.in_ok-a.ensures.commands ∙ turn.commands;
-      next = omega (arith, next, turn.next);
-      height_more = c.in_ok-b.ensures.height ∙ turn.height_more;
-      commands_more = c.in_ok-b.ensures.commands ∙ turn.commands_more;
-      next_more = omega (arith, next_more, turn.next_more);
+      height = c.in_ok-apart.ensures.heights.0 ∙ turn.height;
+      commands = c.in_ok-apart.ensures.commands.0 ∙ turn.commands;
+      next = omega (arith, next.0, turn.next);
+      height_more = c.in_ok-apart.ensures.heights.1 ∙ turn.height_more;
+      commands_more = c.in_ok-apart.ensures.commands.1 ∙ turn.commands_more;
+      next_more = omega (arith, next.1, turn.next_more);
       first = turn.first;
     }
 

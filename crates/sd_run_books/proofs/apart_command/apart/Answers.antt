@@ -11,8 +11,23 @@ use Rattle.sd_command_files.specs.Both.{SiteBook, both_by}
 use Rattle.sd_command_files.specs.Shown.{shown_word}
 use Rattle.sd_command_files.proofs.Thirds.{judged_obeys, judged_refused}
 use Rattle.sd_run_books.specs.Apart.{plan_of_both, told_apart}
-use Rattle.sd_run_books.proofs.Pairs.{pair_follows, text_said}
+use Rattle.sd_run_books.proofs.Pairs.{pair_follows, pair_refused, text_said}
 use Rattle.sd_run_books.proofs.apart_command.apart.Goals as goal
+
+-- the first site and its book were not read
+pub returns-in_err-site : goal.returns-in_err-site
+returns-in_err-site g c steps =
+    let p = err_from_is_err_and c.from_residual.result c.from_residual.ensures.1 in
+    let site = shown_word c.args.site in
+    let book = shown_word c.args.book in
+    let other = shown_word c.args.other in
+    let more = shown_word c.args.more in
+    rw (p.1, p.2) (pair_refused (λ both. record { site = fields_of both.0; commands = both.1.commands })
+    (both_by site.number book.number)
+    (λ first got got_more. both_by other.number more.number got got_more
+    >>= λ second. judged (told_apart (plan_of_both first) (plan_of_both second)) >>= λ text. value (work_of_text text))
+    site book other more (depot_state g.D.Depot c.args.depot.now) (depot_state g.D.Depot c.read_both.new.depot)
+    (page_state g.P.Sink c.args.print.now) steps c.in_err-site.field-0.0 c.in_err-site.ensures.value)
 
 -- the second site and its book were not read
 pub returns-in_err-other : goal.returns-in_err-other
