@@ -496,3 +496,17 @@ pub read_again : (d : ℕ) (bytes : List ℕ) (commands : List Command) → AreG
     IsWithinLimits d commands → book_of d bytes ≡ Ok commands
 unfolding book_of
 read_again d bytes commands good all = within_judged d (said_by d bytes) commands good all
+
+-- and are refused only where memory was out
+pub read_wanting : (d : ℕ) (bytes : List ℕ) (commands : List Command) (fault : AccountFault) →
+    AreGood d (said_by d bytes) commands → IsWithinLimits d commands →
+    (fault ≡ NoMemory) ⊎ (book_of d bytes ≡ Err fault) → fault ≡ NoMemory
+read_wanting d bytes commands fault good all (inl none) = none
+read_wanting d bytes commands fault good all (inr e) =
+    let same : Ok commands ≡ Err fault = sym (read_again d bytes commands good all) ∙ e in absurd cc
+
+-- what they are read as is these commands
+pub read_same : (d : ℕ) (bytes : List ℕ) (commands got : List Command) → AreGood d (said_by d bytes) commands →
+    IsWithinLimits d commands → book_of d bytes ≡ Ok got → got ≡ commands
+read_same d bytes commands got good all e =
+    let same : Ok commands ≡ Ok got = sym (read_again d bytes commands good all) ∙ e in cc

@@ -74,7 +74,7 @@ not_found revoked u place found up =
 
 -- the tokens of one account, one after another
 pub account_joined : (old : List Token) (a b c d e f g h : Token) →
-    (((((((old ++ a ∷ []) ++ b ∷ []) ++ c ∷ []) ++ d ∷ []) ++ e ∷ []) ++ f ∷ []) ++ g ∷ []) ++ h ∷ []
+    ((((((old ++ a ∷ []) ++ b ∷ []) ++ c ∷ []) ++ d ∷ e ∷ []) ++ f ∷ []) ++ g ∷ []) ++ h ∷ []
     ≡ old ++ a ∷ b ∷ c ∷ d ∷ e ∷ f ∷ g ∷ h ∷ []
 account_joined old a b c d e f g h = simp append_assoc
 

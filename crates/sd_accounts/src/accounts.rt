@@ -40,7 +40,6 @@ impl Accounts {
     ///
     /// Lines are judged in order, and the first bad one decides. On one line the order is `Line`, `Unknown`, `Taken`,
     /// `Limit`. The last period is judged after the last line [this project, docs/FORMATS.md, Accounts].
-    #[tactic(auto, using(crate::proofs::Causes::read_sound, crate::proofs::Causes::read_again, crate::proofs::Causes::read_fault))]
     pub fn read(alloc: Global, bytes: &[u8], h: Height) -> Result<Accounts, AccountFault>
         ensures height { IfOk result (λ accounts. accounts.book.height ≡ h) }
         ensures fits { IfOk result (λ accounts. IsWithinLimits h accounts.book.commands) }

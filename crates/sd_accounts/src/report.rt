@@ -101,8 +101,7 @@ fn write_account(
     out.begin_object()?;
     out.key("active")?;
     out.boolean(is_active(revoked, leaf))?;
-    out.key("leaf")?;
-    out.u64(u64::from(leaf.get()))?;
+    write_number(out, "leaf", u64::from(leaf.get()))?;
     out.key("name")?;
     out.string(name)?;
     out.end_object()
