@@ -1,9 +1,12 @@
-ghost use Rattle.std.specs.Prelude.{◌≡◌, ◌≤◌, ◌↔◌, Ok, Err, IfOk, IsErrOf, MatchResult};
+ghost use Rattle.std.specs.Prelude.{◌≡◌, ◌≤◌, ◌↔◌, ℕ, List, Ok, Err, IfOk, IsErrOf, MatchResult};
+ghost use Rattle.std.specs.Int.{w16, from_be_bytes};
+ghost use Rattle.std.specs.Result.{result_map_both};
 ghost use Rattle.sd_base_text.specs.Lines.{lines_of};
 ghost use Rattle.sd_site.specs.Fields.{SiteFields, fields_of};
-ghost use Rattle.sd_site.specs.Forms.{IsWithin, emm_line, messages_line};
+ghost use Rattle.sd_site.specs.Forms.{IsWithin, height_line, master_line, ca_line, emm_line, ecm_line};
+ghost use Rattle.sd_site.specs.Forms.{every_line, cryptos_line, span_line, messages_line};
 ghost use Rattle.sd_site.specs.Faults.{IsCauseOf};
-ghost use Rattle.sd_site.specs.Text.{IsSite, site_of, number_at, optional_at, optional_on, bytes_at};
+ghost use Rattle.sd_site.specs.Text.{IsSite, site_of, ◌>>=◌ as ◌>>>◌, number_at, optional_at, optional_on, bytes_at};
 
 use crate::fault::SiteFault;
 use crate::optional::Optional;
@@ -51,6 +54,34 @@ fn pid_line<'a>(bytes: &'a [u8], k: u32, word: &[u8]) -> Result<(u16, &'a [u8]),
         u32::from(HIGHEST_POSITIONAL),
     )?;
     Ok((number as u16, rest))
+}
+
+// The PIDs on lines 4 and 5, and the bytes after those lines.
+fn pid_lines(bytes: &[u8]) -> Result<(u16, u16, &[u8]), SiteFault>
+    ensures fits { IfOk result (λ cut. IsWithin emm_line cut.0 × IsWithin ecm_line cut.1) }
+    ensures value { result_map_both {U = ℕ × ℕ × List (List ℕ)}
+        (λ cut. (cut.0, cut.1, lines_of cut.2.now)) (λ fault. fault) result
+        ≡ (number_at 4 emm_line (lines_of bytes.now) >>> λ emm. number_at 5 ecm_line emm.1 >>> λ ecm.
+        Ok (emm.0, ecm.0, ecm.1)) }
+{
+    let (emm, rest) = pid_line(bytes, 4, b"emm ")?;
+    let (ecm, rest) = pid_line(rest, 5, b"ecm ")?;
+    Ok((emm, ecm, rest))
+}
+
+// The numbers of the schedule on lines 6 to 8, and the bytes after those lines.
+fn schedule_lines(bytes: &[u8]) -> Result<(u32, u32, u32, &[u8]), SiteFault>
+    ensures fits { IfOk result
+        (λ cut. IsWithin every_line cut.0 × IsWithin cryptos_line cut.1 × IsWithin span_line cut.2) }
+    ensures value { result_map_both {U = ℕ × ℕ × ℕ × List (List ℕ)}
+        (λ cut. (cut.0, cut.1, cut.2, lines_of cut.3.now)) (λ fault. fault) result
+        ≡ (number_at 6 every_line (lines_of bytes.now) >>> λ every. number_at 7 cryptos_line every.1 >>> λ cryptos.
+        number_at 8 span_line cryptos.1 >>> λ span. Ok (every.0, cryptos.0, span.0, span.1)) }
+{
+    let (every, rest) = number_line(bytes, 6, b"ecm-every ", 1, MOST_EVERY)?;
+    let (cryptos, rest) = number_line(rest, 7, b"crypto-ecms ", 1, MOST_CRYPTOS)?;
+    let (span, rest) = number_line(rest, 8, b"period-cryptos ", 1, MOST_SPAN)?;
+    Ok((every, cryptos, span, rest))
 }
 
 // The number on line k, or what stands for it if no line is left.
@@ -117,6 +148,20 @@ fn bytes_line<'a, const N: usize>(
     Ok((value, rest))
 }
 
+// The height, the master secret and the CA_system_ID on lines 1 to 3, and the bytes after those lines.
+fn tree_lines(bytes: &[u8]) -> Result<(u8, [u8; 32], u16, &[u8]), SiteFault>
+    ensures fits { IfOk result (λ cut. IsWithin height_line cut.0) }
+    ensures value { result_map_both {U = ℕ × List ℕ × ℕ × List (List ℕ)}
+        (λ cut. (cut.0, cut.1, cut.2, lines_of cut.3.now)) (λ fault. fault) result
+        ≡ (number_at 1 height_line (lines_of bytes.now) >>> λ height. bytes_at 2 master_line height.1 >>> λ master.
+        bytes_at 3 ca_line master.1 >>> λ ca. Ok (height.0, master.0, from_be_bytes w16 ca.0, ca.1)) }
+{
+    let (height, rest) = number_line(bytes, 1, b"height ", 1, u32::from(HIGHEST))?;
+    let (master, rest) = bytes_line::<32>(rest, 2, b"master ")?;
+    let (ca, rest) = bytes_line::<2>(rest, 3, b"ca ")?;
+    Ok((height as u8, master, u16::from_be_bytes(ca), rest))
+}
+
 /// The site that a file's bytes say. Nothing is allocated.
 pub fn read(bytes: &[u8]) -> Result<Site, SiteFault>
     // What is read is a site file that says this.
@@ -139,15 +184,10 @@ fn judge(bytes: &[u8]) -> Result<Site, SiteFault>
     ensures { MatchResult result
         (λ site. site_of bytes.now ≡ Ok (fields_of site)) (λ fault. site_of bytes.now ≡ Err fault) }
 {
-    let (height, rest) = number_line(bytes, 1, b"height ", 1, u32::from(HIGHEST))?;
-    let height = Height::new(height as u8).ok_or(SiteFault::Range(1))?;
-    let (master, rest) = bytes_line::<32>(rest, 2, b"master ")?;
-    let (ca, rest) = bytes_line::<2>(rest, 3, b"ca ")?;
-    let (emm, rest) = pid_line(rest, 4, b"emm ")?;
-    let (ecm, rest) = pid_line(rest, 5, b"ecm ")?;
-    let (every, rest) = number_line(rest, 6, b"ecm-every ", 1, MOST_EVERY)?;
-    let (cryptos, rest) = number_line(rest, 7, b"crypto-ecms ", 1, MOST_CRYPTOS)?;
-    let (span, rest) = number_line(rest, 8, b"period-cryptos ", 1, MOST_SPAN)?;
+    let (height, master, ca, rest) = tree_lines(bytes)?;
+    let height = Height::new(height).ok_or(SiteFault::Range(1))?;
+    let (emm, ecm, rest) = pid_lines(rest)?;
+    let (every, cryptos, span, rest) = schedule_lines(rest)?;
     let (optional, rest) = optional_lines(rest)?;
     if next_line(rest).is_some() {
         return Err(SiteFault::Extra(13));
@@ -158,7 +198,7 @@ fn judge(bytes: &[u8]) -> Result<Site, SiteFault>
     Ok(Site {
         height,
         master,
-        ca: u16::from_be_bytes(ca),
+        ca,
         emm,
         ecm,
         every,
