@@ -4,7 +4,7 @@ use Rattle.std.specs.Prelude.{Option, Some, None, max, option_map, Result, Ok, E
 use Rattle.std.specs.List.{concat}
 use Rattle.std.specs.Option.{option_map_or}
 use Rattle.std.specs.Result.{MatchResult}
-use Rattle.sd_base.specs.Count.{with_added}
+use Rattle.sd_base.specs.Count.{with_added, IsCaused}
 use Rattle.sd_card.specs.Fields.{CardFields}
 use Rattle.sd_ecm.specs.Parts.{Message, message_of}
 use Rattle.sd_ecm.specs.declared.part.EcmPart.{EcmPart}
@@ -290,4 +290,12 @@ taken_message card tuning n head s t x wrote count u v is told begins same = rec
         (counted_follows card (Controls part ∷ past) t (with_added s.written count) (begins past part done).1),
   );
   took = told.2;
+}
+
+-- a count that rose where one thing failed rose where another did, if neither failed
+pub caused_by_neither : (before now : ℕ) (P Q : Type 0) → IsCaused before now P → ¬ P → ¬ Q → IsCaused before now Q
+caused_by_neither before now P Q caused neither nor = record {
+  later = caused.later;
+  failed = λ failed. absurd (nor failed);
+  calm = λ calm. caused.calm neither;
 }

@@ -8,6 +8,7 @@ mod ears;
 mod ending;
 mod entitled;
 mod gather;
+mod hearing;
 mod judge;
 mod key;
 pub mod laws;

@@ -58,8 +58,8 @@ impl Listener {
         self.written = 0;
     }
 
-    // Takes packet `number` of the stream, which was read as `heard`. The run must not be closed. The caller knows what
-    // was heard, so nothing is left of the choice.
+    // Takes packet `number` of the stream, which was read as `heard`. The run must not be closed. For a packet that is
+    // no message the caller knows what was heard, so nothing is left of the choice.
     #[inline(always)]
     pub fn take<K: Sink, L: Ledger>(
         &mut self,

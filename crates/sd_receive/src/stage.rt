@@ -9,6 +9,7 @@ ghost use Rattle.sd_receive.specs.Receiving.{IsAfter, IsFit, IsLive, Refusing, r
 ghost use Rattle.sd_receive.specs.Receiving.{receiver_refuses};
 
 use crate::ears::{Channel, Heard, channel_of};
+use crate::hearing::{ecm_heard, emm_heard};
 use crate::listener::Listener;
 use crate::receiver::Receiver;
 use crate::turn::name_of;
@@ -104,11 +105,8 @@ impl Receiver {
             steps.old steps.new) }
         ensures cause { IsCaused (K.faults out.old) (K.faults out.new) (IsErrOf result StageFault.Write) }
     {
-        match &read_emm(self.card.height(), packet) {
-            Ok(Some(emm)) => self.take_heard(tuning, packet, Heard::Entitles(emm), out, steps),
-            Ok(None) => self.take_heard(tuning, packet, Heard::Dropped, out, steps),
-            Err(fault) => self.take_heard(tuning, packet, Heard::BadEmm(*fault), out, steps),
-        }
+        let read = read_emm(self.card.height(), packet);
+        self.take_heard(tuning, packet, emm_heard(&read), out, steps)
     }
 
     // Takes the next packet, on the PID of control messages.
@@ -136,11 +134,8 @@ impl Receiver {
             steps.old steps.new) }
         ensures cause { IsCaused (K.faults out.old) (K.faults out.new) (IsErrOf result StageFault.Write) }
     {
-        match &read_ecm(packet) {
-            Ok(Some(part)) => self.take_heard(tuning, packet, Heard::Controls(part), out, steps),
-            Ok(None) => self.take_heard(tuning, packet, Heard::Dropped, out, steps),
-            Err(fault) => self.take_heard(tuning, packet, Heard::BadEcm(*fault), out, steps),
-        }
+        let read = read_ecm(packet);
+        self.take_heard(tuning, packet, ecm_heard(&read), out, steps)
     }
 
     // Takes the next packet, which was read as `heard`, if none was refused before.

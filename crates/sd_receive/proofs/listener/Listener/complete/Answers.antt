@@ -7,6 +7,7 @@ use Rattle.sd_receive_hold.specs.Writing.{WriteOutcome}
 use Rattle.sd_receive_hold.specs.declared.fault.SegmentFault.{SegmentFault}
 use Rattle.sd_receive.specs.Held.{pair_wrote}
 use Rattle.sd_receive.proofs.Messages.{counting, parity_message, word_message, taken_message, cut_message}
+use Rattle.sd_receive.proofs.Messages.{caused_by_neither}
 use Rattle.sd_receive.proofs.listener.Listener.complete.Goals as goal
 
 pub returns-in-Ok-begin-clause-value : goal.returns-in-Ok-begin-clause-value
@@ -58,3 +59,11 @@ returns-in-Err-Write-clause-value g c =
     c.args.tuning.ecm s.collect.run.places.items)
     (vessel g.K.Sink c.args.out.now) (vessel g.K.Sink c.write.new.out) (Err f)) c.in-Err-Write.field-0-is
     c.in-Err-Write.ensures.value)
+
+pub returns-in-Ok-begin-clause-cause : goal.returns-in-Ok-begin-clause-cause
+returns-in-Ok-begin-clause-cause g c = caused_by_neither _ _ _ _ c.in-Ok.ensures.cause
+    (λ failed. absurd (grind (arith, failed))) (λ failed. absurd (grind (arith, failed)))
+
+pub returns-in-Err-clause-cause : goal.returns-in-Err-clause-cause
+returns-in-Err-clause-cause g c = caused_by_neither _ _ _ _ c.in-Ok.ensures.cause
+    (λ failed. absurd (grind (arith, failed))) (λ failed. absurd (grind (arith, failed)))

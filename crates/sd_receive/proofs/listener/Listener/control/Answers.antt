@@ -93,3 +93,6 @@ returns-in-Err-clause-value g c =
     (part_bad (fields_of c.args.card.now) c.args.tuning c.args.number c.args.part.now c.args.self.now
     c.in-Err.fault
     (λ past collects now. c.in-Err.ensures.value past collects (now ∙ sym c.period.ensures)))
+
+pub returns-in-Ok-Complete-clause-cause : goal.returns-in-Ok-Complete-clause-cause
+returns-in-Ok-Complete-clause-cause g c = c.complete.ensures.cause

@@ -2,10 +2,13 @@ use Rattle.std.proofs.Common.{refl, ap, sym, subst, []}
 use Rattle.sd_card.specs.Fields.{fields_of}
 use Rattle.sd_engine.specs.Stage.{vessel}
 use Rattle.sd_spec_receiver.specs.Heard.{Heard}
-use Rattle.sd_receive.specs.Ears.{heard_as}
-use Rattle.sd_receive.specs.Listening.{TakesHeard, RefusesHeard}
+use Rattle.sd_receive.specs.declared.ears.Heard.{Heard as Kept}
+use Rattle.sd_receive.specs.Ears.{heard_as, IsFormed}
+use Rattle.sd_spec_receiver.specs.declared.fault.StreamFault.TheVariants.{BadEmm, BadEcm}
+use Rattle.sd_receive.specs.Listening.{TakesHeard, RefusesHeard, PacketOutcome}
 use Rattle.sd_receive.specs.declared.listener.Listener.{Listener}
 use Rattle.sd_receive.proofs.Listening.{took_nothing, dropped_heard, other_heard, section_taken, section_refused}
+use Rattle.sd_receive.proofs.Listening.{bad_section, bad_part}
 use Rattle.sd_receive.proofs.listener.Listener.take.Goals as goal
 
 pub returns-in-Dropped-clause-value : goal.returns-in-Dropped-clause-value
@@ -65,3 +68,42 @@ returns-in-Err-clause-value g c =
     (ap (heard_as c.args.number c.args.packet.now) (sym c.in-Entitles.is))
     (section_refused card c.args.tuning c.args.number c.in-Entitles.emm.now s c.in-Err.fault
     (λ past entitled. c.in-Err.ensures.fault past entitled)))
+
+pub returns-in-Controls-clause-value : goal.returns-in-Controls-clause-value
+returns-in-Controls-clause-value g c =
+    let s = c.args.self.now in
+    let card = fields_of c.args.card.now in
+    subst (λ (h : Heard). PacketOutcome (TakesHeard card c.args.tuning c.args.number h s)
+    (RefusesHeard card c.args.tuning c.args.number h s) (vessel g.K.Sink c.args.out.now)
+    (vessel g.K.Sink c.control.new.out) c.control.new.self c.control.result)
+    (ap (heard_as c.args.number c.args.packet.now) (sym c.in-Controls.is)) c.control.ensures.value
+
+pub returns-in-BadEmm-clause-value : goal.returns-in-BadEmm-clause-value
+returns-in-BadEmm-clause-value g c =
+    let s = c.args.self.now in
+    let card = fields_of c.args.card.now in
+    let why = BadEmm c.args.number c.in-BadEmm.fault in
+    took_nothing (vessel g.K.Sink c.args.out.now)
+    (RefusesHeard card c.args.tuning c.args.number (heard_as c.args.number c.args.packet.now c.args.heard) s why)
+    (subst (λ (h : Heard). RefusesHeard card c.args.tuning c.args.number h s why [])
+    (ap (heard_as c.args.number c.args.packet.now) (sym c.in-BadEmm.is))
+    (bad_section card c.args.tuning c.args.number c.in-BadEmm.fault s))
+
+pub returns-in-BadEcm-clause-value : goal.returns-in-BadEcm-clause-value
+returns-in-BadEcm-clause-value g c =
+    let s = c.args.self.now in
+    let card = fields_of c.args.card.now in
+    let why = BadEcm c.args.number c.in-BadEcm.fault in
+    took_nothing (vessel g.K.Sink c.args.out.now)
+    (RefusesHeard card c.args.tuning c.args.number (heard_as c.args.number c.args.packet.now c.args.heard) s why)
+    (subst (λ (h : Heard). RefusesHeard card c.args.tuning c.args.number h s why [])
+    (ap (heard_as c.args.number c.args.packet.now) (sym c.in-BadEcm.is))
+    (bad_part card c.args.tuning c.args.number c.in-BadEcm.fault s))
+
+pub section-requires-clause-sets : goal.section-requires-clause-sets
+section-requires-clause-sets g c =
+    (subst (λ (h : Kept). IsFormed c.args.card.now.height h) c.in-Entitles.is c.requires.form).1
+
+pub control-requires-clause-form : goal.control-requires-clause-form
+control-requires-clause-form g c =
+    subst (λ (h : Kept). IsFormed c.args.card.now.height h) c.in-Controls.is c.requires.form

@@ -22,3 +22,21 @@ returns-in_default-clause-ok g c = record {
       (c.cat_tuning-self.ensures ∙ ap (λ (ca : ℕ). cat_tuning ca c.args.packet.now) c.ca.ensures);
   follows = c.requires.fit.follows;
 }
+
+pub returns-in_default-clause-fault : goal.returns-in_default-clause-fault
+returns-in_default-clause-fault g c = λ fault is. absurd cc
+
+pub returns-in_default-clause-prefix : goal.returns-in_default-clause-prefix
+returns-in_default-clause-prefix g c = λ failed. absurd (grind (arith, failed))
+
+pub returns-in-Cat-clause-cause : goal.returns-in-Cat-clause-cause
+returns-in-Cat-clause-cause g c = c.take_heard.ensures.cause
+
+pub returns-in-Emm-clause-cause : goal.returns-in-Emm-clause-cause
+returns-in-Emm-clause-cause g c = c.take_emm.ensures.cause
+
+pub returns-in-Ecm-clause-cause : goal.returns-in-Ecm-clause-cause
+returns-in-Ecm-clause-cause g c = c.take_ecm.ensures.cause
+
+pub returns-in-Other-clause-cause : goal.returns-in-Other-clause-cause
+returns-in-Other-clause-cause g c = c.take_heard-in-Other.ensures.cause

@@ -3,13 +3,15 @@ use Rattle.std.specs.Prelude.{Option, Some, IfSome}
 use Rattle.std.specs.Option.{option_or}
 use Rattle.sd_engine.specs.Stage.{vessel}
 use Rattle.sd_spec_receiver.specs.Runs.{run_name_heard}
-use Rattle.sd_receive.specs.Ears.{heard_as}
+use Rattle.sd_card.specs.Fields.{CardFields}
+use Rattle.sd_receive.specs.Ears.{heard_as, IsFormed}
 use Rattle.sd_psi.specs.declared.our_cat.Tuning.{Tuning}
 use Rattle.sd_receive.specs.Listening.{capped, TakesHeard, RefusesHeard}
+use Rattle.sd_receive.specs.declared.receiver.Receiver.{Receiver}
 use Rattle.sd_receive.specs.Receiving.{card_in, receiver_does, receiver_refuses, Refusing}
 use Rattle.sd_receive.proofs.Receiving.{listening, thing_of, idle_closed, heard_does}
 use Rattle.sd_receive.proofs.Receiving.{heard_refuses, fit_after, takes_same, refuses_same, few_same, ready, grew_of}
-use Rattle.sd_receive.proofs.Receiving.{refused_of, cut_of, grew_none}
+use Rattle.sd_receive.proofs.Receiving.{refused_of, cut_of, grew_none, counted, turned_same}
 use Rattle.sd_receive.proofs.receiver.Receiver.take_heard.Goals as goal
 
 pub returns-then-self-clause-value : goal.returns-then-self-clause-value
@@ -25,6 +27,55 @@ returns-then-self-clause-value g c =
     let added : c.saturating_add-self.result ≡ capped (s.count + 1) = omega arith in
     grew_none (vessel g.K.Sink c.args.out.now) c.args.steps.now (receiver_does s packet u)
     (idle_closed s packet kept c.saturating_add-self.result u c.requires.tuned known.turned c.if-self.true added)
+
+pub returns-then-self-clause-ok : goal.returns-then-self-clause-ok
+returns-then-self-clause-ok g c =
+    let s = c.args.self.now in
+    let packet = c.args.packet.now in
+    let u = c.turn.new.self in
+    let thing = heard_as s.count packet c.args.heard in
+    let is : thing ≡ thing_of s c.args.tuning packet = c.requires.heard s.count in
+    let known = ready s packet c.args.tuning c.saturating_add-self.result thing u c.name_of-name.result is
+    (c.name_of-name.ensures s.count packet) c.turn.ensures c.requires.fit.follows in
+    record {
+      ecm = subst (λ (t : Option Tuning). IfSome t (λ k. k.ecm < 8192)) (sym known.tuning_is) c.requires.fit.ecm;
+      follows = known.live;
+    }
+
+pub returns-then-self-clause-unrefused : goal.returns-then-self-clause-unrefused
+returns-then-self-clause-unrefused g c =
+    let s = c.args.self.now in
+    ap (λ (r : Receiver). r.refusal) (turned_same (counted s c.saturating_add-self.result s.tuning)
+    c.name_of-name.result c.turn.new.self c.turn.ensures) ∙ c.requires.unrefused
+
+pub returns-then-self-clause-fault : goal.returns-then-self-clause-fault
+returns-then-self-clause-fault g c = λ fault is. absurd cc
+
+pub returns-then-self-clause-prefix : goal.returns-then-self-clause-prefix
+returns-then-self-clause-prefix g c = λ failed. absurd (grind (arith, failed))
+
+pub take-requires-clause-form : goal.take-requires-clause-form
+take-requires-clause-form g c =
+    let s = c.args.self.now in
+    let packet = c.args.packet.now in
+    let u = c.turn.new.self in
+    let thing = heard_as s.count packet c.args.heard in
+    let is : thing ≡ thing_of s c.args.tuning packet = c.requires.heard s.count in
+    let known = ready s packet c.args.tuning c.saturating_add-self.result thing u c.name_of-name.result is
+    (c.name_of-name.ensures s.count packet) c.turn.ensures c.requires.fit.follows in
+    subst (λ (h : ℕ). IsFormed h c.args.heard) (sym (ap (λ (card : CardFields). card.height) known.card_is))
+    c.requires.form
+
+pub take-requires-clause-live : goal.take-requires-clause-live
+take-requires-clause-live g c =
+    let s = c.args.self.now in
+    let packet = c.args.packet.now in
+    let u = c.turn.new.self in
+    let thing = heard_as s.count packet c.args.heard in
+    let is : thing ≡ thing_of s c.args.tuning packet = c.requires.heard s.count in
+    let known = ready s packet c.args.tuning c.saturating_add-self.result thing u c.name_of-name.result is
+    (c.name_of-name.ensures s.count packet) c.turn.ensures c.requires.fit.follows in
+    known.live
 
 pub returns-clause-value : goal.returns-clause-value
 returns-clause-value g c =
@@ -67,6 +118,12 @@ returns-clause-ok g c =
     (vessel g.K.Sink c.args.out.now) (vessel g.K.Sink c.take.new.out) c.take.result known.live c.if-self.false
     (subst (λ (t : Option Tuning). IfSome t (λ k. k.ecm < 8192)) (sym known.tuning_is) c.requires.fit.ecm)
     c.take.ensures.value
+
+pub returns-clause-unrefused : goal.returns-clause-unrefused
+returns-clause-unrefused g c =
+    let s = c.args.self.now in
+    ap (λ (r : Receiver). r.refusal) (turned_same (counted s c.saturating_add-self.result s.tuning)
+    c.name_of-name.result c.turn.new.self c.turn.ensures) ∙ c.requires.unrefused
 
 pub returns-clause-fault : goal.returns-clause-fault
 returns-clause-fault g c = λ fault why.
