@@ -1,7 +1,7 @@
 -- The keys that the secrets of a leaf's names lead to, whichever of its names these are.
-use Rattle.std.proofs.Common.{ℕ, ◌^◌, ◌<◌, ◌≤◌, ◌≡◌, true, List, [], sym, ap, ◌∙◌, arith}
+use Rattle.std.proofs.Common.{ℕ, ◌^◌, ◌<◌, ◌≤◌, ◌≡◌, true, List, [], length, get_or, refl, sym, ap, ◌∙◌, arith}
 use Rattle.std.specs.Prelude.{slice_get, Some}
-use Rattle.std.proofs.lemmas.Option.{get_or_from_slice_get}
+use Rattle.std.proofs.lemmas.Option.{get_or_from_slice_get, slice_get_read}
 use Rattle.sd_tree.specs.Node.{depth}
 use Rattle.sd_tree.specs.Paths.{path_node, sibling_of}
 use Rattle.sd_tree.specs.SetNames.{IsPair}
@@ -52,6 +52,11 @@ unfolding key_held
 derived_is_held d u i j names secrets key taken of pair derives =
     let node = pair_node d i j of.height pair in
     derived_is_among d u i j names secrets key taken of node.0 node.1 derives
+
+-- the first of some secrets is there
+pub first_read : (secrets : List (List ℕ)) (key : List ℕ) → 0 < length secrets → key ≡ get_or secrets 0 key
+    → slice_get secrets 0 ≡ Some key
+first_read secrets key some is = slice_get_read secrets _ 0 key refl some is
 
 -- and the first secret is the key that they give for the whole set
 pub first_is_held : (names : List Name) (secrets : List (List ℕ)) (key : List ℕ) → slice_get secrets 0 ≡ Some key

@@ -3,7 +3,7 @@ use Rattle.std.proofs.Common.{ℕ, zero, suc, ◌+◌, ◌-◌, ◌*◌, ◌/◌
 use Rattle.std.proofs.Common.{length, take, drop, get_or, Option, None, append_assoc, sym, refl, ap, ◌∙◌, arith}
 use Rattle.std.specs.List.{concat}
 use Rattle.std.proofs.lemmas.List.{take_at, drop_at, take-append-drop, length-append, length-take-le, length-drop}
-use Rattle.std.proofs.lemmas.List.{take-take}
+use Rattle.std.proofs.lemmas.List.{take-take, append-nil}
 use Rattle.std.proofs.Math.Seq.{take-add, drop-cons}
 use Rattle.sha2.specs.Sha256.{sha256}
 use Rattle.sha2.proofs.Facts256.{length-sha256}
@@ -39,6 +39,11 @@ pub goes : {F : Type 0} (good : Bool) (fault : F) (after : Option F) → good �
     → unless good fault after ≡ None
 goes true fault after is none = none
 goes false fault after is none = absurd cc
+
+-- a file's body with no secret is its head
+pub body_of_none : (head : List ℕ) → file_body head [] ≡ head
+unfolding file_body
+body_of_none head = append-nil head
 
 -- one secret more in the file
 pub body_more : (head : List ℕ) (secrets : List (List ℕ)) (secret : List ℕ) → file_body head secrets

@@ -89,7 +89,6 @@ pub fn checks(bytes: &[u8]) -> ([u8; 16], [u8; 16])
 }
 
 /// The secrets that a file keeps from this place on, as many as are whole before its check.
-#[tactic(auto, using(crate::proofs::Joined::cut_more, crate::proofs::Joined::long_more, crate::proofs::Written::kept_of_inner))]
 pub fn secrets_in(alloc: Global, bytes: &[u8], k: usize) -> Result<Vec<[u8; 32]>, AllocError>
     requires { k + CHECK_BYTES ≤ length bytes.now }
     ensures { IfOk result (λ secrets. AreKept bytes.now k secrets.items) }
@@ -106,7 +105,6 @@ pub fn secrets_in(alloc: Global, bytes: &[u8], k: usize) -> Result<Vec<[u8; 32]>
 
 /// The head of a card's file: the bytes that say what it is, fields of a byte each, the leaf and the conditional access
 /// system.
-#[tactic(auto, using(crate::proofs::Heads::head_joined))]
 pub fn write_head(
     alloc: Global,
     magic: &[u8; 4],
@@ -138,7 +136,6 @@ pub fn write_file(alloc: Global, head: &[u8], secrets: &[[u8; 32]]) -> Result<Ve
 }
 
 // The file before its check, with room for that.
-#[tactic(auto, unfolding(crate::specs::Files::file_body))]
 fn write_body(alloc: Global, head: &[u8], secrets: &[[u8; 32]]) -> Result<Vec<u8>, AllocError>
     ensures value { IfOk result (λ bytes. bytes.items ≡ file_body head.now secrets.now) }
     ensures fits { IfOk result (λ _. AreSecrets secrets.now) }

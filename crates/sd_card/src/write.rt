@@ -5,17 +5,24 @@ use crate::card::Card;
 use crate::format::{MAGIC, VERSION};
 use crate::{write_file, write_head};
 use sd_base::NoMemory;
-use std::alloc::Global;
+use std::alloc::{AllocError, Global};
 
 impl Card {
     /// The card's file [this project, docs/FORMATS.md, Card].
-    #[tactic(auto, unfolding(crate::specs::Fields::card_bytes, crate::specs::Fields::card_head))]
     pub fn write(&self, alloc: Global) -> Result<Vec<u8>, NoMemory>
         ensures value { IfOk result (λ bytes. bytes.items ≡ card_bytes (fields_of self.now)) }
         ensures fits { IfOk result (λ _. IsCard (fields_of self.now)) }
     {
+        self.file(alloc).map_err(|_| NoMemory)
+    }
+
+    // The head and the secrets, as a file.
+    fn file(&self, alloc: Global) -> Result<Vec<u8>, AllocError>
+        ensures value { IfOk result (λ bytes. bytes.items ≡ card_bytes (fields_of self.now)) }
+        ensures fits { IfOk result (λ _. IsCard (fields_of self.now)) }
+    {
         let fields = [VERSION, self.height.get()];
-        let head = write_head(alloc, &MAGIC, &fields, self.leaf, self.ca).map_err(|_| NoMemory)?;
-        write_file(alloc, &head, &self.secrets).map_err(|_| NoMemory)
+        let head = write_head(alloc, &MAGIC, &fields, self.leaf, self.ca)?;
+        write_file(alloc, &head, &self.secrets)
     }
 }

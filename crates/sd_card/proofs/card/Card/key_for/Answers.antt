@@ -1,13 +1,21 @@
-use Rattle.std.proofs.Common.{◌≡◌, ◌<◌, length, refl, arith}
-use Rattle.std.specs.Prelude.{slice_get, Some, true}
-use Rattle.std.proofs.lemmas.Option.{slice_get_read}
+use Rattle.std.proofs.Common.{◌≡◌, ◌∙◌, sym, arith}
+use Rattle.std.specs.Prelude.{true}
 use Rattle.sd_tree.specs.Leaves.{is_member}
 use Rattle.sd_tree.specs.SetNames.{IsPair}
 use Rattle.sd_label.specs.Names.{given}
-use Rattle.sd_card.proofs.SecretKeys.{derived_is_held, first_is_held}
+use Rattle.sd_card.proofs.SecretKeys.{derived_is_held, first_read, first_is_held}
 use Rattle.sd_card.specs.Fields.{fields_of}
 use Rattle.sd_card.proofs.Keys.{given_of_leaf, own_gives_key}
 use Rattle.sd_card.proofs.card.Card.key_for.Goals as goal
+
+-- the leaf is in the set
+pub returns-in-Diff-clause-none : goal.returns-in-Diff-clause-none
+returns-in-Diff-clause-none g c =
+    (λ none. sym c.if-not-contains.ensures ∙ none, λ outside. c.if-not-contains.ensures ∙ outside)
+
+pub returns-in-Whole-clause-none : goal.returns-in-Whole-clause-none
+returns-in-Whole-clause-none g c =
+    (λ none. sym c.if-not-contains.ensures ∙ none, λ outside. c.if-not-contains.ensures ∙ outside)
 
 -- the key of a pair
 pub returns-in-Diff-clause-value : goal.returns-in-Diff-clause-value
@@ -22,10 +30,15 @@ returns-in-Diff-clause-value g c =
 pub returns-in-Whole-clause-value : goal.returns-in-Whole-clause-value
 returns-in-Whole-clause-value g c =
     let card = c.args.self.now in
-    let some : 0 < length card.secrets.items = omega (arith, card.count) in
-    let first : slice_get card.secrets.items 0 ≡ Some c.index.result.now =
-    slice_get_read card.secrets.items _ 0 c.index.result.now refl some c.index.ensures in
+    let first = first_read card.secrets.items c.index.result.now (omega (arith, card.count)) c.index.ensures in
     rw c.in-Whole.is (first_is_held (given card.height card.leaf) card.secrets.items c.index.result.now first)
+
+-- it is the first secret, and no step is taken
+pub returns-in-Whole-clause-sound : goal.returns-in-Whole-clause-sound
+returns-in-Whole-clause-sound g c =
+    let card = c.args.self.now in
+    rw c.in-Whole.is
+    (first_read card.secrets.items c.index.result.now (omega (arith, card.count)) c.index.ensures, omega arith)
 
 pub returns-in-Diff-clause-made : goal.returns-in-Diff-clause-made
 returns-in-Diff-clause-made g c master ca own =
