@@ -1,8 +1,9 @@
 -- What a test keeps of a list.
 use Rattle.std.proofs.Common.{ℕ, zero, suc, ◌+◌, ◌<◌, ◌≤◌, ◌≡◌, Bool, true, false, List, [], ◌∷◌, ◌++◌, map, take}
-use Rattle.std.proofs.Common.{refl, subst, ap, ◌∙◌, inl, inr, cond, arith}
+use Rattle.std.proofs.Common.{refl, subst, ap, sym, ◌∙◌, inl, inr, cond, arith, length, get_or}
 use Rattle.std.specs.Prelude.{Contains, filter}
 use Rattle.std.specs.List.{range_with_len, flat_map}
+use Rattle.std.proofs.lemmas.List.{append-nil, take_more}
 use Rattle.std.proofs.lemmas.List.Concat.{flat_map-cons}
 use Rattle.std.proofs.lemmas.List.Elements.{filter-append}
 use Rattle.sd_cover.proofs.Lists.{member_cases, member_first, member_later, no_member}
@@ -70,3 +71,18 @@ lists_kept test f g s (suc n) each =
     (filter-append test (f s) (flat_map f (range_with_len (s + 1) n))
     ∙ rw (each s (omega arith) (omega arith)) (ap (λ (rest : List _). g s ++ rest)
     (lists_kept test f g (s + 1) n (λ a low high. each a (omega arith) (omega arith)))))
+
+-- what is kept of the first ones and the next, which passes
+pub kept_more : {X : Type 0} → (p : X → Bool) (xs : List X) (i : ℕ) (x : X) → i < length xs
+    → p (get_or xs i x) ≡ true → filter p (take i xs) ++ get_or xs i x ∷ [] ≡ filter p (take (i + 1) xs)
+kept_more {X} p xs i x within passes =
+    let one : filter p (get_or xs i x ∷ []) ≡ get_or xs i x ∷ [] = rw passes refl in
+    rw (take_more xs i x within, filter-append p (take i xs) (get_or xs i x ∷ []), one) refl
+
+-- and of the first ones and the next, which doesn't
+pub left_more : {X : Type 0} → (p : X → Bool) (xs : List X) (i : ℕ) (x : X) → i < length xs
+    → p (get_or xs i x) ≡ false → filter p (take i xs) ≡ filter p (take (i + 1) xs)
+left_more {X} p xs i x within fails =
+    let none : filter p (get_or xs i x ∷ []) ≡ [] = rw fails refl in
+    rw (take_more xs i x within, filter-append p (take i xs) (get_or xs i x ∷ []), none)
+    (sym (append-nil (filter p (take i xs))))

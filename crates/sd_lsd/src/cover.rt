@@ -35,7 +35,6 @@ pub fn layered_cover(
 }
 
 // The sets as useful ones, sorted.
-#[tactic(auto, using(crate::proofs::Covers::parts_more))]
 fn split(alloc: Global, h: Height, w: Width, sets: &[SetName]) -> Result<Vec<SetName>, AllocError>
     requires width { w ≤ h }
     requires names { All (IsOfHeight h) sets.now }

@@ -5,17 +5,24 @@ use crate::card::LayerCard;
 use crate::format::{MAGIC, VERSION};
 use sd_base::NoMemory;
 use sd_card::{write_file, write_head};
-use std::alloc::Global;
+use std::alloc::{AllocError, Global};
 
 impl LayerCard {
     /// The layer card's file [this project, docs/FORMATS.md, Layer card].
-    #[tactic(auto, unfolding(crate::specs::Fields::layer_bytes, crate::specs::Fields::layer_head))]
     pub fn write(&self, alloc: Global) -> Result<Vec<u8>, NoMemory>
         ensures value { IfOk result (λ bytes. bytes.items ≡ layer_bytes (fields_of self.now)) }
         ensures fits { IfOk result (λ _. IsLayerCard (fields_of self.now)) }
     {
+        self.file(alloc).map_err(|_| NoMemory)
+    }
+
+    // The head and the secrets, as a file.
+    fn file(&self, alloc: Global) -> Result<Vec<u8>, AllocError>
+        ensures value { IfOk result (λ bytes. bytes.items ≡ layer_bytes (fields_of self.now)) }
+        ensures fits { IfOk result (λ _. IsLayerCard (fields_of self.now)) }
+    {
         let fields = [VERSION, self.height.get(), self.width.get()];
-        let head = write_head(alloc, &MAGIC, &fields, self.leaf, self.ca).map_err(|_| NoMemory)?;
-        write_file(alloc, &head, &self.secrets).map_err(|_| NoMemory)
+        let head = write_head(alloc, &MAGIC, &fields, self.leaf, self.ca)?;
+        write_file(alloc, &head, &self.secrets)
     }
 }
