@@ -1,10 +1,12 @@
 use Rattle.std.proofs.Common.{arith, ◌≡◌, ℕ, zero, suc, ◌+◌, ◌==◌, ◌<◌, ◌≤◌, ◌^◌, List, [], ◌∷◌, ◌++◌, length, get_or}
 use Rattle.std.proofs.Common.{set, replicate, Bool, true, false, cond, refl, ap, sym, ◌∙◌, map, Option, Some, reverse}
-use Rattle.std.proofs.Common.{nat_lt, Ok, Err, take, subst}
+use Rattle.std.proofs.Common.{nat_lt, Ok, Err, take, drop, subst, append_assoc}
 use Rattle.std.proofs.lemmas.Grind.{common_steps}
 use Rattle.std.proofs.lemmas.List.{reverse-append, take_more}
 use Rattle.std.proofs.lemmas.List.Sums.{length-filter, count_by-le-length}
+use Rattle.std.proofs.Math.Numerals.{add-one}
 use Rattle.std.proofs.Math.Pow.{pow_mono}
+use Rattle.std.proofs.Math.Seq.{drop-cons}
 use Rattle.std.specs.List.{range_with_len, count_by, filter, find}
 use Rattle.std.specs.Option.{option_map_or}
 use Rattle.sd_tree.specs.Leaves.{leaves}
@@ -163,6 +165,24 @@ tally_one_more d h commands i command marks revoked period height low at tally =
     sym (take_more commands i command low ∙ ap (λ (c : Command). take i commands ++ c ∷ []) at) in
     subst (λ (cs : List Command). IsTally d cs marks revoked period) longer
     (subst (λ (k : ℕ). IsTally k (take i commands ++ command ∷ []) marks revoked period) height tally)
+
+-- the leaves so far and those of the marks that are left are all, also after a mark that is set
+pub leaf_more : (marks : List Bool) (leaves all : List ℕ) (u leaf : ℕ) (mark : Bool) → u < length marks →
+    mark ≡ get_or marks u mark → mark ≡ true → leaf ≡ u → leaves ++ marked_from u (drop u marks) ≡ all →
+    (leaves ++ leaf ∷ []) ++ marked_from (u + 1) (drop (u + 1) marks) ≡ all
+leaf_more marks leaves all u leaf mark inside at set is before =
+    let next : marked_from u (drop u marks) ≡ u ∷ marked_from (u + 1) (drop (u + 1) marks) =
+    rw (drop-cons marks u mark inside, ← at, set, add-one u) refl in
+    rw (is, append_assoc leaves (u ∷ []) (marked_from (u + 1) (drop (u + 1) marks))) (rw next at before)
+
+-- and after one that isn't
+pub no_leaf_more : (marks : List Bool) (leaves all : List ℕ) (u : ℕ) (mark : Bool) → u < length marks →
+    mark ≡ get_or marks u mark → mark ≡ false → leaves ++ marked_from u (drop u marks) ≡ all →
+    leaves ++ marked_from (u + 1) (drop (u + 1) marks) ≡ all
+no_leaf_more marks leaves all u mark inside at unset before =
+    let next : marked_from u (drop u marks) ≡ marked_from (u + 1) (drop (u + 1) marks) =
+    rw (drop-cons marks u mark inside, ← at, unset, add-one u) refl in
+    rw next at before
 
 -- the marked leaves are those that pass
 pub marked_leaves : (p : ℕ → Bool) (a n : ℕ) → marked_from a (map p (range_with_len a n))

@@ -1,8 +1,9 @@
 use Rattle.std.proofs.Common.{arith, ◌≡◌, ℕ, ◌<◌, ◌≤◌, ◌^◌, true, List, [], ◌∷◌, ◌++◌, map, Some, None, Ok, refl, ap}
-use Rattle.std.proofs.Common.{◌∙◌, append_assoc, codes}
+use Rattle.std.proofs.Common.{◌∙◌, append_assoc, codes, ◌+◌, sym, take, length, get_or}
 use Rattle.std.specs.Prelude.{All}
 use Rattle.std.specs.Fmt.{decimal}
-use Rattle.std.proofs.lemmas.Grind.{common_steps}
+use Rattle.std.proofs.lemmas.Grind.{common_steps, take_at_read}
+use Rattle.std.proofs.lemmas.List.{flat_map_more}
 use Rattle.std.proofs.lemmas.List.Elements.{All-head, All-tail}
 use Rattle.std.proofs.Math.Pow.{pow_mono}
 use Rattle.sd_base_text.specs.Lines.{lines_of, is_line}
@@ -85,3 +86,13 @@ pub read_again : (d : ℕ) (commands : List Command) → d ≤ 20 → IsWithinLi
     ≡ Ok commands
 read_again d commands small all =
     book_again d (text_of commands) commands (spelled_again d commands small all.leaves) all
+
+-- the text of the first commands and the line of the next
+pub text_one_more : (commands : List Command) (i : ℕ) (command : Command) → i < length commands →
+    command ≡ get_or commands i command →
+    text_of (take i commands) ++ (command_line command ++ 10 ∷ []) ≡ text_of (take (i + 1) commands)
+unfolding text_of
+text_one_more commands i command inside at =
+    let longer : take (i + 1) commands ≡ take i commands ++ command ∷ [] =
+    (take_at_read commands i command inside).1 ∙ ap (λ (c : Command). take i commands ++ c ∷ []) (sym at) in
+    rw longer (flat_map_more (λ (c : Command). command_line c ++ 10 ∷ []) [] (take i commands) command)

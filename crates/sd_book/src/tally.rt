@@ -117,9 +117,10 @@ impl Tally {
     {
         let mut leaves = Vec::new(alloc);
         for u in 0..self.height.leaves() {
-            match Leaf::new(self.height, u) {
-                Some(leaf) if self.marks[u as usize] => leaves.push(leaf)?,
-                _ => {}
+            if let Some(leaf) = Leaf::new(self.height, u) {
+                if self.marks[u as usize] {
+                    leaves.push(leaf)?;
+                }
             }
         }
         Ok(leaves)
