@@ -24,7 +24,7 @@ const STUFFING: u8 = 0xFF;
 const SIZE: usize = 6;
 
 /// Puts the project's CA_descriptor before the PMT's others. After a refusal the packet is unchanged.
-#[tactic(auto, using(crate::proofs::Packets::rewritten_laid, crate::proofs::Packets::sync_stays, crate::proofs::Packets::payload_long, crate::proofs::Packets::piece_section, crate::proofs::Packets::piece_info))]
+#[tactic(auto, using(crate::proofs::Packets::sync_stays, crate::proofs::Packets::payload_long, crate::proofs::Packets::piece_section, crate::proofs::Packets::piece_info))]
 pub fn rewrite_pmt(packet: &mut Packet, ca: u16, pid: u16) -> Result<(), FormFault>
     requires payload { payload_start_of packet.old < 188 }
     requires pid { pid < 8192 }
@@ -46,7 +46,7 @@ pub fn rewrite_pmt(packet: &mut Packet, ca: u16, pid: u16) -> Result<(), FormFau
 }
 
 /// Removes the project's CA_descriptor, which is the PMT's first. After a refusal the packet is unchanged.
-#[tactic(auto, using(crate::proofs::Packets::restored_laid, crate::proofs::Packets::sync_stays, crate::proofs::Packets::payload_long, crate::proofs::Packets::piece_section, crate::proofs::Packets::piece_info))]
+#[tactic(auto, using(crate::proofs::Packets::sync_stays, crate::proofs::Packets::payload_long, crate::proofs::Packets::piece_section, crate::proofs::Packets::piece_info))]
 pub fn restore_pmt(packet: &mut Packet, ca: u16, pid: u16) -> Result<(), FormFault>
     requires payload { payload_start_of packet.old < 188 }
     requires pid { pid < 8192 }

@@ -1,13 +1,13 @@
-use Rattle.std.proofs.Common.{◌≡◌, arith, sym, subst}
-use Rattle.sd_psi.specs.Rewriting.{restored}
+use Rattle.std.proofs.Common.{arith, sym, subst}
 use Rattle.sd_psi.specs.Undone.{KeepsHeader}
 use Rattle.sd_psi.proofs.Packets.{restored_laid, sync_stays, payload_long, piece_section, piece_info}
 use Rattle.sd_psi.proofs.Keeping.{restored_keeps}
 use Rattle.sd_psi.proofs.rewrite.restore_pmt.Goals as goal
 
+pub returns-clause-value : goal.returns-clause-value
+returns-clause-value c = grind (arith, restored_laid, sync_stays, payload_long, piece_section, piece_info)
+
 pub returns-clause-header : goal.returns-clause-header
 returns-clause-header c =
-    let same : c.unwrap.result ≡ restored c.args.packet.now =
-    grind (arith, restored_laid, sync_stays, payload_long, piece_section, piece_info) in
-    subst (KeepsHeader c.args.packet.now) (sym same)
+    subst (KeepsHeader c.args.packet.now) (sym (returns-clause-value c))
     (restored_keeps c.args.packet.now c.bytes.ensures.length c.requires.payload)
