@@ -1,4 +1,4 @@
-use Rattle.std.proofs.Common.{◌≡◌, ◌<◌, length, refl, arith}
+use Rattle.std.proofs.Common.{◌≡◌, ◌<◌, ◌∙◌, ℕ, List, length, get_or, refl, sym, arith}
 use Rattle.std.specs.Prelude.{slice_get, Some, true}
 use Rattle.std.proofs.lemmas.Option.{slice_get_read}
 use Rattle.sd_tree.specs.Leaves.{is_member}
@@ -9,6 +9,15 @@ use Rattle.sd_lsd.specs.Fields.{fields_of}
 use Rattle.sd_lsd.proofs.Keys.{given_of_leaf, own_gives_key}
 use Rattle.sd_lsd.proofs.card.LayerCard.key_for.Goals as goal
 
+-- the leaf is in the set
+pub returns-in-Diff-clause-none : goal.returns-in-Diff-clause-none
+returns-in-Diff-clause-none g c =
+    (λ none. sym c.if-not-contains.ensures ∙ none, λ outside. c.if-not-contains.ensures ∙ outside)
+
+pub returns-in-Whole-clause-none : goal.returns-in-Whole-clause-none
+returns-in-Whole-clause-none g c =
+    (λ none. sym c.if-not-contains.ensures ∙ none, λ outside. c.if-not-contains.ensures ∙ outside)
+
 -- the key of a pair
 pub returns-in-Diff-clause-value : goal.returns-in-Diff-clause-value
 returns-in-Diff-clause-value g c =
@@ -18,14 +27,25 @@ returns-in-Diff-clause-value g c =
     (layer_given card.height card.width card.leaf) card.secrets.items c.pair_key.result _
     (given_of_leaf card.height card.width card.leaf card.height_in.1 card.leaf_in) pair c.pair_key.ensures.sound)
 
+-- the first of some secrets is there
+first_read : (secrets : List (List ℕ)) (key : List ℕ) → 0 < length secrets → key ≡ get_or secrets 0 key
+    → slice_get secrets 0 ≡ Some key
+first_read secrets key some is = slice_get_read secrets _ 0 key refl some is
+
 -- the key of the whole set
 pub returns-in-Whole-clause-value : goal.returns-in-Whole-clause-value
 returns-in-Whole-clause-value g c =
     let card = c.args.self.now in
-    let some : 0 < length card.secrets.items = omega (arith, card.count) in
-    let first : slice_get card.secrets.items 0 ≡ Some c.index.result.now =
-    slice_get_read card.secrets.items _ 0 c.index.result.now refl some c.index.ensures in
-    rw c.in-Whole.is (first_is_held (layer_given card.height card.width card.leaf) card.secrets.items c.index.result.now first)
+    let first = first_read card.secrets.items c.index.result.now (omega (arith, card.count)) c.index.ensures in
+    rw c.in-Whole.is
+    (first_is_held (layer_given card.height card.width card.leaf) card.secrets.items c.index.result.now first)
+
+-- it is the first secret, and no step is taken
+pub returns-in-Whole-clause-sound : goal.returns-in-Whole-clause-sound
+returns-in-Whole-clause-sound g c =
+    let card = c.args.self.now in
+    rw c.in-Whole.is
+    (first_read card.secrets.items c.index.result.now (omega (arith, card.count)) c.index.ensures, omega arith)
 
 pub returns-in-Diff-clause-made : goal.returns-in-Diff-clause-made
 returns-in-Diff-clause-made g c master ca own =
