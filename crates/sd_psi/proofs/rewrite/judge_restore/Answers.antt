@@ -1,5 +1,6 @@
-use Rattle.std.proofs.Common.{arith}
-use Rattle.sd_psi.proofs.Packets.{restore_outer}
+use Rattle.std.proofs.Common.{arith, ◌≡◌, ◌≤◌, length, true, sym}
+use Rattle.sd_psi.specs.Tables.{is_pmt}
+use Rattle.sd_psi.proofs.Packets.{restore_outer, section_within, info_within}
 use Rattle.sd_psi.proofs.rewrite.judge_restore.Goals as goal
 
 pub returns-in_err-section-clause-fault : goal.returns-in_err-section-clause-fault
@@ -8,3 +9,20 @@ returns-in_err-section-clause-fault c = grind (
   restore_outer c.args.descriptor.now,
   c.in_err-section.ensures.fault,
 )
+
+-- the section is a PMT
+table : (c : goal.After-whole) → is_pmt c.in_ok-section.section.bytes.now ≡ true
+table c = rw c.in-Some.ensures.value at c.in-Some.pmt.form
+
+-- and has a whole head
+long : (c : goal.After-whole) → 12 ≤ length c.in_ok-section.section.bytes.now
+long c = omega (arith, c.in_ok-section.section.long, c.in_ok-section.section.low)
+
+pub returns-clause-info : goal.returns-clause-info
+returns-clause-info c = rw c.whole.ensures
+    (info_within _ c.in_ok-section.section.bytes.now c.in_ok-section.ensures.value (long c) (table c))
+
+pub returns-clause-within : goal.returns-clause-within
+returns-clause-within c = rw c.whole.ensures
+    (section_within c.args.packet.now c.in_ok-section.section.bytes.now c.in_ok-section.ensures.value
+    (omega (arith, long c)))
