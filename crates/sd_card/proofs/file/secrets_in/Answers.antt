@@ -14,7 +14,8 @@ loop-n-preserved c =
       count = (length_at_push c.loop-n.secrets.items secret).1
           ∙ ap (λ (k : ℕ). k + 1) c.loop-n.invariant.count;
       bytes = cut_more c.loop-n.secrets.items secret _ n c.loop-n.invariant.bytes cut;
-      lengths = long_more c.loop-n.secrets.items secret c.loop-n.invariant.lengths (omega (arith, c.copy_from_slice.ensures.len));
+      lengths = long_more c.loop-n.secrets.items secret c.loop-n.invariant.lengths
+          (omega (arith, c.copy_from_slice.ensures.len));
     })
 
 pub returns : goal.returns
