@@ -8,7 +8,7 @@ ghost use Rattle.sd_monitor.specs.Members.{ecm_members, run_members};
 
 use sd_ecm::{EcmPart, Place};
 use sd_tables::object_of;
-use serde_json::{Value, json};
+use serde_json::Value;
 use std::alloc::{AllocError, Global};
 
 // What is shown of a part of a control message on this PID, in the packet of this number.
@@ -86,5 +86,9 @@ fn places_value(alloc: Global, places: &[Place]) -> Result<Value, AllocError>
 fn place_value(alloc: Global, place: Place) -> Result<Value, AllocError>
     ensures { IfOk result (λ value. view value ≡ place_data place) }
 {
-    json!(in alloc; {"pid": place.pid, "position": place.position})
+    let members = vec![in alloc;
+        ("pid", place.pid.into()),
+        ("position", place.position.into()),
+    ]?;
+    object_of(alloc, members)
 }
