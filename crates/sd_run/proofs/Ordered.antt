@@ -6,7 +6,9 @@ use Rattle.sd_command_status.specs.Outside.{Outside}
 use Rattle.sd_command_status.specs.Spec.{Spec, Readings, judged, ◌>>=◌}
 use Rattle.sd_command_status.specs.Work.{Work}
 use Rattle.sd_command_status.specs.Outcome.{IsRefusal, refused, OutcomeWithin, Implements}
+use Rattle.sd_command_status.specs.Results.{RunResult}
 use Rattle.sd_command_status.proofs.Givens.{any_given}
+use Rattle.sd_command_status.proofs.Told.{usage_meant}
 use Rattle.sd_command_files.proofs.Others.{IsOther}
 use Rattle.sd_command_line.proofs.Others.{other_help, other_version}
 use Rattle.sd_command_line.specs.declared.command.Command.TheVariants.{Plan, Sample}
@@ -100,7 +102,13 @@ other_is (Ok x) h e = absurd (cc)
 other_is {A} (Err status) h e = h (err_is {A = A} status Usage (Err status) refl e)
 
 -- words of which `Usage` is meant are no order
-pub only_words : (read : Result Order Status) (given : Readings) → (read_meaning read given).result ≡ Err Usage →
+only_words : (read : Result Order Status) (given : Readings) → (read_meaning read given).result ≡ Err Usage →
     read ≡ Err Usage
 only_words (Ok order) given e = absurd (other_is (order_meaning order given).result (other_order order given) e)
 only_words (Err status) given e = ap Err (err_is {A = Work} status Usage (Err status) refl e)
+
+-- `Usage` is answered to words that are no order
+pub usage_said : (words : List (List ℕ)) (a b : Outside) (answer : Status) → RunResult (meaning words) a b answer →
+    answer ≡ Usage → order_of words ≡ Err Usage
+usage_said words a b answer answers is =
+    let meant = usage_meant (meaning words) a b answer answers is in only_words (order_of words) meant.0 meant.1

@@ -1,51 +1,67 @@
-use Rattle.std.proofs.Common.{rules, ◌≡◌, subst}
+use Rattle.std.proofs.Common.{rules, ◌≡◌, subst, inl, inr, refl}
 use Rattle.std.specs.Prelude.{map, string_bytes}
 use Rattle.sd_command_status.specs.declared.status.Status.{Status}
 use Rattle.sd_command_status.specs.declared.status.Status.TheVariants.{Done, PrintFault}
 use Rattle.sd_command_status.specs.Outcome.{Implements}
 use Rattle.sd_command_status.specs.Outside.{depot_state, page_state, outside}
-use Rattle.sd_command_status.specs.Results.{RunResult}
-use Rattle.sd_command_status.proofs.Told.{done_line, cut_line, lineless_answers, usage_meant}
-use Rattle.sd_command_line.specs.Words.{order_of}
-use Rattle.sd_run.proofs.Ordered.{only_words}
+use Rattle.sd_command_status.specs.Results.{RunResult, IsToldAs}
+use Rattle.sd_command_status.proofs.Told.{done_line, cut_line, lineless_answers, causes, completes, told_as}
+use Rattle.sd_run.proofs.Ordered.{usage_said}
 use Rattle.sd_run.specs.Meaning.{meaning}
 use Rattle.sd_run.proofs.top.run.Goals as goal
 
-pub returns-in-Ok-clause-value : goal.returns-in-Ok-clause-value
-returns-in-Ok-clause-value g c =
-    lineless_answers (meaning (map string_bytes c.args.words.now))
-    (outside (depot_state g.D.Depot c.args.depot.now) (page_state g.P.Sink c.args.print.now) c.args.steps.now)
-    (outside (depot_state g.D.Depot c.obey.new.depot) (page_state g.P.Sink c.obey.new.print) c.obey.new.steps)
-    Done done_line c.in-Ok.ensures.value
-
-pub returns-in-Err-PrintFault-clause-value : goal.returns-in-Err-PrintFault-clause-value
-returns-in-Err-PrintFault-clause-value g c =
-    let cut : c.in-Err-PrintFault.field-0 ≡ PrintFault = search rules in
-    lineless_answers (meaning (map string_bytes c.args.words.now))
-    (outside (depot_state g.D.Depot c.args.depot.now) (page_state g.P.Sink c.args.print.now) c.args.steps.now)
-    (outside (depot_state g.D.Depot c.obey.new.depot) (page_state g.P.Sink c.obey.new.print) c.obey.new.steps)
-    PrintFault cut_line (
-    subst (λ (status : Status). Implements (meaning (map string_bytes c.args.words.now))
-    (outside (depot_state g.D.Depot c.args.depot.now) (page_state g.P.Sink c.args.print.now) c.args.steps.now)
-    (outside (depot_state g.D.Depot c.obey.new.depot) (page_state g.P.Sink c.obey.new.print) c.obey.new.steps)
-    status) cut c.in-Err-PrintFault.ensures.value)
-
-pub returns-in-Err-clause-usage : goal.returns-in-Err-clause-usage
-returns-in-Err-clause-usage g c is =
+pub returns-in-Ok : goal.returns-in-Ok
+returns-in-Ok g c =
     let words = map string_bytes c.args.words.now in
-    let answers : RunResult (meaning words)
-    (outside (depot_state g.D.Depot c.args.depot.now) (page_state g.P.Sink c.args.print.now) c.args.steps.now)
-    (outside (depot_state g.D.Depot c.obey.new.depot) (page_state g.P.Sink c.tell.new.print) c.obey.new.steps)
-    c.tell.result =
+    let a = outside (depot_state g.D.Depot c.args.depot.now) (page_state g.P.Sink c.args.print.now) c.args.steps.now in
+    let b =
+    outside (depot_state g.D.Depot c.obey.new.depot) (page_state g.P.Sink c.obey.new.print) c.obey.new.steps in
+    let answers = lineless_answers (meaning words) a b Done done_line c.in-Ok.ensures.value in
     record {
-      status = c.in-Err.status;
-      page = page_state g.P.Sink c.obey.new.print;
-      obeyed = c.in-Err.ensures.value;
-      told =
-          c.tell.ensures;
-    } in
-    let meant = usage_meant (meaning words)
-    (outside (depot_state g.D.Depot c.args.depot.now) (page_state g.P.Sink c.args.print.now) c.args.steps.now)
-    (outside (depot_state g.D.Depot c.obey.new.depot) (page_state g.P.Sink c.tell.new.print) c.obey.new.steps)
-    c.tell.result answers is in
-    only_words (order_of words) meant.0 meant.1
+      value = answers;
+      ports = c.in-Ok.ensures.value.obeyed.ports;
+      cause = causes (meaning words) a b Done answers;
+      words = λ status refused. absurd (let none = c.in-Ok.ensures.words status refused in cc);
+      usage = usage_said words a b Done answers;
+      complete = λ files told. completes (meaning words) files a b Done answers told;
+    }
+
+pub returns-in-Err-PrintFault : goal.returns-in-Err-PrintFault
+returns-in-Err-PrintFault g c =
+    let words = map string_bytes c.args.words.now in
+    let a = outside (depot_state g.D.Depot c.args.depot.now) (page_state g.P.Sink c.args.print.now) c.args.steps.now in
+    let b =
+    outside (depot_state g.D.Depot c.obey.new.depot) (page_state g.P.Sink c.obey.new.print) c.obey.new.steps in
+    let cut : c.in-Err-PrintFault.field-0 ≡ PrintFault = search rules in
+    let obeyed = subst (λ (status : Status). Implements (meaning words) a b status) cut
+    c.in-Err-PrintFault.ensures.value in
+    let answers = lineless_answers (meaning words) a b PrintFault cut_line obeyed in
+    record {
+      value = answers;
+      ports = obeyed.obeyed.ports;
+      cause = causes (meaning words) a b PrintFault answers;
+      words = λ status refused. inr (inl refl);
+      usage = usage_said words a b PrintFault answers;
+      complete = λ files told. completes (meaning words) files a b PrintFault answers told;
+    }
+
+pub returns-in-Err : goal.returns-in-Err
+returns-in-Err g c =
+    let words = map string_bytes c.args.words.now in
+    let a = outside (depot_state g.D.Depot c.args.depot.now) (page_state g.P.Sink c.args.print.now) c.args.steps.now in
+    let b =
+    outside (depot_state g.D.Depot c.obey.new.depot) (page_state g.P.Sink c.tell.new.print) c.obey.new.steps in
+    let left = page_state g.P.Sink c.obey.new.print in
+    let answers : RunResult (meaning words) a b c.tell.result =
+    record { status = c.in-Err.status; page = left; obeyed = c.in-Err.ensures.value; told = c.tell.ensures } in
+    record {
+      value = answers;
+      ports = c.in-Err.ensures.value.obeyed.ports;
+      cause = causes (meaning words) a b c.tell.result answers;
+      words = λ status refused.
+          let same : c.in-Err.status ≡ status = let is = c.in-Err.ensures.words status refused in cc in
+          subst (λ (said : Status). IsToldAs said c.tell.result) same
+          (told_as left b.page c.in-Err.status c.tell.result c.tell.ensures);
+      usage = usage_said words a b c.tell.result answers;
+      complete = λ files told. completes (meaning words) files a b c.tell.result answers told;
+    }
