@@ -1,7 +1,7 @@
 ghost use Rattle.std.specs.Prelude.{◌≡◌, ◌<◌, ℕ, None, Err, map, string_bytes};
 ghost use Rattle.std.specs.Process.{exit_status};
 ghost use Rattle.sd_command_status.specs.Exits.{code_of};
-ghost use Rattle.sd_command_status.specs.Outside.{outside, page_state, depot_state, Outside};
+ghost use Rattle.sd_command_status.specs.Outside.{outside, depot_state, Outside, PageState};
 ghost use Rattle.sd_command_status.specs.Results.{RunResult, IsToldAs};
 ghost use Rattle.sd_command_line.specs.Words.{order_of};
 ghost use Rattle.sd_run.specs.Meaning.{meaning};
@@ -13,7 +13,7 @@ use sd_base::Steps;
 use sd_command_line::explanation;
 use sd_command_status::{Status, tell};
 use sd_host::{HostDepot, StdPrint};
-use sd_ports::{Depot, Sink, write_all};
+use sd_ports::{Depot, write_all};
 use std::alloc::Global;
 use std::env;
 use std::fs::Files;
@@ -69,34 +69,35 @@ fn answer<R: Files + Print + AllocGlobal, O: Write + Drop, E: Write + Copy + Dro
     let alloc = rt.alloc();
     let mut depot = HostDepot::new(alloc, rt, makes_secrets(words));
     let to_error = names_output(&depot, words);
-    let mut print = StdPrint::new(Lines {
+    let lines = Lines {
         output,
         error,
         to_error,
-    });
-    let status = counted::<Brand, _, _>(alloc, words, &mut depot, &mut print, Blank::new(1));
+    };
+    let status = counted::<Brand, _, _>(alloc, words, &mut depot, lines, Blank::new(1));
     explain(alloc, words, status, error);
     status
 }
 
-/// Runs the words with a counter over a new ledger.
-fn counted<L: Ledger, D: Depot, P: Sink>(
+/// Runs the words with a counter over a new ledger, and writes what is printed.
+fn counted<L: Ledger, D: Depot, W: Write + Drop>(
     alloc: Global,
     words: &[String],
     depot: &mut D,
-    print: &mut P,
+    lines: W,
     blank: Blank,
 ) -> Status
     requires name { blank.name ≡ L.name }
     requires parts { blank.parts ≡ L.parts }
     requires some { 0 < blank.parts }
-    ensures value { (steps : ℕ) × RunResult (meaning (map string_bytes words.now))
-        (outside (depot_state D.Depot depot.old) (page_state P.Sink print.old) 0)
-        (outside (depot_state D.Depot depot.new) (page_state P.Sink print.new) steps) result }
+    ensures value { (before after : PageState) × ((steps : ℕ) × RunResult (meaning (map string_bytes words.now))
+        (outside (depot_state D.Depot depot.old) before 0)
+        (outside (depot_state D.Depot depot.new) after steps) result) }
     ensures words { (status : Status) → order_of (map string_bytes words.now) ≡ Err status → IsToldAs status result }
 {
+    let mut print = StdPrint::new(lines);
     let mut steps = Steps::<L>::new(blank);
-    run(alloc, words, depot, print, &mut steps)
+    run(alloc, words, depot, &mut print, &mut steps)
 }
 
 /// Says to a user what is wrong with an argument. The status and its line are the answer, so it doesn't matter if this
