@@ -2,3 +2,4 @@ pub mod Examples
 pub mod Works
 pub mod Rows
 pub mod Ordered
+pub mod Commands
