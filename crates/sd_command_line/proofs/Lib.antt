@@ -4,3 +4,4 @@ pub mod Words
 pub mod Items
 pub mod Others
 pub mod Printing
+pub mod Finding

@@ -81,7 +81,8 @@ other_kind kind.Output text later other = absurd (other refl)
 other_kind (kind.Number most) text later other = refl
 other_kind (kind.Count most) text later other = refl
 
-one_left : {A : Type 0} (xs : List A) (i : ℕ) (d : A) → i < length xs → drop i xs ≡ get_or xs i d ∷ drop (i + 1) xs
+-- what is left begins with the item at the place
+pub one_left : {A : Type 0} (xs : List A) (i : ℕ) (d : A) → i < length xs → drop i xs ≡ get_or xs i d ∷ drop (i + 1) xs
 one_left {A} xs i d h =
     let next : suc i ≡ i + 1 = omega arith in
     drop-cons xs i d h ∙ ap (λ (k : ℕ). get_or xs i d ∷ drop k xs) next

@@ -1,6 +1,6 @@
 ghost use Rattle.std.specs.Prelude.{◌≡◌, ◌↔◌, ◌⊎◌, ◌≤◌, length, true};
 ghost use Rattle.sd_command_line.specs.Commands.{example_of, exits_of, command_name, operands_of, command_named};
-ghost use Rattle.sd_command_line.specs.Commands.{files_of, work_of};
+ghost use Rattle.sd_command_line.specs.Commands.{files_of, first_named, work_of};
 
 use crate::exit::{self, Exit};
 use crate::operand::{Files, Operand};
@@ -70,31 +70,11 @@ pub const COMMANDS: [Command; 18] = [
 
 impl Command {
     /// The command of this name, or none if no command has it.
-    #[tactic(auto, unfolding(crate::specs::Commands::command_named, crate::specs::Commands::command_name))]
+    #[tactic(auto, unfolding(crate::specs::Commands::command_named))]
     pub fn of(word: &str) -> Option<Command>
         ensures { result ≡ command_named word.now }
     {
-        match word {
-            "accounts" => Some(Command::Accounts),
-            "apart" => Some(Command::Apart),
-            "book" => Some(Command::Book),
-            "card" => Some(Command::Card),
-            "cover" => Some(Command::Cover),
-            "field" => Some(Command::Field),
-            "head" => Some(Command::Head),
-            "layered" => Some(Command::Layered),
-            "lcard" => Some(Command::Lcard),
-            "messages" => Some(Command::Messages),
-            "opens" => Some(Command::Opens),
-            "plan" => Some(Command::Plan),
-            "receive" => Some(Command::Receive),
-            "sample" => Some(Command::Sample),
-            "show" => Some(Command::Show),
-            "tables" => Some(Command::Tables),
-            "trace" => Some(Command::Trace),
-            "trial" => Some(Command::Trial),
-            _ => None,
-        }
+        named(word, &COMMANDS)
     }
 
     /// The command's name.
@@ -268,4 +248,16 @@ impl Command {
             Command::Trial => "trial examples/site.txt examples/book.txt clear.ts",
         }
     }
+}
+
+/// The first of these commands that has this name.
+fn named(word: &str, commands: &[Command]) -> Option<Command>
+    ensures { result ≡ first_named word.now commands.now }
+{
+    for command in commands {
+        if word == command.name() {
+            return Some(*command);
+        }
+    }
+    None
 }
