@@ -1,5 +1,5 @@
-ghost use Rattle.std.specs.Prelude.{◌≡◌, ◌↔◌, ◌<◌, ◌≤◌, ◌^◌, ◌*◌, true, false, [], All, length, reverse, slice_get};
-ghost use Rattle.std.specs.Prelude.{Some, None, Ok, Err};
+ghost use Rattle.std.specs.Prelude.{◌≡◌, ◌↔◌, ◌<◌, ◌≤◌, ◌^◌, true, false, [], All, length, slice_get, Some, None, Ok};
+ghost use Rattle.std.specs.Prelude.{Err};
 ghost use Rattle.std.specs.Prelude.{IfOk, IfErr, IfSome, IsErr, IsSome, OnOk};
 ghost use Rattle.std.specs.List.{concat};
 ghost use Rattle.sd_site.specs.Fields.{fields_of};
@@ -9,7 +9,6 @@ ghost use Rattle.sd_spec_broadcast.specs.Refused.{IsClear};
 ghost use Rattle.sd_spec_broadcast.specs.Sent.{body};
 ghost use Rattle.sd_spec_receiver.specs.Offered.{break_from};
 ghost use Rattle.sd_spec_field.specs.declared.event.Event.TheVariants.{Lose, Off, Offer, On, Revoke, Send, Subscribe};
-ghost use Rattle.sd_spec_field.specs.Book.{event_book, plan_after};
 ghost use Rattle.sd_spec_field.specs.Events.{is_of};
 ghost use Rattle.sd_spec_field.specs.Watch.{present, watched};
 ghost use Rattle.sd_field.specs.declared.fault.FieldFault.{FieldFault as Faults};
@@ -17,8 +16,7 @@ ghost use Rattle.sd_field.specs.Fields.{IsCommand, IsSendRefused, IsSentCut, IsW
 ghost use Rattle.sd_field.specs.Fields.{after_fault, after_next, card_at, next_event, next_refusal, plan_in, sends_of};
 ghost use Rattle.sd_field.specs.Fields.{taken, watch_of, written_of};
 ghost use Rattle.sd_field.specs.Receivers.{IsReceiverFor};
-ghost use Rattle.sd_field.specs.Seats.{AreNew};
-ghost use Rattle.sd_field.specs.Stations.{IsHeadAfter, IsStation};
+ghost use Rattle.sd_field.specs.Stations.{IsHeadAfter};
 
 use crate::fault::FieldFault;
 use crate::laid::event_book;
@@ -77,34 +75,6 @@ impl Model for Field {
     }) f.book f.station f.seats.items };
 }
 
-/// The book of the events of a clear stream of `clear` packets, the head end before its first send, and the seats of
-/// all leaves, whose receivers are new.
-fn first_parts<L: Ledger>(
-    alloc: Global,
-    site: &Site,
-    clear: usize,
-    events: &[Event],
-    steps: &mut Steps<L>,
-) -> Result<(Book, Station, Vec<Seat>), NoMemory>
-    requires height { site.now.height ≤ 6 }
-    requires packets { clear ≤ 16384 }
-    requires events { length events.now ≤ 524288 }
-    requires leaves { All (λ event. is_of site.now.height event ≡ true) events.now }
-    ensures height { IfOk result (λ parts. parts.0.height ≡ site.now.height) }
-    ensures commands { IfOk result (λ parts. parts.0.commands
-        ≡ event_book (fields_of site.now) clear (reverse events.now)) }
-    ensures station { IfOk result (λ parts. IsStation (plan_after (fields_of site.now) clear (reverse events.now)) []
-        (188 * 72 * clear) parts.1) }
-    ensures many { IfOk result (λ parts. length parts.2.items ≡ 2 ^ site.now.height) }
-    ensures new { IfOk result (λ parts. AreNew site.now (188 * clear) parts.2.items) }
-{
-    let book = event_book(alloc, site, clear, events)?;
-    let plan = event_book(alloc, site, clear, events)?;
-    let station = Station::new(alloc, *site, plan, SIZE * MOST_WITH_ONE * clear)?;
-    let seats = new_seats(alloc, site, SIZE * clear, steps)?;
-    Ok((book, station, seats))
-}
-
 impl Field {
     /// A field before its first event: all receivers are on, and nothing is sent.
     ///
@@ -129,7 +99,11 @@ impl Field {
           failed = None;
         }) }
     {
-        let (book, station, seats) = first_parts(alloc, &site, clear.len(), &events, steps)?;
+        let count = clear.len();
+        let book = event_book(alloc, &site, count, &events)?;
+        let plan = event_book(alloc, &site, count, &events)?;
+        let station = Station::new(alloc, site, plan, SIZE * MOST_WITH_ONE * count)?;
+        let seats = new_seats(alloc, &site, SIZE * count, steps)?;
         Ok(Field {
             alloc,
             site,

@@ -1,9 +1,11 @@
 use Rattle.std.proofs.Common.{arith, ◌≡◌, ◌∙◌, ◌*◌, [], ℕ, List, None, ap, length, refl, subst}
 use Rattle.std.specs.Prelude.{reverse}
 use Rattle.sd_site.specs.Fields.{SiteFields, fields_of}
+use Rattle.sd_book.specs.declared.command.Command.{Command}
+use Rattle.sd_spec_broadcast.specs.Plan.{Plan}
 use Rattle.sd_spec_field.specs.declared.event.Event.{Event}
-use Rattle.sd_spec_field.specs.Book.{event_book, plan_after}
-use Rattle.sd_field.specs.Fields.{FieldValue}
+use Rattle.sd_spec_field.specs.Book.{event_book}
+use Rattle.sd_field.specs.Fields.{FieldValue, plan_in}
 use Rattle.sd_field.specs.Seats.{AreNew}
 use Rattle.sd_field.specs.Stations.{IsStation}
 use Rattle.sd_field.proofs.Fields.{first_field}
@@ -19,17 +21,22 @@ invariant_of-result g c =
       done = 0;
       failed = None;
     } in
-    let many : c.len.result ≡ length v.clear = omega (arith, c.len.ensures, c.args.clear.ok.0) in
-    let parts = c.in_ok-book.ensures in
-    let same : c.deref.result.now ≡ v.events = c.deref.ensures.value in
-    let book =
-    parts.commands
-    ∙ (ap (λ (xs : List Event). event_book site c.len.result (reverse xs)) same
-    ∙ ap (λ (n : ℕ). event_book site n (reverse v.events)) many) in
+    let many : c.len-count.result ≡ length v.clear =
+    omega (arith, c.len-count.ensures, c.args.clear.ok.0) in
+    let of_all : (xs : List Event) → xs ≡ v.events →
+    event_book site c.len-count.result (reverse xs) ≡ (plan_in v).commands =
+    λ xs is.
+    ap (λ (events : List Event). event_book site c.len-count.result (reverse events)) is
+    ∙ ap (λ (n : ℕ). event_book site n (reverse v.events)) many in
+    let book = c.in_ok-book.ensures.value ∙ of_all c.deref.result.now c.deref.ensures.value in
+    let plan : c.in_ok-plan.plan.commands ≡ (plan_in v).commands =
+    c.in_ok-plan.ensures.value ∙ of_all c.deref-2.result.now c.deref-2.ensures.value in
+    let same = ap (λ (commands : List Command). record { site = site; commands = commands }) plan in
     let stands =
-    subst (λ (n : ℕ). IsStation (plan_after site n (reverse v.events)) [] (188 * 72 * n) c.in_ok-book.station) many
-    (subst (λ (xs : List Event). IsStation (plan_after site c.len.result (reverse xs)) [] (188 * 72 * c.len.result)
-    c.in_ok-book.station) same parts.station) in
-    let first = subst (λ (n : ℕ). AreNew c.args.site (188 * n) c.in_ok-book.seats.items) many parts.new in
-    first_field v c.in_ok-book.book c.in_ok-book.station c.in_ok-book.seats.items refl c.requires.packets
-    c.requires.events c.requires.leaves parts.height book stands parts.many first
+    subst (λ (n : ℕ). IsStation (plan_in v) [] (188 * 72 * n) c.in_ok-station.station) many
+    (subst (λ (p : Plan). IsStation p [] (188 * 72 * c.len-count.result) c.in_ok-station.station) same
+    c.in_ok-station.ensures) in
+    let first = subst (λ (n : ℕ). AreNew c.args.site (188 * n) c.in_ok-seats.seats.items) many
+    c.in_ok-seats.ensures.new in
+    first_field v c.in_ok-book.book c.in_ok-station.station c.in_ok-seats.seats.items refl c.requires.packets
+    c.requires.events c.requires.leaves c.in_ok-book.ensures.height book stands c.in_ok-seats.ensures.many first
