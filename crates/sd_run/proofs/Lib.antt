@@ -2,4 +2,3 @@ pub mod Examples
 pub mod Works
 pub mod Rows
 pub mod Ordered
-pub mod Commands

@@ -2,11 +2,11 @@ use Rattle.std.proofs.Common.{ap}
 use Rattle.sd_command_files.specs.Shown.{NumberArgument}
 use Rattle.sd_command_status.specs.Outside.{page_state}
 use Rattle.sd_command_line.specs.Orders.{arguments_said}
-use Rattle.sd_run.proofs.Commands.{accounts_works, apart_works, book_works, card_works, cover_works}
-use Rattle.sd_run.proofs.Commands.{field_works, head_works, layered_works, lcard_works, messages_works}
-use Rattle.sd_run.proofs.Commands.{opens_works, plan_works, receive_works, sample_works, show_works}
-use Rattle.sd_run.proofs.Commands.{tables_works, trace_works, trial_works}
 use Rattle.sd_run.proofs.Ordered.{packets_fit, plan_fits}
+use Rattle.sd_run.proofs.Rows.{accounts_works, apart_works, book_works, card_works, cover_works}
+use Rattle.sd_run.proofs.Rows.{field_works, head_works, layered_works, lcard_works, messages_works}
+use Rattle.sd_run.proofs.Rows.{opens_works, plan_works, receive_works, sample_works, show_works}
+use Rattle.sd_run.proofs.Rows.{tables_works, trace_works, trial_works}
 use Rattle.sd_run.proofs.top.work.Goals as goal
 
 pub sample-requires : goal.sample-requires
