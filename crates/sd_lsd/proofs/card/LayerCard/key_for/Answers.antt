@@ -1,9 +1,8 @@
-use Rattle.std.proofs.Common.{◌≡◌, ◌<◌, ◌∙◌, ℕ, List, length, get_or, refl, sym, arith}
-use Rattle.std.specs.Prelude.{slice_get, Some, true}
-use Rattle.std.proofs.lemmas.Option.{slice_get_read}
+use Rattle.std.proofs.Common.{◌≡◌, ◌∙◌, sym, arith}
+use Rattle.std.specs.Prelude.{true}
 use Rattle.sd_tree.specs.Leaves.{is_member}
 use Rattle.sd_tree.specs.SetNames.{IsPair}
-use Rattle.sd_card.proofs.SecretKeys.{derived_is_held, first_is_held}
+use Rattle.sd_card.proofs.SecretKeys.{derived_is_held, first_is_held, first_read}
 use Rattle.sd_lsd.specs.LayerNames.{layer_given}
 use Rattle.sd_lsd.specs.Fields.{fields_of}
 use Rattle.sd_lsd.proofs.Keys.{given_of_leaf, own_gives_key}
@@ -26,11 +25,6 @@ returns-in-Diff-clause-value g c =
     rw c.in-Diff.is (derived_is_held card.height card.leaf c.in-Diff.i c.in-Diff.j
     (layer_given card.height card.width card.leaf) card.secrets.items c.pair_key.result _
     (given_of_leaf card.height card.width card.leaf card.height_in.1 card.leaf_in) pair c.pair_key.ensures.sound)
-
--- the first of some secrets is there
-first_read : (secrets : List (List ℕ)) (key : List ℕ) → 0 < length secrets → key ≡ get_or secrets 0 key
-    → slice_get secrets 0 ≡ Some key
-first_read secrets key some is = slice_get_read secrets _ 0 key refl some is
 
 -- the key of the whole set
 pub returns-in-Whole-clause-value : goal.returns-in-Whole-clause-value
