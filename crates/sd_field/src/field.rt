@@ -39,7 +39,6 @@ const MOST_WITH_ONE: usize = 72;
 
 /// A field: a head end and a receiver for each leaf, and the events that happen to them [this project, docs/FORMATS.md,
 /// Field].
-#[derive(Drop)]
 pub struct Field {
     alloc: Global,
     site: Site,
@@ -50,6 +49,23 @@ pub struct Field {
     failed: Option<FieldFault>,
     station: Station,
     seats: Vec<Seat>,
+}
+
+// Written out, so that an owner drops a field by one call and not vector by vector.
+impl Drop for Field {
+    fn drop(self) {
+        let Field {
+            alloc: _,
+            site: _,
+            clear: _,
+            events: _,
+            book: _,
+            done: _,
+            failed: _,
+            station: _,
+            seats: _,
+        } = self;
+    }
 }
 
 impl Model for Field {

@@ -4,7 +4,6 @@ use sd_psi::Tuning;
 use sd_spec_receiver::{Ending, StreamFault};
 
 /// A receiver: its card, and what it keeps of the packets that were offered [this project, docs/FORMATS.md, Receiver].
-#[derive(Drop)]
 pub struct Receiver {
     pub(crate) card: Card,
     // The number of packets that were offered, at most 2^64 - 1.
@@ -19,4 +18,19 @@ pub struct Receiver {
     pub(crate) listener: Listener,
     // Why a packet was refused, if one was.
     pub(crate) refusal: Option<StreamFault>,
+}
+
+// Written out, so that an owner drops a receiver by one call and not vector by vector.
+impl Drop for Receiver {
+    fn drop(self) {
+        let Receiver {
+            card: _,
+            count: _,
+            tuning: _,
+            name: _,
+            so_far: _,
+            listener: _,
+            refusal: _,
+        } = self;
+    }
 }

@@ -1,7 +1,7 @@
-use crate::files::{TEXT, gives};
+use crate::files::{TEXT, gives, machine_gives, machine_write, read, write};
 use crate::machine::{Machine, Trouble};
 use sd_host::{HostDepot, StdPrint};
-use sd_ports::{Depot, FileFault, PortFault, read_file, write_all, write_file};
+use sd_ports::{Depot, FileFault, PortFault, write_all};
 use std::fs::{Files, Permissions};
 use std::os::unix::fs::{MetadataExt, PermissionsExt, symlink};
 use std::{fs, io};
@@ -51,13 +51,13 @@ fn the_host_opens_files(rt: HostRuntime) -> io::Result<()> {
     }
     for (name, want) in &UNWRITTEN {
         assert!(rt;
-            write_file(alloc, &mut depot, name, TEXT) == Err(*want),
+            write(alloc, &mut depot, name, TEXT) == Err(*want),
             "{name}"
         );
     }
     let long = str::from_utf8(&LONG_NAME).unwrap_or("");
     assert!(rt; gives(alloc, &mut depot, long, 200000, Err(FileFault::Failed)));
-    assert!(rt; write_file(alloc, &mut depot, long, TEXT) == Err(FileFault::Failed));
+    assert!(rt; write(alloc, &mut depot, long, TEXT) == Err(FileFault::Failed));
     fs::remove_file(&rt, FILE)?;
     fs::remove_file(&rt, LOOPED)
 }
@@ -77,13 +77,13 @@ fn the_host_writes_files(rt: HostRuntime) {
     let mut depot = HostDepot::new(rt.alloc(), &rt, false);
     for (name, size, want) in &WRITTEN {
         let bytes = LONG.get(..*size).unwrap_or(&[]);
-        assert!(rt; write_file(alloc, &mut depot, name, bytes) == *want);
+        assert!(rt; write(alloc, &mut depot, name, bytes) == *want);
     }
     // A device may be read and written.
     assert!(rt; gives(alloc, &mut depot, "/dev/null", 7, Ok("")));
-    assert!(rt; write_file(alloc, &mut depot, "/dev/null", TEXT) == Ok(()));
-    let read = read_file(alloc, &mut depot, "sd_host_written", 70000);
-    assert!(rt; read.is_ok_and(|read| read.as_slice() == LONG.as_slice()));
+    assert!(rt; write(alloc, &mut depot, "/dev/null", TEXT) == Ok(()));
+    let there = read(alloc, &mut depot, "sd_host_written", 70000);
+    assert!(rt; there.is_ok_and(|read| read.as_slice() == LONG.as_slice()));
     assert!(rt; fs::remove_file(&rt, "sd_host_written").is_ok());
 }
 
@@ -107,8 +107,8 @@ fn long_pieces_follow_what_waits(rt: HostRuntime) -> io::Result<()> {
             }
             assert!(rt; depot.close_out(name, port) == Ok(()));
         }
-        let read = read_file(alloc, &mut HostDepot::new(alloc, &rt, false), name, 200000);
-        assert!(rt; read.is_ok_and(|read| are_in_turn(&read, &pieces)));
+        let there = read(alloc, &mut HostDepot::new(alloc, &rt, false), name, 200000);
+        assert!(rt; there.is_ok_and(|read| are_in_turn(&read, &pieces)));
     }
     fs::remove_file(&rt, name)
 }
@@ -151,21 +151,21 @@ static MADE: [&str; 5] = [INPUT, HARD, SYMBOLIC, OTHER, SPACED];
 fn an_input_is_never_made_anew(rt: HostRuntime) -> io::Result<()> {
     let alloc = rt.alloc();
     let mut depot = HostDepot::new(alloc, &rt, false);
-    assert!(rt; write_file(alloc, &mut depot, INPUT, TEXT) == Ok(()));
+    assert!(rt; write(alloc, &mut depot, INPUT, TEXT) == Ok(()));
     fs::write(&rt, OTHER, b"longer than the first")?;
     fs::hard_link(&rt, INPUT, HARD)?;
     symlink(&rt, INPUT, SYMBOLIC)?;
     // Until the file is opened for reading, it is made anew.
-    assert!(rt; write_file(alloc, &mut depot, HARD, b"abc") == Ok(()));
+    assert!(rt; write(alloc, &mut depot, HARD, b"abc") == Ok(()));
     assert!(rt; gives(alloc, &mut depot, INPUT, 7, Ok("abc")));
     assert!(rt; gives(alloc, &mut depot, OTHER, 70, Ok("longer than the first")));
     for alias in &INPUTS {
-        let made = write_file(alloc, &mut depot, alias, TEXT);
+        let made = write(alloc, &mut depot, alias, TEXT);
         let is_kept = gives(alloc, &mut depot, INPUT, 7, Ok("abc"));
         assert!(rt; made == Err(FileFault::Failed) && is_kept, "{alias}");
     }
     // Another file isn't, though its name differs by a space.
-    assert!(rt; write_file(alloc, &mut depot, SPACED, TEXT) == Ok(()));
+    assert!(rt; write(alloc, &mut depot, SPACED, TEXT) == Ok(()));
     for file in &MADE {
         fs::remove_file(&rt, file)?;
     }
@@ -180,11 +180,11 @@ fn private_files_are_their_owners_alone(rt: HostRuntime) -> io::Result<()> {
     fs::remove_file(&rt, name)?;
     for (private, want) in [(true, 0o100600), (false, shared)] {
         let mut depot = HostDepot::new(rt.alloc(), &rt, private);
-        let written = write_file(rt.alloc(), &mut depot, name, TEXT);
+        let written = write(rt.alloc(), &mut depot, name, TEXT);
         assert!(rt; (written, fs::metadata(&rt, name)?.mode()) == (Ok(()), want));
         // A file that was there keeps its mode.
         fs::set_permissions(&rt, name, Permissions::from_mode(0o640))?;
-        let again = write_file(rt.alloc(), &mut depot, name, TEXT);
+        let again = write(rt.alloc(), &mut depot, name, TEXT);
         assert!(rt; (again, fs::metadata(&rt, name)?.mode()) == (Ok(()), 0o100640));
         fs::remove_file(&rt, name)?;
     }
@@ -206,9 +206,9 @@ fn the_output_is_written_through(rt: HostRuntime) -> io::Result<()> {
     for name in &OUTPUTS {
         fs::write(&rt, OUTPUT, b"kept ")?;
         let mut depot = HostDepot::new(alloc, &machine, false);
-        assert!(rt; depot.is_output(name) && write_file(alloc, &mut depot, name, TEXT) == Ok(()));
+        assert!(rt; depot.is_output(name) && machine_write(alloc, &mut depot, name, TEXT) == Ok(()));
         // It may not be read.
-        assert!(rt; gives(alloc, &mut depot, OUTPUT, 70, Err(FileFault::Failed)));
+        assert!(rt; machine_gives(alloc, &mut depot, OUTPUT, 70, Err(FileFault::Failed)));
         let mut reader = HostDepot::new(alloc, &rt, false);
         assert!(rt;
             gives(alloc, &mut reader, OUTPUT, 70, Ok("kept abcdefg")),
@@ -249,9 +249,9 @@ fn troubles_are_told(rt: HostRuntime) -> io::Result<()> {
             trouble: *trouble,
         };
         let mut reader = HostDepot::new(alloc, &machine, false);
-        assert!(rt; gives(alloc, &mut reader, name, 7, *reads));
+        assert!(rt; machine_gives(alloc, &mut reader, name, 7, *reads));
         let mut depot = HostDepot::new(alloc, &machine, false);
-        assert!(rt; write_file(alloc, &mut depot, name, TEXT) == *writes);
+        assert!(rt; machine_write(alloc, &mut depot, name, TEXT) == *writes);
     }
     fs::remove_file(&rt, name)
 }
