@@ -131,23 +131,10 @@ fn counted<L: Ledger>(
     let mut index = CoverIndex::new(alloc, h);
     let mut revoked = Vec::new(alloc);
     let mut draws = Draws::new();
-    for _ in 0..shape.most {
-        let leaf = draws.next(1 << HEIGHT);
-        revoke(&mut index, &mut revoked, leaf, &mut steps)?;
-    }
+    fill(&mut index, &mut revoked, &mut draws, shape.most, &mut steps)?;
     let mut sum = 0;
     for _ in 0..count {
-        for _ in 0..shape.commands {
-            match drawn(&mut draws, revoked.len(), shape.most) {
-                Command::Revoke(leaf) => revoke(&mut index, &mut revoked, leaf, &mut steps)?,
-                Command::Subscribe(place) => subscribe(
-                    &mut index,
-                    &mut revoked,
-                    place as usize,
-                    &mut steps,
-                ),
-            }
-        }
+        change(&mut index, &mut revoked, &mut draws, shape, &mut steps)?;
         sum = if sets {
             let Ok(names) = index.sets(alloc, &mut steps) else {
                 return Err(AllocError);
@@ -158,6 +145,38 @@ fn counted<L: Ledger>(
         };
     }
     Ok(Some(sum))
+}
+
+// Revokes as many leaves, where they aren't revoked.
+fn fill<L: Ledger>(
+    index: &mut CoverIndex,
+    revoked: &mut Vec<u32>,
+    draws: &mut Draws,
+    most: usize,
+    steps: &mut Steps<L>,
+) -> Result<(), AllocError> {
+    for _ in 0..most {
+        let leaf = draws.next(1 << HEIGHT);
+        revoke(index, revoked, leaf, steps)?;
+    }
+    Ok(())
+}
+
+// Takes the commands of a period.
+fn change<L: Ledger>(
+    index: &mut CoverIndex,
+    revoked: &mut Vec<u32>,
+    draws: &mut Draws,
+    shape: Shape,
+    steps: &mut Steps<L>,
+) -> Result<(), AllocError> {
+    for _ in 0..shape.commands {
+        match drawn(draws, revoked.len(), shape.most) {
+            Command::Revoke(leaf) => revoke(index, revoked, leaf, steps)?,
+            Command::Subscribe(place) => subscribe(index, revoked, place as usize, steps),
+        }
+    }
+    Ok(())
 }
 
 // Revokes the leaf in the index, where it isn't revoked.
@@ -206,18 +225,10 @@ fn by_list(alloc: Global, shape: Shape, sets: bool, count: u32) -> Result<Option
     let mut sorted = Vec::new(alloc);
     let mut revoked = Vec::new(alloc);
     let mut draws = Draws::new();
-    for _ in 0..shape.most {
-        let leaf = draws.next(1 << HEIGHT);
-        insert(h, &mut sorted, &mut revoked, leaf)?;
-    }
+    fill_list(h, &mut sorted, &mut revoked, &mut draws, shape.most)?;
     let mut sum = 0;
     for _ in 0..count {
-        for _ in 0..shape.commands {
-            match drawn(&mut draws, revoked.len(), shape.most) {
-                Command::Revoke(leaf) => insert(h, &mut sorted, &mut revoked, leaf)?,
-                Command::Subscribe(place) => remove(&mut sorted, &mut revoked, place as usize),
-            }
-        }
+        change_list(h, &mut sorted, &mut revoked, &mut draws, shape)?;
         let are_leaves = are_of_height(h, &sorted) && are_ascending(&sorted);
         sum = if sets && are_leaves {
             let Ok(names) = cover(alloc, h, &sorted) else {
@@ -229,6 +240,38 @@ fn by_list(alloc: Global, shape: Shape, sets: bool, count: u32) -> Result<Option
         };
     }
     Ok(Some(sum))
+}
+
+// Puts as many leaves into the sorted list, where they aren't there.
+fn fill_list(
+    h: Height,
+    sorted: &mut Vec<Leaf>,
+    revoked: &mut Vec<u32>,
+    draws: &mut Draws,
+    most: usize,
+) -> Result<(), AllocError> {
+    for _ in 0..most {
+        let leaf = draws.next(1 << HEIGHT);
+        insert(h, sorted, revoked, leaf)?;
+    }
+    Ok(())
+}
+
+// Takes the commands of a period.
+fn change_list(
+    h: Height,
+    sorted: &mut Vec<Leaf>,
+    revoked: &mut Vec<u32>,
+    draws: &mut Draws,
+    shape: Shape,
+) -> Result<(), AllocError> {
+    for _ in 0..shape.commands {
+        match drawn(draws, revoked.len(), shape.most) {
+            Command::Revoke(leaf) => insert(h, sorted, revoked, leaf)?,
+            Command::Subscribe(place) => remove(sorted, revoked, place as usize),
+        }
+    }
+    Ok(())
 }
 
 // Puts the leaf into the sorted list, where it isn't there.

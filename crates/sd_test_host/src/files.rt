@@ -10,7 +10,7 @@ pub(crate) const TEXT: &[u8] = b"abcdefg";
 pub(crate) type HostFiles<'a> = HostDepot<'a, HostRuntime>;
 
 /// The files of a machine with trouble.
-pub(crate) type MachineFiles<'a> = HostDepot<'a, Machine<'a, HostRuntime>>;
+pub(crate) type MachineFiles<'a, 'b> = HostDepot<'a, Machine<'b, HostRuntime>>;
 
 // A call at a type of depot is proved at length, so that each stands in one function.
 
@@ -27,7 +27,7 @@ pub(crate) fn write(
 /// Writes a file of a machine with trouble.
 pub(crate) fn machine_write(
     alloc: Global,
-    depot: &mut MachineFiles<'_>,
+    depot: &mut MachineFiles<'_, '_>,
     name: &str,
     bytes: &[u8],
 ) -> Result<(), FileFault> {
@@ -58,7 +58,7 @@ pub(crate) fn gives(
 /// Whether a file of a machine with trouble is read so.
 pub(crate) fn machine_gives(
     alloc: Global,
-    depot: &mut MachineFiles<'_>,
+    depot: &mut MachineFiles<'_, '_>,
     name: &str,
     most: usize,
     want: Result<&str, FileFault>,

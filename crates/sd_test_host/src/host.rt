@@ -206,7 +206,9 @@ fn the_output_is_written_through(rt: HostRuntime) -> io::Result<()> {
     for name in &OUTPUTS {
         fs::write(&rt, OUTPUT, b"kept ")?;
         let mut depot = HostDepot::new(alloc, &machine, false);
-        assert!(rt; depot.is_output(name) && machine_write(alloc, &mut depot, name, TEXT) == Ok(()));
+        assert!(rt;
+            depot.is_output(name) && machine_write(alloc, &mut depot, name, TEXT) == Ok(())
+        );
         // It may not be read.
         assert!(rt; machine_gives(alloc, &mut depot, OUTPUT, 70, Err(FileFault::Failed)));
         let mut reader = HostDepot::new(alloc, &rt, false);

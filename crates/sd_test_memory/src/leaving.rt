@@ -4,6 +4,7 @@ use crate::files::{Files, ROOM};
 use sd_base::Steps;
 use sd_command_status::Status;
 use sd_ports::{Depot, MemSink, Sink};
+use sd_ports_memory::MemDepot;
 use sd_run::run;
 use std::alloc::{AllocError, Global};
 use std::marker::Brand;
@@ -60,31 +61,48 @@ pub fn left(
     requires { 1 ≤ most }
 {
     let mut depot = files.shelf(alloc, most)?;
-    let mut fails = Vec::new(alloc);
-    match fault {
-        Fault::Nowhere => {}
-        Fault::Call(number) => depot.fail_call(number),
-        Fault::Port(name, number) => depot.fail_port(String::from_str(alloc, name)?, number),
-        Fault::Print(number) => fails.push(number)?,
-    }
+    let fails = begin_failing(alloc, &mut depot, fault)?;
     let mut print = MemSink::new(alloc, ROOM.max(files.room), most, fails).map_err(|_| AllocError)?;
-    let mut list = Vec::new(alloc);
-    for word in words {
-        list.push(String::from_str(alloc, word)?)?;
-    }
+    let list = list_of(alloc, words)?;
     let status = uncounted(alloc, &list, &mut depot, &mut print);
-    let out = match depot.get("O") {
-        Some(bytes) => Some(Vec::from_slice(alloc, bytes)?),
-        None => None,
-    };
     Ok(Leaving {
         status,
         printed: print.into_bytes(),
-        out,
+        out: copy_of(alloc, depot.get("O"))?,
         failed: depot.faults() > 0,
         made: depot.made(),
         stayed: depot.misses() == 0 && files.stand_in(&depot),
     })
+}
+
+/// Lets the call of the depot or of its ports fail; the numbers of the prints that fail.
+fn begin_failing(
+    alloc: Global,
+    depot: &mut MemDepot,
+    fault: Fault<'_>,
+) -> Result<Vec<u32>, AllocError> {
+    match fault {
+        Fault::Nowhere => {}
+        Fault::Call(number) => depot.fail_call(number),
+        Fault::Port(name, number) => depot.fail_port(String::from_str(alloc, name)?, number),
+        Fault::Print(number) => return Vec::from_slice(alloc, &[number]),
+    }
+    Ok(Vec::new(alloc))
+}
+
+fn list_of(alloc: Global, words: &[&str]) -> Result<Vec<String>, AllocError> {
+    let mut list = Vec::new(alloc);
+    for word in words {
+        list.push(String::from_str(alloc, word)?)?;
+    }
+    Ok(list)
+}
+
+fn copy_of(alloc: Global, bytes: Option<&[u8]>) -> Result<Option<Vec<u8>>, AllocError> {
+    match bytes {
+        Some(bytes) => Ok(Some(Vec::from_slice(alloc, bytes)?)),
+        None => Ok(None),
+    }
 }
 
 /// Runs the words and counts no step.
