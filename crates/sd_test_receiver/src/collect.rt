@@ -4,7 +4,6 @@ ghost use Rattle.sd_ecm.specs.Form.{IsEcm};
 use crate::packets::packet;
 use sd_ecm::{EcmPart, Place, read_ecm};
 use sd_receive::{Collect, Taken};
-use std::test::Fail;
 
 // Both parts of a message that an independent implementation wrote, up to the stuffing.
 const FIRST: &str =
@@ -24,66 +23,68 @@ fn part_in(text: &str) -> Option<EcmPart>
     read_ecm(&packet(text)?).ok()?
 }
 
-// How many positions come with a part, where it completes a message, or 0.
-fn places_after(collect: &mut Collect, part: &EcmPart) -> usize
-    requires { IsEcm part.now }
-{
-    match collect.take(9, part) {
-        Ok(Taken::Complete(_)) => collect.coming().len(),
-        _ => 0,
+// How many positions come with the part that begins so, where it completes a message, or 0.
+fn places_after(collect: &mut Collect, text: &str) -> Option<usize> {
+    let part = part_in(text)?;
+    match collect.take(9, &part) {
+        Ok(Taken::Complete(_)) => Some(collect.coming().len()),
+        _ => Some(0),
     }
 }
 
-#[test]
-fn messages_are_collected(rt: HostRuntime) -> Result<(), Fail> {
-    let mut collect = Collect::new(rt.alloc()).expect(&rt, "memory");
-    let first = part_in(FIRST).ok_or("no part")?;
-    let second = part_in(SECOND).ok_or("no part")?;
+// Whether so many positions come with each of these parts, one after the other.
+fn come(collect: &mut Collect, turns: &[(&str, usize)]) -> bool {
+    for (text, count) in turns {
+        if places_after(collect, text) != Some(*count) {
+            return false;
+        }
+    }
+    true
+}
+
+// Whether the message is collected once.
+fn is_collected(collect: &mut Collect) -> bool {
     // Part 1 alone, and after part 0; part 0 anew, and after the message is complete.
-    let turns = [
-        places_after(&mut collect, &second),
-        places_after(&mut collect, &first),
-        places_after(&mut collect, &first),
-        places_after(&mut collect, &second),
-    ];
-    assert!(rt; turns == [0, 0, 0, 14] && collect.last().is_none());
+    if !come(
+        collect,
+        &[(SECOND, 0), (FIRST, 0), (FIRST, 0), (SECOND, 14)],
+    ) || collect.last().is_some()
+    {
+        return false;
+    }
     collect.settle();
     let last = Place {
         pid: 8041,
         position: 132564198584,
     };
     let number = collect.last().map(|head| head.number);
-    assert!(rt; (number, collect.places().last().copied()) == (Some(1014), Some(last)));
-    let after = [
-        places_after(&mut collect, &first),
-        places_after(&mut collect, &second),
-    ];
-    assert!(rt; after == [0, 0]);
-    Ok(())
+    (number, collect.places().last().copied()) == (Some(1014), Some(last))
+        && come(collect, &[(FIRST, 0), (SECOND, 0)])
 }
 
 #[test]
-fn collected_messages_are_forgotten(rt: HostRuntime) -> Result<(), Fail> {
+fn messages_are_collected(rt: HostRuntime) {
     let mut collect = Collect::new(rt.alloc()).expect(&rt, "memory");
-    let first = part_in(FIRST).ok_or("no part")?;
-    let second = part_in(SECOND).ok_or("no part")?;
-    let turns = [
-        places_after(&mut collect, &first),
-        places_after(&mut collect, &second),
-    ];
-    assert!(rt; turns == [0, 14]);
+    assert!(rt; is_collected(&mut collect));
+}
+
+// Whether the collected message is forgotten, and a part of it.
+fn is_forgotten(collect: &mut Collect) -> bool {
+    if !come(collect, &[(FIRST, 0), (SECOND, 14)]) {
+        return false;
+    }
     collect.settle();
     // Anew after the message, and between its parts.
     collect.begin();
-    assert!(rt; collect.last().is_none() && collect.places().is_empty());
-    let after = places_after(&mut collect, &first);
+    if collect.last().is_some() || !collect.places().is_empty() || !come(collect, &[(FIRST, 0)]) {
+        return false;
+    }
     collect.begin();
-    let turns = [
-        after,
-        places_after(&mut collect, &second),
-        places_after(&mut collect, &first),
-        places_after(&mut collect, &second),
-    ];
-    assert!(rt; turns == [0, 0, 0, 14]);
-    Ok(())
+    come(collect, &[(SECOND, 0), (FIRST, 0), (SECOND, 14)])
+}
+
+#[test]
+fn collected_messages_are_forgotten(rt: HostRuntime) {
+    let mut collect = Collect::new(rt.alloc()).expect(&rt, "memory");
+    assert!(rt; is_forgotten(&mut collect));
 }

@@ -3,7 +3,7 @@ ghost use Rattle.sd_emm.specs.Form.{IsEmm, AreSets};
 ghost use Rattle.sd_emm.specs.Spelled.{listed_entries};
 
 use crate::packets::{ALL, beginning};
-use hex::{FromHex, decode_to_slice};
+use hex::FromHex;
 use sd_base::Steps;
 use sd_card::Card;
 use sd_emm::{Emm, EmmFault, read_emm};
@@ -14,30 +14,24 @@ use sd_spec_receiver::StreamFault;
 use std::alloc::Global;
 use std::marker::Brand;
 use std::sync::ledger::{Blank, Ledger};
-use std::test::Fail;
 
 // The cards of leaves 0 and 5 at height 3, and packets of entitlements for their tree, as an independent implementation
 // wrote them.
-static CARDS: [(u32, &str); 2] = [
-    (
-        0,
-        "5344434401030000000012349a9aea255b8e54be50fc2cb5d0b83ebf64120b12e68d82699face4ee860511dc0938f5db1e2e\
-        38332732e7da82f1ad3e4ce6cfe09cd3dfda4ac268d6eabfa59ab342ded9ec0c6429af0728e4d7cc230aa9b240bd7b668550\
-        8645c9c756f37c6f0135799ab8c694ef3440af71e7b6efda56a9b412a3317dbcf9a6176da916bf13294ece16c2e41604c23e\
-        8fe92448dbb6167694cc2436ee322f6615c94c8e9028fb6a8a9230ac0c7e65288d89f5c32b2bab5fbaf35e3602c60446efa8\
-        4f2b9563f16ef9480a25e9576d5fc3023e24ba9f562a4a309d483a4724be88217fed2d1c81ab7160c1c8841c3e07b388132b\
-        d63b",
-    ),
-    (
-        5,
-        "5344434401030000000512349a9aea255b8e54be50fc2cb5d0b83ebf64120b12e68d82699face4ee860511dc0957476ca375\
-        72a1dcc65a3f00d57deed46e69c2e91426478f712417fb92a56bb3b4a9ec141e3e6c5f7f1d34c7932d34ee14f724fd68a98b\
-        2f9fdcb508de0f48aa94e29d22fc6666b24e1ad2794a4f1f1519d5126f9de69bdeaf722cfee0075900407c5f5709ab0b475c\
-        92082dca33bfd94d089bfb1948a03cae4d5b75ad14e548954a872ea73ecca7c88349a7d5558ea323dfebd65bf59142ace493\
-        71da03b064c53490a01b870e7120925ffd7ce8b20d840d83d052c5668db762ab8dbdeede813ac7b7ad90ee38b89d1475ba74\
-        7af7",
-    ),
-];
+const LEAF_0: &str =
+    "5344434401030000000012349a9aea255b8e54be50fc2cb5d0b83ebf64120b12e68d82699face4ee860511dc0938f5db1e2e\
+    38332732e7da82f1ad3e4ce6cfe09cd3dfda4ac268d6eabfa59ab342ded9ec0c6429af0728e4d7cc230aa9b240bd7b668550\
+    8645c9c756f37c6f0135799ab8c694ef3440af71e7b6efda56a9b412a3317dbcf9a6176da916bf13294ece16c2e41604c23e\
+    8fe92448dbb6167694cc2436ee322f6615c94c8e9028fb6a8a9230ac0c7e65288d89f5c32b2bab5fbaf35e3602c60446efa8\
+    4f2b9563f16ef9480a25e9576d5fc3023e24ba9f562a4a309d483a4724be88217fed2d1c81ab7160c1c8841c3e07b388132b\
+    d63b";
+
+const LEAF_5: &str =
+    "5344434401030000000512349a9aea255b8e54be50fc2cb5d0b83ebf64120b12e68d82699face4ee860511dc0957476ca375\
+    72a1dcc65a3f00d57deed46e69c2e91426478f712417fb92a56bb3b4a9ec141e3e6c5f7f1d34c7932d34ee14f724fd68a98b\
+    2f9fdcb508de0f48aa94e29d22fc6666b24e1ad2794a4f1f1519d5126f9de69bdeaf722cfee0075900407c5f5709ab0b475c\
+    92082dca33bfd94d089bfb1948a03cae4d5b75ad14e548954a872ea73ecca7c88349a7d5558ea323dfebd65bf59142ace493\
+    71da03b064c53490a01b870e7120925ffd7ce8b20d840d83d052c5668db762ab8dbdeede813ac7b7ad90ee38b89d1475ba74\
+    7af7";
 
 static EMMS: [&str; 4] = [
     // Period 0 for all leaves.
@@ -79,11 +73,43 @@ fn emm_in(card: &Card, packet: &Packet) -> Option<Emm>
     }
 }
 
+// The card of a leaf.
+fn card_of(alloc: Global, leaf: u32) -> Option<Card> {
+    let text = match leaf {
+        0 => LEAF_0,
+        5 => LEAF_5,
+        _ => return None,
+    };
+    let bytes = <[u8; 252]>::from_hex(text).ok()?;
+    Card::read(alloc, &bytes).ok()
+}
+
 // The key, the first revoked period and the first without a key after the rows of some runs, where each section is
 // followed by a message of its period.
 type Kept = (Option<[u8; 32]>, Option<u32>, Option<u32>);
 
 type Row = (usize, u8);
+
+fn heard<L: Ledger>(
+    card: &Card,
+    runs: &[&[Row]],
+    entitled: &mut Entitled,
+    steps: &mut Steps<L>,
+) -> Option<Result<Kept, StreamFault>> {
+    for rows in runs {
+        entitled.begin();
+        for (row, bits) in *rows {
+            let emm = emm_of(card, *row, *bits)?;
+            if let Err(fault) = entitled.section(card, 9, &emm, steps) {
+                return Some(Err(fault));
+            }
+            if entitled.period() <= emm.period {
+                entitled.message(emm.period);
+            }
+        }
+    }
+    Some(Ok((entitled.key(), entitled.revoked(), entitled.unkeyed())))
+}
 
 fn counted<L: Ledger>(
     alloc: Global,
@@ -95,33 +121,13 @@ fn counted<L: Ledger>(
     requires parts { blank.parts ≡ L.parts }
     requires some { 0 < blank.parts }
 {
-    let mut bytes = [0; 252];
-    let (_, text) = CARDS.iter().find(|(u, _)| *u == leaf)?;
-    decode_to_slice(text, &mut bytes).ok()?;
-    let card = Card::read(alloc, &bytes).ok()?;
-    let mut entitled = Entitled::new(alloc).ok()?;
     let mut steps = Steps::<L>::new(blank);
-    for rows in runs {
-        entitled.begin();
-        for (row, bits) in *rows {
-            let emm = emm_of(&card, *row, *bits)?;
-            if let Err(fault) = entitled.section(&card, 9, &emm, &mut steps) {
-                return Some(Err(fault));
-            }
-            if entitled.period() <= emm.period {
-                entitled.message(emm.period);
-            }
-        }
-    }
-    Some(Ok((entitled.key(), entitled.revoked(), entitled.unkeyed())))
+    let mut entitled = Entitled::new(alloc).ok()?;
+    heard(&card_of(alloc, leaf)?, runs, &mut entitled, &mut steps)
 }
 
-fn kept_of(alloc: Global, leaf: u32, runs: &[&[Row]]) -> Option<Result<Kept, StreamFault>> {
+fn kept(alloc: Global, leaf: u32, runs: &[&[Row]]) -> Option<Result<Kept, StreamFault>> {
     counted::<Brand>(alloc, leaf, runs, Blank::new(1))
-}
-
-fn kept(alloc: Global, leaf: u32, rows: &[Row]) -> Option<Result<Kept, StreamFault>> {
-    kept_of(alloc, leaf, &[rows])
 }
 
 // The keys of periods 0, 1 and 2.
@@ -145,7 +151,7 @@ fn is_kept(
 ) -> bool {
     let key = key_of(period);
     key.is_some() == period.is_some()
-        && kept_of(alloc, leaf, runs) == Some(Ok((key, revoked, revoked)))
+        && kept(alloc, leaf, runs) == Some(Ok((key, revoked, revoked)))
 }
 
 // The leaf, the rows, of which period there is a key after them, the first period that is revoked.
@@ -185,20 +191,28 @@ fn what_was_heard_of_another_run_is_forgotten(rt: HostRuntime) {
     }
 }
 
-#[test]
-fn sections_that_say_otherwise_are_refused(rt: HostRuntime) -> Result<(), Fail> {
-    let found = <[u8; 16] as FromHex>::from_hex("8e7c98755d4f1259303e2c26f84665c7");
-    let found = found.ok().ok_or("no check value")?;
+// Why leaf 5 refuses one of these rows, if it does.
+fn refusal(alloc: Global, rows: &[Row]) -> Option<StreamFault> {
+    kept(alloc, 5, &[rows])?.err()
+}
+
+// The fault of a section whose check value's first byte is changed by one bit.
+fn wrong_key() -> Option<StreamFault> {
+    let found = <[u8; 16] as FromHex>::from_hex("8e7c98755d4f1259303e2c26f84665c7").ok()?;
     let mut due = found;
     due[0] ^= 1;
-    let fault = StreamFault::WrongKey {
+    Some(StreamFault::WrongKey {
         packet: 9,
         period: 0,
         found,
         due,
-    };
-    assert!(rt; kept(rt.alloc(), 5, &[(0, 1)]) == Some(Err(fault)));
+    })
+}
+
+#[test]
+fn sections_that_say_otherwise_are_refused(rt: HostRuntime) {
+    let refused = refusal(rt.alloc(), &[(0, 1)]);
+    assert!(rt; refused.is_some() && refused == wrong_key());
     let mixed = StreamFault::BadEmm(9, EmmFault::Mixed);
-    assert!(rt; kept(rt.alloc(), 5, &[(1, 0), (2, 0)]) == Some(Err(mixed)));
-    Ok(())
+    assert!(rt; refusal(rt.alloc(), &[(1, 0), (2, 0)]) == Some(mixed));
 }

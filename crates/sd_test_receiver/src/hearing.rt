@@ -6,7 +6,6 @@ use sd_psi::{Tuning, cat_tuning};
 use sd_receive::{Channel, channel_of};
 use sd_section::seal;
 use sd_tree::Height;
-use std::test::Fail;
 
 // A CAT for system 0x1234, with entitlements on PID 0x1F0 and control messages on PID 0x1F1.
 static CAT: [u8; 20] = [
@@ -71,11 +70,8 @@ fn miscounted(emm: &Packet) -> Option<Packet> {
     Packet::new(section)
 }
 
-#[test]
-fn packets_are_heard_by_their_pids(rt: HostRuntime) -> Result<(), Fail> {
-    let h = Height::new(3).ok_or("no height")?;
-    let emm = packet(EMM).ok_or("no packet")?;
-    let ecm = packet(ECM).ok_or("no packet")?;
+// Whether packets are told apart by the PIDs of a tuning, and not by those of another.
+fn are_told_apart(emm: &Packet, ecm: &Packet) -> bool {
     let cat = pack_section(&CAT, 1, 0);
     let tuned = Tuning {
         emm: 0x1F0,
@@ -86,14 +82,24 @@ fn packets_are_heard_by_their_pids(rt: HostRuntime) -> Result<(), Fail> {
         ecm: 0x101,
     };
     let channels = [
-        channel_of(tuned, &emm),
-        channel_of(tuned, &ecm),
+        channel_of(tuned, emm),
+        channel_of(tuned, ecm),
         channel_of(tuned, &cat),
-        channel_of(other, &emm),
+        channel_of(other, emm),
     ];
-    assert!(rt; channels == [Channel::Emm, Channel::Ecm, Channel::Cat, Channel::Other]);
-    assert!(rt; are_read(h, &emm, &ecm));
-    let bad = miscounted(&emm).ok_or("no packet")?;
-    assert!(rt; read_emm(h, &bad) == Err(EmmFault::Count));
-    Ok(())
+    channels == [Channel::Emm, Channel::Ecm, Channel::Cat, Channel::Other]
+}
+
+// Whether the packets are heard by their PIDs, and refused if they are miscounted.
+fn are_heard() -> Option<bool> {
+    let h = Height::new(3)?;
+    let emm = packet(EMM)?;
+    let ecm = packet(ECM)?;
+    let refused = read_emm(h, &miscounted(&emm)?) == Err(EmmFault::Count);
+    Some(are_told_apart(&emm, &ecm) && are_read(h, &emm, &ecm) && refused)
+}
+
+#[test]
+fn packets_are_heard_by_their_pids(rt: HostRuntime) {
+    assert!(rt; are_heard() == Some(true));
 }

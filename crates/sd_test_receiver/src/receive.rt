@@ -1,4 +1,5 @@
-ghost use Rattle.std.specs.Prelude.{◌≡◌, ◌<◌, ◌≤◌};
+ghost use Rattle.std.specs.Prelude.{◌≡◌, ◌<◌, ◌≤◌, IfSome};
+ghost use Rattle.sd_receive.specs.Receiving.{IsLive};
 
 use crate::packets::{ALL, beginning};
 use hex::FromHex;
@@ -12,7 +13,6 @@ use sha2::{Digest, Sha256};
 use std::alloc::Global;
 use std::marker::Brand;
 use std::sync::ledger::{Blank, Ledger};
-use std::test::Fail;
 
 // The card of leaf 2 in a tree of height 3.
 const CARD: &str = "\
@@ -54,47 +54,55 @@ const CLEAR: &str = "915ed159f855453591af9353b4144cc0cdf5808705c820efa83948d069a
 // The stream up to its last packet but so many.
 fn stream(alloc: Global, left_out: usize) -> Option<Vec<u8>> {
     let mut bytes = Vec::new(alloc);
-    for text in PACKETS
-        .iter()
-        .take(PACKETS.len() - left_out.min(PACKETS.len()))
-    {
-        bytes.extend_from_slice(&beginning(text)?).ok()?;
+    for text in PACKETS.get(..PACKETS.len().saturating_sub(left_out))? {
+        add_packet(&mut bytes, text)?;
     }
     Some(bytes)
 }
 
-// What is answered for a stream that is read and written so many bytes at a time, how it ended, and what was written.
-fn counted<L: Ledger>(
-    alloc: Global,
-    bytes: Vec<u8>,
-    most: usize,
+fn add_packet(bytes: &mut Vec<u8>, text: &str) -> Option<()> {
+    bytes.extend_from_slice(&beginning(text)?).ok()
+}
+
+// The receiver with the card.
+fn receiver(alloc: Global) -> Option<Receiver>
+    ensures { IfSome result IsLive }
+{
+    let file = <[u8; 252]>::from_hex(CARD).ok()?;
+    let card = Card::read(alloc, &file).ok()?;
+    match Receiver::new(alloc, card) {
+        Ok(receiver) => Some(receiver),
+        Err(_) => None,
+    }
+}
+
+// What is answered for a stream, how it ended, and what was written.
+type Answer = (Result<u64, DriveFault<StreamFault>>, Ending, Vec<u8>);
+
+fn driven<L: Ledger>(
+    source: &mut MemSource,
+    sink: &mut MemSink,
+    receiver: &mut Receiver,
     blank: Blank,
-) -> Option<(Result<u64, DriveFault<StreamFault>>, Ending, Vec<u8>)>
+) -> Result<u64, DriveFault<StreamFault>>
     requires name { blank.name ≡ L.name }
     requires parts { blank.parts ≡ L.parts }
     requires some { 0 < blank.parts }
-    requires most { 1 ≤ most }
+    requires live { IsLive receiver.old }
 {
-    let file = <[u8; 252]>::from_hex(CARD).ok()?;
     let mut steps = Steps::<L>::new(blank);
-    let card = Card::read(alloc, &file).ok()?;
-    let Ok(mut receiver) = Receiver::new(alloc, card) else {
-        return None;
-    };
-    let mut source = MemSource::new(bytes, most, Vec::new(alloc));
-    let mut sink = MemSink::new(alloc, 1000, most, Vec::new(alloc)).ok()?;
-    let result = drive(&mut source, &mut sink, &mut receiver, &mut steps);
-    Some((result, receiver.ending(), sink.into_bytes()))
+    drive(source, sink, receiver, &mut steps)
 }
 
-fn uncounted(
-    alloc: Global,
-    bytes: Vec<u8>,
-    most: usize,
-) -> Option<(Result<u64, DriveFault<StreamFault>>, Ending, Vec<u8>)>
+// The answer for a stream that is read and written so many bytes at a time.
+fn opened(alloc: Global, left_out: usize, most: usize) -> Option<Answer>
     requires most { 1 ≤ most }
 {
-    counted::<Brand>(alloc, bytes, most, Blank::new(1))
+    let mut receiver = receiver(alloc)?;
+    let mut sink = MemSink::new(alloc, 1000, most, Vec::new(alloc)).ok()?;
+    let mut source = MemSource::new(stream(alloc, left_out)?, most, Vec::new(alloc));
+    let result = driven::<Brand>(&mut source, &mut sink, &mut receiver, Blank::new(1));
+    Some((result, receiver.ending(), sink.into_bytes()))
 }
 
 // Whether these are the four clear packets.
@@ -104,7 +112,9 @@ fn are_clear(bytes: &[u8]) -> Option<bool> {
 
 // How many packets are left out at the end, how many bytes are read and written at a time, the ending, and how many
 // bytes are written.
-static STREAMS: [(usize, usize, Ending, usize); 5] = [
+type Row = (usize, usize, Ending, usize);
+
+static STREAMS: [Row; 5] = [
     (0, 1000, Ending::Opened, 752),
     (0, 1, Ending::Opened, 752),
     (1, 1000, Ending::Unclosed(1), 0),
@@ -112,15 +122,21 @@ static STREAMS: [(usize, usize, Ending, usize); 5] = [
     (8, 1, Ending::NoCat, 0),
 ];
 
-#[test]
-fn streams_are_opened(rt: HostRuntime) -> Result<(), Fail> {
-    for (left_out, most, due, count) in &STREAMS {
-        assert!(rt; 1 <= *most);
-        let bytes = stream(rt.alloc(), *left_out).ok_or("no stream")?;
-        let (result, ending, clear) = uncounted(rt.alloc(), bytes, *most).ok_or("no receiver")?;
-        let read = 8u64.saturating_sub(*left_out as u64);
-        assert!(rt; (result, ending, clear.len()) == (Ok(read), *due, *count));
-        assert!(rt; *count == 0 || are_clear(&clear) == Some(true));
+// Whether the row's stream is answered, ended and written as the row says.
+fn is_opened(alloc: Global, row: &Row) -> Option<bool> {
+    let (left_out, most, due, count) = *row;
+    if most == 0 {
+        return None;
     }
-    Ok(())
+    let (result, ending, clear) = opened(alloc, left_out, most)?;
+    let read = 8u64.saturating_sub(left_out as u64);
+    let is_due = (result, ending, clear.len()) == (Ok(read), due, count);
+    Some(is_due && (count == 0 || are_clear(&clear) == Some(true)))
+}
+
+#[test]
+fn streams_are_opened(rt: HostRuntime) {
+    for row in &STREAMS {
+        assert!(rt; is_opened(rt.alloc(), row) == Some(true));
+    }
 }
