@@ -104,30 +104,49 @@ fn fresh(alloc: Global, h: Height, marks: &[bool; 16]) -> Option<Vec<SetName>> {
     covered(alloc, h, &revoked)
 }
 
+// Whether the sets are those of a cover from scratch of the leaves that are marked.
+fn is_fresh<L: Ledger>(
+    alloc: Global,
+    index: &CoverIndex,
+    marks: &[bool; 16],
+    steps: &mut Steps<L>,
+) -> Option<bool> {
+    let sets = index.sets(alloc, steps).ok()?;
+    Some(sets.as_slice() == fresh(alloc, index.height, marks)?.as_slice())
+}
+
 // Whether the sets are those of a cover from scratch after each of so many changes.
+fn stays_fresh<L: Ledger>(
+    alloc: Global,
+    index: &mut CoverIndex,
+    count: u32,
+    steps: &mut Steps<L>,
+) -> Option<bool> {
+    let mut marks = [false; 16];
+    let mut state = u64::from(index.height.get());
+    for _ in 0..count {
+        state = state
+            .wrapping_mul(6_364_136_223_846_793_005)
+            .wrapping_add(1_442_695_040_888_963_407);
+        let u = (state >> 33) as u32 % index.height.leaves() % 16;
+        let revokes = state >> 63 == 1;
+        change(index, u, revokes, steps)?;
+        marks[u as usize] = revokes;
+        if !is_fresh(alloc, index, &marks, steps)? {
+            return Some(false);
+        }
+    }
+    Some(true)
+}
+
 fn counted_same<L: Ledger>(alloc: Global, d: u8, count: u32, blank: Blank) -> Option<bool>
     requires name { blank.name ≡ L.name }
     requires parts { blank.parts ≡ L.parts }
     requires some { 0 < blank.parts }
 {
-    let h = Height::new(d)?;
     let mut steps = Steps::<L>::new(blank);
-    let mut index = CoverIndex::new(alloc, h);
-    let mut marks = [false; 16];
-    let mut state = u64::from(d);
-    for _ in 0..count {
-        state = state
-            .wrapping_mul(6_364_136_223_846_793_005)
-            .wrapping_add(1_442_695_040_888_963_407);
-        let u = (state >> 33) as u32 % h.leaves() % 16;
-        let revokes = state >> 63 == 1;
-        change(&mut index, u, revokes, &mut steps)?;
-        marks[u as usize] = revokes;
-        if index.sets(alloc, &mut steps).ok()?.as_slice() != fresh(alloc, h, &marks)?.as_slice() {
-            return Some(false);
-        }
-    }
-    Some(true)
+    let mut index = CoverIndex::new(alloc, Height::new(d)?);
+    stays_fresh(alloc, &mut index, count, &mut steps)
 }
 
 fn same(alloc: Global, d: u8, count: u32) -> Option<bool> {
@@ -155,19 +174,21 @@ fn raised<L: Ledger>(counts: &mut Counts, v: u32, steps: &mut Steps<L>) -> Optio
 }
 
 // What nodes 5 and 7 count after they are raised, and node 5 after it is raised again and lowered.
+fn changed<L: Ledger>(counts: &mut Counts, steps: &mut Steps<L>) -> Option<(u32, u32, u32)> {
+    let five = raised(counts, 5, steps)?;
+    let seven = raised(counts, 7, steps)?;
+    if raised(counts, 5, steps)? == 2 && counts.get(5, steps) > 0 {
+        counts.lower(5, steps);
+    }
+    Some((five, seven, counts.get(5, steps)))
+}
+
 fn counted_counts<L: Ledger>(alloc: Global, blank: Blank) -> Option<(u32, u32, u32)>
     requires name { blank.name ≡ L.name }
     requires parts { blank.parts ≡ L.parts }
     requires some { 0 < blank.parts }
 {
-    let mut steps = Steps::<L>::new(blank);
-    let mut counts = Counts::new(alloc);
-    let five = raised(&mut counts, 5, &mut steps)?;
-    let seven = raised(&mut counts, 7, &mut steps)?;
-    if raised(&mut counts, 5, &mut steps)? == 2 && counts.get(5, &mut steps) > 0 {
-        counts.lower(5, &mut steps);
-    }
-    Some((five, seven, counts.get(5, &mut steps)))
+    changed(&mut Counts::new(alloc), &mut Steps::<L>::new(blank))
 }
 
 fn counts(alloc: Global) -> Option<(u32, u32, u32)> {

@@ -1,6 +1,6 @@
+use crate::leaves::covered;
 use crate::names::{closure, names};
-use sd_book::Book;
-use sd_cover::cover;
+use sd_book::{Book, Periods};
 use sd_label::Name;
 use sd_tree::{Height, SetName};
 use std::alloc::{AllocError, Global};
@@ -89,16 +89,25 @@ impl Orders {
         false
     }
 
+    // The book.
+    fn book(&self, alloc: Global) -> Option<Book> {
+        let text = self.text(alloc).ok()?;
+        Book::read(alloc, text.as_bytes(), Height::new(2)?).ok()
+    }
+
     // The sets of both periods.
     fn sets(&self, alloc: Global) -> Option<(Vec<SetName>, Vec<SetName>)> {
-        let text = self.text(alloc).ok()?;
-        let book = Book::read(alloc, text.as_bytes(), Height::new(2)?).ok()?;
+        let book = self.book(alloc)?;
         let mut replay = book.periods(alloc);
-        let revoked = replay.next(alloc).ok()??;
-        let first = cover(alloc, book.height(), &revoked).ok()?;
-        let revoked = replay.next(alloc).ok()??;
-        Some((first, cover(alloc, book.height(), &revoked).ok()?))
+        let first = next_sets(alloc, book.height(), &mut replay)?;
+        Some((first, next_sets(alloc, book.height(), &mut replay)?))
     }
+}
+
+// The sets of the next period of a book.
+fn next_sets(alloc: Global, h: Height, replay: &mut Periods) -> Option<Vec<SetName>> {
+    let revoked = replay.next(alloc).ok()??;
+    covered(alloc, h, &revoked)
 }
 
 // Whether in each book of these commands the leaves, of which this is the closure, know the key of just the periods in

@@ -1,7 +1,9 @@
-ghost use Rattle.std.specs.Prelude.{◌≡◌, ◌<◌, ◌≤◌, ℕ, IfSome};
+ghost use Rattle.std.specs.Prelude.{◌≡◌, ◌<◌, ◌≤◌, ◌^◌, ℕ, All, IfSome, IsTrue, length};
+ghost use Rattle.std.specs.List.Sorted.{IsStrictlyIncreasing};
+ghost use Rattle.sd_tree.specs.declared.leaf.TheConstants.{MOST_REVOKED};
 
 use crate::leaves::{TREES, are_ascending, are_of_height, covered, has_bit, marked};
-use sd_trace::{CoalitionBox, TestBox, trace_all};
+use sd_trace::{CoalitionBox, Found, TestBox, trace_all};
 use sd_tree::{Height, Leaf, MOST_REVOKED, SetName};
 use std::alloc::Global;
 use std::test::*;
@@ -15,6 +17,35 @@ fn leaves_of(alloc: Global, h: Height, numbers: &[u32]) -> Option<Vec<Leaf>> {
     Some(leaves)
 }
 
+// The box of the coalition with these leaves.
+fn box_of(alloc: Global, h: Height, coalition: &[u32]) -> Option<CoalitionBox>
+    ensures { IfSome result (λ x. (x.height ≡ h) × (x.asked ≡ 0)) }
+{
+    let leaves = leaves_of(alloc, h, coalition)?;
+    if !are_of_height(h, &leaves) {
+        return None;
+    }
+    Some(CoalitionBox::new(h, leaves))
+}
+
+// Whether a box may be traced where these leaves are revoked.
+fn may_trace(h: Height, revoked: &[Leaf]) -> bool
+    ensures leaves { IsTrue result → All (λ u. u < 2 ^ h) revoked.now }
+    ensures ascending { IsTrue result → IsStrictlyIncreasing revoked.now }
+    ensures few { IsTrue result → length revoked.now ≤ MOST_REVOKED }
+{
+    are_of_height(h, revoked) && are_ascending(revoked) && revoked.len() <= MOST_REVOKED
+}
+
+// The number, the trials and the splits of each of these leaves.
+fn counts_of(alloc: Global, found: &[Found]) -> Option<Vec<(u32, u32, u32)>> {
+    let mut counts = Vec::new(alloc);
+    for one in found {
+        counts.push((one.leaf.get(), one.trials, one.splits)).ok()?;
+    }
+    Some(counts)
+}
+
 // The number, the trials and the splits of each leaf that is traced of a coalition where these leaves are revoked.
 fn traced(
     alloc: Global,
@@ -24,20 +55,12 @@ fn traced(
 ) -> Option<Vec<(u32, u32, u32)>> {
     let h = Height::new(height)?;
     let revoked = leaves_of(alloc, h, revoked)?;
-    let coalition = leaves_of(alloc, h, coalition)?;
-    if !are_of_height(h, &coalition)
-        || !are_of_height(h, &revoked)
-        || !are_ascending(&revoked)
-        || revoked.len() > MOST_REVOKED
-    {
+    if !may_trace(h, &revoked) {
         return None;
     }
-    let mut target = CoalitionBox::new(h, coalition);
-    let mut told = Vec::new(alloc);
-    for one in trace_all(alloc, h, &revoked, &mut target).ok()?.iter() {
-        told.push((one.leaf.get(), one.trials, one.splits)).ok()?;
-    }
-    Some(told)
+    let mut target = box_of(alloc, h, coalition)?;
+    let found = trace_all(alloc, h, &revoked, &mut target).ok()?;
+    counts_of(alloc, &found)
 }
 
 // A height, the revoked leaves, the coalition; of each leaf that is found its number, its trials and its splits.
@@ -150,9 +173,15 @@ impl Plain {
         None
     }
 
-    // The cover where these leaves are gone.
-    fn sets(&self, alloc: Global, gone: u32) -> Option<Vec<SetName>> {
-        covered(alloc, self.height, &marked(alloc, self.height, gone)?)
+    // The number, the trials and the splits of the leaf that is found where these are gone; none if no set opens.
+    fn round(&self, alloc: Global, gone: u32) -> Option<Option<(u32, u32, u32)>> {
+        let sets = covered(alloc, self.height, &marked(alloc, self.height, gone)?)?;
+        if !sets.iter().any(|name| self.opens(*name)) {
+            return Some(None);
+        }
+        let (name, turns) = self.last_open(&sets)?;
+        let (leaf, splits) = self.narrowed(name)?;
+        Some(Some((leaf, 1 + turns + splits, splits)))
     }
 
     // The number, the trials and the splits of each leaf that is found where these are revoked.
@@ -160,14 +189,11 @@ impl Plain {
         let mut gone = revoked;
         let mut found = Vec::new(alloc);
         for _round in 0..9 {
-            let sets = self.sets(alloc, gone)?;
-            if !sets.iter().any(|name| self.opens(*name)) {
+            let Some(one) = self.round(alloc, gone)? else {
                 return Some(found);
-            }
-            let (name, turns) = self.last_open(&sets)?;
-            let (leaf, splits) = self.narrowed(name)?;
-            found.push((leaf, 1 + turns + splits, splits)).ok()?;
-            gone |= 1u32.checked_shl(leaf)?;
+            };
+            found.push(one).ok()?;
+            gone |= 1u32.checked_shl(one.0)?;
         }
         None
     }
@@ -184,18 +210,29 @@ fn bits_of(alloc: Global, bits: u32) -> Option<Vec<u32>> {
     Some(numbers)
 }
 
+// Whether the coalition is traced as it is read plainly where these leaves are revoked.
+fn is_traced(alloc: Global, plain: &Plain, revoked: u32) -> Option<bool> {
+    let members = bits_of(alloc, plain.coalition)?;
+    let found = traced(
+        alloc,
+        plain.height.get(),
+        &bits_of(alloc, revoked)?,
+        &members,
+    )?;
+    Some(found == plain.trace(alloc, revoked)?)
+}
+
 // Whether each coalition is traced as it is read plainly, whichever leaves are revoked.
 fn agrees(alloc: Global, height: u8, below: &[u32; 16]) -> Option<bool> {
+    let height = Height::new(height)?;
     for coalition in 0..=below[1] {
         let plain = Plain {
-            height: Height::new(height)?,
+            height,
             below: *below,
             coalition,
         };
-        let members = bits_of(alloc, coalition)?;
         for revoked in 0..=below[1] {
-            let found = traced(alloc, height, &bits_of(alloc, revoked)?, &members)?;
-            if found != plain.trace(alloc, revoked)? {
+            if !is_traced(alloc, &plain, revoked)? {
                 return Some(false);
             }
         }
@@ -237,16 +274,11 @@ impl TestBox for CountingBox {
 fn probed(alloc: Global, revoked: &[u32], coalition: &[u32]) -> Option<Vec<usize>> {
     let h = Height::new(3)?;
     let revoked = leaves_of(alloc, h, revoked)?;
-    let coalition = leaves_of(alloc, h, coalition)?;
-    if !are_of_height(h, &coalition)
-        || !are_of_height(h, &revoked)
-        || !are_ascending(&revoked)
-        || revoked.len() > MOST_REVOKED
-    {
+    if !may_trace(h, &revoked) {
         return None;
     }
     let mut target = CountingBox {
-        inner: CoalitionBox::new(h, coalition),
+        inner: box_of(alloc, h, coalition)?,
         counts: Vec::new(alloc),
     };
     trace_all(alloc, h, &revoked, &mut target).ok()?;
@@ -286,11 +318,26 @@ impl TestBox for LyingBox {
     }
 }
 
+// The trials of these leaves and one more, if they are different leaves of height 3 that aren't revoked.
+fn trials_of(found: &[Found], revoked: u32) -> Option<u64> {
+    let mut gone = revoked;
+    let mut trials = 1u64;
+    for one in found {
+        let leaf = 1u32.checked_shl(one.leaf.get())?;
+        if one.leaf.get() >= 8 || gone & leaf != 0 || one.splits > 3 {
+            return None;
+        }
+        gone |= leaf;
+        trials = trials.checked_add(u64::from(one.trials))?;
+    }
+    Some(trials)
+}
+
 // Whether different leaves that aren't revoked are found by a box that lies, by as many probes as are told.
 fn bears_lies(alloc: Global, revoked: u32, answers: u32) -> Option<bool> {
     let h = Height::new(3)?;
     let leaves = marked(alloc, h, revoked)?;
-    if !are_of_height(h, &leaves) || !are_ascending(&leaves) || leaves.len() > MOST_REVOKED {
+    if !may_trace(h, &leaves) {
         return None;
     }
     let mut target = LyingBox {
@@ -298,17 +345,8 @@ fn bears_lies(alloc: Global, revoked: u32, answers: u32) -> Option<bool> {
         answers,
         asked: 0,
     };
-    let mut gone = revoked;
-    let mut trials = 1u64;
-    for one in trace_all(alloc, h, &leaves, &mut target).ok()?.iter() {
-        let leaf = 1u32.checked_shl(one.leaf.get())?;
-        if one.leaf.get() >= 8 || gone & leaf != 0 || one.splits > 3 {
-            return Some(false);
-        }
-        gone |= leaf;
-        trials = trials.checked_add(u64::from(one.trials))?;
-    }
-    Some(trials == target.asked)
+    let found = trace_all(alloc, h, &leaves, &mut target).ok()?;
+    Some(trials_of(&found, revoked) == Some(target.asked))
 }
 
 static LIES: [u32; 8] = [
