@@ -1,5 +1,6 @@
 ghost use Rattle.std.specs.Prelude.{◌≡◌, ◌≤◌, ◌<◌, []};
 
+use crate::ends::{sink, source};
 use sd_base::Steps;
 use sd_engine::{DriveFault, Stage, StageFault, drive};
 use sd_packet::{Packet, SIZE};
@@ -58,39 +59,21 @@ impl<K: Sink, L: Ledger> Stage<K, L> for Copier {
     }
 }
 
-// What a drive of a stream answers, how many of its bytes are copied, and how many are left to read. Packet `bad` is
-// refused, a read gives at most `most` bytes, and this read and this write fail.
-fn driven<L: Ledger>(
-    alloc: Global,
-    blank: Blank,
-    stream: &[u8],
-    bad: u64,
-    most: usize,
-    read: u32,
-    write: u32,
-) -> Result<(Result<u64, DriveFault<u64>>, Vec<u8>, Vec<u8>), AllocError>
-    requires most { 1 ≤ most }
+type Answer = Result<u64, DriveFault<u64>>;
+
+// What a drive answers where packet `bad` is refused.
+fn driven<L: Ledger>(source: &mut MemSource, sink: &mut MemSink, bad: u64, blank: Blank) -> Answer
     requires name { blank.name ≡ L.name }
     requires parts { blank.parts ≡ L.parts }
     requires some { 0 < blank.parts }
 {
-    let fails = Vec::from_slice(alloc, &[read])?;
-    let mut source = MemSource::new(Vec::from_slice(alloc, stream)?, most, fails);
-    let fails = Vec::from_slice(alloc, &[write])?;
-    let Ok(mut sink) = MemSink::new(alloc, 1000, SIZE, fails) else {
-        return Err(AllocError);
-    };
     let mut stage = Copier {
         number: 0,
         bad,
         refused: None,
     };
     let mut steps = Steps::<L>::new(blank);
-    let result = drive(&mut source, &mut sink, &mut stage, &mut steps);
-    let Ok(left) = read_all(alloc, &mut source, stream.len()) else {
-        return Err(AllocError);
-    };
-    Ok((result, sink.into_bytes(), left))
+    drive(source, sink, &mut stage, &mut steps)
 }
 
 // A packet with this number in it.
@@ -102,15 +85,7 @@ fn packet(number: u8) -> [u8; SIZE] {
 
 // The packet that is refused, the bytes of a read, the read and the write that fail, the answer, how many packets are
 // copied, and how many bytes are left to read.
-type Drive = (
-    u64,
-    usize,
-    u32,
-    u32,
-    Result<u64, DriveFault<u64>>,
-    usize,
-    usize,
-);
+type Drive = (u64, usize, u32, u32, Answer, usize, usize);
 
 static DRIVES: [Drive; 8] = [
     (9, 1, 999, 999, Ok(5), 5, 0),
@@ -129,23 +104,23 @@ fn is_split(stream: &[u8], out: &[u8], copied: usize, left: &[u8], rest: usize) 
         && Some(left) == stream.get(stream.len().saturating_sub(rest)..)
 }
 
+// Whether a drive of the stream is answered as the row says, and copies and leaves so many bytes.
+fn is_driven(alloc: Global, stream: &[u8], row: &Drive) -> Result<bool, AllocError> {
+    let (bad, most, read, write, answer, copied, rest) = *row;
+    let mut source = source(alloc, stream, most, read)?;
+    let mut sink = sink(alloc, 1000, SIZE, write)?;
+    let result = driven::<Brand>(&mut source, &mut sink, bad, Blank::new(1));
+    let Ok(left) = read_all(alloc, &mut source, stream.len()) else {
+        return Err(AllocError);
+    };
+    Ok(result == answer && is_split(stream, sink.bytes(), copied, &left, rest))
+}
+
 #[test]
 fn packets_are_offered_up_to_the_first_fault(rt: HostRuntime) -> Result<(), AllocError> {
     let packets = [packet(0), packet(1), packet(2), packet(3), packet(4)];
-    let stream = packets.as_flattened();
-    for (bad, most, read, write, answer, copied, rest) in &DRIVES {
-        assert!(rt; *most >= 1);
-        let (result, out, left) = driven::<Brand>(
-            rt.alloc(),
-            Blank::new(1),
-            stream,
-            *bad,
-            *most,
-            *read,
-            *write,
-        )?;
-        assert!(rt; result == *answer);
-        assert!(rt; is_split(stream, &out, *copied, &left, *rest));
+    for row in &DRIVES {
+        assert!(rt; is_driven(rt.alloc(), packets.as_flattened(), row)?);
     }
     Ok(())
 }

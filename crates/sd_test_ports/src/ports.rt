@@ -1,8 +1,9 @@
+use crate::ends::{sink, source};
 use sd_ports::{
-    Depot, FileFault, MemSink, PortFault, ReadAllFault, ReadMostFault, SliceSource, Source,
-    read_all, read_file, read_most, write_all, write_file,
+    Depot, FileFault, PortFault, ReadAllFault, ReadMostFault, SliceSource, Source, read_all,
+    read_file, read_most, write_all, write_file,
 };
-use sd_ports_memory::{MemDepot, MemSource};
+use sd_ports_memory::MemDepot;
 use std::alloc::{AllocError, Global};
 
 /// What is read and written.
@@ -17,9 +18,7 @@ fn reads(
     (part, failing, most): Case,
     want: Result<&[u8], ReadAllFault>,
 ) -> Result<bool, AllocError> {
-    let bytes = Vec::from_slice(alloc, TEXT)?;
-    let fails = Vec::from_slice(alloc, &[failing])?;
-    let mut source = MemSource::new(bytes, part.max(1), fails);
+    let mut source = source(alloc, TEXT, part, failing)?;
     let same = match read_all(alloc, &mut source, most) {
         Ok(bytes) => want == Ok(bytes.as_slice()),
         Err(fault) => want == Err(fault),
@@ -34,32 +33,29 @@ fn begins(
     (part, failing, most): Case,
     want: Result<(&str, bool), ReadMostFault>,
 ) -> Result<bool, AllocError> {
-    let bytes = Vec::from_slice(alloc, TEXT)?;
-    let fails = Vec::from_slice(alloc, &[failing])?;
-    let mut source = MemSource::new(bytes, part.max(1), fails);
-    Ok(match read_most(alloc, &mut source, most) {
-        Ok(taken) => {
-            want.map(|(text, more)| (text.as_bytes(), more)) == Ok((taken.bytes(), taken.more()))
-                && want.is_ok_and(|(text, _)| taken.into_bytes().as_slice() == text.as_bytes())
-        }
-        Err(fault) => want == Err(fault),
-    })
+    let mut source = source(alloc, TEXT, part, failing)?;
+    let taken = match read_most(alloc, &mut source, most) {
+        Ok(taken) => taken,
+        Err(fault) => return Ok(want == Err(fault)),
+    };
+    let Ok((text, more)) = want else {
+        return Ok(false);
+    };
+    let text = text.as_bytes();
+    let is_shown = (taken.bytes(), taken.more()) == (text, more);
+    let bytes = taken.into_bytes();
+    Ok(is_shown && bytes.as_slice() == text)
 }
 
 // Whether a sink, of which one write fails, takes this much of TEXT, and counts a fault where that isn't all.
 fn takes(alloc: Global, (part, failing, room): Case, held: &str) -> Result<bool, AllocError> {
-    let fails = Vec::from_slice(alloc, &[failing])?;
-    let Ok(mut sink) = MemSink::new(alloc, room, part.max(1), fails) else {
-        return Err(AllocError);
-    };
+    let held = held.as_bytes();
+    let mut sink = sink(alloc, room, part, failing)?;
     let all = write_all(&mut sink, TEXT).is_ok();
-    let faults = u64::from(!all);
-    Ok(
-        all == (held.as_bytes() == TEXT)
-            && sink.faults() == faults
-            && sink.bytes() == held.as_bytes()
-            && sink.into_bytes().as_slice() == held.as_bytes(),
-    )
+    let is_counted = sink.faults() == u64::from(!all);
+    let is_shown = sink.bytes() == held;
+    let bytes = sink.into_bytes();
+    Ok(is_counted && is_shown && all == (held == TEXT) && bytes.as_slice() == held)
 }
 
 static SHELVED: [(&str, &str); 3] = [("a", "old"), ("b", "other"), ("a", "new")];
@@ -96,6 +92,14 @@ static TAKEN: [(Case, &str); 6] = [
     ((3, 1, 7), "abc"),
 ];
 
+// Whether a source that lends TEXT is read.
+fn is_lent(alloc: Global) -> bool {
+    match read_all(alloc, &mut SliceSource::new(TEXT), 7) {
+        Ok(bytes) => bytes.as_slice() == TEXT,
+        Err(_) => false,
+    }
+}
+
 #[test]
 fn bytes_go_through_in_portions(rt: HostRuntime) -> Result<(), AllocError> {
     let alloc = rt.alloc();
@@ -105,8 +109,7 @@ fn bytes_go_through_in_portions(rt: HostRuntime) -> Result<(), AllocError> {
     for (case, held) in &TAKEN {
         assert!(rt; takes(alloc, *case, held)?);
     }
-    let lent = read_all(alloc, &mut SliceSource::new(TEXT), 7);
-    assert!(rt; lent.is_ok_and(|bytes| bytes.as_slice() == TEXT));
+    assert!(rt; is_lent(alloc));
     Ok(())
 }
 
@@ -166,31 +169,59 @@ fn failing_shelf(
     Ok(depot)
 }
 
+// Whether a write of this file answers so, and leaves this in it.
+fn is_written(
+    alloc: Global,
+    depot: &mut MemDepot,
+    name: &str,
+    text: &[u8],
+    want: Result<(), FileFault>,
+    left: &str,
+) -> bool {
+    write_file(alloc, depot, name, text) == want && depot.get(name) == Some(left.as_bytes())
+}
+
+// Whether a read and a write of "a" are answered and counted as the choice says.
+fn is_chosen(alloc: Global, choice: &Choice) -> Result<bool, AllocError> {
+    let (call, port, read, wrote, left, faults) = *choice;
+    let mut depot = failing_shelf(alloc, call, port)?;
+    let bytes = read_file(alloc, &mut depot, "a", 9);
+    let is_read = bytes.map(|bytes| bytes.as_slice() == b"new".as_slice()) == read;
+    let is_left = is_written(alloc, &mut depot, "a", TEXT, wrote, left);
+    Ok(is_read && is_left && depot.faults() == faults)
+}
+
 #[test]
 fn chosen_calls_fail(rt: HostRuntime) -> Result<(), AllocError> {
-    let alloc = rt.alloc();
-    for (call, port, read, wrote, left, faults) in &CHOICES {
-        let mut depot = failing_shelf(alloc, *call, *port)?;
-        let bytes = read_file(alloc, &mut depot, "a", 9);
-        assert!(rt; bytes.map(|bytes| bytes.as_slice() == b"new".as_slice()) == *read);
-        assert!(rt; write_file(alloc, &mut depot, "a", TEXT) == *wrote);
-        assert!(rt; depot.get("a") == Some(left.as_bytes()) && depot.faults() == *faults);
+    for choice in &CHOICES {
+        assert!(rt; is_chosen(rt.alloc(), choice)?);
     }
     Ok(())
+}
+
+// Lets 17 calls of a depot fail, and as many reads of "a".
+fn choose(alloc: Global, depot: &mut MemDepot) -> Result<(), AllocError> {
+    for number in 0..17 {
+        depot.fail_call(number);
+        depot.fail_port(String::from_str(alloc, "a")?, number);
+    }
+    Ok(())
+}
+
+// Whether "a" is opened and one byte of it is read, but no second one.
+fn reads_once(alloc: Global, depot: &mut MemDepot) -> bool {
+    let Ok(mut port) = depot.open_in(alloc, "a") else {
+        return false;
+    };
+    port.read(&mut [0]) == Ok(1) && port.read(&mut [0]) == Err(PortFault)
 }
 
 #[test]
 fn the_newest_choices_are_kept(rt: HostRuntime) -> Result<(), AllocError> {
     let mut depot = shelf(rt.alloc())?;
-    for number in 0..17 {
-        depot.fail_call(number);
-        depot.fail_port(String::from_str(rt.alloc(), "a")?, number);
-    }
+    choose(rt.alloc(), &mut depot)?;
     // Call 0 and the first read work again.
-    let Ok(mut port) = depot.open_in(rt.alloc(), "a") else {
-        return Err(AllocError);
-    };
-    assert!(rt; port.read(&mut [0]) == Ok(1) && port.read(&mut [0]) == Err(PortFault));
+    assert!(rt; reads_once(rt.alloc(), &mut depot));
     assert!(rt; depot.open_in(rt.alloc(), "a").is_err() && depot.faults() == 1);
     Ok(())
 }
@@ -217,6 +248,16 @@ fn is_kept(
     }
 }
 
+// Whether the depot counts a read that fails when its port is closed.
+fn counts_fault(alloc: Global, depot: &mut MemDepot) -> bool {
+    let Ok(mut failing) = source(alloc, &[], 1, 0) else {
+        return false;
+    };
+    let read = failing.read(&mut [0]);
+    depot.close_in(failing);
+    read == Err(PortFault) && depot.faults() == 1
+}
+
 #[test]
 fn depots_keep_files_apart(rt: HostRuntime) -> Result<(), AllocError> {
     let alloc = rt.alloc();
@@ -227,12 +268,8 @@ fn depots_keep_files_apart(rt: HostRuntime) -> Result<(), AllocError> {
             "{name} {most}"
         );
     }
-    assert!(rt; depot.get("b") == Some(b"other") && depot.get("c").is_none());
-    let fails = Vec::from_slice(alloc, &[0])?;
-    let mut failing = MemSource::new(Vec::new(alloc), 1, fails);
-    assert!(rt; failing.read(&mut [0]) == Err(PortFault));
-    depot.close_in(failing);
-    assert!(rt; depot.misses() == 1 && depot.faults() == 1);
+    let are_apart = depot.get("b") == Some(b"other") && depot.get("c").is_none();
+    assert!(rt; are_apart && counts_fault(alloc, &mut depot) && depot.misses() == 1);
     Ok(())
 }
 
@@ -248,11 +285,10 @@ fn files_are_made_and_replaced(rt: HostRuntime) -> Result<(), AllocError> {
     let alloc = rt.alloc();
     let mut depot = shelf(alloc)?;
     for (name, text, want, left) in &WRITTEN {
-        let is_due = write_file(alloc, &mut depot, name, text.as_bytes()) == *want
-            && depot.get(name) == Some(left.as_bytes());
+        let is_due = is_written(alloc, &mut depot, name, text.as_bytes(), *want, left);
         assert!(rt; is_due, "{name}");
     }
-    assert!(rt; depot.get("a") == Some(TEXT));
-    assert!(rt; (depot.made(), depot.faults(), depot.misses()) == (3, 1, 0));
+    let counts = (depot.made(), depot.faults(), depot.misses());
+    assert!(rt; depot.get("a") == Some(TEXT) && counts == (3, 1, 0));
     Ok(())
 }

@@ -1,4 +1,5 @@
-use sd_ports::{MemSink, PortFault};
+use crate::ends::sink;
+use sd_ports::PortFault;
 use sd_sample::{MOST_PACKETS, sample};
 use sha2::{Digest, Sha256};
 use std::alloc::{AllocError, Global};
@@ -9,10 +10,7 @@ fn written(
     (number, packets): (u32, u32),
     (room, most, failing): (usize, usize, u32),
 ) -> Result<(Result<(), PortFault>, Vec<u8>), AllocError> {
-    let fails = Vec::from_slice(alloc, &[failing])?;
-    let Ok(mut sink) = MemSink::new(alloc, room, most.max(1), fails) else {
-        return Err(AllocError);
-    };
+    let mut sink = sink(alloc, room, most, failing)?;
     let result = sample(number, packets.min(MOST_PACKETS), &mut sink);
     Ok((result, sink.into_bytes()))
 }
@@ -66,15 +64,21 @@ static SUMS: [(u32, u32, [u8; 32]); 5] = [
     ),
 ];
 
+// Whether the stream has this sum.
+fn has_sum(alloc: Global, number: u32, packets: u32, sum: &[u8; 32]) -> Result<bool, AllocError> {
+    let (result, bytes) = written(alloc, (number, packets), (2000000, 5000, u32::MAX))?;
+    Ok(result.is_ok() && Sha256::digest(&bytes) == *sum)
+}
+
 #[test]
 fn streams_have_their_sums(rt: HostRuntime) -> Result<(), AllocError> {
-    let alloc = rt.alloc();
     for (number, packets, sum) in &SUMS {
-        let (result, bytes) = written(alloc, (*number, *packets), (2000000, 5000, u32::MAX))?;
-        let is_due = result.is_ok() && Sha256::digest(&bytes) == *sum;
-        assert!(rt; is_due, "{number} {packets}");
+        assert!(rt;
+            has_sum(rt.alloc(), *number, *packets, sum)?,
+            "{number} {packets}"
+        );
     }
-    let (_, bytes) = written(alloc, (0, 4), (1000, 1000, 9))?;
+    let (_, bytes) = written(rt.alloc(), (0, 4), (1000, 1000, 9))?;
     assert!(rt;
         bytes.len() == 752 && &bytes[564..569] == [0x47, 0x01, 0x01, 0x10, 0x14].as_slice()
     );
@@ -82,22 +86,28 @@ fn streams_have_their_sums(rt: HostRuntime) -> Result<(), AllocError> {
 }
 
 // Room, bytes a write, the write that fails, and how many bytes are held then.
-static FAULTS: [(usize, usize, u32, usize); 4] = [
+type Fault = (usize, usize, u32, usize);
+
+static FAULTS: [Fault; 4] = [
     (20000, 40000, 9, 12032),
     (40000, 1000, 20, 19032),
     (40000, 40000, 2, 24064),
     (40000, 40000, 0, 0),
 ];
 
+// Whether a fault leaves its prefix of the whole stream.
+fn is_cut(alloc: Global, whole: &[u8], fault: &Fault) -> Result<bool, AllocError> {
+    let (room, most, failing, prefix) = *fault;
+    let (result, bytes) = written(alloc, (7, 200), (room, most, failing))?;
+    Ok(result.is_err() && Some(bytes.as_slice()) == whole.get(..prefix))
+}
+
 #[test]
 fn a_prefix_was_written_before_a_fault(rt: HostRuntime) -> Result<(), AllocError> {
-    let alloc = rt.alloc();
-    let (result, whole) = written(alloc, (7, 200), (40000, 40000, 9))?;
+    let (result, whole) = written(rt.alloc(), (7, 200), (40000, 40000, 9))?;
     assert!(rt; result.is_ok() && whole.len() == 37600);
-    for (room, most, failing, prefix) in &FAULTS {
-        let (result, bytes) = written(alloc, (7, 200), (*room, *most, *failing))?;
-        let is_due = result.is_err() && Some(bytes.as_slice()) == whole.get(..*prefix);
-        assert!(rt; is_due, "{prefix}");
+    for fault in &FAULTS {
+        assert!(rt; is_cut(rt.alloc(), &whole, fault)?, "{}", fault.3);
     }
     Ok(())
 }

@@ -1,5 +1,7 @@
-ghost use Rattle.std.specs.Prelude.{◌≡◌, ◌≤◌, ◌<◌};
+ghost use Rattle.std.specs.Prelude.{◌≡◌, ◌<◌};
+ghost use Rattle.sd_tables.specs.Staged.{IsReady, seen};
 
+use crate::ends::{sink, source};
 use crate::sections::{PAT, PMT};
 use sd_base::{NoMemory, Steps};
 use sd_engine::{BreakCause, DriveFault, StreamBreak, drive};
@@ -32,35 +34,40 @@ fn sample(sync: u8) -> [[u8; 188]; 3] {
     ]
 }
 
-// What a drive answers, and what a sink with so much room takes, where a read gives at most so many bytes and these
-// reads fail.
+type Answer = Result<u64, DriveFault<NoMemory>>;
+
 fn driven<L: Ledger>(
-    alloc: Global,
+    source: &mut MemSource,
+    sink: &mut MemSink,
+    stage: &mut Inspector,
     blank: Blank,
-    bytes: &[u8],
-    most: usize,
-    fails: &[u32],
-    room: usize,
-) -> Result<(Result<u64, DriveFault<NoMemory>>, Vec<u8>), AllocError>
-    requires most { 1 ≤ most }
+) -> Answer
     requires name { blank.name ≡ L.name }
     requires parts { blank.parts ≡ L.parts }
     requires some { 0 < blank.parts }
+    requires live { IsReady (seen stage.old) }
 {
-    let fails = Vec::from_slice(alloc, fails)?;
-    let mut source = MemSource::new(Vec::from_slice(alloc, bytes)?, most, fails);
-    let Ok(mut sink) = MemSink::new(alloc, room, 100, Vec::new(alloc)) else {
-        return Err(AllocError);
-    };
+    let mut steps = Steps::<L>::new(blank);
+    drive(source, sink, stage, &mut steps)
+}
+
+// What a drive answers, and what is printed, where a read gives at most so many bytes, this read fails, and there is so
+// much room for lines.
+fn printed(
+    alloc: Global,
+    bytes: &[u8],
+    most: usize,
+    failing: u32,
+    room: usize,
+) -> Result<(Answer, Vec<u8>), AllocError> {
     let Ok(mut stage) = Inspector::new(alloc) else {
         return Err(AllocError);
     };
-    let mut steps = Steps::<L>::new(blank);
-    let result = drive(&mut source, &mut sink, &mut stage, &mut steps);
+    let mut source = source(alloc, bytes, most, failing)?;
+    let mut sink = sink(alloc, room, 100, u32::MAX)?;
+    let result = driven::<Brand>(&mut source, &mut sink, &mut stage, Blank::new(1));
     Ok((result, sink.into_bytes()))
 }
-
-type Answer = Result<u64, DriveFault<NoMemory>>;
 
 const TORN_AT_0: Answer = Err(DriveFault::Broken(StreamBreak {
     packet: 0,
@@ -110,21 +117,21 @@ static DRIVES: [Drive; 12] = [
     ),
 ];
 
+// Whether a drive is answered, and its lines are printed, as the row says.
+fn is_printed(alloc: Global, row: &Drive) -> Result<bool, AllocError> {
+    let (sync, start, end, most, failing, room, answer, count) = *row;
+    let packets = sample(sync);
+    let Some(bytes) = packets.as_flattened().get(start..end) else {
+        return Ok(false);
+    };
+    let (result, lines) = printed(alloc, bytes, most, failing, room)?;
+    Ok(result == answer && Some(lines.as_slice()) == LINES.as_bytes().get(..count))
+}
+
 #[test]
 fn sections_are_printed_as_they_are_read(rt: HostRuntime) -> Result<(), AllocError> {
-    for (sync, start, end, most, fails, room, answer, count) in &DRIVES {
-        let packets = sample(*sync);
-        let bytes = packets.as_flattened();
-        assert!(rt; *most >= 1 && *start <= *end && *end <= bytes.len());
-        let (result, lines) = driven::<Brand>(
-            rt.alloc(),
-            Blank::new(1),
-            &bytes[*start..*end],
-            *most,
-            &[*fails],
-            *room,
-        )?;
-        assert!(rt; result == *answer && Some(lines.as_slice()) == LINES.as_bytes().get(..*count));
+    for row in &DRIVES {
+        assert!(rt; is_printed(rt.alloc(), row)?);
     }
     Ok(())
 }
