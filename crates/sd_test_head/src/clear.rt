@@ -1,11 +1,11 @@
-use crate::made::{Ends, Made, NULL, SCRAMBLED, plain};
+use crate::made::{Ends, Made, NULL, SCRAMBLED, plain, site_of};
 use crate::sections::{PAT, PMT, REWRITTEN};
 use sd_ecm::Place;
 use sd_head::Clear;
 use sd_label::control_word;
 use sd_packet::{Packet, pack_section};
 use sd_psi::FormFault;
-use sd_site::{Site, read};
+use sd_site::Site;
 use sd_spec_broadcast::ClearFault;
 use sd_test_texts::{SITE, site_start};
 use std::alloc::Global;
@@ -79,15 +79,21 @@ static CARRIED: [(Made, Made); 7] = [
     ),
 ];
 
+// Whether the packets become what is due.
+fn are_carried(clear: &mut Clear, site: &Site) -> Option<bool> {
+    for (packet, due) in &CARRIED {
+        if step(clear, site, &packet.packet()?).ok()? != due.packet()? {
+            return Some(false);
+        }
+    }
+    Some(clear.count() == 7)
+}
+
 #[test]
 fn packets_are_carried(rt: HostRuntime) -> Result<(), Fail> {
-    let site = read(SITE.as_bytes()).ok().ok_or("the text is a site file")?;
-    let mut clear = Clear::new(rt.alloc()).ok().ok_or("there is memory")?;
-    for (packet, due) in &CARRIED {
-        let packet = packet.packet().ok_or("it is a packet")?;
-        assert!(rt; step(&mut clear, &site, &packet).ok() == due.packet());
-    }
-    assert!(rt; clear.count() == 7);
+    let site = site_of(SITE).ok_or("the text is a site file")?;
+    let mut clear = Clear::new(rt.alloc()).expect(&rt, "memory");
+    assert!(rt; are_carried(&mut clear, &site) == Some(true));
     Ok(())
 }
 
@@ -123,33 +129,38 @@ static REFUSED: [(Made, ClearFault); 7] = [
     ),
 ];
 
+// Whether this packet after a PAT is refused so.
+fn is_refused(alloc: Global, site: &Site, packet: &Made, due: ClearFault) -> Option<bool> {
+    let mut clear = Clear::new(alloc).ok()?;
+    let is_begun = is_carried(&mut clear, site, Some(pack_section(&PAT, 0, 0)));
+    Some(is_begun && refusal(&clear, site, packet.packet()) == Some(due))
+}
+
 #[test]
 fn packets_are_refused(rt: HostRuntime) -> Result<(), Fail> {
-    let site = read(SITE.as_bytes()).ok().ok_or("the text is a site file")?;
+    let site = site_of(SITE).ok_or("the text is a site file")?;
     for (packet, due) in &REFUSED {
-        let mut clear = Clear::new(rt.alloc()).ok().ok_or("there is memory")?;
-        assert!(rt; is_carried(&mut clear, &site, Some(pack_section(&PAT, 0, 0))));
-        assert!(rt; refusal(&clear, &site, packet.packet()) == Some(*due));
+        assert!(rt; is_refused(rt.alloc(), &site, packet, *due) == Some(true));
     }
     Ok(())
 }
 
-#[test]
-fn as_many_pids_move_as_may(rt: HostRuntime) -> Result<(), Fail> {
-    let site = read(SITE.as_bytes()).ok().ok_or("the text is a site file")?;
-    let mut clear = Clear::new(rt.alloc()).ok().ok_or("there is memory")?;
-    let mut places = Vec::with_capacity(rt.alloc(), 256)?;
-    clear.write_places(&mut places);
-    assert!(rt; (clear.count(), places.len()) == (0, 0));
+// Whether packets of as many PIDs as may move are carried, then none of another PID, unless it has no payload.
+fn are_most(clear: &mut Clear, site: &Site) -> bool {
     for pid in 0x0..0x100u16 {
         let packet = plain([0x47, 0x03, 0xFF - pid as u8, 0x13], 0x03, 0x03, 0x03);
-        assert!(rt; is_carried(&mut clear, &site, packet));
+        if !is_carried(clear, site, packet) {
+            return false;
+        }
     }
     let more = plain([0x47, 0x02, 0x00, 0x10], 0x00, 0x00, 0x00);
-    assert!(rt; refusal(&clear, &site, more) == Some(ClearFault::TooManyPids(256)));
     let empty = plain([0x47, 0x02, 0x00, 0x30], 0xB7, 0x55, 0x55);
-    assert!(rt; is_carried(&mut clear, &site, empty));
-    clear.write_places(&mut places);
+    refusal(clear, site, more) == Some(ClearFault::TooManyPids(256))
+        && is_carried(clear, site, empty)
+}
+
+// Whether these are the places of those PIDs.
+fn are_ends(places: &[Place]) -> bool {
     let first = Place {
         pid: 0x300,
         position: 19,
@@ -158,41 +169,59 @@ fn as_many_pids_move_as_may(rt: HostRuntime) -> Result<(), Fail> {
         pid: 0x3FF,
         position: 19,
     };
-    let ends = (places.first().copied(), places.last().copied());
-    assert!(rt; places.len() == 256 && ends == (Some(first), Some(last)));
-    Ok(())
+    places.len() == 256 && places.first() == Some(&first) && places.last() == Some(&last)
 }
 
-// A site with a control word for each packet.
-static EACH: &str = site_start!("ecm-every 1\ncrypto-ecms 1\nperiod-cryptos 1\nmessages 1\n");
-
-// This site with further lines.
-fn each_with(alloc: Global, lines: &str) -> Option<Site> {
-    let mut text = String::new(alloc);
-    text.push_str(EACH).ok()?;
-    text.push_str(lines).ok()?;
-    read(text.as_bytes()).ok()
+// Whether as many PIDs move as may.
+fn are_moved(alloc: Global, clear: &mut Clear, site: &Site) -> Option<bool> {
+    let mut places = Vec::with_capacity(alloc, 256).ok()?;
+    clear.write_places(&mut places);
+    let is_empty = clear.count() == 0 && places.is_empty();
+    let is_full = are_most(clear, site);
+    clear.write_places(&mut places);
+    Some(is_empty && is_full && are_ends(&places))
 }
-
-// A site's further lines, and how many packets have a control word of its own.
-static WORDS: [(&str, u64); 3] = [
-    ("first-word 4294967295\n", 1),
-    ("first-word 7\nlast-word 8\n", 2),
-    ("first-word 7\nlast-word 6\n", 0),
-];
 
 #[test]
-fn a_site_has_so_many_control_words(rt: HostRuntime) -> Result<(), Fail> {
-    for (lines, count) in &WORDS {
-        let site = each_with(rt.alloc(), lines).ok_or("the text is a site file")?;
-        let mut clear = Clear::new(rt.alloc()).ok().ok_or("there is memory")?;
-        for _ in 0..*count {
-            assert!(rt; is_carried(&mut clear, &site, NULL.packet()));
-        }
-        let null = refusal(&clear, &site, NULL.packet());
-        assert!(rt; null == Some(ClearFault::TooLong(*count)));
-        let scrambled = refusal(&clear, &site, SCRAMBLED.packet());
-        assert!(rt; scrambled == Some(ClearFault::AlreadyScrambled(*count)));
-    }
+fn as_many_pids_move_as_may(rt: HostRuntime) -> Result<(), Fail> {
+    let site = site_of(SITE).ok_or("the text is a site file")?;
+    let mut clear = Clear::new(rt.alloc()).expect(&rt, "memory");
+    assert!(rt; are_moved(rt.alloc(), &mut clear, &site) == Some(true));
     Ok(())
+}
+
+// A site with a control word for each packet, and further lines.
+macro_rules! each {
+    ($lines:literal) => {
+        site_start!("ecm-every 1\ncrypto-ecms 1\nperiod-cryptos 1\nmessages 1\n", $lines)
+    };
+}
+
+// Sites, and how many packets have a control word of the site's own.
+static WORDS: [(&str, u64); 3] = [
+    (each!("first-word 4294967295\n"), 1),
+    (each!("first-word 7\nlast-word 8\n"), 2),
+    (each!("first-word 7\nlast-word 6\n"), 0),
+];
+
+// Whether the site has a control word for so many packets.
+fn has_words(alloc: Global, text: &str, count: u64) -> Option<bool> {
+    let site = site_of(text)?;
+    let mut clear = Clear::new(alloc).ok()?;
+    for _ in 0..count {
+        if !is_carried(&mut clear, &site, NULL.packet()) {
+            return Some(false);
+        }
+    }
+    let null = refusal(&clear, &site, NULL.packet());
+    let scrambled = refusal(&clear, &site, SCRAMBLED.packet());
+    let is_due = null == Some(ClearFault::TooLong(count));
+    Some(is_due && scrambled == Some(ClearFault::AlreadyScrambled(count)))
+}
+
+#[test]
+fn a_site_has_so_many_control_words(rt: HostRuntime) {
+    for (text, count) in &WORDS {
+        assert!(rt; has_words(rt.alloc(), text, *count) == Some(true));
+    }
 }

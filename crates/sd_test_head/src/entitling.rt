@@ -1,10 +1,13 @@
-ghost use Rattle.std.specs.Prelude.{◌≡◌, ◌<◌};
+ghost use Rattle.std.specs.Prelude.{◌≡◌, ◌<◌, IfSome};
+ghost use Rattle.sd_head.specs.Kept.{IsNew, plan_of};
 
+use crate::made::site_of;
 use crate::sections::ALL;
 use sd_base::Steps;
 use sd_book::Book;
 use sd_head::{CryptoPeriod, Entitling};
 use sd_packet::{SIZE, pack_section};
+use sd_site::Site;
 use sd_test_texts::{BOOK, SITE, site};
 use std::alloc::Global;
 use std::marker::Brand;
@@ -28,28 +31,55 @@ static SECOND_CHECK: [u8; 16] = [
     0xBF, 0xA8, 0x80, 0x7F, 0x78, 0x5E, 0x1F, 0xC8, 0xF7, 0xF0, 0x55, 0xA5, 0x75, 0x33, 0x72, 0xB8,
 ];
 
-// What is kept once a crypto period has begun: the packets of entitlements, and the crypto period.
-type Begun = (Vec<[u8; SIZE]>, CryptoPeriod);
+// What is kept once a crypto period has begun: the packets of entitlements, the crypto period, and how many sets the
+// index gives.
+type Begun = (Vec<[u8; SIZE]>, CryptoPeriod, usize);
 
-// What is kept in the first crypto period, or in the second; each of them begins a period.
-fn counted<L: Ledger>(alloc: Global, is_second: bool, blank: Blank) -> Option<Begun>
+// What is kept before the first crypto period.
+fn before(alloc: Global, site: &Site) -> Option<Entitling>
+    ensures { IfSome result (λ entitling. IsNew (plan_of site.now entitling.book) entitling) }
+{
+    let book = Book::read(alloc, BOOK.as_bytes(), site.height).ok()?;
+    Some(Entitling::new(alloc, site, book))
+}
+
+// Begins the first crypto period, or both; each of them begins a period.
+fn begin<L: Ledger>(
+    alloc: Global,
+    site: &Site,
+    entitling: &mut Entitling,
+    is_second: bool,
+    steps: &mut Steps<L>,
+) -> Option<Begun>
+    requires { IsNew (plan_of site.now entitling.old.book) entitling.old }
+{
+    let has_next = site.first_word < u32::MAX;
+    entitling.begin(site, 0, steps).ok()?;
+    if is_second && has_next {
+        entitling.begin(site, 1, steps).ok()?;
+    }
+    let sets = entitling.index().sets(alloc, steps).ok()?.len();
+    let emms = entitling.emms().to_vec(alloc).ok()?;
+    Some((emms, *entitling.crypto(), sets))
+}
+
+fn counted<L: Ledger>(alloc: Global, site: &Site, is_second: bool, blank: Blank) -> Option<Begun>
     requires name { blank.name ≡ L.name }
     requires parts { blank.parts ≡ L.parts }
     requires some { 0 < blank.parts }
 {
     let mut steps = Steps::<L>::new(blank);
-    let site = sd_site::read(SITE.as_bytes()).ok()?;
-    let book = Book::read(alloc, BOOK.as_bytes(), site.height).ok()?;
-    let mut entitling = Entitling::new(alloc, &site, book);
-    entitling.begin(&site, 0, &mut steps).ok()?;
-    if is_second {
-        entitling.begin(&site, 1, &mut steps).ok()?;
-    }
-    Some((entitling.emms().to_vec(alloc).ok()?, *entitling.crypto()))
+    begin(
+        alloc,
+        site,
+        &mut before(alloc, site)?,
+        is_second,
+        &mut steps,
+    )
 }
 
-fn uncounted(alloc: Global, is_second: bool) -> Option<Begun> {
-    counted::<Brand>(alloc, is_second, Blank::new(1))
+fn begun(alloc: Global, site: &Site, is_second: bool) -> Option<Begun> {
+    counted::<Brand>(alloc, site, is_second, Blank::new(1))
 }
 
 // Whether the packets are that of these entitlements alone.
@@ -57,20 +87,17 @@ fn are_of(emms: &[[u8; SIZE]], section: &[u8; 79]) -> bool {
     emms == [*pack_section(section, 496, 0).bytes()].as_slice()
 }
 
-// Whether the crypto period and the period of a number are begun, with these entitlements and this check value.
-fn is_begun(begun: &Begun, section: &[u8; 79], number: u32, check: &[u8; 16]) -> bool {
-    let (emms, crypto) = begun;
-    are_of(emms, section)
-        && (crypto.number, crypto.period) == (number, number)
-        && crypto.check == *check
+// Whether the crypto period and the period of a number, 0 or 1, begin with these entitlements and this check value.
+fn is_begun(alloc: Global, number: u32, section: &[u8; 79], check: &[u8; 16]) -> Option<bool> {
+    let (emms, crypto, _) = begun(alloc, &site_of(SITE)?, number == 1)?;
+    let is_due = (crypto.number, crypto.period) == (number, number) && crypto.check == *check;
+    Some(is_due && are_of(&emms, section))
 }
 
 #[test]
 fn periods_begin_with_their_sets(rt: HostRuntime) {
-    let first = uncounted(rt.alloc(), false);
-    let second = uncounted(rt.alloc(), true);
-    assert!(rt; first.is_some_and(|begun| is_begun(&begun, &ALL, 0, &FIRST_CHECK)));
-    assert!(rt; second.is_some_and(|begun| is_begun(&begun, &OTHERS, 1, &SECOND_CHECK)));
+    assert!(rt; is_begun(rt.alloc(), 0, &ALL, &FIRST_CHECK) == Some(true));
+    assert!(rt; is_begun(rt.alloc(), 1, &OTHERS, &SECOND_CHECK) == Some(true));
 }
 
 // Runs that begin at control word 7: with period 1, and with one after the book's last.
@@ -83,39 +110,16 @@ static SEVENTH_CHECK: [u8; 16] = [
     0x1B, 0x74, 0x70, 0xF9, 0xAA, 0xB7, 0xBC, 0x5E, 0xC2, 0xB2, 0x3E, 0x36, 0x70, 0x39, 0x51, 0x26,
 ];
 
-// What is kept in the first crypto period, and how many sets its index gives.
-fn begun<L: Ledger>(alloc: Global, site: &[u8], blank: Blank) -> Option<(Begun, usize)>
-    requires name { blank.name ≡ L.name }
-    requires parts { blank.parts ≡ L.parts }
-    requires some { 0 < blank.parts }
-{
-    let mut steps = Steps::<L>::new(blank);
-    let site = sd_site::read(site).ok()?;
-    let book = Book::read(alloc, BOOK.as_bytes(), site.height).ok()?;
-    let mut entitling = Entitling::new(alloc, &site, book);
-    entitling.begin(&site, 0, &mut steps).ok()?;
-    let sets = entitling.index().sets(alloc, &mut steps).ok()?;
-    let first = (entitling.emms().to_vec(alloc).ok()?, *entitling.crypto());
-    Some((first, sets.len()))
-}
-
-fn first_begun(alloc: Global, site: &[u8]) -> Option<(Begun, usize)> {
-    begun::<Brand>(alloc, site, Blank::new(1))
-}
-
 // Whether control word 7 and this period are begun with a packet of entitlements, and there is one set.
-fn is_begun_at(begun: &Begun, sets: usize, period: u32) -> bool {
-    let (emms, crypto) = begun;
-    (crypto.number, crypto.period, sets) == (7, period, 1)
-        && crypto.check == SEVENTH_CHECK
-        && emms.len() == 1
-        && (period > 1 || are_of(emms, &OTHERS))
+fn is_begun_at(alloc: Global, text: &str, period: u32) -> Option<bool> {
+    let (emms, crypto, sets) = begun(alloc, &site_of(text)?, false)?;
+    let is_due = (crypto.number, crypto.period, sets) == (7, period, 1)
+        && crypto.check == SEVENTH_CHECK;
+    Some(is_due && emms.len() == 1 && (period > 1 || are_of(&emms, &OTHERS)))
 }
 
 #[test]
 fn a_run_begins_at_its_first_word_and_period(rt: HostRuntime) {
-    for (site, period) in [(LATER, 1), (LAST, 4_294_967_295)] {
-        let begun = first_begun(rt.alloc(), site.as_bytes());
-        assert!(rt; begun.is_some_and(|(begun, sets)| is_begun_at(&begun, sets, period)));
-    }
+    assert!(rt; is_begun_at(rt.alloc(), LATER, 1) == Some(true));
+    assert!(rt; is_begun_at(rt.alloc(), LAST, 4_294_967_295) == Some(true));
 }

@@ -1,6 +1,7 @@
-ghost use Rattle.std.specs.Prelude.{◌≡◌, ◌<◌, ◌≤◌};
+ghost use Rattle.std.specs.Prelude.{◌≡◌, ◌<◌, ◌≤◌, IfSome};
+ghost use Rattle.sd_head.specs.Staged.{IsReady};
 
-use crate::made::{Made, NULL, SCRAMBLED};
+use crate::made::{Made, NULL, SCRAMBLED, site_of};
 use crate::sections::{ALL, PAT, PMT, REWRITTEN};
 use sd_base::Steps;
 use sd_book::Book;
@@ -58,42 +59,51 @@ static SECOND: &str = site!("messages 2\n");
 
 type Answer = Result<u64, DriveFault<HeadFault>>;
 
-// What a head end answers for a clear stream and writes of it, with an empty book and at most so many bytes a read and
-// a write; and how many sets its index gives then.
-fn counted<L: Ledger>(
+// What a head end answers for a stream, and how many sets its index gives then.
+fn driven<L: Ledger>(
     alloc: Global,
-    clear: Vec<u8>,
-    second: bool,
-    most: usize,
+    source: &mut MemSource,
+    sink: &mut MemSink,
+    head: &mut Head,
     blank: Blank,
-) -> Option<(Answer, Vec<u8>, usize)>
-    requires most { 1 ≤ most }
+) -> Option<(Answer, usize)>
     requires name { blank.name ≡ L.name }
     requires parts { blank.parts ≡ L.parts }
     requires some { 0 < blank.parts }
+    requires live { IsReady head.old }
 {
     let mut steps = Steps::<L>::new(blank);
-    let text = if second { SECOND } else { SITE };
-    let site = sd_site::read(text.as_bytes()).ok()?;
-    let mut source = MemSource::new(clear, most, Vec::new(alloc));
-    let mut sink = MemSink::new(alloc, 2000, most, Vec::new(alloc)).ok()?;
-    let Ok(mut head) = Head::new(alloc, site, Book::new(alloc, site.height)) else {
-        return None;
-    };
-    let answer = drive(&mut source, &mut sink, &mut head, &mut steps);
+    let answer = drive(source, sink, head, &mut steps);
     let sets = head.index().sets(alloc, &mut steps).ok()?;
-    Some((answer, sink.into_bytes(), sets.len()))
+    Some((answer, sets.len()))
 }
 
+// What a head end answers for a clear stream and writes of it, with at most so many bytes a read and a write; and how
+// many sets its index gives then.
 fn sent(
     alloc: Global,
+    head: &mut Head,
     clear: Vec<u8>,
-    second: bool,
     most: usize,
 ) -> Option<(Answer, Vec<u8>, usize)>
-    requires { 1 ≤ most }
+    requires most { 1 ≤ most }
+    requires live { IsReady head.old }
 {
-    counted::<Brand>(alloc, clear, second, most, Blank::new(1))
+    let mut source = MemSource::new(clear, most, Vec::new(alloc));
+    let mut sink = MemSink::new(alloc, 2000, most, Vec::new(alloc)).ok()?;
+    let (answer, sets) = driven::<Brand>(alloc, &mut source, &mut sink, head, Blank::new(1))?;
+    Some((answer, sink.into_bytes(), sets))
+}
+
+// The head end of a site with an empty book.
+fn head(alloc: Global, text: &str) -> Option<Head>
+    ensures { IfSome result IsReady }
+{
+    let site = site_of(text)?;
+    match Head::new(alloc, site, Book::new(alloc, site.height)) {
+        Ok(head) => Some(head),
+        Err(_) => None,
+    }
 }
 
 // The packets' bytes, one after the other.
@@ -159,20 +169,16 @@ fn is_sent(alloc: Global, row: &Row, most: usize) -> Option<bool>
     requires { 1 ≤ most }
 {
     let (clear, second, answer, due) = row;
-    let clear = joined(alloc, clear)?;
-    let due = joined(alloc, due)?;
-    Some(sent(alloc, clear, *second, most) == Some((*answer, due, 1)))
+    let mut head = head(alloc, if *second { SECOND } else { SITE })?;
+    let sent = sent(alloc, &mut head, joined(alloc, clear)?, most)?;
+    Some(sent == (*answer, joined(alloc, due)?, 1))
 }
 
 #[test]
 fn streams_are_broadcast(rt: HostRuntime) {
-    for most in [1, 1000] {
-        for (place, row) in STREAMS.iter().enumerate() {
-            assert!(rt;
-                is_sent(rt.alloc(), row, most) == Some(true),
-                "stream {place}"
-            );
-        }
+    for row in &STREAMS {
+        assert!(rt; is_sent(rt.alloc(), row, 1) == Some(true));
+        assert!(rt; is_sent(rt.alloc(), row, 1000) == Some(true));
     }
 }
 
@@ -196,28 +202,22 @@ const LATER_ALONE: [u8; 78] = [
     0x76, 0x35, 0xB6, 0x1D, 0xEF, 0x92, 0x3C, 0x32, 0x7B, 0x00, 0x04, 0x74, 0xB9, 0x0A,
 ];
 
-// What a head end writes of no clear packet.
-fn ended<L: Ledger>(alloc: Global, blank: Blank) -> Option<Vec<u8>>
-    requires name { blank.name ≡ L.name }
-    requires parts { blank.parts ≡ L.parts }
-    requires some { 0 < blank.parts }
+// The head end of this run.
+fn later_head(alloc: Global) -> Option<Head>
+    ensures { IfSome result IsReady }
 {
-    let mut steps = Steps::<L>::new(blank);
-    let site = sd_site::read(LATER.as_bytes()).ok()?;
-    let Ok(book) = Book::read(alloc, BOOK.as_bytes(), site.height) else {
-        return None;
-    };
-    let mut source = MemSource::new(Vec::new(alloc), 1000, Vec::new(alloc));
-    let mut sink = MemSink::new(alloc, 2000, 1000, Vec::new(alloc)).ok()?;
-    let Ok(mut head) = Head::new(alloc, site, book) else {
-        return None;
-    };
-    drive(&mut source, &mut sink, &mut head, &mut steps).ok()?;
-    Some(sink.into_bytes())
+    let site = site_of(LATER)?;
+    let book = Book::read(alloc, BOOK.as_bytes(), site.height).ok()?;
+    match Head::new(alloc, site, book) {
+        Ok(head) => Some(head),
+        Err(_) => None,
+    }
 }
 
+// What it writes of no clear packet.
 fn later(alloc: Global) -> Option<Vec<u8>> {
-    ended::<Brand>(alloc, Blank::new(1))
+    let (answer, bytes, _) = sent(alloc, &mut later_head(alloc)?, Vec::new(alloc), 1000)?;
+    answer.is_ok().then_some(bytes)
 }
 
 // The packets of this run.

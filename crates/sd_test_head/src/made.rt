@@ -1,4 +1,10 @@
 use sd_packet::{Packet, pack_section};
+use sd_site::{Site, read};
+
+/// The site of a site file.
+pub(crate) fn site_of(text: &str) -> Option<Site> {
+    read(text.as_bytes()).ok()
+}
 
 /// The first and the last bytes of a PMT of 178 bytes, between which others count from 0.
 pub(crate) type Ends = (&'static [u8], &'static [u8]);

@@ -1,4 +1,4 @@
 use Rattle.sd_test_head.proofs.head.sent.Given as goal
 
-abbrev pub ghosts-counted : goal.ghosts-counted
-ghosts-counted a = record { name = a.blank.name; parts = a.blank.parts }
+abbrev pub ghosts-driven : goal.ghosts-driven
+ghosts-driven a = record { name = a.blank.name; parts = a.blank.parts }
