@@ -34,8 +34,8 @@ pub(crate) static LONG: [&str; 4] = [
 ];
 
 // The sites by their names: that of the cards, one that is refused, those of the broadcasts, and two with a message
-// before each 4,096th packet.
-static SITES: [(&str, &str); 9] = [
+// before each 4,096th packet. Then the books.
+static TEXTS: [(&str, &str); 11] = [
     ("site", SITE),
     ("site-version-4", site!("messages 4\n")),
     (
@@ -72,10 +72,9 @@ static SITES: [(&str, &str); 9] = [
             "messages 3\nfirst-word 10\nlast-word 19\nfirst-period 0\n"
         ),
     ),
+    ("empty", ""),
+    ("book", BOOK),
 ];
-
-// The books by their names.
-static BOOKS: [(&str, &str); 2] = [("empty", ""), ("book", BOOK)];
 
 // The clear streams and the cards of the leaves 0 and 5.
 static MADE: [&str; 5] = [
@@ -93,27 +92,39 @@ const PIECE: usize = 65_536;
 
 /// A file system with the sites, the books, the clear streams, the cards and what these commands make.
 pub(crate) fn shelf(alloc: Global, heads: &[&str]) -> Result<MemDepot, AllocError> {
-    let mut depot = MemDepot::new(alloc, ROOM, PIECE).map_err(|_| AllocError)?;
-    for (name, text) in SITES.iter().chain(&BOOKS) {
-        put(&mut depot, name, Vec::from_slice(alloc, text.as_bytes())?)?;
-    }
-    for words in MADE.iter().chain(heads) {
-        answered(alloc, &mut depot, words)?;
-    }
+    let Ok(mut depot) = MemDepot::new(alloc, ROOM, PIECE) else {
+        return Err(AllocError);
+    };
+    fill(alloc, &mut depot, heads)?;
     Ok(depot)
+}
+
+/// Adds all of this to an empty one.
+fn fill(alloc: Global, depot: &mut MemDepot, heads: &[&str]) -> Result<(), AllocError> {
+    for (name, text) in &TEXTS {
+        put(depot, name, Vec::from_slice(alloc, text.as_bytes())?)?;
+    }
+    for words in &MADE {
+        answered(alloc, depot, words)?;
+    }
+    for words in heads {
+        answered(alloc, depot, words)?;
+    }
+    Ok(())
 }
 
 /// Adds a file.
 pub(crate) fn put(depot: &mut MemDepot, name: &str, bytes: Vec<u8>) -> Result<(), AllocError> {
-    depot.put(name, bytes).map_err(|_| AllocError)
+    depot.put(name, bytes).or(Err(AllocError))
 }
 
-/// The bytes of a file, or none if it doesn't exist.
-pub(crate) fn file(alloc: Global, depot: &MemDepot, name: &str) -> Result<Vec<u8>, AllocError> {
-    match depot.get(name) {
-        Some(bytes) => Vec::from_slice(alloc, bytes),
-        None => Ok(Vec::new(alloc)),
+/// The words of a text.
+fn list_of(alloc: Global, words: &str) -> Result<Vec<String>, AllocError> {
+    let mut list = Vec::new(alloc);
+    for word in words.split(' ') {
+        list.push(String::from_str(alloc, word)?)?;
     }
+    Ok(list)
 }
 
 /// The status of these arguments and what is printed.
@@ -122,11 +133,10 @@ pub(crate) fn answered(
     depot: &mut MemDepot,
     words: &str,
 ) -> Result<(Status, Vec<u8>), AllocError> {
-    let mut list = Vec::new(alloc);
-    for word in words.split(' ') {
-        list.push(String::from_str(alloc, word)?)?;
-    }
-    let mut print = MemSink::new(alloc, PIECE, PIECE, Vec::new(alloc)).map_err(|_| AllocError)?;
+    let list = list_of(alloc, words)?;
+    let Ok(mut print) = MemSink::new(alloc, PIECE, PIECE, Vec::new(alloc)) else {
+        return Err(AllocError);
+    };
     let status = uncounted(alloc, &list, depot, &mut print);
     Ok((status, print.into_bytes()))
 }

@@ -1,8 +1,9 @@
 use crate::broadcasts::{
-    FIRST, PACKET, SECOND, SECOND_REVOKING, THIRD, answered, file, has_digest, shelf,
+    FIRST, PACKET, SECOND, SECOND_REVOKING, THIRD, answered, has_digest, shelf,
 };
 use hex::FromHex;
-use std::alloc::AllocError;
+use sd_ports_memory::MemDepot;
+use std::alloc::{AllocError, Global};
 
 // How the SHA-256 of each broadcast begins.
 static DIGESTS: [(&str, &str); 4] = [
@@ -48,27 +49,25 @@ static ECMS: [Ecm; 4] = [
     ),
 ];
 
-/// Where a message's section begins in its packet.
+/// Where a message's section begins in its packet, and t and `since` in the section of an ECM.
 const SECTION: usize = 5;
 
-/// Where t and `since` are in the section of an ECM.
-const T: usize = 16;
+const T: usize = SECTION + 16;
 
-const SINCE: usize = 24;
+const SINCE: usize = SECTION + 24;
 
 /// The line of the EMM section in packet 1 of the second broadcast.
 const EMM_LINE: &str =
     "{\"check\":\"1dcd30913b9a37b4772694d78c1d7f2f\",\"index\":0,\"names\":[\"all\"],\"packet\":1,\
-\"period\":1,\"pid\":496,\"run\":2,\"sections\":1,\"sets\":1,\"table\":\"emm\"}";
+\"period\":1,\"pid\":496,\"run\":2,\"sections\":1,\"sets\":1,\"table\":\"emm\"}\n";
 
-/// Whether the section in a packet has these bytes at this offset.
+/// Whether a packet has these bytes at this place.
 fn has(stream: &[u8], packet: usize, at: usize, due: &[u8]) -> bool {
-    let section = stream
-        .chunks(PACKET)
-        .nth(packet)
-        .and_then(|bytes| bytes.get(SECTION..));
-    match section.and_then(|bytes| bytes.get(at..)) {
-        Some(bytes) => bytes.starts_with(due),
+    let Some(bytes) = stream.chunks(PACKET).nth(packet) else {
+        return false;
+    };
+    match bytes.get(at..) {
+        Some(rest) => rest.starts_with(due),
         None => false,
     }
 }
@@ -76,7 +75,7 @@ fn has(stream: &[u8], packet: usize, at: usize, due: &[u8]) -> bool {
 /// Whether the EMM section stands in packet 1 of a stream.
 fn has_emm(stream: &[u8]) -> bool {
     match <[u8; 39]>::from_hex(EMM) {
-        Ok(emm) => has(stream, 1, 0, &emm),
+        Ok(emm) => has(stream, 1, SECTION, &emm),
         Err(_) => false,
     }
 }
@@ -84,41 +83,73 @@ fn has_emm(stream: &[u8]) -> bool {
 /// Whether a stream has an ECM as its row says.
 fn has_ecm(stream: &[u8], row: &Ecm) -> bool {
     let (packet, first, t, since) = row;
-    has(stream, *packet, 0, first)
+    has(stream, *packet, SECTION, first)
         && has(stream, *packet, T, t)
         && has(stream, *packet, SINCE, since)
 }
 
+/// The first ECM that a stream hasn't as its row says, by its packet.
+fn wrong_ecm(stream: &[u8]) -> Option<usize> {
+    for row in &ECMS {
+        if !has_ecm(stream, row) {
+            return Some(row.0);
+        }
+    }
+    None
+}
+
+/// The first broadcast that hasn't 608 packets with its digest.
+fn wrong_broadcast(depot: &MemDepot) -> Option<&'static str> {
+    for (name, digest) in &DIGESTS {
+        let bytes = depot.get(name).unwrap_or(&[]);
+        if bytes.len() != 608 * PACKET || !has_digest(bytes, digest) {
+            return Some(*name);
+        }
+    }
+    None
+}
+
+/// The first broadcast and the first ECM of the second one that are wrong, and whether that has the EMM section.
+fn sent(alloc: Global) -> Result<(Option<&'static str>, Option<usize>, bool), AllocError> {
+    let depot = shelf(alloc, &[FIRST, SECOND, THIRD, SECOND_REVOKING])?;
+    let second = depot.get("second").unwrap_or(&[]);
+    Ok((wrong_broadcast(&depot), wrong_ecm(second), has_emm(second)))
+}
+
 #[test]
 fn messages_name_their_run(rt: HostRuntime) -> Result<(), AllocError> {
-    let alloc = rt.alloc();
-    let depot = shelf(alloc, &[FIRST, SECOND, THIRD, SECOND_REVOKING])?;
-    for (name, digest) in &DIGESTS {
-        let broadcast = file(alloc, &depot, name)?;
-        assert!(rt;
-            broadcast.len() == 608 * PACKET && has_digest(&broadcast, digest),
-            "{name}"
-        );
-    }
-    let stream = file(alloc, &depot, "second")?;
-    assert!(rt; has_emm(&stream));
-    for row in &ECMS {
-        let packet = row.0;
-        assert!(rt; has_ecm(&stream, row), "{packet}");
-    }
+    let (broadcast, ecm, has_emm) = sent(rt.alloc())?;
+    assert!(rt; broadcast.is_none(), "{broadcast:?}");
+    assert!(rt; has_emm);
+    assert!(rt; ecm.is_none(), "{ecm:?}");
     Ok(())
+}
+
+/// Whether `messages` prints the line of the EMM section first.
+fn is_listed(alloc: Global, depot: &mut MemDepot) -> Result<bool, AllocError> {
+    let (status, printed) = answered(alloc, depot, "messages site-second second")?;
+    Ok(status.code() == 0 && printed.starts_with(EMM_LINE.as_bytes()))
+}
+
+/// Whether `head` refuses a site of version 4.
+fn is_refused(alloc: Global, depot: &mut MemDepot) -> Result<bool, AllocError> {
+    let (status, printed) = answered(alloc, depot, "head site-version-4 empty clear-7 O")?;
+    Ok(status.code() == 6 && printed.as_slice() == b"site line 9 is out of range\n".as_slice())
+}
+
+/// Whether both are so.
+fn are_told(alloc: Global) -> Result<(bool, bool), AllocError> {
+    let mut depot = shelf(alloc, &[SECOND])?;
+    Ok((
+        is_listed(alloc, &mut depot)?,
+        is_refused(alloc, &mut depot)?,
+    ))
 }
 
 #[test]
 fn lines_of_messages_have_the_run(rt: HostRuntime) -> Result<(), AllocError> {
-    let alloc = rt.alloc();
-    let mut depot = shelf(alloc, &[SECOND])?;
-    let (status, printed) = answered(alloc, &mut depot, "messages site-second second")?;
-    let mut lines = printed.split(|byte| *byte == b'\n');
-    assert!(rt; status.code() == 0 && lines.next() == Some(EMM_LINE.as_bytes()));
-    let (status, printed) = answered(alloc, &mut depot, "head site-version-4 empty clear-7 O")?;
-    assert!(rt;
-        status.code() == 6 && printed.as_slice() == b"site line 9 is out of range\n".as_slice()
-    );
+    let (is_listed, is_refused) = are_told(rt.alloc())?;
+    assert!(rt; is_listed);
+    assert!(rt; is_refused);
     Ok(())
 }
