@@ -1,6 +1,7 @@
-use crate::due::{CLEAR, COUNTERS, Layout, Thing, ending, is_confirmed};
+use crate::due::{CLEAR, Layout, Thing, counter_of, ending, is_confirmed};
 use crate::ends::{broadcast, received};
 use sd_packet::pack_section;
+use sd_receive::Ending;
 use sd_test_texts::site_start;
 use std::alloc::{AllocError, Global};
 use std::test::Fail;
@@ -40,7 +41,7 @@ fn clear() -> [[u8; 188]; CLEAR] {
     packets[0] = *pack_section(&PAT, 0, 0).bytes();
     packets[1] = *pack_section(&PMT, 0x1000, 7).bytes();
     for k in 0..CLEAR {
-        if let Some(counter) = COUNTERS[k] {
+        if let Some(counter) = counter_of(k) {
             packets[k] = [counter; 188];
             packets[k][..4].copy_from_slice(&[0x47, 0x01, 0x00, 0x10 | counter]);
         }
@@ -91,35 +92,76 @@ impl<'a> Trial<'a> {
         true
     }
 
-    /// Whether the receiver makes what is due of the packets whose bits are 1.
-    fn is_due(&self, alloc: Global, choice: u32) -> Result<bool, AllocError> {
-        let sent = self.layout.sent();
+    /// The packets whose bits are 1.
+    fn stream(&self, alloc: Global, choice: u32) -> Result<Vec<u8>, AllocError> {
         let mut stream = Vec::new(alloc);
+        for place in 0..SENT {
+            if is_chosen(choice, place as u32) {
+                stream.extend_from_slice(&self.packets[place])?;
+            }
+        }
+        Ok(stream)
+    }
+
+    /// The things behind the first CAT whose bits are 1, if its bit is 1.
+    fn heard(&self, alloc: Global, choice: u32) -> Result<Option<Vec<Thing>>, AllocError> {
+        let sent = self.layout.sent();
         let mut heard = Vec::new(alloc);
         let mut is_tuned = false;
         for place in 0..SENT {
-            if choice.wrapping_shr(place as u32) & 1 == 1 {
-                stream.extend_from_slice(&self.packets[place])?;
+            if is_chosen(choice, place as u32) {
                 if is_tuned {
                     heard.push(sent[place])?;
                 }
                 is_tuned = is_tuned || sent[place] == Thing::Cat;
             }
         }
+        Ok(is_tuned.then_some(heard))
+    }
+
+    /// The clear packets that are confirmed.
+    fn confirmed(&self, alloc: Global, heard: &[Thing]) -> Result<Vec<u8>, AllocError> {
         let mut out = Vec::new(alloc);
         for k in 0..CLEAR {
-            if is_confirmed(&heard, self.layout, k) {
+            if is_confirmed(heard, self.layout, k) {
                 out.extend_from_slice(&self.clear[k])?;
             }
         }
-        let count = out.len() / 188;
-        let due = ending(is_tuned.then_some(heard.as_slice()), self.layout, count);
+        Ok(out)
+    }
+
+    /// What the receiver makes of the packets whose bits are 1.
+    fn due(&self, alloc: Global, choice: u32) -> Result<(Ending, Vec<u8>), AllocError> {
+        let heard = self.heard(alloc, choice)?;
+        let things = heard.as_deref();
+        let out = self.confirmed(alloc, things.unwrap_or(&[]))?;
+        Ok((ending(things, self.layout, out.len() / 188), out))
+    }
+
+    /// Whether the receiver makes what is due of the packets whose bits are 1.
+    fn is_due(&self, alloc: Global, choice: u32) -> Result<bool, AllocError> {
+        let stream = self.stream(alloc, choice)?;
         let told = received(alloc, self.site, self.leaf, stream, CLEAR * 188);
-        Ok(told == Some((due, out)))
+        Ok(told == Some(self.due(alloc, choice)?))
+    }
+
+    /// The first choice of the packets of which the receiver makes something else than is due.
+    fn first_wrong(&self, alloc: Global) -> Result<Option<u32>, AllocError> {
+        for choice in 0..1u32 << SENT {
+            if !self.is_due(alloc, choice)? {
+                return Ok(Some(choice));
+            }
+        }
+        Ok(None)
     }
 }
 
-/// The first choice of the packets of a broadcast of which the receiver makes something else than is due.
+/// Whether the bit of a place is 1.
+fn is_chosen(choice: u32, place: u32) -> bool {
+    choice.wrapping_shr(place) & 1 == 1
+}
+
+/// The first wrong choice of the packets of a broadcast.
 fn first_wrong(alloc: Global, layout: Layout) -> Result<Option<u32>, Fail> {
     let (book, span): (&[u8], u32) = match layout.later {
         0 => (b"", 2),
@@ -140,12 +182,7 @@ fn first_wrong(alloc: Global, layout: Layout) -> Result<Option<u32>, Fail> {
     if !trial.is_laid_out() {
         return Err("another order of packets".into());
     }
-    for choice in 0..1u32 << SENT {
-        if !trial.is_due(alloc, choice)? {
-            return Ok(Some(choice));
-        }
-    }
-    Ok(None)
+    Ok(trial.first_wrong(alloc)?)
 }
 
 // A broadcast in one period; one in which the leaf is revoked in the next period; and one of version 2 with later words

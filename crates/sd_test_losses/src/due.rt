@@ -30,8 +30,16 @@ pub(crate) const CLEAR: usize = 6;
 /// The closing message.
 const CLOSING: usize = 3;
 
-/// The counters of the packets of the scrambled PID, which stand at the positions 28, 38, 48 and 60.
-pub(crate) const COUNTERS: [Option<u8>; CLEAR] = [None, None, Some(12), Some(6), Some(0), Some(12)];
+/// The counter of a clear packet of the scrambled PID, whose packets stand at the positions 28, 38, 48 and 60.
+pub(crate) fn counter_of(k: usize) -> Option<u8> {
+    match k {
+        2 => Some(12),
+        3 => Some(6),
+        4 => Some(0),
+        5 => Some(12),
+        _ => None,
+    }
+}
 
 /// Where the scrambled PID stands at a message.
 fn position(message: usize) -> u64 {
@@ -86,24 +94,36 @@ impl Layout {
 
 /// Whether the thing stands among these.
 fn has(heard: &[Thing], thing: Thing) -> bool {
-    heard.iter().any(|one| *one == thing)
+    for one in heard {
+        if *one == thing {
+            return true;
+        }
+    }
+    false
 }
 
 /// Whether a section that has the leaf stands before a message, of the message's period.
 fn is_entitled(heard: &[Thing], layout: Layout, message: usize) -> bool {
     let period = layout.period(message);
-    let mut before = heard
-        .iter()
-        .take_while(|one| **one != Thing::Message(message));
-    layout.has_set(period) && before.any(|one| *one == Thing::Section(period))
+    for one in heard {
+        match *one {
+            Thing::Message(number) if number == message => return false,
+            Thing::Section(q) if q == period => return layout.has_set(period),
+            _ => {}
+        }
+    }
+    false
 }
 
 /// The smallest number above a position that equals the counter mod 16.
 fn moved(position: u64, counter: u8) -> u64 {
-    (1..=16)
-        .map(|n| position.wrapping_add(n))
-        .find(|next| next % 16 == u64::from(counter))
-        .unwrap_or(position)
+    for n in 1..=16 {
+        let next = position.wrapping_add(n);
+        if next % 16 == u64::from(counter) {
+            return next;
+        }
+    }
+    position
 }
 
 /// Whether the scrambled PID is at most 15 below its position at message b, where what was heard leads it from that at
@@ -112,28 +132,67 @@ fn is_near(heard: &[Thing], a: usize, b: usize) -> bool {
     let mut tracked = position(a);
     for k in 0..CLEAR {
         if a <= k / 2 && k / 2 < b && has(heard, Thing::Clear(k)) {
-            if let Some(counter) = COUNTERS[k] {
+            if let Some(counter) = counter_of(k) {
                 tracked = moved(tracked, counter);
             }
         }
     }
-    (0..16).any(|above| tracked.wrapping_add(above) == position(b))
+    position(b).wrapping_sub(tracked) <= 15
+}
+
+/// The newest message up to this one that is heard.
+fn newest(heard: &[Thing], last: usize) -> Option<usize> {
+    let mut newest = None;
+    for message in 0..=last {
+        if has(heard, Thing::Message(message)) {
+            newest = Some(message);
+        }
+    }
+    newest
+}
+
+/// The next message behind this one that is heard.
+fn next(heard: &[Thing], message: usize) -> Option<usize> {
+    for b in 0..=CLOSING {
+        if message < b && has(heard, Thing::Message(b)) {
+            return Some(b);
+        }
+    }
+    None
 }
 
 /// Whether clear packet k is confirmed, by the newest message up to it that is heard and the next one.
 pub(crate) fn is_confirmed(heard: &[Thing], layout: Layout, k: usize) -> bool {
-    let first = (0..CLOSING)
-        .rev()
-        .find(|a| *a <= k / 2 && has(heard, Thing::Message(*a)));
-    let next = (0..=CLOSING).find(|b| k / 2 < *b && has(heard, Thing::Message(*b)));
-    let (Some(a), Some(b)) = (first, next) else {
+    let (Some(a), Some(b)) = (newest(heard, k / 2), next(heard, k / 2)) else {
         return false;
     };
-    let is_scrambled = COUNTERS.get(k).is_some_and(|counter| counter.is_some());
     has(heard, Thing::Clear(k))
         && layout.since(b) <= a
         && is_entitled(heard, layout, a)
-        && (!is_scrambled || is_near(heard, a, b))
+        && (counter_of(k).is_none() || is_near(heard, a, b))
+}
+
+/// The period of the first message that is heard with a section that hasn't the leaf.
+fn revoked(heard: &[Thing], layout: Layout) -> Option<u32> {
+    for message in 0..=CLOSING {
+        let period = layout.period(message);
+        let is_revoked = !layout.has_set(period) && has(heard, Thing::Section(period));
+        if is_revoked && has(heard, Thing::Message(message)) {
+            return Some(period);
+        }
+    }
+    None
+}
+
+/// The period of the first message that is heard without a section.
+fn unheard(heard: &[Thing], layout: Layout) -> Option<u32> {
+    for message in 0..=CLOSING {
+        let period = layout.period(message);
+        if has(heard, Thing::Message(message)) && !has(heard, Thing::Section(period)) {
+            return Some(period);
+        }
+    }
+    None
 }
 
 /// How it ends for the leaf where these things are heard after the first CAT, if there is one, and so many clear
@@ -142,19 +201,17 @@ pub(crate) fn ending(heard: Option<&[Thing]>, layout: Layout, confirmed: usize) 
     let Some(heard) = heard else {
         return Ending::NoCat;
     };
-    let is_heard = |message: &usize| has(heard, Thing::Message(*message));
-    if !is_heard(&CLOSING) {
-        let last = (0..CLOSING).rev().find(is_heard);
-        return Ending::Unclosed(last.map_or(0, |a| (a as u64).saturating_add(1)));
+    if !has(heard, Thing::Message(CLOSING)) {
+        return match newest(heard, CLOSING) {
+            Some(a) => Ending::Unclosed((a as u64).saturating_add(1)),
+            None => Ending::Unclosed(0),
+        };
     }
-    let period = |message: usize| layout.period(message);
-    let mut periods = (0..=CLOSING).filter(is_heard).map(period);
-    if let Some(q) = periods.find(|q| !layout.has_set(*q) && has(heard, Thing::Section(*q))) {
-        return Ending::Revoked(q);
+    if let Some(period) = revoked(heard, layout) {
+        return Ending::Revoked(period);
     }
-    let mut periods = (0..=CLOSING).filter(is_heard).map(period);
-    if let Some(q) = periods.find(|q| !has(heard, Thing::Section(*q))) {
-        return Ending::Unheard(q);
+    if let Some(period) = unheard(heard, layout) {
+        return Ending::Unheard(period);
     }
     match CLEAR.saturating_sub(confirmed) {
         0 => Ending::Opened,

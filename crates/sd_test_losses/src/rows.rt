@@ -19,30 +19,47 @@ const SENT: usize = 608 * 188;
 /// The packets of a PID that are left out: from one on, below another.
 type Lost = (u16, usize, usize);
 
+/// The PID of a packet.
+fn pid_of(packet: &[u8]) -> u16 {
+    match (packet.get(1), packet.get(2)) {
+        (Some(high), Some(low)) => u16::from_be_bytes([*high & 0x1F, *low]),
+        _ => 0,
+    }
+}
+
 /// The packets of a stream that are left.
 fn left(alloc: Global, stream: &[u8], lost: Lost) -> Result<Vec<u8>, AllocError> {
     let (pid, first, end) = lost;
     let mut bytes = Vec::new(alloc);
     let mut met = 0usize;
     for packet in stream.chunks_exact(188) {
-        let byte = |place: usize| packet.get(place).copied().unwrap_or(0);
-        if u16::from_be_bytes([byte(1) & 0x1F, byte(2)]) == pid {
+        let is_of_pid = pid_of(packet) == pid;
+        if is_of_pid {
             met = met.saturating_add(1);
-            if first < met && met <= end {
-                continue;
-            }
         }
-        bytes.extend_from_slice(packet)?;
+        if !is_of_pid || met <= first || end < met {
+            bytes.extend_from_slice(packet)?;
+        }
     }
     Ok(bytes)
 }
 
-/// What the receiver of leaf 0 makes of a broadcast of 600 packets of the sample stream 7 without these packets.
+/// The sample stream 7 of 600 packets.
+fn clear(alloc: Global) -> Result<Vec<u8>, AllocError> {
+    let Ok(mut sink) = MemSink::new(alloc, SENT, SENT, Vec::new(alloc)) else {
+        return Err(AllocError);
+    };
+    match sample(7, 600, &mut sink) {
+        Ok(()) => Ok(sink.into_bytes()),
+        Err(_) => Err(AllocError),
+    }
+}
+
+/// What the receiver of leaf 0 makes of a broadcast of that stream without these packets.
 fn heard(alloc: Global, site: &str, book: &str, lost: Lost) -> Result<(Ending, Vec<u8>), Fail> {
     let (site, book) = (site.as_bytes(), book.as_bytes());
-    let mut clear = MemSink::new(alloc, SENT, SENT, Vec::new(alloc)).map_err(|_| AllocError)?;
-    sample(7, 600, &mut clear).map_err(|_| AllocError)?;
-    let stream = broadcast(alloc, site, book, clear.into_bytes(), SENT).ok_or("no broadcast")?;
+    let clear = clear(alloc)?;
+    let stream = broadcast(alloc, site, book, clear, SENT).ok_or("no broadcast")?;
     let stream = left(alloc, &stream, lost)?;
     Ok(received(alloc, site, 0, stream, SENT).ok_or("refused")?)
 }
@@ -140,7 +157,7 @@ static ROWS: [Row; 9] = [
 fn is_due(alloc: Global, row: Row) -> Result<bool, Fail> {
     let (site, book, lost, ending, count, digest) = row;
     let (told, out) = heard(alloc, site, book, lost)?;
-    let due = <[u8; 32]>::from_hex(digest).map_err(|_| "no hash")?;
+    let due = <[u8; 32]>::from_hex(digest).or(Err("no hash"))?;
     Ok(told == ending && out.len() == count.saturating_mul(188) && Sha256::digest(&out) == due)
 }
 
