@@ -1,10 +1,8 @@
+use crate::rows::{File, over, sampled, tells};
 use sd_command_status::{ClearCause, Status};
-use sd_ports::MemSink;
-use sd_sample::sample;
-use sd_test_memory::{Fault, Files, Leaving, left};
+use sd_test_memory::{Fault, Leaving};
 use sd_test_texts::SITE;
 use std::alloc::{AllocError, Global};
-use std::fmt::Write;
 
 /// The digests of nothing, and of the first 200 and 400 packets of the clear stream.
 const NOTHING: &str = "e3b0c44298fc1c149afbf4c8996fb924";
@@ -80,45 +78,51 @@ static ROWS: [Row; 9] = [
     ),
 ];
 
-/// The files of a field: the site with lines after it, the clear stream of 600 packets, and the script.
-fn field_files(alloc: Global, more: &str, script: &str) -> Result<Files, AllocError> {
-    let mut site = Vec::from_slice(alloc, SITE.as_bytes())?;
-    site.extend_from_slice(more.as_bytes())?;
-    let mut sink = MemSink::new(alloc, 112_800, 112_800, Vec::new(alloc)).map_err(|_| AllocError)?;
-    sample(7, 600, &mut sink).map_err(|_| AllocError)?;
-    let mut files = Files::with(alloc, "S", &site)?;
-    files.add(alloc, "C", sink.bytes())?;
-    files.add(alloc, "E", script.as_bytes())?;
-    Ok(files)
+/// The digest of a receiver that writes so many packets.
+fn digest_of(wrote: u32) -> &'static str {
+    match wrote {
+        0 => NOTHING,
+        200 => FIRST_200,
+        _ => FIRST_400,
+    }
 }
 
 /// The lines of a field: the first, and that of each receiver.
-fn lines(alloc: Global, first: &str, wrote: &[u32]) -> Result<String, AllocError> {
+fn lines(alloc: Global, first: &str, wrote: &[u32; 8]) -> Result<String, AllocError> {
     let mut text = String::from_str(alloc, first)?;
-    for (u, count) in wrote.iter().enumerate() {
-        let digest = match *count {
-            0 => NOTHING,
-            200 => FIRST_200,
-            _ => FIRST_400,
-        };
-        write!(&mut text, "receiver {u} wrote {count} digest {digest}\n").map_err(|_| AllocError)?;
+    for u in 0..8 {
+        let count = wrote[u];
+        let digest = digest_of(count);
+        write!(text, "receiver {u} wrote {count} digest {digest}\n")?;
     }
     Ok(text)
 }
 
-/// What `field` leaves over a site with more lines.
-fn after(alloc: Global, more: &str, script: &str) -> Result<Leaving, AllocError> {
-    let files = field_files(alloc, more, script)?;
+/// What `field` leaves over a site, a clear stream and a script.
+fn over_field<'a>(
+    alloc: Global,
+    site: &[u8],
+    clear: &'a [u8],
+    script: &'a [u8],
+) -> Result<Leaving, AllocError> {
+    let files: [File<'a>; 2] = [("C", clear), ("E", script)];
     let words = ["field", "S", "C", "E"];
-    left(alloc, &files, &words, 4096, Fault::Nowhere)
+    over(alloc, &words, site, &files, 4096, Fault::Nowhere)
+}
+
+/// What `field` leaves over a site with more lines and the clear stream of 600 packets.
+fn after(alloc: Global, more: &str, script: &str) -> Result<Leaving, AllocError> {
+    let site = format!(in alloc; "{SITE}{more}")?;
+    let clear = sampled(alloc, 7, 600)?;
+    over_field(alloc, site.as_bytes(), &clear, script.as_bytes())
 }
 
 /// Whether `field` prints the lines of the row.
 fn is_printed(alloc: Global, row: &Row) -> Result<bool, AllocError> {
     let (more, script, first, wrote) = row;
-    let left = after(alloc, more, script)?;
     let due = lines(alloc, first, wrote)?;
-    Ok(matches!(left.status, Status::Done) && left.printed.as_slice() == due.as_bytes())
+    let left = after(alloc, more, script)?;
+    Ok(tells(&left, 0, &due))
 }
 
 #[test]
@@ -133,9 +137,9 @@ fn fields_are_printed(rt: HostRuntime) -> Result<(), AllocError> {
 /// Lines of a site that has one control word.
 const ONE_WORD: &str = "messages 1\nfirst-word 7\nlast-word 7\nfirst-period 0\n";
 
-#[test]
-fn refused_sends_are_told_alone(rt: HostRuntime) -> Result<(), AllocError> {
-    let left = after(rt.alloc(), ONE_WORD, "send 401\noffer 0 405\n")?;
+/// Whether `field` tells alone that it sends more than the one control word covers.
+fn is_refused_alone(alloc: Global) -> Result<bool, AllocError> {
+    let left = after(alloc, ONE_WORD, "send 401\noffer 0 405\n")?;
     let is_refused = matches!(
         left.status,
         Status::BadClear {
@@ -143,8 +147,11 @@ fn refused_sends_are_told_alone(rt: HostRuntime) -> Result<(), AllocError> {
             cause: ClearCause::TooLong
         }
     );
-    assert!(rt;
-        is_refused && left.printed.as_slice() == b"clear packet 400: too long\n".as_slice()
-    );
+    Ok(is_refused && tells(&left, 9, "clear packet 400: too long\n"))
+}
+
+#[test]
+fn refused_sends_are_told_alone(rt: HostRuntime) -> Result<(), AllocError> {
+    assert!(rt; is_refused_alone(rt.alloc())?);
     Ok(())
 }
