@@ -3,60 +3,66 @@ use std::alloc::{AllocError, Global};
 /// How many bytes a packet has.
 pub(crate) const PACKET: usize = 188;
 
-/// A change of a file.
-#[derive(Clone, Copy)]
-pub(crate) enum Change<'a> {
-    /// These bytes stand from a place on, in place of those there.
-    Put(usize, &'a [u8]),
-    /// The packet of this number stands twice.
-    Twice(usize),
-    /// No more than so many bytes are left.
-    Cut(usize),
-    /// These bytes stand after all.
-    Add(&'a [u8]),
-}
+/// The PMT section of the sample stream, and what is after it where it stood rewritten.
+const PMT: &str = "02B0170001C10000E100F0001BE100F0000FE101F0002F44B99BFFFFFFFFFFFF";
 
-/// The bytes after these changes, one after the other.
-pub(crate) fn changed(
-    alloc: Global,
-    bytes: &[u8],
-    changes: &[Change<'_>],
-) -> Result<Vec<u8>, AllocError> {
+/// The bytes after these changes, one after the other: `227=02FF` puts bytes at a place, `757=pmt` the PMT section, and
+/// `end=00` a byte after all; `251=cut` leaves at most so many bytes; `1=twice` repeats the packet of a number, and
+/// `1=lost` leaves it out.
+pub(crate) fn changed(alloc: Global, bytes: &[u8], changes: &str) -> Result<Vec<u8>, AllocError> {
     let mut bytes = Vec::from_slice(alloc, bytes)?;
-    for change in changes {
-        bytes = changed_once(alloc, bytes, *change)?;
+    for change in changes.split_whitespace() {
+        let (place, what) = change.split_once('=').unwrap_or((change, ""));
+        bytes = changed_once(alloc, &bytes, place, what)?;
     }
     Ok(bytes)
 }
 
 fn changed_once(
     alloc: Global,
-    mut bytes: Vec<u8>,
-    change: Change<'_>,
+    bytes: &[u8],
+    place: &str,
+    what: &str,
 ) -> Result<Vec<u8>, AllocError> {
-    match change {
-        Change::Put(at, piece) => put(&mut bytes, at, piece),
-        Change::Twice(packet) => return doubled(alloc, &bytes, packet),
-        Change::Cut(length) => bytes.truncate(length),
-        Change::Add(piece) => bytes.extend_from_slice(piece)?,
-    }
-    Ok(bytes)
-}
-
-fn put(bytes: &mut [u8], at: usize, piece: &[u8]) {
-    for (byte, new) in bytes.iter_mut().skip(at).zip(piece) {
-        *byte = *new;
+    let place = place.parse::<usize>().unwrap_or(bytes.len());
+    let packet = place.saturating_mul(PACKET);
+    let after = packet.saturating_add(PACKET);
+    match what {
+        "cut" => spliced(alloc, bytes, place, bytes.len(), &[]),
+        "lost" => spliced(alloc, bytes, packet, after, &[]),
+        "twice" => spliced(alloc, bytes, after, packet, &[]),
+        _ => overwritten(alloc, bytes, place, what),
     }
 }
 
-/// The packets, of which the one of this number stands twice.
-fn doubled(alloc: Global, stream: &[u8], packet: usize) -> Result<Vec<u8>, AllocError> {
-    let mut bytes = Vec::new(alloc);
-    for (number, piece) in stream.chunks(PACKET).enumerate() {
-        bytes.extend_from_slice(piece)?;
-        if number == packet {
-            bytes.extend_from_slice(piece)?;
-        }
-    }
-    Ok(bytes)
+/// The bytes of which others, in hexadecimal, stand from a place on.
+fn overwritten(
+    alloc: Global,
+    bytes: &[u8],
+    place: usize,
+    what: &str,
+) -> Result<Vec<u8>, AllocError> {
+    let digits = if what == "pmt" { PMT } else { what };
+    let piece = hex::decode(alloc, digits).map_err(|_| AllocError)?;
+    spliced(
+        alloc,
+        bytes,
+        place,
+        place.saturating_add(piece.len()),
+        &piece,
+    )
+}
+
+/// The bytes before one place, a piece, and the bytes from another place on.
+fn spliced(
+    alloc: Global,
+    bytes: &[u8],
+    before: usize,
+    after: usize,
+    piece: &[u8],
+) -> Result<Vec<u8>, AllocError> {
+    let mut spliced = Vec::from_slice(alloc, bytes.get(..before).unwrap_or(bytes))?;
+    spliced.extend_from_slice(piece)?;
+    spliced.extend_from_slice(bytes.get(after..).unwrap_or(&[]))?;
+    Ok(spliced)
 }

@@ -1,3 +1,4 @@
+use crate::row::Row;
 use crate::sums::has_sum;
 use sd_command_status::Status;
 use sd_test_memory::{Fault, Files, Leaving, left, made};
@@ -7,72 +8,79 @@ use std::test::Fail;
 /// How many bytes go through a call of a port: fewer than half of any file that a command makes, and of any text.
 const PIECE: usize = 8;
 
-/// What a command makes and prints, by how the SHA-256 of it begins: nothing where there is no text.
-type Sum<'a> = &'a str;
-
-/// A command.
-#[derive(Clone, Copy)]
-struct Command<'a> {
-    words: &'a [&'a str],
-    /// The files that it reads, in their order, each of one letter.
-    reads: &'a [&'a str],
-    /// Whether the last of them goes into OUT while it is read.
-    streams: bool,
-    /// OUT.
-    makes: Sum<'a>,
-    prints: Sum<'a>,
-}
-
-/// A run of it in which nothing fails, and its files.
+/// A run of a command in which nothing fails, and its files.
 #[derive(Drop)]
 struct Whole<'a> {
-    command: Command<'a>,
     files: &'a Files,
+    row: Row<'a>,
+    words: Vec<&'a str>,
+    /// The files that it reads, in their order, each of one letter.
+    reads: Vec<&'a str>,
     left: Leaving,
 }
 
 // The books, the accounts and the leaves that the commands read.
-static TEXTS: [(&str, &str); 6] = [
-    ("B", "revoke 0\nrevoke 7\n"),
-    ("R", "revoke 5\n"),
-    ("M", "period\nsubscribe 5\n"),
-    ("A", "assign ann 5\nperiod\ndrop ann\n"),
-    ("P", "revoke 0\nrevoke 2\n"),
-    ("L", "1\n6\n"),
-];
+const TEXTS: &str = "
+$ B
+revoke 0
+revoke 7
+$ R
+revoke 5
+$ M
+period
+subscribe 5
+$ A
+assign ann 5
+period
+drop ann
+$ P
+revoke 0
+revoke 2
+$ L
+1
+6
+";
 
 // The clear stream, the card and the broadcast that they read, and the commands that make them.
-static MADE: [(&str, &[&str]); 3] = [
-    ("C", &["sample", "0", "3", "O"]),
-    ("K", &["card", "S", "0", "O"]),
-    ("X", &["head", "S", "M", "C", "O"]),
-];
+const MADE: &str = "C = sample 0 3 O
+K = card S 0 O
+X = head S M C O
+";
 
 /// The files that the commands read.
 fn files(alloc: Global) -> Result<Files, AllocError> {
     let mut files = Files::new(alloc)?;
-    for (name, text) in &TEXTS {
-        files.add(alloc, name, text.as_bytes())?;
+    for text in TEXTS.split('$').skip(1) {
+        let row = Row::new(text);
+        files.add(alloc, row.cell(0), row.printed.as_bytes())?;
     }
-    for (name, words) in &MADE {
-        let bytes = made(alloc, &files, words)?;
-        files.add(alloc, name, &bytes)?;
+    for line in MADE.lines() {
+        add_made(alloc, &mut files, line)?;
     }
     Ok(files)
+}
+
+/// Adds a file that a command makes.
+fn add_made(alloc: Global, files: &mut Files, line: &str) -> Result<(), AllocError> {
+    let (name, words) = line.split_once(" = ").ok_or(AllocError)?;
+    let words: Vec<&str> = words.split(' ').collect(alloc)?;
+    let bytes = made(alloc, files, &words)?;
+    files.add(alloc, name, &bytes)
 }
 
 impl<'a> Whole<'a> {
     /// Whether it made and printed all.
     fn is_done(&self) -> bool {
         let left = &self.left;
+        let (makes, prints) = (self.row.cell(3), self.row.cell(4));
         let out = match &left.out {
-            Some(out) => has_sum(out, self.command.makes),
-            None => self.command.makes.is_empty(),
+            Some(out) => has_sum(out, makes),
+            None => makes.is_empty(),
         };
-        let printed = has_sum(&left.printed, self.command.prints);
+        let printed = has_sum(&left.printed, prints);
         matches!(left.status, Status::Done)
             && out
-            && (printed || left.printed.is_empty() && self.command.prints.is_empty())
+            && (printed || left.printed.is_empty() && prints.is_empty())
             && !left.failed
             && left.made == u64::from(left.out.is_some())
             && left.stayed
@@ -80,7 +88,7 @@ impl<'a> Whole<'a> {
 
     /// What is left where a call fails.
     fn left(&self, alloc: Global, fault: Fault<'_>) -> Result<Leaving, AllocError> {
-        left(alloc, self.files, self.command.words, PIECE, fault)
+        left(alloc, self.files, &self.words, PIECE, fault)
     }
 
     /// Whether a device's fault is told after the first whole lines, and OUT begins the whole one where it was made.
@@ -127,7 +135,7 @@ impl<'a> Whole<'a> {
     /// Whether each call of the depot is told where it fails: one opens each file that is read, and two make OUT and
     /// close it.
     fn fails_at_calls(&self, alloc: Global) -> Result<bool, AllocError> {
-        let reads = self.command.reads.len();
+        let reads = self.reads.len();
         let calls = if self.left.out.is_some() { 2 } else { 0 };
         for place in 0..reads.saturating_add(calls) {
             let number = u32::try_from(place).unwrap_or(u32::MAX);
@@ -141,10 +149,11 @@ impl<'a> Whole<'a> {
 
     /// Whether the first and the second call of each file are told where they fail.
     fn fails_at_ports(&self, alloc: Global) -> Result<bool, AllocError> {
-        let mut rest = self.command.reads.len();
-        for name in self.command.reads {
+        let streams = self.row.cell(2) == "streams";
+        let mut rest = self.reads.len();
+        for name in &self.reads {
             rest = rest.saturating_sub(1);
-            let is_made = self.command.streams && rest == 0;
+            let is_made = streams && rest == 0;
             if !self.fails_at(alloc, name, is_made)? {
                 return Ok(false);
             }
@@ -176,133 +185,37 @@ impl<'a> Whole<'a> {
     }
 }
 
-/// A command's words, the files that it reads, whether the last of them is read while OUT is written, OUT, and what is
-/// printed.
-type Row = (
-    &'static [&'static str],
-    &'static [&'static str],
-    bool,
-    Sum<'static>,
-    Sum<'static>,
-);
-
-static COMMANDS: [Row; 16] = [
-    (
-        &["cover", "S", "B"],
-        &["S", "B"],
-        false,
-        "",
-        "8f49d544add51b1c",
-    ),
-    (
-        &["layered", "S", "B", "2"],
-        &["S", "B"],
-        false,
-        "",
-        "49da13b5f9be295e",
-    ),
-    (
-        &["plan", "S", "B", "600", "3"],
-        &["S", "B"],
-        false,
-        "",
-        "8a5646abe1cff276",
-    ),
-    (
-        &["accounts", "S", "A", "O"],
-        &["S", "A"],
-        false,
-        "6004a0e63339f065",
-        "20a39407d36daa17",
-    ),
-    (
-        &["book", "S", "R", "M", "O"],
-        &["S", "R", "M"],
-        false,
-        "1be60745ace5d12f",
-        "",
-    ),
-    (
-        &["card", "S", "0", "O"],
-        &["S"],
-        false,
-        "a4b19001906beb19",
-        "",
-    ),
-    (
-        &["lcard", "S", "5", "2", "O"],
-        &["S"],
-        false,
-        "c2961eac63670ce1",
-        "",
-    ),
-    (
-        &["sample", "0", "4", "O"],
-        &[],
-        false,
-        "fcc946789d7bffb6",
-        "",
-    ),
-    (
-        &["head", "S", "M", "C", "O"],
-        &["S", "M", "C"],
-        true,
-        "9c6d622db9f9fa35",
-        "",
-    ),
-    (
-        &["receive", "K", "X", "O"],
-        &["K", "X"],
-        true,
-        "3e68d36a18df2132",
-        "",
-    ),
-    (&["tables", "X"], &["X"], false, "", "d29b54c31bc48ee2"),
-    (
-        &["messages", "S", "X"],
-        &["S", "X"],
-        false,
-        "",
-        "0fb3c1549838f547",
-    ),
-    (&["show", "K"], &["K"], false, "", "733f52ad790b39c9"),
-    (
-        &["opens", "S", "P", "L"],
-        &["S", "P", "L"],
-        false,
-        "",
-        "de5663d6a325561e",
-    ),
-    (
-        &["trace", "S", "R", "L"],
-        &["S", "R", "L"],
-        false,
-        "",
-        "93d74fcfdebfd23e",
-    ),
-    (
-        &["trial", "S", "R", "C"],
-        &["S", "R", "C"],
-        false,
-        "",
-        "668c63a3ea9d5a9b",
-    ),
-];
+// A command's words, the files that it reads, whether the last of them goes into OUT while it is read, and how the
+// SHA-256 begins of OUT and of what is printed: nothing where there is none.
+const COMMANDS: &str = "
+$ cover S B | S B | | | 8f49d544add51b1c
+$ layered S B 2 | S B | | | 49da13b5f9be295e
+$ plan S B 600 3 | S B | | | 8a5646abe1cff276
+$ accounts S A O | S A | | 6004a0e63339f065 | 20a39407d36daa17
+$ book S R M O | S R M | | 1be60745ace5d12f |
+$ card S 0 O | S | | a4b19001906beb19 |
+$ lcard S 5 2 O | S | | c2961eac63670ce1 |
+$ sample 0 4 O | | | fcc946789d7bffb6 |
+$ head S M C O | S M C | streams | 9c6d622db9f9fa35 |
+$ receive K X O | K X | streams | 3e68d36a18df2132 |
+$ tables X | X | | | d29b54c31bc48ee2
+$ messages S X | S X | | | 0fb3c1549838f547
+$ show K | K | | | 733f52ad790b39c9
+$ opens S P L | S P L | | | de5663d6a325561e
+$ trace S R L | S R L | | | 93d74fcfdebfd23e
+$ trial S R C | S R C | | | 668c63a3ea9d5a9b
+";
 
 /// What the command of a row does if nothing fails.
-fn whole_run(alloc: Global, files: &Files, row: Row) -> Result<Whole<'_>, AllocError> {
-    let (words, reads, streams, makes, prints) = row;
-    let command = Command {
+fn whole_run<'a>(alloc: Global, files: &'a Files, row: Row<'a>) -> Result<Whole<'a>, AllocError> {
+    let words: Vec<&str> = row.cell(0).split(' ').collect(alloc)?;
+    let reads: Vec<&str> = row.cell(1).split_whitespace().collect(alloc)?;
+    let left = left(alloc, files, &words, PIECE, Fault::Nowhere)?;
+    Ok(Whole {
+        files,
+        row,
         words,
         reads,
-        streams,
-        makes,
-        prints,
-    };
-    let left = left(alloc, files, words, PIECE, Fault::Nowhere)?;
-    Ok(Whole {
-        command,
-        files,
         left,
     })
 }
@@ -311,11 +224,9 @@ fn whole_run(alloc: Global, files: &Files, row: Row) -> Result<Whole<'_>, AllocE
 fn failing_calls_are_told_by_each_command(rt: HostRuntime) -> Result<(), Fail> {
     let alloc = rt.alloc();
     let files = files(alloc)?;
-    for row in &COMMANDS {
-        let words = row.0;
-        let whole = whole_run(alloc, &files, *row)?;
-        assert!(rt; whole.is_done(), "{words:?}");
-        assert!(rt; whole.fails_as_told(alloc)?, "{words:?}");
+    for row in COMMANDS.split('$').skip(1) {
+        let whole = whole_run(alloc, &files, Row::new(row))?;
+        assert!(rt; whole.is_done() && whole.fails_as_told(alloc)?, "{row}");
     }
     Ok(())
 }

@@ -15,7 +15,11 @@ mod devices;
 #[cfg(test)]
 mod hostile;
 #[cfg(test)]
+mod row;
+#[cfg(test)]
 mod runs;
+#[cfg(test)]
+mod session;
 #[cfg(test)]
 mod several;
 #[cfg(test)]

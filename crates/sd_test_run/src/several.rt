@@ -1,20 +1,14 @@
 use crate::changes::PACKET;
-use crate::day::{PIECE, ROOM, answered, file};
+use crate::session::{file, shelf};
 use sd_ports_memory::MemDepot;
 use sd_test_texts::site_start;
 use std::alloc::{AllocError, Global};
 
-/// A site with a message before each 20th packet.
-const TWENTY: &str = site_start!("ecm-every 20\ncrypto-ecms 2\nperiod-cryptos 1\n");
-
-/// A depot with a site, a book and the packets of a sample stream.
-fn shelf(alloc: Global, site: Vec<u8>, book: &[u8], sample: &str) -> Result<MemDepot, AllocError> {
-    let mut depot = MemDepot::new(alloc, ROOM, PIECE).map_err(|_| AllocError)?;
-    depot.put("site", site).map_err(|_| AllocError)?;
-    let book = Vec::from_slice(alloc, book)?;
-    depot.put("book", book).map_err(|_| AllocError)?;
-    answered(alloc, &mut depot, sample)?;
-    Ok(depot)
+/// A site with a message before each 20th packet, and these lines after its others.
+macro_rules! twenty {
+    ($($lines:literal),*) => {
+        site_start!("ecm-every 20\ncrypto-ecms 2\nperiod-cryptos 1\n", $($lines),*)
+    };
 }
 
 /// The packets of the sample's two elementary streams.
@@ -51,11 +45,8 @@ pub(crate) fn run_of(
     })
 }
 
-fn broadcast_of(alloc: Global, lines: &str, sample: &str) -> Result<Run, AllocError> {
-    let mut site = Vec::from_slice(alloc, TWENTY.as_bytes())?;
-    site.extend_from_slice(lines.as_bytes())?;
-    let mut depot = shelf(alloc, site, b"", sample)?;
-    answered(alloc, &mut depot, "head site book clear broadcast")?;
+fn broadcast_of(alloc: Global, site: &str, commands: &str) -> Result<Run, AllocError> {
+    let depot = shelf(alloc, site, "", "", commands)?;
     run_of(alloc, &depot, "clear", "broadcast")
 }
 
@@ -76,12 +67,16 @@ pub(crate) fn two_time_pads(one: &Run, two: &Run) -> Option<usize> {
     Some(count)
 }
 
+const SEVENTH: &str = "sample 7 60 clear\nhead site book clear broadcast\n";
+
+const EIGHTH: &str = "sample 8 60 clear\nhead site book clear broadcast\n";
+
 #[test]
 fn words_of_their_own_keep_keystreams_apart(rt: HostRuntime) -> Result<(), AllocError> {
     let alloc = rt.alloc();
-    let first = broadcast_of(alloc, "", "sample 7 60 clear")?;
-    let again = broadcast_of(alloc, "", "sample 8 60 clear")?;
-    let apart = broadcast_of(alloc, "messages 1\nfirst-word 2\n", "sample 8 60 clear")?;
+    let first = broadcast_of(alloc, twenty!(), SEVENTH)?;
+    let again = broadcast_of(alloc, twenty!(), EIGHTH)?;
+    let apart = broadcast_of(alloc, twenty!("messages 1\nfirst-word 2\n"), EIGHTH)?;
     assert!(rt; first.sent.len() == 57 && two_time_pads(&first, &again) == Some(57));
     assert!(rt; two_time_pads(&first, &apart) == Some(0));
     Ok(())
