@@ -36,6 +36,21 @@ impl From<DepotFault> for FileFault {
     }
 }
 
+impl From<ReadAllFault> for FileFault {
+    ghost use Rattle.std.specs.Prelude.{◌≡◌};
+    ghost use Rattle.sd_ports.specs.Faults.{whole_fault};
+
+    ghost from_gives = { λ fault file. file ≡ whole_fault fault };
+
+    fn from(fault: ReadAllFault) -> FileFault {
+        match fault {
+            ReadAllFault::TooBig => FileFault::TooBig,
+            ReadAllFault::Failed => FileFault::Failed,
+            ReadAllFault::NoMemory => FileFault::NoMemory,
+        }
+    }
+}
+
 /// Reads a whole file of at most `most` bytes: it opens, reads and closes it, and only then answers.
 #[tactic(auto, using(crate::proofs::Calls::twice_called, crate::proofs::Calls::open_as_before, crate::proofs::Calls::opened_there, crate::proofs::Faults::file_cause, crate::proofs::Faults::never_too_big, crate::proofs::Faults::only_missing))]
 pub fn read_file<D: Depot>(
@@ -60,12 +75,7 @@ pub fn read_file<D: Depot>(
     let mut port = depot.open_in(alloc, name)?;
     let read = read_all(alloc, &mut port, most);
     depot.close_in(port);
-    match read {
-        Ok(bytes) => Ok(bytes),
-        Err(ReadAllFault::TooBig) => Err(FileFault::TooBig),
-        Err(ReadAllFault::Failed) => Err(FileFault::Failed),
-        Err(ReadAllFault::NoMemory) => Err(FileFault::NoMemory),
-    }
+    Ok(read?)
 }
 
 /// Makes a file with these bytes, in place of one that had the name: it makes, writes and closes it, and only then
