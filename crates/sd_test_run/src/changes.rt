@@ -24,7 +24,10 @@ fn changed_once(
     place: &str,
     what: &str,
 ) -> Result<Vec<u8>, AllocError> {
-    let place = place.parse::<usize>().unwrap_or(bytes.len());
+    let place = match place {
+        "end" => bytes.len(),
+        number => number.parse::<usize>().map_err(|_| AllocError)?,
+    };
     let packet = place.saturating_mul(PACKET);
     let after = packet.saturating_add(PACKET);
     match what {

@@ -35,16 +35,20 @@ pub(crate) fn broadcast(
     })
 }
 
-/// The first row of a table that isn't so, if a call of a port moves at most `most` bytes: nothing if all are. A row
-/// has the call that fails, the exit of `receive`, as many bytes as OUT has or has at most, how the stream and the card
-/// are changed first, how the SHA-256 of the changed stream begins, and what is printed.
+/// The first row of a table that isn't so, if a call of a port moves at most `most` bytes, or the table if it has no
+/// row: nothing if all rows are so. A row has the call that fails, the exit of `receive`, as many bytes as OUT has or
+/// has at most, how the stream and the card are changed first, how the SHA-256 of the changed stream begins, and what
+/// is printed.
 pub(crate) fn first_wrong<'a>(
     alloc: Global,
     sent: &Sent,
     most: usize,
     table: &'a str,
 ) -> Result<&'a str, AllocError> {
-    for text in table.split('$').skip(1) {
+    let Some((_, rows)) = table.split_once('$') else {
+        return Ok(table);
+    };
+    for text in rows.split('$') {
         if !is_due(alloc, sent, most, Row::new(text))? {
             return Ok(text);
         }

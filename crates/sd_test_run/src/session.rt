@@ -70,14 +70,17 @@ pub(crate) fn add_changed(
     depot.put(name, bytes).map_err(|_| AllocError)
 }
 
-/// The first row of a table that isn't so: nothing if all are. A row has a command, its exit, how its last argument's
-/// file begins after it, which file is added before it, and what it prints.
+/// The first row of a table that isn't so, or the table if it has no row: nothing if all rows are so. A row has a
+/// command, its exit, how its last argument's file begins after it, which file is added before it, and what it prints.
 pub(crate) fn first_wrong<'a>(
     alloc: Global,
     depot: &mut MemDepot,
     table: &'a str,
 ) -> Result<&'a str, AllocError> {
-    for text in table.split('$').skip(1) {
+    let Some((_, rows)) = table.split_once('$') else {
+        return Ok(table);
+    };
+    for text in rows.split('$') {
         if !goes(alloc, depot, Row::new(text))? {
             return Ok(text);
         }

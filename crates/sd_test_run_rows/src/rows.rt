@@ -23,7 +23,8 @@ macro_rules! first_table {
 macro_rules! tables {
     ($($lines:literal),* $(,)?) => {
         first_table!(
-            r#"{"ca":[],"packet":1,"pcr":256,"pid":4096,"program":1,"streams":[{"ca":[],"pid":256,"type":27},{"ca":[],"pid":257,"type":15}],"table":"pmt","version":0}
+            r#"{"ca":[],"packet":1,"pcr":256,"pid":4096,"program":1,"streams":["#,
+            r#"{"ca":[],"pid":256,"type":27},{"ca":[],"pid":257,"type":15}],"table":"pmt","version":0}
 "#,
             $($lines),*
         )
@@ -379,8 +380,9 @@ fn is_print_failed(alloc: Global, stream: &[u8]) -> Result<bool, AllocError> {
     Ok(tells(&left, 5, first_table!()))
 }
 
-/// Whether the tables of the sample stream of three packets are printed: of the whole; with a byte more behind it, which
-/// is told after all tables, and behind its first packet, which is told after the first; and with a print that fails.
+/// Whether the tables of the sample stream of three packets are printed: of the whole; with a byte more behind it,
+/// which is told after all tables, and behind its first packet, which is told after the first; and with a print that
+/// fails.
 fn are_printed(alloc: Global, whole: &[u8]) -> Result<bool, AllocError> {
     Ok(
         is_tabled(alloc, whole, 0, tables!())?
