@@ -1,4 +1,5 @@
-use Rattle.std.proofs.Common.{◌<◌, length, rules}
+use Rattle.std.proofs.lemmas.Grind.{common_steps}
+use Rattle.std.proofs.Common.{arith, ◌<◌, length, rules}
 use Rattle.sd_cover.proofs.Sorting.{sorted_cover}
 use Rattle.sd_cover.proofs.walk.chain_sets.Goals as goal
 
@@ -9,3 +10,6 @@ returns c =
     c.sort_unstable.new.self.items
     c.requires.leaves some (search rules) c.new-sets.ensures.items (search rules) c.sort_unstable.ensures.permutation
     (search rules)
+
+pub returns-then-is_empty : goal.returns-then-is_empty
+returns-then-is_empty c = grind (arith, common_steps)

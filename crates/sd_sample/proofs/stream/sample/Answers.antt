@@ -1,4 +1,4 @@
-use Rattle.std.proofs.Common.{◌≤◌, ◌≡◌, length, take, ◌∙◌, arith}
+use Rattle.std.proofs.Common.{rules, ◌≤◌, ◌≡◌, length, take, ◌∙◌, arith}
 use Rattle.std.proofs.lemmas.List.{length-take-le}
 use Rattle.sd_sample.proofs.Streams.{piece_stays_long, piece_bytes, written_more, written_prefix}
 use Rattle.sd_sample.proofs.stream.sample.Goals as goal
@@ -32,3 +32,6 @@ returns-in-Err-clause-prefix g c =
     (c.fill.ensures.packets c.args.number l.invariant.state) c.as_flattened.ensures.value in
     written_prefix _ _ _ c.args.number l.done count c.args.packets c.as_flattened.result.now
     (omega (arith, c.min-count.ensures, c.loop-done-test.true)) l.invariant.written bytes c.in-Err.ensures.prefix
+
+pub returns-clause-ok : goal.returns-clause-ok
+returns-clause-ok g c = search rules

@@ -1,4 +1,4 @@
-use Rattle.std.proofs.Common.{◌≡◌, ◌∙◌, true, ap, inr, refl, sym}
+use Rattle.std.proofs.Common.{rules, ◌≡◌, ◌∙◌, true, ap, inr, refl, sym}
 use Rattle.std.specs.Prelude.{is_some}
 use Rattle.sd_accounts.specs.Kept.{leaf_named}
 use Rattle.sd_accounts.proofs.Named.{leaf_updated}
@@ -14,3 +14,6 @@ returns-then-is_some-clause-value c =
 pub returns-clause-leaves : goal.returns-clause-leaves
 returns-clause-leaves c = leaf_updated c.args.self.now.leaves c.insert.new.self c.args.name _
     c.in_ok-insert.ensures.updates
+
+pub returns-clause-value : goal.returns-clause-value
+returns-clause-value c = search rules
