@@ -1,69 +1,110 @@
 use crate::machine::Machine;
 use sd_host::HostDepot;
-use sd_ports::{FileFault, read_file, write_file};
+use sd_ports::{Depot, FileFault, read_file, write_all, write_file};
 use std::alloc::Global;
 
 /// What is read and written.
 pub(crate) const TEXT: &[u8] = b"abcdefg";
 
-/// The files of the host.
-pub(crate) type HostFiles<'a> = HostDepot<'a, HostRuntime>;
+/// What is done with a file.
+#[derive(Clone, Copy)]
+pub(crate) enum Call<'a> {
+    /// It is read, up to so many bytes.
+    Read(usize),
+    /// It is written.
+    Write(&'a [u8]),
+    /// It is written in pieces, by a call for each.
+    Pieces(&'a [&'a [u8]]),
+}
 
-/// The files of a machine with trouble.
-pub(crate) type MachineFiles<'a, 'b> = HostDepot<'a, Machine<'b, HostRuntime>>;
+// A call at a type of depot is proved at length, so that all calls at one type stand in one function.
 
-// A call at a type of depot is proved at length, so that each stands in one function.
+/// Does this with a file of the host, and gives what was read.
+pub(crate) fn host_call(
+    alloc: Global,
+    depot: &mut HostDepot<'_, HostRuntime>,
+    name: &str,
+    call: Call<'_>,
+) -> Result<Vec<u8>, FileFault> {
+    done(alloc, depot, name, call)
+}
+
+/// Does this with a file of a machine with trouble, and gives what was read.
+pub(crate) fn machine_call(
+    alloc: Global,
+    depot: &mut HostDepot<'_, Machine<'_, HostRuntime>>,
+    name: &str,
+    call: Call<'_>,
+) -> Result<Vec<u8>, FileFault> {
+    done(alloc, depot, name, call)
+}
+
+// Does this with a file of any depot, and gives what was read.
+fn done<D: Depot>(
+    alloc: Global,
+    depot: &mut D,
+    name: &str,
+    call: Call<'_>,
+) -> Result<Vec<u8>, FileFault> {
+    match call {
+        Call::Read(most) => return read_file(alloc, depot, name, most),
+        Call::Write(bytes) => write_file(alloc, depot, name, bytes)?,
+        Call::Pieces(pieces) => write_pieces(alloc, depot, name, pieces)?,
+    }
+    Ok(Vec::new(alloc))
+}
+
+// Makes a file of these pieces, each written by a call of its own.
+#[tactic(auto, using(sd_ports::proofs::Outlets::there_after))]
+fn write_pieces<D: Depot>(
+    alloc: Global,
+    depot: &mut D,
+    name: &str,
+    pieces: &[&[u8]],
+) -> Result<(), FileFault> {
+    let mut port = depot.create_out(alloc, name)?;
+    let mut written = true;
+    for piece in pieces {
+        written = write_all(&mut port, piece).is_ok() && written;
+    }
+    let closed = depot.close_out(name, port).is_ok();
+    if written && closed {
+        Ok(())
+    } else {
+        Err(FileFault::Failed)
+    }
+}
 
 /// Writes a file of the host.
 pub(crate) fn write(
     alloc: Global,
-    depot: &mut HostFiles<'_>,
+    depot: &mut HostDepot<'_, HostRuntime>,
     name: &str,
     bytes: &[u8],
 ) -> Result<(), FileFault> {
-    write_file(alloc, depot, name, bytes)
-}
-
-/// Writes a file of a machine with trouble.
-pub(crate) fn machine_write(
-    alloc: Global,
-    depot: &mut MachineFiles<'_, '_>,
-    name: &str,
-    bytes: &[u8],
-) -> Result<(), FileFault> {
-    write_file(alloc, depot, name, bytes)
-}
-
-/// Reads a file of the host.
-pub(crate) fn read(
-    alloc: Global,
-    depot: &mut HostFiles<'_>,
-    name: &str,
-    most: usize,
-) -> Result<Vec<u8>, FileFault> {
-    read_file(alloc, depot, name, most)
+    host_call(alloc, depot, name, Call::Write(bytes)).map(|_| ())
 }
 
 /// Whether a file of the host is read so.
 pub(crate) fn gives(
     alloc: Global,
-    depot: &mut HostFiles<'_>,
+    depot: &mut HostDepot<'_, HostRuntime>,
     name: &str,
     most: usize,
     want: Result<&str, FileFault>,
 ) -> bool {
-    is_so(&read(alloc, depot, name, most), want)
+    is_so(&host_call(alloc, depot, name, Call::Read(most)), want)
 }
 
 /// Whether a file of a machine with trouble is read so.
 pub(crate) fn machine_gives(
     alloc: Global,
-    depot: &mut MachineFiles<'_, '_>,
+    depot: &mut HostDepot<'_, Machine<'_, HostRuntime>>,
     name: &str,
     most: usize,
     want: Result<&str, FileFault>,
 ) -> bool {
-    is_so(&read_file(alloc, depot, name, most), want)
+    is_so(&machine_call(alloc, depot, name, Call::Read(most)), want)
 }
 
 fn is_so(read: &Result<Vec<u8>, FileFault>, want: Result<&str, FileFault>) -> bool {

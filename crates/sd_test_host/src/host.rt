@@ -1,7 +1,7 @@
-use crate::files::{TEXT, gives, machine_gives, machine_write, read, write};
+use crate::files::{Call, TEXT, gives, host_call, machine_call, machine_gives, write};
 use crate::machine::{Machine, Trouble};
 use sd_host::{HostDepot, StdPrint};
-use sd_ports::{Depot, FileFault, PortFault, write_all};
+use sd_ports::{FileFault, PortFault, write_all};
 use std::fs::{Files, Permissions};
 use std::os::unix::fs::{MetadataExt, PermissionsExt, symlink};
 use std::{fs, io};
@@ -82,7 +82,7 @@ fn the_host_writes_files(rt: HostRuntime) {
     // A device may be read and written.
     assert!(rt; gives(alloc, &mut depot, "/dev/null", 7, Ok("")));
     assert!(rt; write(alloc, &mut depot, "/dev/null", TEXT) == Ok(()));
-    let there = read(alloc, &mut depot, "sd_host_written", 70000);
+    let there = host_call(alloc, &mut depot, "sd_host_written", Call::Read(70000));
     assert!(rt; there.is_ok_and(|read| read.as_slice() == LONG.as_slice()));
     assert!(rt; fs::remove_file(&rt, "sd_host_written").is_ok());
 }
@@ -99,15 +99,10 @@ fn long_pieces_follow_what_waits(rt: HostRuntime) -> io::Result<()> {
             trouble,
         };
         let mut depot = HostDepot::new(alloc, &machine, false);
-        let port = depot.create_out(alloc, name);
-        assert!(rt; port.is_ok());
-        if let Ok(mut port) = port {
-            for piece in pieces {
-                assert!(rt; write_all(&mut port, piece) == Ok(()));
-            }
-            assert!(rt; depot.close_out(name, port) == Ok(()));
-        }
-        let there = read(alloc, &mut HostDepot::new(alloc, &rt, false), name, 200000);
+        let written = machine_call(alloc, &mut depot, name, Call::Pieces(&pieces));
+        assert!(rt; written.is_ok());
+        let mut reader = HostDepot::new(alloc, &rt, false);
+        let there = host_call(alloc, &mut reader, name, Call::Read(200000));
         assert!(rt; there.is_ok_and(|read| are_in_turn(&read, &pieces)));
     }
     fs::remove_file(&rt, name)
@@ -207,7 +202,8 @@ fn the_output_is_written_through(rt: HostRuntime) -> io::Result<()> {
         fs::write(&rt, OUTPUT, b"kept ")?;
         let mut depot = HostDepot::new(alloc, &machine, false);
         assert!(rt;
-            depot.is_output(name) && machine_write(alloc, &mut depot, name, TEXT) == Ok(())
+            depot.is_output(name)
+                && machine_call(alloc, &mut depot, name, Call::Write(TEXT)).is_ok()
         );
         // It may not be read.
         assert!(rt; machine_gives(alloc, &mut depot, OUTPUT, 70, Err(FileFault::Failed)));
@@ -253,7 +249,8 @@ fn troubles_are_told(rt: HostRuntime) -> io::Result<()> {
         let mut reader = HostDepot::new(alloc, &machine, false);
         assert!(rt; machine_gives(alloc, &mut reader, name, 7, *reads));
         let mut depot = HostDepot::new(alloc, &machine, false);
-        assert!(rt; machine_write(alloc, &mut depot, name, TEXT) == *writes);
+        let written = machine_call(alloc, &mut depot, name, Call::Write(TEXT)).map(|_| ());
+        assert!(rt; written == *writes);
     }
     fs::remove_file(&rt, name)
 }

@@ -3,23 +3,28 @@ ghost use Rattle.std.specs.Prelude.{◌<◌};
 use crate::known::{CAT, PAT, PMT, REWRITTEN};
 use sd_packet::{Packet, pack_section};
 use sd_psi::{
-    Descriptor, Descriptors, FormFault, cat_in, cat_of, pat_in, pat_of, pmt_in, pmt_of,
-    restore_pmt, rewrite_pmt,
+    Descriptor, Descriptors, FormFault, Stream, Streams, cat_in, cat_of, pat_in, pat_of, pmt_in,
+    pmt_of, restore_pmt, rewrite_pmt,
 };
 use sd_section::{read_one, seal};
-use std::test::Fail;
+
+// Whether the packet's PAT has one program, whose PMT has PID 0x1000.
+fn has_one_program(packet: &Packet) -> Option<bool> {
+    if packet.payload_start() == 188 {
+        return None;
+    }
+    let pat = pat_of(packet).ok()?;
+    let mut programs = pat.programs();
+    let are_programs = (programs.next(), programs.next()) == (Some((1, 0x1000)), None);
+    let mut pids = pat.pmt_pids();
+    let are_pids = (pids.next(), pids.next()) == (Some(0x1000), None);
+    let is_said = (pat.stream_id(), pat.version(), pat.current()) == (1, 0, true);
+    Some(is_said && are_programs && are_pids)
+}
 
 #[test]
-fn a_pat_is_read(rt: HostRuntime) -> Result<(), Fail> {
-    let packet = pack_section(&PAT, 0, 0);
-    assert!(rt; packet.payload_start() < 188);
-    let pat = pat_of(&packet).ok().ok_or("no PAT")?;
-    assert!(rt; (pat.stream_id(), pat.version(), pat.current()) == (1, 0, true));
-    let mut programs = pat.programs();
-    assert!(rt; (programs.next(), programs.next()) == (Some((1, 0x1000)), None));
-    let mut pids = pat.pmt_pids();
-    assert!(rt; (pids.next(), pids.next()) == (Some(0x1000), None));
-    Ok(())
+fn a_pat_is_read(rt: HostRuntime) {
+    assert!(rt; has_one_program(&pack_section(&PAT, 0, 0)) == Some(true));
 }
 
 // The only one of the descriptors.
@@ -32,37 +37,55 @@ fn only<'a>(mut descriptors: Descriptors<'a>) -> Option<Descriptor<'a>> {
     }
 }
 
-#[test]
-fn a_cat_is_read(rt: HostRuntime) -> Result<(), Fail> {
-    let packet = pack_section(&CAT, 1, 0);
-    assert!(rt; packet.payload_start() < 188);
-    let cat = cat_of(&packet).ok().ok_or("no CAT")?;
-    assert!(rt; (cat.version(), cat.current()) == (0, true));
-    let descriptor = only(cat.descriptors()).ok_or("not one descriptor")?;
-    assert!(rt; descriptor.tag() == 9 && descriptor.body() == &CAT[10..16]);
-    let ca = descriptor.ca().ok_or("no CA_descriptor")?;
-    assert!(rt;
-        (ca.system(), ca.pid()) == (0x1234, 0x1F0) && ca.private() == [0xE1, 0xF1].as_slice()
-    );
-    Ok(())
+// Whether the packet's CAT has one descriptor, the CA_descriptor of the sample.
+fn has_one_system(packet: &Packet) -> Option<bool> {
+    if packet.payload_start() == 188 {
+        return None;
+    }
+    let cat = cat_of(packet).ok()?;
+    let descriptor = only(cat.descriptors())?;
+    let is_said = (cat.version(), cat.current()) == (0, true);
+    Some(is_said && is_sample(descriptor)?)
+}
+
+fn is_sample(descriptor: Descriptor<'_>) -> Option<bool> {
+    let ca = descriptor.ca()?;
+    let is_body = descriptor.tag() == 9 && descriptor.body() == &CAT[10..16];
+    let is_tuned = (ca.system(), ca.pid()) == (0x1234, 0x1F0);
+    Some(is_body && is_tuned && ca.private() == [0xE1, 0xF1].as_slice())
 }
 
 #[test]
-fn a_pmt_is_read(rt: HostRuntime) -> Result<(), Fail> {
-    let packet = pack_section(&REWRITTEN, 0x1000, 0);
-    assert!(rt; packet.payload_start() < 188);
-    let pmt = pmt_of(&packet).ok().ok_or("no PMT")?;
-    assert!(rt; (pmt.program(), pmt.version(), pmt.current(), pmt.pcr()) == (1, 0, true, 0x100));
-    let descriptor = only(pmt.descriptors()).ok_or("not one descriptor")?;
-    assert!(rt; descriptor.body() == &REWRITTEN[14..18]);
-    let mut streams = pmt.streams();
-    for (stream_type, pid) in [(0x1B, 0x100), (0x0F, 0x101)] {
-        let stream = streams.next().ok_or("no stream")?;
-        let is_bare = stream.descriptors().next().is_none();
-        assert!(rt; (stream.stream_type(), stream.pid(), is_bare) == (stream_type, pid, true));
+fn a_cat_is_read(rt: HostRuntime) {
+    assert!(rt; has_one_system(&pack_section(&CAT, 1, 0)) == Some(true));
+}
+
+// Whether the packet's PMT has one descriptor, the one of the sample, and its two streams.
+fn has_two_streams(packet: &Packet) -> Option<bool> {
+    if packet.payload_start() == 188 {
+        return None;
     }
-    assert!(rt; streams.next().is_none());
-    Ok(())
+    let pmt = pmt_of(packet).ok()?;
+    let descriptor = only(pmt.descriptors())?;
+    let is_said = (pmt.program(), pmt.version(), pmt.current(), pmt.pcr()) == (1, 0, true, 0x100);
+    Some(is_said && descriptor.body() == &REWRITTEN[14..18] && are_bare(pmt.streams())?)
+}
+
+// Whether the streams are the two of the sample, without descriptors.
+fn are_bare(mut streams: Streams<'_>) -> Option<bool> {
+    let first = streams.next()?;
+    let second = streams.next()?;
+    Some(is_bare(&first, 0x1B, 0x100) && is_bare(&second, 0x0F, 0x101) && streams.next().is_none())
+}
+
+fn is_bare(stream: &Stream<'_>, stream_type: u8, pid: u16) -> bool {
+    let is_named = (stream.stream_type(), stream.pid()) == (stream_type, pid);
+    is_named && stream.descriptors().next().is_none()
+}
+
+#[test]
+fn a_pmt_is_read(rt: HostRuntime) {
+    assert!(rt; has_two_streams(&pack_section(&REWRITTEN, 0x1000, 0)) == Some(true));
 }
 
 // Whether the section is a PAT, a CAT and a PMT.
@@ -255,15 +278,18 @@ fn six_bytes_of_room(rt: HostRuntime) {
     assert!(rt; has_room_for_one(&long_pmt(178)) == Err(FormFault::NoRoom));
 }
 
+// Whether the first stream of the packet's PMT has one descriptor, of so many bytes, which is no CA_descriptor.
+fn has_language(packet: &Packet, length: usize) -> Option<bool> {
+    if packet.payload_start() == 188 {
+        return None;
+    }
+    let stream = pmt_of(packet).ok()?.streams().next()?;
+    let descriptor = only(stream.descriptors())?;
+    let is_told = (descriptor.tag(), descriptor.body().len()) == (0x0A, length);
+    Some(is_told && descriptor.ca().is_none())
+}
+
 #[test]
-fn a_stream_has_descriptors(rt: HostRuntime) -> Result<(), Fail> {
-    let packet = long_pmt(178);
-    assert!(rt; packet.payload_start() < 188);
-    let pmt = pmt_of(&packet).ok().ok_or("no PMT")?;
-    let stream = pmt.streams().next().ok_or("no stream")?;
-    let descriptor = only(stream.descriptors()).ok_or("not one descriptor")?;
-    assert!(rt;
-        (descriptor.tag(), descriptor.body().len()) == (0x0A, 155) && descriptor.ca().is_none()
-    );
-    Ok(())
+fn a_stream_has_descriptors(rt: HostRuntime) {
+    assert!(rt; has_language(&long_pmt(178), 155) == Some(true));
 }
