@@ -109,6 +109,9 @@ sdca help cover >cover 2>err
 if [ "$status" = 0 ]; then row "help cover >cover: the page is in cover" test -s cover; fi
 sdca cover S >S9 2>err
 row "too few words: usage is printed" is "$(cat S9)" usage
+sdca head a b c d e f >words 2>err
+row "too many words: usage is printed" is "$(cat words)" usage
+row "too many words: exit" is "$status" 1
 
 # --- devices
 sdca head S /dev/null C /dev/null >lines 2>err

@@ -1,7 +1,9 @@
-//! Tests of the outside and of what goes through it: ports in memory, streams that are driven, sample streams, the
-//! inspector and its lines, statuses and what they are to a user.
+//! Tests of the outside and of what goes through it: ports in memory and on the machine, streams that are driven,
+//! sample streams, the inspector and its lines, statuses and what they are to a user.
 #![tactic(auto)]
 
+#[cfg(test)]
+mod devices;
 #[cfg(test)]
 mod ends;
 #[cfg(test)]
@@ -9,7 +11,13 @@ mod engine;
 #[cfg(test)]
 mod explained;
 #[cfg(test)]
+mod files;
+#[cfg(test)]
+mod host;
+#[cfg(test)]
 mod lines;
+#[cfg(test)]
+mod machine;
 #[cfg(test)]
 mod ports;
 #[cfg(test)]

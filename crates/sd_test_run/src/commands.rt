@@ -1,7 +1,8 @@
+use crate::files::Files;
+use crate::leaving::{Fault, Leaving, left, made};
 use crate::row::Row;
 use crate::sums::has_sum;
 use sd_command_status::Status;
-use sd_test_memory::{Fault, Files, Leaving, left, made};
 use std::alloc::{AllocError, Global};
 use std::test::Fail;
 

@@ -1,11 +1,17 @@
-//! Tests of the program's one call: what each command prints and makes, the day of examples/day.sh, failing devices,
-//! hostile input, and several broadcasts under one master.
+//! Tests of the program's one call over files in memory, of which a call may fail: what each command prints and makes,
+//! refusals and limits, the day of examples/day.sh, hostile input, and receivers that stay on.
 #![tactic(auto)]
 
+#[cfg(test)]
+mod boxes;
+#[cfg(test)]
+mod broadcasts;
 #[cfg(test)]
 mod changes;
 #[cfg(test)]
 mod commands;
+#[cfg(test)]
+mod covers;
 #[cfg(test)]
 mod day;
 #[cfg(test)]
@@ -13,14 +19,32 @@ mod days;
 #[cfg(test)]
 mod devices;
 #[cfg(test)]
+mod fields;
+#[cfg(test)]
+mod files;
+#[cfg(test)]
 mod hostile;
 #[cfg(test)]
+mod leaving;
+#[cfg(test)]
+mod messages;
+#[cfg(test)]
+mod parts;
+#[cfg(test)]
+mod receptions;
+#[cfg(test)]
+mod refusals;
+#[cfg(test)]
 mod row;
+#[cfg(test)]
+mod rows;
 #[cfg(test)]
 mod runs;
 #[cfg(test)]
 mod session;
 #[cfg(test)]
 mod several;
+#[cfg(test)]
+mod single;
 #[cfg(test)]
 mod sums;

@@ -1,10 +1,10 @@
 use crate::changes::{PACKET, changed};
+use crate::leaving::uncounted;
 use crate::row::Row;
 use crate::sums::has_sum;
 use sd_command_status::Status;
 use sd_ports::MemSink;
 use sd_ports_memory::MemDepot;
-use sd_test_memory::uncounted;
 use std::alloc::{AllocError, Global};
 
 /// The room for a file, and how many bytes are read and written at a time.

@@ -1,5 +1,5 @@
-use Rattle.std.proofs.Common.{arith, ◌≡◌, ◌∙◌, ◌+◌, ◌++◌, ◌∷◌, ℕ, List, replicate, length, length-append, All, ap, sym}
-use Rattle.std.proofs.Common.{subst, inr, true, refl, Ok, Err}
+use Rattle.std.proofs.Common.{rules, arith, ◌≡◌, ◌∙◌, ◌+◌, ◌++◌, ◌∷◌, ℕ, List, replicate, length, length-append, All}
+use Rattle.std.proofs.Common.{ap, sym, subst, inr, true, refl, Ok, Err}
 use Rattle.std.proofs.lemmas.Result.{err_from_is_err_and}
 use Rattle.std.proofs.lemmas.List.{length-replicate}
 use Rattle.sd_base_text.specs.Lines.{lines_of}
@@ -67,3 +67,6 @@ returns-clause-exact c =
     l.invariant.said
     ∙ script_ended c.args.h (l.lines + 1) (length l.events.items) l.events.items (lines_of l.rest.now)
     (ap lines_of (c.in_default.ensures.none.0 refl))
+
+pub loop-line-init : goal.loop-line-init
+loop-line-init c = search rules

@@ -1,4 +1,6 @@
+use Rattle.std.proofs.Common.{rules}
 use Rattle.std.proofs.lemmas.Result.{err_from_is_err_and}
+use Rattle.sd_site.specs.Text.{optional_on}
 use Rattle.sd_site.proofs.LeftOut.{first_word_bad, last_word_bad, first_period_bad}
 use Rattle.sd_site.proofs.reader.optional_lines.Goals as goal
 
@@ -20,3 +22,7 @@ returns-in_err-first_period-clause-value c =
     err_from_is_err_and c.from_residual-in_err-first_period.result c.from_residual-in_err-first_period.ensures.1 in
     rw (p.1, p.2) (first_period_bad _ _ _ _ _ _ _ _ (rw c.from.ensures at c.in_ok-messages.ensures.value)
     c.in_ok-first_word.ensures.value c.in_ok-last_word.ensures.value c.in_err-first_period.ensures.value)
+
+pub returns-clause-value : goal.returns-clause-value
+unfolding optional_on
+returns-clause-value c = search rules

@@ -1,0 +1,7 @@
+use Rattle.std.proofs.Common.{rules}
+use Rattle.sd_command_line.specs.Words.{named_words}
+use Rattle.sd_command_line.proofs.order.read_named.Goals as goal
+
+pub returns-in-Some-clause-value : goal.returns-in-Some-clause-value
+unfolding named_words
+returns-in-Some-clause-value c = search rules

@@ -1,5 +1,0 @@
-use Rattle.sd_test_memory.proofs.leaving.uncounted.Given as goal
-
--- the ledger is the blank one
-abbrev pub ghosts-counted : goal.ghosts-counted
-ghosts-counted g a = record { name = a.blank.name; parts = a.blank.parts }

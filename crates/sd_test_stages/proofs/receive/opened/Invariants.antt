@@ -1,0 +1,4 @@
+use Rattle.sd_test_stages.proofs.receive.opened.Given as goal
+
+abbrev pub ghosts-driven : goal.ghosts-driven
+ghosts-driven a = record { name = a.blank.name; parts = a.blank.parts }

@@ -1,0 +1,36 @@
+//! Tests of the stages: what a head end sends, what a receiver hears, collects, is entitled to, holds and opens, and
+//! what it makes of broadcasts of which packets are lost.
+#![tactic(auto)]
+
+#[cfg(test)]
+mod choices;
+#[cfg(test)]
+mod clear;
+#[cfg(test)]
+mod collect;
+#[cfg(test)]
+mod due;
+#[cfg(test)]
+mod ending;
+#[cfg(test)]
+mod ends;
+#[cfg(test)]
+mod entitled;
+#[cfg(test)]
+mod entitling;
+#[cfg(test)]
+mod head;
+#[cfg(test)]
+mod hearing;
+#[cfg(test)]
+mod made;
+#[cfg(test)]
+mod packets;
+#[cfg(test)]
+mod receive;
+#[cfg(test)]
+mod rows;
+#[cfg(test)]
+mod sections;
+#[cfg(test)]
+mod segment;
