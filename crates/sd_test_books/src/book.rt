@@ -22,28 +22,42 @@ static REVOKED: [(&str, &[&[u32]]); 10] = [
     ),
 ];
 
-fn numbers(alloc: Global, leaves: &[Leaf]) -> Result<Vec<u32>, AllocError> {
-    leaves.iter().map(|leaf| leaf.get()).collect(alloc)
-}
-
 // Whether a book of height 3 has periods with these revoked leaves, each asked for alone and all in turn.
 fn are_revoked(alloc: Global, text: &str, periods: &[&[u32]]) -> Result<bool, Fail> {
     let book = Book::read(alloc, text.as_bytes(), height(3)?)
         .ok()
         .ok_or("a book")?;
-    let mut replay = book.periods(alloc);
+    if book.last_period() as usize + 1 != periods.len() {
+        return Ok(false);
+    }
+    Ok(are_alone(alloc, &book, periods)? && are_in_turn(alloc, &book, periods)?)
+}
+
+// Whether these leaves are revoked in the periods of a book, each asked for alone.
+fn are_alone(alloc: Global, book: &Book, periods: &[&[u32]]) -> Result<bool, Fail> {
     for (q, leaves) in periods.iter().enumerate() {
-        if q > book.last_period() as usize {
-            return Ok(false);
-        }
-        let found = book.revoked(alloc, q as u32)?;
-        let next = replay.next(alloc)?.ok_or("a period")?;
-        if numbers(alloc, &found)?.as_slice() != *leaves || next != found {
+        if q > book.last_period() as usize || !are(&book.revoked(alloc, q as u32)?, leaves) {
             return Ok(false);
         }
     }
-    let are_all = book.last_period() as usize + 1 == periods.len();
-    Ok(are_all && replay.next(alloc)?.is_none() && replay.next(alloc)?.is_none())
+    Ok(true)
+}
+
+// Whether they are in its periods in turn, after which none comes.
+fn are_in_turn(alloc: Global, book: &Book, periods: &[&[u32]]) -> Result<bool, Fail> {
+    let mut replay = book.periods(alloc);
+    for leaves in periods {
+        match replay.next(alloc)? {
+            Some(found) if are(&found, leaves) => {}
+            _ => return Ok(false),
+        }
+    }
+    Ok(replay.next(alloc)?.is_none() && replay.next(alloc)?.is_none())
+}
+
+// Whether leaves have these numbers.
+fn are(leaves: &[Leaf], numbers: &[u32]) -> bool {
+    leaves.len() == numbers.len() && leaves.iter().zip(numbers).all(|(leaf, u)| leaf.get() == *u)
 }
 
 #[test]
@@ -139,21 +153,42 @@ fn faults(rt: HostRuntime) -> Result<(), Fail> {
     Ok(())
 }
 
-#[test]
-fn longer_books(rt: HostRuntime) -> Result<(), Fail> {
-    let alloc = rt.alloc();
+// A book of height 3 with one period, in which leaf 5 is revoked.
+fn revoking(alloc: Global) -> Result<Book, Fail> {
     let h = height(3)?;
     let five = Leaf::new(h, 5).ok_or("a leaf")?;
     let mut draft = Draft::new(alloc, h)?;
-    assert!(rt; draft.push(Command::Revoke(five)) == Ok(()));
-    let mut book = draft.finish().ok().ok_or("a book")?;
-    assert!(rt; book.apply(&[Command::Period, Command::Subscribe(five)]) == Ok(()));
-    let text = book.write(alloc)?;
-    assert!(rt; text.as_slice() == b"revoke 5\nperiod\nsubscribe 5\n".as_slice());
-    let again = Book::read(alloc, &text, h).ok().ok_or("a book")?;
-    assert!(rt; again.commands() == book.commands() && again.commands().len() == 3);
-    let too_many = vec![in alloc; Command::Period; 1023]?;
-    assert!(rt; book.apply(&too_many) == Err(BookFault::Limit(BookLimit::Periods)));
-    assert!(rt; book.commands() == again.commands());
+    let pushed = draft.push(Command::Revoke(five));
+    match draft.finish() {
+        Ok(book) if pushed.is_ok() => Ok(book),
+        _ => Err("a book".into()),
+    }
+}
+
+// Whether a book is written as this text, from which it is read again.
+fn is_written(alloc: Global, book: &Book, text: &[u8]) -> Result<bool, Fail> {
+    let is_text = book.write(alloc)?.as_slice() == text;
+    match Book::read(alloc, text, book.height()) {
+        Ok(again) => Ok(is_text && again.commands() == book.commands()),
+        Err(_) => Ok(false),
+    }
+}
+
+#[test]
+fn longer_books(rt: HostRuntime) -> Result<(), Fail> {
+    let mut book = revoking(rt.alloc())?;
+    let five = Leaf::new(book.height(), 5).ok_or("a leaf")?;
+    let applied = book.apply(&[Command::Period, Command::Subscribe(five)]);
+    let is_read = is_written(rt.alloc(), &book, b"revoke 5\nperiod\nsubscribe 5\n")?;
+    assert!(rt; applied == Ok(()) && is_read && book.commands().len() == 3);
+    Ok(())
+}
+
+#[test]
+fn a_book_at_its_limit_stays(rt: HostRuntime) -> Result<(), Fail> {
+    let mut book = revoking(rt.alloc())?;
+    let applied = book.apply(&[Command::Period; 1024]);
+    let stays = is_written(rt.alloc(), &book, b"revoke 5\n")?;
+    assert!(rt; applied == Err(BookFault::Limit(BookLimit::Periods)) && stays);
     Ok(())
 }
