@@ -276,7 +276,7 @@ def reading_order(repository, items):
 
 def purpose(crate):
     with open(f"{TOP}/crates/{crate}/src/lib.rt", encoding="utf-8") as file:
-        return " ".join(line[3:].strip() for line in file if line.startswith("//!"))
+        return textwrap.fill(" ".join(line[3:].strip() for line in file if line.startswith("//!")), 120)
 
 
 def summary(items, words):

@@ -8,3 +8,7 @@ pub mod Words
 pub mod Changes
 pub mod Writes
 pub mod Endian
+pub mod Cuts
+pub mod Digits
+pub mod DecimalNumbers
+pub mod Lengths

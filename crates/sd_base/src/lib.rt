@@ -1,13 +1,19 @@
 //! What nearly all crates share: fields of bits, counts of I/O errors, out of memory, and a counter of generator steps.
+//! Text files as this project reads them: lines that end at line feeds, and decimals after a word.
 #![tactic(auto)]
 
+mod decimals;
 mod field;
 pub mod laws;
+mod lines;
 mod memory;
 pub mod numbers;
 mod steps;
+pub mod text_laws;
 mod word;
 
+pub use decimals::{NumberFault, number_after};
 pub use field::{get, set};
+pub use lines::next_line;
 pub use memory::NoMemory;
 pub use steps::Steps;

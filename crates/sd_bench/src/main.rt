@@ -9,10 +9,10 @@ mod emms;
 mod traces;
 
 use sd_base::fields;
+use sd_engine::sample;
 use sd_keystream::{Parity, scramble};
 use sd_packet::{Packet, is_positional};
 use sd_ports::MemSink;
-use sd_sample::sample;
 use std::alloc::{AllocError, Global};
 use std::process::ExitCode;
 use std::{env, io};

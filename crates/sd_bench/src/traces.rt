@@ -3,7 +3,7 @@
 ghost use Rattle.std.specs.Prelude.{◌≤◌, length};
 
 use crate::covers::{Draws, are_ascending, are_of_height};
-use sd_trace::{CoalitionBox, Found, TraceFault, trace_all};
+use sd_cover::{CoalitionBox, Found, TraceFault, trace_all};
 use sd_tree::{Height, Leaf, MOST_REVOKED};
 use std::alloc::{AllocError, Global};
 

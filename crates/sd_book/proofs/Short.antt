@@ -7,9 +7,9 @@ use Rattle.std.proofs.lemmas.Grind.{common_steps}
 use Rattle.std.proofs.lemmas.List.Elements.{All-head, All-tail}
 use Rattle.std.proofs.lemmas.Slice.Eq.{bytes_eq-Decides}
 use Rattle.std.proofs.Math.Pow.{pow_mono}
-use Rattle.sd_base_text.specs.Lines.{lines_of}
-use Rattle.sd_base_text.specs.Number.{decimal_after}
-use Rattle.sd_base_text.proofs.Lengths.{long_lines, text_length, said_length}
+use Rattle.sd_base.specs.Lines.{lines_of}
+use Rattle.sd_base.specs.Number.{decimal_after}
+use Rattle.sd_base.proofs.Lengths.{long_lines, text_length, said_length}
 use Rattle.sd_book.specs.declared.command.Command.{Command}
 use Rattle.sd_book.specs.declared.command.Command.TheVariants.{Subscribe, Revoke, Period}
 use Rattle.sd_book.specs.Commands.{is_within}

@@ -6,10 +6,10 @@ use Rattle.std.proofs.lemmas.Grind.{common_steps, take_at_read}
 use Rattle.std.proofs.lemmas.List.{flat_map_more}
 use Rattle.std.proofs.lemmas.List.Elements.{All-head, All-tail}
 use Rattle.std.proofs.Math.Pow.{pow_mono}
-use Rattle.sd_base_text.specs.Lines.{lines_of, is_line}
-use Rattle.sd_base_text.specs.Number.{rest_after, decimal_after}
-use Rattle.sd_base_text.proofs.Cuts.{line_cut}
-use Rattle.sd_base_text.proofs.Numbers.{decimal_in_line, decimal_after_decimal}
+use Rattle.sd_base.specs.Lines.{lines_of, is_line}
+use Rattle.sd_base.specs.Number.{rest_after, decimal_after}
+use Rattle.sd_base.proofs.Cuts.{line_cut}
+use Rattle.sd_base.proofs.DecimalNumbers.{decimal_in_line, decimal_after_decimal}
 use Rattle.sd_book.specs.declared.command.Command.{Command}
 use Rattle.sd_book.specs.declared.command.Command.TheVariants.{Subscribe, Revoke, Period}
 use Rattle.sd_book.specs.Commands.{is_within}

@@ -3,8 +3,8 @@ use Rattle.std.specs.Prelude.{◌≡◌, ℕ, ◌+◌, nat_lt, nat_le, List, [],
 use Rattle.std.specs.Prelude.{if◌then◌else◌, Option, Some, None, Result, Ok, Err, option_map}
 use Rattle.std.specs.Fmt.{decimal}
 use Rattle.std.specs.List.{flat_map}
-use Rattle.sd_base_text.specs.Lines.{lines_of}
-use Rattle.sd_base_text.specs.Number.{decimal_after}
+use Rattle.sd_base.specs.Lines.{lines_of}
+use Rattle.sd_base.specs.Number.{decimal_after}
 use Rattle.sd_tree.specs.Limits.{most_revoked}
 use Rattle.sd_book.specs.declared.command.Command.{Command}
 use Rattle.sd_book.specs.declared.command.Command.TheVariants.{Subscribe, Revoke, Period}

@@ -2,7 +2,7 @@
 
 ghost use Rattle.std.specs.Prelude.{◌≡◌, ◌<◌, ◌≤◌, ◌+◌, ◌++◌, ◌∷◌, ℕ, List, All, Option, Some, Ok, [], map, filter};
 ghost use Rattle.std.specs.Prelude.{not, true, length, ◌*◌, ◌^◌};
-ghost use Rattle.sd_base_text.specs.Lines.{lines_of};
+ghost use Rattle.sd_base.specs.Lines.{lines_of};
 ghost use Rattle.sd_book.specs.declared.command.Command.{Command as Commands};
 ghost use Rattle.sd_book.specs.declared.fault.BookFault.{BookFault as Faults};
 ghost use Rattle.sd_tree.specs.Leaves.{leaves};

@@ -1,10 +1,10 @@
 ghost use Rattle.std.specs.Prelude.{◌≡◌};
-ghost use Rattle.sd_base_text.specs.Number.{decimal_after};
+ghost use Rattle.sd_base.specs.Number.{decimal_after};
 ghost use Rattle.sd_book.specs.Line.{leaf_in, command_in};
 ghost use Rattle.sd_book.specs.Text.{command_of};
 
 use crate::command::Command;
-use sd_base_text::{NumberFault, number_after};
+use sd_base::{NumberFault, number_after};
 use sd_tree::{Height, Leaf};
 
 /// Why a line is no command for a tree.

@@ -1,5 +1,5 @@
 ghost use Rattle.std.specs.Prelude.{◌≡◌, ◌≤◌, ◌⊎◌, ◌+◌, [], Ok, Err, IfOk, IfErr, length, nat_le, if◌then◌else◌};
-ghost use Rattle.sd_base_text.specs.Lines.{lines_of};
+ghost use Rattle.sd_base.specs.Lines.{lines_of};
 ghost use Rattle.sd_book.specs.declared.limits.TheConstants.{MOST_COMMANDS};
 ghost use Rattle.sd_book.specs.Faults.{IsCauseOf};
 ghost use Rattle.sd_book.specs.Limits.{IsDraft};
@@ -10,7 +10,7 @@ use crate::draft::Draft;
 use crate::fault::{BookFault, BookLimit};
 use crate::limits::MOST_COMMANDS;
 use crate::line::{LineFault, command_on};
-use sd_base_text::next_line;
+use sd_base::next_line;
 use sd_tree::Height;
 use std::alloc::Global;
 

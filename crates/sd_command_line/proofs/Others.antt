@@ -1,7 +1,7 @@
 -- Neither `help` nor `version` means `Usage`.
 use Rattle.std.proofs.Common.{Option}
-use Rattle.sd_command_status.specs.Spec.{Readings}
-use Rattle.sd_command_files.proofs.Others.{IsOther}
+use Rattle.sd_command_base.specs.Spec.{Readings}
+use Rattle.sd_command_base.proofs.Others.{IsOther}
 use Rattle.sd_command_line.specs.declared.command.Command.{Command}
 use Rattle.sd_command_line.specs.Help.{help_meaning, version_meaning}
 

@@ -2,13 +2,13 @@
 use Rattle.std.proofs.Common.{ℕ, List, append-nil, Ok, refl, sym, subst, inl, inr, arith}
 use Rattle.std.specs.Io.KnownBytes.{Appends}
 use Rattle.sd_ports.specs.Bytes.{AppendsPrefix}
-use Rattle.sd_command_status.specs.declared.status.Status.{Status}
-use Rattle.sd_command_status.specs.Outside.{DepotState, PageState, outside}
-use Rattle.sd_command_status.specs.Spec.{value}
-use Rattle.sd_command_status.specs.Work.{work_of_text}
-use Rattle.sd_command_status.specs.Outcome.{IsEnding, Outcome, ended, exhausted, cut_off, untouched, Implements}
-use Rattle.sd_command_status.specs.Prints.{PrintsPiece}
-use Rattle.sd_command_status.proofs.Givens.{any_given}
+use Rattle.sd_command_base.specs.declared.status.Status.{Status}
+use Rattle.sd_command_base.specs.Outside.{DepotState, PageState, outside}
+use Rattle.sd_command_base.specs.Spec.{value}
+use Rattle.sd_command_base.specs.Work.{work_of_text}
+use Rattle.sd_command_base.specs.Outcome.{IsEnding, Outcome, ended, exhausted, cut_off, untouched, Implements}
+use Rattle.sd_command_base.specs.Prints.{PrintsPiece}
+use Rattle.sd_command_base.proofs.Givens.{any_given}
 
 told_comes : (text : List ℕ) (place : DepotState) (a b : PageState) (steps : ℕ) (status : Status) →
     PrintsPiece text a b status →

@@ -8,7 +8,7 @@ use Rattle.sd_command_line.specs.declared.operand.Operand.{Operand}
 use Rattle.sd_command_line.specs.declared.operand.Kind.{Kind}
 use Rattle.sd_command_line.specs.declared.operand.Kind.TheVariants as kind
 use Rattle.sd_command_line.specs.Operands.{operand_kind}
-use Rattle.sd_command_status.specs.declared.status.Status.{Status}
+use Rattle.sd_command_base.specs.declared.status.Status.{Status}
 use Rattle.sd_command_line.specs.declared.argument.Argument.{Argument}
 use Rattle.sd_command_line.specs.Words as words
 use Rattle.sd_command_line.specs.Words.{before, argument_of, arguments_from, input_texts, out_text, or_output}

@@ -2,10 +2,10 @@
 use Rattle.std.proofs.Common.{◌≡◌, ℕ, ◌<◌, ◌≤◌, ◌^◌, Bool, true, false, cond, nat_lt, List, [], Option, Some, None}
 use Rattle.std.proofs.Common.{Result, Ok, Err, refl, sym, ap, ◌∙◌, arith, le-ltb, lt-ltb, inl, inr}
 use Rattle.std.proofs.lemmas.Bool.{cases_lt}
-use Rattle.sd_base_text.specs.Number.{decimal_value, decimal_after, rest_after, fitting}
-use Rattle.sd_base_text.specs.declared.number.NumberFault.{NumberFault}
-use Rattle.sd_base_text.specs.declared.number.NumberFault.TheVariants.{TooLarge}
-use Rattle.sd_command_status.specs.declared.status.Status.TheVariants.{BadWord}
+use Rattle.sd_base.specs.Number.{decimal_value, decimal_after, rest_after, fitting}
+use Rattle.sd_base.specs.declared.decimals.NumberFault.{NumberFault}
+use Rattle.sd_base.specs.declared.decimals.NumberFault.TheVariants.{TooLarge}
+use Rattle.sd_command_base.specs.declared.status.Status.TheVariants.{BadWord}
 use Rattle.sd_command_line.specs.Words.{at_most, number_in}
 
 -- after no word stands the whole text

@@ -5,9 +5,9 @@ use Rattle.sd_command_line.specs.declared.command.Command.{Command}
 use Rattle.sd_command_line.specs.declared.operand.Operand.{Operand}
 use Rattle.sd_command_line.specs.Commands.{command_named, operands_of}
 use Rattle.sd_command_line.specs.Operands.{operand_name}
-use Rattle.sd_command_status.specs.declared.status.Status.{Status}
-use Rattle.sd_command_status.specs.declared.status.Status.TheVariants.{Usage, Missing, BadSite, BadBook, BadCard}
-use Rattle.sd_command_status.specs.declared.status.Status.TheVariants.{BadWord}
+use Rattle.sd_command_base.specs.declared.status.Status.{Status}
+use Rattle.sd_command_base.specs.declared.status.Status.TheVariants.{Usage, Missing, BadSite, BadBook, BadCard}
+use Rattle.sd_command_base.specs.declared.status.Status.TheVariants.{BadWord}
 use Rattle.sd_command_line.specs.declared.found.Argument.{Argument}
 use Rattle.sd_command_line.specs.Words.{is_help, is_version}
 use Rattle.sd_command_line.specs.Reasons.{card_reason, line_reason, miscounted_reason, missing_reason}

@@ -1,7 +1,7 @@
 -- Public meaning: `help`, `help COMMAND` and `version` [this project, docs/FORMATS.md, Help].
 use Rattle.std.specs.Prelude.{Option}
-use Rattle.sd_command_status.specs.Spec.{Spec, Readings, value}
-use Rattle.sd_command_status.specs.Work.{Work, work_of_text}
+use Rattle.sd_command_base.specs.Spec.{Spec, Readings, value}
+use Rattle.sd_command_base.specs.Work.{Work, work_of_text}
 use Rattle.sd_command_line.specs.declared.command.Command.{Command}
 use Rattle.sd_command_line.specs.Pages.{help_text, version_text}
 

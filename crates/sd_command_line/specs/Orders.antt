@@ -5,9 +5,9 @@ use Rattle.sd_command_line.specs.declared.operand.Kind.{Kind}
 use Rattle.sd_command_line.specs.declared.operand.Kind.TheVariants as kind
 use Rattle.sd_command_line.specs.Commands.{operands_of}
 use Rattle.sd_command_line.specs.Operands.{operand_kind}
-use Rattle.sd_command_status.specs.declared.status.Status.{Status}
-use Rattle.sd_command_status.specs.declared.status.Status.TheVariants.{Usage, BadWord}
-use Rattle.sd_command_files.specs.Shown.{word_at}
+use Rattle.sd_command_base.specs.declared.status.Status.{Status}
+use Rattle.sd_command_base.specs.declared.status.Status.TheVariants.{Usage, BadWord}
+use Rattle.sd_command_base.specs.Shown.{word_at}
 use Rattle.sd_command_line.specs.declared.argument.Argument.{Argument}
 use Rattle.sd_command_line.specs.declared.argument.Argument.TheVariants.{Input, Output, Number}
 use Rattle.sd_command_line.specs.declared.argument.Arguments.{Arguments}

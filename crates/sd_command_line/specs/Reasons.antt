@@ -1,10 +1,10 @@
 -- Public meaning: why an argument is refused, as a user reads it [this project, docs/FORMATS.md, Explanations].
 use Rattle.std.specs.Prelude.{ℕ, List, ◌++◌, codes}
 use Rattle.std.specs.Fmt.{decimal}
-use Rattle.sd_site.specs.declared.fault.SiteFault.{SiteFault}
-use Rattle.sd_site.specs.declared.fault.SiteFault.TheVariants as site
-use Rattle.sd_card.specs.declared.fault.CardFault.{CardFault}
-use Rattle.sd_card.specs.declared.fault.CardFault.TheVariants as card
+use Rattle.sd_site.specs.declared.site_fault.SiteFault.{SiteFault}
+use Rattle.sd_site.specs.declared.site_fault.SiteFault.TheVariants as site
+use Rattle.sd_site.specs.declared.card_fault.CardFault.{CardFault}
+use Rattle.sd_site.specs.declared.card_fault.CardFault.TheVariants as card
 use Rattle.sd_command_line.specs.declared.operand.Operand.{Operand}
 use Rattle.sd_command_line.specs.declared.operand.Operand.TheVariants.{Out}
 use Rattle.sd_command_line.specs.Operands.{meaning_of, operand_name}

@@ -4,7 +4,7 @@ use Rattle.std.specs.Prelude.{slice_get}
 use Rattle.std.specs.Prelude.{bytes_eq, ◌||◌}
 use Rattle.std.specs.Prelude.{if◌then◌else◌, Option, Some, None, Bool, false, Result, Ok, Err}
 use Rattle.std.specs.List.{list_any}
-use Rattle.sd_base_text.specs.Number.{decimal_value}
+use Rattle.sd_base.specs.Number.{decimal_value}
 use Rattle.sd_command_line.specs.declared.command.Command.{Command}
 use Rattle.sd_command_line.specs.declared.command.Command.TheVariants as commands
 use Rattle.sd_command_line.specs.declared.operand.Operand.{Operand}
@@ -12,10 +12,10 @@ use Rattle.sd_command_line.specs.declared.operand.Kind.{Kind}
 use Rattle.sd_command_line.specs.declared.operand.Kind.TheVariants as kind
 use Rattle.sd_command_line.specs.Commands.{command_named, operands_of}
 use Rattle.sd_command_line.specs.Operands.{operand_kind}
-use Rattle.sd_command_status.specs.Spec.{FileArgument}
-use Rattle.sd_command_files.specs.Shown.{NumberArgument, word_at}
-use Rattle.sd_command_status.specs.declared.status.Status.{Status}
-use Rattle.sd_command_status.specs.declared.status.Status.TheVariants.{Usage, BadWord}
+use Rattle.sd_command_base.specs.Spec.{FileArgument}
+use Rattle.sd_command_base.specs.Shown.{NumberArgument, word_at}
+use Rattle.sd_command_base.specs.declared.status.Status.{Status}
+use Rattle.sd_command_base.specs.declared.status.Status.TheVariants.{Usage, BadWord}
 
 -- what an argument says: a file that is read, the file that is made, or a number
 pub data Argument : Type 0 where

@@ -1,15 +1,14 @@
 ghost use Rattle.std.specs.Prelude.{◌≡◌, ◌<◌, ◌≤◌, ℕ, IfErr, IfOk, length, map, option_map, slice_get, string_bytes};
 ghost use Rattle.std.specs.Prelude.{◌-◌};
-ghost use Rattle.sd_command_files.specs.Shown.{shown_number, shown_word};
+ghost use Rattle.sd_command_base.specs.Shown.{shown_number, shown_word};
 ghost use Rattle.sd_command_line.specs.Orders.{all_said, argument_said, arguments_said, one_said};
 ghost use Rattle.sd_command_line.specs.Words.{argument_of, arguments_from, counted, file, files_in, number, number_in};
 ghost use Rattle.sd_command_line.specs.Words.{out_in};
 
 use crate::{Kind, Operand};
 use arrayvec::ArrayVec;
-use sd_base_text::number_after;
-use sd_command_files::{Number, Word};
-use sd_command_status::Status;
+use sd_base::number_after;
+use sd_command_base::{Number, Status, Word};
 
 /// What an argument says.
 #[derive(Clone, Copy)]

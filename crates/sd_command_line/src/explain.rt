@@ -9,9 +9,8 @@ ghost use Rattle.sd_command_line.specs.Reasons.{site_reason};
 
 use crate::found::{Argument, find_argument};
 use crate::{Command, is_help, is_version, reason};
-use sd_card::CardFault;
-use sd_command_status::Status;
-use sd_site::SiteFault;
+use sd_command_base::Status;
+use sd_site::{CardFault, SiteFault};
 use std::alloc::{AllocError, Global};
 
 /// The number of the argument that is a site or a card.

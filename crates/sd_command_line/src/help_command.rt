@@ -1,13 +1,12 @@
 ghost use Rattle.std.specs.Prelude.{◌≡◌, ℕ, IfOk, string_bytes};
-ghost use Rattle.sd_command_status.specs.Outcome.{Implements, status_of};
-ghost use Rattle.sd_command_status.specs.Outside.{DepotState, outside, page_state};
+ghost use Rattle.sd_command_base.specs.Outcome.{Implements, status_of};
+ghost use Rattle.sd_command_base.specs.Outside.{DepotState, outside, page_state};
 ghost use Rattle.sd_command_line.specs.Help.{help_meaning, version_meaning};
 ghost use Rattle.sd_command_line.specs.Pages.{help_text, version_text};
 
 use crate::Command;
 use crate::page::{overview, page as page_of};
-use sd_command_files::print_text;
-use sd_command_status::Status;
+use sd_command_base::{Status, print_text};
 use sd_ports::Sink;
 use std::alloc::{AllocError, Global};
 

@@ -8,7 +8,7 @@ ghost use Rattle.sd_command_line.specs.Orders.{order_said, shown, IsSound, Refus
 
 use crate::argument::Arguments;
 use crate::{Command, Kind, Operand};
-use sd_command_status::Status;
+use sd_command_base::Status;
 
 /// What the arguments of the program ask for.
 #[derive(Drop)]

@@ -4,8 +4,7 @@ ghost use Rattle.sd_command_line.specs.Reasons.{miscounted_reason, no_page_reaso
 ghost use Rattle.sd_command_line.specs.Reasons.{rule_of, site_reason, unknown_reason};
 
 use crate::Operand;
-use sd_card::CardFault;
-use sd_site::SiteFault;
+use sd_site::{CardFault, SiteFault};
 use std::alloc::{AllocError, Global};
 
 /// Why a file isn't there.

@@ -21,3 +21,17 @@ pub mod Added
 pub mod Sorting
 pub mod There
 pub mod Heights
+pub mod TraceCuts
+pub mod Searches
+pub mod Told
+pub mod Narrowing
+pub mod Narrowed
+pub mod Joining
+pub mod Opening
+pub mod Rounds
+pub mod Chained
+pub mod Leaving
+pub mod Inside
+pub mod Boxes
+pub mod Anyway
+pub mod Listed

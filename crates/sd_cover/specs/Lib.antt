@@ -7,3 +7,7 @@ pub mod Partition
 pub mod Chains
 pub mod Cover
 pub mod Walk
+pub mod Halves
+pub mod Search
+pub mod Trace
+pub mod Rounds

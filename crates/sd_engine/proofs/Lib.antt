@@ -6,3 +6,7 @@ pub mod Driving
 pub mod Longer
 pub mod Taken
 pub mod Vessels
+pub mod SampleRounds
+pub mod Generator
+pub mod SamplePackets
+pub mod SampleStreams

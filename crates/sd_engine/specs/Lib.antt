@@ -3,3 +3,4 @@ pub mod Stage
 pub mod Feeding
 pub mod Driving
 pub mod Taken
+pub mod Sample

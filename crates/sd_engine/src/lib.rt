@@ -1,12 +1,16 @@
-//! A stream of transport packets, driven one by one from a source through a stage to a sink.
+//! A stream of transport packets, driven one by one from a source through a stage to a sink, and a clear stream for
+//! trials: one program, whose payloads a generator of numbers fills.
 #![tactic(auto)]
 
 mod driver;
 mod fault;
 mod feed;
 pub mod laws;
+mod sample_packet;
+mod sample_stream;
 mod stage;
 
 pub use driver::{DriveFault, MOST_PACKETS, drive};
 pub use fault::{BreakCause, StreamBreak};
+pub use sample_stream::{MOST_SAMPLE_PACKETS, sample};
 pub use stage::{Stage, StageFault};

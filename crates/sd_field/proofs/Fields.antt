@@ -10,19 +10,19 @@ use Rattle.std.proofs.lemmas.List.{append_cancel_right, length-map, length-rever
 use Rattle.std.proofs.lemmas.List.{take_more, length-set, get_or-set_same, get_or-set_other}
 use Rattle.std.proofs.lemmas.Option.{get_or_from_slice_get, slice_get-get_or, slice_get_within}
 use Rattle.sd_engine.specs.Stream.{packets_of}
-use Rattle.sd_spec_broadcast.specs.Plan.{Plan}
-use Rattle.sd_spec_broadcast.specs.Refused.{IsClear, refusal_of}
+use Rattle.sd_spec.specs.Plan.{Plan}
+use Rattle.sd_spec.specs.Refused.{IsClear, refusal_of}
 use Rattle.sd_receive.specs.declared.receiver.Receiver.{Receiver}
 use Rattle.sd_receive.specs.Receiving.{IsCountable, IsLive}
-use Rattle.sd_spec_field.specs.declared.event.Event.{Event}
-use Rattle.sd_spec_field.specs.declared.event.Event.TheVariants.{Lose, Off, Offer, On, Revoke, Send, Subscribe}
-use Rattle.sd_spec_field.specs.Events.{is_of, is_send}
-use Rattle.sd_spec_field.specs.Book.{sends}
-use Rattle.sd_spec_field.specs.Watch.{Watch, at_places, count_sent, present, stream, watch, watched, written}
-use Rattle.sd_spec_field.proofs.Watching.{all_offered, cursor_within, move_of, offers, passes, waits}
-use Rattle.sd_spec_field.proofs.Offers.{others_wait, present_stays, written_stays}
-use Rattle.sd_card.specs.Fields.{CardFields}
-use Rattle.sd_spec_receiver.specs.Offered.{out_from}
+use Rattle.sd_spec.specs.declared.event.Event.{Event}
+use Rattle.sd_spec.specs.declared.event.Event.TheVariants.{Lose, Off, Offer, On, Revoke, Send, Subscribe}
+use Rattle.sd_spec.specs.Events.{is_of, is_send}
+use Rattle.sd_spec.specs.Book.{sends}
+use Rattle.sd_spec.specs.Watch.{Watch, at_places, count_sent, present, stream, watch, watched, written}
+use Rattle.sd_spec.proofs.Watching.{all_offered, cursor_within, move_of, offers, passes, waits}
+use Rattle.sd_spec.proofs.Offers.{others_wait, present_stays, written_stays}
+use Rattle.sd_site.specs.CardFields.{CardFields}
+use Rattle.sd_spec.specs.Offered.{out_from}
 use Rattle.sd_field.specs.Heard.{IsHeard}
 use Rattle.sd_field.specs.Seats.{IsNew, IsSeated, wrote_before}
 use Rattle.sd_field.proofs.Seats.{written_in}
@@ -36,8 +36,8 @@ use Rattle.sd_field.specs.declared.fault.FieldFault.{FieldFault}
 use Rattle.sd_field.specs.declared.fault.FieldFault.TheVariants.{Clear, NoMemory}
 use Rattle.sd_field.specs.declared.station.Station.{Station}
 use Rattle.sd_book.specs.Value.{BookValue}
-use Rattle.sd_spec_broadcast.specs.declared.fault.ClearFault.{ClearFault}
-use Rattle.sd_spec_broadcast.specs.Sent.{body}
+use Rattle.sd_spec.specs.declared.clear_fault.ClearFault.{ClearFault}
+use Rattle.sd_spec.specs.Sent.{body}
 use Rattle.sd_head.specs.Schedule.{begins_with}
 use Rattle.sd_head.specs.Kept.{HasBegun}
 use Rattle.sd_field.specs.declared.seat.Seat.{Seat}

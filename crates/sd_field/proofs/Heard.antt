@@ -6,17 +6,17 @@ use Rattle.std.specs.List.{concat}
 use Rattle.std.specs.Option.{option_map_or}
 use Rattle.std.proofs.lemmas.List.{length-reverse}
 use Rattle.std.proofs.lemmas.List.Folds.{concat-append}
-use Rattle.sd_card.specs.Fields.{CardFields}
+use Rattle.sd_site.specs.CardFields.{CardFields}
 use Rattle.sd_ports.specs.Memory.{Store, room_in}
 use Rattle.sd_engine.specs.Stage.{IsTooShort}
 use Rattle.sd_engine.proofs.Chains.{chain_on}
-use Rattle.sd_spec_receiver.specs.declared.fault.StreamFault.{StreamFault}
-use Rattle.sd_spec_receiver.specs.Offered.{offered, out_from, break_from}
+use Rattle.sd_spec.specs.declared.stream_fault.StreamFault.{StreamFault}
+use Rattle.sd_spec.specs.Offered.{offered, out_from, break_from}
 use Rattle.sd_receive.specs.Receiving.{IsAfter, IsCountable, IsLive, Refusing, card_in, receiver_does}
 use Rattle.sd_receive.specs.declared.receiver.Receiver.{Receiver}
 use Rattle.sd_receive.proofs.Chained.{came_to_all}
 use Rattle.sd_receive.proofs.Turns.{out_more, break_more}
-use Rattle.sd_spec_field.proofs.Offers.{out_of_one_more}
+use Rattle.sd_spec.proofs.Offers.{out_of_one_more}
 use Rattle.sd_field.specs.Heard.{IsReceiverAfter, IsHeard, HasRoom}
 
 -- what a receiver keeps that stands after packets

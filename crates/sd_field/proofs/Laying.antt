@@ -8,18 +8,18 @@ use Rattle.std.proofs.lemmas.Bool.Decides.{nat_tests}
 use Rattle.std.proofs.lemmas.List.{length-reverse, length-take, replicate-append-replicate, reverse-append, take_more}
 use Rattle.std.proofs.lemmas.List.Elements.{All-append, All-cons, All-head, All-nil, All-tail, All-take}
 use Rattle.std.specs.Prelude.{All, false, get_or, max, nat_le, replicate, reverse}
-use Rattle.sd_site.specs.Fields.{SiteFields}
+use Rattle.sd_site.specs.SiteFields.{SiteFields}
 use Rattle.sd_book.specs.declared.command.Command.{Command}
 use Rattle.sd_book.specs.declared.command.Command.TheVariants.{Period}
 use Rattle.sd_book.specs.Limits.{IsDraft, IsWithinLimits}
 use Rattle.sd_book.specs.Commands.{last_period}
 use Rattle.sd_book.proofs.Cuts.{period_append}
-use Rattle.sd_spec_field.specs.declared.event.Event.{Event}
-use Rattle.sd_spec_field.specs.Events.{is_of, sends_with}
-use Rattle.sd_spec_field.specs.Book.{booked, commanded, event_book, with_periods_to, sends}
-use Rattle.sd_spec_field.proofs.Filled.{filled_ends}
-use Rattle.sd_spec_field.proofs.Fitting.{event_books_fit, fronts_fit, revoked_few}
-use Rattle.sd_spec_field.proofs.Sends.{sends_are_counted}
+use Rattle.sd_spec.specs.declared.event.Event.{Event}
+use Rattle.sd_spec.specs.Events.{is_of, sends_with}
+use Rattle.sd_spec.specs.Book.{booked, commanded, event_book, with_periods_to, sends}
+use Rattle.sd_spec.proofs.Filled.{filled_ends}
+use Rattle.sd_spec.proofs.Fitting.{event_books_fit, fronts_fit, revoked_few}
+use Rattle.sd_spec.proofs.Sends.{sends_are_counted}
 use Rattle.sd_field.specs.Laid.{IsLaid}
 use Rattle.sd_field.specs.declared.laid.Laid.{Laid}
 

@@ -2,9 +2,9 @@
 use Rattle.std.proofs.Common.{◌≡◌, ℕ, List, [], ◌++◌, ap, sym, ◌∙◌, Bor, None, option_copied}
 use Rattle.std.specs.Prelude.{IfSome, Option, Some, slice_get}
 use Rattle.sd_book.specs.Value.{BookValue}
-use Rattle.sd_spec_receiver.specs.Offered.{break_from}
+use Rattle.sd_spec.specs.Offered.{break_from}
 use Rattle.sd_receive.specs.declared.receiver.Receiver.{Receiver}
-use Rattle.sd_spec_field.specs.Watch.{present}
+use Rattle.sd_spec.specs.Watch.{present}
 use Rattle.sd_field.specs.Fields.{FieldValue, IsField, IsWrittenCut, card_at, plan_in, taken, watch_of, written_of}
 use Rattle.sd_field.specs.Receivers.{IsReceiverFor}
 use Rattle.sd_field.specs.Seats.{wrote_before}

@@ -7,13 +7,13 @@ use Rattle.std.proofs.lemmas.Bool.{cases_lt}
 use Rattle.std.proofs.lemmas.List.{reverse-append}
 use Rattle.std.proofs.lemmas.Option.{slice_get-get_or}
 use Rattle.sd_base.proofs.Lists.{both_none}
-use Rattle.sd_site.specs.Fields.{SiteFields}
-use Rattle.sd_spec_broadcast.specs.Refused.{IsClear, refusal_from, refusal_of}
-use Rattle.sd_spec_broadcast.specs.declared.fault.ClearFault.{ClearFault}
-use Rattle.sd_spec_field.specs.declared.event.Event.{Event}
-use Rattle.sd_spec_field.specs.declared.event.Event.TheVariants.{Lose, Off, Offer, On, Revoke, Send, Subscribe}
-use Rattle.sd_spec_field.specs.Book.{sends}
-use Rattle.sd_spec_field.proofs.Sends.{sends_rise}
+use Rattle.sd_site.specs.SiteFields.{SiteFields}
+use Rattle.sd_spec.specs.Refused.{IsClear, refusal_from, refusal_of}
+use Rattle.sd_spec.specs.declared.clear_fault.ClearFault.{ClearFault}
+use Rattle.sd_spec.specs.declared.event.Event.{Event}
+use Rattle.sd_spec.specs.declared.event.Event.TheVariants.{Lose, Off, Offer, On, Revoke, Send, Subscribe}
+use Rattle.sd_spec.specs.Book.{sends}
+use Rattle.sd_spec.proofs.Sends.{sends_rise}
 use Rattle.sd_field.specs.Fields.{FieldValue, after_next, done_to, next_event, next_refusal, past_of, refusal_at}
 use Rattle.sd_field.specs.Fields.{sends_of, taken}
 use Rattle.sd_field.proofs.Fields.{none_refused, none_to_send, one_refused, one_to_send, quiet_taken}

@@ -5,12 +5,12 @@ use Rattle.std.proofs.Common.{All}
 use Rattle.std.proofs.lemmas.Bool.{ltb-false, leb-true}
 use Rattle.std.specs.Prelude.{◌&&◌, if◌then◌else◌, option_map, option_and_then, replicate, codes}
 use Rattle.std.proofs.lemmas.List.Elements.{All-nil, All-cons, All-append}
-use Rattle.sd_base_text.specs.declared.number.NumberFault.{NumberFault}
-use Rattle.sd_base_text.specs.declared.number.NumberFault.TheVariants.{TooLarge}
-use Rattle.sd_base_text.specs.Number.{rest_after, fitting, decimal_value}
-use Rattle.sd_spec_field.specs.declared.event.Event.{Event}
-use Rattle.sd_spec_field.specs.declared.event.Event.TheVariants.{Subscribe, Revoke, Send, Offer, Lose, Off, On}
-use Rattle.sd_spec_field.specs.Events.{is_of}
+use Rattle.sd_base.specs.declared.decimals.NumberFault.{NumberFault}
+use Rattle.sd_base.specs.declared.decimals.NumberFault.TheVariants.{TooLarge}
+use Rattle.sd_base.specs.Number.{rest_after, fitting, decimal_value}
+use Rattle.sd_spec.specs.declared.event.Event.{Event}
+use Rattle.sd_spec.specs.declared.event.Event.TheVariants.{Subscribe, Revoke, Send, Offer, Lose, Off, On}
+use Rattle.sd_spec.specs.Events.{is_of}
 use Rattle.sd_field.specs.declared.fault.ScriptFault.{ScriptFault}
 use Rattle.sd_field.specs.declared.fault.ScriptFault.TheVariants.{Leaf, Events}
 use Rattle.sd_field.specs.declared.line.LineFault.TheVariants.{Form}

@@ -9,17 +9,17 @@ use Rattle.std.proofs.lemmas.Bool.Decides.{nat_tests}
 use Rattle.std.proofs.lemmas.List.Folds.{concat-append}
 use Rattle.std.proofs.lemmas.Option.{get_or_from_slice_get, slice_get_within}
 use Rattle.sd_site.specs.declared.site.Site.{Site}
-use Rattle.sd_card.specs.declared.card.Card.{Card}
-use Rattle.sd_card.specs.Fields.{CardFields, card_of, fields_of}
-use Rattle.sd_spec_broadcast.specs.Plan.{Plan}
+use Rattle.sd_site.specs.declared.card.Card.{Card}
+use Rattle.sd_site.specs.CardFields.{CardFields, card_of, card_fields_of}
+use Rattle.sd_spec.specs.Plan.{Plan}
 use Rattle.sd_ports.specs.Memory.{Store}
-use Rattle.sd_spec_receiver.specs.Offered.{out_from, break_from}
+use Rattle.sd_spec.specs.Offered.{out_from, break_from}
 use Rattle.sd_receive.specs.Receiving.{IsAfter, IsLive, card_in}
 use Rattle.sd_receive.specs.declared.receiver.Receiver.{Receiver}
-use Rattle.sd_spec_field.specs.declared.event.Event.TheVariants.{Lose, Off, Offer, On}
-use Rattle.sd_spec_field.specs.Watch.{Watch, at_places, passed_by, present, stream, times, watched}
-use Rattle.sd_spec_field.specs.Watch.{switched_off, switched_on, written}
-use Rattle.sd_spec_field.proofs.Offers.{heard_is, on_is, offer_is_present, switched_writes_nothing, written_parts}
+use Rattle.sd_spec.specs.declared.event.Event.TheVariants.{Lose, Off, Offer, On}
+use Rattle.sd_spec.specs.Watch.{Watch, at_places, passed_by, present, stream, times, watched}
+use Rattle.sd_spec.specs.Watch.{switched_off, switched_on, written}
+use Rattle.sd_spec.proofs.Offers.{heard_is, on_is, offer_is_present, switched_writes_nothing, written_parts}
 use Rattle.sd_field.specs.Heard.{HasRoom, IsHeard}
 use Rattle.sd_field.specs.Seats.{AreNew, IsNew, IsSeated, wrote_before}
 use Rattle.sd_field.specs.declared.seat.Seat.{Seat}
@@ -320,9 +320,9 @@ some_there (Some x) some never = never x refl
 
 -- a receiver has the card that it was made with
 pub has_card : {E : Type 0} (made : Result Receiver E) (card : Card) (fields : CardFields) →
-    IfOk made (λ receiver. receiver.card ≡ card) → fields_of card ≡ fields →
+    IfOk made (λ receiver. receiver.card ≡ card) → card_fields_of card ≡ fields →
     IfOk made (λ receiver. card_in receiver ≡ fields)
-has_card (Ok receiver) card fields is same = ap fields_of is ∙ same
+has_card (Ok receiver) card fields is same = ap card_fields_of is ∙ same
 has_card (Err fault) card fields is same = tt
 
 -- a seat that passed all packets stays as it is

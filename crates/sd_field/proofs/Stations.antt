@@ -8,10 +8,10 @@ use Rattle.sd_ports.specs.Memory.{Store, room_in}
 use Rattle.sd_ports.specs.Rooms.{HasTaken}
 use Rattle.sd_engine.specs.Stage.{Chain, IsTooShort}
 use Rattle.sd_engine.proofs.Chains.{chain_on}
-use Rattle.sd_spec_broadcast.specs.Plan.{Plan}
-use Rattle.sd_spec_broadcast.specs.Refused.{refusal_of}
-use Rattle.sd_spec_broadcast.specs.Sent.{Item, added, body, bytes_added, packets_from, sent, sent_from}
-use Rattle.sd_spec_broadcast.proofs.Sending.{packets_in_turn, sent_more}
+use Rattle.sd_spec.specs.Plan.{Plan}
+use Rattle.sd_spec.specs.Refused.{refusal_of}
+use Rattle.sd_spec.specs.Sent.{Item, added, body, bytes_added, packets_from, sent, sent_from}
+use Rattle.sd_spec.proofs.Sending.{packets_in_turn, sent_more}
 use Rattle.sd_head.specs.Schedule.{IsDue}
 use Rattle.sd_head.specs.Staged.{IsAfter, IsReady, RefusesPacket, head_does}
 use Rattle.sd_head.specs.declared.fault.HeadFault.{HeadFault}

@@ -4,19 +4,19 @@ use Rattle.std.specs.Prelude.{◌≡◌, ◌⊎◌, ◌↔◌, ℕ, suc, ◌*◌
 use Rattle.std.specs.Prelude.{All, length, reverse, take, get_or, slice_get, if◌then◌else◌}
 use Rattle.std.specs.Prelude.{Option, Some, None, IsSome, option_and_then}
 use Rattle.std.specs.List.{concat}
-use Rattle.sd_site.specs.Fields.{SiteFields}
-use Rattle.sd_card.specs.Fields.{CardFields, card_of}
+use Rattle.sd_site.specs.SiteFields.{SiteFields}
+use Rattle.sd_site.specs.CardFields.{CardFields, card_of}
 use Rattle.sd_book.specs.Value.{BookValue}
-use Rattle.sd_spec_broadcast.specs.declared.fault.ClearFault.{ClearFault}
-use Rattle.sd_spec_broadcast.specs.Plan.{Plan, IsPlan}
-use Rattle.sd_spec_broadcast.specs.Refused.{refusal_of, IsClear}
-use Rattle.sd_spec_broadcast.specs.Sent.{body}
+use Rattle.sd_spec.specs.declared.clear_fault.ClearFault.{ClearFault}
+use Rattle.sd_spec.specs.Plan.{Plan, IsPlan}
+use Rattle.sd_spec.specs.Refused.{refusal_of, IsClear}
+use Rattle.sd_spec.specs.Sent.{body}
 use Rattle.sd_head.specs.Schedule.{begins_with}
-use Rattle.sd_spec_field.specs.declared.event.Event.{Event}
-use Rattle.sd_spec_field.specs.declared.event.Event.TheVariants.{Subscribe, Revoke, Send, Offer, Lose, Off, On}
-use Rattle.sd_spec_field.specs.Events.{is_of, is_send}
-use Rattle.sd_spec_field.specs.Book.{sends, plan_after}
-use Rattle.sd_spec_field.specs.Watch.{Watch, watch, written}
+use Rattle.sd_spec.specs.declared.event.Event.{Event}
+use Rattle.sd_spec.specs.declared.event.Event.TheVariants.{Subscribe, Revoke, Send, Offer, Lose, Off, On}
+use Rattle.sd_spec.specs.Events.{is_of, is_send}
+use Rattle.sd_spec.specs.Book.{sends, plan_after}
+use Rattle.sd_spec.specs.Watch.{Watch, watch, written}
 use Rattle.sd_field.specs.declared.fault.FieldFault.{FieldFault}
 use Rattle.sd_field.specs.declared.fault.FieldFault.TheVariants.{NoMemory}
 use Rattle.sd_field.specs.Heard.{HasRoom}

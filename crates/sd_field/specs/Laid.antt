@@ -1,9 +1,9 @@
 -- Inner: the book of a field, as far as it is made.
 use Rattle.std.specs.Prelude.{◌≡◌, ℕ, List}
-use Rattle.sd_site.specs.Fields.{SiteFields}
+use Rattle.sd_site.specs.SiteFields.{SiteFields}
 use Rattle.sd_book.specs.Commands.{last_period}
-use Rattle.sd_spec_field.specs.declared.event.Event.{Event}
-use Rattle.sd_spec_field.specs.Book.{event_book, sends}
+use Rattle.sd_spec.specs.declared.event.Event.{Event}
+use Rattle.sd_spec.specs.Book.{event_book, sends}
 use Rattle.sd_field.specs.declared.laid.Laid.{Laid}
 
 -- the book is that of these events, of a clear stream of m packets

@@ -1,7 +1,7 @@
 -- Inner: a line of a script by itself.
 use Rattle.std.specs.Prelude.{ℕ, ◌^◌, nat_lt, if◌then◌else◌, Option, Some, None, Result, Ok, Err}
-use Rattle.sd_spec_field.specs.declared.event.Event.{Event}
-use Rattle.sd_spec_field.specs.Events.{is_of}
+use Rattle.sd_spec.specs.declared.event.Event.{Event}
+use Rattle.sd_spec.specs.Events.{is_of}
 use Rattle.sd_field.specs.declared.line.LineFault.{LineFault}
 use Rattle.sd_field.specs.declared.line.LineFault.TheVariants.{Form, Leaf}
 

@@ -1,6 +1,6 @@
 -- Public meaning: what the receiver of a leaf keeps and wrote.
 use Rattle.std.specs.Prelude.{◌≡◌, ℕ, List, [], ◌++◌}
-use Rattle.sd_card.specs.Fields.{CardFields}
+use Rattle.sd_site.specs.CardFields.{CardFields}
 use Rattle.sd_engine.specs.Stage.{Chain}
 use Rattle.sd_receive.specs.Receiving.{IsAfter, IsLive, card_in, receiver_does}
 use Rattle.sd_receive.specs.declared.receiver.Receiver.{Receiver}

@@ -2,11 +2,11 @@
 -- docs/FORMATS.md, Field].
 use Rattle.std.specs.Prelude.{ℕ, ◌+◌, ◌==◌, ◌&&◌, nat_le, nat_lt, List, [], ◌∷◌, ◌++◌, replicate, codes}
 use Rattle.std.specs.Prelude.{if◌then◌else◌, Option, Some, None, option_map, option_and_then, Result, Ok, Err}
-use Rattle.sd_base_text.specs.Lines.{lines_of}
-use Rattle.sd_base_text.specs.Number.{rest_after, decimal_value}
-use Rattle.sd_spec_field.specs.declared.event.Event.{Event}
-use Rattle.sd_spec_field.specs.declared.event.Event.TheVariants.{Subscribe, Revoke, Send, Offer, Lose, Off, On}
-use Rattle.sd_spec_field.specs.Events.{is_of}
+use Rattle.sd_base.specs.Lines.{lines_of}
+use Rattle.sd_base.specs.Number.{rest_after, decimal_value}
+use Rattle.sd_spec.specs.declared.event.Event.{Event}
+use Rattle.sd_spec.specs.declared.event.Event.TheVariants.{Subscribe, Revoke, Send, Offer, Lose, Off, On}
+use Rattle.sd_spec.specs.Events.{is_of}
 use Rattle.sd_field.specs.declared.fault.ScriptFault.{ScriptFault}
 use Rattle.sd_field.specs.declared.fault.ScriptFault.TheVariants.{Line, Leaf, Events}
 

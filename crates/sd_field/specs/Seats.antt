@@ -3,11 +3,11 @@
 use Rattle.std.specs.Prelude.{◌≡◌, ◌↔◌, ℕ, true, List, [], map, reverse, slice_get, IsSome, Some}
 use Rattle.std.specs.List.{concat, flat_map}
 use Rattle.sd_site.specs.declared.site.Site.{Site}
-use Rattle.sd_card.specs.Fields.{CardFields, card_of}
-use Rattle.sd_spec_broadcast.specs.Plan.{Plan}
-use Rattle.sd_spec_receiver.specs.Offered.{out_from}
+use Rattle.sd_site.specs.CardFields.{CardFields, card_of}
+use Rattle.sd_spec.specs.Plan.{Plan}
+use Rattle.sd_spec.specs.Offered.{out_from}
 use Rattle.sd_receive.specs.declared.receiver.Receiver.{Receiver}
-use Rattle.sd_spec_field.specs.Watch.{Watch, at_places, present, stream, written}
+use Rattle.sd_spec.specs.Watch.{Watch, at_places, present, stream, written}
 use Rattle.sd_field.specs.Heard.{HasRoom, IsHeard}
 use Rattle.sd_field.specs.declared.seat.Seat.{Seat}
 

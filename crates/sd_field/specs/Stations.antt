@@ -1,8 +1,8 @@
 -- Public meaning: what the head end of a field keeps and sent.
 use Rattle.std.specs.Prelude.{◌≡◌, ℕ, List, [], length}
 use Rattle.std.specs.List.{concat}
-use Rattle.sd_spec_broadcast.specs.Plan.{Plan}
-use Rattle.sd_spec_broadcast.specs.Sent.{body}
+use Rattle.sd_spec.specs.Plan.{Plan}
+use Rattle.sd_spec.specs.Sent.{body}
 use Rattle.sd_engine.specs.Stage.{Chain}
 use Rattle.sd_head.specs.Staged.{head_does, IsAfter, IsReady}
 use Rattle.sd_head.specs.declared.head.Head.{Head}

@@ -2,15 +2,15 @@ ghost use Rattle.std.specs.Prelude.{◌≡◌, ◌↔◌, ◌<◌, ◌≤◌, �
 ghost use Rattle.std.specs.Prelude.{Err};
 ghost use Rattle.std.specs.Prelude.{IfOk, IfErr, IfSome, IsErr, IsSome, OnOk};
 ghost use Rattle.std.specs.List.{concat};
-ghost use Rattle.sd_site.specs.Fields.{fields_of};
-ghost use Rattle.sd_spec_broadcast.specs.declared.fault.ClearFault.{ClearFault as Fault};
-ghost use Rattle.sd_spec_broadcast.specs.Plan.{IsPlan};
-ghost use Rattle.sd_spec_broadcast.specs.Refused.{IsClear};
-ghost use Rattle.sd_spec_broadcast.specs.Sent.{body};
-ghost use Rattle.sd_spec_receiver.specs.Offered.{break_from};
-ghost use Rattle.sd_spec_field.specs.declared.event.Event.TheVariants.{Lose, Off, Offer, On, Revoke, Send, Subscribe};
-ghost use Rattle.sd_spec_field.specs.Events.{is_of};
-ghost use Rattle.sd_spec_field.specs.Watch.{present, watched};
+ghost use Rattle.sd_site.specs.SiteFields.{fields_of};
+ghost use Rattle.sd_spec.specs.declared.clear_fault.ClearFault.{ClearFault as Fault};
+ghost use Rattle.sd_spec.specs.Plan.{IsPlan};
+ghost use Rattle.sd_spec.specs.Refused.{IsClear};
+ghost use Rattle.sd_spec.specs.Sent.{body};
+ghost use Rattle.sd_spec.specs.Offered.{break_from};
+ghost use Rattle.sd_spec.specs.declared.event.Event.TheVariants.{Lose, Off, Offer, On, Revoke, Send, Subscribe};
+ghost use Rattle.sd_spec.specs.Events.{is_of};
+ghost use Rattle.sd_spec.specs.Watch.{present, watched};
 ghost use Rattle.sd_field.specs.declared.fault.FieldFault.{FieldFault as Faults};
 ghost use Rattle.sd_field.specs.Fields.{IsCommand, IsSendRefused, IsSentCut, IsWrittenCut, IsWrittenOver, TakesMemory};
 ghost use Rattle.sd_field.specs.Fields.{after_fault, after_next, card_at, next_event, next_refusal, plan_in, sends_of};
@@ -28,7 +28,7 @@ use sd_head::Head;
 use sd_packet::{Packet, SIZE};
 use sd_receive::Receiver;
 use sd_site::Site;
-use sd_spec_field::Event;
+use sd_spec::Event;
 use sd_tree::Leaf;
 use std::alloc::Global;
 use std::marker::Model;
@@ -69,7 +69,7 @@ impl Drop for Field {
 }
 
 impl Model for Field {
-    ghost use Rattle.sd_site.specs.Fields.{fields_of};
+    ghost use Rattle.sd_site.specs.SiteFields.{fields_of};
     ghost use Rattle.sd_field.specs.Fields.{FieldValue, IsField};
 
     ghost Value = { FieldValue };

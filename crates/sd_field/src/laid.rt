@@ -1,17 +1,17 @@
 ghost use Rattle.std.specs.Prelude.{◌≡◌, ◌<◌, ◌≤◌, ◌^◌, ◌++◌, ◌∷◌, [], true, List, All, IfOk, OnOk, length, reverse, ℕ};
-ghost use Rattle.sd_site.specs.Fields.{fields_of};
+ghost use Rattle.sd_site.specs.SiteFields.{fields_of};
 ghost use Rattle.sd_book.specs.Commands.{is_within, last_period};
 ghost use Rattle.sd_book.specs.Limits.{IsDraft, IsWithinLimits};
-ghost use Rattle.sd_spec_field.specs.declared.event.Event.TheVariants.{Send};
-ghost use Rattle.sd_spec_field.specs.Events.{is_of, sends_with};
-ghost use Rattle.sd_spec_field.specs.Book.{booked, commanded, event_book, with_periods_to, open_period, period_after};
-ghost use Rattle.sd_spec_field.specs.Book.{reached};
+ghost use Rattle.sd_spec.specs.declared.event.Event.TheVariants.{Send};
+ghost use Rattle.sd_spec.specs.Events.{is_of, sends_with};
+ghost use Rattle.sd_spec.specs.Book.{booked, commanded, event_book, with_periods_to, open_period, period_after};
+ghost use Rattle.sd_spec.specs.Book.{reached};
 ghost use Rattle.sd_field.specs.Laid.{IsLaid};
 
 use sd_base::NoMemory;
 use sd_book::{Book, BookFault, Command, Draft, MOST_PERIODS};
 use sd_site::Site;
-use sd_spec_field::Event;
+use sd_spec::Event;
 use std::alloc::Global;
 
 /// The book that the events so far make: its commands, its last period, and the number of clear packets that were sent.
@@ -23,7 +23,7 @@ pub struct Laid {
 }
 
 /// The period of packet k, if the book has one for it.
-#[tactic(auto, unfolding(sd_spec_broadcast::specs::Plan::crypto_of))]
+#[tactic(auto, unfolding(sd_spec::specs::Plan::crypto_of))]
 fn open_period(site: &Site, k: u64) -> u64
     requires few { k < 2 ^ 32 }
     ensures value { result ≡ open_period (fields_of site.now) k }

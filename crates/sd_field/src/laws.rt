@@ -1,9 +1,9 @@
 //! Laws on where a field stops.
 
 ghost use Rattle.std.specs.Prelude.{◌≡◌, ◌↔◌, ◌<◌, ℕ, [], List, None, Some, get_or, length, take};
-ghost use Rattle.sd_site.specs.Fields.{SiteFields};
-ghost use Rattle.sd_spec_broadcast.specs.declared.fault.ClearFault.{ClearFault};
-ghost use Rattle.sd_spec_broadcast.specs.Refused.{IsClear, refusal_from, refusal_of};
+ghost use Rattle.sd_site.specs.SiteFields.{SiteFields};
+ghost use Rattle.sd_spec.specs.declared.clear_fault.ClearFault.{ClearFault};
+ghost use Rattle.sd_spec.specs.Refused.{IsClear, refusal_from, refusal_of};
 ghost use Rattle.sd_field.specs.Fields.{FieldValue, after_next, done_to, next_refusal, taken};
 
 /// The first k packets of a clear stream are accepted as a clear stream if and only if none of them is refused after

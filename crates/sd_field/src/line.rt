@@ -1,13 +1,13 @@
 ghost use Rattle.std.specs.Prelude.{◌≡◌, None, codes, option_map};
-ghost use Rattle.sd_base_text.specs.Number.{fitting, decimal_value, rest_after};
-ghost use Rattle.sd_spec_field.specs.declared.event.Event.TheVariants.{Lose, Off, Offer, On};
+ghost use Rattle.sd_base.specs.Number.{fitting, decimal_value, rest_after};
+ghost use Rattle.sd_spec.specs.declared.event.Event.TheVariants.{Lose, Off, Offer, On};
 ghost use Rattle.sd_field.specs.Line.{leaf_in, pair_in, events_in_run, times_in};
 ghost use Rattle.sd_field.specs.Script.{alone, by_word, count_of, counted, cut_at_space, leaf_and_count, repeated};
 ghost use Rattle.sd_field.specs.Script.{spoken};
 
 use memchr::memchr;
-use sd_base_text::{NumberFault, number_after};
-use sd_spec_field::Event;
+use sd_base::{NumberFault, number_after};
+use sd_spec::Event;
 use sd_tree::{Height, Leaf};
 
 /// The most events that one line of a script says [this project, docs/FORMATS.md, Field].
@@ -66,7 +66,7 @@ fn run_at_leaf(line: &[u8], h: Height) -> Result<(Event, u32), LineFault>
 }
 
 /// The text after a word, if the line begins with it.
-#[tactic(auto, unfolding(sd_base_text::specs::Number::rest_after))]
+#[tactic(auto, unfolding(sd_base::specs::Number::rest_after))]
 fn text_after<'a>(word: &[u8], line: &'a [u8]) -> Option<&'a [u8]>
     ensures { option_map (λ text. text.now) result ≡ rest_after word.now line.now }
 {
@@ -107,7 +107,7 @@ fn counted(times: u32) -> Result<u32, LineFault>
 }
 
 /// The number that a text says.
-#[tactic(auto, unfolding(sd_base_text::specs::Number::rest_after))]
+#[tactic(auto, unfolding(sd_base::specs::Number::rest_after))]
 fn number_in(text: &[u8]) -> Result<u32, NumberFault>
     ensures { result ≡ fitting (decimal_value text.now) }
 {
@@ -126,7 +126,7 @@ fn leaf_times(text: &[u8], h: Height) -> Result<(Leaf, u32), LineFault>
 }
 
 /// The text before the first space, and after it.
-#[tactic(auto, using(crate::proofs::Spaces::cut_there, crate::proofs::Spaces::no_cut, sd_base_text::proofs::Cuts::to_the_end))]
+#[tactic(auto, using(crate::proofs::Spaces::cut_there, crate::proofs::Spaces::no_cut, sd_base::proofs::Cuts::to_the_end))]
 fn cut_at_space(text: &[u8]) -> Option<(&[u8], &[u8])>
     ensures { option_map (λ cut. (cut.0.now, cut.1.now)) result ≡ cut_at_space text.now }
 {

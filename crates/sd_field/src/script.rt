@@ -1,12 +1,12 @@
 ghost use Rattle.std.specs.Prelude.{◌≡◌, ◌⊎◌, ◌+◌, ◌≤◌, ◌++◌, true, replicate, length, All, IfErr, IfOk, OnOk, Ok, Err};
 ghost use Rattle.std.specs.Prelude.{MatchResult};
-ghost use Rattle.sd_spec_field.specs.Events.{is_of};
+ghost use Rattle.sd_spec.specs.Events.{is_of};
 ghost use Rattle.sd_field.specs.Script.{judged, script_of, spoken};
 
 use crate::fault::ScriptFault;
 use crate::line::{LineFault, run_on};
-use sd_base_text::next_line;
-use sd_spec_field::Event;
+use sd_base::next_line;
+use sd_spec::Event;
 use sd_tree::Height;
 use std::alloc::Global;
 

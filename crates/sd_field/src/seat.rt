@@ -1,22 +1,21 @@
 ghost use Rattle.std.specs.Prelude.{◌≡◌, ◌↔◌, ◌-◌, ◌^◌, ◌<◌, ◌≤◌, ◌++◌, ◌∷◌, [], ℕ, List, get_or, length, slice_get};
 ghost use Rattle.std.specs.Prelude.{IfOk, IfSome, IsSome, IsErr, OnOk, false, is_some};
 ghost use Rattle.std.specs.List.{concat};
-ghost use Rattle.sd_card.specs.Fields.{CardFields, card_of};
+ghost use Rattle.sd_site.specs.CardFields.{CardFields, card_of};
 ghost use Rattle.sd_engine.specs.Stream.{packets_of};
-ghost use Rattle.sd_spec_broadcast.specs.Plan.{Plan};
+ghost use Rattle.sd_spec.specs.Plan.{Plan};
 ghost use Rattle.sd_receive.specs.Receiving.{IsAfter, IsCountable, IsLive, card_in};
-ghost use Rattle.sd_spec_field.specs.declared.event.Event.TheVariants.{Lose, Off, Offer, On};
-ghost use Rattle.sd_spec_field.specs.Watch.{Watch, present, stream, watched, written};
+ghost use Rattle.sd_spec.specs.declared.event.Event.TheVariants.{Lose, Off, Offer, On};
+ghost use Rattle.sd_spec.specs.Watch.{Watch, present, stream, watched, written};
 ghost use Rattle.sd_field.specs.Heard.{HasRoom};
 ghost use Rattle.sd_field.specs.Seats.{AreNew, IsNew, IsSeated};
 
 use crate::hear::hear;
 use sd_base::{NoMemory, Steps};
-use sd_card::Card;
 use sd_packet::{Packet, SIZE};
 use sd_ports::MemSink;
 use sd_receive::Receiver;
-use sd_site::Site;
+use sd_site::{Card, Site};
 use sd_tree::Leaf;
 use std::alloc::Global;
 use std::sync::ledger::Ledger;

@@ -1,10 +1,10 @@
 ghost use Rattle.std.specs.Prelude.{◌≡◌, ◌⊎◌, ◌<◌, ◌++◌, ◌∷◌, [], ℕ, List, None, Some, Err, IfOk, IsErr, OnOk, length};
 ghost use Rattle.std.specs.Prelude.{true};
 ghost use Rattle.std.specs.List.{concat};
-ghost use Rattle.sd_spec_broadcast.specs.declared.fault.ClearFault.{ClearFault as Fault};
-ghost use Rattle.sd_spec_broadcast.specs.Plan.{Plan};
-ghost use Rattle.sd_spec_broadcast.specs.Refused.{refusal_of};
-ghost use Rattle.sd_spec_broadcast.specs.Sent.{body};
+ghost use Rattle.sd_spec.specs.declared.clear_fault.ClearFault.{ClearFault as Fault};
+ghost use Rattle.sd_spec.specs.Plan.{Plan};
+ghost use Rattle.sd_spec.specs.Refused.{refusal_of};
+ghost use Rattle.sd_spec.specs.Sent.{body};
 ghost use Rattle.sd_head.specs.Kept.{plan_of};
 ghost use Rattle.sd_head.specs.Schedule.{begins_with};
 ghost use Rattle.sd_head.specs.Staged.{IsReady};

@@ -4,20 +4,20 @@ use Rattle.std.proofs.Common.{refl, sym, ap, subst, ◌∙◌, arith, append_ass
 use Rattle.std.specs.Prelude.{map, Option, Some, IsSome, if◌then◌else◌}
 use Rattle.std.specs.List.{concat}
 use Rattle.std.proofs.lemmas.Bool.{ne_eqb}
-use Rattle.sd_label.specs.Keys.{control_word_of}
+use Rattle.sd_tree.specs.Keys.{control_word_of}
 use Rattle.sd_emm.specs.Period.{emms_of}
 use Rattle.sd_emm.specs.declared.emm.Emm.{Emm}
 use Rattle.sd_ecm.specs.Parts.{Message, message_of, parts_of}
 use Rattle.sd_ecm.specs.declared.message.EcmHead.{EcmHead}
 use Rattle.sd_ecm.specs.declared.part.Place.{Place}
-use Rattle.sd_site.specs.Fields.{SiteFields}
-use Rattle.sd_spec_broadcast.specs.Plan.{Plan, crypto_length, crypto_of, word_in, word_of, period_in, period_of}
-use Rattle.sd_spec_broadcast.specs.Plan.{closing_number}
-use Rattle.sd_spec_broadcast.specs.Carried.{carried}
-use Rattle.sd_spec_broadcast.specs.Messages.{period_at, message_at, places_after}
-use Rattle.sd_spec_broadcast.specs.Sent.{Item, Controls, Carries, tables_at, tables_before, message_before, added}
-use Rattle.sd_spec_broadcast.specs.Sent.{closing_of, packets_from, sent, bytes_added}
-use Rattle.sd_spec_broadcast.proofs.Sending.{sent_more}
+use Rattle.sd_site.specs.SiteFields.{SiteFields}
+use Rattle.sd_spec.specs.Plan.{Plan, crypto_length, crypto_of, word_in, word_of, period_in, period_of}
+use Rattle.sd_spec.specs.Plan.{closing_number}
+use Rattle.sd_spec.specs.Carried.{carried}
+use Rattle.sd_spec.specs.Messages.{period_at, message_at, places_after}
+use Rattle.sd_spec.specs.Sent.{Item, Controls, Carries, tables_at, tables_before, message_before, added}
+use Rattle.sd_spec.specs.Sent.{closing_of, packets_from, sent, bytes_added}
+use Rattle.sd_spec.proofs.Sending.{sent_more}
 use Rattle.sd_head.specs.declared.crypto.CryptoPeriod.{CryptoPeriod}
 use Rattle.sd_head.specs.declared.entitling.Entitling.{Entitling}
 use Rattle.sd_head.specs.Crypto.{crypto_in}

@@ -6,7 +6,7 @@ use Rattle.std.specs.List.{range_with_len}
 use Rattle.std.proofs.lemmas.List.{get_or-replicate}
 use Rattle.sd_packet.specs.Positions.{moved_by}
 use Rattle.sd_packet.proofs.Positions.{positional_small}
-use Rattle.sd_spec_broadcast.specs.Kinds.{pmts_in, pat_in_force, has_moved, moved_pids, positional_pids}
+use Rattle.sd_spec.specs.Kinds.{pmts_in, pat_in_force, has_moved, moved_pids, positional_pids}
 use Rattle.sd_head.specs.Known.{AreKnown, AreNear, AreMarked}
 use Rattle.sd_head.specs.After.{ArePositions}
 

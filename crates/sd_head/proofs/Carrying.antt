@@ -4,17 +4,17 @@ use Rattle.std.specs.Prelude.{Some, None, Result, Ok, Err, OnOk, OnErr, MatchRes
 use Rattle.sd_packet.specs.Header.{pid_of, counter_of}
 use Rattle.sd_packet.specs.Positions.{advanced, is_placed}
 use Rattle.sd_packet.proofs.Positions.{own_moves}
-use Rattle.sd_label.specs.Keys.{control_word_of}
-use Rattle.sd_site.specs.Fields.{SiteFields}
+use Rattle.sd_tree.specs.Keys.{control_word_of}
+use Rattle.sd_site.specs.SiteFields.{SiteFields}
 use Rattle.sd_psi.specs.declared.fault.FormFault.{FormFault}
 use Rattle.sd_psi.specs.Rewriting.{rewrite_fault, rewritten}
 use Rattle.sd_keystream.specs.Scrambling.{scrambled}
 use Rattle.sd_keystream.specs.declared.payload.Parity.{Parity}
-use Rattle.sd_spec_broadcast.specs.Plan.{word_of}
-use Rattle.sd_spec_broadcast.specs.Kinds.{kind_of}
-use Rattle.sd_spec_broadcast.specs.Carried.{carried, carried_as, pmt_carried, veiled, place_after, parity_of}
-use Rattle.sd_spec_broadcast.specs.declared.kind.Kind.{Kind}
-use Rattle.sd_spec_broadcast.specs.declared.kind.Kind.TheVariants.{Passed, Pmt, Scrambled}
+use Rattle.sd_spec.specs.Plan.{word_of}
+use Rattle.sd_spec.specs.Kinds.{kind_of}
+use Rattle.sd_spec.specs.Carried.{carried, carried_as, pmt_carried, veiled, place_after, parity_of}
+use Rattle.sd_spec.specs.declared.kind.Kind.{Kind}
+use Rattle.sd_spec.specs.declared.kind.Kind.TheVariants.{Passed, Pmt, Scrambled}
 use Rattle.sd_head.specs.After.{ArePositions}
 use Rattle.sd_head.proofs.ClearKinds.{placed_pid}
 

@@ -7,12 +7,12 @@ use Rattle.std.specs.Option.{option_map_or}
 use Rattle.sd_engine.specs.Stage.{Chain, all_from}
 use Rattle.sd_engine.specs.Driving.{ChainToEnd, ChainToRefusal as Refused}
 use Rattle.sd_engine.proofs.Chains.{chain_writes}
-use Rattle.sd_site.specs.Fields.{SiteFields}
-use Rattle.sd_spec_broadcast.specs.declared.fault.ClearFault.{ClearFault}
-use Rattle.sd_spec_broadcast.specs.Plan.{Plan}
-use Rattle.sd_spec_broadcast.specs.Refused.{refusal_of, refusal_from, IsClear}
-use Rattle.sd_spec_broadcast.specs.Sent.{body, broadcast, bytes_added, bytes_from}
-use Rattle.sd_spec_broadcast.proofs.Bodies.{body_bytes, closed_bytes}
+use Rattle.sd_site.specs.SiteFields.{SiteFields}
+use Rattle.sd_spec.specs.declared.clear_fault.ClearFault.{ClearFault}
+use Rattle.sd_spec.specs.Plan.{Plan}
+use Rattle.sd_spec.specs.Refused.{refusal_of, refusal_from, IsClear}
+use Rattle.sd_spec.specs.Sent.{body, broadcast, bytes_added, bytes_from}
+use Rattle.sd_spec.proofs.Bodies.{body_bytes, closed_bytes}
 use Rattle.sd_head.specs.Staged.{head_does, head_ends, head_refuses, IsAfter}
 use Rattle.sd_head.specs.declared.fault.HeadFault.{HeadFault}
 use Rattle.sd_head.specs.declared.fault.HeadFault.TheVariants.{Clear}

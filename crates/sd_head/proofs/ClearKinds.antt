@@ -8,9 +8,9 @@ use Rattle.std.proofs.lemmas.Bool.Decides.{nat_tests}
 use Rattle.sd_packet.specs.Header.{pid_of, has_payload}
 use Rattle.sd_packet.specs.Positions.{is_positional, is_placed, position_of}
 use Rattle.sd_packet.proofs.Positions.{unmoved_is_none}
-use Rattle.sd_spec_broadcast.specs.Kinds.{pmts_in, kind_of, has_moved, moved_pids}
-use Rattle.sd_spec_broadcast.specs.Refused.{is_one_too_many}
-use Rattle.sd_spec_broadcast.specs.declared.kind.Kind.TheVariants.{Passed, Pmt, Scrambled}
+use Rattle.sd_spec.specs.Kinds.{pmts_in, kind_of, has_moved, moved_pids}
+use Rattle.sd_spec.specs.Refused.{is_one_too_many}
+use Rattle.sd_spec.specs.declared.kind.Kind.TheVariants.{Passed, Pmt, Scrambled}
 use Rattle.sd_head.specs.Known.{AreMarked}
 use Rattle.sd_head.specs.After.{ArePositions}
 

@@ -3,11 +3,11 @@ use Rattle.std.proofs.Common.{◌≡◌, ℕ, ◌+◌, List, [], ◌∷◌, ◌+
 use Rattle.std.specs.Prelude.{map}
 use Rattle.std.proofs.lemmas.List.{map-append}
 use Rattle.sd_tree.specs.declared.set.SetName.{SetName}
-use Rattle.sd_site.specs.Fields.{SiteFields}
-use Rattle.sd_label.specs.Keys.{key_of, period_key_of}
+use Rattle.sd_site.specs.SiteFields.{SiteFields}
+use Rattle.sd_tree.specs.Keys.{key_of, period_key_of}
 use Rattle.sd_keystream.specs.Wrapping.{wrapped as under}
 use Rattle.sd_emm.specs.declared.emm.Entry.{Entry}
-use Rattle.sd_spec_broadcast.specs.Messages.{entry_of}
+use Rattle.sd_spec.specs.Messages.{entry_of}
 
 abbrev entry_with : SetName → List ℕ → Entry
 entry_with name wrapped = record { name = name; wrapped = wrapped }

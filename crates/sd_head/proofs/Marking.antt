@@ -13,8 +13,8 @@ use Rattle.sd_section.specs.Header.{current_of}
 use Rattle.sd_psi.specs.declared.fault.FormFault.{FormFault}
 use Rattle.sd_psi.specs.Forms.{pat_fault, section_in}
 use Rattle.sd_psi.specs.Tables.{pmt_pids_of}
-use Rattle.sd_spec_broadcast.specs.Kinds.{is_current_pat, pat_in_force, pmts_in}
-use Rattle.sd_spec_broadcast.proofs.Following.{pat_next}
+use Rattle.sd_spec.specs.Kinds.{is_current_pat, pat_in_force, pmts_in}
+use Rattle.sd_spec.proofs.Following.{pat_next}
 use Rattle.sd_head.specs.Known.{AreMarked}
 
 -- what is marked and the PIDs that are left come to all PIDs

@@ -11,8 +11,8 @@ use Rattle.std.proofs.lemmas.List.{get_or-set_same, get_or-set_other}
 use Rattle.sd_packet.specs.Header.{pid_of, counter_of, has_payload}
 use Rattle.sd_packet.specs.Positions.{advanced, is_positional, is_placed, is_moving, moved, position_of}
 use Rattle.sd_packet.proofs.Positions.{one_more, advanced_is_next, counter_below, own_moves}
-use Rattle.sd_spec_broadcast.specs.Kinds.{has_moved, moved_pids, put_in}
-use Rattle.sd_spec_broadcast.proofs.Following.{moved_first, moved_again, moved_unplaced}
+use Rattle.sd_spec.specs.Kinds.{has_moved, moved_pids, put_in}
+use Rattle.sd_spec.proofs.Following.{moved_first, moved_again, moved_unplaced}
 use Rattle.sd_head.specs.Known.{AreKnown, AreNear}
 use Rattle.sd_head.specs.After.{ArePositions}
 use Rattle.sd_head.proofs.ClearKinds.{first_is, placed_pid}

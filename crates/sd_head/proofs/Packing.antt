@@ -10,9 +10,9 @@ use Rattle.sd_emm.specs.declared.emm.Emm.{Emm}
 use Rattle.sd_emm.specs.declared.emm.Entry.{Entry}
 use Rattle.sd_emm.proofs.Sharing.{as_many}
 use Rattle.sd_tree.specs.declared.set.SetName.{SetName}
-use Rattle.sd_label.specs.Keys.{period_key_of, check_value_of}
-use Rattle.sd_site.specs.Fields.{SiteFields, run_name_of}
-use Rattle.sd_spec_broadcast.specs.Messages.{entry_of}
+use Rattle.sd_tree.specs.Keys.{period_key_of, check_value_of}
+use Rattle.sd_site.specs.SiteFields.{SiteFields, run_name_of}
+use Rattle.sd_spec.specs.Messages.{entry_of}
 use Rattle.sd_head.specs.Packets.{period_packets, period_of_sets, period_of_entries}
 
 -- the packets of these sections

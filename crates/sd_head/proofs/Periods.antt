@@ -18,11 +18,11 @@ use Rattle.sd_emm.specs.Spelled.{emm_section}
 use Rattle.sd_emm.specs.Period.{Period, emms_of}
 use Rattle.sd_emm.specs.declared.emm.Emm.{Emm}
 use Rattle.sd_cover.specs.Index.{IndexValue}
-use Rattle.sd_spec_broadcast.specs.Messages.{period_at}
+use Rattle.sd_spec.specs.Messages.{period_at}
 use Rattle.sd_head.specs.Crypto.{crypto_in}
 use Rattle.sd_head.specs.Packets.{period_packets, period_of_sets}
-use Rattle.sd_spec_broadcast.specs.Plan.{Plan, IsPlan, sets_at, word_in, period_in}
-use Rattle.sd_spec_broadcast.proofs.Schedule.{periods_in_rise, period_in_first, period_in_within}
+use Rattle.sd_spec.specs.Plan.{Plan, IsPlan, sets_at, word_in, period_in}
+use Rattle.sd_spec.proofs.Schedule.{periods_in_rise, period_in_first, period_in_within}
 use Rattle.sd_head.specs.Kept.{begins_period, uncounted, AreAlike, HasBegun, IsInPeriod, IsOf, IsBefore}
 use Rattle.sd_head.proofs.Packing.{of_sections}
 use Rattle.sd_head.specs.Lending.{with_emms}

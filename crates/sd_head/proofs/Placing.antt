@@ -9,8 +9,8 @@ use Rattle.sd_packet.specs.Positions.{is_positional, position_of}
 use Rattle.sd_packet.proofs.Positions.{moved_by_near}
 use Rattle.sd_ecm.specs.Form.{ArePositioned, AreAscending, AreShort}
 use Rattle.sd_ecm.specs.declared.part.Place.{Place}
-use Rattle.sd_spec_broadcast.specs.Kinds.{has_moved, moved_pids, positional_pids}
-use Rattle.sd_spec_broadcast.specs.Messages.{places_after}
+use Rattle.sd_spec.specs.Kinds.{has_moved, moved_pids, positional_pids}
+use Rattle.sd_spec.specs.Messages.{places_after}
 use Rattle.sd_head.specs.After.{ArePositions}
 
 -- what stands among the numbers that pass a test is in their range, and passes it

@@ -10,7 +10,7 @@ use Rattle.sd_tree.specs.declared.set.SetName.{SetName}
 use Rattle.sd_tree.specs.declared.set.SetName.TheVariants.{Whole, Diff}
 use Rattle.sd_tree.specs.Limits.{most_revoked, highest}
 use Rattle.sd_emm.specs.declared.emm.Entry.{Entry}
-use Rattle.sd_site.specs.Fields.{SiteFields}
+use Rattle.sd_site.specs.SiteFields.{SiteFields}
 use Rattle.sd_cover.specs.Chains.{IsChainCover}
 use Rattle.sd_cover.proofs.Ends.{linked_start}
 use Rattle.sd_cover.proofs.Covers.{cover_small}
@@ -18,8 +18,8 @@ use Rattle.sd_cover.proofs.Lists.{member_cases, no_member}
 use Rattle.sd_cover.proofs.Heights.{linked_above}
 use Rattle.sd_emm.specs.Spelled.{names_in}
 use Rattle.sd_emm.specs.declared.format.TheConstants.{MOST_SETS}
-use Rattle.sd_spec_broadcast.specs.Messages.{entry_of}
-use Rattle.sd_spec_broadcast.proofs.Periods.{names_are}
+use Rattle.sd_spec.specs.Messages.{entry_of}
+use Rattle.sd_spec.proofs.Periods.{names_are}
 use Rattle.sd_head.specs.Crypto.{IsKeyed}
 
 -- each set of a chain cover has a key

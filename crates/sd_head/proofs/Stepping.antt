@@ -4,19 +4,19 @@ use Rattle.std.proofs.Common.{refl, sym, ap, subst, ◌∙◌, arith, append_ass
 use Rattle.std.specs.Prelude.{map, Option, Some, None, IsSome, Result, Err}
 use Rattle.std.specs.List.{concat}
 use Rattle.std.specs.Option.{option_map_or}
-use Rattle.sd_label.specs.Keys.{control_word_of}
+use Rattle.sd_tree.specs.Keys.{control_word_of}
 use Rattle.sd_site.specs.declared.site.Site.{Site}
-use Rattle.sd_site.specs.Fields.{SiteFields, fields_of}
+use Rattle.sd_site.specs.SiteFields.{SiteFields, fields_of}
 use Rattle.sd_engine.specs.declared.stage.StageFault.{StageFault}
 use Rattle.sd_engine.specs.declared.stage.StageFault.TheVariants.{Refused}
 use Rattle.sd_ecm.specs.declared.message.EcmHead.{EcmHead}
-use Rattle.sd_spec_broadcast.specs.Plan.{Plan, crypto_length, crypto_of, word_in, word_of, period_in, period_of}
-use Rattle.sd_spec_broadcast.specs.Plan.{closing_number}
-use Rattle.sd_spec_broadcast.specs.Carried.{carried}
-use Rattle.sd_spec_broadcast.specs.Messages.{places_after}
-use Rattle.sd_spec_broadcast.specs.Refused.{refusal_of, refusal_from, IsClear}
-use Rattle.sd_spec_broadcast.specs.declared.fault.ClearFault.{ClearFault}
-use Rattle.sd_spec_broadcast.specs.Sent.{Item, sent, sent_from, bytes_added, closing_of, packets_from, message_before}
+use Rattle.sd_spec.specs.Plan.{Plan, crypto_length, crypto_of, word_in, word_of, period_in, period_of}
+use Rattle.sd_spec.specs.Plan.{closing_number}
+use Rattle.sd_spec.specs.Carried.{carried}
+use Rattle.sd_spec.specs.Messages.{places_after}
+use Rattle.sd_spec.specs.Refused.{refusal_of, refusal_from, IsClear}
+use Rattle.sd_spec.specs.declared.clear_fault.ClearFault.{ClearFault}
+use Rattle.sd_spec.specs.Sent.{Item, sent, sent_from, bytes_added, closing_of, packets_from, message_before}
 use Rattle.sd_head.specs.After.{IsAfter as IsKept}
 use Rattle.sd_head.specs.Kept.{plan_of, uncounted, AreAlike, IsOf}
 use Rattle.sd_head.specs.declared.entitling.Entitling.{Entitling}

@@ -3,11 +3,11 @@ use Rattle.std.proofs.Common.{◌≡◌, ℕ, zero, suc, ◌-◌, ◌*◌, ◌/�
 use Rattle.std.proofs.Common.{◌≤◌, ◌^◌, ◌%◌, ◌==◌, Bool, true, false, List, length, inl, inr}
 use Rattle.std.specs.Prelude.{Option, Some, None, if◌then◌else◌}
 use Rattle.sd_site.specs.Forms.{IsWithin, messages_line}
-use Rattle.sd_site.specs.Fields.{SiteFields}
+use Rattle.sd_site.specs.SiteFields.{SiteFields}
 use Rattle.sd_ecm.specs.declared.message.EcmHead.{EcmHead}
 use Rattle.sd_ecm.specs.declared.part.Place.{Place}
 use Rattle.sd_head.proofs.Placing.{positioned, ascending, short}
-use Rattle.sd_spec_broadcast.specs.Messages.{places_after}
+use Rattle.sd_spec.specs.Messages.{places_after}
 use Rattle.sd_head.specs.declared.crypto.CryptoPeriod.{CryptoPeriod}
 use Rattle.sd_head.specs.Messages.{head_of, message_due, number_due}
 use Rattle.std.specs.List.{concat}
@@ -17,9 +17,9 @@ use Rattle.sd_head.specs.Sending.{numbered, packed_part}
 use Rattle.sd_head.specs.Items.{MayBeSent, message_bytes}
 use Rattle.sd_head.specs.declared.sender.Sender.{Sender}
 use Rattle.sd_ecm.specs.Versions.{IsSince, IsBefore, most_places}
-use Rattle.sd_spec_broadcast.specs.Plan.{since_of}
-use Rattle.sd_spec_broadcast.proofs.Schedule.{since_is_below}
-use Rattle.sd_spec_broadcast.proofs.Naming.{version_is, named_is}
+use Rattle.sd_spec.specs.Plan.{since_of}
+use Rattle.sd_spec.proofs.Schedule.{since_is_below}
+use Rattle.sd_spec.proofs.Naming.{version_is, named_is}
 
 -- message 0 has no message before it
 pub since_first : (version cryptos number : ℕ) → number ≡ 0 → since_of version cryptos number ≡ 0

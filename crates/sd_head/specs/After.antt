@@ -3,9 +3,9 @@ use Rattle.std.specs.Prelude.{◌≡◌, ◌≢◌, ℕ, ◌-◌, ◌^◌, ◌<�
 use Rattle.sd_packet.specs.Header.{pid_of, scrambling_of}
 use Rattle.sd_packet.specs.Positions.{is_positional, is_placed, position_of, first_position}
 use Rattle.sd_ecm.specs.Versions.{most_places}
-use Rattle.sd_spec_broadcast.specs.Kinds.{kind_of, pmts_in, moved_pids}
-use Rattle.sd_spec_broadcast.specs.declared.kind.Kind.{Kind}
-use Rattle.sd_spec_broadcast.specs.declared.kind.Kind.TheVariants.{Passed}
+use Rattle.sd_spec.specs.Kinds.{kind_of, pmts_in, moved_pids}
+use Rattle.sd_spec.specs.declared.kind.Kind.{Kind}
+use Rattle.sd_spec.specs.declared.kind.Kind.TheVariants.{Passed}
 use Rattle.sd_head.specs.Known.{AreMarked}
 use Rattle.sd_head.specs.declared.clear.Clear.{Clear}
 

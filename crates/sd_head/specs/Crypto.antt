@@ -3,7 +3,7 @@ use Rattle.std.specs.Prelude.{ℕ, ◌≤◌, List}
 use Rattle.sd_tree.specs.Node.{IsAbove}
 use Rattle.sd_tree.specs.declared.set.SetName.{SetName}
 use Rattle.sd_tree.specs.declared.set.SetName.TheVariants.{Whole, Diff}
-use Rattle.sd_label.specs.Keys.{period_key_of, control_word_of, check_value_of}
+use Rattle.sd_tree.specs.Keys.{period_key_of, control_word_of, check_value_of}
 use Rattle.sd_keystream.specs.Wrapping.{wrapped as under}
 use Rattle.sd_head.specs.declared.crypto.CryptoPeriod.{CryptoPeriod}
 

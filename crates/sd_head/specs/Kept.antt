@@ -2,13 +2,13 @@
 use Rattle.std.specs.Prelude.{◌≡◌, ℕ, zero, suc, ◌+◌, ◌-◌, ◌==◌, ◌||◌, not, Bool, min, List, []}
 use Rattle.std.specs.Prelude.{map, slice_set}
 use Rattle.sd_site.specs.declared.site.Site.{Site}
-use Rattle.sd_site.specs.Fields.{fields_of}
+use Rattle.sd_site.specs.SiteFields.{fields_of}
 use Rattle.sd_book.specs.Value.{BookValue}
 use Rattle.sd_book.specs.declared.command.Command.{Command}
 use Rattle.sd_book.specs.Commands.{last_period, revoked}
 use Rattle.sd_book.specs.Place.{IsPlaceIn}
-use Rattle.sd_spec_broadcast.specs.Plan.{Plan, IsPlan, word_in, period_in}
-use Rattle.sd_spec_broadcast.specs.Messages.{period_at}
+use Rattle.sd_spec.specs.Plan.{Plan, IsPlan, word_in, period_in}
+use Rattle.sd_spec.specs.Messages.{period_at}
 use Rattle.sd_head.specs.Crypto.{crypto_in}
 use Rattle.sd_head.specs.Packets.{period_packets}
 use Rattle.sd_head.specs.declared.entitling.Entitling.{Entitling}

@@ -1,8 +1,8 @@
 -- Inner: what a control message says beside its positions.
 use Rattle.std.specs.Prelude.{ℕ, ◌/◌, ◌%◌, ◌==◌, Bool, false, if◌then◌else◌, Option, Some, None}
-use Rattle.sd_site.specs.Fields.{SiteFields, run_name_of}
+use Rattle.sd_site.specs.SiteFields.{SiteFields, run_name_of}
 use Rattle.sd_ecm.specs.declared.message.EcmHead.{EcmHead}
-use Rattle.sd_spec_broadcast.specs.Plan.{since_of}
+use Rattle.sd_spec.specs.Plan.{since_of}
 use Rattle.sd_head.specs.declared.crypto.CryptoPeriod.{CryptoPeriod}
 
 -- the message of this number in a crypto period, after so many clear packets [this project, docs/FORMATS.md, Messages]

@@ -1,7 +1,7 @@
 -- Public meaning: when crypto periods and periods begin, and why a head end refuses.
 use Rattle.std.specs.Prelude.{◌≡◌, ℕ, zero, suc, ◌+◌, ◌%◌, ◌==◌, ◌&&◌, Bool, true, List, [], length, Option, Some, None}
-use Rattle.sd_spec_broadcast.specs.Plan.{Plan, crypto_length, crypto_of, period_of}
-use Rattle.sd_spec_broadcast.specs.Refused.{refusal_of}
+use Rattle.sd_spec.specs.Plan.{Plan, crypto_length, crypto_of, period_of}
+use Rattle.sd_spec.specs.Refused.{refusal_of}
 use Rattle.sd_head.specs.declared.entitling.Entitling.{Entitling}
 use Rattle.sd_head.specs.Kept.{begins_period, IsNew, IsOf}
 use Rattle.sd_head.specs.declared.fault.HeadFault.{HeadFault}

@@ -1,10 +1,10 @@
 -- Public meaning: the head end as a stage of packets.
 use Rattle.std.specs.Prelude.{◌≡◌, ◌⊎◌, ℕ, ◌-◌, List, [], ◌∷◌, ◌++◌, length, Option, Some, None}
 use Rattle.std.specs.List.{concat}
-use Rattle.sd_spec_broadcast.specs.Plan.{Plan, period_of}
+use Rattle.sd_spec.specs.Plan.{Plan, period_of}
 use Rattle.sd_book.specs.Commands.{revoked}
-use Rattle.sd_spec_broadcast.specs.Refused.{refusal_of, IsClear}
-use Rattle.sd_spec_broadcast.specs.Sent.{sent, closing_of, bytes_added, packets_from}
+use Rattle.sd_spec.specs.Refused.{refusal_of, IsClear}
+use Rattle.sd_spec.specs.Sent.{sent, closing_of, bytes_added, packets_from}
 use Rattle.sd_head.specs.After.{IsAfter as IsKept}
 use Rattle.sd_head.specs.Kept.{plan_of}
 use Rattle.sd_head.specs.Items.{HasSent}

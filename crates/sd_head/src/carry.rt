@@ -1,10 +1,10 @@
 ghost use Rattle.std.specs.Prelude.{◌≡◌, ◌+◌, ◌*◌, ◌<◌, ◌≤◌, ◌^◌, ℕ, List, length, slice_index};
 ghost use Rattle.sd_packet.specs.Header.{pid_of, counter_of, payload_start_of};
 ghost use Rattle.sd_packet.specs.Positions.{advanced};
-ghost use Rattle.sd_label.specs.Keys.{control_word_of};
-ghost use Rattle.sd_site.specs.Fields.{fields_of};
-ghost use Rattle.sd_spec_broadcast.specs.Plan.{word_of};
-ghost use Rattle.sd_spec_broadcast.specs.Carried.{carried, pmt_carried, parity_of};
+ghost use Rattle.sd_tree.specs.Keys.{control_word_of};
+ghost use Rattle.sd_site.specs.SiteFields.{fields_of};
+ghost use Rattle.sd_spec.specs.Plan.{word_of};
+ghost use Rattle.sd_spec.specs.Carried.{carried, pmt_carried, parity_of};
 ghost use Rattle.sd_head.specs.After.{IsAfter, MayFollow, IsKindAfter};
 
 use crate::clear::Clear;
@@ -12,7 +12,7 @@ use sd_keystream::{Parity, scramble};
 use sd_packet::{Packet, advance};
 use sd_psi::rewrite_pmt;
 use sd_site::Site;
-use sd_spec_broadcast::Kind;
+use sd_spec::Kind;
 
 impl Clear {
     /// Makes of the packet, of this kind, what it becomes in the crypto period whose control word has this number and

@@ -2,13 +2,13 @@ ghost use Rattle.std.specs.Prelude.{◌≡◌, ◌+◌, ◌^◌, ◌<◌, ◌≤
 ghost use Rattle.std.specs.Borrow.{sem};
 ghost use Rattle.sd_tree.specs.declared.height.TheConstants.{HIGHEST};
 ghost use Rattle.sd_tree.specs.declared.leaf.TheConstants.{MOST_REVOKED};
-ghost use Rattle.sd_site.specs.Fields.{fields_of};
+ghost use Rattle.sd_site.specs.SiteFields.{fields_of};
 ghost use Rattle.sd_book.specs.Commands.{last_period, revoked};
 ghost use Rattle.sd_book.specs.declared.limits.TheConstants.{MOST_PERIODS};
 ghost use Rattle.sd_book.specs.Place.{IsPlaceIn};
 ghost use Rattle.sd_cover.specs.Cover.{cover_of};
 ghost use Rattle.sd_head.specs.Packets.{period_packets, period_of_sets};
-ghost use Rattle.sd_spec_broadcast.specs.Plan.{period_in};
+ghost use Rattle.sd_spec.specs.Plan.{period_in};
 ghost use Rattle.sd_head.specs.Kept.{plan_of, begins_period, revoked_before, HasBegun, IsNew};
 ghost use Rattle.sd_head.specs.Kept.{IsInPeriod, IsOf, IsBefore};
 ghost use Rattle.sd_head.specs.Lending.{LendsPackets};
@@ -20,10 +20,9 @@ use crate::sections::pack_sections;
 use sd_base::{NoMemory, Steps};
 use sd_book::{Book, Place};
 use sd_cover::CoverIndex;
-use sd_label::{check_value, period_key};
 use sd_packet::SIZE;
 use sd_site::Site;
-use sd_tree::HIGHEST;
+use sd_tree::{HIGHEST, check_value, period_key};
 use std::alloc::Global;
 use std::sync::ledger::Ledger;
 

@@ -1,16 +1,15 @@
 ghost use Rattle.std.specs.Prelude.{◌≡◌, All, IfOk, map};
-ghost use Rattle.sd_label.specs.Keys.{key_of};
-ghost use Rattle.sd_site.specs.Fields.{fields_of};
+ghost use Rattle.sd_tree.specs.Keys.{key_of};
+ghost use Rattle.sd_site.specs.SiteFields.{fields_of};
 ghost use Rattle.sd_keystream.specs.Wrapping.{wrapped as under};
-ghost use Rattle.sd_spec_broadcast.specs.Messages.{entry_of};
+ghost use Rattle.sd_spec.specs.Messages.{entry_of};
 ghost use Rattle.sd_head.specs.Crypto.{IsKeyed};
 
 use sd_base::{NoMemory, Steps};
 use sd_emm::Entry;
 use sd_keystream::wrap;
-use sd_label::{descend, middle, period_key, root_label, whole_key};
 use sd_site::Site;
-use sd_tree::SetName;
+use sd_tree::{SetName, descend, middle, period_key, root_label, whole_key};
 use std::alloc::{AllocError, Global};
 use std::sync::ledger::Ledger;
 
@@ -68,7 +67,7 @@ fn entry<L: Ledger>(
 }
 
 // The key of a set [Naor, Naor, Lotspiech 2001, 3.2].
-#[tactic(auto, unfolding(sd_label::specs::Keys::key_of, sd_label::specs::Labels::label_of))]
+#[tactic(auto, unfolding(sd_tree::specs::Keys::key_of, sd_tree::specs::Labels::label_of))]
 fn set_key<L: Ledger>(master: &[u8; 32], name: SetName, steps: &mut Steps<L>) -> [u8; 32]
     requires { IsKeyed name }
     ensures { result ≡ key_of master.now name }

@@ -1,4 +1,4 @@
-use sd_spec_broadcast::ClearFault;
+use sd_spec::ClearFault;
 
 /// Why the head end stopped.
 #[derive(Clone, Copy, PartialEq, Eq)]

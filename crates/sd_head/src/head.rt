@@ -1,5 +1,5 @@
 ghost use Rattle.std.specs.Prelude.{◌≡◌, ℕ, List, [], IfOk, length};
-ghost use Rattle.sd_spec_broadcast.specs.Plan.{Plan};
+ghost use Rattle.sd_spec.specs.Plan.{Plan};
 ghost use Rattle.sd_head.specs.Kept.{plan_of, revoked_before};
 ghost use Rattle.sd_head.specs.Schedule.{periods_begun};
 ghost use Rattle.sd_head.specs.Staged.{head_does, head_ends, head_refuses, IsAfter, IsReady};

@@ -1,9 +1,9 @@
 ghost use Rattle.std.specs.Prelude.{◌≡◌, ◌<◌, ◌++◌, [], ℕ, List, OnOk, IfOk, true, false, None, IsSome};
 ghost use Rattle.sd_base.specs.Count.{HasCause};
 ghost use Rattle.sd_engine.specs.Stage.{vessel};
-ghost use Rattle.sd_site.specs.Fields.{fields_of};
-ghost use Rattle.sd_spec_broadcast.specs.Plan.{closing_number};
-ghost use Rattle.sd_spec_broadcast.specs.Messages.{places_after};
+ghost use Rattle.sd_site.specs.SiteFields.{fields_of};
+ghost use Rattle.sd_spec.specs.Plan.{closing_number};
+ghost use Rattle.sd_spec.specs.Messages.{places_after};
 ghost use Rattle.sd_head.specs.After.{IsAfter as IsKept};
 ghost use Rattle.sd_head.specs.Kept.{AreAlike};
 ghost use Rattle.sd_head.specs.Sending.{SendsBytes};

@@ -3,12 +3,12 @@ ghost use Rattle.std.specs.Prelude.{IfOk, OnOk, MatchResult, nat_le};
 ghost use Rattle.std.specs.Prelude.{length, get_or, slice_index};
 ghost use Rattle.sd_packet.specs.Header.{pid_of, payload_start_of};
 ghost use Rattle.sd_packet.specs.Positions.{is_placed, first_position};
-ghost use Rattle.sd_site.specs.Fields.{fields_of};
-ghost use Rattle.sd_spec_broadcast.specs.Plan.{crypto_length, word_of};
-ghost use Rattle.sd_spec_broadcast.specs.Kinds.{kind_of};
-ghost use Rattle.sd_spec_broadcast.specs.declared.kind.Kind.TheVariants.{Passed, Pmt};
-ghost use Rattle.sd_spec_broadcast.specs.Refused.{refusal_of, is_reserved_pid as is_taken_pid, pat_wrong};
-ghost use Rattle.sd_spec_broadcast.specs.Refused.{is_full_own as is_full_pmt, is_one_too_many, is_too_long};
+ghost use Rattle.sd_site.specs.SiteFields.{fields_of};
+ghost use Rattle.sd_spec.specs.Plan.{crypto_length, word_of};
+ghost use Rattle.sd_spec.specs.Kinds.{kind_of};
+ghost use Rattle.sd_spec.specs.declared.kind.Kind.TheVariants.{Passed, Pmt};
+ghost use Rattle.sd_spec.specs.Refused.{refusal_of, is_reserved_pid as is_taken_pid, pat_wrong};
+ghost use Rattle.sd_spec.specs.Refused.{is_full_own as is_full_pmt, is_one_too_many, is_too_long};
 ghost use Rattle.sd_head.specs.After.{IsAfter, MayFollow, IsKindAfter};
 
 use crate::clear::{Clear, FIRST_POSITION};
@@ -16,7 +16,7 @@ use sd_ecm::MOST_PLACES;
 use sd_packet::Packet;
 use sd_psi::{FormFault, pat_of, restore_pmt, rewrite_pmt};
 use sd_site::Site;
-use sd_spec_broadcast::{ClearFault, Kind};
+use sd_spec::{ClearFault, Kind};
 
 impl Clear {
     /// How many packets were taken.

@@ -4,16 +4,16 @@ ghost use Rattle.std.specs.Prelude.{◌≡◌, ◌++◌, ◌∷◌, [], ℕ, Lis
 ghost use Rattle.std.specs.List.{concat};
 ghost use Rattle.sd_engine.specs.Stage.{Chain};
 ghost use Rattle.sd_engine.specs.Driving.{ChainToEnd, ChainToRefusal};
-ghost use Rattle.sd_spec_broadcast.specs.declared.fault.ClearFault.{ClearFault as ClearFaults};
-ghost use Rattle.sd_spec_broadcast.specs.Plan.{Plan};
-ghost use Rattle.sd_spec_broadcast.specs.Refused.{refusal_from, IsClear};
-ghost use Rattle.sd_spec_broadcast.specs.Sent.{body, broadcast};
+ghost use Rattle.sd_spec.specs.declared.clear_fault.ClearFault.{ClearFault as ClearFaults};
+ghost use Rattle.sd_spec.specs.Plan.{Plan};
+ghost use Rattle.sd_spec.specs.Refused.{refusal_from, IsClear};
+ghost use Rattle.sd_spec.specs.Sent.{body, broadcast};
 ghost use Rattle.sd_head.specs.declared.fault.HeadFault.{HeadFault as Faults};
 ghost use Rattle.sd_head.specs.declared.fault.HeadFault.TheVariants.{Clear as ClearOf};
 ghost use Rattle.sd_head.specs.declared.head.Head.{Head as Heads};
 ghost use Rattle.sd_head.specs.Staged.{head_does, head_ends, head_refuses, IsAfter};
 ghost use Rattle.sd_ecm.specs.Form.{ArePositioned, AreAscending, AreShort};
-ghost use Rattle.sd_spec_broadcast.specs.Messages.{places_after};
+ghost use Rattle.sd_spec.specs.Messages.{places_after};
 
 /// Of packets that it is offered one after the other from its beginning a head end writes the broadcast but for the
 /// closing message, and the packets are clear.

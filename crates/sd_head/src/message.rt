@@ -1,6 +1,6 @@
 ghost use Rattle.std.specs.Prelude.{◌≡◌, ◌≤◌};
-ghost use Rattle.sd_site.specs.Fields.{fields_of};
-ghost use Rattle.sd_spec_broadcast.specs.Plan.{since_of};
+ghost use Rattle.sd_site.specs.SiteFields.{fields_of};
+ghost use Rattle.sd_spec.specs.Plan.{since_of};
 ghost use Rattle.sd_head.specs.Messages.{head_of};
 
 use crate::CryptoPeriod;

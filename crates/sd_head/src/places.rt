@@ -1,6 +1,6 @@
 ghost use Rattle.std.specs.Prelude.{◌≡◌, ◌≤◌, ℕ, List, vec_len, vec_capacity};
 ghost use Rattle.sd_ecm.specs.declared.format.TheConstants.{MOST_PLACES};
-ghost use Rattle.sd_spec_broadcast.specs.Messages.{places_after};
+ghost use Rattle.sd_spec.specs.Messages.{places_after};
 ghost use Rattle.sd_head.specs.After.{IsAfter};
 
 use crate::clear::Clear;

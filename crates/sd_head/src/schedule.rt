@@ -1,7 +1,7 @@
 ghost use Rattle.std.specs.Prelude.{◌≡◌, ◌-◌, ◌%◌, ◌^◌, ◌==◌, ◌<◌, ℕ, List, Some, None, Err, true, IfOk, OnOk, OnErr};
-ghost use Rattle.sd_site.specs.Fields.{fields_of};
-ghost use Rattle.sd_spec_broadcast.specs.Plan.{crypto_length, crypto_of, word_of};
-ghost use Rattle.sd_spec_broadcast.specs.Refused.{refusal_of};
+ghost use Rattle.sd_site.specs.SiteFields.{fields_of};
+ghost use Rattle.sd_spec.specs.Plan.{crypto_length, crypto_of, word_of};
+ghost use Rattle.sd_spec.specs.Refused.{refusal_of};
 ghost use Rattle.sd_head.specs.After.{IsAfter as IsKept, MayFollow, IsKindAfter};
 ghost use Rattle.sd_head.specs.Kept.{plan_of, IsOf};
 ghost use Rattle.sd_head.specs.declared.fault.HeadFault.{HeadFault as Faults};
@@ -13,7 +13,7 @@ use crate::{Clear, Entitling};
 use sd_base::{NoMemory, Steps};
 use sd_packet::Packet;
 use sd_site::Site;
-use sd_spec_broadcast::Kind;
+use sd_spec::Kind;
 use std::sync::ledger::Ledger;
 
 /// What a packet that isn't refused comes to.

@@ -1,9 +1,9 @@
 ghost use Rattle.std.specs.Prelude.{◌≡◌, ◌≢◌, IfOk, IfErr};
-ghost use Rattle.sd_label.specs.Keys.{check_value_of};
+ghost use Rattle.sd_tree.specs.Keys.{check_value_of};
 ghost use Rattle.sd_keystream.specs.Wrapping.{wrapped};
 
 use crate::{first_bytes, lay};
-use sd_label::check_value;
+use sd_tree::check_value;
 
 /// The text under the first 32 bytes of the keystream of this key and number: a wrapped key, or from a wrapped key
 /// the key again.

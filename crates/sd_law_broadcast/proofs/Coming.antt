@@ -12,12 +12,12 @@ use Rattle.sd_emm.specs.Period.{emms_of}
 use Rattle.sd_emm.specs.declared.emm.Emm.{Emm}
 use Rattle.sd_ecm.specs.Parts.{parts_of}
 use Rattle.sd_ecm.specs.declared.part.EcmPart.{EcmPart}
-use Rattle.sd_spec_broadcast.specs.Plan.{Plan, crypto_length, period_of, closing_number}
-use Rattle.sd_spec_broadcast.specs.Carried.{carried}
-use Rattle.sd_spec_broadcast.specs.Messages.{period_at, message_at}
-use Rattle.sd_spec_broadcast.specs.Sent.{Item, Cat, Entitles, Controls, Carries, tables_at, tables_before}
-use Rattle.sd_spec_broadcast.specs.Sent.{message_before}
-use Rattle.sd_spec_broadcast.specs.Sent.{added, sent_from, closing_of}
+use Rattle.sd_spec.specs.Plan.{Plan, crypto_length, period_of, closing_number}
+use Rattle.sd_spec.specs.Carried.{carried}
+use Rattle.sd_spec.specs.Messages.{period_at, message_at}
+use Rattle.sd_spec.specs.Sent.{Item, Cat, Entitles, Controls, Carries, tables_at, tables_before}
+use Rattle.sd_spec.specs.Sent.{message_before}
+use Rattle.sd_spec.specs.Sent.{added, sent_from, closing_of}
 use Rattle.sd_law_broadcast.specs.Rest.{IsOfRest, cat, entitlement, part, closing, carried_on}
 
 -- what comes later is of what comes

@@ -12,14 +12,14 @@ use Rattle.sd_ecm.specs.Parts.{Message, IsMessage, parts_of}
 use Rattle.sd_ecm.specs.Versions.{positions_for}
 use Rattle.sd_ecm.proofs.Sharing.{as_many as parts_many}
 use Rattle.sd_engine.specs.Driving.{most_packets}
-use Rattle.sd_spec_broadcast.specs.Plan.{Plan, IsPlan, crypto_length, period_of, closing_number}
-use Rattle.sd_spec_broadcast.specs.Carried.{carried}
-use Rattle.sd_spec_broadcast.specs.Messages.{period_at, message_at}
-use Rattle.sd_spec_broadcast.specs.Refused.{IsClear}
-use Rattle.sd_spec_broadcast.specs.Sent.{Item, Entitles, Controls, Carries, tables_at, tables_before, message_before}
-use Rattle.sd_spec_broadcast.specs.Sent.{added}
-use Rattle.sd_spec_broadcast.specs.Sent.{packets_from, sent_from, sent, closing_of, body, broadcast}
-use Rattle.sd_spec_broadcast.proofs.Schedule.{period_short}
+use Rattle.sd_spec.specs.Plan.{Plan, IsPlan, crypto_length, period_of, closing_number}
+use Rattle.sd_spec.specs.Carried.{carried}
+use Rattle.sd_spec.specs.Messages.{period_at, message_at}
+use Rattle.sd_spec.specs.Refused.{IsClear}
+use Rattle.sd_spec.specs.Sent.{Item, Entitles, Controls, Carries, tables_at, tables_before, message_before}
+use Rattle.sd_spec.specs.Sent.{added}
+use Rattle.sd_spec.specs.Sent.{packets_from, sent_from, sent, closing_of, body, broadcast}
+use Rattle.sd_spec.proofs.Schedule.{period_short}
 use Rattle.sd_law_broadcast.proofs.Clear.{clear_short, prefix_clear}
 use Rattle.sd_law_broadcast.proofs.Fitting.{period_fits, message_before_fits, word_low, closing_fits}
 

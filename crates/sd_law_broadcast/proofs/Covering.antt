@@ -7,7 +7,7 @@ use Rattle.std.proofs.lemmas.List.Elements.{Contains-get_or}
 use Rattle.sd_base.proofs.Lists.{is_found}
 use Rattle.sd_tree.specs.Leaves.{is_member}
 use Rattle.sd_tree.specs.declared.set.SetName.{SetName}
-use Rattle.sd_label.specs.Names.{given}
+use Rattle.sd_tree.specs.Names.{given}
 use Rattle.sd_book.specs.Commands.{revoked, entitled}
 use Rattle.sd_book.proofs.Revocations.{below}
 use Rattle.sd_cover.specs.Partition.{IsPartition}
@@ -16,9 +16,9 @@ use Rattle.sd_cover.proofs.Partitions.{among_unrevoked}
 use Rattle.sd_cover.proofs.Lists.{counted_some}
 use Rattle.sd_reach.specs.Reach.{ReachesNoneOf}
 use Rattle.sd_reach.proofs.Covers.{revoked_reach_none}
-use Rattle.sd_spec_broadcast.specs.Plan.{Plan, IsPlan, sets_at, period_of}
-use Rattle.sd_spec_broadcast.specs.Refused.{IsClear}
-use Rattle.sd_spec_broadcast.specs.Sent.{broadcast}
+use Rattle.sd_spec.specs.Plan.{Plan, IsPlan, sets_at, period_of}
+use Rattle.sd_spec.specs.Refused.{IsClear}
+use Rattle.sd_spec.specs.Sent.{broadcast}
 use Rattle.sd_law_broadcast.specs.Packets.{AreLong}
 use Rattle.sd_law_broadcast.specs.Named.{sets_named, NamesPeriod}
 use Rattle.sd_law_broadcast.proofs.Fitting.{are_leaves, sets_cover, sets_small}

@@ -20,9 +20,9 @@ use Rattle.sd_keystream.specs.Keystream.{keystream}
 use Rattle.sd_keystream.proofs.Streams.{keystream_length, xored_length}
 use Rattle.sd_packet.specs.Positions.{is_positional, position_of}
 use Rattle.sd_packet.proofs.Positions.{moved_by_near}
-use Rattle.sd_label.specs.Keys.{key_of, period_key_of, control_word_of, check_value_of}
+use Rattle.sd_tree.specs.Keys.{key_of, period_key_of, control_word_of, check_value_of}
 use Rattle.sd_keystream.specs.Wrapping.{wrapped as under}
-use Rattle.sd_site.specs.Fields.{SiteFields, AreInRange}
+use Rattle.sd_site.specs.SiteFields.{SiteFields, AreInRange}
 use Rattle.sd_book.specs.Commands.{last_period, revoked}
 use Rattle.sd_book.proofs.Revocations.{below}
 use Rattle.sd_book.proofs.Cuts.{revoked_past}
@@ -40,14 +40,14 @@ use Rattle.sd_ecm.specs.Form.{AreAscending}
 use Rattle.sd_ecm.specs.Versions.{IsVersion, IsBefore}
 use Rattle.sd_ecm.specs.Parts.{IsMessage}
 use Rattle.sd_ecm.specs.declared.part.Place.{Place}
-use Rattle.sd_spec_broadcast.specs.Plan.{Plan, IsPlan, sets_at, crypto_length, crypto_of, word_of, period_of}
-use Rattle.sd_spec_broadcast.specs.Plan.{since_of, closing_number}
-use Rattle.sd_spec_broadcast.proofs.Naming.{version_is, named_is, name_short}
-use Rattle.sd_spec_broadcast.specs.Kinds.{has_moved, positional_pids, moved_pids}
-use Rattle.sd_spec_broadcast.specs.Messages.{entry_of, period_at, places_after, message_at}
-use Rattle.sd_spec_broadcast.specs.Refused.{IsClear}
-use Rattle.sd_spec_broadcast.proofs.Schedule.{since_is_below, closing_of_none, period_short}
-use Rattle.sd_spec_broadcast.proofs.Periods.{names_are}
+use Rattle.sd_spec.specs.Plan.{Plan, IsPlan, sets_at, crypto_length, crypto_of, word_of, period_of}
+use Rattle.sd_spec.specs.Plan.{since_of, closing_number}
+use Rattle.sd_spec.proofs.Naming.{version_is, named_is, name_short}
+use Rattle.sd_spec.specs.Kinds.{has_moved, positional_pids, moved_pids}
+use Rattle.sd_spec.specs.Messages.{entry_of, period_at, places_after, message_at}
+use Rattle.sd_spec.specs.Refused.{IsClear}
+use Rattle.sd_spec.proofs.Schedule.{since_is_below, closing_of_none, period_short}
+use Rattle.sd_spec.proofs.Periods.{names_are}
 use Rattle.sd_law_broadcast.proofs.Clear.{clear_short, clear_pids, clear_words}
 
 -- a wrapped key has 32 bytes

@@ -15,3 +15,10 @@ pub mod Numbers
 pub mod Coming
 pub mod Narrowing
 pub mod Runs
+pub mod Places
+pub mod Words
+pub mod Texts
+pub mod Repeats
+pub mod Knowing
+pub mod Entitled
+pub mod Using

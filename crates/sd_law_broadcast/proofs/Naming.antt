@@ -17,13 +17,13 @@ use Rattle.sd_emm.specs.Period.{Period, emm_at, emms_of, IsOfPeriod}
 use Rattle.sd_emm.specs.declared.emm.Entry.{Entry}
 use Rattle.sd_emm.specs.declared.emm.Emm.{Emm}
 use Rattle.sd_emm.proofs.Sharing.{joined_are_all, all_are_of}
-use Rattle.sd_spec_broadcast.specs.Plan.{Plan, IsPlan, sets_at, period_of}
-use Rattle.sd_spec_broadcast.specs.Messages.{period_at}
-use Rattle.sd_spec_broadcast.specs.Refused.{IsClear}
-use Rattle.sd_spec_broadcast.specs.Sent.{Item, sent, closing_of, broadcast}
-use Rattle.sd_spec_broadcast.proofs.Items.{all_are_of_broadcast}
-use Rattle.sd_spec_broadcast.proofs.Schedule.{period_short}
-use Rattle.sd_spec_broadcast.proofs.Periods.{number_is}
+use Rattle.sd_spec.specs.Plan.{Plan, IsPlan, sets_at, period_of}
+use Rattle.sd_spec.specs.Messages.{period_at}
+use Rattle.sd_spec.specs.Refused.{IsClear}
+use Rattle.sd_spec.specs.Sent.{Item, sent, closing_of, broadcast}
+use Rattle.sd_spec.proofs.Items.{all_are_of_broadcast}
+use Rattle.sd_spec.proofs.Schedule.{period_short}
+use Rattle.sd_spec.proofs.Periods.{number_is}
 use Rattle.sd_cover.proofs.Lists.{member_cases, member_first, member_later, no_member}
 use Rattle.sd_law_broadcast.specs.Packets.{AreLong}
 use Rattle.sd_law_broadcast.specs.Named.{names_at, sets_named}

@@ -5,20 +5,20 @@ use Rattle.std.proofs.Common.{Option, Some, None, refl, ap, arith, length-append
 use Rattle.std.proofs.lemmas.Bool.Decides.{nat_tests}
 use Rattle.sd_base.proofs.Lists.{both_none}
 use Rattle.sd_packet.specs.Header.{scrambling_of}
-use Rattle.sd_site.specs.Fields.{SiteFields, run_name_of}
+use Rattle.sd_site.specs.SiteFields.{SiteFields, run_name_of}
 use Rattle.sd_psi.specs.declared.fault.FormFault.{FormFault}
-use Rattle.sd_spec_broadcast.specs.Plan.{Plan, sets_at, crypto_of, word_of, period_in, period_of, closing_number}
-use Rattle.sd_spec_broadcast.specs.Kinds.{kind_of}
-use Rattle.sd_spec_broadcast.specs.Carried.{pmt_carried, veiled, carried_as, carried}
-use Rattle.sd_spec_broadcast.specs.Messages.{entry_of, period_at, message_at}
-use Rattle.sd_spec_broadcast.specs.Refused.{fault_where, form_where, is_full_own, is_too_long}
-use Rattle.sd_spec_broadcast.specs.Refused.{refusal_of, refusal_from, IsClear}
-use Rattle.sd_spec_broadcast.specs.Sent.{Item, Cat, Entitles, Controls, Carries, tables_at, added, sent, sent_from}
-use Rattle.sd_spec_broadcast.specs.Sent.{closing_of}
-use Rattle.sd_spec_broadcast.specs.Sent.{packet_of, packets_from, broadcast}
-use Rattle.sd_spec_broadcast.specs.declared.fault.ClearFault.{ClearFault}
-use Rattle.sd_spec_broadcast.specs.declared.kind.Kind.{Kind}
-use Rattle.sd_spec_broadcast.specs.declared.kind.Kind.TheVariants.{Passed, Pmt, Scrambled}
+use Rattle.sd_spec.specs.Plan.{Plan, sets_at, crypto_of, word_of, period_in, period_of, closing_number}
+use Rattle.sd_spec.specs.Kinds.{kind_of}
+use Rattle.sd_spec.specs.Carried.{pmt_carried, veiled, carried_as, carried}
+use Rattle.sd_spec.specs.Messages.{entry_of, period_at, message_at}
+use Rattle.sd_spec.specs.Refused.{fault_where, form_where, is_full_own, is_too_long}
+use Rattle.sd_spec.specs.Refused.{refusal_of, refusal_from, IsClear}
+use Rattle.sd_spec.specs.Sent.{Item, Cat, Entitles, Controls, Carries, tables_at, added, sent, sent_from}
+use Rattle.sd_spec.specs.Sent.{closing_of}
+use Rattle.sd_spec.specs.Sent.{packet_of, packets_from, broadcast}
+use Rattle.sd_spec.specs.declared.clear_fault.ClearFault.{ClearFault}
+use Rattle.sd_spec.specs.declared.kind.Kind.{Kind}
+use Rattle.sd_spec.specs.declared.kind.Kind.TheVariants.{Passed, Pmt, Scrambled}
 use Rattle.sd_law_broadcast.specs.Accepted.{IsAccepted}
 use Rattle.sd_law_broadcast.specs.Narrowed.{up_to, plan_up_to}
 use Rattle.sd_law_broadcast.proofs.Clear.{none_then, accepted}

@@ -5,15 +5,15 @@ use Rattle.std.specs.Prelude.{Contains}
 use Rattle.std.proofs.lemmas.Bool.{cases_Bool, cases_lt}
 use Rattle.std.proofs.lemmas.Bool.Decides.{nat_tests}
 use Rattle.std.proofs.lemmas.Nat.{div-add-mod'}
-use Rattle.sd_site.specs.Fields.{SiteFields, AreInRange}
+use Rattle.sd_site.specs.SiteFields.{SiteFields, AreInRange}
 use Rattle.sd_ecm.specs.Parts.{Message, IsMessage, parts_of}
 use Rattle.sd_ecm.specs.declared.part.EcmPart.{EcmPart}
-use Rattle.sd_spec_broadcast.specs.Plan.{Plan, IsPlan, since_of, closing_number}
-use Rattle.sd_spec_broadcast.specs.Messages.{message_at}
-use Rattle.sd_spec_broadcast.specs.Refused.{IsClear}
-use Rattle.sd_spec_broadcast.specs.Sent.{Item, Cat, Entitles, Controls, Carries}
-use Rattle.sd_spec_broadcast.specs.Items.{IsOfBroadcast, cat, entitlement, part, closing, carried_on}
-use Rattle.sd_spec_broadcast.proofs.Schedule.{quotients_rise, closing_above, closing_needed}
+use Rattle.sd_spec.specs.Plan.{Plan, IsPlan, since_of, closing_number}
+use Rattle.sd_spec.specs.Messages.{message_at}
+use Rattle.sd_spec.specs.Refused.{IsClear}
+use Rattle.sd_spec.specs.Sent.{Item, Cat, Entitles, Controls, Carries}
+use Rattle.sd_spec.specs.Items.{IsOfBroadcast, cat, entitlement, part, closing, carried_on}
+use Rattle.sd_spec.proofs.Schedule.{quotients_rise, closing_above, closing_needed}
 use Rattle.sd_law_broadcast.specs.Numbered.{numbered}
 use Rattle.sd_law_broadcast.proofs.Clear.{clear_short, take_clear}
 use Rattle.sd_law_broadcast.proofs.Fitting.{message_fits, word_low, closing_fits, closing_low}

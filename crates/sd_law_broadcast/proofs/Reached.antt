@@ -5,17 +5,17 @@ use Rattle.std.proofs.Common.{sym, ap, subst, ◌∙◌, inl, inr, arith, append
 use Rattle.std.proofs.lemmas.Bool.{cases_lt}
 use Rattle.std.proofs.lemmas.Bool.Decides.{nat_tests}
 use Rattle.std.proofs.lemmas.List.{take-append-drop}
-use Rattle.sd_site.specs.Fields.{AreInRange}
+use Rattle.sd_site.specs.SiteFields.{AreInRange}
 use Rattle.sd_emm.specs.Period.{emms_of}
 use Rattle.sd_emm.specs.declared.emm.Emm.{Emm}
 use Rattle.sd_ecm.specs.Parts.{parts_of}
-use Rattle.sd_spec_broadcast.specs.Plan.{Plan, crypto_length, crypto_of, period_in, period_of, closing_number}
-use Rattle.sd_spec_broadcast.specs.Messages.{period_at, message_at}
-use Rattle.sd_spec_broadcast.specs.Sent.{Item, Controls, tables_at, sent, sent_from, closing_of}
-use Rattle.sd_spec_broadcast.proofs.Schedule.{quotients_rise, quotients_step, crypto_length_some, period_of_first}
-use Rattle.sd_spec_broadcast.proofs.Schedule.{period_begins}
-use Rattle.sd_spec_broadcast.proofs.Sending.{sent_in_turn}
-use Rattle.sd_spec_broadcast.proofs.Standing.{tables_stand}
+use Rattle.sd_spec.specs.Plan.{Plan, crypto_length, crypto_of, period_in, period_of, closing_number}
+use Rattle.sd_spec.specs.Messages.{period_at, message_at}
+use Rattle.sd_spec.specs.Sent.{Item, Controls, tables_at, sent, sent_from, closing_of}
+use Rattle.sd_spec.proofs.Schedule.{quotients_rise, quotients_step, crypto_length_some, period_of_first}
+use Rattle.sd_spec.proofs.Schedule.{period_begins}
+use Rattle.sd_spec.proofs.Sending.{sent_in_turn}
+use Rattle.sd_spec.proofs.Standing.{tables_stand}
 use Rattle.sd_law_broadcast.proofs.Sections.{sections_in, sections_in_turn, sections_of_sections}
 
 -- the next packet is of the same period, or of the next

@@ -2,17 +2,17 @@
 use Rattle.std.proofs.Common.{◌≡◌, ◌∙◌, ℕ, ◌-◌, ◌/◌, Bool, true, false, Option, List, length, take, refl}
 use Rattle.std.specs.Prelude.{Contains}
 use Rattle.std.proofs.lemmas.List.Elements.{All-contains}
-use Rattle.sd_site.specs.Fields.{run_name_of}
+use Rattle.sd_site.specs.SiteFields.{run_name_of}
 use Rattle.sd_emm.specs.Period.{IsOfPeriod, emms_of}
 use Rattle.sd_emm.specs.declared.emm.Emm.{Emm}
 use Rattle.sd_emm.proofs.Sharing as Periods
 use Rattle.sd_ecm.specs.Parts.{Message, IsOfMessage, parts_of}
 use Rattle.sd_ecm.specs.declared.part.EcmPart.{EcmPart}
 use Rattle.sd_ecm.proofs.Sharing as Messages
-use Rattle.sd_spec_broadcast.specs.Plan.{Plan, period_of, closing_number}
-use Rattle.sd_spec_broadcast.specs.Messages.{period_at, message_at}
-use Rattle.sd_spec_broadcast.specs.Sent.{Entitles, Controls}
-use Rattle.sd_spec_broadcast.specs.Items.{IsOfBroadcast, entitlement, part, closing}
+use Rattle.sd_spec.specs.Plan.{Plan, period_of, closing_number}
+use Rattle.sd_spec.specs.Messages.{period_at, message_at}
+use Rattle.sd_spec.specs.Sent.{Entitles, Controls}
+use Rattle.sd_spec.specs.Items.{IsOfBroadcast, entitlement, part, closing}
 
 period_names : (plan : Plan) (q : ℕ) → (period_at plan q).run ≡ run_name_of plan.site
 unfolding period_at

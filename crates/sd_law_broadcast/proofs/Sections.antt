@@ -19,13 +19,13 @@ use Rattle.sd_emm.proofs.Sharing.{all_are_emms, all_sets_stand}
 use Rattle.sd_emm.proofs.Deciding.{packed_reads}
 use Rattle.sd_ecm.specs.Spelled.{ecm_section}
 use Rattle.sd_ecm.specs.Parts.{Message, IsMessage, parts_of}
-use Rattle.sd_spec_broadcast.specs.Plan.{Plan, IsPlan, word_of, period_of, closing_number}
-use Rattle.sd_spec_broadcast.specs.Carried.{carried}
-use Rattle.sd_spec_broadcast.specs.Messages.{period_at, message_at}
-use Rattle.sd_spec_broadcast.specs.Refused.{is_reserved_pid, IsClear}
-use Rattle.sd_spec_broadcast.specs.Sent.{Item, Cat, Entitles, Controls, Carries, is_alike, packet_of, packets_from}
-use Rattle.sd_spec_broadcast.specs.Items.{IsOfBroadcast, cat, entitlement, part, closing, carried_on}
-use Rattle.sd_spec_broadcast.proofs.Schedule.{period_short}
+use Rattle.sd_spec.specs.Plan.{Plan, IsPlan, word_of, period_of, closing_number}
+use Rattle.sd_spec.specs.Carried.{carried}
+use Rattle.sd_spec.specs.Messages.{period_at, message_at}
+use Rattle.sd_spec.specs.Refused.{is_reserved_pid, IsClear}
+use Rattle.sd_spec.specs.Sent.{Item, Cat, Entitles, Controls, Carries, is_alike, packet_of, packets_from}
+use Rattle.sd_spec.specs.Items.{IsOfBroadcast, cat, entitlement, part, closing, carried_on}
+use Rattle.sd_spec.proofs.Schedule.{period_short}
 use Rattle.sd_law_broadcast.specs.Packets.{AreLong}
 use Rattle.sd_law_broadcast.specs.Named.{sections_on}
 use Rattle.sd_law_broadcast.proofs.Clear.{each_clear, accepted, take_clear}

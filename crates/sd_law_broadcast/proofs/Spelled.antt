@@ -11,8 +11,8 @@ use Rattle.sd_packet.specs.Header.{pid_of, payload_start_of}
 use Rattle.sd_packet.specs.Packing.{packed}
 use Rattle.sd_packet.proofs.Packets.{packet_length, packet_sync, start_within}
 use Rattle.sd_section.proofs.Spelling.{section_long}
-use Rattle.sd_label.specs.Keys.{control_word_of}
-use Rattle.sd_site.specs.Fields.{SiteFields}
+use Rattle.sd_tree.specs.Keys.{control_word_of}
+use Rattle.sd_site.specs.SiteFields.{SiteFields}
 use Rattle.sd_psi.specs.Forms.{section_in, after_section}
 use Rattle.sd_psi.specs.OurCat.{cat_header, cat_descriptor, cat_section}
 use Rattle.sd_psi.specs.Tables.{info_length_of}
@@ -33,11 +33,11 @@ use Rattle.sd_ecm.specs.Form.{IsEcm, FitsFields as FitsPart}
 use Rattle.sd_ecm.specs.declared.part.EcmPart.{EcmPart}
 use Rattle.sd_ecm.proofs.Versions.{fits_packet}
 use Rattle.sd_ecm.proofs.Again.{long_body}
-use Rattle.sd_spec_broadcast.specs.Plan.{word_of}
-use Rattle.sd_spec_broadcast.specs.Kinds.{kind_of}
-use Rattle.sd_spec_broadcast.specs.Carried.{parity_of, place_after, pmt_carried, veiled, carried_as, carried}
-use Rattle.sd_spec_broadcast.specs.declared.kind.Kind.{Kind}
-use Rattle.sd_spec_broadcast.specs.declared.kind.Kind.TheVariants.{Passed, Pmt, Scrambled}
+use Rattle.sd_spec.specs.Plan.{word_of}
+use Rattle.sd_spec.specs.Kinds.{kind_of}
+use Rattle.sd_spec.specs.Carried.{parity_of, place_after, pmt_carried, veiled, carried_as, carried}
+use Rattle.sd_spec.specs.declared.kind.Kind.{Kind}
+use Rattle.sd_spec.specs.declared.kind.Kind.TheVariants.{Passed, Pmt, Scrambled}
 use Rattle.sd_law_broadcast.specs.Packets.{IsWholePacket}
 use Rattle.sd_law_broadcast.proofs.Carrying.{kind_placed, placed_packet}
 use Rattle.sd_law_broadcast.specs.Synced.{IsSynced}

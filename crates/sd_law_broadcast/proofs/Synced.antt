@@ -14,15 +14,15 @@ use Rattle.sd_ecm.specs.Form.{IsEcm, FitsFields as FitsPart}
 use Rattle.sd_ecm.specs.Parts.{parts_of}
 use Rattle.sd_ecm.specs.declared.part.EcmPart.{EcmPart}
 use Rattle.sd_ecm.proofs.Sharing.{all_are_ecms}
-use Rattle.sd_spec_broadcast.specs.Plan.{Plan, IsPlan, period_of}
-use Rattle.sd_spec_broadcast.specs.Messages.{period_at}
-use Rattle.sd_spec_broadcast.specs.Refused.{IsClear}
-use Rattle.sd_spec_broadcast.specs.Sent.{Item, Cat, Entitles, Controls, Carries, is_alike, packet_of, packets_from}
-use Rattle.sd_spec_broadcast.specs.Sent.{sent}
-use Rattle.sd_spec_broadcast.specs.Sent.{closing_of, body, broadcast}
-use Rattle.sd_spec_broadcast.specs.Items.{IsOfBroadcast}
-use Rattle.sd_spec_broadcast.proofs.Items.{all_are_of_broadcast}
-use Rattle.sd_spec_broadcast.proofs.Schedule.{period_short}
+use Rattle.sd_spec.specs.Plan.{Plan, IsPlan, period_of}
+use Rattle.sd_spec.specs.Messages.{period_at}
+use Rattle.sd_spec.specs.Refused.{IsClear}
+use Rattle.sd_spec.specs.Sent.{Item, Cat, Entitles, Controls, Carries, is_alike, packet_of, packets_from}
+use Rattle.sd_spec.specs.Sent.{sent}
+use Rattle.sd_spec.specs.Sent.{closing_of, body, broadcast}
+use Rattle.sd_spec.specs.Items.{IsOfBroadcast}
+use Rattle.sd_spec.proofs.Items.{all_are_of_broadcast}
+use Rattle.sd_spec.proofs.Schedule.{period_short}
 use Rattle.sd_law_broadcast.specs.Packets.{IsWholePacket, AreWholePackets}
 use Rattle.sd_law_broadcast.proofs.Fitting.{period_fits, period_sets}
 use Rattle.sd_law_broadcast.proofs.Sections.{IsSaid, said}

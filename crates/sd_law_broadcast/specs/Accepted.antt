@@ -2,10 +2,10 @@
 use Rattle.std.specs.Prelude.{◌≡◌, ◌≢◌, ◌-◌, ◌^◌, ◌≤◌, false, length, None}
 use Rattle.sd_base.specs.Types.{Packet, Packets}
 use Rattle.sd_packet.specs.Header.{pid_of, scrambling_of}
-use Rattle.sd_site.specs.Fields.{SiteFields}
-use Rattle.sd_spec_broadcast.specs.Plan.{word_of}
-use Rattle.sd_spec_broadcast.specs.Kinds.{kind_of}
-use Rattle.sd_spec_broadcast.specs.Refused.{is_reserved_pid, pat_wrong, is_full_own, is_one_too_many}
+use Rattle.sd_site.specs.SiteFields.{SiteFields}
+use Rattle.sd_spec.specs.Plan.{word_of}
+use Rattle.sd_spec.specs.Kinds.{kind_of}
+use Rattle.sd_spec.specs.Refused.{is_reserved_pid, pat_wrong, is_full_own, is_one_too_many}
 
 -- no rule on clear packets is broken by one after these [this project, docs/FORMATS.md, Broadcast]
 pub record IsAccepted (site : SiteFields) (before : Packets) (packet : Packet) : Type 0 where

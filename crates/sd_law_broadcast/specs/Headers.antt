@@ -2,8 +2,8 @@
 use Rattle.std.specs.Prelude.{◌≡◌, ℕ, ◌+◌, ◌%◌}
 use Rattle.sd_base.specs.Types.{Packet, WordNumber}
 use Rattle.sd_packet.specs.Header.{unit_start_of, pid_of, scrambling_of, adaptation_of, counter_of, payload_start_of}
-use Rattle.sd_spec_broadcast.specs.declared.kind.Kind.{Kind}
-use Rattle.sd_spec_broadcast.specs.declared.kind.Kind.TheVariants.{Passed, Pmt, Scrambled}
+use Rattle.sd_spec.specs.declared.kind.Kind.{Kind}
+use Rattle.sd_spec.specs.declared.kind.Kind.TheVariants.{Passed, Pmt, Scrambled}
 
 -- transport_scrambling_control of a packet that is carried under control word t
 -- [this project, docs/FORMATS.md, Keystream]

@@ -6,3 +6,6 @@ pub mod Named
 pub mod Numbered
 pub mod Rest
 pub mod Headers
+pub mod Runs
+pub mod Pads
+pub mod Known

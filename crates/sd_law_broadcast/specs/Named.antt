@@ -7,7 +7,7 @@ use Rattle.sd_base.specs.Types.{Packets, Pid, Height, LeafNumber, PeriodNumber}
 use Rattle.sd_tree.specs.declared.set.SetName.{SetName}
 use Rattle.sd_tree.specs.Leaves.{is_member}
 use Rattle.sd_packet.specs.Header.{pid_of}
-use Rattle.sd_label.specs.Names.{given}
+use Rattle.sd_tree.specs.Names.{given}
 use Rattle.sd_book.specs.Commands.{revoked, entitled}
 use Rattle.sd_cover.specs.Partition.{IsPartition, IsSmall}
 use Rattle.sd_reach.specs.Reach.{ReachesNoneOf}
@@ -15,7 +15,7 @@ use Rattle.sd_emm.specs.Spelled.{listed_entries, names_in}
 use Rattle.sd_emm.specs.Judged.{emm_read}
 use Rattle.sd_emm.specs.declared.emm.Emm.{Emm}
 use Rattle.sd_emm.specs.declared.fault.EmmFault.{EmmFault}
-use Rattle.sd_spec_broadcast.specs.Plan.{Plan, sets_at}
+use Rattle.sd_spec.specs.Plan.{Plan, sets_at}
 
 -- the section that was read, if one was
 abbrev pub section_read : Result (Option Emm) EmmFault → List Emm

@@ -1,7 +1,7 @@
 -- Public meaning: a site that may use other control words.
 use Rattle.sd_base.specs.Types.{WordNumber}
-use Rattle.sd_site.specs.Fields.{SiteFields}
-use Rattle.sd_spec_broadcast.specs.Plan.{Plan}
+use Rattle.sd_site.specs.SiteFields.{SiteFields}
+use Rattle.sd_spec.specs.Plan.{Plan}
 
 -- the site with x for its last control word
 abbrev pub up_to : WordNumber → SiteFields → SiteFields

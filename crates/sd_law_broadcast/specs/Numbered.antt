@@ -2,8 +2,8 @@
 use Rattle.std.specs.Prelude.{◌-◌, ◌*◌, true, false, nat_lt, length, take, if◌then◌else◌}
 use Rattle.sd_base.specs.Types.{Packets, MessageNumber}
 use Rattle.sd_ecm.specs.Parts.{Message}
-use Rattle.sd_spec_broadcast.specs.Plan.{Plan, closing_number}
-use Rattle.sd_spec_broadcast.specs.Messages.{message_at}
+use Rattle.sd_spec.specs.Plan.{Plan, closing_number}
+use Rattle.sd_spec.specs.Messages.{message_at}
 
 -- control message a of a clear stream: the one before its packet a e, or the closing one
 -- [this project, docs/FORMATS.md, Broadcast]

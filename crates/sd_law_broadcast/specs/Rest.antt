@@ -5,10 +5,10 @@ use Rattle.sd_emm.specs.Period.{emms_of}
 use Rattle.sd_emm.specs.declared.emm.Emm.{Emm}
 use Rattle.sd_ecm.specs.Parts.{parts_of}
 use Rattle.sd_ecm.specs.declared.part.EcmPart.{EcmPart}
-use Rattle.sd_spec_broadcast.specs.Plan.{Plan, period_of, closing_number}
-use Rattle.sd_spec_broadcast.specs.Carried.{carried}
-use Rattle.sd_spec_broadcast.specs.Messages.{period_at, message_at}
-use Rattle.sd_spec_broadcast.specs.Sent.{Item, Cat, Entitles, Controls, Carries}
+use Rattle.sd_spec.specs.Plan.{Plan, period_of, closing_number}
+use Rattle.sd_spec.specs.Carried.{carried}
+use Rattle.sd_spec.specs.Messages.{period_at, message_at}
+use Rattle.sd_spec.specs.Sent.{Item, Cat, Entitles, Controls, Carries}
 
 -- The thing is sent for packet k or a later one, or with the closing message: the CAT; a section of the entitlements of
 -- such a packet's period; a part of the message that stands before it; a part of the closing message; or such a packet

@@ -13,7 +13,7 @@ use Rattle.sd_base.proofs.Lists.{all_by}
 use Rattle.sd_tree.specs.Leaves.{is_member, leaves}
 use Rattle.sd_tree.specs.SetNames.{IsOfHeight}
 use Rattle.sd_tree.specs.declared.set.SetName.{SetName}
-use Rattle.sd_label.specs.Names.{given}
+use Rattle.sd_tree.specs.Names.{given}
 use Rattle.sd_book.specs.Commands.{entitled, last_period}
 use Rattle.sd_book.proofs.Revocations.{below}
 use Rattle.sd_cover.specs.Chains.{IsChainCover}

@@ -4,7 +4,7 @@ use Rattle.std.specs.Prelude.{◌≡◌, ℕ, ◌≤◌, ◌/◌, min, List, Con
 use Rattle.std.specs.List.{flat_map}
 use Rattle.sd_base.specs.Types.{Height, Leaves, PeriodNumber, WordNumber}
 use Rattle.sd_tree.specs.declared.set.SetName.{SetName}
-use Rattle.sd_label.specs.Names.{given}
+use Rattle.sd_tree.specs.Names.{given}
 use Rattle.sd_book.specs.declared.command.Command.{Command}
 use Rattle.sd_book.specs.Commands.{last_period, revoked}
 use Rattle.sd_cover.specs.Cover.{cover_of}

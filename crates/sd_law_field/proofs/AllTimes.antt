@@ -8,15 +8,15 @@ use Rattle.std.proofs.lemmas.List.Elements.{All-nil, All-append, All-contains, A
 use Rattle.std.proofs.lemmas.List.Elements.{Contains-append_left, Contains-append_right}
 use Rattle.std.proofs.lemmas.List.FromFn.{get_or-range_with_len, length-range_with_len}
 use Rattle.sd_base.proofs.Lists.{all_by, all_first}
-use Rattle.sd_spec_broadcast.specs.Plan.{Plan, IsPlan}
-use Rattle.sd_spec_broadcast.specs.Refused.{IsClear}
-use Rattle.sd_spec_broadcast.specs.Sent.{sent}
+use Rattle.sd_spec.specs.Plan.{Plan, IsPlan}
+use Rattle.sd_spec.specs.Refused.{IsClear}
+use Rattle.sd_spec.specs.Sent.{sent}
 use Rattle.sd_law_broadcast.specs.Packets.{AreWholePackets}
 use Rattle.sd_law_broadcast.specs.Synced.{AreSynced}
-use Rattle.sd_spec_receiver.specs.Offered.{out_from}
+use Rattle.sd_spec.specs.Offered.{out_from}
 use Rattle.sd_law_losses.specs.Confirmed.{packet_at, packets_at, is_confirmed_at}
 use Rattle.sd_law_losses.proofs.Losses.{all_second}
-use Rattle.sd_spec_field.specs.Watch.{stream, at_places}
+use Rattle.sd_spec.specs.Watch.{stream, at_places}
 use Rattle.sd_law_field.specs.Times.{card_at, kept_at, places_in}
 use Rattle.sd_law_field.proofs.Rising.{Rises, rises_first, rises_second, rises_apart, rises_both, rises_increase}
 use Rattle.sd_law_field.proofs.Rising.{range_rises}

@@ -9,10 +9,10 @@ use Rattle.std.proofs.lemmas.Bool.Decides.{nat_tests}
 use Rattle.std.proofs.lemmas.List.{length-map, take_all, drop_all}
 use Rattle.std.proofs.lemmas.List.Elements.{All-nil, All-head, All-tail, All-weaker}
 use Rattle.std.proofs.lemmas.List.FromFn.{length-range_with_len}
-use Rattle.sd_spec_broadcast.specs.Sent.{Item, Cat}
+use Rattle.sd_spec.specs.Sent.{Item, Cat}
 use Rattle.sd_law_losses.specs.Chosen.{chosen}
 use Rattle.sd_law_losses.proofs.Later.{chosen_append}
-use Rattle.sd_spec_field.specs.Watch.{at_places}
+use Rattle.sd_spec.specs.Watch.{at_places}
 use Rattle.sd_law_field.specs.Times.{flags_of}
 use Rattle.sd_law_field.proofs.Rising.{Rises, rises_lower, increasing_rises}
 

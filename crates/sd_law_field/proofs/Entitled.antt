@@ -10,14 +10,14 @@ use Rattle.std.proofs.lemmas.List.Elements.{All-get_or, All-map, All-weaker, fil
 use Rattle.std.proofs.lemmas.List.{get_or_past}
 use Rattle.sd_base.proofs.Bools.{false_from_not}
 use Rattle.sd_base.proofs.Lists.{all_first}
-use Rattle.sd_spec_broadcast.specs.Plan.{Plan, IsPlan, period_of}
-use Rattle.sd_spec_broadcast.specs.Sent.{Cat, sent, closing_of}
-use Rattle.sd_spec_broadcast.specs.Items.{IsOfBroadcast, cat}
-use Rattle.sd_spec_broadcast.proofs.Items.{all_are_of_broadcast}
+use Rattle.sd_spec.specs.Plan.{Plan, IsPlan, period_of}
+use Rattle.sd_spec.specs.Sent.{Cat, sent, closing_of}
+use Rattle.sd_spec.specs.Items.{IsOfBroadcast, cat}
+use Rattle.sd_spec.proofs.Items.{all_are_of_broadcast}
 use Rattle.sd_law_losses.specs.Confirmed.{is_confirmed_at}
 use Rattle.sd_law_losses.specs.Confirmed.{is_revoked_in}
 use Rattle.sd_law_losses.proofs.Opened.{after_all, confirmed_open}
-use Rattle.sd_spec_field.specs.Watch.{at_places}
+use Rattle.sd_spec.specs.Watch.{at_places}
 use Rattle.sd_law_field.specs.Times.{kept_at, places_in}
 
 -- what is at any places of what is sent is of the broadcast

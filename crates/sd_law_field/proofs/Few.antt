@@ -11,14 +11,14 @@ use Rattle.sd_emm.specs.Period.{emms_of}
 use Rattle.sd_emm.specs.declared.emm.Emm.{Emm}
 use Rattle.sd_emm.proofs.Sharing.{as_many as sections_many}
 use Rattle.sd_ecm.specs.Parts.{Message, IsMessage, parts_of}
-use Rattle.sd_spec_broadcast.specs.Plan.{Plan, IsPlan, crypto_length, period_of, sets_at}
-use Rattle.sd_spec_broadcast.specs.Carried.{carried}
-use Rattle.sd_spec_broadcast.specs.Messages.{period_at, message_at}
-use Rattle.sd_spec_broadcast.specs.Refused.{IsClear}
-use Rattle.sd_spec_broadcast.specs.Sent.{Item, Entitles, Controls, Carries, tables_at, tables_before, message_before}
-use Rattle.sd_spec_broadcast.specs.Sent.{added}
-use Rattle.sd_spec_broadcast.specs.Sent.{sent_from, sent, body}
-use Rattle.sd_spec_broadcast.proofs.Bodies.{packets_many}
+use Rattle.sd_spec.specs.Plan.{Plan, IsPlan, crypto_length, period_of, sets_at}
+use Rattle.sd_spec.specs.Carried.{carried}
+use Rattle.sd_spec.specs.Messages.{period_at, message_at}
+use Rattle.sd_spec.specs.Refused.{IsClear}
+use Rattle.sd_spec.specs.Sent.{Item, Entitles, Controls, Carries, tables_at, tables_before, message_before}
+use Rattle.sd_spec.specs.Sent.{added}
+use Rattle.sd_spec.specs.Sent.{sent_from, sent, body}
+use Rattle.sd_spec.proofs.Bodies.{packets_many}
 use Rattle.sd_law_broadcast.specs.Packets.{AreWholePackets}
 use Rattle.sd_law_broadcast.proofs.Clear.{prefix_clear}
 use Rattle.sd_law_broadcast.proofs.Fitting.{sets_small, period_count, message_before_fits, word_low}
@@ -26,7 +26,7 @@ use Rattle.sd_law_broadcast.specs.Synced.{AreSynced}
 use Rattle.sd_law_broadcast.proofs.Counted.{parts_few}
 use Rattle.sd_law_broadcast.proofs.Joined.{joined_long}
 use Rattle.sd_law_broadcast.proofs.Synced.{body_synced}
-use Rattle.sd_spec_field.proofs.Fitting.{revoked_few}
+use Rattle.sd_spec.proofs.Fitting.{revoked_few}
 use Rattle.sd_law_field.specs.Times.{most_added}
 
 -- a message's parts are few, if it is there

@@ -6,11 +6,11 @@ use Rattle.std.specs.List.{list_any, range_with_len}
 use Rattle.std.proofs.lemmas.Bool.{cases_Bool, and_parts, or_right}
 use Rattle.std.proofs.lemmas.Bool.Decides.{nat_tests}
 use Rattle.std.proofs.lemmas.List.Elements.{All-contains, Contains-append_right, filter_passes}
-use Rattle.sd_spec_broadcast.specs.Plan.{Plan}
-use Rattle.sd_spec_broadcast.specs.Sent.{Item, Cat, Entitles, Controls, Carries, sent}
+use Rattle.sd_spec.specs.Plan.{Plan}
+use Rattle.sd_spec.specs.Sent.{Item, Cat, Entitles, Controls, Carries, sent}
 use Rattle.sd_law_losses.specs.Kept.{after_cat, is_carried, is_kept}
 use Rattle.sd_law_losses.specs.Confirmed.{is_confirmed_at}
-use Rattle.sd_spec_field.specs.Watch.{at_places}
+use Rattle.sd_spec.specs.Watch.{at_places}
 use Rattle.sd_law_field.specs.Times.{kept_at, places_in}
 use Rattle.sd_law_field.proofs.Numbers.{sent_rises}
 

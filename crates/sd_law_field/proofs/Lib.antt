@@ -8,3 +8,7 @@ pub mod Kept
 pub mod OneTime
 pub mod AllTimes
 pub mod Written
+pub mod Fielded
+pub mod Never
+pub mod Tried
+pub mod Ends

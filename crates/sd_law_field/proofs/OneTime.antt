@@ -2,18 +2,18 @@
 use Rattle.std.proofs.Common.{◌≡◌, ℕ, ◌<◌, ◌^◌, Bool, List, [], ◌++◌, length, sym, ap, subst, ◌∙◌}
 use Rattle.std.specs.Prelude.{All, None}
 use Rattle.std.specs.List.Sorted.{IsStrictlyIncreasing}
-use Rattle.sd_spec_broadcast.specs.Plan.{Plan, IsPlan}
-use Rattle.sd_spec_broadcast.specs.Refused.{IsClear}
-use Rattle.sd_spec_broadcast.specs.Sent.{Cat, sent, closing_of, packets_from, body, broadcast}
-use Rattle.sd_spec_broadcast.proofs.Sending.{packets_in_turn}
-use Rattle.sd_spec_broadcast.proofs.Bodies.{packets_many}
+use Rattle.sd_spec.specs.Plan.{Plan, IsPlan}
+use Rattle.sd_spec.specs.Refused.{IsClear}
+use Rattle.sd_spec.specs.Sent.{Cat, sent, closing_of, packets_from, body, broadcast}
+use Rattle.sd_spec.proofs.Sending.{packets_in_turn}
+use Rattle.sd_spec.proofs.Bodies.{packets_many}
 use Rattle.sd_law_broadcast.specs.Packets.{AreWholePackets}
 use Rattle.sd_law_broadcast.specs.Synced.{AreSynced}
-use Rattle.sd_spec_receiver.specs.Offered.{out_from, break_from}
+use Rattle.sd_spec.specs.Offered.{out_from, break_from}
 use Rattle.sd_law_losses.specs.Chosen.{chosen}
 use Rattle.sd_law_losses.specs.Confirmed.{packets_at, confirmed}
 use Rattle.sd_law_losses.proofs.Theorem.{confirmed_alone, none_refused as none_of_choice}
-use Rattle.sd_spec_field.specs.Watch.{stream, at_places}
+use Rattle.sd_spec.specs.Watch.{stream, at_places}
 use Rattle.sd_law_field.specs.Times.{card_at, flags_of, places_in}
 use Rattle.sd_law_field.proofs.Chosen.{packets_chosen_of_more, items_chosen_of_more}
 use Rattle.sd_law_field.proofs.Streams.{stream_is}

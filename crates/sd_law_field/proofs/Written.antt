@@ -9,20 +9,20 @@ use Rattle.std.proofs.lemmas.List.Elements.{All-get_or, All-map, All-weaker}
 use Rattle.std.proofs.lemmas.List.Folds.{concat-append}
 use Rattle.std.proofs.lemmas.Option.{slice_get-map, slice_get_within, get_or_from_slice_get}
 use Rattle.std.proofs.Math.Seq.{get_or-take}
-use Rattle.sd_spec_broadcast.specs.Plan.{Plan, IsPlan, period_of}
-use Rattle.sd_spec_broadcast.specs.Refused.{IsClear}
-use Rattle.sd_spec_broadcast.specs.Sent.{sent, body}
-use Rattle.sd_spec_broadcast.proofs.Bodies.{packets_many}
+use Rattle.sd_spec.specs.Plan.{Plan, IsPlan, period_of}
+use Rattle.sd_spec.specs.Refused.{IsClear}
+use Rattle.sd_spec.specs.Sent.{sent, body}
+use Rattle.sd_spec.proofs.Bodies.{packets_many}
 use Rattle.sd_law_broadcast.specs.Packets.{AreWholePackets}
 use Rattle.sd_law_broadcast.specs.Synced.{IsSynced, AreSynced}
 use Rattle.sd_law_broadcast.proofs.Joined.{joined_long}
-use Rattle.sd_spec_receiver.specs.Offered.{break_from}
+use Rattle.sd_spec.specs.Offered.{break_from}
 use Rattle.sd_law_losses.specs.Confirmed.{packet_at, packets_at, is_revoked_in}
 use Rattle.sd_law_losses.proofs.Losses.{all_second}
-use Rattle.sd_spec_field.specs.declared.event.Event.{Event}
-use Rattle.sd_spec_field.specs.Book.{sends}
-use Rattle.sd_spec_field.specs.Watch.{Watch, stream, watch, times, present, written}
-use Rattle.sd_spec_field.proofs.Watching.{all_below, cursor_within, times_below, times_rise}
+use Rattle.sd_spec.specs.declared.event.Event.{Event}
+use Rattle.sd_spec.specs.Book.{sends}
+use Rattle.sd_spec.specs.Watch.{Watch, stream, watch, times, present, written}
+use Rattle.sd_spec.proofs.Watching.{all_below, cursor_within, times_below, times_rise}
 use Rattle.sd_law_field.specs.Times.{card_at, taken, places_of}
 use Rattle.sd_law_field.proofs.Rising.{Rises, increasing_rises, rises_increase, rises_second, rises_short}
 use Rattle.sd_law_field.proofs.Streams.{stream_is}

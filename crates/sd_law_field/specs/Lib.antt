@@ -1,1 +1,3 @@
 pub mod Times
+pub mod Fielded
+pub mod Trials

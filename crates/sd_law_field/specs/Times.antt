@@ -3,14 +3,14 @@
 use Rattle.std.specs.Prelude.{ℕ, nat_eq, List, filter, length, map, take}
 use Rattle.std.specs.List.{flat_map, list_any, range_with_len}
 use Rattle.sd_base.specs.Types.{Packets, Arrived, LeafNumber, PacketNumber}
-use Rattle.sd_card.specs.Fields.{CardFields, card_of}
-use Rattle.sd_spec_broadcast.specs.Plan.{Plan}
-use Rattle.sd_spec_broadcast.specs.Sent.{Item, Cat, sent}
+use Rattle.sd_site.specs.CardFields.{CardFields, card_of}
+use Rattle.sd_spec.specs.Plan.{Plan}
+use Rattle.sd_spec.specs.Sent.{Item, Cat, sent}
 use Rattle.sd_law_losses.specs.Kept.{after_cat}
 use Rattle.sd_law_losses.specs.Confirmed.{is_confirmed_at}
-use Rattle.sd_spec_field.specs.declared.event.Event.{Event}
-use Rattle.sd_spec_field.specs.Book.{sends}
-use Rattle.sd_spec_field.specs.Watch.{Watch, at_places, times}
+use Rattle.sd_spec.specs.declared.event.Event.{Event}
+use Rattle.sd_spec.specs.Book.{sends}
+use Rattle.sd_spec.specs.Watch.{Watch, at_places, times}
 
 -- the most things that are sent for one clear packet, if the tree is of height at most 6: the CAT, 43 sections for at
 -- most 127 sets, 22 parts of a control message, and the packet [this project, docs/FORMATS.md, Broadcast]

@@ -3,12 +3,12 @@
 ghost use Rattle.std.specs.Prelude.{◌≡◌, ◌*◌, ◌<◌, ◌≤◌, ◌++◌, ◌∷◌, [], get_or, length};
 ghost use Rattle.std.specs.List.{concat};
 ghost use Rattle.sd_base.specs.Types.{Packet, Packets, PacketNumber};
-ghost use Rattle.sd_spec_broadcast.specs.Plan.{Plan, IsPlan};
-ghost use Rattle.sd_spec_broadcast.specs.Refused.{IsClear};
-ghost use Rattle.sd_spec_broadcast.specs.Sent.{Cat, Carries, added, sent, body};
+ghost use Rattle.sd_spec.specs.Plan.{Plan, IsPlan};
+ghost use Rattle.sd_spec.specs.Refused.{IsClear};
+ghost use Rattle.sd_spec.specs.Sent.{Cat, Carries, added, sent, body};
 ghost use Rattle.sd_law_broadcast.specs.Packets.{AreWholePackets};
 ghost use Rattle.sd_law_broadcast.specs.Synced.{AreSynced};
-ghost use Rattle.sd_spec_field.specs.Watch.{stream};
+ghost use Rattle.sd_spec.specs.Watch.{stream};
 ghost use Rattle.sd_law_field.specs.Times.{most_added};
 
 /// The packets in the bytes that a head end wrote are those of the broadcast without its closing message.

@@ -3,15 +3,15 @@
 ghost use Rattle.std.specs.Prelude.{◌≡◌, ◌^◌, ◌<◌, ◌++◌, [], false, List, None, All, Contains, get_or, length};
 ghost use Rattle.std.specs.List.Sorted.{IsStrictlyIncreasing};
 ghost use Rattle.sd_base.specs.Types.{Packet, Packets, LeafNumber, PacketNumber};
-ghost use Rattle.sd_spec_broadcast.specs.Plan.{Plan, IsPlan, period_of};
-ghost use Rattle.sd_spec_broadcast.specs.Refused.{IsClear};
-ghost use Rattle.sd_spec_broadcast.specs.Sent.{Item, Cat, Carries, sent};
+ghost use Rattle.sd_spec.specs.Plan.{Plan, IsPlan, period_of};
+ghost use Rattle.sd_spec.specs.Refused.{IsClear};
+ghost use Rattle.sd_spec.specs.Sent.{Item, Cat, Carries, sent};
 ghost use Rattle.sd_law_broadcast.specs.Packets.{AreWholePackets};
 ghost use Rattle.sd_law_broadcast.specs.Synced.{AreSynced};
-ghost use Rattle.sd_spec_receiver.specs.Offered.{out_from, break_from};
+ghost use Rattle.sd_spec.specs.Offered.{out_from, break_from};
 ghost use Rattle.sd_law_losses.specs.Chosen.{chosen};
 ghost use Rattle.sd_law_losses.specs.Confirmed.{packets_at, is_revoked_in};
-ghost use Rattle.sd_spec_field.specs.Watch.{stream, at_places};
+ghost use Rattle.sd_spec.specs.Watch.{stream, at_places};
 ghost use Rattle.sd_law_field.specs.Times.{card_at, flags_of, places_in};
 
 /// What is at rising places of a list is a choice of the list, and the same choice of a longer one.

@@ -4,14 +4,14 @@ ghost use Rattle.std.specs.Prelude.{◌≡◌, ◌*◌, ◌^◌, ◌<◌, ◌≤
 ghost use Rattle.std.specs.List.{concat};
 ghost use Rattle.std.specs.List.Sorted.{IsStrictlyIncreasing};
 ghost use Rattle.sd_base.specs.Types.{Packets, LeafNumber, PacketNumber};
-ghost use Rattle.sd_spec_broadcast.specs.Plan.{Plan, IsPlan, period_of};
-ghost use Rattle.sd_spec_broadcast.specs.Refused.{IsClear};
+ghost use Rattle.sd_spec.specs.Plan.{Plan, IsPlan, period_of};
+ghost use Rattle.sd_spec.specs.Refused.{IsClear};
 ghost use Rattle.sd_law_broadcast.specs.Packets.{AreWholePackets};
 ghost use Rattle.sd_law_broadcast.specs.Synced.{AreSynced};
-ghost use Rattle.sd_spec_receiver.specs.Offered.{break_from};
+ghost use Rattle.sd_spec.specs.Offered.{break_from};
 ghost use Rattle.sd_law_losses.specs.Confirmed.{packets_at, is_revoked_in};
-ghost use Rattle.sd_spec_field.specs.declared.event.Event.{Event};
-ghost use Rattle.sd_spec_field.specs.Watch.{watch, present, written};
+ghost use Rattle.sd_spec.specs.declared.event.Event.{Event};
+ghost use Rattle.sd_spec.specs.Watch.{watch, present, written};
 ghost use Rattle.sd_law_field.specs.Times.{card_at, taken, places_of};
 
 /// By whatever book a head end sends, and however often a receiver is switched off and on and loses packets: what it

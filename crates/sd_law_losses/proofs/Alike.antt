@@ -7,7 +7,7 @@ use Rattle.sd_base.proofs.Lists.{equal_bytes}
 use Rattle.sd_emm.specs.Period.{Period, emms_of, IsOfPeriod}
 use Rattle.sd_emm.specs.declared.emm.Emm.{Emm}
 use Rattle.sd_emm.proofs.Sharing.{all_are_of}
-use Rattle.sd_spec_receiver.specs.Offered.{says_same, is_mixed}
+use Rattle.sd_spec.specs.Offered.{says_same, is_mixed}
 
 -- two sections of a period
 two_say_same : (period : Period) (a b : Emm) → IsOfPeriod period a → IsOfPeriod period b → says_same a b ≡ true

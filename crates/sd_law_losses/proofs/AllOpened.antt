@@ -16,19 +16,19 @@ use Rattle.sd_base.proofs.Lists.{all_first}
 use Rattle.sd_base.proofs.Ranges.{filter_range}
 use Rattle.sd_packet.specs.Header.{pid_of}
 use Rattle.sd_packet.specs.Positions.{moved_by}
-use Rattle.sd_card.specs.Fields.{card_of}
+use Rattle.sd_site.specs.CardFields.{card_of}
 use Rattle.sd_emm.specs.Period.{emms_of}
 use Rattle.sd_emm.specs.declared.emm.Emm.{Emm}
 use Rattle.sd_ecm.specs.Parts.{parts_of}
-use Rattle.sd_spec_broadcast.specs.Plan.{Plan, IsPlan, crypto_length, period_of, since_of, closing_number}
-use Rattle.sd_spec_broadcast.specs.Kinds.{kind_of, is_scrambled}
-use Rattle.sd_spec_broadcast.specs.Messages.{period_at}
-use Rattle.sd_spec_broadcast.specs.Refused.{IsClear}
-use Rattle.sd_spec_broadcast.specs.Sent.{Item, Cat, Entitles, Controls, tables_at, tables_before, sent, closing_of}
-use Rattle.sd_spec_broadcast.specs.Items.{IsOfBroadcast}
-use Rattle.sd_spec_broadcast.proofs.Items.{all_are_of_broadcast}
-use Rattle.sd_spec_broadcast.proofs.Schedule.{period_begins, since_is_below, closing_needed}
-use Rattle.sd_spec_broadcast.proofs.Periods.{section_number}
+use Rattle.sd_spec.specs.Plan.{Plan, IsPlan, crypto_length, period_of, since_of, closing_number}
+use Rattle.sd_spec.specs.Kinds.{kind_of, is_scrambled}
+use Rattle.sd_spec.specs.Messages.{period_at}
+use Rattle.sd_spec.specs.Refused.{IsClear}
+use Rattle.sd_spec.specs.Sent.{Item, Cat, Entitles, Controls, tables_at, tables_before, sent, closing_of}
+use Rattle.sd_spec.specs.Items.{IsOfBroadcast}
+use Rattle.sd_spec.proofs.Items.{all_are_of_broadcast}
+use Rattle.sd_spec.proofs.Schedule.{period_begins, since_is_below, closing_needed}
+use Rattle.sd_spec.proofs.Periods.{section_number}
 use Rattle.sd_law_broadcast.specs.Packets.{AreWholePackets}
 use Rattle.sd_law_losses.specs.Chosen.{chosen}
 use Rattle.sd_law_losses.specs.Kept.{is_kept, kept_in, has_arrived, entitles, is_last_part, is_entitled_before}

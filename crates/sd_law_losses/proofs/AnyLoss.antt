@@ -8,28 +8,28 @@ use Rattle.std.specs.List.{list_any, range_with_len}
 use Rattle.std.specs.Option.{option_map_or}
 use Rattle.std.proofs.lemmas.List.Elements.{All-nil, All-tail, All-contains_itself}
 use Rattle.sd_base.proofs.Lists.{all_first}
-use Rattle.sd_site.specs.Fields.{run_name_of as site_name}
+use Rattle.sd_site.specs.SiteFields.{run_name_of as site_name}
 use Rattle.std.proofs.lemmas.List.Folds.{list_any-append}
 use Rattle.std.proofs.lemmas.Bool.{cases_Bool}
 use Rattle.std.proofs.lemmas.Bool.Decides.{nat_tests}
 use Rattle.sd_emm.specs.Period.{emms_of}
 use Rattle.sd_ecm.specs.Parts.{parts_of}
-use Rattle.sd_spec_broadcast.specs.Plan.{crypto_length, period_of, closing_number}
-use Rattle.sd_spec_broadcast.specs.Messages.{period_at}
-use Rattle.sd_spec_broadcast.specs.Sent.{Item, Cat, Controls, tables_at, sent, closing_of, packet_of, packets_from}
-use Rattle.sd_spec_broadcast.specs.Sent.{broadcast}
-use Rattle.sd_spec_broadcast.specs.Items.{IsOfBroadcast}
-use Rattle.sd_spec_broadcast.proofs.Items.{all_are_of_broadcast}
-use Rattle.sd_spec_receiver.specs.Tuned.{tuning_of, tuned_by}
+use Rattle.sd_spec.specs.Plan.{crypto_length, period_of, closing_number}
+use Rattle.sd_spec.specs.Messages.{period_at}
+use Rattle.sd_spec.specs.Sent.{Item, Cat, Controls, tables_at, sent, closing_of, packet_of, packets_from}
+use Rattle.sd_spec.specs.Sent.{broadcast}
+use Rattle.sd_spec.specs.Items.{IsOfBroadcast}
+use Rattle.sd_spec.proofs.Items.{all_are_of_broadcast}
+use Rattle.sd_spec.specs.Tuned.{tuning_of, tuned_by}
 use Rattle.sd_psi.specs.OurCat.{cat_tuning}
 use Rattle.sd_psi.specs.declared.our_cat.Tuning.{Tuning}
-use Rattle.sd_spec_receiver.specs.Heard.{Heard}
-use Rattle.sd_spec_receiver.specs.Offered.{Offering, heard, heard_with, offered, out_from, break_from, no_offering}
-use Rattle.sd_spec_receiver.proofs.Runs.{never_turns}
+use Rattle.sd_spec.specs.Heard.{Heard}
+use Rattle.sd_spec.specs.Offered.{Offering, heard, heard_with, offered, out_from, break_from, no_offering}
+use Rattle.sd_spec.proofs.Runs.{never_turns}
 use Rattle.sd_law_losses.specs.Chosen.{chosen}
 use Rattle.sd_law_losses.specs.Kept.{is_carried, has_arrived, after_cat}
 use Rattle.sd_law_losses.specs.Confirmed.{confirmed, packets_at}
-use Rattle.sd_card.specs.Fields.{CardFields}
+use Rattle.sd_site.specs.CardFields.{CardFields}
 use Rattle.sd_law_losses.proofs.Completing.{IsLater}
 use Rattle.sd_law_losses.proofs.Writing.{onto, Writes, writes_append, IsOpenUpto, open_upto, open_append}
 use Rattle.sd_law_losses.proofs.Arriving.{is_of}

@@ -6,24 +6,24 @@ use Rattle.std.proofs.lemmas.Bool.{cases_Bool}
 use Rattle.std.specs.List.{list_any}
 use Rattle.sd_packet.specs.Header.{pid_of, scrambling_of}
 use Rattle.sd_packet.specs.Positions.{is_placed}
-use Rattle.sd_label.specs.Keys.{control_word_of}
-use Rattle.sd_site.specs.Fields.{SiteFields}
+use Rattle.sd_tree.specs.Keys.{control_word_of}
+use Rattle.sd_site.specs.SiteFields.{SiteFields}
 use Rattle.sd_psi.specs.Rewriting.{rewritten, restored, rewrite_fault, restore_fault}
 use Rattle.sd_psi.specs.Undone.{IsPacket}
 use Rattle.sd_psi.proofs.Keeping.{rewritten_packet_keeps}
 use Rattle.sd_psi.proofs.Inverse.{restorable, restored_again}
 use Rattle.sd_keystream.specs.Scrambling.{control_of, descrambled}
 use Rattle.sd_keystream.proofs.Scramblings.{undone, control_fits}
-use Rattle.sd_spec_broadcast.specs.Plan.{word_of}
-use Rattle.sd_spec_broadcast.specs.Kinds.{kind_of, pmts_in}
-use Rattle.sd_spec_broadcast.specs.Carried.{parity_of, place_after, pmt_carried, veiled, carried_as, carried}
-use Rattle.sd_spec_broadcast.specs.Refused.{refusal_of, is_full_own}
-use Rattle.sd_spec_broadcast.specs.declared.kind.Kind.{Kind}
-use Rattle.sd_spec_broadcast.specs.declared.kind.Kind.TheVariants.{Passed, Pmt, Scrambled}
+use Rattle.sd_spec.specs.Plan.{word_of}
+use Rattle.sd_spec.specs.Kinds.{kind_of, pmts_in}
+use Rattle.sd_spec.specs.Carried.{parity_of, place_after, pmt_carried, veiled, carried_as, carried}
+use Rattle.sd_spec.specs.Refused.{refusal_of, is_full_own}
+use Rattle.sd_spec.specs.declared.kind.Kind.{Kind}
+use Rattle.sd_spec.specs.declared.kind.Kind.TheVariants.{Passed, Pmt, Scrambled}
 use Rattle.sd_law_broadcast.specs.Packets.{IsWholePacket}
 use Rattle.sd_law_broadcast.proofs.Clear.{accepted}
 use Rattle.sd_law_broadcast.proofs.Carrying.{kind_placed, placed_packet}
-use Rattle.sd_spec_receiver.specs.Confirmed.{Segment, unmarked}
+use Rattle.sd_spec.specs.Confirmed.{Segment, unmarked}
 
 -- a passed packet has no position
 kind_unplaced : (before : List (List ℕ)) (packet : List ℕ) → kind_of before packet ≡ Passed → is_placed packet ≡ false

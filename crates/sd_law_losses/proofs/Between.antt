@@ -8,16 +8,16 @@ use Rattle.std.proofs.lemmas.List.{map-append, length-map}
 use Rattle.std.proofs.lemmas.List.Elements.{filter_agree}
 use Rattle.std.proofs.lemmas.Bool.{cases_Bool}
 use Rattle.std.proofs.lemmas.Bool.Decides.{nat_tests}
-use Rattle.sd_label.specs.Keys.{control_word_of}
-use Rattle.sd_spec_broadcast.specs.Plan.{since_of}
-use Rattle.sd_spec_broadcast.specs.Sent.{Item}
-use Rattle.sd_label.specs.Keys.{period_key_of}
+use Rattle.sd_tree.specs.Keys.{control_word_of}
+use Rattle.sd_spec.specs.Plan.{since_of}
+use Rattle.sd_spec.specs.Sent.{Item}
+use Rattle.sd_tree.specs.Keys.{period_key_of}
 use Rattle.sd_keystream.specs.Wrapping.{wrapped as under}
-use Rattle.sd_spec_broadcast.specs.Plan.{period_of}
-use Rattle.sd_spec_receiver.specs.Stretches.{Stretch, held_in}
-use Rattle.sd_spec_receiver.specs.Keys.{key_at}
-use Rattle.sd_spec_receiver.specs.Offered.{segment_wrote, stretch_wrote}
-use Rattle.sd_spec_receiver.specs.Confirmed.{Segment, judged, Wrote, then_wrote, written_from}
+use Rattle.sd_spec.specs.Plan.{period_of}
+use Rattle.sd_spec.specs.Stretches.{Stretch, held_in}
+use Rattle.sd_spec.specs.Keys.{key_at}
+use Rattle.sd_spec.specs.Offered.{segment_wrote, stretch_wrote}
+use Rattle.sd_spec.specs.Confirmed.{Segment, judged, Wrote, then_wrote, written_from}
 use Rattle.sd_law_losses.specs.Kept.{is_kept, kept_in, is_entitled_before}
 use Rattle.sd_law_losses.specs.Confirmed.{packet_at, packets_at, is_open, is_written_between}
 use Rattle.sd_law_losses.proofs.Tracking.{kept_more, kept_none, nothing_in}

@@ -4,12 +4,12 @@ use Rattle.std.proofs.Common.{◌∙◌, arith}
 use Rattle.std.specs.Prelude.{suc, option_map}
 use Rattle.std.specs.Option.{option_map_or}
 use Rattle.sd_base.proofs.Bools.{tested}
-use Rattle.sd_card.specs.Fields.{CardFields}
-use Rattle.sd_spec_receiver.specs.declared.fault.StreamFault.{StreamFault}
+use Rattle.sd_site.specs.CardFields.{CardFields}
+use Rattle.sd_spec.specs.declared.stream_fault.StreamFault.{StreamFault}
 use Rattle.sd_psi.specs.OurCat.{cat_tuning}
 use Rattle.sd_psi.specs.declared.our_cat.Tuning.{Tuning}
-use Rattle.sd_spec_receiver.specs.Runs.{name_in, are_two}
-use Rattle.sd_spec_receiver.specs.Offered.{heard, Offering, offered, break_from}
+use Rattle.sd_spec.specs.Runs.{name_in, are_two}
+use Rattle.sd_spec.specs.Offered.{heard, Offering, offered, break_from}
 use Rattle.sd_law_losses.specs.Pieces.{name_at, with_packet, pieces_after}
 use Rattle.sd_law_losses.specs.Together.{fault_later, break_with}
 use Rattle.sd_law_losses.proofs.Offerings.{offering_later}

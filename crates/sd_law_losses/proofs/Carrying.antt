@@ -6,9 +6,9 @@ use Rattle.std.proofs.lemmas.List.{map-append, reverse-append}
 use Rattle.std.proofs.lemmas.List.Folds.{list_any-append}
 use Rattle.std.proofs.lemmas.Bool.Decides.{nat_tests}
 use Rattle.sd_base.proofs.Ranges.{filter_range}
-use Rattle.sd_spec_broadcast.specs.Sent.{Item, Carries}
-use Rattle.sd_spec_receiver.specs.Heard.{Heard, Other}
-use Rattle.sd_spec_receiver.specs.Stretches.{messages, newest, counted, current, seen, is_closed, others, held_in}
+use Rattle.sd_spec.specs.Sent.{Item, Carries}
+use Rattle.sd_spec.specs.Heard.{Heard, Other}
+use Rattle.sd_spec.specs.Stretches.{messages, newest, counted, current, seen, is_closed, others, held_in}
 use Rattle.sd_law_losses.specs.Kept.{is_kept, is_carried, kept_in, entitles, is_section_item}
 use Rattle.sd_law_losses.proofs.Tracking.{kept_more, kept_none}
 use Rattle.sd_law_losses.proofs.Arriving.{is_of}

@@ -5,17 +5,17 @@ use Rattle.std.specs.Prelude.{if◌then◌else◌, All}
 use Rattle.std.proofs.lemmas.List.Elements.{All-cons, All-head, All-weaker}
 use Rattle.std.proofs.lemmas.Bool.Decides.{nat_tests}
 use Rattle.sd_base.proofs.Bools.{chosen_itself}
-use Rattle.sd_card.specs.Fields.{CardFields}
+use Rattle.sd_site.specs.CardFields.{CardFields}
 use Rattle.sd_ecm.specs.Parts.{Message}
 use Rattle.sd_ecm.specs.declared.part.EcmPart.{EcmPart}
 use Rattle.sd_psi.specs.declared.our_cat.Tuning.{Tuning}
-use Rattle.sd_spec_receiver.specs.Heard.{Heard, Controls}
-use Rattle.sd_spec_receiver.specs.Stretches.{Stretch, newest, counted, exceeds, run_of, run_with, run_to, message_told}
-use Rattle.sd_spec_receiver.specs.Stretches.{completed}
-use Rattle.sd_spec_receiver.specs.Stretches.{completes}
-use Rattle.sd_spec_receiver.specs.Stretches.{current, seen, is_closed, others, messages}
-use Rattle.sd_spec_receiver.specs.Offered.{heard_offering, part_fault, message_offering, part_offering, no_offering}
-use Rattle.sd_spec_receiver.proofs.Hearing.{no_fault_in_none}
+use Rattle.sd_spec.specs.Heard.{Heard, Controls}
+use Rattle.sd_spec.specs.Stretches.{Stretch, newest, counted, exceeds, run_of, run_with, run_to, message_told}
+use Rattle.sd_spec.specs.Stretches.{completed}
+use Rattle.sd_spec.specs.Stretches.{completes}
+use Rattle.sd_spec.specs.Stretches.{current, seen, is_closed, others, messages}
+use Rattle.sd_spec.specs.Offered.{heard_offering, part_fault, message_offering, part_offering, no_offering}
+use Rattle.sd_spec.proofs.Hearing.{no_fault_in_none}
 use Rattle.sd_law_losses.specs.Chosen.{chosen}
 use Rattle.sd_law_losses.proofs.Parts.{Stands, follows, stands_from, whole_next, broken_next, kept_next, lost_next}
 use Rattle.sd_law_losses.proofs.Taking.{keys_of}

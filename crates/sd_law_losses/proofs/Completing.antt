@@ -13,14 +13,14 @@ use Rattle.std.proofs.lemmas.Bool.Decides.{nat_tests}
 use Rattle.sd_emm.specs.Period.{emms_of}
 use Rattle.sd_ecm.specs.Parts.{Message, parts_of}
 use Rattle.sd_ecm.specs.declared.part.EcmPart.{EcmPart}
-use Rattle.sd_spec_broadcast.specs.Plan.{period_of}
-use Rattle.sd_spec_broadcast.specs.Messages.{period_at}
-use Rattle.sd_spec_broadcast.specs.Sent.{Item, Controls}
-use Rattle.sd_spec_receiver.specs.Heard.{Heard}
-use Rattle.sd_spec_receiver.specs.Stretches.{newest, current}
-use Rattle.sd_spec_receiver.specs.Keys.{key_at, key_in}
-use Rattle.sd_spec_receiver.specs.Confirmed.{Wrote}
-use Rattle.sd_spec_receiver.specs.Offered.{message_offering, is_back, is_before, stretch_wrote, word_fault, wrote_or}
+use Rattle.sd_spec.specs.Plan.{period_of}
+use Rattle.sd_spec.specs.Messages.{period_at}
+use Rattle.sd_spec.specs.Sent.{Item, Controls}
+use Rattle.sd_spec.specs.Heard.{Heard}
+use Rattle.sd_spec.specs.Stretches.{newest, current}
+use Rattle.sd_spec.specs.Keys.{key_at, key_in}
+use Rattle.sd_spec.specs.Confirmed.{Wrote}
+use Rattle.sd_spec.specs.Offered.{message_offering, is_back, is_before, stretch_wrote, word_fault, wrote_or}
 use Rattle.sd_law_losses.specs.Chosen.{chosen}
 use Rattle.sd_law_losses.specs.Kept.{is_carried, kept_in, has_arrived, entitles, is_entitled_before, is_section_item}
 use Rattle.sd_law_losses.proofs.Coming.{counting, Same, AreParts, all_kept}

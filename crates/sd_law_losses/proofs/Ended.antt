@@ -12,14 +12,14 @@ use Rattle.sd_emm.specs.Period.{emms_of}
 use Rattle.sd_ecm.specs.Parts.{Message, parts_of}
 use Rattle.sd_ecm.specs.declared.part.EcmPart.{EcmPart}
 use Rattle.sd_law_losses.proofs.Confirming.{confirmed_in}
-use Rattle.sd_spec_broadcast.specs.Plan.{period_of}
-use Rattle.sd_spec_broadcast.specs.Messages.{period_at, message_at}
-use Rattle.sd_spec_broadcast.specs.Sent.{Item, Controls, tables_at, closing_of, packets_from}
-use Rattle.sd_spec_broadcast.specs.Items.{IsOfBroadcast}
-use Rattle.sd_spec_receiver.specs.Heard.{Heard, Controls as HeardControls}
-use Rattle.sd_spec_receiver.specs.Stretches.{messages, newest, current, seen, is_closed, completes}
-use Rattle.sd_spec_receiver.specs.Keys.{key_at, key_in}
-use Rattle.sd_spec_receiver.specs.Offered.{heard}
+use Rattle.sd_spec.specs.Plan.{period_of}
+use Rattle.sd_spec.specs.Messages.{period_at, message_at}
+use Rattle.sd_spec.specs.Sent.{Item, Controls, tables_at, closing_of, packets_from}
+use Rattle.sd_spec.specs.Items.{IsOfBroadcast}
+use Rattle.sd_spec.specs.Heard.{Heard, Controls as HeardControls}
+use Rattle.sd_spec.specs.Stretches.{messages, newest, current, seen, is_closed, completes}
+use Rattle.sd_spec.specs.Keys.{key_at, key_in}
+use Rattle.sd_spec.specs.Offered.{heard}
 use Rattle.sd_law_losses.specs.Chosen.{chosen}
 use Rattle.sd_law_losses.specs.Kept.{is_section_item, has_arrived}
 use Rattle.sd_law_losses.specs.Taken.{how_many}

@@ -9,29 +9,29 @@ use Rattle.std.specs.Option.{option_map_or}
 use Rattle.std.proofs.lemmas.List.{reverse-append, reverse-reverse, map-append}
 use Rattle.std.proofs.lemmas.List.Elements.{All-head, All-contains}
 use Rattle.std.proofs.lemmas.Bool.{cases_lt, both_ways}
-use Rattle.sd_card.specs.Fields.{CardFields}
-use Rattle.sd_site.specs.Fields.{AreInRange}
+use Rattle.sd_site.specs.CardFields.{CardFields}
+use Rattle.sd_site.specs.SiteFields.{AreInRange}
 use Rattle.sd_message.specs.Pieces.{pieces_for}
 use Rattle.sd_emm.specs.Form.{sections_for}
 use Rattle.sd_emm.specs.Period.{emms_of, IsOfPeriod}
 use Rattle.sd_emm.specs.declared.emm.Emm.{Emm}
 use Rattle.sd_emm.proofs.Sharing.{all_are_of}
 use Rattle.sd_ecm.specs.Parts.{Message}
-use Rattle.sd_spec_broadcast.specs.Plan.{sets_at, period_of}
-use Rattle.sd_spec_broadcast.specs.Messages.{period_at, message_at}
-use Rattle.sd_spec_broadcast.specs.Sent.{Item, sent, closing_of, broadcast, is_cat_item}
-use Rattle.sd_spec_broadcast.proofs.Schedule.{closing_needed, closing_covers}
+use Rattle.sd_spec.specs.Plan.{sets_at, period_of}
+use Rattle.sd_spec.specs.Messages.{period_at, message_at}
+use Rattle.sd_spec.specs.Sent.{Item, sent, closing_of, broadcast, is_cat_item}
+use Rattle.sd_spec.proofs.Schedule.{closing_needed, closing_covers}
 use Rattle.sd_law_broadcast.proofs.Fitting.{period_count}
-use Rattle.sd_spec_receiver.specs.Tuned.{tuning_of}
+use Rattle.sd_spec.specs.Tuned.{tuning_of}
 use Rattle.sd_psi.specs.declared.our_cat.Tuning.{Tuning}
-use Rattle.sd_spec_receiver.specs.Heard.{Heard}
-use Rattle.sd_spec_receiver.specs.Stretches.{newest, seen}
-use Rattle.sd_spec_receiver.specs.Offered.{heard}
-use Rattle.sd_spec_receiver.specs.Ending.{periods_told, is_unkeyed, is_all_seen, are_all, ending_with, closed_ending}
-use Rattle.sd_spec_receiver.specs.Ending.{joined, run_wrote, run_ending, ended_before, ending_of}
-use Rattle.sd_spec_receiver.specs.declared.ending.Ending.{Ending}
-use Rattle.sd_spec_receiver.specs.declared.ending.Ending.TheVariants.{NoCat, Unclosed}
-use Rattle.sd_spec_receiver.proofs.Runs.{opened_joins}
+use Rattle.sd_spec.specs.Heard.{Heard}
+use Rattle.sd_spec.specs.Stretches.{newest, seen}
+use Rattle.sd_spec.specs.Offered.{heard}
+use Rattle.sd_spec.specs.Ending.{periods_told, is_unkeyed, is_all_seen, are_all, ending_with, closed_ending}
+use Rattle.sd_spec.specs.Ending.{joined, run_wrote, run_ending, ended_before, ending_of}
+use Rattle.sd_spec.specs.declared.ending.Ending.{Ending}
+use Rattle.sd_spec.specs.declared.ending.Ending.TheVariants.{NoCat, Unclosed}
+use Rattle.sd_spec.proofs.Runs.{opened_joins}
 use Rattle.sd_law_losses.specs.Chosen.{chosen}
 use Rattle.sd_law_losses.specs.Kept.{after_cat, has_arrived, arrived, is_section_item}
 use Rattle.sd_law_losses.specs.Confirmed.{confirmed}

@@ -11,16 +11,16 @@ use Rattle.std.proofs.lemmas.Bool.Decides.{nat_tests}
 use Rattle.sd_base.proofs.Lists.{all_first}
 use Rattle.sd_emm.specs.Period.{emms_of}
 use Rattle.sd_ecm.specs.Parts.{parts_of}
-use Rattle.sd_spec_broadcast.specs.Plan.{crypto_length, period_of, closing_number}
-use Rattle.sd_spec_broadcast.specs.Messages.{period_at}
-use Rattle.sd_spec_broadcast.specs.Sent.{Item, Cat, Controls, tables_at, sent, closing_of, packet_of, packets_from}
-use Rattle.sd_spec_broadcast.specs.Sent.{broadcast}
-use Rattle.sd_spec_broadcast.specs.Items.{IsOfBroadcast}
-use Rattle.sd_spec_broadcast.proofs.Items.{all_are_of_broadcast}
-use Rattle.sd_spec_broadcast.proofs.Schedule.{periods_rise}
-use Rattle.sd_spec_receiver.specs.Tuned.{tuning_of}
-use Rattle.sd_spec_receiver.specs.Heard.{Heard}
-use Rattle.sd_spec_receiver.specs.Offered.{heard}
+use Rattle.sd_spec.specs.Plan.{crypto_length, period_of, closing_number}
+use Rattle.sd_spec.specs.Messages.{period_at}
+use Rattle.sd_spec.specs.Sent.{Item, Cat, Controls, tables_at, sent, closing_of, packet_of, packets_from}
+use Rattle.sd_spec.specs.Sent.{broadcast}
+use Rattle.sd_spec.specs.Items.{IsOfBroadcast}
+use Rattle.sd_spec.proofs.Items.{all_are_of_broadcast}
+use Rattle.sd_spec.proofs.Schedule.{periods_rise}
+use Rattle.sd_spec.specs.Tuned.{tuning_of}
+use Rattle.sd_spec.specs.Heard.{Heard}
+use Rattle.sd_spec.specs.Offered.{heard}
 use Rattle.sd_law_losses.specs.Chosen.{chosen}
 use Rattle.sd_law_losses.specs.Kept.{is_carried, after_cat}
 use Rattle.sd_law_losses.proofs.Writing.{onto, onto_append, open_upto, Writes, IsOpenUpto}

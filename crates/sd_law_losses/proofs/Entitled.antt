@@ -16,11 +16,11 @@ use Rattle.sd_emm.specs.Spelled.{listed_entries}
 use Rattle.sd_emm.specs.Period.{emms_of}
 use Rattle.sd_emm.specs.declared.emm.Emm.{Emm}
 use Rattle.sd_emm.proofs.Sharing.{joined_are_all}
-use Rattle.sd_spec_broadcast.specs.Plan.{Plan, IsPlan, sets_at, period_in, period_of}
-use Rattle.sd_spec_broadcast.specs.Messages.{period_at, entry_of}
-use Rattle.sd_spec_broadcast.specs.Sent.{Item, Cat, Entitles, Controls, Carries}
-use Rattle.sd_spec_broadcast.specs.Items.{IsOfBroadcast, entitlement}
-use Rattle.sd_spec_broadcast.proofs.Periods.{section_number}
+use Rattle.sd_spec.specs.Plan.{Plan, IsPlan, sets_at, period_in, period_of}
+use Rattle.sd_spec.specs.Messages.{period_at, entry_of}
+use Rattle.sd_spec.specs.Sent.{Item, Cat, Entitles, Controls, Carries}
+use Rattle.sd_spec.specs.Items.{IsOfBroadcast, entitlement}
+use Rattle.sd_spec.proofs.Periods.{section_number}
 use Rattle.sd_law_broadcast.proofs.Covering.{sets_partition}
 use Rattle.sd_law_losses.specs.Kept.{entitles, is_last_part, is_entitled_before}
 use Rattle.sd_law_losses.specs.Confirmed.{is_revoked_in}

@@ -9,12 +9,12 @@ use Rattle.std.proofs.lemmas.List.Elements.{filter_agree}
 use Rattle.std.proofs.lemmas.List.Folds.{list_any-append}
 use Rattle.sd_emm.specs.Period.{emms_of}
 use Rattle.sd_emm.specs.declared.emm.Emm.{Emm}
-use Rattle.sd_spec_broadcast.specs.Plan.{period_of}
-use Rattle.sd_spec_broadcast.specs.Messages.{period_at}
-use Rattle.sd_spec_broadcast.specs.Sent.{Item, Cat, Entitles}
-use Rattle.sd_spec_receiver.specs.Heard.{Heard, Dropped}
-use Rattle.sd_spec_receiver.specs.Stretches.{messages, newest, counted, current, seen, is_closed, others, held_in}
-use Rattle.sd_spec_receiver.specs.Keys.{key_at}
+use Rattle.sd_spec.specs.Plan.{period_of}
+use Rattle.sd_spec.specs.Messages.{period_at}
+use Rattle.sd_spec.specs.Sent.{Item, Cat, Entitles}
+use Rattle.sd_spec.specs.Heard.{Heard, Dropped}
+use Rattle.sd_spec.specs.Stretches.{messages, newest, counted, current, seen, is_closed, others, held_in}
+use Rattle.sd_spec.specs.Keys.{key_at}
 use Rattle.sd_law_losses.specs.Kept.{is_section_item, is_kept, is_carried, kept_in, has_arrived, entitles}
 use Rattle.sd_law_losses.specs.Kept.{is_entitled_before}
 use Rattle.sd_law_losses.proofs.Writing.{onto, Writes}

@@ -5,16 +5,16 @@ use Rattle.std.specs.Prelude.{if◌then◌else◌, All}
 use Rattle.std.specs.List.{list_any}
 use Rattle.std.proofs.lemmas.Bool.{false≢true}
 use Rattle.std.proofs.lemmas.List.Elements.{All-nil, All-cons, All-head, All-tail}
-use Rattle.sd_site.specs.Fields.{run_name_of as site_name}
-use Rattle.sd_card.specs.Fields.{CardFields, card_of}
-use Rattle.sd_spec_broadcast.specs.Sent.{broadcast}
-use Rattle.sd_spec_receiver.specs.declared.ending.Ending.{Ending}
-use Rattle.sd_spec_receiver.specs.declared.ending.Ending.TheVariants.{NoCat}
+use Rattle.sd_site.specs.SiteFields.{run_name_of as site_name}
+use Rattle.sd_site.specs.CardFields.{CardFields, card_of}
+use Rattle.sd_spec.specs.Sent.{broadcast}
+use Rattle.sd_spec.specs.declared.ending.Ending.{Ending}
+use Rattle.sd_spec.specs.declared.ending.Ending.TheVariants.{NoCat}
 use Rattle.sd_psi.specs.declared.our_cat.Tuning.{Tuning}
-use Rattle.sd_spec_receiver.specs.Offered.{heard, out_from, break_from}
-use Rattle.sd_spec_receiver.specs.Ending.{joined, run_ending, run_wrote, ending_of}
-use Rattle.sd_spec_receiver.specs.Taken.{taken_keys}
-use Rattle.sd_spec_receiver.proofs.Runs.{opened_joins}
+use Rattle.sd_spec.specs.Offered.{heard, out_from, break_from}
+use Rattle.sd_spec.specs.Ending.{joined, run_ending, run_wrote, ending_of}
+use Rattle.sd_spec.specs.Taken.{taken_keys}
+use Rattle.sd_spec.proofs.Runs.{opened_joins}
 use Rattle.sd_law_losses.specs.Chosen.{chosen}
 use Rattle.sd_law_losses.specs.Confirmed.{confirmed}
 use Rattle.sd_law_losses.specs.Endings.{ending_told}

@@ -4,15 +4,15 @@ use Rattle.std.proofs.Common.{None, sym, ap, ◌∙◌, arith, subst, ◌⊎◌,
 use Rattle.std.specs.Prelude.{if◌then◌else◌, not}
 use Rattle.std.proofs.lemmas.Bool.{false≢true}
 use Rattle.sd_base.proofs.Bools.{tested}
-use Rattle.sd_card.specs.Fields.{CardFields}
-use Rattle.sd_spec_receiver.specs.Tuned.{tuning_of}
+use Rattle.sd_site.specs.CardFields.{CardFields}
+use Rattle.sd_spec.specs.Tuned.{tuning_of}
 use Rattle.sd_psi.specs.declared.our_cat.Tuning.{Tuning}
-use Rattle.sd_spec_receiver.specs.Heard.{Heard, Dropped, Entitles, Controls, BadEmm, BadEcm, Other, hears}
-use Rattle.sd_spec_receiver.specs.Stretches.{is_closed}
-use Rattle.sd_spec_receiver.specs.Runs.{run_name_heard, name_or, name_in, is_same, are_two, is_turn, of_run}
-use Rattle.sd_spec_receiver.specs.Offered.{heard, heard_more, Offering, no_offering, offered, heard_offering}
-use Rattle.sd_spec_receiver.proofs.Runs.{same_run, new_run}
-use Rattle.sd_spec_receiver.proofs.Hearing.{tuned_more}
+use Rattle.sd_spec.specs.Heard.{Heard, Dropped, Entitles, Controls, BadEmm, BadEcm, Other, hears}
+use Rattle.sd_spec.specs.Stretches.{is_closed}
+use Rattle.sd_spec.specs.Runs.{run_name_heard, name_or, name_in, is_same, are_two, is_turn, of_run}
+use Rattle.sd_spec.specs.Offered.{heard, heard_more, Offering, no_offering, offered, heard_offering}
+use Rattle.sd_spec.proofs.Runs.{same_run, new_run}
+use Rattle.sd_spec.proofs.Hearing.{tuned_more}
 use Rattle.sd_law_losses.specs.Pieces.{name_at}
 use Rattle.sd_law_losses.proofs.NextLater.{thing_later, things_later, hears_later, names_later, closed_later}
 use Rattle.sd_law_losses.proofs.Offerings.{offering_later, open_offering, open_later}

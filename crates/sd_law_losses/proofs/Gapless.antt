@@ -9,11 +9,11 @@ use Rattle.std.proofs.lemmas.Bool.Decides.{nat_tests}
 use Rattle.sd_packet.specs.Header.{pid_of}
 use Rattle.sd_packet.specs.Positions.{is_moving, moved_by}
 use Rattle.sd_packet.proofs.Positions.{next_position}
-use Rattle.sd_site.specs.Fields.{AreInRange}
-use Rattle.sd_card.specs.Fields.{card_of}
-use Rattle.sd_spec_broadcast.specs.Plan.{Plan, closing_number}
-use Rattle.sd_spec_broadcast.specs.Kinds.{kind_of, is_scrambled}
-use Rattle.sd_spec_broadcast.specs.Sent.{Item}
+use Rattle.sd_site.specs.SiteFields.{AreInRange}
+use Rattle.sd_site.specs.CardFields.{card_of}
+use Rattle.sd_spec.specs.Plan.{Plan, closing_number}
+use Rattle.sd_spec.specs.Kinds.{kind_of, is_scrambled}
+use Rattle.sd_spec.specs.Sent.{Item}
 use Rattle.sd_law_losses.specs.Chosen.{chosen}
 use Rattle.sd_law_losses.specs.Kept.{is_kept, kept_in, has_arrived}
 use Rattle.sd_law_losses.specs.Confirmed.{packet_at, packets_at, upto, tracked_position, is_traced, is_open}

@@ -3,14 +3,14 @@ use Rattle.std.proofs.Common.{◌≡◌, refl, ℕ, ◌+◌, ◌≤◌, ◌++◌
 use Rattle.std.proofs.Common.{Some, None, is_none, sym, ap, ◌∙◌, arith, subst, inl, inr, append_assoc}
 use Rattle.std.specs.Prelude.{if◌then◌else◌, option_map}
 use Rattle.std.specs.Option.{option_map_or}
-use Rattle.sd_card.specs.Fields.{CardFields}
-use Rattle.sd_spec_receiver.specs.declared.fault.StreamFault.{StreamFault}
-use Rattle.sd_spec_receiver.specs.Tuned.{tuning_of}
+use Rattle.sd_site.specs.CardFields.{CardFields}
+use Rattle.sd_spec.specs.declared.stream_fault.StreamFault.{StreamFault}
+use Rattle.sd_spec.specs.Tuned.{tuning_of}
 use Rattle.sd_psi.specs.declared.our_cat.Tuning.{Tuning}
-use Rattle.sd_spec_receiver.specs.Heard.{Heard, hears}
-use Rattle.sd_spec_receiver.specs.Runs.{name_in, are_two}
-use Rattle.sd_spec_receiver.specs.Offered.{heard, Offering, offered, out_from, break_from}
-use Rattle.sd_spec_receiver.specs.Taken.{takes_key_at, taken_keys}
+use Rattle.sd_spec.specs.Heard.{Heard, hears}
+use Rattle.sd_spec.specs.Runs.{name_in, are_two}
+use Rattle.sd_spec.specs.Offered.{heard, Offering, offered, out_from, break_from}
+use Rattle.sd_spec.specs.Taken.{takes_key_at, taken_keys}
 use Rattle.sd_law_losses.proofs.OneRun.{of_named}
 use Rattle.sd_law_losses.specs.Pieces.{name_at}
 use Rattle.sd_law_losses.specs.Together.{fault_later}

@@ -11,10 +11,10 @@ use Rattle.std.proofs.lemmas.Bool.Decides.{nat_tests}
 use Rattle.sd_emm.specs.Period.{emms_of}
 use Rattle.sd_emm.specs.declared.emm.Emm.{Emm}
 use Rattle.sd_ecm.specs.Parts.{parts_of}
-use Rattle.sd_spec_broadcast.specs.Plan.{crypto_length, period_of, closing_number}
-use Rattle.sd_spec_broadcast.specs.Messages.{period_at}
-use Rattle.sd_spec_broadcast.specs.Sent.{Item, Cat, Entitles, Controls, tables_at, tables_before}
-use Rattle.sd_spec_receiver.specs.Heard.{Heard, Dropped, Controls as HeardControls, Other}
+use Rattle.sd_spec.specs.Plan.{crypto_length, period_of, closing_number}
+use Rattle.sd_spec.specs.Messages.{period_at}
+use Rattle.sd_spec.specs.Sent.{Item, Cat, Entitles, Controls, tables_at, tables_before}
+use Rattle.sd_spec.specs.Heard.{Heard, Dropped, Controls as HeardControls, Other}
 use Rattle.sd_law_losses.specs.Chosen.{chosen}
 use Rattle.sd_law_losses.specs.Kept.{is_carried}
 use Rattle.sd_law_losses.proofs.Writing.{onto, onto_append, writes_append, writes_nothing}

@@ -10,7 +10,7 @@ use Rattle.sd_packet.specs.Packing.{packed}
 use Rattle.sd_packet.proofs.Packets.{packed_pid}
 use Rattle.sd_psi.specs.OurCat.{cat_section, is_tuning, cat_tuning}
 use Rattle.sd_psi.proofs.OurCat.{our_cat_is_read}
-use Rattle.sd_site.specs.Fields.{SiteFields, AreInRange}
+use Rattle.sd_site.specs.SiteFields.{SiteFields, AreInRange}
 use Rattle.sd_emm.specs.Spelled.{emm_section}
 use Rattle.sd_emm.specs.Judged.{emm_read}
 use Rattle.sd_emm.specs.declared.emm.Emm.{Emm}
@@ -21,14 +21,14 @@ use Rattle.sd_ecm.specs.Parts.{parts_of}
 use Rattle.sd_ecm.specs.declared.part.EcmPart.{EcmPart}
 use Rattle.sd_ecm.proofs.Sharing.{all_are_ecms}
 use Rattle.sd_ecm.proofs.Deciding.{packed_reads}
-use Rattle.sd_spec_broadcast.specs.Plan.{Plan, IsPlan}
-use Rattle.sd_spec_broadcast.specs.Refused.{is_reserved_pid, IsClear}
-use Rattle.sd_spec_broadcast.specs.Sent.{Item, Cat, Entitles as SendsEmm, Controls as SendsEcm, Carries, is_alike}
-use Rattle.sd_spec_broadcast.specs.Sent.{packet_of}
-use Rattle.sd_spec_broadcast.specs.Items.{IsOfBroadcast}
+use Rattle.sd_spec.specs.Plan.{Plan, IsPlan}
+use Rattle.sd_spec.specs.Refused.{is_reserved_pid, IsClear}
+use Rattle.sd_spec.specs.Sent.{Item, Cat, Entitles as SendsEmm, Controls as SendsEcm, Carries, is_alike}
+use Rattle.sd_spec.specs.Sent.{packet_of}
+use Rattle.sd_spec.specs.Items.{IsOfBroadcast}
 use Rattle.sd_law_broadcast.specs.Packets.{IsWholePacket, AreWholePackets, AreLong}
 use Rattle.sd_law_broadcast.proofs.Sections.{IsSaid, said, section_reads, carried_pid}
-use Rattle.sd_spec_receiver.specs.Heard.{Dropped, Entitles, Controls, Other, hears}
+use Rattle.sd_spec.specs.Heard.{Dropped, Entitles, Controls, Other, hears}
 use Rattle.sd_law_losses.specs.Told.{tuning_to, heard_of}
 
 -- a site's PIDs are good

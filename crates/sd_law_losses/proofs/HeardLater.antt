@@ -14,16 +14,16 @@ use Rattle.std.proofs.lemmas.List.Folds.{list_any-append}
 use Rattle.sd_cover.proofs.Lists.{member_cases, member_first, member_later, no_member}
 use Rattle.sd_packet.specs.Positions.{is_moving, position_of}
 use Rattle.sd_packet.proofs.Positions.{more_packets, moved_by_near}
-use Rattle.sd_site.specs.Fields.{AreInRange}
+use Rattle.sd_site.specs.SiteFields.{AreInRange}
 use Rattle.sd_ecm.specs.declared.part.Place.{Place}
-use Rattle.sd_spec_broadcast.specs.Plan.{Plan, IsPlan, word_of, period_of, closing_number}
-use Rattle.sd_spec_broadcast.specs.Kinds.{has_moved, positional_pids, moved_pids}
-use Rattle.sd_spec_broadcast.specs.Messages.{places_after, message_at}
-use Rattle.sd_spec_broadcast.proofs.Schedule.{words_rise, periods_rise, closing_needed}
+use Rattle.sd_spec.specs.Plan.{Plan, IsPlan, word_of, period_of, closing_number}
+use Rattle.sd_spec.specs.Kinds.{has_moved, positional_pids, moved_pids}
+use Rattle.sd_spec.specs.Messages.{places_after, message_at}
+use Rattle.sd_spec.proofs.Schedule.{words_rise, periods_rise, closing_needed}
 use Rattle.sd_law_broadcast.specs.Numbered.{numbered}
 use Rattle.sd_law_broadcast.proofs.Numbers.{numbered_before, numbered_closing}
-use Rattle.sd_spec_receiver.specs.Confirmed.{position_in}
-use Rattle.sd_spec_receiver.specs.Offered.{is_before}
+use Rattle.sd_spec.specs.Confirmed.{position_in}
+use Rattle.sd_spec.specs.Offered.{is_before}
 
 -- the place of a PID
 abbrev place_at : List (List ℕ) → ℕ → Place

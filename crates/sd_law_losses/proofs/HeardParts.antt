@@ -19,9 +19,9 @@ use Rattle.sd_ecm.specs.Parts.{Message, message_of, IsMessage, IsOfMessage, ecm_
 use Rattle.sd_ecm.specs.declared.part.Place.{Place}
 use Rattle.sd_ecm.specs.declared.part.EcmPart.{EcmPart}
 use Rattle.sd_ecm.proofs.Sharing.{all_are_of, as_many, joined_are_all, number_is}
-use Rattle.sd_spec_receiver.specs.Stretches.{message_told}
-use Rattle.sd_spec_receiver.specs.Runs.{is_same}
-use Rattle.sd_spec_receiver.specs.Offered.{same_header, is_after, part_fault}
+use Rattle.sd_spec.specs.Stretches.{message_told}
+use Rattle.sd_spec.specs.Runs.{is_same}
+use Rattle.sd_spec.specs.Offered.{same_header, is_after, part_fault}
 use Rattle.sd_law_losses.specs.Parts.{IsPartBetween}
 use Rattle.sd_law_losses.proofs.Lists.{split_all, reverse_cons, all_reversed, pairs_across}
 

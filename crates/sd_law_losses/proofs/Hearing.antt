@@ -4,25 +4,25 @@ use Rattle.std.proofs.Common.{Option, Some, None, is_none, arith, sym, ap, ◌�
 use Rattle.std.specs.Prelude.{if◌then◌else◌, All}
 use Rattle.std.specs.Option.{option_map_or}
 use Rattle.std.proofs.lemmas.List.Elements.{All-head, All-tail, All-cons}
-use Rattle.sd_site.specs.Fields.{run_name_of as site_name}
-use Rattle.sd_card.specs.Fields.{CardFields}
+use Rattle.sd_site.specs.SiteFields.{run_name_of as site_name}
+use Rattle.sd_site.specs.CardFields.{CardFields}
 use Rattle.sd_emm.specs.declared.emm.Emm.{Emm}
 use Rattle.sd_ecm.specs.declared.part.EcmPart.{EcmPart}
-use Rattle.sd_spec_broadcast.specs.Sent.{Item, Cat, Entitles, Controls, Carries, packet_of, packets_from}
-use Rattle.sd_spec_broadcast.specs.Items.{IsOfBroadcast}
-use Rattle.sd_spec_receiver.specs.Tuned.{tuning_of, tuned_by}
+use Rattle.sd_spec.specs.Sent.{Item, Cat, Entitles, Controls, Carries, packet_of, packets_from}
+use Rattle.sd_spec.specs.Items.{IsOfBroadcast}
+use Rattle.sd_spec.specs.Tuned.{tuning_of, tuned_by}
 use Rattle.sd_psi.specs.OurCat.{cat_tuning}
 use Rattle.sd_psi.specs.declared.our_cat.Tuning.{Tuning}
-use Rattle.sd_spec_receiver.specs.Heard.{Heard, Dropped, Entitles as HeardEntitles, Controls as HeardControls, Other}
-use Rattle.sd_spec_receiver.specs.Heard.{hears}
-use Rattle.sd_spec_receiver.specs.Stretches.{is_closed}
-use Rattle.sd_spec_receiver.specs.Runs.{is_turn}
-use Rattle.sd_spec_receiver.specs.Offered.{Offering, heard, heard_with, heard_more, heard_offering, run_offering}
-use Rattle.sd_spec_receiver.specs.Offered.{offered}
-use Rattle.sd_spec_receiver.specs.Offered.{tuned_offering, out_from, break_from}
-use Rattle.sd_spec_receiver.proofs.Hearing.{tuned_more as still_tuned}
+use Rattle.sd_spec.specs.Heard.{Heard, Dropped, Entitles as HeardEntitles, Controls as HeardControls, Other}
+use Rattle.sd_spec.specs.Heard.{hears}
+use Rattle.sd_spec.specs.Stretches.{is_closed}
+use Rattle.sd_spec.specs.Runs.{is_turn}
+use Rattle.sd_spec.specs.Offered.{Offering, heard, heard_with, heard_more, heard_offering, run_offering}
+use Rattle.sd_spec.specs.Offered.{offered}
+use Rattle.sd_spec.specs.Offered.{tuned_offering, out_from, break_from}
+use Rattle.sd_spec.proofs.Hearing.{tuned_more as still_tuned}
 use Rattle.sd_law_losses.specs.Chosen.{chosen}
-pub use Rattle.sd_spec_broadcast.specs.Sent.{is_cat_item}
+pub use Rattle.sd_spec.specs.Sent.{is_cat_item}
 use Rattle.sd_law_losses.proofs.Writing.{onto, Writes, IsOpenUpto}
 use Rattle.sd_law_losses.proofs.OneRun.{IsOfRun, AreOneRun, no_turn, no_turn_at, one_heard, one_offered}
 use Rattle.sd_law_losses.proofs.Setting.{Setting, tuning_at}

@@ -9,13 +9,13 @@ use Rattle.std.proofs.lemmas.List.Elements.{All-nil, All-weaker}
 use Rattle.sd_emm.specs.Period.{emms_of}
 use Rattle.sd_ecm.specs.Parts.{Message, parts_of}
 use Rattle.sd_ecm.specs.declared.part.EcmPart.{EcmPart}
-use Rattle.sd_spec_broadcast.specs.Plan.{period_of}
-use Rattle.sd_spec_broadcast.specs.Messages.{period_at, message_at}
-use Rattle.sd_spec_broadcast.specs.Sent.{Item, Controls}
-use Rattle.sd_spec_receiver.specs.Heard.{Heard, Controls as HeardControls}
-use Rattle.sd_spec_receiver.specs.Stretches.{messages, newest, counted, current, seen, is_closed, others, completes}
-use Rattle.sd_spec_receiver.specs.Keys.{key_at, key_in}
-use Rattle.sd_spec_receiver.specs.Offered.{heard_offering, message_offering, part_offering}
+use Rattle.sd_spec.specs.Plan.{period_of}
+use Rattle.sd_spec.specs.Messages.{period_at, message_at}
+use Rattle.sd_spec.specs.Sent.{Item, Controls}
+use Rattle.sd_spec.specs.Heard.{Heard, Controls as HeardControls}
+use Rattle.sd_spec.specs.Stretches.{messages, newest, counted, current, seen, is_closed, others, completes}
+use Rattle.sd_spec.specs.Keys.{key_at, key_in}
+use Rattle.sd_spec.specs.Offered.{heard_offering, message_offering, part_offering}
 use Rattle.sd_law_losses.specs.Kept.{has_arrived, is_entitled_before, is_last_part}
 use Rattle.sd_law_losses.proofs.Writing.{onto, onto_append, Writes, writes_append, IsOpenUpto, open_upto}
 use Rattle.sd_law_losses.proofs.Writing.{open_upto_last}

@@ -11,15 +11,15 @@ use Rattle.std.proofs.lemmas.Bool.Decides.{nat_tests}
 use Rattle.sd_packet.specs.Header.{pid_of, scrambling_of}
 use Rattle.sd_packet.specs.Positions.{is_placed, is_moving}
 use Rattle.sd_packet.proofs.Positions.{next_position, own_moves}
-use Rattle.sd_label.specs.Keys.{control_word_of}
+use Rattle.sd_tree.specs.Keys.{control_word_of}
 use Rattle.sd_keystream.specs.Scrambling.{descrambled}
 use Rattle.sd_ecm.specs.declared.part.Place.{Place}
-use Rattle.sd_spec_broadcast.specs.Plan.{word_of, since_of}
-use Rattle.sd_spec_broadcast.specs.Kinds.{kind_of, has_moved, is_scrambled}
-use Rattle.sd_spec_broadcast.specs.Carried.{place_after}
-use Rattle.sd_spec_broadcast.specs.Sent.{Item}
-use Rattle.sd_spec_broadcast.proofs.Schedule.{same_word}
-use Rattle.sd_spec_receiver.specs.Confirmed.{Segment, tracked, is_confirmed, judged, is_odd, position_in}
+use Rattle.sd_spec.specs.Plan.{word_of, since_of}
+use Rattle.sd_spec.specs.Kinds.{kind_of, has_moved, is_scrambled}
+use Rattle.sd_spec.specs.Carried.{place_after}
+use Rattle.sd_spec.specs.Sent.{Item}
+use Rattle.sd_spec.proofs.Schedule.{same_word}
+use Rattle.sd_spec.specs.Confirmed.{Segment, tracked, is_confirmed, judged, is_odd, position_in}
 use Rattle.sd_law_losses.specs.Kept.{is_kept, kept_in}
 use Rattle.sd_law_losses.specs.Confirmed.{packet_at, tracked_position, is_traced}
 use Rattle.sd_law_losses.proofs.Places.{told_position}

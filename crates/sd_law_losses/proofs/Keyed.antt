@@ -10,23 +10,23 @@ use Rattle.sd_cover.proofs.Lists.{member_cases, no_member}
 use Rattle.sd_tree.specs.Leaves.{is_member}
 use Rattle.sd_tree.specs.SetNames.{IsOfHeight}
 use Rattle.sd_tree.specs.declared.set.SetName.{SetName}
-use Rattle.sd_label.specs.Keys.{key_of, period_key_of, control_word_of, check_value_of}
+use Rattle.sd_tree.specs.Keys.{key_of, period_key_of, control_word_of, check_value_of}
 use Rattle.sd_keystream.specs.Wrapping.{wrapped as under}
 use Rattle.sd_keystream.proofs.Wrappings.{twice}
-use Rattle.sd_card.specs.Fields.{CardFields, card_of, card_key}
-use Rattle.sd_card.proofs.Keys.{made_gives_key}
-use Rattle.sd_site.specs.Fields.{SiteFields}
+use Rattle.sd_site.specs.CardFields.{CardFields, card_of, card_key}
+use Rattle.sd_site.proofs.Keys.{made_gives_key}
+use Rattle.sd_site.specs.SiteFields.{SiteFields}
 use Rattle.sd_emm.specs.Spelled.{listed_entries}
 use Rattle.sd_emm.specs.Period.{emms_of, IsOfPeriod}
 use Rattle.sd_emm.specs.declared.emm.Emm.{Emm}
 use Rattle.sd_emm.specs.declared.emm.Entry.{Entry}
 use Rattle.sd_emm.proofs.Sharing.{all_are_of, joined_are_all}
-use Rattle.sd_spec_broadcast.specs.Plan.{Plan, IsPlan, sets_at, word_of, period_of, closing_number}
-use Rattle.sd_spec_broadcast.specs.Messages.{entry_of, period_at, message_at}
-use Rattle.sd_spec_broadcast.proofs.Periods.{number_is}
+use Rattle.sd_spec.specs.Plan.{Plan, IsPlan, sets_at, word_of, period_of, closing_number}
+use Rattle.sd_spec.specs.Messages.{entry_of, period_at, message_at}
+use Rattle.sd_spec.proofs.Periods.{number_is}
 use Rattle.sd_law_broadcast.specs.Numbered.{numbered}
 use Rattle.sd_law_broadcast.proofs.Fitting.{sets_stand, period_key_length, control_word_length}
-use Rattle.sd_spec_receiver.specs.Keys.{key_from}
+use Rattle.sd_spec.specs.Keys.{key_from}
 use Rattle.sd_law_losses.proofs.Lists.{split_all}
 
 -- what is true of all joined members is true of those of one list

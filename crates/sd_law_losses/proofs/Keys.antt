@@ -4,13 +4,13 @@ use Rattle.std.proofs.Common.{sym, ap, ◌∙◌, arith}
 use Rattle.std.specs.Prelude.{if◌then◌else◌}
 use Rattle.std.specs.Option.{option_map_or}
 use Rattle.sd_base.proofs.Bools.{tested}
-use Rattle.sd_card.specs.Fields.{CardFields}
-use Rattle.sd_spec_receiver.specs.Tuned.{tuning_of}
+use Rattle.sd_site.specs.CardFields.{CardFields}
+use Rattle.sd_spec.specs.Tuned.{tuning_of}
 use Rattle.sd_psi.specs.OurCat.{cat_tuning}
 use Rattle.sd_psi.specs.declared.our_cat.Tuning.{Tuning}
-use Rattle.sd_spec_receiver.specs.Runs.{name_in, are_two}
-use Rattle.sd_spec_receiver.specs.Offered.{heard}
-use Rattle.sd_spec_receiver.specs.Taken.{takes_key_at, taken_keys}
+use Rattle.sd_spec.specs.Runs.{name_in, are_two}
+use Rattle.sd_spec.specs.Offered.{heard}
+use Rattle.sd_spec.specs.Taken.{takes_key_at, taken_keys}
 use Rattle.sd_law_losses.specs.Pieces.{Tuned, name_at, with_packet, tuned_or, first_cat, pieces_after, pieces_of}
 use Rattle.sd_law_losses.specs.Keys.{taken_with, taken_of}
 use Rattle.sd_law_losses.proofs.Agreeing.{Agrees, agrees_more, turn_agrees, name_stays, name_turns, turn_is}

@@ -12,9 +12,9 @@ use Rattle.sd_emm.specs.Period.{emms_of}
 use Rattle.sd_emm.specs.declared.emm.Emm.{Emm}
 use Rattle.sd_ecm.specs.Parts.{Message, parts_of}
 use Rattle.sd_ecm.specs.declared.part.EcmPart.{EcmPart}
-use Rattle.sd_spec_broadcast.specs.Plan.{crypto_length, period_of, closing_number}
-use Rattle.sd_spec_broadcast.specs.Messages.{period_at}
-use Rattle.sd_spec_broadcast.specs.Sent.{Item, Cat, Entitles, Controls, tables_at, tables_before}
+use Rattle.sd_spec.specs.Plan.{crypto_length, period_of, closing_number}
+use Rattle.sd_spec.specs.Messages.{period_at}
+use Rattle.sd_spec.specs.Sent.{Item, Cat, Entitles, Controls, tables_at, tables_before}
 use Rattle.sd_law_losses.specs.Chosen.{chosen}
 use Rattle.sd_law_losses.specs.Kept.{is_carried}
 use Rattle.sd_law_losses.proofs.Coming.{AreParts}

@@ -10,20 +10,20 @@ use Rattle.std.proofs.lemmas.List.Elements.{All-get_or}
 use Rattle.sd_base.proofs.Lists.{equal_bytes}
 use Rattle.sd_tree.specs.Leaves.{is_member}
 use Rattle.sd_packet.specs.Header.{scrambling_of}
-use Rattle.sd_label.specs.Keys.{period_key_of, control_word_of, check_value_of}
-use Rattle.sd_card.specs.Fields.{card_of}
+use Rattle.sd_tree.specs.Keys.{period_key_of, control_word_of, check_value_of}
+use Rattle.sd_site.specs.CardFields.{card_of}
 use Rattle.sd_emm.specs.Spelled.{listed_entries}
 use Rattle.sd_emm.specs.Period.{emms_of}
 use Rattle.sd_emm.specs.declared.emm.Emm.{Emm}
 use Rattle.sd_ecm.specs.Parts.{Message, IsMessage, parts_of}
 use Rattle.sd_ecm.specs.declared.part.EcmPart.{EcmPart}
-use Rattle.sd_spec_broadcast.specs.Plan.{Plan, IsPlan, word_of}
-use Rattle.sd_spec_broadcast.specs.Kinds.{kind_of, is_scrambled}
-use Rattle.sd_spec_broadcast.specs.Messages.{period_at}
-use Rattle.sd_spec_broadcast.specs.Refused.{IsClear}
-use Rattle.sd_spec_broadcast.specs.Sent.{Item, Cat, Entitles, Controls, Carries, is_alike}
-use Rattle.sd_spec_broadcast.specs.declared.kind.Kind.{Kind}
-use Rattle.sd_spec_broadcast.specs.declared.kind.Kind.TheVariants.{Passed, Pmt, Scrambled}
+use Rattle.sd_spec.specs.Plan.{Plan, IsPlan, word_of}
+use Rattle.sd_spec.specs.Kinds.{kind_of, is_scrambled}
+use Rattle.sd_spec.specs.Messages.{period_at}
+use Rattle.sd_spec.specs.Refused.{IsClear}
+use Rattle.sd_spec.specs.Sent.{Item, Cat, Entitles, Controls, Carries, is_alike}
+use Rattle.sd_spec.specs.declared.kind.Kind.{Kind}
+use Rattle.sd_spec.specs.declared.kind.Kind.TheVariants.{Passed, Pmt, Scrambled}
 use Rattle.sd_law_broadcast.specs.Packets.{IsWholePacket, AreWholePackets}
 use Rattle.sd_law_broadcast.specs.Numbered.{numbered}
 use Rattle.sd_law_broadcast.specs.Headers.{control_in, IsCarriedWith}
@@ -38,15 +38,16 @@ use Rattle.sd_law_losses.proofs.Back.{clear_back, scrambled_back}
 use Rattle.sd_law_losses.proofs.Lists.{reverse_cons}
 use Rattle.sd_law_losses.proofs.HeardParts.{some_part, part_stands, parts_tell}
 use Rattle.sd_law_losses.proofs.HeardLater.{never_back}
-use Rattle.sd_spec_receiver.specs.Stretches.{message_told}
-use Rattle.sd_spec_receiver.specs.Keys.{key_from}
+use Rattle.sd_spec.specs.Stretches.{message_told}
+use Rattle.sd_spec.specs.Keys.{key_from}
 use Rattle.sd_law_losses.specs.Confirmed.{packet_at}
 use Rattle.sd_law_losses.proofs.Coming.{AreParts, is_nil}
 use Rattle.sd_law_losses.proofs.Setting.{Setting, IsDue, IsOpen, IsVeiled, AreLaws, told_by, carried_at, key_where}
-use Rattle.sd_spec_broadcast.specs.Items.{IsOfBroadcast}
-use Rattle.sd_spec_broadcast.proofs.Periods.{section_number}
-use Rattle.sd_site.specs.Fields.{run_name_of as site_name}
+use Rattle.sd_spec.specs.Items.{IsOfBroadcast}
+use Rattle.sd_spec.proofs.Periods.{section_number}
+use Rattle.sd_site.specs.SiteFields.{run_name_of as site_name}
 use Rattle.sd_law_broadcast.proofs.Runs.{section_names, part_names}
+use Rattle.sd_law_broadcast.proofs.Texts.{kind_is}
 use Rattle.sd_law_losses.proofs.OneRun.{IsOfRun, of_named}
 use Rattle.sd_law_losses.proofs.Hearing.{AreHearable, heard_as, is_cat_item}
 
@@ -101,11 +102,6 @@ unfolding told_by numbered
 told_is s a = refl
 
 -- kinds by the test
-scrambled_kind : (kind : Kind) → is_scrambled kind ≡ true → kind ≡ Scrambled
-scrambled_kind Passed e = absurd (cc)
-scrambled_kind Pmt e = absurd (cc)
-scrambled_kind Scrambled e = refl
-
 clear_kind : (kind : Kind) → is_scrambled kind ≡ false → kind ≢ Scrambled
 clear_kind Passed e = λ is. absurd (cc)
 clear_kind Pmt e = λ is. absurd (cc)
@@ -175,7 +171,7 @@ module _ (plan : Plan) (clear : List (List ℕ)) (u : ℕ) (is : IsPlan plan) (a
   unfolding carried_at
   packet_veiled j within kind =
       let long : length (take j clear) ≡ j = length-take-le j clear (omega (arith, within)) in
-      let scrambled = scrambled_kind (kind_of (take j clear) (packet_at clear j)) kind in
+      let scrambled = kind_is (kind_of (take j clear) (packet_at clear j)) kind in
       let header = keeps j within in
       let control : scrambling_of (carried_at s j) ≡ 2 + word_of plan.site j % 2 =
       header.scrambling ∙ scrambled_control (kind_of (take j clear) (packet_at clear j)) (word_of plan.site j) kind in

@@ -5,28 +5,28 @@ use Rattle.std.specs.Prelude.{if◌then◌else◌, nat_le, nat_lt, max, find}
 use Rattle.std.specs.Option.{option_map_or}
 use Rattle.std.proofs.lemmas.Bool.{false≢true}
 use Rattle.sd_base.proofs.Bools.{chosen_itself}
-use Rattle.sd_card.specs.Fields.{CardFields}
+use Rattle.sd_site.specs.CardFields.{CardFields}
 use Rattle.sd_emm.specs.declared.emm.Emm.{Emm}
 use Rattle.sd_ecm.specs.Parts.{Message}
 use Rattle.sd_ecm.specs.declared.part.EcmPart.{EcmPart}
 use Rattle.sd_ecm.specs.declared.fault.EcmFault.TheVariants.{Back}
-use Rattle.sd_spec_receiver.specs.declared.ending.Ending.{Ending}
-use Rattle.sd_spec_receiver.specs.declared.ending.Ending.TheVariants.{Unclosed}
-use Rattle.sd_spec_receiver.specs.declared.fault.StreamFault.TheVariants as Fault
+use Rattle.sd_spec.specs.declared.ending.Ending.{Ending}
+use Rattle.sd_spec.specs.declared.ending.Ending.TheVariants.{Unclosed}
+use Rattle.sd_spec.specs.declared.stream_fault.StreamFault.TheVariants as Fault
 use Rattle.sd_psi.specs.declared.our_cat.Tuning.{Tuning}
-use Rattle.sd_spec_receiver.specs.Heard.{Heard, Dropped, Entitles, Controls, BadEmm, BadEcm, Other}
-use Rattle.sd_spec_receiver.specs.Stretches.{Stretch, exceeds, counted, run_of, message_told, run_to, completed}
-use Rattle.sd_spec_receiver.specs.Stretches.{stretched}
-use Rattle.sd_spec_receiver.specs.Stretches.{newest, completes, messages, with_message, is_closed, period_heard}
-use Rattle.sd_spec_receiver.specs.Stretches.{current}
-use Rattle.sd_spec_receiver.specs.Stretches.{seen}
-use Rattle.sd_spec_receiver.specs.Runs.{run_name_heard, name_or, name_in}
-use Rattle.sd_spec_receiver.specs.Keys.{key_in, key_at}
-use Rattle.sd_spec_receiver.specs.Confirmed.{Wrote}
-use Rattle.sd_spec_receiver.specs.Offered.{refuses, emm_offering, part_fault, is_before, is_back, segment_wrote}
-use Rattle.sd_spec_receiver.specs.Offered.{stretch_wrote, word_fault, wrote_or, message_offering, part_offering}
-use Rattle.sd_spec_receiver.specs.Offered.{heard_offering}
-use Rattle.sd_spec_receiver.specs.Ending.{periods_told, is_unkeyed, is_all_seen, are_all, closed_ending, run_ending}
+use Rattle.sd_spec.specs.Heard.{Heard, Dropped, Entitles, Controls, BadEmm, BadEcm, Other}
+use Rattle.sd_spec.specs.Stretches.{Stretch, exceeds, counted, run_of, message_told, run_to, completed}
+use Rattle.sd_spec.specs.Stretches.{stretched}
+use Rattle.sd_spec.specs.Stretches.{newest, completes, messages, with_message, is_closed, period_heard}
+use Rattle.sd_spec.specs.Stretches.{current}
+use Rattle.sd_spec.specs.Stretches.{seen}
+use Rattle.sd_spec.specs.Runs.{run_name_heard, name_or, name_in}
+use Rattle.sd_spec.specs.Keys.{key_in, key_at}
+use Rattle.sd_spec.specs.Confirmed.{Wrote}
+use Rattle.sd_spec.specs.Offered.{refuses, emm_offering, part_fault, is_before, is_back, segment_wrote}
+use Rattle.sd_spec.specs.Offered.{stretch_wrote, word_fault, wrote_or, message_offering, part_offering}
+use Rattle.sd_spec.specs.Offered.{heard_offering}
+use Rattle.sd_spec.specs.Ending.{periods_told, is_unkeyed, is_all_seen, are_all, closed_ending, run_ending}
 use Rattle.sd_law_losses.proofs.Offerings.{emm_of, none_wrote, find_same, closed_with}
 
 -- it is no message, and no faulty one

@@ -6,16 +6,16 @@ use Rattle.std.specs.Prelude.{All}
 use Rattle.std.specs.List.{list_any}
 use Rattle.std.proofs.lemmas.List.Elements.{All-tail}
 use Rattle.std.proofs.lemmas.Bool.Decides.{nat_tests}
-use Rattle.sd_site.specs.Fields.{SiteFields}
+use Rattle.sd_site.specs.SiteFields.{SiteFields}
 use Rattle.sd_ecm.specs.Parts.{Message, parts_of}
-use Rattle.sd_spec_broadcast.specs.Plan.{period_of}
-use Rattle.sd_spec_broadcast.specs.Messages.{message_at}
-use Rattle.sd_spec_broadcast.specs.Sent.{Item, Controls, packets_from}
-use Rattle.sd_spec_broadcast.specs.Items.{IsOfBroadcast}
-use Rattle.sd_spec_broadcast.proofs.Sending.{packets_in_turn}
-use Rattle.sd_spec_broadcast.proofs.Bodies.{packets_many}
-use Rattle.sd_spec_receiver.specs.Heard.{Heard, Controls as HeardControls}
-use Rattle.sd_spec_receiver.specs.Offered.{heard, out_from, break_from}
+use Rattle.sd_spec.specs.Plan.{period_of}
+use Rattle.sd_spec.specs.Messages.{message_at}
+use Rattle.sd_spec.specs.Sent.{Item, Controls, packets_from}
+use Rattle.sd_spec.specs.Items.{IsOfBroadcast}
+use Rattle.sd_spec.proofs.Sending.{packets_in_turn}
+use Rattle.sd_spec.proofs.Bodies.{packets_many}
+use Rattle.sd_spec.specs.Heard.{Heard, Controls as HeardControls}
+use Rattle.sd_spec.specs.Offered.{heard, out_from, break_from}
 use Rattle.sd_law_losses.specs.Chosen.{chosen}
 use Rattle.sd_law_losses.proofs.Writing.{onto, Writes, IsOpenUpto}
 use Rattle.sd_law_losses.proofs.Coming.{all_kept}

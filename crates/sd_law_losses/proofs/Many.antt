@@ -4,16 +4,16 @@ use Rattle.std.proofs.Common.{drop, is_none, reverse, Option, Some, None, sym, a
 use Rattle.std.specs.Prelude.{if◌then◌else◌}
 use Rattle.std.specs.List.{list_any}
 use Rattle.std.specs.Option.{option_map_or}
-use Rattle.sd_site.specs.Fields.{run_name_of as site_name}
-use Rattle.sd_card.specs.Fields.{CardFields, card_of}
-use Rattle.sd_spec_broadcast.specs.Sent.{Item, Cat, sent, closing_of, broadcast, is_cat_item}
-use Rattle.sd_spec_receiver.specs.declared.ending.Ending.{Ending}
+use Rattle.sd_site.specs.SiteFields.{run_name_of as site_name}
+use Rattle.sd_site.specs.CardFields.{CardFields, card_of}
+use Rattle.sd_spec.specs.Sent.{Item, Cat, sent, closing_of, broadcast, is_cat_item}
+use Rattle.sd_spec.specs.declared.ending.Ending.{Ending}
 use Rattle.sd_psi.specs.declared.our_cat.Tuning.{Tuning}
-use Rattle.sd_spec_receiver.specs.Heard.{hears}
-use Rattle.sd_spec_receiver.specs.Offered.{Offering, out_from, break_from}
-use Rattle.sd_spec_receiver.specs.Ending.{ending_of}
-use Rattle.sd_spec_receiver.specs.Taken.{taken_keys}
-use Rattle.sd_spec_receiver.proofs.Hearing.{tuned_more}
+use Rattle.sd_spec.specs.Heard.{hears}
+use Rattle.sd_spec.specs.Offered.{Offering, out_from, break_from}
+use Rattle.sd_spec.specs.Ending.{ending_of}
+use Rattle.sd_spec.specs.Taken.{taken_keys}
+use Rattle.sd_spec.proofs.Hearing.{tuned_more}
 use Rattle.sd_law_losses.specs.Chosen.{chosen}
 use Rattle.sd_law_losses.specs.Kept.{after_cat}
 use Rattle.sd_law_losses.specs.Confirmed.{confirmed}

@@ -1,16 +1,16 @@
 -- How the runs before end while a receiver goes on, and how a run ends within a stream: as it does by itself.
 use Rattle.std.proofs.Common.{◌≡◌, ◌≢◌, ℕ, ◌+◌, ◌++◌, true, false, List, ◌∷◌, length, Option, Some, None}
 use Rattle.std.proofs.Common.{sym, ap, ◌∙◌, arith, subst, inl, inr}
-use Rattle.sd_card.specs.Fields.{CardFields}
-use Rattle.sd_spec_receiver.specs.declared.ending.Ending.{Ending}
-use Rattle.sd_spec_receiver.specs.declared.ending.Ending.TheVariants.{Opened}
-use Rattle.sd_spec_receiver.specs.Tuned.{tuning_of}
+use Rattle.sd_site.specs.CardFields.{CardFields}
+use Rattle.sd_spec.specs.declared.ending.Ending.{Ending}
+use Rattle.sd_spec.specs.declared.ending.Ending.TheVariants.{Opened}
+use Rattle.sd_spec.specs.Tuned.{tuning_of}
 use Rattle.sd_psi.specs.declared.our_cat.Tuning.{Tuning}
-use Rattle.sd_spec_receiver.specs.Heard.{Heard, hears}
-use Rattle.sd_spec_receiver.specs.Runs.{name_in, are_two, is_turn}
-use Rattle.sd_spec_receiver.specs.Offered.{heard, Offering, offered}
-use Rattle.sd_spec_receiver.specs.Ending.{run_ending, joined, turns_at, run_wrote, ended_before, ending_of}
-use Rattle.sd_spec_receiver.proofs.Runs.{ended_on, ended_now, opened_joins}
+use Rattle.sd_spec.specs.Heard.{Heard, hears}
+use Rattle.sd_spec.specs.Runs.{name_in, are_two, is_turn}
+use Rattle.sd_spec.specs.Offered.{heard, Offering, offered}
+use Rattle.sd_spec.specs.Ending.{run_ending, joined, turns_at, run_wrote, ended_before, ending_of}
+use Rattle.sd_spec.proofs.Runs.{ended_on, ended_now, opened_joins}
 use Rattle.sd_law_losses.specs.Pieces.{name_at}
 use Rattle.sd_law_losses.proofs.NextLater.{things_later, names_later}
 use Rattle.sd_law_losses.proofs.Offerings.{offering_later, ending_later}

@@ -5,17 +5,17 @@ use Rattle.std.specs.Prelude.{if◌then◌else◌}
 use Rattle.std.specs.Option.{option_map_or}
 use Rattle.std.proofs.lemmas.List.{reverse-append}
 use Rattle.sd_base.proofs.Bools.{tested}
-use Rattle.sd_card.specs.Fields.{CardFields}
-use Rattle.sd_spec_receiver.specs.declared.ending.Ending.{Ending}
-use Rattle.sd_spec_receiver.specs.declared.ending.Ending.TheVariants.{Opened, NoCat}
+use Rattle.sd_site.specs.CardFields.{CardFields}
+use Rattle.sd_spec.specs.declared.ending.Ending.{Ending}
+use Rattle.sd_spec.specs.declared.ending.Ending.TheVariants.{Opened, NoCat}
 use Rattle.sd_psi.specs.OurCat.{cat_tuning}
 use Rattle.sd_psi.specs.declared.our_cat.Tuning.{Tuning}
-use Rattle.sd_spec_receiver.specs.Tuned.{tuning_of}
-use Rattle.sd_spec_receiver.specs.Heard.{Heard, hears}
-use Rattle.sd_spec_receiver.specs.Runs.{name_in, are_two, is_turn}
-use Rattle.sd_spec_receiver.specs.Offered.{heard, Offering, offered}
-use Rattle.sd_spec_receiver.specs.Ending.{run_ending, joined, turns_at, run_wrote, ended_before, ending_of}
-use Rattle.sd_spec_receiver.proofs.Runs.{ended_on, ended_now, opened_joins}
+use Rattle.sd_spec.specs.Tuned.{tuning_of}
+use Rattle.sd_spec.specs.Heard.{Heard, hears}
+use Rattle.sd_spec.specs.Runs.{name_in, are_two, is_turn}
+use Rattle.sd_spec.specs.Offered.{heard, Offering, offered}
+use Rattle.sd_spec.specs.Ending.{run_ending, joined, turns_at, run_wrote, ended_before, ending_of}
+use Rattle.sd_spec.proofs.Runs.{ended_on, ended_now, opened_joins}
 use Rattle.sd_law_losses.specs.Pieces.{name_at, with_packet, pieces_after}
 use Rattle.sd_law_losses.specs.Together.{joined_to, piece_ending}
 use Rattle.sd_law_losses.proofs.NextLater.{things_later}

@@ -5,7 +5,7 @@ use Rattle.std.specs.Prelude.{if◌then◌else◌, nat_le, max, Result, Ok, Err}
 use Rattle.std.specs.Option.{option_map_or}
 use Rattle.std.proofs.lemmas.List.{map-append, reverse-append}
 use Rattle.sd_packet.specs.Header.{pid_of}
-use Rattle.sd_card.specs.Fields.{CardFields}
+use Rattle.sd_site.specs.CardFields.{CardFields}
 use Rattle.sd_emm.specs.Judged.{emm_read}
 use Rattle.sd_emm.specs.declared.emm.Emm.{Emm}
 use Rattle.sd_emm.specs.declared.fault.EmmFault.{EmmFault}
@@ -14,17 +14,17 @@ use Rattle.sd_ecm.specs.Parts.{Message}
 use Rattle.sd_ecm.specs.declared.part.EcmPart.{EcmPart}
 use Rattle.sd_ecm.specs.declared.fault.EcmFault.{EcmFault}
 use Rattle.sd_psi.specs.declared.our_cat.Tuning.{Tuning}
-use Rattle.sd_spec_receiver.specs.Heard.{Heard, Dropped, Entitles, Controls, BadEmm, BadEcm, Other, heard_emm}
-use Rattle.sd_spec_receiver.specs.Heard.{heard_ecm}
-use Rattle.sd_spec_receiver.specs.Heard.{hears}
-use Rattle.sd_spec_receiver.specs.Stretches.{Stretch, exceeds, counted, run_of, message_told, run_to, completed}
-use Rattle.sd_spec_receiver.specs.Stretches.{stretched}
-use Rattle.sd_spec_receiver.specs.Stretches.{newest, completes, messages, with_message, is_closed, period_heard}
-use Rattle.sd_spec_receiver.specs.Stretches.{current}
-use Rattle.sd_spec_receiver.specs.Stretches.{seen}
-use Rattle.sd_spec_receiver.specs.Stretches.{others, held_in}
-use Rattle.sd_spec_receiver.specs.Runs.{run_name_heard, name_or, name_in, are_two, is_turn, of_run}
-use Rattle.sd_spec_receiver.specs.Keys.{key_in, key_at}
+use Rattle.sd_spec.specs.Heard.{Heard, Dropped, Entitles, Controls, BadEmm, BadEcm, Other, heard_emm}
+use Rattle.sd_spec.specs.Heard.{heard_ecm}
+use Rattle.sd_spec.specs.Heard.{hears}
+use Rattle.sd_spec.specs.Stretches.{Stretch, exceeds, counted, run_of, message_told, run_to, completed}
+use Rattle.sd_spec.specs.Stretches.{stretched}
+use Rattle.sd_spec.specs.Stretches.{newest, completes, messages, with_message, is_closed, period_heard}
+use Rattle.sd_spec.specs.Stretches.{current}
+use Rattle.sd_spec.specs.Stretches.{seen}
+use Rattle.sd_spec.specs.Stretches.{others, held_in}
+use Rattle.sd_spec.specs.Runs.{run_name_heard, name_or, name_in, are_two, is_turn, of_run}
+use Rattle.sd_spec.specs.Keys.{key_in, key_at}
 
 -- a thing that is heard k packets later
 abbrev pub thing_later : ℕ → Heard → Heard

@@ -4,17 +4,17 @@ use Rattle.std.proofs.Common.{None, sym, ap, ◌∙◌, arith, subst, inl}
 use Rattle.std.specs.Prelude.{if◌then◌else◌}
 use Rattle.std.proofs.lemmas.Bool.{false≢true}
 use Rattle.sd_base.proofs.Lists.{first_none, rest_none}
-use Rattle.sd_card.specs.Fields.{CardFields}
-use Rattle.sd_spec_broadcast.specs.Sent.{Item, Cat, Entitles, Controls, Carries}
-use Rattle.sd_spec_receiver.specs.declared.ending.Ending.{Ending}
-use Rattle.sd_spec_receiver.specs.declared.fault.StreamFault.{StreamFault}
-use Rattle.sd_spec_receiver.specs.Tuned.{tuning_of}
+use Rattle.sd_site.specs.CardFields.{CardFields}
+use Rattle.sd_spec.specs.Sent.{Item, Cat, Entitles, Controls, Carries}
+use Rattle.sd_spec.specs.declared.ending.Ending.{Ending}
+use Rattle.sd_spec.specs.declared.stream_fault.StreamFault.{StreamFault}
+use Rattle.sd_spec.specs.Tuned.{tuning_of}
 use Rattle.sd_psi.specs.OurCat.{cat_tuning}
 use Rattle.sd_psi.specs.declared.our_cat.Tuning.{Tuning}
-use Rattle.sd_spec_receiver.specs.Heard.{hears}
-use Rattle.sd_spec_receiver.specs.Offered.{heard, offered, out_from, break_from}
-use Rattle.sd_spec_receiver.specs.Ending.{joined, ending_of}
-use Rattle.sd_spec_receiver.specs.Taken.{takes_key_at, taken_keys}
+use Rattle.sd_spec.specs.Heard.{hears}
+use Rattle.sd_spec.specs.Offered.{heard, offered, out_from, break_from}
+use Rattle.sd_spec.specs.Ending.{joined, ending_of}
+use Rattle.sd_spec.specs.Taken.{takes_key_at, taken_keys}
 use Rattle.sd_law_losses.proofs.Offerings.{offering_later}
 use Rattle.sd_law_losses.proofs.Leading.{is_quiet, AreQuiet}
 use Rattle.sd_law_losses.proofs.Agreeing.{cat_tuned, cat_unheard}

@@ -4,18 +4,18 @@ use Rattle.std.proofs.Common.{Some, None, is_none, sym, ap, ◌∙◌}
 use Rattle.std.specs.Prelude.{if◌then◌else◌, nat_le}
 use Rattle.std.specs.Option.{option_map_or}
 use Rattle.std.proofs.lemmas.Bool.{false≢true}
-use Rattle.sd_card.specs.Fields.{CardFields}
+use Rattle.sd_site.specs.CardFields.{CardFields}
 use Rattle.sd_emm.specs.declared.emm.Emm.{Emm}
-use Rattle.sd_spec_receiver.specs.Tuned.{tuning_of}
+use Rattle.sd_spec.specs.Tuned.{tuning_of}
 use Rattle.sd_psi.specs.OurCat.{cat_tuning}
 use Rattle.sd_psi.specs.declared.our_cat.Tuning.{Tuning}
-use Rattle.sd_spec_receiver.specs.Heard.{Heard, Dropped, Entitles, Controls, BadEmm, BadEcm, Other, hears}
-use Rattle.sd_spec_receiver.specs.Stretches.{current, is_closed}
-use Rattle.sd_spec_receiver.specs.Runs.{is_turn, of_run}
-use Rattle.sd_spec_receiver.specs.Keys.{key_from, key_at}
-use Rattle.sd_spec_receiver.specs.Offered.{heard}
-use Rattle.sd_spec_receiver.specs.Taken.{takes_key, takes_key_of, takes_key_in, takes_key_at}
-use Rattle.sd_spec_receiver.proofs.Runs.{new_run}
+use Rattle.sd_spec.specs.Heard.{Heard, Dropped, Entitles, Controls, BadEmm, BadEcm, Other, hears}
+use Rattle.sd_spec.specs.Stretches.{current, is_closed}
+use Rattle.sd_spec.specs.Runs.{is_turn, of_run}
+use Rattle.sd_spec.specs.Keys.{key_from, key_at}
+use Rattle.sd_spec.specs.Offered.{heard}
+use Rattle.sd_spec.specs.Taken.{takes_key, takes_key_of, takes_key_in, takes_key_at}
+use Rattle.sd_spec.proofs.Runs.{new_run}
 use Rattle.sd_law_losses.proofs.NextLater.{thing_later, things_later, hears_later, run_later, closed_later}
 use Rattle.sd_law_losses.proofs.NextLater.{current_later}
 use Rattle.sd_law_losses.proofs.NextLater.{key_later}

@@ -5,9 +5,9 @@ use Rattle.std.specs.Prelude.{if◌then◌else◌, nat_le, nat_lt, option_map, b
 use Rattle.std.specs.Option.{option_map_or}
 use Rattle.std.proofs.lemmas.List.{length-map}
 use Rattle.sd_packet.specs.Header.{pid_of, scrambling_of}
-use Rattle.sd_label.specs.Keys.{check_value_of}
+use Rattle.sd_tree.specs.Keys.{check_value_of}
 use Rattle.sd_keystream.specs.Wrapping.{wrapped as under}
-use Rattle.sd_card.specs.Fields.{CardFields}
+use Rattle.sd_site.specs.CardFields.{CardFields}
 use Rattle.sd_keystream.specs.Scrambling.{descrambled}
 use Rattle.sd_emm.specs.declared.emm.Emm.{Emm}
 use Rattle.sd_emm.specs.declared.fault.EmmFault.TheVariants as Emms
@@ -15,25 +15,25 @@ use Rattle.sd_ecm.specs.Parts.{Message}
 use Rattle.sd_ecm.specs.declared.part.EcmPart.{EcmPart}
 use Rattle.sd_ecm.specs.declared.fault.EcmFault.{EcmFault}
 use Rattle.sd_ecm.specs.declared.fault.EcmFault.TheVariants.{Back}
-use Rattle.sd_spec_receiver.specs.declared.ending.Ending.{Ending}
-use Rattle.sd_spec_receiver.specs.declared.ending.Ending.TheVariants.{Unclosed}
-use Rattle.sd_spec_receiver.specs.declared.fault.StreamFault.{StreamFault}
-use Rattle.sd_spec_receiver.specs.declared.fault.StreamFault.TheVariants as Fault
+use Rattle.sd_spec.specs.declared.ending.Ending.{Ending}
+use Rattle.sd_spec.specs.declared.ending.Ending.TheVariants.{Unclosed}
+use Rattle.sd_spec.specs.declared.stream_fault.StreamFault.{StreamFault}
+use Rattle.sd_spec.specs.declared.stream_fault.StreamFault.TheVariants as Fault
 use Rattle.sd_psi.specs.declared.our_cat.Tuning.{Tuning}
-use Rattle.sd_spec_receiver.specs.Heard.{Heard, Dropped, Entitles, Controls, BadEmm, BadEcm, Other}
-use Rattle.sd_spec_receiver.specs.Stretches.{Stretch, newest, run_to, completes, is_closed, current, seen, held_in}
-use Rattle.sd_spec_receiver.specs.Runs.{of_run}
-use Rattle.sd_spec_receiver.specs.Keys.{key_from, key_in, key_at}
-use Rattle.sd_spec_receiver.specs.Confirmed.{Segment, Wrote, unmarked, is_odd, is_confirmed, tracked, judged}
-use Rattle.sd_spec_receiver.specs.Confirmed.{then_wrote}
-use Rattle.sd_spec_receiver.specs.Confirmed.{written_from}
-use Rattle.sd_spec_receiver.specs.Offered.{most_held, heard_more, Offering, no_offering, refuses, is_mixed}
-use Rattle.sd_spec_receiver.specs.Offered.{key_offering}
-use Rattle.sd_spec_receiver.specs.Offered.{key_if_none, emm_offering, part_fault, is_before, is_back, segment_wrote}
-use Rattle.sd_spec_receiver.specs.Offered.{stretch_wrote, word_fault, wrote_or, message_offering, part_offering}
-use Rattle.sd_spec_receiver.specs.Offered.{heard_offering}
-use Rattle.sd_spec_receiver.specs.Ending.{periods_told, is_unkeyed, are_all, is_all_seen, ending_with, closed_ending}
-use Rattle.sd_spec_receiver.specs.Ending.{run_ending}
+use Rattle.sd_spec.specs.Heard.{Heard, Dropped, Entitles, Controls, BadEmm, BadEcm, Other}
+use Rattle.sd_spec.specs.Stretches.{Stretch, newest, run_to, completes, is_closed, current, seen, held_in}
+use Rattle.sd_spec.specs.Runs.{of_run}
+use Rattle.sd_spec.specs.Keys.{key_from, key_in, key_at}
+use Rattle.sd_spec.specs.Confirmed.{Segment, Wrote, unmarked, is_odd, is_confirmed, tracked, judged}
+use Rattle.sd_spec.specs.Confirmed.{then_wrote}
+use Rattle.sd_spec.specs.Confirmed.{written_from}
+use Rattle.sd_spec.specs.Offered.{most_held, heard_more, Offering, no_offering, refuses, is_mixed}
+use Rattle.sd_spec.specs.Offered.{key_offering}
+use Rattle.sd_spec.specs.Offered.{key_if_none, emm_offering, part_fault, is_before, is_back, segment_wrote}
+use Rattle.sd_spec.specs.Offered.{stretch_wrote, word_fault, wrote_or, message_offering, part_offering}
+use Rattle.sd_spec.specs.Offered.{heard_offering}
+use Rattle.sd_spec.specs.Ending.{periods_told, is_unkeyed, are_all, is_all_seen, ending_with, closed_ending}
+use Rattle.sd_spec.specs.Ending.{run_ending}
 use Rattle.sd_law_losses.specs.Together.{fault_later}
 use Rattle.sd_law_losses.proofs.NextLater.{thing_later, things_later, stretch_later, packet_later, run_later}
 use Rattle.sd_law_losses.proofs.NextLater.{newest_later}

@@ -5,18 +5,18 @@ use Rattle.std.specs.Prelude.{All}
 use Rattle.std.specs.Option.{option_map_or}
 use Rattle.std.proofs.lemmas.List.Elements.{All-head, All-tail}
 use Rattle.std.proofs.lemmas.Bool.Decides.{nat_tests}
-use Rattle.sd_card.specs.Fields.{CardFields}
-use Rattle.sd_spec_receiver.specs.declared.ending.Ending.TheVariants.{Opened}
-use Rattle.sd_spec_receiver.specs.declared.fault.StreamFault.{StreamFault}
-use Rattle.sd_spec_receiver.specs.Tuned.{tuning_of}
+use Rattle.sd_site.specs.CardFields.{CardFields}
+use Rattle.sd_spec.specs.declared.ending.Ending.TheVariants.{Opened}
+use Rattle.sd_spec.specs.declared.stream_fault.StreamFault.{StreamFault}
+use Rattle.sd_spec.specs.Tuned.{tuning_of}
 use Rattle.sd_psi.specs.declared.our_cat.Tuning.{Tuning}
-use Rattle.sd_spec_receiver.specs.Heard.{Heard, hears}
-use Rattle.sd_spec_receiver.specs.Stretches.{is_closed}
-use Rattle.sd_spec_receiver.specs.Runs.{run_name_heard, name_or, name_in, is_same, are_two, is_turn}
-use Rattle.sd_spec_receiver.specs.Offered.{heard, heard_more, heard_offering, run_offering, offered, out_from}
-use Rattle.sd_spec_receiver.specs.Offered.{break_from}
-use Rattle.sd_spec_receiver.specs.Ending.{joined, turns_at, run_wrote, run_ending, ended_before}
-use Rattle.sd_spec_receiver.proofs.Runs.{same_run}
+use Rattle.sd_spec.specs.Heard.{Heard, hears}
+use Rattle.sd_spec.specs.Stretches.{is_closed}
+use Rattle.sd_spec.specs.Runs.{run_name_heard, name_or, name_in, is_same, are_two, is_turn}
+use Rattle.sd_spec.specs.Offered.{heard, heard_more, heard_offering, run_offering, offered, out_from}
+use Rattle.sd_spec.specs.Offered.{break_from}
+use Rattle.sd_spec.specs.Ending.{joined, turns_at, run_wrote, run_ending, ended_before}
+use Rattle.sd_spec.proofs.Runs.{same_run}
 use Rattle.sd_law_losses.proofs.Writing.{onto}
 
 -- what is heard is no message of another run than the one with this name

@@ -8,12 +8,12 @@ use Rattle.std.proofs.lemmas.Bool.{cases_Bool, and_parts}
 use Rattle.std.proofs.lemmas.Bool.Decides.{nat_tests}
 use Rattle.std.proofs.lemmas.List.Elements.{All-nil, All-tail}
 use Rattle.std.proofs.Math.Nat.{div-lt_iff_lt-mul, le-div_iff_mul-le}
-use Rattle.sd_site.specs.Fields.{AreInRange}
-use Rattle.sd_spec_broadcast.specs.Plan.{Plan, IsPlan, period_in, period_of, since_of, closing_number}
-use Rattle.sd_spec_broadcast.specs.Sent.{Item, Cat, Entitles, Controls, Carries, sent, closing_of}
-use Rattle.sd_spec_broadcast.specs.Items.{IsOfBroadcast}
-use Rattle.sd_spec_broadcast.proofs.Schedule.{same_crypto}
-use Rattle.sd_spec_broadcast.proofs.Items.{all_are_of_broadcast}
+use Rattle.sd_site.specs.SiteFields.{AreInRange}
+use Rattle.sd_spec.specs.Plan.{Plan, IsPlan, period_in, period_of, since_of, closing_number}
+use Rattle.sd_spec.specs.Sent.{Item, Cat, Entitles, Controls, Carries, sent, closing_of}
+use Rattle.sd_spec.specs.Items.{IsOfBroadcast}
+use Rattle.sd_spec.proofs.Schedule.{same_crypto}
+use Rattle.sd_spec.proofs.Items.{all_are_of_broadcast}
 use Rattle.sd_law_losses.specs.Chosen.{chosen}
 use Rattle.sd_law_losses.specs.Kept.{is_kept, arrived, greatest_at_most, least_above, is_entitled_before, after_cat}
 use Rattle.sd_law_losses.specs.Confirmed.{packet_at, packets_at, kept_between, is_open, is_written_between, between}

@@ -8,14 +8,14 @@ use Rattle.std.proofs.lemmas.Bool.{cases_lt}
 use Rattle.std.proofs.lemmas.Bool.Decides.{nat_tests}
 use Rattle.std.proofs.Math.Nat.{mul-le-mul_right}
 use Rattle.sd_packet.specs.Positions.{moved_by}
-use Rattle.sd_site.specs.Fields.{AreInRange}
+use Rattle.sd_site.specs.SiteFields.{AreInRange}
 use Rattle.sd_ecm.specs.Parts.{Message}
 use Rattle.sd_ecm.specs.declared.part.Place.{Place}
-use Rattle.sd_spec_broadcast.specs.Plan.{word_of, period_of, since_of}
-use Rattle.sd_spec_broadcast.specs.Messages.{message_at, places_after}
-use Rattle.sd_spec_broadcast.specs.Sent.{Item}
-use Rattle.sd_spec_broadcast.proofs.Schedule.{closing_covers, closing_needed}
-use Rattle.sd_spec_receiver.specs.Confirmed.{Segment, tracked, position_in}
+use Rattle.sd_spec.specs.Plan.{word_of, period_of, since_of}
+use Rattle.sd_spec.specs.Messages.{message_at, places_after}
+use Rattle.sd_spec.specs.Sent.{Item}
+use Rattle.sd_spec.proofs.Schedule.{closing_covers, closing_needed}
+use Rattle.sd_spec.specs.Confirmed.{Segment, tracked, position_in}
 use Rattle.sd_law_losses.specs.Kept.{is_kept, kept_in}
 use Rattle.sd_law_losses.specs.Confirmed.{packet_at, upto}
 use Rattle.sd_law_losses.proofs.Places.{told_start}

@@ -4,7 +4,7 @@ use Rattle.std.proofs.Common.{List, [], ◌∷◌, length, arith, ◌∙◌, ap}
 use Rattle.std.proofs.Math.Dec.{eqb-suc-suc}
 use Rattle.std.proofs.lemmas.Bool.Decides.{nat_tests}
 use Rattle.sd_ecm.specs.declared.part.EcmPart.{EcmPart}
-use Rattle.sd_spec_receiver.specs.Stretches.{run_of, run_with}
+use Rattle.sd_spec.specs.Stretches.{run_of, run_with}
 
 -- the part follows this one
 abbrev pub follows : EcmPart → EcmPart → Bool

@@ -3,11 +3,11 @@ use Rattle.std.proofs.Common.{◌≡◌, refl, ℕ, ◌+◌, ◌-◌, ◌≤◌,
 use Rattle.std.proofs.Common.{is_none, ap, ◌∙◌, arith}
 use Rattle.std.specs.Prelude.{if◌then◌else◌}
 use Rattle.std.specs.Option.{option_map_or}
-use Rattle.sd_card.specs.Fields.{CardFields}
-use Rattle.sd_spec_receiver.specs.Tuned.{tuning_of}
+use Rattle.sd_site.specs.CardFields.{CardFields}
+use Rattle.sd_spec.specs.Tuned.{tuning_of}
 use Rattle.sd_psi.specs.declared.our_cat.Tuning.{Tuning}
-use Rattle.sd_spec_receiver.specs.Runs.{name_or, are_two}
-use Rattle.sd_spec_receiver.specs.Offered.{Offering, no_offering, offered, out_from, break_from}
+use Rattle.sd_spec.specs.Runs.{name_or, are_two}
+use Rattle.sd_spec.specs.Offered.{Offering, no_offering, offered, out_from, break_from}
 use Rattle.sd_law_losses.specs.Pieces.{name_at, with_packet, pieces_after}
 
 -- how a list is cut at its first packet

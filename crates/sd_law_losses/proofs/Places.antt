@@ -9,9 +9,9 @@ use Rattle.std.proofs.lemmas.Bool.Decides.{nat_tests}
 use Rattle.sd_packet.specs.Positions.{position_of}
 use Rattle.sd_packet.proofs.Positions.{none_moves}
 use Rattle.sd_ecm.specs.declared.part.Place.{Place}
-use Rattle.sd_spec_broadcast.specs.Kinds.{has_moved, moved_pids, positional_pids}
-use Rattle.sd_spec_broadcast.specs.Messages.{places_after}
-use Rattle.sd_spec_receiver.specs.Confirmed.{position_in}
+use Rattle.sd_spec.specs.Kinds.{has_moved, moved_pids, positional_pids}
+use Rattle.sd_spec.specs.Messages.{places_after}
+use Rattle.sd_spec.specs.Confirmed.{position_in}
 
 -- the place of a PID among some
 abbrev find_place : ℕ → List Place → Option Place

@@ -7,14 +7,14 @@ use Rattle.std.proofs.lemmas.Bool.{cases_Bool}
 use Rattle.std.proofs.lemmas.Bool.Decides.{nat_tests}
 use Rattle.std.proofs.lemmas.Nat.{div-add-mod'}
 use Rattle.std.proofs.Math.Nat.{div-eq_of_lt-le, mod-lt}
-use Rattle.sd_site.specs.Fields.{SiteFields, AreInRange}
+use Rattle.sd_site.specs.SiteFields.{SiteFields, AreInRange}
 use Rattle.sd_ecm.specs.Parts.{Message, parts_of}
-use Rattle.sd_spec_broadcast.specs.Plan.{closing_number}
-use Rattle.sd_spec_broadcast.specs.Carried.{carried}
-use Rattle.sd_spec_broadcast.specs.Messages.{message_at}
-use Rattle.sd_spec_broadcast.specs.Sent.{Item, Controls, Carries, tables_at, tables_before, added, sent_from}
-use Rattle.sd_spec_broadcast.specs.Sent.{closing_of}
-use Rattle.sd_spec_broadcast.proofs.Schedule.{quotients_rise, closing_above}
+use Rattle.sd_spec.specs.Plan.{closing_number}
+use Rattle.sd_spec.specs.Carried.{carried}
+use Rattle.sd_spec.specs.Messages.{message_at}
+use Rattle.sd_spec.specs.Sent.{Item, Controls, Carries, tables_at, tables_before, added, sent_from}
+use Rattle.sd_spec.specs.Sent.{closing_of}
+use Rattle.sd_spec.proofs.Schedule.{quotients_rise, closing_above}
 use Rattle.sd_law_losses.specs.Confirmed.{packet_at}
 use Rattle.sd_law_losses.proofs.Setting.{Setting, final, told_by, carried_at}
 use Rattle.sd_law_losses.proofs.Pairs.{before_packet, closing_is}

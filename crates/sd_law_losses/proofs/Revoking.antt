@@ -13,15 +13,15 @@ use Rattle.sd_emm.specs.Form.{sections_for}
 use Rattle.sd_emm.specs.Period.{emms_of, emm_at}
 use Rattle.sd_emm.specs.declared.emm.Emm.{Emm}
 use Rattle.sd_emm.proofs.Sharing.{as_many, stands_at, index_is}
-use Rattle.sd_spec_broadcast.specs.Plan.{Plan, IsPlan, sets_at, period_of, closing_number}
-use Rattle.sd_spec_broadcast.specs.Messages.{period_at}
-use Rattle.sd_spec_broadcast.specs.Sent.{Item, Cat, Entitles, Controls, Carries, sent, closing_of, is_cat_item}
-use Rattle.sd_spec_broadcast.specs.Items.{IsOfBroadcast, entitlement}
-use Rattle.sd_spec_broadcast.proofs.Items.{all_are_of_broadcast}
-use Rattle.sd_spec_broadcast.proofs.Periods.{section_number}
+use Rattle.sd_spec.specs.Plan.{Plan, IsPlan, sets_at, period_of, closing_number}
+use Rattle.sd_spec.specs.Messages.{period_at}
+use Rattle.sd_spec.specs.Sent.{Item, Cat, Entitles, Controls, Carries, sent, closing_of, is_cat_item}
+use Rattle.sd_spec.specs.Items.{IsOfBroadcast, entitlement}
+use Rattle.sd_spec.proofs.Items.{all_are_of_broadcast}
+use Rattle.sd_spec.proofs.Periods.{section_number}
 use Rattle.sd_law_broadcast.proofs.Fitting.{period_count}
-use Rattle.sd_spec_receiver.specs.Ending.{ending_with}
-use Rattle.sd_spec_receiver.specs.declared.ending.Ending.TheVariants.{Opened, Gaps, Revoked, NoCat, Unclosed}
+use Rattle.sd_spec.specs.Ending.{ending_with}
+use Rattle.sd_spec.specs.declared.ending.Ending.TheVariants.{Opened, Gaps, Revoked, NoCat, Unclosed}
 use Rattle.sd_law_losses.specs.Chosen.{chosen}
 use Rattle.sd_law_losses.specs.Kept.{after_cat, has_arrived, entitles, is_section_item}
 use Rattle.sd_law_losses.specs.Confirmed.{confirmed, is_revoked_in}

@@ -4,24 +4,24 @@ use Rattle.std.proofs.Common.{None, reverse, ap, ◌∙◌, arith, subst}
 use Rattle.std.specs.Prelude.{if◌then◌else◌, All}
 use Rattle.std.proofs.lemmas.List.Elements.{All-head, All-tail}
 use Rattle.std.proofs.lemmas.Bool.Decides.{nat_tests}
-use Rattle.sd_site.specs.Fields.{run_name_of as site_name}
-use Rattle.sd_card.specs.Fields.{CardFields}
-use Rattle.sd_spec_broadcast.specs.Plan.{Plan, IsPlan, crypto_length}
-use Rattle.sd_spec_broadcast.specs.Sent.{Item, Cat, Entitles, Controls, Carries, tables_at, sent, sent_from, closing_of}
-use Rattle.sd_spec_broadcast.specs.Sent.{packet_of, packets_from, broadcast, added, message_before}
-use Rattle.sd_spec_broadcast.specs.Carried.{carried}
-use Rattle.sd_spec_broadcast.specs.Items.{IsOfBroadcast}
-use Rattle.sd_spec_broadcast.specs.Refused.{IsClear}
-use Rattle.sd_spec_broadcast.proofs.Items.{all_are_of_broadcast}
+use Rattle.sd_site.specs.SiteFields.{run_name_of as site_name}
+use Rattle.sd_site.specs.CardFields.{CardFields}
+use Rattle.sd_spec.specs.Plan.{Plan, IsPlan, crypto_length}
+use Rattle.sd_spec.specs.Sent.{Item, Cat, Entitles, Controls, Carries, tables_at, sent, sent_from, closing_of}
+use Rattle.sd_spec.specs.Sent.{packet_of, packets_from, broadcast, added, message_before}
+use Rattle.sd_spec.specs.Carried.{carried}
+use Rattle.sd_spec.specs.Items.{IsOfBroadcast}
+use Rattle.sd_spec.specs.Refused.{IsClear}
+use Rattle.sd_spec.proofs.Items.{all_are_of_broadcast}
 use Rattle.sd_law_broadcast.specs.Packets.{AreWholePackets}
 use Rattle.sd_law_broadcast.proofs.Runs.{section_names, part_names}
 use Rattle.sd_psi.specs.OurCat.{cat_tuning}
 use Rattle.sd_psi.specs.declared.our_cat.Tuning.{Tuning}
-use Rattle.sd_spec_receiver.specs.Heard.{hears}
-use Rattle.sd_spec_receiver.specs.Runs.{run_name_heard}
-use Rattle.sd_spec_receiver.specs.Offered.{out_from, break_from}
-use Rattle.sd_spec_receiver.specs.Ending.{ending_of}
-use Rattle.sd_spec_receiver.specs.Taken.{taken_keys}
+use Rattle.sd_spec.specs.Heard.{hears}
+use Rattle.sd_spec.specs.Runs.{run_name_heard}
+use Rattle.sd_spec.specs.Offered.{out_from, break_from}
+use Rattle.sd_spec.specs.Ending.{ending_of}
+use Rattle.sd_spec.specs.Taken.{taken_keys}
 use Rattle.sd_law_losses.specs.Chosen.{chosen}
 use Rattle.sd_law_losses.specs.Confirmed.{confirmed}
 use Rattle.sd_law_losses.specs.Endings.{ending_told}

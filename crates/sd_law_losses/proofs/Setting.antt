@@ -6,23 +6,23 @@ use Rattle.std.specs.List.{list_any}
 use Rattle.sd_tree.specs.Leaves.{is_member}
 use Rattle.sd_packet.specs.Header.{pid_of, scrambling_of}
 use Rattle.sd_packet.specs.Positions.{is_placed, moved}
-use Rattle.sd_label.specs.Keys.{period_key_of, control_word_of, check_value_of}
+use Rattle.sd_tree.specs.Keys.{period_key_of, control_word_of, check_value_of}
 use Rattle.sd_keystream.specs.Scrambling.{descrambled}
-use Rattle.sd_site.specs.Fields.{AreInRange}
-use Rattle.sd_card.specs.Fields.{CardFields}
+use Rattle.sd_site.specs.SiteFields.{AreInRange}
+use Rattle.sd_site.specs.CardFields.{CardFields}
 use Rattle.sd_keystream.specs.Wrapping.{wrapped as under}
 use Rattle.sd_emm.specs.Spelled.{listed_entries}
 use Rattle.sd_emm.specs.Period.{emms_of}
 use Rattle.sd_emm.specs.declared.emm.Emm.{Emm}
 use Rattle.sd_ecm.specs.Parts.{Message, parts_of}
-use Rattle.sd_spec_broadcast.specs.Plan.{Plan, word_of, closing_number}
-use Rattle.sd_spec_broadcast.specs.Kinds.{kind_of, is_scrambled}
-use Rattle.sd_spec_broadcast.specs.Carried.{carried, place_after}
-use Rattle.sd_spec_broadcast.specs.Messages.{period_at, message_at}
+use Rattle.sd_spec.specs.Plan.{Plan, word_of, closing_number}
+use Rattle.sd_spec.specs.Kinds.{kind_of, is_scrambled}
+use Rattle.sd_spec.specs.Carried.{carried, place_after}
+use Rattle.sd_spec.specs.Messages.{period_at, message_at}
 use Rattle.sd_psi.specs.declared.our_cat.Tuning.{Tuning}
-use Rattle.sd_spec_receiver.specs.Keys.{key_from}
-use Rattle.sd_spec_receiver.specs.Confirmed.{Segment, unmarked}
-use Rattle.sd_spec_receiver.specs.Offered.{is_before, says_same}
+use Rattle.sd_spec.specs.Keys.{key_from}
+use Rattle.sd_spec.specs.Confirmed.{Segment, unmarked}
+use Rattle.sd_spec.specs.Offered.{is_before, says_same}
 use Rattle.sd_law_losses.specs.Confirmed.{packet_at}
 use Rattle.sd_law_losses.proofs.Coming.{AreParts, is_nil}
 

@@ -8,12 +8,12 @@ use Rattle.std.proofs.lemmas.Bool.Decides.{nat_tests}
 use Rattle.std.proofs.lemmas.List.Folds.{list_any-append}
 use Rattle.std.proofs.Math.Nat.{mul-mod_left, mul-div_cancel}
 use Rattle.sd_base.proofs.Bools.{or_true}
-use Rattle.sd_site.specs.Fields.{AreInRange}
+use Rattle.sd_site.specs.SiteFields.{AreInRange}
 use Rattle.sd_ecm.specs.Parts.{parts_of}
 use Rattle.sd_ecm.specs.declared.part.EcmPart.{EcmPart}
-use Rattle.sd_spec_broadcast.specs.Plan.{closing_number}
-use Rattle.sd_spec_broadcast.specs.Sent.{Item, Controls, tables_at, tables_before}
-use Rattle.sd_spec_broadcast.proofs.Schedule.{closing_needed}
+use Rattle.sd_spec.specs.Plan.{closing_number}
+use Rattle.sd_spec.specs.Sent.{Item, Controls, tables_at, tables_before}
+use Rattle.sd_spec.proofs.Schedule.{closing_needed}
 use Rattle.sd_law_losses.specs.Kept.{is_carried, is_part, has_parts, has_arrived}
 use Rattle.sd_law_losses.proofs.Tests.{all_range}
 use Rattle.sd_law_losses.proofs.Coming.{AreParts, is_nil}

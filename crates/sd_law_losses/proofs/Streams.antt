@@ -3,16 +3,16 @@ use Rattle.std.proofs.Common.{◌≡◌, refl, ℕ, suc, ◌++◌, false, List, 
 use Rattle.std.proofs.Common.{is_none, sym, ap, ◌∙◌, arith, append-nil}
 use Rattle.std.specs.Prelude.{if◌then◌else◌}
 use Rattle.std.specs.Option.{option_map_or}
-use Rattle.sd_card.specs.Fields.{CardFields}
-use Rattle.sd_spec_receiver.specs.declared.ending.Ending.{Ending}
-use Rattle.sd_spec_receiver.specs.declared.ending.Ending.TheVariants.{Opened, NoCat}
-use Rattle.sd_spec_receiver.specs.Tuned.{tuned_by, tuning_of}
+use Rattle.sd_site.specs.CardFields.{CardFields}
+use Rattle.sd_spec.specs.declared.ending.Ending.{Ending}
+use Rattle.sd_spec.specs.declared.ending.Ending.TheVariants.{Opened, NoCat}
+use Rattle.sd_spec.specs.Tuned.{tuned_by, tuning_of}
 use Rattle.sd_psi.specs.OurCat.{cat_tuning}
 use Rattle.sd_psi.specs.declared.our_cat.Tuning.{Tuning}
-use Rattle.sd_spec_receiver.specs.Runs.{name_in}
-use Rattle.sd_spec_receiver.specs.Offered.{heard, heard_with, Offering, no_offering, offered, tuned_offering, out_from}
-use Rattle.sd_spec_receiver.specs.Offered.{break_from}
-use Rattle.sd_spec_receiver.specs.Ending.{turns_at, run_wrote, ended_before, ending_of}
+use Rattle.sd_spec.specs.Runs.{name_in}
+use Rattle.sd_spec.specs.Offered.{heard, heard_with, Offering, no_offering, offered, tuned_offering, out_from}
+use Rattle.sd_spec.specs.Offered.{break_from}
+use Rattle.sd_spec.specs.Ending.{turns_at, run_wrote, ended_before, ending_of}
 use Rattle.sd_law_losses.specs.Pieces.{Tuned, tuned_or, first_cat, pieces_after, pieces_of}
 use Rattle.sd_law_losses.specs.Together.{out_with, break_with, joined_to, piece_ending, out_of, run_break_of}
 use Rattle.sd_law_losses.specs.Together.{run_end_of}

@@ -1,14 +1,14 @@
 -- A packet of a run takes a key within a stream if it does so in the run by itself.
 use Rattle.std.proofs.Common.{◌≡◌, ◌≢◌, ℕ, ◌+◌, ◌++◌, true, false, List, [], length, Option, Some, sym, ap}
 use Rattle.std.proofs.Common.{◌∙◌}
-use Rattle.sd_card.specs.Fields.{CardFields}
-use Rattle.sd_spec_receiver.specs.Tuned.{tuning_of}
+use Rattle.sd_site.specs.CardFields.{CardFields}
+use Rattle.sd_spec.specs.Tuned.{tuning_of}
 use Rattle.sd_psi.specs.declared.our_cat.Tuning.{Tuning}
-use Rattle.sd_spec_receiver.specs.Heard.{Heard, hears}
-use Rattle.sd_spec_receiver.specs.Runs.{are_two, is_turn, of_run}
-use Rattle.sd_spec_receiver.specs.Offered.{heard}
-use Rattle.sd_spec_receiver.specs.Taken.{takes_key_at}
-use Rattle.sd_spec_receiver.proofs.Runs.{same_run}
+use Rattle.sd_spec.specs.Heard.{Heard, hears}
+use Rattle.sd_spec.specs.Runs.{are_two, is_turn, of_run}
+use Rattle.sd_spec.specs.Offered.{heard}
+use Rattle.sd_spec.specs.Taken.{takes_key_at}
+use Rattle.sd_spec.proofs.Runs.{same_run}
 use Rattle.sd_law_losses.specs.Pieces.{name_at}
 use Rattle.sd_law_losses.proofs.NextLater.{things_later, names_later}
 use Rattle.sd_law_losses.proofs.Leading.{is_quiet, AreQuiet}

@@ -5,16 +5,16 @@ use Rattle.std.proofs.Common.{if◌then◌else◌}
 use Rattle.std.specs.Option.{option_map_or}
 use Rattle.std.proofs.lemmas.Bool.{cases_Bool, cases_eq}
 use Rattle.std.proofs.lemmas.Bool.Decides.{nat_tests}
-use Rattle.sd_card.specs.Fields.{CardFields}
-use Rattle.sd_spec_receiver.specs.Tuned.{tuning_of}
+use Rattle.sd_site.specs.CardFields.{CardFields}
+use Rattle.sd_spec.specs.Tuned.{tuning_of}
 use Rattle.sd_psi.specs.declared.our_cat.Tuning.{Tuning}
-use Rattle.sd_spec_receiver.specs.Heard.{Heard, hears}
-use Rattle.sd_spec_receiver.specs.Stretches.{is_closed}
-use Rattle.sd_spec_receiver.specs.Runs.{is_turn}
-use Rattle.sd_spec_receiver.specs.Offered.{heard, heard_with, heard_more}
-use Rattle.sd_spec_receiver.specs.Ending.{turns_at}
-use Rattle.sd_spec_receiver.specs.Taken.{takes_key_in}
-use Rattle.sd_spec_receiver.proofs.Runs.{same_run}
+use Rattle.sd_spec.specs.Heard.{Heard, hears}
+use Rattle.sd_spec.specs.Stretches.{is_closed}
+use Rattle.sd_spec.specs.Runs.{is_turn}
+use Rattle.sd_spec.specs.Offered.{heard, heard_with, heard_more}
+use Rattle.sd_spec.specs.Ending.{turns_at}
+use Rattle.sd_spec.specs.Taken.{takes_key_in}
+use Rattle.sd_spec.proofs.Runs.{same_run}
 use Rattle.sd_law_losses.specs.Taken.{takes_key_of, takes_key_at, taken_keys, how_many}
 use Rattle.sd_law_losses.proofs.Writing.{onto}
 use Rattle.sd_law_losses.proofs.OneRun.{AreOneRun, one_before}

@@ -4,21 +4,21 @@ use Rattle.std.proofs.Common.{◌≡◌, refl, ℕ, ◌<◌, ◌^◌, ◌&&◌, 
 use Rattle.std.proofs.Common.{arith}
 use Rattle.std.proofs.Common.{sym, ap, ◌∙◌}
 use Rattle.std.specs.List.{range_with_len}
-use Rattle.sd_card.specs.Fields.{card_of}
-use Rattle.sd_spec_broadcast.specs.Plan.{Plan, IsPlan}
-use Rattle.sd_spec_broadcast.specs.Refused.{IsClear}
-use Rattle.sd_spec_broadcast.specs.Sent.{Item, sent, closing_of, broadcast}
+use Rattle.sd_site.specs.CardFields.{card_of}
+use Rattle.sd_spec.specs.Plan.{Plan, IsPlan}
+use Rattle.sd_spec.specs.Refused.{IsClear}
+use Rattle.sd_spec.specs.Sent.{Item, sent, closing_of, broadcast}
 use Rattle.sd_law_broadcast.specs.Packets.{AreWholePackets}
-use Rattle.sd_spec_receiver.specs.Offered.{out_from, break_from}
+use Rattle.sd_spec.specs.Offered.{out_from, break_from}
 use Rattle.sd_law_losses.specs.Chosen.{chosen}
 use Rattle.sd_law_losses.specs.Confirmed.{confirmed, opened_by}
 use Rattle.sd_law_losses.specs.Endings.{ending_told, first_revoked, is_on_air, whole_ending}
-use Rattle.sd_spec_receiver.specs.Ending.{ending_of}
+use Rattle.sd_spec.specs.Ending.{ending_of}
 use Rattle.sd_law_losses.specs.Kept.{entitles, after_cat}
 use Rattle.sd_law_losses.specs.Confirmed.{is_revoked_in}
 use Rattle.sd_law_losses.specs.Taken.{taken_keys, how_many}
-use Rattle.sd_spec_broadcast.specs.Plan.{period_of}
-use Rattle.sd_spec_broadcast.proofs.Bodies.{packets_many}
+use Rattle.sd_spec.specs.Plan.{period_of}
+use Rattle.sd_spec.proofs.Bodies.{packets_many}
 use Rattle.std.specs.List.{list_any}
 use Rattle.sd_law_losses.proofs.Endings.{losses_end, losses_take}
 use Rattle.sd_law_losses.proofs.WholeEnding.{whole_ends, keys_whole}

@@ -9,7 +9,7 @@ use Rattle.std.proofs.Math.Seq.{take-add}
 use Rattle.sd_base.proofs.Ranges.{range_parts}
 use Rattle.sd_packet.specs.Positions.{is_moving, moved, moved_by, position_of}
 use Rattle.sd_packet.proofs.Positions.{more_packets, next_position, one_more}
-use Rattle.sd_spec_broadcast.specs.Sent.{Item}
+use Rattle.sd_spec.specs.Sent.{Item}
 use Rattle.sd_law_losses.specs.Chosen.{chosen}
 use Rattle.sd_law_losses.specs.Kept.{is_kept, kept_in}
 use Rattle.sd_law_losses.specs.Confirmed.{packet_at, packets_at}

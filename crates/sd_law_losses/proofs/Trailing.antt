@@ -4,14 +4,14 @@ use Rattle.std.specs.Prelude.{if◌then◌else◌}
 use Rattle.std.specs.Option.{option_map_or}
 use Rattle.std.proofs.lemmas.Bool.{false≢true}
 use Rattle.sd_base.proofs.Bools.{chosen_itself}
-use Rattle.sd_card.specs.Fields.{CardFields}
+use Rattle.sd_site.specs.CardFields.{CardFields}
 use Rattle.sd_ecm.specs.Parts.{Message}
-use Rattle.sd_spec_receiver.specs.declared.ending.Ending.{Ending}
-use Rattle.sd_spec_receiver.specs.declared.ending.Ending.TheVariants.{Unclosed}
-use Rattle.sd_spec_receiver.specs.Heard.{Heard, Dropped, Entitles, Controls, BadEmm, BadEcm, Other}
-use Rattle.sd_spec_receiver.specs.Stretches.{Stretch, newest, is_closed, messages, seen}
-use Rattle.sd_spec_receiver.specs.Offered.{heard_more}
-use Rattle.sd_spec_receiver.specs.Ending.{periods_told, closed_ending, run_ending}
+use Rattle.sd_spec.specs.declared.ending.Ending.{Ending}
+use Rattle.sd_spec.specs.declared.ending.Ending.TheVariants.{Unclosed}
+use Rattle.sd_spec.specs.Heard.{Heard, Dropped, Entitles, Controls, BadEmm, BadEcm, Other}
+use Rattle.sd_spec.specs.Stretches.{Stretch, newest, is_closed, messages, seen}
+use Rattle.sd_spec.specs.Offered.{heard_more}
+use Rattle.sd_spec.specs.Ending.{periods_told, closed_ending, run_ending}
 use Rattle.sd_law_losses.proofs.Leading.{is_quiet, AreQuiet, closed_quiet, newest_quiet}
 use Rattle.sd_law_losses.proofs.Following.{more_is, quiet_stays}
 

@@ -9,24 +9,24 @@ use Rattle.std.specs.Option.{option_map_or}
 use Rattle.std.proofs.lemmas.List.Elements.{All-nil, All-head, All-tail}
 use Rattle.std.proofs.lemmas.List.Folds.{list_any-append}
 use Rattle.std.proofs.lemmas.Bool.{or_parts}
-use Rattle.sd_site.specs.Fields.{AreInRange}
-use Rattle.sd_card.specs.Fields.{CardFields}
+use Rattle.sd_site.specs.SiteFields.{AreInRange}
+use Rattle.sd_site.specs.CardFields.{CardFields}
 use Rattle.sd_emm.specs.Period.{emms_of}
 use Rattle.sd_emm.specs.declared.emm.Emm.{Emm}
 use Rattle.sd_ecm.specs.Parts.{parts_of}
 use Rattle.sd_ecm.specs.declared.part.EcmPart.{EcmPart}
-use Rattle.sd_spec_broadcast.specs.Plan.{crypto_length, period_of}
-use Rattle.sd_spec_broadcast.specs.Messages.{period_at}
-use Rattle.sd_spec_broadcast.specs.Sent.{Item, Cat, Entitles, Controls, Carries, tables_at, packet_of, packets_from}
-use Rattle.sd_spec_broadcast.specs.Items.{IsOfBroadcast}
-use Rattle.sd_spec_receiver.specs.Tuned.{tuning_of, tuned_by}
+use Rattle.sd_spec.specs.Plan.{crypto_length, period_of}
+use Rattle.sd_spec.specs.Messages.{period_at}
+use Rattle.sd_spec.specs.Sent.{Item, Cat, Entitles, Controls, Carries, tables_at, packet_of, packets_from}
+use Rattle.sd_spec.specs.Items.{IsOfBroadcast}
+use Rattle.sd_spec.specs.Tuned.{tuning_of, tuned_by}
 use Rattle.sd_psi.specs.OurCat.{cat_tuning}
 use Rattle.sd_psi.specs.declared.our_cat.Tuning.{Tuning}
-use Rattle.sd_spec_receiver.specs.Stretches.{messages, newest, counted, current, seen, is_closed, others}
-use Rattle.sd_spec_receiver.specs.Keys.{key_in}
-use Rattle.sd_spec_receiver.specs.Offered.{Offering, heard, heard_with, offered, tuned_offering, out_from, break_from}
-use Rattle.sd_spec_receiver.specs.Offered.{no_offering}
-use Rattle.sd_spec_receiver.proofs.Runs.{never_turns}
+use Rattle.sd_spec.specs.Stretches.{messages, newest, counted, current, seen, is_closed, others}
+use Rattle.sd_spec.specs.Keys.{key_in}
+use Rattle.sd_spec.specs.Offered.{Offering, heard, heard_with, offered, tuned_offering, out_from, break_from}
+use Rattle.sd_spec.specs.Offered.{no_offering}
+use Rattle.sd_spec.proofs.Runs.{never_turns}
 use Rattle.sd_law_losses.specs.Chosen.{chosen}
 use Rattle.sd_law_losses.specs.Kept.{is_kept, kept_in, has_arrived, after_cat}
 use Rattle.sd_law_losses.proofs.Taking.{how_many_none}

@@ -3,11 +3,11 @@ use Rattle.std.proofs.Common.{◌≡◌, refl, ℕ, ◌+◌, ◌^◌, ◌<◌, �
 use Rattle.std.proofs.Common.{None, sym, ap, ◌∙◌, arith, subst}
 use Rattle.std.specs.Prelude.{All}
 use Rattle.std.proofs.lemmas.List.Elements.{All-nil, All-cons, All-head, All-tail}
-use Rattle.sd_card.specs.Fields.{card_of}
-use Rattle.sd_spec_broadcast.specs.Sent.{Item, Cat, sent, closing_of, broadcast}
-use Rattle.sd_spec_broadcast.proofs.Bodies.{packets_many}
-use Rattle.sd_spec_receiver.specs.Offered.{out_from, break_from}
-use Rattle.sd_spec_receiver.specs.Taken.{taken_keys}
+use Rattle.sd_site.specs.CardFields.{card_of}
+use Rattle.sd_spec.specs.Sent.{Item, Cat, sent, closing_of, broadcast}
+use Rattle.sd_spec.proofs.Bodies.{packets_many}
+use Rattle.sd_spec.specs.Offered.{out_from, break_from}
+use Rattle.sd_spec.specs.Taken.{taken_keys}
 use Rattle.sd_law_losses.specs.Chosen.{chosen}
 use Rattle.sd_law_losses.specs.Confirmed.{confirmed, opened_by}
 use Rattle.sd_law_losses.proofs.Opened.{confirmed_are_opened}

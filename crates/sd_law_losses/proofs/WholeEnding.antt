@@ -15,24 +15,24 @@ use Rattle.std.proofs.Math.Nat.{mul-mod_left}
 use Rattle.std.proofs.lemmas.List.FromFn.{length-range_with_len}
 use Rattle.sd_base.proofs.Lists.{any_there}
 use Rattle.sd_base.proofs.Ranges.{none_found}
-use Rattle.sd_card.specs.Fields.{card_of}
+use Rattle.sd_site.specs.CardFields.{card_of}
 use Rattle.sd_emm.specs.Form.{sections_for}
 use Rattle.sd_emm.specs.Period.{emms_of, emm_at}
 use Rattle.sd_emm.specs.declared.emm.Emm.{Emm}
 use Rattle.sd_emm.proofs.Sharing.{as_many, stands_at, index_is}
 use Rattle.sd_ecm.specs.Parts.{parts_of}
-use Rattle.sd_spec_broadcast.specs.Plan.{Plan, IsPlan, sets_at, crypto_length, period_of}
-use Rattle.sd_spec_broadcast.specs.Messages.{period_at}
-use Rattle.sd_spec_broadcast.specs.Refused.{IsClear}
-use Rattle.sd_spec_broadcast.specs.Sent.{Item, Cat, Entitles, Controls, tables_at, tables_before, sent, closing_of}
-use Rattle.sd_spec_broadcast.specs.Sent.{is_cat_item}
-use Rattle.sd_spec_broadcast.proofs.Items.{all_are_of_broadcast}
-use Rattle.sd_spec_broadcast.proofs.Schedule.{period_begins, periods_rise}
-use Rattle.sd_spec_broadcast.proofs.Periods.{section_number}
+use Rattle.sd_spec.specs.Plan.{Plan, IsPlan, sets_at, crypto_length, period_of}
+use Rattle.sd_spec.specs.Messages.{period_at}
+use Rattle.sd_spec.specs.Refused.{IsClear}
+use Rattle.sd_spec.specs.Sent.{Item, Cat, Entitles, Controls, tables_at, tables_before, sent, closing_of}
+use Rattle.sd_spec.specs.Sent.{is_cat_item}
+use Rattle.sd_spec.proofs.Items.{all_are_of_broadcast}
+use Rattle.sd_spec.proofs.Schedule.{period_begins, periods_rise}
+use Rattle.sd_spec.proofs.Periods.{section_number}
 use Rattle.sd_law_broadcast.specs.Packets.{AreWholePackets}
 use Rattle.sd_law_broadcast.proofs.Fitting.{period_count}
-use Rattle.sd_spec_receiver.specs.Ending.{ending_with}
-use Rattle.sd_spec_receiver.specs.declared.ending.Ending.TheVariants.{NoCat, Unclosed}
+use Rattle.sd_spec.specs.Ending.{ending_with}
+use Rattle.sd_spec.specs.declared.ending.Ending.TheVariants.{NoCat, Unclosed}
 use Rattle.sd_law_losses.specs.Kept.{after_cat, has_arrived, arrived, entitles, is_section_item}
 use Rattle.sd_law_losses.specs.Confirmed.{packet_at, is_revoked_in, opened_by}
 use Rattle.sd_law_losses.specs.Endings.{period_told, periods_arrived, is_untold, has_all, closed_told, next_number}

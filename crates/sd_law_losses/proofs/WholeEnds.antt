@@ -5,13 +5,13 @@ use Rattle.std.specs.Prelude.{if◌then◌else◌}
 use Rattle.std.specs.List.{list_any}
 use Rattle.std.proofs.lemmas.Bool.{false≢true}
 use Rattle.sd_base.proofs.Bools.{tested}
-use Rattle.sd_card.specs.Fields.{card_of}
-use Rattle.sd_spec_broadcast.specs.Plan.{Plan, closing_number}
-use Rattle.sd_spec_broadcast.specs.Sent.{Item, Cat, Entitles, Controls, Carries, is_cat_item}
-use Rattle.sd_spec_receiver.specs.declared.ending.Ending.{Ending}
-use Rattle.sd_spec_receiver.specs.declared.ending.Ending.TheVariants.{Opened, Revoked, Unheard, NoCat, Unclosed, Gaps}
-use Rattle.sd_spec_receiver.specs.Ending.{ending_of}
-use Rattle.sd_spec_receiver.proofs.Runs.{opened_joins}
+use Rattle.sd_site.specs.CardFields.{card_of}
+use Rattle.sd_spec.specs.Plan.{Plan, closing_number}
+use Rattle.sd_spec.specs.Sent.{Item, Cat, Entitles, Controls, Carries, is_cat_item}
+use Rattle.sd_spec.specs.declared.ending.Ending.{Ending}
+use Rattle.sd_spec.specs.declared.ending.Ending.TheVariants.{Opened, Revoked, Unheard, NoCat, Unclosed, Gaps}
+use Rattle.sd_spec.specs.Ending.{ending_of}
+use Rattle.sd_spec.proofs.Runs.{opened_joins}
 use Rattle.sd_law_losses.specs.Kept.{after_cat, has_parts, has_arrived}
 use Rattle.sd_law_losses.specs.Confirmed.{confirmed}
 use Rattle.sd_law_losses.specs.Endings.{closed_told, next_number, ending_told, first_revoked, whole_ending}

@@ -6,9 +6,9 @@ use Rattle.std.specs.List.{list_any, range_with_len}
 use Rattle.std.proofs.lemmas.List.{map-append}
 use Rattle.std.proofs.lemmas.List.Elements.{filter-append}
 use Rattle.sd_base.proofs.Ranges.{range_parts}
-use Rattle.sd_site.specs.Fields.{AreInRange}
-use Rattle.sd_spec_broadcast.specs.Plan.{closing_number}
-use Rattle.sd_spec_broadcast.specs.Sent.{Item}
+use Rattle.sd_site.specs.SiteFields.{AreInRange}
+use Rattle.sd_spec.specs.Plan.{closing_number}
+use Rattle.sd_spec.specs.Sent.{Item}
 use Rattle.sd_law_losses.specs.Kept.{has_arrived}
 use Rattle.sd_law_losses.specs.Confirmed.{packet_at}
 use Rattle.sd_law_losses.proofs.Arriving.{is_of, arrived_stays}

@@ -1,10 +1,10 @@
 -- Public meaning: broadcasts of one channel that follow one another, and which of their packets arrive.
 use Rattle.std.specs.Prelude.{◌≡◌, ◌≢◌, List, [], ◌∷◌, ◌++◌, All}
 use Rattle.sd_base.specs.Types.{Packets, Arrived, Pid, SystemId, Key, Height}
-use Rattle.sd_site.specs.Fields.{run_name_of}
-use Rattle.sd_spec_broadcast.specs.Plan.{Plan, IsPlan}
-use Rattle.sd_spec_broadcast.specs.Refused.{IsClear}
-use Rattle.sd_spec_broadcast.specs.Sent.{broadcast}
+use Rattle.sd_site.specs.SiteFields.{run_name_of}
+use Rattle.sd_spec.specs.Plan.{Plan, IsPlan}
+use Rattle.sd_spec.specs.Refused.{IsClear}
+use Rattle.sd_spec.specs.Sent.{broadcast}
 use Rattle.sd_law_broadcast.specs.Packets.{AreWholePackets}
 use Rattle.sd_law_losses.specs.Chosen.{chosen}
 

@@ -7,10 +7,10 @@ use Rattle.sd_base.specs.Types.{MessageNumber}
 use Rattle.sd_packet.specs.Header.{pid_of}
 use Rattle.sd_packet.specs.Positions.{position_of, moved_by}
 use Rattle.sd_book.specs.Commands.{revoked}
-use Rattle.sd_spec_broadcast.specs.Plan.{Plan, period_of, since_of, closing_number}
-use Rattle.sd_spec_broadcast.specs.Kinds.{kind_of, is_scrambled}
-use Rattle.sd_spec_broadcast.specs.Sent.{Item}
-use Rattle.sd_spec_receiver.specs.Offered.{most_held}
+use Rattle.sd_spec.specs.Plan.{Plan, period_of, since_of, closing_number}
+use Rattle.sd_spec.specs.Kinds.{kind_of, is_scrambled}
+use Rattle.sd_spec.specs.Sent.{Item}
+use Rattle.sd_spec.specs.Offered.{most_held}
 use Rattle.sd_law_losses.specs.Kept.{is_kept, kept_in, arrived, greatest_at_most, least_above, is_entitled_before}
 use Rattle.sd_law_losses.specs.Kept.{after_cat}
 

@@ -5,11 +5,11 @@ use Rattle.std.specs.List.{list_any, list_all, range_with_len}
 use Rattle.std.specs.Option.{option_map_or}
 use Rattle.sd_base.specs.Types.{Packets, LeafNumber, PeriodNumber, MessageNumber}
 use Rattle.sd_emm.specs.Form.{sections_for}
-use Rattle.sd_spec_broadcast.specs.Plan.{Plan, sets_at, period_of, closing_number}
-use Rattle.sd_spec_broadcast.specs.Sent.{Item, is_cat_item}
-use Rattle.sd_spec_receiver.specs.Ending.{ending_with}
-use Rattle.sd_spec_receiver.specs.declared.ending.Ending.{Ending}
-use Rattle.sd_spec_receiver.specs.declared.ending.Ending.TheVariants.{Opened, Revoked, NoCat, Unclosed}
+use Rattle.sd_spec.specs.Plan.{Plan, sets_at, period_of, closing_number}
+use Rattle.sd_spec.specs.Sent.{Item, is_cat_item}
+use Rattle.sd_spec.specs.Ending.{ending_with}
+use Rattle.sd_spec.specs.declared.ending.Ending.{Ending}
+use Rattle.sd_spec.specs.declared.ending.Ending.TheVariants.{Opened, Revoked, NoCat, Unclosed}
 use Rattle.sd_law_losses.specs.Kept.{after_cat, has_arrived, arrived, greatest_at_most, entitles}
 use Rattle.sd_law_losses.specs.Kept.{is_section_item}
 use Rattle.sd_law_losses.specs.Confirmed.{confirmed, is_revoked_in}

@@ -2,8 +2,8 @@
 use Rattle.std.specs.Prelude.{◌+◌, ◌*◌, ◌&&◌, Bool, nat_le, List, [], ◌∷◌, map, filter, take, if◌then◌else◌}
 use Rattle.sd_base.specs.Types.{Packets, Arrived, Pid, Position, MessageNumber}
 use Rattle.sd_packet.specs.Positions.{is_moving, moved, position_of}
-use Rattle.sd_spec_broadcast.specs.Plan.{Plan}
-use Rattle.sd_spec_broadcast.specs.Sent.{Item}
+use Rattle.sd_spec.specs.Plan.{Plan}
+use Rattle.sd_spec.specs.Sent.{Item}
 use Rattle.sd_law_losses.specs.Confirmed.{packet_at, upto, kept_between}
 
 -- the positions of the kept packets that move the PID, from a position on [this project, docs/FORMATS.md, Positions]

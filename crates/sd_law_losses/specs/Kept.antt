@@ -5,7 +5,7 @@ use Rattle.std.specs.List.{list_any, list_all, range_with_len}
 use Rattle.sd_base.specs.Types.{Height, LeafNumber, PeriodNumber, PacketNumber, MessageNumber}
 use Rattle.sd_tree.specs.Leaves.{is_member}
 use Rattle.sd_emm.specs.Spelled.{listed_entries}
-use Rattle.sd_spec_broadcast.specs.Sent.{Item, Cat, Entitles, Controls, Carries}
+use Rattle.sd_spec.specs.Sent.{Item, Cat, Entitles, Controls, Carries}
 
 -- the things after the first CAT [this project, docs/FORMATS.md, Receiver]
 unfoldable pub after_cat : List Item → List Item

@@ -3,10 +3,10 @@ use Rattle.std.specs.Prelude.{ℕ, ◌+◌, ◌-◌, ◌&&◌, ◌||◌, Bool, n
 use Rattle.std.specs.List.{list_any}
 use Rattle.std.specs.Option.{option_map_or}
 use Rattle.sd_base.specs.Types.{Packet, Packets, LeafNumber}
-use Rattle.sd_card.specs.Fields.{CardFields}
-use Rattle.sd_spec_broadcast.specs.Plan.{Plan, period_of}
-use Rattle.sd_spec_broadcast.specs.Sent.{Item}
-use Rattle.sd_spec_receiver.specs.Taken.{taken_keys}
+use Rattle.sd_site.specs.CardFields.{CardFields}
+use Rattle.sd_spec.specs.Plan.{Plan, period_of}
+use Rattle.sd_spec.specs.Sent.{Item}
+use Rattle.sd_spec.specs.Taken.{taken_keys}
 use Rattle.sd_law_losses.specs.Kept.{entitles, after_cat}
 use Rattle.sd_law_losses.specs.Confirmed.{is_revoked_in}
 use Rattle.sd_law_losses.specs.Endings.{is_on_air}

@@ -2,7 +2,7 @@
 use Rattle.std.specs.Prelude.{◌||◌, Bool, true, false, List, [], ◌∷◌, ◌++◌, drop}
 use Rattle.std.specs.List.{list_any}
 use Rattle.sd_base.specs.Types.{Packets, Arrived, LeafNumber}
-use Rattle.sd_spec_broadcast.specs.Sent.{Item, sent, closing_of, is_cat_item}
+use Rattle.sd_spec.specs.Sent.{Item, sent, closing_of, is_cat_item}
 use Rattle.sd_law_losses.specs.Chosen.{chosen}
 use Rattle.sd_law_losses.specs.Confirmed.{confirmed, opened_by}
 use Rattle.sd_law_losses.specs.Channel.{Arrival}

@@ -2,7 +2,7 @@
 use Rattle.std.specs.Prelude.{◌≡◌, ◌+◌, List, ◌∷◌, length, None}
 use Rattle.sd_ecm.specs.Parts.{Message}
 use Rattle.sd_ecm.specs.declared.part.EcmPart.{EcmPart}
-use Rattle.sd_spec_receiver.specs.Offered.{part_fault}
+use Rattle.sd_spec.specs.Offered.{part_fault}
 
 -- the part is one of the message after these, the newest first, and before those, and has no fault after them
 -- [this project, docs/FORMATS.md, Receiver]

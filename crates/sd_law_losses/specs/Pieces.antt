@@ -3,8 +3,8 @@ use Rattle.std.specs.Prelude.{suc, List, [], ◌∷◌, if◌then◌else◌, Opt
 use Rattle.sd_base.specs.Types.{Packet, Packets, SystemId, Height, RunName, PacketNumber}
 use Rattle.sd_psi.specs.OurCat.{cat_tuning}
 use Rattle.sd_psi.specs.declared.our_cat.Tuning.{Tuning}
-use Rattle.sd_spec_receiver.specs.Heard.{hears}
-use Rattle.sd_spec_receiver.specs.Runs.{run_name_heard, name_or, are_two}
+use Rattle.sd_spec.specs.Heard.{hears}
+use Rattle.sd_spec.specs.Runs.{run_name_heard, name_or, are_two}
 
 -- the CAT that a receiver takes, its number, what it says, and the packets after it
 pub record Tuned : Type 0 where

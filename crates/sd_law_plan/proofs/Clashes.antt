@@ -4,16 +4,16 @@ use Rattle.std.proofs.Common.{get_or, refl, sym, ap, ◌∙◌}
 use Rattle.std.specs.Prelude.{[], ◌∷◌}
 use Rattle.std.specs.List.{range_with_len}
 use Rattle.std.specs.Option.{option_map, option_or}
-use Rattle.sd_site.specs.Fields.{AreInRange}
+use Rattle.sd_site.specs.SiteFields.{AreInRange}
 use Rattle.sd_book.specs.Commands.{commands_until, is_revoked}
-use Rattle.sd_spec_broadcast.specs.Plan.{Plan}
-use Rattle.sd_spec_broadcast.proofs.Schedule.{period_in_first, periods_in_rise}
-use Rattle.sd_law_several.specs.Runs.{Run, IsRun, HasWords, ShareNoWord, HaveOwnWords, UsesPeriod, AgreeOnPeriods}
-use Rattle.sd_law_several.specs.Runs.{AllAgree}
-use Rattle.sd_law_several.specs.Known.{AreOneTree}
-use Rattle.sd_law_several.proofs.Words.{used_words}
-use Rattle.sd_command_status.specs.declared.status.Clash.{Clash as ClashKind}
-use Rattle.sd_command_status.specs.declared.status.Clash.TheVariants.{Books}
+use Rattle.sd_spec.specs.Plan.{Plan}
+use Rattle.sd_spec.proofs.Schedule.{period_in_first, periods_in_rise}
+use Rattle.sd_law_broadcast.specs.Runs.{Run, IsRun, HasWords, ShareNoWord, HaveOwnWords, UsesPeriod, AgreeOnPeriods}
+use Rattle.sd_law_broadcast.specs.Runs.{AllAgree}
+use Rattle.sd_law_broadcast.specs.Known.{AreOneTree}
+use Rattle.sd_law_broadcast.proofs.Words.{used_words}
+use Rattle.sd_command_base.specs.declared.status.Clash.{Clash as ClashKind}
+use Rattle.sd_command_base.specs.declared.status.Clash.TheVariants.{Books}
 use Rattle.sd_run_books.specs.Apart.{books_clash, clash_in, clash_of, differing_in, due_in_both, first_differing}
 use Rattle.sd_run_books.specs.Apart.{first_of, first_shared, last_due, shared_count, sites_clash}
 use Rattle.sd_run_books.specs.Air.{cryptos_for, last_period_for, last_word_for}

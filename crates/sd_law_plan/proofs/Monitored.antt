@@ -8,7 +8,7 @@ use Rattle.sd_packet.specs.Header.{pid_of}
 use Rattle.sd_packet.specs.Packing.{packed}
 use Rattle.sd_packet.proofs.Packets.{packed_pid}
 use Rattle.sd_psi.specs.OurCat.{cat_section}
-use Rattle.sd_site.specs.Fields.{SiteFields}
+use Rattle.sd_site.specs.SiteFields.{SiteFields}
 use Rattle.sd_emm.specs.Judged.{emm_read}
 use Rattle.sd_emm.specs.Spelled.{emm_section}
 use Rattle.sd_emm.specs.declared.emm.Emm.{Emm}
@@ -19,16 +19,16 @@ use Rattle.sd_ecm.specs.Spelled.{ecm_section}
 use Rattle.sd_ecm.specs.declared.part.EcmPart.{EcmPart}
 use Rattle.sd_ecm.proofs.Deciding.{packed_reads as part_reads}
 use Rattle.sd_ecm.proofs.Sharing.{all_are_ecms}
-use Rattle.sd_spec_broadcast.specs.Plan.{Plan, IsPlan}
-use Rattle.sd_spec_broadcast.specs.Refused.{IsClear}
-use Rattle.sd_spec_broadcast.specs.Items.{IsOfBroadcast}
-use Rattle.sd_spec_broadcast.specs.Sent.{Item, Cat, Entitles, Controls, Carries, broadcast, closing_of, is_alike}
-use Rattle.sd_spec_broadcast.specs.Sent.{packet_of}
-use Rattle.sd_spec_broadcast.specs.Sent.{packets_from, sent}
-use Rattle.sd_spec_broadcast.proofs.Items.{all_are_of_broadcast}
+use Rattle.sd_spec.specs.Plan.{Plan, IsPlan}
+use Rattle.sd_spec.specs.Refused.{IsClear}
+use Rattle.sd_spec.specs.Items.{IsOfBroadcast}
+use Rattle.sd_spec.specs.Sent.{Item, Cat, Entitles, Controls, Carries, broadcast, closing_of, is_alike}
+use Rattle.sd_spec.specs.Sent.{packet_of}
+use Rattle.sd_spec.specs.Sent.{packets_from, sent}
+use Rattle.sd_spec.proofs.Items.{all_are_of_broadcast}
 use Rattle.sd_law_broadcast.specs.Packets.{AreLong}
 use Rattle.sd_law_broadcast.proofs.Sections.{IsSaid, carried_pid, said, section_reads}
-use Rattle.sd_monitor.specs.Lines.{ecm_data, emm_data, line_with, message_data, message_line, message_lines}
+use Rattle.sd_run_streams.specs.MessageLines.{ecm_data, emm_data, line_with, message_data, message_line, message_lines}
 use Rattle.sd_law_plan.specs.Monitored.{sent_line, sent_lines}
 
 -- a packet on neither PID

@@ -11,7 +11,7 @@ use Rattle.std.proofs.lemmas.Bool.Decides.{nat_tests}
 use Rattle.std.proofs.lemmas.List.Elements.{All-contains, Contains-append_right}
 use Rattle.std.proofs.lemmas.List.Sums.{sum_by-append, sum_by-cons}
 use Rattle.sd_base.proofs.Ranges.{range_has, in_range}
-use Rattle.sd_site.specs.Fields.{SiteFields, AreInRange}
+use Rattle.sd_site.specs.SiteFields.{SiteFields, AreInRange}
 use Rattle.sd_book.specs.Commands.{last_period}
 use Rattle.sd_emm.specs.Period.{emms_of}
 use Rattle.sd_emm.specs.Form.{sections_for}
@@ -19,22 +19,22 @@ use Rattle.sd_emm.specs.declared.emm.Emm.{Emm}
 use Rattle.sd_emm.proofs.Sharing.{as_many as sections_many}
 use Rattle.sd_ecm.specs.Parts.{parts_of}
 use Rattle.sd_ecm.specs.declared.part.EcmPart.{EcmPart}
-use Rattle.sd_spec_broadcast.specs.Plan.{Plan, closing_number, crypto_length, crypto_of, period_in, period_of, word_of}
-use Rattle.sd_spec_broadcast.specs.Carried.{carried}
-use Rattle.sd_spec_broadcast.specs.Messages.{message_at, period_at}
-use Rattle.sd_spec_broadcast.specs.Refused.{IsClear}
-use Rattle.sd_spec_broadcast.specs.Items.{IsOfBroadcast}
-use Rattle.sd_spec_broadcast.specs.Sent.{Item, Cat, Entitles, Controls, Carries, added, closing_of, message_before}
-use Rattle.sd_spec_broadcast.specs.Sent.{sent}
-use Rattle.sd_spec_broadcast.specs.Sent.{sent_from, tables_at, tables_before}
-use Rattle.sd_spec_broadcast.proofs.Items.{all_are_of_broadcast}
-use Rattle.sd_spec_broadcast.proofs.Schedule.{crypto_length_some, period_of_first, periods_rise}
-use Rattle.sd_spec_broadcast.proofs.Periods.{section_number}
+use Rattle.sd_spec.specs.Plan.{Plan, closing_number, crypto_length, crypto_of, period_in, period_of, word_of}
+use Rattle.sd_spec.specs.Carried.{carried}
+use Rattle.sd_spec.specs.Messages.{message_at, period_at}
+use Rattle.sd_spec.specs.Refused.{IsClear}
+use Rattle.sd_spec.specs.Items.{IsOfBroadcast}
+use Rattle.sd_spec.specs.Sent.{Item, Cat, Entitles, Controls, Carries, added, closing_of, message_before}
+use Rattle.sd_spec.specs.Sent.{sent}
+use Rattle.sd_spec.specs.Sent.{sent_from, tables_at, tables_before}
+use Rattle.sd_spec.proofs.Items.{all_are_of_broadcast}
+use Rattle.sd_spec.proofs.Schedule.{crypto_length_some, period_of_first, periods_rise}
+use Rattle.sd_spec.proofs.Periods.{section_number}
 use Rattle.sd_law_broadcast.proofs.Clear.{clear_words}
 use Rattle.sd_law_broadcast.proofs.Fitting.{period_count as sets_many}
 use Rattle.sd_law_broadcast.proofs.Reached.{period_reached}
-use Rattle.sd_law_several.specs.Runs.{last_crypto}
-use Rattle.sd_law_several.proofs.Using.{parts_are_used}
+use Rattle.sd_law_broadcast.specs.Runs.{last_crypto}
+use Rattle.sd_law_broadcast.proofs.Using.{parts_are_used}
 use Rattle.sd_run_books.specs.Air.{cryptos_for, cryptos_in, entitlements_at, last_word_for, period_count}
 use Rattle.sd_law_plan.specs.Within.{is_entitlement_of, told_periods}
 use Rattle.sd_law_plan.proofs.Airs.{last_period_is, last_word_is}

@@ -1,8 +1,8 @@
 -- A broadcast has what was planned.
 use Rattle.std.proofs.Common.{ℕ, ◌<◌, ◌≤◌, List, length}
-use Rattle.sd_spec_broadcast.specs.Plan.{Plan, IsPlan}
-use Rattle.sd_spec_broadcast.specs.Kinds.{moved_pids}
-use Rattle.sd_spec_broadcast.specs.Refused.{IsClear}
+use Rattle.sd_spec.specs.Plan.{Plan, IsPlan}
+use Rattle.sd_spec.specs.Kinds.{moved_pids}
+use Rattle.sd_spec.specs.Refused.{IsClear}
 use Rattle.sd_law_broadcast.specs.Packets.{AreLong}
 use Rattle.sd_law_broadcast.proofs.Clear.{clear_pids}
 use Rattle.sd_law_broadcast.proofs.Covering.{period_named}

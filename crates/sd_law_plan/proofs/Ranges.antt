@@ -4,8 +4,8 @@ use Rattle.std.proofs.Common.{Option, Some, None, refl, sym, ap, ◌∙◌, inl,
 use Rattle.std.specs.Option.{option_map, option_or}
 use Rattle.std.specs.List.{range_with_len}
 use Rattle.std.proofs.lemmas.Bool.{cases_lt}
-use Rattle.sd_command_status.specs.declared.status.Clash.{Clash as ClashKind}
-use Rattle.sd_command_status.specs.declared.status.Clash.TheVariants.{Books}
+use Rattle.sd_command_base.specs.declared.status.Clash.{Clash as ClashKind}
+use Rattle.sd_command_base.specs.declared.status.Clash.TheVariants.{Books}
 use Rattle.sd_run_books.specs.Apart.{clash_where, first_of}
 
 pub either_none : (o p : Option ClashKind) → option_or o p ≡ None → (o ≡ None) × (p ≡ None)

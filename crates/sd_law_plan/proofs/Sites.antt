@@ -8,10 +8,10 @@ use Rattle.std.proofs.lemmas.Bool.Decides.{nat_tests}
 use Rattle.std.proofs.lemmas.Slice.Eq.{bytes_eq-Decides}
 use Rattle.sd_base.proofs.Bools.{true_from_not}
 use Rattle.sd_base.proofs.Lists.{equal_bytes}
-use Rattle.sd_site.specs.Fields.{SiteFields}
-use Rattle.sd_law_several.specs.Runs.{HasWords, ShareNoWord}
-use Rattle.sd_command_status.specs.declared.status.Clash.{Clash as ClashKind}
-use Rattle.sd_command_status.specs.declared.status.Clash.TheVariants.{Heights, Masters, NoWords, SharedWord}
+use Rattle.sd_site.specs.SiteFields.{SiteFields}
+use Rattle.sd_law_broadcast.specs.Runs.{HasWords, ShareNoWord}
+use Rattle.sd_command_base.specs.declared.status.Clash.{Clash as ClashKind}
+use Rattle.sd_command_base.specs.declared.status.Clash.TheVariants.{Heights, Masters, NoWords, SharedWord}
 use Rattle.sd_run_books.specs.Apart.{clash_where, shares_word, sites_clash}
 use Rattle.sd_law_plan.proofs.Ranges.{where_none}
 

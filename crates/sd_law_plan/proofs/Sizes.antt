@@ -11,20 +11,20 @@ use Rattle.std.proofs.lemmas.List.{length-map}
 use Rattle.std.proofs.lemmas.List.Folds.{list_any-append}
 use Rattle.std.proofs.lemmas.List.Sums.{sum_by-cons}
 use Rattle.sd_message.specs.Pieces.{pieces_for}
-use Rattle.sd_site.specs.Fields.{AreInRange}
+use Rattle.sd_site.specs.SiteFields.{AreInRange}
 use Rattle.sd_emm.specs.Period.{emms_of}
 use Rattle.sd_emm.specs.Form.{sections_for}
 use Rattle.sd_emm.proofs.Sharing.{as_many as sections_many}
 use Rattle.sd_ecm.specs.Parts.{parts_for, parts_of}
 use Rattle.sd_ecm.specs.Versions.{positions_for}
 use Rattle.sd_ecm.proofs.Sharing.{as_many as parts_many}
-use Rattle.sd_spec_broadcast.specs.Plan.{Plan, crypto_length, crypto_of, period_in, period_of}
-use Rattle.sd_spec_broadcast.specs.Carried.{carried}
-use Rattle.sd_spec_broadcast.specs.Kinds.{has_moved, moved_pids, positional_pids}
-use Rattle.sd_spec_broadcast.specs.Messages.{message_at, period_at, places_after}
-use Rattle.sd_spec_broadcast.specs.Sent.{Item, Entitles, Controls, Carries, added, message_before}
-use Rattle.sd_spec_broadcast.specs.Sent.{sent_from, tables_at, tables_before}
-use Rattle.sd_spec_broadcast.proofs.Schedule.{crypto_length_some}
+use Rattle.sd_spec.specs.Plan.{Plan, crypto_length, crypto_of, period_in, period_of}
+use Rattle.sd_spec.specs.Carried.{carried}
+use Rattle.sd_spec.specs.Kinds.{has_moved, moved_pids, positional_pids}
+use Rattle.sd_spec.specs.Messages.{message_at, period_at, places_after}
+use Rattle.sd_spec.specs.Sent.{Item, Entitles, Controls, Carries, added, message_before}
+use Rattle.sd_spec.specs.Sent.{sent_from, tables_at, tables_before}
+use Rattle.sd_spec.proofs.Schedule.{crypto_length_some}
 use Rattle.sd_packet.specs.Positions.{is_moving}
 use Rattle.sd_law_broadcast.proofs.Fitting.{period_count as sets_many}
 use Rattle.sd_run_books.specs.Air.{entitlements_at}

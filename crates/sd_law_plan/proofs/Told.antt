@@ -9,9 +9,9 @@ use Rattle.std.specs.Str.{bytes_eq}
 use Rattle.std.proofs.lemmas.Bool.Decides.{nat_tests}
 use Rattle.sd_base.proofs.Lists.{equal_bytes}
 use Rattle.sd_book.specs.Commands.{commands_until, is_revoked, revoked}
-use Rattle.sd_spec_broadcast.specs.Plan.{Plan}
-use Rattle.sd_command_status.specs.declared.status.Clash.{Clash as ClashKind}
-use Rattle.sd_command_status.specs.declared.status.Clash.TheVariants.{Heights, Masters, NoWords, SharedWord}
+use Rattle.sd_spec.specs.Plan.{Plan}
+use Rattle.sd_command_base.specs.declared.status.Clash.{Clash as ClashKind}
+use Rattle.sd_command_base.specs.declared.status.Clash.TheVariants.{Heights, Masters, NoWords, SharedWord}
 use Rattle.sd_run_books.specs.Apart.{books_clash, clash_in, clash_of, clash_where, differ, differing_in, first_shared}
 use Rattle.sd_run_books.specs.Apart.{shared_count, shares_word, sites_clash}
 use Rattle.sd_law_plan.specs.Told.{IsDueIn, IsFirstApart, IsLeastShared, IsOfOne, IsSo, revoked_by}

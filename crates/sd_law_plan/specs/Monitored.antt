@@ -1,9 +1,9 @@
 -- Public meaning: what `messages` prints of a broadcast [this project, docs/FORMATS.md, Messages printed].
 use Rattle.std.specs.Prelude.{suc, List, [], ◌∷◌, Some}
 use Rattle.sd_base.specs.Types.{Bytes, PacketNumber}
-use Rattle.sd_site.specs.Fields.{SiteFields}
-use Rattle.sd_spec_broadcast.specs.Sent.{Item, Cat, Entitles, Controls, Carries}
-use Rattle.sd_monitor.specs.Lines.{ecm_data, emm_data, line_with}
+use Rattle.sd_site.specs.SiteFields.{SiteFields}
+use Rattle.sd_spec.specs.Sent.{Item, Cat, Entitles, Controls, Carries}
+use Rattle.sd_run_streams.specs.MessageLines.{ecm_data, emm_data, line_with}
 
 -- the line of a thing that is sent as packet k: a section of entitlements and a part of a control message are shown as
 -- they were written, and nothing is shown of another thing

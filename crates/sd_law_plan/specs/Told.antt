@@ -3,10 +3,10 @@
 use Rattle.std.specs.Prelude.{◌≡◌, ◌≢◌, ◌⊎◌, ◌↔◌, ℕ, ◌<◌, ◌≤◌, List, Contains}
 use Rattle.sd_base.specs.Types.{LeafNumber, Leaves, PeriodNumber, WordNumber}
 use Rattle.sd_book.specs.Commands.{revoked}
-use Rattle.sd_spec_broadcast.specs.Plan.{Plan}
-use Rattle.sd_law_several.specs.Runs.{HasWords}
-use Rattle.sd_command_status.specs.declared.status.Clash.{Clash}
-use Rattle.sd_command_status.specs.declared.status.Clash.TheVariants.{Heights, Masters, NoWords, SharedWord, Books}
+use Rattle.sd_spec.specs.Plan.{Plan}
+use Rattle.sd_law_broadcast.specs.Runs.{HasWords}
+use Rattle.sd_command_base.specs.declared.status.Clash.{Clash}
+use Rattle.sd_command_base.specs.declared.status.Clash.TheVariants.{Heights, Masters, NoWords, SharedWord, Books}
 use Rattle.sd_run_books.specs.Apart.{last_due}
 
 -- the leaves that the book revokes in period q, ascending [this project, docs/FORMATS.md, Book]

@@ -4,8 +4,8 @@ use Rattle.std.specs.Prelude.{◌≡◌, ℕ, ◌+◌, ◌*◌, ◌<◌, ◌≤�
 use Rattle.sd_base.specs.Types.{Packets, PeriodNumber, WordNumber, PacketNumber}
 use Rattle.sd_ecm.specs.Versions.{positions_for}
 use Rattle.sd_ecm.specs.declared.part.EcmPart.{EcmPart}
-use Rattle.sd_spec_broadcast.specs.Plan.{Plan, period_of, word_of}
-use Rattle.sd_spec_broadcast.specs.Sent.{Item, Cat, Entitles, Controls, Carries, broadcast, closing_of, sent}
+use Rattle.sd_spec.specs.Plan.{Plan, period_of, word_of}
+use Rattle.sd_spec.specs.Sent.{Item, Cat, Entitles, Controls, Carries, broadcast, closing_of, sent}
 use Rattle.sd_law_broadcast.specs.Named.{NamesPeriod, sets_named}
 use Rattle.sd_run_books.specs.Air.{added_most, cryptos_for, cryptos_in, entitlements_at, last_word_for, periods_for}
 

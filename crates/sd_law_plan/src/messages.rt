@@ -2,11 +2,11 @@
 
 ghost use Rattle.std.specs.Prelude.{◌≡◌, ◌++◌};
 ghost use Rattle.sd_base.specs.Types.{Packets};
-ghost use Rattle.sd_spec_broadcast.specs.Plan.{Plan, IsPlan};
-ghost use Rattle.sd_spec_broadcast.specs.Refused.{IsClear};
-ghost use Rattle.sd_spec_broadcast.specs.Sent.{broadcast, closing_of, sent};
+ghost use Rattle.sd_spec.specs.Plan.{Plan, IsPlan};
+ghost use Rattle.sd_spec.specs.Refused.{IsClear};
+ghost use Rattle.sd_spec.specs.Sent.{broadcast, closing_of, sent};
 ghost use Rattle.sd_law_broadcast.specs.Packets.{AreLong};
-ghost use Rattle.sd_monitor.specs.Lines.{message_lines};
+ghost use Rattle.sd_run_streams.specs.MessageLines.{message_lines};
 ghost use Rattle.sd_law_plan.specs.Monitored.{sent_lines};
 
 /// Of the broadcast of a clear stream the lines are those of the sections of entitlements and of the parts of control

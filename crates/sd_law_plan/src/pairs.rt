@@ -2,11 +2,11 @@
 
 ghost use Rattle.std.specs.Prelude.{◌≡◌, ◌<◌, ◌≤◌, ◌∷◌, ℕ, List, None, Some, length, slice_get};
 ghost use Rattle.sd_base.specs.Types.{Key};
-ghost use Rattle.sd_site.specs.Fields.{AreInRange};
-ghost use Rattle.sd_spec_broadcast.specs.Plan.{Plan};
-ghost use Rattle.sd_law_several.specs.Runs.{Run, IsRun, HasWords, ShareNoWord, HaveOwnWords, AgreeOnPeriods, AllAgree};
-ghost use Rattle.sd_law_several.specs.Known.{AreOneTree};
-ghost use Rattle.sd_command_status.specs.declared.status.Clash.{Clash};
+ghost use Rattle.sd_site.specs.SiteFields.{AreInRange};
+ghost use Rattle.sd_spec.specs.Plan.{Plan};
+ghost use Rattle.sd_law_broadcast.specs.Runs.{Run, IsRun, HasWords, ShareNoWord, HaveOwnWords, AgreeOnPeriods, AllAgree};
+ghost use Rattle.sd_law_broadcast.specs.Known.{AreOneTree};
+ghost use Rattle.sd_command_base.specs.declared.status.Clash.{Clash};
 ghost use Rattle.sd_run_books.specs.Apart.{clash_of};
 ghost use Rattle.sd_run_books.specs.Air.{cryptos_for, last_period_for, last_word_for};
 ghost use Rattle.sd_law_plan.specs.Told.{IsSo};

@@ -2,10 +2,10 @@
 
 ghost use Rattle.std.specs.Prelude.{◌≡◌, ◌+◌, ◌^◌, ◌<◌, ◌≤◌, ℕ, length, false};
 ghost use Rattle.sd_base.specs.Types.{Packets, PacketNumber};
-ghost use Rattle.sd_site.specs.Fields.{SiteFields, AreInRange};
-ghost use Rattle.sd_spec_broadcast.specs.Kinds.{moved_pids};
-ghost use Rattle.sd_spec_broadcast.specs.Plan.{Plan, IsPlan, period_of, word_of};
-ghost use Rattle.sd_spec_broadcast.specs.Refused.{IsClear, is_too_long};
+ghost use Rattle.sd_site.specs.SiteFields.{SiteFields, AreInRange};
+ghost use Rattle.sd_spec.specs.Kinds.{moved_pids};
+ghost use Rattle.sd_spec.specs.Plan.{Plan, IsPlan, period_of, word_of};
+ghost use Rattle.sd_spec.specs.Refused.{IsClear, is_too_long};
 ghost use Rattle.sd_law_broadcast.specs.Packets.{AreLong};
 ghost use Rattle.sd_run_books.specs.Air.{cryptos_for, last_period_for, last_word_for};
 ghost use Rattle.sd_law_plan.specs.Within.{IsWithinPlan};

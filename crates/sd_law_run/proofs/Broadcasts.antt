@@ -2,27 +2,27 @@
 use Rattle.std.proofs.Common.{◌≡◌, ℕ, ◌+◌, ◌*◌, ◌^◌, ◌<◌, ◌≤◌, cond, List, [], length, reverse, Option}
 use Rattle.std.proofs.Common.{Some, None, Ok, Err, refl, ap, ◌∙◌, le-ltb, arith}
 use Rattle.std.specs.List.{concat}
-use Rattle.sd_card.specs.Fields.{CardFields, IsCard, card_of, card_bytes}
-use Rattle.sd_card.specs.Faults.{height_in, length_at}
-use Rattle.sd_card.proofs.Spellings.{written_is_good, good_parts}
-use Rattle.sd_card.proofs.Made.{made_is_card}
+use Rattle.sd_site.specs.CardFields.{CardFields, IsCard, card_of, card_bytes}
+use Rattle.sd_site.specs.CardFaults.{height_in, length_at}
+use Rattle.sd_site.proofs.Spellings.{written_is_good, good_parts}
+use Rattle.sd_site.proofs.Made.{made_is_card}
 use Rattle.sd_engine.specs.Taken.{Whole, taken_of, end_of}
-use Rattle.sd_spec_broadcast.specs.Plan.{Plan, IsPlan}
-use Rattle.sd_spec_broadcast.specs.Refused.{IsClear}
-use Rattle.sd_spec_broadcast.specs.Sent.{broadcast}
+use Rattle.sd_spec.specs.Plan.{Plan, IsPlan}
+use Rattle.sd_spec.specs.Refused.{IsClear}
+use Rattle.sd_spec.specs.Sent.{broadcast}
 use Rattle.sd_law_broadcast.specs.Packets.{AreWholePackets}
-use Rattle.sd_spec_receiver.specs.Offered.{out_from, break_from}
-use Rattle.sd_spec_receiver.specs.Ending.{ending_of}
+use Rattle.sd_spec.specs.Offered.{out_from, break_from}
+use Rattle.sd_spec.specs.Ending.{ending_of}
 use Rattle.sd_receive.specs.Receiving.{taken_keys}
 use Rattle.sd_law_losses.specs.Confirmed.{opened_by}
 use Rattle.sd_law_losses.specs.Endings.{first_revoked, whole_ending}
 use Rattle.sd_law_losses.proofs.Theorem.{whole_refused, whole_opened, whole_ended}
-use Rattle.sd_command_status.specs.declared.status.Status.TheVariants.{Limit}
-use Rattle.sd_command_status.specs.declared.status.LimitKind.TheVariants.{CardBytes}
-use Rattle.sd_command_status.specs.Spec.{FileArgument, Readings, all_of, judged, value, within, ◌>>=◌}
-use Rattle.sd_command_status.specs.Work.{Work}
-use Rattle.sd_command_status.proofs.Follow.{then_is}
-use Rattle.sd_command_files.specs.Files.{most_card_bytes}
+use Rattle.sd_command_base.specs.declared.status.Status.TheVariants.{Limit}
+use Rattle.sd_command_base.specs.declared.status.LimitKind.TheVariants.{CardBytes}
+use Rattle.sd_command_base.specs.Spec.{FileArgument, Readings, all_of, judged, value, within, ◌>>=◌}
+use Rattle.sd_command_base.specs.Work.{Work}
+use Rattle.sd_command_base.proofs.Follow.{then_is}
+use Rattle.sd_command_base.specs.Files.{most_card_bytes}
 use Rattle.sd_command_line.specs.Words.{ReceiveOf}
 use Rattle.sd_run_broadcasts.specs.Receive.{told_card, card_of_file, ending_status, ended_status}
 use Rattle.sd_run_broadcasts.specs.Receive.{received_of, received_status, received_steps, receiving, stream_meaning}

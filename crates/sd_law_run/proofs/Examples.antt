@@ -6,14 +6,14 @@ use Rattle.sd_command_line.specs.declared.operand.Files.{Files}
 use Rattle.sd_command_line.specs.declared.operand.Files.TheVariants.{Inputs, Output, Both}
 use Rattle.sd_command_line.specs.Commands.{example_of}
 use Rattle.sd_command_line.specs.Exits.{exit_line}
-use Rattle.sd_command_status.specs.Exits.{code_of}
-use Rattle.sd_command_status.specs.declared.status.Status.{Status}
-use Rattle.sd_command_status.specs.declared.status.Status.TheVariants.{Done, Usage, Missing, Revoked, DepotFault}
-use Rattle.sd_command_status.specs.declared.status.Status.TheVariants.{PrintFault}
-use Rattle.sd_command_status.specs.declared.status.Status.TheVariants.{BadSite, BadBook, BadCard, BadClear, BadStream}
-use Rattle.sd_command_status.specs.declared.status.Status.TheVariants.{Limit}
-use Rattle.sd_command_status.specs.declared.status.Status.TheVariants.{NoMemory, Unheard, Unclosed, Gaps, NoCat}
-use Rattle.sd_command_status.specs.declared.status.Status.TheVariants.{BadWord, Clash}
+use Rattle.sd_command_base.specs.Exits.{code_of}
+use Rattle.sd_command_base.specs.declared.status.Status.{Status}
+use Rattle.sd_command_base.specs.declared.status.Status.TheVariants.{Done, Usage, Missing, Revoked, DepotFault}
+use Rattle.sd_command_base.specs.declared.status.Status.TheVariants.{PrintFault}
+use Rattle.sd_command_base.specs.declared.status.Status.TheVariants.{BadSite, BadBook, BadCard, BadClear, BadStream}
+use Rattle.sd_command_base.specs.declared.status.Status.TheVariants.{Limit}
+use Rattle.sd_command_base.specs.declared.status.Status.TheVariants.{NoMemory, Unheard, Unclosed, Gaps, NoCat}
+use Rattle.sd_command_base.specs.declared.status.Status.TheVariants.{BadWord, Clash}
 use Rattle.sd_law_run.specs.Helped.{help_exit, in_column, IsOrdered}
 use Rattle.sd_run.proofs.Examples.{words_in, arguments_in, example_order}
 use Rattle.sd_run.proofs.Rows.{example}

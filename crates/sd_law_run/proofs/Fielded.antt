@@ -11,29 +11,29 @@ use Rattle.sd_engine.specs.Stream.{break_of, is_packet, packets_of, pieces}
 use Rattle.sd_engine.specs.Taken.{taken_of}
 use Rattle.sd_engine.specs.declared.fault.StreamBreak.{StreamBreak}
 use Rattle.sd_engine.proofs.Walking.{all_counted}
-use Rattle.sd_site.specs.Fields.{SiteFields}
-use Rattle.sd_base_text.specs.Lines.{lines_of}
-use Rattle.sd_spec_field.specs.declared.event.Event.{Event}
-use Rattle.sd_spec_field.specs.Book.{sends}
-use Rattle.sd_spec_field.specs.Events.{is_of}
+use Rattle.sd_site.specs.SiteFields.{SiteFields}
+use Rattle.sd_base.specs.Lines.{lines_of}
+use Rattle.sd_spec.specs.declared.event.Event.{Event}
+use Rattle.sd_spec.specs.Book.{sends}
+use Rattle.sd_spec.specs.Events.{is_of}
 use Rattle.sd_field.specs.Script.{by_run, judged as judged_line, put_before, script_from, script_of, spoken}
 use Rattle.sd_field.specs.declared.fault.ScriptFault.{ScriptFault}
 use Rattle.sd_field.proofs.Scripts.{IsGood, line_good}
 use Rattle.sd_law_broadcast.specs.Packets.{IsWholePacket, AreWholePackets}
 use Rattle.sd_law_broadcast.specs.Synced.{IsSynced, AreSynced}
 use Rattle.sd_law_broadcast.proofs.Cut.{taken_synced, taken_whole}
-use Rattle.sd_command_status.specs.declared.status.Status.{Status}
-use Rattle.sd_command_status.specs.declared.status.Status.TheVariants.{Limit}
-use Rattle.sd_command_status.specs.declared.status.LimitKind.TheVariants.{BookBytes, FieldHeight, FieldPackets}
-use Rattle.sd_command_status.specs.Spec.{FileArgument, Readings, judged, value, within, ◌>>=◌}
-use Rattle.sd_command_status.proofs.Follow.{then_is}
-use Rattle.sd_command_files.specs.Files.{low_site_of_file, most_book_bytes, site_in, told_low}
-use Rattle.sd_command_files.specs.Printed.{printing}
+use Rattle.sd_command_base.specs.declared.status.Status.{Status}
+use Rattle.sd_command_base.specs.declared.status.Status.TheVariants.{Limit}
+use Rattle.sd_command_base.specs.declared.status.LimitKind.TheVariants.{BookBytes, FieldHeight, FieldPackets}
+use Rattle.sd_command_base.specs.Spec.{FileArgument, Readings, judged, value, within, ◌>>=◌}
+use Rattle.sd_command_base.proofs.Follow.{then_is}
+use Rattle.sd_command_base.specs.Files.{low_site_of_file, most_book_bytes, site_in, told_low}
+use Rattle.sd_command_base.specs.Printed.{printing}
 use Rattle.sd_run_field.specs.Field.{Inputs, clear_of_file, field_meaning, field_text, inputs_by, inputs_meaning}
 use Rattle.sd_run_field.specs.Field.{most_clear_bytes, most_height, script_of_file, told_clear, told_script, unbroken}
-use Rattle.sd_law_lines.specs.Fielded.{confirmed_lines}
-use Rattle.sd_law_lines.specs.Fielded as fielded
-use Rattle.sd_law_lines.proofs.Fielded.{text_is_confirmed}
+use Rattle.sd_law_field.specs.Fielded.{confirmed_lines}
+use Rattle.sd_law_field.specs.Fielded as fielded
+use Rattle.sd_law_field.proofs.Fielded.{text_is_confirmed}
 use Rattle.sd_command_line.specs.Words.{FieldOf}
 use Rattle.sd_run.specs.Meaning.{meaning}
 use Rattle.sd_law_run.specs.Good.{IsGoodSite}

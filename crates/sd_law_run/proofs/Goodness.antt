@@ -1,44 +1,44 @@
 -- Good words over good files mean work.
 use Rattle.std.proofs.Common.{◌≡◌, ℕ, ◌≤◌, ◌^◌, cond, List, length, Option, Some, Result, Ok, Err, ap, ◌∙◌, le-ltb}
 use Rattle.std.proofs.Common.{lt-ltb, arith, refl}
-use Rattle.sd_site.specs.Fields.{SiteFields}
+use Rattle.sd_site.specs.SiteFields.{SiteFields}
 use Rattle.sd_site.specs.Text.{site_of, IsSite}
 use Rattle.sd_site.proofs.Alone.{answered}
-use Rattle.sd_card.specs.Fields.{card_of, card_bytes}
-use Rattle.sd_sample.specs.Sample.{sample_of}
+use Rattle.sd_site.specs.CardFields.{card_of, card_bytes}
+use Rattle.sd_engine.specs.Sample.{sample_of}
 use Rattle.sd_book.specs.declared.command.Command.{Command}
 use Rattle.sd_book.specs.Text.{SpellsBook, book_of, text_of}
 use Rattle.sd_book.proofs.Judged.{book_again}
-use Rattle.sd_base_text.specs.Lines.{lines_of}
-use Rattle.sd_command_status.specs.declared.status.Status.{Status}
-use Rattle.sd_command_status.specs.declared.status.Status.TheVariants.{Done, Limit, BadWord}
-use Rattle.sd_command_status.specs.declared.status.LimitKind.{LimitKind}
-use Rattle.sd_command_status.specs.declared.status.LimitKind.TheVariants.{SiteBytes, BookBytes}
-use Rattle.sd_command_status.specs.Spec.{FileArgument, Readings, all_of, judged, value, within, ◌>>=◌}
-use Rattle.sd_command_status.specs.Work.{Uncounted, NoSteps}
-use Rattle.sd_command_status.proofs.Follow.{then_is}
+use Rattle.sd_base.specs.Lines.{lines_of}
+use Rattle.sd_command_base.specs.declared.status.Status.{Status}
+use Rattle.sd_command_base.specs.declared.status.Status.TheVariants.{Done, Limit, BadWord}
+use Rattle.sd_command_base.specs.declared.status.LimitKind.{LimitKind}
+use Rattle.sd_command_base.specs.declared.status.LimitKind.TheVariants.{SiteBytes, BookBytes}
+use Rattle.sd_command_base.specs.Spec.{FileArgument, Readings, all_of, judged, value, within, ◌>>=◌}
+use Rattle.sd_command_base.specs.Work.{Uncounted, NoSteps}
+use Rattle.sd_command_base.proofs.Follow.{then_is}
 use Rattle.sd_command_line.specs.Words.{Order, order_of, CoverOf, CardOf, SampleOf, TablesOf, HeadOf}
-use Rattle.sd_command_files.specs.Files.{most_site_bytes, most_book_bytes, told_site, told_book, site_of_file}
-use Rattle.sd_command_files.specs.Files.{book_of_file}
-use Rattle.sd_command_files.specs.Files.{site_in, book_in}
-use Rattle.sd_command_files.specs.Both.{SiteBook, both_meaning, both_by}
+use Rattle.sd_command_base.specs.Files.{most_site_bytes, most_book_bytes, told_site, told_book, site_of_file}
+use Rattle.sd_command_base.specs.Files.{book_of_file}
+use Rattle.sd_command_base.specs.Files.{site_in, book_in}
+use Rattle.sd_command_base.specs.Both.{SiteBook, both_meaning, both_by}
 use Rattle.sd_book.proofs.Short.{book_short}
 use Rattle.sd_site.proofs.Short.{site_short}
 use Rattle.sd_book.proofs.Written.{spelled_again}
 use Rattle.sd_book.specs.Limits.{IsWithinLimits}
 use Rattle.sd_law_run.specs.Good.{IsGoodSite, IsGoodBook}
-use Rattle.sd_run_covers.specs.Cover.{covering, cover_meaning}
+use Rattle.sd_run_cards.specs.Cover.{covering, cover_meaning}
 use Rattle.sd_law_run.specs.Good.{IsGoodCover}
-use Rattle.sd_command_files.specs.Made.{making}
+use Rattle.sd_command_base.specs.Made.{making}
 use Rattle.sd_run_cards.specs.Card.{told_card}
 use Rattle.sd_law_run.specs.Good.{IsGoodCard}
 use Rattle.sd_law_run.specs.Good.{IsGoodSample}
 use Rattle.sd_run_streams.specs.Tables.{inspecting, tables_meaning}
-use Rattle.sd_command_files.specs.Streams.{stream_status}
+use Rattle.sd_command_base.specs.Streams.{stream_status}
 use Rattle.sd_law_run.specs.Good.{IsGoodTables}
 use Rattle.std.specs.List.{concat}
 use Rattle.sd_engine.specs.Taken.{Whole, taken_of}
-use Rattle.sd_spec_broadcast.specs.Sent.{broadcast}
+use Rattle.sd_spec.specs.Sent.{broadcast}
 use Rattle.sd_run_broadcasts.specs.Head.{plan_by, plan_meaning, sending, sending_of, sent_of, sent_status, head_meaning}
 use Rattle.sd_law_run.specs.Good.{plan_told, IsGoodHead}
 use Rattle.sd_run_broadcasts.proofs.HeadSending.{sent_unrefused}

@@ -1,11 +1,11 @@
 -- Good files of accounts and books mean work.
 use Rattle.std.proofs.Common.{◌≡◌, ℕ, List, ◌++◌, Ok, ◌∙◌}
 use Rattle.sd_book.specs.Text.{text_of}
-use Rattle.sd_command_status.specs.Spec.{Readings}
-use Rattle.sd_command_status.specs.Work.{NoSteps}
-use Rattle.sd_command_files.specs.Made.{making}
+use Rattle.sd_command_base.specs.Spec.{Readings}
+use Rattle.sd_command_base.specs.Work.{NoSteps}
+use Rattle.sd_command_base.specs.Made.{making}
 use Rattle.sd_command_line.specs.Words.{AccountsOf, BookOf}
-use Rattle.sd_run_books.specs.Accounts.{accounts_value, making_then, report_line}
+use Rattle.sd_run_books.specs.AccountsCommand.{accounts_value, making_then, report_line}
 use Rattle.sd_run_books.proofs.GoodAccounts.{accounts_good}
 use Rattle.sd_run_books.proofs.Longer.{good_files}
 use Rattle.sd_law_run.specs.Good.{IsGoodAccounts, IsGoodBooks}

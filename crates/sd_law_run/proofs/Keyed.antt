@@ -1,10 +1,10 @@
 -- Of a broadcast a receiver takes a key in each period in which its leaf isn't revoked.
 use Rattle.std.proofs.Common.{◌≡◌, ℕ, ◌^◌, ◌<◌, List, []}
-use Rattle.sd_card.specs.Fields.{card_of}
-use Rattle.sd_spec_receiver.specs.Taken.{taken_keys}
-use Rattle.sd_spec_broadcast.specs.Plan.{Plan, IsPlan}
-use Rattle.sd_spec_broadcast.specs.Refused.{IsClear}
-use Rattle.sd_spec_broadcast.specs.Sent.{broadcast}
+use Rattle.sd_site.specs.CardFields.{card_of}
+use Rattle.sd_spec.specs.Taken.{taken_keys}
+use Rattle.sd_spec.specs.Plan.{Plan, IsPlan}
+use Rattle.sd_spec.specs.Refused.{IsClear}
+use Rattle.sd_spec.specs.Sent.{broadcast}
 use Rattle.sd_law_broadcast.specs.Packets.{AreWholePackets}
 use Rattle.sd_law_losses.proofs.Theorem.{whole_keys_taken}
 use Rattle.sd_law_run.specs.Opened.{entitled_periods}

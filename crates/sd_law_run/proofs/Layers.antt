@@ -2,14 +2,14 @@
 use Rattle.std.proofs.Common.{◌≡◌, ℕ, ◌≤◌, ◌^◌, ◌&&◌, nat_le, true, cond, List, Ok, Err, ap, ◌∙◌, lt-ltb}
 use Rattle.std.proofs.lemmas.Bool.{le-leb}
 use Rattle.sd_lsd.specs.Fields.{layer_card_of, layer_bytes}
-use Rattle.sd_command_status.specs.declared.status.Status.TheVariants.{BadWord}
-use Rattle.sd_command_status.specs.Spec.{Readings, judged, value, ◌>>=◌}
-use Rattle.sd_command_status.specs.Work.{Uncounted}
-use Rattle.sd_command_status.proofs.Follow.{then_is}
-use Rattle.sd_command_files.specs.Files.{site_in, book_in}
-use Rattle.sd_command_files.specs.Made.{making}
+use Rattle.sd_command_base.specs.declared.status.Status.TheVariants.{BadWord}
+use Rattle.sd_command_base.specs.Spec.{Readings, judged, value, ◌>>=◌}
+use Rattle.sd_command_base.specs.Work.{Uncounted}
+use Rattle.sd_command_base.proofs.Follow.{then_is}
+use Rattle.sd_command_base.specs.Files.{site_in, book_in}
+use Rattle.sd_command_base.specs.Made.{making}
 use Rattle.sd_command_line.specs.Words.{LayeredOf, LcardOf}
-use Rattle.sd_run_covers.specs.Layered.{layers, layers_of_file, told_layers, layering}
+use Rattle.sd_run_cards.specs.Layered.{layers, layers_of_file, told_layers, layering}
 use Rattle.sd_run_cards.specs.Lcard.{told_leaf, told_width, carding}
 use Rattle.sd_law_run.specs.Good.{IsGoodLayered, IsGoodLcard}
 use Rattle.sd_run.specs.Meaning.{meaning}

@@ -4,14 +4,14 @@ use Rattle.std.proofs.Common.{inl, inr, append-nil}
 use Rattle.sd_base.specs.Count.{with_added}
 use Rattle.sd_ports.specs.Files.{Files, with_bytes}
 use Rattle.sd_ports.specs.Bytes.{IsPrefix}
-use Rattle.sd_command_status.specs.declared.status.Status.{Status}
-use Rattle.sd_command_status.specs.Outside.{DepotState, Outside}
-use Rattle.sd_command_status.specs.Spec.{Readings, contents_of}
-use Rattle.sd_command_status.specs.Work.{Out, Work, files_with, made_with}
-use Rattle.sd_command_status.specs.Outcome.{IsUnmade, IsMade, IsMadeShort, Progress, untouched, writing, printing}
-use Rattle.sd_command_status.specs.Outcome.{Outcome, refused, ended, unclosed, exhausted, failed, nowhere, cut_off}
-use Rattle.sd_command_status.specs.Results.{RunResult, with_page}
-use Rattle.sd_command_status.proofs.Told.{told_given}
+use Rattle.sd_command_base.specs.declared.status.Status.{Status}
+use Rattle.sd_command_base.specs.Outside.{DepotState, Outside}
+use Rattle.sd_command_base.specs.Spec.{Readings, contents_of}
+use Rattle.sd_command_base.specs.Work.{Out, Work, files_with, made_with}
+use Rattle.sd_command_base.specs.Outcome.{IsUnmade, IsMade, IsMadeShort, Progress, untouched, writing, printing}
+use Rattle.sd_command_base.specs.Outcome.{Outcome, refused, ended, unclosed, exhausted, failed, nowhere, cut_off}
+use Rattle.sd_command_base.specs.Results.{RunResult, with_page}
+use Rattle.sd_command_base.proofs.RunAnswers.{told_given}
 use Rattle.sd_law_run.specs.Left.{IsAsBefore, HasOut}
 use Rattle.sd_run.specs.Meaning.{meaning}
 

@@ -2,17 +2,17 @@
 use Rattle.std.proofs.Common.{◌≡◌, ℕ, ◌+◌, ◌^◌, ◌<◌, ◌≤◌, Bool, List, Some, sym, ap, ◌∙◌, arith}
 use Rattle.std.specs.FinMap.{insert}
 use Rattle.std.specs.List.{concat}
-use Rattle.sd_card.specs.Fields.{card_of}
-use Rattle.sd_card.proofs.Made.{made_is_card}
-use Rattle.sd_spec_broadcast.specs.Plan.{Plan}
-use Rattle.sd_spec_broadcast.specs.Sent.{broadcast}
+use Rattle.sd_site.specs.CardFields.{card_of}
+use Rattle.sd_site.proofs.Made.{made_is_card}
+use Rattle.sd_spec.specs.Plan.{Plan}
+use Rattle.sd_spec.specs.Sent.{broadcast}
 use Rattle.sd_law_losses.specs.Chosen.{chosen}
 use Rattle.sd_law_losses.specs.Confirmed.{confirmed}
-use Rattle.sd_command_status.specs.declared.status.Status.{Status}
-use Rattle.sd_command_status.specs.Spec.{contents_of}
-use Rattle.sd_command_status.specs.Outside.{Outside}
-use Rattle.sd_command_status.specs.Results.{RunResult}
-use Rattle.sd_command_files.specs.Shown.{word_at}
+use Rattle.sd_command_base.specs.declared.status.Status.{Status}
+use Rattle.sd_command_base.specs.Spec.{contents_of}
+use Rattle.sd_command_base.specs.Outside.{Outside}
+use Rattle.sd_command_base.specs.Results.{RunResult}
+use Rattle.sd_command_base.specs.Shown.{word_at}
 use Rattle.sd_run_broadcasts.specs.Receive.{receiving, received_steps, receive_meaning}
 use Rattle.sd_law_run.specs.Headline.{Names, file_in, AreGiven, IsUndisturbed, card_for}
 use Rattle.sd_law_run.specs.Lost.{kept_items, LossResult}

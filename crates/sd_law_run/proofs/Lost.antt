@@ -3,22 +3,22 @@ use Rattle.std.proofs.Common.{◌≡◌, ℕ, ◌*◌, ◌^◌, ◌<◌, ◌≤�
 use Rattle.std.proofs.Common.{refl, sym, ap, ◌∙◌, arith}
 use Rattle.std.specs.Prelude.{Some, Ok}
 use Rattle.std.specs.List.{concat}
-use Rattle.sd_card.specs.Fields.{CardFields, card_of}
-use Rattle.sd_card.proofs.Made.{made_is_card}
+use Rattle.sd_site.specs.CardFields.{CardFields, card_of}
+use Rattle.sd_site.proofs.Made.{made_is_card}
 use Rattle.sd_engine.specs.Driving.{most_packets}
 use Rattle.sd_engine.specs.Taken.{Whole, taken_of, end_of}
-use Rattle.sd_spec_broadcast.specs.Plan.{Plan, IsPlan}
-use Rattle.sd_spec_broadcast.specs.Refused.{IsClear}
-use Rattle.sd_spec_broadcast.specs.Sent.{sent, closing_of, broadcast}
+use Rattle.sd_spec.specs.Plan.{Plan, IsPlan}
+use Rattle.sd_spec.specs.Refused.{IsClear}
+use Rattle.sd_spec.specs.Sent.{sent, closing_of, broadcast}
 use Rattle.sd_law_broadcast.specs.Packets.{AreWholePackets}
 use Rattle.sd_law_broadcast.specs.Synced.{IsSynced, AreSynced}
 use Rattle.sd_law_broadcast.proofs.Joined.{taken_again, joined_whole}
 use Rattle.sd_law_broadcast.proofs.Synced.{broadcast_synced}
 use Rattle.sd_law_broadcast.proofs.Counted.{broadcast_short}
-use Rattle.sd_spec_receiver.specs.declared.ending.Ending.{Ending}
-use Rattle.sd_spec_receiver.specs.declared.ending.Ending.TheVariants as end
-use Rattle.sd_spec_receiver.specs.Offered.{out_from, break_from}
-use Rattle.sd_spec_receiver.specs.Ending.{ending_of}
+use Rattle.sd_spec.specs.declared.ending.Ending.{Ending}
+use Rattle.sd_spec.specs.declared.ending.Ending.TheVariants as end
+use Rattle.sd_spec.specs.Offered.{out_from, break_from}
+use Rattle.sd_spec.specs.Ending.{ending_of}
 use Rattle.sd_receive.specs.Receiving.{taken_keys}
 use Rattle.sd_law_losses.specs.Chosen.{chosen}
 use Rattle.sd_law_losses.specs.Confirmed.{confirmed, opened_by, is_revoked_in}
@@ -27,13 +27,13 @@ use Rattle.sd_law_losses.proofs.Theorem as lost
 use Rattle.sd_law_losses.proofs.Revoking.{revoked_truly}
 use Rattle.sd_law_losses.proofs.Opened.{confirmed_are_opened}
 use Rattle.sd_law_losses.proofs.Later.{chosen_all_of}
-use Rattle.sd_command_status.specs.declared.status.Status.TheVariants.{Revoked}
-use Rattle.sd_command_status.specs.Spec.{Readings}
-use Rattle.sd_command_status.specs.Work.{Work}
+use Rattle.sd_command_base.specs.declared.status.Status.TheVariants.{Revoked}
+use Rattle.sd_command_base.specs.Spec.{Readings}
+use Rattle.sd_command_base.specs.Work.{Work}
 use Rattle.sd_run_broadcasts.specs.Receive.{ending_status, ended_status, received_of, received_status, received_steps}
 use Rattle.sd_run_broadcasts.specs.Receive.{receiving}
 use Rattle.sd_law_run.specs.Good.{IsGoodReceive}
-use Rattle.sd_command_files.specs.Turned.{is_break}
+use Rattle.sd_command_base.specs.Turned.{is_break}
 use Rattle.sd_law_run.specs.Lost.{kept_items, kept_periods, IsRestTo, IsConfirmed}
 use Rattle.sd_run.specs.Meaning.{meaning}
 use Rattle.sd_run_broadcasts.proofs.Received.{none_refused, bytes_are, unrefused_steps}

@@ -1,17 +1,17 @@
 -- Good words over good files mean that messages and cards are shown.
 use Rattle.std.proofs.Common.{◌≡◌, ℕ, ◌^◌, ◌<◌, ◌≤◌, List, Option, Some, Ok, refl, ap, ◌∙◌, arith}
-use Rattle.sd_card.specs.Fields.{CardFields, IsCard, card_bytes, card_of}
-use Rattle.sd_card.proofs.Made.{made_is_card}
-use Rattle.sd_card.proofs.Spellings.{written_is_good}
-use Rattle.sd_card.specs.Files.{check_in}
-use Rattle.sd_command_status.specs.declared.status.Status.TheVariants.{Done}
-use Rattle.sd_command_status.specs.declared.status.LimitKind.TheVariants.{CardBytes}
-use Rattle.sd_command_status.specs.Spec.{Readings, all_of, judged, value, within, ◌>>=◌}
+use Rattle.sd_site.specs.CardFields.{CardFields, IsCard, card_bytes, card_of}
+use Rattle.sd_site.proofs.Made.{made_is_card}
+use Rattle.sd_site.proofs.Spellings.{written_is_good}
+use Rattle.sd_site.specs.Files.{check_in}
+use Rattle.sd_command_base.specs.declared.status.Status.TheVariants.{Done}
+use Rattle.sd_command_base.specs.declared.status.LimitKind.TheVariants.{CardBytes}
+use Rattle.sd_command_base.specs.Spec.{Readings, all_of, judged, value, within, ◌>>=◌}
 use Rattle.sd_command_line.specs.Words.{MessagesOf, ShowOf}
-use Rattle.sd_command_status.specs.Work.{work_of_text}
-use Rattle.sd_command_status.proofs.Follow.{then_is}
-use Rattle.sd_command_files.specs.Files.{most_card_bytes, site_in}
-use Rattle.sd_command_files.specs.Streams.{stream_status}
+use Rattle.sd_command_base.specs.Work.{work_of_text}
+use Rattle.sd_command_base.proofs.Follow.{then_is}
+use Rattle.sd_command_base.specs.Files.{most_card_bytes, site_in}
+use Rattle.sd_command_base.specs.Streams.{stream_status}
 use Rattle.sd_run_streams.specs.Messages.{messages_meaning, monitoring, stream_meaning}
 use Rattle.sd_run_cards.specs.Show.{line_of_file, shown_line, told_show}
 use Rattle.sd_run_cards.proofs.ShownCards.{line_read}

@@ -1,14 +1,14 @@
 -- Good words and files of an operator's tools mean work.
 use Rattle.std.proofs.Common.{◌≡◌, ◌≤◌, nat_le, cond, List, Option, Some, None, Ok, Err, ap, ◌∙◌, ℕ}
 use Rattle.std.proofs.lemmas.Bool.{le-leb}
-use Rattle.sd_spec_broadcast.specs.Plan.{Plan}
-use Rattle.sd_command_status.specs.declared.status.Status.TheVariants.{BadWord, Clash}
-use Rattle.sd_command_status.specs.declared.status.Clash.{Clash as ClashKind}
-use Rattle.sd_command_status.specs.Spec.{Readings, judged, value, ◌>>=◌}
-use Rattle.sd_command_status.specs.Work.{work_of_text}
-use Rattle.sd_command_status.proofs.Follow.{then_is}
-use Rattle.sd_command_files.specs.Both.{SiteBook, both_meaning}
-use Rattle.sd_command_files.specs.Files.{site_in, book_in}
+use Rattle.sd_spec.specs.Plan.{Plan}
+use Rattle.sd_command_base.specs.declared.status.Status.TheVariants.{BadWord, Clash}
+use Rattle.sd_command_base.specs.declared.status.Clash.{Clash as ClashKind}
+use Rattle.sd_command_base.specs.Spec.{Readings, judged, value, ◌>>=◌}
+use Rattle.sd_command_base.specs.Work.{work_of_text}
+use Rattle.sd_command_base.proofs.Follow.{then_is}
+use Rattle.sd_command_base.specs.Both.{SiteBook, both_meaning}
+use Rattle.sd_command_base.specs.Files.{site_in, book_in}
 use Rattle.sd_command_line.specs.Words.{ApartOf, PlanOf}
 use Rattle.sd_run_books.specs.Apart.{apart_text, clash_of, plan_of_both, told_apart, told_clash}
 use Rattle.sd_run_books.specs.Air.{last_word_for, planning, roomy_site_of_file, told_room}

@@ -3,20 +3,20 @@ use Rattle.std.proofs.Common.{◌≡◌, ◌≢◌, ℕ, ◌-◌, ◌^◌, ◌<�
 use Rattle.std.proofs.Common.{Option, Some, Result, Ok, Err, refl, sym, ap, subst, ◌∙◌, arith, le-ltb}
 use Rattle.std.specs.Prelude.{◌||◌, if◌then◌else◌}
 use Rattle.std.specs.Str.{bytes_eq}
-use Rattle.sd_base_text.specs.Number.{decimal_value}
+use Rattle.sd_base.specs.Number.{decimal_value}
 use Rattle.sd_tree.proofs.Powers.{leaves_bounds}
-use Rattle.sd_site.specs.Fields.{SiteFields}
-use Rattle.sd_command_status.specs.declared.status.Status.{Status}
-use Rattle.sd_command_status.specs.declared.status.Status.TheVariants.{Usage, BadWord}
-use Rattle.sd_command_status.specs.Spec.{Readings, judged, ◌>>=◌}
-use Rattle.sd_command_status.specs.Outside.{Outside}
-use Rattle.sd_command_status.specs.Outcome.{OutcomeWithin, Implements}
-use Rattle.sd_command_status.specs.Results.{RunResult, with_page}
+use Rattle.sd_site.specs.SiteFields.{SiteFields}
+use Rattle.sd_command_base.specs.declared.status.Status.{Status}
+use Rattle.sd_command_base.specs.declared.status.Status.TheVariants.{Usage, BadWord}
+use Rattle.sd_command_base.specs.Spec.{Readings, judged, ◌>>=◌}
+use Rattle.sd_command_base.specs.Outside.{Outside}
+use Rattle.sd_command_base.specs.Outcome.{OutcomeWithin, Implements}
+use Rattle.sd_command_base.specs.Results.{RunResult, with_page}
 use Rattle.sd_command_line.specs.declared.command.Command.TheVariants.{Card}
 use Rattle.sd_command_line.specs.Commands.{command_named, command_name, operands_of}
 use Rattle.sd_command_line.specs.Words.{InputOf, OutOf, Order, HeadOf, CardOf, ReceiveOf, at_most, before, number_in}
 use Rattle.sd_command_line.specs.Words.{named_words, numbered, order_of, ordered}
-use Rattle.sd_command_files.specs.Shown.{word_at}
+use Rattle.sd_command_base.specs.Shown.{word_at}
 use Rattle.sd_run_cards.specs.Card.{card_meaning}
 use Rattle.sd_run_broadcasts.specs.Head.{head_meaning}
 use Rattle.sd_run_broadcasts.specs.Receive.{receive_meaning}

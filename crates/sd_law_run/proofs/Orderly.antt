@@ -2,11 +2,11 @@
 use Rattle.std.proofs.Common.{◌≡◌, ℕ, ◌-◌, Bool, true, false, List, [], ◌∷◌, Option, Some, None, Result, Ok, Err}
 use Rattle.std.proofs.Common.{refl, sym, ap, ◌∙◌}
 use Rattle.std.specs.Prelude.{if◌then◌else◌, ◌||◌}
-use Rattle.sd_command_status.specs.declared.status.Status.{Status}
-use Rattle.sd_command_status.specs.declared.status.Status.TheVariants.{Usage}
-use Rattle.sd_command_status.specs.Spec.{Readings, judged, ◌>>=◌}
-use Rattle.sd_command_status.specs.Work.{Work, work_of_text}
-use Rattle.sd_command_files.specs.Shown.{word_at}
+use Rattle.sd_command_base.specs.declared.status.Status.{Status}
+use Rattle.sd_command_base.specs.declared.status.Status.TheVariants.{Usage}
+use Rattle.sd_command_base.specs.Spec.{Readings, judged, ◌>>=◌}
+use Rattle.sd_command_base.specs.Work.{Work, work_of_text}
+use Rattle.sd_command_base.specs.Shown.{word_at}
 use Rattle.sd_command_line.specs.Pages.{help_text, version_text}
 use Rattle.sd_command_line.specs.declared.command.Command.{Command}
 use Rattle.sd_command_line.specs.declared.operand.Operand.{Operand}

@@ -8,16 +8,16 @@ use Rattle.std.proofs.KnownBytes.{Appends-trans}
 use Rattle.std.proofs.lemmas.List.{append-nil}
 use Rattle.sd_base.specs.Count.{with_added}
 use Rattle.sd_ports.specs.Files.{Files}
-use Rattle.sd_command_status.specs.declared.status.Status.{Status}
-use Rattle.sd_command_status.specs.declared.status.Status.TheVariants.{Done}
-use Rattle.sd_command_status.specs.Texts.{line_of}
-use Rattle.sd_command_status.specs.Outside.{PageState, Outside}
-use Rattle.sd_command_status.specs.Spec.{Spec, Readings, contents_of}
-use Rattle.sd_command_status.specs.Work.{Out, Work, files_with, made_with}
-use Rattle.sd_command_status.specs.Outcome.{Outcome, IsRefusal, IsMade, IsUnmade}
-use Rattle.sd_command_status.specs.Outcome.{refused, ended, unclosed, exhausted, failed, nowhere, cut_off}
-use Rattle.sd_command_status.specs.Results.{RunResult, PrintsStatusLine, with_page}
-use Rattle.sd_command_status.proofs.Told.{own_line, done_line, told_given}
+use Rattle.sd_command_base.specs.declared.status.Status.{Status}
+use Rattle.sd_command_base.specs.declared.status.Status.TheVariants.{Done}
+use Rattle.sd_command_base.specs.Texts.{line_of}
+use Rattle.sd_command_base.specs.Outside.{PageState, Outside}
+use Rattle.sd_command_base.specs.Spec.{Spec, Readings, contents_of}
+use Rattle.sd_command_base.specs.Work.{Out, Work, files_with, made_with}
+use Rattle.sd_command_base.specs.Outcome.{Outcome, IsRefusal, IsMade, IsUnmade}
+use Rattle.sd_command_base.specs.Outcome.{refused, ended, unclosed, exhausted, failed, nowhere, cut_off}
+use Rattle.sd_command_base.specs.Results.{RunResult, PrintsStatusLine, with_page}
+use Rattle.sd_command_base.proofs.RunAnswers.{own_line, done_line, told_given}
 use Rattle.sd_run.specs.Meaning.{meaning}
 use Rattle.sd_law_run.specs.Headline.{file_in}
 use Rattle.sd_law_run.specs.Outcome.{IsDone, out_name}

@@ -5,14 +5,14 @@ use Rattle.std.specs.FinMap.{get, insert}
 use Rattle.std.specs.List.{concat}
 use Rattle.std.specs.Option.{option_and_then}
 use Rattle.std.proofs.lemmas.List.Elements.{All-weaker}
-use Rattle.sd_site.specs.Fields.{SiteFields}
-use Rattle.sd_card.specs.Fields.{card_of, card_bytes}
-use Rattle.sd_card.proofs.Made.{made_is_card}
+use Rattle.sd_site.specs.SiteFields.{SiteFields}
+use Rattle.sd_site.specs.CardFields.{card_of, card_bytes}
+use Rattle.sd_site.proofs.Made.{made_is_card}
 use Rattle.sd_ports.specs.Files.{Files}
 use Rattle.sd_engine.specs.Taken.{Whole, taken_of, end_of}
-use Rattle.sd_spec_broadcast.specs.Plan.{Plan, IsPlan, period_of}
-use Rattle.sd_spec_broadcast.specs.Refused.{IsClear}
-use Rattle.sd_spec_broadcast.specs.Sent.{broadcast}
+use Rattle.sd_spec.specs.Plan.{Plan, IsPlan, period_of}
+use Rattle.sd_spec.specs.Refused.{IsClear}
+use Rattle.sd_spec.specs.Sent.{broadcast}
 use Rattle.sd_law_broadcast.specs.Named.{sets_named, NamesPeriod}
 use Rattle.sd_law_broadcast.specs.Packets.{IsWholePacket, AreWholePackets, AreLong}
 use Rattle.sd_law_broadcast.proofs.Covering.{period_named}
@@ -20,17 +20,17 @@ use Rattle.sd_law_broadcast.specs.Synced.{AreSynced}
 use Rattle.sd_law_broadcast.proofs.Cut.{taken_synced, taken_whole}
 use Rattle.sd_law_broadcast.proofs.Taken.{broadcast_taken}
 use Rattle.sd_law_losses.specs.Confirmed.{opened_by}
-use Rattle.sd_command_status.specs.declared.status.Status.{Status}
-use Rattle.sd_command_status.specs.declared.status.Status.TheVariants.{Done, BadWord}
-use Rattle.sd_command_status.specs.Spec.{contents_of, judged, value, ◌>>=◌}
-use Rattle.sd_command_status.specs.Outside.{Outside}
-use Rattle.sd_command_status.specs.Work.{Uncounted}
-use Rattle.sd_command_status.specs.Results.{RunResult}
-use Rattle.sd_command_status.proofs.Follow.{then_is}
-use Rattle.sd_command_files.specs.Shown.{NumberArgument, word_at}
-use Rattle.sd_command_files.specs.Files.{site_in}
-use Rattle.sd_command_files.specs.Made.{making}
-use Rattle.sd_command_files.specs.Turned.{turning}
+use Rattle.sd_command_base.specs.declared.status.Status.{Status}
+use Rattle.sd_command_base.specs.declared.status.Status.TheVariants.{Done, BadWord}
+use Rattle.sd_command_base.specs.Spec.{contents_of, judged, value, ◌>>=◌}
+use Rattle.sd_command_base.specs.Outside.{Outside}
+use Rattle.sd_command_base.specs.Work.{Uncounted}
+use Rattle.sd_command_base.specs.Results.{RunResult}
+use Rattle.sd_command_base.proofs.Follow.{then_is}
+use Rattle.sd_command_base.specs.Shown.{NumberArgument, word_at}
+use Rattle.sd_command_base.specs.Files.{site_in}
+use Rattle.sd_command_base.specs.Made.{making}
+use Rattle.sd_command_base.specs.Turned.{turning}
 use Rattle.sd_run_cards.specs.Card.{told_card, card_meaning}
 use Rattle.sd_run_broadcasts.specs.Head.{plan_meaning, sending_of, sent_status, head_meaning}
 use Rattle.sd_run_broadcasts.proofs.HeadSending.{sent_unrefused}

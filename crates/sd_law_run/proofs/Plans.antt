@@ -13,12 +13,12 @@ use Rattle.std.proofs.lemmas.List.Elements.{All-nil, All-cons}
 use Rattle.hex.specs.Hex.{hex_digit_value, digit_or_error, value_at, pair_value, decode_pairs, decode_of, ◌>>=◌}
 use Rattle.hex.specs.declared.error.FromHexError.{FromHexError}
 use Rattle.hex.specs.declared.error.FromHexError.TheVariants.{OddLength}
-use Rattle.sd_base_text.specs.Number.{rest_after}
-use Rattle.sd_site.specs.Fields.{SiteFields}
+use Rattle.sd_base.specs.Number.{rest_after}
+use Rattle.sd_site.specs.SiteFields.{SiteFields}
 use Rattle.sd_site.specs.Forms.{ca_line, bytes_after, bytes_on}
 use Rattle.sd_site.specs.Text.{IsSite}
-use Rattle.sd_spec_broadcast.specs.Plan.{Plan, IsPlan}
-use Rattle.sd_command_status.specs.Spec.{FileArgument, Readings}
+use Rattle.sd_spec.specs.Plan.{Plan, IsPlan}
+use Rattle.sd_command_base.specs.Spec.{FileArgument, Readings}
 use Rattle.sd_law_run.specs.Good.{IsGoodSite, IsGoodBook}
 
 -- a digit is worth less than 16

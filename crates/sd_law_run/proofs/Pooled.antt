@@ -1,19 +1,19 @@
 -- Good files of a site, a book and leaves mean work.
 use Rattle.std.proofs.Common.{◌≡◌, ℕ, ◌+◌, cond, List, length, Option, Some, Ok, Err, ap, ◌∙◌, le-ltb}
-use Rattle.sd_command_files.specs.Text.{leaves_of_text}
-use Rattle.sd_trace.specs.Trace.{not_among, trace_of}
+use Rattle.sd_command_base.specs.Text.{leaves_of_text}
+use Rattle.sd_cover.specs.Trace.{not_among, trace_of}
 use Rattle.sd_tree.specs.Limits.{most_revoked}
-use Rattle.sd_command_status.specs.declared.status.Status.TheVariants.{Limit}
-use Rattle.sd_command_status.specs.declared.status.LimitKind.TheVariants.{BookBytes, Traced}
-use Rattle.sd_command_status.specs.Spec.{FileArgument, Readings, judged, value, within, ◌>>=◌}
-use Rattle.sd_command_status.specs.Work.{work_of_text}
-use Rattle.sd_command_status.proofs.Follow.{then_is}
-use Rattle.sd_command_files.specs.Files.{most_book_bytes}
-use Rattle.sd_command_files.specs.Both.{SiteBook, both_meaning}
-use Rattle.sd_command_files.specs.Leaves.{told_leaves, leaves_of_file, leaves_in}
+use Rattle.sd_command_base.specs.declared.status.Status.TheVariants.{Limit}
+use Rattle.sd_command_base.specs.declared.status.LimitKind.TheVariants.{BookBytes, Traced}
+use Rattle.sd_command_base.specs.Spec.{FileArgument, Readings, judged, value, within, ◌>>=◌}
+use Rattle.sd_command_base.specs.Work.{work_of_text}
+use Rattle.sd_command_base.proofs.Follow.{then_is}
+use Rattle.sd_command_base.specs.Files.{most_book_bytes}
+use Rattle.sd_command_base.specs.Both.{SiteBook, both_meaning}
+use Rattle.sd_command_base.specs.Leaves.{told_leaves, leaves_of_file, leaves_in}
 use Rattle.sd_command_line.specs.Words.{OpensOf, TraceOf}
-use Rattle.sd_run_covers.specs.Opens.{opening, opens_meaning}
-use Rattle.sd_run_covers.specs.Trace.{revoked_last, trace_text, traced, trace_meaning}
+use Rattle.sd_run_cards.specs.Opens.{opening, opens_meaning}
+use Rattle.sd_run_cards.specs.Trace.{revoked_last, trace_text, traced, trace_meaning}
 use Rattle.sd_law_run.specs.Good.{IsGoodLeaves, IsGoodOpens, IsGoodTrace}
 use Rattle.sd_run.specs.Meaning.{meaning}
 use Rattle.sd_law_run.proofs.Goodness.{file_read, both_good, ordered}

@@ -3,14 +3,14 @@ use Rattle.std.proofs.Common.{◌≡◌, ◌≢◌, ℕ, Some, Result, Ok, sym, 
 use Rattle.sd_base.specs.Count.{HasNotRisen}
 use Rattle.sd_base.proofs.Arithmetic.{still_or_rose}
 use Rattle.sd_ports.specs.Files.{Files}
-use Rattle.sd_command_status.specs.declared.status.Status.{Status}
-use Rattle.sd_command_status.specs.declared.status.Status.TheVariants.{PrintFault, NoMemory}
-use Rattle.sd_command_status.specs.Outside.{Outside}
-use Rattle.sd_command_status.specs.Spec.{Spec, Readings, contents_of}
-use Rattle.sd_command_status.specs.Work.{Work, files_with, IsWithinSteps, TakesSteps}
-use Rattle.sd_command_status.specs.Outcome.{Outcome, refused, ended, unclosed, exhausted, failed, nowhere, cut_off}
-use Rattle.sd_command_status.specs.Results.{RunResult, with_page}
-use Rattle.sd_command_status.proofs.Told.{own_line, causes, told_given}
+use Rattle.sd_command_base.specs.declared.status.Status.{Status}
+use Rattle.sd_command_base.specs.declared.status.Status.TheVariants.{PrintFault, NoMemory}
+use Rattle.sd_command_base.specs.Outside.{Outside}
+use Rattle.sd_command_base.specs.Spec.{Spec, Readings, contents_of}
+use Rattle.sd_command_base.specs.Work.{Work, files_with, IsWithinSteps, TakesSteps}
+use Rattle.sd_command_base.specs.Outcome.{Outcome, refused, ended, unclosed, exhausted, failed, nowhere, cut_off}
+use Rattle.sd_command_base.specs.Results.{RunResult, with_page}
+use Rattle.sd_command_base.proofs.RunAnswers.{own_line, causes, told_given}
 use Rattle.sd_law_run.specs.Headline.{IsUndisturbed}
 
 -- work that was done

@@ -5,10 +5,10 @@ use Rattle.std.specs.FinMap.{insert}
 use Rattle.std.specs.List.{concat}
 use Rattle.std.proofs.lemmas.List.Elements.{All-weaker}
 use Rattle.sd_ports.specs.Files.{Files}
-use Rattle.sd_base_text.specs.Lines.{lines_of}
-use Rattle.sd_site.specs.Fields.{SiteFields}
+use Rattle.sd_base.specs.Lines.{lines_of}
+use Rattle.sd_site.specs.SiteFields.{SiteFields}
 use Rattle.sd_site.specs.Text.{site_of, IsSite}
-use Rattle.sd_site.specs.declared.fault.SiteFault.{SiteFault}
+use Rattle.sd_site.specs.declared.site_fault.SiteFault.{SiteFault}
 use Rattle.sd_site.proofs.Walk.{Tells, lines_told}
 use Rattle.sd_book.specs.declared.command.Command.{Command}
 use Rattle.sd_book.specs.declared.fault.BookFault.{BookFault}
@@ -16,28 +16,28 @@ use Rattle.sd_book.specs.Limits.{IsWithinLimits, IsDraft}
 use Rattle.sd_book.specs.Text.{judged_line, judged as judged_lines, said_by, book_of}
 use Rattle.sd_book.proofs.Judged.{bind_ok, ended_ok, judged_none, judged_more, within_at_end}
 use Rattle.sd_engine.specs.Taken.{StreamEnd, Whole, Breaks, RunsOn, taken_of, end_of}
-use Rattle.sd_spec_broadcast.specs.Plan.{Plan, IsPlan, period_of}
-use Rattle.sd_spec_broadcast.specs.Refused.{IsClear, refusal_from}
-use Rattle.sd_spec_broadcast.specs.Sent.{broadcast}
-use Rattle.sd_spec_broadcast.specs.declared.fault.ClearFault.{ClearFault}
+use Rattle.sd_spec.specs.Plan.{Plan, IsPlan, period_of}
+use Rattle.sd_spec.specs.Refused.{IsClear, refusal_from}
+use Rattle.sd_spec.specs.Sent.{broadcast}
+use Rattle.sd_spec.specs.declared.clear_fault.ClearFault.{ClearFault}
 use Rattle.sd_law_broadcast.specs.Named.{sets_named, NamesPeriod}
 use Rattle.sd_law_broadcast.specs.Packets.{IsWholePacket}
 use Rattle.sd_law_broadcast.proofs.Covering.{period_named}
 use Rattle.sd_law_broadcast.specs.Synced.{AreBytes}
 use Rattle.sd_law_broadcast.proofs.Cut.{taken_synced, taken_whole}
 use Rattle.sd_law_broadcast.proofs.Taken.{broadcast_taken}
-use Rattle.sd_command_status.specs.declared.status.Status.{Status}
-use Rattle.sd_command_status.specs.declared.status.Status.TheVariants.{Done}
-use Rattle.sd_command_status.specs.Spec.{Spec, FileArgument, Readings, contents_of, and_then, all_of, judged, value}
-use Rattle.sd_command_status.specs.Spec.{within}
-use Rattle.sd_command_status.specs.Spec.{◌>>=◌}
-use Rattle.sd_command_status.specs.Outside.{Outside}
-use Rattle.sd_command_status.specs.Work.{Work, files_with}
-use Rattle.sd_command_status.specs.Results.{RunResult}
-use Rattle.sd_command_status.specs.declared.status.LimitKind.TheVariants.{SiteBytes, BookBytes}
+use Rattle.sd_command_base.specs.declared.status.Status.{Status}
+use Rattle.sd_command_base.specs.declared.status.Status.TheVariants.{Done}
+use Rattle.sd_command_base.specs.Spec.{Spec, FileArgument, Readings, contents_of, and_then, all_of, judged, value}
+use Rattle.sd_command_base.specs.Spec.{within}
+use Rattle.sd_command_base.specs.Spec.{◌>>=◌}
+use Rattle.sd_command_base.specs.Outside.{Outside}
+use Rattle.sd_command_base.specs.Work.{Work, files_with}
+use Rattle.sd_command_base.specs.Results.{RunResult}
+use Rattle.sd_command_base.specs.declared.status.LimitKind.TheVariants.{SiteBytes, BookBytes}
 use Rattle.sd_command_line.specs.Words.{Order, HeadOf, order_of}
-use Rattle.sd_command_files.specs.Files.{most_site_bytes, most_book_bytes, told_site, told_book, site_of_file}
-use Rattle.sd_command_files.specs.Files.{book_of_file}
+use Rattle.sd_command_base.specs.Files.{most_site_bytes, most_book_bytes, told_site, told_book, site_of_file}
+use Rattle.sd_command_base.specs.Files.{book_of_file}
 use Rattle.sd_run_broadcasts.specs.Head.{status_where, sent_status, sending, sending_of, plan_by, plan_meaning}
 use Rattle.sd_run_broadcasts.specs.Head.{head_meaning}
 use Rattle.sd_run.specs.Meaning.{order_meaning, meaning}

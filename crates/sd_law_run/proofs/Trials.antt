@@ -6,40 +6,40 @@ use Rattle.std.specs.List.{concat}
 use Rattle.std.specs.Io.KnownBytes.{Appends}
 use Rattle.sd_ports.specs.Files.{Files}
 use Rattle.sd_ports.specs.Bytes.{Prefix, prefix_of}
-use Rattle.sd_site.specs.Fields.{SiteFields}
+use Rattle.sd_site.specs.SiteFields.{SiteFields}
 use Rattle.sd_site.specs.Text.{site_of, IsSite}
 use Rattle.sd_book.specs.Text.{book_of}
 use Rattle.sd_engine.specs.Taken.{StreamEnd, Whole, Breaks, RunsOn, taken_of, end_of}
-use Rattle.sd_spec_broadcast.specs.Plan.{Plan, IsPlan}
-use Rattle.sd_spec_broadcast.specs.Refused.{IsClear, refusal_from}
-use Rattle.sd_spec_broadcast.specs.declared.fault.ClearFault.{ClearFault}
+use Rattle.sd_spec.specs.Plan.{Plan, IsPlan}
+use Rattle.sd_spec.specs.Refused.{IsClear, refusal_from}
+use Rattle.sd_spec.specs.declared.clear_fault.ClearFault.{ClearFault}
 use Rattle.sd_law_broadcast.specs.Synced.{AreBytes}
-use Rattle.sd_command_status.specs.declared.status.Status.{Status}
-use Rattle.sd_command_status.specs.declared.status.Status.TheVariants.{Done, Usage, Missing, Revoked, DepotFault}
-use Rattle.sd_command_status.specs.declared.status.Status.TheVariants.{PrintFault}
-use Rattle.sd_command_status.specs.declared.status.Status.TheVariants.{BadSite, BadBook, BadCard, BadClear, BadStream}
-use Rattle.sd_command_status.specs.declared.status.Status.TheVariants.{Limit}
-use Rattle.sd_command_status.specs.declared.status.Status.TheVariants.{NoMemory, Unheard, Unclosed, Gaps, NoCat}
-use Rattle.sd_command_status.specs.declared.status.Status.TheVariants.{BadWord, Clash}
-use Rattle.sd_command_status.specs.declared.status.LimitKind.TheVariants.{SiteBytes, BookBytes, TrialHeight}
-use Rattle.sd_command_status.specs.Spec.{FileArgument, Readings, contents_of, all_of, judged, value, within, ◌>>=◌}
-use Rattle.sd_command_status.specs.Outside.{Outside}
-use Rattle.sd_command_status.specs.Work.{Work}
-use Rattle.sd_command_status.specs.Outcome.{PrintsAll}
-use Rattle.sd_command_status.specs.Results.{RunResult}
-use Rattle.sd_command_files.specs.Files.{most_site_bytes, most_book_bytes, told_site, told_book, site_of_file}
-use Rattle.sd_command_files.specs.Files.{book_of_file, low_site_of_file, told_low}
+use Rattle.sd_command_base.specs.declared.status.Status.{Status}
+use Rattle.sd_command_base.specs.declared.status.Status.TheVariants.{Done, Usage, Missing, Revoked, DepotFault}
+use Rattle.sd_command_base.specs.declared.status.Status.TheVariants.{PrintFault}
+use Rattle.sd_command_base.specs.declared.status.Status.TheVariants.{BadSite, BadBook, BadCard, BadClear, BadStream}
+use Rattle.sd_command_base.specs.declared.status.Status.TheVariants.{Limit}
+use Rattle.sd_command_base.specs.declared.status.Status.TheVariants.{NoMemory, Unheard, Unclosed, Gaps, NoCat}
+use Rattle.sd_command_base.specs.declared.status.Status.TheVariants.{BadWord, Clash}
+use Rattle.sd_command_base.specs.declared.status.LimitKind.TheVariants.{SiteBytes, BookBytes, TrialHeight}
+use Rattle.sd_command_base.specs.Spec.{FileArgument, Readings, contents_of, all_of, judged, value, within, ◌>>=◌}
+use Rattle.sd_command_base.specs.Outside.{Outside}
+use Rattle.sd_command_base.specs.Work.{Work}
+use Rattle.sd_command_base.specs.Outcome.{PrintsAll}
+use Rattle.sd_command_base.specs.Results.{RunResult}
+use Rattle.sd_command_base.specs.Files.{most_site_bytes, most_book_bytes, told_site, told_book, site_of_file}
+use Rattle.sd_command_base.specs.Files.{book_of_file, low_site_of_file, told_low}
 use Rattle.sd_run_broadcasts.specs.Head.{sent_of, sent_status, status_where}
 use Rattle.sd_run_broadcasts.specs.Trial.{most_height}
 use Rattle.sd_run_broadcasts.specs.Trial.{most_clear_bytes}
 use Rattle.sd_run_broadcasts.specs.Prefixes.{prefix_of_file}
 use Rattle.sd_run_broadcasts.proofs.Prefixes.{whole_prefix}
 use Rattle.sd_run_broadcasts.specs.Trial.{plan_by, plan_meaning, sent_or, told_sent, told_line}
-use Rattle.sd_command_files.specs.Printed.{printing}
+use Rattle.sd_command_base.specs.Printed.{printing}
 use Rattle.sd_run_broadcasts.specs.Trial.{receiver_line, then_line, lines_to, trial_lines, clear_line, trial_text}
 use Rattle.sd_run_broadcasts.specs.Trial.{trying, trial_meaning}
-use Rattle.sd_law_lines.specs.Trials.{opened_lines}
-use Rattle.sd_law_lines.proofs.Tried.{trial_right, trial_done}
+use Rattle.sd_law_field.specs.Trials.{opened_lines}
+use Rattle.sd_law_field.proofs.Tried.{trial_right, trial_done}
 use Rattle.sd_law_run.specs.Tried.{IsTried}
 use Rattle.sd_law_run.proofs.Plans.{ca_fits}
 use Rattle.sd_law_run.proofs.Outs.{done_leaves}

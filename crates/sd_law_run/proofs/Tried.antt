@@ -1,19 +1,19 @@
 -- Good words and files of a trial mean its lines.
 use Rattle.std.proofs.Common.{◌≡◌, ◌^◌, ◌≤◌, cond, List, ℕ, Ok, Err, ap, ◌∙◌, le-ltb}
 use Rattle.sd_engine.specs.Taken.{taken_of}
-use Rattle.sd_site.specs.Fields.{SiteFields}
-use Rattle.sd_spec_broadcast.specs.Plan.{Plan}
-use Rattle.sd_command_status.specs.declared.status.Status.TheVariants.{Limit}
-use Rattle.sd_command_status.specs.declared.status.LimitKind.TheVariants.{TrialHeight}
-use Rattle.sd_command_status.specs.Spec.{FileArgument, Readings, judged, value, ◌>>=◌}
-use Rattle.sd_command_status.proofs.Follow.{then_is}
-use Rattle.sd_command_files.specs.Files.{site_in, book_in, low_site_of_file, told_low}
+use Rattle.sd_site.specs.SiteFields.{SiteFields}
+use Rattle.sd_spec.specs.Plan.{Plan}
+use Rattle.sd_command_base.specs.declared.status.Status.TheVariants.{Limit}
+use Rattle.sd_command_base.specs.declared.status.LimitKind.TheVariants.{TrialHeight}
+use Rattle.sd_command_base.specs.Spec.{FileArgument, Readings, judged, value, ◌>>=◌}
+use Rattle.sd_command_base.proofs.Follow.{then_is}
+use Rattle.sd_command_base.specs.Files.{site_in, book_in, low_site_of_file, told_low}
 use Rattle.sd_command_line.specs.Words.{TrialOf}
 use Rattle.sd_run_broadcasts.specs.Trial.{most_height}
-use Rattle.sd_law_lines.specs.Trials.{opened_lines}
-use Rattle.sd_command_files.specs.Printed.{printing}
+use Rattle.sd_law_field.specs.Trials.{opened_lines}
+use Rattle.sd_command_base.specs.Printed.{printing}
 use Rattle.sd_run_broadcasts.specs.Trial.{plan_by, plan_meaning}
-use Rattle.sd_law_lines.proofs.Tried as opened
+use Rattle.sd_law_field.proofs.Tried as opened
 use Rattle.sd_law_run.specs.Good.{IsGoodSite, IsGoodBook}
 use Rattle.sd_law_run.specs.Tried.{IsGoodTrial, plan_tried}
 use Rattle.sd_run.specs.Meaning.{meaning}

@@ -2,13 +2,13 @@
 use Rattle.std.specs.Prelude.{◌≡◌, List, Some, None, Ok, ◌≤◌, length}
 use Rattle.sd_base.specs.Types.{Bytes}
 use Rattle.sd_engine.specs.Stream.{packets_of, break_of}
-use Rattle.sd_site.specs.Fields.{SiteFields}
-use Rattle.sd_spec_broadcast.specs.Refused.{IsClear}
+use Rattle.sd_site.specs.SiteFields.{SiteFields}
+use Rattle.sd_spec.specs.Refused.{IsClear}
 use Rattle.sd_law_broadcast.specs.Synced.{AreBytes}
-use Rattle.sd_spec_field.specs.declared.event.Event.{Event}
+use Rattle.sd_spec.specs.declared.event.Event.{Event}
 use Rattle.sd_field.specs.Script.{script_of}
-use Rattle.sd_command_status.specs.Spec.{FileArgument, Readings}
-use Rattle.sd_law_lines.specs.Fielded.{sent_for}
+use Rattle.sd_command_base.specs.Spec.{FileArgument, Readings}
+use Rattle.sd_law_field.specs.Fielded.{sent_for}
 use Rattle.sd_command_line.specs.Words.{FieldOf, order_of}
 use Rattle.sd_law_run.specs.Good.{IsGoodSite}
 

@@ -1,30 +1,30 @@
 -- Public meaning: arguments and files that mean work: they are there, in their grammars and within their limits.
 use Rattle.std.specs.Prelude.{◌≡◌, ℕ, List, Option, Some, Ok, ◌≤◌, [], ◌++◌, ◌+◌, length, None, ◌^◌, ◌<◌}
 use Rattle.sd_base.specs.Types.{Bytes, Packets, Height, Leaves}
-use Rattle.sd_command_status.specs.Spec.{FileArgument, Readings}
+use Rattle.sd_command_base.specs.Spec.{FileArgument, Readings}
 use Rattle.sd_command_line.specs.Words.{SampleOf, order_of, ReceiveOf, CoverOf, CardOf, TablesOf, HeadOf}
 use Rattle.sd_command_line.specs.Words.{AccountsOf, ApartOf, BookOf, LayeredOf, LcardOf, MessagesOf, OpensOf, PlanOf}
 use Rattle.sd_command_line.specs.Words.{ShowOf}
 use Rattle.sd_command_line.specs.Words.{TraceOf}
 use Rattle.sd_engine.specs.Taken.{Whole, taken_of, end_of}
-use Rattle.sd_card.specs.Fields.{CardFields, IsCard, card_bytes}
-use Rattle.sd_accounts.specs.Judged.{book_of}
+use Rattle.sd_site.specs.CardFields.{CardFields, IsCard, card_bytes}
+use Rattle.sd_run_books.specs.Judged.{book_of}
 use Rattle.sd_book.specs.declared.command.Command.{Command}
-use Rattle.sd_site.specs.Fields.{SiteFields}
-use Rattle.sd_command_files.specs.Shown.{NumberArgument}
-use Rattle.sd_spec_broadcast.specs.Plan.{Plan}
-use Rattle.sd_spec_broadcast.specs.Refused.{IsClear, refusal_from}
+use Rattle.sd_site.specs.SiteFields.{SiteFields}
+use Rattle.sd_command_base.specs.Shown.{NumberArgument}
+use Rattle.sd_spec.specs.Plan.{Plan}
+use Rattle.sd_spec.specs.Refused.{IsClear, refusal_from}
 use Rattle.sd_law_broadcast.specs.Synced.{AreBytes}
 use Rattle.sd_site.specs.Text.{IsSite}
-use Rattle.sd_command_files.specs.Text.{leaves_of_text}
-use Rattle.sd_trace.specs.Trace.{not_among}
+use Rattle.sd_command_base.specs.Text.{leaves_of_text}
+use Rattle.sd_cover.specs.Trace.{not_among}
 use Rattle.sd_tree.specs.Limits.{most_revoked}
 use Rattle.sd_run_books.specs.Air.{last_word_for}
-use Rattle.sd_run_covers.specs.Trace.{revoked_last}
-use Rattle.sd_base_text.specs.Lines.{lines_of}
+use Rattle.sd_run_cards.specs.Trace.{revoked_last}
+use Rattle.sd_base.specs.Lines.{lines_of}
 use Rattle.sd_book.specs.Text.{SpellsBook}
 use Rattle.sd_book.specs.Limits.{IsWithinLimits}
-use Rattle.sd_command_files.specs.Files.{most_book_bytes}
+use Rattle.sd_command_base.specs.Files.{most_book_bytes}
 
 -- a file is there and a site, and says this
 pub record IsGoodSite (got : Option Bytes) (fields : SiteFields) : Type 0 where

@@ -5,20 +5,20 @@ use Rattle.std.specs.List.{concat}
 use Rattle.std.specs.Option.{option_and_then}
 use Rattle.sd_base.specs.Types.{Bytes, FileName, Packets, LeafNumber, PeriodNumber}
 use Rattle.sd_base.specs.Count.{HasNotRisen}
-use Rattle.sd_label.specs.Names.{given}
-use Rattle.sd_site.specs.Fields.{SiteFields}
-use Rattle.sd_card.specs.Secrets.{secret_of}
-use Rattle.sd_card.specs.Files.{file_bytes}
-use Rattle.sd_card.specs.Fields.{card_head}
+use Rattle.sd_tree.specs.Names.{given}
+use Rattle.sd_site.specs.SiteFields.{SiteFields}
+use Rattle.sd_site.specs.Secrets.{secret_of}
+use Rattle.sd_site.specs.Files.{file_bytes}
+use Rattle.sd_site.specs.CardFields.{card_head}
 use Rattle.sd_engine.specs.Taken.{taken_of}
-use Rattle.sd_spec_broadcast.specs.Plan.{Plan, period_of}
-use Rattle.sd_spec_broadcast.specs.Sent.{broadcast}
+use Rattle.sd_spec.specs.Plan.{Plan, period_of}
+use Rattle.sd_spec.specs.Sent.{broadcast}
 use Rattle.sd_law_broadcast.specs.Named.{sets_named, NamesPeriod}
 use Rattle.sd_law_losses.specs.Confirmed.{opened_by}
 use Rattle.sd_law_losses.specs.Endings.{first_revoked}
-use Rattle.sd_command_status.specs.declared.status.Status.{Status}
-use Rattle.sd_command_status.specs.declared.status.Status.TheVariants.{Done, NoMemory}
-use Rattle.sd_command_status.specs.Outside.{Outside}
+use Rattle.sd_command_base.specs.declared.status.Status.{Status}
+use Rattle.sd_command_base.specs.declared.status.Status.TheVariants.{Done, NoMemory}
+use Rattle.sd_command_base.specs.Outside.{Outside}
 use Rattle.sd_law_run.specs.Good.{IsGoodSite, IsGoodBook, IsGoodClear}
 use Rattle.sd_law_run.specs.Opened.{entitled_periods, revoked_status}
 

@@ -7,13 +7,13 @@ use Rattle.sd_command_line.specs.declared.command.Command.{Command}
 use Rattle.sd_command_line.specs.declared.exit.Exit.{Exit}
 use Rattle.sd_command_line.specs.declared.exit.Exit.TheVariants as exit
 use Rattle.sd_command_line.specs.Commands.{example_of}
-use Rattle.sd_command_status.specs.declared.status.Status.{Status}
-use Rattle.sd_command_status.specs.declared.status.Status.TheVariants.{Done, Usage, Missing, Revoked, DepotFault}
-use Rattle.sd_command_status.specs.declared.status.Status.TheVariants.{PrintFault}
-use Rattle.sd_command_status.specs.declared.status.Status.TheVariants.{BadSite, BadBook, BadCard, BadClear, BadStream}
-use Rattle.sd_command_status.specs.declared.status.Status.TheVariants.{Limit}
-use Rattle.sd_command_status.specs.declared.status.Status.TheVariants.{NoMemory, Unheard, Unclosed, Gaps, NoCat}
-use Rattle.sd_command_status.specs.declared.status.Status.TheVariants.{BadWord, Clash}
+use Rattle.sd_command_base.specs.declared.status.Status.{Status}
+use Rattle.sd_command_base.specs.declared.status.Status.TheVariants.{Done, Usage, Missing, Revoked, DepotFault}
+use Rattle.sd_command_base.specs.declared.status.Status.TheVariants.{PrintFault}
+use Rattle.sd_command_base.specs.declared.status.Status.TheVariants.{BadSite, BadBook, BadCard, BadClear, BadStream}
+use Rattle.sd_command_base.specs.declared.status.Status.TheVariants.{Limit}
+use Rattle.sd_command_base.specs.declared.status.Status.TheVariants.{NoMemory, Unheard, Unclosed, Gaps, NoCat}
+use Rattle.sd_command_base.specs.declared.status.Status.TheVariants.{BadWord, Clash}
 use Rattle.sd_command_line.specs.Words.{Argument, CommandOf, order_of}
 
 -- the exit of a status, as help lists it [this project, docs/FORMATS.md, Exits]

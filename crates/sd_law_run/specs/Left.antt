@@ -5,9 +5,9 @@ use Rattle.sd_base.specs.Types.{Bytes}
 use Rattle.sd_base.specs.Count.{with_added}
 use Rattle.sd_ports.specs.Files.{Files}
 use Rattle.sd_ports.specs.Bytes.{IsPrefix}
-use Rattle.sd_command_status.specs.declared.status.Status.{Status}
-use Rattle.sd_command_status.specs.Outside.{DepotState}
-use Rattle.sd_command_status.specs.Work.{Out, Work}
+use Rattle.sd_command_base.specs.declared.status.Status.{Status}
+use Rattle.sd_command_base.specs.Outside.{DepotState}
+use Rattle.sd_command_base.specs.Work.{Out, Work}
 
 -- all files are as they were, and none was made
 pub record IsAsBefore (files : Files) (a b : DepotState) : Type 0 where

@@ -3,19 +3,19 @@
 use Rattle.std.specs.Prelude.{◌≡◌, ◌≢◌, ℕ, ◌+◌, ◌-◌, ◌*◌, ◌≤◌, ◌++◌, Bool, true, false, List, [], length, Some, Ok}
 use Rattle.std.specs.List.{concat, list_any}
 use Rattle.sd_base.specs.Types.{Bytes, FileName, Packets, Arrived, LeafNumber, PeriodNumber}
-use Rattle.sd_card.specs.Fields.{card_of, card_bytes}
-use Rattle.sd_spec_broadcast.specs.Plan.{Plan, period_of}
-use Rattle.sd_spec_broadcast.specs.Sent.{Item, sent, closing_of, broadcast}
+use Rattle.sd_site.specs.CardFields.{card_of, card_bytes}
+use Rattle.sd_spec.specs.Plan.{Plan, period_of}
+use Rattle.sd_spec.specs.Sent.{Item, sent, closing_of, broadcast}
 use Rattle.sd_law_losses.specs.Chosen.{chosen}
 use Rattle.sd_law_losses.specs.Kept.{after_cat, entitles}
 use Rattle.sd_law_losses.specs.Confirmed.{confirmed, opened_by, is_revoked_in}
 use Rattle.sd_law_losses.specs.Endings.{ending_told}
 use Rattle.sd_law_losses.specs.Taken.{how_many}
-use Rattle.sd_command_status.specs.declared.status.Status.{Status}
-use Rattle.sd_command_status.specs.declared.status.Status.TheVariants.{Revoked}
-use Rattle.sd_command_status.specs.Outside.{Outside}
-use Rattle.sd_command_status.specs.Spec.{FileArgument, Readings}
-use Rattle.sd_command_status.specs.Work.{UpTo, Work}
+use Rattle.sd_command_base.specs.declared.status.Status.{Status}
+use Rattle.sd_command_base.specs.declared.status.Status.TheVariants.{Revoked}
+use Rattle.sd_command_base.specs.Outside.{Outside}
+use Rattle.sd_command_base.specs.Spec.{FileArgument, Readings}
+use Rattle.sd_command_base.specs.Work.{UpTo, Work}
 use Rattle.sd_command_line.specs.Words.{ReceiveOf, order_of}
 use Rattle.sd_run_broadcasts.specs.Receive.{ending_status}
 use Rattle.sd_law_run.specs.Headline.{Names, file_in}

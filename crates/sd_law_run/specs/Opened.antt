@@ -2,17 +2,17 @@
 use Rattle.std.specs.Prelude.{◌≡◌, ℕ, ◌+◌, ◌-◌, ◌*◌, ◌≤◌, nat_le, ◌&&◌, not, List, [], length, Option, Some, None, Ok}
 use Rattle.std.specs.List.{concat}
 use Rattle.sd_base.specs.Types.{Bytes, Packets, LeafNumber, PeriodNumber}
-use Rattle.sd_card.specs.Fields.{card_of, card_bytes}
+use Rattle.sd_site.specs.CardFields.{card_of, card_bytes}
 use Rattle.sd_engine.specs.Taken.{Whole, taken_of, end_of}
-use Rattle.sd_spec_broadcast.specs.Plan.{Plan, period_of}
-use Rattle.sd_spec_broadcast.specs.Sent.{broadcast}
+use Rattle.sd_spec.specs.Plan.{Plan, period_of}
+use Rattle.sd_spec.specs.Sent.{broadcast}
 use Rattle.sd_law_losses.specs.Confirmed.{is_revoked_in, opened_by}
 use Rattle.sd_law_losses.specs.Endings.{first_revoked}
 use Rattle.sd_law_losses.specs.Taken.{how_many}
-use Rattle.sd_command_status.specs.declared.status.Status.{Status}
-use Rattle.sd_command_status.specs.declared.status.Status.TheVariants.{Done, Revoked}
-use Rattle.sd_command_status.specs.Spec.{FileArgument, Readings}
-use Rattle.sd_command_status.specs.Work.{UpTo, Work}
+use Rattle.sd_command_base.specs.declared.status.Status.{Status}
+use Rattle.sd_command_base.specs.declared.status.Status.TheVariants.{Done, Revoked}
+use Rattle.sd_command_base.specs.Spec.{FileArgument, Readings}
+use Rattle.sd_command_base.specs.Work.{UpTo, Work}
 use Rattle.sd_command_line.specs.Words.{ReceiveOf, order_of}
 
 -- the number of the broadcast's periods in which leaf u isn't revoked

@@ -4,11 +4,11 @@ use Rattle.sd_base.specs.Types.{Bytes, FileName}
 use Rattle.sd_command_line.specs.declared.command.Command.{Command}
 use Rattle.sd_command_line.specs.Commands.{command_named, operands_of}
 use Rattle.sd_command_line.specs.Words.{out_text}
-use Rattle.sd_command_status.specs.declared.status.Status.{Status}
-use Rattle.sd_command_status.specs.declared.status.Status.TheVariants.{Done}
-use Rattle.sd_command_status.specs.Outside.{Outside}
-use Rattle.sd_command_status.specs.Work.{Work}
-use Rattle.sd_command_status.specs.Outcome.{IsMade, IsFaultless, PrintsAll}
+use Rattle.sd_command_base.specs.declared.status.Status.{Status}
+use Rattle.sd_command_base.specs.declared.status.Status.TheVariants.{Done}
+use Rattle.sd_command_base.specs.Outside.{Outside}
+use Rattle.sd_command_base.specs.Work.{Work}
+use Rattle.sd_command_base.specs.Outcome.{IsMade, IsFaultless, PrintsAll}
 
 -- the word at the place of OUT in the row of a command
 abbrev pub out_in_row : Option Command → List Bytes → Option Bytes

@@ -5,13 +5,13 @@ use Rattle.std.specs.List.{concat}
 use Rattle.sd_base.specs.Types.{Bytes, PeriodNumber}
 use Rattle.sd_ports.specs.Files.{Files}
 use Rattle.sd_engine.specs.Taken.{Whole, taken_of, end_of}
-use Rattle.sd_spec_broadcast.specs.Plan.{Plan, IsPlan, period_of}
-use Rattle.sd_spec_broadcast.specs.Refused.{IsClear}
-use Rattle.sd_spec_broadcast.specs.Sent.{broadcast}
+use Rattle.sd_spec.specs.Plan.{Plan, IsPlan, period_of}
+use Rattle.sd_spec.specs.Refused.{IsClear}
+use Rattle.sd_spec.specs.Sent.{broadcast}
 use Rattle.sd_law_broadcast.specs.Named.{sets_named, NamesPeriod}
 use Rattle.sd_law_broadcast.specs.Synced.{AreBytes}
-use Rattle.sd_command_status.specs.Spec.{FileArgument, contents_of}
-use Rattle.sd_command_status.specs.Outside.{Outside}
+use Rattle.sd_command_base.specs.Spec.{FileArgument, contents_of}
+use Rattle.sd_command_base.specs.Outside.{Outside}
 use Rattle.sd_run_broadcasts.specs.Head.{plan_meaning}
 
 -- OUT has the broadcast of what these files say, of which each period names its cover.

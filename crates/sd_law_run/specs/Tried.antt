@@ -5,18 +5,18 @@ use Rattle.std.specs.Io.KnownBytes.{Appends}
 use Rattle.sd_base.specs.Types.{Bytes}
 use Rattle.sd_ports.specs.Files.{Files}
 use Rattle.sd_engine.specs.Taken.{Whole, taken_of, end_of}
-use Rattle.sd_site.specs.Fields.{SiteFields}
+use Rattle.sd_site.specs.SiteFields.{SiteFields}
 use Rattle.sd_book.specs.declared.command.Command.{Command}
-use Rattle.sd_spec_broadcast.specs.Plan.{Plan, IsPlan}
-use Rattle.sd_spec_broadcast.specs.Refused.{IsClear}
+use Rattle.sd_spec.specs.Plan.{Plan, IsPlan}
+use Rattle.sd_spec.specs.Refused.{IsClear}
 use Rattle.sd_law_broadcast.specs.Synced.{AreBytes}
-use Rattle.sd_command_status.specs.Spec.{FileArgument, Readings, contents_of}
-use Rattle.sd_command_status.specs.Outside.{Outside}
+use Rattle.sd_command_base.specs.Spec.{FileArgument, Readings, contents_of}
+use Rattle.sd_command_base.specs.Outside.{Outside}
 use Rattle.sd_command_line.specs.Words.{TrialOf, order_of}
 use Rattle.sd_run_broadcasts.specs.Trial.{most_clear_bytes}
 use Rattle.sd_run_broadcasts.specs.Trial.{most_height}
 use Rattle.sd_run_broadcasts.specs.Trial.{plan_meaning}
-use Rattle.sd_law_lines.specs.Trials.{opened_lines}
+use Rattle.sd_law_field.specs.Trials.{opened_lines}
 use Rattle.sd_law_run.specs.Good.{IsGoodSite, IsGoodBook}
 
 -- the arguments are `trial SITE BOOK CLEAR`, and the files are there: a site whose tree is low enough, a book of its

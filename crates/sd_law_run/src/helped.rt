@@ -4,8 +4,8 @@ ghost use Rattle.std.specs.Prelude.{◌≡◌, take};
 ghost use Rattle.sd_command_line.specs.declared.command.Command.{Command};
 ghost use Rattle.sd_command_line.specs.declared.operand.Files.{Files};
 ghost use Rattle.sd_command_line.specs.Exits.{exit_line};
-ghost use Rattle.sd_command_status.specs.Exits.{code_of};
-ghost use Rattle.sd_command_status.specs.declared.status.Status.{Status};
+ghost use Rattle.sd_command_base.specs.Exits.{code_of};
+ghost use Rattle.sd_command_base.specs.declared.status.Status.{Status};
 ghost use Rattle.sd_law_run.specs.Helped.{help_exit, in_column, IsOrdered};
 
 /// The line of each exit begins with the number of its status, whatever files a command has. The example of each

@@ -3,24 +3,24 @@
 ghost use Rattle.std.specs.Prelude.{◌≡◌, ◌<◌, ◌^◌, List, Some, Ok};
 ghost use Rattle.std.specs.List.{concat};
 ghost use Rattle.sd_base.specs.Types.{Bytes, Packets, Arrived, LeafNumber};
-ghost use Rattle.sd_spec_broadcast.specs.Plan.{Plan, IsPlan};
-ghost use Rattle.sd_spec_broadcast.specs.Refused.{IsClear};
-ghost use Rattle.sd_spec_broadcast.specs.Sent.{broadcast};
+ghost use Rattle.sd_spec.specs.Plan.{Plan, IsPlan};
+ghost use Rattle.sd_spec.specs.Refused.{IsClear};
+ghost use Rattle.sd_spec.specs.Sent.{broadcast};
 ghost use Rattle.sd_law_broadcast.specs.Packets.{AreWholePackets};
 ghost use Rattle.sd_law_broadcast.specs.Synced.{AreSynced};
 ghost use Rattle.sd_law_losses.specs.Chosen.{chosen};
 ghost use Rattle.sd_ports.specs.Files.{Files};
-ghost use Rattle.sd_command_status.specs.Spec.{contents_of};
-ghost use Rattle.sd_command_status.specs.Outside.{Outside};
-ghost use Rattle.sd_command_status.specs.Work.{Work};
-ghost use Rattle.sd_command_status.specs.Results.{RunResult};
-ghost use Rattle.sd_command_files.specs.Shown.{word_at};
+ghost use Rattle.sd_command_base.specs.Spec.{contents_of};
+ghost use Rattle.sd_command_base.specs.Outside.{Outside};
+ghost use Rattle.sd_command_base.specs.Work.{Work};
+ghost use Rattle.sd_command_base.specs.Results.{RunResult};
+ghost use Rattle.sd_command_base.specs.Shown.{word_at};
 ghost use Rattle.sd_run_broadcasts.specs.Receive.{receive_meaning};
 ghost use Rattle.sd_run.specs.Meaning.{meaning};
 ghost use Rattle.sd_law_run.specs.Headline.{Names, file_in, AreGiven, IsUndisturbed, card_for};
 ghost use Rattle.sd_law_run.specs.Lost.{kept_items, IsRestTo, IsConfirmed, LossResult};
 
-use sd_command_status::Status;
+use sd_command_base::Status;
 
 /// Take any broadcast, of any site, book within the limits and clear stream, and any choice of its packets that arrive.
 /// `receive` with the card of a leaf writes exactly the clear packets that the messages which arrived confirm: a part

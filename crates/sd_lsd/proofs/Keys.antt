@@ -7,15 +7,15 @@ use Rattle.sd_tree.specs.SetNames.{IsPair, IsOfHeight}
 use Rattle.sd_tree.specs.declared.set.SetName.{SetName}
 use Rattle.sd_tree.specs.declared.set.SetName.TheVariants.{Whole as WholeSet, Diff}
 use Rattle.sd_tree.specs.Leaves.{is_member}
-use Rattle.sd_label.specs.Keys.{key_of}
-use Rattle.sd_label.specs.Names.{given}
-use Rattle.sd_label.specs.declared.name.Name.TheVariants.{Pair}
-use Rattle.sd_label.proofs.Pairs.{given_is_hanging}
-use Rattle.sd_card.specs.Hanging.{IsHanging}
-use Rattle.sd_card.specs.Secrets.{secret_of, HoldsSecret, key_held}
-use Rattle.sd_card.proofs.Held.{AreOfLeaf, own_among}
-use Rattle.sd_card.proofs.SecretKeys.{pair_node, hangs_below, held_at}
-use Rattle.sd_card.proofs.Once.{given_once}
+use Rattle.sd_tree.specs.Keys.{key_of}
+use Rattle.sd_tree.specs.Names.{given}
+use Rattle.sd_tree.specs.declared.name.Name.TheVariants.{Pair}
+use Rattle.sd_tree.proofs.Pairs.{given_is_hanging}
+use Rattle.sd_site.specs.Hanging.{IsHanging}
+use Rattle.sd_site.specs.Secrets.{secret_of, HoldsSecret, key_held}
+use Rattle.sd_site.proofs.Held.{AreOfLeaf, own_among}
+use Rattle.sd_site.proofs.SecretKeys.{pair_node, hangs_below, held_at}
+use Rattle.sd_site.proofs.Once.{given_once}
 use Rattle.sd_lsd.specs.Layers.{is_useful}
 use Rattle.sd_lsd.proofs.Layers.{useful_upwards}
 use Rattle.sd_lsd.specs.LayerNames.{layer_given, is_useful_name, pairs_under, pairs_above}

@@ -14,10 +14,10 @@ use Rattle.sd_tree.specs.declared.set.SetName.TheVariants.{Whole as WholeSet, Di
 use Rattle.sd_tree.proofs.Levels.{doubled}
 use Rattle.sd_tree.proofs.Ancestors.{depth_within, above_by_levels, above_le}
 use Rattle.sd_tree.proofs.Members.{member_of_pair}
-use Rattle.sd_label.specs.declared.name.Name.TheVariants.{Whole, Pair}
-use Rattle.sd_label.specs.Names.{given}
-use Rattle.sd_label.proofs.Pairs.{given_pairs, given_whole}
-use Rattle.sd_label.proofs.Hanging.{hangs}
+use Rattle.sd_tree.specs.declared.name.Name.TheVariants.{Whole, Pair}
+use Rattle.sd_tree.specs.Names.{given}
+use Rattle.sd_tree.proofs.Pairs.{given_pairs, given_whole}
+use Rattle.sd_tree.proofs.Hanging.{hangs}
 use Rattle.sd_cover.proofs.Ends.{AreLeaves}
 use Rattle.sd_cover.proofs.Lists.{counted_some, found_member}
 use Rattle.sd_cover.proofs.Partitions.{among_unrevoked}

@@ -5,9 +5,9 @@ use Rattle.std.proofs.lemmas.Bool.{eqb-true, leb-true, le-leb, and_parts, and_fr
 use Rattle.std.proofs.lemmas.Slice.Eq.{bytes_eq-Decides}
 use Rattle.std.proofs.lemmas.Bool.Decides.{Decides-eqb}
 use Rattle.std.proofs.Math.Pow.{pow_mono}
-use Rattle.sd_card.specs.Files.{AreKept, byte_at, check_in, check_due, file_body, file_bytes}
-use Rattle.sd_card.proofs.Written.{AreBytes, passed, goes, secrets_once}
-use Rattle.sd_card.proofs.Heads.{IsFileOf, sound_is_file, file_is_sound}
+use Rattle.sd_site.specs.Files.{AreKept, byte_at, check_in, check_due, file_body, file_bytes}
+use Rattle.sd_site.proofs.Written.{AreBytes, passed, goes, secrets_once}
+use Rattle.sd_site.proofs.Heads.{IsFileOf, sound_is_file, file_is_sound}
 use Rattle.sd_lsd.specs.LayerNames.{layer_count}
 use Rattle.sd_lsd.specs.Fields.{LayerFields, IsLayerCard, saying, layer_head, layer_bytes, layer_magic}
 use Rattle.sd_lsd.specs.Faults.{height_in, width_in, leaf_in, ca_in, length_at, fault_in}

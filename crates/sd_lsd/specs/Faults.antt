@@ -2,8 +2,8 @@
 use Rattle.std.specs.Prelude.{◌≡◌, ℕ, ◌+◌, ◌*◌, ◌^◌, ◌==◌, ◌&&◌, ◌⊎◌, nat_le, nat_lt, bytes_eq}
 use Rattle.std.specs.Prelude.{List, length, take, Option, Some, None}
 use Rattle.sd_tree.specs.Limits.{highest}
-use Rattle.sd_card.specs.Files.{byte_at, number_in, check_in, check_due, unless}
-use Rattle.sd_card.specs.declared.file.TheConstants.{SECRET_BYTES, CHECK_BYTES}
+use Rattle.sd_site.specs.Files.{byte_at, number_in, check_in, check_due, unless}
+use Rattle.sd_site.specs.declared.file.TheConstants.{SECRET_BYTES, CHECK_BYTES}
 use Rattle.sd_lsd.specs.LayerNames.{layer_count}
 use Rattle.sd_lsd.specs.declared.fault.LayerFault.{LayerFault}
 use Rattle.sd_lsd.specs.declared.fault.LayerFault.TheVariants.{Magic, Version, Height, Width, Leaf, Length, Check}

@@ -2,8 +2,8 @@
 use Rattle.std.specs.Prelude.{◌≡◌, ℕ, ◌+◌, ◌^◌, ◌<◌, ◌≤◌, List, [], ◌∷◌, length, map, codes}
 use Rattle.sd_tree.specs.Limits.{highest}
 use Rattle.sd_tree.specs.declared.set.SetName.{SetName}
-use Rattle.sd_card.specs.Files.{AreSecrets, head_of, file_bytes}
-use Rattle.sd_card.specs.Secrets.{secret_of, DerivesKey, key_held}
+use Rattle.sd_site.specs.Files.{AreSecrets, head_of, file_bytes}
+use Rattle.sd_site.specs.Secrets.{secret_of, DerivesKey, key_held}
 use Rattle.sd_lsd.specs.LayerNames.{layer_given, layer_count}
 use Rattle.sd_lsd.specs.declared.card.LayerCard.{LayerCard}
 

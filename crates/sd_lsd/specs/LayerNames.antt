@@ -5,9 +5,9 @@ use Rattle.sd_tree.specs.Leaves.{is_member}
 use Rattle.sd_tree.specs.SetNames.{IsOfHeight}
 use Rattle.sd_tree.specs.declared.set.SetName.{SetName}
 use Rattle.sd_tree.specs.declared.set.SetName.TheVariants.{Whole as WholeSet, Diff}
-use Rattle.sd_label.specs.declared.name.Name.{Name}
-use Rattle.sd_label.specs.declared.name.Name.TheVariants.{Whole, Pair}
-use Rattle.sd_label.specs.Names.{given}
+use Rattle.sd_tree.specs.declared.name.Name.{Name}
+use Rattle.sd_tree.specs.declared.name.Name.TheVariants.{Whole, Pair}
+use Rattle.sd_tree.specs.Names.{given}
 use Rattle.sd_reach.specs.Reach.{Named, Key, IsReached, source_of}
 use Rattle.sd_lsd.specs.Layers.{is_useful, layer_end}
 

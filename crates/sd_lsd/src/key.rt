@@ -1,7 +1,7 @@
 ghost use Rattle.std.specs.Prelude.{◌≡◌, ℕ, ◌+◌, ◌-◌, ◌<◌, ◌≤◌, ◌↔◌, List, true, false, IsNone, IfSome};
 ghost use Rattle.sd_tree.specs.Leaves.{is_member};
 ghost use Rattle.sd_tree.specs.SetNames.{IsOfHeight};
-ghost use Rattle.sd_label.specs.Keys.{key_of};
+ghost use Rattle.sd_tree.specs.Keys.{key_of};
 ghost use Rattle.sd_lsd.specs.Layers.{is_useful};
 ghost use Rattle.sd_lsd.specs.LayerNames.{pairs_under, pairs_above, layer_count};
 ghost use Rattle.sd_lsd.specs.Fields.{fields_of, layer_card_of, layer_key, LayerDerives};
@@ -9,7 +9,7 @@ ghost use Rattle.sd_lsd.specs.Fields.{fields_of, layer_card_of, layer_key, Layer
 use crate::card::LayerCard;
 use crate::counts;
 use sd_base::Steps;
-use sd_card::{hanging_above, key_below};
+use sd_site::{hanging_above, key_below};
 use sd_tree::{SetName, contains, depth};
 use std::sync::ledger::Ledger;
 

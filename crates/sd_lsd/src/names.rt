@@ -4,9 +4,8 @@ ghost use Rattle.sd_lsd.specs.LayerNames.{layer_given, is_useful_name, set_of, R
 
 use crate::{Width, useful};
 use sd_base::NoMemory;
-use sd_label::Name;
 use sd_reach::names_of;
-use sd_tree::{HIGHEST, Height, Leaf, SetName};
+use sd_tree::{HIGHEST, Height, Leaf, Name, SetName};
 use std::alloc::{AllocError, Global};
 
 /// What the leaf's layer card holds secrets of, in the card's order: the whole set, and then of the pairs of each

@@ -7,7 +7,7 @@ use crate::card::LayerCard;
 use crate::counts::layer_count;
 use crate::fault::LayerFault;
 use crate::format::{CA_AT, HEIGHT_AT, LEAF_AT, MAGIC, SECRETS_AT, VERSION, VERSION_AT, WIDTH_AT};
-use sd_card::{CHECK_BYTES, SECRET_BYTES, byte_at, checks, four_at, secrets_in, two_at};
+use sd_site::{CHECK_BYTES, SECRET_BYTES, byte_at, checks, four_at, secrets_in, two_at};
 use sd_tree::{Height, Leaf};
 use std::alloc::Global;
 

@@ -12,7 +12,7 @@ use Rattle.sd_tree.specs.declared.set.SetName.{SetName}
 use Rattle.sd_book.specs.declared.command.Command.{Command}
 use Rattle.sd_book.specs.Commands.{revoked}
 use Rattle.sd_book.proofs.Revocations.{below}
-use Rattle.sd_label.specs.Names.{given}
+use Rattle.sd_tree.specs.Names.{given}
 use Rattle.sd_cover.specs.Chains.{IsChainCover}
 use Rattle.sd_cover.proofs.Covers.{cover_partition}
 use Rattle.sd_cover.proofs.Heights.{of_height}

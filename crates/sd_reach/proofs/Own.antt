@@ -14,14 +14,14 @@ use Rattle.sd_tree.specs.declared.set.SetName.TheVariants.{Whole as WholeSet, Di
 use Rattle.sd_tree.proofs.Levels.{doubled}
 use Rattle.sd_tree.proofs.Ancestors.{above_le, above_trans, above_parent}
 use Rattle.sd_tree.proofs.Members.{member_of_pair}
-use Rattle.sd_label.specs.declared.name.Name.{Name}
-use Rattle.sd_label.specs.declared.name.Name.TheVariants.{Whole, Pair}
-use Rattle.sd_label.specs.Names.{given, IsGivenPair}
+use Rattle.sd_tree.specs.declared.name.Name.{Name}
+use Rattle.sd_tree.specs.declared.name.Name.TheVariants.{Whole, Pair}
+use Rattle.sd_tree.specs.Names.{given, IsGivenPair}
 use Rattle.sd_tree.proofs.Paths.{sibling_half, sibling_apart}
-use Rattle.sd_label.proofs.Pairs.{given_pairs, given_whole}
+use Rattle.sd_tree.proofs.Pairs.{given_pairs, given_whole}
 use Rattle.sd_reach.specs.Reach.{Secret, Named, Key, IsReached, LeadsTo, ReachesItsSets, source_of}
 use Rattle.sd_reach.proofs.Reached.{reached_is_found, found_is_reached, reached_by_one, at_or_above}
-use Rattle.sd_label.proofs.Hanging.{one_child_above, hangs}
+use Rattle.sd_tree.proofs.Hanging.{one_child_above, hangs}
 
 -- where a given pair's lower node is above j, its upper node is above the leaf and j isn't
 off_path : (d u i w j : ℕ) → IsGivenPair d u i w → (w ≡ j) ⊎ ((1 ≤ w) × IsAbove w j) → IsAbove i (2 ^ d + u)

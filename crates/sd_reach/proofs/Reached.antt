@@ -12,9 +12,9 @@ use Rattle.std.proofs.lemmas.List.Elements.{Contains-append_left, Contains-appen
 use Rattle.sd_tree.specs.Node.{IsAbove}
 use Rattle.sd_tree.proofs.Ancestors.{above_self, above_left, above_right, above_le, above_trans}
 use Rattle.sd_tree.specs.declared.set.SetName.TheVariants.{Whole as WholeSet, Diff}
-use Rattle.sd_label.specs.declared.name.Name.{Name}
-use Rattle.sd_label.specs.declared.name.Name.TheVariants.{Whole, Pair}
-use Rattle.sd_label.specs.Names.{given}
+use Rattle.sd_tree.specs.declared.name.Name.{Name}
+use Rattle.sd_tree.specs.declared.name.Name.TheVariants.{Whole, Pair}
+use Rattle.sd_tree.specs.Names.{given}
 use Rattle.sd_cover.proofs.Lists.{member_cases, member_first, member_later, no_member}
 use Rattle.sd_reach.proofs.Derivation.{Reach, at_first, by_rule, from_derived, to_derived, passes}
 use Rattle.sd_reach.specs.Reach.{Secret, Named, Key, IsGeneratorStep, left, right, middle, whole, IsHeld}

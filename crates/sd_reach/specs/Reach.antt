@@ -5,8 +5,8 @@ use Rattle.sd_tree.specs.Leaves.{is_member}
 use Rattle.sd_tree.specs.SetNames.{IsOfHeight}
 use Rattle.sd_tree.specs.declared.set.SetName.{SetName}
 use Rattle.sd_tree.specs.declared.set.SetName.TheVariants.{Whole as WholeSet, Diff}
-use Rattle.sd_label.specs.declared.name.Name.{Name}
-use Rattle.sd_label.specs.declared.name.Name.TheVariants.{Whole, Pair}
+use Rattle.sd_tree.specs.declared.name.Name.{Name}
+use Rattle.sd_tree.specs.declared.name.Name.TheVariants.{Whole, Pair}
 use Rattle.sd_reach.specs.Derivation.{IsDerived}
 
 -- a secret by its name: what a receiver can be given, or the key of a set

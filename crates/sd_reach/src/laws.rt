@@ -3,8 +3,8 @@
 ghost use Rattle.std.specs.Prelude.{◌≡◌, ℕ, ◌^◌, ◌<◌, ◌≤◌, ◌↔◌, Bool, true, List, All, Any, Contains};
 ghost use Rattle.std.specs.List.{flat_map};
 ghost use Rattle.sd_tree.specs.declared.set.SetName.{SetName};
-ghost use Rattle.sd_label.specs.declared.name.Name.{Name};
-ghost use Rattle.sd_label.specs.Names.{given};
+ghost use Rattle.sd_tree.specs.declared.name.Name.{Name};
+ghost use Rattle.sd_tree.specs.Names.{given};
 ghost use Rattle.sd_book.specs.declared.command.Command.{Command};
 ghost use Rattle.sd_book.specs.Commands.{revoked as revoked_in};
 ghost use Rattle.sd_cover.specs.Chains.{IsChainCover};

@@ -1,10 +1,9 @@
 ghost use Rattle.std.specs.Prelude.{◌≡◌, ◌+◌, ◌^◌, ◌<◌, ◌≤◌, ◌++◌, IfOk, OnOk};
-ghost use Rattle.sd_label.specs.Names.{given, given_under};
+ghost use Rattle.sd_tree.specs.Names.{given, given_under};
 ghost use Rattle.sd_reach.specs.Reach.{ReachesItsSets};
 
 use sd_base::NoMemory;
-use sd_label::Name;
-use sd_tree::{Height, Leaf, path_node, sibling};
+use sd_tree::{Height, Leaf, Name, path_node, sibling};
 use std::alloc::{AllocError, Global};
 
 /// What the leaf's card holds secrets of, in the card's order: the whole set, and then the pairs of each ancestor

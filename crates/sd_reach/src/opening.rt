@@ -2,7 +2,7 @@ ghost use Rattle.std.specs.Prelude.{◌≡◌, ◌^◌, ◌<◌, ◌↔◌, IsTr
 ghost use Rattle.std.specs.List.{list_any, flat_map};
 ghost use Rattle.sd_tree.specs.Leaves.{is_member};
 ghost use Rattle.sd_tree.specs.SetNames.{IsOfHeight};
-ghost use Rattle.sd_label.specs.Names.{given};
+ghost use Rattle.sd_tree.specs.Names.{given};
 ghost use Rattle.sd_reach.specs.Reach.{Key, IsReached};
 
 use sd_tree::{Height, Leaf, SetName, contains};

@@ -1,8 +1,7 @@
 ghost use Rattle.std.specs.Prelude.{◌≡◌, ◌↔◌, IsTrue};
 ghost use Rattle.sd_reach.specs.Reach.{Key, IsReached, LeadsTo};
 
-use sd_label::Name;
-use sd_tree::{SetName, is_above};
+use sd_tree::{Name, SetName, is_above};
 
 /// Whether the set's key follows from the held names by the steps of the generator [Naor, Naor, Lotspiech 2001, 3.2].
 pub fn reaches(held: &[Name], name: SetName) -> bool

@@ -8,8 +8,8 @@ use Rattle.std.proofs.lemmas.Slice.Eq.{bytes_eq-Decides}
 use Rattle.sd_ecm.specs.Parts.{SaySame}
 use Rattle.sd_ecm.specs.declared.part.EcmPart.{EcmPart}
 use Rattle.sd_ecm.specs.declared.message.EcmHead.{EcmHead}
-use Rattle.sd_spec_receiver.specs.Runs.{is_same}
-use Rattle.sd_spec_receiver.specs.Offered.{same_header}
+use Rattle.sd_spec.specs.Runs.{is_same}
+use Rattle.sd_spec.specs.Offered.{same_header}
 
 -- two flags are the same
 same_flag : (a b : Bool) → Decides (if a then b else not b) (a ≡ b)

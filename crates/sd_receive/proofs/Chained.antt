@@ -7,12 +7,12 @@ use Rattle.std.specs.Option.{option_map_or}
 use Rattle.std.proofs.lemmas.List.{length-reverse}
 use Rattle.std.proofs.lemmas.List.Folds.{concat-append}
 use Rattle.sd_base.proofs.Lists.{reversed, first_none, rest_none}
-use Rattle.sd_card.specs.Fields.{CardFields, fields_of}
-use Rattle.sd_card.specs.declared.card.Card.{Card}
+use Rattle.sd_site.specs.CardFields.{CardFields, card_fields_of}
+use Rattle.sd_site.specs.declared.card.Card.{Card}
 use Rattle.sd_engine.specs.Stage.{Chain}
-use Rattle.sd_spec_receiver.specs.declared.fault.StreamFault.{StreamFault}
-use Rattle.sd_spec_receiver.specs.Offered.{offered, out_from, break_from}
-use Rattle.sd_spec_receiver.proofs.Turns.{one_more}
+use Rattle.sd_spec.specs.declared.stream_fault.StreamFault.{StreamFault}
+use Rattle.sd_spec.specs.Offered.{offered, out_from, break_from}
+use Rattle.sd_spec.proofs.Turns.{one_more}
 use Rattle.sd_receive.specs.Receiving.{card_in, IsAfter, takes_key_at, steps_at, taken_keys, RefusesPacket}
 use Rattle.sd_receive.specs.Receiving.{receiver_does, Refusing, OutcomeAfter, OutcomeOf, BreakAt}
 use Rattle.sd_receive.specs.declared.receiver.Receiver.{Receiver}
@@ -68,7 +68,7 @@ came_to past [] s t bytes n after few (same, none, none_taken) = record {
 came_to past (packet ∷ packets) s t bytes n after few (mid, first, rest, m, k, one, more, joined, counted) =
     let here = one past after (omega (arith, few)) in
     let card = card_in s in
-    let kept : card_in mid ≡ card = ap (λ (c : Card). fields_of c) here.same in
+    let kept : card_in mid ≡ card = ap (λ (c : Card). card_fields_of c) here.same in
     let there = subst (λ (c : CardFields). OutcomeAfter c (packet ∷ past) packets t rest k) kept
     (came_to (packet ∷ past) packets mid t rest k here.after (omega (arith, few)) more) in
     record {

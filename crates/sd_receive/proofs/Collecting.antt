@@ -9,12 +9,12 @@ use Rattle.sd_ecm.specs.declared.message.EcmHead.{EcmHead}
 use Rattle.sd_ecm.specs.declared.fault.EcmFault.{EcmFault}
 use Rattle.sd_ecm.specs.declared.fault.EcmFault.TheVariants.{Back}
 use Rattle.sd_emm.specs.declared.emm.Emm.{Emm}
-use Rattle.sd_spec_receiver.specs.Heard.{Heard, Controls, Dropped, Entitles, Other}
-use Rattle.sd_spec_receiver.specs.Stretches.{Stretch, exceeds, counted, run_with, run_of, run_to, message_told, newest}
-use Rattle.sd_spec_receiver.specs.Stretches.{completes}
-use Rattle.sd_spec_receiver.specs.Offered.{part_fault, is_back}
+use Rattle.sd_spec.specs.Heard.{Heard, Controls, Dropped, Entitles, Other}
+use Rattle.sd_spec.specs.Stretches.{Stretch, exceeds, counted, run_with, run_of, run_to, message_told, newest}
+use Rattle.sd_spec.specs.Stretches.{completes}
+use Rattle.sd_spec.specs.Offered.{part_fault, is_back}
 use Rattle.sd_ecm.specs.Form.{ArePlaces}
-use Rattle.sd_spec_receiver.proofs.Hearing.{no_fault_in_none, newest_waits, newest_completes}
+use Rattle.sd_spec.proofs.Hearing.{no_fault_in_none, newest_waits, newest_completes}
 use Rattle.sd_receive.specs.Gathered.{places_of, newest_of, next_run, IsGathered}
 use Rattle.sd_receive.specs.Collected.{parts_collected, IsMessageKept, IsCollected, fault_of, IsWaiting, IsComplete}
 use Rattle.sd_receive.specs.declared.collect.Collect.{Collect}

@@ -6,15 +6,15 @@ use Rattle.std.proofs.lemmas.Bool.{lt-ltb}
 use Rattle.sd_ecm.specs.Parts.{Message}
 use Rattle.sd_ecm.specs.declared.part.Place.{Place}
 use Rattle.sd_ecm.specs.declared.message.EcmHead.{EcmHead}
-use Rattle.sd_card.specs.Fields.{CardFields}
-use Rattle.sd_spec_receiver.specs.declared.ending.Ending.{Ending}
-use Rattle.sd_spec_receiver.specs.declared.ending.Ending.TheVariants.{Opened, Revoked, Unheard, NoCat, Unclosed, Gaps}
-use Rattle.sd_spec_receiver.specs.Tuned.{tuning_of}
-use Rattle.sd_spec_receiver.specs.Stretches.{newest, is_closed}
-use Rattle.sd_spec_receiver.specs.Heard.{Heard}
-use Rattle.sd_spec_receiver.specs.Offered.{heard}
-use Rattle.sd_spec_receiver.specs.Ending.{periods_told, is_unkeyed, ending_with, run_ending, joined, run_wrote}
-use Rattle.sd_spec_receiver.specs.Ending.{ended_before, ending_of}
+use Rattle.sd_site.specs.CardFields.{CardFields}
+use Rattle.sd_spec.specs.declared.ending.Ending.{Ending}
+use Rattle.sd_spec.specs.declared.ending.Ending.TheVariants.{Opened, Revoked, Unheard, NoCat, Unclosed, Gaps}
+use Rattle.sd_spec.specs.Tuned.{tuning_of}
+use Rattle.sd_spec.specs.Stretches.{newest, is_closed}
+use Rattle.sd_spec.specs.Heard.{Heard}
+use Rattle.sd_spec.specs.Offered.{heard}
+use Rattle.sd_spec.specs.Ending.{periods_told, is_unkeyed, ending_with, run_ending, joined, run_wrote}
+use Rattle.sd_spec.specs.Ending.{ended_before, ending_of}
 use Rattle.sd_receive.specs.Collected.{IsMessageKept}
 use Rattle.sd_receive.specs.Entitled.{is_told_revoked}
 use Rattle.sd_receive.specs.Listening.{IsListenerAfter}

@@ -4,12 +4,12 @@ use Rattle.std.specs.Prelude.{find, Some, None, option_map}
 use Rattle.std.proofs.lemmas.List.{at_drop_more, drop_all}
 use Rattle.std.proofs.lemmas.Bool.{true_from_ne_false}
 use Rattle.sd_tree.specs.Leaves.{is_member}
-use Rattle.sd_card.specs.Fields.{CardFields, card_key}
+use Rattle.sd_site.specs.CardFields.{CardFields, card_key}
 use Rattle.sd_keystream.specs.Wrapping.{wrapped}
 use Rattle.sd_emm.specs.Spelled.{listed_entries}
 use Rattle.sd_emm.specs.declared.emm.Emm.{Emm}
 use Rattle.sd_emm.specs.declared.emm.Entry.{Entry}
-use Rattle.sd_spec_receiver.specs.Keys.{key_from}
+use Rattle.sd_spec.specs.Keys.{key_from}
 
 abbrev pub has_leaf : ℕ → ℕ → Entry → Bool
 has_leaf h u entry = is_member h entry.name u

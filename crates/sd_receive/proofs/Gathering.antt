@@ -16,8 +16,8 @@ use Rattle.sd_ecm.specs.declared.part.Place.{Place}
 use Rattle.sd_ecm.specs.declared.part.EcmPart.{EcmPart}
 use Rattle.sd_ecm.specs.declared.fault.EcmFault.TheVariants.{Count, Order, Mixed}
 use Rattle.sd_ecm.proofs.Versions.{few_positions, some_positions}
-use Rattle.sd_spec_receiver.specs.Stretches.{run_with}
-use Rattle.sd_spec_receiver.specs.Offered.{same_header, is_after, part_fault}
+use Rattle.sd_spec.specs.Stretches.{run_with}
+use Rattle.sd_spec.specs.Offered.{same_header, is_after, part_fault}
 use Rattle.sd_receive.specs.Gathered.{places_of, newest_of, next_run, IsPart, IsNext, AreAlike, IsRun}
 use Rattle.sd_receive.specs.Gathered.{IsGathered}
 use Rattle.sd_receive.proofs.Pairs.{pairs_append, after_all}

@@ -3,28 +3,28 @@ use Rattle.std.proofs.Common.{◌≡◌, inl, inr, ℕ, ◌+◌, ◌++◌, List,
 use Rattle.std.proofs.Common.{true, false, arith}
 use Rattle.std.specs.Prelude.{Option, Some, None, nat_lt, nat_le, option_map, if◌then◌else◌}
 use Rattle.std.proofs.lemmas.Bool.{cases_lt, lt-ltb, le-ltb}
-use Rattle.sd_card.specs.Fields.{CardFields}
+use Rattle.sd_site.specs.CardFields.{CardFields}
 use Rattle.sd_keystream.specs.Wrapping.{wrapped as under}
 use Rattle.sd_ecm.specs.Parts.{Message, message_of}
 use Rattle.sd_ecm.specs.declared.part.EcmPart.{EcmPart}
 use Rattle.sd_ecm.specs.declared.part.Place.{Place}
 use Rattle.sd_ecm.specs.declared.message.EcmHead.{EcmHead}
 use Rattle.sd_psi.specs.declared.our_cat.Tuning.{Tuning}
-use Rattle.sd_spec_receiver.specs.Heard.{Heard, Controls, Other}
-use Rattle.sd_spec_receiver.specs.Stretches.{Stretch, newest, completes, others, other_with, held_in}
-use Rattle.sd_spec_receiver.specs.Keys.{key_in, key_at}
-use Rattle.sd_spec_receiver.specs.Confirmed.{Wrote}
-use Rattle.sd_spec_receiver.specs.Offered.{segment_wrote, stretch_wrote}
-use Rattle.sd_spec_receiver.proofs.Hearing.{newest_waits, newest_completes}
-use Rattle.sd_receive_hold.specs.Holding.{after_message, held_more}
-use Rattle.sd_receive_hold.specs.Writing.{wrote_of}
-use Rattle.sd_receive_hold.proofs.Walking.{between_messages}
-use Rattle.sd_receive.specs.Held.{word_under, held_under, held_after, holding_in, pair_wrote, unwritten}
+use Rattle.sd_spec.specs.Heard.{Heard, Controls, Other}
+use Rattle.sd_spec.specs.Stretches.{Stretch, newest, completes, others, other_with, held_in}
+use Rattle.sd_spec.specs.Keys.{key_in, key_at}
+use Rattle.sd_spec.specs.Confirmed.{Wrote}
+use Rattle.sd_spec.specs.Offered.{segment_wrote, stretch_wrote}
+use Rattle.sd_spec.proofs.Hearing.{newest_waits, newest_completes}
+use Rattle.sd_receive.specs.Holding.{after_message, held_more}
+use Rattle.sd_receive.specs.Writing.{wrote_of}
+use Rattle.sd_receive.proofs.HoldWalking.{between_messages}
+use Rattle.sd_receive.specs.Held.{word_under, held_under, held_after, holding_after, pair_wrote, unwritten}
 use Rattle.sd_receive.proofs.Stretching.{holds_more, holds_same, sees_same}
 
 -- nothing was heard
-pub nothing_held : (card : CardFields) → holding_in card [] ≡ None
-unfolding holding_in newest
+pub nothing_held : (card : CardFields) → holding_after card [] ≡ None
+unfolding holding_after newest
 nothing_held card = refl
 
 same_under : (a b : Stretch) (message : Message) (word : Option (List ℕ)) → held_in a ≡ held_in b →
@@ -50,8 +50,8 @@ same_after card a b message before held =
 -- what is no other packet, and completes nothing, changes nothing
 pub held_same : (card : CardFields) (past : List Heard) (heard : Heard) → completes past heard ≡ None →
     other_with heard (others (newest past).after) ≡ others (newest past).after →
-    holding_in card (heard ∷ past) ≡ holding_in card past
-unfolding holding_in
+    holding_after card (heard ∷ past) ≡ holding_after card past
+unfolding holding_after
 held_same card past heard none same =
     same_after card (newest (heard ∷ past)) (newest past) (ap (λ (st : Stretch). st.message)
     (newest_waits past heard none))
@@ -99,8 +99,8 @@ more_after card stretch (Some message) n packet more before is =
     ∙ more_held stretch message (word_under message (key_at card stretch.before message.period)) n packet more is
 
 pub held_other : (card : CardFields) (past : List Heard) (n : ℕ) (packet : List ℕ) →
-    holding_in card (Other n packet ∷ past) ≡ held_more (holding_in card past) n packet
-unfolding holding_in
+    holding_after card (Other n packet ∷ past) ≡ held_more (holding_after card past) n packet
+unfolding holding_after
 held_other card past n packet =
     let is = newest_waits past (Other n packet) refl in
     ap (λ (m : Option Message). held_after card (newest (Other n packet ∷ past)) m)
@@ -118,9 +118,9 @@ begun_under past message (Some word) = refl
 
 pub held_begun : (card : CardFields) (past : List Heard) (heard : Heard) (message : Message) →
     completes past heard ≡ Some message →
-    holding_in card (heard ∷ past)
+    holding_after card (heard ∷ past)
     ≡ option_map (λ (w : List ℕ). after_message message w []) (word_under message (key_at card past message.period))
-unfolding holding_in
+unfolding holding_after
 held_begun card past heard message done =
     ap (λ (st : Stretch). held_after card st st.message) (newest_completes past heard message done)
     ∙ begun_under past message (word_under message (key_at card past message.period))

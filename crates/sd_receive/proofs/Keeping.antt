@@ -13,15 +13,15 @@ use Rattle.std.proofs.lemmas.Bool.{le-leb, le-ltb, eqb-true, ne_eqb, and_parts, 
 use Rattle.std.proofs.lemmas.Bool.{not-false, both_ways}
 use Rattle.sd_base.proofs.Bools.{or_true}
 use Rattle.sd_base.proofs.Lists.{unmarked}
-use Rattle.sd_card.specs.Fields.{CardFields}
+use Rattle.sd_site.specs.CardFields.{CardFields}
 use Rattle.sd_emm.specs.declared.emm.Emm.{Emm}
 use Rattle.sd_ecm.specs.Parts.{Message}
 use Rattle.sd_ecm.specs.declared.part.EcmPart.{EcmPart}
-use Rattle.sd_spec_receiver.specs.Heard.{Heard, Dropped, Entitles, Controls, BadEmm, BadEcm, Other}
-use Rattle.sd_spec_receiver.specs.Stretches.{completes, messages, current, seen}
-use Rattle.sd_spec_receiver.specs.Keys.{key_in, key_at, key_from, first_key}
-use Rattle.sd_spec_receiver.specs.Offered.{says_same, is_mixed}
-use Rattle.sd_spec_receiver.specs.Ending.{periods_told, is_unkeyed, are_all}
+use Rattle.sd_spec.specs.Heard.{Heard, Dropped, Entitles, Controls, BadEmm, BadEcm, Other}
+use Rattle.sd_spec.specs.Stretches.{completes, messages, current, seen}
+use Rattle.sd_spec.specs.Keys.{key_in, key_at, key_from, first_key}
+use Rattle.sd_spec.specs.Offered.{says_same, is_mixed}
+use Rattle.sd_spec.specs.Ending.{periods_told, is_unkeyed, are_all}
 use Rattle.sd_receive.specs.declared.says.Says.{Says}
 use Rattle.sd_receive.specs.declared.entitled.Entitled.{Entitled}
 use Rattle.sd_receive.specs.Entitled.{says_in, said, SayAlike, has_index, is_told_revoked, told_below, is_in_turn}

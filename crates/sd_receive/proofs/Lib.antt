@@ -1,3 +1,9 @@
+pub mod Places
+pub mod Tables
+pub mod HoldKeeping
+pub mod Sinks
+pub mod HoldJudging
+pub mod HoldWalking
 pub mod Stretching
 pub mod Holding
 pub mod Offering

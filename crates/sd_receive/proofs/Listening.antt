@@ -3,8 +3,8 @@ use Rattle.std.proofs.Common.{◌≡◌, inl, inr, ℕ, List, [], ◌∷◌, len
 use Rattle.std.proofs.Common.{arith}
 use Rattle.std.specs.Prelude.{Option, Some, None, is_none, nat_lt, Result, Ok, Err, if◌then◌else◌, bytes_eq}
 use Rattle.std.specs.List.{concat}
-use Rattle.sd_card.specs.Fields.{CardFields}
-use Rattle.sd_label.specs.Keys.{check_value_of}
+use Rattle.sd_site.specs.CardFields.{CardFields}
+use Rattle.sd_tree.specs.Keys.{check_value_of}
 use Rattle.sd_emm.specs.declared.emm.Emm.{Emm}
 use Rattle.sd_emm.specs.declared.fault.EmmFault.{EmmFault}
 use Rattle.sd_emm.specs.declared.fault.EmmFault.TheVariants as Emms
@@ -14,23 +14,23 @@ use Rattle.sd_ecm.specs.declared.fault.EcmFault.{EcmFault}
 use Rattle.sd_engine.specs.Stage.{SinkState}
 use Rattle.sd_engine.specs.declared.stage.StageFault.{StageFault}
 use Rattle.sd_engine.specs.declared.stage.StageFault.TheVariants.{Write, Refused}
-use Rattle.sd_spec_receiver.specs.declared.fault.StreamFault.{StreamFault}
-use Rattle.sd_spec_receiver.specs.declared.fault.StreamFault.TheVariants as Fault
+use Rattle.sd_spec.specs.declared.stream_fault.StreamFault.{StreamFault}
+use Rattle.sd_spec.specs.declared.stream_fault.StreamFault.TheVariants as Fault
 use Rattle.sd_psi.specs.declared.our_cat.Tuning.{Tuning}
-use Rattle.sd_spec_receiver.specs.Heard.{Heard, Dropped, Entitles, Controls, BadEmm, BadEcm, Other}
-use Rattle.sd_spec_receiver.specs.Stretches.{completes, current, seen, is_closed}
-use Rattle.sd_spec_receiver.specs.Keys.{key_from, key_at}
-use Rattle.sd_spec_receiver.specs.Offered.{Offering, no_offering, refuses, key_offering, key_if_none, is_mixed}
-use Rattle.sd_spec_receiver.specs.Offered.{emm_offering}
-use Rattle.sd_spec_receiver.specs.Offered.{heard_offering}
+use Rattle.sd_spec.specs.Heard.{Heard, Dropped, Entitles, Controls, BadEmm, BadEcm, Other}
+use Rattle.sd_spec.specs.Stretches.{completes, current, seen, is_closed}
+use Rattle.sd_spec.specs.Keys.{key_from, key_at}
+use Rattle.sd_spec.specs.Offered.{Offering, no_offering, refuses, key_offering, key_if_none, is_mixed}
+use Rattle.sd_spec.specs.Offered.{emm_offering}
+use Rattle.sd_spec.specs.Offered.{heard_offering}
 use Rattle.sd_receive.specs.Entitled.{IsEntitled}
 use Rattle.sd_receive.specs.declared.entitled.Entitled.{Entitled}
 use Rattle.sd_receive.proofs.Keeping.{nothing_told}
 use Rattle.sd_receive.specs.Collected.{IsCollected, IsWaiting, IsComplete, fault_of}
 use Rattle.sd_receive.specs.declared.collect.Collect.{Collect}
 use Rattle.sd_receive.proofs.Collecting as Collecting
-use Rattle.sd_receive_hold.specs.Holding.{Holding, held_more}
-use Rattle.sd_receive_hold.proofs.Sinks.{took_none}
+use Rattle.sd_receive.specs.Holding.{Holding, held_more}
+use Rattle.sd_receive.proofs.Sinks.{took_none}
 use Rattle.sd_receive.specs.Listening.{IsListenerAfter, IsListenerAtMessage, CountsMore, PassesOffering}
 use Rattle.sd_receive.specs.Listening.{StopsAtOffering, TakesHeard, RefusesHeard, TookSome}
 use Rattle.sd_receive.specs.Listening.{PacketOutcome}

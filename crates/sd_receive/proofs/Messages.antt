@@ -5,24 +5,24 @@ use Rattle.std.specs.List.{concat}
 use Rattle.std.specs.Option.{option_map_or}
 use Rattle.std.specs.Result.{MatchResult}
 use Rattle.sd_base.specs.Count.{with_added, IsCaused}
-use Rattle.sd_card.specs.Fields.{CardFields}
+use Rattle.sd_site.specs.CardFields.{CardFields}
 use Rattle.sd_ecm.specs.Parts.{Message, message_of}
 use Rattle.sd_ecm.specs.declared.part.EcmPart.{EcmPart}
 use Rattle.sd_ecm.specs.declared.message.EcmHead.{EcmHead}
 use Rattle.sd_engine.specs.Stage.{SinkState, IsCutShort, TookBytes}
-use Rattle.sd_spec_receiver.specs.declared.fault.StreamFault.{StreamFault}
-use Rattle.sd_spec_receiver.specs.declared.fault.StreamFault.TheVariants as Fault
+use Rattle.sd_spec.specs.declared.stream_fault.StreamFault.{StreamFault}
+use Rattle.sd_spec.specs.declared.stream_fault.StreamFault.TheVariants as Fault
 use Rattle.sd_psi.specs.declared.our_cat.Tuning.{Tuning}
-use Rattle.sd_spec_receiver.specs.Heard.{Heard, Controls}
-use Rattle.sd_spec_receiver.specs.Stretches.{newest, completes, current}
-use Rattle.sd_spec_receiver.specs.Keys.{key_at}
-use Rattle.sd_spec_receiver.specs.Confirmed.{Wrote}
-use Rattle.sd_spec_receiver.specs.Offered.{Offering, word_fault, wrote_or, heard_offering}
+use Rattle.sd_spec.specs.Heard.{Heard, Controls}
+use Rattle.sd_spec.specs.Stretches.{newest, completes, current}
+use Rattle.sd_spec.specs.Keys.{key_at}
+use Rattle.sd_spec.specs.Confirmed.{Wrote}
+use Rattle.sd_spec.specs.Offered.{Offering, word_fault, wrote_or, heard_offering}
 use Rattle.sd_receive.specs.Entitled.{IsEntitled}
 use Rattle.sd_receive.specs.declared.entitled.Entitled.{Entitled}
 use Rattle.sd_receive.specs.Collected.{IsCollected}
-use Rattle.sd_receive_hold.specs.Holding.{Holding, after_message}
-use Rattle.sd_receive.specs.Held.{word_under, holding_in, pair_wrote}
+use Rattle.sd_receive.specs.Holding.{Holding, after_message}
+use Rattle.sd_receive.specs.Held.{word_under, holding_after, pair_wrote}
 use Rattle.sd_receive.specs.Listening.{IsListenerAfter, IsListenerAtMessage, capped, CountsMore, PassesOffering}
 use Rattle.sd_receive.specs.Listening.{TookSome, StopsAtOffering, TakesMessage}
 use Rattle.sd_receive.specs.Listening.{RefusesMessage}
@@ -65,7 +65,7 @@ pub offering_is : (card : CardFields) (tuning : Tuning) (n : ℕ) (past : List H
     ≡ wrote_or (pair_wrote state.collect.last state.segment head.since card.ca tuning.ecm
     state.collect.run.places.items)
     (word_fault n (message_of head state.collect.run.places.items) (key_at card past head.period))
-unfolding holding_in
+unfolding holding_after
 offering_is card tuning n past part head state done =
     let message = message_of head state.collect.run.places.items in
     let fault = word_fault n message (key_at card past head.period) in

@@ -3,19 +3,19 @@ use Rattle.std.proofs.Common.{◌≡◌, ℕ, List, refl, ap, ◌∙◌, subst, 
 use Rattle.std.specs.Prelude.{Option, Some, None, if◌then◌else◌, nat_lt, ◌≤◌}
 use Rattle.std.specs.Option.{option_map_or}
 use Rattle.std.proofs.lemmas.Bool.{or_parts, ltb-false}
-use Rattle.sd_card.specs.Fields.{CardFields}
+use Rattle.sd_site.specs.CardFields.{CardFields}
 use Rattle.sd_ecm.specs.Parts.{Message}
 use Rattle.sd_ecm.specs.declared.part.EcmPart.{EcmPart}
 use Rattle.sd_ecm.specs.declared.fault.EcmFault.{EcmFault}
 use Rattle.sd_ecm.specs.declared.fault.EcmFault.TheVariants.{Back}
-use Rattle.sd_spec_receiver.specs.declared.fault.StreamFault.TheVariants as Fault
+use Rattle.sd_spec.specs.declared.stream_fault.StreamFault.TheVariants as Fault
 use Rattle.sd_psi.specs.declared.our_cat.Tuning.{Tuning}
-use Rattle.sd_spec_receiver.specs.Heard.{Heard, Controls}
-use Rattle.sd_spec_receiver.specs.Stretches.{newest, run_to, completes, current}
-use Rattle.sd_spec_receiver.specs.Keys.{key_at}
-use Rattle.sd_spec_receiver.specs.Offered.{Offering, no_offering, refuses, part_fault, is_before, is_back}
-use Rattle.sd_spec_receiver.specs.Offered.{part_offering}
-use Rattle.sd_spec_receiver.specs.Offered.{message_offering, stretch_wrote, word_fault, wrote_or, heard_offering}
+use Rattle.sd_spec.specs.Heard.{Heard, Controls}
+use Rattle.sd_spec.specs.Stretches.{newest, run_to, completes, current}
+use Rattle.sd_spec.specs.Keys.{key_at}
+use Rattle.sd_spec.specs.Offered.{Offering, no_offering, refuses, part_fault, is_before, is_back}
+use Rattle.sd_spec.specs.Offered.{part_offering}
+use Rattle.sd_spec.specs.Offered.{message_offering, stretch_wrote, word_fault, wrote_or, heard_offering}
 use Rattle.sd_receive.specs.Collected.{back_fault, fault_of}
 
 -- a message that goes back

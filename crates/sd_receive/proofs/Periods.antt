@@ -10,9 +10,9 @@ use Rattle.std.proofs.lemmas.List.Folds.{find-append, list_any-append}
 use Rattle.std.proofs.lemmas.Bool.{lt-leb, lt-ltb, le-ltb, ne_eqb, and_parts, and_right, leb-true, cases_lt}
 use Rattle.sd_emm.specs.declared.emm.Emm.{Emm}
 use Rattle.sd_ecm.specs.Parts.{Message}
-use Rattle.sd_spec_receiver.specs.Heard.{Heard, Dropped, Entitles, Controls, BadEmm, BadEcm, Other}
-use Rattle.sd_spec_receiver.specs.Stretches.{completes, messages, current, seen}
-use Rattle.sd_spec_receiver.specs.Ending.{periods_told}
+use Rattle.sd_spec.specs.Heard.{Heard, Dropped, Entitles, Controls, BadEmm, BadEcm, Other}
+use Rattle.sd_spec.specs.Stretches.{completes, messages, current, seen}
+use Rattle.sd_spec.specs.Ending.{periods_told}
 use Rattle.sd_receive.specs.Entitled.{told_below, is_in_turn}
 
 -- the sections seen of a past period stay

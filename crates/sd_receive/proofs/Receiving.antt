@@ -8,29 +8,29 @@ use Rattle.std.specs.Option.{option_or}
 use Rattle.std.proofs.lemmas.Bool.{true≢false}
 use Rattle.std.proofs.lemmas.List.{reverse-append, reverse-reverse}
 use Rattle.sd_base.proofs.Bools.{tested}
-use Rattle.sd_card.specs.declared.card.Card.{Card}
-use Rattle.sd_card.specs.Fields.{CardFields, fields_of}
+use Rattle.sd_site.specs.declared.card.Card.{Card}
+use Rattle.sd_site.specs.CardFields.{CardFields, card_fields_of}
 use Rattle.sd_engine.specs.Stage.{SinkState, HasGrown, IsCutShort, IsAllowed}
 use Rattle.sd_engine.specs.declared.stage.StageFault.{StageFault}
 use Rattle.sd_engine.specs.declared.stage.StageFault.TheVariants.{Write, Refused}
-use Rattle.sd_spec_receiver.specs.declared.fault.StreamFault.{StreamFault}
+use Rattle.sd_spec.specs.declared.stream_fault.StreamFault.{StreamFault}
 use Rattle.sd_base.proofs.Fields.{field_below}
 use Rattle.sd_packet.specs.Header.{pid_of, has_payload}
 use Rattle.sd_section.specs.Header.{body_of}
 use Rattle.sd_psi.specs.Tables.{descriptors_of}
 use Rattle.sd_psi.specs.Forms.{cat_fault, section_in}
-use Rattle.sd_receive_hold.proofs.Sinks.{took_none}
-use Rattle.sd_spec_receiver.specs.Tuned.{tuned_by, tuning_of}
+use Rattle.sd_receive.proofs.Sinks.{took_none}
+use Rattle.sd_spec.specs.Tuned.{tuned_by, tuning_of}
 use Rattle.sd_psi.specs.OurCat.{tuning_in, is_for, cat_tuning}
 use Rattle.sd_psi.specs.declared.our_cat.Tuning.{Tuning}
-use Rattle.sd_spec_receiver.specs.Heard.{Heard, hears}
-use Rattle.sd_spec_receiver.specs.declared.ending.Ending.{Ending}
-use Rattle.sd_spec_receiver.specs.declared.ending.Ending.TheVariants.{Opened}
-use Rattle.sd_spec_receiver.specs.Stretches.{is_closed}
-use Rattle.sd_spec_receiver.specs.Runs.{run_name_heard, name_in, are_two, is_turn, of_run}
-use Rattle.sd_spec_receiver.specs.Offered.{Offering, no_offering, heard, offered, heard_offering, break_from}
-use Rattle.sd_spec_receiver.specs.Ending.{run_ending, joined, turns_at, run_wrote, ended_before}
-use Rattle.sd_spec_receiver.proofs.Runs.{same_run, new_run, never_turns, ended_on, ended_now}
+use Rattle.sd_spec.specs.Heard.{Heard, hears}
+use Rattle.sd_spec.specs.declared.ending.Ending.{Ending}
+use Rattle.sd_spec.specs.declared.ending.Ending.TheVariants.{Opened}
+use Rattle.sd_spec.specs.Stretches.{is_closed}
+use Rattle.sd_spec.specs.Runs.{run_name_heard, name_in, are_two, is_turn, of_run}
+use Rattle.sd_spec.specs.Offered.{Offering, no_offering, heard, offered, heard_offering, break_from}
+use Rattle.sd_spec.specs.Ending.{run_ending, joined, turns_at, run_wrote, ended_before}
+use Rattle.sd_spec.proofs.Runs.{same_run, new_run, never_turns, ended_on, ended_now}
 use Rattle.sd_receive.specs.Listening.{IsListenerAfter, capped, TakesHeard, RefusesHeard, PacketOutcome}
 use Rattle.sd_receive.specs.Receiving.{card_in, with_run, IsAfter, TurnsBy, takes_key_of, takes_key_at, steps_at}
 use Rattle.sd_receive.specs.Receiving.{TakesPacket, receiver_does, Refusing, IsFit}
@@ -515,7 +515,7 @@ first_after card listener none follows = record {
   tuning = refl;
   name = refl;
   so_far = refl;
-  follows = follows (fields_of card);
+  follows = follows (card_fields_of card);
   written = none;
   unbroken = refl;
   unrefused = refl;

@@ -4,9 +4,9 @@ use Rattle.std.specs.Prelude.{Some, None, reverse}
 use Rattle.std.proofs.lemmas.List.{reverse-append}
 use Rattle.sd_ecm.specs.Parts.{Message}
 use Rattle.sd_ecm.specs.declared.part.EcmPart.{EcmPart}
-use Rattle.sd_spec_receiver.specs.Heard.{Heard, Controls, Other}
-use Rattle.sd_spec_receiver.specs.Stretches.{newest, completes, is_closed, seen, others, other_with, held_in}
-use Rattle.sd_spec_receiver.proofs.Hearing.{newest_waits}
+use Rattle.sd_spec.specs.Heard.{Heard, Controls, Other}
+use Rattle.sd_spec.specs.Stretches.{newest, completes, is_closed, seen, others, other_with, held_in}
+use Rattle.sd_spec.proofs.Hearing.{newest_waits}
 
 -- the stream is closed by a closing message alone
 pub stays_open : (past : List Heard) (heard : Heard) → is_closed past ≡ false → completes past heard ≡ None →

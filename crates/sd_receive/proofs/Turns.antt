@@ -6,16 +6,16 @@ use Rattle.std.specs.Option.{option_map_or, option_or}
 use Rattle.std.proofs.lemmas.Bool.{false≢true}
 use Rattle.sd_base.proofs.Bools.{tested}
 use Rattle.sd_base.proofs.Lists.{reversed, last_out, first_none, rest_none}
-use Rattle.sd_card.specs.Fields.{CardFields}
-use Rattle.sd_spec_receiver.specs.declared.fault.StreamFault.{StreamFault}
-use Rattle.sd_spec_receiver.specs.Tuned.{tuning_of}
+use Rattle.sd_site.specs.CardFields.{CardFields}
+use Rattle.sd_spec.specs.declared.stream_fault.StreamFault.{StreamFault}
+use Rattle.sd_spec.specs.Tuned.{tuning_of}
 use Rattle.sd_psi.specs.declared.our_cat.Tuning.{Tuning}
-use Rattle.sd_spec_receiver.specs.Heard.{Heard, hears}
-use Rattle.sd_spec_receiver.specs.Stretches.{is_closed}
-use Rattle.sd_spec_receiver.specs.Runs.{run_name_heard, name_or, name_in, are_two, is_turn, of_run}
-use Rattle.sd_spec_receiver.specs.Offered.{no_offering, heard, offered, heard_offering, out_from, break_from}
-use Rattle.sd_spec_receiver.specs.Ending.{turns_at, run_wrote}
-use Rattle.sd_spec_receiver.proofs.Runs.{same_run}
+use Rattle.sd_spec.specs.Heard.{Heard, hears}
+use Rattle.sd_spec.specs.Stretches.{is_closed}
+use Rattle.sd_spec.specs.Runs.{run_name_heard, name_or, name_in, are_two, is_turn, of_run}
+use Rattle.sd_spec.specs.Offered.{no_offering, heard, offered, heard_offering, out_from, break_from}
+use Rattle.sd_spec.specs.Ending.{turns_at, run_wrote}
+use Rattle.sd_spec.proofs.Runs.{same_run}
 
 option_same : (fault : Option StreamFault) → option_map_or Some fault None ≡ fault
 option_same None = refl

@@ -9,7 +9,7 @@ use Rattle.std.proofs.lemmas.List.{take_all, get_or_default}
 use Rattle.std.proofs.lemmas.List.Folds.{list_any_at, list_any_more}
 use Rattle.sd_ecm.specs.Form.{AreAscending}
 use Rattle.sd_ecm.specs.declared.part.Place.{Place}
-use Rattle.sd_spec_receiver.specs.Confirmed.{position_in}
+use Rattle.sd_spec.specs.Confirmed.{position_in}
 
 -- the place's PID has no position among these, or a lower one
 abbrev pub lacks : List Place → Place → Bool

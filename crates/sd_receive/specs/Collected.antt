@@ -7,9 +7,9 @@ use Rattle.sd_ecm.specs.declared.part.EcmPart.{EcmPart}
 use Rattle.sd_ecm.specs.declared.message.EcmHead.{EcmHead}
 use Rattle.sd_ecm.specs.declared.fault.EcmFault.{EcmFault}
 use Rattle.sd_ecm.specs.declared.fault.EcmFault.TheVariants.{Back}
-use Rattle.sd_spec_receiver.specs.Heard.{Heard, Controls}
-use Rattle.sd_spec_receiver.specs.Stretches.{counted, run_of, run_to, newest, completes}
-use Rattle.sd_spec_receiver.specs.Offered.{part_fault, is_back}
+use Rattle.sd_spec.specs.Heard.{Heard, Controls}
+use Rattle.sd_spec.specs.Stretches.{counted, run_of, run_to, newest, completes}
+use Rattle.sd_spec.specs.Offered.{part_fault, is_back}
 use Rattle.sd_ecm.specs.Form.{ArePlaces}
 use Rattle.sd_receive.specs.Gathered.{IsGathered}
 use Rattle.sd_receive.specs.declared.collect.Collect.{Collect}

@@ -6,13 +6,13 @@ use Rattle.std.specs.Prelude.{Option, Some, None}
 use Rattle.std.specs.Prelude.{Result, MatchResult}
 use Rattle.std.specs.List.{list_any, list_all}
 use Rattle.std.specs.Option.{option_map_or}
-use Rattle.sd_card.specs.Fields.{CardFields}
+use Rattle.sd_site.specs.CardFields.{CardFields}
 use Rattle.sd_emm.specs.declared.emm.Emm.{Emm}
-use Rattle.sd_spec_receiver.specs.declared.fault.StreamFault.{StreamFault}
-use Rattle.sd_spec_receiver.specs.Heard.{Heard, Dropped, Entitles, Controls, BadEmm, BadEcm, Other}
-use Rattle.sd_spec_receiver.specs.Stretches.{completes, current, seen}
-use Rattle.sd_spec_receiver.specs.Keys.{key_at}
-use Rattle.sd_spec_receiver.specs.Ending.{periods_told, is_unkeyed, is_all_seen}
+use Rattle.sd_spec.specs.declared.stream_fault.StreamFault.{StreamFault}
+use Rattle.sd_spec.specs.Heard.{Heard, Dropped, Entitles, Controls, BadEmm, BadEcm, Other}
+use Rattle.sd_spec.specs.Stretches.{completes, current, seen}
+use Rattle.sd_spec.specs.Keys.{key_at}
+use Rattle.sd_spec.specs.Ending.{periods_told, is_unkeyed, is_all_seen}
 use Rattle.sd_receive.specs.declared.says.Says.{Says}
 use Rattle.sd_receive.specs.declared.entitled.Entitled.{Entitled}
 

@@ -9,8 +9,8 @@ use Rattle.sd_ecm.specs.Versions.{most_positions}
 use Rattle.sd_ecm.specs.declared.part.Place.{Place}
 use Rattle.sd_ecm.specs.declared.part.EcmPart.{EcmPart}
 use Rattle.sd_ecm.specs.declared.fault.EcmFault.{EcmFault}
-use Rattle.sd_spec_receiver.specs.Stretches.{run_with}
-use Rattle.sd_spec_receiver.specs.Offered.{part_fault}
+use Rattle.sd_spec.specs.Stretches.{run_with}
+use Rattle.sd_spec.specs.Offered.{part_fault}
 
 -- all positions of parts, the newest part first, in the order of the message [this project, docs/FORMATS.md, Messages]
 unfoldable pub places_of : List EcmPart → List Place

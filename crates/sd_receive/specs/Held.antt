@@ -1,17 +1,17 @@
 -- Public meaning: the packets that a receiver buffers (holds) after what was heard.
 use Rattle.std.specs.Prelude.{ℕ, nat_le, nat_lt, List, [], length, if◌then◌else◌, Option, Some, None, option_map}
-use Rattle.sd_card.specs.Fields.{CardFields}
+use Rattle.sd_site.specs.CardFields.{CardFields}
 use Rattle.sd_keystream.specs.Wrapping.{wrapped as under}
 use Rattle.sd_ecm.specs.Parts.{Message}
 use Rattle.sd_ecm.specs.declared.part.Place.{Place}
 use Rattle.sd_ecm.specs.declared.message.EcmHead.{EcmHead}
-use Rattle.sd_spec_receiver.specs.Heard.{Heard}
-use Rattle.sd_spec_receiver.specs.Stretches.{Stretch, newest, held_in}
-use Rattle.sd_spec_receiver.specs.Keys.{key_at}
-use Rattle.sd_spec_receiver.specs.Confirmed.{Wrote}
-use Rattle.sd_receive_hold.specs.Holding.{Holding, after_message}
-use Rattle.sd_receive_hold.specs.Writing.{wrote_of}
-use Rattle.sd_spec_receiver.specs.Offered.{most_held}
+use Rattle.sd_spec.specs.Heard.{Heard}
+use Rattle.sd_spec.specs.Stretches.{Stretch, newest, held_in}
+use Rattle.sd_spec.specs.Keys.{key_at}
+use Rattle.sd_spec.specs.Confirmed.{Wrote}
+use Rattle.sd_receive.specs.Holding.{Holding, after_message}
+use Rattle.sd_receive.specs.Writing.{wrote_of}
+use Rattle.sd_spec.specs.Offered.{most_held}
 
 -- the control word of a message under the key of its period, if that is known
 abbrev pub word_under : Message → Option (List ℕ) → Option (List ℕ)
@@ -31,8 +31,8 @@ held_after card stretch (Some message) =
 
 -- the packets that are buffered after what was heard: those after the newest complete message [this project,
 -- docs/FORMATS.md, Receiver]
-unfoldable pub holding_in : CardFields → List Heard → Option Holding
-holding_in card past = held_after card (newest past) (newest past).message
+unfoldable pub holding_after : CardFields → List Heard → Option Holding
+holding_after card past = held_after card (newest past) (newest past).message
 
 -- nothing is written
 abbrev pub unwritten : Wrote

@@ -1,3 +1,6 @@
+pub mod Holding
+pub mod Tracking
+pub mod Writing
 pub mod Ears
 pub mod Held
 pub mod Listening

@@ -1,20 +1,20 @@
 -- Public meaning: what a receiver that took a CAT does with what it hears.
 use Rattle.std.specs.Prelude.{◌≡◌, ◌⊎◌, ℕ, ◌+◌, ◌-◌, ◌^◌, min, false, List, ◌∷◌, length, Some, None, Result, Ok, Err}
 use Rattle.std.specs.List.{concat}
-use Rattle.sd_card.specs.Fields.{CardFields}
+use Rattle.sd_site.specs.CardFields.{CardFields}
 use Rattle.sd_ecm.specs.declared.part.EcmPart.{EcmPart}
 use Rattle.sd_ecm.specs.declared.message.EcmHead.{EcmHead}
 use Rattle.sd_engine.specs.Stage.{SinkState, IsCutShort, TookBytes}
 use Rattle.sd_engine.specs.declared.stage.StageFault.{StageFault}
 use Rattle.sd_engine.specs.declared.stage.StageFault.TheVariants.{Write, Refused}
-use Rattle.sd_spec_receiver.specs.declared.fault.StreamFault.{StreamFault}
+use Rattle.sd_spec.specs.declared.stream_fault.StreamFault.{StreamFault}
 use Rattle.sd_psi.specs.declared.our_cat.Tuning.{Tuning}
-use Rattle.sd_spec_receiver.specs.Heard.{Heard, Controls}
-use Rattle.sd_spec_receiver.specs.Stretches.{is_closed}
-use Rattle.sd_spec_receiver.specs.Offered.{Offering, heard_offering}
+use Rattle.sd_spec.specs.Heard.{Heard, Controls}
+use Rattle.sd_spec.specs.Stretches.{is_closed}
+use Rattle.sd_spec.specs.Offered.{Offering, heard_offering}
 use Rattle.sd_receive.specs.Entitled.{IsEntitled}
 use Rattle.sd_receive.specs.Collected.{IsCollected, IsComplete}
-use Rattle.sd_receive.specs.Held.{holding_in}
+use Rattle.sd_receive.specs.Held.{holding_after}
 use Rattle.sd_receive.specs.declared.listener.Listener.{Listener}
 
 -- what is kept of what was heard of the current run [this project, docs/FORMATS.md, Receiver]
@@ -22,7 +22,7 @@ pub record IsListenerAfter (card : CardFields) (past : List Heard) (state : List
   pub closed : state.closed ≡ is_closed past
   pub entitled : IsEntitled card past state.entitled
   pub collect : IsCollected past state.collect
-  pub segment : state.segment ≡ holding_in card past
+  pub segment : state.segment ≡ holding_after card past
 
 -- what is kept of what was heard before a part that completes the message that says this, and of the part
 pub record IsListenerAtMessage (card : CardFields) (past : List Heard) (part : EcmPart) (head : EcmHead)
@@ -30,7 +30,7 @@ pub record IsListenerAtMessage (card : CardFields) (past : List Heard) (part : E
   pub unclosed : is_closed past ≡ false
   pub entitled : IsEntitled card past state.entitled
   pub collect : IsComplete past part head state.collect
-  pub segment : state.segment ≡ holding_in card past
+  pub segment : state.segment ≡ holding_after card past
 
 -- a number as a count of 64 bits, which is at most 2^64 - 1
 abbrev pub capped : ℕ → ℕ

@@ -2,23 +2,23 @@
 use Rattle.std.specs.Prelude.{◌≡◌, ℕ, ◌-◌, ◌*◌, ◌^◌, ◌<◌, ◌≤◌, true, false, List, [], ◌∷◌, ◌++◌, length, reverse}
 use Rattle.std.specs.Prelude.{if◌then◌else◌, Option, Some, None, IfSome}
 use Rattle.std.specs.List.{concat}
-use Rattle.sd_card.specs.Fields.{CardFields, fields_of}
-use Rattle.sd_spec_receiver.specs.declared.fault.StreamFault.{StreamFault}
-use Rattle.sd_spec_receiver.specs.declared.ending.Ending.{Ending}
-use Rattle.sd_spec_receiver.specs.Tuned.{tuning_of}
-use Rattle.sd_spec_receiver.specs.Heard.{Heard}
-use Rattle.sd_spec_receiver.specs.Runs.{name_in, are_two}
-use Rattle.sd_spec_receiver.specs.Ending.{joined, run_ending, run_wrote, ended_before}
-use Rattle.sd_spec_receiver.specs.Offered.{heard, offered, out_from, break_from}
-pub use Rattle.sd_spec_receiver.specs.Taken.{takes_key_of}
-unfoldable pub use Rattle.sd_spec_receiver.specs.Taken.{takes_key_at, taken_keys}
+use Rattle.sd_site.specs.CardFields.{CardFields, card_fields_of}
+use Rattle.sd_spec.specs.declared.stream_fault.StreamFault.{StreamFault}
+use Rattle.sd_spec.specs.declared.ending.Ending.{Ending}
+use Rattle.sd_spec.specs.Tuned.{tuning_of}
+use Rattle.sd_spec.specs.Heard.{Heard}
+use Rattle.sd_spec.specs.Runs.{name_in, are_two}
+use Rattle.sd_spec.specs.Ending.{joined, run_ending, run_wrote, ended_before}
+use Rattle.sd_spec.specs.Offered.{heard, offered, out_from, break_from}
+pub use Rattle.sd_spec.specs.Taken.{takes_key_of}
+unfoldable pub use Rattle.sd_spec.specs.Taken.{takes_key_at, taken_keys}
 use Rattle.sd_receive.specs.Listening.{IsListenerAfter, capped}
 use Rattle.sd_receive.specs.declared.listener.Listener.{Listener}
 use Rattle.sd_receive.specs.declared.receiver.Receiver.{Receiver}
 
 -- what the receiver's card says
 abbrev pub card_in : Receiver → CardFields
-card_in receiver = fields_of receiver.card
+card_in receiver = card_fields_of receiver.card
 
 -- the receiver with another current run, after runs that ended so
 abbrev pub with_run : Receiver → Ending → Listener → Receiver

@@ -1,6 +1,6 @@
 ghost use Rattle.std.specs.Prelude.{[], List};
-ghost use Rattle.sd_card.specs.Fields.{CardFields};
-ghost use Rattle.sd_spec_receiver.specs.Heard.{Heard};
+ghost use Rattle.sd_site.specs.CardFields.{CardFields};
+ghost use Rattle.sd_spec.specs.Heard.{Heard};
 ghost use Rattle.sd_receive.specs.Entitled.{IsEntitled};
 
 use crate::entitled::Entitled;

@@ -1,29 +1,29 @@
 ghost use Rattle.std.specs.Prelude.{◌≡◌, ◌<◌, ◌∷◌, [], List, option_map, Some, None, MatchResult, IsErrOf};
 ghost use Rattle.sd_base.specs.Count.{IsCaused};
-ghost use Rattle.sd_card.specs.Fields.{CardFields, fields_of};
+ghost use Rattle.sd_site.specs.CardFields.{CardFields, card_fields_of};
 ghost use Rattle.sd_ecm.specs.Form.{AreShort};
 ghost use Rattle.sd_ecm.specs.Parts.{message_of};
 ghost use Rattle.sd_ecm.specs.declared.part.EcmPart.{EcmPart};
 ghost use Rattle.sd_engine.specs.Stage.{vessel};
-ghost use Rattle.sd_spec_receiver.specs.Heard.{Heard, Controls};
-ghost use Rattle.sd_spec_receiver.specs.Keys.{key_at};
-ghost use Rattle.sd_spec_receiver.specs.Offered.{word_fault};
+ghost use Rattle.sd_spec.specs.Heard.{Heard, Controls};
+ghost use Rattle.sd_spec.specs.Keys.{key_at};
+ghost use Rattle.sd_spec.specs.Offered.{word_fault};
 ghost use Rattle.sd_receive.specs.Collected.{IsCollected, IsComplete};
-ghost use Rattle.sd_receive_hold.specs.Holding.{after_message};
-ghost use Rattle.sd_receive_hold.specs.Writing.{WriteOutcome};
+ghost use Rattle.sd_receive.specs.Holding.{after_message};
+ghost use Rattle.sd_receive.specs.Writing.{WriteOutcome};
 ghost use Rattle.sd_receive.specs.Held.{pair_wrote};
 ghost use Rattle.sd_receive.specs.Listening.{IsListenerAfter, IsListenerAtMessage, TakesMessage, RefusesMessage};
 ghost use Rattle.sd_receive.specs.Listening.{PacketOutcome};
 
+use crate::SegmentFault;
 use crate::listener::Listener;
 use crate::word::word_of;
-use sd_card::Card;
 use sd_ecm::EcmHead;
 use sd_engine::StageFault;
 use sd_ports::Sink;
 use sd_psi::Tuning;
-use sd_receive_hold::SegmentFault;
-use sd_spec_receiver::StreamFault;
+use sd_site::Card;
+use sd_spec::StreamFault;
 
 impl Listener {
     // Takes a control message, which packet `number` of the stream completes.
@@ -37,9 +37,9 @@ impl Listener {
     ) -> Result<(), StageFault<StreamFault>>
         requires ecm { tuning.ecm < 8192 }
         requires live { (past : List Heard) × (part : EcmPart) ×
-            IsListenerAtMessage (fields_of card.now) past part head.now self.old }
-        ensures value { PacketOutcome (TakesMessage (fields_of card.now) tuning number head.now self.old)
-            (RefusesMessage (fields_of card.now) tuning number head.now self.old)
+            IsListenerAtMessage (card_fields_of card.now) past part head.now self.old }
+        ensures value { PacketOutcome (TakesMessage (card_fields_of card.now) tuning number head.now self.old)
+            (RefusesMessage (card_fields_of card.now) tuning number head.now self.old)
             (vessel K.Sink out.old) (vessel K.Sink out.new) self.new result }
         ensures cause { IsCaused (K.faults out.old) (K.faults out.new) (IsErrOf result StageFault.Write) }
     {

@@ -1,7 +1,7 @@
 ghost use Rattle.std.specs.Prelude.{◌≡◌, ℕ};
 ghost use Rattle.sd_emm.specs.Judged.{emm_read};
 ghost use Rattle.sd_ecm.specs.Judged.{ecm_read};
-ghost use Rattle.sd_spec_receiver.specs.Heard.{hears, heard_emm, heard_ecm, Dropped, Other};
+ghost use Rattle.sd_spec.specs.Heard.{hears, heard_emm, heard_ecm, Dropped, Other};
 ghost use Rattle.sd_receive.specs.declared.ears.Channel.TheVariants as Channels;
 
 use sd_ecm::{EcmFault, EcmPart};
@@ -24,7 +24,7 @@ pub enum Channel {
 
 /// The channel of a packet, where the CAT has these PIDs.
 #[inline(always)]
-#[tactic(auto, unfolding(sd_spec_receiver::specs::Heard::hears))]
+#[tactic(auto, unfolding(sd_spec::specs::Heard::hears))]
 pub fn channel_of(tuning: Tuning, packet: &Packet) -> Channel
     ensures cat { result ≡ Channels.Cat → (h number : ℕ) → hears h tuning number packet.now ≡ Dropped }
     ensures emm { result ≡ Channels.Emm → (h number : ℕ) →

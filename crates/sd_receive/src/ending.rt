@@ -1,14 +1,14 @@
 ghost use Rattle.std.specs.Prelude.{◌≡◌, ℕ, ◌+◌, ◌-◌, List};
 ghost use Rattle.std.specs.Option.{option_map_or};
-ghost use Rattle.sd_card.specs.Fields.{CardFields};
-ghost use Rattle.sd_spec_receiver.specs.Heard.{Heard};
-ghost use Rattle.sd_spec_receiver.specs.Ending.{run_ending, ending_of};
+ghost use Rattle.sd_site.specs.CardFields.{CardFields};
+ghost use Rattle.sd_spec.specs.Heard.{Heard};
+ghost use Rattle.sd_spec.specs.Ending.{run_ending, ending_of};
 ghost use Rattle.sd_receive.specs.Listening.{IsListenerAfter, capped};
 ghost use Rattle.sd_receive.specs.Receiving.{card_in, IsAfter};
 
 use crate::listener::Listener;
 use crate::receiver::Receiver;
-use sd_spec_receiver::Ending;
+use sd_spec::Ending;
 
 impl Receiver {
     /// How the stream ends for the receiver, if it ends here: the endings of all runs so far, together. The clause

@@ -5,8 +5,8 @@ ghost use Rattle.sd_ecm.specs.Form.{IsEcm};
 ghost use Rattle.sd_ecm.specs.Parts.{ecm_head_of};
 ghost use Rattle.sd_ecm.specs.declared.format.TheConstants.{POSITIONS, MOST_PLACES};
 ghost use Rattle.sd_ecm.specs.declared.part.EcmPart.{EcmPart};
-ghost use Rattle.sd_spec_receiver.specs.Stretches.{run_with};
-ghost use Rattle.sd_spec_receiver.specs.Offered.{part_fault, is_after as stands_after};
+ghost use Rattle.sd_spec.specs.Stretches.{run_with};
+ghost use Rattle.sd_spec.specs.Offered.{part_fault, is_after as stands_after};
 ghost use Rattle.sd_receive.specs.Gathered.{next_run, IsNext, IsPart, IsGathered, GatherOutcome};
 
 use crate::run::Run;

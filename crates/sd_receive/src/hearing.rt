@@ -3,7 +3,7 @@ ghost use Rattle.sd_emm.specs.Form.{IsEmm, AreSets};
 ghost use Rattle.sd_emm.specs.Spelled.{listed_entries, SpellsEmm};
 ghost use Rattle.sd_ecm.specs.Form.{IsEcm};
 ghost use Rattle.sd_ecm.specs.Spelled.{SpellsPart};
-ghost use Rattle.sd_spec_receiver.specs.Heard.{heard_emm, heard_ecm};
+ghost use Rattle.sd_spec.specs.Heard.{heard_emm, heard_ecm};
 ghost use Rattle.sd_receive.specs.Ears.{heard_as, IsFormed};
 
 use crate::ears::Heard;

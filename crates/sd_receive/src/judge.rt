@@ -1,11 +1,11 @@
 ghost use Rattle.std.specs.Prelude.{◌≡◌, ◌≤◌, [], ◌∷◌, List, Some, None, IfOk, find, is_none, ◌&&◌, if◌then◌else◌};
 ghost use Rattle.std.specs.Option.{option_or};
-ghost use Rattle.sd_card.specs.Fields.{CardFields};
+ghost use Rattle.sd_site.specs.CardFields.{CardFields};
 ghost use Rattle.sd_ecm.specs.Parts.{Message};
 ghost use Rattle.sd_ecm.specs.declared.part.EcmPart.{EcmPart};
-ghost use Rattle.sd_spec_receiver.specs.Heard.{Heard, Controls};
-ghost use Rattle.sd_spec_receiver.specs.Stretches.{completes, current};
-ghost use Rattle.sd_spec_receiver.specs.Ending.{periods_told, is_unkeyed};
+ghost use Rattle.sd_spec.specs.Heard.{Heard, Controls};
+ghost use Rattle.sd_spec.specs.Stretches.{completes, current};
+ghost use Rattle.sd_spec.specs.Ending.{periods_told, is_unkeyed};
 ghost use Rattle.sd_receive.specs.Entitled.{IsEntitled, IsStateAt, is_told_revoked, all_marked};
 
 use crate::entitled::Entitled;

@@ -2,17 +2,17 @@ ghost use Rattle.std.specs.Prelude.{◌≡◌, ◌+◌, ◌≤◌, None, IsNone,
 ghost use Rattle.sd_emm.specs.Form.{AreSets};
 ghost use Rattle.sd_emm.specs.Spelled.{listed_entries};
 ghost use Rattle.sd_emm.specs.declared.format.TheConstants.{MOST_ENTRIES};
-ghost use Rattle.sd_card.specs.Fields.{fields_of};
+ghost use Rattle.sd_site.specs.CardFields.{card_fields_of};
 ghost use Rattle.sd_keystream.specs.Wrapping.{wrapped};
-ghost use Rattle.sd_spec_receiver.specs.Keys.{key_from};
-ghost use Rattle.sd_spec_receiver.specs.Offered.{key_offering};
+ghost use Rattle.sd_spec.specs.Keys.{key_from};
+ghost use Rattle.sd_spec.specs.Offered.{key_offering};
 ghost use Rattle.sd_receive.specs.Entitled.{HasFault};
 
 use sd_base::Steps;
-use sd_card::Card;
 use sd_emm::Emm;
 use sd_keystream::unwrap_checked;
-use sd_spec_receiver::StreamFault;
+use sd_site::Card;
+use sd_spec::StreamFault;
 use std::sync::ledger::Ledger;
 
 /// The period key in the first entry whose set has the card's leaf, still wrapped, after the key of that set. It takes
@@ -25,7 +25,7 @@ pub fn wrapped_key_in<L: Ledger>(
     requires count { emm.now.count ≤ MOST_ENTRIES }
     requires sets { AreSets card.now.height emm.now.sets (listed_entries emm.now) }
     ensures value { option_map (λ pair. wrapped pair.0 emm.now.period pair.1) result
-        ≡ key_from (fields_of card.now) emm.now }
+        ≡ key_from (card_fields_of card.now) emm.now }
     ensures steps { (steps.old ≤ steps.new) × (steps.new ≤ steps.old + card.now.height) }
     ensures unchanged { IsNone result → steps.new ≡ steps.old }
 {
@@ -47,10 +47,10 @@ pub fn good_key_in<L: Ledger>(
 ) -> Result<Option<[u8; 32]>, StreamFault>
     requires count { emm.now.count ≤ MOST_ENTRIES }
     requires sets { AreSets card.now.height emm.now.sets (listed_entries emm.now) }
-    ensures value { IfOk result (λ key. key ≡ key_from (fields_of card.now) emm.now) }
-    ensures fault { HasFault result (key_offering number emm.now (key_from (fields_of card.now) emm.now)).fault }
+    ensures value { IfOk result (λ key. key ≡ key_from (card_fields_of card.now) emm.now) }
+    ensures fault { HasFault result (key_offering number emm.now (key_from (card_fields_of card.now) emm.now)).fault }
     ensures steps { (steps.old ≤ steps.new) × (steps.new ≤ steps.old + card.now.height) }
-    ensures unchanged { key_from (fields_of card.now) emm.now ≡ None → steps.new ≡ steps.old }
+    ensures unchanged { key_from (card_fields_of card.now) emm.now ≡ None → steps.new ≡ steps.old }
 {
     let Some(pair) = wrapped_key_in(card, emm, steps) else {
         return Ok(None);

@@ -2,12 +2,12 @@
 
 ghost use Rattle.std.specs.Prelude.{◌≡◌, ℕ, ◌+◌, ◌-◌, ◌*◌, ◌^◌, ◌<◌, ◌≤◌, ◌++◌, ◌∷◌, [], List, length, true};
 ghost use Rattle.sd_engine.specs.Stage.{Chain};
-ghost use Rattle.sd_spec_receiver.specs.declared.fault.StreamFault.{StreamFault};
+ghost use Rattle.sd_spec.specs.declared.stream_fault.StreamFault.{StreamFault};
 ghost use Rattle.sd_receive.specs.Receiving.{card_in, IsAfter, taken_keys, receiver_does, Refusing, OutcomeOf, BreakAt};
 ghost use Rattle.sd_receive.specs.declared.receiver.Receiver.{Receiver};
-ghost use Rattle.sd_card.specs.Fields.{CardFields};
-ghost use Rattle.sd_spec_receiver.specs.Heard.{Heard};
-ghost use Rattle.sd_spec_receiver.specs.Stretches.{current, seen};
+ghost use Rattle.sd_site.specs.CardFields.{CardFields};
+ghost use Rattle.sd_spec.specs.Heard.{Heard};
+ghost use Rattle.sd_spec.specs.Stretches.{current, seen};
 ghost use Rattle.sd_receive.specs.Entitled.{IsEntitled, tells_nothing};
 ghost use Rattle.sd_receive.specs.declared.entitled.Entitled.{Entitled};
 

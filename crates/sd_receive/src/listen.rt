@@ -1,29 +1,28 @@
 ghost use Rattle.std.specs.Prelude.{◌≡◌, ◌+◌, ◌≤◌, ◌<◌, ◌∷◌, [], false, List, Option, Some, None, IfOk, IsErrOf};
 ghost use Rattle.std.specs.Prelude.{if◌then◌else◌};
 ghost use Rattle.sd_base.specs.Count.{IsCaused};
-ghost use Rattle.sd_card.specs.Fields.{CardFields, fields_of};
+ghost use Rattle.sd_site.specs.CardFields.{CardFields, card_fields_of};
 ghost use Rattle.sd_ecm.specs.Form.{IsEcm};
 ghost use Rattle.sd_emm.specs.Form.{IsEmm, AreSets};
 ghost use Rattle.sd_emm.specs.Spelled.{listed_entries};
 ghost use Rattle.sd_engine.specs.Stage.{vessel};
-ghost use Rattle.sd_spec_receiver.specs.Heard.{Heard as Thing, Controls};
-ghost use Rattle.sd_spec_receiver.specs.Stretches.{is_closed};
+ghost use Rattle.sd_spec.specs.Heard.{Heard as Thing, Controls};
+ghost use Rattle.sd_spec.specs.Stretches.{is_closed};
 ghost use Rattle.sd_receive.specs.Ears.{heard_as, IsFormed};
 ghost use Rattle.sd_receive.specs.Listening.{IsListenerAfter, TakesHeard, RefusesHeard, PacketOutcome};
 ghost use Rattle.sd_receive.specs.Receiving.{takes_key_of};
 
 use crate::ears::Heard;
 use crate::listener::Listener;
-use crate::{Collect, Entitled, Taken};
+use crate::{Collect, Entitled, Segment, Taken};
 use sd_base::{NoMemory, Steps};
-use sd_card::Card;
 use sd_ecm::EcmPart;
 use sd_engine::StageFault;
 use sd_packet::Packet;
 use sd_ports::Sink;
 use sd_psi::Tuning;
-use sd_receive_hold::Segment;
-use sd_spec_receiver::StreamFault;
+use sd_site::Card;
+use sd_spec::StreamFault;
 use std::alloc::Global;
 use std::sync::ledger::Ledger;
 
@@ -72,15 +71,15 @@ impl Listener {
         steps: &mut Steps<L>,
     ) -> Result<(), StageFault<StreamFault>>
         requires ecm { tuning.ecm < 8192 }
-        requires live { (past : List Thing) × IsListenerAfter (fields_of card.now) past self.old }
+        requires live { (past : List Thing) × IsListenerAfter (card_fields_of card.now) past self.old }
         requires open { self.old.closed ≡ false }
         requires form { IsFormed card.now.height heard }
         ensures value { PacketOutcome
-            (TakesHeard (fields_of card.now) tuning number (heard_as number packet.now heard.entry) self.old)
-            (RefusesHeard (fields_of card.now) tuning number (heard_as number packet.now heard.entry) self.old)
+            (TakesHeard (card_fields_of card.now) tuning number (heard_as number packet.now heard.entry) self.old)
+            (RefusesHeard (card_fields_of card.now) tuning number (heard_as number packet.now heard.entry) self.old)
             (vessel K.Sink out.old) (vessel K.Sink out.new) self.new result }
-        ensures steps { (past : List Thing) → IsListenerAfter (fields_of card.now) past self.old → steps.new ≤ steps.old
-            + (if takes_key_of (fields_of card.now) past (heard_as number packet.now heard.entry)
+        ensures steps { (past : List Thing) → IsListenerAfter (card_fields_of card.now) past self.old → steps.new ≤ steps.old
+            + (if takes_key_of (card_fields_of card.now) past (heard_as number packet.now heard.entry)
             then card.now.height else 0) }
         ensures cause { IsCaused (K.faults out.old) (K.faults out.new) (IsErrOf result StageFault.Write) }
     {
@@ -110,11 +109,11 @@ impl Listener {
         out: &mut K,
     ) -> Result<(), StageFault<StreamFault>>
         requires ecm { tuning.ecm < 8192 }
-        requires live { (past : List Thing) × IsListenerAfter (fields_of card.now) past self.old }
+        requires live { (past : List Thing) × IsListenerAfter (card_fields_of card.now) past self.old }
         requires open { self.old.closed ≡ false }
         requires form { IsEcm part.now }
-        ensures value { PacketOutcome (TakesHeard (fields_of card.now) tuning number (Controls part.now)
-            self.old) (RefusesHeard (fields_of card.now) tuning number (Controls part.now) self.old)
+        ensures value { PacketOutcome (TakesHeard (card_fields_of card.now) tuning number (Controls part.now)
+            self.old) (RefusesHeard (card_fields_of card.now) tuning number (Controls part.now) self.old)
             (vessel K.Sink out.old) (vessel K.Sink out.new) self.new result }
         ensures cause { IsCaused (K.faults out.old) (K.faults out.new) (IsErrOf result StageFault.Write) }
     {

@@ -1,5 +1,4 @@
-use crate::{Collect, Entitled};
-use sd_receive_hold::Segment;
+use crate::{Collect, Entitled, Segment};
 
 // What a receiver that took a CAT keeps of the current run.
 #[derive(Drop)]

@@ -3,14 +3,14 @@ ghost use Rattle.std.specs.List.{list_any};
 ghost use Rattle.std.specs.Option.{option_map_or};
 ghost use Rattle.sd_ecm.specs.Form.{AreAscending};
 ghost use Rattle.sd_ecm.specs.Parts.{message_of};
-ghost use Rattle.sd_spec_receiver.specs.Confirmed.{position_in};
-ghost use Rattle.sd_spec_receiver.specs.Offered.{is_before};
+ghost use Rattle.sd_spec.specs.Confirmed.{position_in};
+ghost use Rattle.sd_spec.specs.Offered.{is_before};
 
 use sd_ecm::{EcmHead, Place};
 
 /// Whether a message goes back behind the one before it, `last`: its period, its control word, its number of clear
 /// packets or some position is lower, or it lacks a PID [this project, docs/FORMATS.md, Receiver].
-#[tactic(auto, unfolding(sd_spec_receiver::specs::Offered::is_before))]
+#[tactic(auto, unfolding(sd_spec::specs::Offered::is_before))]
 pub fn goes_back(head: &EcmHead, coming: &[Place], last: &EcmHead, places: &[Place]) -> bool
     ensures { AreAscending coming.now → AreAscending places.now →
         result ≡ is_before (message_of head.now coming.now) (message_of last.now places.now) }

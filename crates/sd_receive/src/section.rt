@@ -3,21 +3,21 @@ ghost use Rattle.std.specs.Prelude.{is_some, if◌then◌else◌, ℕ, Option};
 ghost use Rattle.sd_emm.specs.Form.{IsEmm, AreSets};
 ghost use Rattle.sd_emm.specs.Spelled.{listed_entries};
 ghost use Rattle.sd_emm.specs.declared.format.TheConstants.{MOST_ENTRIES};
-ghost use Rattle.sd_card.specs.Fields.{CardFields, fields_of};
-ghost use Rattle.sd_spec_receiver.specs.Heard.{Heard, Entitles};
-ghost use Rattle.sd_spec_receiver.specs.Stretches.{current, seen};
-ghost use Rattle.sd_spec_receiver.specs.Keys.{first_key, key_from, key_at};
-ghost use Rattle.sd_spec_receiver.specs.Offered.{emm_offering, is_mixed};
+ghost use Rattle.sd_site.specs.CardFields.{CardFields, card_fields_of};
+ghost use Rattle.sd_spec.specs.Heard.{Heard, Entitles};
+ghost use Rattle.sd_spec.specs.Stretches.{current, seen};
+ghost use Rattle.sd_spec.specs.Keys.{first_key, key_from, key_at};
+ghost use Rattle.sd_spec.specs.Offered.{emm_offering, is_mixed};
 ghost use Rattle.sd_receive.specs.Entitled.{IsEntitled, IsStateAt, HasFault, is_said_otherwise, key_kept, with_key};
-ghost use Rattle.sd_spec_receiver.specs.Taken.{takes_key};
+ghost use Rattle.sd_spec.specs.Taken.{takes_key};
 
 use crate::entitled::Entitled;
 use crate::key::good_key_in;
 use crate::says::Says;
 use sd_base::Steps;
-use sd_card::Card;
 use sd_emm::{Emm, EmmFault};
-use sd_spec_receiver::StreamFault;
+use sd_site::Card;
+use sd_spec::StreamFault;
 use std::sync::ledger::Ledger;
 
 impl Entitled {
@@ -35,14 +35,14 @@ impl Entitled {
     ) -> Result<(), StreamFault>
         requires form { IsEmm emm.now }
         requires sets { AreSets card.now.height emm.now.sets (listed_entries emm.now) }
-        ensures ok { OnOk result ((tr : List Heard) → IsEntitled (fields_of card.now) tr self.old →
-            IsEntitled (fields_of card.now) (Entitles emm.now ∷ tr) self.new) }
-        ensures fault { (tr : List Heard) → IsEntitled (fields_of card.now) tr self.old →
-            HasFault result (emm_offering (fields_of card.now) number tr emm.now).fault }
+        ensures ok { OnOk result ((tr : List Heard) → IsEntitled (card_fields_of card.now) tr self.old →
+            IsEntitled (card_fields_of card.now) (Entitles emm.now ∷ tr) self.new) }
+        ensures fault { (tr : List Heard) → IsEntitled (card_fields_of card.now) tr self.old →
+            HasFault result (emm_offering (card_fields_of card.now) number tr emm.now).fault }
         ensures unchanged { IfErr result (λ _. self.new ≡ self.old) }
         ensures rise { steps.old ≤ steps.new }
-        ensures steps { (tr : List Heard) → IsEntitled (fields_of card.now) tr self.old → steps.new ≤
-            steps.old + (if takes_key (fields_of card.now) tr emm.now then card.now.height else 0) }
+        ensures steps { (tr : List Heard) → IsEntitled (card_fields_of card.now) tr self.old → steps.new ≤
+            steps.old + (if takes_key (card_fields_of card.now) tr emm.now then card.now.height else 0) }
     {
         if emm.period < self.period {
             return Ok(());

@@ -2,9 +2,9 @@ ghost use Rattle.std.specs.Prelude.{◌≡◌, ◌≤◌, ◌∷◌, [], List, O
 ghost use Rattle.sd_ecm.specs.Form.{IsEcm, AreAscending};
 ghost use Rattle.sd_ecm.specs.Parts.{Message, message_of};
 ghost use Rattle.sd_ecm.specs.declared.part.EcmPart.{EcmPart};
-ghost use Rattle.sd_spec_receiver.specs.Heard.{Heard, Controls};
-ghost use Rattle.sd_spec_receiver.specs.Stretches.{current as current_period, exceeds, newest};
-ghost use Rattle.sd_spec_receiver.specs.Offered.{is_back as back};
+ghost use Rattle.sd_spec.specs.Heard.{Heard, Controls};
+ghost use Rattle.sd_spec.specs.Stretches.{current as current_period, exceeds, newest};
+ghost use Rattle.sd_spec.specs.Offered.{is_back as back};
 ghost use Rattle.sd_ecm.specs.declared.message.EcmHead.{EcmHead};
 ghost use Rattle.sd_receive.specs.Collected.{IsMessageKept, IsCollected, IsComplete, PartOutcome};
 
@@ -110,7 +110,7 @@ impl Collect {
     }
 
     // Whether a message is of an earlier period than the current one, or goes back behind the newest complete one.
-    #[tactic(auto, unfolding(sd_spec_receiver::specs::Offered::is_back))]
+    #[tactic(auto, unfolding(sd_spec::specs::Offered::is_back))]
     fn is_back(&self, current: u32, head: &EcmHead) -> bool
         ensures { (past : List Heard) → IsMessageKept (newest past).message self.now.last self.now.places.items →
             AreAscending self.now.run.places.items → current_period past ≡ current →

@@ -1,5 +1,5 @@
 ghost use Rattle.std.specs.Prelude.{◌≡◌, ℕ, List};
-ghost use Rattle.sd_spec_receiver.specs.Runs.{are_two, run_name_heard as name_heard};
+ghost use Rattle.sd_spec.specs.Runs.{are_two, run_name_heard as name_heard};
 ghost use Rattle.sd_receive.specs.Ears.{heard_as};
 ghost use Rattle.sd_receive.specs.Receiving.{TurnsBy};
 

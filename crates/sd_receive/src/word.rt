@@ -1,11 +1,11 @@
 ghost use Rattle.std.specs.Prelude.{◌≡◌, [], None, Some, MatchResult};
 ghost use Rattle.sd_ecm.specs.Parts.{message_of};
-ghost use Rattle.sd_spec_receiver.specs.Offered.{word_fault};
+ghost use Rattle.sd_spec.specs.Offered.{word_fault};
 ghost use Rattle.sd_receive.specs.Held.{word_under};
 
 use sd_ecm::EcmHead;
 use sd_keystream::unwrap_checked;
-use sd_spec_receiver::StreamFault;
+use sd_spec::StreamFault;
 
 /// The control word of a complete message, under the key of its period if that is known. `WrongWord` if its check value
 /// isn't the one in the message; `number` is the packet that completes it.

@@ -3,7 +3,7 @@ use Rattle.std.specs.Prelude.{◌≡◌, ℕ, ◌==◌, if◌then◌else◌, Lis
 use Rattle.std.specs.List.{flat_map}
 use Rattle.sd_command_line.specs.declared.command.Command.{Command}
 use Rattle.sd_command_line.specs.Commands.{example_of}
-use Rattle.sd_command_status.specs.declared.status.Status.{Status}
+use Rattle.sd_command_base.specs.declared.status.Status.{Status}
 use Rattle.sd_command_line.specs.Words.{Argument, Order, CommandOf, HelpOf, VersionOf, order_of}
 
 -- the words of a line, between blanks

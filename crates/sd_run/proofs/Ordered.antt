@@ -1,15 +1,15 @@
 -- What words that are an order, or none, come to.
 use Rattle.std.proofs.Common.{◌≡◌, ◌≤◌, ℕ, List, [], ◌∷◌, Result, Ok, Err, refl, sym, ap, subst, ◌∙◌, inl, inr, arith}
-use Rattle.sd_command_status.specs.declared.status.Status.{Status}
-use Rattle.sd_command_status.specs.declared.status.Status.TheVariants.{Usage, Missing}
-use Rattle.sd_command_status.specs.Outside.{Outside}
-use Rattle.sd_command_status.specs.Spec.{Spec, Readings, judged, ◌>>=◌}
-use Rattle.sd_command_status.specs.Work.{Work}
-use Rattle.sd_command_status.specs.Outcome.{IsRefusal, refused, OutcomeWithin, Implements}
-use Rattle.sd_command_status.specs.Results.{RunResult}
-use Rattle.sd_command_status.proofs.Givens.{any_given}
-use Rattle.sd_command_status.proofs.Told.{usage_meant}
-use Rattle.sd_command_files.proofs.Others.{IsOther}
+use Rattle.sd_command_base.specs.declared.status.Status.{Status}
+use Rattle.sd_command_base.specs.declared.status.Status.TheVariants.{Usage, Missing}
+use Rattle.sd_command_base.specs.Outside.{Outside}
+use Rattle.sd_command_base.specs.Spec.{Spec, Readings, judged, ◌>>=◌}
+use Rattle.sd_command_base.specs.Work.{Work}
+use Rattle.sd_command_base.specs.Outcome.{IsRefusal, refused, OutcomeWithin, Implements}
+use Rattle.sd_command_base.specs.Results.{RunResult}
+use Rattle.sd_command_base.proofs.Givens.{any_given}
+use Rattle.sd_command_base.proofs.RunAnswers.{usage_meant}
+use Rattle.sd_command_base.proofs.Others.{IsOther}
 use Rattle.sd_command_line.proofs.Others.{other_help, other_version}
 use Rattle.sd_command_line.specs.declared.command.Command.TheVariants.{Plan, Sample}
 use Rattle.sd_command_line.specs.Words.{Argument, InputOf, OutOf, NumberOf, Order, CommandOf, HelpOf, VersionOf, number}

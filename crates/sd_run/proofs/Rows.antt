@@ -1,27 +1,27 @@
 -- What is said of each command of the table, a row for each.
 use Rattle.std.proofs.Common.{◌≡◌, ℕ, ◌+◌, List, [], ◌∷◌, Option, Some, None, refl}
 use Rattle.sd_engine.specs.Taken.{end_of}
-use Rattle.sd_command_status.specs.declared.status.Status.{Status}
-use Rattle.sd_command_status.specs.Outcome.{Implements}
-use Rattle.sd_command_status.specs.Outside.{Outside}
-use Rattle.sd_command_status.specs.Spec.{FileArgument, Readings, all_of, judged, value, ◌>>=◌}
-use Rattle.sd_command_status.specs.Work.{Uncounted, NoSteps, UpTo, work_of_text}
-use Rattle.sd_command_files.specs.Shown.{NumberArgument}
-use Rattle.sd_command_files.specs.Both.{both_meaning}
-use Rattle.sd_command_files.specs.Files.{site_in, book_in}
-use Rattle.sd_command_files.specs.Leaves.{leaves_in}
-use Rattle.sd_command_files.specs.Made.{making}
-use Rattle.sd_run_books.specs.Accounts.{accounts_in, making_then, report_line, accounts_meaning}
+use Rattle.sd_command_base.specs.declared.status.Status.{Status}
+use Rattle.sd_command_base.specs.Outcome.{Implements}
+use Rattle.sd_command_base.specs.Outside.{Outside}
+use Rattle.sd_command_base.specs.Spec.{FileArgument, Readings, all_of, judged, value, ◌>>=◌}
+use Rattle.sd_command_base.specs.Work.{Uncounted, NoSteps, UpTo, work_of_text}
+use Rattle.sd_command_base.specs.Shown.{NumberArgument}
+use Rattle.sd_command_base.specs.Both.{both_meaning}
+use Rattle.sd_command_base.specs.Files.{site_in, book_in}
+use Rattle.sd_command_base.specs.Leaves.{leaves_in}
+use Rattle.sd_command_base.specs.Made.{making}
+use Rattle.sd_run_books.specs.AccountsCommand.{accounts_in, making_then, report_line, accounts_meaning}
 use Rattle.sd_run_books.specs.Apart.{apart_meaning, plan_of_both, told_apart}
 use Rattle.sd_run_books.specs.Book.{longer_book, book_meaning}
 use Rattle.sd_run_cards.specs.Card.{told_card, card_meaning}
-use Rattle.sd_run_covers.specs.Cover.{covering, cover_meaning}
+use Rattle.sd_run_cards.specs.Cover.{covering, cover_meaning}
 use Rattle.sd_run_broadcasts.specs.Head.{plan_meaning as head_plan, sent_of, sent_status, sending}
 use Rattle.sd_run_broadcasts.specs.Head.{sending_of, head_meaning}
-use Rattle.sd_run_covers.specs.Layered.{layers_of_file, layering, layered_meaning}
+use Rattle.sd_run_cards.specs.Layered.{layers_of_file, layering, layered_meaning}
 use Rattle.sd_run_cards.specs.Lcard.{told_leaf, told_width, carding, lcard_meaning}
 use Rattle.sd_run_streams.specs.Messages.{messages_meaning, monitoring, stream_meaning as monitor_meaning}
-use Rattle.sd_run_covers.specs.Opens.{opening, opens_meaning}
+use Rattle.sd_run_cards.specs.Opens.{opening, opens_meaning}
 use Rattle.sd_run_books.specs.Air.{plan_meaning as air_meaning, planning, roomy_site_of_file}
 use Rattle.sd_run_broadcasts.specs.Receive.{received_status}
 use Rattle.sd_run_broadcasts.specs.Receive.{card_in, received_of, received_steps, receiving, stream_meaning}
@@ -29,14 +29,14 @@ use Rattle.sd_run_broadcasts.specs.Receive.{receive_meaning}
 use Rattle.sd_run_streams.specs.Sample.{sample_meaning}
 use Rattle.sd_run_cards.specs.Show.{line_of_file, show_meaning}
 use Rattle.sd_run_streams.specs.Tables.{inspecting, tables_meaning}
-use Rattle.sd_run_covers.specs.Trace.{traced, trace_meaning}
-use Rattle.sd_command_files.specs.Printed.{printing}
+use Rattle.sd_run_cards.specs.Trace.{traced, trace_meaning}
+use Rattle.sd_command_base.specs.Printed.{printing}
 use Rattle.sd_run_field.specs.Field.{field_meaning, field_text, inputs_meaning, script_of_file}
 use Rattle.sd_run_broadcasts.specs.Prefixes.{prefix_of_file}
 use Rattle.sd_run_broadcasts.specs.Trial.{plan_meaning as trial_plan, trial_text, trying, trial_meaning}
 use Rattle.sd_run_broadcasts.specs.Trial.{most_clear_bytes}
-use Rattle.sd_sample.specs.Sample.{sample_of}
-use Rattle.sd_site.specs.Fields.{SiteFields}
+use Rattle.sd_engine.specs.Sample.{sample_of}
+use Rattle.sd_site.specs.SiteFields.{SiteFields}
 use Rattle.sd_book.specs.Text.{text_of}
 use Rattle.sd_lsd.specs.Fields.{layer_card_of, layer_bytes}
 use Rattle.sd_command_line.specs.declared.command.Command.{Command}
@@ -52,28 +52,23 @@ use Rattle.sd_command_line.specs.Commands.{command_named, example_of, command_na
 use Rattle.sd_command_line.specs.Operands.{operand_kind}
 use Rattle.sd_command_line.specs.Words.{Argument, file, number, named_words, or_output}
 use Rattle.sd_run.specs.Meaning.{command_meaning}
-use Rattle.sd_command_files.proofs.Others.{IsOther}
-use Rattle.sd_run_covers.proofs.Others.{other_cover}
-use Rattle.sd_run_cards.proofs.Others.{other_card_order}
+use Rattle.sd_command_base.proofs.Others.{IsOther}
+use Rattle.sd_run_cards.proofs.Others.{other_cover, other_card_order, other_layered, other_lcard}
+use Rattle.sd_run_cards.proofs.Others.{other_opens, other_show, other_trace}
 use Rattle.sd_run_streams.proofs.Others.{other_tables}
 use Rattle.sd_run_broadcasts.proofs.HeadOthers.{other_head}
 use Rattle.sd_run_broadcasts.proofs.ReceiveOthers.{other_receive}
 use Rattle.sd_run_books.proofs.Others.{other_accounts}
 use Rattle.sd_run_books.proofs.Others.{other_apart}
 use Rattle.sd_run_books.proofs.Others.{other_book_order}
-use Rattle.sd_run_covers.proofs.Others.{other_layered}
-use Rattle.sd_run_cards.proofs.Others.{other_lcard}
 use Rattle.sd_run_field.proofs.Others.{other_field}
 use Rattle.sd_run_streams.proofs.Others.{other_messages}
-use Rattle.sd_run_covers.proofs.Others.{other_opens}
 use Rattle.sd_run_books.proofs.Others.{other_plan}
-use Rattle.sd_run_cards.proofs.Others.{other_show}
-use Rattle.sd_run_covers.proofs.Others.{other_trace}
 use Rattle.sd_run_broadcasts.proofs.Others.{other_trial}
 use Rattle.sd_run.proofs.Works.{AreOrderly, orderly_after, same_name, made_whole, turned, none_made, sent_apart}
 use Rattle.sd_run.proofs.Works.{stream_apart, stream_received, text_quiet}
 use Rattle.sd_run.proofs.Examples.{IsExample, words_in, onto_first, arguments_in}
-use Rattle.sd_base_text.specs.Number.{decimal_value}
+use Rattle.sd_base.specs.Number.{decimal_value}
 
 -- the commands that make a file
 accounts_orderly : (site accounts out : FileArgument) (given : Readings) →

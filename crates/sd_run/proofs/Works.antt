@@ -3,24 +3,24 @@ use Rattle.std.proofs.Common.{◌≡◌, ℕ, List, [], Option, Some, None, Resu
 use Rattle.std.proofs.Common.{refl, sym, ap, ◌∙◌}
 use Rattle.std.specs.Option.{option_map}
 use Rattle.sd_engine.specs.Taken.{StreamEnd, Whole, Breaks, RunsOn, taken_of, end_of}
-use Rattle.sd_card.specs.Fields.{CardFields}
-use Rattle.sd_spec_broadcast.specs.Plan.{Plan}
-use Rattle.sd_spec_broadcast.specs.Refused.{refusal_from}
-use Rattle.sd_spec_broadcast.specs.declared.fault.ClearFault.{ClearFault}
-use Rattle.sd_spec_receiver.specs.Offered.{break_from}
-use Rattle.sd_spec_receiver.specs.declared.ending.Ending.{Ending}
-use Rattle.sd_spec_receiver.specs.declared.ending.Ending.TheVariants as end
-use Rattle.sd_spec_receiver.specs.declared.fault.StreamFault.{StreamFault}
-use Rattle.sd_spec_receiver.specs.declared.fault.StreamFault.TheVariants as fault
-use Rattle.sd_command_status.specs.declared.status.Status.{Status}
-use Rattle.sd_command_status.specs.Spec.{Spec, FileArgument, and_then, ◌>>=◌}
-use Rattle.sd_command_status.specs.Work.{StepBound, Out, Work}
-use Rattle.sd_command_files.specs.Made.{making}
-use Rattle.sd_command_files.specs.Turned.{turning}
-use Rattle.sd_command_files.specs.Streams.{stream_status}
+use Rattle.sd_site.specs.CardFields.{CardFields}
+use Rattle.sd_spec.specs.Plan.{Plan}
+use Rattle.sd_spec.specs.Refused.{refusal_from}
+use Rattle.sd_spec.specs.declared.clear_fault.ClearFault.{ClearFault}
+use Rattle.sd_spec.specs.Offered.{break_from}
+use Rattle.sd_spec.specs.declared.ending.Ending.{Ending}
+use Rattle.sd_spec.specs.declared.ending.Ending.TheVariants as end
+use Rattle.sd_spec.specs.declared.stream_fault.StreamFault.{StreamFault}
+use Rattle.sd_spec.specs.declared.stream_fault.StreamFault.TheVariants as fault
+use Rattle.sd_command_base.specs.declared.status.Status.{Status}
+use Rattle.sd_command_base.specs.Spec.{Spec, FileArgument, and_then, ◌>>=◌}
+use Rattle.sd_command_base.specs.Work.{StepBound, Out, Work}
+use Rattle.sd_command_base.specs.Made.{making}
+use Rattle.sd_command_base.specs.Turned.{turning}
+use Rattle.sd_command_base.specs.Streams.{stream_status}
 use Rattle.sd_run_broadcasts.specs.Head.{status_where, sent_status}
 use Rattle.sd_run_broadcasts.specs.Receive.{ended_status, ending_status, status_at, unless_refused, received_status}
-use Rattle.sd_command_files.specs.Printed.{printing}
+use Rattle.sd_command_base.specs.Printed.{printing}
 use Rattle.sd_command_line.specs.Words.{number}
 use Rattle.sd_run.specs.Refusals.{RefusesFirst}
 

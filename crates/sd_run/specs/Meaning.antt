@@ -1,7 +1,7 @@
 -- Public meaning: the work that the program's arguments and files ask for.
 use Rattle.std.specs.Prelude.{List, ℕ}
-use Rattle.sd_command_status.specs.Spec.{Spec, Readings, judged, ◌>>=◌}
-use Rattle.sd_command_status.specs.Work.{Work}
+use Rattle.sd_command_base.specs.Spec.{Spec, Readings, judged, ◌>>=◌}
+use Rattle.sd_command_base.specs.Work.{Work}
 use Rattle.sd_command_line.specs.declared.command.Command.{Command}
 use Rattle.sd_command_line.specs.declared.command.Command.TheVariants.{Accounts, Book, Card, Cover, Field, Head}
 use Rattle.sd_command_line.specs.declared.command.Command.TheVariants.{Layered}
@@ -11,23 +11,23 @@ use Rattle.sd_command_line.specs.declared.command.Command.TheVariants.{Show}
 use Rattle.sd_command_line.specs.declared.command.Command.TheVariants.{Tables}
 use Rattle.sd_command_line.specs.declared.command.Command.TheVariants.{Trace, Trial}
 use Rattle.sd_command_line.specs.Words.{Argument, Order, CommandOf, HelpOf, VersionOf, file, number, order_of}
-use Rattle.sd_run_covers.specs.Cover.{cover_meaning}
+use Rattle.sd_run_cards.specs.Cover.{cover_meaning}
 use Rattle.sd_run_cards.specs.Card.{card_meaning}
 use Rattle.sd_run_streams.specs.Sample.{sample_meaning}
 use Rattle.sd_run_streams.specs.Tables.{tables_meaning}
 use Rattle.sd_run_field.specs.Field.{field_meaning}
 use Rattle.sd_run_broadcasts.specs.Head.{head_meaning}
 use Rattle.sd_run_broadcasts.specs.Receive.{receive_meaning}
-use Rattle.sd_run_books.specs.Accounts.{accounts_meaning}
+use Rattle.sd_run_books.specs.AccountsCommand.{accounts_meaning}
 use Rattle.sd_run_books.specs.Apart.{apart_meaning}
 use Rattle.sd_run_books.specs.Book.{book_meaning}
-use Rattle.sd_run_covers.specs.Layered.{layered_meaning}
+use Rattle.sd_run_cards.specs.Layered.{layered_meaning}
 use Rattle.sd_run_cards.specs.Lcard.{lcard_meaning}
 use Rattle.sd_run_streams.specs.Messages.{messages_meaning}
-use Rattle.sd_run_covers.specs.Opens.{opens_meaning}
+use Rattle.sd_run_cards.specs.Opens.{opens_meaning}
 use Rattle.sd_run_books.specs.Air.{plan_meaning}
 use Rattle.sd_run_cards.specs.Show.{show_meaning}
-use Rattle.sd_run_covers.specs.Trace.{trace_meaning}
+use Rattle.sd_run_cards.specs.Trace.{trace_meaning}
 use Rattle.sd_run_broadcasts.specs.Trial.{trial_meaning}
 use Rattle.sd_command_line.specs.Help.{help_meaning, version_meaning}
 

@@ -1,11 +1,11 @@
 -- Public meaning: which answers are refusals of arguments or files.
-use Rattle.sd_command_status.specs.declared.status.Status.{Status}
-use Rattle.sd_command_status.specs.declared.status.Status.TheVariants.{Done, Usage, Missing, Revoked, DepotFault}
-use Rattle.sd_command_status.specs.declared.status.Status.TheVariants.{PrintFault}
-use Rattle.sd_command_status.specs.declared.status.Status.TheVariants.{BadSite, BadBook, BadCard, BadClear, BadStream}
-use Rattle.sd_command_status.specs.declared.status.Status.TheVariants.{Limit}
-use Rattle.sd_command_status.specs.declared.status.Status.TheVariants.{NoMemory, Unheard, Unclosed, Gaps, NoCat}
-use Rattle.sd_command_status.specs.declared.status.Status.TheVariants.{BadWord, Clash}
+use Rattle.sd_command_base.specs.declared.status.Status.{Status}
+use Rattle.sd_command_base.specs.declared.status.Status.TheVariants.{Done, Usage, Missing, Revoked, DepotFault}
+use Rattle.sd_command_base.specs.declared.status.Status.TheVariants.{PrintFault}
+use Rattle.sd_command_base.specs.declared.status.Status.TheVariants.{BadSite, BadBook, BadCard, BadClear, BadStream}
+use Rattle.sd_command_base.specs.declared.status.Status.TheVariants.{Limit}
+use Rattle.sd_command_base.specs.declared.status.Status.TheVariants.{NoMemory, Unheard, Unclosed, Gaps, NoCat}
+use Rattle.sd_command_base.specs.declared.status.Status.TheVariants.{BadWord, Clash}
 
 -- Arguments or files are refused before a file is made or a text is printed. Each status has its row, so that a new one
 -- must be decided.

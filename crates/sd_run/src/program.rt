@@ -1,8 +1,8 @@
 ghost use Rattle.std.specs.Prelude.{◌≡◌, ◌<◌, ℕ, None, Err, map, string_bytes};
 ghost use Rattle.std.specs.Process.{exit_status};
-ghost use Rattle.sd_command_status.specs.Exits.{code_of};
-ghost use Rattle.sd_command_status.specs.Outside.{outside, depot_state, Outside, PageState};
-ghost use Rattle.sd_command_status.specs.Results.{RunResult, IsToldAs};
+ghost use Rattle.sd_command_base.specs.Exits.{code_of};
+ghost use Rattle.sd_command_base.specs.Outside.{outside, depot_state, Outside, PageState};
+ghost use Rattle.sd_command_base.specs.Results.{RunResult, IsToldAs};
 ghost use Rattle.sd_command_line.specs.Words.{order_of};
 ghost use Rattle.sd_run.specs.Meaning.{meaning};
 
@@ -10,8 +10,8 @@ use crate::edge::{makes_secrets, names_output};
 use crate::lines::Lines;
 use crate::run;
 use sd_base::Steps;
+use sd_command_base::{Status, tell};
 use sd_command_line::explanation;
-use sd_command_status::{Status, tell};
 use sd_host::{HostDepot, StdPrint};
 use sd_ports::{Depot, write_all};
 use std::alloc::Global;

@@ -7,9 +7,9 @@ use Rattle.std.specs.List.{range_with_len}
 use Rattle.sd_base.proofs.Ranges.{range_parts}
 use Rattle.sd_book.specs.Commands.{commands_until, is_revoked, last_period, revoked}
 use Rattle.sd_book.proofs.Cuts.{same_revoked}
-use Rattle.sd_spec_broadcast.specs.Plan.{Plan}
-use Rattle.sd_command_status.specs.declared.status.Clash.{Clash as ClashKind}
-use Rattle.sd_command_status.specs.declared.status.Clash.TheVariants.{Books}
+use Rattle.sd_spec.specs.Plan.{Plan}
+use Rattle.sd_command_base.specs.declared.status.Clash.{Clash as ClashKind}
+use Rattle.sd_command_base.specs.declared.status.Clash.TheVariants.{Books}
 use Rattle.sd_run_books.specs.Apart.{clash_in, first_differing, first_of, first_shared}
 
 through : (o p q r : Option ClashKind) → option_or o p ≡ None → (p ≡ None → q ≡ r) → option_or o q ≡ r

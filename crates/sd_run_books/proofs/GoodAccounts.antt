@@ -1,17 +1,17 @@
 -- Good files mean that the book is made and the report printed.
 use Rattle.std.proofs.Common.{◌≡◌, ℕ, ◌≤◌, Bool, cond, List, length, Option, Some, Ok, Err, ap, ◌∙◌, le-ltb}
-use Rattle.sd_site.specs.Fields.{SiteFields}
+use Rattle.sd_site.specs.SiteFields.{SiteFields}
 use Rattle.sd_book.specs.Text.{text_of}
 use Rattle.sd_book.specs.declared.command.Command.{Command}
-use Rattle.sd_accounts.specs.Accounts.{AccountsValue}
-use Rattle.sd_accounts.specs.Judged.{book_of}
-use Rattle.sd_command_status.specs.declared.status.Status.TheVariants.{Limit}
-use Rattle.sd_command_status.specs.declared.status.LimitKind.TheVariants.{BookBytes}
-use Rattle.sd_command_status.specs.Spec.{FileArgument, Readings, judged, value, within, ◌>>=◌}
-use Rattle.sd_command_status.proofs.Follow.{then_is}
-use Rattle.sd_command_files.specs.Files.{site_in, most_book_bytes}
-use Rattle.sd_run_books.specs.Accounts.{accounts_in, accounts_meaning, accounts_of_file, accounts_value}
-use Rattle.sd_run_books.specs.Accounts.{making_then, report_line, told_accounts}
+use Rattle.sd_run_books.specs.Accounts.{AccountsValue}
+use Rattle.sd_run_books.specs.Judged.{book_of}
+use Rattle.sd_command_base.specs.declared.status.Status.TheVariants.{Limit}
+use Rattle.sd_command_base.specs.declared.status.LimitKind.TheVariants.{BookBytes}
+use Rattle.sd_command_base.specs.Spec.{FileArgument, Readings, judged, value, within, ◌>>=◌}
+use Rattle.sd_command_base.proofs.Follow.{then_is}
+use Rattle.sd_command_base.specs.Files.{site_in, most_book_bytes}
+use Rattle.sd_run_books.specs.AccountsCommand.{accounts_in, accounts_meaning, accounts_of_file, accounts_value}
+use Rattle.sd_run_books.specs.AccountsCommand.{making_then, report_line, told_accounts}
 
 -- an accounts file within the limit, whose lines make these commands
 file_good : (word d : ℕ) (bytes : List ℕ) (commands : List Command) → length bytes ≤ most_book_bytes →

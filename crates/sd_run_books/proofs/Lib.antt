@@ -1,3 +1,15 @@
+pub mod Causes
+pub mod Kept
+pub mod Leaves
+pub mod Limits
+pub mod Listed
+pub mod Named
+pub mod Reading
+pub mod Reports
+pub mod Spaces
+pub mod Spellings
+pub mod NextLine
+pub mod Taking
 pub mod GoodAccounts
 pub mod ListedAccounts
 pub mod Made

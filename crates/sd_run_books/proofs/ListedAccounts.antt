@@ -14,14 +14,14 @@ use Rattle.std.specs.FinMap.{nat_cmp-IsAntisymmetric, slice_cmp-IsAntisymmetric}
 use Rattle.std.specs.FinMap.Entries.{below_all, find, is_sorted, same_entries}
 use Rattle.std.proofs.lemmas.Cmp.{nat_list_cmp_total}
 use Rattle.std.proofs.lemmas.Map.Text.{is_eq-slice_cmp}
-use Rattle.sd_accounts.specs.Accounts.{Account, AccountsValue, IsListOf}
-use Rattle.sd_accounts.specs.Bound.{first_there, leaf_of}
-use Rattle.sd_accounts.specs.Judged.{book_of}
-use Rattle.sd_accounts.specs.Line.{Entry, Assigns, Drops, Restores, Ends, said_by}
-use Rattle.sd_accounts.specs.declared.fault.AccountFault.{AccountFault}
-use Rattle.sd_accounts.specs.declared.fault.AccountFault.TheVariants.{Line, Unknown, Taken, Limit, NoMemory}
-use Rattle.sd_command_status.specs.Reads.{JudgedOutcome}
-use Rattle.sd_run_books.specs.Accounts.{account_on, bound_by, accounts_value, refused_accounts, told_accounts}
+use Rattle.sd_run_books.specs.Accounts.{Account, AccountsValue, IsListOf}
+use Rattle.sd_run_books.specs.Bound.{first_there, leaf_of}
+use Rattle.sd_run_books.specs.Judged.{book_of}
+use Rattle.sd_run_books.specs.Line.{Entry, Assigns, Drops, Restores, Ends, said_by}
+use Rattle.sd_run_books.specs.declared.account_fault.AccountFault.{AccountFault}
+use Rattle.sd_run_books.specs.declared.account_fault.AccountFault.TheVariants.{Line, Unknown, Taken, Limit, NoMemory}
+use Rattle.sd_command_base.specs.Reads.{JudgedOutcome}
+use Rattle.sd_run_books.specs.AccountsCommand.{account_on, bound_by, accounts_value, refused_accounts, told_accounts}
 
 -- a name below those of some accounts
 above : (name : List ℕ) (xs : List Account) →

@@ -8,18 +8,18 @@ use Rattle.sd_book.specs.Faults.{IsFirstLimit}
 use Rattle.sd_book.specs.Limits.{IsWithinLimits}
 use Rattle.sd_book.proofs.Causes.{cause_judged}
 use Rattle.sd_book.proofs.Judged.{said_again}
-use Rattle.sd_command_status.specs.declared.status.Status.{Status}
-use Rattle.sd_command_status.specs.declared.status.Status.TheVariants.{NoMemory}
+use Rattle.sd_command_base.specs.declared.status.Status.{Status}
+use Rattle.sd_command_base.specs.declared.status.Status.TheVariants.{NoMemory}
 use Rattle.sd_book.specs.Text.{text_of}
-use Rattle.sd_command_status.specs.Outside.{Outside}
-use Rattle.sd_command_status.specs.Spec.{Spec, FileArgument, Readings, judged, value, ◌>>=◌}
-use Rattle.sd_command_status.specs.Work.{NoSteps, Work}
-use Rattle.sd_command_status.specs.Outcome.{IsRefusal, IsEnding, OutcomeWithin}
-use Rattle.sd_command_status.proofs.Follow.{then_is}
-use Rattle.sd_command_files.specs.Both.{SiteBook, both_meaning}
-use Rattle.sd_command_files.specs.Files.{book_in, book_of_file, refused_book, told_book}
-use Rattle.sd_command_files.specs.Made.{making}
-use Rattle.sd_command_files.proofs.Thirds.{judged_obeys}
+use Rattle.sd_command_base.specs.Outside.{Outside}
+use Rattle.sd_command_base.specs.Spec.{Spec, FileArgument, Readings, judged, value, ◌>>=◌}
+use Rattle.sd_command_base.specs.Work.{NoSteps, Work}
+use Rattle.sd_command_base.specs.Outcome.{IsRefusal, IsEnding, OutcomeWithin}
+use Rattle.sd_command_base.proofs.Follow.{then_is}
+use Rattle.sd_command_base.specs.Both.{SiteBook, both_meaning}
+use Rattle.sd_command_base.specs.Files.{book_in, book_of_file, refused_book, told_book}
+use Rattle.sd_command_base.specs.Made.{making}
+use Rattle.sd_command_base.proofs.Thirds.{judged_obeys}
 use Rattle.sd_run_books.specs.Book.{longer_book, book_meaning}
 
 -- commands within the limits are a longer book

@@ -10,19 +10,19 @@ use Rattle.sd_ports.specs.Files.{WritesFile, IsUnmade as IsNoFile, IsMadeShort a
 use Rattle.sd_ports.specs.Causes.{HasFileCause}
 use Rattle.sd_ports.specs.declared.file.FileFault.{FileFault}
 use Rattle.sd_ports.specs.declared.file.FileFault.TheVariants as file
-use Rattle.sd_command_status.specs.declared.status.Status.{Status}
-use Rattle.sd_command_status.specs.Outside.{DepotState, PageState, Outside, outside}
-use Rattle.sd_command_status.specs.Spec.{Spec, FileArgument, Readings, value, ◌>>=◌}
-use Rattle.sd_command_status.specs.Work.{Out, Work}
-use Rattle.sd_command_status.specs.Outcome.{IsEnding, IsMade, Progress, untouched, writing, Outcome, ended, exhausted}
-use Rattle.sd_command_status.specs.Outcome.{failed}
-use Rattle.sd_command_status.specs.Outcome.{nowhere, cut_off, OutcomeWithin, Implements, status_of}
-use Rattle.sd_command_status.specs.Prints.{PrintsText}
-use Rattle.sd_command_status.specs.Reads.{FilesOutcome}
-use Rattle.sd_command_status.proofs.Moves.{then_obeys}
-use Rattle.sd_command_status.proofs.Firsts.{first_obeys}
-use Rattle.sd_command_files.specs.Made.{making_told}
-use Rattle.sd_run_books.specs.Accounts.{making_then}
+use Rattle.sd_command_base.specs.declared.status.Status.{Status}
+use Rattle.sd_command_base.specs.Outside.{DepotState, PageState, Outside, outside}
+use Rattle.sd_command_base.specs.Spec.{Spec, FileArgument, Readings, value, ◌>>=◌}
+use Rattle.sd_command_base.specs.Work.{Out, Work}
+use Rattle.sd_command_base.specs.Outcome.{IsEnding, IsMade, Progress, untouched, writing, Outcome, ended, exhausted}
+use Rattle.sd_command_base.specs.Outcome.{failed}
+use Rattle.sd_command_base.specs.Outcome.{nowhere, cut_off, OutcomeWithin, Implements, status_of}
+use Rattle.sd_command_base.specs.Prints.{PrintsText}
+use Rattle.sd_command_base.specs.Reads.{FilesOutcome}
+use Rattle.sd_command_base.proofs.Moves.{then_obeys}
+use Rattle.sd_command_base.proofs.Firsts.{first_obeys}
+use Rattle.sd_command_base.specs.Made.{making_told}
+use Rattle.sd_run_books.specs.AccountsCommand.{making_then}
 
 pub same_where_ok : {X Y E : Type 0} (r : Result X E) (f : X → Y) → IfOk r (λ x. f x ≡ f x)
 same_where_ok (Ok x) f = refl

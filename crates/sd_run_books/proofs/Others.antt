@@ -1,26 +1,27 @@
 -- No command of this crate ever means `Usage`.
 use Rattle.std.proofs.Common.{ℕ, List, Option, Result, Ok, Err, [], ◌++◌, map, Some, Bool, true, false, cond, None}
 use Rattle.std.specs.Prelude.{nat_le}
-use Rattle.sd_site.specs.Fields.{SiteFields}
+use Rattle.sd_site.specs.SiteFields.{SiteFields}
 use Rattle.sd_book.specs.Text.{text_of, judged as said}
 use Rattle.sd_book.specs.declared.command.Command.{Command}
-use Rattle.sd_accounts.specs.Accounts.{AccountsValue}
-use Rattle.sd_accounts.specs.Judged.{book_of}
-use Rattle.sd_accounts.specs.declared.fault.AccountFault.{AccountFault}
-use Rattle.sd_accounts.specs.declared.fault.AccountFault.TheVariants.{Line, Unknown, Taken, Limit, NoMemory}
-use Rattle.sd_command_status.specs.declared.status.LimitKind.TheVariants.{BookBytes}
-use Rattle.sd_command_status.specs.Spec.{FileArgument, Readings, judged, value, within, ◌>>=◌}
-use Rattle.sd_command_status.specs.Work.{NoSteps, work_of_text}
-use Rattle.sd_command_status.specs.declared.status.Status.TheVariants.{BadWord}
-use Rattle.sd_command_status.specs.declared.status.Clash.{Clash as ClashKind}
-use Rattle.sd_command_files.specs.Files.{site_of_file, most_book_bytes, book_of_file}
-use Rattle.sd_command_files.proofs.Others.{IsOther, other_after, other_file, other_site_file, other_book}
-use Rattle.sd_command_files.proofs.Others.{other_book_file, other_both}
-use Rattle.sd_command_files.specs.Both.{both_by, SiteBook}
-use Rattle.sd_command_files.specs.Made.{making}
-use Rattle.sd_command_files.specs.Shown.{NumberArgument}
-use Rattle.sd_run_books.specs.Accounts.{accounts_in, accounts_meaning, accounts_of_file, accounts_value, making_then}
-use Rattle.sd_run_books.specs.Accounts.{report_line, told_accounts}
+use Rattle.sd_run_books.specs.Accounts.{AccountsValue}
+use Rattle.sd_run_books.specs.Judged.{book_of}
+use Rattle.sd_run_books.specs.declared.account_fault.AccountFault.{AccountFault}
+use Rattle.sd_run_books.specs.declared.account_fault.AccountFault.TheVariants.{Line, Unknown, Taken, Limit, NoMemory}
+use Rattle.sd_command_base.specs.declared.status.LimitKind.TheVariants.{BookBytes}
+use Rattle.sd_command_base.specs.Spec.{FileArgument, Readings, judged, value, within, ◌>>=◌}
+use Rattle.sd_command_base.specs.Work.{NoSteps, work_of_text}
+use Rattle.sd_command_base.specs.declared.status.Status.TheVariants.{BadWord}
+use Rattle.sd_command_base.specs.declared.status.Clash.{Clash as ClashKind}
+use Rattle.sd_command_base.specs.Files.{site_of_file, most_book_bytes, book_of_file}
+use Rattle.sd_command_base.proofs.Others.{IsOther, other_after, other_file, other_site_file, other_book}
+use Rattle.sd_command_base.proofs.Others.{other_book_file, other_both}
+use Rattle.sd_command_base.specs.Both.{both_by, SiteBook}
+use Rattle.sd_command_base.specs.Made.{making}
+use Rattle.sd_command_base.specs.Shown.{NumberArgument}
+use Rattle.sd_run_books.specs.AccountsCommand.{accounts_in, accounts_meaning, accounts_of_file, accounts_value}
+use Rattle.sd_run_books.specs.AccountsCommand.{making_then}
+use Rattle.sd_run_books.specs.AccountsCommand.{report_line, told_accounts}
 use Rattle.sd_run_books.specs.Book.{longer_book, book_meaning}
 use Rattle.sd_run_books.specs.Air.{last_word_for, plan_meaning, planning, roomy_site_of_file, told_room}
 use Rattle.sd_run_books.specs.Apart.{apart_meaning, apart_text, clash_of, plan_of_both, told_apart, told_clash}

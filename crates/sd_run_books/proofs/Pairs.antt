@@ -6,15 +6,15 @@ use Rattle.std.specs.Io.KnownBytes.{Appends}
 use Rattle.sd_base.proofs.Arithmetic.{same_number, other_number_back}
 use Rattle.sd_ports.specs.Bytes.{AppendsPrefix}
 use Rattle.sd_ports.specs.Files.{Files}
-use Rattle.sd_command_status.specs.declared.status.Status.{Status}
-use Rattle.sd_command_status.specs.Outside.{DepotState, PageState, Outside, outside}
-use Rattle.sd_command_status.specs.Spec.{Spec, FileArgument, Readings, IsGiven, value, ◌>>=◌}
-use Rattle.sd_command_status.specs.Work.{Work, work_of_text}
-use Rattle.sd_command_status.specs.Outcome.{IsEnding, ended, cut_off, OutcomeWithin, Implements}
-use Rattle.sd_command_status.specs.Prints.{PrintsText}
-use Rattle.sd_command_status.specs.Reads.{FilesOutcome}
-use Rattle.sd_command_status.proofs.Firsts.{first_obeys}
-use Rattle.sd_command_status.proofs.Moves.{then_obeys}
+use Rattle.sd_command_base.specs.declared.status.Status.{Status}
+use Rattle.sd_command_base.specs.Outside.{DepotState, PageState, Outside, outside}
+use Rattle.sd_command_base.specs.Spec.{Spec, FileArgument, Readings, IsGiven, value, ◌>>=◌}
+use Rattle.sd_command_base.specs.Work.{Work, work_of_text}
+use Rattle.sd_command_base.specs.Outcome.{IsEnding, ended, cut_off, OutcomeWithin, Implements}
+use Rattle.sd_command_base.specs.Prints.{PrintsText}
+use Rattle.sd_command_base.specs.Reads.{FilesOutcome}
+use Rattle.sd_command_base.proofs.Firsts.{first_obeys}
+use Rattle.sd_command_base.proofs.Moves.{then_obeys}
 
 either_same : (b : Bool) (got : Option (List ℕ)) → cond b got got ≡ got
 either_same true got = refl

@@ -3,11 +3,11 @@ use Rattle.std.proofs.Common.{append-nil, ◌≡◌, ℕ, List, refl, sym, subst
 use Rattle.std.specs.Io.KnownBytes.{Appends}
 use Rattle.std.proofs.KnownBytes.{Appends-nil}
 use Rattle.sd_ports.specs.Bytes.{AppendsPrefix}
-use Rattle.sd_spec_broadcast.specs.Plan.{Plan}
-use Rattle.sd_command_status.specs.declared.status.Status.{Status}
-use Rattle.sd_command_status.specs.declared.status.Status.TheVariants.{NoMemory}
-use Rattle.sd_command_status.specs.Outside.{PageState}
-use Rattle.sd_command_status.specs.Prints.{PrintsWork, PrintsText}
+use Rattle.sd_spec.specs.Plan.{Plan}
+use Rattle.sd_command_base.specs.declared.status.Status.{Status}
+use Rattle.sd_command_base.specs.declared.status.Status.TheVariants.{NoMemory}
+use Rattle.sd_command_base.specs.Outside.{PageState}
+use Rattle.sd_command_base.specs.Prints.{PrintsWork, PrintsText}
 use Rattle.sd_run_books.specs.Air.{air_text, planning}
 
 pub one_text : (plan : Plan) (m pids : ℕ) (a b : PageState) (status : Status) →

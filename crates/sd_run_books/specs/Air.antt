@@ -4,17 +4,17 @@ use Rattle.std.specs.Prelude.{false, if◌then◌else◌, Option, None, Result, 
 use Rattle.std.specs.List.{concat, range_with_len, sum_by}
 use Rattle.std.specs.Fmt.{decimal}
 use Rattle.std.specs.Int.{div_ceil}
-use Rattle.sd_site.specs.Fields.{SiteFields}
+use Rattle.sd_site.specs.SiteFields.{SiteFields}
 use Rattle.sd_book.specs.Commands.{last_period, revoked}
 use Rattle.sd_emm.specs.Form.{sections_for}
 use Rattle.sd_ecm.specs.Parts.{parts_for}
-use Rattle.sd_spec_broadcast.specs.Plan.{Plan, closing_number, crypto_of, period_in, sets_at, word_in}
-use Rattle.sd_command_status.specs.declared.status.Status.{Status}
-use Rattle.sd_command_status.specs.declared.status.Status.TheVariants.{BadWord, Done}
-use Rattle.sd_command_status.specs.Spec.{Spec, FileArgument, Readings, judged, value, ◌>>=◌}
-use Rattle.sd_command_status.specs.Work.{NoSteps, Work}
-use Rattle.sd_command_files.specs.Shown.{NumberArgument}
-use Rattle.sd_command_files.specs.Files.{site_of_file, book_in}
+use Rattle.sd_spec.specs.Plan.{Plan, closing_number, crypto_of, period_in, sets_at, word_in}
+use Rattle.sd_command_base.specs.declared.status.Status.{Status}
+use Rattle.sd_command_base.specs.declared.status.Status.TheVariants.{BadWord, Done}
+use Rattle.sd_command_base.specs.Spec.{Spec, FileArgument, Readings, judged, value, ◌>>=◌}
+use Rattle.sd_command_base.specs.Work.{NoSteps, Work}
+use Rattle.sd_command_base.specs.Shown.{NumberArgument}
+use Rattle.sd_command_base.specs.Files.{site_of_file, book_in}
 
 -- how many crypto periods m packets begin, m above 0
 abbrev pub cryptos_for : SiteFields → ℕ → ℕ

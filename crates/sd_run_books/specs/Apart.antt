@@ -4,16 +4,16 @@ use Rattle.std.specs.Prelude.{Bool, true, false, Option, Some, None, Result, Ok,
 use Rattle.std.specs.Option.{option_map, option_or}
 use Rattle.std.specs.List.{range_with_len}
 use Rattle.std.specs.Fmt.{decimal}
-use Rattle.sd_site.specs.Fields.{SiteFields}
+use Rattle.sd_site.specs.SiteFields.{SiteFields}
 use Rattle.sd_book.specs.Commands.{commands_until, is_revoked}
-use Rattle.sd_spec_broadcast.specs.Plan.{Plan, period_in}
-use Rattle.sd_command_status.specs.declared.status.Status.{Status}
-use Rattle.sd_command_status.specs.declared.status.Status.TheVariants.{Clash}
-use Rattle.sd_command_status.specs.declared.status.Clash.{Clash as ClashKind}
-use Rattle.sd_command_status.specs.declared.status.Clash.TheVariants.{Heights, Masters, NoWords, SharedWord, Books}
-use Rattle.sd_command_status.specs.Spec.{Spec, FileArgument, Readings, judged, value, ◌>>=◌}
-use Rattle.sd_command_status.specs.Work.{Work, work_of_text}
-use Rattle.sd_command_files.specs.Both.{SiteBook, both_meaning}
+use Rattle.sd_spec.specs.Plan.{Plan, period_in}
+use Rattle.sd_command_base.specs.declared.status.Status.{Status}
+use Rattle.sd_command_base.specs.declared.status.Status.TheVariants.{Clash}
+use Rattle.sd_command_base.specs.declared.status.Clash.{Clash as ClashKind}
+use Rattle.sd_command_base.specs.declared.status.Clash.TheVariants.{Heights, Masters, NoWords, SharedWord, Books}
+use Rattle.sd_command_base.specs.Spec.{Spec, FileArgument, Readings, judged, value, ◌>>=◌}
+use Rattle.sd_command_base.specs.Work.{Work, work_of_text}
+use Rattle.sd_command_base.specs.Both.{SiteBook, both_meaning}
 
 -- the last period that a broadcast may use, whatever its stream is: that of the last control word of its range
 abbrev pub last_due : Plan → ℕ

@@ -2,12 +2,12 @@
 use Rattle.std.specs.Prelude.{ℕ, List, [], ◌++◌, map, Some, Result}
 use Rattle.sd_book.specs.declared.command.Command.{Command}
 use Rattle.sd_book.specs.Text.{judged as said, text_of}
-use Rattle.sd_command_status.specs.declared.status.Status.{Status}
-use Rattle.sd_command_status.specs.Spec.{Spec, FileArgument, Readings, judged, value, ◌>>=◌}
-use Rattle.sd_command_status.specs.Work.{NoSteps, Work}
-use Rattle.sd_command_files.specs.Files.{book_in, told_book}
-use Rattle.sd_command_files.specs.Both.{both_meaning}
-use Rattle.sd_command_files.specs.Made.{making}
+use Rattle.sd_command_base.specs.declared.status.Status.{Status}
+use Rattle.sd_command_base.specs.Spec.{Spec, FileArgument, Readings, judged, value, ◌>>=◌}
+use Rattle.sd_command_base.specs.Work.{NoSteps, Work}
+use Rattle.sd_command_base.specs.Files.{book_in, told_book}
+use Rattle.sd_command_base.specs.Both.{both_meaning}
+use Rattle.sd_command_base.specs.Made.{making}
 
 -- the commands of a book with others after them, or the first limit that so long a book breaks; the others are those of
 -- this word's file

@@ -1,4 +1,13 @@
 pub mod Accounts
+pub mod Bound
+pub mod Fault
+pub mod Faults
+pub mod Judged
+pub mod Kept
+pub mod Line
+pub mod Read
+pub mod Report
+pub mod AccountsCommand
 pub mod Book
 pub mod Air
 pub mod Apart

@@ -1,20 +1,21 @@
 //! `accounts SITE ACCOUNTS OUT`: the book that accounts make, and their report.
 
 ghost use Rattle.std.specs.Prelude.{◌≡◌, ◌≢◌, ℕ, IfOk, IfErr};
-ghost use Rattle.sd_site.specs.Fields.{fields_of};
+ghost use Rattle.sd_site.specs.SiteFields.{fields_of};
 ghost use Rattle.sd_book.specs.Text.{text_of};
-ghost use Rattle.sd_accounts.specs.Judged.{book_of};
-ghost use Rattle.sd_command_status.specs.Spec.{value};
-ghost use Rattle.sd_command_status.specs.Outside.{outside, page_state, depot_state};
-ghost use Rattle.sd_command_status.specs.Reads.{JudgedOutcome, FileOutcome, FilesOutcome};
-ghost use Rattle.sd_command_status.specs.Outcome.{Implements, OutcomeWithin, status_of};
-ghost use Rattle.sd_command_files.specs.Shown.{shown_word};
-ghost use Rattle.sd_run_books.specs.Accounts.{accounts_in, accounts_meaning, accounts_of_file, accounts_value};
-ghost use Rattle.sd_run_books.specs.Accounts.{making_then, refused_accounts, report_line, told_accounts};
+ghost use Rattle.sd_run_books.specs.Judged.{book_of};
+ghost use Rattle.sd_command_base.specs.Spec.{value};
+ghost use Rattle.sd_command_base.specs.Outside.{outside, page_state, depot_state};
+ghost use Rattle.sd_command_base.specs.Reads.{JudgedOutcome, FileOutcome, FilesOutcome};
+ghost use Rattle.sd_command_base.specs.Outcome.{Implements, OutcomeWithin, status_of};
+ghost use Rattle.sd_command_base.specs.Shown.{shown_word};
+ghost use Rattle.sd_run_books.specs.AccountsCommand.{accounts_in, accounts_meaning, accounts_of_file, accounts_value};
+ghost use Rattle.sd_run_books.specs.AccountsCommand.{making_then, refused_accounts, report_line, told_accounts};
 
-use sd_accounts::{AccountFault, Accounts};
-use sd_command_files::{MOST_BOOK_BYTES, Word, print_text, read_bytes, read_site, told};
-use sd_command_status::{LimitKind, Status};
+use crate::{AccountFault, Accounts};
+use sd_command_base::{
+    LimitKind, MOST_BOOK_BYTES, Status, Word, print_text, read_bytes, read_site, told,
+};
 use sd_ports::{Depot, Sink, write_file};
 use sd_tree::Height;
 use std::alloc::Global;
@@ -112,7 +113,7 @@ fn refused(word: u8, fault: AccountFault) -> Status
 }
 
 /// The report as a line.
-#[tactic(auto, unfolding(crate::specs::Accounts::report_line))]
+#[tactic(auto, unfolding(crate::specs::AccountsCommand::report_line))]
 fn report_text(alloc: Global, accounts: &Accounts) -> Result<Vec<u8>, Status>
     ensures value { IfOk result (λ text. text.items ≡ report_line accounts.now) }
     ensures fault { IfErr result (λ status. status ≡ Status.NoMemory) }

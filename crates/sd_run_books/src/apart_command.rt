@@ -1,19 +1,18 @@
 //! `apart SITE BOOK SITE BOOK`: whether two broadcasts may go out under one set of cards.
 
 ghost use Rattle.std.specs.Prelude.{◌≡◌, ◌≢◌, ℕ, string_bytes};
-ghost use Rattle.sd_site.specs.Fields.{fields_of};
-ghost use Rattle.sd_command_status.specs.Outside.{outside, page_state, depot_state};
-ghost use Rattle.sd_command_status.specs.Reads.{JudgedOutcome};
-ghost use Rattle.sd_command_status.specs.Outcome.{Implements, status_of};
-ghost use Rattle.sd_command_files.specs.Shown.{shown_word};
+ghost use Rattle.sd_site.specs.SiteFields.{fields_of};
+ghost use Rattle.sd_command_base.specs.Outside.{outside, page_state, depot_state};
+ghost use Rattle.sd_command_base.specs.Reads.{JudgedOutcome};
+ghost use Rattle.sd_command_base.specs.Outcome.{Implements, status_of};
+ghost use Rattle.sd_command_base.specs.Shown.{shown_word};
 ghost use Rattle.sd_run_books.specs.Apart.{apart_meaning, told_apart};
 
 use crate::apart_books::clash_of_books;
 use crate::apart_lines::push_site;
 use crate::apart_sites::clash_of_sites;
 use sd_book::Book;
-use sd_command_files::{Word, print_text, read_both};
-use sd_command_status::Status;
+use sd_command_base::{Status, Word, print_text, read_both};
 use sd_ports::{Depot, Sink};
 use sd_site::Site;
 use std::alloc::Global;

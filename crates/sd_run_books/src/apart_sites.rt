@@ -3,10 +3,10 @@
 ghost use Rattle.std.specs.Prelude.{◌≡◌, ◌≤◌, ◌+◌, ◌-◌, List, IsNone};
 ghost use Rattle.sd_book.specs.declared.command.Command.{Command};
 ghost use Rattle.sd_book.specs.Commands.{last_period as last_of};
-ghost use Rattle.sd_site.specs.Fields.{fields_of};
+ghost use Rattle.sd_site.specs.SiteFields.{fields_of};
 ghost use Rattle.sd_run_books.specs.Apart.{last_due as due_of, sites_clash};
 
-use sd_command_status::Clash;
+use sd_command_base::Clash;
 use sd_site::Site;
 
 /// Why the sites don't go together.
@@ -32,7 +32,7 @@ pub(crate) fn clash_of_sites(a: &Site, b: &Site) -> Option<Clash>
 }
 
 /// The last period that a broadcast of the site may use with a book of this last period.
-#[tactic(auto, unfolding(sd_spec_broadcast::specs::Plan::period_in))]
+#[tactic(auto, unfolding(sd_spec::specs::Plan::period_in))]
 pub(crate) fn last_due(site: &Site, last_period: u32) -> u64
     requires { last_period ≤ 1023 }
     ensures value { (commands : List Command) → last_period ≡ last_of commands →

@@ -1,15 +1,14 @@
 //! `book SITE BOOK COMMANDS OUT`: a book with the commands of another file after its own.
 
 ghost use Rattle.std.specs.Prelude.{◌≡◌, ◌≢◌, ℕ};
-ghost use Rattle.sd_command_status.specs.Outside.{PageState, outside, depot_state};
-ghost use Rattle.sd_command_status.specs.Reads.{JudgedOutcome};
-ghost use Rattle.sd_command_status.specs.Outcome.{Implements, status_of};
-ghost use Rattle.sd_command_files.specs.Shown.{shown_word};
+ghost use Rattle.sd_command_base.specs.Outside.{PageState, outside, depot_state};
+ghost use Rattle.sd_command_base.specs.Reads.{JudgedOutcome};
+ghost use Rattle.sd_command_base.specs.Outcome.{Implements, status_of};
+ghost use Rattle.sd_command_base.specs.Shown.{shown_word};
 ghost use Rattle.sd_run_books.specs.Book.{book_meaning, longer_book};
 
 use sd_book::Book;
-use sd_command_files::{Word, book_fault, make_file, read_book, read_both};
-use sd_command_status::Status;
+use sd_command_base::{Status, Word, book_fault, make_file, read_book, read_both};
 use sd_ports::Depot;
 use std::alloc::Global;
 

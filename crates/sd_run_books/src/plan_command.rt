@@ -1,19 +1,18 @@
 //! `plan SITE BOOK PACKETS PIDS`: what a broadcast takes on air, before it is sent.
 
 ghost use Rattle.std.specs.Prelude.{◌≡◌, ◌≢◌, ◌≤◌, ℕ, IfOk, IfErr, string_bytes};
-ghost use Rattle.sd_site.specs.Fields.{fields_of};
-ghost use Rattle.sd_command_status.specs.Outside.{outside, page_state, depot_state};
-ghost use Rattle.sd_command_status.specs.Reads.{SureOutcome, FileOutcome};
-ghost use Rattle.sd_command_status.specs.Outcome.{Implements, status_of};
-ghost use Rattle.sd_command_files.specs.Shown.{shown_number, shown_word};
+ghost use Rattle.sd_site.specs.SiteFields.{fields_of};
+ghost use Rattle.sd_command_base.specs.Outside.{outside, page_state, depot_state};
+ghost use Rattle.sd_command_base.specs.Reads.{SureOutcome, FileOutcome};
+ghost use Rattle.sd_command_base.specs.Outcome.{Implements, status_of};
+ghost use Rattle.sd_command_base.specs.Shown.{shown_number, shown_word};
 ghost use Rattle.sd_run_books.specs.Air.{air_text as air_of, plan_meaning, roomy_site_of_file, told_room};
 
 use crate::plan_lines::{push_ends, push_totals};
 use crate::plan_periods::periods_text;
 use crate::plan_schedule::{cryptos_for, last_word, messages_for, period_count};
 use sd_book::Book;
-use sd_command_files::{Number, Word, print_text, read_book, read_site};
-use sd_command_status::Status;
+use sd_command_base::{Number, Status, Word, print_text, read_book, read_site};
 use sd_ecm::part_count;
 use sd_ports::{Depot, Sink};
 use sd_site::Site;

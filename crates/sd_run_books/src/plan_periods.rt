@@ -4,7 +4,7 @@ ghost use Rattle.std.specs.Prelude.{◌≡◌, ◌^◌, ◌<◌, ◌≤◌, ◌+
 ghost use Rattle.std.specs.List.{concat, range_with_len, sum_by};
 ghost use Rattle.std.specs.List.Sorted.{IsStrictlyIncreasing};
 ghost use Rattle.sd_tree.specs.declared.leaf.TheConstants.{MOST_REVOKED};
-ghost use Rattle.sd_site.specs.Fields.{fields_of};
+ghost use Rattle.sd_site.specs.SiteFields.{fields_of};
 ghost use Rattle.sd_cover.specs.Cover.{cover_of};
 ghost use Rattle.sd_emm.specs.Form.{sections_for};
 ghost use Rattle.sd_run_books.specs.Air.{line_at, period_line, periods_for, tables_in};
@@ -13,7 +13,7 @@ use crate::plan_lines::{PeriodNumbers, push_period};
 use crate::plan_schedule::{cryptos_in, period_count};
 use sd_base::NoMemory;
 use sd_book::Book;
-use sd_command_files::{cover_sets, replay_from};
+use sd_command_base::{cover_sets, replay_from};
 use sd_emm::section_count;
 use sd_site::Site;
 use sd_tree::{HIGHEST, Height, Leaf};

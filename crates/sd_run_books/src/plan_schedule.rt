@@ -3,8 +3,8 @@
 ghost use Rattle.std.specs.Prelude.{◌≡◌, ◌^◌, ◌≤◌, ◌+◌, ◌-◌, ℕ, List};
 ghost use Rattle.sd_book.specs.declared.command.Command.{Command};
 ghost use Rattle.sd_book.specs.Commands.{last_period as last_of};
-ghost use Rattle.sd_spec_broadcast.specs.Plan.{Plan};
-ghost use Rattle.sd_site.specs.Fields.{fields_of};
+ghost use Rattle.sd_spec.specs.Plan.{Plan};
+ghost use Rattle.sd_site.specs.SiteFields.{fields_of};
 ghost use Rattle.sd_run_books.specs.Air.{cryptos_for as cryptos_of, cryptos_in as cryptos_of_period};
 ghost use Rattle.sd_run_books.specs.Air.{last_period_for, last_word_for, messages_for as messages_of};
 ghost use Rattle.sd_run_books.specs.Air.{period_count as count_of};
@@ -12,7 +12,7 @@ ghost use Rattle.sd_run_books.specs.Air.{period_count as count_of};
 use sd_site::Site;
 
 /// The number of crypto periods in this number of packets.
-#[tactic(auto, unfolding(sd_spec_broadcast::specs::Plan::crypto_of))]
+#[tactic(auto, unfolding(sd_spec::specs::Plan::crypto_of))]
 pub(crate) fn cryptos_for(site: &Site, packets: u32) -> u32
     requires { 1 ≤ packets }
     ensures value { result ≡ cryptos_of (fields_of site.now) packets }
@@ -38,7 +38,7 @@ pub(crate) fn messages_for(site: &Site, packets: u32) -> u64
 }
 
 /// The number of periods in this number of crypto periods, in a book with this last period.
-#[tactic(auto, unfolding(sd_spec_broadcast::specs::Plan::period_in))]
+#[tactic(auto, unfolding(sd_spec::specs::Plan::period_in))]
 pub(crate) fn period_count(site: &Site, last_period: u32, cryptos: u32) -> u32
     requires some { 1 ≤ cryptos }
     requires last { last_period ≤ 1023 }

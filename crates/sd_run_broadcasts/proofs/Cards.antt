@@ -4,17 +4,17 @@ use Rattle.std.proofs.Common.{drop, append_assoc, Option, None, Ok, Err, refl, s
 use Rattle.std.proofs.Common.{subst, ◌∙◌, inl, inr}
 use Rattle.std.specs.List.{concat}
 use Rattle.std.proofs.lemmas.List.{take_at, drop_at}
-use Rattle.sd_card.specs.Files.{AreSecrets, check_of, file_body}
-use Rattle.sd_card.proofs.Written.{after_head}
-use Rattle.sd_card.specs.declared.fault.CardFault.{CardFault}
-use Rattle.sd_card.specs.declared.fault.CardFault.TheVariants as fault
-use Rattle.sd_card.specs.Faults.{height_in, fault_in, IsFaultOf}
-use Rattle.sd_card.specs.Fields.{CardFields, IsCard, card_head, card_bytes}
-use Rattle.sd_card.proofs.Spellings.{height_written, leaf_written, ca_written, written_is_good}
-use Rattle.sd_command_status.specs.declared.status.Status.{Status}
-use Rattle.sd_command_status.specs.declared.status.Status.TheVariants.{BadCard, NoMemory}
-use Rattle.sd_command_status.specs.Outcome.{IsRefusal, IsEnding}
-use Rattle.sd_command_files.specs.Files.{refused_card}
+use Rattle.sd_site.specs.Files.{AreSecrets, check_of, file_body}
+use Rattle.sd_site.proofs.Written.{after_head}
+use Rattle.sd_site.specs.declared.card_fault.CardFault.{CardFault}
+use Rattle.sd_site.specs.declared.card_fault.CardFault.TheVariants as fault
+use Rattle.sd_site.specs.CardFaults.{height_in, fault_in, IsFaultOf}
+use Rattle.sd_site.specs.CardFields.{CardFields, IsCard, card_head, card_bytes}
+use Rattle.sd_site.proofs.Spellings.{height_written, leaf_written, ca_written, written_is_good}
+use Rattle.sd_command_base.specs.declared.status.Status.{Status}
+use Rattle.sd_command_base.specs.declared.status.Status.TheVariants.{BadCard, NoMemory}
+use Rattle.sd_command_base.specs.Outcome.{IsRefusal, IsEnding}
+use Rattle.sd_command_base.specs.Files.{refused_card}
 use Rattle.sd_run_broadcasts.specs.Receive.{secrets_of, card_said, card_unless, told_card}
 
 -- secrets that were joined are found again

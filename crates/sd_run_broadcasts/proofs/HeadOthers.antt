@@ -1,8 +1,8 @@
 -- `head` never means `Usage`.
 use Rattle.std.proofs.Common.{ℕ, List, Option}
-use Rattle.sd_command_status.specs.Spec.{FileArgument, Readings, all_of, value, ◌>>=◌}
-use Rattle.sd_command_files.specs.Files.{site_of_file, book_of_file}
-use Rattle.sd_command_files.proofs.Others.{IsOther, other_after, other_stream, other_site_file, other_book_file}
+use Rattle.sd_command_base.specs.Spec.{FileArgument, Readings, all_of, value, ◌>>=◌}
+use Rattle.sd_command_base.specs.Files.{site_of_file, book_of_file}
+use Rattle.sd_command_base.proofs.Others.{IsOther, other_after, other_stream, other_site_file, other_book_file}
 use Rattle.sd_run_broadcasts.specs.Head.{plan_by, sending, sending_of, head_meaning}
 
 other_plan : (site book : ℕ) (site_got book_got : Option (List ℕ)) →

@@ -14,7 +14,7 @@ use Rattle.sd_base.proofs.Lists.{nothing_joined}
 use Rattle.sd_ports.specs.Bytes.{IsPrefix}
 use Rattle.sd_ports.proofs.Starts.{prefix_of_prefix, after_first, nothing_after}
 use Rattle.sd_packet.specs.Header.{pid_of, scrambling_of}
-use Rattle.sd_site.specs.Fields.{SiteFields}
+use Rattle.sd_site.specs.SiteFields.{SiteFields}
 use Rattle.sd_psi.specs.declared.fault.FormFault.{FormFault}
 use Rattle.sd_psi.specs.declared.fault.FormFault.TheVariants as Form
 use Rattle.sd_engine.specs.Stage.{Chain}
@@ -22,18 +22,18 @@ use Rattle.sd_engine.specs.Driving.{DriveState, ChainToEnd, ChainToRefusal, IsAl
 use Rattle.sd_engine.specs.Taken.{StreamEnd, Whole, Breaks, RunsOn, taken_of, end_of, IsAt, DriveOutcomeOver}
 use Rattle.sd_engine.specs.declared.driver.DriveFault.{DriveFault}
 use Rattle.sd_engine.specs.declared.driver.DriveFault.TheVariants as drive
-use Rattle.sd_spec_broadcast.specs.Plan.{Plan}
-use Rattle.sd_spec_broadcast.specs.Kinds.{kind_of}
-use Rattle.sd_spec_broadcast.specs.Refused.{fault_where, form_where, is_reserved_pid, pat_wrong, is_full_own}
-use Rattle.sd_spec_broadcast.specs.Refused.{is_one_too_many}
-use Rattle.sd_spec_broadcast.specs.Refused.{is_too_long, refusal_of, refusal_from}
-use Rattle.sd_spec_broadcast.specs.Sent.{sent, closing_of, packets_from, body, broadcast, bytes_added, bytes_from}
-use Rattle.sd_spec_broadcast.proofs.Bodies.{body_bytes, closed_bytes}
-use Rattle.sd_spec_broadcast.specs.declared.fault.ClearFault.{ClearFault}
-use Rattle.sd_spec_broadcast.specs.declared.fault.ClearFault.TheVariants.{AlreadyScrambled, PidTaken, PatForm, PmtForm}
-use Rattle.sd_spec_broadcast.specs.declared.fault.ClearFault.TheVariants.{TooManyPids, TooLong}
-use Rattle.sd_command_status.specs.declared.status.Status.TheVariants.{Done}
-use Rattle.sd_command_files.specs.Turned.{Wrote, all_written, some_written}
+use Rattle.sd_spec.specs.Plan.{Plan}
+use Rattle.sd_spec.specs.Kinds.{kind_of}
+use Rattle.sd_spec.specs.Refused.{fault_where, form_where, is_reserved_pid, pat_wrong, is_full_own}
+use Rattle.sd_spec.specs.Refused.{is_one_too_many}
+use Rattle.sd_spec.specs.Refused.{is_too_long, refusal_of, refusal_from}
+use Rattle.sd_spec.specs.Sent.{sent, closing_of, packets_from, body, broadcast, bytes_added, bytes_from}
+use Rattle.sd_spec.proofs.Bodies.{body_bytes, closed_bytes}
+use Rattle.sd_spec.specs.declared.clear_fault.ClearFault.{ClearFault}
+use Rattle.sd_spec.specs.declared.clear_fault.ClearFault.TheVariants.{AlreadyScrambled, PidTaken, PatForm, PmtForm}
+use Rattle.sd_spec.specs.declared.clear_fault.ClearFault.TheVariants.{TooManyPids, TooLong}
+use Rattle.sd_command_base.specs.declared.status.Status.TheVariants.{Done}
+use Rattle.sd_command_base.specs.Turned.{Wrote, all_written, some_written}
 use Rattle.sd_run_broadcasts.specs.Head.{packet_in, refused_status, clear_status, status_where, sent_by, sent_where}
 use Rattle.sd_run_broadcasts.specs.Head.{sent_of}
 use Rattle.sd_run_broadcasts.specs.Head.{sent_status, stop_status, sent_told}

@@ -8,23 +8,23 @@ use Rattle.sd_engine.specs.Driving.{DriveState, DriveOutcome}
 use Rattle.sd_engine.proofs.Taken.{is_over}
 use Rattle.sd_engine.specs.declared.driver.DriveFault.{DriveFault}
 use Rattle.sd_engine.specs.declared.driver.DriveFault.TheVariants as drive
-use Rattle.sd_spec_broadcast.specs.Plan.{Plan}
-use Rattle.sd_spec_broadcast.specs.declared.fault.ClearFault.{ClearFault}
+use Rattle.sd_spec.specs.Plan.{Plan}
+use Rattle.sd_spec.specs.declared.clear_fault.ClearFault.{ClearFault}
 use Rattle.sd_head.specs.declared.fault.HeadFault.{HeadFault}
 use Rattle.sd_head.specs.declared.fault.HeadFault.TheVariants as head
 use Rattle.sd_head.specs.declared.head.Head.{Head}
 use Rattle.sd_head.specs.Schedule.{IsDue}
 use Rattle.sd_head.specs.Staged.{IsAfter, head_does, head_ends, head_refuses, RefusesPacket}
-use Rattle.sd_command_status.specs.declared.status.Status.{Status}
-use Rattle.sd_command_status.specs.declared.status.Status.TheVariants.{DepotFault, NoMemory}
-use Rattle.sd_command_status.specs.Outside.{DepotState, PageState, Outside, outside}
-use Rattle.sd_command_status.specs.Spec.{Spec, FileArgument, IsGot, ◌>>=◌}
-use Rattle.sd_command_status.specs.Outcome.{OutcomeWithin, Implements}
-use Rattle.sd_command_status.specs.Reads.{FilesOutcome}
-use Rattle.sd_command_status.proofs.Firsts.{first_obeys}
-use Rattle.sd_command_status.proofs.Moves.{then_obeys}
-use Rattle.sd_command_files.specs.Turned.{HasPortCause, Wrote}
-use Rattle.sd_command_files.proofs.Thirds.{more_given}
+use Rattle.sd_command_base.specs.declared.status.Status.{Status}
+use Rattle.sd_command_base.specs.declared.status.Status.TheVariants.{DepotFault, NoMemory}
+use Rattle.sd_command_base.specs.Outside.{DepotState, PageState, Outside, outside}
+use Rattle.sd_command_base.specs.Spec.{Spec, FileArgument, IsGot, ◌>>=◌}
+use Rattle.sd_command_base.specs.Outcome.{OutcomeWithin, Implements}
+use Rattle.sd_command_base.specs.Reads.{FilesOutcome}
+use Rattle.sd_command_base.proofs.Firsts.{first_obeys}
+use Rattle.sd_command_base.proofs.Moves.{then_obeys}
+use Rattle.sd_command_base.specs.Turned.{HasPortCause, Wrote}
+use Rattle.sd_command_base.proofs.Thirds.{more_given}
 use Rattle.sd_run_broadcasts.specs.Head.{plan_by, plan_meaning, sending_of, head_meaning, refusal_in, stop_status}
 use Rattle.sd_run_broadcasts.specs.Head.{sent_told}
 use Rattle.sd_run_broadcasts.specs.Head.{SendsLeft, sent_of, sent_status}

@@ -1,10 +1,10 @@
 -- `trial` never means `Usage`.
 use Rattle.std.proofs.Common.{ℕ, List, Option}
-use Rattle.sd_command_status.specs.declared.status.LimitKind.TheVariants.{TrialHeight}
-use Rattle.sd_command_status.specs.Spec.{FileArgument, Readings, all_of, value, ◌>>=◌}
+use Rattle.sd_command_base.specs.declared.status.LimitKind.TheVariants.{TrialHeight}
+use Rattle.sd_command_base.specs.Spec.{FileArgument, Readings, all_of, value, ◌>>=◌}
 use Rattle.sd_ports.specs.Bytes.{prefix_of}
-use Rattle.sd_command_files.specs.Files.{book_of_file, low_site_of_file}
-use Rattle.sd_command_files.proofs.Others.{IsOther, other_after, other_book_file, other_low_site, other_stream}
+use Rattle.sd_command_base.specs.Files.{book_of_file, low_site_of_file}
+use Rattle.sd_command_base.proofs.Others.{IsOther, other_after, other_book_file, other_low_site, other_stream}
 use Rattle.sd_run_broadcasts.specs.Prefixes.{prefix_of_file}
 use Rattle.sd_run_broadcasts.specs.Trial.{most_clear_bytes, most_height, plan_by, trial_meaning, trying}
 

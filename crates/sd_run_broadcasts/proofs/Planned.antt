@@ -1,12 +1,12 @@
 -- A site and a book that were read, as a plan.
 use Rattle.std.proofs.Common.{◌≡◌, ℕ, ◌+◌, List, Option, Result, Ok, Err, refl, sym, ap, subst, inl, inr}
-use Rattle.sd_spec_broadcast.specs.Plan.{Plan}
-use Rattle.sd_command_status.specs.declared.status.Status.{Status}
-use Rattle.sd_command_status.specs.Outside.{DepotState}
-use Rattle.sd_command_status.specs.Spec.{Spec, FileArgument, and_then, value, ◌>>=◌}
-use Rattle.sd_command_status.specs.Reads.{StepOutcome, FilesOutcome}
-use Rattle.sd_command_files.specs.Files.{site_of_file, book_of_file}
-use Rattle.sd_command_files.specs.Both.{SiteBook, both_by, both_meaning}
+use Rattle.sd_spec.specs.Plan.{Plan}
+use Rattle.sd_command_base.specs.declared.status.Status.{Status}
+use Rattle.sd_command_base.specs.Outside.{DepotState}
+use Rattle.sd_command_base.specs.Spec.{Spec, FileArgument, and_then, value, ◌>>=◌}
+use Rattle.sd_command_base.specs.Reads.{StepOutcome, FilesOutcome}
+use Rattle.sd_command_base.specs.Files.{site_of_file, book_of_file}
+use Rattle.sd_command_base.specs.Both.{SiteBook, both_by, both_meaning}
 use Rattle.sd_run_broadcasts.specs.Head.{plan_by, plan_meaning}
 
 abbrev pub plan_of : SiteBook → Plan

@@ -12,12 +12,12 @@ use Rattle.sd_ports.specs.declared.prefix.ReadMostFault.{ReadMostFault}
 use Rattle.sd_ports.specs.declared.prefix.ReadMostFault.TheVariants as fault
 use Rattle.sd_engine.specs.Taken.{IsLeft}
 use Rattle.sd_engine.proofs.Taken.{some_left}
-use Rattle.sd_command_status.specs.declared.status.Status.{Status}
-use Rattle.sd_command_status.specs.declared.status.Status.TheVariants.{DepotFault, NoMemory}
-use Rattle.sd_command_status.specs.Outside.{DepotState, called}
-use Rattle.sd_command_status.specs.Reads.{IsAsked, StopCause, FileOutcome}
-use Rattle.sd_command_files.proofs.Looked.{opened_got}
-use Rattle.sd_command_files.proofs.Places.{only_called}
+use Rattle.sd_command_base.specs.declared.status.Status.{Status}
+use Rattle.sd_command_base.specs.declared.status.Status.TheVariants.{DepotFault, NoMemory}
+use Rattle.sd_command_base.specs.Outside.{DepotState, called}
+use Rattle.sd_command_base.specs.Reads.{IsAsked, StopCause, FileOutcome}
+use Rattle.sd_command_base.proofs.Looked.{opened_got}
+use Rattle.sd_command_base.proofs.Places.{only_called}
 use Rattle.sd_run_broadcasts.specs.Prefixes.{prefix_of_file, told_prefix}
 
 abbrev prefix : List ℕ → Bool → Prefix

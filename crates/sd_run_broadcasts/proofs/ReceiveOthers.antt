@@ -1,12 +1,12 @@
 -- `receive` never means `Usage`.
 use Rattle.std.proofs.Common.{ℕ, List, Option, Some, None}
-use Rattle.sd_card.specs.declared.fault.CardFault.{CardFault}
-use Rattle.sd_card.specs.Fields.{CardFields}
-use Rattle.sd_card.specs.Faults.{fault_in}
-use Rattle.sd_command_status.specs.declared.status.LimitKind.TheVariants.{CardBytes}
-use Rattle.sd_command_status.specs.Spec.{FileArgument, Readings, all_of, judged, value, within}
-use Rattle.sd_command_files.specs.Files.{most_card_bytes}
-use Rattle.sd_command_files.proofs.Others.{IsOther, other_after, other_file, other_stream}
+use Rattle.sd_site.specs.declared.card_fault.CardFault.{CardFault}
+use Rattle.sd_site.specs.CardFields.{CardFields}
+use Rattle.sd_site.specs.CardFaults.{fault_in}
+use Rattle.sd_command_base.specs.declared.status.LimitKind.TheVariants.{CardBytes}
+use Rattle.sd_command_base.specs.Spec.{FileArgument, Readings, all_of, judged, value, within}
+use Rattle.sd_command_base.specs.Files.{most_card_bytes}
+use Rattle.sd_command_base.proofs.Others.{IsOther, other_after, other_file, other_stream}
 use Rattle.sd_run_broadcasts.specs.Receive.{card_said, card_unless, told_card, card_of_file, receiving, stream_meaning}
 use Rattle.sd_run_broadcasts.specs.Receive.{receive_meaning}
 

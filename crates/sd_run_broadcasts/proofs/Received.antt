@@ -9,7 +9,7 @@ use Rattle.std.proofs.lemmas.List.Folds.{concat-append}
 use Rattle.std.specs.Io.KnownBytes.{Appends}
 use Rattle.std.proofs.KnownBytes.{Appends-trans}
 use Rattle.sd_base.proofs.Lists.{nothing_joined, reversed, first_none, rest_none}
-use Rattle.sd_card.specs.Fields.{CardFields}
+use Rattle.sd_site.specs.CardFields.{CardFields}
 use Rattle.sd_ports.specs.Bytes.{IsPrefix}
 use Rattle.sd_ports.proofs.Starts.{prefix_of_prefix, after_first, nothing_after}
 use Rattle.sd_engine.specs.Stage.{Chain}
@@ -19,22 +19,22 @@ use Rattle.sd_engine.specs.Taken.{DriveOutcomeOver}
 use Rattle.sd_engine.proofs.Taken.{least_of, is_over, all_few}
 use Rattle.sd_engine.specs.declared.driver.DriveFault.{DriveFault}
 use Rattle.sd_engine.specs.declared.driver.DriveFault.TheVariants as drive
-use Rattle.sd_spec_receiver.specs.declared.fault.StreamFault.{StreamFault}
-use Rattle.sd_spec_receiver.specs.declared.fault.StreamFault.TheVariants as fault
-use Rattle.sd_spec_receiver.specs.declared.ending.Ending.{Ending}
-use Rattle.sd_spec_receiver.specs.declared.ending.Ending.TheVariants as end
-use Rattle.sd_spec_receiver.specs.Tuned.{tuning_of}
-use Rattle.sd_spec_receiver.specs.Offered.{heard, offered, out_from, break_from}
-use Rattle.sd_spec_receiver.specs.Ending.{ending_of}
+use Rattle.sd_spec.specs.declared.stream_fault.StreamFault.{StreamFault}
+use Rattle.sd_spec.specs.declared.stream_fault.StreamFault.TheVariants as fault
+use Rattle.sd_spec.specs.declared.ending.Ending.{Ending}
+use Rattle.sd_spec.specs.declared.ending.Ending.TheVariants as end
+use Rattle.sd_spec.specs.Tuned.{tuning_of}
+use Rattle.sd_spec.specs.Offered.{heard, offered, out_from, break_from}
+use Rattle.sd_spec.specs.Ending.{ending_of}
 use Rattle.sd_receive.specs.declared.receiver.Receiver.{Receiver}
 use Rattle.sd_receive.specs.Receiving.{IsAfter, IsLive, card_in, steps_at, taken_keys, receiver_does}
 use Rattle.sd_receive.specs.Receiving.{receiver_ends, receiver_refuses}
 use Rattle.sd_receive.specs.Receiving.{OutcomeOf, BreakAt}
 use Rattle.sd_receive.proofs.Chained.{came_to_all, broke_at, out_joined, steps_more}
-use Rattle.sd_command_status.specs.declared.status.Status.{Status}
-use Rattle.sd_command_status.specs.declared.status.Status.TheVariants.{DepotFault}
-use Rattle.sd_command_status.specs.Outcome.{IsEnding}
-use Rattle.sd_command_files.specs.Turned.{Wrote, all_written, some_written}
+use Rattle.sd_command_base.specs.declared.status.Status.{Status}
+use Rattle.sd_command_base.specs.declared.status.Status.TheVariants.{DepotFault}
+use Rattle.sd_command_base.specs.Outcome.{IsEnding}
+use Rattle.sd_command_base.specs.Turned.{Wrote, all_written, some_written}
 use Rattle.sd_run_broadcasts.specs.Receive.{ended_status, ending_status, status_at, unless_refused, refused_status}
 use Rattle.sd_run_broadcasts.specs.Receive.{stopped_status, received_of, received_status, received_steps, ReceivesLeft}
 use Rattle.sd_run_broadcasts.specs.Receive.{upto_break}

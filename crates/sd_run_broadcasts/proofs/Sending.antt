@@ -1,12 +1,12 @@
 -- What a head end or a receiver writes over memory.
 use Rattle.std.proofs.Common.{◌≡◌, ◌≢◌, ℕ, true, false, List, [], length, Some, sym, ap}
 use Rattle.std.proofs.Common.{subst, ◌∙◌, inl, inr}
-use Rattle.sd_spec_broadcast.specs.Plan.{Plan}
-use Rattle.sd_command_status.specs.declared.status.Status.{Status}
-use Rattle.sd_command_status.specs.declared.status.Status.TheVariants.{DepotFault, NoMemory}
-use Rattle.sd_command_files.specs.Turned.{Wrote, all_written, some_written}
+use Rattle.sd_spec.specs.Plan.{Plan}
+use Rattle.sd_command_base.specs.declared.status.Status.{Status}
+use Rattle.sd_command_base.specs.declared.status.Status.TheVariants.{DepotFault, NoMemory}
+use Rattle.sd_command_base.specs.Turned.{Wrote, all_written, some_written}
 use Rattle.sd_run_broadcasts.specs.Head.{sent_of, sent_status, SendsLeft}
-use Rattle.sd_card.specs.Fields.{CardFields}
+use Rattle.sd_site.specs.CardFields.{CardFields}
 use Rattle.sd_run_broadcasts.specs.Receive.{received_of, received_status, ReceivesLeft}
 use Rattle.sd_run_broadcasts.specs.Trial.{HasHeard, HasSent, is_wanting}
 

@@ -1,14 +1,14 @@
 -- The lines of a trial.
 use Rattle.std.proofs.Common.{◌≡◌, ℕ, zero, suc, ◌+◌, ◌-◌, ◌^◌, ◌/◌, ◌<◌, Bool, List, length}
 use Rattle.std.proofs.Common.{Result, Ok, Err, sym, ap, subst, ◌∙◌, inl, inr, arith}
-use Rattle.sd_site.specs.Fields.{SiteFields}
-use Rattle.sd_card.specs.Fields.{CardFields, card_of}
-use Rattle.sd_spec_broadcast.specs.Plan.{Plan}
+use Rattle.sd_site.specs.SiteFields.{SiteFields}
+use Rattle.sd_site.specs.CardFields.{CardFields, card_of}
+use Rattle.sd_spec.specs.Plan.{Plan}
 use Rattle.sd_run_broadcasts.specs.Head.{sent_of, sent_status}
 use Rattle.sd_run_broadcasts.specs.Receive.{received_of}
 use Rattle.sd_ports.specs.Bytes.{Prefix}
-use Rattle.sd_command_status.specs.declared.status.Status.{Status}
-use Rattle.sd_command_files.specs.Printed.{MemoryOutcome}
+use Rattle.sd_command_base.specs.declared.status.Status.{Status}
+use Rattle.sd_command_base.specs.Printed.{MemoryOutcome}
 use Rattle.sd_run_broadcasts.specs.Trial.{AddsLine, HasHeard, HasSent, card_line, clear_line, trial_lines, lines_to}
 use Rattle.sd_run_broadcasts.specs.Trial.{receiver_line, sent_or, then_line, told_line, told_sent, trial_text}
 

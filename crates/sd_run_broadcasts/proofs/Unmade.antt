@@ -4,16 +4,16 @@ use Rattle.std.proofs.Common.{inr}
 use Rattle.std.specs.Prelude.{◌⊎◌}
 use Rattle.sd_engine.specs.declared.driver.DriveFault.{DriveFault}
 use Rattle.sd_engine.specs.declared.driver.DriveFault.TheVariants as drive
-use Rattle.sd_spec_receiver.specs.declared.fault.StreamFault.{StreamFault}
-use Rattle.sd_spec_receiver.specs.declared.fault.StreamFault.TheVariants as fault
-use Rattle.sd_command_status.specs.declared.status.Status.{Status}
-use Rattle.sd_command_status.specs.declared.status.Status.TheVariants.{NoMemory, BadClear, BadStream, DepotFault}
-use Rattle.sd_command_status.specs.Outcome.{status_of}
-use Rattle.sd_command_status.specs.Spec.{Spec, FileArgument}
-use Rattle.sd_command_status.specs.Outside.{DepotState}
-use Rattle.sd_command_status.specs.Reads.{FileOutcome, StepOutcome}
-use Rattle.sd_command_files.specs.Turned.{NotOpened, no_input, no_folder, stopped_first, stopped_then, unclosed_status}
-use Rattle.sd_command_files.specs.Turned.{unclosed_by}
+use Rattle.sd_spec.specs.declared.stream_fault.StreamFault.{StreamFault}
+use Rattle.sd_spec.specs.declared.stream_fault.StreamFault.TheVariants as fault
+use Rattle.sd_command_base.specs.declared.status.Status.{Status}
+use Rattle.sd_command_base.specs.declared.status.Status.TheVariants.{NoMemory, BadClear, BadStream, DepotFault}
+use Rattle.sd_command_base.specs.Outcome.{status_of}
+use Rattle.sd_command_base.specs.Spec.{Spec, FileArgument}
+use Rattle.sd_command_base.specs.Outside.{DepotState}
+use Rattle.sd_command_base.specs.Reads.{FileOutcome, StepOutcome}
+use Rattle.sd_command_base.specs.Turned.{NotOpened, no_input, no_folder, stopped_first, stopped_then, unclosed_status}
+use Rattle.sd_command_base.specs.Turned.{unclosed_by}
 use Rattle.sd_run_broadcasts.specs.Receive.{stopped_status}
 
 -- a drive is never stopped for memory

@@ -7,20 +7,20 @@ use Rattle.sd_engine.specs.declared.driver.DriveFault.{DriveFault}
 use Rattle.sd_engine.specs.declared.driver.DriveFault.TheVariants as drive
 use Rattle.sd_head.specs.declared.fault.HeadFault.{HeadFault}
 use Rattle.sd_head.specs.declared.fault.HeadFault.TheVariants as head
-use Rattle.sd_spec_broadcast.specs.Plan.{Plan}
-use Rattle.sd_spec_broadcast.specs.Refused.{refusal_from}
-use Rattle.sd_spec_broadcast.specs.Sent.{body, broadcast}
-use Rattle.sd_spec_broadcast.specs.declared.fault.ClearFault.{ClearFault}
-use Rattle.sd_spec_broadcast.specs.declared.fault.ClearFault.TheVariants as fault
-use Rattle.sd_command_status.specs.declared.status.Status.{Status}
-use Rattle.sd_command_status.specs.declared.status.Status.TheVariants.{Done, BadClear, DepotFault, NoMemory}
-use Rattle.sd_command_status.specs.declared.status.ClearCause.{ClearCause}
-use Rattle.sd_command_status.specs.declared.status.ClearCause.TheVariants.{Broken, AlreadyScrambled, PidTaken, PatForm}
-use Rattle.sd_command_status.specs.declared.status.ClearCause.TheVariants.{PmtForm, TooManyPids, TooLong}
-use Rattle.sd_command_status.specs.Spec.{Spec, FileArgument, Readings, all_of, value, ◌>>=◌}
-use Rattle.sd_command_status.specs.Work.{Uncounted, Work}
-use Rattle.sd_command_files.specs.Files.{site_of_file, book_of_file}
-use Rattle.sd_command_files.specs.Turned.{turning, Wrote}
+use Rattle.sd_spec.specs.Plan.{Plan}
+use Rattle.sd_spec.specs.Refused.{refusal_from}
+use Rattle.sd_spec.specs.Sent.{body, broadcast}
+use Rattle.sd_spec.specs.declared.clear_fault.ClearFault.{ClearFault}
+use Rattle.sd_spec.specs.declared.clear_fault.ClearFault.TheVariants as fault
+use Rattle.sd_command_base.specs.declared.status.Status.{Status}
+use Rattle.sd_command_base.specs.declared.status.Status.TheVariants.{Done, BadClear, DepotFault, NoMemory}
+use Rattle.sd_command_base.specs.declared.status.ClearCause.{ClearCause}
+use Rattle.sd_command_base.specs.declared.status.ClearCause.TheVariants.{Broken, AlreadyScrambled, PidTaken, PatForm}
+use Rattle.sd_command_base.specs.declared.status.ClearCause.TheVariants.{PmtForm, TooManyPids, TooLong}
+use Rattle.sd_command_base.specs.Spec.{Spec, FileArgument, Readings, all_of, value, ◌>>=◌}
+use Rattle.sd_command_base.specs.Work.{Uncounted, Work}
+use Rattle.sd_command_base.specs.Files.{site_of_file, book_of_file}
+use Rattle.sd_command_base.specs.Turned.{turning, Wrote}
 
 -- the packet that is refused
 abbrev pub packet_in : ClearFault → ℕ

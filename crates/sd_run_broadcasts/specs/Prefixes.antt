@@ -3,9 +3,9 @@ use Rattle.std.specs.Prelude.{ℕ, List, Option, Result, Ok, Err}
 use Rattle.sd_ports.specs.Bytes.{Prefix, prefix_of}
 use Rattle.sd_ports.specs.declared.prefix.ReadMostFault.{ReadMostFault}
 use Rattle.sd_ports.specs.declared.prefix.ReadMostFault.TheVariants as fault
-use Rattle.sd_command_status.specs.declared.status.Status.{Status}
-use Rattle.sd_command_status.specs.declared.status.Status.TheVariants.{DepotFault, NoMemory}
-use Rattle.sd_command_status.specs.Spec.{Spec, all_of, value, ◌>>=◌}
+use Rattle.sd_command_base.specs.declared.status.Status.{Status}
+use Rattle.sd_command_base.specs.declared.status.Status.TheVariants.{DepotFault, NoMemory}
+use Rattle.sd_command_base.specs.Spec.{Spec, all_of, value, ◌>>=◌}
 
 -- the first bytes of the file of argument `word`, at most `most`
 unfoldable pub prefix_of_file : ℕ → ℕ → Option (List ℕ) → Spec Prefix

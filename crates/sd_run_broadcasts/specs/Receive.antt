@@ -6,30 +6,30 @@ use Rattle.sd_engine.specs.Taken.{StreamEnd, Whole, Breaks, RunsOn, taken_of, en
 use Rattle.sd_engine.specs.Driving.{most_packets}
 use Rattle.sd_engine.specs.declared.driver.DriveFault.{DriveFault}
 use Rattle.sd_engine.specs.declared.driver.DriveFault.TheVariants as drive
-use Rattle.sd_card.specs.declared.file.TheConstants.{SECRET_BYTES}
-use Rattle.sd_card.specs.declared.format.TheConstants.{SECRETS_AT}
-use Rattle.sd_card.specs.declared.fault.CardFault.{CardFault}
-use Rattle.sd_card.specs.Faults.{height_in, leaf_in, ca_in, fault_in}
-use Rattle.sd_card.specs.Fields.{CardFields, saying}
-use Rattle.sd_spec_receiver.specs.declared.fault.StreamFault.{StreamFault}
-use Rattle.sd_spec_receiver.specs.declared.fault.StreamFault.TheVariants as fault
-use Rattle.sd_spec_receiver.specs.declared.ending.Ending.{Ending}
-use Rattle.sd_spec_receiver.specs.declared.ending.Ending.TheVariants as end
-use Rattle.sd_spec_receiver.specs.Offered.{offered, out_from, break_from}
-use Rattle.sd_spec_receiver.specs.Ending.{ending_of}
+use Rattle.sd_site.specs.declared.file.TheConstants.{SECRET_BYTES}
+use Rattle.sd_site.specs.declared.format.TheConstants.{SECRETS_AT}
+use Rattle.sd_site.specs.declared.card_fault.CardFault.{CardFault}
+use Rattle.sd_site.specs.CardFaults.{height_in, leaf_in, ca_in, fault_in}
+use Rattle.sd_site.specs.CardFields.{CardFields, saying}
+use Rattle.sd_spec.specs.declared.stream_fault.StreamFault.{StreamFault}
+use Rattle.sd_spec.specs.declared.stream_fault.StreamFault.TheVariants as fault
+use Rattle.sd_spec.specs.declared.ending.Ending.{Ending}
+use Rattle.sd_spec.specs.declared.ending.Ending.TheVariants as end
+use Rattle.sd_spec.specs.Offered.{offered, out_from, break_from}
+use Rattle.sd_spec.specs.Ending.{ending_of}
 use Rattle.sd_receive.specs.Receiving.{taken_keys}
-use Rattle.sd_command_status.specs.declared.status.Status.{Status}
-use Rattle.sd_command_status.specs.declared.status.Status.TheVariants.{Done, Revoked, DepotFault, BadCard, BadStream}
-use Rattle.sd_command_status.specs.declared.status.Status.TheVariants.{Unheard}
-use Rattle.sd_command_status.specs.declared.status.Status.TheVariants.{Unclosed, Gaps, NoCat}
-use Rattle.sd_command_status.specs.declared.status.StreamCause.TheVariants.{Broken, TooLong, WrongKey, WrongWord}
-use Rattle.sd_command_status.specs.declared.status.StreamCause.TheVariants.{BadEmm}
-use Rattle.sd_command_status.specs.declared.status.StreamCause.TheVariants.{BadEcm, Parity}
-use Rattle.sd_command_status.specs.declared.status.LimitKind.TheVariants.{CardBytes}
-use Rattle.sd_command_status.specs.Spec.{Spec, FileArgument, Readings, all_of, within, judged, value, ◌>>=◌}
-use Rattle.sd_command_status.specs.Work.{UpTo, Work}
-use Rattle.sd_command_files.specs.Files.{most_card_bytes}
-use Rattle.sd_command_files.specs.Turned.{turning, Wrote}
+use Rattle.sd_command_base.specs.declared.status.Status.{Status}
+use Rattle.sd_command_base.specs.declared.status.Status.TheVariants.{Done, Revoked, DepotFault, BadCard, BadStream}
+use Rattle.sd_command_base.specs.declared.status.Status.TheVariants.{Unheard}
+use Rattle.sd_command_base.specs.declared.status.Status.TheVariants.{Unclosed, Gaps, NoCat}
+use Rattle.sd_command_base.specs.declared.status.StreamCause.TheVariants.{Broken, TooLong, WrongKey, WrongWord}
+use Rattle.sd_command_base.specs.declared.status.StreamCause.TheVariants.{BadEmm}
+use Rattle.sd_command_base.specs.declared.status.StreamCause.TheVariants.{BadEcm, Parity}
+use Rattle.sd_command_base.specs.declared.status.LimitKind.TheVariants.{CardBytes}
+use Rattle.sd_command_base.specs.Spec.{Spec, FileArgument, Readings, all_of, within, judged, value, ◌>>=◌}
+use Rattle.sd_command_base.specs.Work.{UpTo, Work}
+use Rattle.sd_command_base.specs.Files.{most_card_bytes}
+use Rattle.sd_command_base.specs.Turned.{turning, Wrote}
 
 -- the first n secrets in these bytes
 unfoldable pub secrets_of : ℕ → List ℕ → List (List ℕ)

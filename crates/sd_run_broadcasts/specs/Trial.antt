@@ -3,17 +3,17 @@ use Rattle.std.specs.Prelude.{◌≡◌, ◌⊎◌, ◌^◌, ◌*◌, ◌/◌, �
 use Rattle.std.specs.Prelude.{codes, Option, Result, Ok, Err}
 use Rattle.std.specs.Fmt.{decimal}
 use Rattle.sd_ports.specs.Bytes.{Prefix}
-use Rattle.sd_site.specs.Fields.{SiteFields}
-use Rattle.sd_card.specs.Fields.{CardFields, card_of}
-use Rattle.sd_spec_broadcast.specs.Plan.{Plan}
-use Rattle.sd_command_status.specs.declared.status.Status.{Status}
-use Rattle.sd_command_status.specs.declared.status.Status.TheVariants.{Done, Revoked, DepotFault, Limit, NoMemory}
-use Rattle.sd_command_status.specs.declared.status.LimitKind.TheVariants.{TrialHeight, TrialPackets}
-use Rattle.sd_command_status.specs.Spec.{Spec, FileArgument, Readings, value, ◌>>=◌}
-use Rattle.sd_command_status.specs.Work.{Work}
-use Rattle.sd_command_status.specs.Outcome.{IsEnding}
-use Rattle.sd_command_files.specs.Files.{low_site_of_file, book_of_file}
-use Rattle.sd_command_files.specs.Printed.{printing}
+use Rattle.sd_site.specs.SiteFields.{SiteFields}
+use Rattle.sd_site.specs.CardFields.{CardFields, card_of}
+use Rattle.sd_spec.specs.Plan.{Plan}
+use Rattle.sd_command_base.specs.declared.status.Status.{Status}
+use Rattle.sd_command_base.specs.declared.status.Status.TheVariants.{Done, Revoked, DepotFault, Limit, NoMemory}
+use Rattle.sd_command_base.specs.declared.status.LimitKind.TheVariants.{TrialHeight, TrialPackets}
+use Rattle.sd_command_base.specs.Spec.{Spec, FileArgument, Readings, value, ◌>>=◌}
+use Rattle.sd_command_base.specs.Work.{Work}
+use Rattle.sd_command_base.specs.Outcome.{IsEnding}
+use Rattle.sd_command_base.specs.Files.{low_site_of_file, book_of_file}
+use Rattle.sd_command_base.specs.Printed.{printing}
 use Rattle.sd_run_broadcasts.specs.Head.{sent_of, sent_status}
 use Rattle.sd_run_broadcasts.specs.Receive.{received_of, received_status}
 use Rattle.sd_run_broadcasts.specs.Prefixes.{prefix_of_file}

@@ -1,15 +1,14 @@
 ghost use Rattle.std.specs.Prelude.{◌≡◌, ◌≢◌, []};
 ghost use Rattle.sd_head.specs.Staged.{plan_in, IsAfter};
-ghost use Rattle.sd_command_status.specs.Outside.{PageState, outside, depot_state};
-ghost use Rattle.sd_command_status.specs.Outcome.{Implements, status_of};
+ghost use Rattle.sd_command_base.specs.Outside.{PageState, outside, depot_state};
+ghost use Rattle.sd_command_base.specs.Outcome.{Implements, status_of};
 ghost use Rattle.sd_run_broadcasts.specs.Head.{head_meaning, refusal_in, refused_status};
 ghost use Rattle.sd_run_broadcasts.specs.Head.{sent_told, SendsLeft};
-ghost use Rattle.sd_command_files.specs.Turned.{HasPortCause};
-ghost use Rattle.sd_command_files.specs.Shown.{shown_word};
+ghost use Rattle.sd_command_base.specs.Turned.{HasPortCause};
+ghost use Rattle.sd_command_base.specs.Shown.{shown_word};
 
 use sd_base::Steps;
-use sd_command_files::{Word, close_both, open_both, read_both};
-use sd_command_status::{ClearCause, Status};
+use sd_command_base::{ClearCause, Status, Word, close_both, open_both, read_both};
 use sd_engine::{DriveFault, MOST_PACKETS, drive};
 use sd_head::{ClearFault, Head, HeadFault};
 use sd_ports::{Depot, Sink, Source};

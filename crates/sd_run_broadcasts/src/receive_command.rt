@@ -1,25 +1,26 @@
 ghost use Rattle.std.specs.Prelude.{◌≡◌, ◌≢◌, [], List, ℕ, IfOk, length, reverse};
 ghost use Rattle.sd_engine.specs.Stage.{vessel};
 ghost use Rattle.sd_engine.specs.Driving.{moment, DriveOutcome};
-ghost use Rattle.sd_spec_receiver.specs.Offered.{out_from};
-ghost use Rattle.sd_spec_receiver.specs.Ending.{ending_of};
+ghost use Rattle.sd_spec.specs.Offered.{out_from};
+ghost use Rattle.sd_spec.specs.Ending.{ending_of};
 ghost use Rattle.sd_receive.specs.Receiving.{IsAfter, card_in, receiver_does, receiver_ends, receiver_refuses};
-ghost use Rattle.sd_command_status.specs.Outside.{PageState, outside, depot_state};
-ghost use Rattle.sd_command_status.specs.Reads.{JudgedOutcome, FileOutcome};
-ghost use Rattle.sd_command_status.specs.Outcome.{Implements, IsEnding, status_of};
-ghost use Rattle.sd_command_files.specs.Turned.{HasPortCause};
+ghost use Rattle.sd_command_base.specs.Outside.{PageState, outside, depot_state};
+ghost use Rattle.sd_command_base.specs.Reads.{JudgedOutcome, FileOutcome};
+ghost use Rattle.sd_command_base.specs.Outcome.{Implements, IsEnding, status_of};
+ghost use Rattle.sd_command_base.specs.Turned.{HasPortCause};
 ghost use Rattle.sd_run_broadcasts.specs.Receive.{ReceivesLeft, card_of_file, told_card, receive_meaning};
 ghost use Rattle.sd_run_broadcasts.specs.Receive.{stream_meaning};
 ghost use Rattle.sd_run_broadcasts.specs.Receive.{ending_status, refused_status, stopped_status};
-ghost use Rattle.sd_command_files.specs.Shown.{shown_word};
+ghost use Rattle.sd_command_base.specs.Shown.{shown_word};
 
 use sd_base::Steps;
-use sd_card::Card;
-use sd_command_files::{Word, card_fault, close_both, open_both, read_card_bytes};
-use sd_command_status::{Status, StreamCause};
+use sd_command_base::{
+    Status, StreamCause, Word, card_fault, close_both, open_both, read_card_bytes,
+};
 use sd_engine::{DriveFault, MOST_PACKETS, drive};
 use sd_ports::{Depot, Sink, Source};
 use sd_receive::{Ending, Receiver, StreamFault};
+use sd_site::Card;
 use std::alloc::Global;
 use std::sync::ledger::Ledger;
 

@@ -1,9 +1,9 @@
 ghost use Rattle.std.specs.Prelude.{◌≡◌, ◌≢◌, string_bytes};
 ghost use Rattle.sd_head.specs.Kept.{plan_of};
-ghost use Rattle.sd_command_status.specs.Outside.{outside, page_state, depot_state};
-ghost use Rattle.sd_command_status.specs.Outcome.{Implements, status_of};
-ghost use Rattle.sd_command_files.specs.Shown.{shown_word};
-ghost use Rattle.sd_command_files.specs.Printed.{MemoryOutcome};
+ghost use Rattle.sd_command_base.specs.Outside.{outside, page_state, depot_state};
+ghost use Rattle.sd_command_base.specs.Outcome.{Implements, status_of};
+ghost use Rattle.sd_command_base.specs.Shown.{shown_word};
+ghost use Rattle.sd_command_base.specs.Printed.{MemoryOutcome};
 ghost use Rattle.sd_run_broadcasts.specs.Trial.{trial_meaning, trial_text};
 
 use crate::trial_lines::lines;
@@ -12,8 +12,7 @@ use crate::trial_prefix::read_prefix;
 use crate::trial_send::sent_for;
 use sd_base::Steps;
 use sd_book::Book;
-use sd_command_files::{Word, print_text};
-use sd_command_status::Status;
+use sd_command_base::{Status, Word, print_text};
 use sd_packet::SIZE;
 use sd_ports::{Depot, Sink, Taken};
 use sd_site::Site;

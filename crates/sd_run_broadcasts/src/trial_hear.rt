@@ -5,7 +5,7 @@ ghost use Rattle.sd_run_broadcasts.specs.Trial.{HasHeard};
 use crate::receive_all;
 use crate::trial_send::{settled, wants_memory};
 use sd_base::{NoMemory, Steps};
-use sd_command_status::Status;
+use sd_command_base::Status;
 use sd_ports::{MemSink, SliceSource};
 use sd_receive::Receiver;
 use std::alloc::Global;

@@ -1,16 +1,15 @@
 ghost use Rattle.std.specs.Prelude.{◌≡◌, ◌^◌, ◌<◌, ◌/◌, string_bytes, length, IfOk};
-ghost use Rattle.sd_site.specs.Fields.{fields_of};
-ghost use Rattle.sd_command_status.specs.Outcome.{IsEnding};
-ghost use Rattle.sd_command_files.specs.Printed.{MemoryOutcome};
+ghost use Rattle.sd_site.specs.SiteFields.{fields_of};
+ghost use Rattle.sd_command_base.specs.Outcome.{IsEnding};
+ghost use Rattle.sd_command_base.specs.Printed.{MemoryOutcome};
 ghost use Rattle.sd_run_broadcasts.specs.Trial.{AddsLine, clear_line, lines_to, receiver_line, told_line};
 
 use crate::trial_hear::hear;
 use sd_base::Steps;
-use sd_card::Card;
-use sd_command_status::Status;
+use sd_command_base::Status;
 use sd_packet::SIZE;
 use sd_receive::Receiver;
-use sd_site::Site;
+use sd_site::{Card, Site};
 use sd_tree::Leaf;
 use std::alloc::{AllocError, Global};
 use std::fmt::Write;

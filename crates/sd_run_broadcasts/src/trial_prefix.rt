@@ -1,10 +1,9 @@
 ghost use Rattle.std.specs.Prelude.{◌≡◌};
-ghost use Rattle.sd_command_status.specs.Outside.{depot_state};
-ghost use Rattle.sd_command_status.specs.Reads.{FileOutcome};
+ghost use Rattle.sd_command_base.specs.Outside.{depot_state};
+ghost use Rattle.sd_command_base.specs.Reads.{FileOutcome};
 ghost use Rattle.sd_run_broadcasts.specs.Prefixes.{prefix_of_file, told_prefix};
 
-use sd_command_files::{Word, opening_fault};
-use sd_command_status::Status;
+use sd_command_base::{Status, Word, opening_fault};
 use sd_ports::{Depot, ReadMostFault, Taken, read_most};
 use std::alloc::Global;
 

@@ -1,13 +1,13 @@
 ghost use Rattle.std.specs.Prelude.{◌≡◌, IfOk};
 ghost use Rattle.sd_head.specs.Kept.{plan_of};
-ghost use Rattle.sd_command_status.specs.Outcome.{IsEnding, status_of};
-ghost use Rattle.sd_command_files.specs.Printed.{MemoryOutcome};
+ghost use Rattle.sd_command_base.specs.Outcome.{IsEnding, status_of};
+ghost use Rattle.sd_command_base.specs.Printed.{MemoryOutcome};
 ghost use Rattle.sd_run_broadcasts.specs.Trial.{HasSent, is_wanting, sent_or, told_sent};
 
 use crate::send;
 use sd_base::{NoMemory, Steps};
 use sd_book::Book;
-use sd_command_status::{LimitKind, Status};
+use sd_command_base::{LimitKind, Status};
 use sd_head::Head;
 use sd_packet::SIZE;
 use sd_ports::{MemSink, SliceSource, Taken};

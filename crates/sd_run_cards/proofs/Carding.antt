@@ -1,13 +1,13 @@
 -- A card that was not made.
 use Rattle.std.proofs.Common.{◌≡◌, ◌⊎◌, ℕ, List, Result, Ok, Err, refl, ap, subst, inl, inr, arith}
-use Rattle.sd_command_status.specs.declared.status.Status.{Status}
-use Rattle.sd_command_status.specs.declared.status.Status.TheVariants.{NoMemory}
-use Rattle.sd_command_status.specs.Outside.{DepotState, PageState, outside, called}
-use Rattle.sd_command_status.specs.Spec.{FileArgument, judged, value, ◌>>=◌}
-use Rattle.sd_command_status.specs.Work.{Uncounted, TakesSteps}
-use Rattle.sd_command_status.specs.Outcome.{IsRefusal, IsEnding, Outcome, refused, exhausted, untouched, OutcomeWithin}
-use Rattle.sd_command_status.specs.Reads.{TakesFor}
-use Rattle.sd_command_files.specs.Made.{making}
+use Rattle.sd_command_base.specs.declared.status.Status.{Status}
+use Rattle.sd_command_base.specs.declared.status.Status.TheVariants.{NoMemory}
+use Rattle.sd_command_base.specs.Outside.{DepotState, PageState, outside, called}
+use Rattle.sd_command_base.specs.Spec.{FileArgument, judged, value, ◌>>=◌}
+use Rattle.sd_command_base.specs.Work.{Uncounted, TakesSteps}
+use Rattle.sd_command_base.specs.Outcome.{IsRefusal, IsEnding, Outcome, refused, exhausted, untouched, OutcomeWithin}
+use Rattle.sd_command_base.specs.Reads.{TakesFor}
+use Rattle.sd_command_base.specs.Made.{making}
 
 taken : (meant : Result (List ℕ) Status) (out : FileArgument) (before now : ℕ) → TakesFor meant before now →
     TakesSteps (judged meant >>= λ bytes. value (making Uncounted out bytes)).result before now

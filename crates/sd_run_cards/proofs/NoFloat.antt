@@ -1,4 +1,4 @@
--- Nothing that is shown is a float.
+-- Nothing that is shown of a card is a float.
 use Rattle.std.proofs.Common.{ℕ, ◌≡◌, false, List, refl}
 use Rattle.serde_json.specs.Written.{has_float}
 use Rattle.sd_run_cards.specs.Show.{shown_data}

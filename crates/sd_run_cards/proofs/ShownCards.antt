@@ -1,15 +1,15 @@
 -- The line of a card's file that was read.
 use Rattle.std.proofs.Common.{◌≡◌, ◌⊎◌, ℕ, List, Option, None, Ok, Err, refl, sym, ap, subst, ◌∙◌, inl, inr}
-use Rattle.sd_card.specs.Files.{check_in}
-use Rattle.sd_card.specs.declared.fault.CardFault.{CardFault}
-use Rattle.sd_card.specs.declared.fault.CardFault.TheVariants as fault
-use Rattle.sd_card.specs.Faults.{height_in, leaf_in, ca_in, fault_in, IsFaultOf}
-use Rattle.sd_card.specs.Fields.{CardFields, IsCard, card_bytes}
-use Rattle.sd_card.proofs.Spellings.{height_written, leaf_written, ca_written}
-use Rattle.sd_command_status.specs.declared.status.Status.{Status}
-use Rattle.sd_command_status.specs.declared.status.Status.TheVariants.{BadCard, NoMemory}
-use Rattle.sd_command_status.specs.Outcome.{IsRefusal, IsEnding}
-use Rattle.sd_command_files.specs.Files.{refused_card}
+use Rattle.sd_site.specs.Files.{check_in}
+use Rattle.sd_site.specs.declared.card_fault.CardFault.{CardFault}
+use Rattle.sd_site.specs.declared.card_fault.CardFault.TheVariants as fault
+use Rattle.sd_site.specs.CardFaults.{height_in, leaf_in, ca_in, fault_in, IsFaultOf}
+use Rattle.sd_site.specs.CardFields.{CardFields, IsCard, card_bytes}
+use Rattle.sd_site.proofs.Spellings.{height_written, leaf_written, ca_written}
+use Rattle.sd_command_base.specs.declared.status.Status.{Status}
+use Rattle.sd_command_base.specs.declared.status.Status.TheVariants.{BadCard, NoMemory}
+use Rattle.sd_command_base.specs.Outcome.{IsRefusal, IsEnding}
+use Rattle.sd_command_base.specs.Files.{refused_card}
 use Rattle.sd_run_cards.specs.Show.{card_line, line_unless, shown_line, told_show}
 
 -- the line of a card is that of its file's bytes

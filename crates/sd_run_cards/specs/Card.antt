@@ -1,14 +1,14 @@
 -- Public meaning: `card SITE LEAF OUT` [this project, docs/FORMATS.md, Card].
 use Rattle.std.specs.Prelude.{ℕ, ◌^◌, nat_lt, List, if◌then◌else◌, Result, Ok, Err}
-use Rattle.sd_site.specs.Fields.{SiteFields}
-use Rattle.sd_card.specs.Fields.{card_of, card_bytes}
-use Rattle.sd_command_status.specs.declared.status.Status.{Status}
-use Rattle.sd_command_status.specs.declared.status.Status.TheVariants.{BadWord}
-use Rattle.sd_command_status.specs.Spec.{Spec, FileArgument, Readings, value, judged, ◌>>=◌}
-use Rattle.sd_command_status.specs.Work.{Uncounted, Work}
-use Rattle.sd_command_files.specs.Shown.{NumberArgument}
-use Rattle.sd_command_files.specs.Files.{site_in}
-use Rattle.sd_command_files.specs.Made.{making}
+use Rattle.sd_site.specs.SiteFields.{SiteFields}
+use Rattle.sd_site.specs.CardFields.{card_of, card_bytes}
+use Rattle.sd_command_base.specs.declared.status.Status.{Status}
+use Rattle.sd_command_base.specs.declared.status.Status.TheVariants.{BadWord}
+use Rattle.sd_command_base.specs.Spec.{Spec, FileArgument, Readings, value, judged, ◌>>=◌}
+use Rattle.sd_command_base.specs.Work.{Uncounted, Work}
+use Rattle.sd_command_base.specs.Shown.{NumberArgument}
+use Rattle.sd_command_base.specs.Files.{site_in}
+use Rattle.sd_command_base.specs.Made.{making}
 
 -- the bytes of the card of a site's leaf, which is to be one of its tree
 abbrev pub told_card : SiteFields → NumberArgument → Result (List ℕ) Status

@@ -1,14 +1,14 @@
 -- Public meaning: `lcard SITE LEAF WIDTH OUT` [this project, docs/FORMATS.md, Layer card].
 use Rattle.std.specs.Prelude.{ℕ, ◌^◌, ◌&&◌, nat_lt, nat_le, if◌then◌else◌, Result, Ok, Err}
-use Rattle.sd_site.specs.Fields.{SiteFields}
+use Rattle.sd_site.specs.SiteFields.{SiteFields}
 use Rattle.sd_lsd.specs.Fields.{layer_card_of, layer_bytes}
-use Rattle.sd_command_status.specs.declared.status.Status.{Status}
-use Rattle.sd_command_status.specs.declared.status.Status.TheVariants.{BadWord}
-use Rattle.sd_command_status.specs.Spec.{Spec, FileArgument, Readings, value, judged, ◌>>=◌}
-use Rattle.sd_command_status.specs.Work.{Uncounted, Work}
-use Rattle.sd_command_files.specs.Shown.{NumberArgument}
-use Rattle.sd_command_files.specs.Files.{site_in}
-use Rattle.sd_command_files.specs.Made.{making}
+use Rattle.sd_command_base.specs.declared.status.Status.{Status}
+use Rattle.sd_command_base.specs.declared.status.Status.TheVariants.{BadWord}
+use Rattle.sd_command_base.specs.Spec.{Spec, FileArgument, Readings, value, judged, ◌>>=◌}
+use Rattle.sd_command_base.specs.Work.{Uncounted, Work}
+use Rattle.sd_command_base.specs.Shown.{NumberArgument}
+use Rattle.sd_command_base.specs.Files.{site_in}
+use Rattle.sd_command_base.specs.Made.{making}
 
 -- the leaf of this number, which is to be one of a tree of height d
 abbrev pub told_leaf : ℕ → NumberArgument → Result ℕ Status

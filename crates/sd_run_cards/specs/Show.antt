@@ -1,18 +1,17 @@
 -- Public meaning: `show CARD` [this project, docs/FORMATS.md, Card].
 use Rattle.std.specs.Prelude.{ℕ, ◌+◌, ◌*◌, ◌/◌, List, [], ◌∷◌, ◌++◌, codes, Option, Some, None, Result, Ok, Err}
 use Rattle.hex.specs.Hex.{encode_lower}
-use Rattle.serde_json.specs.Data.{Data, string, object, member, no_members}
+use Rattle.serde_json.specs.Data.{Data, number, unsigned, string, object, member, no_members}
 use Rattle.serde_json.specs.Written.{compact_text}
-use Rattle.sd_card.specs.declared.fault.CardFault.{CardFault}
-use Rattle.sd_card.specs.Faults.{height_in, leaf_in, ca_in, fault_in}
-use Rattle.sd_tables.specs.Lines.{num}
-use Rattle.sd_card.specs.Files.{check_in}
-use Rattle.sd_command_status.specs.declared.status.Status.{Status}
-use Rattle.sd_command_status.specs.declared.status.Status.TheVariants.{BadCard}
-use Rattle.sd_command_status.specs.declared.status.LimitKind.TheVariants.{CardBytes}
-use Rattle.sd_command_status.specs.Spec.{Spec, FileArgument, Readings, within, judged, value, ◌>>=◌}
-use Rattle.sd_command_status.specs.Work.{Work, work_of_text}
-use Rattle.sd_command_files.specs.Files.{most_card_bytes}
+use Rattle.sd_site.specs.declared.card_fault.CardFault.{CardFault}
+use Rattle.sd_site.specs.CardFaults.{height_in, leaf_in, ca_in, fault_in}
+use Rattle.sd_site.specs.Files.{check_in}
+use Rattle.sd_command_base.specs.declared.status.Status.{Status}
+use Rattle.sd_command_base.specs.declared.status.Status.TheVariants.{BadCard}
+use Rattle.sd_command_base.specs.declared.status.LimitKind.TheVariants.{CardBytes}
+use Rattle.sd_command_base.specs.Spec.{Spec, FileArgument, Readings, within, judged, value, ◌>>=◌}
+use Rattle.sd_command_base.specs.Work.{Work, work_of_text}
+use Rattle.sd_command_base.specs.Files.{most_card_bytes}
 
 -- the number of labels in a card at height d, the key of the whole set not among them [Naor, Naor, Lotspiech 2001, 3.2]
 abbrev pub labels_for : ℕ → ℕ
@@ -24,10 +23,10 @@ unfoldable pub shown_data : ℕ → ℕ → ℕ → List ℕ → Data
 shown_data height leaf ca check = object
     (member (codes "card") (string (codes "plain"))
     (member (codes "check") (string (encode_lower check))
-    (member (codes "height") (num height)
-    (member (codes "labels") (num (labels_for height))
-    (member (codes "leaf") (num leaf)
-    (member (codes "system") (num ca)
+    (member (codes "height") (number (unsigned height))
+    (member (codes "labels") (number (unsigned (labels_for height)))
+    (member (codes "leaf") (number (unsigned leaf))
+    (member (codes "system") (number (unsigned ca))
     no_members))))))
 
 -- its line: compact JSON with the keys in ascending order, and a line feed

@@ -1,19 +1,17 @@
 //! `card SITE LEAF OUT`: the card of a site's leaf.
 
 ghost use Rattle.std.specs.Prelude.{◌≡◌};
-ghost use Rattle.sd_site.specs.Fields.{fields_of};
-ghost use Rattle.sd_command_status.specs.Outside.{PageState, depot_state, outside};
-ghost use Rattle.sd_command_status.specs.Reads.{JudgedOutcome, TakesFor};
-ghost use Rattle.sd_command_status.specs.Outcome.{Implements, status_of};
+ghost use Rattle.sd_site.specs.SiteFields.{fields_of};
+ghost use Rattle.sd_command_base.specs.Outside.{PageState, depot_state, outside};
+ghost use Rattle.sd_command_base.specs.Reads.{JudgedOutcome, TakesFor};
+ghost use Rattle.sd_command_base.specs.Outcome.{Implements, status_of};
 ghost use Rattle.sd_run_cards.specs.Card.{card_meaning, told_card};
-ghost use Rattle.sd_command_files.specs.Shown.{shown_word, shown_number};
+ghost use Rattle.sd_command_base.specs.Shown.{shown_word, shown_number};
 
 use sd_base::Steps;
-use sd_card::Card;
-use sd_command_files::{Number, Word, make_file, read_site};
-use sd_command_status::Status;
+use sd_command_base::{Number, Status, Word, make_file, read_site};
 use sd_ports::Depot;
-use sd_site::Site;
+use sd_site::{Card, Site};
 use sd_tree::Leaf;
 use std::alloc::Global;
 use std::sync::ledger::Ledger;

@@ -2,15 +2,14 @@
 
 ghost use Rattle.std.specs.Prelude.{◌≡◌, ◌^◌, ◌<◌, ◌≤◌, IfOk, IfErr};
 ghost use Rattle.sd_lsd.specs.Fields.{layer_card_of, layer_bytes};
-ghost use Rattle.sd_command_status.specs.Outside.{PageState, depot_state, outside};
-ghost use Rattle.sd_command_status.specs.Reads.{SureOutcome};
-ghost use Rattle.sd_command_status.specs.Outcome.{Implements, status_of};
-ghost use Rattle.sd_command_files.specs.Shown.{shown_word, shown_number};
+ghost use Rattle.sd_command_base.specs.Outside.{PageState, depot_state, outside};
+ghost use Rattle.sd_command_base.specs.Reads.{SureOutcome};
+ghost use Rattle.sd_command_base.specs.Outcome.{Implements, status_of};
+ghost use Rattle.sd_command_base.specs.Shown.{shown_word, shown_number};
 ghost use Rattle.sd_run_cards.specs.Lcard.{lcard_meaning, told_leaf, told_width};
 
 use sd_base::Steps;
-use sd_command_files::{Number, Word, make_file, read_site};
-use sd_command_status::Status;
+use sd_command_base::{Number, Status, Word, make_file, read_site};
 use sd_lsd::{LayerCard, Width};
 use sd_ports::Depot;
 use sd_site::Site;

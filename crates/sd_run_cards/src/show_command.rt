@@ -1,17 +1,16 @@
 //! `show CARD`: what a card's file is, without its keys.
 
 ghost use Rattle.std.specs.Prelude.{◌≡◌, ℕ, string_bytes};
-ghost use Rattle.sd_command_status.specs.Outside.{outside, page_state, depot_state};
-ghost use Rattle.sd_command_status.specs.Reads.{JudgedOutcome, FileOutcome};
-ghost use Rattle.sd_command_status.specs.Outcome.{Implements, status_of};
-ghost use Rattle.sd_command_files.specs.Shown.{shown_word};
+ghost use Rattle.sd_command_base.specs.Outside.{outside, page_state, depot_state};
+ghost use Rattle.sd_command_base.specs.Reads.{JudgedOutcome, FileOutcome};
+ghost use Rattle.sd_command_base.specs.Outcome.{Implements, status_of};
+ghost use Rattle.sd_command_base.specs.Shown.{shown_word};
 ghost use Rattle.sd_run_cards.specs.Show.{line_of_file, show_meaning, told_show};
 
 use crate::show_line::line_of;
-use sd_card::Card;
-use sd_command_files::{Word, card_fault, print_text, read_card_bytes};
-use sd_command_status::Status;
+use sd_command_base::{Status, Word, card_fault, print_text, read_card_bytes};
 use sd_ports::{Depot, Sink};
+use sd_site::Card;
 use std::alloc::Global;
 
 /// Does `show CARD`.

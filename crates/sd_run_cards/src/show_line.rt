@@ -1,10 +1,10 @@
 ghost use Rattle.std.specs.Prelude.{◌≡◌, ◌*◌, ◌+◌, ◌/◌, IfOk, string_bytes};
 ghost use Rattle.serde_json.specs.View.{view};
-ghost use Rattle.sd_card.specs.Files.{check_in as check_of_file};
-ghost use Rattle.sd_card.specs.Fields.{fields_of};
+ghost use Rattle.sd_site.specs.Files.{check_in as check_of_file};
+ghost use Rattle.sd_site.specs.CardFields.{card_fields_of};
 ghost use Rattle.sd_run_cards.specs.Show.{labels_for, shown_data, shown_line};
 
-use sd_card::{CHECK_BYTES, Card};
+use sd_site::{CHECK_BYTES, Card};
 use sd_tree::Height;
 use serde_json::{Value, json};
 use std::alloc::{AllocError, Global};
@@ -47,7 +47,7 @@ fn label_count(h: Height) -> u32
 }
 
 // The check at a file's end.
-#[tactic(auto, unfolding(sd_card::specs::Files::check_in))]
+#[tactic(auto, unfolding(sd_site::specs::Files::check_in))]
 fn check_in(bytes: &[u8]) -> &[u8]
     ensures { result.now ≡ check_of_file bytes.now }
 {

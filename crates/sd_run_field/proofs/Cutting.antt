@@ -9,9 +9,9 @@ use Rattle.sd_engine.specs.declared.fault.StreamBreak.{StreamBreak}
 use Rattle.sd_engine.specs.declared.fault.BreakCause.{BreakCause}
 use Rattle.sd_engine.specs.declared.fault.BreakCause.TheVariants.{Torn, NoSync}
 use Rattle.sd_engine.proofs.Walking.{none_at_end, no_piece, torn_here, no_sync_here, packets_more, break_after_more}
-use Rattle.sd_command_status.specs.declared.status.Status.TheVariants.{Limit}
-use Rattle.sd_command_status.specs.declared.status.LimitKind.{LimitKind}
-use Rattle.sd_command_status.specs.Spec.{within}
+use Rattle.sd_command_base.specs.declared.status.Status.TheVariants.{Limit}
+use Rattle.sd_command_base.specs.declared.status.LimitKind.{LimitKind}
+use Rattle.sd_command_base.specs.Spec.{within}
 use Rattle.sd_run_field.specs.Clear.{BeginsWithPacket, broken_status}
 use Rattle.sd_run_field.specs.Field.{most_clear_bytes, told_clear, unbroken}
 

@@ -2,15 +2,15 @@
 use Rattle.std.proofs.Common.{ℕ, List, Option, Some, None, Result, Ok, Err}
 use Rattle.sd_engine.specs.Stream.{packets_of, break_of}
 use Rattle.sd_engine.specs.declared.fault.StreamBreak.{StreamBreak}
-use Rattle.sd_spec_field.specs.declared.event.Event.{Event}
+use Rattle.sd_spec.specs.declared.event.Event.{Event}
 use Rattle.sd_field.specs.Script.{script_of}
 use Rattle.sd_field.specs.declared.fault.ScriptFault.{ScriptFault}
 use Rattle.sd_field.specs.declared.fault.ScriptFault.TheVariants as script
-use Rattle.sd_command_status.specs.declared.status.LimitKind.TheVariants.{BookBytes, FieldHeight, FieldPackets}
-use Rattle.sd_command_status.specs.Spec.{FileArgument, Readings, judged, value, within, ◌>>=◌}
-use Rattle.sd_command_files.specs.Files.{low_site_of_file, most_book_bytes}
-use Rattle.sd_command_files.specs.Printed.{printing}
-use Rattle.sd_command_files.proofs.Others.{IsOther, other_after, other_file, other_low_site}
+use Rattle.sd_command_base.specs.declared.status.LimitKind.TheVariants.{BookBytes, FieldHeight, FieldPackets}
+use Rattle.sd_command_base.specs.Spec.{FileArgument, Readings, judged, value, within, ◌>>=◌}
+use Rattle.sd_command_base.specs.Files.{low_site_of_file, most_book_bytes}
+use Rattle.sd_command_base.specs.Printed.{printing}
+use Rattle.sd_command_base.proofs.Others.{IsOther, other_after, other_file, other_low_site}
 use Rattle.sd_run_field.specs.Field.{clear_of_file, field_meaning, field_text, inputs_by, most_clear_bytes}
 use Rattle.sd_run_field.specs.Field.{most_height, script_of_file, told_clear, told_script, unbroken}
 

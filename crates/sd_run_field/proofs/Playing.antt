@@ -3,15 +3,15 @@ use Rattle.std.proofs.Common.{arith, ◌≡◌, ℕ, ◌<◌, ◌≤◌, Bool, t
 use Rattle.std.proofs.Common.{length, take, Ok, Err, Result}
 use Rattle.std.specs.Prelude.{◌↔◌, reverse, slice_get, Option, Some, None, option_and_then}
 use Rattle.std.proofs.lemmas.Option.{slice_get_within}
-use Rattle.sd_spec_broadcast.specs.Refused.{refusal_from}
-use Rattle.sd_spec_broadcast.specs.declared.fault.ClearFault.{ClearFault}
-use Rattle.sd_spec_field.specs.declared.event.Event.{Event}
-use Rattle.sd_spec_field.specs.Book.{sends}
+use Rattle.sd_spec.specs.Refused.{refusal_from}
+use Rattle.sd_spec.specs.declared.clear_fault.ClearFault.{ClearFault}
+use Rattle.sd_spec.specs.declared.event.Event.{Event}
+use Rattle.sd_spec.specs.Book.{sends}
 use Rattle.sd_field.specs.declared.fault.FieldFault.{FieldFault}
 use Rattle.sd_field.specs.declared.fault.FieldFault.TheVariants.{Clear}
 use Rattle.sd_field.specs.Fields.{FieldValue, after_next, next_refusal, refusal_at, taken}
 use Rattle.sd_field.proofs.Refused.{goes_on_clear, stops_at_first}
-use Rattle.sd_command_status.specs.declared.status.Status.{Status}
+use Rattle.sd_command_base.specs.declared.status.Status.{Status}
 use Rattle.sd_run_field.specs.Played.{EventOutcome, PlayOutcome, all_done}
 
 -- The loop over the events.

@@ -5,13 +5,13 @@ use Rattle.std.specs.Prelude.{None, Option}
 use Rattle.std.specs.List.{concat}
 use Rattle.sd_book.specs.declared.command.Command.{Command}
 use Rattle.sd_book.specs.Commands.{last_period}
-use Rattle.sd_spec_broadcast.specs.Sent.{body}
-use Rattle.sd_spec_broadcast.specs.declared.fault.ClearFault.{ClearFault}
+use Rattle.sd_spec.specs.Sent.{body}
+use Rattle.sd_spec.specs.declared.clear_fault.ClearFault.{ClearFault}
 use Rattle.sd_field.specs.Fields.{FieldValue, IsSentCut, plan_in, sends_of, taken, written_of}
 use Rattle.sd_field.proofs.Fields.{unsent}
-use Rattle.sd_command_status.specs.declared.status.Status.{Status}
-use Rattle.sd_command_status.specs.Outcome.{IsEnding}
-use Rattle.sd_command_files.specs.Printed.{MemoryOutcome}
+use Rattle.sd_command_base.specs.declared.status.Status.{Status}
+use Rattle.sd_command_base.specs.Outcome.{IsEnding}
+use Rattle.sd_command_base.specs.Printed.{MemoryOutcome}
 use Rattle.sd_run_field.specs.Field.{digest_of, first_line, lines_to, receiver_line, text_in}
 use Rattle.sd_run_field.specs.Field.{unrefused, wrote_line}
 use Rattle.sd_run_field.specs.Played.{PlayOutcome, all_done}

@@ -2,9 +2,9 @@
 use Rattle.std.specs.Prelude.{◌≡◌, ◌≢◌, ◌≤◌, ◌<◌, ℕ, List, length, take, slice_index, Result, Ok, Err}
 use Rattle.sd_engine.specs.declared.fault.BreakCause.{BreakCause}
 use Rattle.sd_engine.specs.declared.fault.BreakCause.TheVariants.{Torn, NoSync}
-use Rattle.sd_command_status.specs.declared.status.Status.{Status}
-use Rattle.sd_command_status.specs.declared.status.Status.TheVariants.{BadClear}
-use Rattle.sd_command_status.specs.declared.status.ClearCause.TheVariants.{Broken}
+use Rattle.sd_command_base.specs.declared.status.Status.{Status}
+use Rattle.sd_command_base.specs.declared.status.Status.TheVariants.{BadClear}
+use Rattle.sd_command_base.specs.declared.status.ClearCause.TheVariants.{Broken}
 
 -- bytes begin with a packet, or don't for this cause [ISO/IEC 13818-1, 2.4.3.2]
 abbrev pub BeginsWithPacket : List ℕ → Result (List ℕ) BreakCause → Type 0

@@ -7,25 +7,25 @@ use Rattle.hex.specs.Hex.{encode_lower}
 use Rattle.sha2.specs.Sha256.{sha256}
 use Rattle.sd_engine.specs.Stream.{packets_of, break_of}
 use Rattle.sd_engine.specs.declared.fault.StreamBreak.{StreamBreak}
-use Rattle.sd_site.specs.Fields.{SiteFields}
+use Rattle.sd_site.specs.SiteFields.{SiteFields}
 use Rattle.sd_book.specs.Commands.{last_period}
-use Rattle.sd_spec_broadcast.specs.Refused.{refusal_from}
-use Rattle.sd_spec_broadcast.specs.Sent.{body}
-use Rattle.sd_spec_broadcast.specs.declared.fault.ClearFault.{ClearFault}
-use Rattle.sd_spec_field.specs.declared.event.Event.{Event}
+use Rattle.sd_spec.specs.Refused.{refusal_from}
+use Rattle.sd_spec.specs.Sent.{body}
+use Rattle.sd_spec.specs.declared.clear_fault.ClearFault.{ClearFault}
+use Rattle.sd_spec.specs.declared.event.Event.{Event}
 use Rattle.sd_field.specs.declared.fault.ScriptFault.{ScriptFault}
 use Rattle.sd_field.specs.declared.fault.ScriptFault.TheVariants as script
 use Rattle.sd_field.specs.Fields.{FieldValue, plan_in, sends_of, taken, written_of}
 use Rattle.sd_field.specs.Script.{script_of}
-use Rattle.sd_command_status.specs.declared.status.Status.{Status}
-use Rattle.sd_command_status.specs.declared.status.Status.TheVariants.{BadBook, BadClear, Limit, NoMemory}
-use Rattle.sd_command_status.specs.declared.status.ClearCause.TheVariants.{Broken}
-use Rattle.sd_command_status.specs.declared.status.LimitKind.TheVariants.{BookBytes, FieldHeight, FieldPackets}
-use Rattle.sd_command_status.specs.declared.status.LimitKind.TheVariants.{FieldEvents}
-use Rattle.sd_command_status.specs.Spec.{Spec, FileArgument, Readings, judged, value, within, ◌>>=◌}
-use Rattle.sd_command_status.specs.Work.{Work}
-use Rattle.sd_command_files.specs.Files.{low_site_of_file, most_book_bytes}
-use Rattle.sd_command_files.specs.Printed.{printing}
+use Rattle.sd_command_base.specs.declared.status.Status.{Status}
+use Rattle.sd_command_base.specs.declared.status.Status.TheVariants.{BadBook, BadClear, Limit, NoMemory}
+use Rattle.sd_command_base.specs.declared.status.ClearCause.TheVariants.{Broken}
+use Rattle.sd_command_base.specs.declared.status.LimitKind.TheVariants.{BookBytes, FieldHeight, FieldPackets}
+use Rattle.sd_command_base.specs.declared.status.LimitKind.TheVariants.{FieldEvents}
+use Rattle.sd_command_base.specs.Spec.{Spec, FileArgument, Readings, judged, value, within, ◌>>=◌}
+use Rattle.sd_command_base.specs.Work.{Work}
+use Rattle.sd_command_base.specs.Files.{low_site_of_file, most_book_bytes}
+use Rattle.sd_command_base.specs.Printed.{printing}
 use Rattle.sd_run_broadcasts.specs.Head.{refused_status}
 
 -- the greatest height of a field's tree

@@ -1,10 +1,10 @@
 -- Inner: how the events of a field are done, one after the other.
 use Rattle.std.specs.Prelude.{◌≡◌, ◌⊎◌, ◌<◌, [], Bool, true, false, length, Some, None, Result, Ok, Err}
-use Rattle.sd_spec_broadcast.specs.Refused.{refusal_from}
-use Rattle.sd_spec_broadcast.specs.declared.fault.ClearFault.{ClearFault}
+use Rattle.sd_spec.specs.Refused.{refusal_from}
+use Rattle.sd_spec.specs.declared.clear_fault.ClearFault.{ClearFault}
 use Rattle.sd_field.specs.Fields.{FieldValue, after_next, next_refusal, taken}
-use Rattle.sd_command_status.specs.declared.status.Status.{Status}
-use Rattle.sd_command_status.specs.declared.status.Status.TheVariants.{NoMemory}
+use Rattle.sd_command_base.specs.declared.status.Status.{Status}
+use Rattle.sd_command_base.specs.declared.status.Status.TheVariants.{NoMemory}
 use Rattle.sd_run_broadcasts.specs.Head.{refused_status}
 use Rattle.sd_run_field.specs.Field.{done_field}
 

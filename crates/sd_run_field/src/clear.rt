@@ -1,12 +1,11 @@
 ghost use Rattle.std.specs.Prelude.{◌≡◌, ◌*◌, ◌≤◌, ◌++◌, ◌∷◌, [], IfOk, OnOk, length};
-ghost use Rattle.sd_command_status.specs.Outside.{depot_state};
-ghost use Rattle.sd_command_status.specs.Reads.{JudgedOutcome, FileOutcome};
+ghost use Rattle.sd_command_base.specs.Outside.{depot_state};
+ghost use Rattle.sd_command_base.specs.Reads.{JudgedOutcome, FileOutcome};
 ghost use Rattle.sd_run_field.specs.Clear.{BeginsWithPacket, broken_status};
 ghost use Rattle.sd_run_field.specs.Field.{clear_of_file, told_clear};
 
 use sd_base::NoMemory;
-use sd_command_files::{Word, read_bytes};
-use sd_command_status::{ClearCause, LimitKind, Status};
+use sd_command_base::{ClearCause, LimitKind, Status, Word, read_bytes};
 use sd_engine::BreakCause;
 use sd_packet::{Packet, SIZE};
 use sd_ports::Depot;

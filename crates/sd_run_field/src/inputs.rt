@@ -1,13 +1,12 @@
 ghost use Rattle.std.specs.Prelude.{◌≡◌, ◌≢◌, ◌≤◌, IfOk, length};
-ghost use Rattle.sd_site.specs.Fields.{fields_of};
-ghost use Rattle.sd_command_status.specs.Outside.{depot_state};
-ghost use Rattle.sd_command_status.specs.Reads.{FilesOutcome};
-ghost use Rattle.sd_command_files.specs.Shown.{shown_word};
+ghost use Rattle.sd_site.specs.SiteFields.{fields_of};
+ghost use Rattle.sd_command_base.specs.Outside.{depot_state};
+ghost use Rattle.sd_command_base.specs.Reads.{FilesOutcome};
+ghost use Rattle.sd_command_base.specs.Shown.{shown_word};
 ghost use Rattle.sd_run_field.specs.Field.{inputs_meaning};
 
 use crate::clear::read_clear;
-use sd_command_files::{Word, read_low_site};
-use sd_command_status::{LimitKind, Status};
+use sd_command_base::{LimitKind, Status, Word, read_low_site};
 use sd_packet::Packet;
 use sd_ports::Depot;
 use sd_site::Site;

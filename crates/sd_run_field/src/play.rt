@@ -2,7 +2,7 @@ ghost use Rattle.std.specs.Prelude.{◌≡◌, None};
 ghost use Rattle.sd_run_field.specs.Played.{EventOutcome, PlayOutcome};
 
 use sd_base::Steps;
-use sd_command_status::Status;
+use sd_command_base::Status;
 use sd_field::{Field, FieldFault};
 use sd_run_broadcasts::refused;
 use std::sync::ledger::Ledger;

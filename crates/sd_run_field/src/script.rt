@@ -1,15 +1,14 @@
 ghost use Rattle.std.specs.Prelude.{◌≡◌, ◌≤◌, All, IfOk, length, true};
-ghost use Rattle.sd_spec_field.specs.Events.{is_of};
+ghost use Rattle.sd_spec.specs.Events.{is_of};
 ghost use Rattle.sd_field.specs.Script.{script_of};
-ghost use Rattle.sd_command_status.specs.Outside.{depot_state};
-ghost use Rattle.sd_command_status.specs.Reads.{JudgedOutcome, FileOutcome};
+ghost use Rattle.sd_command_base.specs.Outside.{depot_state};
+ghost use Rattle.sd_command_base.specs.Reads.{JudgedOutcome, FileOutcome};
 ghost use Rattle.sd_run_field.specs.Field.{refused_script, script_of_file, told_script};
 
-use sd_command_files::{MOST_BOOK_BYTES, Word, read_bytes};
-use sd_command_status::{LimitKind, Status};
+use sd_command_base::{LimitKind, MOST_BOOK_BYTES, Status, Word, read_bytes};
 use sd_field::{ScriptFault, read_script};
 use sd_ports::Depot;
-use sd_spec_field::Event;
+use sd_spec::Event;
 use sd_tree::Height;
 use std::alloc::Global;
 

@@ -12,7 +12,7 @@ use Rattle.sd_base.specs.Count.{IsCaused}
 use Rattle.sd_base.specs.declared.memory.NoMemory.{NoMemory as OutOfMemory}
 use Rattle.sd_base.proofs.Lists.{nothing_joined}
 use Rattle.sd_packet.specs.Header.{pid_of}
-use Rattle.sd_tables.specs.Lines.{section_line}
+use Rattle.sd_run_streams.specs.TableLines.{section_line}
 use Rattle.sd_ports.specs.Bytes.{IsPrefix, AppendsPrefix}
 use Rattle.sd_ports.proofs.Starts.{prefix_of_prefix, after_first, nothing_after, pieces_first}
 use Rattle.sd_engine.specs.Stage.{Chain}
@@ -21,17 +21,17 @@ use Rattle.sd_engine.specs.Taken.{StreamEnd, Whole, Breaks, RunsOn, taken_of, Is
 use Rattle.sd_engine.proofs.Taken.{is_over, few_taken, all_few, some_left}
 use Rattle.sd_engine.specs.declared.driver.DriveFault.{DriveFault}
 use Rattle.sd_engine.specs.declared.driver.DriveFault.TheVariants as drive
-use Rattle.sd_tables.specs.Inspected.{lines_in, sections_at}
-use Rattle.sd_tables.specs.Staged.{seen, inspector_does, inspector_ends, inspector_refuses, IsStateAfter}
-use Rattle.sd_tables.specs.declared.inspector.Inspector.{Inspector}
-use Rattle.sd_tables.proofs.Chained.{all_written, all_after}
-use Rattle.sd_command_status.specs.declared.status.Status.{Status}
-use Rattle.sd_command_status.specs.declared.status.Status.TheVariants.{DepotFault, NoMemory}
-use Rattle.sd_command_status.specs.Outside.{PageState}
-use Rattle.sd_command_status.specs.Outcome.{IsEnding}
-use Rattle.sd_command_status.specs.Prints.{PrintsReading}
+use Rattle.sd_run_streams.specs.Inspected.{lines_in, sections_at}
+use Rattle.sd_run_streams.specs.InspectorStaged.{seen, inspector_does, inspector_ends, inspector_refuses, IsStateAfter}
+use Rattle.sd_run_streams.specs.declared.inspector.Inspector.{Inspector}
+use Rattle.sd_run_streams.proofs.InspectorChained.{all_written, all_after}
+use Rattle.sd_command_base.specs.declared.status.Status.{Status}
+use Rattle.sd_command_base.specs.declared.status.Status.TheVariants.{DepotFault, NoMemory}
+use Rattle.sd_command_base.specs.Outside.{PageState}
+use Rattle.sd_command_base.specs.Outcome.{IsEnding}
+use Rattle.sd_command_base.specs.Prints.{PrintsReading}
 use Rattle.sd_run_streams.specs.Tables.{packet_lines, inspecting, drive_status, InspectsLeft}
-use Rattle.sd_command_files.specs.Streams.{stream_status}
+use Rattle.sd_command_base.specs.Streams.{stream_status}
 
 -- the end of a stream may stand at the end of work
 pub stream_ends : (end : StreamEnd) → IsEnding (stream_status end)

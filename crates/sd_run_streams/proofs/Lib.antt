@@ -1,3 +1,15 @@
+pub mod Learning
+pub mod Showing
+pub mod After
+pub mod Staging
+pub mod InspectorChained
+pub mod Growing
+pub mod TablesPlain
+pub mod Judging
+pub mod Few
+pub mod MessagesPlain
+pub mod MonitorChained
+pub mod MessageMembers
 pub mod Inspected
 pub mod Monitored
 pub mod Others

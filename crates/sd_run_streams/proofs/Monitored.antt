@@ -18,14 +18,14 @@ use Rattle.sd_engine.specs.Taken.{taken_of, CutAt, DriveOutcomeOver}
 use Rattle.sd_engine.proofs.Taken.{is_over, few_taken, all_few}
 use Rattle.sd_engine.specs.declared.driver.DriveFault.{DriveFault}
 use Rattle.sd_engine.specs.declared.driver.DriveFault.TheVariants as drive
-use Rattle.sd_site.specs.Fields.{SiteFields}
-use Rattle.sd_monitor.specs.Lines.{message_line, message_lines}
-use Rattle.sd_monitor.specs.Staged.{IsBegun, monitor_does, monitor_ends, monitor_refuses}
-use Rattle.sd_monitor.specs.declared.monitor.Monitor.{Monitor}
-use Rattle.sd_monitor.proofs.Chained.{IsAt, begun_lines, chain_lines, line_at}
-use Rattle.sd_command_status.specs.declared.status.Status.{Status}
-use Rattle.sd_command_status.specs.Prints.{PrintsReading}
-use Rattle.sd_command_files.specs.Streams.{stream_status}
+use Rattle.sd_site.specs.SiteFields.{SiteFields}
+use Rattle.sd_run_streams.specs.MessageLines.{message_line, message_lines}
+use Rattle.sd_run_streams.specs.MonitorStaged.{IsBegun, monitor_does, monitor_ends, monitor_refuses}
+use Rattle.sd_run_streams.specs.declared.monitor.Monitor.{Monitor}
+use Rattle.sd_run_streams.proofs.MonitorChained.{IsAt, begun_lines, chain_lines, line_at}
+use Rattle.sd_command_base.specs.declared.status.Status.{Status}
+use Rattle.sd_command_base.specs.Prints.{PrintsReading}
+use Rattle.sd_command_base.specs.Streams.{stream_status}
 use Rattle.sd_run_streams.specs.Tables.{drive_status}
 use Rattle.sd_run_streams.specs.Messages.{monitoring, MonitorsLeft}
 

@@ -1,8 +1,8 @@
 -- No command of this crate ever means `Usage`.
-use Rattle.sd_site.specs.Fields.{SiteFields}
-use Rattle.sd_command_status.specs.Spec.{FileArgument, Readings, all_of, value}
-use Rattle.sd_command_files.proofs.Others.{IsOther, other_after, other_stream, other_site_file}
-use Rattle.sd_command_files.specs.Files.{site_of_file}
+use Rattle.sd_site.specs.SiteFields.{SiteFields}
+use Rattle.sd_command_base.specs.Spec.{FileArgument, Readings, all_of, value}
+use Rattle.sd_command_base.proofs.Others.{IsOther, other_after, other_stream, other_site_file}
+use Rattle.sd_command_base.specs.Files.{site_of_file}
 use Rattle.sd_run_streams.specs.Tables.{inspecting, tables_meaning}
 use Rattle.sd_run_streams.specs.Messages.{messages_meaning, monitoring, stream_meaning}
 

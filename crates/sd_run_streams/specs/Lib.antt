@@ -1,3 +1,12 @@
+pub mod Inspected
+pub mod Watching
+pub mod InspectorStaged
+pub mod TableLines
+pub mod Judged
+pub mod TableMembers
+pub mod MessageLines
+pub mod MessageMembers
+pub mod MonitorStaged
 pub mod Sample
 pub mod Tables
 pub mod Messages

@@ -1,15 +1,15 @@
 -- Public meaning: `messages SITE STREAM` [this project, docs/FORMATS.md, Messages printed].
 use Rattle.std.specs.Prelude.{ℕ, List, false, Option, None}
 use Rattle.sd_engine.specs.Taken.{taken_of, end_of, IsLeft}
-use Rattle.sd_site.specs.Fields.{SiteFields}
-use Rattle.sd_monitor.specs.Lines.{message_lines}
-use Rattle.sd_command_status.specs.declared.status.Status.{Status}
-use Rattle.sd_command_status.specs.Outside.{PageState}
-use Rattle.sd_command_status.specs.Spec.{Spec, FileArgument, Readings, all_of, value, ◌>>=◌}
-use Rattle.sd_command_status.specs.Work.{NoSteps, Work}
-use Rattle.sd_command_status.specs.Prints.{PrintsReading}
-use Rattle.sd_command_files.specs.Files.{site_in}
-use Rattle.sd_command_files.specs.Streams.{stream_status}
+use Rattle.sd_site.specs.SiteFields.{SiteFields}
+use Rattle.sd_run_streams.specs.MessageLines.{message_lines}
+use Rattle.sd_command_base.specs.declared.status.Status.{Status}
+use Rattle.sd_command_base.specs.Outside.{PageState}
+use Rattle.sd_command_base.specs.Spec.{Spec, FileArgument, Readings, all_of, value, ◌>>=◌}
+use Rattle.sd_command_base.specs.Work.{NoSteps, Work}
+use Rattle.sd_command_base.specs.Prints.{PrintsReading}
+use Rattle.sd_command_base.specs.Files.{site_in}
+use Rattle.sd_command_base.specs.Streams.{stream_status}
 
 -- prints the lines of the messages on the site's PIDs in a stream of these bytes
 abbrev pub monitoring : SiteFields → List ℕ → Work

@@ -7,17 +7,17 @@ use Rattle.sd_engine.specs.Driving.{most_packets}
 use Rattle.sd_engine.specs.Taken.{taken_of, end_of, IsLeft}
 use Rattle.sd_engine.specs.declared.driver.DriveFault.{DriveFault}
 use Rattle.sd_engine.specs.declared.driver.DriveFault.TheVariants as drive
-use Rattle.sd_tables.specs.Lines.{section_line}
-use Rattle.sd_tables.specs.Inspected.{sections_at}
-use Rattle.sd_command_status.specs.declared.status.Status.{Status}
-use Rattle.sd_command_status.specs.declared.status.Status.TheVariants.{Done, BadStream, DepotFault, PrintFault}
-use Rattle.sd_command_status.specs.declared.status.Status.TheVariants.{NoMemory}
-use Rattle.sd_command_status.specs.declared.status.StreamCause.TheVariants.{Broken, TooLong}
-use Rattle.sd_command_status.specs.Outside.{PageState}
-use Rattle.sd_command_status.specs.Spec.{Spec, FileArgument, Readings, all_of, value, ◌>>=◌}
-use Rattle.sd_command_status.specs.Work.{NoSteps, Work}
-use Rattle.sd_command_status.specs.Prints.{PrintsReading}
-use Rattle.sd_command_files.specs.Streams.{stream_status}
+use Rattle.sd_run_streams.specs.TableLines.{section_line}
+use Rattle.sd_run_streams.specs.Inspected.{sections_at}
+use Rattle.sd_command_base.specs.declared.status.Status.{Status}
+use Rattle.sd_command_base.specs.declared.status.Status.TheVariants.{Done, BadStream, DepotFault, PrintFault}
+use Rattle.sd_command_base.specs.declared.status.Status.TheVariants.{NoMemory}
+use Rattle.sd_command_base.specs.declared.status.StreamCause.TheVariants.{Broken, TooLong}
+use Rattle.sd_command_base.specs.Outside.{PageState}
+use Rattle.sd_command_base.specs.Spec.{Spec, FileArgument, Readings, all_of, value, ◌>>=◌}
+use Rattle.sd_command_base.specs.Work.{NoSteps, Work}
+use Rattle.sd_command_base.specs.Prints.{PrintsReading}
+use Rattle.sd_command_base.specs.Streams.{stream_status}
 
 -- the lines of each packet in turn, where these came before them, of which the last comes first
 abbrev pub packet_lines : List (List ℕ) → List (List ℕ) → List (List ℕ)

@@ -3,16 +3,15 @@
 ghost use Rattle.std.specs.Prelude.{◌≡◌, ◌≤◌, ℕ, IsErrOf};
 ghost use Rattle.sd_ports.specs.Causes.{CountsCalls, HasFileCause};
 ghost use Rattle.sd_ports.specs.Files.{WritesFile};
-ghost use Rattle.sd_sample.specs.Sample.{sample_of};
-ghost use Rattle.sd_command_status.specs.Outside.{PageState, outside, depot_state};
-ghost use Rattle.sd_command_status.specs.Outcome.{Implements, status_of};
+ghost use Rattle.sd_engine.specs.Sample.{sample_of};
+ghost use Rattle.sd_command_base.specs.Outside.{PageState, outside, depot_state};
+ghost use Rattle.sd_command_base.specs.Outcome.{Implements, status_of};
 ghost use Rattle.sd_run_streams.specs.Sample.{sample_meaning};
-ghost use Rattle.sd_command_files.specs.Shown.{shown_word};
+ghost use Rattle.sd_command_base.specs.Shown.{shown_word};
 
-use sd_command_files::{Word, told};
-use sd_command_status::Status;
+use sd_command_base::{Status, Word, told};
+use sd_engine::MOST_SAMPLE_PACKETS;
 use sd_ports::{Depot, FileFault};
-use sd_sample::MOST_PACKETS;
 use std::alloc::Global;
 
 /// Does `sample NUMBER PACKETS OUT`.
@@ -24,7 +23,7 @@ pub fn sample<D: Depot>(
     packets: u32,
     out: Word<'_>,
 ) -> Result<(), Status>
-    requires { packets ≤ MOST_PACKETS }
+    requires { packets ≤ MOST_SAMPLE_PACKETS }
     ensures { (page : PageState) (steps : ℕ) → Implements (sample_meaning number packets (shown_word out.entry))
         (outside (depot_state D.Depot depot.old) page steps) (outside (depot_state D.Depot depot.new) page steps)
         (status_of result) }
@@ -44,7 +43,7 @@ fn write_sample<D: Depot>(
     number: u32,
     packets: u32,
 ) -> Result<(), FileFault>
-    requires { packets ≤ MOST_PACKETS }
+    requires { packets ≤ MOST_SAMPLE_PACKETS }
     ensures file { WritesFile (D.files depot.old) (D.files depot.new) (D.made depot.old) (D.made depot.new)
         name.now (sample_of number packets) result }
     ensures cause { HasFileCause
@@ -55,7 +54,7 @@ fn write_sample<D: Depot>(
     ensures calls { CountsCalls (D.calls depot.old) (D.calls depot.new) result }
 {
     let mut port = depot.create_out(alloc, name)?;
-    let written = sd_sample::sample(number, packets, &mut port);
+    let written = sd_engine::sample(number, packets, &mut port);
     let closed = depot.close_out(name, port);
     match written {
         Ok(()) => match closed {

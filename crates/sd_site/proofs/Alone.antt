@@ -5,18 +5,18 @@ use Rattle.std.proofs.lemmas.Bool.{cases_lt, ne_eqb, lt-ltb, le-ltb}
 use Rattle.std.proofs.lemmas.Option.{none-some, same_Some, slice_get_past, slice_get-get_or, option_and_then_some}
 use Rattle.std.specs.Prelude.{nat_lt, slice_get, is_some, unwrap_or, IsErrOf, IfOk, MatchResult, ◌↔◌}
 use Rattle.std.specs.Int.{w16, from_be_bytes}
-use Rattle.sd_base_text.specs.Lines.{lines_of}
-use Rattle.sd_base_text.specs.Number.{decimal_after}
-use Rattle.sd_site.specs.declared.fault.SiteFault.{SiteFault}
-use Rattle.sd_site.specs.declared.fault.SiteFault.TheVariants.{Line, Range, SamePid, Extra, Short}
+use Rattle.sd_base.specs.Lines.{lines_of}
+use Rattle.sd_base.specs.Number.{decimal_after}
+use Rattle.sd_site.specs.declared.site_fault.SiteFault.{SiteFault}
+use Rattle.sd_site.specs.declared.site_fault.SiteFault.TheVariants.{Line, Range, SamePid, Extra, Short}
 use Rattle.sd_site.specs.declared.site.Site.{Site}
-use Rattle.sd_site.specs.Fields.{SiteFields, AreInRange, fields_of}
+use Rattle.sd_site.specs.SiteFields.{SiteFields, AreInRange, fields_of}
 use Rattle.sd_site.specs.Forms.{NumberLine, BytesLine, Form, number, bytes, forms, IsWithin, bytes_after, number_on}
 use Rattle.sd_site.specs.Forms.{bytes_on, number_or, height_line, master_line, ca_line, emm_line, ecm_line}
 use Rattle.sd_site.specs.Forms.{every_line, cryptos_line, span_line, messages_line, first_word_line}
 use Rattle.sd_site.specs.Forms.{last_word_line, first_period_line}
 use Rattle.sd_site.specs.Text.{SpellsSite, IsSite, site_on, site_of}
-use Rattle.sd_site.specs.Faults.{IsInForm, IsGood, IsMalformed, IsOutOfRange, NextIs, AreGood, IsCauseOf}
+use Rattle.sd_site.specs.SiteFaults.{IsInForm, IsGood, IsMalformed, IsOutOfRange, NextIs, AreGood, IsCauseOf}
 use Rattle.sd_site.proofs.Walk.{Tells, lines_told}
 
 -- ---- what lines tell that are good up to line n and no further

@@ -1,6 +1,6 @@
 -- The fault of the first bad line after the eighth.
 use Rattle.std.proofs.Common.{◌≡◌, ℕ, List, Ok, Err, refl}
-use Rattle.sd_site.specs.declared.fault.SiteFault.{SiteFault}
+use Rattle.sd_site.specs.declared.site_fault.SiteFault.{SiteFault}
 use Rattle.sd_site.specs.Forms.{messages_line, first_word_line, last_word_line, first_period_line}
 use Rattle.sd_site.specs.Text.{optional_at, optional_on}
 

@@ -3,3 +3,15 @@ pub mod Walk
 pub mod Alone
 pub mod LeftOut
 pub mod Short
+pub mod Places
+pub mod Keys
+pub mod Made
+pub mod Spellings
+pub mod Paths
+pub mod MadeSecrets
+pub mod Joined
+pub mod Written
+pub mod Heads
+pub mod Once
+pub mod Held
+pub mod SecretKeys

@@ -5,10 +5,10 @@ use Rattle.std.specs.Prelude.{option_and_then, if◌then◌else◌, ◌==◌, sl
 use Rattle.std.specs.Result.{result_ok}
 use Rattle.std.proofs.lemmas.Bool.{eqb-true}
 use Rattle.hex.specs.Hex.{decode_of}
-use Rattle.sd_base_text.specs.Lines.{lines_of}
-use Rattle.sd_base_text.specs.Number.{rest_after, decimal_after}
-use Rattle.sd_base_text.proofs.Lengths.{long_lines, text_length, said_length, after_length}
-use Rattle.sd_site.specs.Fields.{SiteFields, AreInRange}
+use Rattle.sd_base.specs.Lines.{lines_of}
+use Rattle.sd_base.specs.Number.{rest_after, decimal_after}
+use Rattle.sd_base.proofs.Lengths.{long_lines, text_length, said_length, after_length}
+use Rattle.sd_site.specs.SiteFields.{SiteFields, AreInRange}
 use Rattle.sd_site.specs.Forms.{NumberLine, bytes_after, number_or, height_line, master_line, ca_line}
 use Rattle.sd_site.specs.Forms.{emm_line}
 use Rattle.sd_site.specs.Forms.{ecm_line, every_line, cryptos_line, span_line, messages_line}

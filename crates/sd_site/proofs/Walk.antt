@@ -5,10 +5,10 @@ use Rattle.std.proofs.Common.{true≢false}
 use Rattle.std.proofs.lemmas.Bool.{eqb-true, eqb-false, cases_lt, and_parts, leb-true, le-leb, and_from}
 use Rattle.std.proofs.lemmas.Option.{none-some, same_Some, slice_get_past}
 use Rattle.std.specs.Prelude.{◌&&◌, nat_le, slice_get}
-use Rattle.sd_base_text.specs.Number.{decimal_after}
-use Rattle.sd_site.specs.declared.fault.SiteFault.{SiteFault}
-use Rattle.sd_site.specs.declared.fault.SiteFault.TheVariants.{Range, SamePid}
-use Rattle.sd_site.specs.Fields.{SiteFields, AreInRange}
+use Rattle.sd_base.specs.Number.{decimal_after}
+use Rattle.sd_site.specs.declared.site_fault.SiteFault.{SiteFault}
+use Rattle.sd_site.specs.declared.site_fault.SiteFault.TheVariants.{Range, SamePid}
+use Rattle.sd_site.specs.SiteFields.{SiteFields, AreInRange}
 use Rattle.sd_site.specs.Forms.{NumberLine, BytesLine, number, bytes, forms, IsWithin, bytes_after, number_on, bytes_on}
 use Rattle.sd_site.specs.Forms.{number_or, height_line, master_line, ca_line, emm_line, ecm_line, every_line}
 use Rattle.sd_site.specs.Forms.{cryptos_line, span_line, messages_line, first_word_line, last_word_line}
@@ -16,7 +16,7 @@ use Rattle.sd_site.specs.Forms.{first_period_line}
 use Rattle.sd_site.specs.Text.{◌>>=◌, SpellsSite, in_range, well_formed, number_at, optional_at, bytes_at, judged_whole}
 use Rattle.sd_site.specs.Text.{optional_on, site_on}
 use Rattle.sd_site.specs.declared.optional.Optional.{Optional}
-use Rattle.sd_site.specs.Faults.{IsGood, NextIs, AreGood, IsCauseOf}
+use Rattle.sd_site.specs.SiteFaults.{IsGood, NextIs, AreGood, IsCauseOf}
 
 -- the first n lines are good, and these are the ones after them
 pub record Walked (n : ℕ) (lines rest : List (List ℕ)) : Type 0 where

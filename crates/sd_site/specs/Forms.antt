@@ -3,7 +3,7 @@ use Rattle.std.specs.Prelude.{ℕ, ◌*◌, ◌≤◌, ◌==◌, List, [], ◌�
 use Rattle.std.specs.Prelude.{if◌then◌else◌, Option, Some, None, option_and_then}
 use Rattle.std.specs.Result.{result_ok}
 use Rattle.hex.specs.Hex.{decode_of}
-use Rattle.sd_base_text.specs.Number.{rest_after, decimal_after}
+use Rattle.sd_base.specs.Number.{rest_after, decimal_after}
 use Rattle.sd_tree.specs.Limits.{highest}
 
 -- what a line is: a word and a decimal of a range

@@ -1,4 +1,9 @@
 pub mod Forms
-pub mod Fields
+pub mod SiteFields
 pub mod Text
-pub mod Faults
+pub mod SiteFaults
+pub mod CardFields
+pub mod CardFaults
+pub mod Hanging
+pub mod Secrets
+pub mod Files

@@ -2,15 +2,15 @@
 use Rattle.std.specs.Prelude.{◌≡◌, ℕ, ◌==◌, ◌&&◌, ◌≤◌, nat_le, List, [], ◌∷◌, length, slice_get}
 use Rattle.std.specs.Prelude.{if◌then◌else◌, Option, Some, None, Result, Ok, Err}
 use Rattle.std.specs.Int.{w16, from_be_bytes}
-use Rattle.sd_base_text.specs.Lines.{lines_of}
-use Rattle.sd_base_text.specs.Number.{decimal_after}
-use Rattle.sd_site.specs.Fields.{SiteFields, AreInRange}
+use Rattle.sd_base.specs.Lines.{lines_of}
+use Rattle.sd_base.specs.Number.{decimal_after}
+use Rattle.sd_site.specs.SiteFields.{SiteFields, AreInRange}
 use Rattle.sd_site.specs.Forms.{NumberLine, BytesLine, bytes_after, number_on, bytes_on, number_or}
 use Rattle.sd_site.specs.Forms.{height_line, master_line, ca_line, emm_line, ecm_line, every_line, cryptos_line}
 use Rattle.sd_site.specs.Forms.{span_line, messages_line, first_word_line, last_word_line, first_period_line}
 use Rattle.sd_site.specs.declared.optional.Optional.{Optional}
-use Rattle.sd_site.specs.declared.fault.SiteFault.{SiteFault}
-use Rattle.sd_site.specs.declared.fault.SiteFault.TheVariants.{Line, Range, SamePid, Extra, Short}
+use Rattle.sd_site.specs.declared.site_fault.SiteFault.{SiteFault}
+use Rattle.sd_site.specs.declared.site_fault.SiteFault.TheVariants.{Line, Range, SamePid, Extra, Short}
 
 -- the text has just these lines, of which those after the eighth may be left out from any of them on
 pub record SpellsSite (lines : List (List ℕ)) (site : SiteFields) : Type 0 where

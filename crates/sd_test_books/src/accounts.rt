@@ -1,6 +1,6 @@
 use crate::heights::height;
-use sd_accounts::{AccountFault, Accounts};
 use sd_book::{BookLimit, MOST_PERIODS};
+use sd_run_books::{AccountFault, Accounts};
 use std::alloc::{AllocError, Global};
 use std::fmt::Write;
 use std::test::Fail;

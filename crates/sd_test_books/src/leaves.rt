@@ -1,4 +1,4 @@
-use sd_command_files::{LeavesFault, read};
+use sd_command_base::{LeavesFault, read};
 use sd_tree::Height;
 use std::alloc::Global;
 use std::test::Fail;

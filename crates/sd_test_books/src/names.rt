@@ -1,6 +1,5 @@
-use sd_label::Name;
 use sd_reach::names_of;
-use sd_tree::{Height, Leaf};
+use sd_tree::{Height, Leaf, Name};
 use std::alloc::{AllocError, Global};
 
 /// The names of a leaf at this height.

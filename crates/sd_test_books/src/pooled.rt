@@ -1,8 +1,7 @@
 use crate::ascending::covered;
 use crate::names::{closure, names};
 use sd_book::{Book, Periods};
-use sd_label::Name;
-use sd_tree::{Height, SetName};
+use sd_tree::{Height, Name, SetName};
 use std::alloc::{AllocError, Global};
 use std::test::*;
 

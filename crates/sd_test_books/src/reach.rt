@@ -1,8 +1,7 @@
 use crate::ascending::{TREES, has_bit};
 use crate::names::{closure, names};
-use sd_label::Name;
 use sd_reach::{names_of, opens, reaches};
-use sd_tree::{Height, Leaf, SetName};
+use sd_tree::{Height, Leaf, Name, SetName};
 use std::alloc::Global;
 use std::test::*;
 

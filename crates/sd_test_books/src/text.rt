@@ -1,4 +1,4 @@
-use sd_base_text::{NumberFault, next_line, number_after};
+use sd_base::{NumberFault, next_line, number_after};
 use std::test::Fail;
 
 // Texts and their lines.

@@ -3,7 +3,7 @@ ghost use Rattle.std.specs.List.Sorted.{IsStrictlyIncreasing};
 ghost use Rattle.sd_tree.specs.declared.leaf.TheConstants.{MOST_REVOKED};
 
 use crate::ascending::{TREES, are_ascending, are_of_height, covered, has_bit, marked};
-use sd_trace::{CoalitionBox, Found, TestBox, trace_all};
+use sd_cover::{CoalitionBox, Found, TestBox, trace_all};
 use sd_tree::{Height, Leaf, MOST_REVOKED, SetName};
 use std::alloc::Global;
 use std::test::*;

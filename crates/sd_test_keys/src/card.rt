@@ -3,7 +3,7 @@ ghost use Rattle.std.specs.Prelude.{◌≡◌, ◌<◌};
 use crate::known::{altered, site};
 use hex::FromHex;
 use sd_base::Steps;
-use sd_card::{Card, CardFault};
+use sd_site::{Card, CardFault};
 use sd_tree::{Height, Leaf, SetName};
 use sha2::{Digest, Sha256};
 use std::alloc::{AllocError, Global};

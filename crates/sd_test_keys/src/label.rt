@@ -2,8 +2,9 @@ ghost use Rattle.std.specs.Prelude.{◌≡◌, ◌<◌};
 
 use crate::known::master;
 use sd_base::Steps;
-use sd_label::{check_value, control_word, descend, middle, period_key, root_label, whole_key};
-use sd_tree::is_above;
+use sd_tree::{
+    check_value, control_word, descend, is_above, middle, period_key, root_label, whole_key,
+};
 use std::marker::Brand;
 use std::sync::ledger::{Blank, Ledger};
 

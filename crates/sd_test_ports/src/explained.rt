@@ -1,7 +1,6 @@
-use sd_card::CardFault;
+use sd_command_base::Status;
 use sd_command_line::explanation;
-use sd_command_status::Status;
-use sd_site::SiteFault;
+use sd_site::{CardFault, SiteFault};
 use std::alloc::{AllocError, Global};
 
 // The arguments, the status, and what a user is told.

@@ -1,5 +1,5 @@
 use crate::sections::{PAT, PMT};
-use sd_tables::{push_line, table_on};
+use sd_run_streams::{push_line, table_on};
 use std::alloc::Global;
 
 const CAT: [u8; 20] = [

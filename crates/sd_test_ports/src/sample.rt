@@ -1,6 +1,6 @@
 use crate::ends::sink;
+use sd_engine::{MOST_SAMPLE_PACKETS, sample};
 use sd_ports::PortFault;
-use sd_sample::{MOST_PACKETS, sample};
 use sha2::{Digest, Sha256};
 use std::alloc::{AllocError, Global};
 
@@ -11,7 +11,7 @@ fn written(
     (room, most, failing): (usize, usize, u32),
 ) -> Result<(Result<(), PortFault>, Vec<u8>), AllocError> {
     let mut sink = sink(alloc, room, most, failing)?;
-    let result = sample(number, packets.min(MOST_PACKETS), &mut sink);
+    let result = sample(number, packets.min(MOST_SAMPLE_PACKETS), &mut sink);
     Ok((result, sink.into_bytes()))
 }
 

@@ -1,12 +1,11 @@
 use sd_book::BookLimit;
-use sd_card::CardFault;
-use sd_command_status::{Clash, ClearCause, LimitKind, Status, StreamCause, tell};
+use sd_command_base::{Clash, ClearCause, LimitKind, Status, StreamCause, tell};
 use sd_ecm::EcmFault;
 use sd_emm::EmmFault;
 use sd_engine::BreakCause;
 use sd_ports::MemSink;
 use sd_psi::FormFault;
-use sd_site::SiteFault;
+use sd_site::{CardFault, SiteFault};
 use std::alloc::{AllocError, Global};
 
 // Statuses, their codes, and their lines.

@@ -1,5 +1,5 @@
 ghost use Rattle.std.specs.Prelude.{◌≡◌, ◌<◌};
-ghost use Rattle.sd_tables.specs.Staged.{IsReady, seen};
+ghost use Rattle.sd_run_streams.specs.InspectorStaged.{IsReady, seen};
 
 use crate::ends::{sink, source};
 use crate::sections::{PAT, PMT};
@@ -8,7 +8,7 @@ use sd_engine::{BreakCause, DriveFault, StreamBreak, drive};
 use sd_packet::pack_section;
 use sd_ports::MemSink;
 use sd_ports_memory::MemSource;
-use sd_tables::Inspector;
+use sd_run_streams::Inspector;
 use std::alloc::{AllocError, Global};
 use std::marker::Brand;
 use std::sync::ledger::{Blank, Ledger};

@@ -1,6 +1,6 @@
 use crate::leaving::uncounted;
 use hex::FromHex;
-use sd_command_status::Status;
+use sd_command_base::Status;
 use sd_ports::MemSink;
 use sd_ports_memory::MemDepot;
 use sd_test_texts::{BOOK, SITE, site, site_start};

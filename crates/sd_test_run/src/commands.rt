@@ -2,7 +2,7 @@ use crate::files::Files;
 use crate::leaving::{Fault, Leaving, left, made};
 use crate::row::Row;
 use crate::sums::has_sum;
-use sd_command_status::Status;
+use sd_command_base::Status;
 use std::alloc::{AllocError, Global};
 use std::test::Fail;
 

@@ -1,6 +1,6 @@
 use crate::leaving::{Fault, Leaving};
 use crate::rows::{File, over, sampled, tells};
-use sd_command_status::{ClearCause, Status};
+use sd_command_base::{ClearCause, Status};
 use sd_test_texts::SITE;
 use std::alloc::{AllocError, Global};
 

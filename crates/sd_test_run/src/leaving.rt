@@ -2,7 +2,7 @@ ghost use Rattle.std.specs.Prelude.{◌≡◌, ◌<◌, ◌≤◌};
 
 use crate::files::{Files, ROOM};
 use sd_base::Steps;
-use sd_command_status::Status;
+use sd_command_base::Status;
 use sd_ports::{Depot, MemSink, Sink};
 use sd_ports_memory::MemDepot;
 use sd_run::run;

@@ -1,6 +1,6 @@
 use crate::files::SITE;
+use sd_engine::sample;
 use sd_ports::MemSink;
-use sd_sample::sample;
 use std::alloc::{AllocError, Global};
 use std::fmt::Write;
 

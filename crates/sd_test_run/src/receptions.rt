@@ -1,5 +1,5 @@
 use crate::broadcasts::{PACKET, answered, has_digest, put};
-use sd_command_status::Status;
+use sd_command_base::Status;
 use sd_ports_memory::MemDepot;
 use std::alloc::{AllocError, Global};
 

@@ -3,9 +3,9 @@ ghost use Rattle.std.specs.Prelude.{◌≤◌};
 use crate::files::Files;
 use crate::leaving::{Fault, Leaving, left};
 use sd_book::BookLimit;
-use sd_command_status::{LimitKind, Status};
+use sd_command_base::{LimitKind, Status};
+use sd_engine::sample;
 use sd_ports::MemSink;
-use sd_sample::sample;
 use sd_test_texts::{SITE, site_start};
 use std::alloc::{AllocError, Global};
 

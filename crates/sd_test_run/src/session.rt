@@ -2,7 +2,7 @@ use crate::changes::{PACKET, changed};
 use crate::leaving::uncounted;
 use crate::row::Row;
 use crate::sums::has_sum;
-use sd_command_status::Status;
+use sd_command_base::Status;
 use sd_ports::MemSink;
 use sd_ports_memory::MemDepot;
 use std::alloc::{AllocError, Global};

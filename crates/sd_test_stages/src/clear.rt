@@ -2,12 +2,12 @@ use crate::made::{Ends, Made, NULL, SCRAMBLED, plain, site_of};
 use crate::sections::{PAT, PMT, REWRITTEN};
 use sd_ecm::Place;
 use sd_head::Clear;
-use sd_label::control_word;
 use sd_packet::{Packet, pack_section};
 use sd_psi::FormFault;
 use sd_site::Site;
-use sd_spec_broadcast::ClearFault;
+use sd_spec::ClearFault;
 use sd_test_texts::{SITE, site_start};
+use sd_tree::control_word;
 use std::alloc::Global;
 use std::test::*;
 

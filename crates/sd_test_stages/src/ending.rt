@@ -1,4 +1,4 @@
-use sd_spec_receiver::Ending;
+use sd_spec::Ending;
 
 // The ending of the earlier runs, that of the later one, and that of all.
 static JOINED: [(Ending, Ending, Ending); 11] = [

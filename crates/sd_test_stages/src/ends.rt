@@ -4,12 +4,12 @@ ghost use Rattle.sd_receive.specs.Receiving.{IsLive};
 
 use sd_base::Steps;
 use sd_book::Book;
-use sd_card::Card;
 use sd_engine::{Stage, drive};
 use sd_head::Head;
 use sd_ports::MemSink;
 use sd_ports_memory::MemSource;
 use sd_receive::{Ending, Receiver};
+use sd_site::Card;
 use sd_tree::Leaf;
 use std::alloc::Global;
 use std::marker::Brand;

@@ -1,8 +1,8 @@
 use crate::ends::{broadcast, received};
 use hex::FromHex;
+use sd_engine::sample;
 use sd_ports::MemSink;
 use sd_receive::Ending;
-use sd_sample::sample;
 use sd_test_texts::{BOOK, site};
 use sha2::{Digest, Sha256};
 use std::alloc::{AllocError, Global};

@@ -6,3 +6,7 @@ pub mod Meeting
 pub mod Members
 pub mod Paths
 pub mod Halves
+pub mod Descents
+pub mod NameCounts
+pub mod Pairs
+pub mod Hanging

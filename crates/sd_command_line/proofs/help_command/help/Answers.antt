@@ -1,8 +1,8 @@
 use Rattle.std.proofs.Common.{inl, inr, refl}
 use Rattle.std.proofs.lemmas.Result.{err_from_is_err_and}
-use Rattle.sd_command_status.specs.declared.status.Status.TheVariants.{NoMemory}
-use Rattle.sd_command_status.specs.Outside.{page_state}
-use Rattle.sd_command_status.specs.Outcome.{status_of}
+use Rattle.sd_command_base.specs.declared.status.Status.TheVariants.{NoMemory}
+use Rattle.sd_command_base.specs.Outside.{page_state}
+use Rattle.sd_command_base.specs.Outcome.{status_of}
 use Rattle.sd_command_line.specs.Pages.{help_text}
 use Rattle.sd_command_line.proofs.Printing.{text_told}
 use Rattle.sd_command_line.proofs.help_command.help.Goals as goal

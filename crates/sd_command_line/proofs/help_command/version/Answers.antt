@@ -1,6 +1,6 @@
 use Rattle.std.proofs.Common.{inl}
-use Rattle.sd_command_status.specs.Outside.{page_state}
-use Rattle.sd_command_status.specs.Outcome.{status_of}
+use Rattle.sd_command_base.specs.Outside.{page_state}
+use Rattle.sd_command_base.specs.Outcome.{status_of}
 use Rattle.sd_command_line.specs.Pages.{version_text}
 use Rattle.sd_command_line.proofs.Printing.{text_told}
 use Rattle.sd_command_line.proofs.help_command.version.Goals as goal

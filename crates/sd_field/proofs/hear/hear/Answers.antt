@@ -2,7 +2,7 @@ use Rattle.std.proofs.Common.{Err, ◌<◌, ◌++◌, ◌∷◌, [], length, sym
 use Rattle.std.specs.List.{concat}
 use Rattle.sd_base.proofs.Lists.{same_held}
 use Rattle.sd_engine.specs.Stage.{SinkState}
-use Rattle.sd_spec_receiver.specs.Offered.{out_from}
+use Rattle.sd_spec.specs.Offered.{out_from}
 use Rattle.sd_field.specs.Heard.{IsHeard}
 use Rattle.sd_field.proofs.Heard.{by_kept, full_more, heard_kept, heard_refused, heard_taken}
 use Rattle.sd_field.proofs.hear.hear.Goals as goal

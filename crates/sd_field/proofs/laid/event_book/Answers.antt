@@ -1,8 +1,8 @@
 use Rattle.std.proofs.Common.{arith, ℕ, List, take, sym, subst}
 use Rattle.std.specs.Prelude.{reverse}
-use Rattle.sd_site.specs.Fields.{fields_of}
+use Rattle.sd_site.specs.SiteFields.{fields_of}
 use Rattle.sd_book.specs.Limits.{IsWithinLimits}
-use Rattle.sd_spec_field.specs.declared.event.Event.{Event}
+use Rattle.sd_spec.specs.declared.event.Event.{Event}
 use Rattle.sd_field.specs.Laid.{IsLaid}
 use Rattle.sd_field.proofs.Laying.{laid_on, next_fits, past_more, sends_low, taken_fits}
 use Rattle.sd_field.proofs.laid.event_book.Goals as goal

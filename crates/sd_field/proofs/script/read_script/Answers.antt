@@ -2,9 +2,9 @@ use Rattle.std.proofs.Common.{rules, arith, ◌≡◌, ◌∙◌, ◌+◌, ◌++
 use Rattle.std.proofs.Common.{ap, sym, subst, inr, true, refl, Ok, Err}
 use Rattle.std.proofs.lemmas.Result.{err_from_is_err_and}
 use Rattle.std.proofs.lemmas.List.{length-replicate}
-use Rattle.sd_base_text.specs.Lines.{lines_of}
-use Rattle.sd_spec_field.specs.declared.event.Event.{Event}
-use Rattle.sd_spec_field.specs.Events.{is_of}
+use Rattle.sd_base.specs.Lines.{lines_of}
+use Rattle.sd_spec.specs.declared.event.Event.{Event}
+use Rattle.sd_spec.specs.Events.{is_of}
 use Rattle.sd_field.specs.Script.{judged, put_before, script_from, spoken}
 use Rattle.sd_field.proofs.Scripts.{line_good, run_of_tree, script_broken, script_ended, script_on}
 use Rattle.sd_field.proofs.script.read_script.Goals as goal

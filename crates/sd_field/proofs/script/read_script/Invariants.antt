@@ -1,6 +1,6 @@
 use Rattle.std.proofs.Common.{◌≡◌, ◌+◌, ◌≤◌, length, true, All}
-use Rattle.sd_base_text.specs.Lines.{lines_of}
-use Rattle.sd_spec_field.specs.Events.{is_of}
+use Rattle.sd_base.specs.Lines.{lines_of}
+use Rattle.sd_spec.specs.Events.{is_of}
 use Rattle.sd_field.specs.Script.{put_before, script_from, script_of}
 use Rattle.sd_field.proofs.script.read_script.Given as goal
 

@@ -1,7 +1,7 @@
 use Rattle.std.proofs.Common.{ap, length, sym}
 use Rattle.std.specs.Prelude.{is_some}
 use Rattle.sd_engine.specs.Stream.{packets_of}
-use Rattle.sd_spec_field.specs.Watch.{stream}
+use Rattle.sd_spec.specs.Watch.{stream}
 use Rattle.sd_field.proofs.Seats.{next_there, none_at, none_passed}
 use Rattle.sd_field.proofs.seat.pass_next.Goals as goal
 

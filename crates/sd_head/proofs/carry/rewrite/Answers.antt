@@ -1,4 +1,4 @@
-use Rattle.sd_site.specs.Fields.{fields_of}
+use Rattle.sd_site.specs.SiteFields.{fields_of}
 use Rattle.sd_head.proofs.Carrying.{pmt_carried_by}
 use Rattle.sd_head.proofs.carry.rewrite.Goals as goal
 

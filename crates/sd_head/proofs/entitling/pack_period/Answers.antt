@@ -1,9 +1,9 @@
 use Rattle.std.proofs.Common.{◌≡◌, ◌∙◌, List, subst, sym, ap}
 use Rattle.std.specs.Prelude.{OnOk, All, map}
 use Rattle.sd_tree.specs.declared.set.SetName.{SetName}
-use Rattle.sd_site.specs.Fields.{fields_of}
+use Rattle.sd_site.specs.SiteFields.{fields_of}
 use Rattle.sd_emm.specs.Period.{Period}
-use Rattle.sd_spec_broadcast.specs.Messages.{entry_of}
+use Rattle.sd_spec.specs.Messages.{entry_of}
 use Rattle.sd_head.specs.Crypto.{IsKeyed}
 use Rattle.sd_head.specs.Packets.{period_packets}
 use Rattle.sd_head.proofs.Packing.{period_is}

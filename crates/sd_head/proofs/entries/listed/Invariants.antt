@@ -1,7 +1,7 @@
 use Rattle.std.proofs.Common.{◌≡◌, take}
 use Rattle.std.specs.Prelude.{map}
-use Rattle.sd_site.specs.Fields.{fields_of}
-use Rattle.sd_spec_broadcast.specs.Messages.{entry_of}
+use Rattle.sd_site.specs.SiteFields.{fields_of}
+use Rattle.sd_spec.specs.Messages.{entry_of}
 use Rattle.sd_head.proofs.entries.listed.Given as goal
 
 -- the sets so far have their entries

@@ -1,7 +1,7 @@
 use Rattle.std.proofs.Common.{◌≡◌, ◌≢◌, ◌<◌, ℕ, true, false, length, get_or, sym, ap, subst, ◌∙◌, arith}
 use Rattle.sd_packet.specs.Header.{pid_of}
 use Rattle.sd_packet.specs.Positions.{is_placed, advanced}
-use Rattle.sd_spec_broadcast.specs.Kinds.{put_in}
+use Rattle.sd_spec.specs.Kinds.{put_in}
 use Rattle.sd_head.specs.Known.{AreKnown}
 use Rattle.sd_head.proofs.Moving.{positions_unmoved, positions_stepped, pids_unmoved, pids_first, pids_again}
 use Rattle.sd_head.proofs.Moving.{known_more}

@@ -1,4 +1,4 @@
-use Rattle.sd_spec_broadcast.proofs.Schedule.{period_short}
+use Rattle.sd_spec.proofs.Schedule.{period_short}
 use Rattle.sd_law_broadcast.proofs.Fitting.{period_fits, period_sets}
 use Rattle.sd_law_broadcast.proofs.laws.periods_fit.Goals as goal
 

@@ -1,7 +1,7 @@
 use Rattle.std.proofs.Common.{ℕ, List, subst}
 use Rattle.std.specs.Prelude.{map, string_bytes}
-use Rattle.sd_command_status.specs.Outside.{depot_state, page_state, outside}
-use Rattle.sd_command_status.specs.Results.{RunResult}
+use Rattle.sd_command_base.specs.Outside.{depot_state, page_state, outside}
+use Rattle.sd_command_base.specs.Results.{RunResult}
 use Rattle.sd_run.specs.Meaning.{meaning}
 use Rattle.sd_law_run.proofs.Parts.{head_part, card_part, receive_part}
 use Rattle.sd_law_run.proofs.Ordered.{head_answers, card_answers, receive_answers, leaf_low}

@@ -1,4 +1,4 @@
-use Rattle.sd_command_status.specs.Spec.{contents_of}
+use Rattle.sd_command_base.specs.Spec.{contents_of}
 use Rattle.sd_law_run.proofs.Goodness.{cover_good}
 use Rattle.sd_law_run.proofs.laws.good_covers_are_printed.Goals as goal
 

@@ -1,4 +1,4 @@
-use Rattle.sd_command_status.specs.Spec.{contents_of}
+use Rattle.sd_command_base.specs.Spec.{contents_of}
 use Rattle.sd_law_run.proofs.Operators.{apart_good, apart_clashes}
 use Rattle.sd_law_run.proofs.laws.good_sites_are_judged.Goals as goal
 

@@ -1,6 +1,6 @@
 use Rattle.sd_law_run.proofs.Lost.{rest_confirmed}
 use Rattle.sd_law_run.proofs.Losing.{lost_part}
-use Rattle.sd_command_status.specs.Spec.{contents_of}
+use Rattle.sd_command_base.specs.Spec.{contents_of}
 use Rattle.sd_law_run.proofs.losses.losses_are_received.Goals as goal
 
 pub returns-clause-meant : goal.returns-clause-meant

@@ -1,8 +1,8 @@
 use Rattle.std.proofs.Common.{◌≡◌, ◌<◌, ◌≤◌, sym, ◌∙◌, ⊎_elim, arith, refl}
 use Rattle.std.proofs.lemmas.Bool.{false≢true, cases_lt}
 use Rattle.std.proofs.lemmas.List.Elements.{Contains-get_or}
-use Rattle.sd_label.specs.declared.name.Name.{Name}
-use Rattle.sd_label.specs.declared.name.Name.TheVariants.{Whole}
+use Rattle.sd_tree.specs.declared.name.Name.{Name}
+use Rattle.sd_tree.specs.declared.name.Name.TheVariants.{Whole}
 use Rattle.sd_reach.specs.Reach.{Key, LeadsTo}
 use Rattle.sd_reach.proofs.Reached.{found_is_reached, reached_is_found, none_of_all}
 use Rattle.sd_reach.proofs.reaching.reaches.Goals as goal

@@ -1,5 +1,5 @@
 use Rattle.std.proofs.Common.{ℕ, ◌<◌, slice_index_or}
-use Rattle.sd_label.specs.declared.name.Name.TheVariants.{Whole}
+use Rattle.sd_tree.specs.declared.name.Name.TheVariants.{Whole}
 use Rattle.sd_reach.specs.Reach.{Key, LeadsTo}
 use Rattle.sd_reach.proofs.reaching.reaches.Given as goal
 

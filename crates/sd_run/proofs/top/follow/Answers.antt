@@ -1,4 +1,4 @@
-use Rattle.sd_command_status.specs.Outside.{depot_state}
+use Rattle.sd_command_base.specs.Outside.{depot_state}
 use Rattle.sd_run.proofs.top.follow.Goals as goal
 
 pub returns-in-Help : goal.returns-in-Help

@@ -1,6 +1,6 @@
 use Rattle.std.specs.Prelude.{map, string_bytes}
-use Rattle.sd_command_status.specs.Outside.{depot_state, page_state, outside}
-use Rattle.sd_command_status.specs.Outcome.{status_of}
+use Rattle.sd_command_base.specs.Outside.{depot_state, page_state, outside}
+use Rattle.sd_command_base.specs.Outcome.{status_of}
 use Rattle.sd_command_line.specs.Orders.{order_said}
 use Rattle.sd_run.proofs.Ordered.{order_follows, words_follow}
 use Rattle.sd_run.proofs.top.obey.Goals as goal

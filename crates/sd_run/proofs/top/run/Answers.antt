@@ -1,11 +1,11 @@
 use Rattle.std.proofs.Common.{rules, ◌≡◌, subst, inl, inr, refl}
 use Rattle.std.specs.Prelude.{map, string_bytes}
-use Rattle.sd_command_status.specs.declared.status.Status.{Status}
-use Rattle.sd_command_status.specs.declared.status.Status.TheVariants.{Done, PrintFault}
-use Rattle.sd_command_status.specs.Outcome.{Implements}
-use Rattle.sd_command_status.specs.Outside.{depot_state, page_state, outside}
-use Rattle.sd_command_status.specs.Results.{RunResult, IsToldAs}
-use Rattle.sd_command_status.proofs.Told.{done_line, cut_line, lineless_answers, causes, completes, told_as}
+use Rattle.sd_command_base.specs.declared.status.Status.{Status}
+use Rattle.sd_command_base.specs.declared.status.Status.TheVariants.{Done, PrintFault}
+use Rattle.sd_command_base.specs.Outcome.{Implements}
+use Rattle.sd_command_base.specs.Outside.{depot_state, page_state, outside}
+use Rattle.sd_command_base.specs.Results.{RunResult, IsToldAs}
+use Rattle.sd_command_base.proofs.RunAnswers.{done_line, cut_line, lineless_answers, causes, completes, told_as}
 use Rattle.sd_run.proofs.Ordered.{usage_said}
 use Rattle.sd_run.specs.Meaning.{meaning}
 use Rattle.sd_run.proofs.top.run.Goals as goal

@@ -1,6 +1,6 @@
 use Rattle.std.proofs.Common.{ap}
-use Rattle.sd_command_files.specs.Shown.{NumberArgument}
-use Rattle.sd_command_status.specs.Outside.{page_state}
+use Rattle.sd_command_base.specs.Shown.{NumberArgument}
+use Rattle.sd_command_base.specs.Outside.{page_state}
 use Rattle.sd_command_line.specs.Orders.{arguments_said}
 use Rattle.sd_run.proofs.Ordered.{packets_fit, plan_fits}
 use Rattle.sd_run.proofs.Rows.{accounts_works, apart_works, book_works, card_works, cover_works}

@@ -1,9 +1,9 @@
 use Rattle.std.proofs.lemmas.Result.{err_from_is_err_and}
 use Rattle.sd_book.specs.Text.{text_of}
-use Rattle.sd_command_status.specs.Outside.{outside, depot_state, page_state}
-use Rattle.sd_command_status.specs.Outcome.{status_of}
-use Rattle.sd_command_files.specs.Shown.{shown_word}
-use Rattle.sd_run_books.specs.Accounts.{accounts_in, making_then, report_line}
+use Rattle.sd_command_base.specs.Outside.{outside, depot_state, page_state}
+use Rattle.sd_command_base.specs.Outcome.{status_of}
+use Rattle.sd_command_base.specs.Shown.{shown_word}
+use Rattle.sd_run_books.specs.AccountsCommand.{accounts_in, making_then, report_line}
 use Rattle.sd_run_books.proofs.Made.{not_read, read_then}
 use Rattle.sd_run_books.proofs.accounts_command.accounts.Goals as goal
 

@@ -1,11 +1,11 @@
 use Rattle.std.proofs.lemmas.Result.{err_from_is_err_and}
-use Rattle.sd_site.specs.Fields.{fields_of}
-use Rattle.sd_command_status.specs.Outside.{depot_state}
-use Rattle.sd_command_status.specs.Spec.{value, ◌>>=◌}
-use Rattle.sd_command_status.proofs.Follow.{reads_first, reads_then}
-use Rattle.sd_command_files.specs.Files.{site_of_file}
-use Rattle.sd_command_files.specs.Shown.{shown_word}
-use Rattle.sd_run_books.specs.Accounts.{accounts_in, accounts_of_file}
+use Rattle.sd_site.specs.SiteFields.{fields_of}
+use Rattle.sd_command_base.specs.Outside.{depot_state}
+use Rattle.sd_command_base.specs.Spec.{value, ◌>>=◌}
+use Rattle.sd_command_base.proofs.Follow.{reads_first, reads_then}
+use Rattle.sd_command_base.specs.Files.{site_of_file}
+use Rattle.sd_command_base.specs.Shown.{shown_word}
+use Rattle.sd_run_books.specs.AccountsCommand.{accounts_in, accounts_of_file}
 use Rattle.sd_run_books.proofs.Made.{same_where_ok}
 use Rattle.sd_run_books.proofs.accounts_command.accounts_of_site.Goals as goal
 

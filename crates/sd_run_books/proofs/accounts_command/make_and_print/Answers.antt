@@ -1,7 +1,7 @@
 use Rattle.std.proofs.lemmas.Result.{err_from_is_err_and}
-use Rattle.sd_command_status.specs.Outside.{depot_state, page_state}
-use Rattle.sd_command_status.specs.Outcome.{status_of}
-use Rattle.sd_command_files.specs.Shown.{shown_word}
+use Rattle.sd_command_base.specs.Outside.{depot_state, page_state}
+use Rattle.sd_command_base.specs.Outcome.{status_of}
+use Rattle.sd_command_base.specs.Shown.{shown_word}
 use Rattle.sd_run_books.proofs.Made.{made_then, not_made}
 use Rattle.sd_run_books.proofs.accounts_command.make_and_print.Goals as goal
 

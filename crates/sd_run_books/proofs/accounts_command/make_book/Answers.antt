@@ -2,12 +2,12 @@ use Rattle.std.proofs.Common.{◌≡◌, ◌∙◌, ap, refl}
 use Rattle.std.proofs.lemmas.Result.{err_from_is_err_and}
 use Rattle.sd_book.specs.Text.{text_of}
 use Rattle.sd_book.specs.Value.{BookValue}
-use Rattle.sd_command_status.specs.declared.status.Status.TheVariants.{NoMemory}
-use Rattle.sd_command_status.specs.Spec.{value}
-use Rattle.sd_command_status.specs.Outside.{depot_state, page_state}
-use Rattle.sd_command_files.specs.Shown.{shown_word}
-use Rattle.sd_command_files.proofs.Thirds.{wanting_obeys}
-use Rattle.sd_run_books.specs.Accounts.{making_then, report_line}
+use Rattle.sd_command_base.specs.declared.status.Status.TheVariants.{NoMemory}
+use Rattle.sd_command_base.specs.Spec.{value}
+use Rattle.sd_command_base.specs.Outside.{depot_state, page_state}
+use Rattle.sd_command_base.specs.Shown.{shown_word}
+use Rattle.sd_command_base.proofs.Thirds.{wanting_obeys}
+use Rattle.sd_run_books.specs.AccountsCommand.{making_then, report_line}
 use Rattle.sd_run_books.proofs.accounts_command.make_book.Goals as goal
 
 -- memory was out for the book

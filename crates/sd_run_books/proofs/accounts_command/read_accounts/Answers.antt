@@ -1,11 +1,11 @@
 use Rattle.std.proofs.lemmas.Result.{err_from_is_err_and}
-use Rattle.sd_accounts.specs.Judged.{book_of}
-use Rattle.sd_command_status.specs.declared.status.LimitKind.TheVariants.{BookBytes}
-use Rattle.sd_command_status.specs.Outside.{depot_state}
-use Rattle.sd_command_status.specs.Spec.{within, judged}
-use Rattle.sd_command_status.proofs.Follow.{looks_first, looks_judged}
-use Rattle.sd_command_files.specs.Files.{most_book_bytes}
-use Rattle.sd_run_books.specs.Accounts.{accounts_of_file, accounts_value, told_accounts}
+use Rattle.sd_run_books.specs.Judged.{book_of}
+use Rattle.sd_command_base.specs.declared.status.LimitKind.TheVariants.{BookBytes}
+use Rattle.sd_command_base.specs.Outside.{depot_state}
+use Rattle.sd_command_base.specs.Spec.{within, judged}
+use Rattle.sd_command_base.proofs.Follow.{looks_first, looks_judged}
+use Rattle.sd_command_base.specs.Files.{most_book_bytes}
+use Rattle.sd_run_books.specs.AccountsCommand.{accounts_of_file, accounts_value, told_accounts}
 use Rattle.sd_run_books.proofs.accounts_command.read_accounts.Goals as goal
 
 pub returns-in_err-bytes : goal.returns-in_err-bytes

@@ -2,9 +2,9 @@ use Rattle.std.proofs.Common.{◌≡◌, ◌≤◌, ◌<◌, ◌+◌, ◌-◌, �
 use Rattle.std.specs.List.{range_with_len}
 use Rattle.std.specs.Option.{option_map}
 use Rattle.sd_book.specs.Commands.{last_period, revoked}
-use Rattle.sd_spec_broadcast.specs.Plan.{Plan}
-use Rattle.sd_site.specs.Fields.{fields_of}
-use Rattle.sd_command_status.specs.declared.status.Clash.TheVariants.{Books}
+use Rattle.sd_spec.specs.Plan.{Plan}
+use Rattle.sd_site.specs.SiteFields.{fields_of}
+use Rattle.sd_command_base.specs.declared.status.Clash.TheVariants.{Books}
 use Rattle.sd_run_books.specs.Apart.{books_clash, clash_in, first_of, first_shared, shared_count}
 use Rattle.sd_run_books.proofs.Agreeing.{clash_is, first_found, none_more}
 use Rattle.sd_run_books.proofs.apart_books.clash_of_books.Goals as goal

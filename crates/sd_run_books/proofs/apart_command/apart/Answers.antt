@@ -1,15 +1,15 @@
 use Rattle.std.proofs.Common.{string_bytes, Global, String}
 use Rattle.std.proofs.lemmas.Result.{err_from_is_err_and}
-use Rattle.sd_site.specs.Fields.{fields_of}
-use Rattle.sd_command_status.specs.Outside.{depot_state, page_state, outside}
-use Rattle.sd_command_status.specs.Spec.{judged, value, ◌>>=◌}
-use Rattle.sd_command_status.specs.Work.{work_of_text}
-use Rattle.sd_command_status.specs.Outcome.{status_of}
-use Rattle.sd_command_status.proofs.Firsts.{first_obeys}
-use Rattle.sd_command_status.proofs.Moves.{then_obeys}
-use Rattle.sd_command_files.specs.Both.{SiteBook, both_by}
-use Rattle.sd_command_files.specs.Shown.{shown_word}
-use Rattle.sd_command_files.proofs.Thirds.{judged_obeys, judged_refused}
+use Rattle.sd_site.specs.SiteFields.{fields_of}
+use Rattle.sd_command_base.specs.Outside.{depot_state, page_state, outside}
+use Rattle.sd_command_base.specs.Spec.{judged, value, ◌>>=◌}
+use Rattle.sd_command_base.specs.Work.{work_of_text}
+use Rattle.sd_command_base.specs.Outcome.{status_of}
+use Rattle.sd_command_base.proofs.Firsts.{first_obeys}
+use Rattle.sd_command_base.proofs.Moves.{then_obeys}
+use Rattle.sd_command_base.specs.Both.{SiteBook, both_by}
+use Rattle.sd_command_base.specs.Shown.{shown_word}
+use Rattle.sd_command_base.proofs.Thirds.{judged_obeys, judged_refused}
 use Rattle.sd_run_books.specs.Apart.{plan_of_both, told_apart}
 use Rattle.sd_run_books.proofs.Pairs.{pair_follows, pair_refused, text_said}
 use Rattle.sd_run_books.proofs.apart_command.apart.Goals as goal

@@ -1,18 +1,18 @@
 use Rattle.std.proofs.Common.{◌≡◌, ℕ, Ok, Err, refl, subst}
 use Rattle.std.proofs.lemmas.Result.{err_from_is_err_and}
-use Rattle.sd_site.specs.Fields.{fields_of}
+use Rattle.sd_site.specs.SiteFields.{fields_of}
 use Rattle.sd_book.specs.Text.{text_of}
 use Rattle.sd_book.specs.Value.{BookValue}
-use Rattle.sd_command_status.specs.declared.status.Status.TheVariants.{NoMemory}
-use Rattle.sd_command_status.specs.Outside.{depot_state, outside}
-use Rattle.sd_command_status.specs.Spec.{value, ◌>>=◌}
-use Rattle.sd_command_status.specs.Work.{NoSteps}
-use Rattle.sd_command_status.specs.Outcome.{status_of}
-use Rattle.sd_command_status.specs.Reads.{JudgedOutcome}
-use Rattle.sd_command_files.specs.Both.{SiteBook, both_by}
-use Rattle.sd_command_files.specs.Made.{making}
-use Rattle.sd_command_files.specs.Shown.{shown_word}
-use Rattle.sd_command_files.proofs.Thirds.{not_both, not_third, third_looked, wanting_obeys, judged_refused}
+use Rattle.sd_command_base.specs.declared.status.Status.TheVariants.{NoMemory}
+use Rattle.sd_command_base.specs.Outside.{depot_state, outside}
+use Rattle.sd_command_base.specs.Spec.{value, ◌>>=◌}
+use Rattle.sd_command_base.specs.Work.{NoSteps}
+use Rattle.sd_command_base.specs.Outcome.{status_of}
+use Rattle.sd_command_base.specs.Reads.{JudgedOutcome}
+use Rattle.sd_command_base.specs.Both.{SiteBook, both_by}
+use Rattle.sd_command_base.specs.Made.{making}
+use Rattle.sd_command_base.specs.Shown.{shown_word}
+use Rattle.sd_command_base.proofs.Thirds.{not_both, not_third, third_looked, wanting_obeys, judged_refused}
 use Rattle.sd_run_books.specs.Book.{longer_book, book_meaning}
 use Rattle.sd_run_books.proofs.Longer.{added_by, made_of, longer_made}
 use Rattle.sd_run_books.proofs.book_command.book.Goals as goal

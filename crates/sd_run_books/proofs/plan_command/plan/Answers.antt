@@ -1,14 +1,14 @@
 use Rattle.std.proofs.Common.{refl, ◌∙◌}
 use Rattle.std.proofs.lemmas.Result.{err_from_is_err_and}
-use Rattle.sd_site.specs.Fields.{fields_of}
-use Rattle.sd_spec_broadcast.specs.Plan.{Plan}
-use Rattle.sd_command_status.specs.Outside.{depot_state, page_state}
-use Rattle.sd_command_status.specs.Spec.{value, ◌>>=◌}
-use Rattle.sd_command_status.specs.Work.{Work}
-use Rattle.sd_command_status.specs.Outcome.{status_of}
-use Rattle.sd_command_status.proofs.Follow.{reads_follows, reads_first, reads_second, reads_two, prints_follows}
-use Rattle.sd_command_files.specs.Files.{book_of_file}
-use Rattle.sd_command_files.specs.Shown.{shown_word, shown_number}
+use Rattle.sd_site.specs.SiteFields.{fields_of}
+use Rattle.sd_spec.specs.Plan.{Plan}
+use Rattle.sd_command_base.specs.Outside.{depot_state, page_state}
+use Rattle.sd_command_base.specs.Spec.{value, ◌>>=◌}
+use Rattle.sd_command_base.specs.Work.{Work}
+use Rattle.sd_command_base.specs.Outcome.{status_of}
+use Rattle.sd_command_base.proofs.Follow.{reads_follows, reads_first, reads_second, reads_two, prints_follows}
+use Rattle.sd_command_base.specs.Files.{book_of_file}
+use Rattle.sd_command_base.specs.Shown.{shown_word, shown_number}
 use Rattle.sd_run_books.specs.Air.{plan_meaning, planning, roomy_site_of_file}
 use Rattle.sd_run_books.proofs.Printing.{no_text, one_text}
 use Rattle.sd_run_books.proofs.plan_command.plan.Goals as goal

@@ -1,8 +1,8 @@
 use Rattle.std.proofs.Common.{◌≡◌, ◌+◌, ◌*◌, ◌≤◌, ◌^◌, min, map, string_bytes}
 use Rattle.std.specs.List.{concat, range_with_len, sum_by}
 use Rattle.sd_book.specs.Commands.{last_period}
-use Rattle.sd_spec_broadcast.specs.Plan.{Plan}
-use Rattle.sd_site.specs.Fields.{fields_of}
+use Rattle.sd_spec.specs.Plan.{Plan}
+use Rattle.sd_site.specs.SiteFields.{fields_of}
 use Rattle.sd_run_books.specs.Air.{line_at, tables_in}
 use Rattle.sd_run_books.proofs.plan_periods.periods_text.Given as goal
 

@@ -1,22 +1,22 @@
 use Rattle.std.proofs.Common.{refl, Some, Ok, Err, []}
 use Rattle.std.proofs.lemmas.Result.{err_from_is_err_and}
-use Rattle.sd_site.specs.Fields.{fields_of}
+use Rattle.sd_site.specs.SiteFields.{fields_of}
 use Rattle.sd_ports.proofs.Outlets.{there_after}
-use Rattle.sd_spec_broadcast.specs.Plan.{Plan}
-use Rattle.sd_command_status.specs.declared.status.Status.TheVariants.{NoMemory}
-use Rattle.sd_command_status.specs.Outside.{depot_state, outside}
-use Rattle.sd_command_status.specs.Work.{Uncounted}
-use Rattle.sd_command_status.specs.Outcome.{status_of}
-use Rattle.sd_command_status.proofs.Givens.{some_got}
+use Rattle.sd_spec.specs.Plan.{Plan}
+use Rattle.sd_command_base.specs.declared.status.Status.TheVariants.{NoMemory}
+use Rattle.sd_command_base.specs.Outside.{depot_state, outside}
+use Rattle.sd_command_base.specs.Work.{Uncounted}
+use Rattle.sd_command_base.specs.Outcome.{status_of}
+use Rattle.sd_command_base.proofs.Givens.{some_got}
 use Rattle.sd_run_broadcasts.specs.Head.{sending_of, sent_of, sent_status}
-use Rattle.sd_command_files.specs.Shown.{shown_word}
-use Rattle.sd_command_files.proofs.Looked.{opened_got}
-use Rattle.sd_command_files.proofs.Turning.{turned_obeys, not_turned}
+use Rattle.sd_command_base.specs.Shown.{shown_word}
+use Rattle.sd_command_base.proofs.Looked.{opened_got}
+use Rattle.sd_command_base.proofs.Turning.{turned_obeys, not_turned}
 use Rattle.sd_run_broadcasts.proofs.Heading.{by_plan, plan_follows, no_plan}
 use Rattle.sd_run_broadcasts.proofs.Planned.{reads_plan}
 use Rattle.sd_run_broadcasts.proofs.head_command.head.Goals as goal
-use Rattle.sd_command_files.specs.Both.{SiteBook}
-use Rattle.sd_command_files.proofs.Thirds.{wanting_obeys}
+use Rattle.sd_command_base.specs.Both.{SiteBook}
+use Rattle.sd_command_base.proofs.Thirds.{wanting_obeys}
 use Rattle.sd_site.specs.declared.site.Site.{Site}
 use Rattle.sd_book.specs.declared.book.Book.{Book}
 

@@ -1,5 +1,5 @@
 use Rattle.sd_head.specs.Staged.{plan_in}
-use Rattle.sd_command_status.specs.Outcome.{status_of}
+use Rattle.sd_command_base.specs.Outcome.{status_of}
 use Rattle.sd_run_broadcasts.proofs.Heading.{sends_left, port_caused}
 use Rattle.sd_run_broadcasts.proofs.head_command.send.Goals as goal
 

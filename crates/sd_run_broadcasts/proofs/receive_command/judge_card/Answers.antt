@@ -1,14 +1,14 @@
 use Rattle.std.proofs.Common.{sym, ap, ◌∙◌, Ok}
-use Rattle.sd_card.specs.declared.card.Card.{Card}
-use Rattle.sd_card.specs.Fields.{fields_of}
+use Rattle.sd_site.specs.declared.card.Card.{Card}
+use Rattle.sd_site.specs.CardFields.{card_fields_of}
 use Rattle.sd_run_broadcasts.proofs.Cards.{card_read, card_refused}
 use Rattle.sd_run_broadcasts.proofs.receive_command.judge_card.Goals as goal
 
 pub returns-in_ok-new-in-Ok-clause-value : goal.returns-in_ok-new-in-Ok-clause-value
 returns-in_ok-new-in-Ok-clause-value c =
     let spelled = c.in-Ok.ensures.sound in
-    card_read c.args.bytes.now (fields_of c.in-Ok.card) spelled.0 spelled.1
-    ∙ ap (λ (card : Card). Ok (fields_of card)) (sym c.in_ok-new-in-Ok.ensures.card)
+    card_read c.args.bytes.now (card_fields_of c.in-Ok.card) spelled.0 spelled.1
+    ∙ ap (λ (card : Card). Ok (card_fields_of card)) (sym c.in_ok-new-in-Ok.ensures.card)
 
 pub returns-in-Err-clause-value : goal.returns-in-Err-clause-value
 returns-in-Err-clause-value c =

@@ -1,10 +1,10 @@
 use Rattle.std.proofs.lemmas.Result.{err_from_is_err_and}
 use Rattle.sd_receive.specs.Receiving.{card_in}
-use Rattle.sd_command_status.specs.declared.status.LimitKind.TheVariants.{CardBytes}
-use Rattle.sd_command_status.specs.Outside.{depot_state}
-use Rattle.sd_command_status.specs.Spec.{within, judged}
-use Rattle.sd_command_status.proofs.Follow.{looks_first, looks_judged}
-use Rattle.sd_command_files.specs.Files.{most_card_bytes}
+use Rattle.sd_command_base.specs.declared.status.LimitKind.TheVariants.{CardBytes}
+use Rattle.sd_command_base.specs.Outside.{depot_state}
+use Rattle.sd_command_base.specs.Spec.{within, judged}
+use Rattle.sd_command_base.proofs.Follow.{looks_first, looks_judged}
+use Rattle.sd_command_base.specs.Files.{most_card_bytes}
 use Rattle.sd_run_broadcasts.specs.Receive.{told_card, card_of_file}
 use Rattle.sd_run_broadcasts.proofs.receive_command.read_receiver.Goals as goal
 

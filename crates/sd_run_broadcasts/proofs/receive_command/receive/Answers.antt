@@ -1,12 +1,12 @@
 use Rattle.std.proofs.Common.{Ok, Err, ◌∙◌}
 use Rattle.std.proofs.lemmas.Result.{err_from_is_err_and}
 use Rattle.sd_receive.specs.Receiving.{card_in}
-use Rattle.sd_command_status.specs.Outside.{depot_state, outside}
-use Rattle.sd_command_status.specs.Spec.{all_of, value, ◌>>=◌}
-use Rattle.sd_command_status.specs.Outcome.{status_of}
+use Rattle.sd_command_base.specs.Outside.{depot_state, outside}
+use Rattle.sd_command_base.specs.Spec.{all_of, value, ◌>>=◌}
+use Rattle.sd_command_base.specs.Outcome.{status_of}
 use Rattle.sd_run_broadcasts.specs.Receive.{card_of_file, receiving, stream_meaning, receive_meaning}
-use Rattle.sd_command_files.specs.Shown.{shown_word}
-use Rattle.sd_command_files.proofs.Streamed.{first_follows, then_follows}
+use Rattle.sd_command_base.specs.Shown.{shown_word}
+use Rattle.sd_command_base.proofs.Streamed.{first_follows, then_follows}
 use Rattle.sd_run_broadcasts.proofs.Unmade.{looked_made}
 use Rattle.sd_run_broadcasts.proofs.receive_command.receive.Goals as goal
 

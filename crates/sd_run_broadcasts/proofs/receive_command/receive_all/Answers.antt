@@ -1,5 +1,5 @@
 use Rattle.std.proofs.Common.{subst, sym, ◌∙◌}
-use Rattle.sd_command_status.specs.Outcome.{IsEnding, status_of}
+use Rattle.sd_command_base.specs.Outcome.{IsEnding, status_of}
 use Rattle.sd_run_broadcasts.proofs.Received.{new_lives, left_ended, left_stopped}
 use Rattle.sd_run_broadcasts.proofs.Unmade.{never_memory}
 use Rattle.sd_run_broadcasts.proofs.receive_command.receive_all.Goals as goal

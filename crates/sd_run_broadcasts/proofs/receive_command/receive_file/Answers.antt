@@ -3,16 +3,16 @@ use Rattle.std.specs.Prelude.{◌⊎◌}
 use Rattle.std.proofs.lemmas.Result.{err_from_is_err_and}
 use Rattle.sd_ports.proofs.Outlets.{there_after}
 use Rattle.sd_receive.specs.Receiving.{card_in}
-use Rattle.sd_command_status.specs.Outside.{depot_state, outside}
-use Rattle.sd_command_status.specs.Spec.{all_of, value, ◌>>=◌}
-use Rattle.sd_command_status.specs.Work.{UpTo}
-use Rattle.sd_command_status.specs.Outcome.{status_of}
+use Rattle.sd_command_base.specs.Outside.{depot_state, outside}
+use Rattle.sd_command_base.specs.Spec.{all_of, value, ◌>>=◌}
+use Rattle.sd_command_base.specs.Work.{UpTo}
+use Rattle.sd_command_base.specs.Outcome.{status_of}
 use Rattle.sd_run_broadcasts.specs.Receive.{received_of, received_status, received_steps, receiving}
-use Rattle.sd_command_files.specs.Shown.{shown_word}
-use Rattle.sd_command_files.specs.Turned.{unclosed_by}
-use Rattle.sd_command_files.proofs.Looked.{opened_got}
-use Rattle.sd_command_files.proofs.Turning.{turned_obeys, not_turned}
-use Rattle.sd_command_files.proofs.Streamed.{got_follows}
+use Rattle.sd_command_base.specs.Shown.{shown_word}
+use Rattle.sd_command_base.specs.Turned.{unclosed_by}
+use Rattle.sd_command_base.proofs.Looked.{opened_got}
+use Rattle.sd_command_base.proofs.Turning.{turned_obeys, not_turned}
+use Rattle.sd_command_base.proofs.Streamed.{got_follows}
 use Rattle.sd_run_broadcasts.proofs.Unmade.{not_opened, closed_memory}
 use Rattle.sd_run_broadcasts.proofs.receive_command.receive_file.Goals as goal
 

@@ -1,15 +1,15 @@
 use Rattle.std.proofs.Common.{string_bytes, sym, subst, List, Result, ℕ}
 use Rattle.std.proofs.lemmas.Result.{err_from_is_err_and}
-use Rattle.sd_site.specs.Fields.{fields_of}
-use Rattle.sd_spec_broadcast.specs.Plan.{Plan}
-use Rattle.sd_command_status.specs.declared.status.Status.{Status}
-use Rattle.sd_command_status.specs.Outside.{depot_state, page_state, outside}
-use Rattle.sd_command_status.specs.Spec.{value, ◌>>=◌}
-use Rattle.sd_command_status.specs.Outcome.{OutcomeWithin, status_of}
-use Rattle.sd_command_files.specs.Shown.{shown_word}
-use Rattle.sd_command_files.specs.Printed.{printing}
-use Rattle.sd_command_files.proofs.Printed.{nothing_printed, text_printed}
-use Rattle.sd_command_files.proofs.Thirds.{not_both, not_third, third_looked}
+use Rattle.sd_site.specs.SiteFields.{fields_of}
+use Rattle.sd_spec.specs.Plan.{Plan}
+use Rattle.sd_command_base.specs.declared.status.Status.{Status}
+use Rattle.sd_command_base.specs.Outside.{depot_state, page_state, outside}
+use Rattle.sd_command_base.specs.Spec.{value, ◌>>=◌}
+use Rattle.sd_command_base.specs.Outcome.{OutcomeWithin, status_of}
+use Rattle.sd_command_base.specs.Shown.{shown_word}
+use Rattle.sd_command_base.specs.Printed.{printing}
+use Rattle.sd_command_base.proofs.Printed.{nothing_printed, text_printed}
+use Rattle.sd_command_base.proofs.Thirds.{not_both, not_third, third_looked}
 use Rattle.sd_run_broadcasts.specs.Prefixes.{prefix_of_file}
 use Rattle.sd_run_broadcasts.specs.Trial.{plan_by, trial_meaning, trial_text, trying, most_clear_bytes}
 use Rattle.sd_run_broadcasts.proofs.trial_command.trial.Goals as goal

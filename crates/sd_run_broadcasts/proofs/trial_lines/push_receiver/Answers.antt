@@ -1,7 +1,6 @@
 use Rattle.std.proofs.Common.{ap, ◌∙◌}
-use Rattle.sd_site.specs.Fields.{fields_of}
-use Rattle.sd_card.specs.Fields.{card_of}
-use Rattle.sd_card.specs.Fields as card
+use Rattle.sd_site.specs.SiteFields.{fields_of}
+use Rattle.sd_site.specs.CardFields.{card_of, card_fields_of}
 use Rattle.sd_receive.specs.Receiving.{card_in}
 use Rattle.sd_run_broadcasts.proofs.Trying.{heard_as}
 use Rattle.sd_run_broadcasts.proofs.trial_lines.push_receiver.Goals as goal
@@ -11,5 +10,5 @@ returns g c =
     let site = c.args.site.now in
     heard_as (fields_of site) c.args.sent.now c.args.u c.in_ok-wrote.wrote (card_in c.in_ok-receiver.receiver)
     c.in_ok-wrote.status _ _ c.push_line.result
-    (ap card.fields_of c.in_ok-receiver.ensures.card ∙ (c.in_ok-card.ensures
+    (ap card_fields_of c.in_ok-receiver.ensures.card ∙ (c.in_ok-card.ensures
     ∙ ap (card_of site.master site.ca site.height) c.in-Some.ensures.value)) c.in_ok-wrote.ensures c.push_line.ensures

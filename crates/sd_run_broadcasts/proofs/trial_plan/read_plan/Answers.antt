@@ -1,14 +1,14 @@
 use Rattle.std.proofs.Common.{refl}
 use Rattle.std.proofs.lemmas.Result.{err_from_is_err_and}
-use Rattle.sd_site.specs.Fields.{fields_of}
-use Rattle.sd_command_status.specs.Outside.{depot_state}
-use Rattle.sd_command_status.specs.declared.status.LimitKind.TheVariants.{TrialHeight}
-use Rattle.sd_command_status.specs.Spec.{value, ◌>>=◌}
-use Rattle.sd_command_status.proofs.Follow.{reads_first, reads_second, reads_two}
-use Rattle.sd_command_files.specs.Files.{book_of_file, low_site_of_file}
+use Rattle.sd_site.specs.SiteFields.{fields_of}
+use Rattle.sd_command_base.specs.Outside.{depot_state}
+use Rattle.sd_command_base.specs.declared.status.LimitKind.TheVariants.{TrialHeight}
+use Rattle.sd_command_base.specs.Spec.{value, ◌>>=◌}
+use Rattle.sd_command_base.proofs.Follow.{reads_first, reads_second, reads_two}
+use Rattle.sd_command_base.specs.Files.{book_of_file, low_site_of_file}
 use Rattle.sd_run_broadcasts.specs.Trial.{most_height, plan_by, plan_meaning}
-use Rattle.sd_command_files.specs.Shown.{shown_word}
-use Rattle.sd_command_files.proofs.Thirds.{same_refusal, same_value}
+use Rattle.sd_command_base.specs.Shown.{shown_word}
+use Rattle.sd_command_base.proofs.Thirds.{same_refusal, same_value}
 use Rattle.sd_run_broadcasts.proofs.trial_plan.read_plan.Goals as goal
 
 pub returns-in_err-site-clause-value : goal.returns-in_err-site-clause-value

@@ -1,10 +1,10 @@
 use Rattle.std.proofs.Common.{◌∙◌, arith}
 use Rattle.sd_ports.specs.Bytes.{prefix_of}
 use Rattle.sd_ports.proofs.Calls.{twice_called, open_as_before}
-use Rattle.sd_command_status.specs.Outside.{depot_state}
-use Rattle.sd_command_status.specs.Spec.{all_of, value}
-use Rattle.sd_command_status.proofs.Follow.{looks_first}
-use Rattle.sd_command_files.proofs.Looked.{bytes_seen, opens_refused}
+use Rattle.sd_command_base.specs.Outside.{depot_state}
+use Rattle.sd_command_base.specs.Spec.{all_of, value}
+use Rattle.sd_command_base.proofs.Follow.{looks_first}
+use Rattle.sd_command_base.proofs.Looked.{bytes_seen, opens_refused}
 use Rattle.sd_run_broadcasts.specs.Prefixes.{prefix_of_file}
 use Rattle.sd_run_broadcasts.proofs.Prefixes.{prefix_answered}
 use Rattle.sd_run_broadcasts.proofs.trial_prefix.read_prefix.Goals as goal

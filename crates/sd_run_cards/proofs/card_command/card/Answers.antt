@@ -1,17 +1,17 @@
 use Rattle.std.proofs.Common.{sym, subst, List, ℕ, Result}
 use Rattle.std.proofs.lemmas.Result.{err_from_is_err_and}
-use Rattle.sd_site.specs.Fields.{fields_of}
-use Rattle.sd_command_status.specs.declared.status.Status.{Status}
-use Rattle.sd_command_status.specs.Outside.{depot_state, outside}
-use Rattle.sd_command_status.specs.Work.{Uncounted}
-use Rattle.sd_command_status.specs.Spec.{judged, value, ◌>>=◌}
-use Rattle.sd_command_status.specs.Outcome.{OutcomeWithin, status_of}
-use Rattle.sd_command_status.proofs.Follow.{looks_follows, looked_follows}
-use Rattle.sd_command_files.specs.Files.{site_of_file}
+use Rattle.sd_site.specs.SiteFields.{fields_of}
+use Rattle.sd_command_base.specs.declared.status.Status.{Status}
+use Rattle.sd_command_base.specs.Outside.{depot_state, outside}
+use Rattle.sd_command_base.specs.Work.{Uncounted}
+use Rattle.sd_command_base.specs.Spec.{judged, value, ◌>>=◌}
+use Rattle.sd_command_base.specs.Outcome.{OutcomeWithin, status_of}
+use Rattle.sd_command_base.proofs.Follow.{looks_follows, looked_follows}
+use Rattle.sd_command_base.specs.Files.{site_of_file}
 use Rattle.sd_run_cards.specs.Card.{told_card}
-use Rattle.sd_command_files.specs.Made.{making}
-use Rattle.sd_command_files.specs.Shown.{shown_word, shown_number}
-use Rattle.sd_command_files.proofs.Making.{any_steps}
+use Rattle.sd_command_base.specs.Made.{making}
+use Rattle.sd_command_base.specs.Shown.{shown_word, shown_number}
+use Rattle.sd_command_base.proofs.Making.{any_steps}
 use Rattle.sd_run_cards.proofs.Carding.{card_obeys}
 use Rattle.sd_run_cards.proofs.card_command.card.Goals as goal
 

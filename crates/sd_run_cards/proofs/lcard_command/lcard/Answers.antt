@@ -1,17 +1,17 @@
 use Rattle.std.proofs.Common.{inl, subst, ℕ, List}
 use Rattle.std.proofs.lemmas.Result.{err_from_is_err_and}
-use Rattle.sd_site.specs.Fields.{fields_of}
+use Rattle.sd_site.specs.SiteFields.{fields_of}
 use Rattle.sd_lsd.specs.Fields.{layer_card_of, layer_bytes}
-use Rattle.sd_command_status.specs.Outside.{depot_state, outside}
-use Rattle.sd_command_status.specs.Work.{Uncounted}
-use Rattle.sd_command_status.specs.Spec.{judged, value, ◌>>=◌}
-use Rattle.sd_command_status.specs.Outcome.{OutcomeWithin, status_of}
-use Rattle.sd_command_status.proofs.Follow.{looks_follows, looked_follows}
-use Rattle.sd_command_files.specs.Files.{site_of_file}
-use Rattle.sd_command_files.specs.Made.{making}
-use Rattle.sd_command_files.specs.Shown.{shown_word, shown_number}
-use Rattle.sd_command_files.proofs.Making.{any_steps}
-use Rattle.sd_command_files.proofs.Thirds.{judged_refused, judged_obeys, wanting_obeys}
+use Rattle.sd_command_base.specs.Outside.{depot_state, outside}
+use Rattle.sd_command_base.specs.Work.{Uncounted}
+use Rattle.sd_command_base.specs.Spec.{judged, value, ◌>>=◌}
+use Rattle.sd_command_base.specs.Outcome.{OutcomeWithin, status_of}
+use Rattle.sd_command_base.proofs.Follow.{looks_follows, looked_follows}
+use Rattle.sd_command_base.specs.Files.{site_of_file}
+use Rattle.sd_command_base.specs.Made.{making}
+use Rattle.sd_command_base.specs.Shown.{shown_word, shown_number}
+use Rattle.sd_command_base.proofs.Making.{any_steps}
+use Rattle.sd_command_base.proofs.Thirds.{judged_refused, judged_obeys, wanting_obeys}
 use Rattle.sd_run_cards.specs.Lcard.{told_leaf, told_width, carding}
 use Rattle.sd_run_cards.proofs.lcard_command.lcard.Goals as goal
 

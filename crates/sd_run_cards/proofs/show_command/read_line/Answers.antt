@@ -1,10 +1,10 @@
 use Rattle.std.proofs.Common.{string_bytes}
 use Rattle.std.proofs.lemmas.Result.{err_from_is_err_and}
-use Rattle.sd_command_status.specs.declared.status.LimitKind.TheVariants.{CardBytes}
-use Rattle.sd_command_status.specs.Outside.{depot_state}
-use Rattle.sd_command_status.specs.Spec.{within, judged}
-use Rattle.sd_command_status.proofs.Follow.{looks_first, looks_judged}
-use Rattle.sd_command_files.specs.Files.{most_card_bytes}
+use Rattle.sd_command_base.specs.declared.status.LimitKind.TheVariants.{CardBytes}
+use Rattle.sd_command_base.specs.Outside.{depot_state}
+use Rattle.sd_command_base.specs.Spec.{within, judged}
+use Rattle.sd_command_base.proofs.Follow.{looks_first, looks_judged}
+use Rattle.sd_command_base.specs.Files.{most_card_bytes}
 use Rattle.sd_run_cards.specs.Show.{told_show, line_of_file}
 use Rattle.sd_run_cards.proofs.show_command.read_line.Goals as goal
 

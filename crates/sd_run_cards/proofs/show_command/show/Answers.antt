@@ -1,12 +1,12 @@
 use Rattle.std.proofs.Common.{refl, string_bytes}
 use Rattle.std.proofs.lemmas.Result.{err_from_is_err_and}
-use Rattle.sd_command_status.specs.Outside.{depot_state, page_state}
-use Rattle.sd_command_status.specs.Spec.{value}
-use Rattle.sd_command_status.specs.Outcome.{status_of}
-use Rattle.sd_command_status.specs.Work.{work_of_text}
-use Rattle.sd_command_status.proofs.Texts.{text_prints}
-use Rattle.sd_command_status.proofs.Follow.{looks_follows, looks_reads, prints_follows}
-use Rattle.sd_command_files.specs.Shown.{shown_word}
+use Rattle.sd_command_base.specs.Outside.{depot_state, page_state}
+use Rattle.sd_command_base.specs.Spec.{value}
+use Rattle.sd_command_base.specs.Outcome.{status_of}
+use Rattle.sd_command_base.specs.Work.{work_of_text}
+use Rattle.sd_command_base.proofs.Texts.{text_prints}
+use Rattle.sd_command_base.proofs.Follow.{looks_follows, looks_reads, prints_follows}
+use Rattle.sd_command_base.specs.Shown.{shown_word}
 use Rattle.sd_run_cards.specs.Show.{line_of_file, show_meaning}
 use Rattle.sd_run_cards.proofs.show_command.show.Goals as goal
 

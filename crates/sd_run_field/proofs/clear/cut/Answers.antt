@@ -1,7 +1,7 @@
 use Rattle.std.proofs.Common.{arith, ◌≡◌, ap, length, refl, sym, inl, ◌∙◌, subst, Err}
 use Rattle.std.proofs.lemmas.List.{nil_from_length}
-use Rattle.sd_command_status.specs.declared.status.Status.{Status}
-use Rattle.sd_command_status.specs.Outcome.{IsEnding, IsRefusal}
+use Rattle.sd_command_base.specs.declared.status.Status.{Status}
+use Rattle.sd_command_base.specs.Outcome.{IsEnding, IsRefusal}
 use Rattle.sd_run_field.specs.Clear.{broken_status}
 use Rattle.sd_run_field.proofs.Cutting.{all_cut, cut_breaks, none_left, nothing_cut, one_more_cut, some_left}
 use Rattle.sd_run_field.proofs.clear.cut.Goals as goal

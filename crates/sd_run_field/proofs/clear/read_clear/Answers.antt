@@ -1,9 +1,9 @@
 use Rattle.std.proofs.Common.{◌*◌, ◌≤◌, length}
 use Rattle.std.proofs.lemmas.Result.{err_from_is_err_and}
-use Rattle.sd_command_status.specs.declared.status.LimitKind.TheVariants.{FieldPackets}
-use Rattle.sd_command_status.specs.Outside.{depot_state}
-use Rattle.sd_command_status.specs.Spec.{within, judged}
-use Rattle.sd_command_status.proofs.Follow.{looks_first, looks_judged, where_ok}
+use Rattle.sd_command_base.specs.declared.status.LimitKind.TheVariants.{FieldPackets}
+use Rattle.sd_command_base.specs.Outside.{depot_state}
+use Rattle.sd_command_base.specs.Spec.{within, judged}
+use Rattle.sd_command_base.proofs.Follow.{looks_first, looks_judged, where_ok}
 use Rattle.sd_run_field.specs.Field.{clear_of_file, most_clear_bytes, told_clear}
 use Rattle.sd_run_field.proofs.Cutting.{bytes_within, packets_within}
 use Rattle.sd_run_field.proofs.clear.read_clear.Goals as goal

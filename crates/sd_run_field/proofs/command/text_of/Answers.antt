@@ -1,6 +1,6 @@
 use Rattle.std.proofs.Common.{subst, string_bytes}
 use Rattle.sd_field.specs.Fields.{FieldValue}
-use Rattle.sd_command_files.specs.Printed.{MemoryOutcome}
+use Rattle.sd_command_base.specs.Printed.{MemoryOutcome}
 use Rattle.sd_run_field.specs.Field.{text_in}
 use Rattle.sd_run_field.specs.Played.{all_done}
 use Rattle.sd_run_field.proofs.command.text_of.Goals as goal

@@ -1,10 +1,10 @@
 use Rattle.std.proofs.lemmas.Result.{err_from_is_err_and}
 use Rattle.sd_field.specs.Script.{script_of}
-use Rattle.sd_command_status.specs.declared.status.LimitKind.TheVariants.{BookBytes}
-use Rattle.sd_command_status.specs.Outside.{depot_state}
-use Rattle.sd_command_status.specs.Spec.{within, judged}
-use Rattle.sd_command_status.proofs.Follow.{looks_first, looks_judged}
-use Rattle.sd_command_files.specs.Files.{most_book_bytes}
+use Rattle.sd_command_base.specs.declared.status.LimitKind.TheVariants.{BookBytes}
+use Rattle.sd_command_base.specs.Outside.{depot_state}
+use Rattle.sd_command_base.specs.Spec.{within, judged}
+use Rattle.sd_command_base.proofs.Follow.{looks_first, looks_judged}
+use Rattle.sd_command_base.specs.Files.{most_book_bytes}
 use Rattle.sd_run_field.specs.Field.{told_script, script_of_file}
 use Rattle.sd_run_field.proofs.script.read_events.Goals as goal
 

@@ -1,11 +1,11 @@
 use Rattle.std.proofs.lemmas.Result.{err_from_is_err_and}
-use Rattle.sd_site.specs.Fields.{fields_of}
-use Rattle.sd_command_status.specs.Outside.{depot_state, page_state, outside}
-use Rattle.sd_command_status.specs.Spec.{all_of, value, ◌>>=◌}
-use Rattle.sd_command_status.specs.Outcome.{status_of}
-use Rattle.sd_command_files.specs.Files.{site_of_file}
-use Rattle.sd_command_files.specs.Shown.{shown_word}
-use Rattle.sd_command_files.proofs.Streamed.{first_follows, then_follows}
+use Rattle.sd_site.specs.SiteFields.{fields_of}
+use Rattle.sd_command_base.specs.Outside.{depot_state, page_state, outside}
+use Rattle.sd_command_base.specs.Spec.{all_of, value, ◌>>=◌}
+use Rattle.sd_command_base.specs.Outcome.{status_of}
+use Rattle.sd_command_base.specs.Files.{site_of_file}
+use Rattle.sd_command_base.specs.Shown.{shown_word}
+use Rattle.sd_command_base.proofs.Streamed.{first_follows, then_follows}
 use Rattle.sd_run_streams.specs.Messages.{messages_meaning, monitoring, stream_meaning}
 use Rattle.sd_run_streams.proofs.messages_command.messages.Goals as goal
 

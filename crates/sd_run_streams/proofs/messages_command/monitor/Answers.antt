@@ -1,5 +1,5 @@
-use Rattle.sd_site.specs.Fields.{fields_of}
-use Rattle.sd_command_status.specs.Outcome.{status_of}
+use Rattle.sd_site.specs.SiteFields.{fields_of}
+use Rattle.sd_command_base.specs.Outcome.{status_of}
 use Rattle.sd_run_streams.proofs.Inspected.{read_caused}
 use Rattle.sd_run_streams.proofs.Monitored.{is_monitored}
 use Rattle.sd_run_streams.proofs.messages_command.monitor.Goals as goal

@@ -1,14 +1,14 @@
 use Rattle.std.proofs.Common.{refl, ◌∙◌, ◌≡◌, arith}
 use Rattle.sd_ports.proofs.Calls.{twice_called, open_as_before}
 use Rattle.sd_engine.specs.Taken.{end_of}
-use Rattle.sd_site.specs.Fields.{fields_of}
-use Rattle.sd_command_status.specs.Outside.{depot_state, page_state}
-use Rattle.sd_command_status.specs.Spec.{all_of, value}
-use Rattle.sd_command_status.specs.Outcome.{status_of}
-use Rattle.sd_command_status.proofs.Follow.{looks_follows}
-use Rattle.sd_command_status.proofs.Streams.{faults_added, reading_follows}
-use Rattle.sd_command_files.specs.Shown.{shown_word}
-use Rattle.sd_command_files.proofs.Looked.{bytes_seen, opened_got, opens_refused}
+use Rattle.sd_site.specs.SiteFields.{fields_of}
+use Rattle.sd_command_base.specs.Outside.{depot_state, page_state}
+use Rattle.sd_command_base.specs.Spec.{all_of, value}
+use Rattle.sd_command_base.specs.Outcome.{status_of}
+use Rattle.sd_command_base.proofs.Follow.{looks_follows}
+use Rattle.sd_command_base.proofs.Streams.{faults_added, reading_follows}
+use Rattle.sd_command_base.specs.Shown.{shown_word}
+use Rattle.sd_command_base.proofs.Looked.{bytes_seen, opened_got, opens_refused}
 use Rattle.sd_run_streams.proofs.Inspected.{stream_ends}
 use Rattle.sd_run_streams.specs.Messages.{monitoring}
 use Rattle.sd_run_streams.proofs.messages_command.print_file.Goals as goal

@@ -1,9 +1,9 @@
-use Rattle.sd_sample.specs.Sample.{sample_of}
-use Rattle.sd_command_status.specs.Outside.{depot_state}
-use Rattle.sd_command_status.specs.Work.{NoSteps}
-use Rattle.sd_command_files.specs.Shown.{shown_word}
-use Rattle.sd_command_status.proofs.Givens.{any_given}
-use Rattle.sd_command_files.proofs.Making.{made_obeys}
+use Rattle.sd_engine.specs.Sample.{sample_of}
+use Rattle.sd_command_base.specs.Outside.{depot_state}
+use Rattle.sd_command_base.specs.Work.{NoSteps}
+use Rattle.sd_command_base.specs.Shown.{shown_word}
+use Rattle.sd_command_base.proofs.Givens.{any_given}
+use Rattle.sd_command_base.proofs.Making.{made_obeys}
 use Rattle.sd_run_streams.proofs.sample_command.sample.Goals as goal
 
 pub returns : goal.returns

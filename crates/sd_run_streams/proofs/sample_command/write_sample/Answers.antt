@@ -1,4 +1,4 @@
-use Rattle.sd_sample.specs.Sample.{sample_of}
+use Rattle.sd_engine.specs.Sample.{sample_of}
 use Rattle.sd_ports.proofs.Outlets.{written_whole, written_prefix, written_cut}
 use Rattle.sd_run_streams.proofs.sample_command.write_sample.Goals as goal
 

@@ -1,6 +1,6 @@
 use Rattle.std.proofs.lemmas.Result.{err_from_is_err_and}
-use Rattle.sd_command_status.specs.Outside.{page_state}
-use Rattle.sd_command_status.specs.Outcome.{status_of}
+use Rattle.sd_command_base.specs.Outside.{page_state}
+use Rattle.sd_command_base.specs.Outcome.{status_of}
 use Rattle.sd_run_streams.proofs.Inspected.{not_inspected, is_inspected, read_caused}
 use Rattle.sd_run_streams.proofs.tables_command.inspect.Goals as goal
 

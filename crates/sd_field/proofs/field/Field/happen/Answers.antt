@@ -1,6 +1,6 @@
 use Rattle.std.proofs.Common.{◌∙◌, ◌^◌, ap, sym}
 use Rattle.std.proofs.lemmas.Bool.{ltb-true}
-use Rattle.sd_spec_field.specs.Events.{is_of}
+use Rattle.sd_spec.specs.Events.{is_of}
 use Rattle.sd_field.proofs.field.Field.happen.Goals as goal
 
 pub offer-requires-clause-leaf : goal.offer-requires-clause-leaf

@@ -1,10 +1,10 @@
 use Rattle.std.proofs.Common.{arith, ◌≡◌, ◌∙◌, ◌*◌, [], ℕ, List, None, ap, length, refl, subst}
 use Rattle.std.specs.Prelude.{reverse}
-use Rattle.sd_site.specs.Fields.{SiteFields, fields_of}
+use Rattle.sd_site.specs.SiteFields.{SiteFields, fields_of}
 use Rattle.sd_book.specs.declared.command.Command.{Command}
-use Rattle.sd_spec_broadcast.specs.Plan.{Plan}
-use Rattle.sd_spec_field.specs.declared.event.Event.{Event}
-use Rattle.sd_spec_field.specs.Book.{event_book}
+use Rattle.sd_spec.specs.Plan.{Plan}
+use Rattle.sd_spec.specs.declared.event.Event.{Event}
+use Rattle.sd_spec.specs.Book.{event_book}
 use Rattle.sd_field.specs.Fields.{FieldValue, plan_in}
 use Rattle.sd_field.specs.Seats.{AreNew}
 use Rattle.sd_field.specs.Stations.{IsStation}

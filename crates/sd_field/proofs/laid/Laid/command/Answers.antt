@@ -1,9 +1,9 @@
 use Rattle.std.proofs.Common.{arith, ◌≡◌, ◌∙◌, ◌<◌, ◌≤◌, ◌++◌, ◌∷◌, [], ℕ, List, OnOk, ap, sym, subst}
-use Rattle.sd_site.specs.Fields.{fields_of}
+use Rattle.sd_site.specs.SiteFields.{fields_of}
 use Rattle.sd_book.specs.Limits.{IsDraft, IsWithinLimits}
 use Rattle.sd_book.specs.declared.command.Command.{Command}
 use Rattle.sd_book.proofs.Judged.{within_is_draft}
-use Rattle.sd_spec_field.specs.Book.{with_periods_to, period_after}
+use Rattle.sd_spec.specs.Book.{with_periods_to, period_after}
 use Rattle.sd_field.proofs.Laying.{command_beyond, command_within, front_within}
 use Rattle.sd_field.proofs.laid.Laid.command.Goals as goal
 

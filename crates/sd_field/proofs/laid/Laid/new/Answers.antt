@@ -1,6 +1,6 @@
 use Rattle.std.proofs.Common.{refl, ap, sym}
 use Rattle.sd_book.specs.Commands.{last_period}
-use Rattle.sd_spec_field.specs.Book.{event_book, sends}
+use Rattle.sd_spec.specs.Book.{event_book, sends}
 use Rattle.sd_field.proofs.laid.Laid.new.Goals as goal
 
 pub returns : goal.returns

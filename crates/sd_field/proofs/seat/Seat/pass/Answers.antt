@@ -1,5 +1,5 @@
 use Rattle.std.proofs.Common.{◌+◌, refl}
-use Rattle.sd_spec_field.specs.Watch.{present}
+use Rattle.sd_spec.specs.Watch.{present}
 use Rattle.sd_field.specs.Seats.{wrote_before}
 use Rattle.sd_field.proofs.Seats.{heard_full, heard_seat, passed_seat}
 use Rattle.sd_field.proofs.seat.Seat.pass.Goals as goal

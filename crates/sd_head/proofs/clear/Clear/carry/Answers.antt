@@ -1,6 +1,6 @@
 use Rattle.std.proofs.Common.{◌≡◌, ◌∙◌, true, sym}
 use Rattle.sd_packet.specs.Positions.{is_placed}
-use Rattle.sd_site.specs.Fields.{fields_of}
+use Rattle.sd_site.specs.SiteFields.{fields_of}
 use Rattle.sd_head.proofs.Carrying.{carried_passed, carried_pmt, carried_scrambled}
 use Rattle.sd_head.proofs.clear.Clear.carry.Goals as goal
 

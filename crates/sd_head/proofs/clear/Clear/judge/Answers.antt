@@ -2,8 +2,8 @@ use Rattle.std.proofs.Common.{◌≡◌, ◌==◌, true, false, sym, ◌∙◌, 
 use Rattle.std.proofs.Common.{eq-eqb, ne_eqb}
 use Rattle.std.specs.Prelude.{None}
 use Rattle.sd_packet.specs.Header.{pid_of, scrambling_of}
-use Rattle.sd_site.specs.Fields.{fields_of}
-use Rattle.sd_spec_broadcast.specs.Refused.{is_reserved_pid, pat_wrong, is_full_own, is_too_long}
+use Rattle.sd_site.specs.SiteFields.{fields_of}
+use Rattle.sd_spec.specs.Refused.{is_reserved_pid, pat_wrong, is_full_own, is_too_long}
 use Rattle.sd_head.proofs.Refusing.{scrambled_refused, taken_refused, pat_refused, full_refused, many_refused}
 use Rattle.sd_head.proofs.Refusing.{long_refused, none_refused}
 use Rattle.sd_head.proofs.clear.Clear.judge.Goals as goal

@@ -3,7 +3,7 @@ use Rattle.std.specs.Prelude.{slice_index}
 use Rattle.std.specs.Vec.{with_items}
 use Rattle.std.proofs.lemmas.List.{with_items_is}
 use Rattle.sd_packet.specs.Header.{pid_of}
-use Rattle.sd_spec_broadcast.specs.Kinds.{pmts_in}
+use Rattle.sd_spec.specs.Kinds.{pmts_in}
 use Rattle.sd_head.specs.After.{ArePositions}
 use Rattle.sd_head.specs.Known.{AreNear, AreMarked}
 use Rattle.sd_head.proofs.Moving.{near_later}

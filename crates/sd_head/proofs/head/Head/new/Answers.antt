@@ -1,6 +1,6 @@
 use Rattle.std.proofs.Common.{List, refl, sym, subst, ap}
-use Rattle.sd_site.specs.Fields.{fields_of}
-use Rattle.sd_spec_broadcast.specs.Sent.{Item}
+use Rattle.sd_site.specs.SiteFields.{fields_of}
+use Rattle.sd_spec.specs.Sent.{Item}
 use Rattle.sd_head.specs.Kept.{plan_of}
 use Rattle.sd_head.specs.Items.{HasSent}
 use Rattle.sd_head.proofs.Stepping.{none_clear, sent_none, begun_ready}

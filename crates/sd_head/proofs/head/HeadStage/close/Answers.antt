@@ -1,8 +1,8 @@
 use Rattle.std.proofs.Common.{◌∙◌, ◌++◌, ◌-◌, ◌==◌, ℕ, true, [], inl, inr, refl, sym, ap, subst, arith}
 use Rattle.std.specs.Prelude.{map, Some, None}
-use Rattle.sd_site.specs.Fields.{fields_of}
+use Rattle.sd_site.specs.SiteFields.{fields_of}
 use Rattle.sd_engine.specs.Stage.{vessel}
-use Rattle.sd_spec_broadcast.specs.Plan.{closing_number, crypto_of}
+use Rattle.sd_spec.specs.Plan.{closing_number, crypto_of}
 use Rattle.sd_head.specs.Kept.{uncounted, IsOf}
 use Rattle.sd_head.specs.Lending.{with_emms}
 use Rattle.sd_head.proofs.Periods.{still_of, left_alike}

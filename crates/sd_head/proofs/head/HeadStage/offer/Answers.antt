@@ -1,9 +1,9 @@
 use Rattle.std.proofs.Common.{◌∙◌, ◌++◌, ◌+◌, ◌%◌, [], length, inl, inr, refl, sym, ap, subst, arith}
 use Rattle.std.specs.Prelude.{map, Some, if◌then◌else◌}
-use Rattle.sd_label.specs.Keys.{control_word_of}
-use Rattle.sd_site.specs.Fields.{fields_of}
+use Rattle.sd_tree.specs.Keys.{control_word_of}
+use Rattle.sd_site.specs.SiteFields.{fields_of}
 use Rattle.sd_engine.specs.Stage.{vessel}
-use Rattle.sd_spec_broadcast.specs.Plan.{Plan, crypto_of}
+use Rattle.sd_spec.specs.Plan.{Plan, crypto_of}
 use Rattle.sd_head.specs.declared.crypto.CryptoPeriod.{CryptoPeriod}
 use Rattle.sd_head.specs.Kept.{uncounted}
 use Rattle.sd_head.specs.Lending.{with_emms}

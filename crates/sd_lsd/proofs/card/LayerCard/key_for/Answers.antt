@@ -2,7 +2,7 @@ use Rattle.std.proofs.Common.{◌≡◌, ◌∙◌, sym, arith}
 use Rattle.std.specs.Prelude.{true}
 use Rattle.sd_tree.specs.Leaves.{is_member}
 use Rattle.sd_tree.specs.SetNames.{IsPair}
-use Rattle.sd_card.proofs.SecretKeys.{derived_is_held, first_is_held, first_read}
+use Rattle.sd_site.proofs.SecretKeys.{derived_is_held, first_is_held, first_read}
 use Rattle.sd_lsd.specs.LayerNames.{layer_given}
 use Rattle.sd_lsd.specs.Fields.{fields_of}
 use Rattle.sd_lsd.proofs.Keys.{given_of_leaf, own_gives_key}

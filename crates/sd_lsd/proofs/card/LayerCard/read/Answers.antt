@@ -1,4 +1,4 @@
-use Rattle.sd_card.proofs.Heads.{read_once}
+use Rattle.sd_site.proofs.Heads.{read_once}
 use Rattle.sd_lsd.specs.declared.fault.LayerFault.TheVariants.{NoMemory}
 use Rattle.sd_lsd.specs.Fields.{IsLayerCard, fields_of, layer_bytes}
 use Rattle.sd_lsd.specs.Faults.{fault_in}

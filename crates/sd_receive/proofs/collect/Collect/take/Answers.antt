@@ -3,8 +3,8 @@ use Rattle.std.specs.Prelude.{Some, None}
 use Rattle.std.proofs.lemmas.Bool.{ne_eqb, both_ways}
 use Rattle.sd_ecm.specs.Parts.{message_of, ecm_head_of}
 use Rattle.sd_ecm.specs.declared.message.EcmHead.{EcmHead}
-use Rattle.sd_spec_receiver.specs.Stretches.{newest}
-use Rattle.sd_spec_receiver.specs.Offered.{is_back}
+use Rattle.sd_spec.specs.Stretches.{newest}
+use Rattle.sd_spec.specs.Offered.{is_back}
 use Rattle.sd_receive.specs.Gathered.{IsGathered, next_run}
 use Rattle.sd_receive.specs.Collected.{parts_collected}
 use Rattle.sd_receive.proofs.Collecting.{uncounted_part, waiting_part, bad_part, not_last, no_run, ends_here}

@@ -1,9 +1,9 @@
 use Rattle.std.proofs.Common.{◌≡◌, ◌∙◌, sym, ap, subst, arith, ◌≤◌, ℕ, List, true}
 use Rattle.std.specs.Prelude.{Option, is_some}
-use Rattle.sd_card.specs.Fields.{fields_of}
-use Rattle.sd_spec_receiver.specs.Stretches.{current}
-use Rattle.sd_spec_receiver.specs.Keys.{first_key, key_at, key_from}
-use Rattle.sd_spec_receiver.specs.Offered.{key_if_none}
+use Rattle.sd_site.specs.CardFields.{card_fields_of}
+use Rattle.sd_spec.specs.Stretches.{current}
+use Rattle.sd_spec.specs.Keys.{first_key, key_at, key_from}
+use Rattle.sd_spec.specs.Offered.{key_if_none}
 use Rattle.sd_receive.specs.Entitled.{IsStateAt, key_kept}
 use Rattle.sd_receive.proofs.Keeping.{past_section}
 use Rattle.sd_receive.proofs.Judging.{differs_is, kept_is, past_offering, mixed_offering, failed, bad_offering}
@@ -32,12 +32,12 @@ returns-then-knows_key-clause-ok g c tr is =
     let here = known_period c.args.self.now c.args.emm.now.period known in
     let kept = kept_is _ tr c.args.self.now is c.args.emm.now.period h in
     c.mark.ensures _ tr c.args.self.now.key
-    (subst (λ (q : ℕ). IsStateAt (fields_of c.args.card.now) tr q c.args.self.now) (sym is.period ∙ here.0) is) h
+    (subst (λ (q : ℕ). IsStateAt (card_fields_of c.args.card.now) tr q c.args.self.now) (sym is.period ∙ here.0) is) h
     (sym (differs_is _ tr c.args.self.now is c.args.emm.now h) ∙ (sym c.differs.ensures ∙ c.if-differs.false))
     c.requires.form.counted.index_is
     (sym here.1 ∙ (kept
-    ∙ sym (known_first (key_at (fields_of c.args.card.now) tr c.args.emm.now.period)
-    (key_from (fields_of c.args.card.now) c.args.emm.now)
+    ∙ sym (known_first (key_at (card_fields_of c.args.card.now) tr c.args.emm.now.period)
+    (key_from (card_fields_of c.args.card.now) c.args.emm.now)
     (subst (λ (o : Option (List ℕ)). is_some o ≡ true) kept known))))
 
 pub returns-then-knows_key-clause-fault : goal.returns-then-knows_key-clause-fault
@@ -46,7 +46,7 @@ returns-then-knows_key-clause-fault g c tr is =
     good_offering _ c.args.number tr c.args.emm.now c.args.self.now is h
     (sym c.differs.ensures ∙ c.if-differs.false)
     (known_offers c.args.number c.args.emm.now (key_kept c.args.self.now c.args.emm.now.period)
-    (key_from (fields_of c.args.card.now) c.args.emm.now) (sym c.knows_key.ensures ∙ c.if-knows_key.true))
+    (key_from (card_fields_of c.args.card.now) c.args.emm.now) (sym c.knows_key.ensures ∙ c.if-knows_key.true))
 
 pub returns-in_err-key-clause-fault : goal.returns-in_err-key-clause-fault
 returns-in_err-key-clause-fault g c tr is =
@@ -57,7 +57,7 @@ returns-in_err-key-clause-fault g c tr is =
     (bad_offering _ c.args.number tr c.args.emm.now c.args.self.now is h
     (sym c.differs.ensures ∙ c.if-differs.false) _
     (ap (λ (o : Option (List ℕ)).
-    (key_if_none c.args.number c.args.emm.now o (key_from (fields_of c.args.card.now) c.args.emm.now)).fault) none
+    (key_if_none c.args.number c.args.emm.now o (key_from (card_fields_of c.args.card.now) c.args.emm.now)).fault) none
     ∙ c.in_err-key.ensures.fault))
 
 pub returns-in_err-key-clause-steps : goal.returns-in_err-key-clause-steps
@@ -89,7 +89,7 @@ returns-clause-ok g c tr is =
     (sym (differs_is _ tr c.args.self.now is c.args.emm.now h) ∙ (sym c.differs.ensures ∙ c.if-differs.false))
     c.requires.form.counted.index_is
     (c.in_ok-key.ensures.value
-    ∙ ap (λ (o : Option (List ℕ)). first_key o (key_from (fields_of c.args.card.now) c.args.emm.now))
+    ∙ ap (λ (o : Option (List ℕ)). first_key o (key_from (card_fields_of c.args.card.now) c.args.emm.now))
     (sym none ∙ kept))
 
 pub returns-clause-fault : goal.returns-clause-fault
@@ -100,7 +100,7 @@ returns-clause-fault g c tr is =
     good_offering _ c.args.number tr c.args.emm.now c.args.self.now is h
     (sym c.differs.ensures ∙ c.if-differs.false)
     (ap (λ (o : Option (List ℕ)).
-    (key_if_none c.args.number c.args.emm.now o (key_from (fields_of c.args.card.now) c.args.emm.now)).fault) none
+    (key_if_none c.args.number c.args.emm.now o (key_from (card_fields_of c.args.card.now) c.args.emm.now)).fault) none
     ∙ c.in_ok-key.ensures.fault)
 
 pub returns-clause-steps : goal.returns-clause-steps

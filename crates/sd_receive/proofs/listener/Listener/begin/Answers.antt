@@ -1,11 +1,11 @@
 use Rattle.std.proofs.Common.{◌≡◌, ◌∙◌, subst, sym, ap, refl, ◌∷◌, List, ℕ, Option, []}
 use Rattle.std.specs.Prelude.{Some, None, option_map}
 use Rattle.sd_ecm.specs.Parts.{message_of}
-use Rattle.sd_spec_receiver.specs.Heard.{Controls}
-use Rattle.sd_spec_receiver.specs.Offered.{word_fault}
+use Rattle.sd_spec.specs.Heard.{Controls}
+use Rattle.sd_spec.specs.Offered.{word_fault}
 use Rattle.sd_receive.specs.Entitled.{IsEntitled}
 use Rattle.sd_receive.specs.declared.entitled.Entitled.{Entitled}
-use Rattle.sd_receive_hold.specs.Holding.{after_message}
+use Rattle.sd_receive.specs.Holding.{after_message}
 use Rattle.sd_receive.proofs.Offering.{not_past}
 use Rattle.sd_receive.proofs.Messages.{in_turn, key_now, renewed}
 use Rattle.sd_receive.proofs.listener.Listener.begin.Goals as goal

@@ -1,10 +1,10 @@
 use Rattle.std.proofs.Common.{◌≡◌, ◌∙◌, refl, sym, subst, List}
 use Rattle.std.specs.Prelude.{Ok}
-use Rattle.sd_card.specs.Fields.{fields_of}
+use Rattle.sd_site.specs.CardFields.{card_fields_of}
 use Rattle.sd_engine.specs.Stage.{vessel}
-use Rattle.sd_spec_receiver.specs.declared.fault.StreamFault.TheVariants.{BadEcm}
-use Rattle.sd_spec_receiver.specs.Heard.{Heard, Controls}
-use Rattle.sd_spec_receiver.specs.Stretches.{current}
+use Rattle.sd_spec.specs.declared.stream_fault.StreamFault.TheVariants.{BadEcm}
+use Rattle.sd_spec.specs.Heard.{Heard, Controls}
+use Rattle.sd_spec.specs.Stretches.{current}
 use Rattle.sd_receive.specs.Collected.{IsCollected, IsComplete, PartOutcome}
 use Rattle.sd_receive.specs.declared.collect.Taken.{Taken}
 use Rattle.sd_receive.specs.Listening.{TakesHeard, RefusesHeard, TakesMessage, RefusesMessage}
@@ -24,8 +24,8 @@ returns-in-Ok-Waits-clause-value g c =
       written = s.written;
     } in
     took_nothing (vessel g.K.Sink c.args.out.now)
-    (TakesHeard (fields_of c.args.card.now) c.args.tuning c.args.number (Controls c.args.part.now) s t)
-    (part_waiting (fields_of c.args.card.now) c.args.tuning c.args.number c.args.part.now s t refl refl refl
+    (TakesHeard (card_fields_of c.args.card.now) c.args.tuning c.args.number (Controls c.args.part.now) s t)
+    (part_waiting (card_fields_of c.args.card.now) c.args.tuning c.args.number c.args.part.now s t refl refl refl
     refl
     (λ past collects now. subst (λ (taken : Taken). PartOutcome past c.args.part.now c.take.new.self (Ok taken))
     c.in-Ok-Waits.field-0-is
@@ -45,7 +45,7 @@ complete-requires-clause-live g c =
     let l = c.requires.live in (
       l.0,
       c.args.part.now,
-      message_heard (fields_of c.args.card.now) c.args.tuning c.args.number c.args.part.now
+      message_heard (card_fields_of c.args.card.now) c.args.tuning c.args.number c.args.part.now
           c.in-Ok-Complete.head s t refl refl refl
           (λ past collects now. subst (λ (taken : Taken). PartOutcome past c.args.part.now c.take.new.self (Ok taken))
           c.in-Ok-Complete.field-0-is
@@ -64,7 +64,7 @@ returns-in-Ok-Complete-clause-value g c =
           s.segment;
       written = s.written;
     } in
-    let card = fields_of c.args.card.now in
+    let card = card_fields_of c.args.card.now in
     let head = c.in-Ok-Complete.head in
     let done : (past : List Heard) → IsCollected past s.collect → current past ≡ s.entitled.period →
     IsComplete past c.args.part.now head t.collect =
@@ -87,10 +87,10 @@ returns-in-Ok-Complete-clause-value g c =
 pub returns-in-Err-clause-value : goal.returns-in-Err-clause-value
 returns-in-Err-clause-value g c =
     took_nothing (vessel g.K.Sink c.args.out.now)
-    (RefusesHeard (fields_of c.args.card.now) c.args.tuning c.args.number (Controls c.args.part.now)
+    (RefusesHeard (card_fields_of c.args.card.now) c.args.tuning c.args.number (Controls c.args.part.now)
     c.args.self.now
     (BadEcm c.args.number c.in-Err.fault))
-    (part_bad (fields_of c.args.card.now) c.args.tuning c.args.number c.args.part.now c.args.self.now
+    (part_bad (card_fields_of c.args.card.now) c.args.tuning c.args.number c.args.part.now c.args.self.now
     c.in-Err.fault
     (λ past collects now. c.in-Err.ensures.value past collects (now ∙ sym c.period.ensures)))
 

@@ -1,8 +1,8 @@
 use Rattle.std.proofs.Common.{◌≡◌, ◌∙◌, ◌-◌, sym, ap, arith}
 use Rattle.std.specs.Prelude.{find}
 use Rattle.std.specs.Option.{option_map_or}
-use Rattle.sd_spec_receiver.specs.declared.ending.Ending.TheVariants.{Gaps, Unclosed}
-use Rattle.sd_spec_receiver.specs.Ending.{periods_told, is_unkeyed}
+use Rattle.sd_spec.specs.declared.ending.Ending.TheVariants.{Gaps, Unclosed}
+use Rattle.sd_spec.specs.Ending.{periods_told, is_unkeyed}
 use Rattle.sd_receive.specs.Entitled.{is_told_revoked}
 use Rattle.sd_receive.proofs.Endings.{unclosed, closed, revoked_ending, unheard_ending, opened_ending, gaps_ending}
 use Rattle.sd_receive.proofs.listener.Listener.ending.Goals as goal

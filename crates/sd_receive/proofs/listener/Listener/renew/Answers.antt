@@ -1,5 +1,5 @@
 use Rattle.std.proofs.Common.{subst, sym, ◌∷◌}
-use Rattle.sd_spec_receiver.specs.Heard.{Controls}
+use Rattle.sd_spec.specs.Heard.{Controls}
 use Rattle.sd_receive.specs.Collected.{IsCollected}
 use Rattle.sd_receive.specs.declared.listener.Listener.{Listener}
 use Rattle.sd_receive.proofs.listener.Listener.renew.Goals as goal

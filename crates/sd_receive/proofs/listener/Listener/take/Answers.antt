@@ -1,10 +1,10 @@
 use Rattle.std.proofs.Common.{refl, ap, sym, subst, []}
-use Rattle.sd_card.specs.Fields.{fields_of}
+use Rattle.sd_site.specs.CardFields.{card_fields_of}
 use Rattle.sd_engine.specs.Stage.{vessel}
-use Rattle.sd_spec_receiver.specs.Heard.{Heard}
+use Rattle.sd_spec.specs.Heard.{Heard}
 use Rattle.sd_receive.specs.declared.ears.Heard.{Heard as Kept}
 use Rattle.sd_receive.specs.Ears.{heard_as, IsFormed}
-use Rattle.sd_spec_receiver.specs.declared.fault.StreamFault.TheVariants.{BadEmm, BadEcm}
+use Rattle.sd_spec.specs.declared.stream_fault.StreamFault.TheVariants.{BadEmm, BadEcm}
 use Rattle.sd_receive.specs.Listening.{TakesHeard, RefusesHeard, PacketOutcome}
 use Rattle.sd_receive.specs.declared.listener.Listener.{Listener}
 use Rattle.sd_receive.proofs.Listening.{took_nothing, dropped_heard, other_heard, section_taken, section_refused}
@@ -14,7 +14,7 @@ use Rattle.sd_receive.proofs.listener.Listener.take.Goals as goal
 pub returns-in-Dropped-clause-value : goal.returns-in-Dropped-clause-value
 returns-in-Dropped-clause-value g c =
     let s = c.args.self.now in
-    let card = fields_of c.args.card.now in
+    let card = card_fields_of c.args.card.now in
     took_nothing (vessel g.K.Sink c.args.out.now)
     (TakesHeard card c.args.tuning c.args.number (heard_as c.args.number c.args.packet.now c.args.heard) s
     s) (subst (λ (h : Heard). TakesHeard card c.args.tuning c.args.number h s s [])
@@ -24,7 +24,7 @@ returns-in-Dropped-clause-value g c =
 pub returns-in-Other-clause-value : goal.returns-in-Other-clause-value
 returns-in-Other-clause-value g c =
     let s = c.args.self.now in
-    let card = fields_of c.args.card.now in
+    let card = card_fields_of c.args.card.now in
     let t : Listener = record {
       closed = s.closed;
       entitled = s.entitled;
@@ -42,7 +42,7 @@ returns-in-Other-clause-value g c =
 pub returns-in-Ok-clause-value : goal.returns-in-Ok-clause-value
 returns-in-Ok-clause-value g c =
     let s = c.args.self.now in
-    let card = fields_of c.args.card.now in
+    let card = card_fields_of c.args.card.now in
     let t : Listener = record {
       closed = s.closed;
       entitled = c.section.new.self;
@@ -61,7 +61,7 @@ returns-in-Ok-clause-value g c =
 pub returns-in-Err-clause-value : goal.returns-in-Err-clause-value
 returns-in-Err-clause-value g c =
     let s = c.args.self.now in
-    let card = fields_of c.args.card.now in
+    let card = card_fields_of c.args.card.now in
     took_nothing (vessel g.K.Sink c.args.out.now)
     (RefusesHeard card c.args.tuning c.args.number (heard_as c.args.number c.args.packet.now c.args.heard) s
     c.in-Err.fault) (subst (λ (h : Heard). RefusesHeard card c.args.tuning c.args.number h s c.in-Err.fault [])
@@ -72,7 +72,7 @@ returns-in-Err-clause-value g c =
 pub returns-in-Controls-clause-value : goal.returns-in-Controls-clause-value
 returns-in-Controls-clause-value g c =
     let s = c.args.self.now in
-    let card = fields_of c.args.card.now in
+    let card = card_fields_of c.args.card.now in
     subst (λ (h : Heard). PacketOutcome (TakesHeard card c.args.tuning c.args.number h s)
     (RefusesHeard card c.args.tuning c.args.number h s) (vessel g.K.Sink c.args.out.now)
     (vessel g.K.Sink c.control.new.out) c.control.new.self c.control.result)
@@ -81,7 +81,7 @@ returns-in-Controls-clause-value g c =
 pub returns-in-BadEmm-clause-value : goal.returns-in-BadEmm-clause-value
 returns-in-BadEmm-clause-value g c =
     let s = c.args.self.now in
-    let card = fields_of c.args.card.now in
+    let card = card_fields_of c.args.card.now in
     let why = BadEmm c.args.number c.in-BadEmm.fault in
     took_nothing (vessel g.K.Sink c.args.out.now)
     (RefusesHeard card c.args.tuning c.args.number (heard_as c.args.number c.args.packet.now c.args.heard) s why)
@@ -92,7 +92,7 @@ returns-in-BadEmm-clause-value g c =
 pub returns-in-BadEcm-clause-value : goal.returns-in-BadEcm-clause-value
 returns-in-BadEcm-clause-value g c =
     let s = c.args.self.now in
-    let card = fields_of c.args.card.now in
+    let card = card_fields_of c.args.card.now in
     let why = BadEcm c.args.number c.in-BadEcm.fault in
     took_nothing (vessel g.K.Sink c.args.out.now)
     (RefusesHeard card c.args.tuning c.args.number (heard_as c.args.number c.args.packet.now c.args.heard) s why)

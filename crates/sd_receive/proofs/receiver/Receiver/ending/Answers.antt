@@ -1,7 +1,7 @@
 use Rattle.std.proofs.Common.{◌≡◌, ◌∙◌, arith, true, false}
 use Rattle.std.specs.Prelude.{is_none}
-use Rattle.sd_spec_receiver.specs.Offered.{heard}
-use Rattle.sd_spec_receiver.specs.Ending.{run_wrote}
+use Rattle.sd_spec.specs.Offered.{heard}
+use Rattle.sd_spec.specs.Ending.{run_wrote}
 use Rattle.sd_receive.specs.Receiving.{card_in}
 use Rattle.sd_receive.proofs.Endings.{no_cat, all_runs}
 use Rattle.sd_receive.proofs.receiver.Receiver.ending.Goals as goal

@@ -1,5 +1,5 @@
 use Rattle.std.proofs.Common.{[], refl}
-use Rattle.sd_card.specs.Fields.{fields_of}
+use Rattle.sd_site.specs.CardFields.{card_fields_of}
 use Rattle.sd_receive.proofs.Receiving.{first_after}
 use Rattle.sd_receive.proofs.receiver.Receiver.new.Goals as goal
 
@@ -9,5 +9,5 @@ returns c =
     record {
       value = first_after c.args.card c.in_ok-listener.listener fresh.0 fresh.1;
       card = refl;
-      live = λ none. record { ecm = tt; follows = ([], fresh.1 (fields_of c.args.card)) };
+      live = λ none. record { ecm = tt; follows = ([], fresh.1 (card_fields_of c.args.card)) };
     }

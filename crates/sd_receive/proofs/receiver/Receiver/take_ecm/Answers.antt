@@ -1,5 +1,5 @@
 use Rattle.std.proofs.Common.{◌∙◌, ap, sym}
-use Rattle.sd_spec_receiver.specs.Heard.{heard_ecm}
+use Rattle.sd_spec.specs.Heard.{heard_ecm}
 use Rattle.sd_receive.proofs.receiver.Receiver.take_ecm.Goals as goal
 
 pub take_heard-requires-clause-heard : goal.take_heard-requires-clause-heard

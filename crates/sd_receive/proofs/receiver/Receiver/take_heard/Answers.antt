@@ -2,8 +2,8 @@ use Rattle.std.proofs.Common.{◌≡◌, ◌+◌, ◌<◌, ◌∙◌, ap, arith,
 use Rattle.std.specs.Prelude.{Option, Some, IfSome}
 use Rattle.std.specs.Option.{option_or}
 use Rattle.sd_engine.specs.Stage.{vessel}
-use Rattle.sd_spec_receiver.specs.Runs.{run_name_heard}
-use Rattle.sd_card.specs.Fields.{CardFields}
+use Rattle.sd_spec.specs.Runs.{run_name_heard}
+use Rattle.sd_site.specs.CardFields.{CardFields}
 use Rattle.sd_receive.specs.Ears.{heard_as, IsFormed}
 use Rattle.sd_psi.specs.declared.our_cat.Tuning.{Tuning}
 use Rattle.sd_receive.specs.Listening.{capped, TakesHeard, RefusesHeard}

@@ -1,9 +1,0 @@
-pub mod Accounts
-pub mod Bound
-pub mod Fault
-pub mod Faults
-pub mod Judged
-pub mod Kept
-pub mod Line
-pub mod Read
-pub mod Report

@@ -1,4 +1,0 @@
-pub mod Cuts
-pub mod Digits
-pub mod Numbers
-pub mod Lengths

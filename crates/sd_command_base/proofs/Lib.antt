@@ -1,0 +1,17 @@
+pub mod Moves
+pub mod Firsts
+pub mod Givens
+pub mod RunAnswers
+pub mod Follow
+pub mod Streams
+pub mod Texts
+pub mod Places
+pub mod Looked
+pub mod Making
+pub mod Turning
+pub mod Thirds
+pub mod Streamed
+pub mod Others
+pub mod Printed
+pub mod Lines
+pub mod PrintedPeriods

@@ -1,0 +1,101 @@
+-- Files that are read never answer `Usage`.
+use Rattle.std.proofs.Common.{◌≢◌, ℕ, Bool, true, false, cond, List, length, Option, Some, None, Result, Ok, Err}
+use Rattle.std.specs.Prelude.{nat_lt, IfErr}
+use Rattle.sd_site.specs.SiteFields.{SiteFields}
+use Rattle.sd_site.specs.Text.{site_of}
+use Rattle.sd_site.specs.declared.site_fault.SiteFault.{SiteFault}
+use Rattle.sd_book.specs.declared.command.Command.{Command}
+use Rattle.sd_book.specs.declared.fault.BookFault.{BookFault}
+use Rattle.sd_book.specs.declared.fault.BookFault.TheVariants as book
+use Rattle.sd_book.specs.Text.{book_of}
+use Rattle.sd_command_base.specs.declared.status.Status.{Status}
+use Rattle.sd_command_base.specs.declared.status.Status.TheVariants.{Usage, Limit}
+use Rattle.sd_command_base.specs.declared.status.LimitKind.{LimitKind}
+use Rattle.sd_command_base.specs.declared.status.LimitKind.TheVariants.{SiteBytes, BookBytes}
+use Rattle.sd_command_base.specs.Spec.{Spec, and_then, all_of, judged, value, within, ◌>>=◌}
+use Rattle.sd_command_base.specs.Both.{both_by}
+use Rattle.sd_command_base.specs.Files.{told_site, told_book, told_low, site_of_file, book_of_file, low_site_of_file}
+use Rattle.sd_command_base.specs.Files.{most_book_bytes, most_site_bytes}
+use Rattle.sd_command_base.specs.Leaves.{told_leaves, leaves_of_file}
+use Rattle.sd_command_base.specs.Text.{leaves_of_text}
+
+-- no step but the words' own answers `Usage`
+abbrev pub IsOther : {A : Type 0} → Result A Status → Type 0
+IsOther r = IfErr r (λ status. status ≢ Usage)
+
+pub other_after : {A B : Type 0} (n : ℕ) (r : Result A Status) (next : A → Spec B) → IsOther r →
+    ((x : A) → IsOther (next x).result) →
+    IsOther (and_then n r next).result
+other_after n (Ok x) next h step = step x
+other_after n (Err status) next h step = h
+
+other_limit : (b : Bool) (status : Status) (bytes : List ℕ) → status ≢ Usage → IsOther (cond b (Err status) (Ok bytes))
+other_limit true status bytes h = h
+other_limit false status bytes h = tt
+
+pub other_file : (word most : ℕ) (kind : LimitKind) (got : Option (List ℕ)) → IsOther (within word most kind got).result
+other_file word most kind None = λ e. cc
+other_file word most kind (Some bytes) = other_limit (nat_lt most (length bytes)) (Limit kind) bytes (λ e. cc)
+
+pub other_stream : (word : ℕ) (got : Option (List ℕ)) → IsOther (all_of word got).result
+other_stream word None = λ e. cc
+other_stream word (Some bytes) = tt
+
+other_site : (r : Result SiteFields SiteFault) → IsOther (told_site r)
+other_site (Ok site) = tt
+other_site (Err fault) = λ e. cc
+
+pub other_book : (word : ℕ) (r : Result (List Command) BookFault) → IsOther (told_book word r)
+other_book word (Ok commands) = tt
+other_book word (Err (book.Line k)) = λ e. cc
+other_book word (Err (book.Leaf k)) = λ e. cc
+other_book word (Err (book.Limit limit)) = λ e. cc
+other_book word (Err book.NoMemory) = λ e. cc
+
+pub other_site_file : (word : ℕ) (got : Option (List ℕ)) → IsOther (site_of_file word got).result
+unfolding site_of_file
+other_site_file word got =
+    other_after (within word most_site_bytes SiteBytes got).calls (within word most_site_bytes SiteBytes got).result
+    (λ bytes. judged (told_site (site_of bytes))) (other_file word most_site_bytes SiteBytes got)
+    (λ bytes. other_site (site_of bytes))
+
+other_height : (high : Bool) (kind : LimitKind) (site : SiteFields) → IsOther (cond high (Err (Limit kind)) (Ok site))
+other_height true kind site = λ e. cc
+other_height false kind site = tt
+
+pub other_low_site : (word most : ℕ) (kind : LimitKind) (got : Option (List ℕ)) →
+    IsOther (low_site_of_file word most kind got).result
+unfolding low_site_of_file
+other_low_site word most kind got =
+    other_after (site_of_file word got).calls (site_of_file word got).result (λ site. judged (told_low most kind site))
+    (other_site_file word got) (λ site. other_height (nat_lt most site.height) kind site)
+
+pub other_book_file : (word d : ℕ) (got : Option (List ℕ)) → IsOther (book_of_file word d got).result
+unfolding book_of_file
+other_book_file word d got =
+    other_after (within word most_book_bytes BookBytes got).calls (within word most_book_bytes BookBytes got).result
+    (λ bytes. judged (told_book word (book_of d bytes))) (other_file word most_book_bytes BookBytes got)
+    (λ bytes. other_book word (book_of d bytes))
+
+pub other_both : (site book : ℕ) (site_got book_got : Option (List ℕ)) →
+    IsOther (both_by site book site_got book_got).result
+unfolding both_by
+other_both site book site_got book_got =
+    other_after (site_of_file site site_got).calls (site_of_file site site_got).result
+    (λ fields. book_of_file book fields.height book_got
+    >>= λ commands. value (record { site = fields; commands = commands })) (other_site_file site site_got)
+    (λ fields. other_after (book_of_file book fields.height book_got).calls
+    (book_of_file book fields.height book_got).result
+    (λ commands. value (record { site = fields; commands = commands })) (other_book_file book fields.height book_got)
+    (λ commands. tt))
+
+pub other_leaves : (word : ℕ) (r : Result (List ℕ) ℕ) → IsOther (told_leaves word r)
+other_leaves word (Ok leaves) = tt
+other_leaves word (Err k) = λ e. cc
+
+pub other_leaves_file : (word d : ℕ) (got : Option (List ℕ)) → IsOther (leaves_of_file word d got).result
+unfolding leaves_of_file
+other_leaves_file word d got =
+    other_after (within word most_book_bytes BookBytes got).calls (within word most_book_bytes BookBytes got).result
+    (λ bytes. judged (told_leaves word (leaves_of_text d bytes))) (other_file word most_book_bytes BookBytes got)
+    (λ bytes. other_leaves word (leaves_of_text d bytes))

@@ -1,0 +1,191 @@
+-- Public meaning: the line of each status [this project, docs/FORMATS.md, Exits].
+use Rattle.std.specs.Prelude.{ℕ, List, [], ◌++◌, codes}
+use Rattle.std.specs.Fmt.{decimal}
+use Rattle.std.specs.Int.{w32, to_be_bytes}
+use Rattle.hex.specs.Hex.{encode_lower}
+use Rattle.sd_engine.specs.declared.fault.BreakCause.{BreakCause}
+use Rattle.sd_engine.specs.declared.fault.BreakCause.TheVariants as breaks
+use Rattle.sd_psi.specs.declared.fault.FormFault.{FormFault}
+use Rattle.sd_psi.specs.declared.fault.FormFault.TheVariants as form
+use Rattle.sd_site.specs.declared.site_fault.SiteFault.{SiteFault}
+use Rattle.sd_site.specs.declared.site_fault.SiteFault.TheVariants as site
+use Rattle.sd_book.specs.declared.fault.BookLimit.{BookLimit}
+use Rattle.sd_book.specs.declared.fault.BookLimit.TheVariants as limit
+use Rattle.sd_site.specs.declared.card_fault.CardFault.{CardFault}
+use Rattle.sd_site.specs.declared.card_fault.CardFault.TheVariants as card
+use Rattle.sd_emm.specs.Faults.{emm_fault_name}
+use Rattle.sd_ecm.specs.Faults.{ecm_fault_name}
+use Rattle.sd_command_base.specs.declared.status.Status.{Status}
+use Rattle.sd_command_base.specs.declared.status.Status.TheVariants.{Done, Usage, Missing, Revoked, DepotFault}
+use Rattle.sd_command_base.specs.declared.status.Status.TheVariants.{PrintFault}
+use Rattle.sd_command_base.specs.declared.status.Status.TheVariants.{BadSite, BadBook, BadCard, BadClear, BadStream}
+use Rattle.sd_command_base.specs.declared.status.Status.TheVariants.{Limit, NoMemory, Unheard, Unclosed, Gaps, NoCat}
+use Rattle.sd_command_base.specs.declared.status.Status.TheVariants.{BadWord}
+use Rattle.sd_command_base.specs.declared.status.Status.TheVariants.{Clash}
+use Rattle.sd_command_base.specs.declared.status.LimitKind.{LimitKind}
+use Rattle.sd_command_base.specs.declared.status.LimitKind.TheVariants.{SiteBytes, BookBytes, CardBytes, Book}
+use Rattle.sd_command_base.specs.declared.status.LimitKind.TheVariants.{TrialHeight}
+use Rattle.sd_command_base.specs.declared.status.LimitKind.TheVariants.{TrialPackets, Traced, FieldHeight}
+use Rattle.sd_command_base.specs.declared.status.LimitKind.TheVariants.{FieldPackets}
+use Rattle.sd_command_base.specs.declared.status.LimitKind.TheVariants.{FieldEvents}
+use Rattle.sd_command_base.specs.declared.status.ClearCause.{ClearCause}
+use Rattle.sd_command_base.specs.declared.status.ClearCause.TheVariants as clear
+use Rattle.sd_command_base.specs.declared.status.Clash.{Clash as ClashKind}
+use Rattle.sd_command_base.specs.declared.status.Clash.TheVariants.{Heights, Masters, NoWords, SharedWord, Books}
+use Rattle.sd_command_base.specs.declared.status.StreamCause.{StreamCause}
+use Rattle.sd_command_base.specs.declared.status.StreamCause.TheVariants.{Broken, TooLong, WrongKey, WrongWord}
+use Rattle.sd_command_base.specs.declared.status.StreamCause.TheVariants.{BadEmm, BadEcm, Parity}
+
+-- the line of a refused site
+unfoldable pub site_line : SiteFault → List ℕ
+site_line (site.Line k) = codes "site line " ++ (decimal k ++ codes " is malformed\n")
+site_line (site.Range k) = codes "site line " ++ (decimal k ++ codes " is out of range\n")
+site_line site.SamePid = codes "site names one pid twice\n"
+site_line (site.Extra k) = codes "site has extra line " ++ (decimal k ++ codes "\n")
+site_line site.Short = codes "site is short\n"
+
+-- a number of 32 bits in eight hexadecimal digits
+unfoldable pub hex_of : ℕ → List ℕ
+hex_of n = encode_lower (to_be_bytes w32 n)
+
+-- the form that a PAT or a PMT hasn't
+unfoldable pub form_text : FormFault → List ℕ
+form_text form.Pointer = codes "pointer"
+form_text form.Table = codes "table"
+form_text form.Length = codes "length"
+form_text (form.Crc found due) = codes "crc " ++ (hex_of found ++ (codes " " ++ hex_of due))
+form_text form.Trailing = codes "trailing"
+form_text form.NoRoom = codes "no room"
+form_text form.Descriptor = codes "descriptor"
+
+-- why a stream breaks
+unfoldable pub break_text : BreakCause → List ℕ
+break_text breaks.Torn = codes "torn"
+break_text breaks.NoSync = codes "no sync"
+
+-- why a clear packet is refused
+unfoldable pub clear_text : ClearCause → List ℕ
+clear_text (clear.Broken cause) = break_text cause
+clear_text clear.AlreadyScrambled = codes "already scrambled"
+clear_text (clear.PidTaken pid) = codes "pid " ++ (decimal pid ++ codes " is taken")
+clear_text (clear.PatForm fault) = codes "pat " ++ form_text fault
+clear_text (clear.PmtForm fault) = codes "pmt " ++ form_text fault
+clear_text clear.TooManyPids = codes "too many pids"
+clear_text clear.TooLong = codes "too long"
+
+-- the line of a clear packet that is refused
+unfoldable pub clear_line : ℕ → ClearCause → List ℕ
+clear_line packet cause = codes "clear packet " ++ (decimal packet ++ (codes ": " ++ (clear_text cause ++ codes "\n")))
+
+-- a check value, and the one that it is to be
+unfoldable pub checks_text : List ℕ → List ℕ → List ℕ
+checks_text found due = encode_lower found ++ (codes " " ++ encode_lower due)
+
+-- the line of a card that is refused
+unfoldable pub card_line : CardFault → List ℕ
+card_line card.Magic = codes "card: magic\n"
+card_line card.Version = codes "card: version\n"
+card_line card.Height = codes "card: height\n"
+card_line card.Leaf = codes "card: leaf\n"
+card_line card.Length = codes "card: length\n"
+card_line (card.Check found due) = codes "card: check " ++ (checks_text found due ++ codes "\n")
+card_line card.NoMemory = codes "no memory\n"
+
+-- why a packet of a stream is refused
+unfoldable pub stream_text : StreamCause → List ℕ
+stream_text (Broken cause) = break_text cause
+stream_text TooLong = codes "too long"
+stream_text (WrongKey period found due) =
+    codes "wrong key of period " ++ (decimal period ++ (codes " " ++ checks_text found due))
+stream_text (WrongWord word found due) =
+    codes "wrong word " ++ (decimal word ++ (codes " " ++ checks_text found due))
+stream_text (BadEmm fault) = codes "bad emm " ++ emm_fault_name fault
+stream_text (BadEcm fault) = codes "bad ecm " ++ ecm_fault_name fault
+stream_text Parity = codes "parity"
+
+-- the line of a packet that breaks a rule
+unfoldable pub stream_line : ℕ → StreamCause → List ℕ
+stream_line packet cause =
+    codes "stream packet " ++ (decimal packet ++ (codes ": " ++ (stream_text cause ++ codes "\n")))
+
+-- the line of a book that is over a limit
+unfoldable pub book_limit_line : BookLimit → List ℕ
+book_limit_line limit.Lines = codes "limit: book lines\n"
+book_limit_line limit.Periods = codes "limit: periods\n"
+book_limit_line (limit.Revoked q) = codes "limit: revoked in period " ++ (decimal q ++ codes "\n")
+
+-- the line of what is over its limit
+unfoldable pub limit_line : LimitKind → List ℕ
+limit_line SiteBytes = codes "limit: site bytes\n"
+limit_line BookBytes = codes "limit: book bytes\n"
+limit_line CardBytes = codes "limit: card bytes\n"
+limit_line (Book limit) = book_limit_line limit
+limit_line TrialHeight = codes "limit: trial height\n"
+limit_line TrialPackets = codes "limit: trial packets\n"
+limit_line Traced = codes "limit: traced\n"
+limit_line FieldHeight = codes "limit: field height\n"
+limit_line FieldPackets = codes "limit: field packets\n"
+limit_line FieldEvents = codes "limit: field events\n"
+
+-- the line of a leaf that is revoked
+unfoldable pub revoked_line : ℕ → ℕ → List ℕ
+revoked_line leaf period =
+    codes "receiver " ++ (decimal leaf ++ (codes " is revoked in period " ++ (decimal period ++ codes "\n")))
+
+-- the line of a leaf of which no entitlement came
+unfoldable pub unheard_line : ℕ → ℕ → List ℕ
+unheard_line leaf period =
+    codes "receiver "
+    ++ (decimal leaf ++ (codes " did not hear its entitlement for period " ++ (decimal period ++ codes "\n")))
+
+-- the line of a stream that isn't closed
+unfoldable pub unclosed_line : ℕ → List ℕ
+unclosed_line number = codes "stream ends before message " ++ (decimal number ++ codes "\n")
+
+-- the line of clear packets that were not written
+unfoldable pub gaps_line : ℕ → List ℕ
+gaps_line packets = decimal packets ++ codes " clear packets are missing\n"
+
+-- the line of a file that isn't there
+unfoldable pub missing_line : ℕ → List ℕ
+missing_line word = codes "missing file word " ++ (decimal word ++ codes "\n")
+
+-- the line of a refused line of a file
+unfoldable pub book_line : ℕ → ℕ → List ℕ
+book_line word line = codes "word " ++ (decimal word ++ (codes " line " ++ (decimal line ++ codes " is refused\n")))
+
+-- the line of a word that is out of its range
+unfoldable pub word_line : ℕ → List ℕ
+word_line word = codes "word " ++ (decimal word ++ codes " is out of range\n")
+
+-- the line of two broadcasts that may not go out under one set of cards
+unfoldable pub clash_line : ClashKind → List ℕ
+clash_line Heights = codes "sites have two heights\n"
+clash_line Masters = codes "sites have two masters\n"
+clash_line (NoWords site) = codes "site " ++ (decimal site ++ codes " has no control word\n")
+clash_line (SharedWord word) = codes "sites share control word " ++ (decimal word ++ codes "\n")
+clash_line (Books leaf period) =
+    codes "books disagree on receiver "
+    ++ (decimal leaf ++ (codes " in period " ++ (decimal period ++ codes "\n")))
+
+-- the line that a status prints; none where the work is done, or where printing failed
+unfoldable pub line_of : Status → List ℕ
+line_of Done = []
+line_of Usage = codes "usage\n"
+line_of (Missing word) = missing_line word
+line_of (Revoked leaf period) = revoked_line leaf period
+line_of DepotFault = codes "device fault\n"
+line_of PrintFault = []
+line_of (BadSite fault) = site_line fault
+line_of (BadBook word line) = book_line word line
+line_of (BadCard fault) = card_line fault
+line_of (BadClear packet cause) = clear_line packet cause
+line_of (BadStream packet cause) = stream_line packet cause
+line_of (Limit kind) = limit_line kind
+line_of NoMemory = codes "no memory\n"
+line_of (Unheard leaf period) = unheard_line leaf period
+line_of (Unclosed number) = unclosed_line number
+line_of (Gaps packets) = gaps_line packets
+line_of NoCat = codes "no CAT for this card\n"
+line_of (BadWord word) = word_line word
+line_of (Clash clash) = clash_line clash

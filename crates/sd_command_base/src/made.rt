@@ -1,0 +1,41 @@
+ghost use Rattle.std.specs.Prelude.{◌≡◌, ℕ, IsErrOf, Option};
+ghost use Rattle.sd_command_base.specs.Outside.{PageState, depot_state, outside};
+ghost use Rattle.sd_command_base.specs.Spec.{value};
+ghost use Rattle.sd_command_base.specs.Work.{StepBound};
+ghost use Rattle.sd_command_base.specs.Outcome.{OutcomeWithin, status_of};
+ghost use Rattle.sd_command_base.specs.Made.{making, making_told};
+ghost use Rattle.sd_command_base.specs.Shown.{shown_word};
+
+use crate::Status;
+use crate::word::Word;
+use sd_ports::{Depot, FileFault, write_file};
+use std::alloc::Global;
+
+/// Makes the file that a word names, with these bytes.
+pub fn make_file<D: Depot>(
+    alloc: Global,
+    depot: &mut D,
+    word: Word<'_>,
+    bytes: &[u8],
+) -> Result<(), Status>
+    ensures { (page : PageState) (steps : ℕ) (most : StepBound) →
+        OutcomeWithin (value (making most (shown_word word.entry) bytes.now))
+        (outside (depot_state D.Depot depot.old) page steps) (outside (depot_state D.Depot depot.new) page steps)
+        (status_of result) }
+{
+    told(word.number, write_file(alloc, depot, word.text, bytes))
+}
+
+/// What is answered once the file of this word was to be made.
+pub fn told(word: u8, written: Result<(), FileFault>) -> Result<(), Status>
+    requires { ¬ IsErrOf written FileFault.TooBig }
+    ensures { result ≡ making_told word written }
+{
+    match written {
+        Ok(()) => Ok(()),
+        Err(FileFault::Missing) => Err(Status::Missing(word)),
+        Err(FileFault::Failed) => Err(Status::DepotFault),
+        Err(FileFault::NoMemory) => Err(Status::NoMemory),
+        Err(FileFault::TooBig) => unreachable!(),
+    }
+}

@@ -1,0 +1,194 @@
+ghost use Rattle.std.specs.Prelude.{◌≡◌};
+ghost use Rattle.sd_command_base.specs.Exits.{code_of};
+
+use sd_base::NoMemory;
+use sd_book::BookLimit;
+use sd_ecm::EcmFault;
+use sd_emm::EmmFault;
+use sd_engine::BreakCause;
+use sd_psi::FormFault;
+use sd_site::{CardFault, SiteFault};
+use std::alloc::AllocError;
+
+/// The outcome of a run of the program (docs/FORMATS.md, Exits). Arguments are numbered from 0, the command.
+#[derive(Clone, Copy)]
+pub enum Status {
+    /// Exit 0: the work is done. The command's text is printed and its file made.
+    Done,
+    /// Exit 1: unknown command, wrong number of arguments, text not in UTF-8, or OUT is an input.
+    Usage,
+    /// Exit 2: the file that this argument names does not exist; for OUT, its folder does not exist.
+    Missing(u8),
+    /// Exit 3: the receiver is revoked in this period, the first such period of which it heard. The stream is closed.
+    Revoked { leaf: u32, period: u32 },
+    /// Exit 4: an I/O error at a file.
+    DepotFault,
+    /// Exit 5: an I/O error while printing.
+    PrintFault,
+    /// Exit 6: the site file is refused.
+    BadSite(SiteFault),
+    /// Exit 7: this line of the file that this argument names is refused, the first such line. Lines count from 1.
+    BadBook { word: u8, line: u32 },
+    /// Exit 8: the card is refused.
+    BadCard(CardFault),
+    /// Exit 9: this packet of the clear stream is refused. Packets count from 0.
+    BadClear { packet: u64, cause: ClearCause },
+    /// Exit 10: this packet of the stream is refused. Packets count from 0.
+    BadStream { packet: u64, cause: StreamCause },
+    /// Exit 11: a limit is exceeded.
+    Limit(LimitKind),
+    /// Exit 12: out of memory.
+    NoMemory,
+    /// Exit 13: the receiver did not hear its entitlement for this period. The stream is closed, some section of the
+    /// period was never seen, and no section that was seen entitles the leaf.
+    Unheard { leaf: u32, period: u32 },
+    /// Exit 14: the stream ends before its closing ECM is complete. This is the number of the next ECM awaited.
+    Unclosed(u64),
+    /// Exit 15: this number of clear packets is missing from OUT, of those that the closing ECM counts. The stream is
+    /// closed.
+    Gaps(u64),
+    /// Exit 16: the stream has no CAT for this card.
+    NoCat,
+    /// Exit 17: this argument is not a decimal number, or is out of range.
+    BadWord(u8),
+    /// Exit 18: two broadcasts must not share one set of cards.
+    Clash(Clash),
+}
+
+impl Status {
+    /// The program's exit status.
+    pub fn code(self) -> u8
+        ensures { result ≡ code_of self }
+    {
+        match self {
+            Status::Done => 0,
+            Status::Usage => 1,
+            Status::Missing(_) => 2,
+            Status::Revoked { .. } => 3,
+            Status::DepotFault => 4,
+            Status::PrintFault => 5,
+            Status::BadSite(_) => 6,
+            Status::BadBook { .. } => 7,
+            Status::BadCard(_) => 8,
+            Status::BadClear { .. } => 9,
+            Status::BadStream { .. } => 10,
+            Status::Limit(_) => 11,
+            Status::NoMemory => 12,
+            Status::Unheard { .. } => 13,
+            Status::Unclosed(_) => 14,
+            Status::Gaps(_) => 15,
+            Status::NoCat => 16,
+            Status::BadWord(_) => 17,
+            Status::Clash(_) => 18,
+        }
+    }
+}
+
+/// Why a packet of a clear stream is refused.
+#[derive(Clone, Copy)]
+pub enum ClearCause {
+    /// The stream breaks at it.
+    Broken(BreakCause),
+    /// It is scrambled.
+    AlreadyScrambled,
+    /// Its PID is 1 or one of the broadcast's own messages.
+    PidTaken(u16),
+    /// It is on PID 0 and no PAT by itself.
+    PatForm(FormFault),
+    /// It is a PMT without room that begins with the project's CA_descriptor.
+    PmtForm(FormFault),
+    /// It would be on the 257th PID that has a position.
+    TooManyPids,
+    /// The most packets that a clear stream may have come before it, or its control word is above the site's last.
+    TooLong,
+}
+
+/// Why a packet of a stream is refused.
+#[derive(Clone, Copy)]
+pub enum StreamCause {
+    /// The stream breaks at it.
+    Broken(BreakCause),
+    /// The most packets that a stream may have, 2^48, come before it.
+    TooLong,
+    /// The key that it gives for this period has another key check value than the one that is due.
+    WrongKey {
+        period: u32,
+        found: [u8; 16],
+        due: [u8; 16],
+    },
+    /// The control word of this number that it gives has another key check value than the one that is due.
+    WrongWord {
+        word: u32,
+        found: [u8; 16],
+        due: [u8; 16],
+    },
+    /// It is a faulty section of entitlements.
+    BadEmm(EmmFault),
+    /// It is a faulty part of a control message.
+    BadEcm(EcmFault),
+    /// Its transport_scrambling_control is not that of the control word's parity.
+    Parity,
+}
+
+/// What is over its limit.
+#[derive(Clone, Copy)]
+pub enum LimitKind {
+    /// A site file has at most 4,096 bytes.
+    SiteBytes,
+    /// A book file has at most 33,554,432 bytes.
+    BookBytes,
+    /// A card's file has at most 8,192 bytes.
+    CardBytes,
+    /// A limit of a book.
+    Book(BookLimit),
+    /// A site's tree may be at most 6 high for a trial.
+    TrialHeight,
+    /// A clear stream may have at most 65,536 packets for a trial.
+    TrialPackets,
+    /// At most 65,536 leaves may be revoked while leaves are traced.
+    Traced,
+    /// A site's tree may be at most 6 high for a field.
+    FieldHeight,
+    /// A clear stream may have at most 3,080,192 bytes, those of 16,384 packets, for a field.
+    FieldPackets,
+    /// A field's script may have at most 524,288 events.
+    FieldEvents,
+}
+
+/// Why two broadcasts may not go out under one set of cards. Sites are numbered from 1.
+#[derive(Clone, Copy)]
+pub enum Clash {
+    /// Their trees have two heights.
+    Heights,
+    /// They have two masters.
+    Masters,
+    /// This site's range of control words is empty.
+    NoWords(u8),
+    /// This is the least control word that both ranges have.
+    SharedWord(u32),
+    /// In this period, the first of both in which their books disagree, this leaf is the least that one book revokes
+    /// and the other doesn't.
+    Books { leaf: u32, period: u32 },
+}
+
+impl From<NoMemory> for Status {
+    ghost use Rattle.std.specs.Prelude.{◌≡◌};
+    ghost use Rattle.sd_command_base.specs.declared.status.Status.TheVariants as variants;
+
+    ghost from_gives = { λ _ status. status ≡ variants.NoMemory };
+
+    fn from(_fault: NoMemory) -> Status {
+        Status::NoMemory
+    }
+}
+
+impl From<AllocError> for Status {
+    ghost use Rattle.std.specs.Prelude.{◌≡◌};
+    ghost use Rattle.sd_command_base.specs.declared.status.Status.TheVariants as variants;
+
+    ghost from_gives = { λ _ status. status ≡ variants.NoMemory };
+
+    fn from(_error: AllocError) -> Status {
+        Status::NoMemory
+    }
+}

@@ -1,5 +1,0 @@
-use Rattle.std.proofs.Common.{rules}
-use Rattle.sd_command_files.proofs.files.read_card_bytes.Goals as goal
-
-pub returns : goal.returns
-returns g c = search rules

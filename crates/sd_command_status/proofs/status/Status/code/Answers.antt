@@ -1,5 +1,0 @@
-use Rattle.std.proofs.Common.{rules}
-use Rattle.sd_command_status.proofs.status.Status.code.Goals as goal
-
-pub returns-in-BadWord : goal.returns-in-BadWord
-returns-in-BadWord c = search rules

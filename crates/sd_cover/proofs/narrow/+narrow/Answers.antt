@@ -1,0 +1,16 @@
+use Rattle.std.proofs.Common.{ℕ, true, false, [], ◌∷◌, ◌∙◌, sym, ap}
+use Rattle.sd_cover.specs.Search.{opens_some}
+use Rattle.sd_cover.proofs.Narrowed.{told_more}
+use Rattle.sd_cover.proofs.narrow.+narrow.Goals as goal
+
+pub returns-clause-told : goal.returns-clause-told
+returns-clause-told g t c coalition most told few =
+    let first = c.in-Some.first in
+    let second = c.in-Some.second in
+    let answer = c.probe-opened.ensures.answer coalition told
+    ∙ ap (λ (d : ℕ). opens_some d coalition (first ∷ second ∷ []) (true ∷ false ∷ [])) c.requires.height in
+    told_more c.args.h coalition most c.narrow-leaf.result.0 c.narrow-leaf.result.1 c.args.name first second
+    c.half_of.result
+    c.probe-opened.result (sym c.halves.ensures.value ∙ c.in-Some.is) answer c.half_of.ensures.value
+    c.half_of.ensures.fewer few
+    (λ m enough. c.narrow-leaf.ensures.told coalition m (c.probe-opened.ensures.coalition ∙ told) enough)

@@ -1,0 +1,134 @@
+use Rattle.std.proofs.Common.{◌≡◌, ℕ, ◌<◌, List, [], ◌∷◌, ◌++◌, length, sum_by, sym, ap, subst, ◌∙◌, arith}
+use Rattle.std.specs.Prelude.{Option, Some, None}
+use Rattle.std.proofs.lemmas.List.{append-nil, append_assoc, length_push}
+use Rattle.std.proofs.lemmas.List.Sums.{sum_by_push}
+use Rattle.sd_cover.specs.declared.found.Found.{Found}
+use Rattle.sd_cover.specs.Trace.{IsTrace, AreAnyRounds}
+use Rattle.sd_cover.specs.Rounds.{RoundOf, RoundOfCoalition, IsJoined}
+use Rattle.sd_cover.proofs.Chained.{rounds_more, trace_more, joined_leaves, none_any, one_any, none_traced}
+use Rattle.sd_cover.proofs.Rounds.{round_few}
+use Rattle.sd_cover.proofs.Inside.{round_inside}
+use Rattle.sd_cover.proofs.Leaving.{one_less_left, none_left, some_left}
+use Rattle.sd_cover.proofs.tracing.trace_all.Goals as goal
+
+pub returns-clause-rounds : goal.returns-clause-rounds
+returns-clause-rounds g c =
+    subst (AreAnyRounds c.args.h c.args.revoked.now) (append-nil c.loop-found.found.items)
+    (c.loop-found.invariant.rounds [] (none_any c.args.h c.loop-found.gone.items))
+
+pub returns-clause-traced : goal.returns-clause-traced
+returns-clause-traced g c coalition told =
+    let round = c.in_ok-next.ensures.told coalition (c.loop-found.invariant.coalition ∙ told) in
+    let ended : RoundOfCoalition c.args.h coalition c.loop-found.gone.items None =
+    subst (λ (r : Option Found). RoundOfCoalition c.args.h coalition c.loop-found.gone.items r) c.in_default.is
+    (subst (λ (gone : List ℕ). RoundOfCoalition c.args.h coalition gone c.in_ok-next.field-0) c.deref.ensures.value
+    round) in
+    subst (IsTrace c.args.h coalition c.args.revoked.now) (append-nil c.loop-found.found.items)
+    (c.loop-found.invariant.traced coalition told [] (none_traced c.args.h coalition c.loop-found.gone.items ended))
+
+pub returns-clause-told : goal.returns-clause-told
+returns-clause-told g c coalition told =
+    let round = c.in_ok-next.ensures.told coalition (c.loop-found.invariant.coalition ∙ told) in
+    let ended : RoundOfCoalition c.args.h coalition c.loop-found.gone.items None =
+    subst (λ (r : Option Found). RoundOfCoalition c.args.h coalition c.loop-found.gone.items r) c.in_default.is
+    (subst (λ (gone : List ℕ). RoundOfCoalition c.args.h coalition gone c.in_ok-next.field-0) c.deref.ensures.value
+    round) in
+    let left = c.loop-found.invariant.left coalition told in
+    let none = none_left c.args.h coalition c.loop-found.gone.items ended in
+    omega (arith, left, none, c.loop-found.invariant.counted, c.loop-found.invariant.few)
+
+pub returns-then-len-eq-MOST_REVOKED-clause-told_many :
+    goal.returns-then-len-eq-MOST_REVOKED-clause-told_many
+returns-then-len-eq-MOST_REVOKED-clause-told_many g c coalition told many =
+    let round = c.in_ok-next.ensures.told coalition (c.loop-found.invariant.coalition ∙ told) in
+    let found : RoundOfCoalition c.args.h coalition c.loop-found.gone.items (Some c.in-Some.next) =
+    subst (λ (r : Option Found). RoundOfCoalition c.args.h coalition c.loop-found.gone.items r) c.in-Some.is
+    (subst (λ (gone : List ℕ). RoundOfCoalition c.args.h coalition gone c.in_ok-next.field-0) c.deref.ensures.value
+    round) in
+    let left = c.loop-found.invariant.left coalition told in
+    let some = some_left c.args.h coalition c.loop-found.gone.items c.in-Some.next c.round.ensures.tree.0
+    c.round.ensures.tree.1 c.loop-found.invariant.leaves found in
+    omega (
+      arith,
+      left,
+      some,
+      c.loop-found.invariant.counted,
+      c.if-len-eq-MOST_REVOKED.true,
+      c.len.ensures,
+      c.deref.ensures.len,
+    )
+
+pub returns-then-len-eq-MOST_REVOKED-clause-too_many :
+    goal.returns-then-len-eq-MOST_REVOKED-clause-too_many
+returns-then-len-eq-MOST_REVOKED-clause-too_many g c many =
+    let i = c.loop-found.invariant in
+    let h : ℕ = c.args.h in
+    let gone : List ℕ = c.loop-found.gone.items in
+    let next : Found = c.in-Some.next in
+    let value = rw c.deref.ensures.value at c.in_ok-next.ensures.value in
+    let any : RoundOf h gone (g.B.TestBox.asked c.loop-found.target) (g.B.TestBox.asked c.round.new.target)
+    (Some next) =
+    subst (λ (r : Option Found). RoundOf h gone (g.B.TestBox.asked c.loop-found.target)
+    (g.B.TestBox.asked c.round.new.target) r)
+    c.in-Some.is value in
+    let sum = sum_by_push (λ (f : Found). f.trials) c.loop-found.found.items next in
+    let count = length_push c.loop-found.found.items next in (
+      c.loop-found.found.items ++ next ∷ [],
+      i.rounds (next ∷ []) (one_any h gone next any.0),
+      omega (arith, i.counted, count, c.if-len-eq-MOST_REVOKED.true, c.len.ensures, c.deref.ensures.len),
+      omega (arith, any.1, i.asked, sum),
+    )
+
+-- one more in its turn
+in_turn : (next : Found) (later old new : List Found) → new ≡ old ++ next ∷ [] → old ++ next ∷ later ≡ new ++ later
+in_turn next later old new added = sym (ap (λ (fs : List Found). fs ++ later) added ∙ append_assoc old (next ∷ [])
+    later)
+
+pub loop-found-preserved : goal.loop-found-preserved
+loop-found-preserved g c =
+    let i = c.loop-found.invariant in
+    let h : ℕ = c.args.h in
+    let gone : List ℕ = c.loop-found.gone.items in
+    let new : List ℕ = c.join.new.gone.items in
+    let next : Found = c.in-Some.next in
+    let low : h < 32 = omega (arith, c.round.ensures.tree.1) in
+    let value = rw c.deref.ensures.value at c.in_ok-next.ensures.value in
+    let any : RoundOf h gone (g.B.TestBox.asked c.loop-found.target) (g.B.TestBox.asked c.round.new.target)
+    (Some next) =
+    subst (λ (r : Option Found). RoundOf h gone (g.B.TestBox.asked c.loop-found.target)
+    (g.B.TestBox.asked c.round.new.target) r)
+    c.in-Some.is value in
+    let told_round : (coalition : List ℕ) → g.B.TestBox.coalition c.args.target.now ≡ Some coalition →
+    RoundOfCoalition h coalition gone (Some next) =
+    λ coalition told. subst (λ (r : Option Found). RoundOfCoalition h coalition gone r) c.in-Some.is
+    (subst (λ (leaves : List ℕ). RoundOfCoalition h coalition leaves c.in_ok-next.field-0) c.deref.ensures.value
+    (c.in_ok-next.ensures.told coalition (i.coalition ∙ told))) in
+    let joined : IsJoined next.leaf gone new = c.in_ok-join.ensures in
+    let added = c.in_ok-add.ensures in
+    let sum = ap (sum_by (λ (f : Found). f.trials)) added ∙ sum_by_push (λ (f : Found). f.trials)
+    c.loop-found.found.items next in
+    let count = ap length added ∙ length_push c.loop-found.found.items next in
+    let probes = round_few h gone next c.round.ensures.tree.1 i.leaves i.few any.0 in
+    record {
+      height = c.round.ensures.height ∙ i.height;
+      coalition = c.round.ensures.coalition ∙ i.coalition;
+      leaves = joined_leaves h next.leaf gone new any.0.leaf i.leaves joined;
+      ascending = joined.ascending;
+      few = omega (arith, joined.more, i.few, c.if-len-eq-MOST_REVOKED.false, c.len.ensures, c.deref.ensures.len);
+      counted = omega (arith, joined.more, i.counted, count);
+      asked = omega (arith, any.1, i.asked, sum);
+      each = omega (arith, i.each, count, sum, any.0.trials);
+      room = omega (arith, i.room, count, sum, probes);
+      rounds = λ later more. subst (AreAnyRounds h c.args.revoked.now)
+          (in_turn next later c.loop-found.found.items c.add.new.found.items added)
+          (i.rounds (next ∷ later) (rounds_more h gone new next later low any.0 joined more));
+      traced = λ coalition told later more. subst (IsTrace h coalition c.args.revoked.now)
+          (in_turn next later c.loop-found.found.items c.add.new.found.items added)
+          (i.traced coalition told (next ∷ later) (trace_more h coalition gone new next later low
+          (told_round coalition told) joined more));
+      left = λ coalition told.
+          let here = round_inside h coalition gone next c.round.ensures.tree.0 c.round.ensures.tree.1 i.leaves
+          (told_round coalition told) in
+          let less = one_less_left h next.leaf coalition gone new here.0 here.1 here.2 joined.members in
+          omega (arith, i.left coalition told, less, count);
+    }

@@ -1,4 +1,0 @@
-pub mod Descents
-pub mod Counts
-pub mod Pairs
-pub mod Hanging

@@ -1,4 +1,0 @@
-pub mod Fielded
-pub mod Never
-pub mod Tried
-pub mod Ends

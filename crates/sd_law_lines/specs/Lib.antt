@@ -1,2 +1,0 @@
-pub mod Fielded
-pub mod Trials

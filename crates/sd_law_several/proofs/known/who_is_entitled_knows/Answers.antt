@@ -1,5 +1,0 @@
-use Rattle.sd_law_several.proofs.Entitled.{entitled_know_key, entitled_know_word}
-use Rattle.sd_law_several.proofs.known.who_is_entitled_knows.Goals as goal
-
-pub returns : goal.returns
-returns c = record { key = entitled_know_key; words = entitled_know_word }

@@ -1,5 +1,0 @@
-use Rattle.sd_law_several.proofs.Using.{later_periods_are_new}
-use Rattle.sd_law_several.proofs.practice.later_periods_are_new.Goals as goal
-
-pub returns : goal.returns
-returns c = later_periods_are_new

@@ -1,4 +1,0 @@
-pub mod Few
-pub mod Plain
-pub mod Chained
-pub mod Members

@@ -1,7 +1,0 @@
-use Rattle.std.proofs.Common.{◌≡◌, map, take}
-use Rattle.serde_json.specs.View.{view}
-use Rattle.sd_monitor.specs.Lines.{place_data}
-use Rattle.sd_monitor.proofs.ecm.places_value.Given as goal
-
-abbrev pub invariant-loop-place : goal.invariant-loop-place
-invariant-loop-place l = map view l.positions.items ≡ map place_data (take l.place-index l.fn.places)

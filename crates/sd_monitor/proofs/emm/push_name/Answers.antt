@@ -1,7 +1,0 @@
-use Rattle.std.proofs.Common.{rules}
-use Rattle.sd_monitor.specs.Lines.{set_word}
-use Rattle.sd_monitor.proofs.emm.push_name.Goals as goal
-
-pub returns-in-Diff : goal.returns-in-Diff
-unfolding set_word
-returns-in-Diff c = search rules

@@ -1,0 +1,155 @@
+-- What becomes of one held packet.
+use Rattle.std.proofs.Common.{ℕ, ◌+◌, ◌-◌, ◌%◌, ◌^◌, ◌<◌, ◌≤◌, ◌≡◌, ◌==◌, ◌&&◌, true, false, not, List, []}
+use Rattle.std.proofs.Common.{◌∷◌, ◌++◌, map}
+use Rattle.std.proofs.Common.{get_or, refl, sym, ap, ◌∙◌, inl, inr, arith}
+use Rattle.std.specs.Prelude.{Option, Some, None, Result, Ok, Err, OnOk, OnErr, MatchResult, nat_le, is_none}
+use Rattle.std.specs.Option.{option_map_or}
+use Rattle.std.proofs.lemmas.Bool.{cases_lt, leb-true, le-leb, lt-leb, and_parts, eq-eqb}
+use Rattle.sd_packet.specs.Header.{pid_of, scrambling_of}
+use Rattle.sd_packet.specs.Positions.{is_placed, moved_by}
+use Rattle.sd_psi.specs.Rewriting.{restored, restore_fault}
+use Rattle.sd_psi.specs.declared.fault.FormFault.{FormFault}
+use Rattle.sd_keystream.specs.Scrambling.{descrambled}
+use Rattle.sd_spec.specs.Confirmed.{Segment, position_in, tracked, is_confirmed, is_odd, unmarked, judged}
+use Rattle.sd_receive.specs.declared.held.Held.{Held}
+use Rattle.sd_receive.specs.declared.confirm.Confirming.{Confirming}
+use Rattle.sd_receive.specs.Tracking.{led_to, start_of, packets_in}
+use Rattle.sd_receive.specs.Holding.{held_pair}
+use Rattle.sd_receive.specs.Writing.{segment_in, segment_of, IsReady, IsOwn}
+use Rattle.sd_receive.proofs.Places.{found_short}
+
+-- the packets of held ones, without their numbers
+pub packets_are : (held : List Held) → map (λ (e : ℕ × List ℕ). e.1) (map held_pair held) ≡ packets_in held
+packets_are [] = refl
+packets_are (h ∷ hs) = ap (λ (ps : List (List ℕ)). h.packet ∷ ps) (packets_are hs)
+
+-- the table has where all packets lead
+table_is : (c : Confirming) (pid : ℕ) → IsReady c → pid < 8192 →
+    tracked (segment_in c).first pid (segment_in c).packets ≡ get_or c.tracks.now.table.items pid 0
+unfolding segment_in segment_of tracked led_to start_of
+table_is c pid ready small =
+    ap (λ (ps : List (List ℕ)). moved_by pid (start_of c.tracks.now.places.items pid) ps)
+    (packets_are c.tracks.now.held.items)
+    ∙ sym (ready.kept.tracked.at pid small)
+
+-- a PID is confirmed by the table
+by_table : (c : Confirming) (pid : ℕ) → IsReady c → pid < 8192 → is_confirmed (segment_in c) pid
+    ≡ option_map_or (λ p. nat_le (get_or c.tracks.now.table.items pid 0) p && nat_le p
+    (get_or c.tracks.now.table.items pid 0 + 15)) (position_in c.last.now pid) false
+unfolding is_confirmed segment_in segment_of
+by_table c pid ready small =
+    ap (λ (t : ℕ). option_map_or (λ p. nat_le t p && nat_le p (t + 15)) (position_in c.last.now pid) false)
+    (table_is c pid ready small)
+
+pub unconfirmed : (c : Confirming) (pid : ℕ) → IsReady c → pid < 8192 → position_in c.last.now pid ≡ None →
+    is_confirmed (segment_in c) pid ≡ false
+unconfirmed c pid ready small none =
+    by_table c pid ready small
+    ∙ ap (λ (o : Option ℕ). option_map_or (λ p. nat_le (get_or c.tracks.now.table.items pid 0) p && nat_le p
+    (get_or c.tracks.now.table.items pid 0 + 15)) o false) none
+
+pub near : (c : Confirming) (pid position : ℕ) → IsReady c → pid < 8192 → position_in c.last.now pid ≡ Some position →
+    is_confirmed (segment_in c) pid ≡ (nat_le (get_or c.tracks.now.table.items pid 0) position && nat_le position
+    (get_or c.tracks.now.table.items pid 0 + 15))
+near c pid position ready small is =
+    by_table c pid ready small
+    ∙ ap (λ (o : Option ℕ). option_map_or (λ p. nat_le (get_or c.tracks.now.table.items pid 0) p && nat_le p
+    (get_or c.tracks.now.table.items pid 0 + 15)) o false) is
+
+short_by : (o : Option ℕ) (t : ℕ) → ((x : ℕ) → o ≡ Some x → x < 2 ^ 48) →
+    option_map_or (λ p. nat_le t p && nat_le p (t + 15)) o false ≡ true → t < 2 ^ 48
+short_by None t f h = absurd (cc h)
+short_by (Some x) t f h = omega (arith, leb-true t x (and_parts (nat_le t x) (nat_le x (t + 15)) h).0, f x refl)
+
+-- so the packets of a confirmed PID lead to a position of 48 bits
+pub confirmed_short : (c : Confirming) (pid : ℕ) → IsReady c → pid < 8192 → is_confirmed (segment_in c) pid ≡ true →
+    get_or c.tracks.now.table.items pid 0 < 2 ^ 48
+confirmed_short c pid ready small sure =
+    short_by (position_in c.last.now pid) (get_or c.tracks.now.table.items pid 0)
+    (λ x is. found_short c.last.now pid x ready.short is)
+    (sym (by_table c pid ready small) ∙ sure)
+
+-- a PMT that has the project's descriptor is restored
+pub unmarked_is : (s : Segment) (p : List ℕ) → is_placed p ≡ true → restore_fault s.ca s.ecm p ≡ None →
+    unmarked s p ≡ restored p
+unfolding unmarked
+unmarked_is s p placed none = rw placed (rw none refl)
+
+unmarked_by : (s : Segment) (p : List ℕ) → (is_placed p && is_none (restore_fault s.ca s.ecm p)) ≡ false →
+    unmarked s p ≡ p
+unfolding unmarked
+unmarked_by s p none = rw none refl
+
+-- and any other packet is left
+pub left_marked : (s : Segment) (p : List ℕ) → is_placed p ≡ false → unmarked s p ≡ p
+left_marked s p out = unmarked_by s p (rw out refl)
+
+pub judged_clear : (s : Segment) (before : List (List ℕ)) (n : ℕ) (p : List ℕ) → scrambling_of p ≡ 0 →
+    judged s before (n, p) ≡ Ok (unmarked s p ∷ [])
+unfolding judged
+judged_clear s before n p clear = rw (eq-eqb (scrambling_of p) 0 clear) refl
+
+pub judged_odd : (s : Segment) (before : List (List ℕ)) (n : ℕ) (p : List ℕ) → (scrambling_of p == 0) ≡ false →
+    is_odd s p ≡ true → judged s before (n, p) ≡ Err n
+unfolding judged
+judged_odd s before n p dark odd = rw dark (rw odd refl)
+
+pub judged_far : (s : Segment) (before : List (List ℕ)) (n : ℕ) (p : List ℕ) → (scrambling_of p == 0) ≡ false →
+    is_odd s p ≡ false → is_confirmed s (pid_of p) ≡ false → judged s before (n, p) ≡ Ok []
+unfolding judged
+judged_far s before n p dark even far = rw dark (rw even (rw far refl))
+
+judged_by : (s : Segment) (before : List (List ℕ)) (n : ℕ) (p : List ℕ) → (scrambling_of p == 0) ≡ false →
+    is_odd s p ≡ false → is_confirmed s (pid_of p) ≡ true →
+    judged s before (n, p) ≡ Ok (descrambled p s.word (tracked s.first (pid_of p) (before ++ p ∷ [])) ∷ [])
+unfolding judged
+judged_by s before n p dark even close = rw dark (rw even (rw close refl))
+
+own_is : (c : Confirming) (before : List (List ℕ)) (h : Held) → IsOwn c before h →
+    tracked (segment_in c).first (pid_of h.packet) (before ++ h.packet ∷ []) ≡ h.position
+unfolding segment_in segment_of tracked led_to start_of
+own_is c before h own = sym own.position
+
+pub judged_near : (c : Confirming) (before : List (List ℕ)) (h : Held) → IsOwn c before h →
+    (scrambling_of h.packet == 0) ≡ false →
+    is_odd (segment_in c) h.packet ≡ false → is_confirmed (segment_in c) (pid_of h.packet) ≡ true →
+    judged (segment_in c) before (h.number, h.packet) ≡ Ok (descrambled h.packet (segment_in c).word h.position ∷ [])
+judged_near c before h own dark even close =
+    judged_by (segment_in c) before h.number h.packet dark even close
+    ∙ ap (λ (x : ℕ). Ok (descrambled h.packet (segment_in c).word x ∷ [])) (own_is c before h own)
+
+near_by : (t p : ℕ) → t ≤ p → nat_le (p - t) 15 ≡ (nat_le t p && nat_le p (t + 15))
+near_by t p low = elim (cases_lt (t + 15) p) [
+  | inl far ↦ rw (lt-leb (p - t) 15 (omega (arith, low, far))) (rw (le-leb t p low) (rw (lt-leb p (t + 15) far) refl))
+  | inr close ↦ rw (le-leb (p - t) 15 (omega (arith, low, close)))
+      (rw (le-leb t p low) (rw (le-leb p (t + 15) close) refl))
+]
+
+-- a position that is at most 15 above the tracked one confirms
+pub near_is : (c : Confirming) (pid position : ℕ) → IsReady c → pid < 8192 →
+    position_in c.last.now pid ≡ Some position →
+    get_or c.tracks.now.table.items pid 0 ≤ position →
+    nat_le (position - get_or c.tracks.now.table.items pid 0) 15 ≡ is_confirmed (segment_in c) pid
+near_is c pid position ready small is low = near_by (get_or c.tracks.now.table.items pid 0) position low
+    ∙ sym (near c pid position ready small is)
+
+-- and one below it doesn't
+pub below_is : (c : Confirming) (pid position : ℕ) → IsReady c → pid < 8192 →
+    position_in c.last.now pid ≡ Some position →
+    position < get_or c.tracks.now.table.items pid 0 → is_confirmed (segment_in c) pid ≡ false
+below_is c pid position ready small is low =
+    near c pid position ready small is ∙ rw (lt-leb (get_or c.tracks.now.table.items pid 0) position low) refl
+
+-- what a packet is after its descriptor was removed, or wasn't
+pub unmarked_after : (s : Segment) (p q : List ℕ) (r : Result (Unit {0}) FormFault) → is_placed p ≡ true →
+    OnOk r (q ≡ restored p) → OnErr r (q ≡ p) →
+    MatchResult r (λ _. restore_fault s.ca s.ecm p ≡ None) (λ fault. restore_fault s.ca s.ecm p ≡ Some fault) →
+    q ≡ unmarked s p
+unmarked_after s p q (Ok done) placed value same fault = value ∙ sym (unmarked_is s p placed fault)
+unmarked_after s p q (Err f) placed value same fault = same ∙ sym (unmarked_by s p (rw placed (rw fault refl)))
+
+-- a packet with a place is odd by its control
+pub odd_placed : (c : Confirming) (p : List ℕ) (s k : ℕ) → is_placed p ≡ true → s ≡ scrambling_of p →
+    k ≡ 2 + c.word.now.number % 2 → not (s == k) ≡ is_odd (segment_in c) p
+unfolding segment_in segment_of
+odd_placed c p s k placed e f = rw placed (rw e (rw f refl))

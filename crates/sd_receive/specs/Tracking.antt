@@ -1,0 +1,66 @@
+-- Public meaning: the positions to which the buffered packets lead.
+use Rattle.std.specs.Prelude.{◌≡◌, ℕ, ◌+◌, ◌<◌, ◌≤◌, false, ◌==◌, List, [], length, map, take, get_or, All}
+use Rattle.std.specs.Prelude.{vec_capacity}
+use Rattle.std.specs.List.{list_any}
+use Rattle.std.specs.Option.{option_map_or}
+use Rattle.sd_packet.specs.Header.{pid_of}
+use Rattle.sd_packet.specs.Positions.{first_position, moved_by}
+use Rattle.sd_ecm.specs.Form.{AreShort}
+use Rattle.sd_ecm.specs.declared.part.Place.{Place}
+use Rattle.sd_ecm.specs.Versions.{most_places}
+use Rattle.sd_spec.specs.Confirmed.{position_in}
+use Rattle.sd_spec.specs.Offered.{most_held}
+use Rattle.sd_receive.specs.declared.held.Held.{Held}
+use Rattle.sd_receive.specs.declared.tracks.Tracks.{Tracks}
+use Rattle.sd_receive.specs.declared.tracks.TheConstants.{PIDS}
+
+-- the PIDs of places
+abbrev pub pids_in : List Place → List ℕ
+pids_in places = map (λ (p : Place). p.pid) places
+
+-- the buffered packets, without their numbers and positions
+abbrev pub packets_in : List Held → List (List ℕ)
+packets_in held = map (λ (h : Held). h.packet) held
+
+-- the position of a PID before the buffered packets: that of its place, or else the first one [this project,
+-- docs/FORMATS.md, Positions]
+unfoldable pub start_of : List Place → ℕ → ℕ
+start_of places pid = option_map_or (λ p. p) (position_in places pid) first_position
+
+-- the position of a PID after these packets, from its place on [this project, docs/FORMATS.md, Receiver]
+unfoldable pub led_to : List Place → List (List ℕ) → ℕ → ℕ
+led_to places packets pid = moved_by pid (start_of places pid) packets
+
+-- a table by PID has the positions after these packets
+pub record IsTracked (places : List Place) (packets : List (List ℕ)) (table : List ℕ) : Type 0 where
+  pub long : length table ≡ PIDS
+  pub at : (pid : ℕ) → pid < PIDS → get_or table pid 0 ≡ led_to places packets pid
+
+-- a table by PID has the first position, but for some of these PIDs
+pub record IsClearBut (pids : List ℕ) (table : List ℕ) : Type 0 where
+  pub long : length table ≡ PIDS
+  pub clear : (pid : ℕ) → list_any (λ q. q == pid) pids ≡ false → pid < PIDS → get_or table pid 0 ≡ first_position
+
+-- a table by PID has the first position for each
+abbrev pub HasFirstPositions : List ℕ → Type 0
+HasFirstPositions table = IsClearBut [] table
+
+-- the PID of each place is one of 13 bits
+abbrev pub AreKnown : List Place → Type 0
+AreKnown places = All (λ place. place.pid < PIDS) places
+
+-- each buffered packet has the position to which it led its PID
+abbrev pub HaveOwn : List Place → List Held → Type 0
+HaveOwn places held =
+    (k : ℕ) (d : Held) → k < length held
+    → (get_or held k d).position ≡ led_to places (take (k + 1) (packets_in held)) (pid_of (get_or held k d).packet)
+
+-- what is kept: places and packets within their room, and the positions to which the packets lead
+pub record IsKept (tracks : Tracks) : Type 0 where
+  pub few : length tracks.held.items ≤ most_held
+  pub room : most_held ≤ vec_capacity tracks.held
+  pub space : most_places ≤ vec_capacity tracks.places
+  pub known : AreKnown tracks.places.items
+  pub short : AreShort tracks.places.items
+  pub own : HaveOwn tracks.places.items tracks.held.items
+  pub tracked : IsTracked tracks.places.items (packets_in tracks.held.items) tracks.table.items

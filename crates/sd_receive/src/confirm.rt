@@ -1,0 +1,141 @@
+ghost use Rattle.std.specs.Prelude.{◌≡◌, ◌<◌, ◌≤◌, ◌∷◌, ℕ, List, [], IsErrOf, get_or, MatchResult, Ok, Err, Some, None};
+ghost use Rattle.std.specs.Prelude.{if◌then◌else◌};
+ghost use Rattle.std.specs.Result.{OnOk, OnErr, IfErr};
+ghost use Rattle.sd_base.specs.Count.{IsCaused};
+ghost use Rattle.sd_engine.specs.Stage.{vessel, TookBytes};
+ghost use Rattle.sd_packet.specs.Header.{pid_of};
+ghost use Rattle.sd_spec.specs.Confirmed.{position_in, is_confirmed as is_confirmed_pid};
+ghost use Rattle.sd_spec.specs.Confirmed.{is_odd as is_odd_packet, judged};
+ghost use Rattle.sd_spec.specs.Confirmed.{unmarked, written_from};
+ghost use Rattle.sd_receive.specs.Writing.{WriteOutcome, HasStopped, IsReady, IsOwn, holding_in};
+ghost use Rattle.sd_receive.specs.Writing.{segment_in};
+
+use crate::held::{Held, Word};
+use crate::segment_fault::SegmentFault;
+use crate::tracks::Tracks;
+use sd_ecm::Place;
+use sd_keystream::descramble;
+use sd_packet::Packet;
+use sd_ports::{Sink, write_all};
+use sd_psi::restore_pmt;
+
+// The greatest distance of a confirmed position above the one that the buffered packets lead to.
+const RESIDUAL: u64 = 15;
+
+// The packets buffered after a control message, and what the next one and the card say of them.
+#[derive(Clone, Copy)]
+pub struct Confirming<'a> {
+    pub word: &'a Word,
+    pub tracks: &'a Tracks,
+    pub ca: u16,
+    pub ecm: u16,
+    // The PIDs and positions in the next control message.
+    pub last: &'a [Place],
+}
+
+// Writes a packet.
+#[tactic(auto, using(sd_engine::proofs::Vessels::too_short))]
+fn put<K: Sink>(packet: &Packet, out: &mut K) -> Result<(), SegmentFault>
+    ensures ok { OnOk result (TookBytes (vessel K.Sink out.old) (vessel K.Sink out.new) packet.now) }
+    ensures fault { IfErr result (λ fault. fault ≡ SegmentFault.Write) }
+    ensures prefix { OnErr result (HasStopped (vessel K.Sink out.old) (vessel K.Sink out.new) packet.now) }
+    ensures cause { IsCaused (K.faults out.old) (K.faults out.new) (IsErrOf result SegmentFault.Write) }
+{
+    match write_all(out, packet.bytes()) {
+        Ok(()) => Ok(()),
+        Err(_) => Err(SegmentFault::Write),
+    }
+}
+
+// The position of a PID, if it is among these places.
+#[tactic(auto, unfolding(sd_spec::specs::Confirmed::position_in))]
+fn position(places: &[Place], pid: u16) -> Option<u64>
+    ensures { result ≡ position_in places.now pid }
+{
+    places
+        .iter()
+        .find(|place| place.pid == pid)
+        .map(|place| place.position)
+}
+
+impl<'a> Confirming<'a> {
+    // Writes what is confirmed, up to the first packet that is refused. It returns the number of packets written.
+    pub fn write<K: Sink>(&self, out: &mut K) -> Result<u64, SegmentFault>
+        requires ready { IsReady self.now }
+        ensures value { WriteOutcome (written_from (segment_in self.now) [] (holding_in self.now).held)
+            (vessel K.Sink out.old) (vessel K.Sink out.new) result }
+        ensures cause { IsCaused (K.faults out.old) (K.faults out.new) (IsErrOf result SegmentFault.Write) }
+    {
+        let mut count = 0;
+        for held in &self.tracks.held {
+            let mut packet = held.packet;
+            let written = self.judge(held, &mut packet)?;
+            if written {
+                put(&packet, out)?;
+                count += 1;
+            }
+        }
+        Ok(count)
+    }
+
+    // Turns a buffered packet into the clear packet that is written for it, and answers whether it is written. A
+    // scrambled packet isn't written if its PID isn't confirmed, and is refused if it can't be one under the control
+    // word.
+    #[tactic(auto, using(crate::proofs::HoldJudging::judged_clear, crate::proofs::HoldJudging::judged_odd, crate::proofs::HoldJudging::judged_far, crate::proofs::HoldJudging::judged_near, crate::proofs::HoldJudging::confirmed_short))]
+    fn judge(&self, held: &Held, packet: &mut Packet) -> Result<bool, SegmentFault>
+        requires ready { IsReady self.now }
+        requires position { held.now.position ≤ get_or self.now.tracks.now.table.items (pid_of held.now.packet) 0 }
+        requires same { packet.old ≡ held.now.packet }
+        ensures { (before : List (List ℕ)) → IsOwn self.now before held.now →
+            MatchResult result
+            (λ written. judged (segment_in self.now) before (held.now.number, held.now.packet)
+            ≡ Ok (if written then packet.new ∷ [] else []))
+            (λ fault. (fault ≡ SegmentFault.Parity held.now.number)
+            × (judged (segment_in self.now) before (held.now.number, held.now.packet) ≡ Err held.now.number)) }
+    {
+        if packet.scrambling() == 0 {
+            self.unmark(packet);
+            return Ok(true);
+        }
+        if self.is_odd(packet) {
+            return Err(SegmentFault::Parity(held.number));
+        }
+        if !self.is_confirmed(packet.pid()) {
+            return Ok(false);
+        }
+        descramble(packet, &self.word.bytes, held.position);
+        Ok(true)
+    }
+
+    // Whether the packet can't be one under the control word.
+    fn is_odd(&self, packet: &Packet) -> bool
+        ensures { result ≡ is_odd_packet (segment_in self.now) packet.now }
+    {
+        !packet.is_placed() || packet.scrambling() != self.word.control()
+    }
+
+    // Removes the project's CA_descriptor from a packet that is a PMT with it.
+    #[tactic(auto, using(crate::proofs::HoldJudging::unmarked_is, crate::proofs::HoldJudging::left_marked))]
+    fn unmark(&self, packet: &mut Packet)
+        requires ready { IsReady self.now }
+        ensures { packet.new ≡ unmarked (segment_in self.now) packet.old }
+    {
+        if packet.is_placed() {
+            let _ = restore_pmt(packet, self.ca, self.ecm);
+        }
+    }
+
+    // Whether the PID's position in the next message is 0 to 15 above the one that the buffered packets lead to.
+    #[tactic(auto, using(crate::proofs::HoldJudging::unconfirmed, crate::proofs::HoldJudging::near_is, crate::proofs::HoldJudging::below_is))]
+    fn is_confirmed(&self, pid: u16) -> bool
+        requires ready { IsReady self.now }
+        requires pid { pid < 8192 }
+        ensures { result ≡ is_confirmed_pid (segment_in self.now) pid }
+    {
+        let Some(position) = position(self.last, pid) else {
+            return false;
+        };
+        let tracked = self.tracks.table[usize::from(pid)];
+        tracked <= position && position - tracked <= RESIDUAL
+    }
+}

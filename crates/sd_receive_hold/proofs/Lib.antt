@@ -1,6 +1,0 @@
-pub mod Places
-pub mod Tables
-pub mod Keeping
-pub mod Sinks
-pub mod Judging
-pub mod Walking

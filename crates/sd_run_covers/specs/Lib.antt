@@ -1,4 +1,0 @@
-pub mod Cover
-pub mod Layered
-pub mod Opens
-pub mod Trace

@@ -1,4 +1,0 @@
-pub mod Rounds
-pub mod Generator
-pub mod Packets
-pub mod Streams

@@ -1,9 +1,0 @@
-pub mod Filled
-pub mod Sends
-pub mod Books
-pub mod Laid
-pub mod Fitting
-pub mod Agreeing
-pub mod Streams
-pub mod Watching
-pub mod Offers

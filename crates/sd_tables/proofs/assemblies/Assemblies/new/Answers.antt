@@ -1,5 +1,0 @@
-use Rattle.sd_tables.proofs.After.{first_placed}
-use Rattle.sd_tables.proofs.assemblies.Assemblies.new.Goals as goal
-
-pub returns : goal.returns
-returns c = record { marked = c.in_ok-new.ensures; placed = first_placed _ c.in_ok-no_assemblers.ensures }

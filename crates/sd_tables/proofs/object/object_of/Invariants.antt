@@ -1,9 +1,0 @@
-use Rattle.std.proofs.Common.{◌≡◌}
-use Rattle.serde_json.specs.Data.{no_members}
-use Rattle.serde_json.specs.View.{members_view}
-use Rattle.sd_tables.specs.Members.{named_data, put_all}
-use Rattle.sd_tables.proofs.object.object_of.Given as goal
-
-abbrev pub invariant-loop-key : goal.invariant-loop-key
-invariant-loop-key l = put_all (named_data l.key-iterator.rest.items) (members_view l.object.entries)
-    ≡ put_all (named_data l.fn.members.items) no_members

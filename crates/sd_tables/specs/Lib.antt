@@ -1,6 +1,0 @@
-pub mod Inspected
-pub mod Watching
-pub mod Staged
-pub mod Lines
-pub mod Judged
-pub mod Members

@@ -1,4 +1,0 @@
-pub mod Halves
-pub mod Search
-pub mod Trace
-pub mod Rounds
