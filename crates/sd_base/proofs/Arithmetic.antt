@@ -1,5 +1,5 @@
 -- Numbers and the tests that compare them.
-use Rattle.std.proofs.Common.{◌≡◌, ◌≢◌, ℕ, ◌*◌, ◌/◌, ◌<◌, Bool, true, false, nat_eq, nat_le, arith, refl}
+use Rattle.std.proofs.Common.{◌≡◌, ◌≢◌, ℕ, ◌+◌, ◌*◌, ◌/◌, ◌<◌, Bool, true, false, nat_eq, nat_le, arith, refl}
 use Rattle.std.proofs.lemmas.Bool.{leb-true}
 use Rattle.std.proofs.lemmas.Bool.Decides.{nat_tests}
 use Rattle.sd_base.specs.Count.{HasRisen, HasNotRisen}
@@ -20,6 +20,10 @@ other_number_back n k h = grind (arith, nat_tests)
 pub above_fails : (a b : ℕ) (test : Bool) → nat_le a b ≡ test → b < a → test ≡ false
 above_fails a b false e h = refl
 above_fails a b true e h = absurd (omega (arith, leb-true a b e))
+
+-- one more multiple
+pub times_next : (d b : ℕ) → (d + 1) * b ≡ d * b + b
+times_next d b = omega arith
 
 -- the number of packets of so many bytes
 pub packets_in : (bytes packets : ℕ) → bytes ≡ 188 * packets → bytes / 188 ≡ packets

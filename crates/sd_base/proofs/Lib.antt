@@ -9,6 +9,8 @@ pub mod Changes
 pub mod Writes
 pub mod Endian
 pub mod Cuts
+pub mod Spaces
 pub mod Digits
 pub mod DecimalNumbers
+pub mod Fitting
 pub mod Lengths

@@ -60,6 +60,10 @@ counted_any p (x ∷ xs) some =
 pub equal_bytes : (xs ys : List ℕ) → xs ≡ ys → bytes_eq xs ys ≡ true
 equal_bytes xs ys same = (bytes_eq-Decides xs ys).1 same
 
+-- equal parts are equal together
+pub same_parts : (a a' b b' : List ℕ) → a ≡ a' → b ≡ b' → a ++ b ≡ a' ++ b'
+same_parts a a' b b' p q = rw (p, q) refl
+
 -- joined to nothing, the first bytes are all
 pub nothing_joined : (first last bytes : List ℕ) → last ≡ [] → bytes ≡ first ++ last → bytes ≡ first
 nothing_joined first last bytes none joined = joined ∙ (ap (λ (xs : List ℕ). first ++ xs) none ∙ append-nil first)

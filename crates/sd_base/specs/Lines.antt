@@ -1,5 +1,5 @@
--- Public meaning: the lines of a text [this project, docs/FORMATS.md, Text files].
-use Rattle.std.specs.Prelude.{ℕ, ◌==◌, Bool, not, List, [], ◌∷◌, if◌then◌else◌}
+-- Public meaning: the lines of a text, and a line cut at its first space [this project, docs/FORMATS.md, Text files].
+use Rattle.std.specs.Prelude.{ℕ, ◌==◌, Bool, not, List, [], ◌∷◌, if◌then◌else◌, Option, Some, None, option_map}
 use Rattle.std.specs.List.{list_all}
 
 -- the byte before the first of these lines
@@ -15,3 +15,13 @@ lines_of (byte ∷ bytes) = if byte == 10 then [] ∷ lines_of bytes else onto_f
 -- bytes that can stand on one line: none is a line feed [this project, docs/FORMATS.md, Text files]
 abbrev pub is_line : List ℕ → Bool
 is_line = list_all (λ byte. not (byte == 10))
+
+-- the byte before the first of two parts
+abbrev pub onto_first_part : ℕ → List ℕ × List ℕ → List ℕ × List ℕ
+onto_first_part byte parts = (byte ∷ parts.0, parts.1)
+
+-- what stands before the first space, and after it
+abbrev pub cut_at_space : List ℕ → Option (List ℕ × List ℕ)
+cut_at_space [] = None
+cut_at_space (byte ∷ bytes) =
+    if byte == 32 then Some ([], bytes) else option_map (onto_first_part byte) (cut_at_space bytes)

@@ -1,5 +1,6 @@
 //! What nearly all crates share: fields of bits, counts of I/O errors, out of memory, and a counter of generator steps.
-//! Text files as this project reads them: lines that end at line feeds, and decimals after a word.
+//! Text files as this project reads them: lines that end at line feeds, a line cut at a
+//! space, and decimals after a word.
 #![tactic(auto)]
 
 mod decimals;
@@ -14,6 +15,6 @@ mod word;
 
 pub use decimals::{NumberFault, number_after};
 pub use field::{get, set};
-pub use lines::next_line;
+pub use lines::{cut_at_space, next_line};
 pub use memory::NoMemory;
 pub use steps::Steps;

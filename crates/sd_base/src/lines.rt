@@ -1,9 +1,11 @@
-ghost use Rattle.std.specs.Prelude.{◌≡◌, ◌<◌, ◌↔◌, [], ◌∷◌, length, IsNone, IfSome};
-ghost use Rattle.sd_base.specs.Lines.{lines_of};
+ghost use Rattle.std.specs.Prelude.{◌≡◌, ◌<◌, ◌↔◌, [], ◌∷◌, length, IsNone, IfSome, option_map};
+ghost use Rattle.sd_base.specs.Lines.{cut_at_space, lines_of};
 
 use memchr::memchr;
 
 const LINE_FEED: u8 = b'\n';
+
+const SPACE: u8 = b' ';
 
 /// The first line and what stands after its line feed, or `None` where no byte is left.
 #[tactic(auto, using(crate::proofs::Cuts::cut_at_feed, crate::proofs::Cuts::no_feed, crate::proofs::Cuts::to_the_end))]
@@ -19,4 +21,13 @@ pub fn next_line(bytes: &[u8]) -> Option<(&[u8], &[u8])>
         Some(end) => Some((&bytes[..end], &bytes[end + 1..])),
         None => Some((bytes, &[])),
     }
+}
+
+/// What stands before the first space, and after it, or `None` without a space.
+#[tactic(auto, using(crate::proofs::Spaces::cut_there, crate::proofs::Spaces::no_cut, crate::proofs::Cuts::to_the_end))]
+pub fn cut_at_space(text: &[u8]) -> Option<(&[u8], &[u8])>
+    ensures { option_map (λ cut. (cut.0.now, cut.1.now)) result ≡ cut_at_space text.now }
+{
+    let space = memchr(SPACE, text)?;
+    Some((&text[..space], &text[space + 1..]))
 }

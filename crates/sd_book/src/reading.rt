@@ -1,4 +1,4 @@
-ghost use Rattle.std.specs.Prelude.{◌≡◌, ◌≤◌, ◌⊎◌, ◌+◌, [], Ok, Err, IfOk, IfErr, length, nat_le, if◌then◌else◌};
+ghost use Rattle.std.specs.Prelude.{◌≡◌, ◌≤◌, ◌⊎◌, ◌+◌, Ok, Err, IfOk, IfErr, nat_le, if◌then◌else◌};
 ghost use Rattle.sd_base.specs.Lines.{lines_of};
 ghost use Rattle.sd_book.specs.declared.limits.TheConstants.{MOST_COMMANDS};
 ghost use Rattle.sd_book.specs.Faults.{IsCauseOf};

@@ -1,4 +1,4 @@
-ghost use Rattle.std.specs.Prelude.{◌≡◌, ◌<◌, ◌≤◌, ◌^◌, ℕ, true, [], ◌∷◌, ◌++◌, List, All, IfOk, slice_set, vec_len};
+ghost use Rattle.std.specs.Prelude.{◌≡◌, ◌<◌, ◌≤◌, ◌^◌, true, [], ◌∷◌, ◌++◌, List, All, IfOk, slice_set, vec_len};
 ghost use Rattle.std.specs.Prelude.{count_by, nat_le, Ok, Err};
 ghost use Rattle.sd_book.specs.declared.command.Command.{Command as Commands};
 ghost use Rattle.sd_book.specs.declared.limits.TheConstants.{MOST_PERIODS};

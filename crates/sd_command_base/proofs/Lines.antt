@@ -2,7 +2,7 @@
 use Rattle.std.proofs.Common.{◌≡◌, ℕ, zero, suc, ◌+◌, ◌-◌, ◌^◌, ◌<◌, ◌≤◌, ◌&&◌, Bool, true, false, not, List, [], ◌∷◌}
 use Rattle.std.proofs.Common.{◌++◌, length}
 use Rattle.std.proofs.Common.{get_or, drop, refl, sym, ap, ◌∙◌, subst, inl, inr, pow_mono, arith}
-use Rattle.std.proofs.lemmas.Bool.{cases_lt, lt-ltb, le-ltb, ltb-true, ltb-false}
+use Rattle.std.proofs.lemmas.Bool.{cases_lt, lt-ltb, le-ltb, ltb-true}
 use Rattle.std.specs.Prelude.{◌⊎◌, All, find, is_some, map, slice_get, slice_index, nat_lt, if◌then◌else◌, Option, Some}
 use Rattle.std.specs.Prelude.{None, Ok, Err}
 use Rattle.std.specs.List.{range_with_len}
@@ -12,7 +12,7 @@ use Rattle.std.specs.Option.{option_map_or}
 use Rattle.sd_base.specs.Lines.{lines_of}
 use Rattle.sd_base.specs.Number.{decimal_value, rest_after, decimal_after, fitting}
 use Rattle.sd_base.specs.declared.decimals.NumberFault.{NumberFault}
-use Rattle.sd_base.specs.declared.decimals.NumberFault.TheVariants.{TooLarge}
+use Rattle.sd_base.proofs.Fitting.{fits_is, misfit_high}
 use Rattle.sd_command_base.specs.Text.{is_leaf_line, first_fault, leaves_of_text, leaf_after, stands_above}
 
 -- the first number of a range that passes a test
@@ -43,15 +43,7 @@ none_found p lo (suc n) none =
 pub said : (h u : ℕ) (line before : List ℕ) → fitting (decimal_after [] line) ≡ Ok u →
     leaf_after h before (Some u) ≡ leaf_after h before (decimal_value line)
 unfolding rest_after
-said h u line before e = ap (leaf_after h before) (sym (said_by (decimal_value line) u e))
-  where
-    said_by : (n : Option ℕ) (u : ℕ) → fitting n ≡ Ok u → n ≡ Some u
-    said_by None u e = absurd (cc)
-    said_by (Some n) u e = by (nat_lt n (2 ^ 32)) e
-      where
-        by : (b : Bool) → (if b then Ok n else Err TooLarge) ≡ Ok u → Some n ≡ Some u
-        by true e = let same : n ≡ u = cc in ap Some same
-        by false e = absurd (cc)
+said h u line before e = ap (leaf_after h before) (sym (fits_is (decimal_value line) u e))
 
 -- another is no leaf
 pub unsaid : (h : ℕ) (line before : List ℕ) (fault : NumberFault) → h ≤ 20 → fitting (decimal_after [] line)
@@ -62,16 +54,10 @@ unsaid h line before fault low e = unsaid_by (decimal_value line) e
   where
     unsaid_by : (n : Option ℕ) → fitting n ≡ Err fault → leaf_after h before n ≡ None
     unsaid_by None e = refl
-    unsaid_by (Some n) e = by (nat_lt n (2 ^ 32)) refl e
-      where
-        by : (b : Bool) → nat_lt n (2 ^ 32) ≡ b → (if b then Ok n else Err TooLarge) ≡ Err fault →
-            leaf_after h before (Some n) ≡ None
-        by true t e = absurd (cc)
-        by false t e =
-            let high = ltb-false n (2 ^ 32) t in
-            let above : nat_lt n (2 ^ h) ≡ false = le-ltb n (2 ^ h) (omega (arith, high, pow_mono {i = h} {j = 20} low))
-            in
-            rw above refl
+    unsaid_by (Some n) e =
+        let high = misfit_high n fault e in
+        let above : nat_lt n (2 ^ h) ≡ false = le-ltb n (2 ^ h) (omega (arith, high, pow_mono {i = h} {j = 20} low)) in
+        rw above refl
 
 -- a number of the tree above the last
 pub taken : (h u : ℕ) (before : List ℕ) → u < 2 ^ h →

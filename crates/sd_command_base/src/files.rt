@@ -7,7 +7,6 @@ ghost use Rattle.sd_command_base.specs.Outside.{depot_state};
 ghost use Rattle.sd_command_base.specs.Reads.{JudgedOutcome, SureOutcome, FileOutcome};
 ghost use Rattle.sd_command_base.specs.Files.{site_of_file, book_of_file, low_site_of_file, told_book, told_low};
 ghost use Rattle.sd_command_base.specs.Files.{most_card_bytes, refused_book, refused_card, told_site};
-ghost use Rattle.sd_command_base.specs.Shown.{shown_word};
 
 use crate::word::Word;
 use crate::{LimitKind, Status};

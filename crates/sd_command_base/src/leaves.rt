@@ -3,7 +3,6 @@ ghost use Rattle.sd_command_base.specs.Text.{leaves_of_text};
 ghost use Rattle.sd_command_base.specs.Outside.{depot_state};
 ghost use Rattle.sd_command_base.specs.Reads.{JudgedOutcome, FileOutcome};
 ghost use Rattle.sd_command_base.specs.Leaves.{leaves_of_file, told_leaves};
-ghost use Rattle.sd_command_base.specs.Shown.{shown_word};
 
 use crate::files::{MOST_BOOK_BYTES, read_bytes};
 use crate::word::Word;

@@ -4,6 +4,7 @@
 
 mod both;
 mod files;
+mod json;
 mod leaves;
 mod listing;
 mod made;
@@ -23,6 +24,7 @@ pub use files::{
     MOST_BOOK_BYTES, book_fault, card_fault, read_book, read_bytes, read_card_bytes, read_low_site,
     read_site,
 };
+pub use json::json_line;
 pub use leaves::read_leaves;
 pub use listing::Listing;
 pub use made::{make_file, told};

@@ -1,4 +1,4 @@
-ghost use Rattle.std.specs.Prelude.{◌≡◌, ℕ, IsErrOf, Option};
+ghost use Rattle.std.specs.Prelude.{◌≡◌, ℕ, IsErrOf};
 ghost use Rattle.sd_command_base.specs.Outside.{PageState, depot_state, outside};
 ghost use Rattle.sd_command_base.specs.Spec.{value};
 ghost use Rattle.sd_command_base.specs.Work.{StepBound};

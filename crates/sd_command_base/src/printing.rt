@@ -3,7 +3,7 @@ ghost use Rattle.std.specs.List.Sorted.{IsStrictlyIncreasing};
 ghost use Rattle.sd_tree.specs.declared.leaf.TheConstants.{MOST_REVOKED};
 ghost use Rattle.sd_command_base.specs.Outside.{page_state};
 ghost use Rattle.sd_command_base.specs.Outcome.{status_of};
-ghost use Rattle.sd_command_base.specs.Prints.{PrintsWork, PrintsPiece, PrintsText};
+ghost use Rattle.sd_command_base.specs.Prints.{PrintsWork, PrintsPiece};
 ghost use Rattle.sd_command_base.specs.Periods.{listing as listing_of, period_text as text_of};
 
 use crate::listing::Listing;

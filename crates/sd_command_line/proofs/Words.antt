@@ -1,10 +1,9 @@
 -- The numbers of words.
-use Rattle.std.proofs.Common.{◌≡◌, ℕ, ◌<◌, ◌≤◌, ◌^◌, Bool, true, false, cond, nat_lt, List, [], Option, Some, None}
-use Rattle.std.proofs.Common.{Result, Ok, Err, refl, sym, ap, ◌∙◌, arith, le-ltb, lt-ltb, inl, inr}
-use Rattle.std.proofs.lemmas.Bool.{cases_lt}
+use Rattle.std.proofs.Common.{◌≡◌, ℕ, ◌<◌, ◌≤◌, ◌^◌, Bool, cond, List, [], Option, Some, None}
+use Rattle.std.proofs.Common.{Ok, Err, refl, sym, ap, ◌∙◌, arith, le-ltb, lt-ltb}
 use Rattle.sd_base.specs.Number.{decimal_value, decimal_after, rest_after, fitting}
 use Rattle.sd_base.specs.declared.decimals.NumberFault.{NumberFault}
-use Rattle.sd_base.specs.declared.decimals.NumberFault.TheVariants.{TooLarge}
+use Rattle.sd_base.proofs.Fitting.{fits_is, misfit_high}
 use Rattle.sd_command_base.specs.declared.status.Status.TheVariants.{BadWord}
 use Rattle.sd_command_line.specs.Words.{at_most, number_in}
 
@@ -13,33 +12,12 @@ after_nothing : (text : List ℕ) → decimal_after [] text ≡ decimal_value te
 unfolding rest_after
 after_nothing text = refl
 
--- a number, where it is one of 32 bits
-abbrev chosen : Bool → ℕ → Result ℕ NumberFault
-chosen b m = cond b (Ok m) (Err TooLarge)
-
-the_chosen : (b : Bool) (m n : ℕ) → chosen b m ≡ Ok n → m ≡ n
-the_chosen true m n h = cc
-the_chosen false m n h = absurd (cc)
-
-found : (number : Option ℕ) (n : ℕ) → fitting number ≡ Ok n → number ≡ Some n
-found None n h = absurd (cc)
-found (Some m) n h = ap Some (the_chosen (nat_lt m (2 ^ 32)) m n h)
-
-not_chosen : (m : ℕ) (fault : NumberFault) → chosen (nat_lt m (2 ^ 32)) m ≡ Err fault → 2 ^ 32 ≤ m
-not_chosen m fault h =
-    elim (cases_lt m (2 ^ 32)) [
-      | inl lt ↦
-          let same : chosen (nat_lt m (2 ^ 32)) m ≡ Ok m = ap (λ (b : Bool). chosen b m) (lt-ltb m (2 ^ 32) lt) in
-          absurd (cc)
-      | inr le ↦ le
-    ]
-
 -- a number of 32 bits that is not above the most
 pub number_taken : (word most n : ℕ) (text other : List ℕ) → text ≡ other → fitting (decimal_after [] text) ≡ Ok n →
     n ≤ most → Ok n ≡ number_in word most other
 number_taken word most n text other same h le =
     sym (ap (λ (t : List ℕ). number_in word most t) (sym same)
-    ∙ ap (at_most word most) (sym (after_nothing text) ∙ found (decimal_after [] text) n h)
+    ∙ ap (at_most word most) (sym (after_nothing text) ∙ fits_is (decimal_after [] text) n h)
     ∙ ap (λ (b : Bool). cond b (Err (BadWord word)) (Ok n)) (le-ltb most n le))
 
 -- a number that is above it
@@ -47,7 +25,7 @@ pub number_above : (word most n : ℕ) (text other : List ℕ) → text ≡ othe
     most < n → Err (BadWord word) ≡ number_in word most other
 number_above word most n text other same h lt =
     sym (ap (λ (t : List ℕ). number_in word most t) (sym same)
-    ∙ ap (at_most word most) (sym (after_nothing text) ∙ found (decimal_after [] text) n h)
+    ∙ ap (at_most word most) (sym (after_nothing text) ∙ fits_is (decimal_after [] text) n h)
     ∙ ap (λ (b : Bool). cond b (Err (BadWord word)) (Ok n)) (lt-ltb most n lt))
 
 refused_number : (word most : ℕ) (number : Option ℕ) (fault : NumberFault) → most < 2 ^ 32 → fitting number
@@ -55,7 +33,7 @@ refused_number : (word most : ℕ) (number : Option ℕ) (fault : NumberFault) �
 refused_number word most None fault fits h = refl
 refused_number word most (Some m) fault fits h =
     sym (ap (λ (b : Bool). cond b (Err (BadWord word)) (Ok m))
-    (lt-ltb most m (omega (arith, not_chosen m fault h, fits))))
+    (lt-ltb most m (omega (arith, misfit_high m fault h, fits))))
 
 -- a word that has no number of 32 bits
 pub number_refused : (word most : ℕ) (text other : List ℕ) (fault : NumberFault) → most < 2 ^ 32 → text ≡ other →

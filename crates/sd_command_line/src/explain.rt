@@ -1,4 +1,4 @@
-ghost use Rattle.std.specs.Prelude.{◌≡◌, map, string_bytes, IfOk, length};
+ghost use Rattle.std.specs.Prelude.{◌≡◌, map, string_bytes, IfOk};
 ghost use Rattle.sd_command_line.specs.Explained.{argument_line, argument_of, command_line, count_line, explained};
 ghost use Rattle.sd_command_line.specs.Explained.{has_two_sites as two_sites, help_line, of_argument, of_sites};
 ghost use Rattle.sd_command_line.specs.Explained.{shown, site_line, sites_line, topic_line, usage_line, word_line};

@@ -1,7 +1,7 @@
-ghost use Rattle.std.specs.Prelude.{[], ◌≡◌, ◌≤◌, bytes_eq, length, map, option_map, string_bytes, IfOk, IfErr};
+ghost use Rattle.std.specs.Prelude.{[], ◌≡◌, bytes_eq, length, map, option_map, string_bytes, IfOk, IfErr};
 ghost use Rattle.std.specs.List.{list_any};
-ghost use Rattle.sd_command_line.specs.Commands.{command_named, operands_of};
-ghost use Rattle.sd_command_line.specs.Words.{command_words, help_on, help_words, input_texts, named_words, order_of};
+ghost use Rattle.sd_command_line.specs.Commands.{operands_of};
+ghost use Rattle.sd_command_line.specs.Words.{command_words, help_words, input_texts, named_words, order_of};
 ghost use Rattle.sd_command_line.specs.Words.{is_help as names_help, is_version as names_version};
 ghost use Rattle.sd_command_line.specs.Words.{out_is_read, out_text, version_words, with_input};
 ghost use Rattle.sd_command_line.specs.Orders.{order_said, shown, IsSound, RefusesWords};

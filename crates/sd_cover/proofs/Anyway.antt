@@ -19,12 +19,12 @@ use Rattle.sd_cover.proofs.Inside.{round_inside}
 use Rattle.sd_cover.proofs.Told.{one_last}
 
 -- the leaf is one of the tree, and isn't among these
-abbrev IsNew : ℕ → List ℕ → Found → Type 0
+abbrev pub IsNew : ℕ → List ℕ → Found → Type 0
 IsNew d gone f = (f.leaf < 2 ^ d) × ¬ Contains gone f.leaf
 
 -- what is found are leaves of the tree that aren't among the revoked
 pub found_new : (d : ℕ) (gone : List ℕ) (found : List Found) → AreAnyRounds d gone found →
-    All (λ f. (f.leaf < 2 ^ d) × ¬ Contains gone f.leaf) found
+    All (IsNew d gone) found
 unfolding AreAnyRounds
 found_new d gone [] r = All-nil (IsNew d gone)
 found_new d gone (f ∷ fs) r =

@@ -1,5 +1,5 @@
 -- The counts of an index after its changes.
-use Rattle.std.proofs.Common.{◌≡◌, ◌∙◌, ℕ, zero, suc, ◌+◌, ◌-◌, ◌/◌, ◌^◌, ◌<◌, ◌≤◌, ◌==◌, ◌↔◌, nat_eq, ◌&&◌, ◌||◌, not}
+use Rattle.std.proofs.Common.{◌≡◌, ◌∙◌, ℕ, zero, suc, ◌+◌, ◌^◌, ◌<◌, ◌≤◌, ◌==◌, ◌↔◌, nat_eq, ◌&&◌, ◌||◌, not}
 use Rattle.std.proofs.Common.{Bool, true, false, if◌then◌else◌, List, [], filter, Contains, eq-eqb, ne_eqb, eqb-true}
 use Rattle.std.proofs.Common.{arith, sym, ap, subst, refl, inl, inr}
 use Rattle.std.specs.List.{count_by, list_any, range_with_len}
@@ -12,32 +12,17 @@ use Rattle.std.proofs.lemmas.List.FromFn.{length-range_with_len}
 use Rattle.sd_base.proofs.Bools.{or_true, or_false, and_false, or_swap}
 use Rattle.sd_cover.proofs.Lists.{counted_some}
 use Rattle.std.proofs.lemmas.Bool.{cases_Bool, cond-true, cond-false}
-use Rattle.std.proofs.lemmas.Bool.Decides.{eqb_tells, nat_tests}
+use Rattle.std.proofs.lemmas.Bool.Decides.{eqb_tells}
 use Rattle.std.proofs.lemmas.Nat.{pow_pos}
 use Rattle.sd_tree.specs.Leaves.{is_below, leaves, with_leaf, without_leaf}
 use Rattle.sd_tree.proofs.Levels.{doubled}
-use Rattle.sd_tree.proofs.Ancestors.{leaf_level}
-use Rattle.sd_cover.specs.Walk.{StandsAt}
-use Rattle.sd_cover.proofs.Levels.{below_by_halvings}
 use Rattle.sd_cover.specs.Tally.{tally_at}
 use Rattle.sd_cover.specs.Path.{met_by}
 use Rattle.sd_cover.specs.Index.{IndexValue, count_below, counts_one, revoked_by, IsIndex}
 use Rattle.sd_cover.proofs.Paths.{met_is_below}
 use Rattle.sd_cover.proofs.Ranges.{count_filter, count_same, count_point, count_one_more, filter_same, filter_twice}
 use Rattle.sd_cover.proofs.Ranges.{passes, found}
-
--- at or below a leaf's node is that leaf alone
-leaf_stands : (d u : ℕ) → u < 2 ^ d → StandsAt d 0 (2 ^ d + u)
-leaf_stands d u h = let e : d - 0 ≡ d = omega arith in record { within = omega arith; at = rw e (leaf_level d u h) }
-
-below_leaf : (d u w : ℕ) → d < 32 → u < 2 ^ d → is_below d (2 ^ d + u) w ≡ (w == u)
-below_leaf d u w small h =
-    let one : (2 ^ d + w) / 2 ^ 0 ≡ 2 ^ d + w = omega arith in
-    below_by_halvings d 0 (2 ^ d + u) w small (leaf_stands d u h) ∙
-    (ap (λ (n : ℕ). nat_eq n (2 ^ d + u)) one ∙ shifted (2 ^ d) w u)
-  where
-    shifted : (n a b : ℕ) → nat_eq (n + a) (n + b) ≡ nat_eq a b
-    shifted n a b = grind (arith, nat_tests)
+use Rattle.sd_cover.proofs.Ancestry.{below_leaf}
 
 -- a leaf's node is a node of the tree
 leaf_low : (d u : ℕ) → 1 ≤ 2 ^ d + u

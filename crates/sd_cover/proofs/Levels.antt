@@ -6,7 +6,7 @@ use Rattle.std.proofs.lemmas.Nat.{pow_pos}
 use Rattle.std.proofs.lemmas.Bool.Decides.{eqb_tells, nat_tests, same_from_decides}
 use Rattle.sd_tree.specs.Node.{IsAbove, depth}
 use Rattle.sd_tree.specs.Leaves.{is_below}
-use Rattle.sd_tree.proofs.Levels.{IsAtLevel, doubled, halved_level, depth_at}
+use Rattle.sd_tree.proofs.Levels.{doubled, halved_level, depth_at}
 use Rattle.sd_tree.proofs.Ancestors.{above_by_levels, leaf_level, within_from_below, below_from_within}
 use Rattle.sd_cover.specs.Chains.{IsInTree}
 use Rattle.sd_cover.specs.Walk.{StandsAt, node_at}

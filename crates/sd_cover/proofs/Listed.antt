@@ -19,6 +19,7 @@ use Rattle.sd_cover.specs.Trace.{IsRound, IsTrace, not_among, last_open, found_a
 use Rattle.sd_cover.proofs.Inside.{round_inside}
 use Rattle.sd_cover.proofs.Leaving.{one_less_left, some_left}
 use Rattle.sd_cover.proofs.Opening.{opened_here, opened_later, none_is_left}
+use Rattle.sd_cover.proofs.Anyway.{IsNew}
 
 none_by : (d : ℕ) (coalition : List ℕ) (name : SetName) (sets : List SetName) (o : Option ℕ) (b : Bool) →
     last_open d coalition sets ≡ o → has_some d coalition name ≡ b →
@@ -130,10 +131,6 @@ pub there_is_a_trace : (d : ℕ) (coalition revoked : List ℕ) → 1 ≤ d → 
     IsTrace d coalition revoked (trace_of d coalition revoked)
 there_is_a_trace d coalition revoked some low leaves =
     is_trace d coalition (length (not_among d revoked coalition)) some low revoked leaves (omega arith)
-
--- the leaf is one of the tree, and isn't among these
-abbrev IsNew : ℕ → List ℕ → Found → Type 0
-IsNew d gone f = (f.leaf < 2 ^ d) × ¬ Contains gone f.leaf
 
 -- what is found of a coalition are leaves of the tree that aren't revoked
 pub trace_new : (d : ℕ) (coalition gone : List ℕ) (found : List Found) → 1 ≤ d → d ≤ 20 →

@@ -1,4 +1,4 @@
-ghost use Rattle.std.specs.Prelude.{◌≡◌, ℕ, ◌+◌, ◌^◌, ◌<◌, ◌≤◌, ◌↔◌, [], Contains, IsTrue, OnOk, OnErr};
+ghost use Rattle.std.specs.Prelude.{◌≡◌, ◌+◌, ◌^◌, ◌<◌, ◌≤◌, ◌↔◌, [], Contains, IsTrue, OnOk, OnErr};
 ghost use Rattle.sd_tree.specs.Leaves.{with_leaf, without_leaf};
 ghost use Rattle.sd_cover.specs.declared.index.TheConstants.{MOST_SPARE};
 

@@ -1,5 +1,4 @@
-ghost use Rattle.std.specs.Prelude.{◌≡◌, ℕ, ◌+◌, ◌-◌, ◌*◌, ◌^◌, ◌<◌, ◌≤◌, ◌++◌, List, All, Some, length, false, true};
-ghost use Rattle.std.specs.Prelude.{replicate};
+ghost use Rattle.std.specs.Prelude.{◌≡◌, ℕ, ◌+◌, ◌-◌, ◌*◌, ◌^◌, ◌<◌, List, All, Some, length};
 ghost use Rattle.sd_tree.specs.SetNames.{IsOfHeight};
 ghost use Rattle.sd_cover.specs.Search.{IsLastOpen, halvings, right_from};
 

@@ -1,4 +1,4 @@
-ghost use Rattle.std.specs.Prelude.{◌≡◌, ℕ, ◌+◌, ◌-◌, ◌*◌, ◌^◌, ◌<◌, ◌≤◌, ◌++◌, All, IfOk, OnOk, length};
+ghost use Rattle.std.specs.Prelude.{◌≡◌, ◌+◌, ◌-◌, ◌*◌, ◌<◌, ◌≤◌, ◌++◌, IfOk, OnOk, length};
 ghost use Rattle.sd_cover.specs.Chains.{IsChainCover};
 ghost use Rattle.sd_cover.specs.Cover.{cover_of};
 ghost use Rattle.sd_tree.specs.declared.height.TheConstants.{HIGHEST};

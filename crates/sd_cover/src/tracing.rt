@@ -1,5 +1,5 @@
-ghost use Rattle.std.specs.Prelude.{◌≡◌, ℕ, ◌+◌, ◌*◌, ◌^◌, ◌<◌, ◌≤◌, ◌++◌, ◌∷◌, [], ◌↔◌, List, All, Some, length};
-ghost use Rattle.std.specs.Prelude.{IfOk, OnOk, IsErrOf, Contains, sum_by, replicate, false, true};
+ghost use Rattle.std.specs.Prelude.{◌≡◌, ℕ, ◌+◌, ◌*◌, ◌^◌, ◌<◌, ◌≤◌, ◌++◌, ◌∷◌, [], List, All, Some, length};
+ghost use Rattle.std.specs.Prelude.{IfOk, OnOk, IsErrOf, Contains, sum_by, false, true};
 ghost use Rattle.std.specs.List.Sorted.{IsStrictlyIncreasing};
 ghost use Rattle.sd_tree.specs.declared.height.TheConstants.{HIGHEST};
 ghost use Rattle.sd_tree.specs.declared.leaf.TheConstants.{MOST_REVOKED};

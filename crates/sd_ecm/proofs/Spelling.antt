@@ -6,6 +6,7 @@ use Rattle.std.specs.Int.{w16, w32, w64, to_be_bytes}
 use Rattle.std.proofs.lemmas.Bool.{cases_eq, ne_eqb}
 use Rattle.std.proofs.lemmas.List.{drop_more, take_all, take-append-drop}
 use Rattle.sd_base.specs.Bits.{field}
+use Rattle.sd_base.proofs.Lists.{same_parts}
 use Rattle.sd_message.proofs.Numbers.{IsBytes, bytes_drop, word_spelled, half_spelled, long_spelled}
 use Rattle.sd_message.proofs.Items as Items
 use Rattle.sd_message.proofs.Items.{items_spelled}
@@ -65,16 +66,13 @@ numbers_spelled v number last body each long =
     ∙ ap (λ (l : List ℕ). take 4 body ++ l) (piece 4 8 body 4
     ∙ ap (λ (l : List ℕ). take 4 (drop 4 body) ++ l) (piece 4 4 body 8)))
 
-same_two : (a a' b b' : List ℕ) → a ≡ a' → b ≡ b' → a ++ b ≡ a' ++ b'
-same_two a a' b b' p q = rw (p, q) refl
-
 -- so are `since` and the broadcast's name, where they are written
 eight_spelled : (body : List ℕ) → IsBytes body → 24 ≤ length body →
     to_be_bytes w32 (field body 128 32) ++ to_be_bytes w32 (field body 160 32) ≡ take 8 (drop 16 body)
 eight_spelled body each long =
     let since : to_be_bytes w32 (field body 128 32) ≡ take 4 (drop 16 body) = word_spelled body 16 each (omega arith) in
     let run : to_be_bytes w32 (field body 160 32) ≡ take 4 (drop 20 body) = word_spelled body 20 each (omega arith) in
-    same_two _ _ _ _ since run ∙ sym (piece 4 4 body 16)
+    same_parts _ _ _ _ since run ∙ sym (piece 4 4 body 16)
 
 since_spelled : (v number : ℕ) (body : List ℕ) → IsBytes body → flags_at v ≤ length body →
     since_bytes v (since_in v number body) (ecm_run_in v body) ≡ take (flags_at v - 16) (drop 16 body)

@@ -1,12 +1,12 @@
 ghost use Rattle.std.specs.Prelude.{◌≡◌, ◌+◌, ◌*◌, ◌%◌, ◌<◌, ◌≤◌, ◌↔◌, ℕ, Some, None, Ok, Err, IsSome, IsTrue, IfOk};
 ghost use Rattle.std.specs.Prelude.{IfErr, IfSome, slice_index, length, replicate};
-ghost use Rattle.sd_section.specs.Header.{table_id_of, section_number_of, last_number_of, body_of};
+ghost use Rattle.sd_section.specs.Header.{body_of};
 ghost use Rattle.sd_section.specs.Written.{section_bytes};
 ghost use Rattle.sd_message.specs.Framed.{section_of, header_of, BeginsWithSection};
-ghost use Rattle.sd_ecm.specs.Versions.{IsVersion, positions_for, flags_at as flags_place, ecm_head_length};
+ghost use Rattle.sd_ecm.specs.Versions.{IsVersion, flags_at as flags_place, ecm_head_length};
 ghost use Rattle.sd_ecm.specs.Versions.{version_for};
 ghost use Rattle.sd_ecm.specs.Spelled.{SpellsPart};
-ghost use Rattle.sd_ecm.specs.Form.{FitsFields, IsCounted, IsPositioned, ArePositioned, IsEcm, no_place};
+ghost use Rattle.sd_ecm.specs.Form.{FitsFields, IsPositioned, ArePositioned, IsEcm, no_place};
 ghost use Rattle.sd_ecm.specs.Fields.{IsEcmSection, IsEcmPacket, HasCount, version_of, place_of, places_in};
 ghost use Rattle.sd_ecm.specs.Fields.{padded_places};
 ghost use Rattle.sd_ecm.specs.Fields.{from_flags, since_in as since_of, ecm_run_in as run_of, ecm_in, with_places};

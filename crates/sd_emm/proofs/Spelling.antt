@@ -7,6 +7,7 @@ use Rattle.std.specs.Int.{w16, w32, to_be_bytes}
 use Rattle.std.proofs.lemmas.Bool.{cases_lt}
 use Rattle.std.proofs.lemmas.List.{get_or_default, drop_more, take_all, take-append-drop}
 use Rattle.sd_base.specs.Bits.{field}
+use Rattle.sd_base.proofs.Lists.{same_parts}
 use Rattle.sd_message.proofs.Numbers.{IsBytes, bytes_drop, word_spelled, half_spelled}
 use Rattle.sd_message.proofs.Items as Items
 use Rattle.sd_message.proofs.Items.{items_spelled}
@@ -125,16 +126,13 @@ five_pieces n body =
 count_spelled : (body : List ℕ) (p : ℕ) → p < length body → slice_index body p ∷ [] ≡ take 1 (drop p body)
 count_spelled body p within = sym (ap (take 1) (drop_more body p 0 within))
 
-same_two : (a a' b b' : List ℕ) → a ≡ a' → b ≡ b' → a ++ b ≡ a' ++ b'
-same_two a a' b b' p q = rw (p, q) refl
-
 name_and_count : (named : Bool) (body : List ℕ) → IsBytes body → emm_head_length named ≤ length body →
     run_bytes (emm_run_in named body) ++ slice_index body (count_at named) ∷ [] ≡ take (emm_head_length named - 26)
     (drop 26 body)
 unfolding emm_run_in count_at
 name_and_count false body each long = count_spelled body 26 (omega arith)
 name_and_count true body each long =
-    same_two _ _ _ _ (word_spelled body 26 each (omega arith)) (count_spelled body 30 (omega arith))
+    same_parts _ _ _ _ (word_spelled body 26 each (omega arith)) (count_spelled body 30 (omega arith))
     ∙ sym (piece 4 1 5 body 26 30 refl refl)
 
 -- the head is longer than what stands before the name

@@ -1,9 +1,9 @@
-ghost use Rattle.std.specs.Prelude.{◌≡◌, ◌+◌, ◌*◌, ◌≤◌, ◌↔◌, ℕ, List, Some, None, Ok, Err, IsNone, IsSome, IsTrue};
+ghost use Rattle.std.specs.Prelude.{◌≡◌, ◌+◌, ◌*◌, ◌≤◌, ◌↔◌, ℕ, Some, None, Ok, Err, IsSome, IsTrue};
 ghost use Rattle.std.specs.Prelude.{IfOk, IfErr, IfSome, is_some, slice_index, ◌<◌, length, replicate};
 ghost use Rattle.sd_section.specs.Header.{table_id_of, extension_of, body_of};
 ghost use Rattle.sd_section.specs.Written.{section_bytes};
 ghost use Rattle.sd_message.specs.Framed.{section_of, BeginsWithSection};
-ghost use Rattle.sd_emm.specs.Spelled.{listed_entries, emm_header, emm_body, SpellsEmm};
+ghost use Rattle.sd_emm.specs.Spelled.{listed_entries, emm_header, SpellsEmm};
 ghost use Rattle.sd_emm.specs.Form.{FitsFields, IsCounted, IsSetBeside, AreSets, IsEmm, no_entry};
 ghost use Rattle.sd_emm.specs.Fields.{IsTable, IsEmmSection, IsEmmPacket, set_name_of, entry_in, entries_in};
 ghost use Rattle.sd_emm.specs.Fields.{padded_entries};

@@ -1,4 +1,4 @@
-ghost use Rattle.std.specs.Prelude.{◌≡◌, ◌^◌, ◌<◌, ◌≤◌, ◌+◌, ◌*◌, ◌++◌, length, take, is_some, IfSome};
+ghost use Rattle.std.specs.Prelude.{◌≡◌, ◌^◌, ◌<◌, ◌≤◌, ◌+◌, ◌*◌, ◌++◌, length, is_some, IfSome};
 ghost use Rattle.std.specs.Int.{w32, to_be_bytes};
 ghost use Rattle.sd_packet.specs.Packing.{packed};
 ghost use Rattle.sd_emm.specs.Spelled.{listed_entries, entry_bytes, name_bytes, run_bytes, emm_head_bytes};

@@ -4,7 +4,8 @@ use Rattle.std.proofs.Common.{append_assoc, append-nil, length-append}
 use Rattle.std.specs.Prelude.{Option, None, Some}
 use Rattle.std.proofs.KnownBytes.{Appends-trans, Appends-nil}
 use Rattle.sd_ports.specs.Rooms.{HasTaken}
-use Rattle.sd_engine.specs.Stage.{SinkState, HasGrown, Chain, all_from, all_steps}
+use Rattle.sd_ports.proofs.Rooms.{none_taken}
+use Rattle.sd_engine.specs.Stage.{SinkState, HasGrown, TookBytes, Chain, all_from, all_steps}
 
 -- one packet more at the end of a chain
 pub chain_on : {S : Type 0} (does : S → List ℕ → S → List ℕ → ℕ → Type 0) (s : S) (ps : List (List ℕ)) (mid : S)
@@ -40,6 +41,18 @@ taken_on (Some room) b c n m p q =
     let then = subst (λ (left : Option ℕ). HasTaken left c m) p.1 q in
     let same : room - n - m ≡ room - (n + m) = omega arith in
     (omega (arith, p.0, then.0), then.1 ∙ ap (λ (k : ℕ). Some k) same)
+
+-- nothing was taken
+pub took_none : (u : SinkState) → TookBytes u u []
+took_none u = record { taken = Appends-nil u.held; room = none_taken u.room }
+
+-- some bytes, and then others
+pub took_more : (u v w : SinkState) (xs ys : List ℕ) → TookBytes u v xs → TookBytes v w ys → TookBytes u w (xs ++ ys)
+took_more u v w xs ys first then = record {
+  taken = Appends-trans u.held v.held w.held xs ys first.taken then.taken;
+  room = subst (HasTaken u.room w.room) (sym (length-append xs ys))
+      (taken_on u.room v.room w.room (length xs) (length ys) first.room then.room);
+}
 
 -- a sink that grew and grew again grew by both
 pub grew_on : (P Q R : List ℕ → ℕ → Type 0) (u v w : SinkState) (i j k : ℕ)

@@ -1,23 +1,19 @@
 -- How many packets of each PID stand before a packet.
-use Rattle.std.proofs.Common.{ℕ, zero, suc, ◌+◌, ◌-◌, ◌*◌, ◌/◌, ◌%◌, ◌<◌, ◌≤◌, ◌≡◌, ◌≢◌, List, [], ◌∷◌, ◌++◌, cond}
-use Rattle.std.proofs.Common.{refl, ap, ◌∙◌, ⊎_elim, arith}
+use Rattle.std.proofs.Common.{ℕ, zero, suc, ◌+◌, ◌-◌, ◌*◌, ◌/◌, ◌%◌, ◌<◌, ◌≤◌, ◌≡◌, ◌≢◌, [], ◌∷◌, ◌++◌, cond}
+use Rattle.std.proofs.Common.{refl, ap, add-one, ◌∙◌, ⊎_elim, arith}
 use Rattle.std.specs.Prelude.{◌==◌}
 use Rattle.std.specs.List.{range_with_len, sum_by, count_by}
 use Rattle.std.proofs.lemmas.Bool.{cases_lt}
 use Rattle.std.proofs.lemmas.Bool.Decides.{nat_tests}
 use Rattle.std.proofs.lemmas.List.Sums.{sum_by_push}
+use Rattle.sd_base.proofs.Ranges.{range_more}
 use Rattle.sd_engine.specs.Sample.{pid_at, counter_at, generated_in, generated_before}
-
--- the next number of a range stands after it
-pub range_more : (a n : ℕ) → range_with_len a (suc n) ≡ range_with_len a n ++ (a + n) ∷ []
-range_more a zero = let e : a ≡ a + 0 = omega arith in ap (λ (m : ℕ). m ∷ []) e
-range_more a (suc n) =
-    let e : a + 1 + n ≡ a + suc n = omega arith in
-    ap (λ (r : List ℕ). a ∷ r) (range_more (a + 1) n ∙ ap (λ (m : ℕ). range_with_len (a + 1) n ++ m ∷ []) e)
 
 -- after the numbers below k stands k
 pub below_more : (k : ℕ) → range_with_len 0 (suc k) ≡ range_with_len 0 k ++ k ∷ []
-below_more k = let e : 0 + k ≡ k = omega arith in range_more 0 k ∙ ap (λ (m : ℕ). range_with_len 0 k ++ m ∷ []) e
+below_more k =
+    let e : 0 + k ≡ k = omega arith in
+    rw (add-one k, e) at (range_more 0 k)
 
 -- a packet's bytes are generated after those of the packets before it
 pub generated_more : (k : ℕ) → generated_before (suc k) ≡ generated_before k + generated_in k

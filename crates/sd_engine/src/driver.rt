@@ -1,4 +1,4 @@
-ghost use Rattle.std.specs.Prelude.{◌≡◌, ℕ, Err, IsErrOf};
+ghost use Rattle.std.specs.Prelude.{◌≡◌, Err, IsErrOf};
 ghost use Rattle.sd_base.specs.Count.{IsCaused};
 ghost use Rattle.sd_engine.specs.Stage.{vessel};
 ghost use Rattle.sd_engine.specs.Driving.{moment, DriveOutcome, IsClosed, broken_by, overrun_by, stopped_by};

@@ -1,8 +1,7 @@
 //! What the packets of a stream are, and what a drive takes of all its bytes.
 
-ghost use Rattle.std.specs.Prelude.{◌≡◌, ◌≤◌, ◌++◌, ℕ, List, Option, Result, None, Some, length, take};
+ghost use Rattle.std.specs.Prelude.{◌≡◌, ◌≤◌, ◌++◌, ℕ, List, None, Some, length, take};
 ghost use Rattle.sd_engine.specs.Stream.{pieces, packets_of, break_of, no_sync, ArePackets};
-ghost use Rattle.sd_engine.specs.Stage.{vessel};
 
 /// Bytes that are packets, one after the other, are a stream of these and no others, with no break.
 #[tactic(auto, using(crate::proofs::Walking::all_taken, crate::proofs::Walking::all_counted))]

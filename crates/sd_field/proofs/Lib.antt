@@ -1,6 +1,5 @@
 pub mod Heard
 pub mod Seats
-pub mod Spaces
 pub mod Scripts
 pub mod Stations
 pub mod Places

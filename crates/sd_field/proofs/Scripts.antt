@@ -1,13 +1,14 @@
 -- The lines of a script.
-use Rattle.std.proofs.Common.{arith, ◌≡◌, ◌∙◌, ℕ, ◌+◌, ◌≤◌, ◌^◌, Bool, true, false, nat_lt, nat_le, List, [], ◌∷◌, ◌++◌}
+use Rattle.std.proofs.Common.{arith, ◌≡◌, ◌∙◌, ℕ, ◌+◌, ◌≤◌, Bool, true, false, nat_lt, nat_le, List, [], ◌∷◌, ◌++◌}
 use Rattle.std.proofs.Common.{Option, Some, None, Result, Ok, Err, refl, sym, ap, append-nil, append_assoc, suc, zero}
 use Rattle.std.proofs.Common.{All}
 use Rattle.std.proofs.lemmas.Bool.{ltb-false, leb-true}
 use Rattle.std.specs.Prelude.{◌&&◌, if◌then◌else◌, option_map, option_and_then, replicate, codes}
 use Rattle.std.proofs.lemmas.List.Elements.{All-nil, All-cons, All-append}
 use Rattle.sd_base.specs.declared.decimals.NumberFault.{NumberFault}
-use Rattle.sd_base.specs.declared.decimals.NumberFault.TheVariants.{TooLarge}
+use Rattle.sd_base.specs.Lines.{cut_at_space}
 use Rattle.sd_base.specs.Number.{rest_after, fitting, decimal_value}
+use Rattle.sd_base.proofs.Fitting.{fits_is, misfit_high}
 use Rattle.sd_spec.specs.declared.event.Event.{Event}
 use Rattle.sd_spec.specs.declared.event.Event.TheVariants.{Subscribe, Revoke, Send, Offer, Lose, Off, On}
 use Rattle.sd_spec.specs.Events.{is_of}
@@ -16,40 +17,27 @@ use Rattle.sd_field.specs.declared.fault.ScriptFault.TheVariants.{Leaf, Events}
 use Rattle.sd_field.specs.declared.line.LineFault.TheVariants.{Form}
 use Rattle.sd_field.specs.declared.line.LineFault.TheVariants as fault
 use Rattle.sd_field.specs.Line.{events_in_run, times_in}
-use Rattle.sd_field.specs.Script.{alone, both_of, by_word, count_of, counted, cut_at_space, judged}
+use Rattle.sd_field.specs.Script.{alone, both_of, by_word, count_of, counted, judged}
 use Rattle.sd_field.specs.Script.{leaf_and_count, put_before, repeated, script_from, sends_said, spoken}
 
--- the number of a text that fits in 32 bits
-fit_said : (number : Option ℕ) (n : ℕ) → fitting number ≡ Ok n → number ≡ Some n
-fit_said None n e = absurd cc
-fit_said (Some m) n e = by (nat_lt m (2 ^ 32)) e
-  where
-    by : (b : Bool) → (if b then Ok m else Err TooLarge) ≡ Ok n → Some m ≡ Some n
-    by true e = let same : m ≡ n = cc in ap Some same
-    by false e = absurd cc
-
+-- a number of 32 bits is counted as it is said
 pub times_said : (text : List ℕ) (n : ℕ) → fitting (decimal_value text) ≡ Ok n →
     times_in (count_of text) ≡ times_in (counted n)
 times_said text n e =
-    ap (λ (number : Option ℕ). times_in (option_and_then counted number)) (fit_said (decimal_value text) n e)
+    ap (λ (number : Option ℕ). times_in (option_and_then counted number)) (fits_is (decimal_value text) n e)
 
 -- a text that says none says no number of events
 none_counted : (number : Option ℕ) (fault : NumberFault) → fitting number ≡ Err fault →
     option_and_then counted number ≡ None
 none_counted None fault e = refl
-none_counted (Some m) fault e = by (nat_lt m (2 ^ 32)) refl e
+none_counted (Some m) fault e =
+    let high = misfit_high m fault e in
+    let over : nat_le m 65536 ≡ false = grind (arith, high) in
+    by_first (nat_le 1 m) over
   where
-    by : (b : Bool) → nat_lt m (2 ^ 32) ≡ b → (if b then Ok m else Err TooLarge) ≡ Err fault →
-        counted m ≡ None
-    by true t e = absurd cc
-    by false t e =
-        let high = ltb-false m (2 ^ 32) t in
-        let over : nat_le m 65536 ≡ false = grind (arith, high) in
-        by_first (nat_le 1 m) over
-      where
-        by_first : (b : Bool) → nat_le m 65536 ≡ false → (if b && nat_le m 65536 then Some m else None) ≡ None
-        by_first true over = rw over refl
-        by_first false over = refl
+    by_first : (b : Bool) → nat_le m 65536 ≡ false → (if b && nat_le m 65536 then Some m else None) ≡ None
+    by_first true over = rw over refl
+    by_first false over = refl
 
 pub times_unsaid : (text : List ℕ) (fault : NumberFault) → fitting (decimal_value text) ≡ Err fault →
     times_in (count_of text) ≡ Err Form

@@ -1,23 +1,14 @@
 -- Public meaning: the script of a field. Each line says one event, or a number of equal ones [this project,
 -- docs/FORMATS.md, Field].
-use Rattle.std.specs.Prelude.{ℕ, ◌+◌, ◌==◌, ◌&&◌, nat_le, nat_lt, List, [], ◌∷◌, ◌++◌, replicate, codes}
+use Rattle.std.specs.Prelude.{ℕ, ◌+◌, ◌&&◌, nat_le, nat_lt, List, [], ◌∷◌, ◌++◌, replicate, codes}
 use Rattle.std.specs.Prelude.{if◌then◌else◌, Option, Some, None, option_map, option_and_then, Result, Ok, Err}
-use Rattle.sd_base.specs.Lines.{lines_of}
+use Rattle.sd_base.specs.Lines.{cut_at_space, lines_of}
 use Rattle.sd_base.specs.Number.{rest_after, decimal_value}
 use Rattle.sd_spec.specs.declared.event.Event.{Event}
 use Rattle.sd_spec.specs.declared.event.Event.TheVariants.{Subscribe, Revoke, Send, Offer, Lose, Off, On}
 use Rattle.sd_spec.specs.Events.{is_of}
 use Rattle.sd_field.specs.declared.fault.ScriptFault.{ScriptFault}
 use Rattle.sd_field.specs.declared.fault.ScriptFault.TheVariants.{Line, Leaf, Events}
-
--- a byte before the first of two parts
-abbrev pub onto_first : ℕ → List ℕ × List ℕ → List ℕ × List ℕ
-onto_first byte parts = (byte ∷ parts.0, parts.1)
-
--- the text before its first space, and after it
-abbrev pub cut_at_space : List ℕ → Option (List ℕ × List ℕ)
-cut_at_space [] = None
-cut_at_space (byte ∷ bytes) = if byte == 32 then Some ([], bytes) else option_map (onto_first byte) (cut_at_space bytes)
 
 -- a number of events on one line: from 1 to 65,536 [this project, docs/FORMATS.md, Field]
 abbrev pub counted : ℕ → Option ℕ

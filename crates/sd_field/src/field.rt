@@ -1,4 +1,4 @@
-ghost use Rattle.std.specs.Prelude.{◌≡◌, ◌↔◌, ◌<◌, ◌≤◌, ◌^◌, true, false, [], All, length, slice_get, Some, None, Ok};
+ghost use Rattle.std.specs.Prelude.{◌≡◌, ◌↔◌, ◌<◌, ◌≤◌, ◌^◌, true, false, [], All, length, Some, None, Ok};
 ghost use Rattle.std.specs.Prelude.{Err};
 ghost use Rattle.std.specs.Prelude.{IfOk, IfErr, IfSome, IsErr, IsSome, OnOk};
 ghost use Rattle.std.specs.List.{concat};
@@ -10,7 +10,7 @@ ghost use Rattle.sd_spec.specs.Sent.{body};
 ghost use Rattle.sd_spec.specs.Offered.{break_from};
 ghost use Rattle.sd_spec.specs.declared.event.Event.TheVariants.{Lose, Off, Offer, On, Revoke, Send, Subscribe};
 ghost use Rattle.sd_spec.specs.Events.{is_of};
-ghost use Rattle.sd_spec.specs.Watch.{present, watched};
+ghost use Rattle.sd_spec.specs.Watch.{present};
 ghost use Rattle.sd_field.specs.declared.fault.FieldFault.{FieldFault as Faults};
 ghost use Rattle.sd_field.specs.Fields.{IsCommand, IsSendRefused, IsSentCut, IsWrittenCut, IsWrittenOver, TakesMemory};
 ghost use Rattle.sd_field.specs.Fields.{after_fault, after_next, card_at, next_event, next_refusal, plan_in, sends_of};

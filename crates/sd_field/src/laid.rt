@@ -1,4 +1,4 @@
-ghost use Rattle.std.specs.Prelude.{◌≡◌, ◌<◌, ◌≤◌, ◌^◌, ◌++◌, ◌∷◌, [], true, List, All, IfOk, OnOk, length, reverse, ℕ};
+ghost use Rattle.std.specs.Prelude.{◌≡◌, ◌<◌, ◌≤◌, ◌^◌, ◌++◌, ◌∷◌, [], true, All, IfOk, OnOk, length, reverse, ℕ};
 ghost use Rattle.sd_site.specs.SiteFields.{fields_of};
 ghost use Rattle.sd_book.specs.Commands.{is_within, last_period};
 ghost use Rattle.sd_book.specs.Limits.{IsDraft, IsWithinLimits};

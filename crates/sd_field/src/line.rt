@@ -2,11 +2,10 @@ ghost use Rattle.std.specs.Prelude.{◌≡◌, None, codes, option_map};
 ghost use Rattle.sd_base.specs.Number.{fitting, decimal_value, rest_after};
 ghost use Rattle.sd_spec.specs.declared.event.Event.TheVariants.{Lose, Off, Offer, On};
 ghost use Rattle.sd_field.specs.Line.{leaf_in, pair_in, events_in_run, times_in};
-ghost use Rattle.sd_field.specs.Script.{alone, by_word, count_of, counted, cut_at_space, leaf_and_count, repeated};
+ghost use Rattle.sd_field.specs.Script.{alone, by_word, count_of, counted, leaf_and_count, repeated};
 ghost use Rattle.sd_field.specs.Script.{spoken};
 
-use memchr::memchr;
-use sd_base::{NumberFault, number_after};
+use sd_base::{NumberFault, cut_at_space, number_after};
 use sd_spec::Event;
 use sd_tree::{Height, Leaf};
 
@@ -123,13 +122,4 @@ fn leaf_times(text: &[u8], h: Height) -> Result<(Leaf, u32), LineFault>
     let times = times_in(times)?;
     let leaf = leaf_in(leaf, h)?;
     Ok((leaf, times))
-}
-
-/// The text before the first space, and after it.
-#[tactic(auto, using(crate::proofs::Spaces::cut_there, crate::proofs::Spaces::no_cut, sd_base::proofs::Cuts::to_the_end))]
-fn cut_at_space(text: &[u8]) -> Option<(&[u8], &[u8])>
-    ensures { option_map (λ cut. (cut.0.now, cut.1.now)) result ≡ cut_at_space text.now }
-{
-    let space = memchr(b' ', text)?;
-    Some((&text[..space], &text[space + 1..]))
 }

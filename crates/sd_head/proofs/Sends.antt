@@ -7,29 +7,13 @@ use Rattle.std.specs.List.{concat}
 use Rattle.std.proofs.lemmas.List.Folds.{concat-append}
 use Rattle.std.proofs.Math.Nat.{div-eq_of_lt-le}
 use Rattle.std.proofs.lemmas.Grind.{div_ceil_times}
-use Rattle.std.proofs.KnownBytes.{Appends-trans, Appends-nil}
+use Rattle.std.proofs.KnownBytes.{Appends-trans}
 use Rattle.std.proofs.lemmas.List.{take-append-drop, take_all}
 use Rattle.sd_base.proofs.Lists.{concat_one}
 use Rattle.sd_ports.specs.Rooms.{HasTaken}
 use Rattle.sd_engine.specs.Stage.{SinkState, IsTooShort, TookBytes}
-use Rattle.sd_engine.proofs.Chains.{taken_on}
+use Rattle.sd_engine.proofs.Chains.{took_more}
 use Rattle.sd_head.specs.Sending.{FailsWithin, SendsBytes, counter_after, numbered}
-
--- nothing is taken
-pub takes_none : (u : SinkState) → TookBytes u u []
-takes_none u = record { taken = Appends-nil u.held; room = none_taken u.room }
-  where
-    none_taken : (a : Option ℕ) → HasTaken a a 0
-    none_taken None = tt
-    none_taken (Some room) = (omega arith, ap (λ (n : ℕ). Some n) (let e : room ≡ room - 0 = omega arith in e))
-
--- some bytes, and then others
-pub takes_on : (u v w : SinkState) (a b : List ℕ) → TookBytes u v a → TookBytes v w b → TookBytes u w (a ++ b)
-takes_on u v w a b first then = record {
-  taken = Appends-trans u.held v.held w.held a b first.taken then.taken;
-  room = subst (HasTaken u.room w.room) (sym (length-append a b))
-      (taken_on u.room v.room w.room (length a) (length b) first.room then.room);
-}
 
 -- a write that fails within some bytes fails within longer ones
 pub cuts_sooner : (u v : SinkState) (a b : List ℕ) → FailsWithin u v a → FailsWithin u v (a ++ b)
@@ -64,7 +48,7 @@ cuts_later u v w a b first cut = record {
 pub sends_on : {T E : Type 0} (result : Result T E) (u v w : SinkState) (a b : List ℕ) → TookBytes u v a →
     SendsBytes v w b result →
     SendsBytes u w (a ++ b) result
-sends_on (Ok x) u v w a b first then = takes_on u v w a b first then
+sends_on (Ok x) u v w a b first then = took_more u v w a b first then
 sends_on (Err e) u v w a b first then = cuts_later u v w a b first then
 
 -- the counter after one packet more, counted from the first or from the second
@@ -99,7 +83,7 @@ pub one_more : {A : Type 0} → (make : A → ℕ → List ℕ) (counter now n :
     TookBytes u w (concat (numbered make counter (take (n + 1) xs)))
 one_more make counter now n xs x u v w within more is before one =
     subst (TookBytes u w) (sym (numbered_more make counter n xs x (omega (arith, within)) more))
-    (takes_on u v w (concat (numbered make counter (take n xs))) (make x (counter_after counter n)) before
+    (took_more u v w (concat (numbered make counter (take n xs))) (make x (counter_after counter n)) before
     (subst (λ (c : ℕ). TookBytes v w (make x c)) is one))
 
 -- a write fails within one more

@@ -1,4 +1,4 @@
-ghost use Rattle.std.specs.Prelude.{◌≡◌, ◌<◌};
+ghost use Rattle.std.specs.Prelude.{◌≡◌};
 ghost use Rattle.sd_packet.specs.Packing.{packed};
 ghost use Rattle.sd_psi.specs.OurCat.{cat_section};
 

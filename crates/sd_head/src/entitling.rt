@@ -200,7 +200,8 @@ fn pack_period<L: Ledger>(
     requires height { index.now.height ≤ HIGHEST }
     requires few { length index.now.revoked ≤ MOST_REVOKED }
     ensures { OnOk result (packets.new.items ≡
-        period_packets site.now.emm (period_of_sets (fields_of site.now) q (cover_of index.now.height index.now.revoked))) }
+        period_packets site.now.emm
+        (period_of_sets (fields_of site.now) q (cover_of index.now.height index.now.revoked))) }
 {
     let alloc = *packets.allocator();
     let sets = index.sets(alloc, steps)?;

@@ -1,4 +1,4 @@
-ghost use Rattle.std.specs.Prelude.{◌≡◌, [], IfOk};
+ghost use Rattle.std.specs.Prelude.{[], IfOk};
 ghost use Rattle.sd_head.specs.After.{IsAfter};
 
 use crate::clear::{Clear, FIRST_POSITION, PIDS};

@@ -1,4 +1,4 @@
-ghost use Rattle.std.specs.Prelude.{◌≡◌, ◌↔◌, ◌⊎◌, List, [], ◌∷◌, ◌++◌, bit_and, IsTrue, OnOk, OnErr, Some};
+ghost use Rattle.std.specs.Prelude.{◌≡◌, ◌↔◌, ◌⊎◌, bit_and, IsTrue, OnOk, OnErr, Some};
 ghost use Rattle.std.specs.List.{Contains};
 ghost use Rattle.std.specs.Fs.{metadata_mode};
 ghost use Rattle.sd_host.specs.Kept.{IsKept, with_input};

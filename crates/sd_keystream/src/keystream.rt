@@ -1,4 +1,4 @@
-ghost use Rattle.std.specs.Prelude.{◌≡◌, ◌%◌, ◌<◌, ◌≤◌, ◌++◌, ℕ, List, length, take, drop};
+ghost use Rattle.std.specs.Prelude.{◌≡◌, ◌%◌, ◌<◌, ◌≤◌, ℕ, List, length};
 ghost use Rattle.rand_chacha.specs.ChaCha.{key_of};
 ghost use Rattle.sd_keystream.specs.Keystream.{keystream, xored, IsFilled};
 

@@ -1,9 +1,10 @@
 -- How many packets a broadcast has.
-use Rattle.std.proofs.Common.{◌≡◌, ℕ, suc, ◌-◌, ◌*◌, ◌/◌, ◌%◌, ◌≤◌, ◌==◌, Bool, true, false, List, [], ◌∷◌, ◌++◌}
-use Rattle.std.proofs.Common.{length, map, refl, sym, ap, subst, arith, inl, inr, length-append, append_assoc}
+use Rattle.std.proofs.Common.{◌≡◌, ℕ, suc, ◌+◌, ◌-◌, ◌*◌, ◌/◌, ◌%◌, ◌≤◌, ◌==◌, Bool, true, false, List, [], ◌∷◌, ◌++◌}
+use Rattle.std.proofs.Common.{length, map, refl, sym, ap, subst, add-one, arith, inl, inr, length-append, append_assoc}
 use Rattle.std.specs.Prelude.{if◌then◌else◌}
 use Rattle.std.proofs.lemmas.Bool.{cases_Bool}
 use Rattle.std.proofs.lemmas.List.{length-map}
+use Rattle.sd_base.proofs.Arithmetic.{times_next}
 use Rattle.sd_message.specs.Pieces.{pieces_for}
 use Rattle.sd_emm.specs.Period.{Period, IsPeriod, emms_of}
 use Rattle.sd_emm.specs.declared.emm.Emm.{Emm}
@@ -34,7 +35,7 @@ sections_few : (period : Period) → IsPeriod period → length (emms_of period)
 unfolding pieces_for
 sections_few period is = omega (arith, sections_many period, is.sets)
 
--- and so are a message's parts
+-- and so are the parts that share its positions
 shared_few : (v n : ℕ) → n ≤ 256 → pieces_for (positions_for v) n ≤ 22
 unfolding pieces_for positions_for
 shared_few v n few = elim (cases_Bool (v == 1)) [
@@ -42,40 +43,29 @@ shared_few v n few = elim (cases_Bool (v == 1)) [
   | inr later ↦ rw later (omega (arith, few))
 ]
 
+-- the parts of a message
 pub parts_few : (message : Message) → IsMessage message → length (parts_of message) ≤ 22
 parts_few message is = omega (arith, parts_many message, shared_few message.version (length message.places) is.count)
 
-module _ (plan : Plan) (is : IsPlan plan) where
-  -- the tables of a packet
-  tables_few : (k : ℕ) → length (tables_at plan k) ≤ 43692
-  unfolding tables_at
-  tables_few k =
-      let q : ℕ = period_of plan k in
-      let emms : List Emm = emms_of (period_at plan q) in
-      omega (
-        arith,
-        length-map emms Entitles,
-        sections_few (period_at plan q) (period_fits plan q is (period_short plan k is)),
-      )
+message_few : (message : Message) → IsMessage message → length (map Controls (parts_of message)) ≤ 22
+message_few message fits = omega (arith, length-map (parts_of message) Controls, parts_few message fits)
 
-  tables_or_none : (b : Bool) (k : ℕ) → length (if b then tables_at plan k else []) ≤ 43692
-  tables_or_none true k = tables_few k
+message_or_none : (b : Bool) (message : Message) → IsMessage message →
+    length (if b then map Controls (parts_of message) else []) ≤ 22
+message_or_none true message fits = message_few message fits
+message_or_none false message fits = omega arith
+
+-- where the tables before a packet are at most so many
+module _ (plan : Plan) (is : IsPlan plan) (most : ℕ) (few : (k : ℕ) → length (tables_at plan k) ≤ most) where
+  tables_or_none : (b : Bool) (k : ℕ) → length (if b then tables_at plan k else []) ≤ most
+  tables_or_none true k = few k
   tables_or_none false k = omega arith
 
-  -- the message before a packet
-  message_few : (message : Message) → IsMessage message → length (map Controls (parts_of message)) ≤ 22
-  message_few message fits = omega (arith, length-map (parts_of message) Controls, parts_few message fits)
-
-  message_or_none : (b : Bool) (message : Message) → IsMessage message →
-      length (if b then map Controls (parts_of message) else []) ≤ 22
-  message_or_none true message fits = message_few message fits
-  message_or_none false message fits = omega arith
-
   -- what one packet adds
-  added_few : (before : List (List ℕ)) (packet : List ℕ) → IsClear plan.site (before ++ packet ∷ []) →
-      length (added plan before packet) ≤ 65536
+  pub added_upto : (before : List (List ℕ)) (packet : List ℕ) → IsClear plan.site (before ++ packet ∷ []) →
+      length (added plan before packet) ≤ most + 23
   unfolding added
-  added_few before packet all =
+  added_upto before packet all =
       let n : ℕ = length before in
       let own : List Item = Carries n (carried plan.site before packet) ∷ [] in
       let more = length-append before (packet ∷ []) in
@@ -90,20 +80,37 @@ module _ (plan : Plan) (is : IsPlan plan) where
       )
 
   -- what packets add after others
-  sent_few : (before packets : List (List ℕ)) → IsClear plan.site (before ++ packets) →
-      length (sent_from plan before packets) ≤ 65536 * length packets
+  pub sent_upto : (before packets : List (List ℕ)) → IsClear plan.site (before ++ packets) →
+      length (sent_from plan before packets) ≤ length packets * (most + 23)
   unfolding sent_from
-  sent_few before [] all = omega arith
-  sent_few before (packet ∷ packets) all =
+  sent_upto before [] all = omega arith
+  sent_upto before (packet ∷ packets) all =
       omega (
         arith,
         length-append (added plan before packet) (sent_from plan (before ++ packet ∷ []) packets),
-        added_few before packet (prefix_clear plan.site (before ++ packet ∷ []) packets whole),
-        sent_few (before ++ packet ∷ []) packets whole,
+        added_upto before packet (prefix_clear plan.site (before ++ packet ∷ []) packets whole),
+        sent_upto (before ++ packet ∷ []) packets whole,
+        times,
       )
     where
       whole : IsClear plan.site ((before ++ packet ∷ []) ++ packets)
       whole = subst (IsClear plan.site) (sym (append_assoc before (packet ∷ []) packets)) all
+
+      times : suc (length packets) * (most + 23) ≡ length packets * (most + 23) + (most + 23)
+      times = rw (add-one (length packets)) at (times_next (length packets) (most + 23))
+
+module _ (plan : Plan) (is : IsPlan plan) where
+  -- the tables of a packet
+  tables_few : (k : ℕ) → length (tables_at plan k) ≤ 43692
+  unfolding tables_at
+  tables_few k =
+      let q : ℕ = period_of plan k in
+      let emms : List Emm = emms_of (period_at plan q) in
+      omega (
+        arith,
+        length-map emms Entitles,
+        sections_few (period_at plan q) (period_fits plan q is (period_short plan k is)),
+      )
 
   -- the closing message
   closing_few : (clear : List (List ℕ)) → IsClear plan.site clear → length (closing_of plan clear) ≤ 65536
@@ -114,7 +121,7 @@ module _ (plan : Plan) (is : IsPlan plan) where
       omega (
         arith,
         length-append (if length clear == 0 then tables_at plan 0 else []) (map Controls (parts_of message)),
-        tables_or_none (length clear == 0) 0,
+        tables_or_none plan is 43692 tables_few (length clear == 0) 0,
         message_few message (closing_fits plan clear is all),
       )
 
@@ -126,7 +133,7 @@ module _ (plan : Plan) (is : IsPlan plan) where
         arith,
         packets_many plan [] (sent plan clear ++ closing_of plan clear),
         length-append (sent plan clear) (closing_of plan clear),
-        sent_few [] clear all,
+        sent_upto plan is 43692 tables_few [] clear all,
         closing_few clear all,
         clear_short plan.site clear all,
       )
@@ -134,4 +141,4 @@ module _ (plan : Plan) (is : IsPlan plan) where
   pub body_short : (clear : List (List ℕ)) → IsClear plan.site clear → length (body plan clear) ≤ most_packets
   unfolding body
   body_short clear all =
-      omega (arith, packets_many plan [] (sent plan clear), sent_few [] clear all, clear_short plan.site clear all)
+      omega (arith, packets_many plan [] (sent plan clear), sent_upto plan is 43692 tables_few [] clear all, clear_short plan.site clear all)

@@ -37,7 +37,7 @@ use Rattle.sd_emm.specs.Form.{IsSetBeside, AreSets, AreWrapped}
 use Rattle.sd_emm.specs.Period.{IsPeriod}
 use Rattle.sd_emm.specs.declared.emm.Entry.{Entry}
 use Rattle.sd_ecm.specs.Form.{AreAscending}
-use Rattle.sd_ecm.specs.Versions.{IsVersion, IsBefore}
+use Rattle.sd_ecm.specs.Versions.{IsBefore}
 use Rattle.sd_ecm.specs.Parts.{IsMessage}
 use Rattle.sd_ecm.specs.declared.part.Place.{Place}
 use Rattle.sd_spec.specs.Plan.{Plan, IsPlan, sets_at, crypto_length, crypto_of, word_of, period_of}

@@ -45,6 +45,21 @@ IsSaid plan clear (Controls one) = (message : Message) × IsMessage message × C
 IsSaid plan clear (Carries n packet) =
     (k : ℕ) × (k < length clear) × (packet ≡ carried plan.site (take k clear) (get_or clear k []))
 
+-- the sections of a packet's period fit their form, and have sets of the tree
+pub section_form : (plan : Plan) → IsPlan plan → (k : ℕ) (emm : Emm) →
+    Contains (emms_of (period_at plan (period_of plan k))) emm → IsEmm emm × FitsFields emm
+section_form plan is k emm m =
+    let q : ℕ = period_of plan k in
+    All-contains (λ (e : Emm). IsEmm e × FitsFields e) (emms_of (period_at plan q)) emm
+    (all_are_emms (period_at plan q) (period_fits plan q is (period_short plan k is))) m
+
+pub section_sets : (plan : Plan) → IsPlan plan → (k : ℕ) (emm : Emm) →
+    Contains (emms_of (period_at plan (period_of plan k))) emm → AreSets plan.site.height emm.sets (listed_entries emm)
+section_sets plan is k emm m =
+    let q : ℕ = period_of plan k in
+    All-contains (λ (e : Emm). AreSets plan.site.height e.sets (listed_entries e)) (emms_of (period_at plan q)) emm
+    (all_sets_stand plan.site.height (period_at plan q) (period_sets plan q is)) m
+
 module _ (plan : Plan) (clear : List (List ℕ)) (is : IsPlan plan) (all : IsClear plan.site clear) where
   -- of the message before packet k
   message_at_fits : (k : ℕ) → k < length clear →
@@ -73,12 +88,8 @@ module _ (plan : Plan) (clear : List (List ℕ)) (is : IsPlan plan) (all : IsCle
   pub section_reads : (emm : Emm) (counter : ℕ) → IsSectionOf plan clear emm → counter < 16 →
       emm_read plan.site.height (packed (emm_section emm) plan.site.emm counter) ≡ Ok (Some emm)
   section_reads emm counter (k, within, m) few =
-      let q : ℕ = period_of plan k in
-      let form = All-contains (λ (e : Emm). IsEmm e × FitsFields e) (emms_of (period_at plan q)) emm
-      (all_are_emms (period_at plan q) (period_fits plan q is (period_short plan k is))) m in
-      let sets = All-contains (λ (e : Emm).
-      AreSets plan.site.height e.sets (listed_entries e)) (emms_of (period_at plan q)) emm
-      (all_sets_stand plan.site.height (period_at plan q) (period_sets plan q is)) m in
+      let form = section_form plan is k emm m in
+      let sets = section_sets plan is k emm m in
       let high = is.site.height.1 in
       let pid = is.site.emm.1 in
       packed_reads plan.site.height emm plan.site.emm counter (omega (arith, high)) form.1 form.0 sets

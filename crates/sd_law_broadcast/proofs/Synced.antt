@@ -4,28 +4,21 @@ use Rattle.std.specs.Prelude.{All, count_by}
 use Rattle.std.proofs.lemmas.List.Elements.{All-nil, All-cons, All-head, All-tail, All-contains, All-get_or}
 use Rattle.sd_base.proofs.Lists.{all_first}
 use Rattle.sd_psi.specs.OurCat.{cat_section}
-use Rattle.sd_emm.specs.Spelled.{listed_entries, emm_section}
-use Rattle.sd_emm.specs.Form.{AreSets, IsEmm, FitsFields}
-use Rattle.sd_emm.specs.Period.{emms_of}
-use Rattle.sd_emm.specs.declared.emm.Emm.{Emm}
-use Rattle.sd_emm.proofs.Sharing.{all_are_emms, all_sets_stand}
+use Rattle.sd_emm.specs.Spelled.{emm_section}
 use Rattle.sd_ecm.specs.Spelled.{ecm_section}
 use Rattle.sd_ecm.specs.Form.{IsEcm, FitsFields as FitsPart}
 use Rattle.sd_ecm.specs.Parts.{parts_of}
 use Rattle.sd_ecm.specs.declared.part.EcmPart.{EcmPart}
 use Rattle.sd_ecm.proofs.Sharing.{all_are_ecms}
-use Rattle.sd_spec.specs.Plan.{Plan, IsPlan, period_of}
-use Rattle.sd_spec.specs.Messages.{period_at}
+use Rattle.sd_spec.specs.Plan.{Plan, IsPlan}
 use Rattle.sd_spec.specs.Refused.{IsClear}
 use Rattle.sd_spec.specs.Sent.{Item, Cat, Entitles, Controls, Carries, is_alike, packet_of, packets_from}
 use Rattle.sd_spec.specs.Sent.{sent}
 use Rattle.sd_spec.specs.Sent.{closing_of, body, broadcast}
 use Rattle.sd_spec.specs.Items.{IsOfBroadcast}
 use Rattle.sd_spec.proofs.Items.{all_are_of_broadcast}
-use Rattle.sd_spec.proofs.Schedule.{period_short}
 use Rattle.sd_law_broadcast.specs.Packets.{IsWholePacket, AreWholePackets}
-use Rattle.sd_law_broadcast.proofs.Fitting.{period_fits, period_sets}
-use Rattle.sd_law_broadcast.proofs.Sections.{IsSaid, said}
+use Rattle.sd_law_broadcast.proofs.Sections.{IsSaid, said, section_form, section_sets}
 use Rattle.sd_law_broadcast.specs.Synced.{IsSynced, AreSynced}
 use Rattle.sd_law_broadcast.proofs.Spelled.{packed_synced, cat_short, emm_short, ecm_short, carried_synced}
 
@@ -38,12 +31,8 @@ module _ (plan : Plan) (clear : List (List ℕ)) (is : IsPlan plan) (all : IsCle
       packed_synced (cat_section plan.site.ca plan.site.emm plan.site.ecm) 1 (count_by (is_alike Cat) earlier % 16)
       (cat_short plan.site.ca plan.site.emm plan.site.ecm)
   one_synced earlier (Entitles emm) (k, within, m) =
-      let q : ℕ = period_of plan k in
-      let form = All-contains (λ (e : Emm). IsEmm e × FitsFields e) (emms_of (period_at plan q)) emm
-      (all_are_emms (period_at plan q) (period_fits plan q is (period_short plan k is))) m in
-      let sets = All-contains (λ (e : Emm).
-      AreSets plan.site.height e.sets (listed_entries e)) (emms_of (period_at plan q)) emm
-      (all_sets_stand plan.site.height (period_at plan q) (period_sets plan q is)) m in
+      let form = section_form plan is k emm m in
+      let sets = section_sets plan is k emm m in
       let high = is.site.height.1 in
       packed_synced (emm_section emm) plan.site.emm (count_by (is_alike (Entitles emm)) earlier % 16)
       (emm_short plan.site.height emm (omega (arith, high)) form.1 form.0 sets)

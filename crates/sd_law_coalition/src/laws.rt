@@ -4,10 +4,9 @@ ghost use Rattle.std.specs.Prelude.{◌≡◌, ◌^◌, ◌<◌, ◌≤◌, ◌�
 ghost use Rattle.std.specs.List.{list_any, flat_map};
 ghost use Rattle.sd_base.specs.Types.{LeafNumber, Leaves, PeriodNumber, WordNumber};
 ghost use Rattle.sd_tree.specs.Leaves.{is_member};
-ghost use Rattle.sd_tree.specs.declared.name.Name.{Name};
 ghost use Rattle.sd_tree.specs.Names.{given};
 ghost use Rattle.sd_book.specs.Commands.{entitled, last_period};
-ghost use Rattle.sd_reach.specs.Reach.{Secret, Named, IsReached};
+ghost use Rattle.sd_reach.specs.Reach.{Secret, IsReached};
 ghost use Rattle.sd_law_coalition.specs.Know.{Service, Knowable, OfTree, PeriodKey, ControlWord, IsKnowledgeStep};
 ghost use Rattle.sd_law_coalition.specs.Know.{IsPooled};
 ghost use Rattle.sd_law_coalition.specs.Know.{IsKnown};

@@ -1,6 +1,6 @@
 -- How many packets are sent for a clear stream, if the tree is low.
-use Rattle.std.proofs.Common.{ℕ, ◌*◌, ◌/◌, ◌%◌, ◌^◌, ◌≤◌, ◌==◌, Bool, true, false, List, [], ◌∷◌, ◌++◌}
-use Rattle.std.proofs.Common.{length, map, sym, subst, arith, inl, inr, length-append, append_assoc, if◌then◌else◌}
+use Rattle.std.proofs.Common.{ℕ, ◌*◌, ◌^◌, ◌≤◌, List, [], ◌∷◌, ◌++◌}
+use Rattle.std.proofs.Common.{length, arith, inl, inr}
 use Rattle.std.specs.List.{concat}
 use Rattle.std.proofs.lemmas.Bool.{cases_lt}
 use Rattle.std.proofs.lemmas.List.{length-map}
@@ -10,30 +10,21 @@ use Rattle.sd_book.specs.Commands.{revoked}
 use Rattle.sd_emm.specs.Period.{emms_of}
 use Rattle.sd_emm.specs.declared.emm.Emm.{Emm}
 use Rattle.sd_emm.proofs.Sharing.{as_many as sections_many}
-use Rattle.sd_ecm.specs.Parts.{Message, IsMessage, parts_of}
-use Rattle.sd_spec.specs.Plan.{Plan, IsPlan, crypto_length, period_of, sets_at}
-use Rattle.sd_spec.specs.Carried.{carried}
-use Rattle.sd_spec.specs.Messages.{period_at, message_at}
+use Rattle.sd_spec.specs.Plan.{Plan, IsPlan, period_of, sets_at}
+use Rattle.sd_spec.specs.Messages.{period_at}
 use Rattle.sd_spec.specs.Refused.{IsClear}
-use Rattle.sd_spec.specs.Sent.{Item, Entitles, Controls, Carries, tables_at, tables_before, message_before}
+use Rattle.sd_spec.specs.Sent.{Entitles, tables_at}
 use Rattle.sd_spec.specs.Sent.{added}
-use Rattle.sd_spec.specs.Sent.{sent_from, sent, body}
+use Rattle.sd_spec.specs.Sent.{sent, body}
 use Rattle.sd_spec.proofs.Bodies.{packets_many}
 use Rattle.sd_law_broadcast.specs.Packets.{AreWholePackets}
-use Rattle.sd_law_broadcast.proofs.Clear.{prefix_clear}
-use Rattle.sd_law_broadcast.proofs.Fitting.{sets_small, period_count, message_before_fits, word_low}
+use Rattle.sd_law_broadcast.proofs.Fitting.{sets_small, period_count}
 use Rattle.sd_law_broadcast.specs.Synced.{AreSynced}
-use Rattle.sd_law_broadcast.proofs.Counted.{parts_few}
+use Rattle.sd_law_broadcast.proofs.Counted.{added_upto, sent_upto}
 use Rattle.sd_law_broadcast.proofs.Joined.{joined_long}
 use Rattle.sd_law_broadcast.proofs.Synced.{body_synced}
 use Rattle.sd_spec.proofs.Fitting.{revoked_few}
 use Rattle.sd_law_field.specs.Times.{most_added}
-
--- a message's parts are few, if it is there
-message_or_none : (b : Bool) (message : Message) → IsMessage message →
-    length (if b then map Controls (parts_of message) else []) ≤ 22
-message_or_none true message fits = omega (arith, length-map (parts_of message) Controls, parts_few message fits)
-message_or_none false message fits = omega arith
 
 module _ (plan : Plan) (low : plan.site.height ≤ 6) (is : IsPlan plan) where
   -- few sets stand in a period
@@ -57,51 +48,13 @@ module _ (plan : Plan) (low : plan.site.height ≤ 6) (is : IsPlan plan) where
       let emms : List Emm = emms_of (period_at plan (period_of plan k)) in
       omega (arith, length-map emms Entitles, sections_few (period_of plan k))
 
-  tables_or_none : (b : Bool) (k : ℕ) → length (if b then tables_at plan k else []) ≤ 44
-  tables_or_none true k = tables_few k
-  tables_or_none false k = omega arith
-
-  -- what one packet adds
-  added_few : (before : List (List ℕ)) (packet : List ℕ) → IsClear plan.site (before ++ packet ∷ []) →
-      length (added plan before packet) ≤ 67
-  unfolding added
-  added_few before packet all =
-      let n : ℕ = length before in
-      let own : List Item = Carries n (carried plan.site before packet) ∷ [] in
-      let more = length-append before (packet ∷ []) in
-      let word = word_low plan (before ++ packet ∷ []) n is all (omega (arith, more)) in
-      omega (
-        arith,
-        length-append (tables_before plan n) (message_before plan before ++ own),
-        length-append (message_before plan before) own,
-        tables_or_none (n % crypto_length plan.site == 0) n,
-        message_or_none (n % plan.site.every == 0) (message_at plan before (n / plan.site.every) n false)
-            (message_before_fits plan before is (prefix_clear plan.site before (packet ∷ []) all) word),
-      )
-
-  -- what packets add after others
-  sent_few : (before packets : List (List ℕ)) → IsClear plan.site (before ++ packets) →
-      length (sent_from plan before packets) ≤ 67 * length packets
-  unfolding sent_from
-  sent_few before [] all = omega arith
-  sent_few before (packet ∷ packets) all =
-      omega (
-        arith,
-        length-append (added plan before packet) (sent_from plan (before ++ packet ∷ []) packets),
-        added_few before packet (prefix_clear plan.site (before ++ packet ∷ []) packets whole),
-        sent_few (before ++ packet ∷ []) packets whole,
-      )
-    where
-      whole : IsClear plan.site ((before ++ packet ∷ []) ++ packets)
-      whole = subst (IsClear plan.site) (sym (append_assoc before (packet ∷ []) packets)) all
-
 pub added_is_short : (plan : Plan) (before : List (List ℕ)) (packet : List ℕ) → plan.site.height ≤ 6 → IsPlan plan →
     IsClear plan.site (before ++ packet ∷ []) → length (added plan before packet) ≤ most_added
-added_is_short plan before packet low is all = added_few plan low is before packet all
+added_is_short plan before packet low is all = added_upto plan is 44 (tables_few plan low is) before packet all
 
 pub sent_is_short : (plan : Plan) (clear : List (List ℕ)) → plan.site.height ≤ 6 → IsPlan plan →
     IsClear plan.site clear → length (sent plan clear) ≤ most_added * length clear
-sent_is_short plan clear low is all = sent_few plan low is [] clear all
+sent_is_short plan clear low is all = omega (arith, sent_upto plan is 44 (tables_few plan low is) [] clear all)
 
 -- and how many bytes they are
 pub body_is_short : (plan : Plan) (clear : List (List ℕ)) → plan.site.height ≤ 6 → IsPlan plan →
@@ -113,5 +66,5 @@ body_is_short plan clear low is all whole synced =
       arith,
       joined_long (body plan clear) (body_synced plan clear is all whole synced),
       packets_many plan.site [] (sent plan clear),
-      sent_few plan low is [] clear all,
+      sent_upto plan is 44 (tables_few plan low is) [] clear all,
     )

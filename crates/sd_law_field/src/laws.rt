@@ -6,7 +6,7 @@ ghost use Rattle.sd_base.specs.Types.{Bytes, Packets, LeafNumber, PacketNumber};
 ghost use Rattle.sd_site.specs.SiteFields.{SiteFields};
 ghost use Rattle.sd_spec.specs.Plan.{period_of};
 ghost use Rattle.sd_spec.specs.Refused.{IsClear};
-ghost use Rattle.sd_law_losses.specs.Confirmed.{is_revoked_in, packets_at};
+ghost use Rattle.sd_law_losses.specs.Confirmed.{is_revoked_in};
 ghost use Rattle.sd_spec.specs.declared.event.Event.{Event};
 ghost use Rattle.sd_spec.specs.Watch.{present};
 ghost use Rattle.sd_field.specs.Fields.{FieldValue, IsSentOver, IsWrittenOver, card_at, plan_in, taken, watch_of};

@@ -78,6 +78,17 @@ sections_entitle plan q u is leaf =
     same_period : (emm : Emm) → Contains (emms_of (period_at plan q)) emm → (emm.period == q) ≡ true
     same_period emm there = grind (arith, nat_tests, section_number plan q emm there)
 
+-- the first packet of a crypto period is one at which the tables are due
+pub begin_is_due : (plan : Plan) (k : ℕ) →
+    ((k - k % crypto_length plan.site) % crypto_length plan.site == 0) ≡ true
+begin_is_due plan k =
+    let begins : ℕ = k - k % crypto_length plan.site in
+    let whole : begins ≡ k / crypto_length plan.site * crypto_length plan.site =
+    omega (arith, div-add-mod' k (crypto_length plan.site)) in
+    let none : begins % crypto_length plan.site ≡ 0 =
+    rw whole (mul-mod_left (k / crypto_length plan.site) (crypto_length plan.site)) in
+    grind (arith, nat_tests, none)
+
 -- the tables before the first packet of a crypto period entitle to its period
 tables_entitle : (plan : Plan) (k u : ℕ) → IsPlan plan → u < 2 ^ plan.site.height →
     list_any (entitles plan.site.height u (period_of plan k)) (tables_before plan (k - k % crypto_length plan.site))
@@ -95,15 +106,7 @@ tables_entitle plan k u is leaf =
     begins = k - k % crypto_length plan.site
 
     first : (begins % crypto_length plan.site == 0) ≡ true
-    first =
-        let whole : begins ≡ k / crypto_length plan.site * crypto_length plan.site = omega (
-          arith,
-          div-add-mod' k
-              (crypto_length plan.site),
-        ) in
-        let none : begins % crypto_length plan.site ≡ 0 = rw whole (mul-mod_left (k / crypto_length plan.site)
-        (crypto_length plan.site)) in
-        grind (arith, nat_tests, none)
+    first = begin_is_due plan k
 
 -- all of these are chosen
 pub chosen_true : {A : Type 0} (f : ℕ → Bool) (low n : ℕ) (xs : List A) → ((j : ℕ) → low ≤ j → j < low + n →

@@ -206,6 +206,31 @@ after_cat_goes s laws k i fs later within is =
         (take (length (sections_at s q)) fs) [] [] (All-contains_itself (emms_of (period_at s.plan q)))
         (kept_start k (closing_number s.plan.site k)) (heard_start s k q (closing_number s.plan.site k))
 
+-- what stands before packet k, without the CAT
+abbrev pub here_at : Setting → ℕ → List Item
+here_at s k = sections_at s (period_of s.plan k) ++ tail_at s k
+
+-- after the CAT before packet k that goes first
+pub here_goes : (s : Setting) (laws : AreLaws s) (n k : ℕ) (fs : List Bool) (past : List (List ℕ)) →
+    k + suc n ≡ length s.clear → heard s.card past ≡ [] →
+    Goes s ([] ++ (chosen (take (length (here_at s k)) fs) (here_at s k) ++ chosen (drop (length (here_at s k)) fs) (rest_at s
+    (k + 1)))) k (k + 1)
+    (period_of s.plan k) (closing_number s.plan.site (k + 1)) None ([] ++ chosen (take (length (here_at s k)) fs) (here_at s k))
+    (heard s.card past)
+    (heard_from (length past) (chosen (take (length (here_at s k)) fs) (here_at s k)))
+here_goes s laws n k fs past count none =
+    subst (λ (hs : List Heard). Goes s ([] ++ (chosen (take (length (here_at s k)) fs) (here_at s k) ++ chosen (drop
+    (length (here_at s k)) fs) (rest_at s (k + 1)))) k (k + 1)
+    (period_of s.plan k) (closing_number s.plan.site (k + 1)) None ([] ++ chosen (take (length (here_at s k)) fs) (here_at s k)) hs
+    (heard_from (length past) (chosen (take (length (here_at s k)) fs) (here_at s k)))) (sym none)
+    (after_cat_goes s laws k (length past) (take (length (here_at s k)) fs) (chosen (drop (length (here_at s k)) fs) (rest_at s
+    (k + 1))) within
+    (λ j below. chosen_fails (is_carried j) (drop (length (here_at s k)) fs) (rest_at s (k + 1))
+    (packets_later s laws n (k + 1) j (omega (arith, count)) below)))
+  where
+    within : k < length s.clear
+    within = omega (arith, count)
+
 -- the CAT before packet k is kept
 cat_here : (s : Setting) (laws : AreLaws s) (able : AreHearable s) (n k : ℕ) (fs : List Bool) (earlier : List Item)
     (past : List (List ℕ)) → k + suc n ≡ length s.clear → (k % crypto_length s.plan.site == 0) ≡ true →
@@ -235,21 +260,14 @@ cat_here s laws able n k fs earlier past count due all tuned none =
     within = omega (arith, count)
 
     group : List Item
-    group = sections_at s (period_of s.plan k) ++ tail_at s k
+    group = here_at s k
 
     goes : Goes s ([] ++ (chosen (take (length group) fs) group ++ chosen (drop (length group) fs) (rest_at s
         (k + 1)))) k (k + 1)
         (period_of s.plan k) (closing_number s.plan.site (k + 1)) None ([] ++ chosen (take (length group) fs) group)
         (heard s.card past)
         (heard_from (length past) (chosen (take (length group) fs) group))
-    goes = subst (λ (hs : List Heard). Goes s ([] ++ (chosen (take (length group) fs) group ++ chosen (drop
-        (length group) fs) (rest_at s (k + 1)))) k (k + 1)
-        (period_of s.plan k) (closing_number s.plan.site (k + 1)) None ([] ++ chosen (take (length group) fs) group) hs
-        (heard_from (length past) (chosen (take (length group) fs) group))) (sym none)
-        (after_cat_goes s laws k (length past) (take (length group) fs) (chosen (drop (length group) fs) (rest_at s
-        (k + 1))) within
-        (λ j below. chosen_fails (is_carried j) (drop (length group) fs) (rest_at s (k + 1))
-        (packets_later s laws n (k + 1) j (omega (arith, count)) below)))
+    goes = here_goes s laws n k fs past count none
 
 -- the sections and the closing parts after the CAT of a broadcast without a packet
 abbrev pub items_of_none : Setting → List Item

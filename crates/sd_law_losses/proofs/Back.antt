@@ -8,7 +8,7 @@ use Rattle.sd_packet.specs.Header.{pid_of, scrambling_of}
 use Rattle.sd_packet.specs.Positions.{is_placed}
 use Rattle.sd_tree.specs.Keys.{control_word_of}
 use Rattle.sd_site.specs.SiteFields.{SiteFields}
-use Rattle.sd_psi.specs.Rewriting.{rewritten, restored, rewrite_fault, restore_fault}
+use Rattle.sd_psi.specs.Rewriting.{rewritten, rewrite_fault, restore_fault}
 use Rattle.sd_psi.specs.Undone.{IsPacket}
 use Rattle.sd_psi.proofs.Keeping.{rewritten_packet_keeps}
 use Rattle.sd_psi.proofs.Inverse.{restorable, restored_again}
@@ -20,10 +20,11 @@ use Rattle.sd_spec.specs.Carried.{parity_of, place_after, pmt_carried, veiled, c
 use Rattle.sd_spec.specs.Refused.{refusal_of, is_full_own}
 use Rattle.sd_spec.specs.declared.kind.Kind.{Kind}
 use Rattle.sd_spec.specs.declared.kind.Kind.TheVariants.{Passed, Pmt, Scrambled}
+use Rattle.sd_spec.specs.Confirmed.{Segment, unmarked}
+use Rattle.sd_spec.proofs.Unmarked.{unplaced_stays, unmarked_stays, marked_back}
 use Rattle.sd_law_broadcast.specs.Packets.{IsWholePacket}
 use Rattle.sd_law_broadcast.proofs.Clear.{accepted}
 use Rattle.sd_law_broadcast.proofs.Carrying.{kind_placed, placed_packet}
-use Rattle.sd_spec.specs.Confirmed.{Segment, unmarked}
 
 -- a passed packet has no position
 kind_unplaced : (before : List (List ℕ)) (packet : List ℕ) → kind_of before packet ≡ Passed → is_placed packet ≡ false
@@ -36,25 +37,6 @@ kind_unplaced before packet is = elim (cases_Bool (is_placed packet)) [
     no_kind : (b : Bool) → (if b then Pmt else Scrambled) ≡ Passed → ⊥
     no_kind true e = absurd (cc)
     no_kind false e = absurd (cc)
-
--- what is not marked stays
-unplaced_stays : (segment : Segment) (packet : List ℕ) → is_placed packet ≡ false → unmarked segment packet ≡ packet
-unfolding unmarked
-unplaced_stays segment packet none = rw none refl
-
-unmarked_stays : (segment : Segment) (packet : List ℕ) →
-    is_none (restore_fault segment.ca segment.ecm packet) ≡ false → unmarked segment packet ≡ packet
-unfolding unmarked
-unmarked_stays segment packet none = elim (cases_Bool (is_placed packet)) [
-  | inl placed ↦ rw (placed, none) refl
-  | inr other ↦ rw other refl
-]
-
--- what is marked is restored
-marked_back : (segment : Segment) (packet : List ℕ) → is_placed packet ≡ true →
-    restore_fault segment.ca segment.ecm packet ≡ None → unmarked segment packet ≡ restored packet
-unfolding unmarked
-marked_back segment packet placed good = rw (placed, good) refl
 
 -- a fault that isn't told is none
 none_is : {A : Type 0} (x : Option A) → is_none x ≡ true → x ≡ None

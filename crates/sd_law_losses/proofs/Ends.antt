@@ -22,19 +22,20 @@ use Rattle.sd_spec.specs.Tuned.{tuning_of}
 use Rattle.sd_spec.specs.Heard.{Heard}
 use Rattle.sd_spec.specs.Offered.{heard}
 use Rattle.sd_law_losses.specs.Chosen.{chosen}
-use Rattle.sd_law_losses.specs.Kept.{is_carried, after_cat}
+use Rattle.sd_law_losses.specs.Kept.{after_cat}
 use Rattle.sd_law_losses.proofs.Writing.{onto, onto_append, open_upto, Writes, IsOpenUpto}
 use Rattle.sd_law_losses.proofs.Setting.{Setting, AreLaws, tuning_at, final, told_by}
 use Rattle.sd_law_losses.proofs.Facts.{AreKept, AreHeard}
 use Rattle.sd_law_losses.proofs.Hearing.{AreHearable, is_cat_item, heard_from, ComesTo, packets_come, IsTuned}
 use Rattle.sd_law_losses.proofs.Remaining.{group_at, rest_at, rest_more, rest_none, closing_items}
-use Rattle.sd_law_losses.proofs.Later.{chosen_append, chosen_fails, packets_later}
-use Rattle.sd_law_losses.proofs.Groups.{Goes, group_goes}
+use Rattle.sd_law_losses.proofs.Later.{chosen_append, chosen_fails}
+use Rattle.sd_law_losses.proofs.Groups.{Goes}
 use Rattle.sd_law_losses.proofs.Confirming.{confirmed_in}
 use Rattle.sd_law_losses.proofs.Losses.{all_second, packets_chosen}
 use Rattle.sd_law_losses.proofs.Untuned.{IsSkipped, packets_skipped, after_none, no_part_cat, no_section_cat}
 use Rattle.sd_law_losses.proofs.Untuned.{sections_at, tail_at, no_tail_cat, due_rest, other_rest}
-use Rattle.sd_law_losses.proofs.AnyLoss.{after_cat_goes, taken_tuning, taken_heard, items_of_none, sections_alone}
+use Rattle.sd_law_losses.proofs.Tuned.{tuned_goes}
+use Rattle.sd_law_losses.proofs.AnyLoss.{here_at, here_goes, taken_tuning, taken_heard, items_of_none, sections_alone}
 use Rattle.sd_law_losses.proofs.AnyLoss.{sections_heard}
 use Rattle.sd_law_losses.proofs.Ended.{HasEnded, StandsEnded, all_stand, end_stands, sections_then_end}
 
@@ -137,11 +138,7 @@ tuned_ends s laws able (suc n) k last fs earlier kept past count all tuned is ar
         k (k + 1) (period_of s.plan k) (closing_number s.plan.site (k + 1)) last
         (kept ++ chosen (take (length (group_at s k)) fs) (group_at s k)) (heard s.card past)
         (heard_from (length past) (chosen (take (length (group_at s k)) fs) (group_at s k)))
-    goes = group_goes s laws k (period_of s.plan (k - 1)) (length past) last (take (length (group_at s k)) fs) kept
-        (chosen (drop (length (group_at s k)) fs) (rest_at s (k + 1))) (heard s.card past) within
-        (periods_rise s.plan (k - 1) k laws.range (omega arith))
-        (λ j below. chosen_fails (is_carried j) (drop (length (group_at s k)) fs) (rest_at s (k + 1))
-        (packets_later s laws n (k + 1) j (omega (arith, count)) below)) is are
+    goes = tuned_goes s laws n k last fs kept past count is are
 
 -- how it ends where no CAT was taken yet: untuned where none is kept
 abbrev pub EndsBefore : Setting → Bool → List Item → List (List ℕ) → Type 0
@@ -234,21 +231,14 @@ cat_here s laws able n k fs earlier past count all tuned none =
     within = omega (arith, count)
 
     group : List Item
-    group = sections_at s (period_of s.plan k) ++ tail_at s k
+    group = here_at s k
 
     goes : Goes s ([] ++ (chosen (take (length group) fs) group ++ chosen (drop (length group) fs) (rest_at s
         (k + 1)))) k (k + 1)
         (period_of s.plan k) (closing_number s.plan.site (k + 1)) None ([] ++ chosen (take (length group) fs) group)
         (heard s.card past)
         (heard_from (length past) (chosen (take (length group) fs) group))
-    goes = subst (λ (hs : List Heard). Goes s ([] ++ (chosen (take (length group) fs) group ++ chosen (drop
-        (length group) fs) (rest_at s (k + 1)))) k (k + 1)
-        (period_of s.plan k) (closing_number s.plan.site (k + 1)) None ([] ++ chosen (take (length group) fs) group) hs
-        (heard_from (length past) (chosen (take (length group) fs) group))) (sym none)
-        (after_cat_goes s laws k (length past) (take (length group) fs) (chosen (drop (length group) fs) (rest_at s
-        (k + 1))) within
-        (λ j below. chosen_fails (is_carried j) (drop (length group) fs) (rest_at s (k + 1))
-        (packets_later s laws n (k + 1) j (omega (arith, count)) below)))
+    goes = here_goes s laws n k fs past count none
 
 -- the CAT of a broadcast without a packet is kept
 sections_ends : (s : Setting) (laws : AreLaws s) (able : AreHearable s) (fs : List Bool) (earlier : List Item)

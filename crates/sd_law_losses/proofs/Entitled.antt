@@ -120,18 +120,17 @@ none_before plan clear q u (item ∷ items) low all =
     rw (none_before_first plan clear q u item low (All-head (IsOfBroadcast plan clear) item items all))
     (none_before plan clear q u items low (All-tail (IsOfBroadcast plan clear) item items all))
 
+-- a section of a packet's period that names a period names that one
+pub named_period : (plan : Plan) (k q : ℕ) (emm : Emm) → Contains (emms_of (period_at plan (period_of plan k))) emm →
+    (emm.period == q) ≡ true → period_of plan k ≡ q
+named_period plan k q emm there is = grind (arith, nat_tests, is, section_number plan (period_of plan k) emm there)
+
 -- a leaf that a thing of the broadcast entitles is not revoked in the period
 entitled_one : (plan : Plan) (clear : List (List ℕ)) (q u : ℕ) (item : Item) → IsPlan plan → u < 2 ^ plan.site.height →
     IsOfBroadcast plan clear item → entitles plan.site.height u q item ≡ true → is_revoked_in plan u q ≡ false
 entitled_one plan clear q u (Entitles emm) is leaf (entitlement k within there) told =
     let parts = and_parts (emm.period == q) (has_set plan u emm) told in
-    let period : period_of plan k ≡ q = grind (
-      arith,
-      nat_tests,
-      parts.0,
-      section_number plan
-          (period_of plan k) emm there,
-    ) in
+    let period = named_period plan k q emm there parts.0 in
     no_not (sym (sections_have plan q u is leaf)
     ∙ any_there (has_set plan u) (emms_of (period_at plan q)) emm
     (subst (λ (p : ℕ). Contains (emms_of (period_at plan p)) emm) period there) parts.1)

@@ -10,7 +10,7 @@ use Rattle.sd_emm.specs.declared.emm.Emm.{Emm}
 use Rattle.sd_ecm.specs.declared.part.EcmPart.{EcmPart}
 use Rattle.sd_spec.specs.Sent.{Item, Cat, Entitles, Controls, Carries, packet_of, packets_from}
 use Rattle.sd_spec.specs.Items.{IsOfBroadcast}
-use Rattle.sd_spec.specs.Tuned.{tuning_of, tuned_by}
+use Rattle.sd_spec.specs.Tuned.{tuning_of}
 use Rattle.sd_psi.specs.OurCat.{cat_tuning}
 use Rattle.sd_psi.specs.declared.our_cat.Tuning.{Tuning}
 use Rattle.sd_spec.specs.Heard.{Heard, Dropped, Entitles as HeardEntitles, Controls as HeardControls, Other}

@@ -13,12 +13,11 @@ use Rattle.sd_emm.specs.Form.{sections_for}
 use Rattle.sd_emm.specs.Period.{emms_of, emm_at}
 use Rattle.sd_emm.specs.declared.emm.Emm.{Emm}
 use Rattle.sd_emm.proofs.Sharing.{as_many, stands_at, index_is}
-use Rattle.sd_spec.specs.Plan.{Plan, IsPlan, sets_at, period_of, closing_number}
+use Rattle.sd_spec.specs.Plan.{Plan, IsPlan, sets_at, closing_number}
 use Rattle.sd_spec.specs.Messages.{period_at}
 use Rattle.sd_spec.specs.Sent.{Item, Cat, Entitles, Controls, Carries, sent, closing_of, is_cat_item}
 use Rattle.sd_spec.specs.Items.{IsOfBroadcast, entitlement}
 use Rattle.sd_spec.proofs.Items.{all_are_of_broadcast}
-use Rattle.sd_spec.proofs.Periods.{section_number}
 use Rattle.sd_law_broadcast.proofs.Fitting.{period_count}
 use Rattle.sd_spec.specs.Ending.{ending_with}
 use Rattle.sd_spec.specs.declared.ending.Ending.TheVariants.{Opened, Gaps, Revoked, NoCat, Unclosed}
@@ -27,7 +26,7 @@ use Rattle.sd_law_losses.specs.Kept.{after_cat, has_arrived, entitles, is_sectio
 use Rattle.sd_law_losses.specs.Confirmed.{confirmed, is_revoked_in}
 use Rattle.sd_law_losses.specs.Endings.{periods_arrived, is_untold, has_all, closed_told, next_number, ending_told}
 use Rattle.sd_law_losses.proofs.Later.{chosen_all_of}
-use Rattle.sd_law_losses.proofs.Entitled.{has_set, sections_have, any_of_map}
+use Rattle.sd_law_losses.proofs.Entitled.{has_set, sections_have, any_of_map, named_period}
 use Rattle.sd_law_losses.proofs.Opened.{after_all}
 
 -- what is found passes
@@ -81,13 +80,7 @@ section_entitles : (plan : Plan) (clear : List (List ℕ)) (u q x : ℕ) (item :
     entitles plan.site.height u q item ≡ true
 section_entitles plan clear u q x (Entitles emm) (entitlement k within there) has is =
     let parts = and_parts (emm.period == q) (emm.index == x) is in
-    let period : period_of plan k ≡ q = grind (
-      arith,
-      nat_tests,
-      parts.0,
-      section_number plan
-          (period_of plan k) emm there,
-    ) in
+    let period = named_period plan k q emm there parts.0 in
     let index : emm.index ≡ x = grind (arith, nat_tests, parts.1) in
     let same = same_section plan q emm (subst (λ (p : ℕ). Contains (emms_of (period_at plan p)) emm) period there) in
     rw (parts.0) (ap (has_set plan u) (same ∙ ap (emm_at (period_at plan q)) index) ∙ has)

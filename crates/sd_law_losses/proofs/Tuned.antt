@@ -182,6 +182,25 @@ group_written s laws able k p q n m last fs group rest earlier kept past within 
         ∙ ap (λ (items : List Item). confirmed_in s (kept ++ items) (from_last s last) (length s.clear)) (sym
         (chosen_append fs group rest)))
 
+-- of the packets from k on those of packet k go first
+pub tuned_goes : (s : Setting) (laws : AreLaws s) (n k : ℕ) (last : Option ℕ) (fs : List Bool) (kept : List Item)
+    (past : List (List ℕ)) → k + suc n ≡ length s.clear → AreKept k (closing_number s.plan.site k) last kept →
+    AreHeard s k (period_of s.plan (k - 1)) (closing_number s.plan.site k) last kept (heard s.card past) →
+    Goes s (kept ++ (chosen (take (length (group_at s k)) fs) (group_at s k) ++ chosen (drop (length
+    (group_at s k)) fs) (rest_at s (k + 1))))
+    k (k + 1) (period_of s.plan k) (closing_number s.plan.site (k + 1)) last
+    (kept ++ chosen (take (length (group_at s k)) fs) (group_at s k)) (heard s.card past)
+    (heard_from (length past) (chosen (take (length (group_at s k)) fs) (group_at s k)))
+tuned_goes s laws n k last fs kept past count is are =
+    group_goes s laws k (period_of s.plan (k - 1)) (length past) last (take (length (group_at s k)) fs) kept
+    (chosen (drop (length (group_at s k)) fs) (rest_at s (k + 1))) (heard s.card past) within
+    (periods_rise s.plan (k - 1) k laws.range (omega arith))
+    (λ j below. chosen_fails (is_carried j) (drop (length (group_at s k)) fs) (rest_at s (k + 1))
+    (packets_later s laws n (k + 1) j (omega (arith, count)) below)) is are
+  where
+    within : k < length s.clear
+    within = omega (arith, count)
+
 -- so what is written from packet k on is what is confirmed from the last message on
 pub tuned_written : (s : Setting) (laws : AreLaws s) (able : AreHearable s) (n k : ℕ) (last : Option ℕ) (fs : List Bool)
     (earlier kept : List Item) (past : List (List ℕ)) → k + n ≡ length s.clear →
@@ -236,8 +255,4 @@ tuned_written s laws able (suc n) k last fs earlier kept past count all tuned is
         k (k + 1) (period_of s.plan k) (closing_number s.plan.site (k + 1)) last
         (kept ++ chosen (take (length (group_at s k)) fs) (group_at s k)) (heard s.card past)
         (heard_from (length past) (chosen (take (length (group_at s k)) fs) (group_at s k)))
-    goes = group_goes s laws k (period_of s.plan (k - 1)) (length past) last (take (length (group_at s k)) fs) kept
-        (chosen (drop (length (group_at s k)) fs) (rest_at s (k + 1))) (heard s.card past) within
-        (periods_rise s.plan (k - 1) k laws.range (omega arith))
-        (λ j below. chosen_fails (is_carried j) (drop (length (group_at s k)) fs) (rest_at s (k + 1))
-        (packets_later s laws n (k + 1) j (omega (arith, count)) below)) is are
+    goes = tuned_goes s laws n k last fs kept past count is are

@@ -1,6 +1,6 @@
 -- A whole broadcast ends opened, or revoked in the first of its periods in which the leaf is.
 use Rattle.std.proofs.Common.{subst}
-use Rattle.std.proofs.Common.{◌≡◌, refl, ℕ, zero, suc, ◌+◌, ◌-◌, ◌*◌, ◌/◌, ◌%◌, ◌<◌, ◌≤◌, ◌==◌, ◌^◌, ◌&&◌, Bool, true}
+use Rattle.std.proofs.Common.{◌≡◌, refl, ℕ, zero, suc, ◌+◌, ◌-◌, ◌*◌, ◌%◌, ◌<◌, ◌≤◌, ◌==◌, ◌^◌, ◌&&◌, Bool, true}
 use Rattle.std.proofs.Common.{false, not, min}
 use Rattle.std.proofs.Common.{List, [], ◌∷◌, ◌++◌, map, filter, length, Option, Some, None, if◌then◌else◌}
 use Rattle.std.proofs.Common.{arith, sym, ap, ◌∙◌, inl, inr, ◌⊎◌}
@@ -10,8 +10,6 @@ use Rattle.std.proofs.lemmas.List.{length-map}
 use Rattle.std.proofs.lemmas.Option.{get_or_from_slice_get}
 use Rattle.std.proofs.lemmas.Bool.{cases_Bool, cases_eq, cases_lt, both_ways, false_from_ne_true}
 use Rattle.std.proofs.lemmas.Bool.Decides.{nat_tests}
-use Rattle.std.proofs.lemmas.Nat.{div-add-mod'}
-use Rattle.std.proofs.Math.Nat.{mul-mod_left}
 use Rattle.std.proofs.lemmas.List.FromFn.{length-range_with_len}
 use Rattle.sd_base.proofs.Lists.{any_there}
 use Rattle.sd_base.proofs.Ranges.{none_found}
@@ -46,7 +44,7 @@ use Rattle.sd_law_losses.proofs.Untuned.{sections_at, tail_at, due_rest}
 use Rattle.sd_law_losses.proofs.Remaining.{group_at, rest_at, rest_more, rest_none, closing_items}
 use Rattle.sd_law_losses.proofs.Entitled.{any_of_map, period_above, none_before, entitled_ones}
 use Rattle.sd_law_losses.proofs.Standing.{pre_at, sent_split, any_first, any_second, all_arrived}
-use Rattle.sd_law_losses.proofs.AllOpened.{sections_entitle, all_are_opened}
+use Rattle.sd_law_losses.proofs.AllOpened.{begin_is_due, sections_entitle, all_are_opened}
 use Rattle.sd_law_losses.proofs.Finished.{periods_found}
 use Rattle.sd_law_losses.proofs.Lawful.{setting, laws_hold}
 
@@ -134,15 +132,7 @@ module _ (plan : Plan) (clear : List (List ℕ)) (u : ℕ) (is : IsPlan plan) (a
       from = k - k % crypto_length plan.site
 
       first : (from % crypto_length plan.site == 0) ≡ true
-      first =
-          let start : from ≡ k / crypto_length plan.site * crypto_length plan.site = omega (
-            arith,
-            div-add-mod' k
-                (crypto_length plan.site),
-          ) in
-          let none : from % crypto_length plan.site ≡ 0 = rw start (mul-mod_left (k / crypto_length plan.site)
-          (crypto_length plan.site)) in
-          grind (arith, nat_tests, none)
+      first = begin_is_due plan k
 
       tables : (j : ℕ) → period_of plan j ≡ period_of plan k → list_any p (tables_at plan j) ≡ true
       tables j same = any_second p (Cat ∷ []) (sections_at s (period_of plan j))

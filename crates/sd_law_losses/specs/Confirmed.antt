@@ -1,5 +1,5 @@
 -- Public meaning: the clear packets that a receiver writes of a broadcast that loses packets.
-use Rattle.std.specs.Prelude.{ℕ, ◌+◌, ◌*◌, ◌/◌, ◌&&◌, ◌||◌, Bool, true, false, not, nat_eq, nat_le, min}
+use Rattle.std.specs.Prelude.{ℕ, ◌+◌, ◌*◌, ◌/◌, ◌&&◌, ◌||◌, Bool, false, not, nat_eq, nat_le, min}
 use Rattle.std.specs.Prelude.{List, [], length, take, map, filter, get_or, Option, Some, None}
 use Rattle.std.specs.List.{list_any, range_with_len}
 use Rattle.sd_base.specs.Types.{Packet, Packets, Pid, Position, LeafNumber, PeriodNumber, PacketNumber}

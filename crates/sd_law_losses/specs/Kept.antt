@@ -1,5 +1,5 @@
 -- Public meaning: what is kept of a broadcast that loses packets, in terms of the things that were sent.
-use Rattle.std.specs.Prelude.{ℕ, ◌+◌, ◌-◌, ◌==◌, ◌&&◌, ◌||◌, Bool, true, false, nat_le, nat_lt, List, [], ◌∷◌}
+use Rattle.std.specs.Prelude.{ℕ, ◌+◌, ◌-◌, ◌==◌, ◌&&◌, ◌||◌, Bool, false, nat_le, nat_lt, List, [], ◌∷◌}
 use Rattle.std.specs.Prelude.{filter, if◌then◌else◌, Option, Some, None}
 use Rattle.std.specs.List.{list_any, list_all, range_with_len}
 use Rattle.sd_base.specs.Types.{Height, LeafNumber, PeriodNumber, PacketNumber, MessageNumber}

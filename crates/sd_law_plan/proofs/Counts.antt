@@ -9,13 +9,11 @@ use Rattle.std.proofs.lemmas.Nat.{div-add-mod', div-mul-add, mod_below}
 use Rattle.std.proofs.lemmas.Bool.{cases_lt}
 use Rattle.std.proofs.lemmas.Bool.Decides.{nat_tests}
 use Rattle.std.proofs.lemmas.List.Sums.{sum_by-cons, sum_by_push}
+use Rattle.sd_base.proofs.Arithmetic.{times_next}
 use Rattle.sd_base.proofs.Ranges.{range_more}
 use Rattle.sd_book.specs.Commands.{last_period}
 use Rattle.sd_spec.specs.Plan.{Plan, period_in}
 use Rattle.sd_run_books.specs.Air.{cryptos_in, cryptos_from, period_count}
-
-pub times_next : (d b : ℕ) → (d + 1) * b ≡ d * b + b
-times_next d b = omega arith
 
 no_times : (k : ℕ) → 0 * k ≡ 0
 no_times k = omega arith

@@ -10,6 +10,7 @@ use Rattle.std.proofs.lemmas.Bool.Decides.{nat_tests}
 use Rattle.std.proofs.lemmas.List.{length-map}
 use Rattle.std.proofs.lemmas.List.Folds.{list_any-append}
 use Rattle.std.proofs.lemmas.List.Sums.{sum_by-cons}
+use Rattle.sd_base.proofs.Arithmetic.{times_next}
 use Rattle.sd_message.specs.Pieces.{pieces_for}
 use Rattle.sd_site.specs.SiteFields.{AreInRange}
 use Rattle.sd_emm.specs.Period.{emms_of}
@@ -29,7 +30,7 @@ use Rattle.sd_packet.specs.Positions.{is_moving}
 use Rattle.sd_law_broadcast.proofs.Fitting.{period_count as sets_many}
 use Rattle.sd_run_books.specs.Air.{entitlements_at}
 use Rattle.sd_law_plan.proofs.Counts.{begun, none_begins, one_begins, quotient_is, shared, shared_more}
-use Rattle.sd_law_plan.proofs.Counts.{shared_none, sum_more, times_next}
+use Rattle.sd_law_plan.proofs.Counts.{shared_none, sum_more}
 
 -- the tables of a packet are the CAT and its period's entitlements
 tables_many : (plan : Plan) (k : ℕ) → length (tables_at plan k) ≡ 1 + entitlements_at plan (period_of plan k)

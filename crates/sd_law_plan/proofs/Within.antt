@@ -4,6 +4,7 @@ use Rattle.std.proofs.Common.{List, [], ◌++◌, length, refl, sym, ap, ◌∙�
 use Rattle.std.specs.Prelude.{sum_by}
 use Rattle.std.specs.List.{range_with_len}
 use Rattle.std.proofs.lemmas.Bool.Decides.{nat_tests}
+use Rattle.sd_base.proofs.Arithmetic.{times_next}
 use Rattle.sd_site.specs.SiteFields.{SiteFields, AreInRange}
 use Rattle.sd_ecm.specs.Parts.{parts_for}
 use Rattle.sd_ecm.specs.Versions.{positions_for}
@@ -13,8 +14,8 @@ use Rattle.sd_spec.specs.Sent.{broadcast, closing_of, sent}
 use Rattle.sd_spec.proofs.Schedule.{crypto_length_some}
 use Rattle.sd_spec.proofs.Bodies.{packets_many}
 use Rattle.sd_run_books.specs.Air.{added_most, cryptos_for, messages_for, periods_for, tables_in}
-use Rattle.sd_law_plan.proofs.Counts.{begun, quotient_is, shared, shared_is, times_next}
-use Rattle.sd_law_plan.proofs.Sizes.{AreWithin, one_part, own, parts_after, parts_are, parts_by}
+use Rattle.sd_law_plan.proofs.Counts.{begun, quotient_is, shared, shared_is}
+use Rattle.sd_law_plan.proofs.Sizes.{one_part, own, parts_after, parts_are, parts_by}
 use Rattle.sd_law_plan.proofs.Sizes.{parts_some}
 use Rattle.sd_law_plan.proofs.Sizes.{sent_within, tables_are, tables_by}
 

@@ -4,7 +4,8 @@ ghost use Rattle.std.specs.Prelude.{◌≡◌, ◌<◌, ◌≤◌, ◌∷◌, �
 ghost use Rattle.sd_base.specs.Types.{Key};
 ghost use Rattle.sd_site.specs.SiteFields.{AreInRange};
 ghost use Rattle.sd_spec.specs.Plan.{Plan};
-ghost use Rattle.sd_law_broadcast.specs.Runs.{Run, IsRun, HasWords, ShareNoWord, HaveOwnWords, AgreeOnPeriods, AllAgree};
+ghost use Rattle.sd_law_broadcast.specs.Runs.{Run, IsRun, HasWords, ShareNoWord, HaveOwnWords};
+ghost use Rattle.sd_law_broadcast.specs.Runs.{AgreeOnPeriods, AllAgree};
 ghost use Rattle.sd_law_broadcast.specs.Known.{AreOneTree};
 ghost use Rattle.sd_command_base.specs.declared.status.Clash.{Clash};
 ghost use Rattle.sd_run_books.specs.Apart.{clash_of};

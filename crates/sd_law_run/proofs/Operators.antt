@@ -1,7 +1,6 @@
 -- Good words and files of an operator's tools mean work.
-use Rattle.std.proofs.Common.{◌≡◌, ◌≤◌, nat_le, cond, List, Option, Some, None, Ok, Err, ap, ◌∙◌, ℕ}
+use Rattle.std.proofs.Common.{◌≡◌, cond, List, Option, Some, None, Ok, Err, ap, ◌∙◌, ℕ}
 use Rattle.std.proofs.lemmas.Bool.{le-leb}
-use Rattle.sd_spec.specs.Plan.{Plan}
 use Rattle.sd_command_base.specs.declared.status.Status.TheVariants.{BadWord, Clash}
 use Rattle.sd_command_base.specs.declared.status.Clash.{Clash as ClashKind}
 use Rattle.sd_command_base.specs.Spec.{Readings, judged, value, ◌>>=◌}

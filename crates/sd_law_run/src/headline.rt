@@ -86,7 +86,8 @@ pub fn run<D: Depot, P: Sink, L: Ledger>(
         ≡ Some (concat (broadcast plan clear)) →
         IsUndisturbed (outside (depot_state D.Depot depot.old) (page_state P.Sink print.old) steps.old)
         (outside (depot_state D.Depot depot.new) (page_state P.Sink print.new) steps.new) result →
-        ReceiveResult names plan u clear (outside (depot_state D.Depot depot.old) (page_state P.Sink print.old) steps.old)
+        ReceiveResult names plan u clear
+        (outside (depot_state D.Depot depot.old) (page_state P.Sink print.old) steps.old)
         (outside (depot_state D.Depot depot.new) (page_state P.Sink print.new) steps.new) result }
     // Over the card of a leaf and any choice of a broadcast's packets it makes what the messages that arrived confirm.
     ensures lost { (names : Names) (plan : Plan) (u : LeafNumber) (clear : Packets) (z : Outside) (flags : Arrived) →
@@ -105,7 +106,8 @@ pub fn run<D: Depot, P: Sink, L: Ledger>(
     // No file changes but OUT, which is the word at its place in the row of a command that makes a file.
     ensures files { (files : Files) (name : FileName) → D.files depot.old ≡ Some files →
         out_name (map string_bytes words.now) ≢ Some name →
-        file_in (outside (depot_state D.Depot depot.new) (page_state P.Sink print.new) steps.new) name ≡ get files name }
+        file_in (outside (depot_state D.Depot depot.new) (page_state P.Sink print.new) steps.new) name
+        ≡ get files name }
     // At most one file is made, and none by other commands.
     ensures made { ((depot_state D.Depot depot.new).made ≡ (depot_state D.Depot depot.old).made)
         ⊎ (((depot_state D.Depot depot.new).made ≡ with_added (depot_state D.Depot depot.old).made 1)

@@ -132,7 +132,8 @@ pub fn good_accounts_are_kept()
 #[tactic(auto, using(crate::proofs::Kept::books_joined))]
 pub fn good_books_are_joined()
     ensures { (words : List Bytes) (files : Files) (good : IsGoodBooks words (contents_of files)) →
-        (meaning words (contents_of files)).result ≡ Ok (making NoSteps good.out (text_of (good.before ++ good.added))) }
+        (meaning words (contents_of files)).result
+        ≡ Ok (making NoSteps good.out (text_of (good.before ++ good.added))) }
 {}
 
 /// The book that `accounts` or `book` makes is one that each other command reads, as the same commands.

@@ -13,7 +13,7 @@ use Rattle.sd_tree.specs.declared.set.SetName.{SetName}
 use Rattle.sd_tree.specs.declared.set.SetName.TheVariants.{Whole, Diff}
 use Rattle.sd_tree.proofs.Ancestors.{depth_within}
 use Rattle.sd_tree.proofs.Members.{lower_is_node, upper_is_node}
-use Rattle.sd_tree.proofs.Levels.{add-one-mul}
+use Rattle.sd_base.proofs.Arithmetic.{times_next}
 use Rattle.sd_lsd.specs.Layers.{layer_end, is_useful}
 
 -- a layer ends at most a width below, at a multiple of the width
@@ -22,7 +22,7 @@ unfolding layer_end
 layer_bounds w a some =
     let up : a < a / w * w + w = lt-div-mul-add {a = a} {b = w} (omega arith) in
     let low = div-mul-le_self a w in
-    let more = add-one-mul (a / w) w in
+    let more = times_next (a / w) w in
     (omega arith, omega arith, mul-mod_left (a / w + 1) w)
 
 -- a set whose lower node is higher on the way is useful where the set is

@@ -1,22 +1,16 @@
 -- How many pairs a leaf is given in layers.
 use Rattle.std.proofs.Common.{ℕ, zero, suc, ◌+◌, ◌-◌, ◌%◌, ◌<◌, ◌≤◌, ◌≡◌, ◌||◌, ◌==◌, Bool, true, false, cond, min}
-use Rattle.std.proofs.Common.{List, [], ◌∷◌, ◌++◌, refl, ap, add-one, arith}
+use Rattle.std.proofs.Common.{[], ◌∷◌, refl, arith}
 use Rattle.std.specs.Prelude.{nat_le}
 use Rattle.std.specs.List.{range_with_len}
 use Rattle.std.proofs.Math.Nat.{min-le_right, le-min}
 use Rattle.std.proofs.lemmas.Bool.{leb-true}
 use Rattle.std.proofs.lemmas.List.Sums.{sum_by-cons, sum_by-append}
+use Rattle.sd_base.proofs.Ranges.{range_more}
 use Rattle.sd_tree.specs.Node.{depth}
 use Rattle.sd_tree.specs.declared.set.SetName.TheVariants.{Diff}
 use Rattle.sd_lsd.specs.Layers.{layer_end, is_useful}
 use Rattle.sd_lsd.specs.LayerNames.{pairs_under, pairs_above, layer_count}
-
--- one number more in a row
-pub range_more : (a k : ℕ) → range_with_len a (k + 1) ≡ range_with_len a k ++ (a + k) ∷ []
-range_more a zero = let e : a + 0 ≡ a = omega arith in rw e refl
-range_more a (suc k) =
-    let e : a + 1 + k ≡ a + suc k = omega arith in
-    rw add-one (ap (λ (ks : List ℕ). a ∷ ks) (rw (add-one k, e) at (range_more (a + 1) k)))
 
 -- an ancestor has at most a pair for each depth below it
 within_by : (t : Bool) (a d e : ℕ) → cond t (d - a) (min e d - a) ≤ d - a

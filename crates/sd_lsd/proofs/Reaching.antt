@@ -1,11 +1,11 @@
 -- What a leaf's names in layers reach.
-use Rattle.std.proofs.Common.{ℕ, ◌+◌, ◌^◌, ◌<◌, ◌≤◌, ◌≡◌, Bool, true, false, not, nat_eq, List, [], ◌∷◌, refl, ◌∙◌}
-use Rattle.std.proofs.Common.{inr, ⊎_elim, cond, arith}
+use Rattle.std.proofs.Common.{ℕ, ◌+◌, ◌^◌, ◌<◌, ◌≤◌, ◌≡◌, true, false, not, nat_eq, List, refl, ◌∙◌}
+use Rattle.std.proofs.Common.{inr, cond, arith}
 use Rattle.std.specs.Prelude.{◌↔◌, Contains, Any, count_by, filter}
 use Rattle.std.specs.List.{list_any}
-use Rattle.std.proofs.lemmas.Bool.{cases_Bool, false_from_ne_true, eq-eqb}
+use Rattle.std.proofs.lemmas.Bool.{false_from_ne_true, eq-eqb}
 use Rattle.std.proofs.lemmas.List.Folds.{list_any_at, Any-from_list_any}
-use Rattle.std.proofs.lemmas.List.Sums.{sum_by-cons}
+use Rattle.sd_base.proofs.Lists.{counted_any}
 use Rattle.sd_tree.specs.Node.{depth, IsAbove}
 use Rattle.sd_tree.specs.Leaves.{is_member}
 use Rattle.sd_tree.specs.SetNames.{IsOfHeight, IsPair}
@@ -99,17 +99,6 @@ reaches_its_useful d w u low leaf =
     }
 
 -- ---- covers
-
--- where a test is counted, some element passes it
-counted_any : {X : Type 0} (p : X → Bool) (xs : List X) → 1 ≤ count_by p xs → list_any p xs ≡ true
-counted_any p [] some = absurd (omega arith)
-counted_any p (x ∷ xs) some =
-    let parts = sum_by-cons (λ z. cond (p z) 1 0) x xs in
-    ⊎_elim (λ (e : p x ≡ true). rw e refl)
-    (λ (e : p x ≡ false).
-    let none : cond {A = ℕ} (p x) 1 0 ≡ 0 = rw e refl in
-    rw (e, counted_any p xs (omega (arith, none, parts))) refl)
-    (cases_Bool (p x))
 
 module _ (d w : ℕ) (revoked : List ℕ) (sets : List SetName) (u : ℕ) (low : d ≤ 20) (wide : 1 ≤ w)
     (leaves : AreLeaves d revoked) (cover : IsLayerCover d w revoked sets) (leaf : u < 2 ^ d) where

@@ -54,7 +54,8 @@ read_is_spelled bytes d w u ca secrets fits none height width leaf system kept =
     let good = good_parts bytes none in
     let d_in = height_in bytes in
     let w_in = width_in bytes in
-    let file = sound_is_file bytes layer_magic (1 ∷ d_in ∷ w_in ∷ []) 3 (layer_count d_in w_in + 1) secrets fits (record {
+    let file = sound_is_file bytes layer_magic (1 ∷ d_in ∷ w_in ∷ []) 3 (layer_count d_in w_in + 1) secrets fits
+    (record {
       start = good.magic;
       fields = ap (λ (v : ℕ). v ∷ d_in ∷ w_in ∷ []) (sym good.version);
       size = good.size;
@@ -74,13 +75,14 @@ read_is_spelled bytes d w u ca secrets fits none height width leaf system kept =
 
 -- a layer card's file has its start, its fields, its numbers, its length and its check
 written : (card : LayerFields) → IsLayerCard card
-    → IsFileOf (layer_bytes card) layer_magic (1 ∷ card.height ∷ card.width ∷ []) card.leaf card.ca 3 (layer_count card.height card.width + 1)
+    → IsFileOf (layer_bytes card) layer_magic (1 ∷ card.height ∷ card.width ∷ []) card.leaf card.ca 3
+    (layer_count card.height card.width + 1)
 unfolding layer_bytes layer_head
 written card is =
     let low : card.leaf < 2 ^ 32 =
     omega (arith, is.leaf, pow_mono {i = card.height} {j = 32} (omega (arith, is.height.1))) in
-    file_is_sound layer_magic (1 ∷ card.height ∷ card.width ∷ []) card.leaf card.ca 3 (layer_count card.height card.width + 1)
-    card.secrets refl refl low is.ca is.count is.secrets
+    file_is_sound layer_magic (1 ∷ card.height ∷ card.width ∷ []) card.leaf card.ca 3
+    (layer_count card.height card.width + 1) card.secrets refl refl low is.ca is.count is.secrets
 
 -- so it names the height
 pub height_written : (card : LayerFields) → byte_at (layer_bytes card) 5 ≡ card.height

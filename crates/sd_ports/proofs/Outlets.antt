@@ -1,7 +1,6 @@
 -- What stands in a file once its port is closed.
 use Rattle.std.proofs.Common.{rules, ◌≡◌, ◌≤◌, ℕ, List, [], Bool, true, false, cond, refl, ap, sym, subst, inr}
-use Rattle.std.proofs.Common.{◌∙◌, append-nil, take, drop}
-use Rattle.std.proofs.lemmas.List.{take-append-drop}
+use Rattle.std.proofs.Common.{◌∙◌, append-nil}
 use Rattle.std.specs.Prelude.{Option, None, Some, IsSome, Ok, Err}
 use Rattle.std.specs.Ordering.{nat_cmp, eq_by_cmp}
 use Rattle.std.specs.Cmp.Lexicographic.{slice_cmp}

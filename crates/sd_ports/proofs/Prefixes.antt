@@ -12,11 +12,12 @@ use Rattle.sd_ports.specs.Bytes.{Prefix, IsTakenFrom}
 use Rattle.sd_ports.specs.Causes.{ReadsFirst}
 use Rattle.sd_ports.specs.declared.prefix.ReadMostFault.TheVariants.{Failed, NoMemory}
 
-abbrev prefix : List ℕ → Bool → Prefix
+-- a prefix and whether more follows
+abbrev pub prefix : List ℕ → Bool → Prefix
 prefix bytes more = record { bytes = bytes; more = more }
 
 -- prefixes of the same bytes and the same answer are one
-same_prefix : (a b : List ℕ) (m n : Bool) → a ≡ b → m ≡ n → prefix a m ≡ prefix b n
+pub same_prefix : (a b : List ℕ) (m n : Bool) → a ≡ b → m ≡ n → prefix a m ≡ prefix b n
 same_prefix a b m n p q = ap (λ (xs : List ℕ). prefix xs m) p ∙ ap (λ (x : Bool). prefix b x) q
 
 -- all that was left, where it is no more than was asked for

@@ -1,5 +1,5 @@
 -- What a closed port of a depot in memory leaves of its bytes.
-use Rattle.std.proofs.Common.{◌≡◌, ℕ, List, [], refl, ap, append-nil, take, drop}
+use Rattle.std.proofs.Common.{◌≡◌, ℕ, List, [], ap, append-nil, take, drop}
 use Rattle.std.proofs.lemmas.List.{take-append-drop}
 use Rattle.std.specs.Prelude.{Option, None, Some}
 use Rattle.std.specs.FinMap.{insert}

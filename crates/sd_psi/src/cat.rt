@@ -1,5 +1,4 @@
 ghost use Rattle.std.specs.Prelude.{◌≡◌, ◌<◌, ◌↔◌, true, false, Some, None, IfOk, MatchResult, IsNone, IfSome, IsTrue};
-ghost use Rattle.std.specs.Prelude.{length, slice_get};
 ghost use Rattle.sd_section.specs.Header.{body_of, version_of, current_of};
 ghost use Rattle.sd_packet.specs.Header.{payload_start_of};
 ghost use Rattle.sd_psi.specs.Forms.{section_in, cat_fault};

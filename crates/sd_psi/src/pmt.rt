@@ -1,10 +1,10 @@
-ghost use Rattle.std.specs.Prelude.{◌≡◌, ◌+◌, ◌<◌, ◌≤◌, ◌↔◌, true, false, Some, None, IfOk, MatchResult, IsNone};
-ghost use Rattle.std.specs.Prelude.{IfSome, IsTrue, length, drop, slice_get};
+ghost use Rattle.std.specs.Prelude.{◌≡◌, ◌+◌, ◌<◌, ◌↔◌, true, false, Some, None, IfOk, MatchResult, IsNone};
+ghost use Rattle.std.specs.Prelude.{IfSome, IsTrue, length};
 ghost use Rattle.sd_section.specs.Header.{extension_of, version_of, current_of};
 ghost use Rattle.sd_packet.specs.Header.{payload_start_of};
 ghost use Rattle.sd_psi.specs.Forms.{section_in, pmt_fault};
 ghost use Rattle.sd_psi.specs.Rewriting.{is_first};
-ghost use Rattle.sd_psi.specs.Tables.{descriptors_of, are_descriptors, pcr_of, has_info, info_of, loop_of, streams_in};
+ghost use Rattle.sd_psi.specs.Tables.{are_descriptors, pcr_of, has_info, info_of, loop_of, streams_in};
 ghost use Rattle.sd_psi.specs.Tables.{streams_of, are_streams as are_streams_of, is_pmt};
 
 use crate::descriptor::Descriptors;

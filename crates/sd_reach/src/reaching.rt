@@ -1,4 +1,4 @@
-ghost use Rattle.std.specs.Prelude.{◌≡◌, ◌↔◌, IsTrue};
+ghost use Rattle.std.specs.Prelude.{◌↔◌, IsTrue};
 ghost use Rattle.sd_reach.specs.Reach.{Key, IsReached, LeadsTo};
 
 use sd_tree::{Name, SetName, is_above};

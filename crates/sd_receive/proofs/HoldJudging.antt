@@ -2,7 +2,7 @@
 use Rattle.std.proofs.Common.{ℕ, ◌+◌, ◌-◌, ◌%◌, ◌^◌, ◌<◌, ◌≤◌, ◌≡◌, ◌==◌, ◌&&◌, true, false, not, List, []}
 use Rattle.std.proofs.Common.{◌∷◌, ◌++◌, map}
 use Rattle.std.proofs.Common.{get_or, refl, sym, ap, ◌∙◌, inl, inr, arith}
-use Rattle.std.specs.Prelude.{Option, Some, None, Result, Ok, Err, OnOk, OnErr, MatchResult, nat_le, is_none}
+use Rattle.std.specs.Prelude.{Option, Some, None, Result, Ok, Err, OnOk, OnErr, MatchResult, nat_le}
 use Rattle.std.specs.Option.{option_map_or}
 use Rattle.std.proofs.lemmas.Bool.{cases_lt, leb-true, le-leb, lt-leb, and_parts, eq-eqb}
 use Rattle.sd_packet.specs.Header.{pid_of, scrambling_of}
@@ -11,6 +11,7 @@ use Rattle.sd_psi.specs.Rewriting.{restored, restore_fault}
 use Rattle.sd_psi.specs.declared.fault.FormFault.{FormFault}
 use Rattle.sd_keystream.specs.Scrambling.{descrambled}
 use Rattle.sd_spec.specs.Confirmed.{Segment, position_in, tracked, is_confirmed, is_odd, unmarked, judged}
+use Rattle.sd_spec.proofs.Unmarked.{unmarked_stays, marked_back}
 use Rattle.sd_receive.specs.declared.held.Held.{Held}
 use Rattle.sd_receive.specs.declared.confirm.Confirming.{Confirming}
 use Rattle.sd_receive.specs.Tracking.{led_to, start_of, packets_in}
@@ -68,21 +69,6 @@ confirmed_short c pid ready small sure =
     short_by (position_in c.last.now pid) (get_or c.tracks.now.table.items pid 0)
     (λ x is. found_short c.last.now pid x ready.short is)
     (sym (by_table c pid ready small) ∙ sure)
-
--- a PMT that has the project's descriptor is restored
-pub unmarked_is : (s : Segment) (p : List ℕ) → is_placed p ≡ true → restore_fault s.ca s.ecm p ≡ None →
-    unmarked s p ≡ restored p
-unfolding unmarked
-unmarked_is s p placed none = rw placed (rw none refl)
-
-unmarked_by : (s : Segment) (p : List ℕ) → (is_placed p && is_none (restore_fault s.ca s.ecm p)) ≡ false →
-    unmarked s p ≡ p
-unfolding unmarked
-unmarked_by s p none = rw none refl
-
--- and any other packet is left
-pub left_marked : (s : Segment) (p : List ℕ) → is_placed p ≡ false → unmarked s p ≡ p
-left_marked s p out = unmarked_by s p (rw out refl)
 
 pub judged_clear : (s : Segment) (before : List (List ℕ)) (n : ℕ) (p : List ℕ) → scrambling_of p ≡ 0 →
     judged s before (n, p) ≡ Ok (unmarked s p ∷ [])
@@ -145,8 +131,8 @@ pub unmarked_after : (s : Segment) (p q : List ℕ) (r : Result (Unit {0}) FormF
     OnOk r (q ≡ restored p) → OnErr r (q ≡ p) →
     MatchResult r (λ _. restore_fault s.ca s.ecm p ≡ None) (λ fault. restore_fault s.ca s.ecm p ≡ Some fault) →
     q ≡ unmarked s p
-unmarked_after s p q (Ok done) placed value same fault = value ∙ sym (unmarked_is s p placed fault)
-unmarked_after s p q (Err f) placed value same fault = same ∙ sym (unmarked_by s p (rw placed (rw fault refl)))
+unmarked_after s p q (Ok done) placed value same fault = value ∙ sym (marked_back s p placed fault)
+unmarked_after s p q (Err f) placed value same fault = same ∙ sym (unmarked_stays s p (rw fault refl))
 
 -- a packet with a place is odd by its control
 pub odd_placed : (c : Confirming) (p : List ℕ) (s k : ℕ) → is_placed p ≡ true → s ≡ scrambling_of p →

@@ -8,6 +8,7 @@ use Rattle.std.proofs.lemmas.List.Folds.{concat-append}
 use Rattle.sd_base.proofs.Lists.{concat_one}
 use Rattle.sd_packet.specs.Header.{pid_of}
 use Rattle.sd_engine.specs.Stage.{SinkState, TookBytes}
+use Rattle.sd_engine.proofs.Chains.{took_none, took_more}
 use Rattle.sd_ecm.specs.Parts.{Message}
 use Rattle.sd_spec.specs.Confirmed.{Segment, Wrote, then_wrote, judged, written_from, tracked, is_confirmed}
 use Rattle.sd_spec.specs.Confirmed.{unmarked}
@@ -19,7 +20,7 @@ use Rattle.sd_receive.specs.Tracking.{packets_in, HaveOwn, IsKept}
 use Rattle.sd_receive.specs.Writing.{HasStopped, WriteOutcome, holding_in, segment_in, segment_of, bare}
 use Rattle.sd_receive.specs.Writing.{first_wrote}
 use Rattle.sd_receive.specs.Writing.{IsWritten, IsOwn}
-use Rattle.sd_receive.proofs.Sinks.{took_none, took_more, cut_after}
+use Rattle.sd_receive.proofs.Sinks.{cut_after}
 use Rattle.sd_receive.proofs.Tables.{led_further}
 use Rattle.sd_receive.proofs.HoldKeeping.{pid_within}
 use Rattle.sd_receive.proofs.HoldJudging.{packets_are}

@@ -14,6 +14,7 @@ use Rattle.sd_ecm.specs.declared.fault.EcmFault.{EcmFault}
 use Rattle.sd_engine.specs.Stage.{SinkState}
 use Rattle.sd_engine.specs.declared.stage.StageFault.{StageFault}
 use Rattle.sd_engine.specs.declared.stage.StageFault.TheVariants.{Write, Refused}
+use Rattle.sd_engine.proofs.Chains.{took_none}
 use Rattle.sd_spec.specs.declared.stream_fault.StreamFault.{StreamFault}
 use Rattle.sd_spec.specs.declared.stream_fault.StreamFault.TheVariants as Fault
 use Rattle.sd_psi.specs.declared.our_cat.Tuning.{Tuning}
@@ -30,7 +31,6 @@ use Rattle.sd_receive.specs.Collected.{IsCollected, IsWaiting, IsComplete, fault
 use Rattle.sd_receive.specs.declared.collect.Collect.{Collect}
 use Rattle.sd_receive.proofs.Collecting as Collecting
 use Rattle.sd_receive.specs.Holding.{Holding, held_more}
-use Rattle.sd_receive.proofs.Sinks.{took_none}
 use Rattle.sd_receive.specs.Listening.{IsListenerAfter, IsListenerAtMessage, CountsMore, PassesOffering}
 use Rattle.sd_receive.specs.Listening.{StopsAtOffering, TakesHeard, RefusesHeard, TookSome}
 use Rattle.sd_receive.specs.Listening.{PacketOutcome}

@@ -1,7 +1,7 @@
 -- What a packet comes to for the receiver.
 use Rattle.std.proofs.Common.{◌≡◌, inl, inr, ℕ, suc, ◌+◌, ◌-◌, ◌<◌, ◌≤◌, ◌++◌, List, [], ◌∷◌, length}
 use Rattle.std.proofs.Common.{append-nil, refl, sym, ap, ◌∙◌, subst, true, false, Bool, arith}
-use Rattle.std.specs.Prelude.{◌==◌, ◌&&◌, is_none, find, Option, Some, None, option_map, IfSome, IfOk, OnOk, IsErrOf}
+use Rattle.std.specs.Prelude.{◌==◌, ◌&&◌, is_none, find, Option, Some, None, option_map, IfSome, OnOk, IsErrOf}
 use Rattle.std.specs.Prelude.{reverse, Result, Ok, Err, if◌then◌else◌}
 use Rattle.std.specs.List.{concat}
 use Rattle.std.specs.Option.{option_or}
@@ -13,13 +13,13 @@ use Rattle.sd_site.specs.CardFields.{CardFields, card_fields_of}
 use Rattle.sd_engine.specs.Stage.{SinkState, HasGrown, IsCutShort, IsAllowed}
 use Rattle.sd_engine.specs.declared.stage.StageFault.{StageFault}
 use Rattle.sd_engine.specs.declared.stage.StageFault.TheVariants.{Write, Refused}
+use Rattle.sd_engine.proofs.Chains.{took_none}
 use Rattle.sd_spec.specs.declared.stream_fault.StreamFault.{StreamFault}
 use Rattle.sd_base.proofs.Fields.{field_below}
 use Rattle.sd_packet.specs.Header.{pid_of, has_payload}
 use Rattle.sd_section.specs.Header.{body_of}
 use Rattle.sd_psi.specs.Tables.{descriptors_of}
 use Rattle.sd_psi.specs.Forms.{cat_fault, section_in}
-use Rattle.sd_receive.proofs.Sinks.{took_none}
 use Rattle.sd_spec.specs.Tuned.{tuned_by, tuning_of}
 use Rattle.sd_psi.specs.OurCat.{tuning_in, is_for, cat_tuning}
 use Rattle.sd_psi.specs.declared.our_cat.Tuning.{Tuning}

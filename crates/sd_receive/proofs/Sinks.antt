@@ -1,33 +1,20 @@
--- What sinks took, one piece after the other.
-use Rattle.std.proofs.Common.{◌≡◌, ◌≤◌, ℕ, ◌+◌, ◌-◌, List, [], ◌++◌, length, refl, sym, ap, subst, ◌∙◌, arith}
+-- What a sink took of pieces that it did not all take.
+use Rattle.std.proofs.Common.{◌≡◌, ◌≤◌, ℕ, ◌+◌, List, ◌++◌, length, refl, sym, ap, subst, ◌∙◌, arith}
 use Rattle.std.proofs.Common.{append_assoc, length-append}
 use Rattle.std.specs.Prelude.{Option, Some, None}
-use Rattle.std.proofs.KnownBytes.{Appends-trans, Appends-nil}
+use Rattle.std.proofs.KnownBytes.{Appends-trans}
 use Rattle.sd_ports.specs.Rooms.{HasTaken}
-use Rattle.sd_ports.proofs.Rooms.{none_taken}
 use Rattle.sd_engine.specs.Stage.{SinkState, IsCutShort, IsTooShort, TookBytes}
-use Rattle.sd_engine.proofs.Chains.{taken_on}
 use Rattle.sd_receive.specs.Writing.{HasStopped}
 
--- nothing was taken
-pub took_none : (u : SinkState) → TookBytes u u []
-took_none u = record { taken = Appends-nil u.held; room = none_taken u.room }
-
--- and then more bytes
-pub took_more : (u v w : SinkState) (xs ys : List ℕ) → TookBytes u v xs → TookBytes v w ys → TookBytes u w (xs ++ ys)
-took_more u v w xs ys p q = record {
-  taken = Appends-trans u.held v.held w.held xs ys p.taken q.taken;
-  room = subst (λ (n : ℕ). HasTaken u.room w.room n) (sym (length-append xs ys))
-      (taken_on u.room v.room w.room (length xs) (length ys) p.room q.room);
-}
-
+-- what is too much for the room that is left is too much with what was taken before
 still_short : (a b : Option ℕ) (m n k : ℕ) → HasTaken a b m → IsTooShort b n → m + n ≤ k → IsTooShort a k
 still_short None b m n k p q h = tt
 still_short (Some room) b m n k p q h =
     let then = subst (λ (left : Option ℕ). IsTooShort left n) p.1 q in
     omega (arith, then, h)
 
--- and then not all of a piece, after which others were to come
+-- some bytes, and then not all of a piece, after which others were to come
 pub cut_after : (u v w : SinkState) (xs ys rest : List ℕ) → TookBytes u v xs → HasStopped v w ys →
     IsCutShort u w (λ bytes. bytes ≡ xs ++ (ys ++ rest))
 cut_after u v w xs ys rest p q = record {

@@ -1,4 +1,4 @@
-ghost use Rattle.std.specs.Prelude.{◌≡◌, ◌<◌, ◌≤◌, ◌∷◌, ℕ, List, [], IsErrOf, get_or, MatchResult, Ok, Err, Some, None};
+ghost use Rattle.std.specs.Prelude.{◌≡◌, ◌<◌, ◌≤◌, ◌∷◌, ℕ, List, [], IsErrOf, get_or, MatchResult, Ok, Err, Some};
 ghost use Rattle.std.specs.Prelude.{if◌then◌else◌};
 ghost use Rattle.std.specs.Result.{OnOk, OnErr, IfErr};
 ghost use Rattle.sd_base.specs.Count.{IsCaused};
@@ -115,7 +115,7 @@ impl<'a> Confirming<'a> {
     }
 
     // Removes the project's CA_descriptor from a packet that is a PMT with it.
-    #[tactic(auto, using(crate::proofs::HoldJudging::unmarked_is, crate::proofs::HoldJudging::left_marked))]
+    #[tactic(auto, using(sd_spec::proofs::Unmarked::marked_back, sd_spec::proofs::Unmarked::unplaced_stays))]
     fn unmark(&self, packet: &mut Packet)
         requires ready { IsReady self.now }
         ensures { packet.new ≡ unmarked (segment_in self.now) packet.old }

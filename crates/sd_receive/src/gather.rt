@@ -1,5 +1,5 @@
 ghost use Rattle.std.specs.Prelude.{◌≡◌, ◌↔◌, ◌+◌, ◌≤◌, ◌∷◌, [], List, None, option_map, length, if◌then◌else◌, IfOk};
-ghost use Rattle.std.specs.Prelude.{IfSome, IsTrue};
+ghost use Rattle.std.specs.Prelude.{IsTrue};
 ghost use Rattle.sd_ecm.specs.Spelled.{listed_places};
 ghost use Rattle.sd_ecm.specs.Form.{IsEcm};
 ghost use Rattle.sd_ecm.specs.Parts.{ecm_head_of};

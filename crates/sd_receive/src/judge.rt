@@ -4,7 +4,7 @@ ghost use Rattle.sd_site.specs.CardFields.{CardFields};
 ghost use Rattle.sd_ecm.specs.Parts.{Message};
 ghost use Rattle.sd_ecm.specs.declared.part.EcmPart.{EcmPart};
 ghost use Rattle.sd_spec.specs.Heard.{Heard, Controls};
-ghost use Rattle.sd_spec.specs.Stretches.{completes, current};
+ghost use Rattle.sd_spec.specs.Stretches.{completes};
 ghost use Rattle.sd_spec.specs.Ending.{periods_told, is_unkeyed};
 ghost use Rattle.sd_receive.specs.Entitled.{IsEntitled, IsStateAt, is_told_revoked, all_marked};
 

@@ -1,9 +1,9 @@
 //! What a receiver does with packets that are offered one after the other, and which packets change nothing it keeps.
 
-ghost use Rattle.std.specs.Prelude.{◌≡◌, ℕ, ◌+◌, ◌-◌, ◌*◌, ◌^◌, ◌<◌, ◌≤◌, ◌++◌, ◌∷◌, [], List, length, true};
+ghost use Rattle.std.specs.Prelude.{◌≡◌, ℕ, ◌+◌, ◌-◌, ◌^◌, ◌<◌, ◌≤◌, ◌++◌, ◌∷◌, [], List, length, true};
 ghost use Rattle.sd_engine.specs.Stage.{Chain};
 ghost use Rattle.sd_spec.specs.declared.stream_fault.StreamFault.{StreamFault};
-ghost use Rattle.sd_receive.specs.Receiving.{card_in, IsAfter, taken_keys, receiver_does, Refusing, OutcomeOf, BreakAt};
+ghost use Rattle.sd_receive.specs.Receiving.{card_in, IsAfter, receiver_does, Refusing, OutcomeOf, BreakAt};
 ghost use Rattle.sd_receive.specs.declared.receiver.Receiver.{Receiver};
 ghost use Rattle.sd_site.specs.CardFields.{CardFields};
 ghost use Rattle.sd_spec.specs.Heard.{Heard};

@@ -1,13 +1,10 @@
-ghost use Rattle.std.specs.Prelude.{◌≡◌, ◌+◌, ◌≤◌, ◌<◌, ◌∷◌, [], false, List, Option, Some, None, IfOk, IsErrOf};
+ghost use Rattle.std.specs.Prelude.{◌≡◌, ◌+◌, ◌≤◌, ◌<◌, [], false, List, IfOk, IsErrOf};
 ghost use Rattle.std.specs.Prelude.{if◌then◌else◌};
 ghost use Rattle.sd_base.specs.Count.{IsCaused};
 ghost use Rattle.sd_site.specs.CardFields.{CardFields, card_fields_of};
 ghost use Rattle.sd_ecm.specs.Form.{IsEcm};
-ghost use Rattle.sd_emm.specs.Form.{IsEmm, AreSets};
-ghost use Rattle.sd_emm.specs.Spelled.{listed_entries};
 ghost use Rattle.sd_engine.specs.Stage.{vessel};
 ghost use Rattle.sd_spec.specs.Heard.{Heard as Thing, Controls};
-ghost use Rattle.sd_spec.specs.Stretches.{is_closed};
 ghost use Rattle.sd_receive.specs.Ears.{heard_as, IsFormed};
 ghost use Rattle.sd_receive.specs.Listening.{IsListenerAfter, TakesHeard, RefusesHeard, PacketOutcome};
 ghost use Rattle.sd_receive.specs.Receiving.{takes_key_of};
@@ -78,7 +75,8 @@ impl Listener {
             (TakesHeard (card_fields_of card.now) tuning number (heard_as number packet.now heard.entry) self.old)
             (RefusesHeard (card_fields_of card.now) tuning number (heard_as number packet.now heard.entry) self.old)
             (vessel K.Sink out.old) (vessel K.Sink out.new) self.new result }
-        ensures steps { (past : List Thing) → IsListenerAfter (card_fields_of card.now) past self.old → steps.new ≤ steps.old
+        ensures steps { (past : List Thing) → IsListenerAfter (card_fields_of card.now) past self.old →
+            steps.new ≤ steps.old
             + (if takes_key_of (card_fields_of card.now) past (heard_as number packet.now heard.entry)
             then card.now.height else 0) }
         ensures cause { IsCaused (K.faults out.old) (K.faults out.new) (IsErrOf result StageFault.Write) }

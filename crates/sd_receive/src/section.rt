@@ -1,8 +1,7 @@
-ghost use Rattle.std.specs.Prelude.{◌≡◌, ◌+◌, ◌≤◌, ◌<◌, ◌==◌, ◌∷◌, false, List, None, Some, OnOk, IfOk, IfErr};
+ghost use Rattle.std.specs.Prelude.{◌≡◌, ◌+◌, ◌≤◌, ◌<◌, ◌==◌, ◌∷◌, false, List, None, Some, OnOk, IfErr};
 ghost use Rattle.std.specs.Prelude.{is_some, if◌then◌else◌, ℕ, Option};
 ghost use Rattle.sd_emm.specs.Form.{IsEmm, AreSets};
 ghost use Rattle.sd_emm.specs.Spelled.{listed_entries};
-ghost use Rattle.sd_emm.specs.declared.format.TheConstants.{MOST_ENTRIES};
 ghost use Rattle.sd_site.specs.CardFields.{CardFields, card_fields_of};
 ghost use Rattle.sd_spec.specs.Heard.{Heard, Entitles};
 ghost use Rattle.sd_spec.specs.Stretches.{current, seen};

@@ -1,4 +1,4 @@
-ghost use Rattle.std.specs.Prelude.{◌≡◌, ℕ, [], Some, None, Err, IfOk, OnOk, IsErrOf, true};
+ghost use Rattle.std.specs.Prelude.{◌≡◌, ℕ, [], Some, None, Err, IfOk, OnOk, IsErrOf};
 ghost use Rattle.sd_base.specs.Count.{IsCaused};
 ghost use Rattle.sd_engine.specs.Stage.{vessel, HasGrown, IsCutShort, IsAllowed};
 ghost use Rattle.sd_emm.specs.Judged.{emm_read};

@@ -1,4 +1,4 @@
-ghost use Rattle.std.specs.Prelude.{◌≡◌, ◌≤◌, ◌∷◌, [], List, Option, IfOk};
+ghost use Rattle.std.specs.Prelude.{◌≡◌, ◌∷◌, [], List, Option, IfOk};
 ghost use Rattle.sd_ecm.specs.Form.{IsEcm, AreAscending};
 ghost use Rattle.sd_ecm.specs.Parts.{Message, message_of};
 ghost use Rattle.sd_ecm.specs.declared.part.EcmPart.{EcmPart};

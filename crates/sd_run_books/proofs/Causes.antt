@@ -1,5 +1,5 @@
 -- The fault of lines, and what is judged of them.
-use Rattle.std.proofs.Common.{arith, ◌≡◌, ℕ, zero, suc, ◌+◌, ◌<◌, ◌^◌, ◌||◌, Bool, true, false, nat_lt, nat_le}
+use Rattle.std.proofs.Common.{arith, ◌≡◌, ℕ, suc, ◌+◌, ◌<◌, ◌^◌, ◌||◌, Bool, true, false, nat_lt, nat_le}
 use Rattle.std.proofs.Common.{List, [], ◌∷◌, ◌++◌, length, take, Option, Some, None, Result, Ok, Err, refl, sym, ap}
 use Rattle.std.proofs.Common.{subst, ◌∙◌, inl, inr, append_assoc}
 use Rattle.std.proofs.lemmas.Bool.{lt-ltb, ltb-true}
@@ -9,7 +9,7 @@ use Rattle.std.proofs.Math.Seq.{take-append_seam}
 use Rattle.std.specs.Prelude.{◌⊎◌, MatchResult, bytes_eq, is_some, map, slice_get, if◌then◌else◌, option_map}
 use Rattle.std.specs.Prelude.{option_and_then, codes}
 use Rattle.sd_base.proofs.Bools.{or_true}
-use Rattle.sd_base.specs.Lines.{lines_of}
+use Rattle.sd_base.specs.Lines.{cut_at_space, lines_of}
 use Rattle.sd_base.specs.Number.{rest_after, decimal_value}
 use Rattle.sd_site.proofs.Places.{get_first}
 use Rattle.sd_tree.specs.declared.leaf.TheConstants.{MOST_REVOKED}
@@ -34,7 +34,7 @@ use Rattle.sd_run_books.specs.Faults.{AddsCommand, IsWrong, AreGood, NextIsWrong
 use Rattle.sd_run_books.specs.Judged.{◌>>=◌, on_leaf, command_after, allowed, judged_line, judged, book_of}
 use Rattle.sd_run_books.specs.Kept.{IsBelow}
 use Rattle.sd_run_books.specs.Line.{Entry, Assigns, Drops, Restores, Ends, assigned, by_word, entry_on, leaf_numbered}
-use Rattle.sd_run_books.specs.Line.{name_in, cut_at_space, said_by}
+use Rattle.sd_run_books.specs.Line.{name_in, said_by}
 use Rattle.sd_run_books.proofs.Kept.{leaf_more}
 use Rattle.sd_run_books.proofs.Limits.{book_ends, end_by}
 

@@ -6,7 +6,6 @@ pub mod Listed
 pub mod Named
 pub mod Reading
 pub mod Reports
-pub mod Spaces
 pub mod Spellings
 pub mod NextLine
 pub mod Taking

@@ -1,9 +1,9 @@
 -- Public meaning: the lines of an accounts file [this project, docs/FORMATS.md, Accounts].
-use Rattle.std.specs.Prelude.{ℕ, ◌==◌, ◌&&◌, ◌||◌, ◌^◌, Bool, nat_lt, nat_le, List, [], ◌∷◌, map, length, codes}
+use Rattle.std.specs.Prelude.{ℕ, ◌==◌, ◌&&◌, ◌||◌, ◌^◌, Bool, nat_lt, nat_le, List, map, length, codes}
 use Rattle.std.specs.Prelude.{bytes_eq, if◌then◌else◌, Option, Some, None, option_map, option_and_then}
 use Rattle.std.specs.Char.{is_ascii_digit, is_ascii_lowercase}
 use Rattle.std.specs.List.{list_all}
-use Rattle.sd_base.specs.Lines.{lines_of}
+use Rattle.sd_base.specs.Lines.{cut_at_space, lines_of}
 use Rattle.sd_base.specs.Number.{rest_after, decimal_value}
 
 -- what a line says
@@ -28,15 +28,6 @@ is_name_byte byte = is_ascii_lowercase byte || (is_ascii_digit byte || byte == 4
 -- 1 to `longest_name` of those [this project, docs/FORMATS.md, Accounts]
 unfoldable pub is_name : List ℕ → Bool
 is_name text = nat_lt 0 (length text) && (nat_le (length text) longest_name && list_all is_name_byte text)
-
--- the byte before the first of two parts
-abbrev pub onto_first : ℕ → List ℕ × List ℕ → List ℕ × List ℕ
-onto_first byte parts = (byte ∷ parts.0, parts.1)
-
--- what stands before the first space, and after it
-abbrev pub cut_at_space : List ℕ → Option (List ℕ × List ℕ)
-cut_at_space [] = None
-cut_at_space (byte ∷ bytes) = if byte == 32 then Some ([], bytes) else option_map (onto_first byte) (cut_at_space bytes)
 
 -- the name that a text is
 abbrev pub name_in : List ℕ → Option (List ℕ)

@@ -1,11 +1,10 @@
 ghost use Rattle.std.specs.Prelude.{◌≡◌, ◌<◌, ◌^◌, IfSome, option_map};
 ghost use Rattle.sd_run_books.specs.Kept.{IsBelow};
-ghost use Rattle.sd_run_books.specs.Line.{assigned, cut_at_space, entry_on, leaf_in, leaf_numbered};
+ghost use Rattle.sd_run_books.specs.Line.{assigned, entry_on, leaf_in, leaf_numbered};
 ghost use Rattle.sd_run_books.specs.Read.{entry_in};
 
 use crate::account_name::{Name, name_in};
-use memchr::memchr;
-use sd_base::number_after;
+use sd_base::{cut_at_space, number_after};
 use sd_tree::{Height, Leaf};
 
 /// What a line says.
@@ -50,15 +49,6 @@ fn assign_in(text: &[u8], h: Height) -> Option<Line>
     let name = name_in(name)?;
     let leaf = leaf_in(leaf, h)?;
     Some(Line::Assign(name, leaf))
-}
-
-/// What stands before the first space, and after it.
-#[tactic(auto, using(crate::proofs::Spaces::cut_there, crate::proofs::Spaces::no_cut, sd_base::proofs::Cuts::to_the_end))]
-fn cut_at_space(text: &[u8]) -> Option<(&[u8], &[u8])>
-    ensures { option_map (λ cut. (cut.0.now, cut.1.now)) result ≡ cut_at_space text.now }
-{
-    let space = memchr(b' ', text)?;
-    Some((&text[..space], &text[space + 1..]))
 }
 
 /// The decimal of a leaf of the tree.

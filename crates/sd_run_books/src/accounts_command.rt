@@ -1,7 +1,6 @@
 //! `accounts SITE ACCOUNTS OUT`: the book that accounts make, and their report.
 
 ghost use Rattle.std.specs.Prelude.{◌≡◌, ◌≢◌, ℕ, IfOk, IfErr};
-ghost use Rattle.sd_site.specs.SiteFields.{fields_of};
 ghost use Rattle.sd_book.specs.Text.{text_of};
 ghost use Rattle.sd_run_books.specs.Judged.{book_of};
 ghost use Rattle.sd_command_base.specs.Spec.{value};

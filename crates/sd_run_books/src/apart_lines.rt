@@ -1,6 +1,6 @@
 //! The lines that are printed.
 
-ghost use Rattle.std.specs.Prelude.{◌≡◌, ◌≤◌, ◌++◌, List, IfOk, OnOk, string_bytes};
+ghost use Rattle.std.specs.Prelude.{◌≡◌, ◌≤◌, ◌++◌, List, OnOk, string_bytes};
 ghost use Rattle.sd_book.specs.declared.command.Command.{Command};
 ghost use Rattle.sd_book.specs.Commands.{last_period as last_of};
 ghost use Rattle.sd_site.specs.SiteFields.{fields_of};

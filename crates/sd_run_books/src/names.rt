@@ -1,8 +1,8 @@
-ghost use Rattle.std.specs.Prelude.{◌≡◌, ◌<◌, ◌^◌, ◌⊎◌, ℕ, List, [], true, false, IfOk, OnOk, Ok, Err, Some};
+ghost use Rattle.std.specs.Prelude.{◌≡◌, ◌<◌, ◌⊎◌, ℕ, List, [], true, false, IfOk, OnOk, Ok, Err, Some};
 ghost use Rattle.std.specs.Prelude.{MatchResult};
-ghost use Rattle.std.specs.Prelude.{get_or, length, slice_set, vec_len, IfSome};
+ghost use Rattle.std.specs.Prelude.{slice_set, vec_len};
 ghost use Rattle.std.specs.BTreeMap.{IsOrdered};
-ghost use Rattle.sd_run_books.specs.Judged.{command_by, on_leaf};
+ghost use Rattle.sd_run_books.specs.Judged.{command_by};
 ghost use Rattle.sd_run_books.specs.Kept.{IsBelow, IsKept, leaf_after, leaf_named, marks_after, mark_of, name_cmp};
 ghost use Rattle.sd_run_books.specs.Line.{Assigns};
 ghost use Rattle.sd_run_books.specs.Read.{entry_in};

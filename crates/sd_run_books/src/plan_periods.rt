@@ -1,7 +1,7 @@
 //! The lines of all periods of a broadcast.
 
-ghost use Rattle.std.specs.Prelude.{◌≡◌, ◌^◌, ◌<◌, ◌≤◌, ◌+◌, ◌*◌, ◌++◌, ℕ, All, map, length, IfOk, IfErr, string_bytes};
-ghost use Rattle.std.specs.List.{concat, range_with_len, sum_by};
+ghost use Rattle.std.specs.Prelude.{◌≡◌, ◌^◌, ◌<◌, ◌≤◌, ◌+◌, ◌*◌, ◌++◌, All, map, length, IfOk, string_bytes};
+ghost use Rattle.std.specs.List.{concat, sum_by};
 ghost use Rattle.std.specs.List.Sorted.{IsStrictlyIncreasing};
 ghost use Rattle.sd_tree.specs.declared.leaf.TheConstants.{MOST_REVOKED};
 ghost use Rattle.sd_site.specs.SiteFields.{fields_of};

@@ -10,6 +10,7 @@ use Rattle.sd_ports.specs.Files.{OpensFile}
 use Rattle.sd_ports.specs.Bytes.{Prefix, prefix_of, IsTakenFrom}
 use Rattle.sd_ports.specs.declared.prefix.ReadMostFault.{ReadMostFault}
 use Rattle.sd_ports.specs.declared.prefix.ReadMostFault.TheVariants as fault
+use Rattle.sd_ports.proofs.Prefixes.{prefix, same_prefix}
 use Rattle.sd_engine.specs.Taken.{IsLeft}
 use Rattle.sd_engine.proofs.Taken.{some_left}
 use Rattle.sd_command_base.specs.declared.status.Status.{Status}
@@ -19,12 +20,6 @@ use Rattle.sd_command_base.specs.Reads.{IsAsked, StopCause, FileOutcome}
 use Rattle.sd_command_base.proofs.Looked.{opened_got}
 use Rattle.sd_command_base.proofs.Places.{only_called}
 use Rattle.sd_run_broadcasts.specs.Prefixes.{prefix_of_file, told_prefix}
-
-abbrev prefix : List ℕ → Bool → Prefix
-prefix bytes more = record { bytes = bytes; more = more }
-
-same_prefix : (a b : List ℕ) (m n : Bool) → a ≡ b → m ≡ n → prefix a m ≡ prefix b n
-same_prefix a b m n p q = ap (λ (x : List ℕ). prefix x m) p ∙ ap (λ (y : Bool). prefix b y) q
 
 -- what was taken is a prefix of some bytes
 untold_prefix : (most : ℕ) (bytes : List ℕ) (more : Bool) → length bytes ≤ most → (more ≡ true → length bytes ≡ most) →

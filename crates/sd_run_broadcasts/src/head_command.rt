@@ -30,7 +30,8 @@ pub fn head<D: Depot, L: Ledger>(
     ensures { (page : PageState) →
         Implements (head_meaning (shown_word site.entry) (shown_word book.entry) (shown_word clear.entry)
         (shown_word out.entry))
-        (outside (depot_state D.Depot depot.old) page steps.old) (outside (depot_state D.Depot depot.new) page steps.new)
+        (outside (depot_state D.Depot depot.old) page steps.old)
+        (outside (depot_state D.Depot depot.new) page steps.new)
         (status_of result) }
 {
     let (site, book) = read_both(alloc, depot, site, book)?;

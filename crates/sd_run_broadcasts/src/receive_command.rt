@@ -1,9 +1,6 @@
-ghost use Rattle.std.specs.Prelude.{◌≡◌, ◌≢◌, [], List, ℕ, IfOk, length, reverse};
-ghost use Rattle.sd_engine.specs.Stage.{vessel};
-ghost use Rattle.sd_engine.specs.Driving.{moment, DriveOutcome};
-ghost use Rattle.sd_spec.specs.Offered.{out_from};
+ghost use Rattle.std.specs.Prelude.{◌≡◌, ◌≢◌, [], List, ℕ, IfOk};
 ghost use Rattle.sd_spec.specs.Ending.{ending_of};
-ghost use Rattle.sd_receive.specs.Receiving.{IsAfter, card_in, receiver_does, receiver_ends, receiver_refuses};
+ghost use Rattle.sd_receive.specs.Receiving.{IsAfter, card_in};
 ghost use Rattle.sd_command_base.specs.Outside.{PageState, outside, depot_state};
 ghost use Rattle.sd_command_base.specs.Reads.{JudgedOutcome, FileOutcome};
 ghost use Rattle.sd_command_base.specs.Outcome.{Implements, IsEnding, status_of};
@@ -38,7 +35,8 @@ pub fn receive<D: Depot, L: Ledger>(
     requires { card.number ≢ stream.number }
     ensures value { (page : PageState) →
         Implements (receive_meaning (shown_word card.entry) (shown_word stream.entry) (shown_word out.entry))
-        (outside (depot_state D.Depot depot.old) page steps.old) (outside (depot_state D.Depot depot.new) page steps.new)
+        (outside (depot_state D.Depot depot.old) page steps.old)
+        (outside (depot_state D.Depot depot.new) page steps.new)
         (status_of result) }
     // Out of memory, OUT isn't made.
     ensures memory { status_of result ≡ Status.NoMemory →
@@ -82,7 +80,8 @@ fn receive_file<D: Depot, L: Ledger>(
     requires new { IsAfter [] receiver }
     ensures value { (page : PageState) →
         Implements (stream_meaning (card_in receiver) (shown_word stream.entry) (shown_word out.entry))
-        (outside (depot_state D.Depot depot.old) page steps.old) (outside (depot_state D.Depot depot.new) page steps.new)
+        (outside (depot_state D.Depot depot.old) page steps.old)
+        (outside (depot_state D.Depot depot.new) page steps.new)
         (status_of result) }
     ensures memory { status_of result ≡ Status.NoMemory →
         (depot_state D.Depot depot.new).made ≡ (depot_state D.Depot depot.old).made }

@@ -1,4 +1,4 @@
-ghost use Rattle.std.specs.Prelude.{◌≡◌, [], IfOk};
+ghost use Rattle.std.specs.Prelude.{[], IfOk};
 ghost use Rattle.sd_receive.specs.Receiving.{IsAfter, card_in};
 ghost use Rattle.sd_run_broadcasts.specs.Trial.{HasHeard};
 

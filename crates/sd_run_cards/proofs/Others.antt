@@ -15,7 +15,7 @@ use Rattle.sd_command_base.specs.Shown.{NumberArgument}
 use Rattle.sd_command_base.specs.Files.{site_of_file, book_of_file, most_card_bytes}
 use Rattle.sd_command_base.specs.Leaves.{leaves_of_file}
 use Rattle.sd_run_cards.specs.Cover.{covering, cover_meaning}
-use Rattle.sd_run_cards.specs.Layered.{Layers, told_layers, layers_of_file, layering, layered_meaning}
+use Rattle.sd_run_cards.specs.Layered.{told_layers, layers_of_file, layering, layered_meaning}
 use Rattle.sd_run_cards.specs.Opens.{opening, opens_meaning}
 use Rattle.sd_run_cards.specs.Trace.{revoked_last, trace_text, traced, trace_meaning}
 use Rattle.sd_site.specs.SiteFields.{SiteFields}

@@ -1,6 +1,5 @@
 //! `card SITE LEAF OUT`: the card of a site's leaf.
 
-ghost use Rattle.std.specs.Prelude.{◌≡◌};
 ghost use Rattle.sd_site.specs.SiteFields.{fields_of};
 ghost use Rattle.sd_command_base.specs.Outside.{PageState, depot_state, outside};
 ghost use Rattle.sd_command_base.specs.Reads.{JudgedOutcome, TakesFor};
@@ -28,7 +27,8 @@ pub fn card<D: Depot, L: Ledger>(
 ) -> Result<(), Status>
     ensures { (page : PageState) →
         Implements (card_meaning (shown_word site.entry) (shown_number leaf) (shown_word out.entry))
-        (outside (depot_state D.Depot depot.old) page steps.old) (outside (depot_state D.Depot depot.new) page steps.new)
+        (outside (depot_state D.Depot depot.old) page steps.old)
+        (outside (depot_state D.Depot depot.new) page steps.new)
         (status_of result) }
 {
     let site = read_site(alloc, depot, site)?;

@@ -1,6 +1,6 @@
 //! `cover SITE BOOK`: the sets of each period of a book.
 
-ghost use Rattle.std.specs.Prelude.{◌≡◌, ◌≢◌, ℕ};
+ghost use Rattle.std.specs.Prelude.{◌≢◌, ℕ};
 ghost use Rattle.sd_command_base.specs.Outside.{outside, page_state, depot_state};
 ghost use Rattle.sd_command_base.specs.Outcome.{Implements, status_of};
 ghost use Rattle.sd_run_cards.specs.Cover.{cover_meaning};

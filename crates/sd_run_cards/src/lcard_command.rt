@@ -30,7 +30,8 @@ pub fn lcard<D: Depot, L: Ledger>(
 ) -> Result<(), Status>
     ensures { (page : PageState) → Implements
         (lcard_meaning (shown_word site.entry) (shown_number leaf) (shown_number width) (shown_word out.entry))
-        (outside (depot_state D.Depot depot.old) page steps.old) (outside (depot_state D.Depot depot.new) page steps.new)
+        (outside (depot_state D.Depot depot.old) page steps.old)
+        (outside (depot_state D.Depot depot.new) page steps.new)
         (status_of result) }
 {
     let site = read_site(alloc, depot, site)?;

@@ -1,6 +1,6 @@
 //! `opens SITE BOOK LEAVES`: which sets of each period of a book the pooled cards of some leaves open.
 
-ghost use Rattle.std.specs.Prelude.{◌≡◌, ◌≢◌, ℕ};
+ghost use Rattle.std.specs.Prelude.{◌≢◌, ℕ};
 ghost use Rattle.sd_command_base.specs.Outside.{outside, page_state, depot_state};
 ghost use Rattle.sd_command_base.specs.Outcome.{Implements, status_of};
 ghost use Rattle.sd_command_base.specs.Shown.{shown_word};

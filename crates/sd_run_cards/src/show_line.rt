@@ -1,9 +1,9 @@
 ghost use Rattle.std.specs.Prelude.{◌≡◌, ◌*◌, ◌+◌, ◌/◌, IfOk, string_bytes};
 ghost use Rattle.serde_json.specs.View.{view};
 ghost use Rattle.sd_site.specs.Files.{check_in as check_of_file};
-ghost use Rattle.sd_site.specs.CardFields.{card_fields_of};
 ghost use Rattle.sd_run_cards.specs.Show.{labels_for, shown_data, shown_line};
 
+use sd_command_base::json_line;
 use sd_site::{CHECK_BYTES, Card};
 use sd_tree::Height;
 use serde_json::{Value, json};
@@ -15,10 +15,7 @@ pub(crate) fn line_of(alloc: Global, card: &Card, bytes: &[u8]) -> Result<String
     ensures { IfOk result (λ text. string_bytes text
         ≡ shown_line card.now.height card.now.leaf card.now.ca (check_of_file bytes.now)) }
 {
-    let value = value_of(alloc, card, check_in(bytes))?;
-    let mut line = value.to_string(alloc)?;
-    line.push('\n')?;
-    Ok(line)
+    json_line(alloc, &value_of(alloc, card, check_in(bytes))?)
 }
 
 // What is shown of a card whose file ends with this check.

@@ -6,7 +6,7 @@ ghost use Rattle.sd_run_streams.specs.TableMembers.{named_data};
 ghost use Rattle.sd_run_streams.specs.MessageLines.{ecm_data, place_data};
 ghost use Rattle.sd_run_streams.specs.MessageMembers.{ecm_members, run_members};
 
-use crate::object_of;
+use crate::object::object_of;
 use sd_ecm::{EcmPart, Place};
 use serde_json::Value;
 use std::alloc::{AllocError, Global};

@@ -1,5 +1,6 @@
 ghost use Rattle.std.specs.Prelude.{[], None, Some, IfOk, if◌then◌else◌};
-ghost use Rattle.sd_run_streams.specs.InspectorStaged.{inspector_does, inspector_ends, inspector_refuses, seen, IsReady};
+ghost use Rattle.sd_run_streams.specs.InspectorStaged.{inspector_does, inspector_ends, inspector_refuses};
+ghost use Rattle.sd_run_streams.specs.InspectorStaged.{seen, IsReady};
 ghost use Rattle.sd_run_streams.specs.InspectorStaged.{IsStateAfter};
 
 use crate::assemblies::Assemblies;

@@ -27,7 +27,6 @@ mod watched;
 pub use inspector::Inspector;
 pub use messages_command::messages;
 pub use monitor::Monitor;
-pub use object::object_of;
 pub use sample_command::sample;
 pub use table::{Table, TableFault, table_on};
 pub use table_line::push_line;

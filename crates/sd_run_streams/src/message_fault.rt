@@ -2,7 +2,7 @@ ghost use Rattle.std.specs.Prelude.{◌≡◌, IfOk};
 ghost use Rattle.serde_json.specs.View.{view};
 ghost use Rattle.sd_run_streams.specs.MessageLines.{message_fault_data};
 
-use crate::object_of;
+use crate::object::object_of;
 use serde_json::Value;
 use std::alloc::{AllocError, Global};
 

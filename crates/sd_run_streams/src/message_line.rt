@@ -1,14 +1,14 @@
-ghost use Rattle.std.specs.Prelude.{◌≡◌, IfOk, Some, false, option_map, string_bytes};
+ghost use Rattle.std.specs.Prelude.{◌≡◌, IfOk, Some, option_map, string_bytes};
 ghost use Rattle.serde_json.specs.View.{view};
-ghost use Rattle.serde_json.specs.Written.{has_float};
 ghost use Rattle.sd_emm.specs.Judged.{emm_read};
 ghost use Rattle.sd_ecm.specs.Judged.{ecm_read};
 ghost use Rattle.sd_site.specs.SiteFields.{fields_of};
-ghost use Rattle.sd_run_streams.specs.MessageLines.{ecm_told, emm_told, line_with, message_data, message_line};
+ghost use Rattle.sd_run_streams.specs.MessageLines.{ecm_told, emm_told, message_data, message_line};
 
 use crate::ecm::ecm_value;
 use crate::emm::emm_value;
 use crate::message_fault::fault_value;
+use sd_command_base::json_line;
 use sd_ecm::read_ecm;
 use sd_emm::read_emm;
 use sd_packet::Packet;
@@ -30,19 +30,9 @@ pub(crate) fn line_of(
     ensures { IfOk result (λ text. string_bytes text ≡ message_line (fields_of site.now) number packet.now) }
 {
     match message_value(alloc, site, number, packet)? {
-        Some(value) => shown_line(alloc, &value),
+        Some(value) => json_line(alloc, &value),
         None => Ok(String::new(alloc)),
     }
-}
-
-// The line of what is shown.
-fn shown_line(alloc: Global, value: &Value) -> Result<String, AllocError>
-    requires { has_float (view value.now) ≡ false }
-    ensures { IfOk result (λ text. string_bytes text ≡ line_with (Some (view value.now))) }
-{
-    let mut line = value.to_string(alloc)?;
-    line.push('\n')?;
-    Ok(line)
 }
 
 // What is shown of a packet.

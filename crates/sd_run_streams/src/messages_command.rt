@@ -1,10 +1,7 @@
 //! `messages SITE STREAM`: the messages on a site's PIDs in a stream, a line each.
 
-ghost use Rattle.std.specs.Prelude.{◌≡◌, ◌≢◌, ◌<◌, ℕ, IsErrOf};
+ghost use Rattle.std.specs.Prelude.{◌≡◌, ◌≢◌, ◌<◌, ℕ};
 ghost use Rattle.sd_base.specs.Count.{IsCaused};
-ghost use Rattle.sd_base.specs.declared.memory.NoMemory.{NoMemory};
-ghost use Rattle.sd_engine.specs.Stage.{vessel};
-ghost use Rattle.sd_engine.specs.Driving.{moment, DriveOutcome};
 ghost use Rattle.sd_site.specs.SiteFields.{fields_of};
 ghost use Rattle.sd_command_base.specs.Outside.{outside, page_state, depot_state};
 ghost use Rattle.sd_command_base.specs.Outcome.{Implements, status_of};

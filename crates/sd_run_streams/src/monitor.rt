@@ -1,4 +1,4 @@
-ghost use Rattle.std.specs.Prelude.{◌≡◌, None, Some, if◌then◌else◌};
+ghost use Rattle.std.specs.Prelude.{None, Some, if◌then◌else◌};
 ghost use Rattle.sd_site.specs.SiteFields.{fields_of};
 ghost use Rattle.sd_run_streams.specs.MonitorStaged.{IsBegun, monitor_does, monitor_ends, monitor_refuses};
 

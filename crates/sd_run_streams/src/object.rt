@@ -6,7 +6,7 @@ use serde_json::{Map, Value, put};
 use std::alloc::{AllocError, Global};
 
 /// The object with these members. One `json!` of many costs its proof far more, since each of its members may fail.
-pub fn object_of(alloc: Global, members: Vec<(&str, Value)>) -> Result<Value, AllocError>
+pub(crate) fn object_of(alloc: Global, members: Vec<(&str, Value)>) -> Result<Value, AllocError>
     ensures { IfOk result (λ value. view value ≡ object_by members.entry.items) }
 {
     let mut object = Map::new(alloc);

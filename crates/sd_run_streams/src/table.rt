@@ -1,4 +1,4 @@
-ghost use Rattle.std.specs.Prelude.{◌≡◌, ◌↔◌, ℕ, false, Some, None, IfSome, IsNone};
+ghost use Rattle.std.specs.Prelude.{◌≡◌, ◌↔◌, ℕ, false, IfSome, IsNone};
 ghost use Rattle.sd_run_streams.specs.TableLines.{section_line};
 ghost use Rattle.sd_run_streams.specs.Judged.{is_table, IsTableOf, IsTableOn, line_as};
 

@@ -8,6 +8,7 @@ use crate::pat::pat_value;
 use crate::pmt::pmt_value;
 use crate::table::{Table, TableFault};
 use sd_base::NoMemory;
+use sd_command_base::json_line;
 use serde_json::{Value, json};
 use std::alloc::{AllocError, Global};
 
@@ -41,10 +42,7 @@ fn line(
 ) -> Result<String, AllocError>
     ensures { IfOk result (λ text. string_bytes text ≡ line_as packet pid table.now) }
 {
-    let value = table_value(alloc, packet, pid, table)?;
-    let mut line = value.to_string(alloc)?;
-    line.push('\n')?;
-    Ok(line)
+    json_line(alloc, &table_value(alloc, packet, pid, table)?)
 }
 
 // What is shown of it.

@@ -1,4 +1,4 @@
-ghost use Rattle.std.specs.Prelude.{◌≡◌, ◌+◌, ◌≤◌, length};
+ghost use Rattle.std.specs.Prelude.{◌≡◌, ◌+◌};
 ghost use Rattle.sd_section.specs.OneMore.{begun_of};
 
 use crate::limits::{MOST_LENGTH, UP_TO_LENGTH};

@@ -1,5 +1,5 @@
 ghost use Rattle.std.specs.Prelude.{◌≡◌, ◌+◌, ◌-◌, ◌<◌, ◌≤◌, Some, None, IfOk, MatchResult, length};
-ghost use Rattle.sd_section.specs.Header.{syntax_of, section_length_of, whole_of, crc_in, crc_due};
+ghost use Rattle.sd_section.specs.Header.{section_length_of, whole_of, crc_in, crc_due};
 ghost use Rattle.sd_section.specs.Judged.{section_fault, head_fault, crc_fault};
 
 use crate::crc32;

@@ -102,7 +102,8 @@ file_parts magic own leaf ca secrets =
     let rest = concat secrets ++ check in (
       rest,
       append_assoc head (concat secrets) check
-          ∙ (append_assoc magic (own ++ numbers) rest ∙ ap (λ (r : List ℕ). magic ++ r) (append_assoc own numbers rest)),
+          ∙ (append_assoc magic (own ++ numbers) rest
+          ∙ ap (λ (r : List ℕ). magic ++ r) (append_assoc own numbers rest)),
     )
 
 -- these bytes are sound, and name this leaf and this system after the fields
@@ -151,8 +152,8 @@ file_is_sound magic own leaf ca n m secrets four fields leaf_low ca_low count lo
 
 -- If each file says one card alone and nothing is wrong with it, a reader whose cards are spelled by the bytes, and
 -- whose faults are those of the bytes or out of memory, reads each card's file as that card, unless memory is out.
-pub read_once : {C X F : Type 0} (IsCard : C → Type 0) (spelled : C → List ℕ) (fault_in : List ℕ → Option F) (memory : F)
-    (said : X → C)
+pub read_once : {C X F : Type 0} (IsCard : C → Type 0) (spelled : C → List ℕ) (fault_in : List ℕ → Option F)
+    (memory : F) (said : X → C)
     → ((a b : C) → IsCard a → IsCard b → spelled a ≡ spelled b → a ≡ b)
     → ((card : C) → IsCard card → fault_in (spelled card) ≡ None)
     → (bytes : List ℕ) (result : Result X F) → IfOk result (λ read. IsCard (said read) × (bytes ≡ spelled (said read)))

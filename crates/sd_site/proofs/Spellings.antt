@@ -67,7 +67,8 @@ read_is_spelled bytes d u ca secrets fits none height leaf system kept =
 
 -- a card's file has its start, its fields, its numbers, its length and its check
 written : (card : CardFields) → IsCard card
-    → IsFileOf (card_bytes card) card_magic (1 ∷ card.height ∷ []) card.leaf card.ca 2 (card.height * (card.height + 1) / 2 + 1)
+    → IsFileOf (card_bytes card) card_magic (1 ∷ card.height ∷ []) card.leaf card.ca 2
+    (card.height * (card.height + 1) / 2 + 1)
 unfolding card_bytes card_head
 written card is =
     let low : card.leaf < 2 ^ 32 =

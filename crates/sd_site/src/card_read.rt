@@ -14,7 +14,8 @@ impl Card {
     /// The card that a file's bytes say.
     pub fn read(alloc: Global, bytes: &[u8]) -> Result<Card, CardFault>
         // What is read is a card's file that says this.
-        ensures sound { IfOk result (λ card. IsCard (card_fields_of card) × (bytes.now ≡ card_bytes (card_fields_of card))) }
+        ensures sound { IfOk result (λ card.
+            IsCard (card_fields_of card) × (bytes.now ≡ card_bytes (card_fields_of card))) }
         // What is a card's file is read, unless memory is out.
         ensures complete { (card : CardFields) → IsCard card → bytes.now ≡ card_bytes card →
             MatchResult result (λ read. card_fields_of read ≡ card) (λ fault. fault ≡ CardFault.NoMemory) }
@@ -27,7 +28,8 @@ impl Card {
 
 // The clause `complete` of `read` follows from these.
 fn whole(alloc: Global, bytes: &[u8]) -> Result<Card, CardFault>
-    ensures sound { IfOk result (λ card. IsCard (card_fields_of card) × (bytes.now ≡ card_bytes (card_fields_of card))) }
+    ensures sound { IfOk result (λ card.
+        IsCard (card_fields_of card) × (bytes.now ≡ card_bytes (card_fields_of card))) }
     ensures fault { MatchResult result (λ _. fault_in bytes.now ≡ None) (λ fault. IsFaultOf bytes.now fault) }
 {
     let (height, leaf) = judge(bytes)?;

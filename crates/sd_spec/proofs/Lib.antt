@@ -18,3 +18,4 @@ pub mod Agreeing
 pub mod Streams
 pub mod Watching
 pub mod Offers
+pub mod Unmarked

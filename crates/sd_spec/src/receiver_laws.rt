@@ -1,6 +1,6 @@
 //! Laws on what a receiver writes.
 
-ghost use Rattle.std.specs.Prelude.{◌≡◌, ◌++◌, ◌∷◌, [], None};
+ghost use Rattle.std.specs.Prelude.{◌≡◌, ◌++◌, ◌∷◌, None};
 ghost use Rattle.sd_base.specs.Types.{Packet, Packets};
 ghost use Rattle.sd_site.specs.CardFields.{CardFields};
 ghost use Rattle.sd_spec.specs.Offered.{offered, out_from};

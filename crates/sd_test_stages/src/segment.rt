@@ -1,4 +1,4 @@
-ghost use Rattle.std.specs.Prelude.{◌<◌, ◌≤◌, ◌^◌};
+ghost use Rattle.std.specs.Prelude.{◌<◌, ◌^◌};
 
 use sd_ecm::Place;
 use sd_packet::{Packet, pack_section};

@@ -9,7 +9,8 @@ use Rattle.std.proofs.lemmas.Nat.{pow_pos}
 use Rattle.std.proofs.lemmas.Bool.{cases_lt, cases_eq, and_parts, and_from, leb-true, ltb-true, le-leb, lt-ltb}
 use Rattle.sd_tree.specs.Node.{depth, IsAbove, IsProperlyAbove}
 use Rattle.sd_tree.specs.Leaves.{is_below, HoldsLeavesOf}
-use Rattle.sd_tree.proofs.Levels.{IsAtLevel, doubled, add-one-mul, same_level, halved_level, depth_at}
+use Rattle.sd_base.proofs.Arithmetic.{times_next}
+use Rattle.sd_tree.proofs.Levels.{IsAtLevel, doubled, same_level, halved_level, depth_at}
 
 -- a node is above itself
 pub above_self : (v : ℕ) → IsAbove v v
@@ -196,7 +197,7 @@ below_from_above d v u h low high leaf p =
     let by = above_by_levels v (2 ^ d + u) (depth v) d at.0 (leaf_level d u leaf) p in
     let whole = rw by.1 at (div-mul-le_self (2 ^ d + u) (2 ^ (d - depth v))) in
     let rest = rw by.1 at (lt-div-mul-add {a = 2 ^ d + u} {b = 2 ^ (d - depth v)} (pow_pos (d - depth v))) in
-    below_from_within d v u whole (omega (arith, add-one-mul v (2 ^ (d - depth v)), rest))
+    below_from_within d v u whole (omega (arith, times_next v (2 ^ (d - depth v)), rest))
 
 -- leaf u is below node v exactly where v is above the leaf's node
 pub below_is_above : (d v u : ℕ) → d ≤ 20 → 1 ≤ v → v < 2 ^ (d + 1) → u < 2 ^ d → (is_below d v u ≡ true)
@@ -207,8 +208,8 @@ below_is_above d v u h low high leaf = (above_from_below d v u, below_from_above
 scaled : (i j p q w : ℕ) → 0 < p → w ≡ q * p → i * w ≤ j * p → j * p + p ≤ i * w + w → j / q ≡ i
 scaled i j p q w pos e from to =
     let a : i * w ≡ i * q * p = ap (λ (n : ℕ). i * n) e ∙ sym (mul_assoc i q p) in
-    let b : (i + 1) * q * p ≡ i * q * p + q * p = ap (λ (n : ℕ). n * p) (add-one-mul i q) ∙ add-mul (i * q) q p in
-    let c : (j + 1) * p ≡ j * p + p = add-one-mul j p in
+    let b : (i + 1) * q * p ≡ i * q * p + q * p = ap (λ (n : ℕ). n * p) (times_next i q) ∙ add-mul (i * q) q p in
+    let c : (j + 1) * p ≡ j * p + p = times_next j p in
     let low : i * q ≤ j = le_of_mul-le-mul_right {m = i * q} {n = j} {k = p} (omega arith) pos in
     let high : j + 1 ≤ (i + 1) * q = le_of_mul-le-mul_right {m = j + 1} {n = (i + 1) * q} {k = p} (omega arith) pos in
     div-eq_of_lt-le {k = i} q {m = j} low (omega arith)
@@ -247,7 +248,7 @@ above_from_leaves d i j h low high holds =
     let e : ℕ = d - depth j in
     let f : ℕ = d - depth i in
     let all = interval_within d j h low high in
-    let more : (j + 1) * 2 ^ e ≡ j * 2 ^ e + 2 ^ e = add-one-mul j (2 ^ e) in
+    let more : (j + 1) * 2 ^ e ≡ j * 2 ^ e + 2 ^ e = times_next j (2 ^ e) in
     let first : 2 ^ d ≤ j * 2 ^ e = all.0 in
     let last : (j + 1) * 2 ^ e ≤ 2 ^ d + 2 ^ d = all.1 in
     let pos = pow_pos e in
@@ -261,7 +262,7 @@ above_from_leaves d i j h low high holds =
     within_from_below d i (j * 2 ^ e + 2 ^ e - 1 - 2 ^ d)
     (holds (j * 2 ^ e + 2 ^ e - 1 - 2 ^ d) (omega arith)
     (below_from_within d j (j * 2 ^ e + 2 ^ e - 1 - 2 ^ d) (omega arith) (omega arith))) in
-    interval_above i j e f (omega (arith, in_left.0)) (omega (arith, add-one-mul i (2 ^ f), in_right.1))
+    interval_above i j e f (omega (arith, in_left.0)) (omega (arith, times_next i (2 ^ f), in_right.1))
 
 -- a node is above another exactly where all leaves below that one are below it
 pub above_is_leaves : (d i j : ℕ) → d ≤ 20 → 1 ≤ i → 1 ≤ j → i < 2 ^ (d + 1) → j < 2 ^ (d + 1) → IsAbove i j

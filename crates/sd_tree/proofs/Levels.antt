@@ -1,6 +1,6 @@
 -- The level of a node: how far below the root it stands.
 use Rattle.std.proofs.Common.{ℕ, ◌+◌, ◌-◌, ◌*◌, ◌/◌, ◌^◌, ◌<◌, ◌≤◌, ◌≡◌, true, false, leb, sym, ap, ◌∙◌, ⊎_elim, arith}
-use Rattle.std.proofs.Math.Nat.{mul_comm, add-mul, one-mul}
+use Rattle.std.proofs.Math.Nat.{mul_comm}
 use Rattle.std.proofs.Math.Pow.{pow_mono, pow-add}
 use Rattle.std.proofs.lemmas.Nat.{pow_pos, le-div, shr_below}
 use Rattle.std.proofs.lemmas.Bool.{cases_lt, le-leb, lt-leb}
@@ -10,10 +10,6 @@ use Rattle.sd_tree.proofs.Counting.{count_interval}
 -- one more power of 2
 pub doubled : (k : ℕ) → 2 ^ (k + 1) ≡ 2 * 2 ^ k
 doubled k = pow-add 2 k 1 ∙ mul_comm (2 ^ k) 2
-
--- one more multiple
-pub add-one-mul : (i q : ℕ) → (i + 1) * q ≡ i * q + q
-add-one-mul i q = add-mul i 1 q ∙ ap (λ (n : ℕ). i * q + n) (one-mul q)
 
 -- node v stands k below the root
 pub record IsAtLevel (v k : ℕ) : Type 0 where

@@ -15,7 +15,7 @@ use Rattle.sd_tree.specs.declared.set.SetName.TheVariants.{Whole, Diff}
 use Rattle.sd_tree.specs.Node.{depth, IsAbove}
 use Rattle.sd_tree.specs.Leaves.{leaves, is_below, is_member, members}
 use Rattle.sd_tree.specs.SetNames.{IsPair}
-use Rattle.sd_tree.proofs.Levels.{add-one-mul}
+use Rattle.sd_base.proofs.Arithmetic.{times_next}
 use Rattle.sd_tree.proofs.Counting.{count_interval, count_split}
 use Rattle.sd_tree.proofs.Ancestors.{above_le, below_is_above, within_from_below, below_from_within, interval_within}
 use Rattle.sd_tree.proofs.Ancestors.{leaves_from_above}
@@ -69,7 +69,7 @@ pub count_below : (d v : ℕ) → d ≤ 20 → 1 ≤ v → v < 2 ^ (d + 1)
 count_below d v h low high =
     let e : ℕ = d - depth v in
     let all = interval_within d v h low high in
-    let more : (v + 1) * 2 ^ e ≡ v * 2 ^ e + 2 ^ e = add-one-mul v (2 ^ e) in
+    let more : (v + 1) * 2 ^ e ≡ v * 2 ^ e + 2 ^ e = times_next v (2 ^ e) in
     let first : 2 ^ d ≤ v * 2 ^ e = all.0 in
     let last : (v + 1) * 2 ^ e ≤ 2 ^ d + 2 ^ d = all.1 in
     length-filter (is_below d v) (leaves d) ∙

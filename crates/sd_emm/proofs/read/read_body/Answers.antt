@@ -41,15 +41,17 @@ returns-then-not-are_ascending-clause-fault c =
     (c.is_counted.ensures.0 c.if-not-is_counted.false) c.from-count.ensures
     (subst (λ (l : List ℕ). AreSets c.args.h c.read_head-emm.result.sets (entries_in c.from-count.result l)) after
     (c.read_entries.ensures.sets.0 c.if-not-read_entries.false))
-    (c.read_entries.ensures.value c.if-not-read_entries.false ∙ ap (λ (l : List ℕ). padded_entries (entries_in c.from-count.result l)) after)
+    (c.read_entries.ensures.value c.if-not-read_entries.false
+    ∙ ap (λ (l : List ℕ). padded_entries (entries_in c.from-count.result l)) after)
     (λ up. false≢true (c.if-not-are_ascending.ensures.1 up))
 
 pub returns-clause-value : goal.returns-clause-value
 returns-clause-value c =
-    is_whole c.args.named c.args.index c.args.body.now c.read_head-emm.result c.from-count.result c.read_entries.new.entries
-    c.read_head-emm.ensures
+    is_whole c.args.named c.args.index c.args.body.now c.read_head-emm.result c.from-count.result
+    c.read_entries.new.entries c.read_head-emm.ensures
     c.from-count.ensures
-    (c.read_entries.ensures.value c.if-not-read_entries.false ∙ ap (λ (l : List ℕ). padded_entries (entries_in c.from-count.result l))
+    (c.read_entries.ensures.value c.if-not-read_entries.false
+    ∙ ap (λ (l : List ℕ). padded_entries (entries_in c.from-count.result l))
     (take_rest c.args.body.now c.head_length.result
     ∙ ap (λ (n : ℕ). drop n c.args.body.now) c.head_length.ensures.value))
 
@@ -62,5 +64,6 @@ returns-clause-good c =
     (c.is_counted.ensures.0 c.if-not-is_counted.false) c.from-count.ensures
     (subst (λ (l : List ℕ). AreSets c.args.h c.read_head-emm.result.sets (entries_in c.from-count.result l)) after
     (c.read_entries.ensures.sets.0 c.if-not-read_entries.false))
-    (c.read_entries.ensures.value c.if-not-read_entries.false ∙ ap (λ (l : List ℕ). padded_entries (entries_in c.from-count.result l)) after)
+    (c.read_entries.ensures.value c.if-not-read_entries.false
+    ∙ ap (λ (l : List ℕ). padded_entries (entries_in c.from-count.result l)) after)
     (c.are_ascending.ensures.0 c.if-not-are_ascending.false)

@@ -7,7 +7,8 @@ pub returns-clause-sound : goal.returns-clause-sound
 returns-clause-sound c =
     let named = c.in_ok-height.ensures.value in
     read_is_spelled c.args.bytes.now c.in_ok-height.height c.in_ok-height.width c.in_ok-height.leaf c.two_at.result
-    c.in_ok-secrets.secrets.items (λ i. omega (arith, c.type_inv.bytes i)) c.in_ok-height.ensures.fault named.0 named.1.0 named.1.1 c.two_at.ensures
+    c.in_ok-secrets.secrets.items (λ i. omega (arith, c.type_inv.bytes i))
+    c.in_ok-height.ensures.fault named.0 named.1.0 named.1.1 c.two_at.ensures
     c.in_ok-secrets.ensures
 
 pub invariant_of-result : goal.invariant_of-result
@@ -15,6 +16,7 @@ invariant_of-result c =
     let named = c.in_ok-height.ensures.value in
     let is =
     (read_is_spelled c.args.bytes.now c.in_ok-height.height c.in_ok-height.width c.in_ok-height.leaf c.two_at.result
-    c.in_ok-secrets.secrets.items (λ i. omega (arith, c.type_inv.bytes i)) c.in_ok-height.ensures.fault named.0 named.1.0 named.1.1 c.two_at.ensures
+    c.in_ok-secrets.secrets.items (λ i. omega (arith, c.type_inv.bytes i))
+    c.in_ok-height.ensures.fault named.0 named.1.0 named.1.1 c.two_at.ensures
     c.in_ok-secrets.ensures).0 in
     record { height_in = is.height; width_in = is.width; leaf_in = is.leaf; count = is.count }

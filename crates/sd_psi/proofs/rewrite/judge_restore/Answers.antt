@@ -1,4 +1,4 @@
-use Rattle.std.proofs.Common.{arith, ◌≡◌, ◌≤◌, length, true, sym}
+use Rattle.std.proofs.Common.{arith, ◌≡◌, ◌≤◌, length, true}
 use Rattle.sd_psi.specs.Tables.{is_pmt}
 use Rattle.sd_psi.proofs.Packets.{restore_outer, section_within, info_within}
 use Rattle.sd_psi.proofs.rewrite.judge_restore.Goals as goal

@@ -6,8 +6,8 @@ use Rattle.sd_run_cards.proofs.show_command.judge_card.Goals as goal
 pub returns-in_ok-line_of-in-Ok : goal.returns-in_ok-line_of-in-Ok
 returns-in_ok-line_of-in-Ok c =
     let spelled = c.in-Ok.ensures.sound in
-    line_read c.args.bytes.now (string_bytes c.in_ok-line_of-in-Ok.field-0) (card_fields_of c.in-Ok.card) spelled.0 spelled.1
-    c.in-Ok.ensures.fault c.in_ok-line_of-in-Ok.ensures
+    line_read c.args.bytes.now (string_bytes c.in_ok-line_of-in-Ok.field-0) (card_fields_of c.in-Ok.card)
+    spelled.0 spelled.1 c.in-Ok.ensures.fault c.in_ok-line_of-in-Ok.ensures
 
 pub returns-in-Err : goal.returns-in-Err
 returns-in-Err c =

@@ -2,6 +2,7 @@ use Rattle.std.proofs.Common.{◌∙◌, ◌++◌, ◌-◌, ◌==◌, ℕ, true,
 use Rattle.std.specs.Prelude.{map, Some, None}
 use Rattle.sd_site.specs.SiteFields.{fields_of}
 use Rattle.sd_engine.specs.Stage.{vessel}
+use Rattle.sd_engine.proofs.Chains.{took_none}
 use Rattle.sd_spec.specs.Plan.{closing_number, crypto_of}
 use Rattle.sd_head.specs.Kept.{uncounted, IsOf}
 use Rattle.sd_head.specs.Lending.{with_emms}
@@ -11,13 +12,12 @@ use Rattle.sd_head.specs.declared.crypto.CryptoPeriod.{CryptoPeriod}
 use Rattle.sd_head.specs.Messages.{head_of}
 use Rattle.sd_head.specs.Items.{tables_bytes, message_bytes}
 use Rattle.sd_head.specs.Schedule.{IsDue}
-use Rattle.sd_head.proofs.Sends.{takes_none}
 use Rattle.sd_head.proofs.Stepping.{ends, same_refusal, none_long}
 use Rattle.sd_head.proofs.head.HeadStage.close.Goals as goal
 
 pub returns-in-Err-clause-fault : goal.returns-in-Err-clause-fault
 returns-in-Err-clause-fault g c = λ fault same.
-    let none = takes_none (vessel g.K.Sink c.args.out.now) in
+    let none = took_none (vessel g.K.Sink c.args.out.now) in
     record {
       bytes = [];
       steps = c.finish.new.steps;

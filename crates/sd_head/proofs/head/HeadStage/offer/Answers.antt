@@ -3,6 +3,7 @@ use Rattle.std.specs.Prelude.{map, Some, if◌then◌else◌}
 use Rattle.sd_tree.specs.Keys.{control_word_of}
 use Rattle.sd_site.specs.SiteFields.{fields_of}
 use Rattle.sd_engine.specs.Stage.{vessel}
+use Rattle.sd_engine.proofs.Chains.{took_none}
 use Rattle.sd_spec.specs.Plan.{Plan, crypto_of}
 use Rattle.sd_head.specs.declared.crypto.CryptoPeriod.{CryptoPeriod}
 use Rattle.sd_head.specs.Kept.{uncounted}
@@ -13,13 +14,12 @@ use Rattle.sd_head.specs.Sending.{counter_after}
 use Rattle.sd_head.specs.Items.{tables_bytes, message_bytes, parts_in}
 use Rattle.sd_head.specs.Schedule.{IsDue}
 use Rattle.sd_head.specs.Staged.{plan_in}
-use Rattle.sd_head.proofs.Sends.{takes_none}
 use Rattle.sd_head.proofs.Stepping.{does, ready, same_refusal}
 use Rattle.sd_head.proofs.head.HeadStage.offer.Goals as goal
 
 pub returns-in-Err-clause-fault : goal.returns-in-Err-clause-fault
 returns-in-Err-clause-fault g c = λ fault same.
-    let none = takes_none (vessel g.K.Sink c.args.out.now) in
+    let none = took_none (vessel g.K.Sink c.args.out.now) in
     record {
       bytes = [];
       steps = c.admit.new.steps;

@@ -7,5 +7,5 @@ use Rattle.sd_lsd.proofs.card.LayerCard.read.Goals as goal
 
 pub returns-clause-complete : goal.returns-clause-complete
 returns-clause-complete c =
-    read_once IsLayerCard layer_bytes fault_in NoMemory fields_of written_once written_is_good c.args.bytes.now c.whole.result
-    c.whole.ensures.sound c.whole.ensures.fault
+    read_once IsLayerCard layer_bytes fault_in NoMemory fields_of written_once written_is_good c.args.bytes.now
+    c.whole.result c.whole.ensures.sound c.whole.ensures.fault

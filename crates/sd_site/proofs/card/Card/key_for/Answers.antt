@@ -52,6 +52,6 @@ pub returns-in-Whole-clause-made : goal.returns-in-Whole-clause-made
 returns-in-Whole-clause-made g c master ca own =
     let card = c.args.self.now in
     let member : is_member card.height c.args.name card.leaf ≡ true = cc in
-    own_gives_key (card_fields_of card) master ca c.args.name c.index.result.now card.height_in.1 card.leaf_in c.requires
-    member
+    own_gives_key (card_fields_of card) master ca c.args.name c.index.result.now card.height_in.1 card.leaf_in
+    c.requires member
     (returns-in-Whole-clause-value g c) own

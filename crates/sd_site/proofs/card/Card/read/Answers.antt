@@ -7,5 +7,5 @@ use Rattle.sd_site.proofs.card.Card.read.Goals as goal
 
 pub returns-clause-complete : goal.returns-clause-complete
 returns-clause-complete c =
-    read_once IsCard card_bytes fault_in NoMemory card_fields_of written_once written_is_good c.args.bytes.now c.whole.result
-    c.whole.ensures.sound c.whole.ensures.fault
+    read_once IsCard card_bytes fault_in NoMemory card_fields_of written_once written_is_good c.args.bytes.now
+    c.whole.result c.whole.ensures.sound c.whole.ensures.fault
