@@ -141,4 +141,9 @@ module _ (plan : Plan) (is : IsPlan plan) where
   pub body_short : (clear : List (List ℕ)) → IsClear plan.site clear → length (body plan clear) ≤ most_packets
   unfolding body
   body_short clear all =
-      omega (arith, packets_many plan [] (sent plan clear), sent_upto plan is 43692 tables_few [] clear all, clear_short plan.site clear all)
+      omega (
+        arith,
+        packets_many plan [] (sent plan clear),
+        sent_upto plan is 43692 tables_few [] clear all,
+        clear_short plan.site clear all,
+      )

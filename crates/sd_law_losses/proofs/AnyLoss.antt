@@ -210,21 +210,24 @@ after_cat_goes s laws k i fs later within is =
 abbrev pub here_at : Setting → ℕ → List Item
 here_at s k = sections_at s (period_of s.plan k) ++ tail_at s k
 
+-- what arrives of it, and of what comes after it
+abbrev pub came_here : Setting → ℕ → List Bool → List Item
+came_here s k fs = chosen (take (length (here_at s k)) fs) (here_at s k)
+
+abbrev pub came_later : Setting → ℕ → List Bool → List Item
+came_later s k fs = chosen (drop (length (here_at s k)) fs) (rest_at s (k + 1))
+
 -- after the CAT before packet k that goes first
 pub here_goes : (s : Setting) (laws : AreLaws s) (n k : ℕ) (fs : List Bool) (past : List (List ℕ)) →
     k + suc n ≡ length s.clear → heard s.card past ≡ [] →
-    Goes s ([] ++ (chosen (take (length (here_at s k)) fs) (here_at s k) ++ chosen (drop (length (here_at s k)) fs) (rest_at s
-    (k + 1)))) k (k + 1)
-    (period_of s.plan k) (closing_number s.plan.site (k + 1)) None ([] ++ chosen (take (length (here_at s k)) fs) (here_at s k))
-    (heard s.card past)
-    (heard_from (length past) (chosen (take (length (here_at s k)) fs) (here_at s k)))
+    Goes s ([] ++ (came_here s k fs ++ came_later s k fs)) k (k + 1) (period_of s.plan k)
+    (closing_number s.plan.site (k + 1)) None ([] ++ came_here s k fs) (heard s.card past)
+    (heard_from (length past) (came_here s k fs))
 here_goes s laws n k fs past count none =
-    subst (λ (hs : List Heard). Goes s ([] ++ (chosen (take (length (here_at s k)) fs) (here_at s k) ++ chosen (drop
-    (length (here_at s k)) fs) (rest_at s (k + 1)))) k (k + 1)
-    (period_of s.plan k) (closing_number s.plan.site (k + 1)) None ([] ++ chosen (take (length (here_at s k)) fs) (here_at s k)) hs
-    (heard_from (length past) (chosen (take (length (here_at s k)) fs) (here_at s k)))) (sym none)
-    (after_cat_goes s laws k (length past) (take (length (here_at s k)) fs) (chosen (drop (length (here_at s k)) fs) (rest_at s
-    (k + 1))) within
+    subst (λ (hs : List Heard). Goes s ([] ++ (came_here s k fs ++ came_later s k fs)) k (k + 1) (period_of s.plan k)
+    (closing_number s.plan.site (k + 1)) None ([] ++ came_here s k fs) hs (heard_from (length past) (came_here s k fs)))
+    (sym none)
+    (after_cat_goes s laws k (length past) (take (length (here_at s k)) fs) (came_later s k fs) within
     (λ j below. chosen_fails (is_carried j) (drop (length (here_at s k)) fs) (rest_at s (k + 1))
     (packets_later s laws n (k + 1) j (omega (arith, count)) below)))
   where
