@@ -1,20 +1,20 @@
-//! What commands share: what one is to do and how it ends, its status with the printed line and the exit, the files
+//! What commands share: what one is to do and how it ends, its status with the text of its line and its exit, the files
 //! that are read and made, how it prints, and the lines of a book's periods.
 #![tactic(auto)]
 
 mod both;
 mod files;
-mod json;
 mod leaves;
+mod line;
 mod listing;
 mod made;
 mod print;
 mod printing;
 mod reading;
+mod refusal;
 mod replay;
 mod sets;
 mod status;
-mod telling;
 mod text;
 mod turn;
 mod word;
@@ -24,16 +24,16 @@ pub use files::{
     MOST_BOOK_BYTES, book_fault, card_fault, read_book, read_bytes, read_card_bytes, read_low_site,
     read_site,
 };
-pub use json::json_line;
 pub use leaves::read_leaves;
+pub use line::as_line;
 pub use listing::Listing;
 pub use made::{make_file, told};
 pub use print::print_text;
 pub use printing::print_periods;
 pub use reading::{LeavesFault, read};
+pub use refusal::refused;
 pub use replay::replay_from;
 pub use sets::cover_sets;
 pub use status::{Clash, ClearCause, LimitKind, Status, StreamCause};
-pub use telling::tell;
 pub use turn::{close_both, open_both, opening_fault};
 pub use word::{Number, Word};

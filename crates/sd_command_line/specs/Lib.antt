@@ -6,4 +6,5 @@ pub mod Operands
 pub mod Explained
 pub mod Reasons
 pub mod Help
+pub mod Lines
 pub mod Pages

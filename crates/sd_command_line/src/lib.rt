@@ -1,4 +1,5 @@
-//! The table of commands, the arguments that it reads, what help prints of it, and what a refusal is to a user.
+//! The table of commands, the arguments that it reads, what help prints of it, the line of a status, and what a refusal
+//! is to a user.
 #![tactic(auto)]
 
 mod argument;
@@ -12,6 +13,7 @@ mod operand;
 mod order;
 mod page;
 mod reason;
+mod telling;
 
 pub use argument::{Argument, Arguments};
 pub use command::{COMMANDS, Command};
@@ -21,3 +23,4 @@ pub use help_command::{help, version};
 pub use named::{files_of, holds_secrets, out_of};
 pub use operand::{Files, Kind, Operand};
 pub use order::{Order, is_help, is_version, read_words};
+pub use telling::tell;

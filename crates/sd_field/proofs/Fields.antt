@@ -36,7 +36,7 @@ use Rattle.sd_field.specs.declared.fault.FieldFault.{FieldFault}
 use Rattle.sd_field.specs.declared.fault.FieldFault.TheVariants.{Clear, NoMemory}
 use Rattle.sd_field.specs.declared.station.Station.{Station}
 use Rattle.sd_book.specs.Value.{BookValue}
-use Rattle.sd_spec.specs.declared.clear_fault.ClearFault.{ClearFault}
+use Rattle.sd_psi.specs.declared.clear_fault.ClearFault.{ClearFault}
 use Rattle.sd_spec.specs.Sent.{body}
 use Rattle.sd_head.specs.Schedule.{begins_with}
 use Rattle.sd_head.specs.Kept.{HasBegun}

@@ -7,7 +7,7 @@ use Rattle.std.specs.List.{concat}
 use Rattle.sd_site.specs.SiteFields.{SiteFields}
 use Rattle.sd_site.specs.CardFields.{CardFields, card_of}
 use Rattle.sd_book.specs.Value.{BookValue}
-use Rattle.sd_spec.specs.declared.clear_fault.ClearFault.{ClearFault}
+use Rattle.sd_psi.specs.declared.clear_fault.ClearFault.{ClearFault}
 use Rattle.sd_spec.specs.Plan.{Plan, IsPlan}
 use Rattle.sd_spec.specs.Refused.{refusal_of, IsClear}
 use Rattle.sd_spec.specs.Sent.{body}

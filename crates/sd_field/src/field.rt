@@ -3,7 +3,7 @@ ghost use Rattle.std.specs.Prelude.{Err};
 ghost use Rattle.std.specs.Prelude.{IfOk, IfErr, IfSome, IsErr, IsSome, OnOk};
 ghost use Rattle.std.specs.List.{concat};
 ghost use Rattle.sd_site.specs.SiteFields.{fields_of};
-ghost use Rattle.sd_spec.specs.declared.clear_fault.ClearFault.{ClearFault as Fault};
+ghost use Rattle.sd_psi.specs.declared.clear_fault.ClearFault.{ClearFault as Fault};
 ghost use Rattle.sd_spec.specs.Plan.{IsPlan};
 ghost use Rattle.sd_spec.specs.Refused.{IsClear};
 ghost use Rattle.sd_spec.specs.Sent.{body};

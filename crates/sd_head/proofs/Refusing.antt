@@ -13,8 +13,8 @@ use Rattle.sd_spec.specs.Kinds.{kind_of}
 use Rattle.sd_spec.specs.Plan.{crypto_length, crypto_of, word_of}
 use Rattle.sd_spec.specs.Refused.{refusal_of, is_reserved_pid, pat_wrong, is_full_own, is_one_too_many}
 use Rattle.sd_spec.specs.Refused.{is_too_long}
-use Rattle.sd_spec.specs.declared.clear_fault.ClearFault.TheVariants.{AlreadyScrambled, PidTaken, PatForm, PmtForm}
-use Rattle.sd_spec.specs.declared.clear_fault.ClearFault.TheVariants.{TooManyPids, TooLong}
+use Rattle.sd_psi.specs.declared.clear_fault.ClearFault.TheVariants.{AlreadyScrambled, PidTaken, PatForm, PmtForm}
+use Rattle.sd_psi.specs.declared.clear_fault.ClearFault.TheVariants.{TooManyPids, TooLong}
 
 pub scrambled_refused : (site : SiteFields) (before : List (List ℕ)) (packet : List ℕ) (n : ℕ) → n ≡ length before
     → (scrambling_of packet == 0) ≡ false → refusal_of site before packet ≡ Some (AlreadyScrambled n)

@@ -15,7 +15,7 @@ use Rattle.sd_spec.specs.Plan.{closing_number}
 use Rattle.sd_spec.specs.Carried.{carried}
 use Rattle.sd_spec.specs.Messages.{places_after}
 use Rattle.sd_spec.specs.Refused.{refusal_of, refusal_from, IsClear}
-use Rattle.sd_spec.specs.declared.clear_fault.ClearFault.{ClearFault}
+use Rattle.sd_psi.specs.declared.clear_fault.ClearFault.{ClearFault}
 use Rattle.sd_spec.specs.Sent.{Item, sent, sent_from, bytes_added, closing_of, packets_from, message_before}
 use Rattle.sd_head.specs.After.{IsAfter as IsKept}
 use Rattle.sd_head.specs.Kept.{plan_of, uncounted, AreAlike, IsOf}

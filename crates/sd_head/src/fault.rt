@@ -1,4 +1,4 @@
-use sd_spec::ClearFault;
+use sd_psi::ClearFault;
 
 /// Why the head end stopped.
 #[derive(Clone, Copy, PartialEq, Eq)]

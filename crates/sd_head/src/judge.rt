@@ -14,9 +14,9 @@ ghost use Rattle.sd_head.specs.After.{IsAfter, MayFollow, IsKindAfter};
 use crate::clear::{Clear, FIRST_POSITION};
 use sd_ecm::MOST_PLACES;
 use sd_packet::Packet;
-use sd_psi::{FormFault, pat_of, restore_pmt, rewrite_pmt};
+use sd_psi::{ClearFault, FormFault, pat_of, restore_pmt, rewrite_pmt};
 use sd_site::Site;
-use sd_spec::{ClearFault, Kind};
+use sd_spec::Kind;
 
 impl Clear {
     /// How many packets were taken.

@@ -28,4 +28,4 @@ pub use crypto::CryptoPeriod;
 pub use entitling::Entitling;
 pub use fault::HeadFault;
 pub use head::Head;
-pub use sd_spec::ClearFault;
+pub use sd_psi::ClearFault;

@@ -17,9 +17,9 @@ use Rattle.sd_spec.specs.Refused.{fault_where, form_where, is_reserved_pid, pat_
 use Rattle.sd_spec.specs.Refused.{is_one_too_many}
 use Rattle.sd_spec.specs.Refused.{is_too_long}
 use Rattle.sd_spec.specs.Refused.{refusal_of, refusal_from, IsClear}
-use Rattle.sd_spec.specs.declared.clear_fault.ClearFault.{ClearFault}
-use Rattle.sd_spec.specs.declared.clear_fault.ClearFault.TheVariants.{AlreadyScrambled, PidTaken, PatForm, PmtForm}
-use Rattle.sd_spec.specs.declared.clear_fault.ClearFault.TheVariants.{TooManyPids, TooLong}
+use Rattle.sd_psi.specs.declared.clear_fault.ClearFault.{ClearFault}
+use Rattle.sd_psi.specs.declared.clear_fault.ClearFault.TheVariants.{AlreadyScrambled, PidTaken, PatForm, PmtForm}
+use Rattle.sd_psi.specs.declared.clear_fault.ClearFault.TheVariants.{TooManyPids, TooLong}
 use Rattle.sd_psi.specs.declared.fault.FormFault.TheVariants as Form
 use Rattle.sd_spec.proofs.Following.{moved_first, moved_again, moved_unplaced}
 use Rattle.sd_law_broadcast.specs.Accepted.{IsAccepted}

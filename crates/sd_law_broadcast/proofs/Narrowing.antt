@@ -16,7 +16,7 @@ use Rattle.sd_spec.specs.Refused.{refusal_of, refusal_from, IsClear}
 use Rattle.sd_spec.specs.Sent.{Item, Cat, Entitles, Controls, Carries, tables_at, added, sent, sent_from}
 use Rattle.sd_spec.specs.Sent.{closing_of}
 use Rattle.sd_spec.specs.Sent.{packet_of, packets_from, broadcast}
-use Rattle.sd_spec.specs.declared.clear_fault.ClearFault.{ClearFault}
+use Rattle.sd_psi.specs.declared.clear_fault.ClearFault.{ClearFault}
 use Rattle.sd_spec.specs.declared.kind.Kind.{Kind}
 use Rattle.sd_spec.specs.declared.kind.Kind.TheVariants.{Passed, Pmt, Scrambled}
 use Rattle.sd_law_broadcast.specs.Accepted.{IsAccepted}

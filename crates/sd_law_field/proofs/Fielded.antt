@@ -13,7 +13,7 @@ use Rattle.sd_book.specs.Commands.{last_period}
 use Rattle.sd_spec.specs.Plan.{IsPlan, Plan, period_of}
 use Rattle.sd_spec.specs.Refused.{IsClear, refusal_from}
 use Rattle.sd_spec.specs.Sent.{body}
-use Rattle.sd_spec.specs.declared.clear_fault.ClearFault.{ClearFault}
+use Rattle.sd_psi.specs.declared.clear_fault.ClearFault.{ClearFault}
 use Rattle.sd_law_broadcast.specs.Synced.{IsSynced, AreSynced}
 use Rattle.sd_law_broadcast.proofs.Joined.{joined_long}
 use Rattle.sd_law_broadcast.proofs.Synced.{body_synced}

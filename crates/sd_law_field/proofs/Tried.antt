@@ -12,7 +12,7 @@ use Rattle.sd_site.specs.CardFields.{CardFields, card_of}
 use Rattle.sd_engine.specs.Taken.{StreamEnd, Whole, Breaks, RunsOn, taken_of, end_of}
 use Rattle.sd_spec.specs.Plan.{Plan, IsPlan, period_of}
 use Rattle.sd_spec.specs.Refused.{IsClear, refusal_from}
-use Rattle.sd_spec.specs.declared.clear_fault.ClearFault.{ClearFault}
+use Rattle.sd_psi.specs.declared.clear_fault.ClearFault.{ClearFault}
 use Rattle.sd_spec.specs.Sent.{broadcast}
 use Rattle.sd_law_broadcast.specs.Packets.{AreWholePackets}
 use Rattle.sd_law_broadcast.specs.Synced.{IsSynced, AreSynced, AreBytes}

@@ -19,7 +19,7 @@ use Rattle.sd_engine.specs.Taken.{StreamEnd, Whole, Breaks, RunsOn, taken_of, en
 use Rattle.sd_spec.specs.Plan.{Plan, IsPlan, period_of}
 use Rattle.sd_spec.specs.Refused.{IsClear, refusal_from}
 use Rattle.sd_spec.specs.Sent.{broadcast}
-use Rattle.sd_spec.specs.declared.clear_fault.ClearFault.{ClearFault}
+use Rattle.sd_psi.specs.declared.clear_fault.ClearFault.{ClearFault}
 use Rattle.sd_law_broadcast.specs.Named.{sets_named, NamesPeriod}
 use Rattle.sd_law_broadcast.specs.Packets.{IsWholePacket}
 use Rattle.sd_law_broadcast.proofs.Covering.{period_named}

@@ -6,7 +6,7 @@ use Rattle.sd_engine.specs.Taken.{StreamEnd, Whole, Breaks, RunsOn, taken_of, en
 use Rattle.sd_site.specs.CardFields.{CardFields}
 use Rattle.sd_spec.specs.Plan.{Plan}
 use Rattle.sd_spec.specs.Refused.{refusal_from}
-use Rattle.sd_spec.specs.declared.clear_fault.ClearFault.{ClearFault}
+use Rattle.sd_psi.specs.declared.clear_fault.ClearFault.{ClearFault}
 use Rattle.sd_spec.specs.Offered.{break_from}
 use Rattle.sd_spec.specs.declared.ending.Ending.{Ending}
 use Rattle.sd_spec.specs.declared.ending.Ending.TheVariants as end

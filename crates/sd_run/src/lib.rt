@@ -6,6 +6,7 @@ mod edge;
 mod lines;
 mod program;
 mod top;
+mod work;
 
 pub use program::start;
 pub use top::run;

@@ -5,20 +5,15 @@ ghost use Rattle.sd_command_base.specs.Outside.{outside, page_state, depot_state
 ghost use Rattle.sd_command_base.specs.Spec.{contents_of};
 ghost use Rattle.sd_command_base.specs.Outcome.{Implements, status_of};
 ghost use Rattle.sd_command_base.specs.Results.{RunResult, HasAnswerCause, IsMeant, IsToldAs};
-ghost use Rattle.sd_command_line.specs.Commands.{operands_of};
 ghost use Rattle.sd_command_line.specs.Words.{order_of};
-ghost use Rattle.sd_run.specs.Meaning.{command_meaning, meaning, order_meaning};
-ghost use Rattle.sd_command_line.specs.Orders.{arguments_said, order_said, AreOf, IsSound};
+ghost use Rattle.sd_run.specs.Meaning.{meaning, order_meaning};
+ghost use Rattle.sd_command_line.specs.Orders.{order_said, IsSound};
 
+use crate::work::work;
 use sd_base::Steps;
-use sd_command_base::{Status, tell};
-use sd_command_line::{Arguments, Command, Order, help, read_words, version};
+use sd_command_base::Status;
+use sd_command_line::{Order, help, read_words, tell, version};
 use sd_ports::{Depot, Sink};
-use sd_run_books::{apart, plan};
-use sd_run_broadcasts::{head, receive, trial};
-use sd_run_cards::{card, cover, layered, lcard, opens, show, trace};
-use sd_run_field::field;
-use sd_run_streams::{messages, sample, tables};
 use std::alloc::Global;
 use std::sync::ledger::Ledger;
 
@@ -95,55 +90,5 @@ fn follow<D: Depot, P: Sink, L: Ledger>(
         }
         Order::Help { topic } => help(alloc, print, *topic),
         Order::Version => version(print),
-    }
-}
-
-/// Runs a command with its arguments. A command uses the files of the places at which its row has them.
-fn work<D: Depot, P: Sink, L: Ledger>(
-    alloc: Global,
-    command: Command,
-    row: &Arguments<'_>,
-    depot: &mut D,
-    print: &mut P,
-    steps: &mut Steps<L>,
-) -> Result<(), Status>
-    requires { AreOf 1 (operands_of command) (arguments_said 1 row.now.list.items) }
-    ensures { Implements (command_meaning command (arguments_said 1 row.now.list.items))
-        (outside (depot_state D.Depot depot.old) (page_state P.Sink print.old) steps.old)
-        (outside (depot_state D.Depot depot.new) (page_state P.Sink print.new) steps.new) (status_of result) }
-{
-    let first = row.file(1);
-    let second = row.file(2);
-    let third = row.file(3);
-    let fourth = row.file(4);
-    match command {
-        Command::Accounts => sd_run_books::accounts(alloc, depot, print, first, second, third),
-        Command::Apart => apart(alloc, depot, print, first, second, third, fourth),
-        Command::Book => sd_run_books::book(alloc, depot, first, second, third, fourth),
-        Command::Card => card(alloc, depot, first, row.number(2), third, steps),
-        Command::Cover => cover(alloc, depot, print, first, second),
-        Command::Field => field(alloc, depot, print, first, second, third, steps),
-        Command::Head => head(alloc, depot, first, second, third, fourth, steps),
-        Command::Layered => layered(alloc, depot, print, first, second, row.number(3)),
-        Command::Lcard => {
-            let leaf = row.number(2);
-            lcard(alloc, depot, first, leaf, row.number(3), fourth, steps)
-        }
-        Command::Messages => messages(alloc, depot, print, first, second),
-        Command::Opens => opens(alloc, depot, print, first, second, third),
-        Command::Plan => {
-            let clears = row.number(3);
-            let pids = row.number(4);
-            plan(alloc, depot, print, first, second, clears, pids.value)
-        }
-        Command::Receive => receive(alloc, depot, first, second, third, steps),
-        Command::Sample => {
-            let packets = row.number(2);
-            sample(alloc, depot, row.number(1).value, packets.value, third)
-        }
-        Command::Show => show(alloc, depot, print, first),
-        Command::Tables => tables(alloc, depot, print, first),
-        Command::Trace => trace(alloc, depot, print, first, second, third),
-        Command::Trial => trial(alloc, depot, print, first, second, third, steps),
     }
 }

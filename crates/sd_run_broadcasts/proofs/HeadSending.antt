@@ -29,12 +29,13 @@ use Rattle.sd_spec.specs.Refused.{is_one_too_many}
 use Rattle.sd_spec.specs.Refused.{is_too_long, refusal_of, refusal_from}
 use Rattle.sd_spec.specs.Sent.{sent, closing_of, packets_from, body, broadcast, bytes_added, bytes_from}
 use Rattle.sd_spec.proofs.Bodies.{body_bytes, closed_bytes}
-use Rattle.sd_spec.specs.declared.clear_fault.ClearFault.{ClearFault}
-use Rattle.sd_spec.specs.declared.clear_fault.ClearFault.TheVariants.{AlreadyScrambled, PidTaken, PatForm, PmtForm}
-use Rattle.sd_spec.specs.declared.clear_fault.ClearFault.TheVariants.{TooManyPids, TooLong}
+use Rattle.sd_psi.specs.declared.clear_fault.ClearFault.{ClearFault}
+use Rattle.sd_psi.specs.declared.clear_fault.ClearFault.TheVariants.{AlreadyScrambled, PidTaken, PatForm, PmtForm}
+use Rattle.sd_psi.specs.declared.clear_fault.ClearFault.TheVariants.{TooManyPids, TooLong}
 use Rattle.sd_command_base.specs.declared.status.Status.TheVariants.{Done}
 use Rattle.sd_command_base.specs.Turned.{Wrote, all_written, some_written}
-use Rattle.sd_run_broadcasts.specs.Head.{packet_in, refused_status, clear_status, status_where, sent_by, sent_where}
+use Rattle.sd_command_base.specs.Streams.{packet_in, refused_status}
+use Rattle.sd_run_broadcasts.specs.Head.{clear_status, status_where, sent_by, sent_where}
 use Rattle.sd_run_broadcasts.specs.Head.{sent_of}
 use Rattle.sd_run_broadcasts.specs.Head.{sent_status, stop_status, sent_told}
 

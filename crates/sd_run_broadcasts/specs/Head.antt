@@ -10,40 +10,17 @@ use Rattle.sd_head.specs.declared.fault.HeadFault.TheVariants as head
 use Rattle.sd_spec.specs.Plan.{Plan}
 use Rattle.sd_spec.specs.Refused.{refusal_from}
 use Rattle.sd_spec.specs.Sent.{body, broadcast}
-use Rattle.sd_spec.specs.declared.clear_fault.ClearFault.{ClearFault}
-use Rattle.sd_spec.specs.declared.clear_fault.ClearFault.TheVariants as fault
+use Rattle.sd_psi.specs.declared.clear_fault.ClearFault.{ClearFault}
 use Rattle.sd_command_base.specs.declared.status.Status.{Status}
 use Rattle.sd_command_base.specs.declared.status.Status.TheVariants.{Done, BadClear, DepotFault, NoMemory}
-use Rattle.sd_command_base.specs.declared.status.ClearCause.{ClearCause}
-use Rattle.sd_command_base.specs.declared.status.ClearCause.TheVariants.{Broken, AlreadyScrambled, PidTaken, PatForm}
-use Rattle.sd_command_base.specs.declared.status.ClearCause.TheVariants.{PmtForm, TooManyPids, TooLong}
+use Rattle.sd_command_base.specs.declared.status.ClearCause.TheVariants.{Broken, TooLong}
 use Rattle.sd_command_base.specs.Spec.{Spec, FileArgument, Readings, all_of, value, ◌>>=◌}
 use Rattle.sd_command_base.specs.Work.{Uncounted, Work}
+use Rattle.sd_command_base.specs.Streams.{packet_in, refused_status}
 use Rattle.sd_command_base.specs.Files.{site_of_file, book_of_file}
 use Rattle.sd_command_base.specs.Turned.{turning, Wrote}
 
--- the packet that is refused
-abbrev pub packet_in : ClearFault → ℕ
-packet_in (fault.AlreadyScrambled k) = k
-packet_in (fault.PidTaken k pid) = k
-packet_in (fault.PatForm k form) = k
-packet_in (fault.PmtForm k form) = k
-packet_in (fault.TooManyPids k) = k
-packet_in (fault.TooLong k) = k
-
--- and why, as the status tells it
-abbrev pub cause_in : ClearFault → ClearCause
-cause_in (fault.AlreadyScrambled k) = AlreadyScrambled
-cause_in (fault.PidTaken k pid) = PidTaken pid
-cause_in (fault.PatForm k form) = PatForm form
-cause_in (fault.PmtForm k form) = PmtForm form
-cause_in (fault.TooManyPids k) = TooManyPids
-cause_in (fault.TooLong k) = TooLong
-
--- the status that comes of a refused packet, and of the end of a clear stream of which none is refused
-abbrev pub refused_status : ClearFault → Status
-refused_status fault = BadClear (packet_in fault) (cause_in fault)
-
+-- the status that comes of the end of a clear stream of which no packet is refused
 abbrev pub clear_status : StreamEnd → Status
 clear_status Whole = Done
 clear_status (Breaks found) = BadClear found.packet (Broken found.cause)

@@ -2,15 +2,14 @@ ghost use Rattle.std.specs.Prelude.{◌≡◌, ◌≢◌, []};
 ghost use Rattle.sd_head.specs.Staged.{plan_in, IsAfter};
 ghost use Rattle.sd_command_base.specs.Outside.{PageState, outside, depot_state};
 ghost use Rattle.sd_command_base.specs.Outcome.{Implements, status_of};
-ghost use Rattle.sd_run_broadcasts.specs.Head.{head_meaning, refusal_in, refused_status};
-ghost use Rattle.sd_run_broadcasts.specs.Head.{sent_told, SendsLeft};
+ghost use Rattle.sd_run_broadcasts.specs.Head.{head_meaning, refusal_in, sent_told, SendsLeft};
 ghost use Rattle.sd_command_base.specs.Turned.{HasPortCause};
 ghost use Rattle.sd_command_base.specs.Shown.{shown_word};
 
 use sd_base::Steps;
-use sd_command_base::{ClearCause, Status, Word, close_both, open_both, read_both};
+use sd_command_base::{ClearCause, Status, Word, close_both, open_both, read_both, refused};
 use sd_engine::{DriveFault, MOST_PACKETS, drive};
-use sd_head::{ClearFault, Head, HeadFault};
+use sd_head::{Head, HeadFault};
 use sd_ports::{Depot, Sink, Source};
 use std::alloc::Global;
 use std::sync::ledger::Ledger;
@@ -75,19 +74,4 @@ fn told(driven: Result<u64, DriveFault<HeadFault>>) -> Result<(), Status>
         Err(DriveFault::Refused(HeadFault::Clear(fault))) => Err(refused(fault)),
         Err(DriveFault::Refused(HeadFault::NoMemory)) => Err(Status::NoMemory),
     }
-}
-
-/// The status of a clear packet that is refused.
-pub fn refused(fault: ClearFault) -> Status
-    ensures { result ≡ refused_status fault }
-{
-    let (packet, cause) = match fault {
-        ClearFault::AlreadyScrambled(packet) => (packet, ClearCause::AlreadyScrambled),
-        ClearFault::PidTaken(packet, pid) => (packet, ClearCause::PidTaken(pid)),
-        ClearFault::PatForm(packet, form) => (packet, ClearCause::PatForm(form)),
-        ClearFault::PmtForm(packet, form) => (packet, ClearCause::PmtForm(form)),
-        ClearFault::TooManyPids(packet) => (packet, ClearCause::TooManyPids),
-        ClearFault::TooLong(packet) => (packet, ClearCause::TooLong),
-    };
-    Status::BadClear { packet, cause }
 }

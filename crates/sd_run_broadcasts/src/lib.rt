@@ -10,6 +10,6 @@ mod trial_plan;
 mod trial_prefix;
 mod trial_send;
 
-pub use head_command::{head, refused, send};
-pub use receive_command::{receive, receive_all};
+pub use head_command::head;
+pub use receive_command::receive;
 pub use trial_command::trial;

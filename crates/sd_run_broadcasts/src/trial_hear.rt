@@ -2,7 +2,7 @@ ghost use Rattle.std.specs.Prelude.{[], IfOk};
 ghost use Rattle.sd_receive.specs.Receiving.{IsAfter, card_in};
 ghost use Rattle.sd_run_broadcasts.specs.Trial.{HasHeard};
 
-use crate::receive_all;
+use crate::receive_command::receive_all;
 use crate::trial_send::{settled, wants_memory};
 use sd_base::{NoMemory, Steps};
 use sd_command_base::Status;

@@ -4,7 +4,7 @@ ghost use Rattle.sd_command_base.specs.Outcome.{IsEnding, status_of};
 ghost use Rattle.sd_command_base.specs.Printed.{MemoryOutcome};
 ghost use Rattle.sd_run_broadcasts.specs.Trial.{HasSent, is_wanting, sent_or, told_sent};
 
-use crate::send;
+use crate::head_command::send;
 use sd_base::{NoMemory, Steps};
 use sd_book::Book;
 use sd_command_base::{LimitKind, Status};

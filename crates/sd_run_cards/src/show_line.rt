@@ -3,7 +3,7 @@ ghost use Rattle.serde_json.specs.View.{view};
 ghost use Rattle.sd_site.specs.Files.{check_in as check_of_file};
 ghost use Rattle.sd_run_cards.specs.Show.{labels_for, shown_data, shown_line};
 
-use sd_command_base::json_line;
+use sd_command_base::as_line;
 use sd_site::{CHECK_BYTES, Card};
 use sd_tree::Height;
 use serde_json::{Value, json};
@@ -15,7 +15,8 @@ pub(crate) fn line_of(alloc: Global, card: &Card, bytes: &[u8]) -> Result<String
     ensures { IfOk result (λ text. string_bytes text
         ≡ shown_line card.now.height card.now.leaf card.now.ca (check_of_file bytes.now)) }
 {
-    json_line(alloc, &value_of(alloc, card, check_in(bytes))?)
+    let value = value_of(alloc, card, check_in(bytes))?;
+    as_line(value.to_string(alloc)?)
 }
 
 // What is shown of a card whose file ends with this check.

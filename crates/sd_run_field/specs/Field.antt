@@ -11,7 +11,7 @@ use Rattle.sd_site.specs.SiteFields.{SiteFields}
 use Rattle.sd_book.specs.Commands.{last_period}
 use Rattle.sd_spec.specs.Refused.{refusal_from}
 use Rattle.sd_spec.specs.Sent.{body}
-use Rattle.sd_spec.specs.declared.clear_fault.ClearFault.{ClearFault}
+use Rattle.sd_psi.specs.declared.clear_fault.ClearFault.{ClearFault}
 use Rattle.sd_spec.specs.declared.event.Event.{Event}
 use Rattle.sd_field.specs.declared.fault.ScriptFault.{ScriptFault}
 use Rattle.sd_field.specs.declared.fault.ScriptFault.TheVariants as script
@@ -26,7 +26,7 @@ use Rattle.sd_command_base.specs.Spec.{Spec, FileArgument, Readings, judged, val
 use Rattle.sd_command_base.specs.Work.{Work}
 use Rattle.sd_command_base.specs.Files.{low_site_of_file, most_book_bytes}
 use Rattle.sd_command_base.specs.Printed.{printing}
-use Rattle.sd_run_broadcasts.specs.Head.{refused_status}
+use Rattle.sd_command_base.specs.Streams.{refused_status}
 
 -- the greatest height of a field's tree
 abbrev pub most_height : ℕ

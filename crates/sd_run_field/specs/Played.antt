@@ -1,11 +1,11 @@
 -- Inner: how the events of a field are done, one after the other.
 use Rattle.std.specs.Prelude.{◌≡◌, ◌⊎◌, ◌<◌, [], Bool, true, false, length, Some, None, Result, Ok, Err}
 use Rattle.sd_spec.specs.Refused.{refusal_from}
-use Rattle.sd_spec.specs.declared.clear_fault.ClearFault.{ClearFault}
+use Rattle.sd_psi.specs.declared.clear_fault.ClearFault.{ClearFault}
 use Rattle.sd_field.specs.Fields.{FieldValue, after_next, next_refusal, taken}
 use Rattle.sd_command_base.specs.declared.status.Status.{Status}
 use Rattle.sd_command_base.specs.declared.status.Status.TheVariants.{NoMemory}
-use Rattle.sd_run_broadcasts.specs.Head.{refused_status}
+use Rattle.sd_command_base.specs.Streams.{refused_status}
 use Rattle.sd_run_field.specs.Field.{done_field}
 
 -- one event was done, or none was left, or the clear packet that it sends is refused, or memory didn't suffice

@@ -2,9 +2,8 @@ ghost use Rattle.std.specs.Prelude.{◌≡◌, None};
 ghost use Rattle.sd_run_field.specs.Played.{EventOutcome, PlayOutcome};
 
 use sd_base::Steps;
-use sd_command_base::Status;
+use sd_command_base::{Status, refused};
 use sd_field::{Field, FieldFault};
-use sd_run_broadcasts::refused;
 use std::sync::ledger::Ledger;
 
 /// Runs all events of a new field, or returns the status of the event at which it stops.

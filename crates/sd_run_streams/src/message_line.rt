@@ -8,7 +8,7 @@ ghost use Rattle.sd_run_streams.specs.MessageLines.{ecm_told, emm_told, message_
 use crate::ecm::ecm_value;
 use crate::emm::emm_value;
 use crate::message_fault::fault_value;
-use sd_command_base::json_line;
+use sd_command_base::as_line;
 use sd_ecm::read_ecm;
 use sd_emm::read_emm;
 use sd_packet::Packet;
@@ -30,7 +30,7 @@ pub(crate) fn line_of(
     ensures { IfOk result (λ text. string_bytes text ≡ message_line (fields_of site.now) number packet.now) }
 {
     match message_value(alloc, site, number, packet)? {
-        Some(value) => json_line(alloc, &value),
+        Some(value) => as_line(value.to_string(alloc)?),
         None => Ok(String::new(alloc)),
     }
 }

@@ -8,7 +8,7 @@ use crate::pat::pat_value;
 use crate::pmt::pmt_value;
 use crate::table::{Table, TableFault};
 use sd_base::NoMemory;
-use sd_command_base::json_line;
+use sd_command_base::as_line;
 use serde_json::{Value, json};
 use std::alloc::{AllocError, Global};
 
@@ -42,7 +42,8 @@ fn line(
 ) -> Result<String, AllocError>
     ensures { IfOk result (λ text. string_bytes text ≡ line_as packet pid table.now) }
 {
-    json_line(alloc, &table_value(alloc, packet, pid, table)?)
+    let value = table_value(alloc, packet, pid, table)?;
+    as_line(value.to_string(alloc)?)
 }
 
 // What is shown of it.

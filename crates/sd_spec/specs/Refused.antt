@@ -15,9 +15,9 @@ use Rattle.sd_ecm.specs.Versions.{most_places}
 use Rattle.sd_spec.specs.Kinds.{kind_of, has_moved, moved_pids}
 use Rattle.sd_spec.specs.declared.kind.Kind.{Kind}
 use Rattle.sd_spec.specs.declared.kind.Kind.TheVariants.{Passed, Pmt, Scrambled}
-use Rattle.sd_spec.specs.declared.clear_fault.ClearFault.{ClearFault}
-use Rattle.sd_spec.specs.declared.clear_fault.ClearFault.TheVariants.{AlreadyScrambled, PidTaken, PatForm, PmtForm}
-use Rattle.sd_spec.specs.declared.clear_fault.ClearFault.TheVariants.{TooManyPids, TooLong}
+use Rattle.sd_psi.specs.declared.clear_fault.ClearFault.{ClearFault}
+use Rattle.sd_psi.specs.declared.clear_fault.ClearFault.TheVariants.{AlreadyScrambled, PidTaken, PatForm, PmtForm}
+use Rattle.sd_psi.specs.declared.clear_fault.ClearFault.TheVariants.{TooManyPids, TooLong}
 
 -- this fault where something holds, or else the next
 abbrev pub fault_where : Bool → ClearFault → Option ClearFault → Option ClearFault

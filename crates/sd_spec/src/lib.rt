@@ -4,7 +4,6 @@
 
 mod book;
 pub mod broadcast_laws;
-mod clear_fault;
 mod ending;
 mod event;
 mod kind;
@@ -17,7 +16,6 @@ pub use book::{
     event_books_go_on, packets_depend_on_their_periods, periods_fill_books,
     periods_of_packets_stay, reached_periods_stay, sends_are_counted, what_was_sent_stays,
 };
-pub use clear_fault::ClearFault;
 pub use ending::Ending;
 pub use event::Event;
 pub use kind::Kind;

@@ -1,5 +1,6 @@
 use sd_book::BookLimit;
-use sd_command_base::{Clash, ClearCause, LimitKind, Status, StreamCause, tell};
+use sd_command_base::{Clash, ClearCause, LimitKind, Status, StreamCause};
+use sd_command_line::tell;
 use sd_ecm::EcmFault;
 use sd_emm::EmmFault;
 use sd_engine::BreakCause;

@@ -1,4 +1,4 @@
-use sd_psi::FormFault;
+use crate::fault::FormFault;
 
 /// Why a clear packet is refused. The first number is the packet's.
 #[derive(Clone, Copy, PartialEq, Eq)]

@@ -9,12 +9,12 @@ ghost use Rattle.sd_command_base.specs.Texts.{revoked_line as revoked_line_of, u
 ghost use Rattle.sd_command_base.specs.Texts.{unclosed_line as unclosed_line_of, gaps_line as gaps_line_of};
 ghost use Rattle.sd_command_base.specs.Texts.{missing_line as missing_line_of, book_line as book_line_of};
 ghost use Rattle.sd_command_base.specs.Texts.{word_line as word_line_of, clash_line as clash_line_of};
-ghost use Rattle.sd_command_base.specs.Lines.{bytes_of};
+ghost use Rattle.sd_command_line.specs.Lines.{bytes_of};
 ghost use Rattle.sd_command_base.specs.Outside.{page_state};
 ghost use Rattle.sd_command_base.specs.Results.{PrintsLine, PrintsStatusLine, TakesMemory};
 
-use crate::status::{Clash, ClearCause, LimitKind, Status, StreamCause};
 use sd_book::BookLimit;
+use sd_command_base::{Clash, ClearCause, LimitKind, Status, StreamCause};
 use sd_engine::BreakCause;
 use sd_ports::{Sink, write_all};
 use sd_psi::FormFault;
@@ -43,7 +43,7 @@ impl Line {
 
 /// Prints the line of a status, and answers the status: `NoMemory` where memory runs out for the line, and
 /// `PrintFault` where print failed. `Done` and `PrintFault` have no line.
-#[tactic(auto, unfolding(crate::specs::Texts::line_of))]
+#[tactic(auto, unfolding(sd_command_base::specs::Texts::line_of))]
 pub fn tell<P: Sink>(alloc: Global, print: &mut P, status: Status) -> Status
     ensures { PrintsStatusLine (page_state P.Sink print.old) (page_state P.Sink print.new) status result }
 {
@@ -65,7 +65,7 @@ fn say<P: Sink>(print: &mut P, status: Status, line: &[u8]) -> Status
 }
 
 /// The line of a status.
-#[tactic(auto, unfolding(crate::specs::Texts::line_of))]
+#[tactic(auto, unfolding(sd_command_base::specs::Texts::line_of))]
 fn status_line(alloc: Global, status: Status) -> Result<Line, AllocError>
     ensures value { IfOk result (λ line. bytes_of line ≡ line_of status) }
     ensures memory { OnErr result (TakesMemory status) }
@@ -93,7 +93,7 @@ fn status_line(alloc: Global, status: Status) -> Result<Line, AllocError>
 }
 
 /// The line of a file that isn't there.
-#[tactic(auto, unfolding(crate::specs::Texts::missing_line))]
+#[tactic(auto, unfolding(sd_command_base::specs::Texts::missing_line))]
 fn missing_line(alloc: Global, word: u8) -> Result<Line, AllocError>
     ensures { IfOk result (λ line. bytes_of line ≡ missing_line_of word) }
 {
@@ -101,7 +101,7 @@ fn missing_line(alloc: Global, word: u8) -> Result<Line, AllocError>
 }
 
 /// The line of a refused line of a file.
-#[tactic(auto, unfolding(crate::specs::Texts::book_line))]
+#[tactic(auto, unfolding(sd_command_base::specs::Texts::book_line))]
 fn book_line(alloc: Global, word: u8, line: u32) -> Result<Line, AllocError>
     ensures { IfOk result (λ text. bytes_of text ≡ book_line_of word line) }
 {
@@ -109,7 +109,7 @@ fn book_line(alloc: Global, word: u8, line: u32) -> Result<Line, AllocError>
 }
 
 /// The line of a word that is out of its range.
-#[tactic(auto, unfolding(crate::specs::Texts::word_line))]
+#[tactic(auto, unfolding(sd_command_base::specs::Texts::word_line))]
 fn word_line(alloc: Global, word: u8) -> Result<Line, AllocError>
     ensures { IfOk result (λ line. bytes_of line ≡ word_line_of word) }
 {
@@ -117,7 +117,7 @@ fn word_line(alloc: Global, word: u8) -> Result<Line, AllocError>
 }
 
 /// The line of two broadcasts that may not go out under one set of cards.
-#[tactic(auto, unfolding(crate::specs::Texts::clash_line))]
+#[tactic(auto, unfolding(sd_command_base::specs::Texts::clash_line))]
 fn clash_line(alloc: Global, clash: Clash) -> Result<Line, AllocError>
     ensures { IfOk result (λ line. bytes_of line ≡ clash_line_of clash) }
 {
@@ -135,7 +135,7 @@ fn clash_line(alloc: Global, clash: Clash) -> Result<Line, AllocError>
 }
 
 /// The line of a leaf that is revoked.
-#[tactic(auto, unfolding(crate::specs::Texts::revoked_line))]
+#[tactic(auto, unfolding(sd_command_base::specs::Texts::revoked_line))]
 fn revoked_line(alloc: Global, leaf: u32, period: u32) -> Result<Line, AllocError>
     ensures { IfOk result (λ line. bytes_of line ≡ revoked_line_of leaf period) }
 {
@@ -143,7 +143,7 @@ fn revoked_line(alloc: Global, leaf: u32, period: u32) -> Result<Line, AllocErro
 }
 
 /// The line of a leaf of which no entitlement came.
-#[tactic(auto, unfolding(crate::specs::Texts::unheard_line))]
+#[tactic(auto, unfolding(sd_command_base::specs::Texts::unheard_line))]
 fn unheard_line(alloc: Global, leaf: u32, period: u32) -> Result<Line, AllocError>
     ensures { IfOk result (λ line. bytes_of line ≡ unheard_line_of leaf period) }
 {
@@ -153,7 +153,7 @@ fn unheard_line(alloc: Global, leaf: u32, period: u32) -> Result<Line, AllocErro
 }
 
 /// The line of a stream that isn't closed.
-#[tactic(auto, unfolding(crate::specs::Texts::unclosed_line))]
+#[tactic(auto, unfolding(sd_command_base::specs::Texts::unclosed_line))]
 fn unclosed_line(alloc: Global, number: u64) -> Result<Line, AllocError>
     ensures { IfOk result (λ line. bytes_of line ≡ unclosed_line_of number) }
 {
@@ -161,7 +161,7 @@ fn unclosed_line(alloc: Global, number: u64) -> Result<Line, AllocError>
 }
 
 /// The line of clear packets that were not written.
-#[tactic(auto, unfolding(crate::specs::Texts::gaps_line))]
+#[tactic(auto, unfolding(sd_command_base::specs::Texts::gaps_line))]
 fn gaps_line(alloc: Global, packets: u64) -> Result<Line, AllocError>
     ensures { IfOk result (λ line. bytes_of line ≡ gaps_line_of packets) }
 {
@@ -169,7 +169,7 @@ fn gaps_line(alloc: Global, packets: u64) -> Result<Line, AllocError>
 }
 
 /// The line of a refused site.
-#[tactic(auto, unfolding(crate::specs::Texts::site_line))]
+#[tactic(auto, unfolding(sd_command_base::specs::Texts::site_line))]
 fn site_line(alloc: Global, fault: SiteFault) -> Result<Line, AllocError>
     ensures { IfOk result (λ line. bytes_of line ≡ site_line_of fault) }
 {
@@ -183,7 +183,7 @@ fn site_line(alloc: Global, fault: SiteFault) -> Result<Line, AllocError>
 }
 
 /// The line of a clear packet that is refused.
-#[tactic(auto, unfolding(crate::specs::Texts::clear_line))]
+#[tactic(auto, unfolding(sd_command_base::specs::Texts::clear_line))]
 fn clear_line(alloc: Global, packet: u64, cause: ClearCause) -> Result<Line, AllocError>
     ensures { IfOk result (λ line. bytes_of line ≡ clear_line_of packet cause) }
 {
@@ -192,7 +192,7 @@ fn clear_line(alloc: Global, packet: u64, cause: ClearCause) -> Result<Line, All
 }
 
 /// Why a clear packet is refused.
-#[tactic(auto, unfolding(crate::specs::Texts::clear_text))]
+#[tactic(auto, unfolding(sd_command_base::specs::Texts::clear_text))]
 fn clear_text(alloc: Global, cause: ClearCause) -> Result<String, AllocError>
     ensures { IfOk result (λ text. string_bytes text ≡ clear_text_of cause) }
 {
@@ -214,7 +214,7 @@ fn clear_text(alloc: Global, cause: ClearCause) -> Result<String, AllocError>
 }
 
 /// The form that a PAT or a PMT hasn't.
-#[tactic(auto, unfolding(crate::specs::Texts::form_text, crate::specs::Texts::hex_of))]
+#[tactic(auto, unfolding(sd_command_base::specs::Texts::form_text, sd_command_base::specs::Texts::hex_of))]
 fn form_text(alloc: Global, fault: FormFault) -> Result<String, AllocError>
     ensures { IfOk result (λ text. string_bytes text ≡ form_text_of fault) }
 {
@@ -234,7 +234,7 @@ fn form_text(alloc: Global, fault: FormFault) -> Result<String, AllocError>
 }
 
 /// A number in eight hexadecimal digits.
-#[tactic(auto, unfolding(crate::specs::Texts::hex_of))]
+#[tactic(auto, unfolding(sd_command_base::specs::Texts::hex_of))]
 fn hex_text(alloc: Global, number: u32) -> Result<String, AllocError>
     ensures { IfOk result (λ text. string_bytes text ≡ hex_of number) }
 {
@@ -242,7 +242,7 @@ fn hex_text(alloc: Global, number: u32) -> Result<String, AllocError>
 }
 
 /// The line of a packet that breaks a rule.
-#[tactic(auto, unfolding(crate::specs::Texts::stream_line))]
+#[tactic(auto, unfolding(sd_command_base::specs::Texts::stream_line))]
 fn stream_line(alloc: Global, packet: u64, cause: StreamCause) -> Result<Line, AllocError>
     ensures { IfOk result (λ line. bytes_of line ≡ stream_line_of packet cause) }
 {
@@ -251,7 +251,7 @@ fn stream_line(alloc: Global, packet: u64, cause: StreamCause) -> Result<Line, A
 }
 
 /// Why a packet breaks a rule.
-#[tactic(auto, unfolding(crate::specs::Texts::stream_text))]
+#[tactic(auto, unfolding(sd_command_base::specs::Texts::stream_text))]
 fn stream_text(alloc: Global, cause: StreamCause) -> Result<String, AllocError>
     ensures { IfOk result (λ text. string_bytes text ≡ stream_text_of cause) }
 {
@@ -279,7 +279,7 @@ fn stream_text(alloc: Global, cause: StreamCause) -> Result<String, AllocError>
 }
 
 /// A check value, and the one that it is to be.
-#[tactic(auto, unfolding(crate::specs::Texts::checks_text))]
+#[tactic(auto, unfolding(sd_command_base::specs::Texts::checks_text))]
 fn checks_text(alloc: Global, found: &[u8; 16], due: &[u8; 16]) -> Result<String, AllocError>
     ensures { IfOk result (λ text. string_bytes text ≡ checks_text_of found.now due.now) }
 {
@@ -289,7 +289,7 @@ fn checks_text(alloc: Global, found: &[u8; 16], due: &[u8; 16]) -> Result<String
 }
 
 /// Why a stream breaks.
-#[tactic(auto, unfolding(crate::specs::Texts::break_text))]
+#[tactic(auto, unfolding(sd_command_base::specs::Texts::break_text))]
 fn break_text(cause: BreakCause) -> &'static str
     ensures { result.now ≡ break_text_of cause }
 {
@@ -300,7 +300,7 @@ fn break_text(cause: BreakCause) -> &'static str
 }
 
 /// The line of a card that is refused.
-#[tactic(auto, unfolding(crate::specs::Texts::card_line))]
+#[tactic(auto, unfolding(sd_command_base::specs::Texts::card_line))]
 fn card_line(alloc: Global, fault: CardFault) -> Result<Line, AllocError>
     ensures { IfOk result (λ line. bytes_of line ≡ card_line_of fault) }
 {
@@ -319,7 +319,7 @@ fn card_line(alloc: Global, fault: CardFault) -> Result<Line, AllocError>
 }
 
 /// The line of what is over its limit.
-#[tactic(auto, unfolding(crate::specs::Texts::limit_line, crate::specs::Texts::book_limit_line))]
+#[tactic(auto, unfolding(sd_command_base::specs::Texts::limit_line, sd_command_base::specs::Texts::book_limit_line))]
 fn limit_line(alloc: Global, kind: LimitKind) -> Result<Line, AllocError>
     ensures { IfOk result (λ line. bytes_of line ≡ limit_line_of kind) }
 {

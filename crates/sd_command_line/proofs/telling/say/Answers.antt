@@ -1,5 +1,5 @@
 use Rattle.std.proofs.Common.{rules}
-use Rattle.sd_command_base.proofs.telling.say.Goals as goal
+use Rattle.sd_command_line.proofs.telling.say.Goals as goal
 
 pub returns-in-Err : goal.returns-in-Err
 returns-in-Err g c = search rules
