@@ -5,7 +5,7 @@ The meaning of each exit has three places: help (sd_command_line, specs/Exits), 
 docs/FORMATS.md, and the manual page docs/sdca.1. A cell of the table begins with the text that help prints of a
 command with inputs and OUT; details may follow after a full stop. The manual page has that text as a sentence. What
 help prints of other commands instead is quoted in docs/FORMATS.md. The printed lines have two places: `line_of` and
-what it cites (sd_command_base, specs/Texts; specs/Faults of sd_emm and sd_ecm), and the second column of the table.
+what it cites (sd_command_base, specs/Texts; EmmFaults and EcmFaults of sd_message), and the second column of the table.
 Each printed text is in the table, and the table has no other text. The arguments of a command have two places: the
 table of commands (sd_command_line, specs/Commands), and the comments of `Command` in src/command.rt, which the
 launcher reads. It prints what differs, and exits with 1 if something does."""
@@ -21,8 +21,8 @@ ARGUMENTS = "crates/sd_command_line/specs/Operands.antt"
 COMMENTS = "crates/sd_command_line/src/command.rt"
 LINES = [
     "crates/sd_command_base/specs/Texts.antt",
-    "crates/sd_emm/specs/Faults.antt",
-    "crates/sd_ecm/specs/Faults.antt",
+    "crates/sd_message/specs/EmmFaults.antt",
+    "crates/sd_message/specs/EcmFaults.antt",
 ]
 TABLE = "docs/FORMATS.md"
 MANUAL = "docs/sdca.1"

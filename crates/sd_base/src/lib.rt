@@ -5,12 +5,9 @@
 
 mod decimals;
 mod field;
-pub mod laws;
 mod lines;
 mod memory;
-pub mod numbers;
 mod steps;
-pub mod text_laws;
 mod word;
 
 pub use decimals::{NumberFault, number_after};

@@ -2,10 +2,10 @@
 
 ghost use Rattle.std.specs.Prelude.{◌≡◌, ◌^◌, ◌<◌, ◌≤◌, IfOk, length, vec_len};
 ghost use Rattle.sd_tree.specs.SetNames.{AreAscending};
-ghost use Rattle.sd_emm.specs.Spelled.{listed_entries, names_in};
-ghost use Rattle.sd_emm.specs.Form.{AreSets, IsEmm};
+ghost use Rattle.sd_message.specs.EmmSpelled.{listed_entries, names_in};
+ghost use Rattle.sd_message.specs.EmmForm.{AreSets, IsEmm};
 
-use sd_emm::{Emm, Entry, are_ascending, read_emm, section_count, write_emm};
+use sd_message::{Emm, Entry, are_ascending, read_emm, section_count, write_emm};
 use sd_packet::Packet;
 use sd_tree::{Height, Leaf, SetName, contains};
 use std::alloc::{AllocError, Global};

@@ -135,7 +135,7 @@ impl Book {
         ensures below { IfOk result (λ leaves. All (λ leaf. leaf < 2 ^ self.now.height) leaves.items) }
         ensures ascending { IfOk result (λ leaves. IsStrictlyIncreasing leaves.items) }
     {
-        revoked_after(alloc, self.height, until(&self.list, q)).map_err(|_| NoMemory)
+        Ok(revoked_after(alloc, self.height, until(&self.list, q))?)
     }
 
     /// A replay of all periods, which has taken no command. Nothing is allocated.
@@ -155,7 +155,7 @@ impl Book {
         // It is read again.
         ensures again { book_of self.now.height (text_of self.now.commands) ≡ Ok self.now.commands }
     {
-        text_of(alloc, &self.list).map_err(|_| NoMemory)
+        Ok(text_of(alloc, &self.list)?)
     }
 }
 

@@ -47,7 +47,7 @@ impl Draft {
     {
         Ok(Draft {
             list: Vec::new(alloc),
-            tally: Tally::new(alloc, h).map_err(|_| NoMemory)?,
+            tally: Tally::new(alloc, h)?,
         })
     }
 
@@ -59,8 +59,8 @@ impl Draft {
         ensures fits { IfOk result (λ draft. IsDraft h draft.commands) }
     {
         Ok(Draft {
-            list: commands.to_vec(alloc).map_err(|_| NoMemory)?,
-            tally: Tally::of(alloc, h, commands).map_err(|_| NoMemory)?,
+            list: commands.to_vec(alloc)?,
+            tally: Tally::of(alloc, h, commands)?,
         })
     }
 

@@ -5,7 +5,6 @@ mod book;
 mod command;
 mod draft;
 mod fault;
-pub mod laws;
 mod limits;
 mod line;
 mod periods;

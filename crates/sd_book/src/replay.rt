@@ -114,7 +114,7 @@ fn take(revoked: &mut BTreeSet<Leaf>, command: &Command) -> Result<(), NoMemory>
             revoked.remove(&leaf);
         }
         Command::Revoke(leaf) => {
-            revoked.insert(leaf).map_err(|_| NoMemory)?;
+            revoked.insert(leaf)?;
         }
         Command::Period => {}
     }
@@ -125,5 +125,5 @@ fn take(revoked: &mut BTreeSet<Leaf>, command: &Command) -> Result<(), NoMemory>
 fn listed(alloc: Global, leaves: &BTreeSet<Leaf>) -> Result<Vec<Leaf>, NoMemory>
     ensures { IfOk result (λ list. list.items ≡ leaves.now.keys) }
 {
-    leaves.iter().copied().collect(alloc).map_err(|_| NoMemory)
+    Ok(leaves.iter().copied().collect(alloc)?)
 }

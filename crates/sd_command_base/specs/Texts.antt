@@ -13,8 +13,8 @@ use Rattle.sd_book.specs.declared.fault.BookLimit.{BookLimit}
 use Rattle.sd_book.specs.declared.fault.BookLimit.TheVariants as limit
 use Rattle.sd_site.specs.declared.card_fault.CardFault.{CardFault}
 use Rattle.sd_site.specs.declared.card_fault.CardFault.TheVariants as card
-use Rattle.sd_emm.specs.Faults.{emm_fault_name}
-use Rattle.sd_ecm.specs.Faults.{ecm_fault_name}
+use Rattle.sd_message.specs.EmmFaults.{emm_fault_name}
+use Rattle.sd_message.specs.EcmFaults.{ecm_fault_name}
 use Rattle.sd_command_base.specs.declared.status.Status.{Status}
 use Rattle.sd_command_base.specs.declared.status.Status.TheVariants.{Done, Usage, Missing, Revoked, DepotFault}
 use Rattle.sd_command_base.specs.declared.status.Status.TheVariants.{PrintFault}

@@ -3,9 +3,8 @@ ghost use Rattle.sd_command_base.specs.Exits.{code_of};
 
 use sd_base::NoMemory;
 use sd_book::BookLimit;
-use sd_ecm::EcmFault;
-use sd_emm::EmmFault;
 use sd_engine::BreakCause;
+use sd_message::{EcmFault, EmmFault};
 use sd_psi::FormFault;
 use sd_site::{CardFault, SiteFault};
 use std::alloc::AllocError;

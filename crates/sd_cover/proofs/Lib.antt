@@ -35,3 +35,6 @@ pub mod Inside
 pub mod Boxes
 pub mod Anyway
 pub mod Listed
+pub mod Derivation
+pub mod Reached
+pub mod Own

@@ -11,3 +11,5 @@ pub mod Halves
 pub mod Search
 pub mod Trace
 pub mod Rounds
+pub mod Derivation
+pub mod Reach

@@ -122,7 +122,7 @@ fn make(table: &mut Vec<u32>) -> Result<(), NoMemory>
     ensures unchanged { OnErr result (table.new.items ≡ table.old.items) }
 {
     if table.is_empty() {
-        table.resize(NODES as usize, 0).map_err(|_| NoMemory)?;
+        table.resize(NODES as usize, 0)?;
     }
     Ok(())
 }

@@ -1,5 +1,6 @@
 //! The cover by chains of the Steiner tree, and its incremental index, which keeps the revoked leaves between periods.
-//! Tracing: which leaves of an unknown coalition still open what is sent to a box.
+//! Tracing: which leaves of an unknown coalition still open what is sent to a box. Which keys follow from the names that
+//! receivers are given, by the steps of the generator.
 #![tactic(auto)]
 
 mod coalition;
@@ -7,13 +8,12 @@ mod counts;
 mod cut;
 mod found;
 mod index;
-pub mod laws;
+mod keys;
 mod narrow;
 mod path;
 mod search;
 mod sets;
 mod target;
-pub mod trace_laws;
 mod tracing;
 mod walk;
 
@@ -22,10 +22,7 @@ pub use counts::{Counts, MOST_ROOM, NODES};
 pub use cut::halves;
 pub use found::{Found, TraceFault};
 pub use index::{CoverIndex, MOST_SPARE};
-pub use laws::{
-    cover_is_listed, cover_is_small, cover_unites, one_cover, same_leaves_same_cover,
-    same_nodes_same_cover, sets_are_of_height,
-};
+pub use keys::opens;
 pub use target::TestBox;
 pub use tracing::trace_all;
 pub use walk::{CoverFault, cover};

@@ -25,7 +25,7 @@ impl CoverIndex {
             × IsChainCover self.now.height self.now.revoked sets.items) }
         ensures steps { steps.new ≤ steps.old + (length self.now.revoked * self.now.height + 1) }
     {
-        chain_sets(alloc, &self.counts, self.height, steps).map_err(|_| NoMemory)
+        Ok(chain_sets(alloc, &self.counts, self.height, steps)?)
     }
 }
 

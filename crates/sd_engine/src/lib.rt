@@ -5,7 +5,6 @@
 mod driver;
 mod fault;
 mod feed;
-pub mod laws;
 mod sample_packet;
 mod sample_stream;
 mod stage;

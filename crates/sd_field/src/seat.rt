@@ -202,5 +202,5 @@ pub fn new_seats<L: Ledger>(
 fn add(seats: &mut Vec<Seat>, seat: Seat) -> Result<(), NoMemory>
     ensures { OnOk result (seats.new.items ≡ seats.old.items ++ seat ∷ []) }
 {
-    seats.push(seat).map_err(|_| NoMemory)
+    Ok(seats.push(seat)?)
 }

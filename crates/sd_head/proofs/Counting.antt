@@ -10,15 +10,15 @@ use Rattle.sd_packet.specs.Packing.{packed}
 use Rattle.sd_packet.proofs.Packets.{packet_counted}
 use Rattle.sd_psi.specs.OurCat.{cat_section}
 use Rattle.sd_site.specs.SiteFields.{SiteFields}
-use Rattle.sd_emm.specs.Spelled.{emm_section}
-use Rattle.sd_emm.specs.declared.emm.Emm.{Emm}
-use Rattle.sd_ecm.specs.Spelled.{ecm_section}
-use Rattle.sd_ecm.specs.declared.part.EcmPart.{EcmPart}
+use Rattle.sd_message.specs.EmmSpelled.{emm_section}
+use Rattle.sd_message.specs.declared.emm.Emm.{Emm}
+use Rattle.sd_message.specs.EcmSpelled.{ecm_section}
+use Rattle.sd_message.specs.declared.ecm_part.EcmPart.{EcmPart}
 use Rattle.sd_spec.specs.Sent.{Item, Cat, Entitles, Controls, Carries, is_alike, packet_of, packets_from}
 use Rattle.sd_spec.specs.Sent.{is_cat_item}
-use Rattle.sd_ecm.specs.Parts.{message_of, parts_of}
-use Rattle.sd_ecm.specs.declared.message.EcmHead.{EcmHead}
-use Rattle.sd_ecm.specs.declared.part.Place.{Place}
+use Rattle.sd_message.specs.EcmParts.{message_of, parts_of}
+use Rattle.sd_message.specs.declared.ecm_message.EcmHead.{EcmHead}
+use Rattle.sd_message.specs.declared.ecm_part.Place.{Place}
 use Rattle.sd_spec.proofs.Sending.{packets_in_turn}
 use Rattle.sd_head.specs.Kept.{uncounted}
 use Rattle.sd_head.specs.Sending.{counter_after, numbered, recounted, packed_part}

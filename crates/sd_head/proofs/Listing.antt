@@ -6,7 +6,7 @@ use Rattle.sd_tree.specs.declared.set.SetName.{SetName}
 use Rattle.sd_site.specs.SiteFields.{SiteFields}
 use Rattle.sd_tree.specs.Keys.{key_of, period_key_of}
 use Rattle.sd_keystream.specs.Wrapping.{wrapped as under}
-use Rattle.sd_emm.specs.declared.emm.Entry.{Entry}
+use Rattle.sd_message.specs.declared.emm.Entry.{Entry}
 use Rattle.sd_spec.specs.Messages.{entry_of}
 
 abbrev entry_with : SetName → List ℕ → Entry

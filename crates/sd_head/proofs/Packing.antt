@@ -3,12 +3,12 @@ use Rattle.std.proofs.Common.{◌≡◌, ℕ, zero, suc, ◌+◌, ◌≤◌, Lis
 use Rattle.std.specs.Prelude.{map, slice_get, Option, Some}
 use Rattle.std.proofs.lemmas.List.{map-append, take_all}
 use Rattle.sd_packet.specs.Packing.{packed}
-use Rattle.sd_emm.specs.Spelled.{emm_section}
-use Rattle.sd_emm.specs.Form.{sections_for}
-use Rattle.sd_emm.specs.Period.{Period, emms_of}
-use Rattle.sd_emm.specs.declared.emm.Emm.{Emm}
-use Rattle.sd_emm.specs.declared.emm.Entry.{Entry}
-use Rattle.sd_emm.proofs.Sharing.{as_many}
+use Rattle.sd_message.specs.EmmSpelled.{emm_section}
+use Rattle.sd_message.specs.EmmForm.{sections_for}
+use Rattle.sd_message.specs.Period.{Period, emms_of}
+use Rattle.sd_message.specs.declared.emm.Emm.{Emm}
+use Rattle.sd_message.specs.declared.emm.Entry.{Entry}
+use Rattle.sd_message.proofs.EmmSharing.{as_many}
 use Rattle.sd_tree.specs.declared.set.SetName.{SetName}
 use Rattle.sd_tree.specs.Keys.{period_key_of, check_value_of}
 use Rattle.sd_site.specs.SiteFields.{SiteFields, run_name_of}

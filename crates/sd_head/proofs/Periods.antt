@@ -14,9 +14,9 @@ use Rattle.sd_book.specs.Value.{BookValue}
 use Rattle.sd_cover.specs.Cover.{cover_of}
 use Rattle.sd_packet.specs.Packing.{packed}
 use Rattle.sd_packet.proofs.Packets.{packet_counted}
-use Rattle.sd_emm.specs.Spelled.{emm_section}
-use Rattle.sd_emm.specs.Period.{Period, emms_of}
-use Rattle.sd_emm.specs.declared.emm.Emm.{Emm}
+use Rattle.sd_message.specs.EmmSpelled.{emm_section}
+use Rattle.sd_message.specs.Period.{Period, emms_of}
+use Rattle.sd_message.specs.declared.emm.Emm.{Emm}
 use Rattle.sd_cover.specs.Index.{IndexValue}
 use Rattle.sd_spec.specs.Messages.{period_at}
 use Rattle.sd_head.specs.Crypto.{crypto_in}

@@ -7,8 +7,8 @@ use Rattle.std.proofs.lemmas.Bool.Decides.{nat_tests}
 use Rattle.std.proofs.lemmas.List.{get_or-map, length-map, length-take-le, map-append, take_more}
 use Rattle.sd_packet.specs.Positions.{is_positional, position_of}
 use Rattle.sd_packet.proofs.Positions.{moved_by_near}
-use Rattle.sd_ecm.specs.Form.{ArePositioned, AreAscending, AreShort}
-use Rattle.sd_ecm.specs.declared.part.Place.{Place}
+use Rattle.sd_message.specs.EcmForm.{ArePositioned, AreAscending, AreShort}
+use Rattle.sd_message.specs.declared.ecm_part.Place.{Place}
 use Rattle.sd_spec.specs.Kinds.{has_moved, moved_pids, positional_pids}
 use Rattle.sd_spec.specs.Messages.{places_after}
 use Rattle.sd_head.specs.After.{ArePositions}

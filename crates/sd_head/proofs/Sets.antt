@@ -9,15 +9,15 @@ use Rattle.sd_tree.specs.SetNames.{AreAscending}
 use Rattle.sd_tree.specs.declared.set.SetName.{SetName}
 use Rattle.sd_tree.specs.declared.set.SetName.TheVariants.{Whole, Diff}
 use Rattle.sd_tree.specs.Limits.{most_revoked, highest}
-use Rattle.sd_emm.specs.declared.emm.Entry.{Entry}
+use Rattle.sd_message.specs.declared.emm.Entry.{Entry}
 use Rattle.sd_site.specs.SiteFields.{SiteFields}
 use Rattle.sd_cover.specs.Chains.{IsChainCover}
 use Rattle.sd_cover.proofs.Ends.{linked_start}
 use Rattle.sd_cover.proofs.Covers.{cover_small}
 use Rattle.sd_cover.proofs.Lists.{member_cases, no_member}
 use Rattle.sd_cover.proofs.Heights.{linked_above}
-use Rattle.sd_emm.specs.Spelled.{names_in}
-use Rattle.sd_emm.specs.declared.format.TheConstants.{MOST_SETS}
+use Rattle.sd_message.specs.EmmSpelled.{names_in}
+use Rattle.sd_message.specs.declared.emm_format.TheConstants.{MOST_SETS}
 use Rattle.sd_spec.specs.Messages.{entry_of}
 use Rattle.sd_spec.proofs.Periods.{names_are}
 use Rattle.sd_head.specs.Crypto.{IsKeyed}

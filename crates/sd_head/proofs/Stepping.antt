@@ -9,7 +9,7 @@ use Rattle.sd_site.specs.declared.site.Site.{Site}
 use Rattle.sd_site.specs.SiteFields.{SiteFields, fields_of}
 use Rattle.sd_engine.specs.declared.stage.StageFault.{StageFault}
 use Rattle.sd_engine.specs.declared.stage.StageFault.TheVariants.{Refused}
-use Rattle.sd_ecm.specs.declared.message.EcmHead.{EcmHead}
+use Rattle.sd_message.specs.declared.ecm_message.EcmHead.{EcmHead}
 use Rattle.sd_spec.specs.Plan.{Plan, crypto_length, crypto_of, word_in, word_of, period_in, period_of}
 use Rattle.sd_spec.specs.Plan.{closing_number}
 use Rattle.sd_spec.specs.Carried.{carried}

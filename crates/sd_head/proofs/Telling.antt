@@ -4,19 +4,19 @@ use Rattle.std.proofs.Common.{◌≤◌, ◌^◌, ◌%◌, ◌==◌, Bool, true,
 use Rattle.std.specs.Prelude.{Option, Some, None, if◌then◌else◌}
 use Rattle.sd_site.specs.Forms.{IsWithin, messages_line}
 use Rattle.sd_site.specs.SiteFields.{SiteFields}
-use Rattle.sd_ecm.specs.declared.message.EcmHead.{EcmHead}
-use Rattle.sd_ecm.specs.declared.part.Place.{Place}
+use Rattle.sd_message.specs.declared.ecm_message.EcmHead.{EcmHead}
+use Rattle.sd_message.specs.declared.ecm_part.Place.{Place}
 use Rattle.sd_head.proofs.Placing.{positioned, ascending, short}
 use Rattle.sd_spec.specs.Messages.{places_after}
 use Rattle.sd_head.specs.declared.crypto.CryptoPeriod.{CryptoPeriod}
 use Rattle.sd_head.specs.Messages.{head_of, message_due, number_due}
 use Rattle.std.specs.List.{concat}
 use Rattle.std.proofs.Common.{Vec, Global}
-use Rattle.sd_ecm.specs.Parts.{message_of, parts_of}
+use Rattle.sd_message.specs.EcmParts.{message_of, parts_of}
 use Rattle.sd_head.specs.Sending.{numbered, packed_part}
 use Rattle.sd_head.specs.Items.{MayBeSent, message_bytes}
 use Rattle.sd_head.specs.declared.sender.Sender.{Sender}
-use Rattle.sd_ecm.specs.Versions.{IsSince, IsBefore, most_places}
+use Rattle.sd_message.specs.EcmVersions.{IsSince, IsBefore, most_places}
 use Rattle.sd_spec.specs.Plan.{since_of}
 use Rattle.sd_spec.proofs.Schedule.{since_is_below}
 use Rattle.sd_spec.proofs.Naming.{version_is, named_is}

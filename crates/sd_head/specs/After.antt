@@ -2,7 +2,7 @@
 use Rattle.std.specs.Prelude.{◌≡◌, ◌≢◌, ℕ, ◌-◌, ◌^◌, ◌<◌, true, List, length, slice_index}
 use Rattle.sd_packet.specs.Header.{pid_of, scrambling_of}
 use Rattle.sd_packet.specs.Positions.{is_positional, is_placed, position_of, first_position}
-use Rattle.sd_ecm.specs.Versions.{most_places}
+use Rattle.sd_message.specs.EcmVersions.{most_places}
 use Rattle.sd_spec.specs.Kinds.{kind_of, pmts_in, moved_pids}
 use Rattle.sd_spec.specs.declared.kind.Kind.{Kind}
 use Rattle.sd_spec.specs.declared.kind.Kind.TheVariants.{Passed}

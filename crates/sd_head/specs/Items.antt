@@ -5,11 +5,11 @@ use Rattle.std.specs.List.{concat}
 use Rattle.sd_packet.specs.Packing.{packed}
 use Rattle.sd_psi.specs.OurCat.{cat_section}
 use Rattle.sd_site.specs.SiteFields.{SiteFields}
-use Rattle.sd_ecm.specs.Versions.{IsVersion, IsNamed, IsSince, most_places}
-use Rattle.sd_ecm.specs.Form.{ArePositioned, AreAscending, AreShort}
-use Rattle.sd_ecm.specs.Parts.{message_of, parts_of}
-use Rattle.sd_ecm.specs.declared.message.EcmHead.{EcmHead}
-use Rattle.sd_ecm.specs.declared.part.Place.{Place}
+use Rattle.sd_message.specs.EcmVersions.{IsVersion, IsNamed, IsSince, most_places}
+use Rattle.sd_message.specs.EcmForm.{ArePositioned, AreAscending, AreShort}
+use Rattle.sd_message.specs.EcmParts.{message_of, parts_of}
+use Rattle.sd_message.specs.declared.ecm_message.EcmHead.{EcmHead}
+use Rattle.sd_message.specs.declared.ecm_part.Place.{Place}
 use Rattle.sd_spec.specs.Sent.{Item, Cat, Entitles, Controls, Carries, is_cat_item}
 use Rattle.sd_head.specs.Sending.{counter_after, numbered, recounted, packed_part}
 use Rattle.sd_head.specs.declared.sender.Sender.{Sender}

@@ -4,9 +4,9 @@ use Rattle.sd_tree.specs.declared.set.SetName.{SetName}
 use Rattle.sd_packet.specs.Packing.{packed}
 use Rattle.sd_tree.specs.Keys.{period_key_of, check_value_of}
 use Rattle.sd_site.specs.SiteFields.{SiteFields, run_name_of}
-use Rattle.sd_emm.specs.Spelled.{emm_section}
-use Rattle.sd_emm.specs.Period.{Period, emms_of}
-use Rattle.sd_emm.specs.declared.emm.Entry.{Entry}
+use Rattle.sd_message.specs.EmmSpelled.{emm_section}
+use Rattle.sd_message.specs.Period.{Period, emms_of}
+use Rattle.sd_message.specs.declared.emm.Entry.{Entry}
 use Rattle.sd_spec.specs.Messages.{entry_of}
 
 -- the name of the run, a period's number, the check value of its key, and its entries

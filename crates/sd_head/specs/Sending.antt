@@ -2,8 +2,8 @@
 use Rattle.std.specs.Prelude.{ℕ, zero, suc, ◌+◌, ◌%◌, List, [], ◌∷◌, length, slice_set, Result, Ok, Err}
 use Rattle.std.specs.Io.KnownBytes.{Appends}
 use Rattle.sd_packet.specs.Packing.{packed}
-use Rattle.sd_ecm.specs.Spelled.{ecm_section}
-use Rattle.sd_ecm.specs.declared.part.EcmPart.{EcmPart}
+use Rattle.sd_message.specs.EcmSpelled.{ecm_section}
+use Rattle.sd_message.specs.declared.ecm_part.EcmPart.{EcmPart}
 use Rattle.sd_ports.specs.Bytes.{IsPrefix}
 use Rattle.sd_engine.specs.Stage.{SinkState, TookBytes, IsTooShort}
 

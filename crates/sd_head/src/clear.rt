@@ -1,5 +1,5 @@
 ghost use Rattle.std.specs.Prelude.{◌≡◌, ◌≤◌, vec_len, vec_capacity};
-ghost use Rattle.sd_ecm.specs.declared.format.TheConstants.{MOST_PLACES};
+ghost use Rattle.sd_message.specs.declared.ecm_format.TheConstants.{MOST_PLACES};
 ghost use Rattle.sd_head.specs.Known.{AreKnown, AreNear};
 
 /// How many PIDs there are (ISO/IEC 13818-1, 2.4.3.2).

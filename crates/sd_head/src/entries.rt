@@ -6,8 +6,8 @@ ghost use Rattle.sd_spec.specs.Messages.{entry_of};
 ghost use Rattle.sd_head.specs.Crypto.{IsKeyed};
 
 use sd_base::{NoMemory, Steps};
-use sd_emm::Entry;
 use sd_keystream::wrap;
+use sd_message::Entry;
 use sd_site::Site;
 use sd_tree::{SetName, descend, middle, period_key, root_label, whole_key};
 use std::alloc::{AllocError, Global};
@@ -24,7 +24,7 @@ pub fn entries_of<L: Ledger>(
     requires { All IsKeyed sets.now }
     ensures { IfOk result (λ entries. entries.items ≡ map (entry_of (fields_of site.now) q) sets.now) }
 {
-    listed(alloc, site, q, sets, steps).map_err(|_| NoMemory)
+    Ok(listed(alloc, site, q, sets, steps)?)
 }
 
 // The same, or the allocator's own error.

@@ -18,7 +18,7 @@ use crate::sender::Sender;
 use crate::sending::{send, send_all, send_counted, send_message};
 use crate::{Clear, CryptoPeriod};
 use sd_base::NoMemory;
-use sd_ecm::{EcmHead, MOST_PLACES};
+use sd_message::{EcmHead, MOST_PLACES};
 use sd_packet::{Packet, SIZE};
 use sd_ports::{PortFault, Sink};
 use sd_site::Site;
@@ -34,7 +34,7 @@ impl Sender {
             cats: Counter::new(),
             emms: Counter::new(),
             ecms: Counter::new(),
-            places: Vec::with_capacity(alloc, MOST_PLACES).map_err(|_| NoMemory)?,
+            places: Vec::with_capacity(alloc, MOST_PLACES)?,
         })
     }
 

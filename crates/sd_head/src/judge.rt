@@ -12,7 +12,7 @@ ghost use Rattle.sd_spec.specs.Refused.{is_full_own as is_full_pmt, is_one_too_m
 ghost use Rattle.sd_head.specs.After.{IsAfter, MayFollow, IsKindAfter};
 
 use crate::clear::{Clear, FIRST_POSITION};
-use sd_ecm::MOST_PLACES;
+use sd_message::MOST_PLACES;
 use sd_packet::Packet;
 use sd_psi::{ClearFault, FormFault, pat_of, restore_pmt, rewrite_pmt};
 use sd_site::Site;

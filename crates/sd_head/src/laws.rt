@@ -12,7 +12,7 @@ ghost use Rattle.sd_head.specs.declared.fault.HeadFault.{HeadFault as Faults};
 ghost use Rattle.sd_head.specs.declared.fault.HeadFault.TheVariants.{Clear as ClearOf};
 ghost use Rattle.sd_head.specs.declared.head.Head.{Head as Heads};
 ghost use Rattle.sd_head.specs.Staged.{head_does, head_ends, head_refuses, IsAfter};
-ghost use Rattle.sd_ecm.specs.Form.{ArePositioned, AreAscending, AreShort};
+ghost use Rattle.sd_message.specs.EcmForm.{ArePositioned, AreAscending, AreShort};
 ghost use Rattle.sd_spec.specs.Messages.{places_after};
 
 /// Of packets that it is offered one after the other from its beginning a head end writes the broadcast but for the

@@ -3,7 +3,7 @@ ghost use Rattle.sd_head.specs.After.{IsAfter};
 
 use crate::clear::{Clear, FIRST_POSITION, PIDS};
 use sd_base::NoMemory;
-use sd_ecm::MOST_PLACES;
+use sd_message::MOST_PLACES;
 use std::alloc::{AllocError, Global};
 
 impl Clear {
@@ -11,7 +11,7 @@ impl Clear {
     pub fn new(alloc: Global) -> Result<Clear, NoMemory>
         ensures { IfOk result (λ clear. IsAfter [] clear) }
     {
-        empty(alloc).map_err(|_| NoMemory)
+        Ok(empty(alloc)?)
     }
 }
 

@@ -4,7 +4,7 @@ ghost use Rattle.sd_spec.specs.Plan.{since_of};
 ghost use Rattle.sd_head.specs.Messages.{head_of};
 
 use crate::CryptoPeriod;
-use sd_ecm::EcmHead;
+use sd_message::EcmHead;
 use sd_site::Site;
 
 /// What the control message of this number says in a crypto period after so many clear packets, beside its positions

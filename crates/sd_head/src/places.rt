@@ -1,10 +1,10 @@
 ghost use Rattle.std.specs.Prelude.{◌≡◌, ◌≤◌, ℕ, List, vec_len, vec_capacity};
-ghost use Rattle.sd_ecm.specs.declared.format.TheConstants.{MOST_PLACES};
+ghost use Rattle.sd_message.specs.declared.ecm_format.TheConstants.{MOST_PLACES};
 ghost use Rattle.sd_spec.specs.Messages.{places_after};
 ghost use Rattle.sd_head.specs.After.{IsAfter};
 
 use crate::clear::Clear;
-use sd_ecm::Place;
+use sd_message::Place;
 
 impl Clear {
     /// Writes the positions of all PIDs that have moved in place of these, ascending by PID.

@@ -1,11 +1,11 @@
 ghost use Rattle.std.specs.Prelude.{◌≡◌, ◌<◌, ◌≤◌, OnOk, length};
 ghost use Rattle.sd_tree.specs.SetNames.{AreAscending};
-ghost use Rattle.sd_emm.specs.Spelled.{names_in};
-ghost use Rattle.sd_emm.specs.declared.format.TheConstants.{MOST_SETS};
+ghost use Rattle.sd_message.specs.EmmSpelled.{names_in};
+ghost use Rattle.sd_message.specs.declared.emm_format.TheConstants.{MOST_SETS};
 ghost use Rattle.sd_head.specs.Packets.{period_packets, period_of_entries};
 
 use sd_base::NoMemory;
-use sd_emm::{Emm, Entry, section_count, write_emm};
+use sd_message::{Emm, Entry, section_count, write_emm};
 use sd_packet::SIZE;
 
 /// Fills the list with the packets of the sections of period q, each with counter 0. They name the run where a name is

@@ -1,8 +1,8 @@
 ghost use Rattle.std.specs.Prelude.{◌≤◌, vec_capacity};
-ghost use Rattle.sd_ecm.specs.declared.format.TheConstants.{MOST_PLACES};
+ghost use Rattle.sd_message.specs.declared.ecm_format.TheConstants.{MOST_PLACES};
 
 use crate::counter::Counter;
-use sd_ecm::Place;
+use sd_message::Place;
 use sd_packet::Packet;
 
 /// Sends the site's own messages, each PID's packets under counters that rise from 0 on (this project,

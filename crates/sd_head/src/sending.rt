@@ -2,15 +2,15 @@ ghost use Rattle.std.specs.Prelude.{◌≡◌, ◌+◌, ◌%◌, ◌<◌, ◌≤
 ghost use Rattle.std.specs.List.{concat};
 ghost use Rattle.sd_base.specs.Count.{HasCause};
 ghost use Rattle.sd_engine.specs.Stage.{vessel};
-ghost use Rattle.sd_ecm.specs.declared.format.TheConstants.{MOST_PLACES};
-ghost use Rattle.sd_ecm.specs.Versions.{IsVersion, IsNamed, IsSince};
-ghost use Rattle.sd_ecm.specs.Form.{ArePositioned, AreAscending, AreShort};
-ghost use Rattle.sd_ecm.specs.Parts.{message_of, parts_of};
+ghost use Rattle.sd_message.specs.declared.ecm_format.TheConstants.{MOST_PLACES};
+ghost use Rattle.sd_message.specs.EcmVersions.{IsVersion, IsNamed, IsSince};
+ghost use Rattle.sd_message.specs.EcmForm.{ArePositioned, AreAscending, AreShort};
+ghost use Rattle.sd_message.specs.EcmParts.{message_of, parts_of};
 ghost use Rattle.sd_head.specs.Kept.{AreAlike};
 ghost use Rattle.sd_head.specs.Sending.{SendsBytes, counter_after, numbered, packed_part, recounted};
 
 use crate::counter::Counter;
-use sd_ecm::{EcmHead, EcmPart, Place, part_count, write_ecm};
+use sd_message::{EcmHead, EcmPart, Place, part_count, write_ecm};
 use sd_packet::{Packet, SIZE};
 use sd_ports::{PortFault, Sink, write_all};
 

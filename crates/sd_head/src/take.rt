@@ -5,7 +5,7 @@ ghost use Rattle.sd_packet.specs.Header.{pid_of};
 ghost use Rattle.sd_packet.specs.Positions.{is_placed, first_position};
 ghost use Rattle.sd_psi.specs.Forms.{section_in};
 ghost use Rattle.sd_psi.specs.Tables.{pmt_pids_of};
-ghost use Rattle.sd_ecm.specs.declared.format.TheConstants.{MOST_PLACES};
+ghost use Rattle.sd_message.specs.declared.ecm_format.TheConstants.{MOST_PLACES};
 ghost use Rattle.sd_spec.specs.Kinds.{is_current_pat, pmts_in, moved_pids, put_in};
 ghost use Rattle.sd_head.specs.Known.{AreKnown, AreNear, AreMarked};
 ghost use Rattle.sd_head.specs.After.{IsAfter, ArePositions, MayFollow};

@@ -3,7 +3,6 @@
 
 mod key;
 mod keystream;
-pub mod laws;
 mod payload;
 
 pub use key::{unwrap_checked, wrap};

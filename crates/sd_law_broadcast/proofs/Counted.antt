@@ -6,12 +6,12 @@ use Rattle.std.proofs.lemmas.Bool.{cases_Bool}
 use Rattle.std.proofs.lemmas.List.{length-map}
 use Rattle.sd_base.proofs.Arithmetic.{times_next}
 use Rattle.sd_message.specs.Pieces.{pieces_for}
-use Rattle.sd_emm.specs.Period.{Period, IsPeriod, emms_of}
-use Rattle.sd_emm.specs.declared.emm.Emm.{Emm}
-use Rattle.sd_emm.proofs.Sharing.{as_many as sections_many}
-use Rattle.sd_ecm.specs.Parts.{Message, IsMessage, parts_of}
-use Rattle.sd_ecm.specs.Versions.{positions_for}
-use Rattle.sd_ecm.proofs.Sharing.{as_many as parts_many}
+use Rattle.sd_message.specs.Period.{Period, IsPeriod, emms_of}
+use Rattle.sd_message.specs.declared.emm.Emm.{Emm}
+use Rattle.sd_message.proofs.EmmSharing.{as_many as sections_many}
+use Rattle.sd_message.specs.EcmParts.{Message, IsMessage, parts_of}
+use Rattle.sd_message.specs.EcmVersions.{positions_for}
+use Rattle.sd_message.proofs.EcmSharing.{as_many as parts_many}
 use Rattle.sd_engine.specs.Driving.{most_packets}
 use Rattle.sd_spec.specs.Plan.{Plan, IsPlan, crypto_length, period_of, closing_number}
 use Rattle.sd_spec.specs.Carried.{carried}

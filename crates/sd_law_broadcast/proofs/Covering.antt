@@ -14,8 +14,8 @@ use Rattle.sd_cover.specs.Partition.{IsPartition}
 use Rattle.sd_cover.proofs.Covers.{cover_partition}
 use Rattle.sd_cover.proofs.Partitions.{among_unrevoked}
 use Rattle.sd_cover.proofs.Lists.{counted_some}
-use Rattle.sd_reach.specs.Reach.{ReachesNoneOf}
-use Rattle.sd_reach.proofs.Covers.{revoked_reach_none}
+use Rattle.sd_cover.specs.Reach.{ReachesNoneOf}
+use Rattle.sd_law_covers.proofs.CoversReach.{revoked_reach_none}
 use Rattle.sd_spec.specs.Plan.{Plan, IsPlan, sets_at, period_of}
 use Rattle.sd_spec.specs.Refused.{IsClear}
 use Rattle.sd_spec.specs.Sent.{broadcast}

@@ -32,14 +32,14 @@ use Rattle.sd_cover.proofs.Covers.{cover_small}
 use Rattle.sd_cover.proofs.Ends.{AreLeaves}
 use Rattle.sd_cover.proofs.There.{the_cover}
 use Rattle.sd_cover.proofs.Heights.{of_height}
-use Rattle.sd_emm.specs.Spelled.{names_in}
-use Rattle.sd_emm.specs.Form.{IsSetBeside, AreSets, AreWrapped}
-use Rattle.sd_emm.specs.Period.{IsPeriod}
-use Rattle.sd_emm.specs.declared.emm.Entry.{Entry}
-use Rattle.sd_ecm.specs.Form.{AreAscending}
-use Rattle.sd_ecm.specs.Versions.{IsBefore}
-use Rattle.sd_ecm.specs.Parts.{IsMessage}
-use Rattle.sd_ecm.specs.declared.part.Place.{Place}
+use Rattle.sd_message.specs.EmmSpelled.{names_in}
+use Rattle.sd_message.specs.EmmForm.{IsSetBeside, AreSets, AreWrapped}
+use Rattle.sd_message.specs.Period.{IsPeriod}
+use Rattle.sd_message.specs.declared.emm.Entry.{Entry}
+use Rattle.sd_message.specs.EcmForm.{AreAscending}
+use Rattle.sd_message.specs.EcmVersions.{IsBefore}
+use Rattle.sd_message.specs.EcmParts.{IsMessage}
+use Rattle.sd_message.specs.declared.ecm_part.Place.{Place}
 use Rattle.sd_spec.specs.Plan.{Plan, IsPlan, sets_at, crypto_length, crypto_of, word_of, period_of}
 use Rattle.sd_spec.specs.Plan.{since_of, closing_number}
 use Rattle.sd_spec.proofs.Naming.{version_is, named_is, name_short}

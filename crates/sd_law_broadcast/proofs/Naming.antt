@@ -11,12 +11,12 @@ use Rattle.std.proofs.lemmas.List.Elements.{All-contains, Contains-append_left, 
 use Rattle.sd_tree.specs.declared.set.SetName.{SetName}
 use Rattle.sd_message.specs.Pieces.{pieces_for}
 use Rattle.sd_message.proofs.Pieces as Pieces
-use Rattle.sd_emm.specs.Spelled.{listed_entries, names_in}
-use Rattle.sd_emm.specs.Form.{sections_for}
-use Rattle.sd_emm.specs.Period.{Period, emm_at, emms_of, IsOfPeriod}
-use Rattle.sd_emm.specs.declared.emm.Entry.{Entry}
-use Rattle.sd_emm.specs.declared.emm.Emm.{Emm}
-use Rattle.sd_emm.proofs.Sharing.{joined_are_all, all_are_of}
+use Rattle.sd_message.specs.EmmSpelled.{listed_entries, names_in}
+use Rattle.sd_message.specs.EmmForm.{sections_for}
+use Rattle.sd_message.specs.Period.{Period, emm_at, emms_of, IsOfPeriod}
+use Rattle.sd_message.specs.declared.emm.Entry.{Entry}
+use Rattle.sd_message.specs.declared.emm.Emm.{Emm}
+use Rattle.sd_message.proofs.EmmSharing.{joined_are_all, all_are_of}
 use Rattle.sd_spec.specs.Plan.{Plan, IsPlan, sets_at, period_of}
 use Rattle.sd_spec.specs.Messages.{period_at}
 use Rattle.sd_spec.specs.Refused.{IsClear}

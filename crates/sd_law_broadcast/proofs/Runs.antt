@@ -3,12 +3,12 @@ use Rattle.std.proofs.Common.{◌≡◌, ◌∙◌, ℕ, ◌-◌, ◌/◌, Bool,
 use Rattle.std.specs.Prelude.{Contains}
 use Rattle.std.proofs.lemmas.List.Elements.{All-contains}
 use Rattle.sd_site.specs.SiteFields.{run_name_of}
-use Rattle.sd_emm.specs.Period.{IsOfPeriod, emms_of}
-use Rattle.sd_emm.specs.declared.emm.Emm.{Emm}
-use Rattle.sd_emm.proofs.Sharing as Periods
-use Rattle.sd_ecm.specs.Parts.{Message, IsOfMessage, parts_of}
-use Rattle.sd_ecm.specs.declared.part.EcmPart.{EcmPart}
-use Rattle.sd_ecm.proofs.Sharing as Messages
+use Rattle.sd_message.specs.Period.{IsOfPeriod, emms_of}
+use Rattle.sd_message.specs.declared.emm.Emm.{Emm}
+use Rattle.sd_message.proofs.EmmSharing as Periods
+use Rattle.sd_message.specs.EcmParts.{Message, IsOfMessage, parts_of}
+use Rattle.sd_message.specs.declared.ecm_part.EcmPart.{EcmPart}
+use Rattle.sd_message.proofs.EcmSharing as Messages
 use Rattle.sd_spec.specs.Plan.{Plan, period_of, closing_number}
 use Rattle.sd_spec.specs.Messages.{period_at, message_at}
 use Rattle.sd_spec.specs.Sent.{Entitles, Controls}

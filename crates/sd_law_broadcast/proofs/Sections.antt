@@ -10,15 +10,15 @@ use Rattle.sd_packet.specs.Header.{pid_of}
 use Rattle.sd_packet.specs.Packing.{packed}
 use Rattle.sd_packet.proofs.Packets.{packet_reads}
 use Rattle.sd_psi.specs.OurCat.{cat_section}
-use Rattle.sd_emm.specs.Spelled.{listed_entries, emm_section}
-use Rattle.sd_emm.specs.Form.{AreSets, IsEmm, FitsFields}
-use Rattle.sd_emm.specs.Judged.{emm_read}
-use Rattle.sd_emm.specs.Period.{emms_of}
-use Rattle.sd_emm.specs.declared.emm.Emm.{Emm}
-use Rattle.sd_emm.proofs.Sharing.{all_are_emms, all_sets_stand}
-use Rattle.sd_emm.proofs.Deciding.{packed_reads}
-use Rattle.sd_ecm.specs.Spelled.{ecm_section}
-use Rattle.sd_ecm.specs.Parts.{Message, IsMessage, parts_of}
+use Rattle.sd_message.specs.EmmSpelled.{listed_entries, emm_section}
+use Rattle.sd_message.specs.EmmForm.{AreSets, IsEmm, FitsFields}
+use Rattle.sd_message.specs.EmmJudged.{emm_read}
+use Rattle.sd_message.specs.Period.{emms_of}
+use Rattle.sd_message.specs.declared.emm.Emm.{Emm}
+use Rattle.sd_message.proofs.EmmSharing.{all_are_emms, all_sets_stand}
+use Rattle.sd_message.proofs.EmmDeciding.{packed_reads}
+use Rattle.sd_message.specs.EcmSpelled.{ecm_section}
+use Rattle.sd_message.specs.EcmParts.{Message, IsMessage, parts_of}
 use Rattle.sd_spec.specs.Plan.{Plan, IsPlan, word_of, period_of, closing_number}
 use Rattle.sd_spec.specs.Carried.{carried}
 use Rattle.sd_spec.specs.Messages.{period_at, message_at}

@@ -24,15 +24,15 @@ use Rattle.sd_psi.proofs.Inverse.{packet_parts, may_rewrite}
 use Rattle.sd_section.specs.Header.{section_length_of}
 use Rattle.sd_keystream.specs.Scrambling.{stream_number, control_of, payload_under, laid_under}
 use Rattle.sd_keystream.proofs.Scramblings.{prefix_is}
-use Rattle.sd_emm.specs.Spelled.{listed_entries, table_id_for, emm_body, emm_header, emm_section}
-use Rattle.sd_emm.specs.Form.{AreSets, IsEmm, FitsFields}
-use Rattle.sd_emm.specs.declared.emm.Emm.{Emm}
-use Rattle.sd_emm.proofs.Again.{few_entries, few_head, long_whole}
-use Rattle.sd_ecm.specs.Spelled.{ecm_body, ecm_header, ecm_section}
-use Rattle.sd_ecm.specs.Form.{IsEcm, FitsFields as FitsPart}
-use Rattle.sd_ecm.specs.declared.part.EcmPart.{EcmPart}
-use Rattle.sd_ecm.proofs.Versions.{fits_packet}
-use Rattle.sd_ecm.proofs.Again.{long_body}
+use Rattle.sd_message.specs.EmmSpelled.{listed_entries, table_id_for, emm_body, emm_header, emm_section}
+use Rattle.sd_message.specs.EmmForm.{AreSets, IsEmm, FitsFields}
+use Rattle.sd_message.specs.declared.emm.Emm.{Emm}
+use Rattle.sd_message.proofs.EmmAgain.{few_entries, few_head, long_whole}
+use Rattle.sd_message.specs.EcmSpelled.{ecm_body, ecm_header, ecm_section}
+use Rattle.sd_message.specs.EcmForm.{IsEcm, FitsFields as FitsPart}
+use Rattle.sd_message.specs.declared.ecm_part.EcmPart.{EcmPart}
+use Rattle.sd_message.proofs.Versions.{fits_packet}
+use Rattle.sd_message.proofs.EcmAgain.{long_body}
 use Rattle.sd_spec.specs.Plan.{word_of}
 use Rattle.sd_spec.specs.Kinds.{kind_of}
 use Rattle.sd_spec.specs.Carried.{parity_of, place_after, pmt_carried, veiled, carried_as, carried}

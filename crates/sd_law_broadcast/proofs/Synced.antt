@@ -4,12 +4,12 @@ use Rattle.std.specs.Prelude.{All, count_by}
 use Rattle.std.proofs.lemmas.List.Elements.{All-nil, All-cons, All-head, All-tail, All-contains, All-get_or}
 use Rattle.sd_base.proofs.Lists.{all_first}
 use Rattle.sd_psi.specs.OurCat.{cat_section}
-use Rattle.sd_emm.specs.Spelled.{emm_section}
-use Rattle.sd_ecm.specs.Spelled.{ecm_section}
-use Rattle.sd_ecm.specs.Form.{IsEcm, FitsFields as FitsPart}
-use Rattle.sd_ecm.specs.Parts.{parts_of}
-use Rattle.sd_ecm.specs.declared.part.EcmPart.{EcmPart}
-use Rattle.sd_ecm.proofs.Sharing.{all_are_ecms}
+use Rattle.sd_message.specs.EmmSpelled.{emm_section}
+use Rattle.sd_message.specs.EcmSpelled.{ecm_section}
+use Rattle.sd_message.specs.EcmForm.{IsEcm, FitsFields as FitsPart}
+use Rattle.sd_message.specs.EcmParts.{parts_of}
+use Rattle.sd_message.specs.declared.ecm_part.EcmPart.{EcmPart}
+use Rattle.sd_message.proofs.EcmSharing.{all_are_ecms}
 use Rattle.sd_spec.specs.Plan.{Plan, IsPlan}
 use Rattle.sd_spec.specs.Refused.{IsClear}
 use Rattle.sd_spec.specs.Sent.{Item, Cat, Entitles, Controls, Carries, is_alike, packet_of, packets_from}

@@ -13,15 +13,15 @@ use Rattle.sd_tree.specs.Keys.{key_of, period_key_of, control_word_of}
 use Rattle.sd_site.specs.SiteFields.{SiteFields}
 use Rattle.sd_keystream.specs.Scrambling.{control_of, payload_under}
 use Rattle.sd_keystream.proofs.Scramblings.{laid_reads, control_fits}
-use Rattle.sd_emm.specs.Spelled.{listed_entries}
-use Rattle.sd_emm.specs.Period.{emms_of}
-use Rattle.sd_emm.specs.declared.emm.Emm.{Emm}
-use Rattle.sd_emm.specs.declared.emm.Entry.{Entry}
-use Rattle.sd_emm.proofs.Sharing.{joined_are_all, all_are_of}
-use Rattle.sd_ecm.specs.Parts.{Message, parts_of, IsOfMessage}
-use Rattle.sd_ecm.specs.declared.part.EcmPart.{EcmPart}
-use Rattle.sd_ecm.proofs.Sharing as Parts
-use Rattle.sd_reach.proofs.Reached.{from_one, to_all}
+use Rattle.sd_message.specs.EmmSpelled.{listed_entries}
+use Rattle.sd_message.specs.Period.{emms_of}
+use Rattle.sd_message.specs.declared.emm.Emm.{Emm}
+use Rattle.sd_message.specs.declared.emm.Entry.{Entry}
+use Rattle.sd_message.proofs.EmmSharing.{joined_are_all, all_are_of}
+use Rattle.sd_message.specs.EcmParts.{Message, parts_of, IsOfMessage}
+use Rattle.sd_message.specs.declared.ecm_part.EcmPart.{EcmPart}
+use Rattle.sd_message.proofs.EcmSharing as Parts
+use Rattle.sd_cover.proofs.Reached.{from_one, to_all}
 use Rattle.sd_spec.specs.Plan.{Plan, sets_at, word_of, period_of, closing_number}
 use Rattle.sd_spec.specs.Kinds.{kind_of, is_scrambled}
 use Rattle.sd_spec.specs.Carried.{parity_of, place_after, pmt_carried, veiled, carried_as, carried}

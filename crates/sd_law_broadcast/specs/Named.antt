@@ -10,11 +10,11 @@ use Rattle.sd_packet.specs.Header.{pid_of}
 use Rattle.sd_tree.specs.Names.{given}
 use Rattle.sd_book.specs.Commands.{revoked, entitled}
 use Rattle.sd_cover.specs.Partition.{IsPartition, IsSmall}
-use Rattle.sd_reach.specs.Reach.{ReachesNoneOf}
-use Rattle.sd_emm.specs.Spelled.{listed_entries, names_in}
-use Rattle.sd_emm.specs.Judged.{emm_read}
-use Rattle.sd_emm.specs.declared.emm.Emm.{Emm}
-use Rattle.sd_emm.specs.declared.fault.EmmFault.{EmmFault}
+use Rattle.sd_cover.specs.Reach.{ReachesNoneOf}
+use Rattle.sd_message.specs.EmmSpelled.{listed_entries, names_in}
+use Rattle.sd_message.specs.EmmJudged.{emm_read}
+use Rattle.sd_message.specs.declared.emm.Emm.{Emm}
+use Rattle.sd_message.specs.declared.emm_fault.EmmFault.{EmmFault}
 use Rattle.sd_spec.specs.Plan.{Plan, sets_at}
 
 -- the section that was read, if one was

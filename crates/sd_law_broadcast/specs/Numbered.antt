@@ -1,7 +1,7 @@
 -- Public meaning: the control messages of a broadcast by their numbers.
 use Rattle.std.specs.Prelude.{◌-◌, ◌*◌, true, false, nat_lt, length, take, if◌then◌else◌}
 use Rattle.sd_base.specs.Types.{Packets, MessageNumber}
-use Rattle.sd_ecm.specs.Parts.{Message}
+use Rattle.sd_message.specs.EcmParts.{Message}
 use Rattle.sd_spec.specs.Plan.{Plan, closing_number}
 use Rattle.sd_spec.specs.Messages.{message_at}
 

@@ -7,10 +7,10 @@ use Rattle.sd_packet.specs.Header.{pid_of, payload_of}
 use Rattle.sd_tree.specs.Keys.{key_of, period_key_of, control_word_of}
 use Rattle.sd_keystream.specs.Keystream.{keystream, xored}
 use Rattle.sd_keystream.specs.Scrambling.{stream_number}
-use Rattle.sd_emm.specs.Spelled.{listed_entries}
-use Rattle.sd_emm.specs.declared.emm.Emm.{Emm}
-use Rattle.sd_emm.specs.declared.emm.Entry.{Entry}
-use Rattle.sd_ecm.specs.declared.part.EcmPart.{EcmPart}
+use Rattle.sd_message.specs.EmmSpelled.{listed_entries}
+use Rattle.sd_message.specs.declared.emm.Emm.{Emm}
+use Rattle.sd_message.specs.declared.emm.Entry.{Entry}
+use Rattle.sd_message.specs.declared.ecm_part.EcmPart.{EcmPart}
 use Rattle.sd_spec.specs.Plan.{word_of}
 use Rattle.sd_spec.specs.Carried.{place_after}
 use Rattle.sd_spec.specs.Sent.{Item, Cat, Entitles, Controls, Carries}

@@ -3,10 +3,10 @@
 ghost use Rattle.std.specs.Prelude.{◌≡◌, ◌⊎◌, ◌<◌, ◌↔◌, ℕ, true, false, List, Some, All, Contains, length, slice_get};
 ghost use Rattle.sd_base.specs.Types.{Packet, Key, PacketNumber};
 ghost use Rattle.sd_packet.specs.Header.{payload_of};
-ghost use Rattle.sd_emm.specs.Spelled.{listed_entries};
-ghost use Rattle.sd_emm.specs.declared.emm.Emm.{Emm};
-ghost use Rattle.sd_emm.specs.declared.emm.Entry.{Entry};
-ghost use Rattle.sd_ecm.specs.declared.part.EcmPart.{EcmPart};
+ghost use Rattle.sd_message.specs.EmmSpelled.{listed_entries};
+ghost use Rattle.sd_message.specs.declared.emm.Emm.{Emm};
+ghost use Rattle.sd_message.specs.declared.emm.Entry.{Entry};
+ghost use Rattle.sd_message.specs.declared.ecm_part.EcmPart.{EcmPart};
 ghost use Rattle.sd_spec.specs.Plan.{word_of};
 ghost use Rattle.sd_spec.specs.Carried.{pmt_carried};
 ghost use Rattle.sd_spec.specs.Refused.{IsClear};

@@ -6,10 +6,10 @@ ghost use Rattle.sd_base.specs.Types.{Key, PeriodNumber, WordNumber, PacketNumbe
 ghost use Rattle.sd_site.specs.SiteFields.{SiteFields, AreInRange};
 ghost use Rattle.sd_book.specs.declared.command.Command.{Command};
 ghost use Rattle.sd_book.specs.Commands.{last_period};
-ghost use Rattle.sd_emm.specs.Spelled.{listed_entries};
-ghost use Rattle.sd_emm.specs.declared.emm.Emm.{Emm};
-ghost use Rattle.sd_emm.specs.declared.emm.Entry.{Entry};
-ghost use Rattle.sd_ecm.specs.declared.part.EcmPart.{EcmPart};
+ghost use Rattle.sd_message.specs.EmmSpelled.{listed_entries};
+ghost use Rattle.sd_message.specs.declared.emm.Emm.{Emm};
+ghost use Rattle.sd_message.specs.declared.emm.Entry.{Entry};
+ghost use Rattle.sd_message.specs.declared.ecm_part.EcmPart.{EcmPart};
 ghost use Rattle.sd_spec.specs.Plan.{crypto_length, period_of, sets_at};
 ghost use Rattle.sd_spec.specs.Refused.{is_too_long};
 ghost use Rattle.sd_spec.specs.Sent.{Entitles, Controls};

@@ -20,11 +20,11 @@ use Rattle.sd_cover.specs.Chains.{IsChainCover}
 use Rattle.sd_cover.proofs.Heights.{of_height}
 use Rattle.sd_cover.proofs.There.{the_cover}
 use Rattle.sd_cover.proofs.TreePaths.{the_only_leaf}
-use Rattle.sd_reach.specs.Reach.{Secret, Named, Key, IsGeneratorStep, IsHeld, IsReached}
-use Rattle.sd_reach.proofs.Derivation.{Reach, at_first, by_rule, from_derived, to_derived, passes}
-use Rattle.sd_reach.proofs.Reached.{held_is_reached, next_is_reached, reached_by_one}
-use Rattle.sd_reach.proofs.Own.{member_reaches_together}
-use Rattle.sd_reach.proofs.Covers.{cover_reached}
+use Rattle.sd_cover.specs.Reach.{Secret, Named, Key, IsGeneratorStep, IsHeld, IsReached}
+use Rattle.sd_cover.proofs.Derivation.{Reach, at_first, by_rule, from_derived, to_derived, passes}
+use Rattle.sd_cover.proofs.Reached.{held_is_reached, next_is_reached, reached_by_one}
+use Rattle.sd_cover.proofs.Own.{member_reaches_together}
+use Rattle.sd_law_covers.proofs.CoversReach.{cover_reached}
 use Rattle.sd_law_coalition.specs.Know.{Service, Knowable, OfTree, PeriodKey, ControlWord, IsKnowledgeStep, generated}
 use Rattle.sd_law_coalition.specs.Know.{entitled as of_set}
 use Rattle.sd_law_coalition.specs.Know.{controlled, IsPooled, IsKnown, HasUnrevoked, KnowsNothingOf, KnowsPeriod}

@@ -8,8 +8,8 @@ use Rattle.sd_tree.specs.Names.{given}
 use Rattle.sd_book.specs.declared.command.Command.{Command}
 use Rattle.sd_book.specs.Commands.{last_period, revoked}
 use Rattle.sd_cover.specs.Cover.{cover_of}
-use Rattle.sd_reach.specs.Derivation.{IsDerived}
-use Rattle.sd_reach.specs.Reach.{Secret, Key, IsGeneratorStep, IsHeld}
+use Rattle.sd_cover.specs.Derivation.{IsDerived}
+use Rattle.sd_cover.specs.Reach.{Secret, Key, IsGeneratorStep, IsHeld}
 
 -- what counts of a broadcast: the tree's height, how many crypto periods a period has, and the commands of its book
 pub record Service : Type 0 where

@@ -6,7 +6,7 @@ ghost use Rattle.sd_base.specs.Types.{LeafNumber, Leaves, PeriodNumber, WordNumb
 ghost use Rattle.sd_tree.specs.Leaves.{is_member};
 ghost use Rattle.sd_tree.specs.Names.{given};
 ghost use Rattle.sd_book.specs.Commands.{entitled, last_period};
-ghost use Rattle.sd_reach.specs.Reach.{Secret, IsReached};
+ghost use Rattle.sd_cover.specs.Reach.{Secret, IsReached};
 ghost use Rattle.sd_law_coalition.specs.Know.{Service, Knowable, OfTree, PeriodKey, ControlWord, IsKnowledgeStep};
 ghost use Rattle.sd_law_coalition.specs.Know.{IsPooled};
 ghost use Rattle.sd_law_coalition.specs.Know.{IsKnown};

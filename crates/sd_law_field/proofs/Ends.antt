@@ -10,8 +10,8 @@ use Rattle.sd_tree.specs.Leaves.{is_member}
 use Rattle.sd_tree.specs.Names.{given}
 use Rattle.sd_book.specs.Commands.{last_period}
 use Rattle.sd_cover.specs.Cover.{cover_of}
-use Rattle.sd_reach.specs.Reach.{Key, IsReached}
-use Rattle.sd_reach.proofs.Own.{member_reaches_together}
+use Rattle.sd_cover.specs.Reach.{Key, IsReached}
+use Rattle.sd_cover.proofs.Own.{member_reaches_together}
 use Rattle.sd_law_coalition.specs.Know.{Service, OfTree, PeriodKey, IsKnown, revoked_at, service_sets}
 use Rattle.sd_law_coalition.proofs.Known.{secrets_known, periods_known, sets_opened, sets_shut}
 use Rattle.sd_command_base.specs.Periods.{set_line, period_line}

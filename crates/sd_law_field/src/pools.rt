@@ -9,7 +9,7 @@ ghost use Rattle.sd_tree.specs.declared.set.SetName.{SetName};
 ghost use Rattle.sd_tree.specs.SetNames.{IsOfHeight};
 ghost use Rattle.sd_tree.specs.Names.{given};
 ghost use Rattle.sd_book.specs.Commands.{last_period};
-ghost use Rattle.sd_reach.specs.Reach.{Key, IsReached};
+ghost use Rattle.sd_cover.specs.Reach.{Key, IsReached};
 ghost use Rattle.sd_law_coalition.specs.Know.{Service, OfTree, PeriodKey, IsKnown, KnowsNothingOf, revoked_at};
 ghost use Rattle.sd_law_coalition.specs.Know.{service_sets};
 ghost use Rattle.sd_run_cards.specs.Opens.{open_end, pool_end, opened_text, shut_text};

@@ -4,9 +4,9 @@ use Rattle.std.specs.Prelude.{All, Contains}
 use Rattle.std.proofs.lemmas.List.Elements.{All-contains}
 use Rattle.std.proofs.lemmas.List.Folds.{list_any_none}
 use Rattle.sd_base.proofs.Lists.{equal_bytes}
-use Rattle.sd_emm.specs.Period.{Period, emms_of, IsOfPeriod}
-use Rattle.sd_emm.specs.declared.emm.Emm.{Emm}
-use Rattle.sd_emm.proofs.Sharing.{all_are_of}
+use Rattle.sd_message.specs.Period.{Period, emms_of, IsOfPeriod}
+use Rattle.sd_message.specs.declared.emm.Emm.{Emm}
+use Rattle.sd_message.proofs.EmmSharing.{all_are_of}
 use Rattle.sd_spec.specs.Offered.{says_same, is_mixed}
 
 -- two sections of a period

@@ -12,8 +12,8 @@ use Rattle.sd_site.specs.SiteFields.{run_name_of as site_name}
 use Rattle.std.proofs.lemmas.List.Folds.{list_any-append}
 use Rattle.std.proofs.lemmas.Bool.{cases_Bool}
 use Rattle.std.proofs.lemmas.Bool.Decides.{nat_tests}
-use Rattle.sd_emm.specs.Period.{emms_of}
-use Rattle.sd_ecm.specs.Parts.{parts_of}
+use Rattle.sd_message.specs.Period.{emms_of}
+use Rattle.sd_message.specs.EcmParts.{parts_of}
 use Rattle.sd_spec.specs.Plan.{crypto_length, period_of, closing_number}
 use Rattle.sd_spec.specs.Messages.{period_at}
 use Rattle.sd_spec.specs.Sent.{Item, Cat, Controls, tables_at, sent, closing_of, packet_of, packets_from}

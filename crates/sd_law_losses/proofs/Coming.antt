@@ -6,8 +6,8 @@ use Rattle.std.proofs.lemmas.List.Elements.{All-cons, All-head, All-weaker}
 use Rattle.std.proofs.lemmas.Bool.Decides.{nat_tests}
 use Rattle.sd_base.proofs.Bools.{chosen_itself}
 use Rattle.sd_site.specs.CardFields.{CardFields}
-use Rattle.sd_ecm.specs.Parts.{Message}
-use Rattle.sd_ecm.specs.declared.part.EcmPart.{EcmPart}
+use Rattle.sd_message.specs.EcmParts.{Message}
+use Rattle.sd_message.specs.declared.ecm_part.EcmPart.{EcmPart}
 use Rattle.sd_psi.specs.declared.our_cat.Tuning.{Tuning}
 use Rattle.sd_spec.specs.Heard.{Heard, Controls}
 use Rattle.sd_spec.specs.Stretches.{Stretch, newest, counted, exceeds, run_of, run_with, run_to, message_told}

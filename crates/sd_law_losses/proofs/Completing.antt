@@ -10,9 +10,9 @@ use Rattle.sd_base.proofs.Ranges.{range_parts, filter_range}
 use Rattle.std.proofs.lemmas.List.Folds.{list_any-append}
 use Rattle.std.proofs.lemmas.Bool.{cases_eq, or_from}
 use Rattle.std.proofs.lemmas.Bool.Decides.{nat_tests}
-use Rattle.sd_emm.specs.Period.{emms_of}
-use Rattle.sd_ecm.specs.Parts.{Message, parts_of}
-use Rattle.sd_ecm.specs.declared.part.EcmPart.{EcmPart}
+use Rattle.sd_message.specs.Period.{emms_of}
+use Rattle.sd_message.specs.EcmParts.{Message, parts_of}
+use Rattle.sd_message.specs.declared.ecm_part.EcmPart.{EcmPart}
 use Rattle.sd_spec.specs.Plan.{period_of}
 use Rattle.sd_spec.specs.Messages.{period_at}
 use Rattle.sd_spec.specs.Sent.{Item, Controls}

@@ -12,11 +12,11 @@ use Rattle.std.proofs.lemmas.Bool.{cases_lt, both_ways}
 use Rattle.sd_site.specs.CardFields.{CardFields}
 use Rattle.sd_site.specs.SiteFields.{AreInRange}
 use Rattle.sd_message.specs.Pieces.{pieces_for}
-use Rattle.sd_emm.specs.Form.{sections_for}
-use Rattle.sd_emm.specs.Period.{emms_of, IsOfPeriod}
-use Rattle.sd_emm.specs.declared.emm.Emm.{Emm}
-use Rattle.sd_emm.proofs.Sharing.{all_are_of}
-use Rattle.sd_ecm.specs.Parts.{Message}
+use Rattle.sd_message.specs.EmmForm.{sections_for}
+use Rattle.sd_message.specs.Period.{emms_of, IsOfPeriod}
+use Rattle.sd_message.specs.declared.emm.Emm.{Emm}
+use Rattle.sd_message.proofs.EmmSharing.{all_are_of}
+use Rattle.sd_message.specs.EcmParts.{Message}
 use Rattle.sd_spec.specs.Plan.{sets_at, period_of}
 use Rattle.sd_spec.specs.Messages.{period_at, message_at}
 use Rattle.sd_spec.specs.Sent.{Item, sent, closing_of, broadcast, is_cat_item}

@@ -12,10 +12,10 @@ use Rattle.sd_base.proofs.Lists.{any_there}
 use Rattle.sd_tree.specs.Leaves.{is_member}
 use Rattle.sd_book.specs.Commands.{revoked}
 use Rattle.sd_cover.proofs.Partitions.{among_unrevoked}
-use Rattle.sd_emm.specs.Spelled.{listed_entries}
-use Rattle.sd_emm.specs.Period.{emms_of}
-use Rattle.sd_emm.specs.declared.emm.Emm.{Emm}
-use Rattle.sd_emm.proofs.Sharing.{joined_are_all}
+use Rattle.sd_message.specs.EmmSpelled.{listed_entries}
+use Rattle.sd_message.specs.Period.{emms_of}
+use Rattle.sd_message.specs.declared.emm.Emm.{Emm}
+use Rattle.sd_message.proofs.EmmSharing.{joined_are_all}
 use Rattle.sd_spec.specs.Plan.{Plan, IsPlan, sets_at, period_in, period_of}
 use Rattle.sd_spec.specs.Messages.{period_at, entry_of}
 use Rattle.sd_spec.specs.Sent.{Item, Cat, Entitles, Controls, Carries}

@@ -7,8 +7,8 @@ use Rattle.std.specs.Prelude.{All, Contains, option_map}
 use Rattle.std.specs.List.{list_any, range_with_len}
 use Rattle.std.proofs.lemmas.List.Elements.{filter_agree}
 use Rattle.std.proofs.lemmas.List.Folds.{list_any-append}
-use Rattle.sd_emm.specs.Period.{emms_of}
-use Rattle.sd_emm.specs.declared.emm.Emm.{Emm}
+use Rattle.sd_message.specs.Period.{emms_of}
+use Rattle.sd_message.specs.declared.emm.Emm.{Emm}
 use Rattle.sd_spec.specs.Plan.{period_of}
 use Rattle.sd_spec.specs.Messages.{period_at}
 use Rattle.sd_spec.specs.Sent.{Item, Cat, Entitles}

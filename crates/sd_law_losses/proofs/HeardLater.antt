@@ -15,7 +15,7 @@ use Rattle.sd_cover.proofs.Lists.{member_cases, member_first, member_later, no_m
 use Rattle.sd_packet.specs.Positions.{is_moving, position_of}
 use Rattle.sd_packet.proofs.Positions.{more_packets, moved_by_near}
 use Rattle.sd_site.specs.SiteFields.{AreInRange}
-use Rattle.sd_ecm.specs.declared.part.Place.{Place}
+use Rattle.sd_message.specs.declared.ecm_part.Place.{Place}
 use Rattle.sd_spec.specs.Plan.{Plan, IsPlan, word_of, period_of, closing_number}
 use Rattle.sd_spec.specs.Kinds.{has_moved, positional_pids, moved_pids}
 use Rattle.sd_spec.specs.Messages.{places_after, message_at}

@@ -13,12 +13,12 @@ use Rattle.std.proofs.lemmas.List.Elements.{All-head, Contains-get_or}
 use Rattle.std.proofs.lemmas.List.Folds.{list_any_none}
 use Rattle.sd_base.proofs.Lists.{equal_bytes}
 use Rattle.sd_message.specs.Pieces.{pieces_for}
-use Rattle.sd_ecm.specs.Spelled.{listed_places}
-use Rattle.sd_ecm.specs.Form.{AreAscending}
-use Rattle.sd_ecm.specs.Parts.{Message, message_of, IsMessage, IsOfMessage, ecm_head_of, parts_of}
-use Rattle.sd_ecm.specs.declared.part.Place.{Place}
-use Rattle.sd_ecm.specs.declared.part.EcmPart.{EcmPart}
-use Rattle.sd_ecm.proofs.Sharing.{all_are_of, as_many, joined_are_all, number_is}
+use Rattle.sd_message.specs.EcmSpelled.{listed_places}
+use Rattle.sd_message.specs.EcmForm.{AreAscending}
+use Rattle.sd_message.specs.EcmParts.{Message, message_of, IsMessage, IsOfMessage, ecm_head_of, parts_of}
+use Rattle.sd_message.specs.declared.ecm_part.Place.{Place}
+use Rattle.sd_message.specs.declared.ecm_part.EcmPart.{EcmPart}
+use Rattle.sd_message.proofs.EcmSharing.{all_are_of, as_many, joined_are_all, number_is}
 use Rattle.sd_spec.specs.Stretches.{message_told}
 use Rattle.sd_spec.specs.Runs.{is_same}
 use Rattle.sd_spec.specs.Offered.{same_header, is_after, part_fault}

@@ -6,8 +6,8 @@ use Rattle.std.specs.Option.{option_map_or}
 use Rattle.std.proofs.lemmas.List.Elements.{All-head, All-tail, All-cons}
 use Rattle.sd_site.specs.SiteFields.{run_name_of as site_name}
 use Rattle.sd_site.specs.CardFields.{CardFields}
-use Rattle.sd_emm.specs.declared.emm.Emm.{Emm}
-use Rattle.sd_ecm.specs.declared.part.EcmPart.{EcmPart}
+use Rattle.sd_message.specs.declared.emm.Emm.{Emm}
+use Rattle.sd_message.specs.declared.ecm_part.EcmPart.{EcmPart}
 use Rattle.sd_spec.specs.Sent.{Item, Cat, Entitles, Controls, Carries, packet_of, packets_from}
 use Rattle.sd_spec.specs.Items.{IsOfBroadcast}
 use Rattle.sd_spec.specs.Tuned.{tuning_of}

@@ -16,11 +16,11 @@ use Rattle.sd_keystream.proofs.Wrappings.{twice}
 use Rattle.sd_site.specs.CardFields.{CardFields, card_of, card_key}
 use Rattle.sd_site.proofs.Keys.{made_gives_key}
 use Rattle.sd_site.specs.SiteFields.{SiteFields}
-use Rattle.sd_emm.specs.Spelled.{listed_entries}
-use Rattle.sd_emm.specs.Period.{emms_of, IsOfPeriod}
-use Rattle.sd_emm.specs.declared.emm.Emm.{Emm}
-use Rattle.sd_emm.specs.declared.emm.Entry.{Entry}
-use Rattle.sd_emm.proofs.Sharing.{all_are_of, joined_are_all}
+use Rattle.sd_message.specs.EmmSpelled.{listed_entries}
+use Rattle.sd_message.specs.Period.{emms_of, IsOfPeriod}
+use Rattle.sd_message.specs.declared.emm.Emm.{Emm}
+use Rattle.sd_message.specs.declared.emm.Entry.{Entry}
+use Rattle.sd_message.proofs.EmmSharing.{all_are_of, joined_are_all}
 use Rattle.sd_spec.specs.Plan.{Plan, IsPlan, sets_at, word_of, period_of, closing_number}
 use Rattle.sd_spec.specs.Messages.{entry_of, period_at, message_at}
 use Rattle.sd_spec.proofs.Periods.{number_is}

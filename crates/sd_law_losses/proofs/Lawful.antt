@@ -12,11 +12,11 @@ use Rattle.sd_tree.specs.Leaves.{is_member}
 use Rattle.sd_packet.specs.Header.{scrambling_of}
 use Rattle.sd_tree.specs.Keys.{period_key_of, control_word_of, check_value_of}
 use Rattle.sd_site.specs.CardFields.{card_of}
-use Rattle.sd_emm.specs.Spelled.{listed_entries}
-use Rattle.sd_emm.specs.Period.{emms_of}
-use Rattle.sd_emm.specs.declared.emm.Emm.{Emm}
-use Rattle.sd_ecm.specs.Parts.{Message, IsMessage, parts_of}
-use Rattle.sd_ecm.specs.declared.part.EcmPart.{EcmPart}
+use Rattle.sd_message.specs.EmmSpelled.{listed_entries}
+use Rattle.sd_message.specs.Period.{emms_of}
+use Rattle.sd_message.specs.declared.emm.Emm.{Emm}
+use Rattle.sd_message.specs.EcmParts.{Message, IsMessage, parts_of}
+use Rattle.sd_message.specs.declared.ecm_part.EcmPart.{EcmPart}
 use Rattle.sd_spec.specs.Plan.{Plan, IsPlan, word_of}
 use Rattle.sd_spec.specs.Kinds.{kind_of, is_scrambled}
 use Rattle.sd_spec.specs.Messages.{period_at}

@@ -6,10 +6,10 @@ use Rattle.std.specs.Option.{option_map_or}
 use Rattle.std.proofs.lemmas.Bool.{false≢true}
 use Rattle.sd_base.proofs.Bools.{chosen_itself}
 use Rattle.sd_site.specs.CardFields.{CardFields}
-use Rattle.sd_emm.specs.declared.emm.Emm.{Emm}
-use Rattle.sd_ecm.specs.Parts.{Message}
-use Rattle.sd_ecm.specs.declared.part.EcmPart.{EcmPart}
-use Rattle.sd_ecm.specs.declared.fault.EcmFault.TheVariants.{Back}
+use Rattle.sd_message.specs.declared.emm.Emm.{Emm}
+use Rattle.sd_message.specs.EcmParts.{Message}
+use Rattle.sd_message.specs.declared.ecm_part.EcmPart.{EcmPart}
+use Rattle.sd_message.specs.declared.ecm_fault.EcmFault.TheVariants.{Back}
 use Rattle.sd_spec.specs.declared.ending.Ending.{Ending}
 use Rattle.sd_spec.specs.declared.ending.Ending.TheVariants.{Unclosed}
 use Rattle.sd_spec.specs.declared.stream_fault.StreamFault.TheVariants as Fault

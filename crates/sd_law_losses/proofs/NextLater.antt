@@ -6,13 +6,13 @@ use Rattle.std.specs.Option.{option_map_or}
 use Rattle.std.proofs.lemmas.List.{map-append, reverse-append}
 use Rattle.sd_packet.specs.Header.{pid_of}
 use Rattle.sd_site.specs.CardFields.{CardFields}
-use Rattle.sd_emm.specs.Judged.{emm_read}
-use Rattle.sd_emm.specs.declared.emm.Emm.{Emm}
-use Rattle.sd_emm.specs.declared.fault.EmmFault.{EmmFault}
-use Rattle.sd_ecm.specs.Judged.{ecm_read}
-use Rattle.sd_ecm.specs.Parts.{Message}
-use Rattle.sd_ecm.specs.declared.part.EcmPart.{EcmPart}
-use Rattle.sd_ecm.specs.declared.fault.EcmFault.{EcmFault}
+use Rattle.sd_message.specs.EmmJudged.{emm_read}
+use Rattle.sd_message.specs.declared.emm.Emm.{Emm}
+use Rattle.sd_message.specs.declared.emm_fault.EmmFault.{EmmFault}
+use Rattle.sd_message.specs.EcmJudged.{ecm_read}
+use Rattle.sd_message.specs.EcmParts.{Message}
+use Rattle.sd_message.specs.declared.ecm_part.EcmPart.{EcmPart}
+use Rattle.sd_message.specs.declared.ecm_fault.EcmFault.{EcmFault}
 use Rattle.sd_psi.specs.declared.our_cat.Tuning.{Tuning}
 use Rattle.sd_spec.specs.Heard.{Heard, Dropped, Entitles, Controls, BadEmm, BadEcm, Other, heard_emm}
 use Rattle.sd_spec.specs.Heard.{heard_ecm}

@@ -5,7 +5,7 @@ use Rattle.std.specs.Prelude.{if◌then◌else◌, nat_le}
 use Rattle.std.specs.Option.{option_map_or}
 use Rattle.std.proofs.lemmas.Bool.{false≢true}
 use Rattle.sd_site.specs.CardFields.{CardFields}
-use Rattle.sd_emm.specs.declared.emm.Emm.{Emm}
+use Rattle.sd_message.specs.declared.emm.Emm.{Emm}
 use Rattle.sd_spec.specs.Tuned.{tuning_of}
 use Rattle.sd_psi.specs.OurCat.{cat_tuning}
 use Rattle.sd_psi.specs.declared.our_cat.Tuning.{Tuning}

@@ -9,8 +9,8 @@ use Rattle.std.proofs.lemmas.Bool.Decides.{nat_tests}
 use Rattle.std.proofs.Math.Nat.{mul-le-mul_right}
 use Rattle.sd_packet.specs.Positions.{moved_by}
 use Rattle.sd_site.specs.SiteFields.{AreInRange}
-use Rattle.sd_ecm.specs.Parts.{Message}
-use Rattle.sd_ecm.specs.declared.part.Place.{Place}
+use Rattle.sd_message.specs.EcmParts.{Message}
+use Rattle.sd_message.specs.declared.ecm_part.Place.{Place}
 use Rattle.sd_spec.specs.Plan.{word_of, period_of, since_of}
 use Rattle.sd_spec.specs.Messages.{message_at, places_after}
 use Rattle.sd_spec.specs.Sent.{Item}

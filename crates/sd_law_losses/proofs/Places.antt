@@ -8,7 +8,7 @@ use Rattle.std.proofs.lemmas.Bool.{cases_Bool, cases_eq}
 use Rattle.std.proofs.lemmas.Bool.Decides.{nat_tests}
 use Rattle.sd_packet.specs.Positions.{position_of}
 use Rattle.sd_packet.proofs.Positions.{none_moves}
-use Rattle.sd_ecm.specs.declared.part.Place.{Place}
+use Rattle.sd_message.specs.declared.ecm_part.Place.{Place}
 use Rattle.sd_spec.specs.Kinds.{has_moved, moved_pids, positional_pids}
 use Rattle.sd_spec.specs.Messages.{places_after}
 use Rattle.sd_spec.specs.Confirmed.{position_in}

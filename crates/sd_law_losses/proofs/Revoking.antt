@@ -9,10 +9,10 @@ use Rattle.std.proofs.lemmas.Option.{get_or_from_slice_get, slice_get-get_or}
 use Rattle.std.proofs.lemmas.Bool.{cases_Bool, cases_eq, and_parts, or_cases, both_ways}
 use Rattle.std.proofs.lemmas.Bool.Decides.{nat_tests}
 use Rattle.std.proofs.lemmas.List.Elements.{All-head, All-tail}
-use Rattle.sd_emm.specs.Form.{sections_for}
-use Rattle.sd_emm.specs.Period.{emms_of, emm_at}
-use Rattle.sd_emm.specs.declared.emm.Emm.{Emm}
-use Rattle.sd_emm.proofs.Sharing.{as_many, stands_at, index_is}
+use Rattle.sd_message.specs.EmmForm.{sections_for}
+use Rattle.sd_message.specs.Period.{emms_of, emm_at}
+use Rattle.sd_message.specs.declared.emm.Emm.{Emm}
+use Rattle.sd_message.proofs.EmmSharing.{as_many, stands_at, index_is}
 use Rattle.sd_spec.specs.Plan.{Plan, IsPlan, sets_at, closing_number}
 use Rattle.sd_spec.specs.Messages.{period_at}
 use Rattle.sd_spec.specs.Sent.{Item, Cat, Entitles, Controls, Carries, sent, closing_of, is_cat_item}

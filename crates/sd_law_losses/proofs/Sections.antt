@@ -10,9 +10,9 @@ use Rattle.std.proofs.lemmas.List.Folds.{list_any-append, list_any_none}
 use Rattle.std.proofs.lemmas.Bool.{cases_Bool}
 use Rattle.std.proofs.lemmas.Bool.Decides.{nat_tests}
 use Rattle.sd_tree.specs.Leaves.{is_member}
-use Rattle.sd_emm.specs.Spelled.{listed_entries}
-use Rattle.sd_emm.specs.Period.{emms_of}
-use Rattle.sd_emm.specs.declared.emm.Emm.{Emm}
+use Rattle.sd_message.specs.EmmSpelled.{listed_entries}
+use Rattle.sd_message.specs.Period.{emms_of}
+use Rattle.sd_message.specs.declared.emm.Emm.{Emm}
 use Rattle.sd_spec.specs.Messages.{period_at}
 use Rattle.sd_spec.specs.Sent.{Item, Entitles}
 use Rattle.sd_spec.specs.Heard.{Heard, Entitles as HeardEntitles}
@@ -20,7 +20,7 @@ use Rattle.sd_spec.specs.Stretches.{messages, newest, counted, current, seen, is
 use Rattle.sd_spec.specs.Keys.{key_at, key_in, key_from, first_key}
 use Rattle.sd_spec.specs.Offered.{emm_offering, key_if_none, is_mixed, says_same, no_offering, Offering}
 use Rattle.sd_spec.specs.Offered.{refuses}
-use Rattle.sd_emm.specs.declared.fault.EmmFault.TheVariants as Emms
+use Rattle.sd_message.specs.declared.emm_fault.EmmFault.TheVariants as Emms
 use Rattle.sd_spec.specs.declared.stream_fault.StreamFault.TheVariants as Fault
 use Rattle.sd_law_losses.specs.Kept.{entitles, is_section_item}
 use Rattle.sd_law_losses.specs.Chosen.{chosen}

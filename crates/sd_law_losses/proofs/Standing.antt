@@ -9,8 +9,8 @@ use Rattle.std.proofs.lemmas.List.Folds.{list_any-append}
 use Rattle.std.proofs.Math.Nat.{mul-mod_left, mul-div_cancel}
 use Rattle.sd_base.proofs.Bools.{or_true}
 use Rattle.sd_site.specs.SiteFields.{AreInRange}
-use Rattle.sd_ecm.specs.Parts.{parts_of}
-use Rattle.sd_ecm.specs.declared.part.EcmPart.{EcmPart}
+use Rattle.sd_message.specs.EcmParts.{parts_of}
+use Rattle.sd_message.specs.declared.ecm_part.EcmPart.{EcmPart}
 use Rattle.sd_spec.specs.Plan.{closing_number}
 use Rattle.sd_spec.specs.Sent.{Item, Controls, tables_at, tables_before}
 use Rattle.sd_spec.proofs.Schedule.{closing_needed}

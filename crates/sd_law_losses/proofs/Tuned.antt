@@ -6,7 +6,7 @@ use Rattle.std.specs.Prelude.{All}
 use Rattle.std.specs.List.{list_any}
 use Rattle.std.proofs.lemmas.Bool.Decides.{nat_tests}
 use Rattle.sd_base.proofs.Lists.{all_first}
-use Rattle.sd_ecm.specs.Parts.{parts_of}
+use Rattle.sd_message.specs.EcmParts.{parts_of}
 use Rattle.sd_spec.specs.Plan.{period_of, closing_number}
 use Rattle.sd_spec.specs.Sent.{Item, Controls, tables_at, closing_of, packets_from}
 use Rattle.sd_spec.specs.Items.{IsOfBroadcast}

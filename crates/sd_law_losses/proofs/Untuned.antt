@@ -11,10 +11,10 @@ use Rattle.std.proofs.lemmas.List.Folds.{list_any-append}
 use Rattle.std.proofs.lemmas.Bool.{or_parts}
 use Rattle.sd_site.specs.SiteFields.{AreInRange}
 use Rattle.sd_site.specs.CardFields.{CardFields}
-use Rattle.sd_emm.specs.Period.{emms_of}
-use Rattle.sd_emm.specs.declared.emm.Emm.{Emm}
-use Rattle.sd_ecm.specs.Parts.{parts_of}
-use Rattle.sd_ecm.specs.declared.part.EcmPart.{EcmPart}
+use Rattle.sd_message.specs.Period.{emms_of}
+use Rattle.sd_message.specs.declared.emm.Emm.{Emm}
+use Rattle.sd_message.specs.EcmParts.{parts_of}
+use Rattle.sd_message.specs.declared.ecm_part.EcmPart.{EcmPart}
 use Rattle.sd_spec.specs.Plan.{crypto_length, period_of}
 use Rattle.sd_spec.specs.Messages.{period_at}
 use Rattle.sd_spec.specs.Sent.{Item, Cat, Entitles, Controls, Carries, tables_at, packet_of, packets_from}

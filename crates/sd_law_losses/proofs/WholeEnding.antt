@@ -14,11 +14,11 @@ use Rattle.std.proofs.lemmas.List.FromFn.{length-range_with_len}
 use Rattle.sd_base.proofs.Lists.{any_there}
 use Rattle.sd_base.proofs.Ranges.{none_found}
 use Rattle.sd_site.specs.CardFields.{card_of}
-use Rattle.sd_emm.specs.Form.{sections_for}
-use Rattle.sd_emm.specs.Period.{emms_of, emm_at}
-use Rattle.sd_emm.specs.declared.emm.Emm.{Emm}
-use Rattle.sd_emm.proofs.Sharing.{as_many, stands_at, index_is}
-use Rattle.sd_ecm.specs.Parts.{parts_of}
+use Rattle.sd_message.specs.EmmForm.{sections_for}
+use Rattle.sd_message.specs.Period.{emms_of, emm_at}
+use Rattle.sd_message.specs.declared.emm.Emm.{Emm}
+use Rattle.sd_message.proofs.EmmSharing.{as_many, stands_at, index_is}
+use Rattle.sd_message.specs.EcmParts.{parts_of}
 use Rattle.sd_spec.specs.Plan.{Plan, IsPlan, sets_at, crypto_length, period_of}
 use Rattle.sd_spec.specs.Messages.{period_at}
 use Rattle.sd_spec.specs.Refused.{IsClear}

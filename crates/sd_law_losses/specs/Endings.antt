@@ -4,7 +4,7 @@ use Rattle.std.specs.Prelude.{if◌then◌else◌, Option, Some, None}
 use Rattle.std.specs.List.{list_any, list_all, range_with_len}
 use Rattle.std.specs.Option.{option_map_or}
 use Rattle.sd_base.specs.Types.{Packets, LeafNumber, PeriodNumber, MessageNumber}
-use Rattle.sd_emm.specs.Form.{sections_for}
+use Rattle.sd_message.specs.EmmForm.{sections_for}
 use Rattle.sd_spec.specs.Plan.{Plan, sets_at, period_of, closing_number}
 use Rattle.sd_spec.specs.Sent.{Item, is_cat_item}
 use Rattle.sd_spec.specs.Ending.{ending_with}

@@ -1,7 +1,7 @@
 -- Public meaning: the places of parts in their message.
 use Rattle.std.specs.Prelude.{◌≡◌, ◌+◌, List, ◌∷◌, length, None}
-use Rattle.sd_ecm.specs.Parts.{Message}
-use Rattle.sd_ecm.specs.declared.part.EcmPart.{EcmPart}
+use Rattle.sd_message.specs.EcmParts.{Message}
+use Rattle.sd_message.specs.declared.ecm_part.EcmPart.{EcmPart}
 use Rattle.sd_spec.specs.Offered.{part_fault}
 
 -- the part is one of the message after these, the newest first, and before those, and has no fault after them

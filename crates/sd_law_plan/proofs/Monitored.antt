@@ -9,16 +9,16 @@ use Rattle.sd_packet.specs.Packing.{packed}
 use Rattle.sd_packet.proofs.Packets.{packed_pid}
 use Rattle.sd_psi.specs.OurCat.{cat_section}
 use Rattle.sd_site.specs.SiteFields.{SiteFields}
-use Rattle.sd_emm.specs.Judged.{emm_read}
-use Rattle.sd_emm.specs.Spelled.{emm_section}
-use Rattle.sd_emm.specs.declared.emm.Emm.{Emm}
-use Rattle.sd_ecm.specs.Form.{FitsFields, IsEcm}
-use Rattle.sd_ecm.specs.Judged.{ecm_read}
-use Rattle.sd_ecm.specs.Parts.{parts_of}
-use Rattle.sd_ecm.specs.Spelled.{ecm_section}
-use Rattle.sd_ecm.specs.declared.part.EcmPart.{EcmPart}
-use Rattle.sd_ecm.proofs.Deciding.{packed_reads as part_reads}
-use Rattle.sd_ecm.proofs.Sharing.{all_are_ecms}
+use Rattle.sd_message.specs.EmmJudged.{emm_read}
+use Rattle.sd_message.specs.EmmSpelled.{emm_section}
+use Rattle.sd_message.specs.declared.emm.Emm.{Emm}
+use Rattle.sd_message.specs.EcmForm.{FitsFields, IsEcm}
+use Rattle.sd_message.specs.EcmJudged.{ecm_read}
+use Rattle.sd_message.specs.EcmParts.{parts_of}
+use Rattle.sd_message.specs.EcmSpelled.{ecm_section}
+use Rattle.sd_message.specs.declared.ecm_part.EcmPart.{EcmPart}
+use Rattle.sd_message.proofs.EcmDeciding.{packed_reads as part_reads}
+use Rattle.sd_message.proofs.EcmSharing.{all_are_ecms}
 use Rattle.sd_spec.specs.Plan.{Plan, IsPlan}
 use Rattle.sd_spec.specs.Refused.{IsClear}
 use Rattle.sd_spec.specs.Items.{IsOfBroadcast}

@@ -13,12 +13,12 @@ use Rattle.std.proofs.lemmas.List.Sums.{sum_by-append, sum_by-cons}
 use Rattle.sd_base.proofs.Ranges.{range_has, in_range}
 use Rattle.sd_site.specs.SiteFields.{SiteFields, AreInRange}
 use Rattle.sd_book.specs.Commands.{last_period}
-use Rattle.sd_emm.specs.Period.{emms_of}
-use Rattle.sd_emm.specs.Form.{sections_for}
-use Rattle.sd_emm.specs.declared.emm.Emm.{Emm}
-use Rattle.sd_emm.proofs.Sharing.{as_many as sections_many}
-use Rattle.sd_ecm.specs.Parts.{parts_of}
-use Rattle.sd_ecm.specs.declared.part.EcmPart.{EcmPart}
+use Rattle.sd_message.specs.Period.{emms_of}
+use Rattle.sd_message.specs.EmmForm.{sections_for}
+use Rattle.sd_message.specs.declared.emm.Emm.{Emm}
+use Rattle.sd_message.proofs.EmmSharing.{as_many as sections_many}
+use Rattle.sd_message.specs.EcmParts.{parts_of}
+use Rattle.sd_message.specs.declared.ecm_part.EcmPart.{EcmPart}
 use Rattle.sd_spec.specs.Plan.{Plan, closing_number, crypto_length, crypto_of, period_in, period_of, word_of}
 use Rattle.sd_spec.specs.Carried.{carried}
 use Rattle.sd_spec.specs.Messages.{message_at, period_at}

@@ -13,12 +13,12 @@ use Rattle.std.proofs.lemmas.List.Sums.{sum_by-cons}
 use Rattle.sd_base.proofs.Arithmetic.{times_next}
 use Rattle.sd_message.specs.Pieces.{pieces_for}
 use Rattle.sd_site.specs.SiteFields.{AreInRange}
-use Rattle.sd_emm.specs.Period.{emms_of}
-use Rattle.sd_emm.specs.Form.{sections_for}
-use Rattle.sd_emm.proofs.Sharing.{as_many as sections_many}
-use Rattle.sd_ecm.specs.Parts.{parts_for, parts_of}
-use Rattle.sd_ecm.specs.Versions.{positions_for}
-use Rattle.sd_ecm.proofs.Sharing.{as_many as parts_many}
+use Rattle.sd_message.specs.Period.{emms_of}
+use Rattle.sd_message.specs.EmmForm.{sections_for}
+use Rattle.sd_message.proofs.EmmSharing.{as_many as sections_many}
+use Rattle.sd_message.specs.EcmParts.{parts_for, parts_of}
+use Rattle.sd_message.specs.EcmVersions.{positions_for}
+use Rattle.sd_message.proofs.EcmSharing.{as_many as parts_many}
 use Rattle.sd_spec.specs.Plan.{Plan, crypto_length, crypto_of, period_in, period_of}
 use Rattle.sd_spec.specs.Carried.{carried}
 use Rattle.sd_spec.specs.Kinds.{has_moved, moved_pids, positional_pids}

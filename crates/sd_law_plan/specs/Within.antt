@@ -2,8 +2,8 @@
 -- [this project, docs/FORMATS.md, Plan].
 use Rattle.std.specs.Prelude.{◌≡◌, ℕ, ◌+◌, ◌*◌, ◌<◌, ◌≤◌, ◌==◌, Bool, false, List, ◌++◌, length, count_by, Contains}
 use Rattle.sd_base.specs.Types.{Packets, PeriodNumber, WordNumber, PacketNumber}
-use Rattle.sd_ecm.specs.Versions.{positions_for}
-use Rattle.sd_ecm.specs.declared.part.EcmPart.{EcmPart}
+use Rattle.sd_message.specs.EcmVersions.{positions_for}
+use Rattle.sd_message.specs.declared.ecm_part.EcmPart.{EcmPart}
 use Rattle.sd_spec.specs.Plan.{Plan, period_of, word_of}
 use Rattle.sd_spec.specs.Sent.{Item, Cat, Entitles, Controls, Carries, broadcast, closing_of, sent}
 use Rattle.sd_law_broadcast.specs.Named.{NamesPeriod, sets_named}

@@ -21,9 +21,9 @@ use Rattle.sd_tree.proofs.Hanging.{hangs}
 use Rattle.sd_cover.proofs.Ends.{AreLeaves}
 use Rattle.sd_cover.proofs.Lists.{counted_some, found_member}
 use Rattle.sd_cover.proofs.Partitions.{among_unrevoked}
-use Rattle.sd_reach.specs.Reach.{Secret, Named, Key, IsReached, source_of}
-use Rattle.sd_reach.proofs.Reached.{reached_is_found, found_is_reached}
-use Rattle.sd_reach.proofs.Own.{reaches_its_sets}
+use Rattle.sd_cover.specs.Reach.{Secret, Named, Key, IsReached, source_of}
+use Rattle.sd_cover.proofs.Reached.{reached_is_found, found_is_reached}
+use Rattle.sd_cover.proofs.Own.{reaches_its_sets}
 use Rattle.sd_lsd.specs.Layers.{is_useful}
 use Rattle.sd_lsd.specs.Cover.{IsLayerCover}
 use Rattle.sd_lsd.proofs.Layers.{useful_upwards}

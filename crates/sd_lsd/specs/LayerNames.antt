@@ -8,7 +8,7 @@ use Rattle.sd_tree.specs.declared.set.SetName.TheVariants.{Whole as WholeSet, Di
 use Rattle.sd_tree.specs.declared.name.Name.{Name}
 use Rattle.sd_tree.specs.declared.name.Name.TheVariants.{Whole, Pair}
 use Rattle.sd_tree.specs.Names.{given}
-use Rattle.sd_reach.specs.Reach.{Named, Key, IsReached, source_of}
+use Rattle.sd_cover.specs.Reach.{Named, Key, IsReached, source_of}
 use Rattle.sd_lsd.specs.Layers.{is_useful, layer_end}
 
 -- the set whose key is made from the name's secret alone

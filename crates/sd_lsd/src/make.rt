@@ -28,7 +28,7 @@ impl LayerCard {
         ensures { IfOk result (λ card.
             fields_of card ≡ layer_card_of site.now.master site.now.ca site.now.height w u) }
     {
-        let secrets = secrets(alloc, site, w, u, steps).map_err(|_| NoMemory)?;
+        let secrets = secrets(alloc, site, w, u, steps)?;
         Ok(LayerCard {
             height: site.height,
             width: w,

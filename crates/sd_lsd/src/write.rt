@@ -13,7 +13,7 @@ impl LayerCard {
         ensures value { IfOk result (λ bytes. bytes.items ≡ layer_bytes (fields_of self.now)) }
         ensures fits { IfOk result (λ _. IsLayerCard (fields_of self.now)) }
     {
-        self.file(alloc).map_err(|_| NoMemory)
+        Ok(self.file(alloc)?)
     }
 
     // The head and the secrets, as a file.

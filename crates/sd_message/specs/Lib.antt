@@ -1,3 +1,16 @@
 pub mod Framed
 pub mod Pieces
 pub mod Items
+pub mod EmmSpelled
+pub mod EmmForm
+pub mod EmmFields
+pub mod EmmJudged
+pub mod Period
+pub mod EmmFaults
+pub mod EcmVersions
+pub mod EcmSpelled
+pub mod EcmForm
+pub mod EcmFields
+pub mod EcmJudged
+pub mod EcmParts
+pub mod EcmFaults

@@ -1,7 +1,6 @@
 //! Transport packets: their header, their payload, and the positions that their counters give.
 #![tactic(auto)]
 
-pub mod laws;
 mod packet;
 mod position;
 mod section;

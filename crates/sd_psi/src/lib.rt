@@ -8,7 +8,6 @@ mod descriptor;
 mod fault;
 mod form;
 mod items;
-pub mod laws;
 mod our_cat;
 mod pat;
 mod pmt;

@@ -2,18 +2,18 @@
 use Rattle.std.proofs.Common.{◌≡◌, ◌⊎◌, inl, inr, ℕ, ◌+◌, List, [], ◌∷◌, refl, sym, ap, subst, ◌∙◌, true, false, Bool}
 use Rattle.std.specs.Prelude.{Option, Some, None, ◌==◌, ◌&&◌, if◌then◌else◌}
 use Rattle.std.proofs.lemmas.Bool.{cases_Bool, eq-eqb}
-use Rattle.sd_ecm.specs.Parts.{Message, message_of, ecm_head_of}
-use Rattle.sd_ecm.specs.declared.part.Place.{Place}
-use Rattle.sd_ecm.specs.declared.part.EcmPart.{EcmPart}
-use Rattle.sd_ecm.specs.declared.message.EcmHead.{EcmHead}
-use Rattle.sd_ecm.specs.declared.fault.EcmFault.{EcmFault}
-use Rattle.sd_ecm.specs.declared.fault.EcmFault.TheVariants.{Back}
-use Rattle.sd_emm.specs.declared.emm.Emm.{Emm}
+use Rattle.sd_message.specs.EcmParts.{Message, message_of, ecm_head_of}
+use Rattle.sd_message.specs.declared.ecm_part.Place.{Place}
+use Rattle.sd_message.specs.declared.ecm_part.EcmPart.{EcmPart}
+use Rattle.sd_message.specs.declared.ecm_message.EcmHead.{EcmHead}
+use Rattle.sd_message.specs.declared.ecm_fault.EcmFault.{EcmFault}
+use Rattle.sd_message.specs.declared.ecm_fault.EcmFault.TheVariants.{Back}
+use Rattle.sd_message.specs.declared.emm.Emm.{Emm}
 use Rattle.sd_spec.specs.Heard.{Heard, Controls, Dropped, Entitles, Other}
 use Rattle.sd_spec.specs.Stretches.{Stretch, exceeds, counted, run_with, run_of, run_to, message_told, newest}
 use Rattle.sd_spec.specs.Stretches.{completes}
 use Rattle.sd_spec.specs.Offered.{part_fault, is_back}
-use Rattle.sd_ecm.specs.Form.{ArePlaces}
+use Rattle.sd_message.specs.EcmForm.{ArePlaces}
 use Rattle.sd_spec.proofs.Hearing.{no_fault_in_none, newest_waits, newest_completes}
 use Rattle.sd_receive.specs.Gathered.{places_of, newest_of, next_run, IsGathered}
 use Rattle.sd_receive.specs.Collected.{parts_collected, IsMessageKept, IsCollected, fault_of, IsWaiting, IsComplete}

@@ -6,9 +6,9 @@ use Rattle.std.proofs.lemmas.Bool.{true_from_ne_false}
 use Rattle.sd_tree.specs.Leaves.{is_member}
 use Rattle.sd_site.specs.CardFields.{CardFields, card_key}
 use Rattle.sd_keystream.specs.Wrapping.{wrapped}
-use Rattle.sd_emm.specs.Spelled.{listed_entries}
-use Rattle.sd_emm.specs.declared.emm.Emm.{Emm}
-use Rattle.sd_emm.specs.declared.emm.Entry.{Entry}
+use Rattle.sd_message.specs.EmmSpelled.{listed_entries}
+use Rattle.sd_message.specs.declared.emm.Emm.{Emm}
+use Rattle.sd_message.specs.declared.emm.Entry.{Entry}
 use Rattle.sd_spec.specs.Keys.{key_from}
 
 abbrev pub has_leaf : ℕ → ℕ → Entry → Bool

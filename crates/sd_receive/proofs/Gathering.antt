@@ -9,13 +9,13 @@ use Rattle.std.proofs.lemmas.List.Elements.{All-nil, All-cons, All-append, All-h
 use Rattle.std.proofs.lemmas.List.Folds.{list_any_none, list_any_at}
 use Rattle.std.proofs.lemmas.Bool.{cases_lt, false≢true, lt-leb, le-leb, le-ltb, lt-ltb, or_parts, not-false}
 use Rattle.std.proofs.lemmas.Bool.{false_from_ne_true, eq-eqb, ne_eqb}
-use Rattle.sd_ecm.specs.Spelled.{listed_places}
-use Rattle.sd_ecm.specs.Form.{IsPositioned, AreAscending, IsEcm, ArePlaces}
-use Rattle.sd_ecm.specs.Parts.{SaySame}
-use Rattle.sd_ecm.specs.declared.part.Place.{Place}
-use Rattle.sd_ecm.specs.declared.part.EcmPart.{EcmPart}
-use Rattle.sd_ecm.specs.declared.fault.EcmFault.TheVariants.{Count, Order, Mixed}
-use Rattle.sd_ecm.proofs.Versions.{few_positions, some_positions}
+use Rattle.sd_message.specs.EcmSpelled.{listed_places}
+use Rattle.sd_message.specs.EcmForm.{IsPositioned, AreAscending, IsEcm, ArePlaces}
+use Rattle.sd_message.specs.EcmParts.{SaySame}
+use Rattle.sd_message.specs.declared.ecm_part.Place.{Place}
+use Rattle.sd_message.specs.declared.ecm_part.EcmPart.{EcmPart}
+use Rattle.sd_message.specs.declared.ecm_fault.EcmFault.TheVariants.{Count, Order, Mixed}
+use Rattle.sd_message.proofs.Versions.{few_positions, some_positions}
 use Rattle.sd_spec.specs.Stretches.{run_with}
 use Rattle.sd_spec.specs.Offered.{same_header, is_after, part_fault}
 use Rattle.sd_receive.specs.Gathered.{places_of, newest_of, next_run, IsPart, IsNext, AreAlike, IsRun}

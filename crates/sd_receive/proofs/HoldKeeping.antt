@@ -10,11 +10,11 @@ use Rattle.sd_base.proofs.Fields.{field_below}
 use Rattle.sd_packet.specs.Header.{pid_of}
 use Rattle.sd_packet.specs.Positions.{moved, moved_by, is_positional, first_position}
 use Rattle.sd_packet.proofs.Positions.{one_more, positional_small}
-use Rattle.sd_ecm.specs.Form.{ArePositioned, ArePlaces}
+use Rattle.sd_message.specs.EcmForm.{ArePositioned, ArePlaces}
 use Rattle.sd_spec.specs.Confirmed.{position_in}
 use Rattle.sd_spec.specs.Offered.{most_held}
-use Rattle.sd_ecm.specs.declared.part.Place.{Place}
-use Rattle.sd_ecm.specs.Versions.{most_places}
+use Rattle.sd_message.specs.declared.ecm_part.Place.{Place}
+use Rattle.sd_message.specs.EcmVersions.{most_places}
 use Rattle.sd_receive.specs.Tracking.{packets_in, led_to, start_of, HasFirstPositions, IsTracked, AreKnown, IsKept}
 use Rattle.sd_receive.specs.declared.tracks.Tracks.{Tracks}
 use Rattle.sd_receive.specs.declared.held.Held.{Held}

@@ -9,7 +9,7 @@ use Rattle.sd_base.proofs.Lists.{concat_one}
 use Rattle.sd_packet.specs.Header.{pid_of}
 use Rattle.sd_engine.specs.Stage.{SinkState, TookBytes}
 use Rattle.sd_engine.proofs.Chains.{took_none, took_more}
-use Rattle.sd_ecm.specs.Parts.{Message}
+use Rattle.sd_message.specs.EcmParts.{Message}
 use Rattle.sd_spec.specs.Confirmed.{Segment, Wrote, then_wrote, judged, written_from, tracked, is_confirmed}
 use Rattle.sd_spec.specs.Confirmed.{unmarked}
 use Rattle.sd_receive.specs.declared.segment_fault.SegmentFault.TheVariants as Fault

@@ -13,14 +13,14 @@ use Rattle.std.proofs.Math.Seq.{get_or-append_right}
 use Rattle.std.proofs.lemmas.List.Folds.{list_any_none}
 use Rattle.std.proofs.lemmas.Bool.{false≢true, true≢false, cases_lt, ne_eqb, lt-ltb, le-ltb, le-leb}
 use Rattle.sd_site.specs.CardFields.{CardFields}
-use Rattle.sd_emm.specs.declared.emm.Emm.{Emm}
+use Rattle.sd_message.specs.declared.emm.Emm.{Emm}
 use Rattle.sd_spec.specs.Heard.{Heard}
 use Rattle.sd_spec.specs.Stretches.{current, seen}
 use Rattle.sd_spec.specs.Keys.{first_key, key_in, key_at, key_from}
 use Rattle.sd_spec.specs.Offered.{says_same, is_mixed, Offering, key_if_none, emm_offering}
 use Rattle.sd_spec.specs.declared.stream_fault.StreamFault.{StreamFault}
 use Rattle.sd_spec.specs.declared.stream_fault.StreamFault.TheVariants as Fault
-use Rattle.sd_emm.specs.declared.fault.EmmFault.TheVariants as Emms
+use Rattle.sd_message.specs.declared.emm_fault.EmmFault.TheVariants as Emms
 use Rattle.sd_spec.specs.Ending.{periods_told, is_unkeyed, is_all_seen, are_all}
 use Rattle.sd_receive.specs.declared.says.Says.{Says}
 use Rattle.sd_receive.specs.declared.entitled.Entitled.{Entitled}

@@ -14,9 +14,9 @@ use Rattle.std.proofs.lemmas.Bool.{not-false, both_ways}
 use Rattle.sd_base.proofs.Bools.{or_true}
 use Rattle.sd_base.proofs.Lists.{unmarked}
 use Rattle.sd_site.specs.CardFields.{CardFields}
-use Rattle.sd_emm.specs.declared.emm.Emm.{Emm}
-use Rattle.sd_ecm.specs.Parts.{Message}
-use Rattle.sd_ecm.specs.declared.part.EcmPart.{EcmPart}
+use Rattle.sd_message.specs.declared.emm.Emm.{Emm}
+use Rattle.sd_message.specs.EcmParts.{Message}
+use Rattle.sd_message.specs.declared.ecm_part.EcmPart.{EcmPart}
 use Rattle.sd_spec.specs.Heard.{Heard, Dropped, Entitles, Controls, BadEmm, BadEcm, Other}
 use Rattle.sd_spec.specs.Stretches.{completes, messages, current, seen}
 use Rattle.sd_spec.specs.Keys.{key_in, key_at, key_from, first_key}

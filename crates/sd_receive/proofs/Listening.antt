@@ -5,12 +5,12 @@ use Rattle.std.specs.Prelude.{Option, Some, None, is_none, nat_lt, Result, Ok, E
 use Rattle.std.specs.List.{concat}
 use Rattle.sd_site.specs.CardFields.{CardFields}
 use Rattle.sd_tree.specs.Keys.{check_value_of}
-use Rattle.sd_emm.specs.declared.emm.Emm.{Emm}
-use Rattle.sd_emm.specs.declared.fault.EmmFault.{EmmFault}
-use Rattle.sd_emm.specs.declared.fault.EmmFault.TheVariants as Emms
-use Rattle.sd_ecm.specs.declared.part.EcmPart.{EcmPart}
-use Rattle.sd_ecm.specs.declared.message.EcmHead.{EcmHead}
-use Rattle.sd_ecm.specs.declared.fault.EcmFault.{EcmFault}
+use Rattle.sd_message.specs.declared.emm.Emm.{Emm}
+use Rattle.sd_message.specs.declared.emm_fault.EmmFault.{EmmFault}
+use Rattle.sd_message.specs.declared.emm_fault.EmmFault.TheVariants as Emms
+use Rattle.sd_message.specs.declared.ecm_part.EcmPart.{EcmPart}
+use Rattle.sd_message.specs.declared.ecm_message.EcmHead.{EcmHead}
+use Rattle.sd_message.specs.declared.ecm_fault.EcmFault.{EcmFault}
 use Rattle.sd_engine.specs.Stage.{SinkState}
 use Rattle.sd_engine.specs.declared.stage.StageFault.{StageFault}
 use Rattle.sd_engine.specs.declared.stage.StageFault.TheVariants.{Write, Refused}

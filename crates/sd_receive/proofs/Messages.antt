@@ -6,9 +6,9 @@ use Rattle.std.specs.Option.{option_map_or}
 use Rattle.std.specs.Result.{MatchResult}
 use Rattle.sd_base.specs.Count.{with_added, IsCaused}
 use Rattle.sd_site.specs.CardFields.{CardFields}
-use Rattle.sd_ecm.specs.Parts.{Message, message_of}
-use Rattle.sd_ecm.specs.declared.part.EcmPart.{EcmPart}
-use Rattle.sd_ecm.specs.declared.message.EcmHead.{EcmHead}
+use Rattle.sd_message.specs.EcmParts.{Message, message_of}
+use Rattle.sd_message.specs.declared.ecm_part.EcmPart.{EcmPart}
+use Rattle.sd_message.specs.declared.ecm_message.EcmHead.{EcmHead}
 use Rattle.sd_engine.specs.Stage.{SinkState, IsCutShort, TookBytes}
 use Rattle.sd_spec.specs.declared.stream_fault.StreamFault.{StreamFault}
 use Rattle.sd_spec.specs.declared.stream_fault.StreamFault.TheVariants as Fault

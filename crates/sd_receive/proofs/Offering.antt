@@ -4,10 +4,10 @@ use Rattle.std.specs.Prelude.{Option, Some, None, if◌then◌else◌, nat_lt, �
 use Rattle.std.specs.Option.{option_map_or}
 use Rattle.std.proofs.lemmas.Bool.{or_parts, ltb-false}
 use Rattle.sd_site.specs.CardFields.{CardFields}
-use Rattle.sd_ecm.specs.Parts.{Message}
-use Rattle.sd_ecm.specs.declared.part.EcmPart.{EcmPart}
-use Rattle.sd_ecm.specs.declared.fault.EcmFault.{EcmFault}
-use Rattle.sd_ecm.specs.declared.fault.EcmFault.TheVariants.{Back}
+use Rattle.sd_message.specs.EcmParts.{Message}
+use Rattle.sd_message.specs.declared.ecm_part.EcmPart.{EcmPart}
+use Rattle.sd_message.specs.declared.ecm_fault.EcmFault.{EcmFault}
+use Rattle.sd_message.specs.declared.ecm_fault.EcmFault.TheVariants.{Back}
 use Rattle.sd_spec.specs.declared.stream_fault.StreamFault.TheVariants as Fault
 use Rattle.sd_psi.specs.declared.our_cat.Tuning.{Tuning}
 use Rattle.sd_spec.specs.Heard.{Heard, Controls}

@@ -4,8 +4,8 @@ use Rattle.std.proofs.Common.{sym, subst}
 use Rattle.std.specs.Prelude.{AllPairs}
 use Rattle.std.proofs.lemmas.Bool.{cases_lt}
 use Rattle.std.proofs.lemmas.List.{get_or_append_left, get_or-append_right}
-use Rattle.sd_ecm.specs.Form.{AreAscending}
-use Rattle.sd_ecm.specs.declared.part.Place.{Place}
+use Rattle.sd_message.specs.EcmForm.{AreAscending}
+use Rattle.sd_message.specs.declared.ecm_part.Place.{Place}
 
 -- an element of two lists is one of the first, or one of the second
 at_left : {A : Type 0} (xs ys : List A) (i : ℕ) (d : A) → i < length xs → get_or (xs ++ ys) i d ≡ get_or xs i d

@@ -13,8 +13,8 @@ use Rattle.std.proofs.lemmas.List.Folds.{list_any-append}
 use Rattle.sd_packet.specs.Header.{pid_of}
 use Rattle.sd_packet.specs.Positions.{is_moving, moved, moved_by, first_position}
 use Rattle.sd_packet.proofs.Positions.{one_more, none_moves, more_packets, moved_by_near}
-use Rattle.sd_ecm.specs.Form.{AreShort, AreAscending}
-use Rattle.sd_ecm.specs.declared.part.Place.{Place}
+use Rattle.sd_message.specs.EcmForm.{AreShort, AreAscending}
+use Rattle.sd_message.specs.declared.ecm_part.Place.{Place}
 use Rattle.sd_spec.specs.Confirmed.{position_in}
 use Rattle.sd_receive.specs.declared.held.Held.{Held}
 use Rattle.sd_receive.specs.Tracking.{pids_in, packets_in, start_of, led_to, IsTracked, IsClearBut, AreKnown}

@@ -1,16 +1,16 @@
 -- Public meaning: what is kept of control messages after what was heard.
 use Rattle.std.specs.Prelude.{◌≡◌, List, ◌∷◌, Option, Some, None, option_map, if◌then◌else◌, Result, Ok, Err}
 use Rattle.std.specs.Option.{option_map_or}
-use Rattle.sd_ecm.specs.Parts.{Message, message_of, ecm_head_of}
-use Rattle.sd_ecm.specs.declared.part.Place.{Place}
-use Rattle.sd_ecm.specs.declared.part.EcmPart.{EcmPart}
-use Rattle.sd_ecm.specs.declared.message.EcmHead.{EcmHead}
-use Rattle.sd_ecm.specs.declared.fault.EcmFault.{EcmFault}
-use Rattle.sd_ecm.specs.declared.fault.EcmFault.TheVariants.{Back}
+use Rattle.sd_message.specs.EcmParts.{Message, message_of, ecm_head_of}
+use Rattle.sd_message.specs.declared.ecm_part.Place.{Place}
+use Rattle.sd_message.specs.declared.ecm_part.EcmPart.{EcmPart}
+use Rattle.sd_message.specs.declared.ecm_message.EcmHead.{EcmHead}
+use Rattle.sd_message.specs.declared.ecm_fault.EcmFault.{EcmFault}
+use Rattle.sd_message.specs.declared.ecm_fault.EcmFault.TheVariants.{Back}
 use Rattle.sd_spec.specs.Heard.{Heard, Controls}
 use Rattle.sd_spec.specs.Stretches.{counted, run_of, run_to, newest, completes}
 use Rattle.sd_spec.specs.Offered.{part_fault, is_back}
-use Rattle.sd_ecm.specs.Form.{ArePlaces}
+use Rattle.sd_message.specs.EcmForm.{ArePlaces}
 use Rattle.sd_receive.specs.Gathered.{IsGathered}
 use Rattle.sd_receive.specs.declared.collect.Collect.{Collect}
 use Rattle.sd_receive.specs.declared.collect.Taken.{Taken}

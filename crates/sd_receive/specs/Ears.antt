@@ -1,8 +1,8 @@
 -- Public meaning: what a receiver hears, as the program keeps it.
 use Rattle.std.specs.Prelude.{ℕ, List}
-use Rattle.sd_emm.specs.Spelled.{listed_entries}
-use Rattle.sd_emm.specs.Form.{IsEmm, AreSets}
-use Rattle.sd_ecm.specs.Form.{IsEcm}
+use Rattle.sd_message.specs.EmmSpelled.{listed_entries}
+use Rattle.sd_message.specs.EmmForm.{IsEmm, AreSets}
+use Rattle.sd_message.specs.EcmForm.{IsEcm}
 use Rattle.sd_spec.specs.Heard as Reception
 use Rattle.sd_receive.specs.declared.ears.Heard.{Heard}
 use Rattle.sd_receive.specs.declared.ears.Heard.TheVariants.{Dropped, Entitles, Controls, BadEmm, BadEcm, Other}

@@ -2,13 +2,13 @@
 use Rattle.std.specs.Prelude.{◌≡◌, ◌+◌, ◌==◌, if◌then◌else◌, List, [], ◌∷◌, length, reverse, flat_map, All}
 use Rattle.std.specs.Prelude.{Option, Some, None}
 use Rattle.std.specs.Prelude.{Result, Ok, Err}
-use Rattle.sd_ecm.specs.Spelled.{listed_places}
-use Rattle.sd_ecm.specs.Form.{ArePlaces, IsEcm}
-use Rattle.sd_ecm.specs.Parts.{SaySame}
-use Rattle.sd_ecm.specs.Versions.{most_positions}
-use Rattle.sd_ecm.specs.declared.part.Place.{Place}
-use Rattle.sd_ecm.specs.declared.part.EcmPart.{EcmPart}
-use Rattle.sd_ecm.specs.declared.fault.EcmFault.{EcmFault}
+use Rattle.sd_message.specs.EcmSpelled.{listed_places}
+use Rattle.sd_message.specs.EcmForm.{ArePlaces, IsEcm}
+use Rattle.sd_message.specs.EcmParts.{SaySame}
+use Rattle.sd_message.specs.EcmVersions.{most_positions}
+use Rattle.sd_message.specs.declared.ecm_part.Place.{Place}
+use Rattle.sd_message.specs.declared.ecm_part.EcmPart.{EcmPart}
+use Rattle.sd_message.specs.declared.ecm_fault.EcmFault.{EcmFault}
 use Rattle.sd_spec.specs.Stretches.{run_with}
 use Rattle.sd_spec.specs.Offered.{part_fault}
 

@@ -2,9 +2,9 @@
 use Rattle.std.specs.Prelude.{ℕ, nat_le, nat_lt, List, [], length, if◌then◌else◌, Option, Some, None, option_map}
 use Rattle.sd_site.specs.CardFields.{CardFields}
 use Rattle.sd_keystream.specs.Wrapping.{wrapped as under}
-use Rattle.sd_ecm.specs.Parts.{Message}
-use Rattle.sd_ecm.specs.declared.part.Place.{Place}
-use Rattle.sd_ecm.specs.declared.message.EcmHead.{EcmHead}
+use Rattle.sd_message.specs.EcmParts.{Message}
+use Rattle.sd_message.specs.declared.ecm_part.Place.{Place}
+use Rattle.sd_message.specs.declared.ecm_message.EcmHead.{EcmHead}
 use Rattle.sd_spec.specs.Heard.{Heard}
 use Rattle.sd_spec.specs.Stretches.{Stretch, newest, held_in}
 use Rattle.sd_spec.specs.Keys.{key_at}

@@ -1,7 +1,7 @@
 -- Public meaning: the packets that are buffered (held) after a control message, as contracts see them.
 use Rattle.std.specs.Prelude.{ℕ, List, [], ◌∷◌, ◌++◌, length, map, nat_lt, if◌then◌else◌, Option, Some, None}
-use Rattle.sd_ecm.specs.Parts.{Message}
-use Rattle.sd_ecm.specs.declared.part.Place.{Place}
+use Rattle.sd_message.specs.EcmParts.{Message}
+use Rattle.sd_message.specs.declared.ecm_part.Place.{Place}
 use Rattle.sd_spec.specs.Offered.{most_held}
 use Rattle.sd_receive.specs.declared.held.Held.{Held}
 use Rattle.sd_receive.specs.declared.held.Word.{Word}

@@ -5,9 +5,9 @@ use Rattle.std.specs.List.{list_any}
 use Rattle.std.specs.Option.{option_map_or}
 use Rattle.sd_packet.specs.Header.{pid_of}
 use Rattle.sd_packet.specs.Positions.{first_position, moved_by}
-use Rattle.sd_ecm.specs.Form.{AreShort}
-use Rattle.sd_ecm.specs.declared.part.Place.{Place}
-use Rattle.sd_ecm.specs.Versions.{most_places}
+use Rattle.sd_message.specs.EcmForm.{AreShort}
+use Rattle.sd_message.specs.declared.ecm_part.Place.{Place}
+use Rattle.sd_message.specs.EcmVersions.{most_places}
 use Rattle.sd_spec.specs.Confirmed.{position_in}
 use Rattle.sd_spec.specs.Offered.{most_held}
 use Rattle.sd_receive.specs.declared.held.Held.{Held}

@@ -5,9 +5,9 @@ use Rattle.std.specs.List.{concat}
 use Rattle.sd_packet.specs.Header.{pid_of}
 use Rattle.sd_ports.specs.Bytes.{AppendsPrefix}
 use Rattle.sd_engine.specs.Stage.{SinkState, TookBytes, IsCutShort, IsTooShort}
-use Rattle.sd_ecm.specs.Form.{AreShort}
-use Rattle.sd_ecm.specs.Parts.{Message}
-use Rattle.sd_ecm.specs.declared.part.Place.{Place}
+use Rattle.sd_message.specs.EcmForm.{AreShort}
+use Rattle.sd_message.specs.EcmParts.{Message}
+use Rattle.sd_message.specs.declared.ecm_part.Place.{Place}
 use Rattle.sd_spec.specs.Confirmed.{Segment, Wrote, written_from}
 use Rattle.sd_receive.specs.Holding.{Holding, held_pair}
 use Rattle.sd_receive.specs.Tracking.{led_to, IsKept}

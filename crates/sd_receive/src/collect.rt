@@ -1,8 +1,8 @@
 ghost use Rattle.std.specs.Prelude.{◌≤◌, vec_capacity};
-ghost use Rattle.sd_ecm.specs.declared.format.TheConstants.{MOST_PLACES};
+ghost use Rattle.sd_message.specs.declared.ecm_format.TheConstants.{MOST_PLACES};
 
 use crate::run::Run;
-use sd_ecm::{EcmHead, Place};
+use sd_message::{EcmHead, Place};
 
 /// What a part of a control message gives, if it isn't refused.
 #[derive(Clone, Copy)]

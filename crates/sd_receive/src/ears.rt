@@ -1,11 +1,10 @@
 ghost use Rattle.std.specs.Prelude.{◌≡◌, ℕ};
-ghost use Rattle.sd_emm.specs.Judged.{emm_read};
-ghost use Rattle.sd_ecm.specs.Judged.{ecm_read};
+ghost use Rattle.sd_message.specs.EmmJudged.{emm_read};
+ghost use Rattle.sd_message.specs.EcmJudged.{ecm_read};
 ghost use Rattle.sd_spec.specs.Heard.{hears, heard_emm, heard_ecm, Dropped, Other};
 ghost use Rattle.sd_receive.specs.declared.ears.Channel.TheVariants as Channels;
 
-use sd_ecm::{EcmFault, EcmPart};
-use sd_emm::{Emm, EmmFault};
+use sd_message::{EcmFault, EcmPart, Emm, EmmFault};
 use sd_packet::Packet;
 use sd_psi::{CAT_PID, Tuning};
 

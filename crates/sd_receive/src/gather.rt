@@ -1,17 +1,17 @@
 ghost use Rattle.std.specs.Prelude.{◌≡◌, ◌↔◌, ◌+◌, ◌≤◌, ◌∷◌, [], List, None, option_map, length, if◌then◌else◌, IfOk};
 ghost use Rattle.std.specs.Prelude.{IsTrue};
-ghost use Rattle.sd_ecm.specs.Spelled.{listed_places};
-ghost use Rattle.sd_ecm.specs.Form.{IsEcm};
-ghost use Rattle.sd_ecm.specs.Parts.{ecm_head_of};
-ghost use Rattle.sd_ecm.specs.declared.format.TheConstants.{POSITIONS, MOST_PLACES};
-ghost use Rattle.sd_ecm.specs.declared.part.EcmPart.{EcmPart};
+ghost use Rattle.sd_message.specs.EcmSpelled.{listed_places};
+ghost use Rattle.sd_message.specs.EcmForm.{IsEcm};
+ghost use Rattle.sd_message.specs.EcmParts.{ecm_head_of};
+ghost use Rattle.sd_message.specs.declared.ecm_format.TheConstants.{POSITIONS, MOST_PLACES};
+ghost use Rattle.sd_message.specs.declared.ecm_part.EcmPart.{EcmPart};
 ghost use Rattle.sd_spec.specs.Stretches.{run_with};
 ghost use Rattle.sd_spec.specs.Offered.{part_fault, is_after as stands_after};
 ghost use Rattle.sd_receive.specs.Gathered.{next_run, IsNext, IsPart, IsGathered, GatherOutcome};
 
 use crate::run::Run;
 use sd_base::NoMemory;
-use sd_ecm::{EcmFault, EcmHead, EcmPart, MOST_PLACES, Place};
+use sd_message::{EcmFault, EcmHead, EcmPart, MOST_PLACES, Place};
 use std::alloc::Global;
 
 impl Run {

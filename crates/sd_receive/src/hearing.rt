@@ -1,14 +1,13 @@
 ghost use Rattle.std.specs.Prelude.{◌≡◌, ℕ, List, IfOk, IfSome};
-ghost use Rattle.sd_emm.specs.Form.{IsEmm, AreSets};
-ghost use Rattle.sd_emm.specs.Spelled.{listed_entries, SpellsEmm};
-ghost use Rattle.sd_ecm.specs.Form.{IsEcm};
-ghost use Rattle.sd_ecm.specs.Spelled.{SpellsPart};
+ghost use Rattle.sd_message.specs.EmmForm.{IsEmm, AreSets};
+ghost use Rattle.sd_message.specs.EmmSpelled.{listed_entries, SpellsEmm};
+ghost use Rattle.sd_message.specs.EcmForm.{IsEcm};
+ghost use Rattle.sd_message.specs.EcmSpelled.{SpellsPart};
 ghost use Rattle.sd_spec.specs.Heard.{heard_emm, heard_ecm};
 ghost use Rattle.sd_receive.specs.Ears.{heard_as, IsFormed};
 
 use crate::ears::Heard;
-use sd_ecm::{EcmFault, EcmPart};
-use sd_emm::{Emm, EmmFault};
+use sd_message::{EcmFault, EcmPart, Emm, EmmFault};
 
 // What a packet on the PID of entitlements is, by what was read of it.
 #[inline(always)]

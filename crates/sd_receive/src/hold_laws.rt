@@ -1,7 +1,7 @@
 //! What a segment writes, in terms of the two control messages around it.
 
 ghost use Rattle.std.specs.Prelude.{◌≡◌, ℕ, List, [], map, Some};
-ghost use Rattle.sd_ecm.specs.Parts.{Message};
+ghost use Rattle.sd_message.specs.EcmParts.{Message};
 ghost use Rattle.sd_spec.specs.Confirmed.{written_from};
 ghost use Rattle.sd_receive.specs.Holding.{after_message};
 ghost use Rattle.sd_receive.specs.Writing.{wrote_of};

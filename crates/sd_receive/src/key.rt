@@ -1,7 +1,7 @@
 ghost use Rattle.std.specs.Prelude.{◌≡◌, ◌+◌, ◌≤◌, None, IsNone, IfOk, option_map};
-ghost use Rattle.sd_emm.specs.Form.{AreSets};
-ghost use Rattle.sd_emm.specs.Spelled.{listed_entries};
-ghost use Rattle.sd_emm.specs.declared.format.TheConstants.{MOST_ENTRIES};
+ghost use Rattle.sd_message.specs.EmmForm.{AreSets};
+ghost use Rattle.sd_message.specs.EmmSpelled.{listed_entries};
+ghost use Rattle.sd_message.specs.declared.emm_format.TheConstants.{MOST_ENTRIES};
 ghost use Rattle.sd_site.specs.CardFields.{card_fields_of};
 ghost use Rattle.sd_keystream.specs.Wrapping.{wrapped};
 ghost use Rattle.sd_spec.specs.Keys.{key_from};
@@ -9,8 +9,8 @@ ghost use Rattle.sd_spec.specs.Offered.{key_offering};
 ghost use Rattle.sd_receive.specs.Entitled.{HasFault};
 
 use sd_base::Steps;
-use sd_emm::Emm;
 use sd_keystream::unwrap_checked;
+use sd_message::Emm;
 use sd_site::Card;
 use sd_spec::StreamFault;
 use std::sync::ledger::Ledger;

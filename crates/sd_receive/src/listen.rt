@@ -2,7 +2,7 @@ ghost use Rattle.std.specs.Prelude.{◌≡◌, ◌+◌, ◌≤◌, ◌<◌, [], 
 ghost use Rattle.std.specs.Prelude.{if◌then◌else◌};
 ghost use Rattle.sd_base.specs.Count.{IsCaused};
 ghost use Rattle.sd_site.specs.CardFields.{CardFields, card_fields_of};
-ghost use Rattle.sd_ecm.specs.Form.{IsEcm};
+ghost use Rattle.sd_message.specs.EcmForm.{IsEcm};
 ghost use Rattle.sd_engine.specs.Stage.{vessel};
 ghost use Rattle.sd_spec.specs.Heard.{Heard as Thing, Controls};
 ghost use Rattle.sd_receive.specs.Ears.{heard_as, IsFormed};
@@ -13,8 +13,8 @@ use crate::ears::Heard;
 use crate::listener::Listener;
 use crate::{Collect, Entitled, Segment, Taken};
 use sd_base::{NoMemory, Steps};
-use sd_ecm::EcmPart;
 use sd_engine::StageFault;
+use sd_message::EcmPart;
 use sd_packet::Packet;
 use sd_ports::Sink;
 use sd_psi::Tuning;

@@ -1,12 +1,12 @@
 ghost use Rattle.std.specs.Prelude.{◌≡◌, nat_lt, true};
 ghost use Rattle.std.specs.List.{list_any};
 ghost use Rattle.std.specs.Option.{option_map_or};
-ghost use Rattle.sd_ecm.specs.Form.{AreAscending};
-ghost use Rattle.sd_ecm.specs.Parts.{message_of};
+ghost use Rattle.sd_message.specs.EcmForm.{AreAscending};
+ghost use Rattle.sd_message.specs.EcmParts.{message_of};
 ghost use Rattle.sd_spec.specs.Confirmed.{position_in};
 ghost use Rattle.sd_spec.specs.Offered.{is_before};
 
-use sd_ecm::{EcmHead, Place};
+use sd_message::{EcmHead, Place};
 
 /// Whether a message goes back behind the one before it, `last`: its period, its control word, its number of clear
 /// packets or some position is lower, or it lacks a PID [this project, docs/FORMATS.md, Receiver].

@@ -1,8 +1,8 @@
 ghost use Rattle.std.specs.Prelude.{◌≤◌, vec_capacity, IfSome};
 ghost use Rattle.std.proofs.Props.{props};
-ghost use Rattle.sd_ecm.specs.declared.format.TheConstants.{POSITIONS, MOST_PLACES};
+ghost use Rattle.sd_message.specs.declared.ecm_format.TheConstants.{POSITIONS, MOST_PLACES};
 
-use sd_ecm::{EcmPart, Place};
+use sd_message::{EcmPart, Place};
 
 /// The parts of one control message that arrived one after the other, from part 0 on: the newest, and the positions of
 /// all.

@@ -1,7 +1,7 @@
 ghost use Rattle.std.specs.Prelude.{◌≡◌, ◌<◌, ◌^◌};
 ghost use Rattle.sd_receive.specs.Entitled.{says_in};
 
-use sd_emm::Emm;
+use sd_message::Emm;
 
 /// What all sections of a period say alike [this project, docs/FORMATS.md, Messages].
 #[derive(Clone, Copy, PartialEq, Eq)]

@@ -1,7 +1,7 @@
 ghost use Rattle.std.specs.Prelude.{◌≡◌, ◌+◌, ◌≤◌, ◌<◌, ◌==◌, ◌∷◌, false, List, None, Some, OnOk, IfErr};
 ghost use Rattle.std.specs.Prelude.{is_some, if◌then◌else◌, ℕ, Option};
-ghost use Rattle.sd_emm.specs.Form.{IsEmm, AreSets};
-ghost use Rattle.sd_emm.specs.Spelled.{listed_entries};
+ghost use Rattle.sd_message.specs.EmmForm.{IsEmm, AreSets};
+ghost use Rattle.sd_message.specs.EmmSpelled.{listed_entries};
 ghost use Rattle.sd_site.specs.CardFields.{CardFields, card_fields_of};
 ghost use Rattle.sd_spec.specs.Heard.{Heard, Entitles};
 ghost use Rattle.sd_spec.specs.Stretches.{current, seen};
@@ -14,7 +14,7 @@ use crate::entitled::Entitled;
 use crate::key::good_key_in;
 use crate::says::Says;
 use sd_base::Steps;
-use sd_emm::{Emm, EmmFault};
+use sd_message::{Emm, EmmFault};
 use sd_site::Card;
 use sd_spec::StreamFault;
 use std::sync::ledger::Ledger;

@@ -1,7 +1,7 @@
 ghost use Rattle.std.specs.Prelude.{◌≡◌, ◌<◌, [], Some, None, IfOk, IsErrOf};
 ghost use Rattle.sd_base.specs.Count.{IsCaused};
 ghost use Rattle.sd_engine.specs.Stage.{vessel};
-ghost use Rattle.sd_ecm.specs.Form.{AreShort, ArePlaces};
+ghost use Rattle.sd_message.specs.EcmForm.{AreShort, ArePlaces};
 ghost use Rattle.sd_receive.specs.Holding.{held_more};
 ghost use Rattle.sd_receive.specs.Writing.{WriteOutcome, wrote_of};
 
@@ -10,7 +10,7 @@ use crate::held::{MOST_HELD, Word};
 use crate::segment_fault::SegmentFault;
 use crate::tracks::Tracks;
 use sd_base::NoMemory;
-use sd_ecm::Place;
+use sd_message::Place;
 use sd_packet::Packet;
 use sd_ports::Sink;
 use std::alloc::Global;
@@ -43,7 +43,7 @@ impl Segment {
     pub fn new(alloc: Global) -> Result<Segment, NoMemory>
         ensures { IfOk result (λ segment. segment ≡ None) }
     {
-        let tracks = Tracks::new(alloc).map_err(|_| NoMemory)?;
+        let tracks = Tracks::new(alloc)?;
         Ok(Segment { word: None, tracks })
     }
 

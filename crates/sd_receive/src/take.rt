@@ -1,18 +1,18 @@
 ghost use Rattle.std.specs.Prelude.{◌≡◌, ◌∷◌, [], List, Option, IfOk};
-ghost use Rattle.sd_ecm.specs.Form.{IsEcm, AreAscending};
-ghost use Rattle.sd_ecm.specs.Parts.{Message, message_of};
-ghost use Rattle.sd_ecm.specs.declared.part.EcmPart.{EcmPart};
+ghost use Rattle.sd_message.specs.EcmForm.{IsEcm, AreAscending};
+ghost use Rattle.sd_message.specs.EcmParts.{Message, message_of};
+ghost use Rattle.sd_message.specs.declared.ecm_part.EcmPart.{EcmPart};
 ghost use Rattle.sd_spec.specs.Heard.{Heard, Controls};
 ghost use Rattle.sd_spec.specs.Stretches.{current as current_period, exceeds, newest};
 ghost use Rattle.sd_spec.specs.Offered.{is_back as back};
-ghost use Rattle.sd_ecm.specs.declared.message.EcmHead.{EcmHead};
+ghost use Rattle.sd_message.specs.declared.ecm_message.EcmHead.{EcmHead};
 ghost use Rattle.sd_receive.specs.Collected.{IsMessageKept, IsCollected, IsComplete, PartOutcome};
 
 use crate::collect::{Collect, Taken};
 use crate::order::goes_back;
 use crate::run::Run;
 use sd_base::NoMemory;
-use sd_ecm::{EcmFault, EcmHead, EcmPart, MOST_PLACES, Place};
+use sd_message::{EcmFault, EcmHead, EcmPart, MOST_PLACES, Place};
 use std::alloc::Global;
 use std::mem::swap;
 

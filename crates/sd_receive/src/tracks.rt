@@ -1,13 +1,13 @@
 ghost use Rattle.std.specs.Prelude.{◌≡◌, ◌+◌, ◌<◌, ◌^◌, ◌++◌, ◌∷◌, [], IfOk, get_or, length, map, slice_set};
 ghost use Rattle.sd_packet.specs.Header.{pid_of};
 ghost use Rattle.sd_packet.specs.Positions.{moved};
-ghost use Rattle.sd_ecm.specs.Form.{AreAscending, ArePlaces};
+ghost use Rattle.sd_message.specs.EcmForm.{AreAscending, ArePlaces};
 ghost use Rattle.sd_receive.specs.Holding.{held_pair};
 ghost use Rattle.sd_receive.specs.Tracking.{HasFirstPositions, IsTracked, IsKept, AreKnown, packets_in};
 ghost use Rattle.sd_receive.specs.declared.tracks.TheConstants.{PIDS};
 
 use crate::held::{Held, MOST_HELD};
-use sd_ecm::{MOST_PLACES, Place};
+use sd_message::{MOST_PLACES, Place};
 use sd_packet::{Packet, advance};
 use std::alloc::{AllocError, Global};
 

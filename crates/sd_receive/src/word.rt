@@ -1,10 +1,10 @@
 ghost use Rattle.std.specs.Prelude.{◌≡◌, [], None, Some, MatchResult};
-ghost use Rattle.sd_ecm.specs.Parts.{message_of};
+ghost use Rattle.sd_message.specs.EcmParts.{message_of};
 ghost use Rattle.sd_spec.specs.Offered.{word_fault};
 ghost use Rattle.sd_receive.specs.Held.{word_under};
 
-use sd_ecm::EcmHead;
 use sd_keystream::unwrap_checked;
+use sd_message::EcmHead;
 use sd_spec::StreamFault;
 
 /// The control word of a complete message, under the key of its period if that is known. `WrongWord` if its check value

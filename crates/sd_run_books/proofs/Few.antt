@@ -3,7 +3,7 @@ use Rattle.std.proofs.Common.{arith, ℕ, ◌^◌, ◌<◌, ◌≤◌, List, [],
 use Rattle.std.specs.Prelude.{All, Contains}
 use Rattle.std.proofs.lemmas.List.Elements.{All-contains}
 use Rattle.sd_tree.specs.Limits.{highest, most_revoked}
-use Rattle.sd_emm.specs.declared.format.TheConstants.{MOST_SETS}
+use Rattle.sd_message.specs.declared.emm_format.TheConstants.{MOST_SETS}
 use Rattle.sd_cover.specs.Cover.{cover_of}
 use Rattle.sd_cover.proofs.Covers.{cover_small}
 use Rattle.sd_cover.proofs.There.{list_is_cover}

@@ -6,8 +6,8 @@ use Rattle.std.specs.Fmt.{decimal}
 use Rattle.std.specs.Int.{div_ceil}
 use Rattle.sd_site.specs.SiteFields.{SiteFields}
 use Rattle.sd_book.specs.Commands.{last_period, revoked}
-use Rattle.sd_emm.specs.Form.{sections_for}
-use Rattle.sd_ecm.specs.Parts.{parts_for}
+use Rattle.sd_message.specs.EmmForm.{sections_for}
+use Rattle.sd_message.specs.EcmParts.{parts_for}
 use Rattle.sd_spec.specs.Plan.{Plan, closing_number, crypto_of, period_in, sets_at, word_in}
 use Rattle.sd_command_base.specs.declared.status.Status.{Status}
 use Rattle.sd_command_base.specs.declared.status.Status.TheVariants.{BadWord, Done}

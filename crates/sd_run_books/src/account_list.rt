@@ -72,6 +72,6 @@ impl Accounts {
     pub fn report(&self, alloc: Global) -> Result<Vec<u8>, NoMemory>
         ensures { IfOk result (λ text. text.items ≡ compact_text (report_data self.now)) }
     {
-        report(alloc, &self.book, &self.leaves).map_err(|_| NoMemory)
+        Ok(report(alloc, &self.book, &self.leaves)?)
     }
 }

@@ -13,7 +13,7 @@ use crate::plan_periods::periods_text;
 use crate::plan_schedule::{cryptos_for, last_word, messages_for, period_count};
 use sd_book::Book;
 use sd_command_base::{Number, Status, Word, print_text, read_book, read_site};
-use sd_ecm::part_count;
+use sd_message::part_count;
 use sd_ports::{Depot, Sink};
 use sd_site::Site;
 use std::alloc::Global;

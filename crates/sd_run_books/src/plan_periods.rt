@@ -6,7 +6,7 @@ ghost use Rattle.std.specs.List.Sorted.{IsStrictlyIncreasing};
 ghost use Rattle.sd_tree.specs.declared.leaf.TheConstants.{MOST_REVOKED};
 ghost use Rattle.sd_site.specs.SiteFields.{fields_of};
 ghost use Rattle.sd_cover.specs.Cover.{cover_of};
-ghost use Rattle.sd_emm.specs.Form.{sections_for};
+ghost use Rattle.sd_message.specs.EmmForm.{sections_for};
 ghost use Rattle.sd_run_books.specs.Air.{line_at, period_line, periods_for, tables_in};
 
 use crate::plan_lines::{PeriodNumbers, push_period};
@@ -14,7 +14,7 @@ use crate::plan_schedule::{cryptos_in, period_count};
 use sd_base::NoMemory;
 use sd_book::Book;
 use sd_command_base::{cover_sets, replay_from};
-use sd_emm::section_count;
+use sd_message::section_count;
 use sd_site::Site;
 use sd_tree::{HIGHEST, Height, Leaf};
 use std::alloc::Global;
@@ -83,6 +83,6 @@ fn push_numbers(
         entitlements,
         cryptos,
     };
-    push_period(text, numbers).map_err(|_| NoMemory)?;
+    push_period(text, numbers)?;
     Ok(u64::from(cryptos) * (1 + u64::from(entitlements)))
 }

@@ -1,6 +1,6 @@
 use sd_base::NoMemory;
 use sd_command_base::{Listing, cover_sets};
-use sd_reach::opens;
+use sd_cover::opens;
 use sd_tree::{Height, Leaf, SetName};
 use std::alloc::Global;
 

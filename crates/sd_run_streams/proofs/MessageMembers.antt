@@ -2,7 +2,7 @@
 use Rattle.std.proofs.Common.{◌≡◌, ◌∙◌, ℕ, List, ◌++◌, Option, Some, None, refl, ap}
 use Rattle.serde_json.specs.Data.{Data, object, no_members}
 use Rattle.sd_run_streams.specs.TableMembers.{put_all}
-use Rattle.sd_ecm.specs.declared.part.EcmPart.{EcmPart}
+use Rattle.sd_message.specs.declared.ecm_part.EcmPart.{EcmPart}
 use Rattle.sd_run_streams.specs.MessageLines.{ecm_data}
 use Rattle.sd_run_streams.specs.MessageMembers.{ecm_members, run_members}
 

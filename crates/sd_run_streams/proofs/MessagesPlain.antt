@@ -7,17 +7,17 @@ use Rattle.serde_json.specs.Written.{has_float, items_have_float, members_have_f
 use Rattle.sd_tree.specs.declared.set.SetName.{SetName}
 use Rattle.sd_packet.specs.Header.{pid_of}
 use Rattle.sd_site.specs.SiteFields.{SiteFields}
-use Rattle.sd_emm.specs.Spelled.{listed_entries as entries_of, names_in}
-use Rattle.sd_emm.specs.Judged.{emm_read}
-use Rattle.sd_emm.specs.Faults.{emm_fault_name}
-use Rattle.sd_emm.specs.declared.emm.Emm.{Emm}
-use Rattle.sd_emm.specs.declared.fault.EmmFault.{EmmFault}
-use Rattle.sd_ecm.specs.Spelled.{listed_places as places_of}
-use Rattle.sd_ecm.specs.Judged.{ecm_read}
-use Rattle.sd_ecm.specs.Faults.{ecm_fault_name}
-use Rattle.sd_ecm.specs.declared.part.Place.{Place}
-use Rattle.sd_ecm.specs.declared.part.EcmPart.{EcmPart}
-use Rattle.sd_ecm.specs.declared.fault.EcmFault.{EcmFault}
+use Rattle.sd_message.specs.EmmSpelled.{listed_entries as entries_of, names_in}
+use Rattle.sd_message.specs.EmmJudged.{emm_read}
+use Rattle.sd_message.specs.EmmFaults.{emm_fault_name}
+use Rattle.sd_message.specs.declared.emm.Emm.{Emm}
+use Rattle.sd_message.specs.declared.emm_fault.EmmFault.{EmmFault}
+use Rattle.sd_message.specs.EcmSpelled.{listed_places as places_of}
+use Rattle.sd_message.specs.EcmJudged.{ecm_read}
+use Rattle.sd_message.specs.EcmFaults.{ecm_fault_name}
+use Rattle.sd_message.specs.declared.ecm_part.Place.{Place}
+use Rattle.sd_message.specs.declared.ecm_part.EcmPart.{EcmPart}
+use Rattle.sd_message.specs.declared.ecm_fault.EcmFault.{EcmFault}
 use Rattle.sd_run_streams.specs.MessageLines.{run_member, name_data, emm_data, place_data, ecm_data, message_fault_data}
 use Rattle.sd_run_streams.specs.MessageLines.{emm_told}
 use Rattle.sd_run_streams.specs.MessageLines.{ecm_told}

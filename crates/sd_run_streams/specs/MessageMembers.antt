@@ -2,8 +2,8 @@
 use Rattle.std.specs.Prelude.{ℕ, List, [], ◌∷◌, map, codes, Option, Some, None}
 use Rattle.hex.specs.Hex.{encode_lower}
 use Rattle.serde_json.specs.Data.{Data, boolean, string}
-use Rattle.sd_ecm.specs.Spelled.{listed_places as places_of}
-use Rattle.sd_ecm.specs.declared.part.EcmPart.{EcmPart}
+use Rattle.sd_message.specs.EcmSpelled.{listed_places as places_of}
+use Rattle.sd_message.specs.declared.ecm_part.EcmPart.{EcmPart}
 use Rattle.sd_run_streams.specs.TableLines.{num, list_data}
 use Rattle.sd_run_streams.specs.MessageLines.{place_data}
 

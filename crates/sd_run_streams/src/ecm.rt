@@ -1,13 +1,13 @@
 ghost use Rattle.std.specs.Prelude.{◌≡◌, ◌≤◌, ◌++◌, IfOk, OnOk, map};
 ghost use Rattle.serde_json.specs.View.{view};
 ghost use Rattle.sd_run_streams.specs.TableLines.{list_data as list_of};
-ghost use Rattle.sd_ecm.specs.declared.format.TheConstants.{POSITIONS};
+ghost use Rattle.sd_message.specs.declared.ecm_format.TheConstants.{POSITIONS};
 ghost use Rattle.sd_run_streams.specs.TableMembers.{named_data};
 ghost use Rattle.sd_run_streams.specs.MessageLines.{ecm_data, place_data};
 ghost use Rattle.sd_run_streams.specs.MessageMembers.{ecm_members, run_members};
 
 use crate::object::object_of;
-use sd_ecm::{EcmPart, Place};
+use sd_message::{EcmPart, Place};
 use serde_json::Value;
 use std::alloc::{AllocError, Global};
 

@@ -1,12 +1,12 @@
 ghost use Rattle.std.specs.Prelude.{◌≡◌, ◌++◌, ◌≤◌, IfOk, OnOk, map, string_bytes};
 ghost use Rattle.serde_json.specs.View.{view};
 ghost use Rattle.sd_run_streams.specs.TableLines.{list_data as list_of};
-ghost use Rattle.sd_emm.specs.Spelled.{names_in};
-ghost use Rattle.sd_emm.specs.declared.format.TheConstants.{MOST_ENTRIES};
+ghost use Rattle.sd_message.specs.EmmSpelled.{names_in};
+ghost use Rattle.sd_message.specs.declared.emm_format.TheConstants.{MOST_ENTRIES};
 ghost use Rattle.sd_run_streams.specs.MessageLines.{emm_data, name_data, set_word};
 
 use crate::object::object_of;
-use sd_emm::{Emm, Entry};
+use sd_message::{Emm, Entry};
 use sd_tree::SetName;
 use serde_json::Value;
 use std::alloc::{AllocError, Global};

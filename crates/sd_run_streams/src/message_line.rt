@@ -1,7 +1,7 @@
 ghost use Rattle.std.specs.Prelude.{◌≡◌, IfOk, Some, option_map, string_bytes};
 ghost use Rattle.serde_json.specs.View.{view};
-ghost use Rattle.sd_emm.specs.Judged.{emm_read};
-ghost use Rattle.sd_ecm.specs.Judged.{ecm_read};
+ghost use Rattle.sd_message.specs.EmmJudged.{emm_read};
+ghost use Rattle.sd_message.specs.EcmJudged.{ecm_read};
 ghost use Rattle.sd_site.specs.SiteFields.{fields_of};
 ghost use Rattle.sd_run_streams.specs.MessageLines.{ecm_told, emm_told, message_data, message_line};
 
@@ -9,8 +9,7 @@ use crate::ecm::ecm_value;
 use crate::emm::emm_value;
 use crate::message_fault::fault_value;
 use sd_command_base::as_line;
-use sd_ecm::read_ecm;
-use sd_emm::read_emm;
+use sd_message::{read_ecm, read_emm};
 use sd_packet::Packet;
 use sd_site::Site;
 use sd_tree::Height;

@@ -29,7 +29,7 @@ pub fn push_line(
     let Ok(line) = line(alloc, packet, pid, table) else {
         return Err(NoMemory);
     };
-    text.push_str(line.as_str()).map_err(|_| NoMemory)
+    Ok(text.push_str(line.as_str())?)
 }
 
 // The line of a section.

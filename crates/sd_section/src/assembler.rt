@@ -51,7 +51,7 @@ impl Assembler {
         ensures lent { IfOk result (λ assembler. assembler.waiting ≡ []) }
     {
         Ok(Assembler {
-            buffer: Vec::with_capacity(alloc, LONGEST).map_err(|_| NoMemory)?,
+            buffer: Vec::with_capacity(alloc, LONGEST)?,
             holds: Holds::Making,
             payload: [0; 184],
             at: 0,

@@ -6,7 +6,6 @@ mod begun;
 mod crc;
 mod fault;
 mod holds;
-pub mod laws;
 mod limits;
 mod making;
 mod read;

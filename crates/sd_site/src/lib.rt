@@ -4,7 +4,6 @@
 
 mod card;
 mod card_fault;
-pub mod card_laws;
 mod card_read;
 mod count;
 mod file;
@@ -18,7 +17,6 @@ mod place;
 mod secret_key;
 mod site;
 mod site_fault;
-pub mod site_laws;
 mod site_name;
 mod site_read;
 mod write;

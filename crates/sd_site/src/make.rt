@@ -23,7 +23,7 @@ impl Card {
         requires { u < 2 ^ site.now.height }
         ensures { IfOk result (λ card. card_fields_of card ≡ card_of site.now.master site.now.ca site.now.height u) }
     {
-        let secrets = secrets(alloc, site, u, steps).map_err(|_| NoMemory)?;
+        let secrets = secrets(alloc, site, u, steps)?;
         Ok(Card {
             height: site.height,
             leaf: u,

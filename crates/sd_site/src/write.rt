@@ -13,7 +13,7 @@ impl Card {
         ensures value { IfOk result (λ bytes. bytes.items ≡ card_bytes (card_fields_of self.now)) }
         ensures fits { IfOk result (λ _. IsCard (card_fields_of self.now)) }
     {
-        self.file(alloc).map_err(|_| NoMemory)
+        Ok(self.file(alloc)?)
     }
 
     // The head and the secrets, as a file.

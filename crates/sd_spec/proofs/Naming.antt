@@ -4,7 +4,7 @@ use Rattle.std.specs.Prelude.{IfSome}
 use Rattle.std.proofs.lemmas.Bool.{cases_eq, ne_eqb, false≢true}
 use Rattle.sd_site.specs.Forms.{IsWithin, messages_line}
 use Rattle.sd_site.specs.SiteFields.{SiteFields, AreInRange, run_name_of}
-use Rattle.sd_ecm.specs.Versions.{IsVersion, IsNamed}
+use Rattle.sd_message.specs.EcmVersions.{IsVersion, IsNamed}
 
 -- the messages are of one of the three versions
 pub version_is : (version : ℕ) → IsWithin messages_line version → IsVersion version

@@ -4,10 +4,10 @@ use Rattle.std.specs.Prelude.{Contains}
 use Rattle.std.proofs.lemmas.List.Elements.{All-contains}
 use Rattle.sd_tree.specs.declared.set.SetName.{SetName}
 use Rattle.sd_site.specs.SiteFields.{SiteFields}
-use Rattle.sd_emm.specs.Spelled.{names_in}
-use Rattle.sd_emm.specs.Period.{emms_of, IsOfPeriod}
-use Rattle.sd_emm.specs.declared.emm.Emm.{Emm}
-use Rattle.sd_emm.proofs.Sharing.{all_are_of}
+use Rattle.sd_message.specs.EmmSpelled.{names_in}
+use Rattle.sd_message.specs.Period.{emms_of, IsOfPeriod}
+use Rattle.sd_message.specs.declared.emm.Emm.{Emm}
+use Rattle.sd_message.proofs.EmmSharing.{all_are_of}
 use Rattle.sd_spec.specs.Plan.{Plan}
 use Rattle.sd_spec.specs.Messages.{entry_of, period_at}
 

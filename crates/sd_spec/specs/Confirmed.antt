@@ -7,8 +7,8 @@ use Rattle.sd_packet.specs.Header.{pid_of, scrambling_of}
 use Rattle.sd_packet.specs.Positions.{is_placed, first_position, moved_by}
 use Rattle.sd_psi.specs.Rewriting.{restored, restore_fault}
 use Rattle.sd_keystream.specs.Scrambling.{descrambled}
-use Rattle.sd_ecm.specs.Parts.{Message}
-use Rattle.sd_ecm.specs.declared.part.Place.{Place}
+use Rattle.sd_message.specs.EcmParts.{Message}
+use Rattle.sd_message.specs.declared.ecm_part.Place.{Place}
 
 -- two control messages, the control word of the first, the conditional access system, the PID of control messages, and
 -- the packets buffered between the two

@@ -1,10 +1,10 @@
 -- Public meaning: what each thing that is sent for a clear stream is.
 use Rattle.std.specs.Prelude.{◌≡◌, ◌-◌, ◌/◌, ◌%◌, ◌<◌, ◌≤◌, true, false, [], length, take, get_or, Contains}
 use Rattle.sd_base.specs.Types.{Packets, PacketNumber}
-use Rattle.sd_emm.specs.Period.{emms_of}
-use Rattle.sd_emm.specs.declared.emm.Emm.{Emm}
-use Rattle.sd_ecm.specs.Parts.{parts_of}
-use Rattle.sd_ecm.specs.declared.part.EcmPart.{EcmPart}
+use Rattle.sd_message.specs.Period.{emms_of}
+use Rattle.sd_message.specs.declared.emm.Emm.{Emm}
+use Rattle.sd_message.specs.EcmParts.{parts_of}
+use Rattle.sd_message.specs.declared.ecm_part.EcmPart.{EcmPart}
 use Rattle.sd_spec.specs.Plan.{Plan, period_of, closing_number}
 use Rattle.sd_spec.specs.Carried.{carried}
 use Rattle.sd_spec.specs.Messages.{period_at, message_at}

@@ -4,8 +4,8 @@ use Rattle.sd_base.specs.Types.{Key, PeriodNumber}
 use Rattle.sd_tree.specs.Leaves.{is_member}
 use Rattle.sd_site.specs.CardFields.{CardFields, card_key}
 use Rattle.sd_keystream.specs.Wrapping.{wrapped as under}
-use Rattle.sd_emm.specs.Spelled.{listed_entries}
-use Rattle.sd_emm.specs.declared.emm.Emm.{Emm}
+use Rattle.sd_message.specs.EmmSpelled.{listed_entries}
+use Rattle.sd_message.specs.declared.emm.Emm.{Emm}
 use Rattle.sd_spec.specs.Heard.{Heard}
 use Rattle.sd_spec.specs.Stretches.{seen}
 

@@ -6,10 +6,10 @@ use Rattle.sd_tree.specs.Keys.{key_of, period_key_of, control_word_of, check_val
 use Rattle.sd_packet.specs.Positions.{position_of}
 use Rattle.sd_site.specs.SiteFields.{SiteFields, run_name_of}
 use Rattle.sd_keystream.specs.Wrapping.{wrapped as under}
-use Rattle.sd_emm.specs.Period.{Period}
-use Rattle.sd_emm.specs.declared.emm.Entry.{Entry}
-use Rattle.sd_ecm.specs.Parts.{Message}
-use Rattle.sd_ecm.specs.declared.part.Place.{Place}
+use Rattle.sd_message.specs.Period.{Period}
+use Rattle.sd_message.specs.declared.emm.Entry.{Entry}
+use Rattle.sd_message.specs.EcmParts.{Message}
+use Rattle.sd_message.specs.declared.ecm_part.Place.{Place}
 use Rattle.sd_spec.specs.Plan.{Plan, sets_at, word_of, period_of, since_of}
 use Rattle.sd_spec.specs.Kinds.{moved_pids}
 

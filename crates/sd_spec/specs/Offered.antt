@@ -8,14 +8,14 @@ use Rattle.sd_base.specs.Types.{Packet, Packets, Key, PacketNumber}
 use Rattle.sd_tree.specs.Keys.{check_value_of}
 use Rattle.sd_site.specs.CardFields.{CardFields}
 use Rattle.sd_keystream.specs.Wrapping.{wrapped as under}
-use Rattle.sd_emm.specs.declared.emm.Emm.{Emm}
-use Rattle.sd_emm.specs.declared.fault.EmmFault.TheVariants as Emms
-use Rattle.sd_ecm.specs.Versions.{most_places}
-use Rattle.sd_ecm.specs.Spelled.{listed_places}
-use Rattle.sd_ecm.specs.Parts.{Message}
-use Rattle.sd_ecm.specs.declared.part.EcmPart.{EcmPart}
-use Rattle.sd_ecm.specs.declared.fault.EcmFault.{EcmFault}
-use Rattle.sd_ecm.specs.declared.fault.EcmFault.TheVariants.{Count, Order, Mixed, Back}
+use Rattle.sd_message.specs.declared.emm.Emm.{Emm}
+use Rattle.sd_message.specs.declared.emm_fault.EmmFault.TheVariants as Emms
+use Rattle.sd_message.specs.EcmVersions.{most_places}
+use Rattle.sd_message.specs.EcmSpelled.{listed_places}
+use Rattle.sd_message.specs.EcmParts.{Message}
+use Rattle.sd_message.specs.declared.ecm_part.EcmPart.{EcmPart}
+use Rattle.sd_message.specs.declared.ecm_fault.EcmFault.{EcmFault}
+use Rattle.sd_message.specs.declared.ecm_fault.EcmFault.TheVariants.{Count, Order, Mixed, Back}
 use Rattle.sd_spec.specs.declared.stream_fault.StreamFault.{StreamFault}
 use Rattle.sd_spec.specs.declared.stream_fault.StreamFault.TheVariants as Fault
 use Rattle.sd_spec.specs.Tuned.{tuning_of}

@@ -11,7 +11,7 @@ use Rattle.sd_psi.specs.declared.fault.FormFault.{FormFault}
 use Rattle.sd_psi.specs.declared.fault.FormFault.TheVariants as Form
 use Rattle.sd_psi.specs.Forms.{pat_fault}
 use Rattle.sd_psi.specs.Rewriting.{rewrite_fault, restore_fault}
-use Rattle.sd_ecm.specs.Versions.{most_places}
+use Rattle.sd_message.specs.EcmVersions.{most_places}
 use Rattle.sd_spec.specs.Kinds.{kind_of, has_moved, moved_pids}
 use Rattle.sd_spec.specs.declared.kind.Kind.{Kind}
 use Rattle.sd_spec.specs.declared.kind.Kind.TheVariants.{Passed, Pmt, Scrambled}

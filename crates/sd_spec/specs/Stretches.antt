@@ -4,10 +4,10 @@ use Rattle.std.specs.Prelude.{◌+◌, ◌==◌, ◌&&◌, Bool, true, false, na
 use Rattle.std.specs.Prelude.{reverse, if◌then◌else◌, Option, Some, None}
 use Rattle.std.specs.Option.{option_map_or}
 use Rattle.sd_base.specs.Types.{Packet, PeriodNumber, PacketNumber}
-use Rattle.sd_emm.specs.declared.emm.Emm.{Emm}
-use Rattle.sd_ecm.specs.Spelled.{listed_places}
-use Rattle.sd_ecm.specs.Parts.{Message, message_of, ecm_head_of}
-use Rattle.sd_ecm.specs.declared.part.EcmPart.{EcmPart}
+use Rattle.sd_message.specs.declared.emm.Emm.{Emm}
+use Rattle.sd_message.specs.EcmSpelled.{listed_places}
+use Rattle.sd_message.specs.EcmParts.{Message, message_of, ecm_head_of}
+use Rattle.sd_message.specs.declared.ecm_part.EcmPart.{EcmPart}
 use Rattle.sd_spec.specs.Heard.{Heard, Dropped, Entitles, Controls, BadEmm, BadEcm, Other}
 
 -- the newest complete control message, what was heard before its last part, and what was heard after it. If there is no

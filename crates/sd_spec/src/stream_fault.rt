@@ -1,5 +1,4 @@
-use sd_ecm::EcmFault;
-use sd_emm::EmmFault;
+use sd_message::{EcmFault, EmmFault};
 
 /// Why a receiver refuses a packet. Packets are numbered from 0, the first of the stream [this project,
 /// docs/FORMATS.md, Receiver].

@@ -1,4 +1,4 @@
-use sd_reach::names_of;
+use sd_law_covers::names_of;
 use sd_tree::{Height, Leaf, Name};
 use std::alloc::{AllocError, Global};
 

@@ -1,6 +1,7 @@
 use crate::ascending::{TREES, has_bit};
 use crate::names::{closure, names};
-use sd_reach::{names_of, opens, reaches};
+use sd_cover::opens;
+use sd_law_covers::{names_of, reaches};
 use sd_tree::{Height, Leaf, Name, SetName};
 use std::alloc::Global;
 use std::test::*;

@@ -1,5 +1,5 @@
-use sd_base::laws::{get_after_set, set_of_get};
 use sd_base::{fields, get, set};
+use sd_law_formats::fields::{get_after_set, set_of_get};
 
 #[test]
 fn a_header_is_read(rt: HostRuntime) {

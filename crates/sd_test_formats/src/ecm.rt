@@ -1,6 +1,6 @@
 use crate::packets::{Change, changed, flipped, packet_of};
 use hex::FromHex;
-use sd_ecm::{EcmFault, EcmPart, MOST_PLACES, Place, part_count, read_ecm, write_ecm};
+use sd_message::{EcmFault, EcmPart, MOST_PLACES, Place, part_count, read_ecm, write_ecm};
 use sd_packet::Packet;
 use std::alloc::Global;
 use std::ops::Range;

@@ -1,6 +1,6 @@
 use crate::packets::{Change, changed, flipped, packet_of};
 use hex::FromHex;
-use sd_emm::{Emm, EmmFault, Entry, MOST_SETS, read_emm, section_count, write_emm};
+use sd_message::{Emm, EmmFault, Entry, MOST_SETS, read_emm, section_count, write_emm};
 use sd_packet::Packet;
 use sd_tree::{Height, SetName};
 use std::alloc::Global;

@@ -1,5 +1,5 @@
-use sd_keystream::laws::wrapped_twice;
 use sd_keystream::{unwrap_checked, wrap};
+use sd_law_formats::keystreams::wrapped_twice;
 use sd_tree::check_value;
 
 // Keys, numbers, texts, and what they are wrapped.

@@ -1,9 +1,8 @@
 use sd_book::BookLimit;
 use sd_command_base::{Clash, ClearCause, LimitKind, Status, StreamCause};
 use sd_command_line::tell;
-use sd_ecm::EcmFault;
-use sd_emm::EmmFault;
 use sd_engine::BreakCause;
+use sd_message::{EcmFault, EmmFault};
 use sd_ports::MemSink;
 use sd_psi::FormFault;
 use sd_site::{CardFault, SiteFault};

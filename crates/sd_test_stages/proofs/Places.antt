@@ -2,8 +2,8 @@
 use Rattle.std.proofs.Common.{◌^◌, ◌<◌, ◌≡◌, true, [], ◌∷◌, arith}
 use Rattle.std.proofs.lemmas.List.Elements.{All-nil, All-cons}
 use Rattle.sd_packet.specs.Positions.{is_positional}
-use Rattle.sd_ecm.specs.Form.{AreShort, ArePlaces}
-use Rattle.sd_ecm.specs.declared.part.Place.{Place}
+use Rattle.sd_message.specs.EcmForm.{AreShort, ArePlaces}
+use Rattle.sd_message.specs.declared.ecm_part.Place.{Place}
 
 -- the position of one place has 48 bits
 pub one_short : (place : Place) → place.position < 2 ^ 48 → AreShort (place ∷ [])

@@ -1,7 +1,7 @@
 use crate::made::{Ends, Made, NULL, SCRAMBLED, plain, site_of};
 use crate::sections::{PAT, PMT, REWRITTEN};
-use sd_ecm::Place;
 use sd_head::Clear;
+use sd_message::Place;
 use sd_packet::{Packet, pack_section};
 use sd_psi::{ClearFault, FormFault};
 use sd_site::Site;

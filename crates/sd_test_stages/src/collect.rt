@@ -1,8 +1,8 @@
 ghost use Rattle.std.specs.Prelude.{IfSome};
-ghost use Rattle.sd_ecm.specs.Form.{IsEcm};
+ghost use Rattle.sd_message.specs.EcmForm.{IsEcm};
 
 use crate::packets::packet;
-use sd_ecm::{EcmPart, Place, read_ecm};
+use sd_message::{EcmPart, Place, read_ecm};
 use sd_receive::{Collect, Taken};
 
 // Both parts of a message that an independent implementation wrote, up to the stuffing.

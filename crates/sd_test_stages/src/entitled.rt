@@ -1,11 +1,11 @@
 ghost use Rattle.std.specs.Prelude.{◌≡◌, ◌<◌, IfSome};
-ghost use Rattle.sd_emm.specs.Form.{IsEmm, AreSets};
-ghost use Rattle.sd_emm.specs.Spelled.{listed_entries};
+ghost use Rattle.sd_message.specs.EmmForm.{IsEmm, AreSets};
+ghost use Rattle.sd_message.specs.EmmSpelled.{listed_entries};
 
 use crate::packets::{ALL, beginning};
 use hex::FromHex;
 use sd_base::Steps;
-use sd_emm::{Emm, EmmFault, read_emm};
+use sd_message::{Emm, EmmFault, read_emm};
 use sd_packet::Packet;
 use sd_receive::Entitled;
 use sd_section::seal;

@@ -1,6 +1,5 @@
 use crate::packets::packet;
-use sd_ecm::read_ecm;
-use sd_emm::{EmmFault, read_emm};
+use sd_message::{EmmFault, read_ecm, read_emm};
 use sd_packet::{Packet, pack_section};
 use sd_psi::{Tuning, cat_tuning};
 use sd_receive::{Channel, channel_of};

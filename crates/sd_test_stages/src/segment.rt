@@ -1,6 +1,6 @@
 ghost use Rattle.std.specs.Prelude.{◌<◌, ◌^◌};
 
-use sd_ecm::Place;
+use sd_message::Place;
 use sd_packet::{Packet, pack_section};
 use sd_ports::MemSink;
 use sd_receive::{Segment, SegmentFault};

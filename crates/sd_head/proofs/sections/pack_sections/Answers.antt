@@ -1,6 +1,6 @@
 use Rattle.std.proofs.Common.{◌≡◌, ◌≤◌, ◌++◌, ◌∷◌, [], ◌∙◌, ℕ, subst, rules}
 use Rattle.sd_packet.specs.Packing.{packed}
-use Rattle.sd_emm.specs.Spelled.{emm_section}
+use Rattle.sd_message.specs.EmmSpelled.{emm_section}
 use Rattle.sd_head.specs.Packets.{period_of_entries}
 use Rattle.sd_head.proofs.Packing.{section_more, all_sections}
 use Rattle.sd_head.proofs.sections.pack_sections.Goals as goal

@@ -1,5 +1,5 @@
 use Rattle.std.proofs.Common.{◌≡◌, take}
-use Rattle.sd_emm.specs.Period.{emms_of}
+use Rattle.sd_message.specs.Period.{emms_of}
 use Rattle.sd_head.specs.Packets.{period_of_entries}
 use Rattle.sd_head.proofs.Packing.{of_sections}
 use Rattle.sd_head.proofs.sections.pack_sections.Given as goal

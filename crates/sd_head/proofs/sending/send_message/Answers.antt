@@ -1,7 +1,7 @@
 use Rattle.std.proofs.Common.{◌∙◌, ap, subst, arith}
 use Rattle.sd_engine.specs.Stage.{vessel, TookBytes}
-use Rattle.sd_ecm.specs.Parts.{message_of, parts_of}
-use Rattle.sd_ecm.proofs.Sharing.{as_many}
+use Rattle.sd_message.specs.EcmParts.{message_of, parts_of}
+use Rattle.sd_message.proofs.EcmSharing.{as_many}
 use Rattle.sd_head.proofs.Packing.{taken_at}
 use Rattle.sd_head.specs.Sending.{FailsWithin, packed_part, counter_after}
 use Rattle.sd_head.proofs.Sends.{one_more, one_cut, all_sent, sends_err, counter_next}

@@ -1,7 +1,7 @@
 use Rattle.std.proofs.Common.{◌≡◌, take}
 use Rattle.std.specs.List.{concat}
 use Rattle.sd_engine.specs.Stage.{vessel, TookBytes}
-use Rattle.sd_ecm.specs.Parts.{message_of, parts_of}
+use Rattle.sd_message.specs.EcmParts.{message_of, parts_of}
 use Rattle.sd_head.specs.Sending.{counter_after, numbered, packed_part}
 use Rattle.sd_head.proofs.sending.send_message.Given as goal
 

@@ -1,6 +1,6 @@
 use Rattle.std.proofs.Common.{arith, sym, ap, length}
 use Rattle.std.specs.Prelude.{List}
-use Rattle.sd_ecm.specs.declared.part.Place.{Place}
+use Rattle.sd_message.specs.declared.ecm_part.Place.{Place}
 use Rattle.sd_receive.proofs.Gathering.{tells_by_ends, none_before, none_in}
 use Rattle.sd_receive.proofs.gather.is_after.Goals as goal
 

@@ -1,6 +1,6 @@
 use Rattle.std.proofs.Common.{◌≡◌, drop}
 use Rattle.std.specs.Prelude.{find}
-use Rattle.sd_emm.specs.Spelled.{listed_entries}
+use Rattle.sd_message.specs.EmmSpelled.{listed_entries}
 use Rattle.sd_receive.proofs.Finding.{has_leaf}
 use Rattle.sd_receive.proofs.key.wrapped_key_in.Given as goal
 

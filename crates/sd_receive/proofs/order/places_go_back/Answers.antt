@@ -1,5 +1,5 @@
 use Rattle.std.proofs.Common.{sym, arith, subst, ◌+◌, ◌<◌, length, ℕ}
-use Rattle.sd_ecm.specs.Form.{no_place}
+use Rattle.sd_message.specs.EcmForm.{no_place}
 use Rattle.sd_receive.proofs.Walking.{IsWalked, lower, met_more, passed_more, all_seen}
 use Rattle.sd_receive.proofs.order.places_go_back.Goals as goal
 use Rattle.sd_receive.proofs.order.places_go_back.Goals.{then-met-places+then-places-met+else-place-places}

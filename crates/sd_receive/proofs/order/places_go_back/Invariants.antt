@@ -1,5 +1,5 @@
 use Rattle.std.proofs.Common.{◌≤◌, length}
-use Rattle.sd_ecm.specs.Form.{AreAscending}
+use Rattle.sd_message.specs.EcmForm.{AreAscending}
 use Rattle.sd_receive.proofs.Walking.{IsWalked}
 use Rattle.sd_receive.proofs.order.places_go_back.Given as goal
 

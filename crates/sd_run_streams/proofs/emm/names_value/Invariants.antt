@@ -1,6 +1,6 @@
 use Rattle.std.proofs.Common.{◌≡◌, map, take}
 use Rattle.serde_json.specs.View.{view}
-use Rattle.sd_emm.specs.Spelled.{names_in}
+use Rattle.sd_message.specs.EmmSpelled.{names_in}
 use Rattle.sd_run_streams.specs.MessageLines.{name_data}
 use Rattle.sd_run_streams.proofs.emm.names_value.Given as goal
 

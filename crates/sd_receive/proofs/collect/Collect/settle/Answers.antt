@@ -1,7 +1,7 @@
 use Rattle.std.proofs.Common.{ap, ◌∙◌}
 use Rattle.std.specs.Prelude.{Option, option_map}
-use Rattle.sd_ecm.specs.declared.part.EcmPart.{EcmPart}
-use Rattle.sd_ecm.specs.Parts.{ecm_head_of}
+use Rattle.sd_message.specs.declared.ecm_part.EcmPart.{EcmPart}
+use Rattle.sd_message.specs.EcmParts.{ecm_head_of}
 use Rattle.sd_receive.proofs.Collecting.{settled}
 use Rattle.sd_receive.proofs.collect.Collect.settle.Goals as goal
 

@@ -1,8 +1,8 @@
 use Rattle.std.proofs.Common.{sym, ◌≡◌, ◌∙◌, subst, ap}
 use Rattle.std.specs.Prelude.{Some, None}
 use Rattle.std.proofs.lemmas.Bool.{ne_eqb, both_ways}
-use Rattle.sd_ecm.specs.Parts.{message_of, ecm_head_of}
-use Rattle.sd_ecm.specs.declared.message.EcmHead.{EcmHead}
+use Rattle.sd_message.specs.EcmParts.{message_of, ecm_head_of}
+use Rattle.sd_message.specs.declared.ecm_message.EcmHead.{EcmHead}
 use Rattle.sd_spec.specs.Stretches.{newest}
 use Rattle.sd_spec.specs.Offered.{is_back}
 use Rattle.sd_receive.specs.Gathered.{IsGathered, next_run}

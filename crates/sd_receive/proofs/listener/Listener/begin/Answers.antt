@@ -1,6 +1,6 @@
 use Rattle.std.proofs.Common.{◌≡◌, ◌∙◌, subst, sym, ap, refl, ◌∷◌, List, ℕ, Option, []}
 use Rattle.std.specs.Prelude.{Some, None, option_map}
-use Rattle.sd_ecm.specs.Parts.{message_of}
+use Rattle.sd_message.specs.EcmParts.{message_of}
 use Rattle.sd_spec.specs.Heard.{Controls}
 use Rattle.sd_spec.specs.Offered.{word_fault}
 use Rattle.sd_receive.specs.Entitled.{IsEntitled}

@@ -1,5 +1,5 @@
 use Rattle.std.proofs.Common.{rules, sym, subst}
-use Rattle.sd_ecm.specs.Form.{AreShort}
+use Rattle.sd_message.specs.EcmForm.{AreShort}
 use Rattle.sd_receive.proofs.listener.Listener.write.Goals as goal
 
 pub write-requires-clause-short : goal.write-requires-clause-short

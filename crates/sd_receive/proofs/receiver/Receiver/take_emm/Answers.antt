@@ -1,5 +1,5 @@
 use Rattle.std.proofs.Common.{ℕ, ◌∙◌, ap, sym, subst}
-use Rattle.sd_emm.specs.Judged.{emm_read}
+use Rattle.sd_message.specs.EmmJudged.{emm_read}
 use Rattle.sd_spec.specs.Heard.{heard_emm}
 use Rattle.sd_receive.specs.Ears.{IsFormed}
 use Rattle.sd_receive.proofs.receiver.Receiver.take_emm.Goals as goal

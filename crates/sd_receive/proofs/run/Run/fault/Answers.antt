@@ -1,8 +1,8 @@
 use Rattle.std.proofs.Common.{arith, subst, sym, ap, ◌∙◌, length, ◌≡◌}
 use Rattle.std.specs.Prelude.{List, [], true, false, Option}
 use Rattle.std.proofs.lemmas.Bool.{both_ways}
-use Rattle.sd_ecm.specs.declared.part.Place.{Place}
-use Rattle.sd_ecm.specs.declared.part.EcmPart.{EcmPart}
+use Rattle.sd_message.specs.declared.ecm_part.Place.{Place}
+use Rattle.sd_message.specs.declared.ecm_part.EcmPart.{EcmPart}
 use Rattle.sd_spec.specs.Offered.{is_after}
 use Rattle.sd_receive.specs.Gathered.{IsGathered}
 use Rattle.sd_receive.proofs.Gathering.{is_mixed_with, is_mixed_part, is_unordered_part, goes_with_newest}

@@ -1,6 +1,6 @@
 use Rattle.std.proofs.Common.{sym, subst}
 use Rattle.std.specs.Prelude.{List, [], ◌∷◌}
-use Rattle.sd_ecm.specs.declared.part.EcmPart.{EcmPart}
+use Rattle.sd_message.specs.declared.ecm_part.EcmPart.{EcmPart}
 use Rattle.sd_receive.specs.Gathered.{GatherOutcome}
 use Rattle.sd_receive.proofs.Gathering.{begins, goes_on, ends_run}
 use Rattle.sd_receive.proofs.run.Run.take.Goals as goal

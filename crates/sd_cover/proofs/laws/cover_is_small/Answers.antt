@@ -1,9 +1,0 @@
-use Rattle.std.proofs.Common.{◌^◌, ◌<◌}
-use Rattle.std.proofs.lemmas.List.Elements.{All-contains}
-use Rattle.sd_cover.proofs.Covers.{cover_small}
-use Rattle.sd_cover.proofs.laws.cover_is_small.Goals as goal
-
-pub returns : goal.returns
-returns c =
-    λ d revoked sets small leaves cover. cover_small d revoked sets small
-    (λ u m. All-contains (λ w. w < 2 ^ d) revoked u leaves m) cover

@@ -1,5 +1,0 @@
-use Rattle.sd_cover.proofs.Names.{one_cover}
-use Rattle.sd_cover.proofs.laws.one_cover.Goals as goal
-
-pub returns : goal.returns
-returns c = one_cover

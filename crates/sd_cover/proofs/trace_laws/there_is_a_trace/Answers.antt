@@ -1,5 +1,0 @@
-use Rattle.sd_cover.proofs.Listed.{there_is_a_trace}
-use Rattle.sd_cover.proofs.trace_laws.there_is_a_trace.Goals as goal
-
-pub returns : goal.returns
-returns c = there_is_a_trace

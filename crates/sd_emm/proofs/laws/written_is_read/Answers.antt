@@ -1,8 +1,0 @@
-use Rattle.sd_emm.proofs.Reading.{written_spells}
-use Rattle.sd_emm.proofs.laws.written_is_read.Goals as goal
-
-pub returns : goal.returns
-returns c =
-    let emm = c.args.emm.now in
-    c.read_emm.ensures.complete emm c.write_emm.ensures.fits c.requires.form c.requires.sets
-    (rw c.write_emm.ensures.value (written_spells emm c.args.pid c.args.counter c.requires.pid c.requires.counter))

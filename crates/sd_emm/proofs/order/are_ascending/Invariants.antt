@@ -1,8 +1,0 @@
-use Rattle.std.proofs.Common.{take}
-use Rattle.sd_tree.specs.SetNames.{AreAscending}
-use Rattle.sd_emm.specs.Spelled.{names_in}
-use Rattle.sd_emm.proofs.order.are_ascending.Given as goal
-
--- the sets before k ascend
-abbrev pub invariant-loop-k : goal.invariant-loop-k
-invariant-loop-k l = AreAscending (take l.k (names_in l.entries))

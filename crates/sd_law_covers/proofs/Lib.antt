@@ -1,0 +1,2 @@
+pub mod CoversReach
+pub mod Given

@@ -1,0 +1,5 @@
+use Rattle.sd_cover.proofs.Changed.{last_change_decides}
+use Rattle.sd_law_covers.proofs.covers.last_change_decides.Goals as goal
+
+pub returns : goal.returns
+returns c = last_change_decides

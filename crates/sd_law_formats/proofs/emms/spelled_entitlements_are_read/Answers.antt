@@ -1,0 +1,5 @@
+use Rattle.sd_message.proofs.EmmDeciding.{read_form}
+use Rattle.sd_law_formats.proofs.emms.spelled_entitlements_are_read.Goals as goal
+
+pub returns-clause-form : goal.returns-clause-form
+returns-clause-form c = read_form

@@ -1,0 +1,5 @@
+use Rattle.sd_site.proofs.Short.{site_short}
+use Rattle.sd_law_formats.proofs.sites.sites_are_short.Goals as goal
+
+pub returns : goal.returns
+returns c = site_short

@@ -1,5 +1,0 @@
-use Rattle.sd_lsd.proofs.Layers.{useful_everywhere}
-use Rattle.sd_lsd.proofs.laws.all_useful.Goals as goal
-
-pub returns : goal.returns
-returns c = useful_everywhere

@@ -1,8 +1,0 @@
-use Rattle.std.proofs.Common.{◌^◌, ◌<◌}
-use Rattle.std.proofs.lemmas.List.Elements.{All-contains}
-use Rattle.sd_lsd.proofs.Covers.{cover_listed}
-use Rattle.sd_lsd.proofs.laws.layer_cover_is_listed.Goals as goal
-
-pub returns : goal.returns
-returns c = λ d w revoked sets low some leaves.
-    cover_listed d w revoked sets low some (λ u m. All-contains (λ v. v < 2 ^ d) revoked u leaves m)

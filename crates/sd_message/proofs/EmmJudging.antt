@@ -1,0 +1,176 @@
+-- What is wrong with a section of entitlements, by what was read of it.
+use Rattle.std.proofs.Common.{◌≡◌, ℕ, ◌-◌, List, length, take, drop, refl, sym, ap, ◌∙◌, subst}
+use Rattle.std.specs.Prelude.{Bool, replicate, ◌↔◌}
+use Rattle.std.proofs.lemmas.List.{take_at, drop_at}
+use Rattle.sd_tree.specs.SetNames.{AreAscending}
+use Rattle.sd_message.specs.EmmSpelled.{listed_entries, names_in}
+use Rattle.sd_message.specs.EmmForm.{no_entry, AreSets, IsEmm}
+use Rattle.sd_message.specs.EmmFields.{entry_in, entries_in, padded_entries, emm_head_length, emm_in, with_entries, HasCount}
+use Rattle.sd_message.specs.EmmFields.{IsGoodIn}
+use Rattle.sd_message.specs.EmmFields.{BreaksIn}
+use Rattle.sd_message.specs.declared.emm.Entry.{Entry}
+use Rattle.sd_message.specs.declared.emm.Emm.{Emm}
+use Rattle.sd_message.specs.declared.emm_fault.EmmFault.{EmmFault}
+use Rattle.sd_message.specs.declared.emm_fault.EmmFault.TheVariants.{Count, Order, Node, Mixed}
+use Rattle.sd_message.proofs.Items.{length_items}
+
+-- what stands before the entries was read
+abbrev pub IsPrefix : Bool → ℕ → List ℕ → Emm → Type 0
+IsPrefix named index body head = head ≡ with_entries (emm_in named index body) (replicate 3 no_entry)
+
+-- the entries that a section has are those in its body
+pub listed_in : (named : Bool) (index : ℕ) (body : List ℕ) → listed_entries (emm_in named index body) ≡ entries_in
+    (emm_in named index body).count (drop (emm_head_length named) body)
+unfolding emm_in
+listed_in named index body =
+    let count : ℕ = (emm_in named index body).count in
+    take_at (entries_in count (drop (emm_head_length named) body))
+    (replicate (3 - length (entries_in count (drop (emm_head_length named) body))) no_entry) count
+    (length_items entry_in 40 count (drop (emm_head_length named) body))
+
+entries_are : (named : Bool) (index : ℕ) (body : List ℕ) → (emm_in named index body).entries
+    ≡ padded_entries (entries_in (emm_in named index body).count (drop (emm_head_length named) body))
+unfolding emm_in
+entries_are named index body = refl
+
+-- the same entries by the count that was read
+same_entries : (named : Bool) (index : ℕ) (body : List ℕ) (head : Emm) (count : ℕ) → IsPrefix named index body head →
+    count ≡ head.count →
+    entries_in count (drop (emm_head_length named) body) ≡ listed_entries (emm_in named index body)
+same_entries named index body head count is counted =
+    ap (λ (n : ℕ). entries_in n (drop (emm_head_length named) body)) (counted ∙ ap (λ (e : Emm). e.count) is) ∙ sym
+    (listed_in named index body)
+
+-- the numbers don't come to one another
+pub count_breaks : (h : ℕ) (named : Bool) (index : ℕ) (body : List ℕ) (head : Emm) → IsPrefix named index body head →
+    ¬ HasCount (length body) head →
+    BreaksIn h (length body) (emm_in named index body) Count
+count_breaks h named index body head is unless has = unless (subst (HasCount (length body)) (sym is) has)
+
+-- they do
+has_count : (named : Bool) (index : ℕ) (body : List ℕ) (head : Emm) → IsPrefix named index body head →
+    HasCount (length body) head →
+    HasCount (length body) (emm_in named index body)
+has_count named index body head is has = subst (HasCount (length body)) is has
+
+-- the entries are sets by the number that was read where they are
+same_sets : (h : ℕ) (named : Bool) (index : ℕ) (body : List ℕ) (head : Emm) (count : ℕ) →
+    IsPrefix named index body head → count ≡ head.count →
+    AreSets h head.sets (entries_in count (drop (emm_head_length named) body)) ↔ AreSets h (emm_in
+    named index body).sets (listed_entries (emm_in named index body))
+same_sets h named index body head count is counted =
+    let entries = same_entries named index body head count is counted in
+    let sets : head.sets ≡ (emm_in named index body).sets = ap (λ (e : Emm). e.sets) is in (
+      λ all. subst (λ (n : ℕ). AreSets h n (listed_entries (emm_in named index body))) sets
+          (subst (λ (es : List Entry). AreSets h head.sets es) entries all),
+      λ all. subst (λ (es : List Entry). AreSets h head.sets es) (sym entries)
+          (subst (λ (n : ℕ). AreSets h n (listed_entries (emm_in named index body))) (sym sets) all),
+    )
+
+-- an entry is no set that may stand there
+pub node_breaks : (h : ℕ) (named : Bool) (index : ℕ) (body : List ℕ) (head : Emm) (count : ℕ) →
+    IsPrefix named index body head →
+    HasCount (length body) head →
+    count ≡ head.count → ¬ AreSets h head.sets (entries_in count (drop (emm_head_length named) body)) →
+    BreaksIn h (length body) (emm_in named index body) Node
+node_breaks h named index body head count is has counted unless =
+    (has_count named index body head is has, λ all. unless ((same_sets h named index body head count is counted).1 all))
+
+-- what was read is what the section says
+pub is_whole : (named : Bool) (index : ℕ) (body : List ℕ) (head : Emm) (count : ℕ) (entries : List Entry) →
+    IsPrefix named index body head →
+    count ≡ head.count → entries ≡ padded_entries (entries_in count (drop (emm_head_length named) body)) →
+    with_entries head entries
+    ≡ emm_in named index body
+is_whole named index body head count entries is counted read =
+    let same : entries ≡ (emm_in named index body).entries =
+    read ∙ (ap (λ (n : ℕ). padded_entries (entries_in n (drop (emm_head_length named) body)))
+    (counted ∙ ap (λ (e : Emm). e.count) is)
+    ∙ sym (entries_are named index body)) in
+    ap (λ (f : Emm). with_entries f entries) is ∙ ap (with_entries (emm_in named index body)) same
+
+-- the entries that were read are those that the section has
+same_listed : (named : Bool) (index : ℕ) (body : List ℕ) (head : Emm) (count : ℕ) (entries : List Entry) →
+    IsPrefix named index body head →
+    count ≡ head.count → entries ≡ padded_entries (entries_in count (drop (emm_head_length named) body)) →
+    take count entries
+    ≡ listed_entries (emm_in named index body)
+same_listed named index body head count entries is counted read =
+    ap (λ (n : ℕ). take n entries) counted ∙ ap listed_entries
+    (is_whole named index body head count entries is counted read)
+
+-- the entries don't ascend
+pub order_breaks : (h : ℕ) (named : Bool) (index : ℕ) (body : List ℕ) (head : Emm) (count : ℕ) (entries : List Entry) →
+    IsPrefix named index body head →
+    HasCount (length body) head → count ≡ head.count →
+    AreSets h head.sets (entries_in count (drop (emm_head_length named) body)) →
+    entries ≡ padded_entries (entries_in count (drop (emm_head_length named) body)) →
+    ¬ AreAscending (names_in (take count entries)) →
+    BreaksIn h (length body) (emm_in named index body) Order
+order_breaks h named index body head count entries is has counted sets read unless = (
+  has_count named index body head is has,
+  (
+    (same_sets h named index body head count is counted).0 sets,
+    λ up. unless (subst (λ (es : List Entry). AreAscending (names_in es))
+        (sym (same_listed named index body head count entries is counted read)) up),
+  ),
+)
+
+-- nothing is wrong
+pub is_good : (h : ℕ) (named : Bool) (index : ℕ) (body : List ℕ) (head : Emm) (count : ℕ) (entries : List Entry) →
+    IsPrefix named index body head →
+    HasCount (length body) head → count ≡ head.count →
+    AreSets h head.sets (entries_in count (drop (emm_head_length named) body)) →
+    entries ≡ padded_entries (entries_in count (drop (emm_head_length named) body)) →
+    AreAscending (names_in (take count entries)) →
+    IsGoodIn h (length body) (emm_in named index body)
+is_good h named index body head count entries is has counted sets read up = record {
+  has_count = has_count named index body head is has;
+  are_sets = (same_sets h named index body head count is counted).0 sets;
+  ascending = subst (λ (es : List Entry). AreAscending (names_in es))
+      (same_listed named index body head count entries is counted read) up;
+}
+
+-- what follows the entries is as it is to be
+past_entries : (named : Bool) (index : ℕ) (body : List ℕ) →
+    drop (emm_in named index body).count (emm_in
+    named index body).entries ≡ replicate (3 - (emm_in named index body).count) no_entry
+past_entries named index body =
+    let count : ℕ = (emm_in named index body).count in
+    let entries : List Entry = entries_in count (drop (emm_head_length named) body) in
+    ap (drop count) (entries_are named index body)
+    ∙ (drop_at entries (replicate (3 - length entries) no_entry) count (length_items entry_in
+    40 count (drop (emm_head_length named) body))
+    ∙ ap (λ (n : ℕ). replicate (3 - n) no_entry) (length_items entry_in 40 count (drop (emm_head_length named) body)))
+
+-- what breaks no rule is in its form
+pub good_is_emm : (h : ℕ) (named : Bool) (index : ℕ) (body : List ℕ) →
+    IsGoodIn h (length body) (emm_in named index body) →
+    IsEmm (emm_in named index body)
+good_is_emm h named index body good = record {
+  counted = good.has_count.1;
+  ascending = good.ascending;
+  rest = past_entries named index body;
+}
+
+-- one rule alone is broken first
+pub breaks_once : (h length : ℕ) (emm : Emm) (f g : EmmFault) → BreaksIn h length emm f → BreaksIn h length emm g →
+    f ≡ g
+breaks_once h length emm Count Count a b = refl
+breaks_once h length emm Count Node a b = absurd (a b.0)
+breaks_once h length emm Count Order a b = absurd (a b.0)
+breaks_once h length emm Node Count a b = absurd (b a.0)
+breaks_once h length emm Node Node a b = refl
+breaks_once h length emm Node Order a b = absurd (a.1 b.1.0)
+breaks_once h length emm Order Count a b = absurd (b a.0)
+breaks_once h length emm Order Node a b = absurd (b.1 a.1.0)
+breaks_once h length emm Order Order a b = refl
+breaks_once h length emm Mixed g a b = absurd a
+breaks_once h length emm f Mixed a b = absurd b
+
+-- and none where nothing is wrong
+pub good_never : (h length : ℕ) (emm : Emm) (f : EmmFault) → IsGoodIn h length emm → ¬ BreaksIn h length emm f
+good_never h length emm Count good b = b good.has_count
+good_never h length emm Node good b = b.1 good.are_sets
+good_never h length emm Order good b = b.1.1 good.ascending
+good_never h length emm Mixed good b = b

@@ -1,0 +1,127 @@
+use Rattle.std.proofs.Common.{◌≡◌, refl, sym, subst, ap, ◌∙◌, rules}
+use Rattle.std.specs.Prelude.{Err}
+use Rattle.std.proofs.lemmas.Bool.{false≢true}
+use Rattle.sd_message.specs.Framed.{section_of}
+use Rattle.sd_message.specs.EcmFields.{BreaksFirst}
+use Rattle.sd_message.specs.declared.ecm_fault.EcmFault.{EcmFault}
+use Rattle.sd_message.proofs.EcmReading.{IsParted, spelled_is_packet, read_is_right, breaks_first, never_first, first_once}
+use Rattle.sd_message.proofs.EcmDeciding.{other_reads, broken_at, good_at, spelled_reads}
+use Rattle.sd_message.proofs.ecm_read.read_ecm.Goals as goal
+
+pub returns-in_default-clause-value : goal.returns-in_default-clause-value
+returns-in_default-clause-value c = sym
+    (other_reads c.args.packet.now (λ is. false≢true (c.in_default.ensures.some.1 is)))
+
+pub returns-in_default-clause-complete : goal.returns-in_default-clause-complete
+returns-in_default-clause-complete c = λ part fits form spells.
+    absurd (false≢true (c.in_default.ensures.some.1 (spelled_is_packet part c.args.packet.now fits form spells)))
+
+pub returns-in_err-part-clause-value : goal.returns-in_err-part-clause-value
+returns-in_err-part-clause-value c =
+    let fault : c.from_residual.result ≡ Err c.in_err-part.field-0.0 = search rules in
+    let are : IsParted c.in-Some.section.bytes.now c.body.result.now c.table_id.result c.number.result
+    c.last_number.result = record {
+      is_table = c.table_id.ensures;
+      is_number = c.number.ensures;
+      is_last = c.last_number.ensures;
+      is_body = c.body.ensures;
+    } in
+    fault ∙ sym (broken_at c.args.packet.now c.in-Some.section.bytes.now c.body.result.now c.table_id.result
+    c.number.result c.last_number.result _ (c.in-Some.ensures.some.0 refl)
+    c.in-Some.ensures.value are c.in_err-part.ensures.fault)
+
+pub returns-in_err-part-clause-complete : goal.returns-in_err-part-clause-complete
+returns-in_err-part-clause-complete c = λ part fits form spells.
+    let fault : c.from_residual.result ≡ Err c.in_err-part.field-0.0 = search rules in
+    let are : IsParted c.in-Some.section.bytes.now c.body.result.now c.table_id.result c.number.result
+    c.last_number.result = record {
+      is_table = c.table_id.ensures;
+      is_number = c.number.ensures;
+      is_last = c.last_number.ensures;
+      is_body = c.body.ensures;
+    } in
+    let bad = broken_at c.args.packet.now c.in-Some.section.bytes.now c.body.result.now c.table_id.result
+    c.number.result c.last_number.result _ (c.in-Some.ensures.some.0 refl)
+    c.in-Some.ensures.value are c.in_err-part.ensures.fault in
+    let good = spelled_reads part c.args.packet.now fits form spells in
+    absurd (cc)
+
+pub returns-clause-value : goal.returns-clause-value
+returns-clause-value c =
+    let are : IsParted c.in-Some.section.bytes.now c.body.result.now c.table_id.result c.number.result
+    c.last_number.result = record {
+      is_table = c.table_id.ensures;
+      is_number = c.number.ensures;
+      is_last = c.last_number.ensures;
+      is_body = c.body.ensures;
+    } in
+    sym (good_at c.args.packet.now c.in-Some.section.bytes.now c.body.result.now c.table_id.result c.number.result
+    c.last_number.result c.in_ok-part.part (c.in-Some.ensures.some.0 refl)
+    c.in-Some.ensures.value are c.in_ok-part.ensures.value c.in_ok-part.ensures.good)
+
+pub returns-clause-sound : goal.returns-clause-sound
+returns-clause-sound c =
+    let are : IsParted c.in-Some.section.bytes.now c.body.result.now c.table_id.result c.number.result
+    c.last_number.result = record {
+      is_table = c.table_id.ensures;
+      is_number = c.number.ensures;
+      is_last = c.last_number.ensures;
+      is_body = c.body.ensures;
+    } in
+    read_is_right c.args.packet.now c.in-Some.section.bytes.now c.body.result.now c.table_id.result c.number.result
+    c.last_number.result c.in_ok-part.part are c.in_ok-part.ensures.value
+    c.in_ok-part.ensures.bytes c.in_ok-part.ensures.good c.in-Some.ensures.is c.in-Some.ensures.begins
+    c.in-Some.ensures.spelled
+
+pub returns-clause-complete : goal.returns-clause-complete
+returns-clause-complete c = λ part fits form spells.
+    let are : IsParted c.in-Some.section.bytes.now c.body.result.now c.table_id.result c.number.result
+    c.last_number.result = record {
+      is_table = c.table_id.ensures;
+      is_number = c.number.ensures;
+      is_last = c.last_number.ensures;
+      is_body = c.body.ensures;
+    } in
+    sym (good_at c.args.packet.now c.in-Some.section.bytes.now c.body.result.now c.table_id.result c.number.result
+    c.last_number.result c.in_ok-part.part (c.in-Some.ensures.some.0 refl)
+    c.in-Some.ensures.value are c.in_ok-part.ensures.value c.in_ok-part.ensures.good)
+    ∙ spelled_reads part c.args.packet.now fits form spells
+
+pub returns-in_err-part-clause-fault : goal.returns-in_err-part-clause-fault
+returns-in_err-part-clause-fault c = λ fault.
+    let found : c.from_residual.result ≡ Err c.in_err-part.field-0.0 = search rules in
+    let are : IsParted c.in-Some.section.bytes.now c.body.result.now c.table_id.result c.number.result
+    c.last_number.result = record {
+      is_table = c.table_id.ensures;
+      is_number = c.number.ensures;
+      is_last = c.last_number.ensures;
+      is_body = c.body.ensures;
+    } in
+    let first = breaks_first c.args.packet.now c.in-Some.section.bytes.now c.body.result.now c.table_id.result
+    c.number.result c.last_number.result _ c.in-Some.ensures.value are
+    c.in_err-part.ensures.fault in (
+      λ is. let same : c.in_err-part.field-0.0 ≡ fault = cc in (
+        c.in-Some.ensures.some.0 refl,
+        subst (λ (f : EcmFault). BreaksFirst (section_of c.args.packet.now) f) same
+            first,
+      ),
+      λ broken. found ∙
+          ap (λ (f : EcmFault). Err f) (first_once c.args.packet.now c.in-Some.section.bytes.now c.body.result.now
+          c.table_id.result c.number.result c.last_number.result _ fault
+          c.in-Some.ensures.value are c.in_err-part.ensures.fault broken.1),
+    )
+
+pub returns-clause-fault : goal.returns-clause-fault
+returns-clause-fault c = λ fault.
+    let are : IsParted c.in-Some.section.bytes.now c.body.result.now c.table_id.result c.number.result
+    c.last_number.result = record {
+      is_table = c.table_id.ensures;
+      is_number = c.number.ensures;
+      is_last = c.last_number.ensures;
+      is_body = c.body.ensures;
+    } in (
+      λ wrong. absurd (cc),
+      λ broken. absurd (never_first c.args.packet.now c.in-Some.section.bytes.now c.body.result.now c.table_id.result
+          c.number.result c.last_number.result fault
+          c.in-Some.ensures.value are c.in_ok-part.ensures.good broken.1),
+    )

@@ -1,0 +1,82 @@
+use Rattle.std.proofs.Common.{◌≡◌, ◌≤◌, refl, sym, ap, ◌∙◌, rules}
+use Rattle.std.specs.Prelude.{Ok, Err, Some}
+use Rattle.std.proofs.lemmas.Bool.{false≢true}
+use Rattle.sd_message.specs.declared.emm.Emm.{Emm}
+use Rattle.sd_message.proofs.EmmJudging.{good_never}
+use Rattle.sd_message.proofs.EmmReading.{IsParted, spelled_is_packet, spelled_is_read, spelled_is_good, read_is_right}
+use Rattle.sd_message.proofs.EmmDeciding.{other_reads, broken_at, good_at}
+use Rattle.sd_message.proofs.emm_read.read_emm.Goals as goal
+
+pub returns-in_default-clause-complete : goal.returns-in_default-clause-complete
+returns-in_default-clause-complete c = λ emm fits form sets spells.
+    let high : c.args.h ≤ 20 = search rules in
+    absurd
+    (false≢true (c.in_default.ensures.some.1 (spelled_is_packet c.args.h emm c.args.packet.now high fits form sets
+    spells)))
+
+pub returns-in_err-emm-clause-complete : goal.returns-in_err-emm-clause-complete
+returns-in_err-emm-clause-complete c = λ emm fits form sets spells.
+    let high : c.args.h ≤ 20 = search rules in
+    let are : IsParted c.in-Some.section.bytes.now c.body.result.now c.is_named-named.result c.extension.result =
+    record {
+      is_name = c.is_named-named.ensures;
+      is_index = c.extension.ensures;
+      is_body = c.body.ensures;
+    } in
+    absurd (good_never _ _ _ _ (spelled_is_good c.args.h emm c.args.packet.now c.in-Some.section.bytes.now
+    c.body.result.now c.is_named-named.result c.extension.result high fits form sets spells c.in-Some.ensures.value are)
+    c.in_err-emm.ensures.fault)
+
+pub returns-clause-sound : goal.returns-clause-sound
+returns-clause-sound c =
+    let are : IsParted c.in-Some.section.bytes.now c.body.result.now c.is_named-named.result c.extension.result =
+    record {
+      is_name = c.is_named-named.ensures;
+      is_index = c.extension.ensures;
+      is_body = c.body.ensures;
+    } in
+    read_is_right c.args.h c.args.packet.now c.in-Some.section.bytes.now c.body.result.now c.is_named-named.result
+    c.extension.result c.in_ok-emm.emm c.in_ok-emm.ensures.value c.in_ok-emm.ensures.bytes c.in_ok-emm.ensures.good are
+    c.in-Some.ensures.table c.in-Some.ensures.begins c.in-Some.ensures.spelled
+
+pub returns-clause-complete : goal.returns-clause-complete
+returns-clause-complete c = λ emm fits form sets spells.
+    let high : c.args.h ≤ 20 = search rules in
+    let are : IsParted c.in-Some.section.bytes.now c.body.result.now c.is_named-named.result c.extension.result =
+    record {
+      is_name = c.is_named-named.ensures;
+      is_index = c.extension.ensures;
+      is_body = c.body.ensures;
+    } in
+    ap (λ (e : Emm). Ok (Some e)) (c.in_ok-emm.ensures.value ∙ spelled_is_read c.args.h emm c.args.packet.now
+    c.in-Some.section.bytes.now c.body.result.now c.is_named-named.result c.extension.result high fits form sets spells
+    c.in-Some.ensures.value are)
+
+pub returns-in_default-clause-value : goal.returns-in_default-clause-value
+returns-in_default-clause-value c =
+    sym (other_reads c.args.h c.args.packet.now (λ is. false≢true (c.in_default.ensures.some.1 is)))
+
+pub returns-in_err-emm-clause-value : goal.returns-in_err-emm-clause-value
+returns-in_err-emm-clause-value c =
+    let fault : c.from_residual.result ≡ Err c.in_err-emm.field-0.0 = search rules in
+    let are : IsParted c.in-Some.section.bytes.now c.body.result.now c.is_named-named.result c.extension.result =
+    record {
+      is_name = c.is_named-named.ensures;
+      is_index = c.extension.ensures;
+      is_body = c.body.ensures;
+    } in
+    fault ∙ sym (broken_at c.args.h c.args.packet.now c.in-Some.section.bytes.now c.body.result.now
+    c.is_named-named.result c.extension.result _ (c.in-Some.ensures.some.0 refl) c.in-Some.ensures.value are
+    c.in_err-emm.ensures.fault)
+
+pub returns-clause-value : goal.returns-clause-value
+returns-clause-value c =
+    let are : IsParted c.in-Some.section.bytes.now c.body.result.now c.is_named-named.result c.extension.result =
+    record {
+      is_name = c.is_named-named.ensures;
+      is_index = c.extension.ensures;
+      is_body = c.body.ensures;
+    } in
+    sym (good_at c.args.h c.args.packet.now c.in-Some.section.bytes.now c.body.result.now c.is_named-named.result
+    c.extension.result c.in_ok-emm.emm (c.in-Some.ensures.some.0 refl) c.in-Some.ensures.value are
+    c.in_ok-emm.ensures.value c.in_ok-emm.ensures.good)

@@ -1,5 +1,0 @@
-use Rattle.sd_psi.proofs.OurCat.{our_descriptor_is_read}
-use Rattle.sd_psi.proofs.laws.our_cat_is_one.Goals as goal
-
-pub returns-clause-fields : goal.returns-clause-fields
-returns-clause-fields c = our_descriptor_is_read

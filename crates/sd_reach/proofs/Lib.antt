@@ -1,5 +1,0 @@
-pub mod Derivation
-pub mod Reached
-pub mod Own
-pub mod Covers
-pub mod Given

@@ -1,5 +1,0 @@
-use Rattle.sd_reach.proofs.Covers.{cover_reached, cover_in_book_reached}
-use Rattle.sd_reach.proofs.laws.cover_reached.Goals as goal
-
-pub returns : goal.returns
-returns c = record { leaves = cover_reached; book = cover_in_book_reached }

@@ -1,5 +1,0 @@
-use Rattle.sd_reach.proofs.Covers.{revoked_pool_reaches_none, revoked_pool_in_book_reaches_none}
-use Rattle.sd_reach.proofs.laws.revoked_pool_reaches_none.Goals as goal
-
-pub returns : goal.returns
-returns c = record { leaves = revoked_pool_reaches_none; book = revoked_pool_in_book_reaches_none }

@@ -1,5 +1,0 @@
-use Rattle.std.proofs.Common.{rules}
-use Rattle.sd_reach.proofs.reaching.leads_to.Goals as goal
-
-pub returns-then-w-j : goal.returns-then-w-j
-returns-then-w-j c = search rules

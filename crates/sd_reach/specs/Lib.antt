@@ -1,2 +1,0 @@
-pub mod Derivation
-pub mod Reach

@@ -1,5 +1,0 @@
-use Rattle.sd_tree.proofs.Pairs.{given_pairs}
-use Rattle.sd_tree.proofs.label_laws.names_given.Goals as goal
-
-pub returns-clause-pairs : goal.returns-clause-pairs
-returns-clause-pairs c d u i w leaf = given_pairs d u i w leaf

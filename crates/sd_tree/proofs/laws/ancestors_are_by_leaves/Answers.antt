@@ -1,5 +1,0 @@
-use Rattle.sd_tree.proofs.Ancestors.{above_is_leaves}
-use Rattle.sd_tree.proofs.laws.ancestors_are_by_leaves.Goals as goal
-
-pub returns-clause-nodes : goal.returns-clause-nodes
-returns-clause-nodes c = above_is_leaves

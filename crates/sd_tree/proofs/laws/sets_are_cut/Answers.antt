@@ -1,5 +1,0 @@
-use Rattle.sd_tree.proofs.Halves.{cut_pair}
-use Rattle.sd_tree.proofs.laws.sets_are_cut.Goals as goal
-
-pub returns-clause-pair : goal.returns-clause-pair
-returns-clause-pair c = cut_pair
