@@ -1,0 +1,2 @@
+pub mod SharedParts
+pub mod SharedSections

@@ -33,7 +33,7 @@ pub fn written_packets_spell()
 /// says the same of the message, position k stands in part k / n at place k mod n, n being how many fit into a part,
 /// and joined they have all positions, in their order. Of a message with ascending PIDs each part is one that is
 /// written, and that is read.
-#[tactic(auto, using(sd_message::proofs::EcmSharing::as_many, sd_message::proofs::EcmSharing::stands_at, sd_message::proofs::EcmSharing::number_is, sd_message::proofs::EcmSharing::place_stands, sd_message::proofs::EcmSharing::joined_are_all, sd_message::proofs::EcmSharing::all_ascend, sd_message::proofs::EcmSharing::all_are_of, sd_message::proofs::EcmSharing::two_say_the_same, sd_message::proofs::EcmSharing::all_are_ecms))]
+#[tactic(auto, using(crate::proofs::SharedParts::shared_parts))]
 pub fn messages_are_shared_out()
     ensures parts { (message : Message) → length (parts_of message) ≡ part_count_of message }
     ensures at { (message : Message) (x : ℕ) → x < part_count_of message →
@@ -66,7 +66,7 @@ pub fn spelled_parts_are_read()
 
 /// The table_id of a part is the version's for an even control word and the next for an odd one, as it is written and
 /// as it is read.
-#[tactic(auto, using(sd_message::proofs::EcmReading::table_of_section, sd_message::proofs::EcmReading::parity_of_section, sd_message::proofs::EcmDeciding::read_parity))]
+#[tactic(auto, using(crate::proofs::SharedParts::parities))]
 pub fn table_ids_tell_parity()
     ensures table_id { (part : EcmPart) → FitsFields part → IsEcm part →
         table_id_of (ecm_section part) ≡ even_table_id part.version + part.word % 2 }

@@ -32,7 +32,7 @@ pub fn written_packets_spell()
 /// A period's sections share out its sets: there are as many as have room for them, each stands at its index and says
 /// the same of the period, set k stands in section k / 3, and joined they have all sets. Of a period with ascending
 /// sets each section is one that is written, and that is read at each height at which the period's sets may stand.
-#[tactic(auto, using(sd_message::proofs::EmmSharing::as_many, sd_message::proofs::EmmSharing::stands_at, sd_message::proofs::EmmSharing::index_is, sd_message::proofs::EmmSharing::set_stands, sd_message::proofs::EmmSharing::joined_are_all, sd_message::proofs::EmmSharing::all_are_of, sd_message::proofs::EmmSharing::two_say_the_same, sd_message::proofs::EmmSharing::all_are_emms))]
+#[tactic(auto, using(crate::proofs::SharedSections::shared_sections))]
 pub fn periods_are_shared_out()
     ensures sections { (period : Period) → length (emms_of period) ≡ sections_for (length period.entries) }
     ensures at { (period : Period) (x : ℕ) → x < sections_for (length period.entries) →
