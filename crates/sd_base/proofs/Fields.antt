@@ -64,11 +64,6 @@ bits_of_same x y at (suc n) j e h =
     ⊎_elim (λ (g : j < n). bits_of_same x y at n j head g) (λ (g : n ≤ j). let here : j ≡ n = omega arith in
     rw here last) (cases_lt j n)
 
--- a bit is a field of one
-pub bit_is_field : (bytes : List ℕ) (k : ℕ) → field bytes k 1 ≡ bit bytes k
-unfolding field
-bit_is_field bytes k = let e : k + 0 ≡ k = omega arith in omega (arith, ap (bit bytes) e)
-
 -- a field that stands apart from the changed bits is as it was
 pub apart_stays : (old new : List ℕ) (at n other width : ℕ) → KeepsOthers at n old new → AreApart at n other width →
     field new other width ≡ field old other width

@@ -37,23 +37,6 @@ looks_read view x word most kind name a b there short same = record {
   gives = (ap (λ c. cond c (Err (Limit kind)) (Ok (view x))) (le-ltb most (length (view x)) short), same);
 }
 
--- there is no such file
-pub looks_missing : {X : Type 0} (view : X →
-    List ℕ) (word most : ℕ) (kind : LimitKind) (name : List ℕ) (a b : DepotState) →
-    IsNotThere a.files name → IsAsked 1 a b → b.faults ≡ a.faults → HasRisen a.misses b.misses →
-    FileOutcome view (within word most kind) name a b (Err (Missing word))
-looks_missing view word most kind name a b none asked calm rose = record {
-  got = None;
-  is_got = none_got a.files name none;
-  gives = inl (record {
-    value = refl;
-    refusal = tt;
-    asked = asked;
-    calm = calm;
-    miss = record { missing = λ w e. rose; there = λ other. absurd (other word refl) };
-  });
-}
-
 zeros : ℕ → List ℕ
 zeros zero = 0 ∷ []
 zeros (suc n) = 0 ∷ zeros n

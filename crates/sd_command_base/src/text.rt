@@ -8,7 +8,6 @@ use std::alloc::{AllocError, Global};
 use std::fmt::Write;
 
 /// The lines of a period with this number of revoked leaves and these sets.
-#[tactic(auto, unfolding(crate::specs::Periods::period_line))]
 pub(crate) fn period_text<L: Listing>(
     alloc: Global,
     h: Height,

@@ -169,30 +169,6 @@ abbrev pub order_of : List (List ℕ) → Result Order Status
 order_of [] = Err Usage
 order_of (name ∷ texts) = named_words name texts
 
--- the texts that name files to be read, of arguments and of an order
-abbrev pub files_in : List Argument → List (List ℕ)
-files_in [] = []
-files_in (InputOf word ∷ arguments) = word.text ∷ files_in arguments
-files_in (OutOf word ∷ arguments) = files_in arguments
-files_in (NumberOf number ∷ arguments) = files_in arguments
-
-abbrev pub files_of : Order → List (List ℕ)
-files_of (CommandOf command arguments) = files_in arguments
-files_of (HelpOf topic) = []
-files_of VersionOf = []
-
--- the text that names the file to be made, of arguments and of an order
-abbrev pub out_in : List Argument → Option (List ℕ)
-out_in [] = None
-out_in (InputOf word ∷ arguments) = out_in arguments
-out_in (OutOf word ∷ arguments) = Some word.text
-out_in (NumberOf number ∷ arguments) = out_in arguments
-
-abbrev pub out_of : Order → Option (List ℕ)
-out_of (CommandOf command arguments) = out_in arguments
-out_of (HelpOf topic) = None
-out_of VersionOf = None
-
 -- the command of an order makes a card
 abbrev pub MakesCard : Order → Type 0
 MakesCard (CommandOf command arguments) = (command ≡ commands.Card) ⊎ (command ≡ commands.Lcard)

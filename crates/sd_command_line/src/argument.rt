@@ -2,8 +2,7 @@ ghost use Rattle.std.specs.Prelude.{◌≡◌, ◌<◌, ◌≤◌, ℕ, IfErr, I
 ghost use Rattle.std.specs.Prelude.{◌-◌};
 ghost use Rattle.sd_command_base.specs.Shown.{shown_number, shown_word};
 ghost use Rattle.sd_command_line.specs.Orders.{all_said, argument_said, arguments_said, one_said};
-ghost use Rattle.sd_command_line.specs.Words.{argument_of, arguments_from, counted, file, files_in, number, number_in};
-ghost use Rattle.sd_command_line.specs.Words.{out_in};
+ghost use Rattle.sd_command_line.specs.Words.{argument_of, arguments_from, counted, file, number, number_in};
 
 use crate::{Kind, Operand};
 use arrayvec::ArrayVec;
@@ -77,31 +76,6 @@ impl<'a> Arguments<'a> {
                 value: 0,
             },
         }
-    }
-
-    /// The texts that name the files that are read.
-    pub fn files(&self) -> ArrayVec<&'a str, 4>
-        ensures { map (λ text. text.now) result.items ≡ files_in (arguments_said 1 self.now.list.items) }
-    {
-        let mut files = ArrayVec::new();
-        for index in 0..self.list.len() {
-            if let Argument::Input(text) = self.list[index] {
-                files.push(text);
-            }
-        }
-        files
-    }
-
-    /// The text of OUT, if there is one.
-    pub fn output(&self) -> Option<&'a str>
-        ensures { option_map (λ text. text.now) result ≡ out_in (arguments_said 1 self.now.list.items) }
-    {
-        for index in 0..self.list.len() {
-            if let Argument::Output(text) = self.list[index] {
-                return Some(text);
-            }
-        }
-        None
     }
 
     /// The argument at this place, counted from 1.

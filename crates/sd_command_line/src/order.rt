@@ -1,7 +1,7 @@
-ghost use Rattle.std.specs.Prelude.{[], ◌≡◌, bytes_eq, length, map, option_map, string_bytes, IfOk, IfErr};
+ghost use Rattle.std.specs.Prelude.{[], ◌≡◌, ◌↔◌, bytes_eq, length, map, option_map, string_bytes, true, IfOk, IfErr};
 ghost use Rattle.std.specs.List.{list_any};
 ghost use Rattle.sd_command_line.specs.Commands.{operands_of};
-ghost use Rattle.sd_command_line.specs.Words.{command_words, help_words, input_texts, named_words, order_of};
+ghost use Rattle.sd_command_line.specs.Words.{command_words, help_words, input_texts, named_words, order_of, MakesCard};
 ghost use Rattle.sd_command_line.specs.Words.{is_help as names_help, is_version as names_version};
 ghost use Rattle.sd_command_line.specs.Words.{out_is_read, out_text, version_words, with_input};
 ghost use Rattle.sd_command_line.specs.Orders.{order_said, shown, IsSound, RefusesWords};
@@ -157,5 +157,15 @@ fn names_input(kind: Kind, text: &str, name: &str) -> bool
     match kind {
         Kind::Input => text == name,
         Kind::Output | Kind::Number(_) | Kind::Count(_) => false,
+    }
+}
+
+/// Whether OUT holds the secrets of a receiver.
+pub fn holds_secrets(order: &Order<'_>) -> bool
+    ensures { (result ≡ true) ↔ MakesCard (order_said order.now) }
+{
+    match order {
+        Order::Command { command, .. } => command.holds_secrets(),
+        Order::Help { .. } | Order::Version => false,
     }
 }

@@ -9,7 +9,6 @@ pub mod Lists
 pub mod Names
 pub mod Ancestry
 pub mod Ends
-pub mod TreePaths
 pub mod Partitions
 pub mod Levels
 pub mod AtNode

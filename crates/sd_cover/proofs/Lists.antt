@@ -27,6 +27,13 @@ member_later y ys x (k, h, e) = (suc k, omega arith, e)
 pub no_member : {X : Type 0} (x : X) → Contains {X = X} [] x → ⊥
 no_member x (k, h, e) = omega arith
 
+-- the only member of a list of one
+pub only_member : {X : Type 0} (x y : X) → Contains (x ∷ []) y → y ≡ x
+only_member x y m = elim (member_cases x [] y m) [
+  | inl same ↦ sym same
+  | inr none ↦ absurd (no_member y none)
+]
+
 -- a number that the test finds is a member
 pub found_member : (u : ℕ) (xs : List ℕ) → list_any (nat_eq u) xs ≡ true → Contains xs u
 found_member u [] e = absurd (cc)

@@ -1,13 +1,11 @@
 -- The search for the last set that opens.
-use Rattle.std.proofs.Common.{ℕ, suc, zero, ◌+◌, ◌-◌, ◌*◌, ◌/◌, ◌^◌, ◌<◌, ◌≤◌, ◌≡◌, Bool, true, false, List, ◌++◌}
+use Rattle.std.proofs.Common.{ℕ, ◌+◌, ◌-◌, ◌*◌, ◌^◌, ◌<◌, ◌≤◌, ◌≡◌, Bool, true, false, List, ◌++◌}
 use Rattle.std.proofs.Common.{length, take, drop, refl, subst, ap, ◌∙◌, ⊎_elim, inl, inr, pow_mono, arith}
-use Rattle.std.specs.Prelude.{◌⊎◌, replicate, nat_le, if◌then◌else◌}
+use Rattle.std.specs.Prelude.{◌⊎◌, replicate}
 use Rattle.std.proofs.lemmas.Bool.{cases_lt}
 use Rattle.std.proofs.lemmas.List.{drop-replicate, take-replicate, drop-append-le, length-replicate}
 use Rattle.std.proofs.Math.Seq.{take-append-add}
-use Rattle.std.proofs.lemmas.Bool.{leb-false}
 use Rattle.sd_tree.proofs.Levels.{doubled}
-use Rattle.sd_cover.specs.Search.{halvings}
 
 -- a number of halvings among n places: none, or so few
 abbrev pub IsFew : ℕ → ℕ → Type 0
@@ -17,28 +15,6 @@ IsFew h n = (h ≡ 0) ⊎ (2 ^ h ≤ 2 * (n - 1))
 few_more : (h part n : ℕ) → 2 ≤ n → 2 * part ≤ n + 1 → IsFew h part → 2 ^ (1 + h) ≤ 2 * (n - 1)
 few_more h part n some half (inl none) = rw none (omega arith)
 few_more h part n some half (inr few) = let e : 1 + h ≡ h + 1 = omega arith in rw e (omega (arith, doubled h))
-
--- which half it is
-few_by : (up down high low n : ℕ) → 2 ≤ n → 2 * high ≤ n + 1 → 2 * low ≤ n + 1 → IsFew up high → IsFew down low →
-    (b : Bool) → 2 ^ (if b then 1 + up else 1 + down) ≤ 2 * (n - 1)
-few_by up down high low n some h l p q true = few_more up high n some h p
-few_by up down high low n some h l p q false = few_more down low n some l q
-
--- whether the search ends
-ended_by : (lo hi : ℕ) (more : ℕ) → ((lo + 1 < hi) → 2 ^ more ≤ 2 * (hi - lo - 1)) → (b : Bool) → nat_le hi (lo + 1)
-    ≡ b → IsFew (if b then 0 else more) (hi - lo)
-ended_by lo hi more f true e = inl refl
-ended_by lo hi more f false e = inr (f (leb-false _ _ e))
-
--- a search among more than one place takes so few halvings that twice the places but one bound their power of two
-pub halvings_bound : (most lo hi z : ℕ) → lo < hi → IsFew (halvings most lo hi z) (hi - lo)
-unfolding halvings
-halvings_bound zero lo hi z some = inl refl
-halvings_bound (suc most) lo hi z some =
-    let m : ℕ = (lo + hi) / 2 in
-    ended_by lo hi _ (λ more. few_by (halvings most m hi z) (halvings most lo m z) (hi - m) (m - lo) (hi - lo)
-    (omega arith) (omega arith) (omega arith) (halvings_bound most m hi z (omega arith))
-    (halvings_bound most lo m z (omega arith)) (nat_le m z)) (nat_le hi (lo + 1)) refl
 
 -- keys of which the first m are wrong, cut out of n wrong and n right ones
 pub right_cut : (n m : ℕ) → m ≤ n → take n (drop (n - m) (replicate n false ++ replicate n true)) ≡ replicate m false

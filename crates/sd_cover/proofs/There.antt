@@ -300,11 +300,6 @@ list_is_cover d (u ∷ us) small leaves =
       chains = λ some' name. names_chains d (u ∷ us) small leaves name;
     })
 
--- revoked leaves have a chain cover, in whatever order they stand
-pub cover_there : (d : ℕ) (revoked : List ℕ) → d < 32 → AreLeaves d revoked → (sets : List SetName)
-    × IsChainCover d revoked sets
-cover_there d revoked small leaves = (cover_of d revoked, list_is_cover d revoked small leaves)
-
 -- it is that list alone
 pub the_cover : (d : ℕ) (revoked : List ℕ) (sets : List SetName) → d < 32 → AreLeaves d revoked
     → IsChainCover d revoked sets ↔ (sets ≡ cover_of d revoked)

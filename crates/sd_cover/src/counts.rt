@@ -113,7 +113,6 @@ impl Counts {
 }
 
 // Makes the table where it isn't there yet.
-#[tactic(auto, using(crate::proofs::Tables::zeros_same, crate::proofs::Tables::used_made))]
 fn make(table: &mut Vec<u32>) -> Result<(), NoMemory>
     requires size { (vec_len table.old ≡ NODES) ⊎ (vec_len table.old ≡ 0) }
     ensures made { OnOk result (vec_len table.new ≡ NODES) }

@@ -7,7 +7,6 @@ use sd_tree::SetName;
 
 /// The place of the last set that opens, and how many probes it took. `marks` are as many wrong and then as many right
 /// keys as there are sets.
-#[tactic(auto, using(crate::proofs::Searches::searched_none, crate::proofs::Searches::searched_more, crate::proofs::Searches::searched_few, crate::proofs::Searches::few_power, crate::proofs::Searches::few_turns, crate::proofs::Told::told_none, crate::proofs::Told::told_next, crate::proofs::Told::told_all))]
 pub fn last_open<B: TestBox>(sets: &[SetName], marks: &[bool], target: &mut B) -> (usize, u32)
     requires some { 0 < length sets.now }
     requires few { length sets.now < 2 ^ 32 }

@@ -72,7 +72,6 @@ fn add(found: &mut Vec<Found>, next: Found) -> Result<(), AllocError>
 }
 
 // One round: the last set of the cover that opens is cut down to a leaf. `None` where none opens, or there is no set.
-#[tactic(auto, using(crate::proofs::Rounds::round_of, crate::proofs::Rounds::tells_round))]
 fn round<B: TestBox>(
     alloc: Global,
     h: Height,
@@ -113,7 +112,6 @@ fn sets(alloc: Global, h: Height, gone: &[Leaf]) -> Result<Vec<SetName>, AllocEr
 }
 
 // The leaf to which the last of these sets that opens is cut down.
-#[tactic(auto, using(crate::proofs::Narrowed::cuts_few, crate::proofs::Searches::few_probes))]
 fn find<B: TestBox>(h: Height, sets: &[SetName], marks: &[bool], target: &mut B) -> Option<Found>
     requires height { B.height target.old ≡ h }
     requires names { All (IsOfHeight h) sets.now }

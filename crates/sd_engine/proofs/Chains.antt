@@ -1,11 +1,11 @@
 -- What follows for a chain of packets from what holds for each.
-use Rattle.std.proofs.Common.{◌≡◌, ℕ, ◌+◌, ◌-◌, ◌≤◌, List, [], ◌∷◌, ◌++◌, length, refl, sym, ap, subst, ◌∙◌, arith}
+use Rattle.std.proofs.Common.{◌≡◌, ℕ, ◌+◌, ◌-◌, List, [], ◌∷◌, ◌++◌, length, refl, sym, ap, subst, ◌∙◌, arith}
 use Rattle.std.proofs.Common.{append_assoc, append-nil, length-append}
 use Rattle.std.specs.Prelude.{Option, None, Some}
 use Rattle.std.proofs.KnownBytes.{Appends-trans, Appends-nil}
 use Rattle.sd_ports.specs.Rooms.{HasTaken}
 use Rattle.sd_ports.proofs.Rooms.{none_taken}
-use Rattle.sd_engine.specs.Stage.{SinkState, HasGrown, TookBytes, Chain, all_from, all_steps}
+use Rattle.sd_engine.specs.Stage.{SinkState, HasGrown, TookBytes, Chain, all_from}
 
 -- one packet more at the end of a chain
 pub chain_on : {S : Type 0} (does : S → List ℕ → S → List ℕ → ℕ → Type 0) (s : S) (ps : List (List ℕ)) (mid : S)
@@ -99,17 +99,3 @@ chain_writes does After wrote step before s (p ∷ ps) t bytes n a (mid, first, 
       joined ∙ (ap (λ xs. xs ++ rest) here.0 ∙ ap (λ xs. wrote before p ++ xs) there.0),
       subst (λ xs. After xs t) (append_assoc before (p ∷ []) ps) there.1,
     )
-
--- and its steps are at most those of all steps
-pub chain_steps : {S : Type 0} (does : S → List ℕ → S → List ℕ → ℕ → Type 0) (After : List (List ℕ) → S → Type 0)
-    (takes : List (List ℕ) → List ℕ → ℕ)
-    → ((before : List (List ℕ)) (s : S) (p : List ℕ) (t : S) (bytes : List ℕ) (n : ℕ) → After before s →
-    does s p t bytes n →
-    (n ≤ takes before p) × After (before ++ p ∷ []) t)
-    → (before : List (List ℕ)) (s : S) (ps : List (List ℕ)) (t : S) (bytes : List ℕ) (n : ℕ) → After before s →
-    Chain does s ps t bytes n → n ≤ all_steps takes before ps
-chain_steps does After takes step before s [] t bytes n a (same, none, zero) = omega (arith, zero)
-chain_steps does After takes step before s (p ∷ ps) t bytes n a (mid, first, rest, m, k, one, more, joined, counted) =
-    let here = step before s p mid first m a one in
-    let there = chain_steps does After takes step (before ++ p ∷ []) mid ps t rest k here.1 more in
-    omega (arith, counted, here.0, there)

@@ -1,21 +1,25 @@
 -- What waits, when more is read and when some of it is taken.
-use Rattle.std.proofs.Common.{◌≡◌, ℕ, ◌+◌, ◌-◌, ◌≤◌, List, [], ◌++◌, length, take, drop, refl, sym, ap, subst, ◌∙◌}
-use Rattle.std.proofs.Common.{arith}
-use Rattle.std.proofs.Common.{append_assoc, append-nil, length-take-le}
+use Rattle.std.proofs.Common.{◌≡◌, ℕ, ◌+◌, ◌-◌, ◌<◌, ◌≤◌, List, [], ◌++◌, length, take, drop, refl, sym, ap, subst}
+use Rattle.std.proofs.Common.{◌∙◌, inl, inr, arith}
+use Rattle.std.proofs.Common.{append_assoc, append-nil, length-drop, length-take-le}
 use Rattle.std.specs.Prelude.{Option, Some}
 use Rattle.std.proofs.lemmas.List.{take-append-le, take-append-drop, drop-drop, drop-take}
 use Rattle.std.proofs.lemmas.List.{get_or-take, length-take}
 use Rattle.std.specs.Prelude.{slice_index}
 use Rattle.std.proofs.Math.Seq.{take-append-add}
 use borrow.Rule.Slice.PartMut.{put_mid, post_of}
-use Rattle.std.specs.Io.KnownBytes.{Consumes}
-use Rattle.std.proofs.KnownBytes.{Consumes-trans, Consumes-nil}
+use Rattle.std.specs.Io.KnownBytes.{Consumes, IsAtEnd}
+use Rattle.std.proofs.KnownBytes.{Consumes-nil, Consumes-trans}
 use Rattle.std.specs.Prelude.{Ok}
-use Rattle.sd_engine.specs.Feeding.{waiting, ReadsMore, HasFilled, TakesPacket, GivesPacket}
+use Rattle.sd_engine.specs.Feeding.{waiting, ReadsMore, HasFilled, TakesPacket, GivesPacket, GivesNone}
 
--- nothing more was read
-pub none_read : (a : Option (List ℕ)) (old new : List ℕ) → new ≡ old → ReadsMore a a old new
-none_read a old new same = record { bytes = []; consumed = Consumes-nil a; joined = same ∙ sym (append-nil old) }
+-- no byte was read, and the same wait
+pub nothing_read : (a : Option (List ℕ)) (old new : List ℕ) → new ≡ old → ReadsMore a a old new
+nothing_read a old new same = record {
+  bytes = [];
+  consumed = Consumes-nil a;
+  joined = same ∙ sym (append-nil old);
+}
 
 -- some bytes were read, and then more
 pub more_read : (a b c : Option (List ℕ)) (old mid new bytes : List ℕ) → ReadsMore a b old mid → Consumes b c bytes →
@@ -52,6 +56,23 @@ more_waits a b c old piece buf filled more k within few before then =
     (take more buf)
     before then (read_into piece buf filled more k within few)
 
+-- as many bytes wait as the range holds
+pub count_waits : (piece : List ℕ) (at filled : ℕ) → filled ≤ length piece →
+    length (waiting piece at filled) ≡ filled - at
+count_waits piece at filled within =
+    length-take-le (filled - at) (drop at piece) (omega (arith, within, length-drop at piece))
+
+-- a read into the rest of the piece gave no byte, so the source is at its end
+pub end_waits : (a b c : Option (List ℕ)) (old piece buf : List ℕ) (filled more k : ℕ) → filled ≤ length piece →
+    0 < length buf → more ≡ 0 → ReadsMore a b old (waiting piece 0 filled) →
+    Consumes b c (take more buf) × (more ≡ 0 → 0 < length buf → IsAtEnd c) →
+    HasFilled a c old (waiting (put_mid filled k piece buf) 0 filled)
+end_waits a b c old piece buf filled more k within room none before read = record {
+  read = subst (λ (n : ℕ). ReadsMore a c old (waiting (put_mid filled k piece buf) 0 n)) (omega (arith, none))
+      (more_waits a b c old piece buf filled more k within (omega (arith, none)) before read.0);
+  enough = inr (read.1 none room);
+}
+
 -- the first packet of what waits, and what waits after it
 pub packet_given : (a b : Option (List ℕ)) (old piece packet : List ℕ) (at filled : ℕ) →
     HasFilled a b old (waiting piece at filled) → filled ≤ length piece → TakesPacket (waiting piece at filled)
@@ -74,3 +95,14 @@ packet_given a b old piece packet at filled fills within takes =
       sync = ap (λ (xs : List ℕ). slice_index xs 0) (sym takes.0)
           ∙ (get_or-take 188 (waiting piece at filled) 0 0 (omega arith) ∙ takes.2);
     }
+
+-- nothing waits, so the source is at its end
+pub none_given : (a b : Option (List ℕ)) (old new : List ℕ) → HasFilled a b old new → new ≡ [] → GivesNone a b old new
+none_given a b old new fills none = record {
+  read = subst (ReadsMore a b old) none fills.read;
+  none = none;
+  end = elim fills.enough [
+    | inl long ↦ absurd (omega (arith, long, ap (λ (xs : List ℕ). length xs) none))
+    | inr end ↦ end
+  ];
+}

@@ -55,12 +55,6 @@ state_next number k s t e f =
     f ∙ ap (λ (r : ℕ). state_at r (generated_in k)) e ∙ state_more number (generated_before k) (generated_in k)
     ∙ ap (state_at number) (sym (generated_more k) ∙ ap generated_before m)
 
--- before the first packet of a piece
-pub state_stays : (number first s : ℕ) → s ≡ state_at number (generated_before first)
-    → s ≡ state_at number (generated_before (first + 0))
-state_stays number first s e = let m : first ≡ first + 0 = omega arith in e
-    ∙ ap (λ (k : ℕ). state_at number (generated_before k)) m
-
 -- a piece with a packet more
 pub piece_more : (number first i s : ℕ) (piece : List (List ℕ)) (packet : List ℕ) → i < length piece
     → take i piece ≡ map (sample_packet number) (range_with_len first i) →

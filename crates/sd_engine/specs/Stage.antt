@@ -43,11 +43,6 @@ pub record IsCutShort (old new : SinkState) (Says : List ℕ → Type 0) : Type 
   pub taken : Appends old.held new.held prefix
   pub room : IsTooShort old.room (length bytes)
 
--- what holds of the refusal that a stage keeps
-abbrev pub ForKept : {F : Type 0} → Option F → (F → Type 0) → Type 0
-ForKept None Says = Unit {0}
-ForKept (Some fault) Says = Says fault
-
 -- The bytes that a stage may write of a packet, or of the end: those of what it does, or of a refusal. No more steps
 -- were counted than that takes.
 abbrev pub IsAllowed : {S F : Type 0} → (S → List ℕ → ℕ → Type 0) → (F → S → List ℕ → ℕ → Type 0) → ℕ → ℕ → List ℕ →
@@ -66,8 +61,3 @@ Chain {S} does s (packet ∷ packets) t bytes n =
 abbrev pub all_from : (List (List ℕ) → List ℕ → List ℕ) → List (List ℕ) → List (List ℕ) → List ℕ
 all_from wrote before [] = []
 all_from wrote before (packet ∷ packets) = wrote before packet ++ all_from wrote (before ++ packet ∷ []) packets
-
--- the steps that packets take after others, by how many each takes at most after those before it
-abbrev pub all_steps : (List (List ℕ) → List ℕ → ℕ) → List (List ℕ) → List (List ℕ) → ℕ
-all_steps takes before [] = 0
-all_steps takes before (packet ∷ packets) = takes before packet + all_steps takes (before ++ packet ∷ []) packets

@@ -34,7 +34,6 @@ pub enum DriveFault<F> {
 
 /// Reads a stream to its end and offers its packets to the stage, one after the other, and then its end; answers how
 /// many packets they were. It takes no memory.
-#[tactic(auto, using(crate::proofs::Driving::not_begun, crate::proofs::Driving::one_more, crate::proofs::Driving::not_fed, crate::proofs::Driving::packet_stopped, crate::proofs::Driving::all_closed, crate::proofs::Driving::packet_too_many, crate::proofs::Driving::not_ended))]
 pub fn drive<S: Source, K: Sink, L: Ledger, G: Stage<K, L>>(
     source: &mut S,
     sink: &mut K,

@@ -45,7 +45,6 @@ pub fn take(piece: &[u8], span: Span) -> Result<Option<Packet>, BreakCause>
 }
 
 /// Reads until the bytes of a packet wait, or to the end of the input.
-#[tactic(auto, using(crate::proofs::Feeding::more_waits))]
 pub fn fill<S: Source>(source: &mut S, piece: &mut [u8], span: Span) -> Result<Span, PortFault>
     requires begun { span.at ≤ span.filled }
     requires within { span.filled ≤ length piece.old }
@@ -89,7 +88,6 @@ fn begin(piece: &mut [u8], span: Span) -> usize
 }
 
 /// The next packet with what waits after it, or `None` at the end of the input.
-#[tactic(auto, using(crate::proofs::Feeding::packet_given))]
 pub fn next<S: Source>(
     source: &mut S,
     piece: &mut [u8],

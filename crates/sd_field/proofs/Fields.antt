@@ -3,7 +3,7 @@ use Rattle.std.proofs.Common.{arith, ◌≡◌, ◌≢◌, ℕ, zero, suc, ◌+�
 use Rattle.std.proofs.Common.{sym, subst}
 use Rattle.std.proofs.Common.{◌∙◌, false, inl, inr, length, length-append, take}
 use Rattle.std.specs.List.{concat}
-use Rattle.std.proofs.lemmas.Bool.{cases_eq, ltb-true, lt-ltb, le-ltb}
+use Rattle.std.proofs.lemmas.Bool.{cases_eq, lt-ltb, le-ltb}
 use Rattle.std.specs.Prelude.{◌↔◌, ◌⊎◌, IfSome, IsSome, Option, None, Some, option_and_then, All, nat_lt, true, get_or}
 use Rattle.std.specs.Prelude.{reverse, slice_get, slice_set}
 use Rattle.std.proofs.lemmas.List.{append_cancel_right, length-map, length-reverse, length-take-le, reverse-append}
@@ -109,16 +109,6 @@ quiet_past v event is quiet =
 pub quiet_taken : (v : FieldValue) (event : Event) → slice_get v.events v.done ≡ Some event → is_send event ≡ false →
     taken (after_next v) ≡ taken v
 quiet_taken v event is quiet = ap (λ (k : ℕ). take k v.clear) (quiet_past v event is quiet)
-
--- the leaf of the next event is one of the tree
-pub leaf_low : (v : FieldValue) (u : ℕ) (event : Event) → slice_get v.events v.done ≡ Some event →
-    is_of v.site.height event ≡ nat_lt u (2 ^ v.site.height) →
-    All (λ event. is_of v.site.height event ≡ true) v.events → u < 2 ^ v.site.height
-leaf_low v u event is same all =
-    let within = slice_get_within v.events v.done event is in
-    let here = all v.done event within in
-    ltb-true u (2 ^ v.site.height) (sym same ∙ (ap (is_of v.site.height)
-    (sym (get_or_from_slice_get v.events v.done event event is)) ∙ here))
 
 -- what an event makes of each leaf's receiver
 next_watch : (v : FieldValue) (event : Event) (w : ℕ) → slice_get v.events v.done ≡ Some event →

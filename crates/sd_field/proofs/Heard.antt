@@ -8,6 +8,7 @@ use Rattle.std.proofs.lemmas.List.{length-reverse}
 use Rattle.std.proofs.lemmas.List.Folds.{concat-append}
 use Rattle.sd_site.specs.CardFields.{CardFields}
 use Rattle.sd_ports.specs.Memory.{Store, room_in}
+use Rattle.sd_ports.specs.Rooms.{HasTaken}
 use Rattle.sd_engine.specs.Stage.{IsTooShort}
 use Rattle.sd_engine.proofs.Chains.{chain_on}
 use Rattle.sd_spec.specs.declared.stream_fault.StreamFault.{StreamFault}
@@ -189,3 +190,15 @@ full_more card earlier xs s packet total store bytes few heard calm room short a
       length-append store.held bytes,
       ap length (wrote_more card earlier xs packet store.held bytes heard.bytes quiet wrote),
     )
+
+-- what is written leaves the room that there is in all
+pub room_left : (total : ℕ) (old new : Store) (bytes : List ℕ) → HasRoom total old → new.held ≡ old.held ++ bytes →
+    HasTaken (room_in old) (room_in new) (length bytes) → HasRoom total new
+room_left total old new bytes room is taken =
+    let took = subst (λ (left : Option ℕ). HasTaken left (room_in new) (length bytes)) room.left taken in
+    let long : length new.held ≡ length old.held + length bytes = ap length is ∙ length-append old.held bytes in
+    let fits = room.fits in
+    record {
+      fits = omega (arith, long, fits, took.0);
+      left = took.1 ∙ ap (λ (n : ℕ). Some n) (omega (arith, long, fits));
+    }

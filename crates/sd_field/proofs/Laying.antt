@@ -13,7 +13,6 @@ use Rattle.sd_book.specs.declared.command.Command.{Command}
 use Rattle.sd_book.specs.declared.command.Command.TheVariants.{Period}
 use Rattle.sd_book.specs.Limits.{IsDraft, IsWithinLimits}
 use Rattle.sd_book.specs.Commands.{last_period}
-use Rattle.sd_book.proofs.Cuts.{period_append}
 use Rattle.sd_spec.specs.declared.event.Event.{Event}
 use Rattle.sd_spec.specs.Events.{is_of, sends_with}
 use Rattle.sd_spec.specs.Book.{booked, commanded, event_book, with_periods_to, sends}
@@ -48,12 +47,6 @@ pub last_by : (q last old : ℕ) (book now : List Command) → old ≡ last_peri
 last_by q last old book now begins least most all is =
     let ends : last_period now ≡ max q (last_period book) = ap last_period is ∙ filled_ends q book in
     omega (arith, begins, least, most, all, ends)
-
--- a command ends no period
-pub last_same : (book : List Command) (command : Command) → last_period (command ∷ []) ≡ 0 →
-    last_period (book ++ command ∷ []) ≡ last_period book
-last_same book command single =
-    let both = period_append book (command ∷ []) in omega (arith, both, single)
 
 -- no more clear packets are sent than there are
 pub sends_low : (m : ℕ) (past : List Event) → sends m past ≤ m

@@ -1,5 +1,5 @@
 -- The lines of a script.
-use Rattle.std.proofs.Common.{arith, ◌≡◌, ◌∙◌, ℕ, ◌+◌, ◌≤◌, Bool, true, false, nat_lt, nat_le, List, [], ◌∷◌, ◌++◌}
+use Rattle.std.proofs.Common.{arith, ◌≡◌, ℕ, ◌+◌, ◌≤◌, Bool, true, false, nat_lt, nat_le, List, [], ◌∷◌, ◌++◌}
 use Rattle.std.proofs.Common.{Option, Some, None, Result, Ok, Err, refl, sym, ap, append-nil, append_assoc, suc, zero}
 use Rattle.std.proofs.Common.{All}
 use Rattle.std.proofs.lemmas.Bool.{ltb-false, leb-true}
@@ -186,18 +186,6 @@ pub script_ended : (d k n : ℕ) (events : List Event) (lines : List (List ℕ))
     put_before events (script_from d k n lines) ≡ Ok events
 unfolding script_from
 script_ended d k n events lines none = rw none (ap (λ (all : List Event). Ok all) (append-nil events))
-
--- a run of one event more
-pub run_more : (n : ℕ) (event : Event) (events : List Event) →
-    (events ++ replicate n event) ++ event ∷ [] ≡ events ++ replicate (n + 1) event
-run_more n event events =
-    append_assoc events (replicate n event) (event ∷ []) ∙ ap (λ (rest : List Event). events ++ rest) (turned n)
-  where
-    turned : (n : ℕ) → replicate n event ++ event ∷ [] ≡ replicate (n + 1) event
-    turned zero = refl
-    turned (suc n) =
-        let more : suc n + 1 ≡ suc (n + 1) = omega arith in
-        rw more (ap (λ (rest : List Event). event ∷ rest) (turned n))
 
 -- all events of a run are of the tree
 equal_events : (d n : ℕ) (event : Event) → is_of d event ≡ true →

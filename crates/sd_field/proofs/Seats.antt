@@ -2,7 +2,7 @@
 use Rattle.std.proofs.Common.{arith, ◌≡◌, ℕ, suc, ◌+◌, ◌<◌, ◌≤◌, List, [], ◌∷◌, ◌++◌, refl, ap, sym, subst, ◌∙◌, Bool}
 use Rattle.std.proofs.Common.{true, false}
 use Rattle.std.proofs.Common.{inl, inr, length, zero}
-use Rattle.std.specs.Prelude.{◌⊎◌, ◌&&◌, ◌==◌, get_or, map, nat_lt, not, reverse, slice_get, IsSome, is_some, Option}
+use Rattle.std.specs.Prelude.{◌⊎◌, ◌&&◌, ◌==◌, get_or, map, nat_lt, reverse, slice_get, IsSome, is_some, Option}
 use Rattle.std.specs.Prelude.{None, Some, Result, Ok, Err, IfOk}
 use Rattle.std.specs.List.{concat, flat_map}
 use Rattle.std.proofs.lemmas.Bool.Decides.{nat_tests}
@@ -162,14 +162,6 @@ on_seat plan card clear total u n w seat receiver none seated new live same = by
         subst (λ (x : Watch). IsSeated plan card clear total x to) (sym (on_is u n w off))
         (new_seat plan card clear total w seat receiver seated new live same)
 
--- one that is on stays as it is
-pub on_again : (plan : Plan) (card : CardFields) (clear : List (List ℕ)) (total u n : ℕ) (w : Watch) (seat : Seat) →
-    IsSome seat.receiver → IsSeated plan card clear total w seat →
-    IsSeated plan card clear total (watched u n (On u) w) seat
-on_again plan card clear total u n w seat some seated =
-    let test : ((u == u) && not w.on) ≡ false = grind (arith, nat_tests, seated.on.0 some) in
-    rw test seated
-
 -- a seat whose receiver is switched off
 off_same : (plan : Plan) (card : CardFields) (clear : List (List ℕ)) (total : ℕ) (w : Watch) (seat : Seat) →
     IsSeated plan card clear total w seat → IsSeated plan card clear total (switched_off w)
@@ -288,10 +280,6 @@ first_seat card total receiver store held room new live same plan clear =
             live = live;
           });
     }
-
--- no seat is new
-pub none_new : (site : Site) (total : ℕ) → AreNew site total []
-none_new site total u seat there = absurd (let no = there in cc)
 
 -- a new seat more
 pub seats_more : (site : Site) (total : ℕ) (seats : List Seat) (more : Seat) → AreNew site total seats →

@@ -1,10 +1,9 @@
 -- The kind of a packet by the marks, and whether it is one too many by the positions.
 use Rattle.std.proofs.Common.{◌≡◌, ◌≢◌, ℕ, ◌<◌, ◌==◌, ◌&&◌, Bool, true, false, not, List, length, get_or}
-use Rattle.std.proofs.Common.{nat_le, refl, sym, ap, ◌∙◌, inl, inr, arith}
+use Rattle.std.proofs.Common.{nat_le, refl, sym, ap, ◌∙◌, inl, inr}
 use Rattle.std.specs.Prelude.{nat_eq}
 use Rattle.std.specs.List.{list_any}
 use Rattle.std.proofs.lemmas.Bool.{cases_Bool, cases_eq, eq-eqb, ne_eqb}
-use Rattle.std.proofs.lemmas.Bool.Decides.{nat_tests}
 use Rattle.sd_packet.specs.Header.{pid_of, has_payload}
 use Rattle.sd_packet.specs.Positions.{is_positional, is_placed, position_of}
 use Rattle.sd_packet.proofs.Positions.{unmoved_is_none}
@@ -87,13 +86,3 @@ too_many_by before packet positions pids first full are moved is crowded =
     ap (λ (b : Bool). b && full) is
     ∙ (ap (λ (b : Bool). (is_placed packet && (get_or positions (pid_of packet) 0 == 15)) && b) crowded
     ∙ too_many_is before packet positions pids are moved)
-
--- where it is not, there is room for the PID
-pub room_is : (packet positions pids : List ℕ)
-    → ((is_placed packet && (get_or positions (pid_of packet) 0 == 15)) && nat_le 256 (length pids)) ≡ false
-    → is_placed packet ≡ true → get_or positions (pid_of packet) 0 ≡ 15 → length pids < 256
-room_is packet positions pids none placed first =
-    let test : (get_or positions (pid_of packet) 0 == 15)
-    ≡ true = eq-eqb (get_or positions (pid_of packet) 0) 15 first in
-    let full : nat_le 256 (length pids) ≡ false = rw (placed, test) at none in
-    grind (arith, nat_tests, full)

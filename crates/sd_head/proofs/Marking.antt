@@ -1,13 +1,11 @@
 -- The marks of the PAT in force.
 use Rattle.std.proofs.Common.{ℕ, ◌<◌, ◌≡◌, ◌≢◌, Bool, true, false, ◌==◌, ◌&&◌, ◌||◌, List, [], ◌∷◌, ◌++◌}
-use Rattle.std.proofs.Common.{length, get_or}
-use Rattle.std.proofs.Common.{set, replicate, refl, sym, ap, subst, ◌∙◌, inl, inr}
+use Rattle.std.proofs.Common.{get_or}
+use Rattle.std.proofs.Common.{refl, sym, ap, subst, ◌∙◌}
 use Rattle.std.specs.Prelude.{nat_eq, Option, Some, None}
 use Rattle.std.specs.List.{list_any}
 use Rattle.std.specs.Option.{option_map_or}
-use Rattle.std.proofs.lemmas.Bool.{eq-eqb, ne_eqb, cases_eq}
-use Rattle.std.proofs.lemmas.List.{get_or-set_same, get_or-set_other, get_or-replicate}
-use Rattle.sd_base.proofs.Bools.{or_false, or_assoc}
+use Rattle.std.proofs.lemmas.Bool.{eq-eqb, ne_eqb}
 use Rattle.sd_packet.specs.Header.{pid_of, has_payload}
 use Rattle.sd_section.specs.Header.{current_of}
 use Rattle.sd_psi.specs.declared.fault.FormFault.{FormFault}
@@ -21,50 +19,6 @@ use Rattle.sd_head.specs.Known.{AreMarked}
 pub record AreMarking (all left : List ℕ) (marks : List Bool) : Type 0 where
   pub at : (pid : ℕ) → pid < 8192 →
       (get_or marks pid false || list_any (nat_eq pid) left) ≡ list_any (nat_eq pid) all
-
-or_true : (a : Bool) → true ≡ (a || true)
-or_true true = refl
-or_true false = refl
-
--- nothing is marked yet
-pub none_marked : (all : List ℕ) (marks : List Bool) → marks ≡ replicate 8192 false → AreMarking all all marks
-none_marked all marks is = record {
-  at = λ pid small. ap (λ (b : Bool). b || list_any (nat_eq pid) all)
-      (ap (λ (l : List Bool). get_or l pid false) is ∙ get_or-replicate 8192 pid false false small);
-}
-
--- a mark more
-marked_more : (marks : List Bool) (pid other : ℕ) → pid < length marks →
-    get_or (set marks pid true) other false ≡ (get_or marks other false || (other == pid))
-marked_more marks pid other h = elim (cases_eq other pid) [
-  | inl same ↦
-      subst (λ (p : ℕ). get_or (set marks pid true) p false ≡ true) (sym same)
-      (get_or-set_same marks pid true false h)
-      ∙ (or_true (get_or marks other false)
-      ∙ ap (λ (b : Bool). get_or marks other false || b) (sym (eq-eqb other pid same)))
-  | inr apart ↦
-      get_or-set_other marks pid other true false apart
-      ∙ (sym (or_false (get_or marks other false))
-      ∙ ap (λ (b : Bool). get_or marks other false || b) (sym (ne_eqb other pid apart)))
-]
-
-pub one_marked : (all left rest : List ℕ) (pid : ℕ) (marks : List Bool) → left ≡ pid ∷ rest → pid < length marks →
-    AreMarking all left marks → AreMarking all rest (set marks pid true)
-one_marked all left rest pid marks first room marking = record {
-  at = λ q h.
-      ap (λ (a : Bool). a || list_any (nat_eq q) rest) (marked_more marks pid q room)
-      ∙ (or_assoc (get_or marks q false) (q == pid) (list_any (nat_eq q) rest)
-      ∙ (ap (λ (pids : List ℕ). get_or marks q false || list_any (nat_eq q) pids) (sym first)
-      ∙ marking.at q h));
-}
-
-pub all_marked : (all left : List ℕ) (marks : List Bool) → left ≡ [] → AreMarking all left marks → AreMarked all marks
-all_marked all left marks none marking = record {
-  at = λ q h.
-      sym (or_false (get_or marks q false))
-      ∙ (ap (λ (pids : List ℕ). get_or marks q false || list_any (nat_eq q) pids) (sym none)
-      ∙ marking.at q h);
-}
 
 -- no current PAT
 pub other_pid : (packet : List ℕ) → pid_of packet ≢ 0 → is_current_pat packet ≡ false

@@ -1,5 +1,5 @@
 -- Positions and PIDs after one packet more.
-use Rattle.std.proofs.Common.{◌≡◌, ◌≢◌, ℕ, zero, suc, ◌+◌, ◌*◌, ◌<◌, ◌≤◌, ◌==◌, ◌&&◌, Bool, true, false, not}
+use Rattle.std.proofs.Common.{◌≡◌, ◌≢◌, ℕ, zero, suc, ◌+◌, ◌<◌, ◌≤◌, ◌==◌, ◌&&◌, Bool, true, false, not}
 use Rattle.std.proofs.Common.{List, [], ◌∷◌, ◌++◌}
 use Rattle.std.proofs.Common.{◌⊎◌, nat_lt, length, get_or, set, refl, sym, ap, subst}
 use Rattle.std.proofs.Common.{◌∙◌, inl, inr, arith}
@@ -10,7 +10,7 @@ use Rattle.std.proofs.lemmas.Bool.Decides.{nat_tests}
 use Rattle.std.proofs.lemmas.List.{get_or-set_same, get_or-set_other}
 use Rattle.sd_packet.specs.Header.{pid_of, counter_of, has_payload}
 use Rattle.sd_packet.specs.Positions.{advanced, is_positional, is_placed, is_moving, moved, position_of}
-use Rattle.sd_packet.proofs.Positions.{one_more, advanced_is_next, counter_below, own_moves}
+use Rattle.sd_packet.proofs.Positions.{one_more, own_moves}
 use Rattle.sd_spec.specs.Kinds.{has_moved, moved_pids, put_in}
 use Rattle.sd_spec.proofs.Following.{moved_first, moved_again, moved_unplaced}
 use Rattle.sd_head.specs.Known.{AreKnown, AreNear}
@@ -39,24 +39,8 @@ known_more pid (m ∷ ms) small known =
     by_test true is rest = rw is (record { at = after })
     by_test false is rest = rw is (record { at = further rest })
 
--- a position that rises by at most 16 is near one packet later
-pub near_more : (n pid x : ℕ) (positions : List ℕ) → pid < length positions → x ≤ get_or positions pid 0 + 16
-    → AreNear n positions → AreNear (n + 1) (set positions pid x)
-near_more n pid x positions small rises near = record { at = λ q. by_place q (cases_eq q pid) }
-  where
-    by_place : (q : ℕ) → (q ≡ pid) ⊎ (q ≢ pid) → get_or (set positions pid x) q 0 ≤ 15 + 16 * (n + 1)
-    by_place q (inl same) =
-        let is : get_or (set positions pid x) q 0 ≡ x =
-        ap (λ (p : ℕ). get_or (set positions pid x) p 0) same ∙ get_or-set_same positions pid x 0 small in
-        omega (arith, is, rises, near.at pid)
-    by_place q (inr apart) = omega (arith, get_or-set_other positions pid q x 0 apart, near.at q)
-
 pub near_later : (n m : ℕ) (positions : List ℕ) → n ≤ m → AreNear n positions → AreNear m positions
 near_later n m positions later near = record { at = λ q. omega (arith, later, near.at q) }
-
--- a step is one of at most 16
-pub step_is_near : (position : ℕ) (packet : List ℕ) → advanced position (counter_of packet) ≤ position + 16
-step_is_near position packet = (advanced_is_next position (counter_of packet) (counter_below packet)).near
 
 -- the position of a PID after a packet that doesn't move it, and after one that does
 stays_after : (before : List (List ℕ)) (packet : List ℕ) (pid : ℕ) → is_moving pid packet ≡ false →

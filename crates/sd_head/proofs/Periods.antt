@@ -59,17 +59,6 @@ still_at_work plan (suc n) p state is decides above =
     let same = held plan n is.period.begun.is_plan (omega (arith, above, decides, is.period.begun.next)) in
     subst (λ (q : ℕ). IsInPeriod plan q state) same is.period
 
--- and where some are not, just the periods before the one that comes next have begun
-pub begins_now : (plan : Plan) (n p : ℕ) (state : Entitling) → IsBefore plan n state →
-    p ≡ min (period_in plan n) (last_period plan.commands) → state.place.next ≤ p →
-    HasBegun plan state.place.next state
-begins_now plan zero p state is decides below =
-    let none : 0 ≡ state.place.next = omega (arith, is.next) in
-    subst (λ (q : ℕ). HasBegun plan q state) none is
-begins_now plan (suc n) p state is decides below =
-    let same : period_in plan n + 1 ≡ state.place.next = omega (arith, below, decides, is.period.begun.next) in
-    subst (λ (q : ℕ). HasBegun plan q state) same is.period.begun
-
 -- and a period begins with crypto period n
 pub begun_is : (plan : Plan) (n p : ℕ) (state : Entitling) → IsBefore plan n state →
     p ≡ min (period_in plan n) (last_period plan.commands) → state.place.next ≤ p →

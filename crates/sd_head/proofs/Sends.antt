@@ -2,7 +2,7 @@
 use Rattle.std.proofs.Common.{◌≡◌, ℕ, zero, suc, ◌+◌, ◌-◌, ◌*◌, ◌/◌, ◌%◌, min, ◌<◌, ◌≤◌, List, [], ◌∷◌, ◌++◌, length}
 use Rattle.std.proofs.Common.{take, drop}
 use Rattle.std.proofs.Common.{refl, sym, ap, subst, ◌∙◌, arith, append_assoc, length-append, length-take-le}
-use Rattle.std.specs.Prelude.{Option, Some, None, Result, Ok, Err, IsErr, OnOk}
+use Rattle.std.specs.Prelude.{Option, Some, None, Result, Ok, Err, IsErr}
 use Rattle.std.specs.List.{concat}
 use Rattle.std.proofs.lemmas.List.Folds.{concat-append}
 use Rattle.std.proofs.Math.Nat.{div-eq_of_lt-le}
@@ -117,11 +117,6 @@ pub sends_err : {T E : Type 0} (result : Result T E) (u v : SinkState) (bytes : 
 sends_err (Ok x) u v bytes err cut = absurd cc
 sends_err (Err e) u v bytes err cut = cut
 
--- after an error nothing is said of what is there without one
-pub none_ok : {T E : Type 0} (P : Type 0) (result : Result T E) → IsErr result → OnOk result P
-none_ok P (Ok x) err = absurd cc
-none_ok P (Err e) err = tt
-
 -- the counter after one packet more
 pub counter_next : (counter now new n : ℕ) → now ≡ counter_after counter n → new ≡ (now + 1) % 16 →
     new ≡ counter_after counter (n + 1)
@@ -133,11 +128,6 @@ counter_next counter now new n is next =
 pub counter_is : (before n : ℕ) → counter_after (before % 16) n ≡ (before + n) % 16
 counter_is before zero = let e : before + 0 ≡ before = omega arith in rw e refl
 counter_is before (suc n) = let e = counter_is before n in omega (arith, e)
-
--- what holds at all events holds where there is no error
-pub ok_always : {T E : Type 0} (P : Type 0) (result : Result T E) → P → OnOk result P
-ok_always P (Ok x) p = p
-ok_always P (Err e) p = tt
 
 -- a number of so many, rounded up
 pub rounded_up : (m n : ℕ) → 0 < n → m / n + min 1 (m % n) ≡ (m + n - 1) / n

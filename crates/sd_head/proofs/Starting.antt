@@ -6,18 +6,13 @@ use Rattle.std.proofs.Math.Arith.{mod-mul}
 use Rattle.std.proofs.Math.Nat.{zero-div, div-eq_of_lt-le, mod-lt}
 use Rattle.std.proofs.lemmas.Nat.{div-add-mod'}
 use Rattle.sd_site.specs.SiteFields.{SiteFields}
-use Rattle.sd_spec.specs.Plan.{Plan, IsPlan, crypto_length, crypto_of, word_of, period_of}
+use Rattle.sd_spec.specs.Plan.{Plan, crypto_length, crypto_of, word_of, period_of}
 use Rattle.sd_spec.proofs.Schedule.{crypto_length_some}
 use Rattle.sd_head.specs.Kept.{IsOf, IsBefore, begins_period, revoked_before}
 use Rattle.sd_head.specs.declared.entitling.Entitling.{Entitling}
 use Rattle.sd_head.specs.Messages.{number_due}
 use Rattle.sd_head.specs.Schedule.{IsAt, begins_with, periods_begun}
 use Rattle.sd_book.specs.Commands.{revoked}
-
--- the plan of what is kept
-pub plan_is : (plan : Plan) (k : ℕ) (entitling : Entitling) → IsAt plan k entitling → IsPlan plan
-plan_is plan zero entitling at = at.is_plan
-plan_is plan (suc k) entitling at = at.period.begun.is_plan
 
 -- the quotient of a whole multiple is one more than that of the number before
 next_quotient : (n j : ℕ) → 0 < n → suc j % n ≡ 0 → suc j / n ≡ suc (j / n)
@@ -134,14 +129,6 @@ unfolding crypto_of
 first_at plan count entitling none of =
     let before : count - 1 ≡ 0 = omega (arith, none) in
     rw before (subst (λ (t : ℕ). IsOf plan t entitling) (sym (zero-div (crypto_length plan.site))) of)
-
--- after some packets the crypto period of the last is at work
-pub last_at : (plan : Plan) (count : ℕ) (entitling : Entitling) → IsAt plan count entitling → count ≢ 0 →
-    IsOf plan (crypto_of plan.site (count - 1)) entitling
-last_at plan zero entitling at some = absurd (some refl)
-last_at plan (suc k) entitling at some =
-    let back : suc k - 1 ≡ k = omega arith in
-    rw back at
 
 -- and they are at work after a packet of that crypto period
 pub at_next : (plan : Plan) (k : ℕ) (entitling : Entitling) → IsOf plan (crypto_of plan.site k) entitling →

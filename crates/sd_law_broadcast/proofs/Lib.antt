@@ -22,3 +22,4 @@ pub mod Repeats
 pub mod Knowing
 pub mod Entitled
 pub mod Using
+pub mod Scheduling

@@ -1,4 +1,5 @@
-//! What a broadcast sends, and that the packets of its file are those that it was made of.
+//! What the schedule of a broadcast comes to, what the broadcast sends, and that the packets of its file are those that
+//! it was made of.
 //! What the broadcasts of one master come to together.
 #![tactic(auto)]
 
@@ -6,6 +7,8 @@ mod keystreams;
 mod known;
 pub mod laws;
 mod practice;
+pub mod receivers;
+pub mod schedules;
 
 pub use keystreams::{
     a_broadcast_repeats_no_keystream, broadcasts_repeat_no_keystream,

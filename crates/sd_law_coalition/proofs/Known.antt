@@ -19,7 +19,7 @@ use Rattle.sd_book.proofs.Revocations.{below}
 use Rattle.sd_cover.specs.Chains.{IsChainCover}
 use Rattle.sd_cover.proofs.Heights.{of_height}
 use Rattle.sd_cover.proofs.There.{the_cover}
-use Rattle.sd_cover.proofs.TreePaths.{the_only_leaf}
+use Rattle.sd_cover.proofs.Lists.{only_member}
 use Rattle.sd_cover.specs.Reach.{Secret, Named, Key, IsGeneratorStep, IsHeld, IsReached}
 use Rattle.sd_cover.proofs.Derivation.{Reach, at_first, by_rule, from_derived, to_derived, passes}
 use Rattle.sd_cover.proofs.Reached.{held_is_reached, next_is_reached, reached_by_one}
@@ -196,7 +196,7 @@ alone d coalition u leaves m =
 
 -- what holds of some member of the coalition of one leaf holds of the leaf
 of_only : (P : ℕ → Type 0) (u : ℕ) → Any P (u ∷ []) → P u
-of_only P u (k, w, within, is, p) = subst P (the_only_leaf u w (k, within, is)) p
+of_only P u (k, w, within, is, p) = subst P (only_member u w (k, within, is)) p
 
 -- what is known by all of a coalition together is known by one of its leaves
 to_one : (service : Service) (coalition : List ℕ) (item : Knowable) → service.height ≤ 20

@@ -1,10 +1,12 @@
-//! What the receivers of a field write, in all times that they are on.
+//! What the events of a field make, and what its receivers write, in all times that they are on.
 //! What the printed lines of `opens`, `trial` and `field` say of a broadcast.
 #![tactic(auto)]
 
+pub mod books;
 pub mod laws;
 pub mod pools;
 pub mod sent;
 pub mod time;
 pub mod times;
 pub mod trials;
+pub mod watches;

@@ -100,9 +100,6 @@ pair_useful d w u a b low leaf less le =
 abbrev pub useful_under : ℕ → ℕ → ℕ → ℕ → List Name
 useful_under d w u a = take (pairs_under d w a) (given_under d u a)
 
-either_true : (b : Bool) → (true || b) ≡ true
-either_true b = refl
-
 useful_by : (d w u a : ℕ) (t : Bool) → (a % w == 0) ≡ t → d ≤ 20 → u < 2 ^ d → a < d
     → filter (is_useful_name w) (map (pair_of d u a) (range_with_len (a + 1) (d - a)))
     ≡ take (cond t (d - a) (min (layer_end w a) d - a)) (map (pair_of d u a) (range_with_len (a + 1) (d - a)))

@@ -153,21 +153,6 @@ good_is_emm h named index body good = record {
   rest = past_entries named index body;
 }
 
--- one rule alone is broken first
-pub breaks_once : (h length : ℕ) (emm : Emm) (f g : EmmFault) → BreaksIn h length emm f → BreaksIn h length emm g →
-    f ≡ g
-breaks_once h length emm Count Count a b = refl
-breaks_once h length emm Count Node a b = absurd (a b.0)
-breaks_once h length emm Count Order a b = absurd (a b.0)
-breaks_once h length emm Node Count a b = absurd (b a.0)
-breaks_once h length emm Node Node a b = refl
-breaks_once h length emm Node Order a b = absurd (a.1 b.1.0)
-breaks_once h length emm Order Count a b = absurd (b a.0)
-breaks_once h length emm Order Node a b = absurd (b.1 a.1.0)
-breaks_once h length emm Order Order a b = refl
-breaks_once h length emm Mixed g a b = absurd a
-breaks_once h length emm f Mixed a b = absurd b
-
 -- and none where nothing is wrong
 pub good_never : (h length : ℕ) (emm : Emm) (f : EmmFault) → IsGoodIn h length emm → ¬ BreaksIn h length emm f
 good_never h length emm Count good b = b good.has_count

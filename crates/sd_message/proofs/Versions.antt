@@ -1,8 +1,8 @@
 -- The numbers in which the versions differ.
-use Rattle.std.proofs.Common.{◌≡◌, ◌⊎◌, inl, inr, ℕ, ◌+◌, ◌-◌, ◌*◌, ◌%◌, ◌≤◌, eq-eqb, arith, refl, subst, sym}
+use Rattle.std.proofs.Common.{◌≡◌, ◌⊎◌, inl, inr, ℕ, ◌+◌, ◌*◌, ◌%◌, ◌≤◌, eq-eqb, arith, refl, subst, sym}
 use Rattle.std.specs.Prelude.{Bool, true, false, ◌==◌, nat_lt, if◌then◌else◌}
 use Rattle.std.proofs.lemmas.Bool.{cases_eq, ne_eqb}
-use Rattle.sd_message.specs.EcmVersions.{IsVersion, IsBefore, positions_for, flags_at, even_table_id, version_for}
+use Rattle.sd_message.specs.EcmVersions.{IsVersion, positions_for, flags_at, even_table_id, version_for}
 
 -- a version by the tests that tell it
 pub by_version : (P : Bool → Bool → Type 0) (v : ℕ) → (v ≡ 3 → P true false) → (v ≡ 2 → P false true) → P false false →
@@ -86,10 +86,3 @@ one_of_three false false = inr (inr refl)
 pub version_is : (t : ℕ) → IsVersion (version_for t)
 unfolding version_for
 version_is t = one_of_three (nat_lt t 0x84) (nat_lt t 0x88)
-
--- what version 1 doesn't write is before the message
-pub before_in : (v number since : ℕ) → (v ≡ 1 → since ≡ number - 1) → v ≡ 1 → IsBefore since number
-before_in v number since fixed is = elim (cases_eq number 0) [
-  | inl e ↦ let none : since ≡ 0 = omega (arith, fixed is) in inr (none, e)
-  | inr g ↦ inl (omega (arith, fixed is))
-]

@@ -6,9 +6,10 @@ ghost use Rattle.sd_message.specs.EcmSpelled.{ecm_section, ecm_header};
 ghost use Rattle.sd_message.specs.EcmForm.{FitsHead, FitsFields, IsEcm};
 ghost use Rattle.sd_message.specs.declared.ecm_format.TheConstants.{POSITIONS, PLACE_BYTES, PLACES_AT};
 
+use crate::body::Body;
 use crate::ecm_format::even_table_id;
 use crate::ecm_part::{EcmPart, Place};
-use crate::{Body, pack};
+use crate::frame::pack;
 use sd_packet::Packet;
 use sd_section::Header;
 

@@ -7,9 +7,10 @@ ghost use Rattle.sd_message.specs.EmmFields.{emm_head_length, count_at as count_
 ghost use Rattle.sd_message.specs.declared.emm_format.TheConstants.{MOST_ENTRIES, ENTRY_BYTES};
 ghost use Rattle.sd_message.specs.EmmForm.{AreWrapped, FitsHead, FitsFields, IsEmm};
 
+use crate::body::Body;
 use crate::emm::{Emm, Entry};
 use crate::emm_format::{NAMED_TABLE_ID, TABLE_ID};
-use crate::{Body, pack};
+use crate::frame::pack;
 use sd_packet::Packet;
 use sd_section::Header;
 use sd_tree::SetName;

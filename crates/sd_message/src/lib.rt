@@ -20,16 +20,15 @@ mod emm_read;
 mod emm_write;
 mod frame;
 
-pub use body::Body;
 pub use ecm_fault::EcmFault;
-pub use ecm_format::{MOST_PLACES, POSITIONS, positions_a_part};
+pub use ecm_format::{MOST_PLACES, POSITIONS};
 pub use ecm_message::{EcmHead, part_count};
 pub use ecm_part::{EcmPart, Place};
 pub use ecm_read::read_ecm;
 pub use ecm_write::write_ecm;
 pub use emm::{Emm, Entry};
 pub use emm_fault::EmmFault;
-pub use emm_format::{MOST_ENTRIES, MOST_SETS, TABLE_ID};
+pub use emm_format::{MOST_ENTRIES, MOST_SETS};
 pub use emm_order::are_ascending;
 pub use emm_period::section_count;
 pub use emm_read::read_emm;

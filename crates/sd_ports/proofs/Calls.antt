@@ -1,8 +1,6 @@
 -- Two calls, of which the second closes what the first opened.
 use Rattle.std.proofs.Common.{rules, ◌≡◌, ℕ, ◌^◌, ◌<◌, arith, refl}
-use Rattle.std.proofs.Common.{sym, subst}
-use Rattle.std.specs.Prelude.{Option, None, Some, IsSome, List, Err}
-use Rattle.sd_ports.specs.Files.{Files, OpensFile, IsThere}
+use Rattle.std.specs.Prelude.{Err}
 use Rattle.sd_base.specs.Count.{with_added}
 use Rattle.sd_ports.specs.Causes.{one_more, CountsClosed, HasDepotCause}
 use Rattle.sd_ports.specs.declared.fault.DepotFault.TheVariants.{Failed}
@@ -12,12 +10,6 @@ twice_called a b c e f = omega arith
 
 pub open_as_before : (a b c : ℕ) → (a < 2 ^ 64) × (b ≡ one_more a) → CountsClosed b c → c ≡ a
 open_as_before a b c o h = let w = o.0 in let e = o.1 in let x = h.within in let y = h.fallen in omega arith
-
--- a file that was opened is there
-pub opened_there : (files : Option Files) (name : List ℕ) (left : Option (List ℕ)) → OpensFile files name left →
-    IsThere files name
-opened_there None name left h = tt
-opened_there (Some m) name left h = subst (λ (o : Option (List ℕ)). IsSome o) (sym h.1) h.0
 
 -- a call that failed counted one fault and no miss
 pub failed_once : {T : Type 0} (a b c d : ℕ) → a < 2 ^ 64 → b ≡ with_added a 1 → d ≡ c

@@ -52,7 +52,6 @@ impl From<ReadAllFault> for FileFault {
 }
 
 /// Reads a whole file of at most `most` bytes: it opens, reads and closes it, and only then answers.
-#[tactic(auto, using(crate::proofs::Calls::twice_called, crate::proofs::Calls::open_as_before, crate::proofs::Calls::opened_there, crate::proofs::Faults::file_cause, crate::proofs::Faults::never_too_big, crate::proofs::Faults::only_missing))]
 pub fn read_file<D: Depot>(
     alloc: Global,
     depot: &mut D,
@@ -80,7 +79,6 @@ pub fn read_file<D: Depot>(
 
 /// Makes a file with these bytes, in place of one that had the name: it makes, writes and closes it, and only then
 /// answers. `Failed` may leave a prefix of them.
-#[tactic(auto, using(crate::proofs::Outlets::there_after, crate::proofs::Calls::twice_called, crate::proofs::Calls::open_as_before, crate::proofs::Faults::file_cause, crate::proofs::Faults::unwritten))]
 pub fn write_file<D: Depot>(
     alloc: Global,
     depot: &mut D,

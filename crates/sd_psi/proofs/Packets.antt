@@ -2,7 +2,7 @@
 use Rattle.std.proofs.Common.{ℕ, zero, suc, ◌+◌, ◌-◌, ◌<◌, ◌≤◌, ◌≡◌, min, Bool, true, false, List, [], ◌∷◌, ◌++◌}
 use Rattle.std.proofs.Common.{length, take, drop, get_or, length-drop, length-take, length-take-le, append_assoc, inl}
 use Rattle.std.proofs.Common.{inr, refl, sym, ap, ◌∙◌, arith}
-use Rattle.std.specs.Prelude.{Some, None, nat_le, bytes_eq, slice_get, replicate}
+use Rattle.std.specs.Prelude.{Some, None, nat_le, bytes_eq, replicate}
 use Rattle.std.proofs.lemmas.List.{drop-drop, take-take}
 use Rattle.std.proofs.lemmas.Slice.Eq.{bytes_eq-Decides}
 use Rattle.std.proofs.lemmas.Bool.{and_parts, leb-true, le-leb, cases_lt}
@@ -141,15 +141,6 @@ pub restore_good : (descriptor packet section : List ℕ) → outer_fault Pmt pa
     is_pmt section ≡ true →
     is_first descriptor section ≡ true → removal_fault descriptor packet ≡ None
 restore_good descriptor packet section h is pmt first = restore_is descriptor packet section true h is pmt first
-
--- the head of a list, which is nothing where there is none
-head_is : (xs : List (List ℕ)) (first : List ℕ) → slice_get xs 0 ≡ Some first → get_or xs 0 [] ≡ first
-head_is [] first h = absurd (cc)
-head_is (x ∷ xs) first h = (cc)
-
-no_head : (xs : List (List ℕ)) → length xs ≡ 0 → get_or xs 0 [] ≡ []
-no_head [] h = refl
-no_head (x ∷ xs) h = absurd (omega arith)
 
 not_nothing : (descriptor : List ℕ) → 0 < length descriptor → bytes_eq [] descriptor ≡ false
 not_nothing [] h = absurd (omega arith)

@@ -65,7 +65,6 @@ pub fn restore_pmt(packet: &mut Packet, ca: u16, pid: u16) -> Result<(), FormFau
 }
 
 // How many bytes the PMT has, where the packet may be rewritten.
-#[tactic(auto, using(crate::proofs::Packets::whole_long, crate::proofs::Packets::info_within, crate::proofs::Packets::rewrite_outer, crate::proofs::Packets::rewrite_room, crate::proofs::Packets::rewrite_loops, crate::proofs::Packets::rewrite_good))]
 fn judge_rewrite(packet: &Packet) -> Result<usize, FormFault>
     requires { payload_start_of packet.now < 188 }
     ensures fault { MatchResult result (λ _. rewrite_fault packet.now ≡ None)
@@ -86,7 +85,6 @@ fn judge_rewrite(packet: &Packet) -> Result<usize, FormFault>
 }
 
 // How many bytes the PMT has, where its first descriptor may be removed.
-#[tactic(auto, using(crate::proofs::Packets::whole_long, crate::proofs::Packets::section_within, crate::proofs::Packets::info_within, crate::proofs::Packets::first_within, crate::proofs::Packets::restore_outer, crate::proofs::Packets::restore_loops, crate::proofs::Packets::restore_first, crate::proofs::Packets::restore_good))]
 fn judge_restore(packet: &Packet, descriptor: &[u8; SIZE]) -> Result<usize, FormFault>
     requires payload { payload_start_of packet.now < 188 }
     requires six { length descriptor.now ≡ 6 }

@@ -1,5 +1,5 @@
 -- The first entry of a section whose set has the leaf.
-use Rattle.std.proofs.Common.{◌≡◌, ℕ, ◌+◌, ◌<◌, ◌≤◌, Bool, true, false, List, length, drop, get_or, refl, ap, sym, ◌∙◌}
+use Rattle.std.proofs.Common.{◌≡◌, ℕ, ◌<◌, ◌≤◌, Bool, true, false, List, length, drop, get_or, refl, ap, sym, ◌∙◌}
 use Rattle.std.specs.Prelude.{find, Some, None, option_map}
 use Rattle.std.proofs.lemmas.List.{at_drop_more, drop_all}
 use Rattle.std.proofs.lemmas.Bool.{true_from_ne_false}
@@ -18,11 +18,6 @@ has_leaf h u entry = is_member h entry.name u
 pub found_here : (h u i : ℕ) (entries : List Entry) (d : Entry) → i < length entries →
     has_leaf h u (get_or entries i d) ≡ true → find (has_leaf h u) (drop i entries) ≡ Some (get_or entries i d)
 found_here h u i entries d small has = at_drop_more (find (has_leaf h u)) entries i d small ∙ rw has refl
-
-pub found_later : (h u i : ℕ) (entries : List Entry) (d : Entry) → i < length entries →
-    has_leaf h u (get_or entries i d) ≡ false → find (has_leaf h u) (drop i entries)
-    ≡ find (has_leaf h u) (drop (i + 1) entries)
-found_later h u i entries d small not = at_drop_more (find (has_leaf h u)) entries i d small ∙ rw not refl
 
 pub none_found : (h u i : ℕ) (entries : List Entry) → length entries ≤ i → find (has_leaf h u) (drop i entries) ≡ None
 none_found h u i entries end = ap (find (has_leaf h u)) (drop_all i entries end)

@@ -101,11 +101,6 @@ in_order before part after i j d within below =
           absurd (false≢true (sym (ap not there) ∙ after))
     ]
 
--- it doesn't look past the newest part
-pub order_of_two : (part before : EcmPart) (run more : List EcmPart) →
-    is_after part (before ∷ run) ≡ is_after part (before ∷ more)
-order_of_two part before run more = refl
-
 -- the positions of a run with one part more
 pub placed_more : (part : EcmPart) (run : List EcmPart) → IsRun run → IsPart part →
     length (places_of run) + length (listed_places part) ≤ 256 →

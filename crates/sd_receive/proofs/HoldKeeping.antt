@@ -1,21 +1,20 @@
 -- What is kept when packets are held and dropped.
-use Rattle.std.proofs.Common.{ℕ, ◌^◌, ◌<◌, ◌≤◌, ◌≡◌, true, List, [], ◌∷◌, ◌++◌, length, get_or, set}
+use Rattle.std.proofs.Common.{ℕ, ◌^◌, ◌<◌, ◌≤◌, ◌≡◌, List, [], ◌∷◌, ◌++◌, length, get_or, set}
 use Rattle.std.proofs.Common.{replicate}
 use Rattle.std.proofs.Common.{sym, ap, ◌∙◌, arith}
 use Rattle.std.specs.Prelude.{vec_capacity}
 use Rattle.std.specs.Global.{Vec}
 use Rattle.std.proofs.lemmas.List.{length-map, length_push, map-append, length-replicate, get_or-replicate}
-use Rattle.std.proofs.lemmas.List.Elements.{All-nil, All-weaker}
+use Rattle.std.proofs.lemmas.List.Elements.{All-nil}
 use Rattle.sd_base.proofs.Fields.{field_below}
 use Rattle.sd_packet.specs.Header.{pid_of}
-use Rattle.sd_packet.specs.Positions.{moved, moved_by, is_positional, first_position}
-use Rattle.sd_packet.proofs.Positions.{one_more, positional_small}
-use Rattle.sd_message.specs.EcmForm.{ArePositioned, ArePlaces}
+use Rattle.sd_packet.specs.Positions.{moved, moved_by, first_position}
+use Rattle.sd_packet.proofs.Positions.{one_more}
 use Rattle.sd_spec.specs.Confirmed.{position_in}
 use Rattle.sd_spec.specs.Offered.{most_held}
 use Rattle.sd_message.specs.declared.ecm_part.Place.{Place}
 use Rattle.sd_message.specs.EcmVersions.{most_places}
-use Rattle.sd_receive.specs.Tracking.{packets_in, led_to, start_of, HasFirstPositions, IsTracked, AreKnown, IsKept}
+use Rattle.sd_receive.specs.Tracking.{packets_in, led_to, start_of, HasFirstPositions, IsTracked, IsKept}
 use Rattle.sd_receive.specs.declared.tracks.Tracks.{Tracks}
 use Rattle.sd_receive.specs.declared.held.Held.{Held}
 use Rattle.sd_receive.proofs.Tables.{none_started, tracked_more, own_more, led_within}
@@ -46,24 +45,6 @@ unfolding led_to start_of position_in moved_by
 clear_again t is places held =
     let tracked : IsTracked [] [] t.table.items = rw places at (rw held at is.tracked) in
     record { long = tracked.long; clear = λ pid none small. tracked.at pid small }
-
--- the PIDs of places are of 13 bits
-pub places_known : (places : List Place) → ArePositioned places → AreKnown places
-places_known places are = All-weaker (λ (p : Place). is_positional p.pid ≡ true) (λ (p : Place). p.pid < 8192)
-    (λ p h. positional_small p.pid h) places are
-
--- nothing is held after places
-pub kept_begun : (u : Tracks) (places : List Place) → ArePlaces places → u.places.items ≡ places → u.held.items ≡ [] →
-    most_held ≤ vec_capacity u.held → most_places ≤ vec_capacity u.places → IsTracked places [] u.table.items → IsKept u
-kept_begun u places are same held room space tracked = record {
-  few = omega (arith, ap (λ (hs : List Held). length hs) held);
-  room = room;
-  space = space;
-  known = rw same (places_known places are.positioned);
-  short = rw same are.short;
-  own = λ k d small. absurd (omega (arith, small, ap (λ (hs : List Held). length hs) held));
-  tracked = rw same (rw held tracked);
-}
 
 -- a PID has 13 bits
 pub pid_within : (packet : List ℕ) → pid_of packet < 8192

@@ -73,16 +73,6 @@ dropped_heard card tuning n s = λ past follows unclosed. (
   },
 )
 
--- the listener with another segment
-pub with_segment : Listener → Option Holding → Listener
-with_segment s segment = record {
-  closed = s.closed;
-  entitled = s.entitled;
-  collect = s.collect;
-  segment = segment;
-  written = s.written;
-}
-
 -- any other packet
 pub other_heard : (card : CardFields) (tuning : Tuning) (n : ℕ) (packet : List ℕ) (s t : Listener) →
     t.closed ≡ s.closed →

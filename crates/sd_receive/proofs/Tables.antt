@@ -96,10 +96,6 @@ tracked_but places packets table is = record {
       ∙ ap (λ (o : Option ℕ). option_map_or (λ p. p) o first_position) (none_found places pid both.0));
 }
 
--- a table of first positions is one of no place and no packet
-pub nothing_tracked : (table : List ℕ) → IsClearBut [] table → IsTracked [] (packets_in []) table
-nothing_tracked table is = none_started table is
-
 -- one packet more in a table
 pub tracked_more : (places : List Place) (packets : List (List ℕ)) (packet table : List ℕ) → pid_of packet < 8192 →
     IsTracked places packets table → IsTracked places (packets ++ packet ∷ [])

@@ -21,9 +21,6 @@ pub record IsWalked (coming places : List Place) (met seen : ℕ) : Type 0 where
   pub next : met < length places → (k : ℕ) (d : Place) → k < seen →
       (get_or coming k d).pid ≡ (get_or places met d).pid → ⊥
 
-pub not_begun : (coming places : List Place) → IsWalked coming places 0 0
-not_begun coming places = record { kept = refl; next = λ some k d below same. absurd (omega arith) }
-
 -- the first of those that pass a test
 find_first : (test : Place → Bool) (all : List Place) (i : ℕ) (d : Place) → i < length all →
     test (get_or all i d) ≡ true →

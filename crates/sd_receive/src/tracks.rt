@@ -116,7 +116,7 @@ fn step(table: &mut [u64], packet: &Packet) -> u64
 }
 
 // Sets the PIDs of the places and packets that a table is built from back to the first position.
-#[tactic(auto, using(crate::proofs::Tables::tracked_but, crate::proofs::Tables::cleared))]
+#[tactic(auto, using(crate::proofs::Tables::cleared))]
 fn clear(table: &mut [u64], places: &[Place], held: &[Held])
     requires tracked { IsTracked places.now (packets_in held.now) table.old }
     requires known { AreKnown places.now }

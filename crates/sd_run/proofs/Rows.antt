@@ -360,12 +360,6 @@ pub cover_works : (words : List Argument) {command : Command} {one two : FileArg
     Implements (cover_meaning one two) a b status → Implements (command_meaning command words) a b status
 cover_works words is at_one at_two done = rw is (rw (at_one, at_two) at done)
 
--- `field`
-pub field_works : (words : List Argument) {command : Command} {one two three : FileArgument} {a b : Outside}
-    {status : Status} → command ≡ Field → one ≡ file 1 words → two ≡ file 2 words → three ≡ file 3 words →
-    Implements (field_meaning one two three) a b status → Implements (command_meaning command words) a b status
-field_works words is at_one at_two at_three done = rw is (rw (at_one, at_two, at_three) at done)
-
 -- `head`
 pub head_works : (words : List Argument) {command : Command} {one two three four : FileArgument} {a b : Outside}
     {status : Status} → command ≡ Head → one ≡ file 1 words → two ≡ file 2 words → three ≡ file 3 words →
@@ -436,9 +430,3 @@ pub trace_works : (words : List Argument) {command : Command} {one two three : F
     {status : Status} → command ≡ Trace → one ≡ file 1 words → two ≡ file 2 words → three ≡ file 3 words →
     Implements (trace_meaning one two three) a b status → Implements (command_meaning command words) a b status
 trace_works words is at_one at_two at_three done = rw is (rw (at_one, at_two, at_three) at done)
-
--- `trial`
-pub trial_works : (words : List Argument) {command : Command} {one two three : FileArgument} {a b : Outside}
-    {status : Status} → command ≡ Trial → one ≡ file 1 words → two ≡ file 2 words → three ≡ file 3 words →
-    Implements (trial_meaning one two three) a b status → Implements (command_meaning command words) a b status
-trial_works words is at_one at_two at_three done = rw is (rw (at_one, at_two, at_three) at done)

@@ -10,7 +10,7 @@ use Rattle.sd_book.specs.declared.fault.BookFault.{BookFault}
 use Rattle.sd_book.specs.Commands.{is_within}
 use Rattle.sd_book.specs.Text.{command_fits}
 use Rattle.sd_run_books.specs.declared.account_fault.AccountFault.{AccountFault}
-use Rattle.sd_run_books.specs.declared.account_fault.AccountFault.TheVariants.{Line, Taken}
+use Rattle.sd_run_books.specs.declared.account_fault.AccountFault.TheVariants.{Taken}
 use Rattle.sd_run_books.specs.Fault.{as_fault}
 use Rattle.sd_run_books.specs.Line.{Entry, Assigns, Drops, Restores, Ends}
 use Rattle.sd_run_books.specs.Bound.{leaf_of, is_held}
@@ -67,11 +67,6 @@ command_within d before (Restores name) leaf_for marks command kept low e =
     (λ u h. lt-ltb u (2 ^ d) h) (kept.within name) e
 command_within d before Ends leaf_for marks command kept low e =
     let same : Period ≡ command = cc in ap (is_within d) (sym same)
-
--- a line that says nothing is its fault
-pub line_refused : (d : ℕ) (before : List (Option Entry)) (commands : List Command) (said : Option Entry) (k : ℕ) →
-    said ≡ None → k ≡ length before + 1 → judged_line d before commands said ≡ Err (Line k)
-line_refused d before commands said k none e = rw (none, e) refl
 
 -- a line that makes no command
 pub command_refused : (d : ℕ) (before : List (Option Entry)) (commands : List Command) (said : Option Entry)

@@ -1,6 +1,6 @@
 -- The lines of a text, one after the other.
 use Rattle.std.proofs.Common.{◌≡◌, ℕ, ◌+◌, List, [], ◌∷◌, ◌++◌, Bool, length, append_assoc, append-nil}
-use Rattle.std.proofs.Common.{Option, Ok, Err, refl, sym, ap, subst, ◌∙◌}
+use Rattle.std.proofs.Common.{Option, Ok, Err, sym, ap, subst, ◌∙◌}
 use Rattle.std.proofs.lemmas.List.{length_push}
 use Rattle.std.specs.Prelude.{map}
 use Rattle.sd_base.specs.Lines.{lines_of}
@@ -11,17 +11,6 @@ use Rattle.sd_run_books.specs.Line.{entry_on, said_by}
 use Rattle.sd_run_books.specs.Judged.{allowed, judged_line, judged, book_of}
 use Rattle.sd_run_books.specs.Kept.{IsKept, IsRead}
 use Rattle.sd_run_books.proofs.NextLine.{judged_taken, judged_refused}
-
--- no line is taken yet
-pub read_none : (d : ℕ) (bytes : List ℕ) (commands : List Command) (leaf_for : List ℕ → Option ℕ) (marks : List Bool) →
-    commands ≡ [] → IsKept d [] leaf_for marks → IsRead d bytes bytes commands leaf_for marks
-read_none d bytes commands leaf_for marks none kept = record {
-  before = [];
-  all = refl;
-  count = rw none refl;
-  kept = kept;
-  same = rw none refl;
-}
 
 -- what the rest says, where a line is cut off
 said_first : (d : ℕ) (rest line after : List ℕ) → lines_of rest ≡ line ∷ lines_of after →

@@ -26,7 +26,6 @@ pub(crate) struct Register {
 
 impl Register {
     /// What the lines of a text come to. The period that they end in isn't judged yet.
-    #[tactic(auto, using(crate::proofs::Reading::read_all, crate::proofs::Reading::ends_judged))]
     pub(crate) fn read(alloc: Global, bytes: &[u8], h: Height) -> Result<Register, AccountFault>
         ensures height { IfOk result (λ register. register.draft.height ≡ h) }
         ensures kept { IfOk result (λ register.
@@ -77,7 +76,6 @@ impl Register {
     }
 
     /// The book of these lines, and the leaves of their names.
-    #[tactic(auto, using(crate::proofs::Limits::book_ends, crate::proofs::Limits::book_ends_not))]
     pub(crate) fn finish(self) -> Result<(Book, BTreeMap<Name, Leaf>), AccountFault>
         ensures height { IfOk result (λ parts. parts.0.height ≡ self.draft.height) }
         ensures fits { IfOk result (λ parts. IsWithinLimits self.draft.height parts.0.commands) }

@@ -1,11 +1,10 @@
 -- What an assembler lends is shown and learned, one section after the other.
 use Rattle.std.proofs.Common.{ℕ, ◌≡◌, Bool, true, false, ◌==◌, ◌||◌, List, [], ◌∷◌, ◌++◌, get_or, cond, refl, sym, ap}
 use Rattle.std.proofs.Common.{◌∙◌, append_assoc, append-nil}
-use Rattle.std.specs.Prelude.{Option, Some, slice_get, drop}
+use Rattle.std.specs.Prelude.{Some, slice_get, drop}
 use Rattle.std.specs.List.{flat_map, list_any}
 use Rattle.std.proofs.lemmas.List.Folds.{list_any-append}
 use Rattle.sd_base.proofs.Bools.{or_false, or_assoc}
-use Rattle.sd_section.specs.Assembled.{Assembling, all_lent}
 use Rattle.sd_run_streams.specs.TableLines.{section_line}
 use Rattle.sd_run_streams.specs.Inspected.{pids_named_by}
 use Rattle.sd_run_streams.specs.Watching.{is_named_pid, naming, IsLearned, IsLearning}
@@ -30,13 +29,6 @@ lines_more number pid all text new section waiting rest is pushed so_far =
     ∙ sym (ap (λ (w : List (List ℕ)). text ++ flat_map (section_line number pid) w) is)
     ∙ so_far
 
--- all lines
-pub all_lines : (number pid : ℕ) (all text : List ℕ) (waiting : List (List ℕ)) → waiting ≡ [] →
-    text ++ flat_map (section_line number pid) waiting ≡ all →
-    text ≡ all
-all_lines number pid all text waiting none so_far =
-    sym (ap (λ (w : List (List ℕ)). text ++ flat_map (section_line number pid) w) none ∙ append-nil text) ∙ so_far
-
 -- what a section and those after it name
 named_by : (b : Bool) (q : ℕ) (section : List ℕ) (rest : List (List ℕ)) →
     (is_named_pid q (cond b (section ∷ []) []) || is_named_pid q (cond b rest [])) ≡ is_named_pid q
@@ -58,10 +50,6 @@ none_by false q = refl
 pub none_named : (pid q : ℕ) → is_named_pid q (naming pid []) ≡ false
 unfolding is_named_pid
 none_named pid q = none_by (pid == 0) q
-
--- before the first section
-pub nothing_learned : (pid : ℕ) (all : List (List ℕ)) (marks : List Bool) → IsLearning pid all all marks marks
-nothing_learned pid all marks = record { at = λ q h. refl }
 
 -- a section more
 pub learned_more : (pid : ℕ) (all waiting rest : List (List ℕ)) (section : List ℕ) (old marks new : List Bool) →
@@ -88,11 +76,3 @@ all_learned pid all waiting old marks none so_far = record {
       ∙ or_false (get_or marks q false))
       ∙ so_far.at q h;
 }
-
--- nothing is left to lend
-pub is_lent : (now all : Assembling) → now.counter ≡ all.counter → now.making ≡ all.making → now.waiting ≡ [] →
-    now ≡ all_lent all
-is_lent now all counter making none =
-    ap (λ (c : Option ℕ). record { counter = c; making = now.making; waiting = now.waiting }) counter
-    ∙ ap (λ (m : List ℕ). record { counter = all.counter; making = m; waiting = now.waiting }) making
-    ∙ ap (λ (w : List (List ℕ)). record { counter = all.counter; making = all.making; waiting = w }) none

@@ -8,13 +8,7 @@ use Rattle.sd_section.specs.Steps.{steps}
 use Rattle.sd_section.proofs.Registers.{bit_below, zero_xor, bit_at_top, low_moves}
 use Rattle.sd_section.proofs.Xor.{xor_apart}
 
--- bits 0 leave a number of 32 bits
-pub steps_below : (n x : ℕ) → x < 2 ^ 32 → steps n x < 2 ^ 32
-unfolding steps
-steps_below zero x h = h
-steps_below (suc n) x h = steps_below n (after_bit x 0) (bit_below x 0 h (omega arith))
-
--- and are linear
+-- bits 0 are linear
 pub steps_xor : (n x y : ℕ) → x < 2 ^ 32 → y < 2 ^ 32 → steps n (bit_xor x y) ≡ bit_xor (steps n x) (steps n y)
 unfolding steps
 steps_xor zero x y hx hy = refl

@@ -12,7 +12,6 @@ use crate::limits::LONGEST;
 const STUFFING: u8 = 0xFF;
 
 /// Adds bytes to the partial section, if there is one. Whether it is whole now.
-#[tactic(auto, using(crate::proofs::Adding::add_nothing, crate::proofs::Adding::add_overlong, crate::proofs::Adding::add_whole, crate::proofs::Adding::add_part))]
 pub fn add(making: &mut Vec<u8>, bytes: &[u8]) -> bool
     requires room { longest ≤ vec_capacity making.old }
     requires short { length making.old.items ≤ longest }

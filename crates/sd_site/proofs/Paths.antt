@@ -3,10 +3,10 @@ use Rattle.std.proofs.Common.{ℕ, ◌+◌, ◌-◌, ◌/◌, ◌^◌, ◌<◌, 
 use Rattle.std.proofs.Math.Pow.{pow_mono, shr-shr}
 use Rattle.sd_tree.specs.Node.{depth, IsAbove, IsProperlyAbove}
 use Rattle.sd_tree.proofs.Levels.{doubled}
-use Rattle.sd_tree.proofs.Ancestors.{depth_within, leaf_level, above_le, above_trans, above_parent, above_by_levels}
-use Rattle.sd_tree.specs.Paths.{path_node, sibling_of}
+use Rattle.sd_tree.proofs.Ancestors.{depth_within, leaf_level, above_le, above_by_levels}
+use Rattle.sd_tree.specs.Paths.{path_node}
 use Rattle.sd_tree.proofs.Descents.{level_of, child_level}
-use Rattle.sd_tree.proofs.Paths.{sibling_half, other_child}
+use Rattle.sd_tree.proofs.Paths.{other_child}
 use Rattle.sd_site.specs.Hanging.{IsHanging}
 
 -- a node of the tree has 32 bits
@@ -47,10 +47,6 @@ child_is_hanging d u j c w low leaf some high is_node over deepest half above =
           let by = above_by_levels i c (depth i) (depth c) at_i at_c in_c in
           omega (arith, by.0, child);
     }
-
--- what is properly above a node is above its sibling
-pub above_sibling : (i v : ℕ) → IsProperlyAbove i v → IsAbove i (sibling_of v)
-above_sibling i v over = above_trans i (v / 2) (sibling_of v) (above_parent i v over) (1, sibling_half v)
 
 -- an ancestor of a leaf's node is on the leaf's path
 pub ancestor_on_path : (d u i : ℕ) → d ≤ 20 → u < 2 ^ d → 1 ≤ i → IsAbove i (2 ^ d + u) → path_node d u (depth i) ≡ i

@@ -112,15 +112,6 @@ properly_above_by_levels i j m n p q above =
     let e : n - m - 1 + 1 ≡ n - m = omega arith in
     (less, shr-shr j (n - m - 1) 1 ∙ (ap (λ (k : ℕ). j / 2 ^ k) e ∙ by.1))
 
--- two nodes of one level above one node are one
-pub above_same_level : (a b c k : ℕ) → IsAtLevel a k → IsAtLevel b k → IsAbove a c → IsAbove b c → a ≡ b
-above_same_level a b c k p q over_a over_b =
-    ⊎_elim (λ (h : IsAbove a b). let by = above_by_levels a b k k p q h in let e : k - k ≡ 0 =
-    omega arith in sym (rw e at by.1) ∙ div-one b)
-    (λ (h : IsAbove b a). let by = above_by_levels b a k k q p h in let e : k - k ≡ 0 =
-    omega arith in sym (sym (rw e at by.1) ∙ div-one a))
-    (above_comparable a b c over_a over_b)
-
 -- what is properly above a node is above its parent
 pub above_parent : (i j : ℕ) → IsProperlyAbove i j → IsAbove i (j / 2)
 above_parent i j ((zero, e), apart) = absurd (apart (sym e ∙ div-one j))

@@ -1,8 +1,6 @@
 ghost use Rattle.std.specs.Prelude.{◌≡◌, ◌^◌, ◌<◌, ◌↔◌, IsSome, IfSome};
-ghost use Rattle.std.specs.Ordering.{nat_cmp};
 
 use crate::height::Height;
-use std::cmp::Ordering;
 use std::marker::Model;
 
 /// The most leaves that may be revoked at a time.
@@ -46,11 +44,4 @@ impl Leaf {
     {
         self.number
     }
-}
-
-/// How two leaves stand in their order, which is that of their numbers.
-pub fn compare_leaves(a: Leaf, b: Leaf) -> Ordering
-    ensures { result ≡ nat_cmp a b }
-{
-    a.cmp(&b)
 }

@@ -15,7 +15,7 @@ mod set;
 pub use height::{HIGHEST, Height};
 pub use key::{check_value, control_word, period_key, whole_key};
 pub use label::{Label, Side, descend, middle, root_label, step};
-pub use leaf::{Leaf, MOST_REVOKED, compare_leaves};
+pub use leaf::{Leaf, MOST_REVOKED};
 pub use name::Name;
 pub use node::{child_towards, depth, is_above, lowest_common};
 pub use path::{leaf_node, path_node, sibling};

@@ -1,8 +1,8 @@
 use Rattle.std.proofs.Common.{◌≡◌, ℕ, ◌+◌, ◌-◌, ◌*◌, ◌≤◌, List, length, false, true, ◌/◌, Bool, refl, sym, ◌∙◌, ap}
 use Rattle.std.proofs.Common.{take, drop, arith}
 use Rattle.sd_cover.specs.Search.{right_from, opens_some}
-use Rattle.sd_cover.proofs.Searches.{searched_more}
-use Rattle.sd_cover.proofs.Told.{told_next, told_all}
+use Rattle.sd_cover.proofs.Searches.{searched_none, searched_more, searched_few, few_power, few_turns}
+use Rattle.sd_cover.proofs.Told.{told_none, told_next, told_all}
 use Rattle.sd_cover.proofs.search.last_open.Goals as goal
 
 -- the keys that a probe marks right
@@ -65,3 +65,15 @@ returns-clause-told g c leaves z told at =
     let i = c.loop-lo.invariant in
     told_all c.loop-lo.lo c.loop-lo.hi c.loop-lo.turns (length c.args.sets.now) z
     (let ends = c.loop-lo-test.false in omega arith) (i.6 leaves z told at)
+
+pub loop-lo-init : goal.loop-lo-init
+loop-lo-init g c = grind (arith, searched_none, told_none)
+
+pub overflow_add-turns : goal.overflow_add-turns
+overflow_add-turns g c = grind (arith, searched_few, few_turns)
+
+pub probe-requires-clause-room : goal.probe-requires-clause-room
+probe-requires-clause-room g c = grind (arith, searched_few, few_turns)
+
+pub returns-clause-turns : goal.returns-clause-turns
+returns-clause-turns g c = grind (arith, searched_few, few_power)

@@ -1,9 +1,20 @@
-use Rattle.std.proofs.Common.{◌≡◌, ◌∙◌, subst, arith}
+use Rattle.std.proofs.Common.{◌≡◌, ◌∙◌, refl, subst, arith}
 use Rattle.sd_engine.specs.Feeding.{FeedOutcome}
 use Rattle.sd_engine.specs.Driving.{most_packets}
-use Rattle.sd_engine.proofs.Driving.{one_more, recounted, not_fed, not_ended, packet_stopped, all_closed}
+use Rattle.sd_engine.proofs.Driving.{not_begun, one_more, recounted, not_fed, not_ended, packet_stopped, all_closed}
 use Rattle.sd_engine.proofs.Driving.{packet_too_many}
 use Rattle.sd_engine.proofs.driver.drive.Goals as goal
+
+pub loop-count-init : goal.loop-count-init
+loop-count-init g c = record {
+  live = c.requires.live;
+  begun = omega arith;
+  within = omega arith;
+  long = refl;
+  way = not_begun _ _ _ refl;
+  read = refl;
+  written = refl;
+}
 
 pub loop-count-preserved : goal.loop-count-preserved
 loop-count-preserved g c = record {
@@ -65,3 +76,12 @@ returns-in-Err-next-clause-value g c =
     in
     rw c.overrun.ensures (not_ended _ _ _ _ _ _ _ _ _ _ _ (recounted _ _ _ _ _ _ c.loop-count.invariant.way most)
     c.in-Err-next.ensures.fault)
+
+pub returns-in-Ok-None-default-clause-written : goal.returns-in-Ok-None-default-clause-written
+returns-in-Ok-None-default-clause-written g c =
+    rw (← c.loop-count.invariant.written) c.close.ensures.written
+
+pub returns-in-Ok-None-default-next-clause-written :
+    goal.returns-in-Ok-None-default-next-clause-written
+returns-in-Ok-None-default-next-clause-written g c =
+    rw (← c.loop-count.invariant.written) c.close-in-Ok-None-default-next.ensures.written

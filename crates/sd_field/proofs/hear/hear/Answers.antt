@@ -1,11 +1,29 @@
-use Rattle.std.proofs.Common.{Err, ◌<◌, ◌++◌, ◌∷◌, [], length, sym, subst, ap, inl, inr}
+use Rattle.std.proofs.Common.{◌≡◌, Ok, Err, ◌<◌, ◌++◌, ◌∷◌, [], length, sym, subst, ap, inl, inr}
+use Rattle.std.specs.Prelude.{Result}
+use Rattle.std.proofs.lemmas.Bool.{false≢true}
 use Rattle.std.specs.List.{concat}
 use Rattle.sd_base.proofs.Lists.{same_held}
 use Rattle.sd_engine.specs.Stage.{SinkState}
+use Rattle.sd_engine.specs.declared.stage.StageFault.{StageFault}
+use Rattle.sd_engine.specs.declared.stage.StageFault.TheVariants.{Write, Refused}
+use Rattle.sd_spec.specs.declared.stream_fault.StreamFault.{StreamFault}
 use Rattle.sd_spec.specs.Offered.{out_from}
 use Rattle.sd_field.specs.Heard.{IsHeard}
-use Rattle.sd_field.proofs.Heard.{by_kept, full_more, heard_kept, heard_refused, heard_taken}
+use Rattle.sd_field.proofs.Heard.{by_kept, full_more, heard_kept, heard_refused, heard_taken, room_left}
 use Rattle.sd_field.proofs.hear.hear.Goals as goal
+
+-- an answer without a fault is no refusal
+ok_is_no_refusal : {P : Type 0} (why : StreamFault) →
+    ◌≡◌ {A = Result (Unit {0}) (StageFault StreamFault)} (Ok tt) (Err (Refused why)) → P
+ok_is_no_refusal why h = cc
+
+-- a failed write is no refusal
+write_is_no_refusal : {P : Type 0} (fault : StageFault StreamFault) (why : StreamFault) → fault ≡ Write →
+    ◌≡◌ {A = Result (Unit {0}) (StageFault StreamFault)} (Err fault) (Err (Refused why)) → P
+write_is_no_refusal fault why is h = cc
+
+pub offer-requires : goal.offer-requires
+offer-requires g c = record { live = c.requires.live }
 
 pub returns-in-Ok-clause-heard : goal.returns-in-Ok-clause-heard
 returns-in-Ok-clause-heard g c card earlier xs few heard =
@@ -17,7 +35,15 @@ returns-in-Ok-clause-heard g c card earlier xs few heard =
     (λ calm. subst (IsHeard card earlier (xs ++ packet ∷ []) t) (sym grew.taken)
     (heard_taken card earlier xs s packet t c.args.written.now.held grew.bytes grew.steps few heard calm grew.says
     (c.in-Ok.ensures.ok).0))
-    (λ why kept. absurd (let no = (c.in-Ok.ensures.again why kept).0 in cc))
+    (λ why kept. ok_is_no_refusal why (c.in-Ok.ensures.again why kept).0)
+
+pub returns-in-Ok-clause-room : goal.returns-in-Ok-clause-room
+returns-in-Ok-clause-room g c total room =
+    let grew = c.in-Ok.ensures.value in
+    room_left total c.args.written.now c.offer.new.out grew.bytes room grew.taken grew.room
+
+pub returns-in-Ok-clause-full : goal.returns-in-Ok-clause-full
+returns-in-Ok-clause-full g c card earlier xs total failed few heard room = absurd (false≢true failed)
 
 pub returns-in-Err-Refused-clause-heard : goal.returns-in-Err-Refused-clause-heard
 returns-in-Err-Refused-clause-heard g c card earlier xs few heard =
@@ -38,6 +64,21 @@ returns-in-Err-Refused-clause-heard g c card earlier xs few heard =
     (heard_kept card earlier xs s packet t c.args.written.now.held why few heard kept (e.keeps why again.0).1
     (e.keeps why again.0).0))
 
+pub returns-in-Err-Refused-clause-room : goal.returns-in-Err-Refused-clause-room
+returns-in-Err-Refused-clause-room g c total room =
+    let is = ap (λ x. Err x) c.in-Err-Refused.field-0-is in
+    let grew = c.in-Err-Refused.ensures.fault c.in-Err-Refused.field-0-0 is in
+    room_left total c.args.written.now c.offer.new.out grew.bytes room grew.taken grew.room
+
+pub returns-in-Err-Refused-clause-full : goal.returns-in-Err-Refused-clause-full
+returns-in-Err-Refused-clause-full g c card earlier xs total failed few heard room = absurd (false≢true failed)
+
+pub returns-in-Err-Write-clause-heard : goal.returns-in-Err-Write-clause-heard
+returns-in-Err-Write-clause-heard g c card earlier xs few heard = tt
+
+pub returns-in-Err-Write-clause-room : goal.returns-in-Err-Write-clause-room
+returns-in-Err-Write-clause-room g c total room = tt
+
 pub returns-in-Err-Write-clause-full : goal.returns-in-Err-Write-clause-full
 returns-in-Err-Write-clause-full g c card earlier xs total failed few heard room =
     let s = c.args.receiver.now in
@@ -51,4 +92,4 @@ returns-in-Err-Write-clause-full g c card earlier xs total failed few heard room
       | inr (fault, t, refuses) ↦ full_more card earlier xs s packet total c.args.written.now cut.bytes few heard calm
           room cut.room (λ past after within. (refuses past after within).bytes_are)
     ])
-    (λ why kept. absurd (let no = (e.again why kept).0 in cc))
+    (λ why kept. write_is_no_refusal c.in-Err-Write.field-0 why c.in-Err-Write.field-0-is (e.again why kept).0)

@@ -1,11 +1,22 @@
 use Rattle.std.proofs.Common.{◌≡◌, ◌≤◌, refl, sym, ap, ◌∙◌, rules}
-use Rattle.std.specs.Prelude.{Ok, Err, Some}
+use Rattle.std.specs.Prelude.{Result, Ok, Err, Option, Some, None}
 use Rattle.std.proofs.lemmas.Bool.{false≢true}
 use Rattle.sd_message.specs.declared.emm.Emm.{Emm}
+use Rattle.sd_message.specs.declared.emm_fault.EmmFault.{EmmFault}
 use Rattle.sd_message.proofs.EmmJudging.{good_never}
 use Rattle.sd_message.proofs.EmmReading.{IsParted, spelled_is_packet, spelled_is_read, spelled_is_good, read_is_right}
 use Rattle.sd_message.proofs.EmmDeciding.{other_reads, broken_at, good_at}
 use Rattle.sd_message.proofs.emm_read.read_emm.Goals as goal
+
+-- a packet that is no entitlement, one that is good and one that is broken differ
+none_err : (fault : EmmFault) → ◌≡◌ {A = Result (Option Emm) EmmFault} (Ok None) (Err fault) → ⊥
+none_err fault same = cc
+
+some_none : (emm : Emm) → ◌≡◌ {A = Result (Option Emm) EmmFault} (Ok (Some emm)) (Ok None) → ⊥
+some_none emm same = cc
+
+err_none : (read : Result (Option Emm) EmmFault) (fault : EmmFault) → read ≡ Err fault → read ≡ Ok None → ⊥
+err_none read fault broken same = cc
 
 pub returns-in_default-clause-complete : goal.returns-in_default-clause-complete
 returns-in_default-clause-complete c = λ emm fits form sets spells.
@@ -80,3 +91,28 @@ returns-clause-value c =
     sym (good_at c.args.h c.args.packet.now c.in-Some.section.bytes.now c.body.result.now c.is_named-named.result
     c.extension.result c.in_ok-emm.emm (c.in-Some.ensures.some.0 refl) c.in-Some.ensures.value are
     c.in_ok-emm.ensures.value c.in_ok-emm.ensures.good)
+
+pub returns-in_default-clause-none : goal.returns-in_default-clause-none
+returns-in_default-clause-none c = (λ same is. false≢true (c.in_default.ensures.some.1 is), λ other. refl)
+
+pub returns-in_default-clause-fault : goal.returns-in_default-clause-fault
+returns-in_default-clause-fault c fault = (
+  λ same. absurd (none_err fault same),
+  λ broken. absurd (false≢true (c.in_default.ensures.some.1 broken.0)),
+)
+
+pub read_body-requires : goal.read_body-requires
+read_body-requires c = rw (c.body.ensures, c.is_named-named.ensures) c.in-Some.ensures.room
+
+pub returns-in_err-emm-clause-none : goal.returns-in_err-emm-clause-none
+returns-in_err-emm-clause-none c =
+    let fault : c.from_residual.result ≡ Err c.in_err-emm.field-0.0 = search rules in (
+      λ same. absurd (err_none c.from_residual.result c.in_err-emm.field-0.0 fault same),
+      λ other. absurd (other (c.in-Some.ensures.some.0 refl)),
+    )
+
+pub returns-clause-none : goal.returns-clause-none
+returns-clause-none c = (
+  λ same. absurd (some_none c.in_ok-emm.emm same),
+  λ other. absurd (other (c.in-Some.ensures.some.0 refl)),
+)

@@ -3,7 +3,8 @@ use Rattle.std.specs.Prelude.{map, Some, if◌then◌else◌}
 use Rattle.sd_tree.specs.Keys.{control_word_of}
 use Rattle.sd_site.specs.SiteFields.{fields_of}
 use Rattle.sd_engine.specs.Stage.{vessel}
-use Rattle.sd_engine.proofs.Chains.{took_none}
+use Rattle.sd_engine.specs.declared.stage.StageFault.TheVariants.{Write, Refused}
+use Rattle.sd_engine.proofs.Chains.{took_none, grew_none}
 use Rattle.sd_spec.specs.Plan.{Plan, crypto_of}
 use Rattle.sd_head.specs.declared.crypto.CryptoPeriod.{CryptoPeriod}
 use Rattle.sd_head.specs.Kept.{uncounted}
@@ -13,8 +14,11 @@ use Rattle.sd_head.specs.Messages.{message_due}
 use Rattle.sd_head.specs.Sending.{counter_after}
 use Rattle.sd_head.specs.Items.{tables_bytes, message_bytes, parts_in}
 use Rattle.sd_head.specs.Schedule.{IsDue}
-use Rattle.sd_head.specs.Staged.{plan_in}
+use Rattle.sd_head.specs.Staged.{plan_in, head_refuses}
 use Rattle.sd_head.proofs.Stepping.{does, ready, same_refusal}
+use Rattle.sd_head.proofs.Stepping.{ok_is_no_err, refusal_is_no_write, write_is_no_refusal, none_is_kept}
+use Rattle.sd_head.proofs.Stepping.{kept_is_answered, kept_refuses, refusal_is_calm, written_is_calm}
+use Rattle.sd_head.proofs.Stepping.{failed_is_counted, at_count}
 use Rattle.sd_head.proofs.head.HeadStage.offer.Goals as goal
 
 pub returns-in-Err-clause-fault : goal.returns-in-Err-clause-fault
@@ -202,3 +206,108 @@ returns-in-Err-send_packet-clause-prefix g c = λ fails. record {
   taken = c.in-Err-send_packet.ensures.value.taken;
   room = c.in-Err-send_packet.ensures.value.room;
 }
+
+-- a refusal is kept: it is answered again
+pub returns-in-Some-clause-value : goal.returns-in-Some-clause-value
+returns-in-Some-clause-value g c = tt
+
+pub returns-in-Some-clause-ok : goal.returns-in-Some-clause-ok
+returns-in-Some-clause-ok g c = tt
+
+pub returns-in-Some-clause-fault : goal.returns-in-Some-clause-fault
+returns-in-Some-clause-fault g c = λ fault same.
+    grew_none (head_refuses c.args.self.now (Some c.args.packet.now) fault c.args.self.now)
+    (vessel g.K.Sink c.args.out.now) c.args.steps.now
+    (kept_refuses c.args.self.now (Some c.args.packet.now) c.in-Some.fault fault c.in-Some.is same)
+
+pub returns-in-Some-clause-keeps : goal.returns-in-Some-clause-keeps
+returns-in-Some-clause-keeps g c = λ fault same.
+    (c.requires.live, c.in-Some.is ∙ ap Some (same_refusal c.in-Some.fault fault same))
+
+pub returns-in-Some-clause-again : goal.returns-in-Some-clause-again
+returns-in-Some-clause-again g c = λ fault kept.
+    (kept_is_answered c.args.self.now.refusal c.in-Some.fault fault c.in-Some.is kept, refl, refl)
+
+pub returns-in-Some-clause-prefix : goal.returns-in-Some-clause-prefix
+returns-in-Some-clause-prefix g c = λ failed. refusal_is_no_write c.in-Some.fault failed
+
+pub returns-in-Some-clause-cause : goal.returns-in-Some-clause-cause
+returns-in-Some-clause-cause g c = refusal_is_calm (g.K.Sink.faults c.args.out.now) c.in-Some.fault
+
+pub admit-requires : goal.admit-requires
+admit-requires g c = at_count c.args.self.now c.requires.live c.in_default.is
+
+pub returns-in-Err-clause-value : goal.returns-in-Err-clause-value
+returns-in-Err-clause-value g c = tt
+
+pub returns-in-Err-clause-ok : goal.returns-in-Err-clause-ok
+returns-in-Err-clause-ok g c = tt
+
+pub returns-in-Err-clause-keeps : goal.returns-in-Err-clause-keeps
+returns-in-Err-clause-keeps g c = λ fault same. let is = ap Some (same_refusal c.in-Err.fault fault same) in
+    (λ none. none_is_kept (Some c.in-Err.fault) fault none is, is)
+
+pub returns-in-Err-clause-again : goal.returns-in-Err-clause-again
+returns-in-Err-clause-again g c = λ fault kept. none_is_kept c.args.self.now.refusal fault c.in_default.is kept
+
+pub returns-in-Err-clause-prefix : goal.returns-in-Err-clause-prefix
+returns-in-Err-clause-prefix g c = λ failed. refusal_is_no_write c.in-Err.fault failed
+
+pub returns-in-Err-clause-cause : goal.returns-in-Err-clause-cause
+returns-in-Err-clause-cause g c = refusal_is_calm (g.K.Sink.faults c.args.out.now) c.in-Err.fault
+
+pub prepare-message-requires-clause-kept : goal.prepare-message-requires-clause-kept
+prepare-message-requires-clause-kept g c =
+    let live = c.requires.live c.in_default.is in (live.0, live.1.clear_is)
+
+pub prepare-message-requires-clause-due : goal.prepare-message-requires-clause-due
+prepare-message-requires-clause-due g c = c.in-Ok.ensures.message
+
+pub carry-requires-clause-follows : goal.carry-requires-clause-follows
+carry-requires-clause-follows g c = c.in-Ok.ensures.follows
+
+pub carry-requires-clause-kind : goal.carry-requires-clause-kind
+carry-requires-clause-kind g c = c.in-Ok.ensures.kind
+
+pub take-requires : goal.take-requires
+take-requires g c = c.in-Ok.ensures.follows
+
+pub send_packet-requires-clause-fits : goal.send_packet-requires-clause-fits
+send_packet-requires-clause-fits g c = c.prepare-message.ensures.fits
+
+pub returns-in-Ok-send_packet-clause-fault : goal.returns-in-Ok-send_packet-clause-fault
+returns-in-Ok-send_packet-clause-fault g c = λ fault same. ok_is_no_err (Refused fault) same
+
+pub returns-in-Ok-send_packet-clause-keeps : goal.returns-in-Ok-send_packet-clause-keeps
+returns-in-Ok-send_packet-clause-keeps g c = λ fault same. ok_is_no_err (Refused fault) same
+
+pub returns-in-Ok-send_packet-clause-again : goal.returns-in-Ok-send_packet-clause-again
+returns-in-Ok-send_packet-clause-again g c = λ fault kept.
+    none_is_kept c.args.self.now.refusal fault c.in_default.is kept
+
+pub returns-in-Ok-send_packet-clause-prefix : goal.returns-in-Ok-send_packet-clause-prefix
+returns-in-Ok-send_packet-clause-prefix g c = λ failed. ok_is_no_err Write failed
+
+pub returns-in-Ok-send_packet-clause-cause : goal.returns-in-Ok-send_packet-clause-cause
+returns-in-Ok-send_packet-clause-cause g c = written_is_calm (g.K.Sink.faults c.args.out.now)
+    (g.K.Sink.faults c.send_packet.new.out) c.in-Ok-send_packet.ensures.cause
+
+pub returns-in-Err-send_packet-clause-value : goal.returns-in-Err-send_packet-clause-value
+returns-in-Err-send_packet-clause-value g c = tt
+
+pub returns-in-Err-send_packet-clause-ok : goal.returns-in-Err-send_packet-clause-ok
+returns-in-Err-send_packet-clause-ok g c = tt
+
+pub returns-in-Err-send_packet-clause-fault : goal.returns-in-Err-send_packet-clause-fault
+returns-in-Err-send_packet-clause-fault g c = λ fault same. write_is_no_refusal fault same
+
+pub returns-in-Err-send_packet-clause-keeps : goal.returns-in-Err-send_packet-clause-keeps
+returns-in-Err-send_packet-clause-keeps g c = λ fault same. write_is_no_refusal fault same
+
+pub returns-in-Err-send_packet-clause-again : goal.returns-in-Err-send_packet-clause-again
+returns-in-Err-send_packet-clause-again g c = λ fault kept.
+    none_is_kept c.args.self.now.refusal fault c.in_default.is kept
+
+pub returns-in-Err-send_packet-clause-cause : goal.returns-in-Err-send_packet-clause-cause
+returns-in-Err-send_packet-clause-cause g c = failed_is_counted (g.K.Sink.faults c.args.out.now)
+    (g.K.Sink.faults c.send_packet.new.out) _ c.in-Err-send_packet.ensures.cause

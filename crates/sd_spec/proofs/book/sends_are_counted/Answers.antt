@@ -1,5 +1,0 @@
-use Rattle.sd_spec.proofs.Sends.{sends_are_counted, sends_rise}
-use Rattle.sd_spec.proofs.book.sends_are_counted.Goals as goal
-
-pub returns : goal.returns
-returns c = record { count = sends_are_counted; rise = sends_rise }

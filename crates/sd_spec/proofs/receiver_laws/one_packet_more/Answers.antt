@@ -1,5 +1,0 @@
-use Rattle.sd_spec.proofs.Turns.{one_more}
-use Rattle.sd_spec.proofs.receiver_laws.one_packet_more.Goals as goal
-
-pub returns : goal.returns
-returns c = one_more
