@@ -1,5 +1,5 @@
 use Rattle.std.proofs.Common.{arith, ◌≡◌, ◌≢◌, ℕ, ◌+◌, ◌-◌, ◌<◌, List, [], ◌∷◌, ◌++◌, length, get_or, take, drop, suc}
-use Rattle.std.proofs.Common.{zero, refl, true}
+use Rattle.std.proofs.Common.{zero, refl, true, false, ◌==◌}
 use Rattle.std.proofs.lemmas.Grind.{common_steps}
 use Rattle.std.proofs.lemmas.List.{take_rest}
 use Rattle.sd_base.specs.Lines.{lines_of, is_line}
@@ -38,3 +38,8 @@ line_cut [] rest h = refl
 line_cut (byte ∷ bytes) rest h =
     let parts : (byte ≢ 10) × (is_line bytes ≡ true) = grind (arith, common_steps) in
     off_feed byte (bytes ++ 10 ∷ rest) bytes (lines_of rest) parts.0 (line_cut bytes rest parts.1)
+
+-- where a byte is left, what is there is no `None`
+pub line_left : (bytes : List ℕ) → (length bytes == 0) ≡ false →
+    (true ≡ false → bytes ≡ []) × (bytes ≡ [] → true ≡ false)
+line_left bytes some = ((λ e. absurd (cc)), (λ e. absurd (cc)))

@@ -21,7 +21,6 @@ pub fn get<const AT: usize, const N: usize>(bytes: &[u8]) -> u64
 
 /// Writes the value into the N bits from bit AT on. Every other bit stays.
 #[inline]
-#[tactic(auto, using(crate::proofs::Changes::shifted_fits, crate::proofs::Changes::field_is_set, crate::proofs::Changes::others_stay))]
 pub fn set<const AT: usize, const N: usize>(bytes: &mut [u8], value: u64)
     requires low { 1 ≤ N }
     requires high { N ≤ 32 }

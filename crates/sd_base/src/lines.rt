@@ -8,7 +8,6 @@ const LINE_FEED: u8 = b'\n';
 const SPACE: u8 = b' ';
 
 /// The first line and what stands after its line feed, or `None` where no byte is left.
-#[tactic(auto, using(crate::proofs::Cuts::cut_at_feed, crate::proofs::Cuts::no_feed, crate::proofs::Cuts::to_the_end))]
 pub fn next_line(bytes: &[u8]) -> Option<(&[u8], &[u8])>
     ensures none { IsNone result ↔ (bytes.now ≡ []) }
     ensures first { IfSome result (λ cut. lines_of bytes.now ≡ cut.0.now ∷ lines_of cut.1.now) }

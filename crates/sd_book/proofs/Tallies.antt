@@ -1,12 +1,13 @@
 use Rattle.std.proofs.Common.{arith, ◌≡◌, ℕ, zero, suc, ◌+◌, ◌==◌, ◌<◌, ◌≤◌, ◌^◌, List, [], ◌∷◌, ◌++◌, length, get_or}
 use Rattle.std.proofs.Common.{set, replicate, Bool, true, false, cond, refl, ap, sym, ◌∙◌, map, Option, Some, reverse}
-use Rattle.std.proofs.Common.{nat_lt, Ok, Err, take, drop, subst, append_assoc}
+use Rattle.std.proofs.Common.{◌-◌, nat_lt, Ok, Err, take, drop, subst, append_assoc}
 use Rattle.std.proofs.lemmas.Grind.{common_steps}
-use Rattle.std.proofs.lemmas.List.{reverse-append, take_more}
+use Rattle.std.proofs.lemmas.List.{reverse-append, take_more, get_or_default}
 use Rattle.std.proofs.lemmas.List.Sums.{length-filter, count_by-le-length}
 use Rattle.std.proofs.Math.Numerals.{add-one}
 use Rattle.std.proofs.Math.Pow.{pow_mono}
 use Rattle.std.proofs.Math.Seq.{drop-cons}
+use Rattle.std.specs.Int.{from_bool}
 use Rattle.std.specs.List.{range_with_len, count_by, filter, find}
 use Rattle.std.specs.Option.{option_map_or}
 use Rattle.sd_tree.specs.Leaves.{leaves}
@@ -25,6 +26,16 @@ pub counted_at_write : (marks : List Bool) (i : ℕ) (mark : Bool) → i < lengt
 counted_at_write [] i mark h = absurd (omega arith)
 counted_at_write (b ∷ marks) zero mark h = grind (arith, common_steps)
 counted_at_write (b ∷ marks) (suc i) mark h = grind (arith, common_steps, counted_at_write marks i mark (omega arith))
+
+-- the number of marks after a write
+pub counted_after_write : (marks : List Bool) (i revoked more less : ℕ) (mark old : Bool) → i < length marks →
+    old ≡ get_or marks i old → revoked ≡ count_by (λ b. b) marks → more ≡ from_bool mark → less ≡ from_bool old →
+    (less ≤ revoked + more) × (revoked + more - less ≡ count_by (λ b. b) (set marks i mark))
+counted_after_write marks i revoked more less mark old h at counted comes goes =
+    let here : get_or marks i false ≡ old = get_or_default marks i false old h ∙ sym at in
+    let sum : count_by (λ b. b) (set marks i mark) + less ≡ revoked + more =
+    grind (arith, common_steps, counted_at_write marks i mark h) in
+    (omega arith, omega arith)
 
 -- no mark is set at first
 pub none_marked : (n : ℕ) → count_by (λ (b : Bool). b) (replicate n false) ≡ 0

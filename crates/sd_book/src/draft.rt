@@ -86,7 +86,6 @@ impl Draft {
     }
 
     /// The book of these commands. The one fault is that too many leaves are revoked in the last period.
-    #[tactic(auto, using(crate::proofs::Causes::end_broken, crate::proofs::Causes::end_allowed, crate::proofs::Judged::within_by_end))]
     pub fn finish(self) -> Result<Book, BookFault>
         ensures height { IfOk result (λ book. book.height ≡ self.height) }
         ensures value { IfOk result (λ book. book.commands ≡ self.commands) }

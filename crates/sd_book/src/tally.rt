@@ -71,7 +71,6 @@ impl Tally {
     }
 
     /// Writes a leaf's mark. A mark that stands already counts once.
-    #[tactic(auto, using(crate::proofs::Tallies::counted_at_write))]
     fn mark(&mut self, leaf: Leaf, mark: bool)
         requires { leaf < 2 ^ self.old.height }
         ensures height { self.new.height ≡ self.old.height }

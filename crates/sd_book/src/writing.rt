@@ -8,7 +8,6 @@ use std::alloc::{AllocError, Global};
 use std::fmt::Write;
 
 /// The text of these commands, one a line.
-#[tactic(auto, unfolding(crate::specs::Text::text_of))]
 pub(crate) fn text_of(alloc: Global, commands: &[Command]) -> Result<Vec<u8>, AllocError>
     ensures { IfOk result (λ text. text.items ≡ text_of commands.now) }
 {

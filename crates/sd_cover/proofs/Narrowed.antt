@@ -2,9 +2,8 @@
 use Rattle.std.proofs.Common.{ℕ, zero, suc, ◌+◌, ◌-◌, ◌*◌, ◌/◌, ◌^◌, ◌<◌, ◌≤◌, ◌≡◌, ◌≢◌, ◌==◌, Bool, true, false, ◌&&◌}
 use Rattle.std.proofs.Common.{◌||◌}
 use Rattle.std.proofs.Common.{not, cond, List, [], ◌∷◌, refl, sym, subst, ap, ◌∙◌, inl, inr, arith}
-use Rattle.std.specs.Prelude.{◌⊎◌, Option, Some, None, All, nat_lt, if◌then◌else◌}
+use Rattle.std.specs.Prelude.{◌⊎◌, Option, Some, None, nat_lt, if◌then◌else◌}
 use Rattle.std.proofs.lemmas.Bool.{le-leb, lt-ltb, ltb-false, eqb-true}
-use Rattle.std.proofs.lemmas.List.Elements.{All-cons, All-nil}
 use Rattle.sd_tree.specs.Node.{depth}
 use Rattle.sd_tree.specs.Paths.{sibling_of}
 use Rattle.sd_tree.specs.Leaves.{is_member, is_below}
@@ -51,11 +50,6 @@ pub had_halves : (d : ℕ) (name : SetName) (had : Option (SetName × SetName)) 
     had ≡ halves_of d name → IfHalves d name had
 had_halves d name had some low h e = subst (IfHalves d name) (sym e) (set_halves d name some low h)
 
--- a set that has halves can be cut
-pub some_cut : (d : ℕ) (name a b : SetName) → 1 ≤ d → d ≤ 20 → IsOfHeight d name → halves_of d name ≡ Some (a, b) →
-    0 < cuts_left d name
-some_cut d name a b some low h e = omega (arith, (half_fits d name a b some low h e).left_fewer)
-
 -- what is in a half is in the set
 half_holds : (d u : ℕ) (name a b : SetName) → 1 ≤ d → d ≤ 20 → IsOfHeight d name → u < 2 ^ d →
     halves_of d name ≡ Some (a, b) → (is_member d a u ≡ true) ⊎ (is_member d b u ≡ true) → is_member d name u ≡ true
@@ -70,11 +64,6 @@ first_holds d u name a b some low h leaf e m = half_holds d u name a b some low 
 pub second_holds : (d u : ℕ) (name a b : SetName) → 1 ≤ d → d ≤ 20 → IsOfHeight d name → u < 2 ^ d →
     halves_of d name ≡ Some (a, b) → is_member d b u ≡ true → is_member d name u ≡ true
 second_holds d u name a b some low h leaf e m = half_holds d u name a b some low h leaf e (inr m)
-
--- two sets of the height
-pub both_of_height : (d : ℕ) (a b : SetName) → IsOfHeight d a → IsOfHeight d b → All (IsOfHeight d) (a ∷ b ∷ [])
-both_of_height d a b first second = All-cons (IsOfHeight d) a (b ∷ []) first
-    (All-cons (IsOfHeight d) b [] second (All-nil (IsOfHeight d)))
 
 -- a set without halves is cut down to its leaf by no cut
 pub narrowed_uncut : (d : ℕ) (coalition : List ℕ) (most : ℕ) (name : SetName) → halves_of d name ≡ None →

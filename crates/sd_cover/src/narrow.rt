@@ -10,7 +10,6 @@ use sd_tree::{Height, Leaf, SetName, sibling};
 
 /// Cuts a set down to a leaf by asking which half opens; answers the leaf and how often it was cut
 /// [Naor, Naor, Lotspiech 2001, 5].
-#[tactic(auto, using(crate::proofs::Narrowed::some_cut, crate::proofs::Narrowed::first_height, crate::proofs::Narrowed::second_height, crate::proofs::Narrowed::both_of_height, crate::proofs::Narrowed::cuts_few, crate::proofs::Narrowed::told_uncut, crate::proofs::Narrowed::told_more))]
 pub fn narrow<B: TestBox>(h: Height, name: SetName, target: &mut B) -> (Leaf, u32)
     requires name { IsOfHeight h name }
     requires height { B.height target.old ≡ h }

@@ -1,3 +1,4 @@
+pub mod Answering
 pub mod Walking
 pub mod Feeding
 pub mod Starts

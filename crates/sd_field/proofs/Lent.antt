@@ -1,6 +1,6 @@
 -- What a field lends of a leaf.
-use Rattle.std.proofs.Common.{◌≡◌, ℕ, List, [], ◌++◌, ap, sym, ◌∙◌, Bor, None, option_copied}
-use Rattle.std.specs.Prelude.{IfSome, Option, Some, slice_get}
+use Rattle.std.proofs.Common.{◌≡◌, ℕ, List, [], ◌++◌, ap, sym, true, ◌∙◌, Bor, None, option_copied}
+use Rattle.std.specs.Prelude.{◌↔◌, IfSome, IsSome, Option, Some, slice_get}
 use Rattle.sd_book.specs.Value.{BookValue}
 use Rattle.sd_spec.specs.Offered.{break_from}
 use Rattle.sd_receive.specs.declared.receiver.Receiver.{Receiver}
@@ -17,6 +17,13 @@ pub written_here : (v : FieldValue) (book : BookValue) (station : Station) (seat
     IsField v book station seats → slice_get seats u ≡ Some seat → ¬ IsWrittenCut u v →
     seat.written.held ≡ written_of u v
 written_here v book station seats u seat field there whole = ((field.seated u seat there).seated whole).held
+
+-- a receiver is lent where the leaf's receiver is on
+pub lent_on : (v : FieldValue) (book : BookValue) (station : Station) (seats : List Seat) (u : ℕ) (seat : Seat)
+    (lent : Option (Bor Receiver)) → IsField v book station seats → slice_get seats u ≡ Some seat →
+    option_copied lent ≡ seat.receiver → IsSome lent ↔ ((watch_of u v).on ≡ true)
+lent_on v book station seats u seat None field there is = rw (← is) at (field.seated u seat there).on
+lent_on v book station seats u seat (Some receiver) field there is = rw (← is) at (field.seated u seat there).on
 
 -- what is said of a receiver that is lent
 abbrev pub Lends : ℕ → FieldValue → Option (Bor Receiver) → Type 0

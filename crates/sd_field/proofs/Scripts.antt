@@ -1,5 +1,5 @@
 -- The lines of a script.
-use Rattle.std.proofs.Common.{arith, ◌≡◌, ℕ, ◌+◌, ◌≤◌, Bool, true, false, nat_lt, nat_le, List, [], ◌∷◌, ◌++◌}
+use Rattle.std.proofs.Common.{arith, ◌≡◌, ℕ, ◌+◌, ◌^◌, ◌≤◌, Bool, true, false, nat_lt, nat_le, List, [], ◌∷◌, ◌++◌}
 use Rattle.std.proofs.Common.{Option, Some, None, Result, Ok, Err, refl, sym, ap, append-nil, append_assoc, suc, zero}
 use Rattle.std.proofs.Common.{All}
 use Rattle.std.proofs.lemmas.Bool.{ltb-false, leb-true}
@@ -14,9 +14,10 @@ use Rattle.sd_spec.specs.declared.event.Event.TheVariants.{Subscribe, Revoke, Se
 use Rattle.sd_spec.specs.Events.{is_of}
 use Rattle.sd_field.specs.declared.fault.ScriptFault.{ScriptFault}
 use Rattle.sd_field.specs.declared.fault.ScriptFault.TheVariants.{Leaf, Events}
+use Rattle.sd_field.specs.declared.line.LineFault.{LineFault}
 use Rattle.sd_field.specs.declared.line.LineFault.TheVariants.{Form}
 use Rattle.sd_field.specs.declared.line.LineFault.TheVariants as fault
-use Rattle.sd_field.specs.Line.{events_in_run, times_in}
+use Rattle.sd_field.specs.Line.{events_in_run, leaf_in, pair_in, times_in}
 use Rattle.sd_field.specs.Script.{alone, both_of, by_word, count_of, counted, judged}
 use Rattle.sd_field.specs.Script.{leaf_and_count, put_before, repeated, script_from, sends_said, spoken}
 
@@ -42,6 +43,47 @@ none_counted (Some m) fault e =
 pub times_unsaid : (text : List ℕ) (fault : NumberFault) → fitting (decimal_value text) ≡ Err fault →
     times_in (count_of text) ≡ Err Form
 times_unsaid text fault e = ap times_in (none_counted (decimal_value text) fault e)
+
+-- a leaf and a number of events as events of that leaf
+abbrev pub of_leaf : (ℕ → Event) → Result (ℕ × ℕ) LineFault → Result (Event × ℕ) LineFault
+of_leaf make (Ok pair) = Ok (make pair.0, pair.1)
+of_leaf make (Err fault) = Err fault
+
+-- a leaf as one event of it
+abbrev pub once : (ℕ → Event) → Result ℕ LineFault → Result (Event × ℕ) LineFault
+once make (Ok u) = Ok (make u, 1)
+once make (Err fault) = Err fault
+
+-- the events of a text are those of its leaf, if that is one of the tree
+pub repeated_run : (d : ℕ) (make : ℕ → Event) (text : List ℕ) → ((u : ℕ) → is_of d (make u) ≡ nat_lt u (2 ^ d)) →
+    of_leaf make (pair_in d (leaf_and_count text)) ≡ events_in_run d (repeated make text)
+unfolding repeated
+repeated_run d make text leaf = by (leaf_and_count text)
+  where
+    by_leaf : (pair : ℕ × ℕ) (b : Bool) → of_leaf make (if b then Ok pair else Err fault.Leaf)
+        ≡ (if b then Ok (make pair.0, pair.1) else Err fault.Leaf)
+    by_leaf pair true = refl
+    by_leaf pair false = refl
+
+    by : (said : Option (ℕ × ℕ)) → of_leaf make (pair_in d said)
+        ≡ events_in_run d (option_map (λ pair. (make pair.0, pair.1)) said)
+    by None = refl
+    by (Some pair) = rw (leaf pair.0) (by_leaf pair (nat_lt pair.0 (2 ^ d)))
+
+-- and so is the one event of a text
+pub alone_run : (d : ℕ) (make : ℕ → Event) (text : List ℕ) → ((u : ℕ) → is_of d (make u) ≡ nat_lt u (2 ^ d)) →
+    once make (leaf_in d (decimal_value text)) ≡ events_in_run d (alone make text)
+unfolding alone
+alone_run d make text leaf = by (decimal_value text)
+  where
+    by_leaf : (u : ℕ) (b : Bool) → once make (if b then Ok u else Err fault.Leaf)
+        ≡ (if b then Ok (make u, 1) else Err fault.Leaf)
+    by_leaf u true = refl
+    by_leaf u false = refl
+
+    by : (number : Option ℕ) → once make (leaf_in d number) ≡ events_in_run d (option_map (λ u. (make u, 1)) number)
+    by None = refl
+    by (Some u) = rw (leaf u) (by_leaf u (nat_lt u (2 ^ d)))
 
 -- a run has an event
 counted_some : (m n : ℕ) → counted m ≡ Some n → 1 ≤ n

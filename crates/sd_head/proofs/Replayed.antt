@@ -1,9 +1,11 @@
 -- The revoked leaves of an index that takes commands.
 use Rattle.std.proofs.Common.{arith, ◌≡◌, ℕ, zero, suc, ◌+◌, ◌==◌, ◌<◌, ◌≤◌, ◌^◌, List, [], ◌∷◌, ◌++◌, true, false}
+use Rattle.std.proofs.Common.{append_assoc, get_or, length, take}
 use Rattle.std.proofs.Common.{refl, ap, sym, subst, eqb-true, ◌∙◌, inl, inr, Contains}
-use Rattle.std.specs.Prelude.{◌||◌, not, nat_eq, Result, Ok, Err, OnOk}
+use Rattle.std.specs.Prelude.{◌||◌, IsTrue, not, nat_eq, Result, Ok, Err, OnOk}
 use Rattle.std.specs.List.{filter, list_any}
 use Rattle.std.proofs.lemmas.Bool.{cases_Bool}
+use Rattle.std.proofs.lemmas.List.{take_more}
 use Rattle.std.proofs.lemmas.Grind.{common_steps}
 use Rattle.sd_tree.specs.Leaves.{leaves, with_leaf, without_leaf}
 use Rattle.sd_book.specs.declared.command.Command.{Command}
@@ -14,6 +16,10 @@ use Rattle.sd_book.proofs.Followed.{one_follows, first_follows, next_follows, al
 use Rattle.sd_book.proofs.Replays.{none_revoked}
 use Rattle.sd_head.specs.Kept.{revoked_before}
 use Rattle.sd_cover.proofs.Ranges.{filter_same, passes, found}
+
+-- false doesn't hold
+pub false_untrue : IsTrue false → ⊥
+false_untrue h = cc
 
 -- a leaf that isn't among others is not missed
 none_gone : (u : ℕ) (xs : List ℕ) → list_any (nat_eq u) xs ≡ false → filter (λ w. not (w == u)) xs ≡ xs
@@ -74,6 +80,14 @@ there_already d u before old is there = is ∙ (sym again ∙ one_follows d befo
     again : filter (λ w. w == u || list_any (nat_eq w) (revoked_after d before)) (leaves d) ≡ revoked_after d before
     again = filter_same (λ w. w == u || list_any (nat_eq w) (revoked_after d before)) (is_revoked before) 0 (2 ^ d)
         (λ w h. passed w (omega (arith, h)))
+
+-- one command more is taken
+pub one_taken : (before commands : List Command) (i : ℕ) (command : Command) → i < length commands →
+    command ≡ get_or commands i command → (before ++ take i commands) ++ command ∷ [] ≡ before ++ take (i + 1) commands
+one_taken before commands i command within is =
+    append_assoc before (take i commands) (command ∷ [])
+    ∙ ap (λ (cs : List Command). before ++ cs) (ap (λ (c : Command). take i commands ++ c ∷ []) is
+    ∙ sym (take_more commands i command within))
 
 -- the commands of a period lead to its revoked leaves
 pub period_taken : (d q : ℕ) (commands : List Command) (old now : List ℕ) → q ≤ last_period commands →

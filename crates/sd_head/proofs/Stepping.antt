@@ -1,16 +1,14 @@
 -- One step of a head end.
 use Rattle.std.proofs.Common.{◌≡◌, ℕ, ◌-◌, ◌%◌, ◌==◌, Bool, true, List, [], ◌∷◌, ◌++◌, length}
 use Rattle.std.proofs.Common.{inl, refl, sym, ap, subst, ◌∙◌, arith, append_assoc, append-nil, length-append}
-use Rattle.std.specs.Prelude.{map, Option, Some, None, IsSome, Result, Ok, Err}
+use Rattle.std.specs.Prelude.{map, Option, Some, None, IsSome, Err}
 use Rattle.std.specs.List.{concat}
 use Rattle.std.specs.Option.{option_map_or}
-use Rattle.sd_base.specs.Count.{HasCause, IsCaused}
 use Rattle.sd_tree.specs.Keys.{control_word_of}
 use Rattle.sd_site.specs.declared.site.Site.{Site}
 use Rattle.sd_site.specs.SiteFields.{SiteFields, fields_of}
-use Rattle.sd_engine.specs.declared.stage.StageFault.{StageFault}
-use Rattle.sd_engine.specs.declared.stage.StageFault.TheVariants.{Write, Refused}
-use Rattle.sd_ports.specs.declared.fault.PortFault.{PortFault}
+use Rattle.sd_engine.specs.declared.stage.StageFault.TheVariants.{Refused}
+use Rattle.sd_engine.proofs.Answering.{Answer, same_refusal}
 use Rattle.sd_message.specs.declared.ecm_message.EcmHead.{EcmHead}
 use Rattle.sd_spec.specs.Plan.{Plan, crypto_length, crypto_of, word_in, word_of, period_in, period_of}
 use Rattle.sd_spec.specs.Plan.{closing_number}
@@ -215,11 +213,6 @@ ends s t m due emms head steps comes = λ plan before after.
           here.clear_is.number,
     )) after
 
--- one refusal is another where their answers are
-pub same_refusal : (a b : HeadFault) →
-    ◌≡◌ {A = Result (Unit {0}) (StageFault HeadFault)} (Err (Refused a)) (Err (Refused b)) → a ≡ b
-same_refusal a b h = cc
-
 -- a list of no length is empty
 pub none_long : (packets : List (List ℕ)) → length packets ≡ 0 → packets ≡ []
 none_long [] h = refl
@@ -230,64 +223,12 @@ pub begun_ready : (plan : Plan) (head : Head) → IsAfter plan [] head → IsRea
 begun_ready plan head stands = λ unrefused.
     ([], subst (λ (q : Plan). IsAfter q [] head) (sym stands.keeps_to) stands)
 
--- what a head end answers
-abbrev pub Answer : Type 0
-Answer = Result (Unit {0}) (StageFault HeadFault)
-
--- an answer without a fault is none with one
-pub ok_is_no_err : {P : Type 0} (fault : StageFault HeadFault) → ◌≡◌ {A = Answer} (Ok tt) (Err fault) → P
-ok_is_no_err fault h = cc
-
--- a refusal is no failed write
-pub refusal_is_no_write : {P : Type 0} (fault : HeadFault) → ◌≡◌ {A = Answer} (Err (Refused fault)) (Err Write) → P
-refusal_is_no_write fault h = cc
-
--- a failed write is no refusal
-pub write_is_no_refusal : {P : Type 0} (fault : HeadFault) → ◌≡◌ {A = Answer} (Err Write) (Err (Refused fault)) → P
-write_is_no_refusal fault h = cc
-
--- a head end that keeps no refusal keeps none
-pub none_is_kept : {P : Type 0} (kept : Option HeadFault) (fault : HeadFault) → kept ≡ None → kept ≡ Some fault → P
-none_is_kept kept fault none some = cc
-
--- the refusal that is kept is the answer
-pub kept_is_answered : (kept : Option HeadFault) (answered fault : HeadFault) → kept ≡ Some answered →
-    kept ≡ Some fault → ◌≡◌ {A = Answer} (Err (Refused answered)) (Err (Refused fault))
-kept_is_answered kept answered fault is again = cc
-
 -- a refusal that is kept is refused again
 pub kept_refuses : (s : Head) (packet : Option (List ℕ)) (kept fault : HeadFault) → s.refusal ≡ Some kept →
-    ◌≡◌ {A = Answer} (Err (Refused kept)) (Err (Refused fault)) → RefusesPacket s packet fault []
+    ◌≡◌ {A = Answer HeadFault} (Err (Refused kept)) (Err (Refused fault)) → RefusesPacket s packet fault []
 kept_refuses s packet kept fault is same = record {
   nothing = refl;
   cause = inl (is ∙ ap Some (same_refusal kept fault same));
-}
-
--- where nothing is written no write fails
-pub refusal_is_calm : (faults : ℕ) (fault : HeadFault) →
-    IsCaused faults faults (◌≡◌ {A = Answer} (Err (Refused fault)) (Err Write))
-refusal_is_calm faults fault = record {
-  later = omega arith;
-  failed = λ failed. refusal_is_no_write fault failed;
-  calm = λ _. refl;
-}
-
--- where all is written no write failed
-pub written_is_calm : (before now : ℕ) → HasCause {T = Unit {0}} {E = PortFault} before now (Ok tt) →
-    IsCaused before now (◌≡◌ {A = Answer} (Ok tt) (Err Write))
-written_is_calm before now h = record {
-  later = h.later;
-  failed = λ failed. ok_is_no_err Write failed;
-  calm = λ _. h.calm;
-}
-
--- a write that failed is counted
-pub failed_is_counted : (before now : ℕ) (fault : PortFault) → HasCause {T = Unit {0}} before now (Err fault) →
-    IsCaused before now (◌≡◌ {A = Answer} (Err Write) (Err Write))
-failed_is_counted before now fault h = record {
-  later = h.later;
-  failed = λ _. h.failed;
-  calm = λ calm. absurd (calm refl);
 }
 
 -- a head end that may be offered a packet is at the number of packets that it took

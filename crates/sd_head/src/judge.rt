@@ -58,7 +58,6 @@ impl Clear {
 
     /// What becomes of the packet as the next one, or why it is refused: the first rule that it breaks
     /// (docs/FORMATS.md, Broadcast).
-    #[tactic(auto, using(crate::proofs::Refusing::word_left, crate::proofs::Refusing::number_left))]
     pub fn judge(&self, site: &Site, packet: &Packet) -> Result<Kind, ClearFault>
         ensures value { (before : List (List ℕ)) → IsAfter before self.now → MatchResult result
             (λ _. refusal_of (fields_of site.now) before packet.now ≡ None)

@@ -29,7 +29,6 @@ pub fn replay<L: Ledger>(
 }
 
 // Takes one command into the index.
-#[tactic(auto, using(crate::proofs::Replayed::subscribed, sd_book::proofs::Kept::kept_period))]
 fn take<L: Ledger>(
     index: &mut CoverIndex,
     command: Command,
@@ -50,7 +49,6 @@ fn take<L: Ledger>(
 }
 
 // Revokes the leaf no more, where it is revoked.
-#[tactic(auto, using(crate::proofs::Replayed::not_there))]
 fn subscribe<L: Ledger>(index: &mut CoverIndex, leaf: Leaf, steps: &mut Steps<L>)
     requires { leaf < 2 ^ index.old.height }
     ensures height { index.new.height ≡ index.old.height }
@@ -63,7 +61,6 @@ fn subscribe<L: Ledger>(index: &mut CoverIndex, leaf: Leaf, steps: &mut Steps<L>
 }
 
 // Revokes the leaf, where it isn't revoked.
-#[tactic(auto, using(crate::proofs::Replayed::there_already, crate::proofs::Replayed::revoked_now))]
 fn revoke<L: Ledger>(
     index: &mut CoverIndex,
     leaf: Leaf,

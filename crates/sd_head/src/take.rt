@@ -93,7 +93,6 @@ fn move_position(positions: &mut [u64], pids: &mut Vec<u16>, packet: &Packet)
 }
 
 // Puts a PID in its place among ascending ones.
-#[tactic(auto, using(crate::proofs::Moving::put_at_place))]
 fn add(pids: &mut Vec<u16>, pid: u16)
     requires { vec_len pids.old < vec_capacity pids.old }
     ensures value { pids.new.items ≡ put_in pid pids.old.items }

@@ -15,7 +15,7 @@ use Rattle.sd_cover.proofs.Own.{member_reaches_together}
 use Rattle.sd_law_coalition.specs.Know.{Service, OfTree, PeriodKey, IsKnown, revoked_at, service_sets}
 use Rattle.sd_law_coalition.proofs.Known.{secrets_known, periods_known, sets_opened, sets_shut}
 use Rattle.sd_command_base.specs.Periods.{set_line, period_line}
-use Rattle.sd_run_cards.specs.Opens.{open_end, shut_end, pool_end, opened_text, shut_text}
+use Rattle.sd_run_books.specs.Opens.{open_end, shut_end, pool_end, opened_text, shut_text}
 
 -- the end says `open` just where the test holds
 end_is : (b : Bool) → ((if b then open_end else shut_end) ≡ open_end) ↔ (b ≡ true)

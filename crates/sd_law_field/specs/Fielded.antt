@@ -18,7 +18,7 @@ use Rattle.sd_spec.specs.Watch.{watch, written}
 use Rattle.sd_law_field.specs.Times.{card_at, places_of, taken}
 use Rattle.sd_field.specs.Fields.{FieldValue, plan_in}
 use Rattle.sd_field.specs.Fields as field
-use Rattle.sd_run_field.specs.Field.{digest_of, first_line, receiver_line}
+use Rattle.sd_run_broadcasts.specs.Field.{digest_of, first_line, receiver_line}
 
 -- the clear packets that the events send
 abbrev pub sent_for : Packets → List Event → Packets

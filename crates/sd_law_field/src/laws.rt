@@ -11,7 +11,7 @@ ghost use Rattle.sd_spec.specs.declared.event.Event.{Event};
 ghost use Rattle.sd_spec.specs.Watch.{present};
 ghost use Rattle.sd_field.specs.Fields.{FieldValue, IsSentOver, IsWrittenOver, card_at, plan_in, taken, watch_of};
 ghost use Rattle.sd_spec.specs.Offered.{break_from};
-ghost use Rattle.sd_run_field.specs.Field.{field_text};
+ghost use Rattle.sd_run_broadcasts.specs.Field.{field_text};
 ghost use Rattle.sd_law_field.specs.Fielded.{IsGoodField, IsWhole, confirmed_lines, confirmed_places};
 ghost use Rattle.sd_law_field.specs.Fielded.{plan_for, sent_for, wrote_for};
 

@@ -12,7 +12,7 @@ ghost use Rattle.sd_book.specs.Commands.{last_period};
 ghost use Rattle.sd_cover.specs.Reach.{Key, IsReached};
 ghost use Rattle.sd_law_coalition.specs.Know.{Service, OfTree, PeriodKey, IsKnown, KnowsNothingOf, revoked_at};
 ghost use Rattle.sd_law_coalition.specs.Know.{service_sets};
-ghost use Rattle.sd_run_cards.specs.Opens.{open_end, pool_end, opened_text, shut_text};
+ghost use Rattle.sd_run_books.specs.Opens.{open_end, pool_end, opened_text, shut_text};
 
 /// The line of a set says `open` if and only if its key is derivable from the names of the listed leaves together
 /// [Naor, Naor, Lotspiech 2001, 3.2]. All messages of the book add nothing to that.

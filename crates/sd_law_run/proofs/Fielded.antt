@@ -29,8 +29,9 @@ use Rattle.sd_command_base.specs.Spec.{FileArgument, Readings, judged, value, wi
 use Rattle.sd_command_base.proofs.Follow.{then_is}
 use Rattle.sd_command_base.specs.Files.{low_site_of_file, most_book_bytes, site_in, told_low}
 use Rattle.sd_command_base.specs.Printed.{printing}
-use Rattle.sd_run_field.specs.Field.{Inputs, clear_of_file, field_meaning, field_text, inputs_by, inputs_meaning}
-use Rattle.sd_run_field.specs.Field.{most_clear_bytes, most_height, script_of_file, told_clear, told_script, unbroken}
+use Rattle.sd_run_broadcasts.specs.Field.{Inputs, clear_of_file, field_meaning, field_text, inputs_by, inputs_meaning}
+use Rattle.sd_run_broadcasts.specs.Field.{most_clear_bytes, most_height, script_of_file, told_clear, told_script}
+use Rattle.sd_run_broadcasts.specs.Field.{unbroken}
 use Rattle.sd_law_field.specs.Fielded.{confirmed_lines}
 use Rattle.sd_law_field.specs.Fielded as fielded
 use Rattle.sd_law_field.proofs.Fielded.{text_is_confirmed}

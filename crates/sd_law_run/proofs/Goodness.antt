@@ -27,10 +27,10 @@ use Rattle.sd_site.proofs.Short.{site_short}
 use Rattle.sd_book.proofs.Written.{spelled_again}
 use Rattle.sd_book.specs.Limits.{IsWithinLimits}
 use Rattle.sd_law_run.specs.Good.{IsGoodSite, IsGoodBook}
-use Rattle.sd_run_cards.specs.Cover.{covering, cover_meaning}
+use Rattle.sd_run_books.specs.Cover.{covering, cover_meaning}
 use Rattle.sd_law_run.specs.Good.{IsGoodCover}
 use Rattle.sd_command_base.specs.Made.{making}
-use Rattle.sd_run_cards.specs.Card.{told_card}
+use Rattle.sd_run_books.specs.Card.{told_card}
 use Rattle.sd_law_run.specs.Good.{IsGoodCard}
 use Rattle.sd_law_run.specs.Good.{IsGoodSample}
 use Rattle.sd_run_streams.specs.Tables.{inspecting, tables_meaning}

@@ -9,8 +9,8 @@ use Rattle.sd_command_base.proofs.Follow.{then_is}
 use Rattle.sd_command_base.specs.Files.{site_in, book_in}
 use Rattle.sd_command_base.specs.Made.{making}
 use Rattle.sd_command_line.specs.Words.{LayeredOf, LcardOf}
-use Rattle.sd_run_cards.specs.Layered.{layers, layers_of_file, told_layers, layering}
-use Rattle.sd_run_cards.specs.Lcard.{told_leaf, told_width, carding}
+use Rattle.sd_run_books.specs.Layered.{layers, layers_of_file, told_layers, layering}
+use Rattle.sd_run_books.specs.Lcard.{told_leaf, told_width, carding}
 use Rattle.sd_law_run.specs.Good.{IsGoodLayered, IsGoodLcard}
 use Rattle.sd_run.specs.Meaning.{meaning}
 use Rattle.sd_law_run.proofs.Goodness.{site_good, site_low, book_good, ordered}

@@ -13,8 +13,8 @@ use Rattle.sd_command_base.proofs.Follow.{then_is}
 use Rattle.sd_command_base.specs.Files.{most_card_bytes, site_in}
 use Rattle.sd_command_base.specs.Streams.{stream_status}
 use Rattle.sd_run_streams.specs.Messages.{messages_meaning, monitoring, stream_meaning}
-use Rattle.sd_run_cards.specs.Show.{line_of_file, shown_line, told_show}
-use Rattle.sd_run_cards.proofs.ShownCards.{line_read}
+use Rattle.sd_run_books.specs.Show.{line_of_file, shown_line, told_show}
+use Rattle.sd_run_books.proofs.ShownCards.{line_read}
 use Rattle.sd_run.specs.Meaning.{meaning}
 use Rattle.sd_law_run.specs.Good.{IsGoodMessages, IsGoodShow}
 use Rattle.sd_law_run.proofs.Goodness.{file_read, ordered, site_good}

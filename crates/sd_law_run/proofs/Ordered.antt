@@ -17,7 +17,7 @@ use Rattle.sd_command_line.specs.Commands.{command_named, command_name, operands
 use Rattle.sd_command_line.specs.Words.{InputOf, OutOf, Order, HeadOf, CardOf, ReceiveOf, at_most, before, number_in}
 use Rattle.sd_command_line.specs.Words.{named_words, numbered, order_of, ordered}
 use Rattle.sd_command_base.specs.Shown.{word_at}
-use Rattle.sd_run_cards.specs.Card.{card_meaning}
+use Rattle.sd_run_books.specs.Card.{card_meaning}
 use Rattle.sd_run_broadcasts.specs.Head.{head_meaning}
 use Rattle.sd_run_broadcasts.specs.Receive.{receive_meaning}
 use Rattle.sd_run.specs.Meaning.{order_meaning, meaning}

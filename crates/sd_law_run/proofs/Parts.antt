@@ -31,7 +31,7 @@ use Rattle.sd_command_base.specs.Shown.{NumberArgument, word_at}
 use Rattle.sd_command_base.specs.Files.{site_in}
 use Rattle.sd_command_base.specs.Made.{making}
 use Rattle.sd_command_base.specs.Turned.{turning}
-use Rattle.sd_run_cards.specs.Card.{told_card, card_meaning}
+use Rattle.sd_run_books.specs.Card.{told_card, card_meaning}
 use Rattle.sd_run_broadcasts.specs.Head.{plan_meaning, sending_of, sent_status, head_meaning}
 use Rattle.sd_run_broadcasts.proofs.HeadSending.{sent_unrefused}
 use Rattle.sd_run_broadcasts.specs.Receive.{receiving, received_steps, receive_meaning}

@@ -12,8 +12,8 @@ use Rattle.sd_command_base.specs.Files.{most_book_bytes}
 use Rattle.sd_command_base.specs.Both.{SiteBook, both_meaning}
 use Rattle.sd_command_base.specs.Leaves.{told_leaves, leaves_of_file, leaves_in}
 use Rattle.sd_command_line.specs.Words.{OpensOf, TraceOf}
-use Rattle.sd_run_cards.specs.Opens.{opening, opens_meaning}
-use Rattle.sd_run_cards.specs.Trace.{revoked_last, trace_text, traced, trace_meaning}
+use Rattle.sd_run_books.specs.Opens.{opening, opens_meaning}
+use Rattle.sd_run_books.specs.Trace.{revoked_last, trace_text, traced, trace_meaning}
 use Rattle.sd_law_run.specs.Good.{IsGoodLeaves, IsGoodOpens, IsGoodTrace}
 use Rattle.sd_run.specs.Meaning.{meaning}
 use Rattle.sd_law_run.proofs.Goodness.{file_read, both_good, ordered}

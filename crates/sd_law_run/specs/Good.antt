@@ -20,7 +20,7 @@ use Rattle.sd_command_base.specs.Text.{leaves_of_text}
 use Rattle.sd_cover.specs.Trace.{not_among}
 use Rattle.sd_tree.specs.Limits.{most_revoked}
 use Rattle.sd_run_books.specs.Air.{last_word_for}
-use Rattle.sd_run_cards.specs.Trace.{revoked_last}
+use Rattle.sd_run_books.specs.Trace.{revoked_last}
 use Rattle.sd_base.specs.Lines.{lines_of}
 use Rattle.sd_book.specs.Text.{SpellsBook}
 use Rattle.sd_book.specs.Limits.{IsWithinLimits}

@@ -20,7 +20,7 @@ ghost use Rattle.sd_base.specs.Types.{Bytes, FileName, Packets, Arrived, LeafNum
 ghost use Rattle.sd_command_base.specs.Outside.{Outside, outside, page_state, depot_state};
 ghost use Rattle.sd_command_base.specs.Results.{RunResult};
 ghost use Rattle.sd_command_base.specs.Shown.{word_at};
-ghost use Rattle.sd_run_cards.specs.Card.{card_meaning};
+ghost use Rattle.sd_run_books.specs.Card.{card_meaning};
 ghost use Rattle.sd_run_broadcasts.specs.Head.{head_meaning};
 ghost use Rattle.sd_run_broadcasts.specs.Receive.{receive_meaning};
 ghost use Rattle.sd_run.specs.Meaning.{meaning};

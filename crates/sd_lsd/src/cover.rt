@@ -50,7 +50,7 @@ fn split(alloc: Global, h: Height, w: Width, sets: &[SetName]) -> Result<Vec<Set
 }
 
 // Adds a set as useful ones.
-#[tactic(auto, using(crate::proofs::Parts::not_useful), unfolding(crate::specs::Layers::split_of, crate::specs::Layers::layer_node))]
+#[tactic(auto, unfolding(crate::specs::Layers::split_of, crate::specs::Layers::layer_node))]
 fn push_parts(sets: &mut Vec<SetName>, h: Height, w: Width, name: SetName) -> Result<(), AllocError>
     requires width { w ≤ h }
     requires name { IsOfHeight h name }

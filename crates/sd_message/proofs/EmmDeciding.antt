@@ -28,7 +28,8 @@ use Rattle.sd_message.proofs.Ascending.{tells_pairs}
 use Rattle.sd_message.specs.EmmSpelled.{listed_entries, names_in, emm_section, SpellsEmm}
 use Rattle.sd_message.specs.EmmForm.{IsSetBeside, AreSets, IsEmm, FitsFields, sections_for}
 use Rattle.sd_message.specs.EmmFields.{is_named, emm_head_length}
-use Rattle.sd_message.specs.EmmFields.{HasCount, IsEmmSection, IsEmmPacket, IsGoodIn, BreaksIn, BreaksFirst, emm_in, emm_of}
+use Rattle.sd_message.specs.EmmFields.{HasCount, IsEmmSection, IsEmmPacket, IsGoodIn, BreaksIn, BreaksFirst, emm_in}
+use Rattle.sd_message.specs.EmmFields.{emm_of}
 use Rattle.sd_message.specs.EmmJudged.{is_halved, is_pair, is_set_beside, are_sets, is_ascending_by_set, is_counted}
 use Rattle.sd_message.specs.EmmJudged.{emm_judged}
 use Rattle.sd_message.specs.EmmJudged.{is_emm_section, has_emm, emm_read}
@@ -36,7 +37,7 @@ use Rattle.sd_message.specs.declared.emm.Entry.{Entry}
 use Rattle.sd_message.specs.declared.emm.Emm.{Emm}
 use Rattle.sd_message.specs.declared.emm_fault.EmmFault.{EmmFault}
 use Rattle.sd_message.specs.declared.emm_fault.EmmFault.TheVariants.{Count, Order, Node, Mixed}
-use Rattle.sd_message.proofs.EmmJudging.{good_is_emm}
+use Rattle.sd_message.proofs.EmmJudging.{good_is_emm, good_never}
 use Rattle.sd_message.proofs.EmmReading.{IsParted, spelled_is_packet, spelled_is_read, spelled_is_good, written_spells}
 
 -- some number of halvings from 1 to n leads from j to i
@@ -256,6 +257,22 @@ good_at h packet section body named index emm is is_section are is_emm good =
     ∙ ap (λ (e : Emm). Ok (Some e))
     (sym (at_section (λ (m : Bool) (n : ℕ) (b : List ℕ). emm ≡ emm_in m n b) packet section body named index is_section
     are is_emm))
+
+-- what is found of the parts is so of the section: the rule that it breaks first, or that it breaks none
+pub breaks_first : (h : ℕ) (packet section body : List ℕ) (named : Bool) (index : ℕ) (fault : EmmFault) →
+    section ≡ section_of packet → IsParted section body named index →
+    BreaksIn h (length body) (emm_in named index body) fault → BreaksFirst h (section_of packet) fault
+breaks_first h packet section body named index fault is_section are breaks =
+    at_section (λ (m : Bool) (n : ℕ) (b : List ℕ). BreaksIn h (length b) (emm_in m n b) fault) packet section body
+    named index is_section are breaks
+
+pub never_first : (h : ℕ) (packet section body : List ℕ) (named : Bool) (index : ℕ) (fault : EmmFault) →
+    section ≡ section_of packet → IsParted section body named index →
+    IsGoodIn h (length body) (emm_in named index body) → ¬ BreaksFirst h (section_of packet) fault
+never_first h packet section body named index fault is_section are good breaks =
+    good_never _ _ _ fault
+    (at_section (λ (m : Bool) (n : ℕ) (b : List ℕ). IsGoodIn h (length b) (emm_in m n b)) packet section body named
+    index is_section are good) breaks
 
 -- a packet that spells entitlements is read as them
 pub spelled_reads : (h : ℕ) (emm : Emm) (packet : List ℕ) → h ≤ 20 → FitsFields emm → IsEmm emm →

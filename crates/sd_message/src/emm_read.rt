@@ -51,7 +51,6 @@ pub fn read_emm(h: Height, packet: &Packet) -> Result<Option<Emm>, EmmFault>
 }
 
 // The section of entitlements with which the packet begins.
-#[tactic(auto, using(crate::proofs::EmmSpelling::emm_headed))]
 fn emm_section_in(packet: &Packet) -> Option<Section<'_>>
     ensures some { IsSome result ↔ IsEmmPacket packet.now }
     ensures value { IfSome result (λ section. section.bytes.now ≡ section_of packet.now) }

@@ -1,11 +1,11 @@
 -- What is wrong first.
 use Rattle.std.proofs.Common.{ℕ, zero, suc, ◌+◌, ◌-◌, ◌*◌, ◌/◌, ◌≤◌, ◌≡◌, Bool, true, false, ◌==◌, ◌&&◌, List, length}
-use Rattle.std.proofs.Common.{get_or, refl, sym, ap, ◌∙◌, arith}
-use Rattle.std.specs.Prelude.{Option, Some, None, nat_le}
-use Rattle.std.proofs.lemmas.List.{get_or_past}
+use Rattle.std.proofs.Common.{get_or, refl, sym, ap, ◌∙◌, arith, take, drop, length-drop}
+use Rattle.std.specs.Prelude.{Option, Some, None, nat_le, slice_index}
+use Rattle.std.proofs.lemmas.List.{get_or_past, take_rest}
 use Rattle.std.proofs.lemmas.Bool.{and_parts, eqb-true, leb-true, le-leb}
 use Rattle.sd_base.specs.Bits.{bit, field}
-use Rattle.sd_packet.specs.Header.{payload_start_of}
+use Rattle.sd_packet.specs.Header.{payload_start_of, payload_of, unit_start_of}
 use Rattle.sd_packet.proofs.Packets.{start_within}
 use Rattle.sd_section.specs.declared.fault.SectionFault.TheVariants as SectionFault
 use Rattle.sd_section.specs.Header.{table_id_of, syntax_of, section_length_of, section_number_of, last_number_of}
@@ -17,11 +17,24 @@ use Rattle.sd_psi.specs.declared.fault.FormFault.TheVariants as Fault
 use Rattle.sd_psi.specs.declared.form.Table.{Table}
 use Rattle.sd_psi.specs.declared.form.Table.TheVariants.{Pat, Cat, Pmt}
 use Rattle.sd_psi.specs.Forms.{fault_unless, or_next, id_of, least_of, section_in, has_table, has_body, has_length}
-use Rattle.sd_psi.specs.Forms.{table_crc_fault, outer_fault, has_form, form_fault}
+use Rattle.sd_psi.specs.Forms.{table_crc_fault, outer_fault, has_form, form_fault, bytes_fault, after_pointer}
 
 -- a payload has at most 184 bytes
 pub payload_short : (packet : List ℕ) (n : ℕ) → n ≡ 188 - payload_start_of packet → n ≤ 184
 payload_short packet n h = omega (arith, (start_within packet).0)
+
+-- and after its first byte at most 183
+pub rest_short : (packet payload : List ℕ) → length payload ≡ 188 - payload_start_of packet →
+    length (take (length payload - 1) (drop 1 payload)) ≤ 183
+rest_short packet payload long =
+    rw (take_rest payload 1)
+    (omega (arith, length-drop 1 payload, payload_short packet (length payload) long))
+
+-- where a section starts with the payload, what is wrong first is what is wrong with the bytes after the pointer
+pub pointed_first : (table : Table) (packet : List ℕ) → unit_start_of packet ≡ 1 →
+    slice_index (payload_of packet) 0 ≡ 0 → outer_fault table packet ≡ bytes_fault table (after_pointer packet)
+unfolding outer_fault
+pointed_first table packet start first = rw (start, first) refl
 
 -- a field past the end is 0
 pub past_is_zero : (bytes : List ℕ) (at width : ℕ) → 8 * length bytes ≤ at → field bytes at width ≡ 0

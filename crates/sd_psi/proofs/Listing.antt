@@ -3,7 +3,7 @@ use Rattle.std.proofs.Common.{ℕ, ◌+◌, ◌-◌, ◌<◌, ◌≤◌, ◌≡�
 use Rattle.std.proofs.Common.{drop, map, length-drop, length-take-le, eq-eqb, refl, sym, ap, ◌∙◌, arith}
 use Rattle.std.specs.Prelude.{◌≢◌}
 use Rattle.std.specs.List.{list_all}
-use Rattle.std.proofs.lemmas.List.{drop-take, drop-drop}
+use Rattle.std.proofs.lemmas.List.{drop-take, drop-drop, take_rest}
 use Rattle.std.proofs.lemmas.Bool.{and_parts, eqb-true, ne_eqb, false_from_ne_true}
 use Rattle.sd_base.specs.Bits.{field}
 use Rattle.sd_section.specs.Header.{table_id_of, body_of}
@@ -183,6 +183,26 @@ streams_off bytes at within off =
     false_from_ne_true (are_streams (drop at bytes))
     (λ is. untrue (are_whole Stream (drop at bytes)) (streams_whole (drop at bytes) is)
     (off_after Stream bytes at within off))
+
+-- how many bytes are left
+pub left_long : (bytes : List ℕ) (at : ℕ) → length (take (length bytes - at) (drop at bytes)) ≡ length bytes - at
+left_long bytes at = ap (λ (l : List ℕ). length l) (take_rest bytes at) ∙ length-drop at bytes
+
+-- where what is left is no stream, it is cut off
+pub streams_short : (bytes : List ℕ) (at : ℕ) → at < length bytes → length (take (length bytes - at) (drop at bytes))
+    < size_of Stream (take (length bytes - at) (drop at bytes)) → are_streams (drop at bytes) ≡ false
+streams_short bytes at within off = streams_off bytes at within (omega (arith, off, left_long bytes at))
+
+-- a stream's descriptors stand after its head, and it ends within the bytes, nearer to their end
+pub past_head : (rest : List ℕ) (at size : ℕ) → size ≡ size_of Stream rest → at + 5 ≤ at + size
+past_head rest at size is = omega (arith, is, stream_head rest)
+
+pub ends_within : (at size count : ℕ) → at < count → size ≤ count - at → at + size ≤ count
+ends_within at size count within there = omega (arith, within, there)
+
+pub fewer_left : (rest : List ℕ) (at size count : ℕ) → at < count → size ≡ size_of Stream rest →
+    count - (at + size) < count - at
+fewer_left rest at size count within is = omega (arith, within, is, stream_head rest)
 
 -- no bytes have no stream
 pub no_streams : (bytes : List ℕ) (at : ℕ) → length bytes ≤ at → are_streams (drop at bytes) ≡ true

@@ -47,7 +47,7 @@ impl Table {
 }
 
 /// The section that the packet is by itself, where all but its loops is as it is to be.
-#[tactic(auto, using(crate::proofs::Judging::payload_short), unfolding(crate::specs::Forms::outer_fault))]
+#[tactic(auto, unfolding(crate::specs::Forms::outer_fault))]
 pub fn read<'a>(table: Table, packet: &'a Packet) -> Result<Section<'a>, FormFault>
     requires { payload_start_of packet.now < 188 }
     ensures value { IfOk result (λ section. section.bytes.now ≡ section_in packet.now) }

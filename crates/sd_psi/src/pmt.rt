@@ -59,7 +59,6 @@ fn loops<'a>(section: &Section<'a>) -> Option<(&'a [u8], &'a [u8])>
 }
 
 // Whether streams fill the bytes, and descriptors the part of each that ES_info_length counts.
-#[tactic(auto, using(crate::proofs::Listing::streams_on, crate::proofs::Listing::streams_bad, crate::proofs::Listing::streams_off, crate::proofs::Listing::no_streams, crate::proofs::Listing::stream_head))]
 fn are_streams(bytes: &[u8]) -> bool
     ensures { result ≡ are_streams_of bytes.now }
 {

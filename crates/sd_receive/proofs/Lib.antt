@@ -1,4 +1,3 @@
-pub mod Answering
 pub mod Places
 pub mod Tables
 pub mod HoldKeeping

@@ -6,7 +6,7 @@ use Rattle.std.specs.Prelude.{Option, None}
 use Rattle.std.specs.List.{list_any}
 use Rattle.std.specs.Option.{option_map_or}
 use Rattle.std.proofs.lemmas.Bool.{cases_Bool, cases_lt, eqb-true, eqb-false, or_parts}
-use Rattle.std.proofs.lemmas.List.{get_or-set_same, get_or-set_other, length-map, length-set, take_more}
+use Rattle.std.proofs.lemmas.List.{drop_more, get_or-set_same, get_or-set_other, length-map, length-set, take_more}
 use Rattle.std.proofs.lemmas.List.{take-append-drop, take-append-le, take_all, map-append}
 use Rattle.std.proofs.lemmas.List.{get_or_push, get_or_append_left, length_push}
 use Rattle.std.proofs.lemmas.List.Folds.{list_any-append}
@@ -60,7 +60,7 @@ next_started places i d table within up known is =
     (none_before places i d within up) (known i d within) is)
 
 -- one PID less to clear
-pub cleared : (pid : ℕ) (pids table : List ℕ) → pid < 8192 → IsClearBut (pid ∷ pids) table →
+cleared : (pid : ℕ) (pids table : List ℕ) → pid < 8192 → IsClearBut (pid ∷ pids) table →
     IsClearBut pids (set table pid first_position)
 cleared pid pids table known is = record {
   long = length-set table pid first_position ∙ is.long;
@@ -71,6 +71,23 @@ cleared pid pids table known is = record {
         ∙ is.clear q (rw other none) small
   ];
 }
+
+-- one place less to clear
+pub place_cleared : (places : List Place) (i : ℕ) (d : Place) (pids table : List ℕ) → i < length places →
+    AreKnown places → IsClearBut (pids_in (drop i places) ++ pids) table →
+    IsClearBut (pids_in (drop (i + 1) places) ++ pids) (set table (get_or places i d).pid first_position)
+place_cleared places i d pids table within known is =
+    cleared (get_or places i d).pid (pids_in (drop (i + 1) places) ++ pids) table (known i d within)
+    (rw (drop_more places i d within) at is)
+
+-- one packet less to clear
+pub packet_cleared : (held : List Held) (i : ℕ) (d : Held) (pid : ℕ) (table : List ℕ) → i < length held →
+    pid ≡ pid_of (get_or held i d).packet → pid < 8192 →
+    IsClearBut (map (λ (p : List ℕ). pid_of p) (packets_in (drop i held))) table →
+    IsClearBut (map (λ (p : List ℕ). pid_of p) (packets_in (drop (i + 1) held))) (set table pid first_position)
+packet_cleared held i d pid table within own known is =
+    cleared pid (map (λ (p : List ℕ). pid_of p) (packets_in (drop (i + 1) held))) table known
+    (rw (drop_more held i d within, ← own) at is)
 
 -- no packet moves a PID that none has
 none_moving : (pid : ℕ) (packets : List (List ℕ)) →

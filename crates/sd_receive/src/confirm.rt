@@ -81,7 +81,6 @@ impl<'a> Confirming<'a> {
     // Turns a buffered packet into the clear packet that is written for it, and answers whether it is written. A
     // scrambled packet isn't written if its PID isn't confirmed, and is refused if it can't be one under the control
     // word.
-    #[tactic(auto, using(crate::proofs::HoldJudging::judged_clear, crate::proofs::HoldJudging::judged_odd, crate::proofs::HoldJudging::judged_far, crate::proofs::HoldJudging::judged_near, crate::proofs::HoldJudging::confirmed_short))]
     fn judge(&self, held: &Held, packet: &mut Packet) -> Result<bool, SegmentFault>
         requires ready { IsReady self.now }
         requires position { held.now.position ≤ get_or self.now.tracks.now.table.items (pid_of held.now.packet) 0 }

@@ -89,7 +89,6 @@ impl Tracks {
 }
 
 // Puts the positions of these places into a table of first positions.
-#[tactic(auto, using(crate::proofs::Tables::none_started, crate::proofs::Tables::next_started))]
 fn start(table: &mut [u64], places: &[Place])
     requires clear { HasFirstPositions table.old }
     requires known { AreKnown places.now }
@@ -116,7 +115,6 @@ fn step(table: &mut [u64], packet: &Packet) -> u64
 }
 
 // Sets the PIDs of the places and packets that a table is built from back to the first position.
-#[tactic(auto, using(crate::proofs::Tables::cleared))]
 fn clear(table: &mut [u64], places: &[Place], held: &[Held])
     requires tracked { IsTracked places.now (packets_in held.now) table.old }
     requires known { AreKnown places.now }

@@ -14,24 +14,24 @@ use Rattle.sd_command_base.specs.Made.{making}
 use Rattle.sd_run_books.specs.AccountsCommand.{accounts_in, making_then, report_line, accounts_meaning}
 use Rattle.sd_run_books.specs.Apart.{apart_meaning, plan_of_both, told_apart}
 use Rattle.sd_run_books.specs.Book.{longer_book, book_meaning}
-use Rattle.sd_run_cards.specs.Card.{told_card, card_meaning}
-use Rattle.sd_run_cards.specs.Cover.{covering, cover_meaning}
+use Rattle.sd_run_books.specs.Card.{told_card, card_meaning}
+use Rattle.sd_run_books.specs.Cover.{covering, cover_meaning}
 use Rattle.sd_run_broadcasts.specs.Head.{plan_meaning as head_plan, sent_of, sent_status, sending}
 use Rattle.sd_run_broadcasts.specs.Head.{sending_of, head_meaning}
-use Rattle.sd_run_cards.specs.Layered.{layers_of_file, layering, layered_meaning}
-use Rattle.sd_run_cards.specs.Lcard.{told_leaf, told_width, carding, lcard_meaning}
+use Rattle.sd_run_books.specs.Layered.{layers_of_file, layering, layered_meaning}
+use Rattle.sd_run_books.specs.Lcard.{told_leaf, told_width, carding, lcard_meaning}
 use Rattle.sd_run_streams.specs.Messages.{messages_meaning, monitoring, stream_meaning as monitor_meaning}
-use Rattle.sd_run_cards.specs.Opens.{opening, opens_meaning}
+use Rattle.sd_run_books.specs.Opens.{opening, opens_meaning}
 use Rattle.sd_run_books.specs.Air.{plan_meaning as air_meaning, planning, roomy_site_of_file}
 use Rattle.sd_run_broadcasts.specs.Receive.{received_status}
 use Rattle.sd_run_broadcasts.specs.Receive.{card_in, received_of, received_steps, receiving, stream_meaning}
 use Rattle.sd_run_broadcasts.specs.Receive.{receive_meaning}
 use Rattle.sd_run_streams.specs.Sample.{sample_meaning}
-use Rattle.sd_run_cards.specs.Show.{line_of_file, show_meaning}
+use Rattle.sd_run_books.specs.Show.{line_of_file, show_meaning}
 use Rattle.sd_run_streams.specs.Tables.{inspecting, tables_meaning}
-use Rattle.sd_run_cards.specs.Trace.{traced, trace_meaning}
+use Rattle.sd_run_books.specs.Trace.{traced, trace_meaning}
 use Rattle.sd_command_base.specs.Printed.{printing}
-use Rattle.sd_run_field.specs.Field.{field_meaning, field_text, inputs_meaning, script_of_file}
+use Rattle.sd_run_broadcasts.specs.Field.{field_meaning, field_text, inputs_meaning, script_of_file}
 use Rattle.sd_run_broadcasts.specs.Prefixes.{prefix_of_file}
 use Rattle.sd_run_broadcasts.specs.Trial.{plan_meaning as trial_plan, trial_text, trying, trial_meaning}
 use Rattle.sd_run_broadcasts.specs.Trial.{most_clear_bytes}
@@ -53,15 +53,15 @@ use Rattle.sd_command_line.specs.Operands.{operand_kind}
 use Rattle.sd_command_line.specs.Words.{Argument, file, number, named_words, or_output}
 use Rattle.sd_run.specs.Meaning.{command_meaning}
 use Rattle.sd_command_base.proofs.Others.{IsOther}
-use Rattle.sd_run_cards.proofs.Others.{other_cover, other_card_order, other_layered, other_lcard}
-use Rattle.sd_run_cards.proofs.Others.{other_opens, other_show, other_trace}
+use Rattle.sd_run_books.proofs.CardOthers.{other_cover, other_card_order, other_layered, other_lcard}
+use Rattle.sd_run_books.proofs.CardOthers.{other_opens, other_show, other_trace}
 use Rattle.sd_run_streams.proofs.Others.{other_tables}
 use Rattle.sd_run_broadcasts.proofs.HeadOthers.{other_head}
 use Rattle.sd_run_broadcasts.proofs.ReceiveOthers.{other_receive}
 use Rattle.sd_run_books.proofs.Others.{other_accounts}
 use Rattle.sd_run_books.proofs.Others.{other_apart}
 use Rattle.sd_run_books.proofs.Others.{other_book_order}
-use Rattle.sd_run_field.proofs.Others.{other_field}
+use Rattle.sd_run_broadcasts.proofs.FieldOthers.{other_field}
 use Rattle.sd_run_streams.proofs.Others.{other_messages}
 use Rattle.sd_run_books.proofs.Others.{other_plan}
 use Rattle.sd_run_broadcasts.proofs.Others.{other_trial}

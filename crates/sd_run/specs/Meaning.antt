@@ -11,23 +11,23 @@ use Rattle.sd_command_line.specs.declared.command.Command.TheVariants.{Show}
 use Rattle.sd_command_line.specs.declared.command.Command.TheVariants.{Tables}
 use Rattle.sd_command_line.specs.declared.command.Command.TheVariants.{Trace, Trial}
 use Rattle.sd_command_line.specs.Words.{Argument, Order, CommandOf, HelpOf, VersionOf, file, number, order_of}
-use Rattle.sd_run_cards.specs.Cover.{cover_meaning}
-use Rattle.sd_run_cards.specs.Card.{card_meaning}
+use Rattle.sd_run_books.specs.Cover.{cover_meaning}
+use Rattle.sd_run_books.specs.Card.{card_meaning}
 use Rattle.sd_run_streams.specs.Sample.{sample_meaning}
 use Rattle.sd_run_streams.specs.Tables.{tables_meaning}
-use Rattle.sd_run_field.specs.Field.{field_meaning}
+use Rattle.sd_run_broadcasts.specs.Field.{field_meaning}
 use Rattle.sd_run_broadcasts.specs.Head.{head_meaning}
 use Rattle.sd_run_broadcasts.specs.Receive.{receive_meaning}
 use Rattle.sd_run_books.specs.AccountsCommand.{accounts_meaning}
 use Rattle.sd_run_books.specs.Apart.{apart_meaning}
 use Rattle.sd_run_books.specs.Book.{book_meaning}
-use Rattle.sd_run_cards.specs.Layered.{layered_meaning}
-use Rattle.sd_run_cards.specs.Lcard.{lcard_meaning}
+use Rattle.sd_run_books.specs.Layered.{layered_meaning}
+use Rattle.sd_run_books.specs.Lcard.{lcard_meaning}
 use Rattle.sd_run_streams.specs.Messages.{messages_meaning}
-use Rattle.sd_run_cards.specs.Opens.{opens_meaning}
+use Rattle.sd_run_books.specs.Opens.{opens_meaning}
 use Rattle.sd_run_books.specs.Air.{plan_meaning}
-use Rattle.sd_run_cards.specs.Show.{show_meaning}
-use Rattle.sd_run_cards.specs.Trace.{trace_meaning}
+use Rattle.sd_run_books.specs.Show.{show_meaning}
+use Rattle.sd_run_books.specs.Trace.{trace_meaning}
 use Rattle.sd_run_broadcasts.specs.Trial.{trial_meaning}
 use Rattle.sd_command_line.specs.Help.{help_meaning, version_meaning}
 

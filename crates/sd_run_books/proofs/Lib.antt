@@ -20,3 +20,11 @@ pub mod Agreeing
 pub mod Merging
 pub mod Pairs
 pub mod Others
+pub mod Covers
+pub mod LayerCovers
+pub mod Tracing
+pub mod Coalition
+pub mod CardOthers
+pub mod Carding
+pub mod NoFloat
+pub mod ShownCards

@@ -11,3 +11,10 @@ pub mod AccountsCommand
 pub mod Book
 pub mod Air
 pub mod Apart
+pub mod Cover
+pub mod Layered
+pub mod Opens
+pub mod Trace
+pub mod Card
+pub mod Lcard
+pub mod Show

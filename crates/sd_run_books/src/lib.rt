@@ -1,5 +1,6 @@
-//! The commands on books: `accounts` makes one of the accounts of receivers by name, `book` makes one longer, `plan`
-//! and `apart` judge one before it is sent.
+//! The commands on books and cards: `accounts` makes a book of the accounts of receivers by name, `book` makes one
+//! longer, `plan` and `apart` judge one before it is sent. `cover`, `layered`, `opens` and `trace` are on the cover of
+//! each period, `card`, `lcard` and `show` on cards.
 #![tactic(auto)]
 
 mod account_fault;
@@ -13,13 +14,26 @@ mod apart_command;
 mod apart_lines;
 mod apart_sites;
 mod book_command;
+mod card_command;
+mod cover_bare;
+mod cover_command;
+pub mod cover_laws;
+mod layered_command;
+mod layered_useful;
+mod lcard_command;
 mod names;
+mod opens_command;
+mod opens_pool;
 mod plan_command;
 mod plan_lines;
 mod plan_periods;
 mod plan_schedule;
 mod register;
 mod report;
+mod show_command;
+mod show_line;
+mod trace_command;
+mod trace_text;
 
 pub use account_fault::AccountFault;
 pub use account_list::Accounts;
@@ -27,4 +41,11 @@ pub use account_name::LONGEST_NAME;
 pub use accounts_command::accounts;
 pub use apart_command::apart;
 pub use book_command::book;
+pub use card_command::card;
+pub use cover_command::cover;
+pub use layered_command::layered;
+pub use lcard_command::lcard;
+pub use opens_command::opens;
 pub use plan_command::plan;
+pub use show_command::show;
+pub use trace_command::trace;

@@ -10,3 +10,7 @@ pub mod Cards
 pub mod Received
 pub mod ReceiveOthers
 pub mod Unmade
+pub mod Cutting
+pub mod Playing
+pub mod Telling
+pub mod FieldOthers

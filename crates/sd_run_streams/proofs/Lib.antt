@@ -13,3 +13,5 @@ pub mod MessageMembers
 pub mod Inspected
 pub mod Monitored
 pub mod Others
+pub mod Answering
+pub mod Sampling

@@ -7,7 +7,7 @@ use serde_json::{Value, json};
 use std::alloc::{AllocError, Global};
 
 // What is shown of the CA_descriptors among some descriptors.
-#[tactic(auto, using(crate::proofs::Growing::ca_first, crate::proofs::Growing::other_first, crate::proofs::Growing::cas_shown, std::proofs::lemmas::List::map_push), unfolding(crate::specs::TableLines::cas_data))]
+#[tactic(auto, unfolding(crate::specs::TableLines::cas_data))]
 pub(crate) fn cas_value(alloc: Global, descriptors: Descriptors) -> Result<Value, AllocError>
     ensures { IfOk result (λ value. view value ≡ cas_data descriptors.entry.bytes.now) }
 {

@@ -32,7 +32,6 @@ pub(crate) fn pat_value(
 }
 
 // Its programs.
-#[tactic(auto, using(crate::proofs::Growing::program_first, crate::proofs::Growing::programs_shown, std::proofs::lemmas::List::map_push))]
 fn programs_value(alloc: Global, pat: &Pat) -> Result<Value, AllocError>
     ensures { IfOk result (λ value. view value ≡ list_data (map program_data (programs_of pat.now.section.bytes.now))) }
 {

@@ -36,7 +36,6 @@ pub(crate) fn pmt_value(
 }
 
 // Its streams.
-#[tactic(auto, using(crate::proofs::Growing::stream_first, crate::proofs::Growing::streams_shown, std::proofs::lemmas::List::map_push))]
 fn streams_value(alloc: Global, pmt: &Pmt) -> Result<Value, AllocError>
     ensures { IfOk result (λ value. view value ≡ list_data (map stream_data (streams_of pmt.now.section.bytes.now))) }
 {

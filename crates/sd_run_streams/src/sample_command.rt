@@ -35,7 +35,6 @@ pub fn sample<D: Depot>(
 }
 
 /// Makes a file, writes the stream to it and closes it, and only then answers.
-#[tactic(auto, using(sd_ports::proofs::Faults::file_cause, sd_ports::proofs::Faults::unwritten))]
 fn write_sample<D: Depot>(
     alloc: Global,
     depot: &mut D,

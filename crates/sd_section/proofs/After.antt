@@ -10,7 +10,7 @@ use Rattle.sd_section.specs.Assembled.{tail_of, fresh_of, kept_run, longer_run, 
 use Rattle.sd_section.specs.Assembled.{completed_by, Assembling, assembler_after, all_lent, with_section, next_of}
 use Rattle.sd_section.specs.Assembled.{one_lent}
 use Rattle.sd_section.specs.OneMore.{cut_more, held, kept, holds_of, has_section, tail_with, fresh_with, still_making}
-use Rattle.sd_section.specs.OneMore.{going_on, fed}
+use Rattle.sd_section.specs.OneMore.{going_on, fed, HasRoom}
 use Rattle.sd_section.specs.declared.holds.Holds.{Holds}
 use Rattle.sd_section.specs.declared.holds.Holds.TheVariants.{Making, Section, Lent}
 use Rattle.sd_section.proofs.Cutting.{longer, cut_none}
@@ -253,3 +253,37 @@ pub some_left : (state : Assembling) (section : List ℕ) → Some section ≡ n
 some_left state section e h =
     let none : next_of state ≡ None = ap (λ (l : List (List ℕ)). slice_get l 0) h in
     absurd (cc)
+
+-- a section in the buffer is lent first
+pub buffer_lent : (holds : Holds) (bytes : List ℕ) (cut : Cut) (counter : Option ℕ) (state : Assembling) →
+    has_section holds ≡ true → kept holds bytes cut counter ≡ state →
+    (kept Lent bytes cut counter ≡ one_lent state) × (Some bytes ≡ next_of state)
+buffer_lent Making bytes cut counter state h is = absurd (cc)
+buffer_lent Section bytes cut counter state h is = (ap one_lent is, ap next_of is)
+buffer_lent Lent bytes cut counter state h is = absurd (cc)
+
+-- with no section in the buffer, those that are cut are left
+pub only_cut_left : (holds : Holds) (bytes : List ℕ) (cut : Cut) (counter : Option ℕ) (state : Assembling) →
+    has_section holds ≡ false → kept holds bytes cut counter ≡ state → state.waiting ≡ cut.sections
+only_cut_left Making bytes cut counter state h is = ap (λ (s : Assembling). s.waiting) (sym is)
+only_cut_left Section bytes cut counter state h is = absurd (cc)
+only_cut_left Lent bytes cut counter state h is = ap (λ (s : Assembling). s.waiting) (sym is)
+
+-- where none is left, lending changes nothing
+pub none_lent : (state : Assembling) → state.waiting ≡ [] → state ≡ one_lent state
+none_lent state none = ap (λ (sections : List (List ℕ)). record {
+  counter = state.counter;
+  making = state.making;
+  waiting = sections;
+}) (none ∙ ap (drop 1) (sym none))
+
+-- what is left has no more need of room
+pub room_left : (holds : Holds) (count more less : ℕ) → less ≤ more → HasRoom holds count more →
+    HasRoom holds count less
+room_left Making count more less h room = omega arith
+room_left Section count more less h room = tt
+room_left Lent count more less h room = tt
+
+-- true is not false
+pub true_is_not_false : true ≡ false → ⊥
+true_is_not_false h = absurd (cc)

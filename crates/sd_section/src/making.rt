@@ -46,7 +46,6 @@ pub fn starts(bytes: &[u8]) -> bool
     }
 }
 
-#[tactic(auto, using(crate::proofs::Adding::none_starts, crate::proofs::Adding::one_overlong, crate::proofs::Adding::one_whole, crate::proofs::Adding::one_part, crate::proofs::Adding::whole_fits))]
 /// How long the section is with which the bytes begin, where all of it is there.
 pub fn whole_length(bytes: &[u8]) -> Option<usize>
     ensures none { IsNone result → (cut_of bytes.now []).sections ≡ [] }
@@ -64,7 +63,6 @@ pub fn whole_length(bytes: &[u8]) -> Option<usize>
 }
 
 /// What of the bytes is a partial section, where no section in them is whole.
-#[tactic(auto, using(crate::proofs::Adding::none_starts, crate::proofs::Adding::one_overlong, crate::proofs::Adding::none_whole, crate::proofs::Adding::one_part))]
 fn left_in(bytes: &[u8]) -> &[u8]
     requires { (cut_of bytes.now []).sections ≡ [] }
     ensures value { result.now ≡ (cut_of bytes.now []).making }

@@ -1,4 +1,4 @@
-use Rattle.std.proofs.Common.{◌≡◌, ◌∙◌, ℕ, List, sym, subst, true}
+use Rattle.std.proofs.Common.{◌≡◌, ◌∙◌, ℕ, List, sym, subst, true, inl, append-nil}
 use Rattle.std.specs.Prelude.{IfOk}
 use Rattle.std.proofs.lemmas.List.Elements.{All-get_or}
 use Rattle.std.proofs.lemmas.Result.{err_from_is_err_and}
@@ -45,3 +45,38 @@ returns-clause-fault c =
     finish_fault c.args.h _ c.args.before.now c.args.more.now _ c.finish.result c.loop-command.invariant.height
     (appended_all _ _ _ _ c.loop-command.invariant.value c.loop-command-test.false) c.loop-command.invariant.fits
     c.finish.ensures.fault
+
+pub loop-command-init : goal.loop-command-init
+loop-command-init c = record {
+  fits = c.in_ok-draft.ensures.fits;
+  height = c.in_ok-draft.ensures.height;
+  value = c.in_ok-draft.ensures.value ∙ sym (append-nil c.args.before.now);
+}
+
+pub returns-in_err-draft-clause-height : goal.returns-in_err-draft-clause-height
+returns-in_err-draft-clause-height c =
+    let p = err_from_is_err_and c.from_residual.result c.from_residual.ensures.1 in
+    rw p.1 tt
+
+pub returns-in_err-draft-clause-value : goal.returns-in_err-draft-clause-value
+returns-in_err-draft-clause-value c =
+    let p = err_from_is_err_and c.from_residual.result c.from_residual.ensures.1 in
+    rw p.1 tt
+
+pub returns-in_err-draft-clause-fault : goal.returns-in_err-draft-clause-fault
+returns-in_err-draft-clause-fault c =
+    let p = err_from_is_err_and c.from_residual.result c.from_residual.ensures.1 in
+    rw p.1 (inl p.2)
+
+pub returns-in_err-push-clause-height : goal.returns-in_err-push-clause-height
+returns-in_err-push-clause-height c =
+    let p = err_from_is_err_and c.from_residual-in_err-push.result c.from_residual-in_err-push.ensures.1 in
+    rw p.1 tt
+
+pub returns-in_err-push-clause-value : goal.returns-in_err-push-clause-value
+returns-in_err-push-clause-value c =
+    let p = err_from_is_err_and c.from_residual-in_err-push.result c.from_residual-in_err-push.ensures.1 in
+    rw p.1 tt
+
+pub returns-clause-height : goal.returns-clause-height
+returns-clause-height c = rw c.loop-command.invariant.height at c.finish.ensures.height

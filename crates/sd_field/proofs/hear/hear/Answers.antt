@@ -1,26 +1,14 @@
-use Rattle.std.proofs.Common.{◌≡◌, Ok, Err, ◌<◌, ◌++◌, ◌∷◌, [], length, sym, subst, ap, inl, inr}
-use Rattle.std.specs.Prelude.{Result}
+use Rattle.std.proofs.Common.{Err, ◌<◌, ◌++◌, ◌∷◌, [], length, sym, subst, ap, ◌∙◌, inl, inr}
 use Rattle.std.proofs.lemmas.Bool.{false≢true}
 use Rattle.std.specs.List.{concat}
 use Rattle.sd_base.proofs.Lists.{same_held}
 use Rattle.sd_engine.specs.Stage.{SinkState}
-use Rattle.sd_engine.specs.declared.stage.StageFault.{StageFault}
-use Rattle.sd_engine.specs.declared.stage.StageFault.TheVariants.{Write, Refused}
-use Rattle.sd_spec.specs.declared.stream_fault.StreamFault.{StreamFault}
+use Rattle.sd_engine.specs.declared.stage.StageFault.TheVariants.{Refused}
+use Rattle.sd_engine.proofs.Answering.{ok_is_no_err, write_is_no_refusal}
 use Rattle.sd_spec.specs.Offered.{out_from}
 use Rattle.sd_field.specs.Heard.{IsHeard}
 use Rattle.sd_field.proofs.Heard.{by_kept, full_more, heard_kept, heard_refused, heard_taken, room_left}
 use Rattle.sd_field.proofs.hear.hear.Goals as goal
-
--- an answer without a fault is no refusal
-ok_is_no_refusal : {P : Type 0} (why : StreamFault) →
-    ◌≡◌ {A = Result (Unit {0}) (StageFault StreamFault)} (Ok tt) (Err (Refused why)) → P
-ok_is_no_refusal why h = cc
-
--- a failed write is no refusal
-write_is_no_refusal : {P : Type 0} (fault : StageFault StreamFault) (why : StreamFault) → fault ≡ Write →
-    ◌≡◌ {A = Result (Unit {0}) (StageFault StreamFault)} (Err fault) (Err (Refused why)) → P
-write_is_no_refusal fault why is h = cc
 
 pub offer-requires : goal.offer-requires
 offer-requires g c = record { live = c.requires.live }
@@ -35,7 +23,7 @@ returns-in-Ok-clause-heard g c card earlier xs few heard =
     (λ calm. subst (IsHeard card earlier (xs ++ packet ∷ []) t) (sym grew.taken)
     (heard_taken card earlier xs s packet t c.args.written.now.held grew.bytes grew.steps few heard calm grew.says
     (c.in-Ok.ensures.ok).0))
-    (λ why kept. ok_is_no_refusal why (c.in-Ok.ensures.again why kept).0)
+    (λ why kept. ok_is_no_err (Refused why) (c.in-Ok.ensures.again why kept).0)
 
 pub returns-in-Ok-clause-room : goal.returns-in-Ok-clause-room
 returns-in-Ok-clause-room g c total room =
@@ -92,4 +80,5 @@ returns-in-Err-Write-clause-full g c card earlier xs total failed few heard room
       | inr (fault, t, refuses) ↦ full_more card earlier xs s packet total c.args.written.now cut.bytes few heard calm
           room cut.room (λ past after within. (refuses past after within).bytes_are)
     ])
-    (λ why kept. write_is_no_refusal c.in-Err-Write.field-0 why c.in-Err-Write.field-0-is (e.again why kept).0)
+    (λ why kept.
+    write_is_no_refusal why (sym (ap (λ x. Err x) c.in-Err-Write.field-0-is) ∙ (e.again why kept).0))

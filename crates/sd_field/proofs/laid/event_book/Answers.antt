@@ -1,4 +1,5 @@
 use Rattle.std.proofs.Common.{arith, ℕ, List, take, sym, subst}
+use Rattle.std.proofs.lemmas.Bool.{false≢true}
 use Rattle.std.specs.Prelude.{reverse}
 use Rattle.sd_site.specs.SiteFields.{fields_of}
 use Rattle.sd_book.specs.Limits.{IsWithinLimits}
@@ -41,4 +42,4 @@ unreachable-requires c =
     let whole : IsWithinLimits laid.height laid.commands =
     subst (λ (d : ℕ). IsWithinLimits d laid.commands) (sym made.height)
     (subst (IsWithinLimits site.height) (sym made.commands) fits) in
-    let no = c.in-Err.ensures.complete whole in cc
+    absurd (false≢true (c.in-Err.ensures.complete whole))

@@ -9,17 +9,17 @@ use Rattle.sd_head.proofs.take.move_position.Goals as goal
 
 pub returns-then-not-is_placed-clause-placed : goal.returns-then-not-is_placed-clause-placed
 returns-then-not-is_placed-clause-placed c =
-    let none : is_placed c.args.packet.now ≡ false = grind arith in
+    let none : is_placed c.args.packet.now ≡ false = sym c.is_placed.ensures ∙ c.if-not-is_placed.true in
     λ before are. positions_unmoved before c.args.packet.now c.args.positions.now none are
 
 pub returns-then-not-is_placed-clause-moved : goal.returns-then-not-is_placed-clause-moved
 returns-then-not-is_placed-clause-moved c =
-    let none : is_placed c.args.packet.now ≡ false = grind arith in
+    let none : is_placed c.args.packet.now ≡ false = sym c.is_placed.ensures ∙ c.if-not-is_placed.true in
     λ before are moved. pids_unmoved before c.args.packet.now c.args.pids.now.items none moved
 
 pub returns-then-position-eq-FIRST_POSITION-clause-placed : goal.returns-then-position-eq-FIRST_POSITION-clause-placed
 returns-then-position-eq-FIRST_POSITION-clause-placed c =
-    let placed : is_placed c.args.packet.now ≡ true = grind arith in
+    let placed : is_placed c.args.packet.now ≡ true = sym c.is_placed.ensures ∙ c.if-not-is_placed.false in
     let index : c.from.result ≡ pid_of c.args.packet.now = c.from.ensures ∙ c.pid-pid.ensures.value in
     let positions = c.args.positions.now in
     let counter = c.counter.result in
@@ -32,7 +32,7 @@ returns-then-position-eq-FIRST_POSITION-clause-placed c =
 
 pub returns-then-position-eq-FIRST_POSITION-clause-moved : goal.returns-then-position-eq-FIRST_POSITION-clause-moved
 returns-then-position-eq-FIRST_POSITION-clause-moved c =
-    let placed : is_placed c.args.packet.now ≡ true = grind arith in
+    let placed : is_placed c.args.packet.now ≡ true = sym c.is_placed.ensures ∙ c.if-not-is_placed.false in
     let index : c.from.result ≡ pid_of c.args.packet.now = c.from.ensures ∙ c.pid-pid.ensures.value in
     let first : get_or c.args.positions.now (pid_of c.args.packet.now) 0 ≡ 15 =
     ap (λ (i : ℕ). get_or c.args.positions.now i 0) (sym index) ∙ c.if-position-eq-FIRST_POSITION.true in
@@ -47,7 +47,7 @@ returns-then-position-eq-FIRST_POSITION-clause-known c =
 
 pub returns-else-position-eq-FIRST_POSITION-clause-placed : goal.returns-else-position-eq-FIRST_POSITION-clause-placed
 returns-else-position-eq-FIRST_POSITION-clause-placed c =
-    let placed : is_placed c.args.packet.now ≡ true = grind arith in
+    let placed : is_placed c.args.packet.now ≡ true = sym c.is_placed.ensures ∙ c.if-not-is_placed.false in
     let index : c.from.result ≡ pid_of c.args.packet.now = c.from.ensures ∙ c.pid-pid.ensures.value in
     let positions = c.args.positions.now in
     let counter = c.counter.result in
@@ -60,7 +60,7 @@ returns-else-position-eq-FIRST_POSITION-clause-placed c =
 
 pub returns-else-position-eq-FIRST_POSITION-clause-moved : goal.returns-else-position-eq-FIRST_POSITION-clause-moved
 returns-else-position-eq-FIRST_POSITION-clause-moved c =
-    let placed : is_placed c.args.packet.now ≡ true = grind arith in
+    let placed : is_placed c.args.packet.now ≡ true = sym c.is_placed.ensures ∙ c.if-not-is_placed.false in
     let index : c.from.result ≡ pid_of c.args.packet.now = c.from.ensures ∙ c.pid-pid.ensures.value in
     let later : get_or c.args.positions.now (pid_of c.args.packet.now) 0 ≢ 15 =
     λ e. c.if-position-eq-FIRST_POSITION.false (ap (λ (i : ℕ). get_or c.args.positions.now i 0) index ∙ e) in

@@ -1,12 +1,31 @@
 use Rattle.std.proofs.Common.{◌≡◌, refl, sym, subst, ap, ◌∙◌, rules}
-use Rattle.std.specs.Prelude.{Err}
+use Rattle.std.specs.Prelude.{Result, Ok, Err, Option, Some}
 use Rattle.std.proofs.lemmas.Bool.{false≢true}
 use Rattle.sd_message.specs.Framed.{section_of}
 use Rattle.sd_message.specs.EcmFields.{BreaksFirst}
+use Rattle.sd_message.specs.declared.ecm_part.EcmPart.{EcmPart}
 use Rattle.sd_message.specs.declared.ecm_fault.EcmFault.{EcmFault}
-use Rattle.sd_message.proofs.EcmReading.{IsParted, spelled_is_packet, read_is_right, breaks_first, never_first, first_once}
+use Rattle.sd_message.proofs.EcmReading.{IsParted, spelled_is_packet, read_is_right, breaks_first, never_first}
+use Rattle.sd_message.proofs.EcmReading.{first_once}
 use Rattle.sd_message.proofs.EcmDeciding.{other_reads, broken_at, good_at, spelled_reads}
 use Rattle.sd_message.proofs.ecm_read.read_ecm.Goals as goal
+
+-- a part that is good and one that is broken differ, and one is broken by one fault
+err_good : (read : Result (Option EcmPart) EcmFault) (fault : EcmFault) (part : EcmPart) → read ≡ Err fault →
+    read ≡ Ok (Some part) → ⊥
+err_good read fault part broken good = cc
+
+good_err : (part : EcmPart) (fault : EcmFault) → ◌≡◌ {A = Result (Option EcmPart) EcmFault} (Ok (Some part)) (Err fault)
+    → ⊥
+good_err part fault same = cc
+
+one_fault : (read : Result (Option EcmPart) EcmFault) (found fault : EcmFault) → read ≡ Err found → read ≡ Err fault →
+    found ≡ fault
+one_fault read found fault is other = cc
+
+-- the fault that was found is answered
+is_broken : (c : goal.After-from_residual) → c.from_residual.result ≡ Err c.in_err-part.field-0.0
+is_broken c = search rules
 
 pub returns-in_default-clause-value : goal.returns-in_default-clause-value
 returns-in_default-clause-value c = sym
@@ -18,7 +37,6 @@ returns-in_default-clause-complete c = λ part fits form spells.
 
 pub returns-in_err-part-clause-value : goal.returns-in_err-part-clause-value
 returns-in_err-part-clause-value c =
-    let fault : c.from_residual.result ≡ Err c.in_err-part.field-0.0 = search rules in
     let are : IsParted c.in-Some.section.bytes.now c.body.result.now c.table_id.result c.number.result
     c.last_number.result = record {
       is_table = c.table_id.ensures;
@@ -26,13 +44,12 @@ returns-in_err-part-clause-value c =
       is_last = c.last_number.ensures;
       is_body = c.body.ensures;
     } in
-    fault ∙ sym (broken_at c.args.packet.now c.in-Some.section.bytes.now c.body.result.now c.table_id.result
+    is_broken c ∙ sym (broken_at c.args.packet.now c.in-Some.section.bytes.now c.body.result.now c.table_id.result
     c.number.result c.last_number.result _ (c.in-Some.ensures.some.0 refl)
     c.in-Some.ensures.value are c.in_err-part.ensures.fault)
 
 pub returns-in_err-part-clause-complete : goal.returns-in_err-part-clause-complete
 returns-in_err-part-clause-complete c = λ part fits form spells.
-    let fault : c.from_residual.result ≡ Err c.in_err-part.field-0.0 = search rules in
     let are : IsParted c.in-Some.section.bytes.now c.body.result.now c.table_id.result c.number.result
     c.last_number.result = record {
       is_table = c.table_id.ensures;
@@ -43,8 +60,7 @@ returns-in_err-part-clause-complete c = λ part fits form spells.
     let bad = broken_at c.args.packet.now c.in-Some.section.bytes.now c.body.result.now c.table_id.result
     c.number.result c.last_number.result _ (c.in-Some.ensures.some.0 refl)
     c.in-Some.ensures.value are c.in_err-part.ensures.fault in
-    let good = spelled_reads part c.args.packet.now fits form spells in
-    absurd (cc)
+    absurd (err_good _ _ part bad (spelled_reads part c.args.packet.now fits form spells))
 
 pub returns-clause-value : goal.returns-clause-value
 returns-clause-value c =
@@ -89,7 +105,6 @@ returns-clause-complete c = λ part fits form spells.
 
 pub returns-in_err-part-clause-fault : goal.returns-in_err-part-clause-fault
 returns-in_err-part-clause-fault c = λ fault.
-    let found : c.from_residual.result ≡ Err c.in_err-part.field-0.0 = search rules in
     let are : IsParted c.in-Some.section.bytes.now c.body.result.now c.table_id.result c.number.result
     c.last_number.result = record {
       is_table = c.table_id.ensures;
@@ -100,12 +115,12 @@ returns-in_err-part-clause-fault c = λ fault.
     let first = breaks_first c.args.packet.now c.in-Some.section.bytes.now c.body.result.now c.table_id.result
     c.number.result c.last_number.result _ c.in-Some.ensures.value are
     c.in_err-part.ensures.fault in (
-      λ is. let same : c.in_err-part.field-0.0 ≡ fault = cc in (
+      λ is. let same : c.in_err-part.field-0.0 ≡ fault = one_fault c.from_residual.result _ _ (is_broken c) is in (
         c.in-Some.ensures.some.0 refl,
         subst (λ (f : EcmFault). BreaksFirst (section_of c.args.packet.now) f) same
             first,
       ),
-      λ broken. found ∙
+      λ broken. is_broken c ∙
           ap (λ (f : EcmFault). Err f) (first_once c.args.packet.now c.in-Some.section.bytes.now c.body.result.now
           c.table_id.result c.number.result c.last_number.result _ fault
           c.in-Some.ensures.value are c.in_err-part.ensures.fault broken.1),
@@ -120,7 +135,7 @@ returns-clause-fault c = λ fault.
       is_last = c.last_number.ensures;
       is_body = c.body.ensures;
     } in (
-      λ wrong. absurd (cc),
+      λ wrong. absurd (good_err c.in_ok-part.part fault wrong),
       λ broken. absurd (never_first c.args.packet.now c.in-Some.section.bytes.now c.body.result.now c.table_id.result
           c.number.result c.last_number.result fault
           c.in-Some.ensures.value are c.in_ok-part.ensures.good broken.1),

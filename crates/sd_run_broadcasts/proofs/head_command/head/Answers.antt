@@ -1,8 +1,9 @@
-use Rattle.std.proofs.Common.{refl, Some, Ok, Err, []}
+use Rattle.std.proofs.Common.{refl, sym, subst, Some, Ok, Err, []}
 use Rattle.std.proofs.lemmas.Result.{err_from_is_err_and}
 use Rattle.sd_site.specs.SiteFields.{fields_of}
 use Rattle.sd_ports.proofs.Outlets.{there_after}
 use Rattle.sd_spec.specs.Plan.{Plan}
+use Rattle.sd_head.specs.Staged.{IsAfter}
 use Rattle.sd_command_base.specs.declared.status.Status.TheVariants.{NoMemory}
 use Rattle.sd_command_base.specs.Outside.{depot_state, outside}
 use Rattle.sd_command_base.specs.Work.{Uncounted}
@@ -22,6 +23,18 @@ use Rattle.sd_book.specs.declared.book.Book.{Book}
 
 abbrev both_read : Site × Book → SiteBook
 both_read both = record { site = fields_of both.0; commands = both.1.commands }
+
+pub read_both-requires : goal.read_both-requires
+read_both-requires g c = c.requires.0
+
+pub new-requires : goal.new-requires
+new-requires g c = c.in_ok-site.ensures.height
+
+-- the head end that was made keeps to its own plan
+pub send-sent-requires : goal.send-sent-requires
+send-sent-requires g c =
+    let made = c.in_ok-head.ensures.value in
+    subst (λ (plan : Plan). IsAfter plan [] c.in_ok-head.head) (sym made.keeps_to) made
 
 -- neither file was read as it is to be
 pub returns-in_err-site : goal.returns-in_err-site

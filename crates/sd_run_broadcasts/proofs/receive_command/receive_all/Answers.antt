@@ -1,8 +1,58 @@
-use Rattle.std.proofs.Common.{subst, sym, ◌∙◌}
+use Rattle.std.proofs.Common.{◌≡◌, ℕ, Result, Ok, Err, inl, inr, refl, subst, sym, ◌∙◌}
+use Rattle.sd_base.specs.Count.{IsCaused}
+use Rattle.sd_engine.specs.declared.driver.DriveFault.{DriveFault}
+use Rattle.sd_engine.specs.declared.driver.DriveFault.TheVariants as drive
+use Rattle.sd_spec.specs.declared.stream_fault.StreamFault.{StreamFault}
+use Rattle.sd_spec.specs.declared.stream_fault.StreamFault.TheVariants as fault
+use Rattle.sd_command_base.specs.declared.status.Status.{Status}
+use Rattle.sd_command_base.specs.declared.status.Status.TheVariants.{DepotFault}
 use Rattle.sd_command_base.specs.Outcome.{IsEnding, status_of}
+use Rattle.sd_command_base.specs.Turned.{HasPortCause}
+use Rattle.sd_run_broadcasts.specs.Receive.{refused_status, stopped_status}
 use Rattle.sd_run_broadcasts.proofs.Received.{new_lives, left_ended, left_stopped}
 use Rattle.sd_run_broadcasts.proofs.Unmade.{never_memory}
 use Rattle.sd_run_broadcasts.proofs.receive_command.receive_all.Goals as goal
+
+-- where no port failed
+no_port : (from_before from_now out_before out_now : ℕ) (status : Status) → from_now ≡ from_before →
+    out_now ≡ out_before → (status ≡ DepotFault → ⊥) →
+    HasPortCause from_before from_now out_before out_now status
+no_port from_before from_now out_before out_now status read written other = record {
+  calm = λ _. (read, written);
+  failed = λ e. absurd (other e);
+}
+
+-- a refusal isn't a device fault
+refused_is_no_port : (why : StreamFault) → refused_status why ≡ DepotFault → ⊥
+refused_is_no_port (fault.WrongKey packet period found due) e = cc
+refused_is_no_port (fault.WrongWord packet word found due) e = cc
+refused_is_no_port (fault.BadEmm packet emm) e = cc
+refused_is_no_port (fault.BadEcm packet ecm) e = cc
+refused_is_no_port (fault.Parity packet) e = cc
+
+-- what stops a drive is a device fault where a port failed
+stopped_cause : (from_before from_now out_before out_now : ℕ) (why : DriveFault StreamFault) →
+    IsCaused from_before from_now (◌≡◌ {A = Result ℕ (DriveFault StreamFault)} (Err why) (Err drive.ReadFault)) →
+    IsCaused out_before out_now (◌≡◌ {A = Result ℕ (DriveFault StreamFault)} (Err why) (Err drive.WriteFault)) →
+    HasPortCause from_before from_now out_before out_now (stopped_status why)
+stopped_cause a b p q (drive.Broken found) read written =
+    no_port a b p q _ (read.calm (λ e. cc)) (written.calm (λ e. cc)) (λ e. cc)
+stopped_cause a b p q drive.TooLong read written =
+    no_port a b p q _ (read.calm (λ e. cc)) (written.calm (λ e. cc)) (λ e. cc)
+stopped_cause a b p q drive.ReadFault read written = record {
+  calm = λ other. absurd (other refl);
+  failed = λ _. inl (read.failed refl);
+}
+stopped_cause a b p q drive.WriteFault read written = record {
+  calm = λ other. absurd (other refl);
+  failed = λ _. inr (written.failed refl);
+}
+stopped_cause a b p q (drive.Refused why) read written =
+    no_port a b p q _ (read.calm (λ e. cc)) (written.calm (λ e. cc)) (refused_is_no_port why)
+
+-- a drive that ended did not fail
+ok_is_no_err : {P T E : Type 0} (x : T) (fault : E) → ◌≡◌ {A = Result T E} (Ok x) (Err fault) → P
+ok_is_no_err x fault h = cc
 
 pub drive-requires : goal.drive-requires
 drive-requires g c = record { live = new_lives c.args.receiver c.requires.new }
@@ -13,7 +63,10 @@ returns-in-Ok-clause-value g c =
 
 pub returns-in-Ok-clause-cause : goal.returns-in-Ok-clause-cause
 returns-in-Ok-clause-cause g c = record {
-  calm = λ other. (c.in-Ok.ensures.read.calm (λ e. cc), c.in-Ok.ensures.written.calm (λ e. cc));
+  calm = λ other. (
+    c.in-Ok.ensures.read.calm (λ e. ok_is_no_err _ _ e),
+    c.in-Ok.ensures.written.calm (λ e. ok_is_no_err _ _ e),
+  );
   failed = λ fails. absurd (subst IsEnding fails c.ended.ensures.ending);
 }
 
@@ -26,3 +79,9 @@ returns-in-Ok-clause-memory g c = λ e. subst IsEnding e c.ended.ensures.ending
 
 pub returns-clause-memory : goal.returns-clause-memory
 returns-clause-memory g c = λ e. never_memory c.in-Err.fault (sym c.stopped.ensures ∙ e)
+
+pub returns-clause-cause : goal.returns-clause-cause
+returns-clause-cause g c =
+    rw c.stopped.ensures (stopped_cause (g.S.Source.faults c.args.source.now) (g.S.Source.faults c.drive.new.source)
+    (g.K.Sink.faults c.args.sink.now) (g.K.Sink.faults c.drive.new.sink) c.in-Err.fault c.in-Err.ensures.read
+    c.in-Err.ensures.written)

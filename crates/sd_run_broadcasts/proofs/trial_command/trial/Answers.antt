@@ -14,6 +14,12 @@ use Rattle.sd_run_broadcasts.specs.Prefixes.{prefix_of_file}
 use Rattle.sd_run_broadcasts.specs.Trial.{plan_by, trial_meaning, trial_text, trying, most_clear_bytes}
 use Rattle.sd_run_broadcasts.proofs.trial_command.trial.Goals as goal
 
+pub read_plan-requires : goal.read_plan-requires
+read_plan-requires g c = c.requires.0
+
+pub text_of-requires : goal.text_of-requires
+text_of-requires g c = c.in_ok-site.ensures.height
+
 -- the site and the book were not read as they are to be
 pub returns-in_err-site : goal.returns-in_err-site
 unfolding trial_meaning

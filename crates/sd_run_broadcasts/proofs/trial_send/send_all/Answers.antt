@@ -1,8 +1,19 @@
-use Rattle.std.proofs.Common.{sym, ap, ◌∙◌}
+use Rattle.std.proofs.Common.{sym, ap, subst, ◌∙◌, []}
+use Rattle.sd_spec.specs.Plan.{Plan}
 use Rattle.sd_head.specs.Kept.{plan_of}
+use Rattle.sd_head.specs.Staged.{IsAfter}
 use Rattle.sd_ports.specs.Memory.{Store}
 use Rattle.sd_run_broadcasts.proofs.Sending.{all_sent}
 use Rattle.sd_run_broadcasts.proofs.trial_send.send_all.Goals as goal
+
+pub new-requires : goal.new-requires
+new-requires g c = c.requires
+
+-- the head end that was made keeps to its own plan
+pub send-requires : goal.send-requires
+send-requires g c =
+    let made = c.in_ok-head.ensures.value in
+    subst (λ (plan : Plan). IsAfter plan [] c.in_ok-head.head) (sym made.keeps_to) made
 
 pub returns : goal.returns
 returns g c =

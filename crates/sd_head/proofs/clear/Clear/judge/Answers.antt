@@ -1,11 +1,11 @@
-use Rattle.std.proofs.Common.{◌≡◌, ◌==◌, true, false, sym, ◌∙◌, ap}
+use Rattle.std.proofs.Common.{arith, ◌≡◌, ◌==◌, true, false, sym, ◌∙◌, ap}
 use Rattle.std.proofs.Common.{eq-eqb, ne_eqb}
 use Rattle.std.specs.Prelude.{None}
 use Rattle.sd_packet.specs.Header.{pid_of, scrambling_of}
 use Rattle.sd_site.specs.SiteFields.{fields_of}
 use Rattle.sd_spec.specs.Refused.{is_reserved_pid, pat_wrong, is_full_own, is_too_long}
 use Rattle.sd_head.proofs.Refusing.{scrambled_refused, taken_refused, pat_refused, full_refused, many_refused}
-use Rattle.sd_head.proofs.Refusing.{long_refused, none_refused}
+use Rattle.sd_head.proofs.Refusing.{long_refused, none_refused, number_left, word_left}
 use Rattle.sd_head.proofs.clear.Clear.judge.Goals as goal
 
 pub returns-then-scrambling-ne0-clause-value : goal.returns-then-scrambling-ne0-clause-value
@@ -98,3 +98,18 @@ returns-clause-value c =
     ∙ (sym c.is_full_own.ensures ∙ c.if-is_full_own.false))
     (sym (c.is_one_too_many.ensures.value before after) ∙ c.if-is_one_too_many.false)
     (ap (is_too_long (fields_of c.args.site.now)) (sym after.number) ∙ (sym c.is_at_end.ensures ∙ c.if-is_at_end.false))
+
+pub returns-clause-kind : goal.returns-clause-kind
+returns-clause-kind c = record { value = c.kind-kind.ensures.value; placed = c.kind-kind.ensures.placed }
+
+pub returns-clause-follows : goal.returns-clause-follows
+returns-clause-follows c = record {
+  unscrambled = sym c.scrambling.ensures.value ∙ c.if-scrambling-ne0.false;
+  number = number_left (fields_of c.args.site.now) c.args.self.now.count (omega arith)
+      (sym c.is_at_end.ensures ∙ c.if-is_at_end.false);
+  room = c.is_one_too_many.ensures.room c.if-is_one_too_many.false;
+}
+
+pub returns-clause-word : goal.returns-clause-word
+returns-clause-word c =
+    word_left (fields_of c.args.site.now) c.args.self.now.count (sym c.is_at_end.ensures ∙ c.if-is_at_end.false)

@@ -3,6 +3,9 @@ use Rattle.std.specs.Prelude.{map, Some, None}
 use Rattle.sd_site.specs.SiteFields.{fields_of}
 use Rattle.sd_engine.specs.Stage.{vessel}
 use Rattle.sd_engine.specs.declared.stage.StageFault.TheVariants.{Write, Refused}
+use Rattle.sd_engine.proofs.Answering.{ok_is_no_err, refusal_is_no_write, write_is_no_refusal, same_refusal}
+use Rattle.sd_engine.proofs.Answering.{none_is_kept, kept_is_answered, refusal_is_calm, written_is_calm}
+use Rattle.sd_engine.proofs.Answering.{failed_is_counted}
 use Rattle.sd_engine.proofs.Chains.{took_none, grew_none}
 use Rattle.sd_spec.specs.Plan.{closing_number, crypto_of}
 use Rattle.sd_head.specs.Kept.{uncounted, IsOf}
@@ -14,10 +17,7 @@ use Rattle.sd_head.specs.declared.crypto.CryptoPeriod.{CryptoPeriod}
 use Rattle.sd_head.specs.Messages.{head_of}
 use Rattle.sd_head.specs.Items.{tables_bytes, message_bytes}
 use Rattle.sd_head.specs.Schedule.{IsAt, IsDue}
-use Rattle.sd_head.proofs.Stepping.{ends, same_refusal, none_long}
-use Rattle.sd_head.proofs.Stepping.{ok_is_no_err, refusal_is_no_write, write_is_no_refusal, none_is_kept}
-use Rattle.sd_head.proofs.Stepping.{kept_is_answered, kept_refuses, refusal_is_calm, written_is_calm}
-use Rattle.sd_head.proofs.Stepping.{failed_is_counted, at_count}
+use Rattle.sd_head.proofs.Stepping.{ends, none_long, kept_refuses, at_count}
 use Rattle.sd_head.proofs.head.HeadStage.close.Goals as goal
 
 pub returns-in-Err-clause-fault : goal.returns-in-Err-clause-fault

@@ -4,6 +4,9 @@ use Rattle.sd_tree.specs.Keys.{control_word_of}
 use Rattle.sd_site.specs.SiteFields.{fields_of}
 use Rattle.sd_engine.specs.Stage.{vessel}
 use Rattle.sd_engine.specs.declared.stage.StageFault.TheVariants.{Write, Refused}
+use Rattle.sd_engine.proofs.Answering.{ok_is_no_err, refusal_is_no_write, write_is_no_refusal, same_refusal}
+use Rattle.sd_engine.proofs.Answering.{none_is_kept, kept_is_answered, refusal_is_calm, written_is_calm}
+use Rattle.sd_engine.proofs.Answering.{failed_is_counted}
 use Rattle.sd_engine.proofs.Chains.{took_none, grew_none}
 use Rattle.sd_spec.specs.Plan.{Plan, crypto_of}
 use Rattle.sd_head.specs.declared.crypto.CryptoPeriod.{CryptoPeriod}
@@ -15,10 +18,7 @@ use Rattle.sd_head.specs.Sending.{counter_after}
 use Rattle.sd_head.specs.Items.{tables_bytes, message_bytes, parts_in}
 use Rattle.sd_head.specs.Schedule.{IsDue}
 use Rattle.sd_head.specs.Staged.{plan_in, head_refuses}
-use Rattle.sd_head.proofs.Stepping.{does, ready, same_refusal}
-use Rattle.sd_head.proofs.Stepping.{ok_is_no_err, refusal_is_no_write, write_is_no_refusal, none_is_kept}
-use Rattle.sd_head.proofs.Stepping.{kept_is_answered, kept_refuses, refusal_is_calm, written_is_calm}
-use Rattle.sd_head.proofs.Stepping.{failed_is_counted, at_count}
+use Rattle.sd_head.proofs.Stepping.{does, ready, kept_refuses, at_count}
 use Rattle.sd_head.proofs.head.HeadStage.offer.Goals as goal
 
 pub returns-in-Err-clause-fault : goal.returns-in-Err-clause-fault

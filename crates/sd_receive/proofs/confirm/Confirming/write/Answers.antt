@@ -1,12 +1,53 @@
-use Rattle.std.proofs.Common.{◌≡◌, [], ◌∷◌, refl, rules, ap, ◌∙◌, arith}
+use Rattle.std.proofs.Common.{◌≡◌, ◌+◌, ◌≤◌, ℕ, Result, [], ◌∷◌, refl, ap, ◌∙◌, arith}
 use Rattle.std.specs.Prelude.{Ok, Err, Bool, if◌then◌else◌}
+use Rattle.std.proofs.lemmas.Result.{err_from_is_err_and}
+use Rattle.sd_base.specs.Count.{IsCaused}
 use Rattle.sd_engine.specs.Stage.{vessel}
 use Rattle.sd_spec.specs.Confirmed.{judged}
 use Rattle.sd_receive.specs.Writing.{segment_in}
+use Rattle.sd_receive.specs.declared.segment_fault.SegmentFault.{SegmentFault}
+use Rattle.sd_receive.specs.declared.segment_fault.SegmentFault.TheVariants.{Parity, Write}
 use Rattle.sd_receive.proofs.HoldWalking.{before_in, own_here, own_within, at_place, written_none, written_still}
 use Rattle.sd_receive.proofs.HoldWalking.{written_more, written_refused, written_short, written_all}
 use Rattle.sd_receive.proofs.confirm.Confirming.write.Goals as goal
 use Rattle.sd_receive.proofs.confirm.Confirming.write.Goals.{then-written+in_ok-put, else-written}
+
+-- a refused packet is no failed write
+parity_is_no_write : {P : Type 0} (number : ℕ) → ◌≡◌ {A = Result ℕ SegmentFault} (Err (Parity number)) (Err Write) → P
+parity_is_no_write number h = cc
+
+-- nor is one that was put
+put_is_no_write : {P : Type 0} (done : Unit {0}) → ◌≡◌ {A = Result (Unit {0}) SegmentFault} (Ok done) (Err Write) → P
+put_is_no_write done h = cc
+
+-- nor is the number of those that were
+count_is_no_write : {P : Type 0} (count : ℕ) → ◌≡◌ {A = Result ℕ SegmentFault} (Ok count) (Err Write) → P
+count_is_no_write count h = cc
+
+-- at a refused packet no write failed
+calm_at_parity : (before now number : ℕ) → now ≡ before →
+    IsCaused before now (◌≡◌ {A = Result ℕ SegmentFault} (Err (Parity number)) (Err Write))
+calm_at_parity before now number same = record {
+  later = omega (arith, same);
+  failed = λ failed. parity_is_no_write number failed;
+  calm = λ _. same;
+}
+
+-- nor at the end
+calm_at_end : (before now count : ℕ) → now ≡ before →
+    IsCaused before now (◌≡◌ {A = Result ℕ SegmentFault} (Ok count) (Err Write))
+calm_at_end before now count same = record {
+  later = omega (arith, same);
+  failed = λ failed. count_is_no_write count failed;
+  calm = λ _. same;
+}
+
+-- no more are written than are judged
+one_more : (count i : ℕ) → count ≤ i → count + 1 ≤ i + 1
+one_more count i few = omega arith
+
+none_more : (count i : ℕ) → count ≤ i → count ≤ i + 1
+none_more count i few = omega arith
 
 pub loop-held-init : goal.loop-held-init
 loop-held-init g c = record {
@@ -30,8 +71,8 @@ returns-in_err-written-clause-value g c =
     let at = rw c.deref-held-items.ensures.value at c.held-item.is in
     let own = own_here s k h within c.requires.ready.kept.own at in
     let told = c.in_err-written.ensures (before_in s k) own in
-    let fault : c.from_residual.result ≡ Err c.in_err-written.field-0.0 = search rules in
-    rw fault (rw told.0 (written_refused s k h.number h (vessel g.K.Sink c.args.out.now)
+    let p = err_from_is_err_and c.from_residual.result c.from_residual.ensures.1 in
+    rw (p.1, p.2) (rw told.0 (written_refused s k h.number h (vessel g.K.Sink c.args.out.now)
     (vessel g.K.Sink c.loop-held.out) c.loop-held.count
     within c.loop-held.invariant.written (at_place s k h (Err h.number) at told.1)))
 
@@ -44,12 +85,9 @@ returns-in_err-written-clause-cause g c =
     let at = rw c.deref-held-items.ensures.value at c.held-item.is in
     let own = own_here s k h within c.requires.ready.kept.own at in
     let told = c.in_err-written.ensures (before_in s k) own in
-    let fault : c.from_residual.result ≡ Err c.in_err-written.field-0.0 = search rules in
-    rw fault (rw told.0 (record {
-      later = omega (arith, c.loop-held.invariant.calm);
-      failed = λ e. absurd (cc e);
-      calm = λ other. c.loop-held.invariant.calm;
-    }))
+    let p = err_from_is_err_and c.from_residual.result c.from_residual.ensures.1 in
+    rw (p.1, p.2) (rw told.0 (calm_at_parity (g.K.Sink.faults c.args.out.now) (g.K.Sink.faults c.loop-held.out) h.number
+    c.loop-held.invariant.calm))
 
 pub returns-in_err-put-clause-value : goal.returns-in_err-put-clause-value
 returns-in_err-put-clause-value g c =
@@ -62,8 +100,9 @@ returns-in_err-put-clause-value g c =
     let told = c.in_ok-written.ensures (before_in s k) own in
     let close : judged (segment_in s) (before_in s k) (h.number, h.packet) ≡ Ok (c.judge.new.packet ∷ []) =
     told ∙ ap (λ (b : Bool). Ok (if b then c.judge.new.packet ∷ [] else [])) c.if-written.true in
-    let fault : c.from_residual-in_err-put.result ≡ Err c.in_err-put.field-0.0 = search rules in
-    rw fault (rw c.in_err-put.ensures.fault (written_short s k h c.judge.new.packet (vessel g.K.Sink c.args.out.now)
+    let p = err_from_is_err_and c.from_residual-in_err-put.result c.from_residual-in_err-put.ensures.1 in
+    rw (p.1, p.2) (rw c.in_err-put.ensures.fault (written_short s k h c.judge.new.packet
+    (vessel g.K.Sink c.args.out.now)
     (vessel g.K.Sink c.loop-held.out) (vessel g.K.Sink c.put.new.out) c.loop-held.count
     within c.loop-held.invariant.written (at_place s k h (Ok (c.judge.new.packet ∷ [])) at close)
     c.in_err-put.ensures.prefix))
@@ -86,8 +125,8 @@ loop-held-preserved g c =
                 (vessel g.K.Sink c.loop-held.out) (vessel g.K.Sink w.put.new.out) c.loop-held.count
                 within c.loop-held.invariant.written (at_place s k h (Ok (c.judge.new.packet ∷ [])) at close)
                 w.in_ok-put.ensures.ok;
-            few = omega (arith, c.loop-held.invariant.few);
-            calm = w.in_ok-put.ensures.cause.calm (λ e. absurd (cc e)) ∙ c.loop-held.invariant.calm;
+            few = one_more c.loop-held.count k c.loop-held.invariant.few;
+            calm = w.in_ok-put.ensures.cause.calm (λ e. put_is_no_write tt e) ∙ c.loop-held.invariant.calm;
           }))
       | else-written w ↦
           let far : judged (segment_in s) (before_in s k) (h.number, h.packet) ≡ Ok [] =
@@ -96,7 +135,7 @@ loop-held-preserved g c =
             written = written_still s k h (vessel g.K.Sink c.args.out.now) (vessel g.K.Sink c.loop-held.out)
                 c.loop-held.count
                 within c.loop-held.invariant.written (at_place s k h (Ok []) at far);
-            few = omega (arith, c.loop-held.invariant.few);
+            few = none_more c.loop-held.count k c.loop-held.invariant.few;
             calm = c.loop-held.invariant.calm;
           }))
     ]
@@ -106,3 +145,8 @@ returns-clause-value g c =
     written_all c.args.self.now c.loop-held.held-index (vessel g.K.Sink c.args.out.now)
     (vessel g.K.Sink c.loop-held.out) c.loop-held.count
     (rw c.deref-held-items.ensures.value at c.loop-held-test.false) c.loop-held.invariant.written
+
+pub returns-clause-cause : goal.returns-clause-cause
+returns-clause-cause g c =
+    calm_at_end (g.K.Sink.faults c.args.out.now) (g.K.Sink.faults c.loop-held.out) c.loop-held.count
+    c.loop-held.invariant.calm

@@ -4,7 +4,7 @@ use Rattle.sd_psi.specs.OurCat.{cat_tuning}
 use Rattle.sd_receive.specs.Listening.{capped}
 use Rattle.sd_receive.specs.Receiving.{receiver_does}
 use Rattle.sd_engine.specs.declared.stage.StageFault.TheVariants.{Write, Refused}
-use Rattle.sd_receive.proofs.Answering.{ok_is_no_err, success_is_calm}
+use Rattle.sd_engine.proofs.Answering.{ok_is_no_err, success_is_calm}
 use Rattle.sd_receive.proofs.Receiving.{counted, idle_untuned, grew_none, ecm_fits}
 use Rattle.sd_receive.proofs.receiver.Receiver.take.Goals as goal
 

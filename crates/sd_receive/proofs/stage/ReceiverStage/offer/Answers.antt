@@ -1,11 +1,10 @@
-use Rattle.std.proofs.Common.{◌∙◌, refl}
+use Rattle.std.proofs.Common.{◌∙◌, refl, ap}
 use Rattle.std.proofs.lemmas.Result.{on_ok_weaker}
-use Rattle.std.specs.Prelude.{Some, Err}
+use Rattle.std.specs.Prelude.{Some}
 use Rattle.sd_engine.specs.Stage.{vessel}
 use Rattle.sd_receive.specs.Receiving.{receiver_refuses}
-use Rattle.sd_engine.specs.declared.stage.StageFault.TheVariants.{Refused}
-use Rattle.sd_receive.proofs.Answering.{err_is_no_ok, refusal_is_no_write, same_refusal, kept_is_answered, none_is_kept}
-use Rattle.sd_receive.proofs.Answering.{refusal_is_calm}
+use Rattle.sd_engine.proofs.Answering.{err_is_no_ok, refusal_is_no_write, same_refusal, kept_is_answered, none_is_kept}
+use Rattle.sd_engine.proofs.Answering.{refusal_is_calm}
 use Rattle.sd_receive.proofs.Receiving.{grew_none, refusing}
 use Rattle.sd_receive.proofs.stage.ReceiverStage.offer.Goals as goal
 
@@ -23,7 +22,7 @@ returns-in-Some-clause-ok g c = tt
 
 pub returns-in-Some-clause-keeps : goal.returns-in-Some-clause-keeps
 returns-in-Some-clause-keeps g c = λ fault same.
-    (c.requires.live, c.in-Some.is ∙ same_refusal (Err (Refused c.in-Some.fault)) c.in-Some.fault fault refl same)
+    (c.requires.live, c.in-Some.is ∙ ap Some (same_refusal c.in-Some.fault fault same))
 
 pub returns-in-Some-clause-again : goal.returns-in-Some-clause-again
 returns-in-Some-clause-again g c = λ fault kept.

@@ -1,8 +1,0 @@
-pub mod Covers
-pub mod LayerCovers
-pub mod Tracing
-pub mod Coalition
-pub mod Others
-pub mod Carding
-pub mod NoFloat
-pub mod ShownCards

@@ -1,5 +1,0 @@
-use Rattle.sd_run_cards.proofs.LayerCovers.{sets_unite}
-use Rattle.sd_run_cards.proofs.laws.printed_useful_sets_unite.Goals as goal
-
-pub returns-clause-unites : goal.returns-clause-unites
-returns-clause-unites c = sets_unite

@@ -1,4 +1,0 @@
-pub mod Cutting
-pub mod Playing
-pub mod Telling
-pub mod Others

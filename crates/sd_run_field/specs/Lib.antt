@@ -1,3 +1,0 @@
-pub mod Field
-pub mod Played
-pub mod Clear
