@@ -1,6 +1,6 @@
 //! What useful sets and covers by them come to, and the names in layers, layer cards, their keys and their file.
 
-ghost use Rattle.std.specs.Prelude.{◌≡◌, ◌+◌, ◌≤◌, ◌<◌, ◌^◌, ◌↔◌, ◌⊎◌, ℕ, List, All, Any, Contains, None, true, length};
+ghost use Rattle.std.specs.Prelude.{◌≡◌, ◌+◌, ◌≤◌, ◌<◌, ◌^◌, ◌↔◌, ◌⊎◌, ℕ, List, All, Any, Contains, true, length};
 ghost use Rattle.std.specs.Prelude.{◌%◌};
 ghost use Rattle.sd_tree.specs.Leaves.{is_member, unrevoked};
 ghost use Rattle.sd_tree.specs.SetNames.{IsOfHeight};
@@ -13,7 +13,6 @@ ghost use Rattle.sd_lsd.specs.Layers.{is_useful, layer_end};
 ghost use Rattle.sd_lsd.specs.Cover.{IsLayerCover, IsDoubleSmall, layer_cover_of};
 ghost use Rattle.sd_lsd.specs.LayerNames.{layer_given, layer_count, ReachesItsUseful};
 ghost use Rattle.sd_lsd.specs.Fields.{LayerFields, IsLayerCard, layer_card_of, layer_bytes, layer_key};
-ghost use Rattle.sd_lsd.specs.Faults.{fault_in};
 ghost use Rattle.sd_cover.specs.Partition.{IsPartition};
 
 /// How many names a leaf is given in layers; and of width 1, and of the tree's height, all that it is given without.
@@ -38,14 +37,13 @@ pub fn layer_cover_reached()
         Any (λ name. IsReached (layer_given d w u) (Key name)) sets ↔ ¬ Contains revoked u }
 {}
 
-/// A layer card's file says that layer card alone, and nothing is wrong with it. So one that is written is read again.
-#[tactic(auto, using(sd_lsd::proofs::Spellings::written_once, sd_lsd::proofs::Spellings::written_is_good))]
+/// A layer card's file says that layer card alone.
+#[tactic(auto, using(sd_lsd::proofs::Spellings::written_once))]
 pub fn layer_card_files()
-    ensures sound { (a b : LayerFields) → IsLayerCard a → IsLayerCard b → layer_bytes a ≡ layer_bytes b → a ≡ b }
-    ensures complete { (card : LayerFields) → IsLayerCard card → fault_in (layer_bytes card) ≡ None }
+    ensures { (a b : LayerFields) → IsLayerCard a → IsLayerCard b → layer_bytes a ≡ layer_bytes b → a ≡ b }
 {}
 
-/// The layer card of a leaf is a layer card. So the file that is made for a leaf is read, as this card.
+/// The layer card of a leaf is a layer card. So the file that is made for a leaf says this card alone.
 #[tactic(auto, using(sd_lsd::proofs::Made::made_is_card))]
 pub fn made_layer_cards()
     ensures { (master : List ℕ) (ca d w u : ℕ) → ca < 2 ^ 16 → 1 ≤ d → d ≤ highest → 1 ≤ w → w ≤ d → u < 2 ^ d →

@@ -1,17 +1,15 @@
 -- The names that a leaf is given in layers.
-use Rattle.std.proofs.Common.{ℕ, zero, suc, ◌+◌, ◌-◌, ◌/◌, ◌%◌, ◌^◌, ◌<◌, ◌≤◌, ◌≡◌, ◌||◌, ◌==◌, ◌⊎◌, Bool, true}
+use Rattle.std.proofs.Common.{ℕ, ◌+◌, ◌-◌, ◌/◌, ◌%◌, ◌^◌, ◌<◌, ◌≤◌, ◌≡◌, ◌||◌, ◌==◌, ◌⊎◌, Bool, true}
 use Rattle.std.proofs.Common.{false, cond, min, List, ◌∷◌, map, take, length, get_or, refl, sym, ap, ◌∙◌, ⊎_elim}
 use Rattle.std.proofs.Common.{arith}
-use Rattle.std.specs.Prelude.{All, Contains, filter, sum_by, nat_le, slice_get, Some}
+use Rattle.std.specs.Prelude.{All, Contains, filter, sum_by, nat_le}
 use Rattle.std.proofs.lemmas.List.Elements.{Contains-get_or}
 use Rattle.std.specs.List.{range_with_len, flat_map}
 use Rattle.std.proofs.Math.Nat.{le-min, min-le_left, min-le_right}
 use Rattle.std.proofs.Math.Pow.{pow_mono}
 use Rattle.std.proofs.lemmas.Bool.{le-leb, lt-leb, cases_lt}
-use Rattle.std.proofs.lemmas.Option.{slice_get-get_or}
-use Rattle.std.proofs.lemmas.List.{length-take-le, get_or-take}
-use Rattle.std.proofs.lemmas.List.Concat.{length-flat_map, get_or-flat_map}
-use Rattle.std.proofs.lemmas.List.FromFn.{length-range_with_len, get_or-range_with_len, get_or-map-range_with_len}
+use Rattle.std.proofs.lemmas.List.{length-take-le}
+use Rattle.std.proofs.lemmas.List.Concat.{length-flat_map}
 use Rattle.sd_tree.specs.Node.{depth}
 use Rattle.sd_tree.specs.Paths.{path_node, sibling_of}
 use Rattle.sd_tree.specs.SetNames.{IsOfHeight, IsPair}
@@ -28,7 +26,7 @@ use Rattle.sd_site.proofs.MadeSecrets.{path_half}
 use Rattle.sd_lsd.specs.Layers.{is_useful, layer_end}
 use Rattle.sd_lsd.proofs.Layers.{useful_everywhere}
 use Rattle.sd_lsd.specs.LayerNames.{set_of, is_useful_name, layer_given, pairs_under, pairs_above, layer_count}
-use Rattle.sd_lsd.proofs.Pairs.{under_within, place_within}
+use Rattle.sd_lsd.proofs.Pairs.{under_within}
 use Rattle.sd_lsd.proofs.Filters.{all_kept, first_kept, lists_kept}
 
 -- ---- sets of names
@@ -156,40 +154,3 @@ pub length_layer_given : (d w u : ℕ) → d ≤ 20 → u < 2 ^ d → length (la
 unfolding layer_count
 length_layer_given d w u low leaf =
     ap length (layer_given_parts d w u low leaf) ∙ omega (arith, length_first d w u d)
-
--- ---- their places
-
-take_range : (s n k : ℕ) → k ≤ n → take k (range_with_len s n) ≡ range_with_len s k
-take_range s n zero le = refl
-take_range s zero (suc k) le = absurd (omega arith)
-take_range s (suc n) (suc k) le = ap (λ (ks : List ℕ). s ∷ ks) (take_range (s + 1) n k (omega arith))
-
--- the pair among those of its ancestor
-useful_pair : (d w u a b r : ℕ) → a + 1 + r ≡ b → b ≤ d → r < pairs_under d w a
-    → get_or (useful_under d w u a) r Whole ≡ pair_of d u a b
-unfolding given_under
-useful_pair d w u a b r at le within =
-    get_or-take (pairs_under d w a) (given_under d u a) r Whole within
-    ∙ get_or-map-range_with_len (pair_of d u a) (a + 1) (d - a) r b Whole (omega arith) at
-
--- the pair among all names
-pub pair_at : (d w u a b : ℕ) → d ≤ 20 → u < 2 ^ d → a < b → b ≤ d → b - a ≤ pairs_under d w a
-    → slice_get (layer_given d w u) (pairs_above d w a + (b - a)) ≡ Some (pair_of d u a b)
-pair_at d w u a b low leaf less le within =
-    let r : ℕ = b - a - 1 in
-    let all : List ℕ = range_with_len 0 d in
-    let F : ℕ → List Name = useful_under d w u in
-    let k : ℕ = pairs_above d w a + (b - a) in
-    let place : k ≡ suc (pairs_above d w a + r) = omega arith in
-    let here : get_or all a 0 ≡ a = get_or-range_with_len 0 d a 0 (omega arith) ∙ omega arith in
-    let before : length (flat_map F (take a all)) ≡ pairs_above d w a =
-    ap (λ (ks : List ℕ). length (flat_map F ks)) (take_range 0 d a (omega arith)) ∙ length_first d w u a in
-    let long : r < length (F a) = omega (arith, length_useful d w u a) in
-    let there = get_or-flat_map F all a r 0 Whole (omega (arith, length-range_with_len 0 d)) (rw here long) in
-    let found : get_or (flat_map F all) (pairs_above d w a + r) Whole ≡ pair_of d u a b =
-    rw (before, here) at there ∙ useful_pair d w u a b r (omega arith) le (omega arith) in
-    let inside : k < length (layer_given d w u) =
-    omega (arith, place_within d w a b less le within, length_layer_given d w u low leaf) in
-    slice_get-get_or (layer_given d w u) k Whole inside
-    ∙ ap Some (ap (λ (names : List Name). get_or names k Whole) (layer_given_parts d w u low leaf)
-    ∙ (ap (λ (n : ℕ). get_or (layer_first d w u d) n Whole) place ∙ found))

@@ -1,77 +1,12 @@
--- A layer card's file says one card, and nothing is wrong with it.
-use Rattle.std.proofs.Common.{ℕ, ◌+◌, ◌^◌, ◌<◌, ◌≤◌, ◌≡◌, List, [], ◌∷◌, length, take, None, sym, refl, ap}
+-- A layer card's file says one card.
+use Rattle.std.proofs.Common.{ℕ, ◌+◌, ◌^◌, ◌<◌, ◌≡◌, List, [], ◌∷◌, length, sym, refl, ap}
 use Rattle.std.proofs.Common.{◌∙◌, arith}
-use Rattle.std.proofs.lemmas.Bool.{eqb-true, leb-true, le-leb, and_parts, and_from, ltb-true, lt-ltb}
-use Rattle.std.proofs.lemmas.Slice.Eq.{bytes_eq-Decides}
-use Rattle.std.proofs.lemmas.Bool.Decides.{Decides-eqb}
 use Rattle.std.proofs.Math.Pow.{pow_mono}
-use Rattle.sd_site.specs.Files.{AreKept, byte_at, check_in, check_due, file_body, file_bytes}
-use Rattle.sd_site.proofs.Written.{AreBytes, passed, goes, secrets_once}
-use Rattle.sd_site.proofs.Heads.{IsFileOf, sound_is_file, file_is_sound}
+use Rattle.sd_site.specs.Files.{byte_at, number_in, file_body, file_bytes}
+use Rattle.sd_site.proofs.Written.{secrets_once}
+use Rattle.sd_site.proofs.Heads.{IsFileOf, file_is_sound}
 use Rattle.sd_lsd.specs.LayerNames.{layer_count}
 use Rattle.sd_lsd.specs.Fields.{LayerFields, IsLayerCard, saying, layer_head, layer_bytes, layer_magic}
-use Rattle.sd_lsd.specs.Faults.{height_in, width_in, leaf_in, ca_in, length_at, fault_in}
-
--- what nothing is wrong with
-pub record IsGood (bytes : List ℕ) : Type 0 where
-  pub magic : layer_magic ≡ take 4 bytes
-  pub version : byte_at bytes 4 ≡ 1
-  pub height : (1 ≤ height_in bytes) × (height_in bytes ≤ 20)
-  pub width : (1 ≤ width_in bytes) × (width_in bytes ≤ height_in bytes)
-  pub leaf : leaf_in bytes < 2 ^ height_in bytes
-  pub size : length bytes ≡ length_at (height_in bytes) (width_in bytes)
-  pub check : check_in bytes ≡ check_due bytes
-
--- where there is no fault, each field is good
-pub good_parts : (bytes : List ℕ) → fault_in bytes ≡ None → IsGood bytes
-unfolding fault_in
-good_parts bytes e =
-    let magic = passed _ _ _ e in
-    let version = passed _ _ _ magic.1 in
-    let height = passed _ _ _ version.1 in
-    let width = passed _ _ _ height.1 in
-    let leaf = passed _ _ _ width.1 in
-    let size = passed _ _ _ leaf.1 in
-    let check = passed _ _ _ size.1 in
-    let range = and_parts _ _ height.0 in
-    let wide = and_parts _ _ width.0 in
-    record {
-      magic = (bytes_eq-Decides _ _).0 magic.0;
-      version = eqb-true _ _ version.0;
-      height = (leb-true _ _ range.0, leb-true _ _ range.1);
-      width = (leb-true _ _ wide.0, leb-true _ _ wide.1);
-      leaf = ltb-true _ _ leaf.0;
-      size = eqb-true _ _ size.0;
-      check = (bytes_eq-Decides _ _).0 check.0;
-    }
-
--- what is read from bytes with which nothing is wrong is a layer card that they spell
-pub read_is_spelled : (bytes : List ℕ) (d w u ca : ℕ) (secrets : List (List ℕ)) → AreBytes bytes → fault_in bytes ≡ None
-    → d ≡ height_in bytes → w ≡ width_in bytes → u ≡ leaf_in bytes → ca ≡ ca_in bytes → AreKept bytes 13 secrets
-    → IsLayerCard (saying d w u ca secrets) × (bytes ≡ layer_bytes (saying d w u ca secrets))
-unfolding length_at layer_bytes layer_head
-read_is_spelled bytes d w u ca secrets fits none height width leaf system kept =
-    let good = good_parts bytes none in
-    let d_in = height_in bytes in
-    let w_in = width_in bytes in
-    let file = sound_is_file bytes layer_magic (1 ∷ d_in ∷ w_in ∷ []) 3 (layer_count d_in w_in + 1) secrets fits
-    (record {
-      start = good.magic;
-      fields = ap (λ (v : ℕ). v ∷ d_in ∷ w_in ∷ []) (sym good.version);
-      size = good.size;
-      check = good.check;
-    }) kept in
-    rw (height, width, leaf, system) (
-      record {
-        height = good.height;
-        width = good.width;
-        leaf = good.leaf;
-        ca = file.1;
-        count = file.0;
-        secrets = kept.long;
-      },
-      file.2,
-    )
 
 -- a layer card's file has its start, its fields, its numbers, its length and its check
 written : (card : LayerFields) → IsLayerCard card
@@ -85,7 +20,7 @@ written card is =
     (layer_count card.height card.width + 1) card.secrets refl refl low is.ca is.count is.secrets
 
 -- so it names the height
-pub height_written : (card : LayerFields) → byte_at (layer_bytes card) 5 ≡ card.height
+height_written : (card : LayerFields) → byte_at (layer_bytes card) 5 ≡ card.height
 unfolding layer_bytes file_bytes file_body layer_head
 height_written card = refl
 
@@ -95,33 +30,12 @@ unfolding layer_bytes file_bytes file_body layer_head
 width_written card = refl
 
 -- the leaf
-pub leaf_written : (card : LayerFields) → IsLayerCard card → leaf_in (layer_bytes card) ≡ card.leaf
+leaf_written : (card : LayerFields) → IsLayerCard card → number_in (layer_bytes card) 7 4 ≡ card.leaf
 leaf_written card is = (written card is).leaf
 
 -- and the system
-pub ca_written : (card : LayerFields) → IsLayerCard card → ca_in (layer_bytes card) ≡ card.ca
+ca_written : (card : LayerFields) → IsLayerCard card → number_in (layer_bytes card) 11 2 ≡ card.ca
 ca_written card is = (written card is).ca
-
--- nothing is wrong with a layer card's file
-pub written_is_good : (card : LayerFields) → IsLayerCard card → fault_in (layer_bytes card) ≡ None
-unfolding fault_in length_at
-written_is_good card is =
-    let file = written card is in
-    let bytes : List ℕ = layer_bytes card in
-    let version : byte_at bytes 4 ≡ 1 = ap (λ (r : List ℕ). byte_at r 0) (sym file.sound.fields) in
-    let height : (1 ≤ byte_at bytes 5) × (byte_at bytes 5 ≤ 20) = rw (height_written card) is.height in
-    let width : (1 ≤ byte_at bytes 6) × (byte_at bytes 6 ≤ byte_at bytes 5) =
-    rw (height_written card, width_written card) is.width in
-    let leaf : leaf_in bytes < 2 ^ byte_at bytes 5 = rw (file.leaf, height_written card) is.leaf in
-    let size : length bytes ≡ length_at (byte_at bytes 5) (byte_at bytes 6) =
-    rw (height_written card, width_written card) file.sound.size in
-    goes _ _ _ ((bytes_eq-Decides _ _).1 file.sound.start)
-    (goes _ _ _ ((Decides-eqb _ _).1 version)
-    (goes _ _ _ (and_from _ _ (le-leb _ _ height.0) (le-leb _ _ height.1))
-    (goes _ _ _ (and_from _ _ (le-leb _ _ width.0) (le-leb _ _ width.1))
-    (goes _ _ _ (lt-ltb _ _ leaf)
-    (goes _ _ _ ((Decides-eqb _ _).1 size)
-    (goes _ _ _ ((bytes_eq-Decides _ _).1 file.sound.check) refl))))))
 
 -- a layer card's file says that card alone
 pub written_once : (a b : LayerFields) → IsLayerCard a → IsLayerCard b → layer_bytes a ≡ layer_bytes b → a ≡ b
@@ -131,8 +45,8 @@ written_once a b is_a is_b e =
     sym (height_written a) ∙ (ap (λ (r : List ℕ). byte_at r 5) e ∙ height_written b) in
     let width : a.width ≡ b.width =
     sym (width_written a) ∙ (ap (λ (r : List ℕ). byte_at r 6) e ∙ width_written b) in
-    let leaf : a.leaf ≡ b.leaf = sym (leaf_written a is_a) ∙ (ap leaf_in e ∙ leaf_written b is_b) in
-    let ca : a.ca ≡ b.ca = sym (ca_written a is_a) ∙ (ap ca_in e ∙ ca_written b is_b) in
+    let leaf : a.leaf ≡ b.leaf = sym (leaf_written a is_a) ∙ (ap (λ (r : List ℕ). number_in r 7 4) e ∙ leaf_written b is_b) in
+    let ca : a.ca ≡ b.ca = sym (ca_written a is_a) ∙ (ap (λ (r : List ℕ). number_in r 11 2) e ∙ ca_written b is_b) in
     let count : length a.secrets ≡ length b.secrets =
     is_a.count ∙ (rw (height, width) (sym is_b.count)) in
     let secrets = secrets_once _ _ a.secrets b.secrets 13 refl refl is_a.secrets is_b.secrets count e in

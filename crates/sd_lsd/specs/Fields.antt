@@ -3,7 +3,7 @@ use Rattle.std.specs.Prelude.{◌≡◌, ℕ, ◌+◌, ◌^◌, ◌<◌, ◌≤�
 use Rattle.sd_tree.specs.Limits.{highest}
 use Rattle.sd_tree.specs.declared.set.SetName.{SetName}
 use Rattle.sd_site.specs.Files.{AreSecrets, head_of, file_bytes}
-use Rattle.sd_site.specs.Secrets.{secret_of, DerivesKey, key_held}
+use Rattle.sd_site.specs.Secrets.{secret_of, key_held}
 use Rattle.sd_lsd.specs.LayerNames.{layer_given, layer_count}
 use Rattle.sd_lsd.specs.declared.card.LayerCard.{LayerCard}
 
@@ -57,8 +57,3 @@ layer_bytes card = file_bytes (layer_head card.height card.width card.leaf card.
 -- the key that a layer card gives for a set [Halevy, Shamir 2002, 3]
 abbrev pub layer_key : LayerFields → SetName → List ℕ
 layer_key card name = key_held (layer_given card.height card.width card.leaf) card.secrets name
-
--- the key is derived from what the layer card holds, by so many steps
-abbrev pub LayerDerives : LayerFields → SetName → List ℕ → ℕ → Type 0
-LayerDerives card name key taken =
-    DerivesKey (layer_given card.height card.width card.leaf) card.secrets name key taken

@@ -19,33 +19,3 @@ pub struct LayerCard {
     ghost leaf_in: { leaf < 2 ^ height },
     ghost count: { length secrets.items ≡ layer_count height width + 1 },
 }
-
-impl LayerCard {
-    /// The height of the tree of receivers.
-    pub fn height(&self) -> Height
-        ensures { result ≡ self.now.height }
-    {
-        self.height
-    }
-
-    /// The width of the layers.
-    pub fn width(&self) -> Width
-        ensures { result ≡ self.now.width }
-    {
-        self.width
-    }
-
-    /// The receiver's leaf.
-    pub fn leaf(&self) -> Leaf
-        ensures { result ≡ self.now.leaf }
-    {
-        self.leaf
-    }
-
-    /// The conditional access system that the card belongs to.
-    pub fn ca(&self) -> u16
-        ensures { result ≡ self.now.ca }
-    {
-        self.ca
-    }
-}

@@ -4,17 +4,13 @@
 mod card;
 mod counts;
 mod cover;
-mod fault;
 mod format;
-mod key;
 mod layer;
 mod make;
-mod read;
 mod width;
 mod write;
 
 pub use card::LayerCard;
 pub use cover::layered_cover;
-pub use fault::LayerFault;
 pub use layer::{layer_end, useful};
 pub use width::Width;
