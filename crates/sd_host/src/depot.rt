@@ -1,11 +1,11 @@
-ghost use Rattle.std.specs.Prelude.{◌≡◌, ◌↔◌, None, Err, IfOk, IsErrOf, IsTrue};
+ghost use Rattle.std.specs.Prelude.{◌≡◌, ◌≢◌, ◌↔◌, None, Err, IfOk, IsErrOf, IsTrue, []};
 ghost use Rattle.sd_base.specs.Count.{IsCaused};
 ghost use Rattle.sd_ports.specs.Causes.{HasDepotCause};
 ghost use Rattle.sd_host.specs.Faults.{fault_of, faults_after, misses_after};
 ghost use Rattle.sd_host.specs.Kept.{IsThrough};
 
 use crate::identity;
-use crate::identity::Identity;
+use crate::identity::{Identity, Output};
 use crate::inlet::HostInlet;
 use crate::outlet::{BUFFER, HostOutlet};
 use crate::target::Target;
@@ -20,7 +20,7 @@ use std::io::ErrorKind;
 pub struct HostDepot<'a, R> {
     files: &'a R,
     private: bool,
-    output: Option<Identity>,
+    output: Output,
     inputs: Vec<Identity>,
     faults: u64,
     stops: u64,
@@ -33,6 +33,8 @@ pub struct HostDepot<'a, R> {
 impl<'a, R: Files + Print> HostDepot<'a, R> {
     /// The files, with counts of 0. A private depot makes files that are their owner's alone.
     pub fn new(alloc: Global, files: &'a R, private: bool) -> HostDepot<'a, R>
+        ensures private { result.private ≡ private }
+        ensures inputs { result.inputs.items ≡ [] }
         ensures faults { result.faults ≡ 0 }
         ensures stops { result.stops ≡ 0 }
         ensures misses { result.misses ≡ 0 }
@@ -55,8 +57,17 @@ impl<'a, R: Files + Print> HostDepot<'a, R> {
     }
 
     /// Whether the file of that name is the standard output, and that a regular file, a pipe or a socket.
-    pub fn is_output(&self, name: &str) -> bool {
+    pub fn is_output(&self, name: &str) -> bool
+        ensures { IsTrue result → (file : Identity) × (self.now.output ≡ Output.Known file) }
+    {
         identity::is_output(self.files, self.output, name)
+    }
+
+    /// Whether the standard output could be looked at. If not, a file that is the standard output isn't recognized.
+    pub fn knows_output(&self) -> bool
+        ensures { IsTrue result ↔ (self.now.output ≢ Output.Unknown) }
+    {
+        self.output != Output::Unknown
     }
 
     /// Where a file of that name is written, which is the standard output or not.

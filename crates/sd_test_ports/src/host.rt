@@ -202,7 +202,8 @@ fn the_output_is_written_through(rt: HostRuntime) -> io::Result<()> {
         fs::write(&rt, OUTPUT, b"kept ")?;
         let mut depot = HostDepot::new(alloc, &machine, false);
         assert!(rt;
-            depot.is_output(name)
+            depot.knows_output()
+                && depot.is_output(name)
                 && machine_call(alloc, &mut depot, name, Call::Write(TEXT)).is_ok()
         );
         // It may not be read.
@@ -220,8 +221,24 @@ fn the_output_is_written_through(rt: HostRuntime) -> io::Result<()> {
         trouble: Trouble::None,
     };
     let depot = HostDepot::new(alloc, &machine, false);
+    assert!(rt; depot.knows_output());
     assert!(rt; !depot.is_output("/dev/null") && !depot.is_output("/dev/stdout"));
     Ok(())
+}
+
+#[test]
+fn an_output_out_of_sight_is_not_known(rt: HostRuntime) -> io::Result<()> {
+    let alloc = rt.alloc();
+    let machine = Machine {
+        rt: &rt,
+        output: "no such file",
+        trouble: Trouble::None,
+    };
+    fs::write(&rt, OUTPUT, TEXT)?;
+    let depot = HostDepot::new(alloc, &machine, false);
+    assert!(rt; !depot.knows_output());
+    assert!(rt; !depot.is_output(OUTPUT) && !depot.is_output("/dev/stdout"));
+    fs::remove_file(&rt, OUTPUT)
 }
 
 // Troubles, and what is then read and written.
