@@ -41,4 +41,5 @@ with_input inputs kind.Other file = inputs
 -- the output is written through the descriptor of the standard output, and no file was opened for it
 abbrev pub IsThrough : {R F D : Type 0} → Target R F D → Type 0
 IsThrough (target.File file) = ⊥
+IsThrough (target.New file) = ⊥
 IsThrough (target.Output files) = Unit {0}

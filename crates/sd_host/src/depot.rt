@@ -126,8 +126,6 @@ impl<'a, R: Files + Print> Depot for HostDepot<'a, R> {
 
     ghost calls = { λ d. d.calls };
 
-    fn hold_bytes(&self, _name: &str) {}
-
     fn open_in(&mut self, _alloc: Global, name: &str) -> Result<HostInlet<R::File>, DepotFault> {
         self.calls = self.calls.saturating_add(1);
         match identity::open(self.files, &mut self.inputs, self.output, name) {
@@ -160,6 +158,27 @@ impl<'a, R: Files + Print> Depot for HostDepot<'a, R> {
         Ok(HostOutlet::new(target, buffer))
     }
 
+    /// The memory is taken before the file is made. No link is followed, and the standard output is never written so: its
+    /// name is there.
+    fn create_new(
+        &mut self,
+        alloc: Global,
+        name: &str,
+    ) -> Result<Option<HostOutlet<Target<'a, R>>>, DepotFault> {
+        self.calls = self.calls.saturating_add(1);
+        let Ok(buffer) = Vec::with_capacity(alloc, BUFFER) else {
+            return Err(DepotFault::NoMemory);
+        };
+        let file = match identity::create_new(self.files, self.private, name) {
+            Ok(Some(file)) => file,
+            Ok(None) => return Ok(None),
+            Err(error) => return self.refuse(error.kind()),
+        };
+        self.made = self.made.saturating_add(1);
+        self.opened = self.opened.wrapping_add(1);
+        Ok(Some(HostOutlet::new(Target::New(file), buffer)))
+    }
+
     fn close_in(&mut self, port: HostInlet<R::File>) {
         self.calls = self.calls.saturating_add(1);
         self.opened = self.opened.wrapping_sub(1);
@@ -168,10 +187,10 @@ impl<'a, R: Files + Print> Depot for HostDepot<'a, R> {
         self.stops = self.stops.saturating_add(faults);
     }
 
-    /// Writes what still waits.
+    /// Writes what still waits, and brings a file that was made new to the disk.
     fn close_out(
         &mut self,
-        _name: &str,
+        name: &str,
         mut port: HostOutlet<Target<'a, R>>,
     ) -> Result<(), DepotFault> {
         self.calls = self.calls.saturating_add(1);
@@ -179,12 +198,10 @@ impl<'a, R: Files + Print> Depot for HostDepot<'a, R> {
         let faults = port.faults();
         self.faults = self.faults.saturating_add(faults);
         self.stops = self.stops.saturating_add(faults);
-        match port.send() {
-            Ok(()) => Ok(()),
-            Err(_) => {
-                self.faults = self.faults.saturating_add(1);
-                Err(DepotFault::Failed)
-            }
+        if port.send().is_ok() && port.file().sync(self.files, name).is_ok() {
+            return Ok(());
         }
+        self.faults = self.faults.saturating_add(1);
+        Err(DepotFault::Failed)
     }
 }

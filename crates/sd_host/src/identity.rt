@@ -197,6 +197,35 @@ pub fn create<R: Files>(
     Ok(file)
 }
 
+/// Makes a file that is new, and opens it for writing; a private one is its owner's alone. `None` is a name that is
+/// there already.
+pub fn create_new<R: Files>(files: &R, private: bool, name: &str) -> io::Result<Option<R::File>> {
+    let made = OpenOptions::new()
+        .write(true)
+        .create_new(true)
+        .mode(mode_of(private))
+        .open(files, name);
+    match made {
+        Ok(file) => Ok(Some(file)),
+        Err(error) if error.kind() == ErrorKind::AlreadyExists => Ok(None),
+        Err(error) => Err(error),
+    }
+}
+
+/// Brings a folder's names to the disk.
+pub fn sync_folder<R: Files>(files: &R, folder: &str) -> io::Result<()> {
+    fs::open(files, folder)?.sync_all()
+}
+
+/// The folder of the file of that name.
+pub fn folder_of(name: &str) -> &str {
+    match name.rsplit_once('/') {
+        Some(("", _)) => "/",
+        Some((folder, _)) => folder,
+        None => ".",
+    }
+}
+
 /// Who may read and write a file that is made.
 fn mode_of(private: bool) -> u32
     ensures { result ≡ (if private then 0o600 else 0o666) }

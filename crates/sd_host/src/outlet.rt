@@ -39,6 +39,13 @@ impl<F: Write + Drop> HostOutlet<F> {
         }
     }
 
+    /// The file.
+    pub(crate) fn file(&self) -> &F
+        ensures { result.now ≡ self.now.file.writer }
+    {
+        self.file.writer()
+    }
+
     /// How many writes failed.
     pub(crate) fn faults(&self) -> u64
         ensures { result ≡ self.now.file.faults }

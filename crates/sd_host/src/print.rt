@@ -22,6 +22,13 @@ impl<W: Write + Drop> StdPrint<W> {
         StdPrint { writer, faults: 0 }
     }
 
+    /// The writer.
+    pub(crate) fn writer(&self) -> &W
+        ensures { result.now ≡ self.now.writer }
+    {
+        &self.writer
+    }
+
     /// How many writes failed.
     pub(crate) fn faults(&self) -> u64
         ensures { result ≡ self.now.faults }
