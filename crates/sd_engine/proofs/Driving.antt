@@ -1,8 +1,8 @@
 -- How a drive goes on by a packet, and how it ends.
 use Rattle.std.proofs.Common.{◌≡◌, ℕ, suc, ◌+◌, ◌*◌, ◌<◌, ◌≤◌, List, [], ◌∷◌, ◌++◌, length, take, get_or}
-use Rattle.std.proofs.Common.{refl, sym, ap, subst, ◌∙◌, arith, append_assoc, append-nil, length-append}
+use Rattle.std.proofs.Common.{refl, sym, ap, subst, ◌∙◌, inl, inr, arith, append_assoc, append-nil, length-append}
 use Rattle.std.specs.Prelude.{Option, None, Some, Result, Ok, Err, slice_get}
-use Rattle.std.specs.Io.KnownBytes.{Consumes}
+use Rattle.std.specs.Io.KnownBytes.{Appends, Consumes}
 use Rattle.std.proofs.KnownBytes.{Consumes-trans, Consumes-nil}
 use Rattle.std.proofs.Math.Seq.{take-append_seam, get_or-append_seam}
 use Rattle.std.proofs.lemmas.List.{take_all}
@@ -15,11 +15,11 @@ use Rattle.sd_engine.specs.Stream.{ArePackets, pieces, packets_of, break_after}
 use Rattle.sd_engine.specs.Stage.{SinkState, HasGrown, IsCutShort, IsAllowed, Chain}
 use Rattle.sd_engine.specs.Feeding.{ReadsMore, GivesPacket, GivesNone, TakesPacket, IsBroken, FeedStop}
 use Rattle.sd_engine.specs.declared.feed.FeedFault.{FeedFault}
-use Rattle.sd_engine.specs.declared.feed.FeedFault.TheVariants.{Read, Break}
+use Rattle.sd_engine.specs.declared.feed.FeedFault.TheVariants.{Read, Write, Break}
 use Rattle.sd_engine.specs.Driving.{DriveState, moment, IsUnderWay, IsWhole, ChainToEnd, PassesPackets, IsStopped}
-use Rattle.sd_engine.specs.Driving.{IsStreamBroken}
+use Rattle.sd_engine.specs.Driving.{IsHeldUp, IsStreamBroken}
 use Rattle.sd_engine.specs.declared.stage.StageFault.{StageFault}
-use Rattle.sd_engine.specs.declared.stage.StageFault.TheVariants.{Write, Refused as StageRefused}
+use Rattle.sd_engine.specs.declared.stage.StageFault.TheVariants.{Write as StageWrite, Refused as StageRefused}
 use Rattle.sd_engine.specs.declared.driver.DriveFault.{DriveFault}
 use Rattle.sd_engine.specs.declared.driver.DriveFault.TheVariants.{Broken, TooLong, ReadFault, WriteFault, Refused}
 use Rattle.sd_engine.specs.Driving.{DriveOutcome, IsClosed, stopped_by, broken_by, overrun_by, IsRefused}
@@ -113,24 +113,52 @@ prefix_of count taken rest are =
       ),
     )
 
--- a read failed
-pub read_failed : {S : Type 0} (does : S → List ℕ → S → List ℕ → ℕ → Type 0) (a : DriveState S)
+-- so many packets went through, and then some bytes were lost, or none
+some_went : {S : Type 0} (does : S → List ℕ → S → List ℕ → ℕ → Type 0) (a : DriveState S)
     (left left' : Option (List ℕ)) (sink : SinkState) (stage : S) (steps count : ℕ) (old : List ℕ)
     → IsUnderWay does a (moment left sink stage steps) count old → LosesPrefix left left' → count ≤ most_packets
-    → (n : ℕ) × IsStopped does a (moment left' sink stage steps) n
-read_failed does a left left' sink stage steps count old way lost few =
-    let prefix = prefix_of count way.taken (old ++ lost.0) way.packets in (
-      count,
-      record {
-        bytes = way.taken ++ (old ++ lost.0);
-        read = reads_on a.left left left' way.taken old (old ++ lost.0) way.read
-            (record { bytes = lost.0; consumed = lost.1; joined = refl });
-        enough = prefix.1;
-        few = few;
-        passed = subst (λ (ps : List (List ℕ)). PassesPackets does a ps (moment left' sink stage steps)) (sym prefix.0)
-            way.passed;
-      },
-    )
+    → IsStopped does a (moment left' sink stage steps) count
+some_went does a left left' sink stage steps count old way lost few =
+    let prefix = prefix_of count way.taken (old ++ lost.0) way.packets in
+    record {
+      bytes = way.taken ++ (old ++ lost.0);
+      read = reads_on a.left left left' way.taken old (old ++ lost.0) way.read
+          (record { bytes = lost.0; consumed = lost.1; joined = refl });
+      enough = prefix.1;
+      few = few;
+      passed = subst (λ (ps : List (List ℕ)). PassesPackets does a ps (moment left' sink stage steps)) (sym prefix.0)
+          way.passed;
+    }
+
+-- a sink that tells what it holds told it before
+untold_before : (before now : Option (List ℕ)) (bytes : List ℕ) → Appends before now bytes → now ≡ None → before ≡ None
+untold_before None now bytes taken none = refl
+untold_before (Some held) now bytes taken none =
+    absurd (subst (λ (later : Option (List ℕ)). Appends (Some held) later bytes) none taken)
+
+-- what waited in the sink could not be handed on
+write_failed : {S : Type 0} (does : S → List ℕ → S → List ℕ → ℕ → Type 0) (a : DriveState S)
+    (left left' : Option (List ℕ)) (sink : SinkState) (stage : S) (steps count : ℕ) (old : List ℕ)
+    → IsUnderWay does a (moment left sink stage steps) count old → left' ≡ left → sink.held ≡ None →
+    count ≤ most_packets → IsHeldUp does a (moment left' sink stage steps)
+write_failed does a left left' sink stage steps count old way same none few = record {
+  count = count;
+  untold = untold_before a.sink.held sink.held way.passed.bytes way.passed.taken none;
+  stopped = some_went does a left left' sink stage steps count old way
+      (subst (LosesPrefix left) (sym same) ([], Consumes-nil left)) few;
+}
+
+-- the sink handed on what waited, which changes nothing that it tells
+pub handed_on : {S : Type 0} (does : S → List ℕ → S → List ℕ → ℕ → Type 0) (a : DriveState S)
+    (left : Option (List ℕ)) (sink sink' : SinkState) (stage : S) (steps count : ℕ) (old : List ℕ)
+    → IsUnderWay does a (moment left sink stage steps) count old → sink' ≡ sink →
+    IsUnderWay does a (moment left sink' stage steps) count old
+handed_on does a left sink sink' stage steps count old way same =
+    subst (λ (s : SinkState). IsUnderWay does a (moment left s stage steps) count old) (sym same) way
+
+-- and a sink that didn't tell what it held before doesn't tell it then
+pub still_untold : (sink sink' : SinkState) → sink' ≡ sink → sink.held ≡ None → sink'.held ≡ None
+still_untold sink sink' same none = ap (λ (s : SinkState). s.held) same ∙ none
 
 -- what is left is no packet
 break_here : (count : ℕ) (rest : List ℕ) (cause : BreakCause) → TakesPacket rest (Err cause) →
@@ -387,15 +415,15 @@ pub packet_stopped : {S F : Type 0} (does : S → List ℕ → S → List ℕ �
     result ≡ Err fault
     → ((f : F) → result ≡ Err (StageRefused f) →
     HasGrown sink sink' steps steps' (refuses stage (Some packet) f stage'))
-    → (result ≡ Err Write →
+    → (result ≡ Err StageWrite →
     IsCutShort sink sink' (IsAllowed (does stage packet) (refuses stage (Some packet)) steps steps')) →
     count < most_packets
     → DriveOutcome does ends refuses a (moment left' sink' stage' steps') (Err (stopped_by fault))
-packet_stopped does ends refuses a left left' sink sink' stage stage' steps steps' count old new packet result Write way
-    gives is
+packet_stopped does ends refuses a left left' sink sink' stage stage' steps steps' count old new packet result StageWrite
+    way gives is
     refused cut few =
-    packet_cut does ends refuses a left left' sink sink' stage stage' steps steps' count old new packet way gives
-    (cut is) few
+    inl (packet_cut does ends refuses a left left' sink sink' stage stage' steps steps' count old new packet way gives
+    (cut is) few)
 packet_stopped does ends refuses a left left' sink sink' stage stage' steps steps' count old new packet result
     (StageRefused f) way
     gives is refused cut few =
@@ -425,7 +453,8 @@ all_closed does ends refuses a left left' sink sink' stage stage' steps steps' c
     absurd closed
 all_closed does ends refuses a left left' sink sink' stage stage' steps steps' count old new (Err WriteFault) way gives
     closed few =
-    end_cut does ends refuses a left left' sink sink' stage stage' steps steps' count old new way gives closed few
+    inl (end_cut does ends refuses a left left' sink sink' stage stage' steps steps' count old new way gives closed
+    few)
 all_closed does ends refuses a left left' sink sink' stage stage' steps steps' count old new (Err (Refused fault)) way
     gives closed few =
     end_refused does refuses a left left' sink sink' stage stage' steps steps' count old new fault way gives closed few
@@ -434,22 +463,28 @@ all_closed does ends refuses a left left' sink sink' stage stage' steps steps' c
 pub not_fed : {S F : Type 0} (does : S → List ℕ → S → List ℕ → ℕ → Type 0) (ends : S → S → List ℕ → ℕ → Type 0)
     (refuses : S → Option (List ℕ) → F → S → List ℕ → ℕ → Type 0) (a : DriveState S)
     (left left' : Option (List ℕ)) (sink : SinkState) (stage : S) (steps count : ℕ) (old : List ℕ) (fault : FeedFault)
-    → IsUnderWay does a (moment left sink stage steps) count old → FeedStop left left' old fault → count < most_packets
+    → IsUnderWay does a (moment left sink stage steps) count old → FeedStop left left' old fault →
+    (fault ≡ Write → sink.held ≡ None) → count < most_packets
     → DriveOutcome does ends refuses a (moment left' sink stage steps) (Err (broken_by count fault))
-not_fed does ends refuses a left left' sink stage steps count old Read way stops few =
-    read_failed does a left left' sink stage steps count old way stops (omega (arith, few))
-not_fed does ends refuses a left left' sink stage steps count old (Break cause) way stops few =
+not_fed does ends refuses a left left' sink stage steps count old Read way stops told few =
+    (count, some_went does a left left' sink stage steps count old way stops (omega (arith, few)))
+not_fed does ends refuses a left left' sink stage steps count old Write way stops told few =
+    inr (write_failed does a left left' sink stage steps count old way stops (told refl) (omega (arith, few)))
+not_fed does ends refuses a left left' sink stage steps count old (Break cause) way stops told few =
     stream_broken does a left left' sink stage steps count old cause way stops few
 
 -- nor the end, after the most packets
 pub not_ended : {S F : Type 0} (does : S → List ℕ → S → List ℕ → ℕ → Type 0) (ends : S → S → List ℕ → ℕ → Type 0)
     (refuses : S → Option (List ℕ) → F → S → List ℕ → ℕ → Type 0) (a : DriveState S)
     (left left' : Option (List ℕ)) (sink : SinkState) (stage : S) (steps : ℕ) (old : List ℕ) (fault : FeedFault)
-    → IsUnderWay does a (moment left sink stage steps) most_packets old → FeedStop left left' old fault
+    → IsUnderWay does a (moment left sink stage steps) most_packets old → FeedStop left left' old fault →
+    (fault ≡ Write → sink.held ≡ None)
     → DriveOutcome does ends refuses a (moment left' sink stage steps) (Err (overrun_by fault))
-not_ended does ends refuses a left left' sink stage steps old Read way stops =
-    read_failed does a left left' sink stage steps most_packets old way stops (omega arith)
-not_ended does ends refuses a left left' sink stage steps old (Break cause) way stops =
+not_ended does ends refuses a left left' sink stage steps old Read way stops told =
+    (most_packets, some_went does a left left' sink stage steps most_packets old way stops (omega arith))
+not_ended does ends refuses a left left' sink stage steps old Write way stops told =
+    inr (write_failed does a left left' sink stage steps most_packets old way stops (told refl) (omega arith))
+not_ended does ends refuses a left left' sink stage steps old (Break cause) way stops told =
     break_too_many does a left left' sink stage steps old cause way stops
 
 -- the same under another name of the count

@@ -1,16 +1,18 @@
 -- What waits, when more is read and when some of it is taken.
-use Rattle.std.proofs.Common.{◌≡◌, ℕ, ◌+◌, ◌-◌, ◌<◌, ◌≤◌, List, [], ◌++◌, length, take, drop, refl, sym, ap, subst}
+use Rattle.std.proofs.Common.{◌≡◌, ℕ, ◌+◌, ◌-◌, ◌≤◌, List, [], ◌++◌, length, take, drop, refl, sym, ap, subst}
 use Rattle.std.proofs.Common.{◌∙◌, inl, inr, arith}
 use Rattle.std.proofs.Common.{append_assoc, append-nil, length-drop, length-take-le}
-use Rattle.std.specs.Prelude.{Option, Some}
+use Rattle.std.specs.Prelude.{Option, Some, Result, IfOk}
 use Rattle.std.proofs.lemmas.List.{take-append-le, take-append-drop, drop-drop, drop-take}
 use Rattle.std.proofs.lemmas.List.{get_or-take, length-take}
 use Rattle.std.specs.Prelude.{slice_index}
 use Rattle.std.proofs.Math.Seq.{take-append-add}
 use borrow.Rule.Slice.PartMut.{put_mid, post_of}
-use Rattle.std.specs.Io.KnownBytes.{Consumes, IsAtEnd}
+use Rattle.std.specs.Io.{ReadsAtMost}
+use Rattle.std.specs.Io.KnownBytes.{IsAtEnd, ReadConsumes}
 use Rattle.std.proofs.KnownBytes.{Consumes-nil, Consumes-trans}
-use Rattle.std.specs.Prelude.{Ok}
+use Rattle.std.specs.Prelude.{Ok, Err}
+use Rattle.sd_ports.specs.Bytes.{LosesPrefix}
 use Rattle.sd_engine.specs.Feeding.{waiting, ReadsMore, HasFilled, TakesPacket, GivesPacket, GivesNone}
 
 -- no byte was read, and the same wait
@@ -22,14 +24,19 @@ nothing_read a old new same = record {
 }
 
 -- some bytes were read, and then more
-pub more_read : (a b c : Option (List ℕ)) (old mid new bytes : List ℕ) → ReadsMore a b old mid → Consumes b c bytes →
-    new ≡ mid ++ bytes →
+pub more_read : (a b c : Option (List ℕ)) (old mid new : List ℕ) → ReadsMore a b old mid → ReadsMore b c mid new →
     ReadsMore a c old new
-more_read a b c old mid new bytes first then joined = record {
-  bytes = first.bytes ++ bytes;
-  consumed = Consumes-trans a b c first.bytes bytes first.consumed then;
-  joined = joined ∙ (ap (λ (xs : List ℕ). xs ++ bytes) first.joined ∙ append_assoc old first.bytes bytes);
+more_read a b c old mid new first then = record {
+  bytes = first.bytes ++ then.bytes;
+  consumed = Consumes-trans a b c first.bytes then.bytes first.consumed then.consumed;
+  joined = then.joined
+      ∙ (ap (λ (xs : List ℕ). xs ++ then.bytes) first.joined ∙ append_assoc old first.bytes then.bytes);
 }
+
+-- some bytes were read, and then some were lost
+pub lost_on : (a b c : Option (List ℕ)) (old new : List ℕ) → ReadsMore a b old new → LosesPrefix b c → LosesPrefix a c
+lost_on a b c old new first lost =
+    (first.bytes ++ lost.0, Consumes-trans a b c first.bytes lost.0 first.consumed lost.1)
 
 -- what waits from the beginning on
 from_beginning : (piece : List ℕ) (filled : ℕ) → waiting piece 0 filled ≡ take filled piece
@@ -47,14 +54,16 @@ read_into piece buf filled more k within few =
     ∙ (ap (λ (xs : List ℕ). take filled piece ++ xs) (take-append-le more buf (post_of filled k piece) few)
     ∙ ap (λ (xs : List ℕ). xs ++ take more buf) (sym (from_beginning piece filled))))
 
--- more bytes were read into the rest of the piece
-pub more_waits : (a b c : Option (List ℕ)) (old piece buf : List ℕ) (filled more k : ℕ) → filled ≤ length piece →
-    more ≤ length buf → ReadsMore a b old (waiting piece 0 filled) → Consumes b c (take more buf) →
-    ReadsMore a c old (waiting (put_mid filled k piece buf) 0 (filled + more))
-more_waits a b c old piece buf filled more k within few before then =
-    more_read a b c old (waiting piece 0 filled) (waiting (put_mid filled k piece buf) 0 (filled + more))
-    (take more buf)
-    before then (read_into piece buf filled more k within few)
+-- a read into the rest of the piece
+pub read_once : {E : Type 0} (result : Result ℕ E) (a b : Option (List ℕ)) (piece buf : List ℕ) (filled k : ℕ) →
+    filled ≤ length piece → ReadsAtMost result buf → ReadConsumes a b result buf →
+    IfOk result (λ more. ReadsMore a b (waiting piece 0 filled) (waiting (put_mid filled k piece buf) 0 (filled + more)))
+read_once (Ok more) a b piece buf filled k within bound read = record {
+  bytes = take more buf;
+  consumed = read.0;
+  joined = read_into piece buf filled more k within bound.0;
+}
+read_once (Err fault) a b piece buf filled k within bound read = tt
 
 -- as many bytes wait as the range holds
 pub count_waits : (piece : List ℕ) (at filled : ℕ) → filled ≤ length piece →
@@ -62,15 +71,14 @@ pub count_waits : (piece : List ℕ) (at filled : ℕ) → filled ≤ length pie
 count_waits piece at filled within =
     length-take-le (filled - at) (drop at piece) (omega (arith, within, length-drop at piece))
 
--- a read into the rest of the piece gave no byte, so the source is at its end
-pub end_waits : (a b c : Option (List ℕ)) (old piece buf : List ℕ) (filled more k : ℕ) → filled ≤ length piece →
-    0 < length buf → more ≡ 0 → ReadsMore a b old (waiting piece 0 filled) →
-    Consumes b c (take more buf) × (more ≡ 0 → 0 < length buf → IsAtEnd c) →
-    HasFilled a c old (waiting (put_mid filled k piece buf) 0 filled)
-end_waits a b c old piece buf filled more k within room none before read = record {
-  read = subst (λ (n : ℕ). ReadsMore a c old (waiting (put_mid filled k piece buf) 0 n)) (omega (arith, none))
-      (more_waits a b c old piece buf filled more k within (omega (arith, none)) before read.0);
-  enough = inr (read.1 none room);
+-- a read gave no byte, so the source is at its end
+pub end_waits : (a b c : Option (List ℕ)) (old mid piece : List ℕ) (filled more : ℕ) → more ≡ 0 →
+    ReadsMore a b old mid → ReadsMore b c mid (waiting piece 0 (filled + more)) → IsAtEnd c →
+    HasFilled a c old (waiting piece 0 filled)
+end_waits a b c old mid piece filled more none before read end = record {
+  read = subst (λ (n : ℕ). ReadsMore a c old (waiting piece 0 n)) (omega (arith, none))
+      (more_read a b c old mid _ before read);
+  enough = inr end;
 }
 
 -- the first packet of what waits, and what waits after it

@@ -7,10 +7,11 @@ use Rattle.std.specs.Io.KnownBytes.{Consumes, IsAtEnd}
 use Rattle.std.proofs.lemmas.Bool.{cases_lt}
 use Rattle.std.proofs.lemmas.List.{take_all, take-take, length-take, get_or-take}
 use Rattle.std.proofs.lemmas.Option.{slice_get-get_or}
+use Rattle.sd_ports.specs.Bytes.{AppendsPrefix}
 use Rattle.sd_engine.specs.Stream.{packets_of, break_of}
 use Rattle.sd_engine.specs.Stage.{HasGrown, IsCutShort}
 use Rattle.sd_engine.specs.Driving.{DriveState, most_packets, PassesPackets, ChainToEnd, IsPlace, ChainToRefusal}
-use Rattle.sd_engine.specs.Driving.{IsAllowedAt, DriveOutcome}
+use Rattle.sd_engine.specs.Driving.{IsAllowedAt, IsStopped, DriveOutcome}
 use Rattle.sd_engine.specs.Taken.{StreamEnd, Whole, Breaks, RunsOn, taken_of, ended_by, end_of, IsLeft, IsAt, IsOver}
 use Rattle.sd_engine.specs.declared.fault.StreamBreak.{StreamBreak}
 use Rattle.sd_engine.specs.declared.fault.BreakCause.{BreakCause}
@@ -217,6 +218,26 @@ too_long does a b bytes more first many longer passed =
       subst (λ (ps : List (List ℕ)). PassesPackets does a ps b) (sym same) passed,
     )
 
+-- some first packets of a stream, whose bytes are all that was left, went through
+record SomePassed {S : Type 0} (does : S → List ℕ → S → List ℕ → ℕ → Type 0) (a b : DriveState S) (count : ℕ) : Type 0
+  where
+    bytes : List ℕ
+    left : IsLeft a.left bytes
+    within : count ≤ length (taken_of bytes)
+    passed : PassesPackets does a (take count (taken_of bytes)) b
+
+some_passed : {S : Type 0} (does : S → List ℕ → S → List ℕ → ℕ → Type 0) (a b : DriveState S) (count : ℕ) →
+    IsStopped does a b count → SomePassed does a b count
+some_passed does a b count h =
+    let r = rest_of a.left b.left h.bytes h.read in
+    record {
+      bytes = h.bytes ++ r.rest;
+      left = r.all;
+      within = as_many count h.bytes r.rest h.enough h.few;
+      passed = subst (λ (ps : List (List ℕ)). PassesPackets does a ps b)
+          (sym (first_taken count h.bytes r.rest h.enough h.few)) h.passed;
+    }
+
 -- A drive is one of a stream whose bytes are all that was left of the source.
 pub is_over : {S F : Type 0} (does : S → List ℕ → S → List ℕ → ℕ → Type 0) (ends : S → S → List ℕ → ℕ → Type 0)
     (refuses : S → Option (List ℕ) → F → S → List ℕ → ℕ →
@@ -252,31 +273,28 @@ is_over does ends refuses a b (Err TooLong) h =
       drives = too_long does a b h.bytes r.rest first many h.longer h.passed;
     }
 is_over does ends refuses a b (Err ReadFault) (count, h) =
-    let r = rest_of a.left b.left h.bytes h.read in
-    record {
-      bytes = h.bytes ++ r.rest;
-      left = r.all;
-      drives = (
-        count,
-        as_many count h.bytes r.rest h.enough h.few,
-        subst (λ (ps : List (List ℕ)). PassesPackets does a ps b)
-            (sym (first_taken count h.bytes r.rest h.enough h.few))
-            h.passed,
-      );
-    }
-is_over does ends refuses a b (Err WriteFault) h =
+    let part = some_passed does a b count h in
+    record { bytes = part.bytes; left = part.left; drives = (count, part.within, part.passed) }
+is_over does ends refuses a b (Err WriteFault) (inl h) =
     let o = placed a.left b.left h.bytes h.count h.read h.place in
     record {
       bytes = o.all;
       left = o.left;
-      drives = record {
+      drives = inl (record {
         count = h.count;
         place = o.same.at;
         mid = h.mid;
         passed = subst (λ (ps : List (List ℕ)). PassesPackets does a ps h.mid) (sym o.same.first) h.passed;
         cut = subst (λ (p : Option (List ℕ)). IsCutShort h.mid.sink b.sink
             (IsAllowedAt does ends refuses h.mid.stage p h.mid.steps b.steps)) (sym o.same.here) h.cut;
-      };
+      });
+    }
+is_over does ends refuses a b (Err WriteFault) (inr h) =
+    let part = some_passed does a b h.count h.stopped in
+    record {
+      bytes = part.bytes;
+      left = part.left;
+      drives = inr (record { count = h.count; untold = h.untold; within = part.within; passed = part.passed });
     }
 is_over does ends refuses a b (Err (Refused fault)) h =
     let o = placed a.left b.left h.bytes h.count h.read h.place in
@@ -309,3 +327,8 @@ all_few bytes = let few = (least_of bytes).1 in omega (arith, few)
 pub some_left : (left : Option (List ℕ)) → (bytes : List ℕ) × IsLeft left bytes
 some_left None = ([], tt)
 some_left (Some bytes) = (bytes, refl)
+
+-- of a sink that doesn't tell what it holds, nothing is claimed
+pub any_prefix : (before now : Option (List ℕ)) (bytes : List ℕ) → before ≡ None → AppendsPrefix before now bytes
+any_prefix before now bytes untold =
+    subst (λ (held : Option (List ℕ)). AppendsPrefix held now bytes) (sym untold) ([], (bytes, refl), tt)

@@ -1,5 +1,5 @@
 -- Public meaning: what results from driving a stream through a stage.
-use Rattle.std.specs.Prelude.{◌≡◌, ℕ, ◌+◌, ◌*◌, ◌^◌, ◌<◌, ◌≤◌, List, ◌++◌, length, take, slice_get, Option, Some, None}
+use Rattle.std.specs.Prelude.{◌≡◌, ◌⊎◌, ℕ, ◌+◌, ◌*◌, ◌^◌, ◌<◌, ◌≤◌, List, ◌++◌, length, take, slice_get, Option, Some, None}
 use Rattle.std.specs.Prelude.{Result, Ok, Err}
 use Rattle.std.specs.Io.KnownBytes.{Consumes, IsAtEnd}
 use Rattle.sd_engine.specs.Stage.{SinkState, HasGrown, IsCutShort, IsAllowed, Chain}
@@ -7,9 +7,9 @@ use Rattle.sd_engine.specs.Stream.{ArePackets, pieces, packets_of, break_of}
 use Rattle.sd_engine.specs.declared.fault.BreakCause.TheVariants.{Torn}
 use Rattle.sd_engine.specs.declared.fault.StreamBreak.{StreamBreak}
 use Rattle.sd_engine.specs.declared.feed.FeedFault.{FeedFault}
-use Rattle.sd_engine.specs.declared.feed.FeedFault.TheVariants.{Read, Break}
+use Rattle.sd_engine.specs.declared.feed.FeedFault.TheVariants.{Read, Write, Break}
 use Rattle.sd_engine.specs.declared.stage.StageFault.{StageFault}
-use Rattle.sd_engine.specs.declared.stage.StageFault.TheVariants.{Write, Refused as StageRefused}
+use Rattle.sd_engine.specs.declared.stage.StageFault.TheVariants.{Write as StageWrite, Refused as StageRefused}
 use Rattle.sd_engine.specs.declared.driver.DriveFault.{DriveFault}
 use Rattle.sd_engine.specs.declared.driver.DriveFault.TheVariants.{Broken, TooLong, ReadFault, WriteFault, Refused}
 
@@ -135,6 +135,13 @@ pub record IsCutOff {S F : Type 0} (does : S → List ℕ → S → List ℕ →
   pub cut : IsCutShort mid.sink b.sink
       (IsAllowedAt does ends refuses mid.stage (slice_get (packets_of bytes) count) mid.steps b.steps)
 
+-- Some first packets of the bytes that were read went through, and then the bytes that waited in the sink could not be
+-- handed on. It happens only to a sink that doesn't tell what it holds.
+pub record IsHeldUp {S : Type 0} (does : S → List ℕ → S → List ℕ → ℕ → Type 0) (a b : DriveState S) : Type 0 where
+  pub count : ℕ
+  pub untold : a.sink.held ≡ None
+  pub stopped : IsStopped does a b count
+
 -- the result of a drive from one state to another
 abbrev pub DriveOutcome : {S F : Type 0} → (S → List ℕ → S → List ℕ → ℕ → Type 0) → (S → S → List ℕ → ℕ → Type 0)
     → (S → Option (List ℕ) → F → S → List ℕ → ℕ → Type 0) → DriveState S → DriveState S → Result ℕ (DriveFault F) →
@@ -143,12 +150,12 @@ DriveOutcome does ends refuses a b (Ok count) = IsWhole does ends a b count
 DriveOutcome does ends refuses a b (Err (Broken found)) = IsStreamBroken does a b found
 DriveOutcome does ends refuses a b (Err TooLong) = IsTooLong does a b
 DriveOutcome does ends refuses a b (Err ReadFault) = (count : ℕ) × IsStopped does a b count
-DriveOutcome does ends refuses a b (Err WriteFault) = IsCutOff does ends refuses a b
+DriveOutcome does ends refuses a b (Err WriteFault) = IsCutOff does ends refuses a b ⊎ IsHeldUp does a b
 DriveOutcome does ends refuses a b (Err (Refused fault)) = IsRefused does refuses a b fault
 
 -- why a stage stops a drive
 abbrev pub stopped_by : {F : Type 0} → StageFault F → DriveFault F
-stopped_by Write = WriteFault
+stopped_by StageWrite = WriteFault
 stopped_by (StageRefused fault) = Refused fault
 
 -- what a stage answers at the end, after so many packets
@@ -166,9 +173,11 @@ IsClosed ends refuses u v s t from to count (Err (Refused fault)) = HasGrown u v
 -- why no packet comes after so many
 abbrev pub broken_by : {F : Type 0} → ℕ → FeedFault → DriveFault F
 broken_by count Read = ReadFault
+broken_by count Write = WriteFault
 broken_by count (Break cause) = Broken (record { packet = count; cause = cause })
 
 -- and why none comes after the most
 abbrev pub overrun_by : {F : Type 0} → FeedFault → DriveFault F
 overrun_by Read = ReadFault
+overrun_by Write = WriteFault
 overrun_by (Break cause) = TooLong

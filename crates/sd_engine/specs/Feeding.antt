@@ -5,7 +5,7 @@ use Rattle.std.specs.Prelude.{Result, Ok, Err}
 use Rattle.std.specs.Io.KnownBytes.{Consumes, IsAtEnd}
 use Rattle.sd_ports.specs.Bytes.{LosesPrefix}
 use Rattle.sd_engine.specs.declared.feed.FeedFault.{FeedFault}
-use Rattle.sd_engine.specs.declared.feed.FeedFault.TheVariants.{Read, Break}
+use Rattle.sd_engine.specs.declared.feed.FeedFault.TheVariants.{Read, Write, Break}
 use Rattle.sd_engine.specs.declared.fault.BreakCause.{BreakCause}
 use Rattle.sd_engine.specs.declared.fault.BreakCause.TheVariants.{Torn, NoSync}
 
@@ -56,7 +56,14 @@ pub record IsBroken (before now : Option (List ℕ)) (old : List ℕ) (cause : B
   pub broken : TakesPacket left (Err cause)
   pub end : cause ≡ Torn → IsAtEnd now
 
+-- why not as many bytes wait: a read failed, or a write before it, and then nothing was read
+abbrev pub FillStop : Option (List ℕ) → Option (List ℕ) → FeedFault → Type 0
+FillStop before now Read = LosesPrefix before now
+FillStop before now Write = now ≡ before
+FillStop before now (Break cause) = ⊥
+
 -- why a feed gives no packet
 abbrev pub FeedStop : Option (List ℕ) → Option (List ℕ) → List ℕ → FeedFault → Type 0
 FeedStop before now old Read = LosesPrefix before now
+FeedStop before now old Write = now ≡ before
 FeedStop before now old (Break cause) = IsBroken before now old cause

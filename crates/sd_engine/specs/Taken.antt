@@ -1,5 +1,5 @@
 -- Public meaning: what a drive takes of all the bytes of a stream, and what it answers.
-use Rattle.std.specs.Prelude.{◌≡◌, ℕ, ◌*◌, ◌≤◌, nat_lt, List, length, take, slice_get, if◌then◌else◌, Option, Some}
+use Rattle.std.specs.Prelude.{◌≡◌, ◌⊎◌, ℕ, ◌*◌, ◌≤◌, nat_lt, List, length, take, slice_get, if◌then◌else◌, Option, Some}
 use Rattle.std.specs.Prelude.{None}
 use Rattle.std.specs.Prelude.{Result, Ok, Err}
 use Rattle.sd_engine.specs.Stream.{packets_of, break_of}
@@ -62,6 +62,15 @@ pub record CutAt {S F : Type 0} (does : S → List ℕ → S → List ℕ → �
   pub cut : IsCutShort mid.sink b.sink
       (IsAllowedAt does ends refuses mid.stage (slice_get (taken_of bytes) count) mid.steps b.steps)
 
+-- Some first packets went through, and then the bytes that waited in the sink could not be handed on. It happens only
+-- to a sink that doesn't tell what it holds.
+pub record HeldUpAt {S : Type 0} (does : S → List ℕ → S → List ℕ → ℕ → Type 0) (bytes : List ℕ) (a b : DriveState S) :
+    Type 0 where
+  pub count : ℕ
+  pub untold : a.sink.held ≡ None
+  pub within : count ≤ length (taken_of bytes)
+  pub passed : PassesPackets does a (take count (taken_of bytes)) b
+
 -- the result of the drive of a stream of these bytes
 abbrev pub DriveOutcomeOver : {S F : Type 0} → (S → List ℕ → S → List ℕ → ℕ → Type 0) → (S → S → List ℕ → ℕ → Type 0)
     → (S → Option (List ℕ) → F → S → List ℕ → ℕ → Type 0) → List ℕ → DriveState S → DriveState S →
@@ -76,7 +85,8 @@ DriveOutcomeOver does ends refuses bytes a b (Err TooLong) = (end_of bytes ≡ R
     PassesPackets does a (taken_of bytes) b
 DriveOutcomeOver does ends refuses bytes a b (Err ReadFault) =
     (count : ℕ) × (count ≤ length (taken_of bytes)) × PassesPackets does a (take count (taken_of bytes)) b
-DriveOutcomeOver does ends refuses bytes a b (Err WriteFault) = CutAt does ends refuses bytes a b
+DriveOutcomeOver does ends refuses bytes a b (Err WriteFault) =
+    CutAt does ends refuses bytes a b ⊎ HeldUpAt does bytes a b
 DriveOutcomeOver does ends refuses bytes a b (Err (Refused fault)) = RefusesAt does refuses bytes a b fault
 
 -- the drive is one of a stream whose bytes are all that was left of the source

@@ -33,7 +33,7 @@ pub enum DriveFault<F> {
 }
 
 /// Reads a stream to its end and offers its packets to the stage, one after the other, and then its end; answers how
-/// many packets they were. It takes no memory.
+/// many packets they were. Before each read, the sink hands on what waits in it. It takes no memory.
 pub fn drive<S: Source, K: Sink, L: Ledger, G: Stage<K, L>>(
     source: &mut S,
     sink: &mut K,
@@ -50,7 +50,7 @@ pub fn drive<S: Source, K: Sink, L: Ledger, G: Stage<K, L>>(
     let mut piece = [0u8; ROOM];
     let mut span = Span { at: 0, filled: 0 };
     for count in 0..MOST_PACKETS {
-        match next(source, &mut piece, span) {
+        match next(source, sink, &mut piece, span) {
             Ok((Some(packet), rest)) => {
                 span = rest;
                 if let Err(fault) = stage.offer(&packet, sink, steps) {
@@ -61,7 +61,7 @@ pub fn drive<S: Source, K: Sink, L: Ledger, G: Stage<K, L>>(
             Err(fault) => return Err(broken(fault, count)),
         }
     }
-    match next(source, &mut piece, span) {
+    match next(source, sink, &mut piece, span) {
         Ok((None, _)) => close(sink, stage, steps, MOST_PACKETS),
         Ok((Some(_), _)) => Err(DriveFault::TooLong),
         Err(fault) => Err(overrun(fault)),
@@ -92,6 +92,7 @@ fn broken<F>(fault: FeedFault, count: u64) -> DriveFault<F>
 {
     match fault {
         FeedFault::Read => DriveFault::ReadFault,
+        FeedFault::Write => DriveFault::WriteFault,
         FeedFault::Break(cause) => DriveFault::Broken(StreamBreak {
             packet: count,
             cause,
@@ -105,6 +106,7 @@ fn overrun<F>(fault: FeedFault) -> DriveFault<F>
 {
     match fault {
         FeedFault::Read => DriveFault::ReadFault,
+        FeedFault::Write => DriveFault::WriteFault,
         FeedFault::Break(_) => DriveFault::TooLong,
     }
 }

@@ -1,11 +1,13 @@
-ghost use Rattle.std.specs.Prelude.{◌≡◌, ◌-◌, ◌<◌, ◌≤◌, IfOk, IfErr, IsErrOf, OnErr, length};
+ghost use Rattle.std.specs.Prelude.{◌≡◌, ◌+◌, ◌-◌, ◌<◌, ◌≤◌, None, Ok, IfOk, IfErr, IsErrOf, OnErr, length};
+ghost use Rattle.std.specs.Io.KnownBytes.{IsAtEnd};
 ghost use Rattle.sd_base.specs.Count.{HasCause, IsCaused};
-ghost use Rattle.sd_engine.specs.Feeding.{waiting, HasFilled, FeedOutcome, FeedStop, TakesPacket};
+ghost use Rattle.sd_engine.specs.Feeding.{waiting, ReadsMore, HasFilled, FillStop, FeedOutcome, FeedStop, TakesPacket};
+ghost use Rattle.sd_engine.specs.Stage.{vessel};
 ghost use Rattle.sd_ports.specs.Bytes.{LosesPrefix};
 
 use crate::fault::BreakCause;
 use sd_packet::{Packet, SIZE};
-use sd_ports::{PortFault, Source};
+use sd_ports::{PortFault, Sink, Source};
 
 /// The range of a buffer that holds bytes that were read and not taken yet: from `at` up to, not including, `filled`.
 #[derive(Clone, Copy)]
@@ -21,6 +23,8 @@ pub struct Span {
 pub enum FeedFault {
     /// A read failed.
     Read,
+    /// A write failed, of bytes that the sink held back.
+    Write,
     /// What is left is no packet.
     Break(BreakCause),
 }
@@ -44,8 +48,14 @@ pub fn take(piece: &[u8], span: Span) -> Result<Option<Packet>, BreakCause>
     }
 }
 
-/// Reads until the bytes of a packet wait, or to the end of the input.
-pub fn fill<S: Source>(source: &mut S, piece: &mut [u8], span: Span) -> Result<Span, PortFault>
+/// Sees to it that the bytes of a packet wait, or all that is left. If a packet waits, nothing is read; else the sink
+/// first hands on what waits in it.
+pub fn fill<S: Source, K: Sink>(
+    source: &mut S,
+    sink: &mut K,
+    piece: &mut [u8],
+    span: Span,
+) -> Result<Span, FeedFault>
     requires begun { span.at ≤ span.filled }
     requires within { span.filled ≤ length piece.old }
     requires room { SIZE ≤ length piece.old }
@@ -54,21 +64,76 @@ pub fn fill<S: Source>(source: &mut S, piece: &mut [u8], span: Span) -> Result<S
     ensures length { length piece.new ≡ length piece.old }
     ensures value { IfOk result (λ now. HasFilled (S.left source.old) (S.left source.new)
         (waiting piece.old span.at span.filled) (waiting piece.new now.at now.filled)) }
-    ensures fault { OnErr result (LosesPrefix (S.left source.old) (S.left source.new)) }
-    ensures cause { HasCause (S.faults source.old) (S.faults source.new) result }
+    ensures alone { SIZE ≤ span.filled - span.at → (result ≡ Ok span) × (source.new ≡ source.old)
+        × (sink.new ≡ sink.old) × (piece.new ≡ piece.old) }
+    ensures fault { IfErr result (FillStop (S.left source.old) (S.left source.new)) }
+    ensures cause { IsCaused (S.faults source.old) (S.faults source.new) (IsErrOf result FeedFault.Read) }
+    ensures same { vessel K.Sink sink.new ≡ vessel K.Sink sink.old }
+    ensures told { IsErrOf result FeedFault.Write → K.held sink.old ≡ None }
+    ensures written { IsCaused (K.faults sink.old) (K.faults sink.new) (IsErrOf result FeedFault.Write) }
 {
     if span.filled - span.at >= SIZE {
         return Ok(span);
     }
-    let mut filled = begin(piece, span);
+    if sink.hand_on().is_err() {
+        return Err(FeedFault::Write);
+    }
+    let count = begin(piece, span);
+    match read_packet(source, sink, piece, count) {
+        Ok(filled) => Ok(Span { at: 0, filled }),
+        Err(_) => Err(FeedFault::Read),
+    }
+}
+
+/// Reads until the bytes of a packet wait at the beginning of the piece, or to the end of the input, and answers how
+/// many wait.
+fn read_packet<S: Source, K: Sink>(
+    source: &mut S,
+    sink: &K,
+    piece: &mut [u8],
+    count: usize,
+) -> Result<usize, PortFault>
+    requires handed { K.waits sink.now ≡ 0 }
+    requires few { count < SIZE }
+    requires room { SIZE ≤ length piece.old }
+    ensures within { IfOk result (λ filled. filled ≤ length piece.new) }
+    ensures length { length piece.new ≡ length piece.old }
+    ensures value { IfOk result (λ filled. HasFilled (S.left source.old) (S.left source.new)
+        (waiting piece.old 0 count) (waiting piece.new 0 filled)) }
+    ensures fault { OnErr result (LosesPrefix (S.left source.old) (S.left source.new)) }
+    ensures cause { HasCause (S.faults source.old) (S.faults source.new) result }
+{
+    let mut filled = count;
     while filled < SIZE {
-        match source.read(&mut piece[filled..]) {
+        match read_more(source, sink, piece, filled) {
             Ok(0) => break,
             Ok(more) => filled += more,
             Err(fault) => return Err(fault),
         }
     }
-    Ok(Span { at: 0, filled })
+    Ok(filled)
+}
+
+/// Reads once, behind what waits. It is the only read: none is reached while a packet waits, or while bytes wait in the
+/// sink.
+fn read_more<S: Source, K: Sink>(
+    source: &mut S,
+    sink: &K,
+    piece: &mut [u8],
+    filled: usize,
+) -> Result<usize, PortFault>
+    requires handed { K.waits sink.now ≡ 0 }
+    requires few { filled < SIZE }
+    requires room { SIZE ≤ length piece.old }
+    ensures within { IfOk result (λ more. filled + more ≤ length piece.new) }
+    ensures length { length piece.new ≡ length piece.old }
+    ensures value { IfOk result (λ more. ReadsMore (S.left source.old) (S.left source.new)
+        (waiting piece.old 0 filled) (waiting piece.new 0 (filled + more))) }
+    ensures end { IfOk result (λ more. more ≡ 0 → IsAtEnd (S.left source.new)) }
+    ensures fault { OnErr result (LosesPrefix (S.left source.old) (S.left source.new)) }
+    ensures cause { HasCause (S.faults source.old) (S.faults source.new) result }
+{
+    source.read(&mut piece[filled..])
 }
 
 /// Moves what waits, fewer bytes than a packet has, to the beginning of the piece, and answers how many they are.
@@ -87,9 +152,11 @@ fn begin(piece: &mut [u8], span: Span) -> usize
     count
 }
 
-/// The next packet with what waits after it, or `None` at the end of the input.
-pub fn next<S: Source>(
+/// The next packet with what waits after it, or `None` at the end of the input. What waits in the sink is handed on
+/// before anything is read.
+pub fn next<S: Source, K: Sink>(
     source: &mut S,
+    sink: &mut K,
     piece: &mut [u8],
     span: Span,
 ) -> Result<(Option<Packet>, Span), FeedFault>
@@ -101,14 +168,15 @@ pub fn next<S: Source>(
     ensures length { length piece.new ≡ length piece.old }
     ensures value { IfOk result (λ given. FeedOutcome (S.left source.old) (S.left source.new)
         (waiting piece.old span.at span.filled) (waiting piece.new given.1.at given.1.filled) given.0) }
+    ensures alone { SIZE ≤ span.filled - span.at → (source.new ≡ source.old) × (sink.new ≡ sink.old) }
     ensures fault { IfErr result
         (FeedStop (S.left source.old) (S.left source.new) (waiting piece.old span.at span.filled)) }
     ensures cause { IsCaused (S.faults source.old) (S.faults source.new) (IsErrOf result FeedFault.Read) }
+    ensures same { vessel K.Sink sink.new ≡ vessel K.Sink sink.old }
+    ensures told { IsErrOf result FeedFault.Write → K.held sink.old ≡ None }
+    ensures written { IsCaused (K.faults sink.old) (K.faults sink.new) (IsErrOf result FeedFault.Write) }
 {
-    let span = match fill(source, piece, span) {
-        Ok(span) => span,
-        Err(_) => return Err(FeedFault::Read),
-    };
+    let span = fill(source, sink, piece, span)?;
     match take(piece, span) {
         Ok(Some(packet)) => {
             let rest = Span {

@@ -1,24 +1,45 @@
 -- Public meaning: which files keep what is written, and which output is written through the descriptor
 -- of the standard output.
 use Rattle.std.specs.Prelude.{◌≡◌, ◌⊎◌, List, ◌∷◌, [], ◌++◌}
+use Rattle.std.specs.List.{Contains}
 use Rattle.sd_host.specs.declared.identity.Identity.{Identity}
 use Rattle.sd_host.specs.declared.identity.Kind.{Kind}
-use Rattle.sd_host.specs.declared.identity.Kind.TheVariants.{Regular, Block, Stream, Other}
+use Rattle.sd_host.specs.declared.identity.Kind.TheVariants.{Regular, Block, Stream}
+use Rattle.sd_host.specs.declared.identity.Kind.TheVariants as kind
+use Rattle.sd_host.specs.declared.identity.Output.{Output}
+use Rattle.sd_host.specs.declared.identity.Output.TheVariants.{Known, Other}
 use Rattle.sd_host.specs.declared.target.Target.{Target}
-use Rattle.sd_host.specs.declared.target.Target.TheVariants.{File, Output}
+use Rattle.sd_host.specs.declared.target.Target.TheVariants as target
 
 -- a file of this kind keeps what is written: a regular file or a block device
 abbrev pub IsKept : Kind → Type 0
 IsKept kind = (kind ≡ Regular) ⊎ (kind ≡ Block)
+
+-- the standard output that is this file: no block device, terminal or other character device is taken for it
+-- [this project, docs/FORMATS.md, Commands]
+abbrev pub output_of : Kind → Identity → Output
+output_of Regular file = Known file
+output_of Block file = Other
+output_of Stream file = Known file
+output_of kind.Other file = Other
+
+-- the file may be read: it is no regular file that is the standard output [this project, docs/FORMATS.md, Commands]
+abbrev pub MayRead : Output → Kind → Identity → Type 0
+MayRead output kind file = ¬ ((kind ≡ Regular) × (output ≡ Known file))
+
+-- the file may be made: it is none of the inputs that keep what is written [this project, docs/FORMATS.md, Commands]
+abbrev pub MayMake : List Identity → Kind → Identity → Type 0
+MayMake inputs kind file = ¬ (IsKept kind × Contains inputs file)
 
 -- the inputs once a file of this kind is read, too
 abbrev pub with_input : List Identity → Kind → Identity → List Identity
 with_input inputs Regular file = inputs ++ file ∷ []
 with_input inputs Block file = inputs ++ file ∷ []
 with_input inputs Stream file = inputs
-with_input inputs Other file = inputs
+with_input inputs kind.Other file = inputs
 
 -- the output is written through the descriptor of the standard output, and no file was opened for it
 abbrev pub IsThrough : {R F D : Type 0} → Target R F D → Type 0
-IsThrough (File file) = ⊥
-IsThrough (Output files) = Unit {0}
+IsThrough (target.File file) = ⊥
+IsThrough (target.New file) = ⊥
+IsThrough (target.Output files) = Unit {0}

@@ -1,11 +1,11 @@
-ghost use Rattle.std.specs.Prelude.{◌≡◌, ◌↔◌, None, Err, IfOk, IsErrOf, IsTrue};
+ghost use Rattle.std.specs.Prelude.{◌≡◌, ◌≢◌, ◌↔◌, None, Err, IfOk, IsErrOf, IsTrue, []};
 ghost use Rattle.sd_base.specs.Count.{IsCaused};
 ghost use Rattle.sd_ports.specs.Causes.{HasDepotCause};
 ghost use Rattle.sd_host.specs.Faults.{fault_of, faults_after, misses_after};
 ghost use Rattle.sd_host.specs.Kept.{IsThrough};
 
 use crate::identity;
-use crate::identity::Identity;
+use crate::identity::{Identity, Output};
 use crate::inlet::HostInlet;
 use crate::outlet::{BUFFER, HostOutlet};
 use crate::target::Target;
@@ -20,7 +20,7 @@ use std::io::ErrorKind;
 pub struct HostDepot<'a, R> {
     files: &'a R,
     private: bool,
-    output: Option<Identity>,
+    output: Output,
     inputs: Vec<Identity>,
     faults: u64,
     stops: u64,
@@ -33,6 +33,8 @@ pub struct HostDepot<'a, R> {
 impl<'a, R: Files + Print> HostDepot<'a, R> {
     /// The files, with counts of 0. A private depot makes files that are their owner's alone.
     pub fn new(alloc: Global, files: &'a R, private: bool) -> HostDepot<'a, R>
+        ensures private { result.private ≡ private }
+        ensures inputs { result.inputs.items ≡ [] }
         ensures faults { result.faults ≡ 0 }
         ensures stops { result.stops ≡ 0 }
         ensures misses { result.misses ≡ 0 }
@@ -55,8 +57,17 @@ impl<'a, R: Files + Print> HostDepot<'a, R> {
     }
 
     /// Whether the file of that name is the standard output, and that a regular file, a pipe or a socket.
-    pub fn is_output(&self, name: &str) -> bool {
+    pub fn is_output(&self, name: &str) -> bool
+        ensures { IsTrue result → (file : Identity) × (self.now.output ≡ Output.Known file) }
+    {
         identity::is_output(self.files, self.output, name)
+    }
+
+    /// Whether the standard output could be looked at. If not, a file that is the standard output isn't recognized.
+    pub fn knows_output(&self) -> bool
+        ensures { IsTrue result ↔ (self.now.output ≢ Output.Unknown) }
+    {
+        self.output != Output::Unknown
     }
 
     /// Where a file of that name is written, which is the standard output or not.
@@ -115,8 +126,6 @@ impl<'a, R: Files + Print> Depot for HostDepot<'a, R> {
 
     ghost calls = { λ d. d.calls };
 
-    fn hold_bytes(&self, _name: &str) {}
-
     fn open_in(&mut self, _alloc: Global, name: &str) -> Result<HostInlet<R::File>, DepotFault> {
         self.calls = self.calls.saturating_add(1);
         match identity::open(self.files, &mut self.inputs, self.output, name) {
@@ -149,6 +158,27 @@ impl<'a, R: Files + Print> Depot for HostDepot<'a, R> {
         Ok(HostOutlet::new(target, buffer))
     }
 
+    /// The memory is taken before the file is made. No link is followed, and the standard output is never written so: its
+    /// name is there.
+    fn create_new(
+        &mut self,
+        alloc: Global,
+        name: &str,
+    ) -> Result<Option<HostOutlet<Target<'a, R>>>, DepotFault> {
+        self.calls = self.calls.saturating_add(1);
+        let Ok(buffer) = Vec::with_capacity(alloc, BUFFER) else {
+            return Err(DepotFault::NoMemory);
+        };
+        let file = match identity::create_new(self.files, self.private, name) {
+            Ok(Some(file)) => file,
+            Ok(None) => return Ok(None),
+            Err(error) => return self.refuse(error.kind()),
+        };
+        self.made = self.made.saturating_add(1);
+        self.opened = self.opened.wrapping_add(1);
+        Ok(Some(HostOutlet::new(Target::New(file), buffer)))
+    }
+
     fn close_in(&mut self, port: HostInlet<R::File>) {
         self.calls = self.calls.saturating_add(1);
         self.opened = self.opened.wrapping_sub(1);
@@ -157,10 +187,10 @@ impl<'a, R: Files + Print> Depot for HostDepot<'a, R> {
         self.stops = self.stops.saturating_add(faults);
     }
 
-    /// Writes what still waits.
+    /// Writes what still waits, and brings a file that was made new to the disk.
     fn close_out(
         &mut self,
-        _name: &str,
+        name: &str,
         mut port: HostOutlet<Target<'a, R>>,
     ) -> Result<(), DepotFault> {
         self.calls = self.calls.saturating_add(1);
@@ -168,12 +198,10 @@ impl<'a, R: Files + Print> Depot for HostDepot<'a, R> {
         let faults = port.faults();
         self.faults = self.faults.saturating_add(faults);
         self.stops = self.stops.saturating_add(faults);
-        match port.send() {
-            Ok(()) => Ok(()),
-            Err(_) => {
-                self.faults = self.faults.saturating_add(1);
-                Err(DepotFault::Failed)
-            }
+        if port.send().is_ok() && port.file().sync(self.files, name).is_ok() {
+            return Ok(());
         }
+        self.faults = self.faults.saturating_add(1);
+        Err(DepotFault::Failed)
     }
 }

@@ -1,7 +1,6 @@
-ghost use Rattle.std.specs.Prelude.{◌≡◌, ◌↔◌, ◌⊎◌, bit_and, IsTrue, OnOk, OnErr, Some};
-ghost use Rattle.std.specs.List.{Contains};
+ghost use Rattle.std.specs.Prelude.{◌≡◌, ◌↔◌, ◌⊎◌, if◌then◌else◌, bit_and, IsTrue, IsErr, OnOk, OnErr};
 ghost use Rattle.std.specs.Fs.{metadata_mode};
-ghost use Rattle.sd_host.specs.Kept.{IsKept, with_input};
+ghost use Rattle.sd_host.specs.Kept.{IsKept, MayMake, MayRead, output_of, with_input};
 
 use std::fs::{Files, Metadata, OpenFile, OpenOptions};
 use std::io::{Error, ErrorKind};
@@ -78,52 +77,100 @@ impl Identity {
     }
 }
 
-/// The standard output, if it is a regular file, a pipe or a socket.
-pub fn standard_output<R: Files>(files: &R) -> Option<Identity> {
-    let metadata = fs::metadata(files, OUTPUT).ok()?;
-    match Kind::of(&metadata) {
-        Kind::Regular | Kind::Stream => Some(Identity::of(&metadata)),
-        Kind::Block | Kind::Other => None,
+/// The standard output, as far as it decides which files are it.
+#[derive(Clone, Copy, PartialEq, Eq)]
+pub enum Output {
+    /// This regular file, pipe or socket.
+    Known(Identity),
+    /// Another kind of file, such as a terminal or `/dev/null`. No file is taken for it.
+    Other,
+    /// It can't be looked at, so no file can be compared with it.
+    Unknown,
+}
+
+impl Output {
+    /// The standard output that is this file, of this kind.
+    pub fn of(kind: Kind, file: Identity) -> Output
+        ensures { result ≡ output_of kind file }
+    {
+        match kind {
+            Kind::Regular | Kind::Stream => Output::Known(file),
+            Kind::Block | Kind::Other => Output::Other,
+        }
+    }
+
+    /// Whether it is this file.
+    pub fn is(self, file: Identity) -> bool
+        ensures { IsTrue result ↔ (self ≡ Output.Known file) }
+    {
+        self == Output::Known(file)
+    }
+}
+
+/// The standard output, by a look at it.
+pub fn standard_output<R: Files>(files: &R) -> Output
+    ensures { (result ≡ Output.Unknown) ⊎ ((kind : Kind) × (file : Identity) × (result ≡ output_of kind file)) }
+{
+    match fs::metadata(files, OUTPUT) {
+        Ok(metadata) => Output::of(Kind::of(&metadata), Identity::of(&metadata)),
+        Err(_) => Output::Unknown,
     }
 }
 
 /// Whether the file of that name is the standard output.
-pub fn is_output<R: Files>(files: &R, output: Option<Identity>, name: &str) -> bool {
+pub fn is_output<R: Files>(files: &R, output: Output, name: &str) -> bool
+    ensures { IsTrue result → (file : Identity) × (output ≡ Output.Known file) }
+{
     match fs::metadata(files, name) {
-        Ok(metadata) => output == Some(Identity::of(&metadata)),
+        Ok(metadata) => output.is(Identity::of(&metadata)),
         Err(_) => false,
     }
 }
 
-/// Opens a file for reading, and adds it to the inputs if it keeps what is written. A regular file that is the standard
-/// output is refused: it would grow while it is read.
+/// Opens a file for reading, and adds it to the inputs.
 pub fn open<R: Files>(
     files: &R,
     inputs: &mut Vec<Identity>,
-    output: Option<Identity>,
+    output: Output,
     name: &str,
 ) -> io::Result<R::File>
-    ensures made { OnOk result ((kind : Kind) × (input : Identity) ×
-        (inputs.new.items ≡ with_input inputs.old.items kind input)) }
+    ensures ok { OnOk result ((kind : Kind) × (file : Identity) × MayRead output kind file
+        × (inputs.new.items ≡ with_input inputs.old.items kind file)) }
     ensures unchanged { OnErr result (inputs.new.items ≡ inputs.old.items) }
 {
     let file = fs::open(files, name)?;
     let metadata = file.metadata()?;
-    let (kind, input) = (Kind::of(&metadata), Identity::of(&metadata));
-    if !may_read(output, kind, input) {
-        return Err(Error::from(ErrorKind::InvalidInput));
-    }
-    if kind.is_kept() && inputs.push(input).is_err() {
-        return Err(Error::from(ErrorKind::OutOfMemory));
-    }
+    add_input(inputs, output, Kind::of(&metadata), Identity::of(&metadata))?;
     Ok(file)
 }
 
-/// Whether a file may be read: it is no regular file that is the standard output.
-pub fn may_read(output: Option<Identity>, kind: Kind, file: Identity) -> bool
-    ensures { IsTrue result ↔ ¬ ((kind ≡ Kind.Regular) × (output ≡ Some file)) }
+/// Adds a file to the inputs if it keeps what is written. A regular file that is the standard output is refused: it
+/// would grow while it is read.
+pub fn add_input(
+    inputs: &mut Vec<Identity>,
+    output: Output,
+    kind: Kind,
+    file: Identity,
+) -> io::Result<()>
+    ensures ok { OnOk result (MayRead output kind file
+        × (inputs.new.items ≡ with_input inputs.old.items kind file)) }
+    ensures refused { ¬ MayRead output kind file → IsErr result }
+    ensures unchanged { OnErr result (inputs.new.items ≡ inputs.old.items) }
 {
-    kind != Kind::Regular || output != Some(file)
+    if !may_read(output, kind, file) {
+        return Err(Error::from(ErrorKind::InvalidInput));
+    }
+    if kind.is_kept() && inputs.push(file).is_err() {
+        return Err(Error::from(ErrorKind::OutOfMemory));
+    }
+    Ok(())
+}
+
+/// Whether a file may be read: it is no regular file that is the standard output.
+pub fn may_read(output: Output, kind: Kind, file: Identity) -> bool
+    ensures { IsTrue result ↔ MayRead output kind file }
+{
+    kind != Kind::Regular || !output.is(file)
 }
 
 /// Opens a file for writing, and makes it if it isn't there; a private one is its owner's alone. A regular file is cut
@@ -133,26 +180,74 @@ pub fn create<R: Files>(
     inputs: &[Identity],
     private: bool,
     name: &str,
-) -> io::Result<R::File> {
+) -> io::Result<R::File>
+    ensures { OnOk result ((kind : Kind) × (file : Identity) × MayMake inputs.now kind file) }
+{
     let file = OpenOptions::new()
         .write(true)
         .create(true)
-        .mode(if private { PRIVATE } else { SHARED })
+        .mode(mode_of(private))
         .open(files, name)?;
     let metadata = file.metadata()?;
     let kind = Kind::of(&metadata);
-    if !may_make(inputs, kind, Identity::of(&metadata)) {
-        return Err(Error::from(ErrorKind::InvalidInput));
-    }
+    spare_inputs(inputs, kind, Identity::of(&metadata))?;
     if kind == Kind::Regular {
         file.set_len(0)?;
     }
     Ok(file)
 }
 
+/// Makes a file that is new, and opens it for writing; a private one is its owner's alone. `None` is a name that is
+/// there already.
+pub fn create_new<R: Files>(files: &R, private: bool, name: &str) -> io::Result<Option<R::File>> {
+    let made = OpenOptions::new()
+        .write(true)
+        .create_new(true)
+        .mode(mode_of(private))
+        .open(files, name);
+    match made {
+        Ok(file) => Ok(Some(file)),
+        Err(error) if error.kind() == ErrorKind::AlreadyExists => Ok(None),
+        Err(error) => Err(error),
+    }
+}
+
+/// Brings a folder's names to the disk.
+pub fn sync_folder<R: Files>(files: &R, folder: &str) -> io::Result<()> {
+    fs::open(files, folder)?.sync_all()
+}
+
+/// The folder of the file of that name.
+pub fn folder_of(name: &str) -> &str {
+    match name.rsplit_once('/') {
+        Some(("", _)) => "/",
+        Some((folder, _)) => folder,
+        None => ".",
+    }
+}
+
+/// Who may read and write a file that is made.
+fn mode_of(private: bool) -> u32
+    ensures { result ≡ (if private then 0o600 else 0o666) }
+{
+    if private { PRIVATE } else { SHARED }
+}
+
+/// Refuses a file that is one of the inputs that keep what is written.
+pub fn spare_inputs(inputs: &[Identity], kind: Kind, file: Identity) -> io::Result<()>
+    ensures ok { OnOk result (MayMake inputs.now kind file) }
+    ensures refused { OnErr result (¬ MayMake inputs.now kind file) }
+{
+    if may_make(inputs, kind, file) {
+        Ok(())
+    } else {
+        Err(Error::from(ErrorKind::InvalidInput))
+    }
+}
+
 /// Whether a file may be made: it is none of the inputs that keep what is written.
 pub fn may_make(inputs: &[Identity], kind: Kind, file: Identity) -> bool
-    ensures { IsTrue result ↔ ¬ (IsKept kind × Contains inputs.now file) }
+    ensures { IsTrue result ↔ MayMake inputs.now kind file }
 {
     !(kind.is_kept() && inputs.contains(&file))
 }

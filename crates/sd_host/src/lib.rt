@@ -9,7 +9,7 @@ mod print;
 mod target;
 
 pub use depot::HostDepot;
-pub use identity::{Identity, Kind, may_make, may_read};
+pub use identity::{Identity, Kind, Output, add_input, may_make, may_read, spare_inputs};
 pub use inlet::HostInlet;
 pub use outlet::HostOutlet;
 pub use print::StdPrint;

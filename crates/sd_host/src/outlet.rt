@@ -1,16 +1,18 @@
-ghost use Rattle.std.specs.Prelude.{◌≡◌, ◌<◌, ◌≤◌, None, [], vec_len, vec_capacity, IfOk, OnOk, OnErr, length};
+ghost use Rattle.std.specs.Prelude.{◌≡◌, ◌-◌, ◌<◌, ◌≤◌, None, [], vec_len, vec_capacity, IfOk, OnOk, OnErr, length};
 ghost use Rattle.std.specs.Io.{WritesAtMost};
 ghost use Rattle.std.specs.Io.KnownBytes.{Keeps, WriteAppends};
 ghost use Rattle.sd_base.specs.Count.{HasCause, with_added};
 ghost use Rattle.sd_ports.specs.Rooms.{TakesRoom};
 ghost use Rattle.sd_host.specs.Waiting.{given_to};
+ghost use Rattle.sd_host.specs.declared.outlet.TheConstants.{BUFFER};
 
 use crate::print::StdPrint;
 use sd_ports::{PortFault, Sink};
 use std::io::Write;
 
-/// How many bytes wait before they are written to a file.
-pub(crate) const BUFFER: usize = 65536;
+/// How many bytes wait at most before they are written to a file: as many whole transport packets, of 188 bytes, as fit
+/// an empty pipe of 64 KiB. So each write of a stream of packets ends with a whole one.
+pub(crate) const BUFFER: usize = 348 * 188;
 
 /// A file of the machine that is open for writing.
 #[derive(Drop)]
@@ -19,8 +21,8 @@ pub struct HostOutlet<F> {
     waiting: Vec<u8>,
     sent: usize,
     ghost begun: { sent ≤ vec_len waiting },
-    ghost within: { vec_len waiting ≤ 65536 },
-    ghost room: { 65536 ≤ vec_capacity waiting },
+    ghost within: { vec_len waiting ≤ BUFFER },
+    ghost room: { BUFFER ≤ vec_capacity waiting },
 }
 
 impl<F: Write + Drop> HostOutlet<F> {
@@ -35,6 +37,13 @@ impl<F: Write + Drop> HostOutlet<F> {
             waiting: buffer,
             sent: 0,
         }
+    }
+
+    /// The file.
+    pub(crate) fn file(&self) -> &F
+        ensures { result.now ≡ self.now.file.writer }
+    {
+        self.file.writer()
     }
 
     /// How many writes failed.
@@ -86,9 +95,10 @@ impl<F: Write + Drop> Sink for HostOutlet<F> {
 
     ghost room = { λ s. None };
 
-    /// Once the buffer is full, what waits there is written first. A piece as long as the buffer is written past it,
-    /// after what waits. It takes no memory.
-    #[tactic(auto, using(crate::proofs::Kept::kept_grown, crate::proofs::Kept::written_past))]
+    ghost waits = { λ s. vec_len s.waiting - s.sent };
+
+    /// All goes through the buffer. Once that is full, what waits there is written first. It takes no memory.
+    #[tactic(auto, using(crate::proofs::Kept::kept_grown))]
     fn write(&mut self, piece: &[u8]) -> Result<usize, PortFault>
         requires { 0 < length piece.now }
         ensures some { IfOk result (λ k. 0 < k) }
@@ -101,13 +111,19 @@ impl<F: Write + Drop> Sink for HostOutlet<F> {
             (given_to (F.Write.contents self.new.file.writer) self.new.waiting.items self.new.sent) result piece.now }
         ensures one { OnErr result (self.new.file.faults ≡ with_added self.old.file.faults 1) }
     {
-        if piece.len() >= BUFFER {
-            self.send()?;
-            return self.file.write(piece);
-        }
         self.make_room()?;
         let count = piece.len().min(BUFFER - self.waiting.len());
         self.waiting.extend_from_slice(&piece[..count]).unwrap();
         Ok(count)
+    }
+
+    fn hand_on(&mut self) -> Result<(), PortFault>
+        ensures all { OnOk result (vec_len self.new.waiting - self.new.sent ≡ 0) }
+        ensures cause { HasCause self.old.file.faults self.new.file.faults result }
+        ensures passed { Keeps (given_to (F.Write.contents self.old.file.writer) self.old.waiting.items self.old.sent)
+            (given_to (F.Write.contents self.new.file.writer) self.new.waiting.items self.new.sent) }
+        ensures one { OnErr result (self.new.file.faults ≡ with_added self.old.file.faults 1) }
+    {
+        self.send()
     }
 }

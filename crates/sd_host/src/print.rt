@@ -1,4 +1,4 @@
-ghost use Rattle.std.specs.Prelude.{◌≡◌, ◌<◌, None, IfOk, OnErr, length};
+ghost use Rattle.std.specs.Prelude.{◌≡◌, ◌<◌, None, Ok, IfOk, OnErr, length};
 ghost use Rattle.std.specs.Io.{WritesAtMost};
 ghost use Rattle.std.specs.Io.KnownBytes.{WriteAppends};
 ghost use Rattle.sd_base.specs.Count.{HasCause, with_added};
@@ -22,6 +22,13 @@ impl<W: Write + Drop> StdPrint<W> {
         StdPrint { writer, faults: 0 }
     }
 
+    /// The writer.
+    pub(crate) fn writer(&self) -> &W
+        ensures { result.now ≡ self.now.writer }
+    {
+        &self.writer
+    }
+
     /// How many writes failed.
     pub(crate) fn faults(&self) -> u64
         ensures { result ≡ self.now.faults }
@@ -36,6 +43,9 @@ impl<W: Write + Drop> Sink for StdPrint<W> {
     ghost faults = { λ s. s.faults };
 
     ghost room = { λ s. None };
+
+    /// Nothing is held back.
+    ghost waits = { λ s. 0 };
 
     /// A write that a signal interrupts is tried again, and one that takes nothing is a fault.
     #[tactic(auto, using(crate::proofs::Kept::kept_appends, crate::proofs::Kept::kept_twice, crate::proofs::Kept::kept_none))]
@@ -60,5 +70,13 @@ impl<W: Write + Drop> Sink for StdPrint<W> {
         }
         self.faults = self.faults.saturating_add(1);
         Err(PortFault)
+    }
+
+    fn hand_on(&mut self) -> Result<(), PortFault>
+        ensures told { result ≡ Ok tt }
+        ensures same { self.new ≡ self.old }
+        ensures cause { HasCause self.old.faults self.new.faults result }
+    {
+        Ok(())
     }
 }

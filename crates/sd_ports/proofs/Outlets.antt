@@ -1,5 +1,5 @@
 -- What stands in a file once its port is closed.
-use Rattle.std.proofs.Common.{rules, ◌≡◌, ◌≤◌, ℕ, List, [], Bool, true, false, cond, refl, ap, sym, subst, inr}
+use Rattle.std.proofs.Common.{rules, ◌≡◌, ◌≤◌, ℕ, List, [], Bool, true, false, cond, refl, ap, sym, subst, inl, inr}
 use Rattle.std.proofs.Common.{◌∙◌, append-nil}
 use Rattle.std.specs.Prelude.{Option, None, Some, IsSome, Ok, Err}
 use Rattle.std.specs.Ordering.{nat_cmp, eq_by_cmp}
@@ -8,7 +8,9 @@ use Rattle.std.specs.FinMap.{get, insert, get-insert, same_map, nat_cmp-IsAntisy
 use Rattle.std.specs.Io.KnownBytes.{Appends}
 use Rattle.std.proofs.lemmas.Cmp.{nat_list_cmp_total, eq_by_cmp_equiv}
 use Rattle.sd_ports.specs.Bytes.{IsPrefix, AppendsPrefix}
-use Rattle.sd_ports.specs.Files.{Files, ClosesFile, LeavesPrefix, IsFresh, IsThere, WritesFile, with_bytes}
+use Rattle.sd_ports.specs.Files.{Files, ClosesFile, LeavesPrefix, IsFresh, IsNotThere, IsThere, WritesFile, with_bytes}
+use Rattle.sd_ports.specs.Files.{WritesNewFile}
+use Rattle.sd_ports.specs.declared.file.New.TheVariants.{Made}
 use Rattle.sd_ports.specs.declared.file.FileFault.TheVariants.{Failed}
 use Rattle.sd_ports.proofs.Starts.{prefix_of_prefix}
 use Rattle.sd_base.specs.Count.{with_added}
@@ -106,3 +108,29 @@ pub written_cut : (a b c : Option Files) (i j k : ℕ) (name bytes : List ℕ) (
     → i ≤ j → k ≡ j → WritesFile {T = Unit {0}} a c i k name bytes (Err Failed)
 written_cut a b c i j k name bytes h held e f w p m l n =
     written_prefix a b c i j k name bytes h held e f (bytes, ([], append-nil bytes), w) p m l n
+
+-- a file that wasn't there and was written whole was made new
+pub made_new : (a c : Option Files) (i k : ℕ) (name bytes : List ℕ) → IsNotThere a name
+    → WritesFile {T = Unit {0}} a c i k name bytes (Ok tt) → WritesNewFile a c i k name bytes (Ok Made)
+made_new a c i k name bytes absent wrote = record {
+  later = wrote.later;
+  made = λ _. (absent, wrote.made);
+  there = λ e. absurd (cc);
+  failed = search rules;
+  missing = search rules;
+  no_memory = search rules;
+  fits = search rules;
+}
+
+-- one that wasn't there and of which the device failed has a prefix, or wasn't made
+pub failed_new : (a c : Option Files) (i k : ℕ) (name bytes : List ℕ) → IsNotThere a name
+    → WritesFile {T = Unit {0}} a c i k name bytes (Err Failed) → WritesNewFile a c i k name bytes (Err Failed)
+failed_new a c i k name bytes absent wrote = record {
+  later = wrote.later;
+  made = λ e. absurd (cc);
+  there = λ e. absurd (cc);
+  failed = λ e. elim (wrote.failed refl) [ inl unmade ↦ inl unmade | inr short ↦ inr (absent, short) ];
+  missing = search rules;
+  no_memory = search rules;
+  fits = search rules;
+}

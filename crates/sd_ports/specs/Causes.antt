@@ -1,10 +1,12 @@
 -- Public meaning: why a file system refuses, and what it counts: misses, faults, ports made and ports open.
-use Rattle.std.specs.Prelude.{◌≡◌, ℕ, ◌+◌, ◌%◌, ◌^◌, ◌<◌, ◌≤◌, List, length, Bool, true, false, Option, Result, IfOk}
+use Rattle.std.specs.Prelude.{◌≡◌, ℕ, ◌+◌, ◌%◌, ◌^◌, ◌<◌, ◌≤◌, List, length, Bool, true, false, Option, Result, Ok, IfOk}
 use Rattle.std.specs.Prelude.{OnOk, OnErr, IsErrOf}
 use Rattle.sd_base.specs.Count.{HasRisen, with_added}
 use Rattle.sd_ports.specs.Bytes.{GivesAll, IsTakenFrom, LosesPrefix}
 use Rattle.sd_ports.specs.declared.fault.DepotFault.{DepotFault}
 use Rattle.sd_ports.specs.declared.fault.DepotFault.TheVariants.{Missing, Failed}
+use Rattle.sd_ports.specs.declared.file.New.{New}
+use Rattle.sd_ports.specs.declared.file.New.TheVariants.{Made, There}
 use Rattle.sd_ports.specs.declared.file.FileFault.{FileFault}
 use Rattle.sd_ports.specs.declared.file.FileFault.TheVariants as file
 use Rattle.sd_ports.specs.declared.prefix.ReadMostFault.{ReadMostFault}
@@ -55,6 +57,14 @@ pub record CountsClosed (before now : ℕ) : Type 0 where
 -- A whole file takes two calls, one to open it and one to close it, and no more than the first where it isn't there.
 pub record CountsCalls {T : Type 0} (before now : ℕ) (result : Result T FileFault) : Type 0 where
   pub done : OnOk result (now ≡ with_added before 2)
+  pub missing : IsErrOf result file.Missing → now ≡ with_added before 1
+  pub most : now ≤ with_added before 2
+
+-- A new whole file takes two calls, one to make it and one to close it, and one alone if the name is there or its folder
+-- isn't.
+pub record CountsNewCalls (before now : ℕ) (result : Result New FileFault) : Type 0 where
+  pub made : result ≡ Ok Made → now ≡ with_added before 2
+  pub there : result ≡ Ok There → now ≡ with_added before 1
   pub missing : IsErrOf result file.Missing → now ≡ with_added before 1
   pub most : now ≤ with_added before 2
 

@@ -1,22 +1,19 @@
 -- Public meaning: the contents of a file system that the model knows, and what a call changes in them.
-use Rattle.std.specs.Prelude.{◌≡◌, ℕ, ◌<◌, ◌≤◌, ◌⊎◌, List, [], length, Option, None, Some, IsSome, IfSome, Result, OnOk}
-use Rattle.std.specs.Prelude.{IsErrOf, All}
+use Rattle.std.specs.Prelude.{◌≡◌, ℕ, ◌<◌, ◌≤◌, ◌⊎◌, List, [], length, Option, None, Some, IsSome, IfSome, Result, Ok, Err}
+use Rattle.std.specs.Prelude.{OnOk, IsErrOf}
 use Rattle.std.specs.Ordering.{nat_cmp}
 use Rattle.std.specs.Cmp.Lexicographic.{slice_cmp}
 use Rattle.std.specs.FinMap.{FinMap, get, insert}
 use Rattle.sd_base.specs.Count.{with_added}
 use Rattle.sd_ports.specs.Bytes.{IsPrefix}
+use Rattle.sd_ports.specs.declared.file.New.{New}
+use Rattle.sd_ports.specs.declared.file.New.TheVariants.{Made, There}
 use Rattle.sd_ports.specs.declared.file.FileFault.{FileFault}
 use Rattle.sd_ports.specs.declared.file.FileFault.TheVariants.{Missing, TooBig, Failed, NoMemory}
 
 -- files by their names, each name once
 abbrev pub Files : Type 0
 Files = FinMap (slice_cmp nat_cmp) (List ℕ)
-
--- each number of the file of that name is a byte's, if the model knows the files and this one exists
-abbrev pub HoldsBytes : Option Files → List ℕ → Type 0
-HoldsBytes None name = Unit {0}
-HoldsBytes (Some files) name = IfSome (get files name) (All (λ byte. byte < 256))
 
 -- an opened file's bytes are to come from its port, if the model knows the files
 abbrev pub OpensFile : Option Files → List ℕ → Option (List ℕ) → Type 0
@@ -54,6 +51,12 @@ IsFresh None None = Unit {0}
 IsFresh None (Some held) = held ≡ []
 IsFresh (Some files) held = held ≡ Some []
 
+-- the port of a file that was made new: none if the name is there already, nor after a fault
+abbrev pub port_in : {T E : Type 0} → Result (Option T) E → Result T (Option E)
+port_in (Ok (Some port)) = Ok port
+port_in (Ok None) = Err None
+port_in (Err fault) = Err (Some fault)
+
 -- the file of that name has what its port held, if the model knows the files, and the other files stay
 abbrev pub ClosesFile : Option Files → Option Files → List ℕ → Option (List ℕ) → Type 0
 ClosesFile None now name held = now ≡ None
@@ -90,6 +93,21 @@ pub record WritesFile {T : Type 0} (files_before files_now : Option Files) (made
   pub made : OnOk result (IsMade files_before files_now made_before made_now name bytes)
   pub failed : IsErrOf result Failed → IsUnmade files_before files_now made_before made_now
       ⊎ IsMadeShort files_before files_now made_before made_now name bytes
+  pub missing : IsErrOf result Missing → IsUnmade files_before files_now made_before made_now × (files_before ≡ None)
+  pub no_memory : IsErrOf result NoMemory → IsUnmade files_before files_now made_before made_now
+  pub fits : ¬ IsErrOf result TooBig
+
+-- What writing a new whole file did: `Made` made it with these bytes, and it wasn't there; `There` and the faults but
+-- `Failed` made none, and `Failed` may have made it with a prefix of them.
+-- If the model knows the files, `Missing` never comes, and `TooBig` never does.
+pub record WritesNewFile (files_before files_now : Option Files) (made_before made_now : ℕ) (name bytes : List ℕ)
+    (result : Result New FileFault) : Type 0 where
+  pub later : made_before ≤ made_now
+  pub made : result ≡ Ok Made → IsNotThere files_before name
+      × IsMade files_before files_now made_before made_now name bytes
+  pub there : result ≡ Ok There → IsThere files_before name × IsUnmade files_before files_now made_before made_now
+  pub failed : IsErrOf result Failed → IsUnmade files_before files_now made_before made_now
+      ⊎ (IsNotThere files_before name × IsMadeShort files_before files_now made_before made_now name bytes)
   pub missing : IsErrOf result Missing → IsUnmade files_before files_now made_before made_now × (files_before ≡ None)
   pub no_memory : IsErrOf result NoMemory → IsUnmade files_before files_now made_before made_now
   pub fits : ¬ IsErrOf result TooBig

@@ -1,7 +1,7 @@
-ghost use Rattle.std.specs.Prelude.{◌≡◌, ◌<◌, ◌^◌, ℕ, Option, None, IfOk, OnOk, OnErr, IsErrOf, []};
+ghost use Rattle.std.specs.Prelude.{◌≡◌, ◌<◌, ◌^◌, ℕ, Option, None, Ok, IfOk, OnOk, OnErr, IsErrOf, []};
 ghost use Rattle.sd_base.specs.Count.{HasCause, IsCaused, with_added};
-ghost use Rattle.sd_ports.specs.Files.{ClosesFile, Files, HoldsBytes, IsFresh, IsNotThere, IsThere, LeavesPrefix};
-ghost use Rattle.sd_ports.specs.Files.{OpensFile, with_bytes};
+ghost use Rattle.sd_ports.specs.Files.{ClosesFile, Files, IsFresh, IsNotThere, IsThere, LeavesPrefix};
+ghost use Rattle.sd_ports.specs.Files.{OpensFile, port_in, with_bytes};
 ghost use Rattle.sd_ports.specs.Causes.{CountsClosed, CountsMade, CountsOpen, HasDepotCause};
 
 use crate::fault::DepotFault;
@@ -36,10 +36,6 @@ pub trait Depot {
     /// How many calls were made.
     ghost calls: { Self → ℕ };
 
-    /// Each number of the file of this name is a byte's. It changes nothing.
-    fn hold_bytes(&self, name: &str)
-        ensures { HoldsBytes (files self.now) name.now };
-
     /// Opens a file for reading.
     fn open_in(&mut self, alloc: Global, name: &str) -> Result<Self::Inlet, DepotFault>
         ensures files { files self.new ≡ files self.old }
@@ -66,6 +62,22 @@ pub trait Depot {
         ensures ports { CountsOpen (opened self.old) (opened self.new) result }
         ensures calls { calls self.new ≡ with_added (calls self.old) 1 };
 
+    /// Makes a file that is new, and opens it for writing. `Ok(None)` is a name that is there already, as a file, a link
+    /// or a folder: nothing changes then. `Missing` is a folder that isn't there.
+    fn create_new(&mut self, alloc: Global, name: &str) -> Result<Option<Self::Outlet>, DepotFault>
+        ensures new { OnOk (port_in result) (IsNotThere (files self.old) name.now) }
+        ensures there { result ≡ Ok None → IsThere (files self.old) name.now }
+        ensures files { OnOk (port_in result) (files self.new ≡ with_bytes (files self.old) name.now []) }
+        ensures unchanged { OnErr (port_in result) (files self.new ≡ files self.old) }
+        ensures empty { IfOk (port_in result) (λ port. IsFresh (files self.old) (Self.Outlet.held port)) }
+        ensures fresh { IfOk (port_in result) (λ port. Self.Outlet.faults port ≡ 0) }
+        ensures missing { IsErrOf result DepotFault.Missing → files self.old ≡ None }
+        ensures cause { HasDepotCause (faults self.old) (faults self.new) (misses self.old) (misses self.new) result }
+        ensures stops { IsCaused (stops self.old) (stops self.new) (IsErrOf result DepotFault.Failed) }
+        ensures made { CountsMade (made self.old) (made self.new) (port_in result) }
+        ensures ports { CountsOpen (opened self.old) (opened self.new) (port_in result) }
+        ensures calls { calls self.new ≡ with_added (calls self.old) 1 };
+
     /// Closes a file, and takes over the port's count of faults.
     fn close_in(&mut self, port: Self::Inlet)
         ensures files { files self.new ≡ files self.old }
@@ -79,7 +91,7 @@ pub trait Depot {
         ensures calls { calls self.new ≡ with_added (calls self.old) 1 };
 
     /// Closes a file that was made under this name, and takes over the port's count of faults. The only fault is
-    /// `Failed`, for which the depot counts a fault of its own.
+    /// `Failed`, for which the depot counts a fault of its own. On a machine, a file of `create_new` is on the disk then.
     fn close_out(&mut self, name: &str, port: Self::Outlet) -> Result<(), DepotFault>
         requires { IsThere (files self.old) name.now }
         ensures closed { OnOk result (ClosesFile (files self.old) (files self.new) name.now (Self.Outlet.held port)) }

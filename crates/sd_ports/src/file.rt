@@ -1,7 +1,7 @@
 ghost use Rattle.std.specs.Prelude.{◌≡◌, ◌≤◌, ◌⊎◌, IfOk, IsErrOf, length};
 ghost use Rattle.sd_base.specs.Count.{IsCaused, with_added};
-ghost use Rattle.sd_ports.specs.Causes.{CountsCalls, HasFileCause};
-ghost use Rattle.sd_ports.specs.Files.{IsFile, IsLongFile, IsNotThere, IsThere, WritesFile};
+ghost use Rattle.sd_ports.specs.Causes.{CountsCalls, CountsNewCalls, HasFileCause};
+ghost use Rattle.sd_ports.specs.Files.{IsFile, IsLongFile, IsNotThere, IsThere, WritesFile, WritesNewFile};
 
 use crate::depot::Depot;
 use crate::fault::DepotFault;
@@ -19,6 +19,15 @@ pub enum FileFault {
     Failed = 3,
     /// Out of memory.
     NoMemory = 4,
+}
+
+/// What came of writing a new file.
+#[derive(Clone, Copy, PartialEq, Eq)]
+pub enum New {
+    /// It was made.
+    Made,
+    /// The name is there already, and nothing changed.
+    There,
 }
 
 impl From<DepotFault> for FileFault {
@@ -100,6 +109,37 @@ pub fn write_file<D: Depot>(
     match written {
         Ok(()) => match closed {
             Ok(()) => Ok(()),
+            Err(_) => Err(FileFault::Failed),
+        },
+        Err(_) => Err(FileFault::Failed),
+    }
+}
+
+/// Makes a new file with these bytes, unless the name is there: it makes, writes and closes it, and only then answers.
+/// `Failed` may leave a prefix of them.
+pub fn write_new<D: Depot>(
+    alloc: Global,
+    depot: &mut D,
+    name: &str,
+    bytes: &[u8],
+) -> Result<New, FileFault>
+    ensures file { WritesNewFile (D.files depot.old) (D.files depot.new) (D.made depot.old) (D.made depot.new) name.now
+        bytes.now result }
+    ensures cause { HasFileCause (D.faults depot.old) (D.faults depot.new) (D.misses depot.old) (D.misses depot.new)
+        result }
+    ensures stops { ¬ IsErrOf result FileFault.Failed → D.stops depot.new ≡ D.stops depot.old }
+    ensures later { D.stops depot.old ≤ D.stops depot.new }
+    ensures ports { D.opened depot.new ≡ D.opened depot.old }
+    ensures calls { CountsNewCalls (D.calls depot.old) (D.calls depot.new) result }
+{
+    let Some(mut port) = depot.create_new(alloc, name)? else {
+        return Ok(New::There);
+    };
+    let written = write_all(&mut port, bytes);
+    let closed = depot.close_out(name, port);
+    match written {
+        Ok(()) => match closed {
+            Ok(()) => Ok(New::Made),
             Err(_) => Err(FileFault::Failed),
         },
         Err(_) => Err(FileFault::Failed),

@@ -13,7 +13,7 @@ mod whole;
 
 pub use depot::Depot;
 pub use fault::{DepotFault, PortFault};
-pub use file::{FileFault, read_file, write_file};
+pub use file::{FileFault, New, read_file, write_file, write_new};
 pub use prefix::{ReadMostFault, Taken, read_most};
 pub use sink::Sink;
 pub use slice::SliceSource;

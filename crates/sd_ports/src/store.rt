@@ -1,4 +1,4 @@
-ghost use Rattle.std.specs.Prelude.{◌≡◌, ◌<◌, ◌≤◌, ◌↔◌, IfOk, IsErr, Some, [], length, true};
+ghost use Rattle.std.specs.Prelude.{◌≡◌, ◌<◌, ◌≤◌, ◌↔◌, IfOk, IsErr, Ok, Some, [], length, true};
 ghost use Rattle.std.specs.Io.{WritesAtMost};
 ghost use Rattle.std.specs.Io.KnownBytes.{WriteAppends};
 ghost use Rattle.sd_base.specs.Count.{HasCause};
@@ -103,6 +103,9 @@ impl Sink for MemSink {
 
     ghost room = { room_in };
 
+    /// All that was taken is in memory.
+    ghost waits = { λ s. 0 };
+
     /// A piece that passes the room fails whole, and nothing of it is held. It takes no memory.
     fn write(&mut self, piece: &[u8]) -> Result<usize, PortFault>
         requires { 0 < length piece.now }
@@ -124,6 +127,14 @@ impl Sink for MemSink {
         let count = self.most.min(piece.len());
         self.bytes.extend_from_slice(&piece[..count]).unwrap();
         Ok(count)
+    }
+
+    fn hand_on(&mut self) -> Result<(), PortFault>
+        ensures told { result ≡ Ok tt }
+        ensures unchanged { self.new ≡ self.old }
+        ensures cause { HasCause self.old.faults self.new.faults result }
+    {
+        Ok(())
     }
 }
 

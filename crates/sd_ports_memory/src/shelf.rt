@@ -1,11 +1,11 @@
-ghost use Rattle.std.specs.Prelude.{◌≡◌, ◌≤◌, ◌<◌, ◌^◌, ◌↔◌, IfOk, IsErr, IsSome, OnOk, OnErr, IsErrOf, Some, None, []};
-ghost use Rattle.std.specs.Prelude.{true, false, string_bytes, All};
+ghost use Rattle.std.specs.Prelude.{◌≡◌, ◌≤◌, ◌<◌, ◌^◌, ◌↔◌, IfOk, IsErr, IsSome, OnOk, OnErr, IsErrOf, Ok, Some, None, []};
+ghost use Rattle.std.specs.Prelude.{true, false, string_bytes};
 ghost use Rattle.std.specs.Option.{option_map};
 ghost use Rattle.std.specs.FinMap as map;
 ghost use Rattle.sd_base.specs.Count.{HasCause, IsCaused, with_added};
 ghost use Rattle.sd_ports.specs.Causes.{CountsClosed, CountsMade, CountsOpen, HasDepotCause};
-ghost use Rattle.sd_ports.specs.Files.{ClosesFile, HoldsBytes, IsFresh, IsNotThere, IsThere, LeavesPrefix, OpensFile};
-ghost use Rattle.sd_ports.specs.Files.{with_bytes};
+ghost use Rattle.sd_ports.specs.Files.{ClosesFile, IsFresh, IsNotThere, IsThere, LeavesPrefix, OpensFile};
+ghost use Rattle.sd_ports.specs.Files.{port_in, with_bytes};
 ghost use Rattle.sd_ports_memory.specs.Memory.{call_fails, empty_shelf, fails_of, told_files, with_call, with_closed};
 ghost use Rattle.sd_ports_memory.specs.Memory.{with_fault, with_file, with_inlet, with_outlet, with_port_fault};
 ghost use Rattle.sd_ports_memory.specs.Memory.{without_port};
@@ -113,8 +113,8 @@ impl MemDepot {
         look_up(&self.files, name)
     }
 
-    /// Makes the depot's call of this number fail. Its calls are numbered from 0 over `open_in`, `create_out` and
-    /// `close_out`. The newest 16 numbers are kept. It takes no memory.
+    /// Makes the depot's call of this number fail. Its calls are numbered from 0 over `open_in`, `create_out`,
+    /// `create_new` and `close_out`. The newest 16 numbers are kept. It takes no memory.
     pub fn fail_call(&mut self, number: u32)
         ensures { self.new ≡ with_fault self.old number }
     {
@@ -202,14 +202,6 @@ impl Depot for MemDepot {
     ghost opened = { λ d. d.opened };
 
     ghost calls = { λ d. d.calls };
-
-    fn hold_bytes(&self, name: &str)
-        ensures { HoldsBytes (Some self.now.files) name.now }
-    {
-        if let Some(bytes) = look_up(&self.files, name) {
-            are_bytes(bytes);
-        }
-    }
 
     /// Opens a copy of the file's bytes.
     fn open_in(&mut self, alloc: Global, name: &str) -> Result<MemSource, DepotFault>
@@ -299,6 +291,53 @@ impl Depot for MemDepot {
             }
             Err(_) => Err(DepotFault::NoMemory),
         }
+    }
+
+    /// The empty file and the sink's room are taken at once.
+    fn create_new(&mut self, alloc: Global, name: &str) -> Result<Option<MemSink>, DepotFault>
+        ensures new { OnOk (port_in result) (IsNotThere (Some self.old.files) name.now) }
+        ensures there { result ≡ Ok None → IsThere (Some self.old.files) name.now }
+        ensures files { OnOk (port_in result) (Some self.new.files ≡ with_bytes (Some self.old.files) name.now []) }
+        ensures unchanged { OnErr (port_in result) (Some self.new.files ≡ Some self.old.files) }
+        ensures empty { IfOk (port_in result) (λ port. IsFresh (Some self.old.files) (Some port.held)) }
+        ensures fresh { IfOk (port_in result) (λ port. port.faults ≡ 0) }
+        ensures missing { IsErrOf result DepotFault.Missing → Some self.old.files ≡ None }
+        ensures cause { HasDepotCause self.old.faults self.new.faults self.old.misses self.new.misses result }
+        ensures stops { IsCaused self.old.stops self.new.stops (IsErrOf result DepotFault.Failed) }
+        ensures made { CountsMade self.old.made self.new.made (port_in result) }
+        ensures ports { CountsOpen self.old.opened self.new.opened (port_in result) }
+        ensures calls { self.new.calls ≡ with_added self.old.calls 1 }
+        ensures ok { OnOk (port_in result) (self.new ≡ with_outlet self.old name.now) }
+        ensures err { OnErr (port_in result) (self.new ≡ with_call self.old self.new.faults self.new.stops) }
+        ensures fails { IsErrOf result DepotFault.Failed ↔ (call_fails self.old ≡ true) }
+        ensures fault { IsErrOf result DepotFault.Failed → self.new.faults ≡ with_added self.old.faults 1 }
+        ensures port { IfOk (port_in result) (λ port. port ≡ record {
+          held = [];
+          room = self.old.room;
+          most = self.old.most;
+          fails = fails_of self.old name.now;
+          writes = 0;
+          faults = 0;
+        }) }
+    {
+        if let Err(_) = self.begin_opening() {
+            return Err(DepotFault::Failed);
+        }
+        if look_up(&self.files, name).is_some() {
+            return Ok(None);
+        }
+        let Ok(fails) = self.failing.numbers_of(alloc, name) else {
+            return Err(DepotFault::NoMemory);
+        };
+        let Ok(port) = MemSink::new(alloc, self.room, self.most, fails) else {
+            return Err(DepotFault::NoMemory);
+        };
+        if set(alloc, &mut self.files, name, Vec::new(alloc)).is_err() {
+            return Err(DepotFault::NoMemory);
+        }
+        self.made = self.made.saturating_add(1);
+        self.opened = self.opened.wrapping_add(1);
+        Ok(Some(port))
     }
 
     fn close_in(&mut self, port: MemSource)
@@ -395,8 +434,3 @@ fn replace(files: &mut BTreeMap<String, Vec<u8>>, name: &str, bytes: Vec<u8>)
     let file = files.get_mut(name).unwrap();
     *file = bytes;
 }
-
-/// Each element of a slice of bytes is a byte.
-fn are_bytes(bytes: &[u8])
-    ensures { All (λ byte. byte < 256) bytes.now }
-{}

@@ -18,7 +18,7 @@ use Rattle.sd_site.specs.SiteFields.{SiteFields}
 use Rattle.sd_psi.specs.declared.fault.FormFault.{FormFault}
 use Rattle.sd_psi.specs.declared.fault.FormFault.TheVariants as Form
 use Rattle.sd_engine.specs.Stage.{Chain}
-use Rattle.sd_engine.specs.Driving.{DriveState, ChainToEnd, ChainToRefusal, IsAllowedAt}
+use Rattle.sd_engine.specs.Driving.{DriveState, ChainToEnd, ChainToRefusal, IsAllowedAt, PassesPackets}
 use Rattle.sd_engine.specs.Taken.{StreamEnd, Whole, Breaks, RunsOn, taken_of, end_of, IsAt, DriveOutcomeOver}
 use Rattle.sd_engine.specs.declared.driver.DriveFault.{DriveFault}
 use Rattle.sd_engine.specs.declared.driver.DriveFault.TheVariants as drive
@@ -396,6 +396,25 @@ stopped_at plan bytes count first before now (Some fault) (Some packet) within w
     (subst (λ (xs : List ℕ). Appends before now xs)
     (wrote ∙ ap (λ (k : ℕ). concat (body plan (take k (taken_of bytes)))) (sym is.1) ∙ sent.0) taken)
 
+-- what was written of the first packets alone
+some_sent : {S F : Type 0} (plan : Plan) (does : S → List ℕ → S → List ℕ → ℕ → Type 0) (ends : S → S → List ℕ → ℕ →
+    Type 0)
+    (refuses : S → Option (List ℕ) → F → S → List ℕ → ℕ → Type 0) (told : F → Option ClearFault)
+    (After : List (List ℕ) → S → Type 0)
+    (head : IsHeadEnd plan does ends refuses told After) (bytes : List ℕ) (a b : DriveState S) (count : ℕ) →
+    After [] a.stage → count ≤ length (taken_of bytes) → PassesPackets does a (take count (taken_of bytes)) b →
+    Wrote (sent_of plan bytes) (sent_status plan bytes) a.sink.held b.sink.held DepotFault
+some_sent plan does ends refuses told After head bytes a b count stands within grew =
+    let first = take count (taken_of bytes) in
+    let went = went_on plan does ends refuses told After head [] first a.stage b.stage grew.bytes grew.steps stands
+    grew.says in
+    some_written (inr refl) (
+      grew.bytes,
+      subst (λ (xs : List ℕ). IsPrefix xs (sent_of plan bytes)) (sym (went.wrote ∙ sym (body_bytes plan first)))
+          (begins plan bytes count within went.unrefused),
+      grew.taken,
+    )
+
 -- all that was written of a stream that was driven through a head end
 pub wrote_sent : {S F : Type 0} (plan : Plan) (does : S → List ℕ → S → List ℕ → ℕ → Type 0) (ends : S → S → List ℕ → ℕ →
     Type 0)
@@ -437,16 +456,10 @@ wrote_sent plan does ends refuses told After head bytes a b (Err drive.TooLong) 
     (subst (λ (xs : List ℕ). Appends a.sink.held b.sink.held xs) (went.wrote ∙ sym (body_bytes plan clear) ∙ sent.0)
     grew.taken)
 wrote_sent plan does ends refuses told After head bytes a b (Err drive.ReadFault) stands (count, within, grew) =
-    let first = take count (taken_of bytes) in
-    let went = went_on plan does ends refuses told After head [] first a.stage b.stage grew.bytes grew.steps stands
-    grew.says in
-    some_written (inr refl) (
-      grew.bytes,
-      subst (λ (xs : List ℕ). IsPrefix xs (sent_of plan bytes)) (sym (went.wrote ∙ sym (body_bytes plan first)))
-          (begins plan bytes count within went.unrefused),
-      grew.taken,
-    )
-wrote_sent plan does ends refuses told After head bytes a b (Err drive.WriteFault) stands h =
+    some_sent plan does ends refuses told After head bytes a b count stands within grew
+wrote_sent plan does ends refuses told After head bytes a b (Err drive.WriteFault) stands (inr h) =
+    some_sent plan does ends refuses told After head bytes a b h.count stands h.within h.passed
+wrote_sent plan does ends refuses told After head bytes a b (Err drive.WriteFault) stands (inl h) =
     let first = take h.count (taken_of bytes) in
     let went = went_on plan does ends refuses told After head [] first a.stage h.mid.stage h.passed.bytes h.passed.steps
     stands h.passed.says in

@@ -14,6 +14,7 @@ use Rattle.sd_ports.specs.Bytes.{IsPrefix}
 use Rattle.sd_ports.proofs.Starts.{prefix_of_prefix, after_first, nothing_after}
 use Rattle.sd_engine.specs.Stage.{Chain}
 use Rattle.sd_engine.specs.Driving.{DriveState, most_packets, ChainToEnd, ChainToRefusal, IsAllowedAt, DriveOutcome}
+use Rattle.sd_engine.specs.Driving.{PassesPackets}
 use Rattle.sd_engine.specs.Taken.{StreamEnd, Whole, Breaks, RunsOn, taken_of, end_of, RefusesAt, CutAt}
 use Rattle.sd_engine.specs.Taken.{DriveOutcomeOver}
 use Rattle.sd_engine.proofs.Taken.{least_of, is_over, all_few}
@@ -399,6 +400,19 @@ cut_wrote card bytes a b is after h =
     (Appends-trans a.sink.held h.mid.sink.held b.sink.held h.passed.bytes h.cut.prefix h.passed.taken h.cut.taken)
     (omega (arith, before)) most
 
+-- some first packets went through
+some_wrote : (card : CardFields) (bytes : List ℕ) (a b : DriveState Receiver) (count : ℕ) → card_in a.stage ≡ card →
+    IsAfter [] a.stage → PassesPackets receiver_does a (take count (taken_of bytes)) b →
+    Receives card bytes a b DepotFault
+some_wrote card bytes a b count is after grew =
+    let few = some_few bytes count in
+    let came = all_through card (take count (taken_of bytes)) a.stage b.stage grew.bytes grew.steps is after
+    (omega (arith, few)) grew.says in
+    wrote_some card bytes a b grew.bytes grew.steps
+    (subst (λ (xs : List ℕ). IsPrefix xs (concat (out_from card [] (taken_of bytes)))) (sym came.written)
+    (some_of_out card (taken_of bytes) count came.unbroken)) grew.taken grew.counted
+    (let before = came.few in omega (arith, before, some_steps card (taken_of bytes) count came.unbroken))
+
 -- what came of a drive that was stopped
 stopped_wrote : (card : CardFields) (bytes : List ℕ) (a b : DriveState Receiver) (why : DriveFault StreamFault) →
     card_in a.stage ≡ card →
@@ -417,14 +431,9 @@ stopped_wrote card bytes a b drive.TooLong is after (end, grew) =
     (sym (none_refused card bytes RunsOn came.unbroken end)) came.written grew.taken grew.counted
     (let few = came.few in let same = all_steps card (taken_of bytes) came.unbroken in omega (arith, few, same))
 stopped_wrote card bytes a b drive.ReadFault is after (count, within, grew) =
-    let few = some_few bytes count in
-    let came = all_through card (take count (taken_of bytes)) a.stage b.stage grew.bytes grew.steps is after
-    (omega (arith, few)) grew.says in
-    wrote_some card bytes a b grew.bytes grew.steps
-    (subst (λ (xs : List ℕ). IsPrefix xs (concat (out_from card [] (taken_of bytes)))) (sym came.written)
-    (some_of_out card (taken_of bytes) count came.unbroken)) grew.taken grew.counted
-    (let before = came.few in omega (arith, before, some_steps card (taken_of bytes) count came.unbroken))
-stopped_wrote card bytes a b drive.WriteFault is after h = cut_wrote card bytes a b is after h
+    some_wrote card bytes a b count is after grew
+stopped_wrote card bytes a b drive.WriteFault is after (inl h) = cut_wrote card bytes a b is after h
+stopped_wrote card bytes a b drive.WriteFault is after (inr h) = some_wrote card bytes a b h.count is after h.passed
 stopped_wrote card bytes a b (drive.Refused why) is after h = refused_wrote card bytes a b why is after h
 
 -- the status of a receiver after all packets

@@ -18,7 +18,7 @@ use Rattle.sd_ports.proofs.Starts.{prefix_of_prefix, after_first, nothing_after,
 use Rattle.sd_engine.specs.Stage.{Chain}
 use Rattle.sd_engine.specs.Driving.{DriveState, ChainToEnd, ChainToRefusal, IsAllowedAt, DriveOutcome}
 use Rattle.sd_engine.specs.Taken.{StreamEnd, Whole, Breaks, RunsOn, taken_of, IsLeft, CutAt, DriveOutcomeOver}
-use Rattle.sd_engine.proofs.Taken.{is_over, few_taken, all_few, some_left}
+use Rattle.sd_engine.proofs.Taken.{any_prefix, is_over, few_taken, all_few, some_left}
 use Rattle.sd_engine.specs.declared.driver.DriveFault.{DriveFault}
 use Rattle.sd_engine.specs.declared.driver.DriveFault.TheVariants as drive
 use Rattle.sd_run_streams.specs.Inspected.{lines_in, sections_at}
@@ -208,8 +208,10 @@ drives_print bytes a b f g (Err drive.ReadFault) stands cause (count, within, gr
   ),
   cause.calm (λ e. cc),
 )
-drives_print bytes a b f g (Err drive.WriteFault) stands cause h =
+drives_print bytes a b f g (Err drive.WriteFault) stands cause (inl h) =
     inl (inr (inr (refl, cut_lines bytes a b stands h, cause.failed refl)))
+drives_print bytes a b f g (Err drive.WriteFault) stands cause (inr h) =
+    inl (inr (inr (refl, any_prefix _ _ _ h.untold, cause.failed refl)))
 drives_print bytes a b f g (Err (drive.Refused fault)) stands cause h = inl (inr (inl (
   refl,
   (

@@ -15,7 +15,7 @@ use Rattle.sd_ports.proofs.Starts.{prefix_of_prefix, after_first, nothing_after,
 use Rattle.sd_engine.specs.Stage.{Chain}
 use Rattle.sd_engine.specs.Driving.{DriveState, ChainToEnd, ChainToRefusal, IsAllowedAt, DriveOutcome}
 use Rattle.sd_engine.specs.Taken.{taken_of, CutAt, DriveOutcomeOver}
-use Rattle.sd_engine.proofs.Taken.{is_over, few_taken, all_few}
+use Rattle.sd_engine.proofs.Taken.{any_prefix, is_over, few_taken, all_few}
 use Rattle.sd_engine.specs.declared.driver.DriveFault.{DriveFault}
 use Rattle.sd_engine.specs.declared.driver.DriveFault.TheVariants as drive
 use Rattle.sd_site.specs.SiteFields.{SiteFields}
@@ -171,8 +171,10 @@ drives_print site bytes a b f g (Err drive.ReadFault) begun cause (count, within
   ),
   cause.calm (λ e. cc),
 )
-drives_print site bytes a b f g (Err drive.WriteFault) begun cause h =
+drives_print site bytes a b f g (Err drive.WriteFault) begun cause (inl h) =
     inl (inr (inr (refl, cut_lines site bytes a b begun h, cause.failed refl)))
+drives_print site bytes a b f g (Err drive.WriteFault) begun cause (inr h) =
+    inl (inr (inr (refl, any_prefix _ _ _ h.untold, cause.failed refl)))
 drives_print site bytes a b f g (Err (drive.Refused fault)) begun cause h = inl (inr (inl (
   refl,
   (

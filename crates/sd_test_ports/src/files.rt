@@ -1,6 +1,6 @@
 use crate::machine::Machine;
 use sd_host::HostDepot;
-use sd_ports::{Depot, FileFault, read_file, write_all, write_file};
+use sd_ports::{Depot, FileFault, New, read_file, write_all, write_file, write_new};
 use std::alloc::Global;
 
 /// What is read and written.
@@ -83,6 +83,16 @@ pub(crate) fn write(
     bytes: &[u8],
 ) -> Result<(), FileFault> {
     host_call(alloc, depot, name, Call::Write(bytes)).map(|_| ())
+}
+
+/// Writes a new file of the host.
+pub(crate) fn make_new(
+    alloc: Global,
+    depot: &mut HostDepot<'_, HostRuntime>,
+    name: &str,
+    bytes: &[u8],
+) -> Result<New, FileFault> {
+    write_new(alloc, depot, name, bytes)
 }
 
 /// Whether a file of the host is read so.

@@ -1,7 +1,7 @@
-use crate::files::{Call, TEXT, gives, host_call, machine_call, machine_gives, write};
+use crate::files::{Call, TEXT, gives, host_call, machine_call, machine_gives, make_new, write};
 use crate::machine::{Machine, Trouble};
 use sd_host::{HostDepot, StdPrint};
-use sd_ports::{FileFault, PortFault, write_all};
+use sd_ports::{FileFault, New, PortFault, write_all};
 use std::fs::{Files, Permissions};
 use std::os::unix::fs::{MetadataExt, PermissionsExt, symlink};
 use std::{fs, io};
@@ -186,6 +186,39 @@ fn private_files_are_their_owners_alone(rt: HostRuntime) -> io::Result<()> {
     Ok(())
 }
 
+const NEW: &str = "sd_host_new";
+
+const DANGLING: &str = "sd_host_dangling";
+
+const FOLDER: &str = "sd_host_folder";
+
+const WITHIN: &str = "sd_host_folder/new";
+
+// Names that are there: a file, by two paths; a link to none; a folder; an output.
+static THERE: [&str; 5] = [NEW, "./sd_host_new", DANGLING, "/dev", "/dev/null"];
+
+#[test]
+fn a_new_file_is_made_once(rt: HostRuntime) -> io::Result<()> {
+    let alloc = rt.alloc();
+    let mut depot = HostDepot::new(alloc, &rt, true);
+    symlink(&rt, "no such file", DANGLING)?;
+    assert!(rt; make_new(alloc, &mut depot, NEW, TEXT) == Ok(New::Made));
+    assert!(rt; fs::metadata(&rt, NEW)?.mode() == 0o100600);
+    for name in &THERE {
+        let made = make_new(alloc, &mut depot, name, b"other");
+        assert!(rt; made == Ok(New::There), "{name}");
+    }
+    assert!(rt; gives(alloc, &mut depot, NEW, 70, Ok("abcdefg")));
+    assert!(rt; gives(alloc, &mut depot, DANGLING, 70, Err(FileFault::Missing)));
+    fs::create_dir(&rt, FOLDER)?;
+    assert!(rt; make_new(alloc, &mut depot, WITHIN, TEXT) == Ok(New::Made));
+    fs::remove_file(&rt, WITHIN)?;
+    fs::remove_dir(&rt, FOLDER)?;
+    assert!(rt; make_new(alloc, &mut depot, WITHIN, TEXT) == Err(FileFault::Missing));
+    fs::remove_file(&rt, DANGLING)?;
+    fs::remove_file(&rt, NEW)
+}
+
 const OUTPUT: &str = "sd_host_output";
 
 static OUTPUTS: [&str; 3] = [OUTPUT, "./sd_host_output", "/dev/stdout"];
@@ -202,7 +235,8 @@ fn the_output_is_written_through(rt: HostRuntime) -> io::Result<()> {
         fs::write(&rt, OUTPUT, b"kept ")?;
         let mut depot = HostDepot::new(alloc, &machine, false);
         assert!(rt;
-            depot.is_output(name)
+            depot.knows_output()
+                && depot.is_output(name)
                 && machine_call(alloc, &mut depot, name, Call::Write(TEXT)).is_ok()
         );
         // It may not be read.
@@ -220,8 +254,24 @@ fn the_output_is_written_through(rt: HostRuntime) -> io::Result<()> {
         trouble: Trouble::None,
     };
     let depot = HostDepot::new(alloc, &machine, false);
+    assert!(rt; depot.knows_output());
     assert!(rt; !depot.is_output("/dev/null") && !depot.is_output("/dev/stdout"));
     Ok(())
+}
+
+#[test]
+fn an_output_out_of_sight_is_not_known(rt: HostRuntime) -> io::Result<()> {
+    let alloc = rt.alloc();
+    let machine = Machine {
+        rt: &rt,
+        output: "no such file",
+        trouble: Trouble::None,
+    };
+    fs::write(&rt, OUTPUT, TEXT)?;
+    let depot = HostDepot::new(alloc, &machine, false);
+    assert!(rt; !depot.knows_output());
+    assert!(rt; !depot.is_output(OUTPUT) && !depot.is_output("/dev/stdout"));
+    fs::remove_file(&rt, OUTPUT)
 }
 
 // Troubles, and what is then read and written.

@@ -1,7 +1,7 @@
 use crate::ends::{sink, source};
 use sd_ports::{
-    Depot, FileFault, PortFault, ReadAllFault, ReadMostFault, SliceSource, Source, read_all,
-    read_file, read_most, write_all, write_file,
+    Depot, FileFault, New, PortFault, ReadAllFault, ReadMostFault, SliceSource, Source, read_all,
+    read_file, read_most, write_all, write_file, write_new,
 };
 use sd_ports_memory::MemDepot;
 use std::alloc::{AllocError, Global};
@@ -129,6 +129,32 @@ fn a_prefix_of_an_input_is_taken(rt: HostRuntime) -> Result<(), AllocError> {
     for (case, want) in &BEGUN {
         assert!(rt; begins(rt.alloc(), *case, *want)?);
     }
+    Ok(())
+}
+
+// Whether a new file of this name is answered so, and the file holds this then.
+fn is_made(
+    alloc: Global,
+    depot: &mut MemDepot,
+    name: &str,
+    want: Result<New, FileFault>,
+    left: &str,
+) -> bool {
+    write_new(alloc, depot, name, TEXT) == want && depot.get(name) == Some(left.as_bytes())
+}
+
+#[test]
+fn a_new_file_is_made_once(rt: HostRuntime) -> Result<(), AllocError> {
+    let alloc = rt.alloc();
+    let mut depot = shelf(alloc)?;
+    for (name, want, left) in [
+        ("c", New::Made, "abcdefg"),
+        ("c", New::There, "abcdefg"),
+        ("a", New::There, "new"),
+    ] {
+        assert!(rt; is_made(alloc, &mut depot, name, Ok(want), left));
+    }
+    assert!(rt; depot.made() == 1 && depot.faults() == 0);
     Ok(())
 }
 
