@@ -1,5 +1,5 @@
 -- Public meaning: what the files say that several commands read [this project, docs/FORMATS.md, Site and Book].
-use Rattle.std.specs.Prelude.{ℕ, nat_lt, if◌then◌else◌, List, Option, Result, Ok, Err}
+use Rattle.std.specs.Prelude.{ℕ, nat_lt, if◌then◌else◌, List, Option, Some, None, Result, Ok, Err}
 use Rattle.sd_site.specs.SiteFields.{SiteFields}
 use Rattle.sd_site.specs.Text.{site_of}
 use Rattle.sd_site.specs.declared.site_fault.SiteFault.{SiteFault}
@@ -57,6 +57,11 @@ refused_book word book.NoMemory = NoMemory
 abbrev pub refused_card : ℕ → CardFault → Status
 refused_card word card.NoMemory = NoMemory
 refused_card word found = BadCard word found
+
+-- what is read of the card's file that this argument names, or the status of its fault
+abbrev pub card_unless : {X : Type 0} → ℕ → Option CardFault → X → Result X Status
+card_unless word None x = Ok x
+card_unless word (Some fault) x = Err (BadCard word fault)
 
 -- the commands that a file's bytes say
 abbrev pub told_book : ℕ → Result (List Command) BookFault → Result (List Command) Status

@@ -1,4 +1,5 @@
 use crate::listener::Listener;
+use sd_message::StreamFault;
 use sd_psi::Tuning;
 use sd_site::Card;
 use sd_spec::Ending;
