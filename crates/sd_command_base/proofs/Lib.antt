@@ -12,6 +12,7 @@ pub mod Turning
 pub mod Thirds
 pub mod Streamed
 pub mod Others
+pub mod CardFaults
 pub mod Printed
 pub mod Lines
 pub mod PrintedPeriods

@@ -41,9 +41,9 @@ pub other_stream : (word : ℕ) (got : Option (List ℕ)) → IsOther (all_of wo
 other_stream word None = λ e. cc
 other_stream word (Some bytes) = tt
 
-other_site : (r : Result SiteFields SiteFault) → IsOther (told_site r)
-other_site (Ok site) = tt
-other_site (Err fault) = λ e. cc
+other_site : (word : ℕ) (r : Result SiteFields SiteFault) → IsOther (told_site word r)
+other_site word (Ok site) = tt
+other_site word (Err fault) = λ e. cc
 
 pub other_book : (word : ℕ) (r : Result (List Command) BookFault) → IsOther (told_book word r)
 other_book word (Ok commands) = tt
@@ -56,8 +56,8 @@ pub other_site_file : (word : ℕ) (got : Option (List ℕ)) → IsOther (site_o
 unfolding site_of_file
 other_site_file word got =
     other_after (within word most_site_bytes SiteBytes got).calls (within word most_site_bytes SiteBytes got).result
-    (λ bytes. judged (told_site (site_of bytes))) (other_file word most_site_bytes SiteBytes got)
-    (λ bytes. other_site (site_of bytes))
+    (λ bytes. judged (told_site word (site_of bytes))) (other_file word most_site_bytes SiteBytes got)
+    (λ bytes. other_site word (site_of bytes))
 
 other_height : (high : Bool) (kind : LimitKind) (site : SiteFields) → IsOther (cond high (Err (Limit kind)) (Ok site))
 other_height true kind site = λ e. cc

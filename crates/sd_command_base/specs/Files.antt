@@ -1,5 +1,5 @@
 -- Public meaning: what the files say that several commands read [this project, docs/FORMATS.md, Site and Book].
-use Rattle.std.specs.Prelude.{ℕ, nat_lt, if◌then◌else◌, List, Option, Result, Ok, Err}
+use Rattle.std.specs.Prelude.{ℕ, nat_lt, if◌then◌else◌, List, Option, Some, None, Result, Ok, Err}
 use Rattle.sd_site.specs.SiteFields.{SiteFields}
 use Rattle.sd_site.specs.Text.{site_of}
 use Rattle.sd_site.specs.declared.site_fault.SiteFault.{SiteFault}
@@ -27,14 +27,14 @@ most_book_bytes = 33554432
 abbrev pub most_card_bytes : ℕ
 most_card_bytes = 8192
 
--- the site that a file's bytes say
-abbrev pub told_site : Result SiteFields SiteFault → Result SiteFields Status
-told_site (Ok site) = Ok site
-told_site (Err fault) = Err (BadSite fault)
+-- the site that the bytes of this word's file say
+abbrev pub told_site : ℕ → Result SiteFields SiteFault → Result SiteFields Status
+told_site word (Ok site) = Ok site
+told_site word (Err fault) = Err (BadSite word fault)
 
 -- the site of what the file of this word gave
 unfoldable pub site_of_file : ℕ → Option (List ℕ) → Spec SiteFields
-site_of_file word got = within word most_site_bytes SiteBytes got >>= λ bytes. judged (told_site (site_of bytes))
+site_of_file word got = within word most_site_bytes SiteBytes got >>= λ bytes. judged (told_site word (site_of bytes))
 
 abbrev pub site_in : Readings → FileArgument → Spec SiteFields
 site_in given word = site_of_file word.number (given word)
@@ -53,10 +53,15 @@ refused_book word (book.Leaf k) = BadBook word k
 refused_book word (book.Limit limit) = Limit (Book limit)
 refused_book word book.NoMemory = NoMemory
 
--- the status of bytes that are no card
-abbrev pub refused_card : CardFault → Status
-refused_card card.NoMemory = NoMemory
-refused_card found = BadCard found
+-- the status where the bytes of this word's file are no card
+abbrev pub refused_card : ℕ → CardFault → Status
+refused_card word card.NoMemory = NoMemory
+refused_card word found = BadCard word found
+
+-- what is read of the card's file that this argument names, or the status of its fault
+abbrev pub card_unless : {X : Type 0} → ℕ → Option CardFault → X → Result X Status
+card_unless word None x = Ok x
+card_unless word (Some fault) x = Err (BadCard word fault)
 
 -- the commands that a file's bytes say
 abbrev pub told_book : ℕ → Result (List Command) BookFault → Result (List Command) Status

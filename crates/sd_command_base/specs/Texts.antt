@@ -5,6 +5,10 @@ use Rattle.std.specs.Int.{w32, to_be_bytes}
 use Rattle.hex.specs.Hex.{encode_lower}
 use Rattle.sd_engine.specs.declared.fault.BreakCause.{BreakCause}
 use Rattle.sd_engine.specs.declared.fault.BreakCause.TheVariants as breaks
+use Rattle.sd_engine.specs.Driving.{most_packets}
+use Rattle.sd_psi.specs.declared.clear_fault.ClearFault.{ClearFault}
+use Rattle.sd_psi.specs.declared.clear_fault.ClearFault.TheVariants as clear
+use Rattle.sd_psi.specs.ClearFaults.{clear_packet}
 use Rattle.sd_psi.specs.declared.fault.FormFault.{FormFault}
 use Rattle.sd_psi.specs.declared.fault.FormFault.TheVariants as form
 use Rattle.sd_site.specs.declared.site_fault.SiteFault.{SiteFault}
@@ -13,6 +17,9 @@ use Rattle.sd_book.specs.declared.fault.BookLimit.{BookLimit}
 use Rattle.sd_book.specs.declared.fault.BookLimit.TheVariants as limit
 use Rattle.sd_site.specs.declared.card_fault.CardFault.{CardFault}
 use Rattle.sd_site.specs.declared.card_fault.CardFault.TheVariants as card
+use Rattle.sd_message.specs.declared.stream_fault.StreamFault.{StreamFault}
+use Rattle.sd_message.specs.declared.stream_fault.StreamFault.TheVariants as stream
+use Rattle.sd_message.specs.StreamFaults.{stream_packet}
 use Rattle.sd_message.specs.EmmFaults.{emm_fault_name}
 use Rattle.sd_message.specs.EcmFaults.{ecm_fault_name}
 use Rattle.sd_command_base.specs.declared.status.Status.{Status}
@@ -28,13 +35,10 @@ use Rattle.sd_command_base.specs.declared.status.LimitKind.TheVariants.{TrialHei
 use Rattle.sd_command_base.specs.declared.status.LimitKind.TheVariants.{TrialPackets, Traced, FieldHeight}
 use Rattle.sd_command_base.specs.declared.status.LimitKind.TheVariants.{FieldPackets}
 use Rattle.sd_command_base.specs.declared.status.LimitKind.TheVariants.{FieldEvents}
-use Rattle.sd_command_base.specs.declared.status.ClearCause.{ClearCause}
-use Rattle.sd_command_base.specs.declared.status.ClearCause.TheVariants as clear
 use Rattle.sd_command_base.specs.declared.status.Clash.{Clash as ClashKind}
 use Rattle.sd_command_base.specs.declared.status.Clash.TheVariants.{Heights, Masters, NoWords, SharedWord, Books}
-use Rattle.sd_command_base.specs.declared.status.StreamCause.{StreamCause}
-use Rattle.sd_command_base.specs.declared.status.StreamCause.TheVariants.{Broken, TooLong, WrongKey, WrongWord}
-use Rattle.sd_command_base.specs.declared.status.StreamCause.TheVariants.{BadEmm, BadEcm, Parity}
+use Rattle.sd_command_base.specs.declared.stream_refusal.StreamRefusal.{StreamRefusal}
+use Rattle.sd_command_base.specs.declared.stream_refusal.StreamRefusal.TheVariants as refusal
 
 -- the line of a refused site
 unfoldable pub site_line : SiteFault → List ℕ
@@ -63,19 +67,33 @@ unfoldable pub break_text : BreakCause → List ℕ
 break_text breaks.Torn = codes "torn"
 break_text breaks.NoSync = codes "no sync"
 
--- why a clear packet is refused
-unfoldable pub clear_text : ClearCause → List ℕ
-clear_text (clear.Broken cause) = break_text cause
-clear_text clear.AlreadyScrambled = codes "already scrambled"
-clear_text (clear.PidTaken pid) = codes "pid " ++ (decimal pid ++ codes " is taken")
-clear_text (clear.PatForm fault) = codes "pat " ++ form_text fault
-clear_text (clear.PmtForm fault) = codes "pmt " ++ form_text fault
-clear_text clear.TooManyPids = codes "too many pids"
-clear_text clear.TooLong = codes "too long"
+-- the packet at which a stream is refused, by the packet of a fault
+abbrev pub refused_packet : {F : Type 0} → (F → ℕ) → StreamRefusal F → ℕ
+refused_packet packet_of (refusal.Broken found) = found.packet
+refused_packet packet_of refusal.TooLong = most_packets
+refused_packet packet_of (refusal.Packet fault) = packet_of fault
 
--- the line of a clear packet that is refused
-unfoldable pub clear_line : ℕ → ClearCause → List ℕ
-clear_line packet cause = codes "clear packet " ++ (decimal packet ++ (codes ": " ++ (clear_text cause ++ codes "\n")))
+-- why it is, by the text of a fault
+abbrev pub refusal_text : {F : Type 0} → (F → List ℕ) → StreamRefusal F → List ℕ
+refusal_text text_of (refusal.Broken found) = break_text found.cause
+refusal_text text_of refusal.TooLong = codes "too long"
+refusal_text text_of (refusal.Packet fault) = text_of fault
+
+-- why a clear packet is refused
+unfoldable pub clear_text : ClearFault → List ℕ
+clear_text (clear.AlreadyScrambled packet) = codes "already scrambled"
+clear_text (clear.PidTaken packet pid) = codes "pid " ++ (decimal pid ++ codes " is taken")
+clear_text (clear.PatForm packet fault) = codes "pat " ++ form_text fault
+clear_text (clear.PmtForm packet fault) = codes "pmt " ++ form_text fault
+clear_text (clear.TooManyPids packet) = codes "too many pids"
+clear_text (clear.TooLong packet) = codes "too long"
+
+-- the line of a clear stream that is refused
+unfoldable pub clear_line : StreamRefusal ClearFault → List ℕ
+clear_line found =
+    codes "clear packet "
+    ++ (decimal (refused_packet clear_packet found)
+    ++ (codes ": " ++ (refusal_text clear_text found ++ codes "\n")))
 
 -- a check value, and the one that it is to be
 unfoldable pub checks_text : List ℕ → List ℕ → List ℕ
@@ -92,21 +110,21 @@ card_line (card.Check found due) = codes "card: check " ++ (checks_text found du
 card_line card.NoMemory = codes "no memory\n"
 
 -- why a packet of a stream is refused
-unfoldable pub stream_text : StreamCause → List ℕ
-stream_text (Broken cause) = break_text cause
-stream_text TooLong = codes "too long"
-stream_text (WrongKey period found due) =
+unfoldable pub stream_text : StreamFault → List ℕ
+stream_text (stream.WrongKey packet period found due) =
     codes "wrong key of period " ++ (decimal period ++ (codes " " ++ checks_text found due))
-stream_text (WrongWord word found due) =
+stream_text (stream.WrongWord packet word found due) =
     codes "wrong word " ++ (decimal word ++ (codes " " ++ checks_text found due))
-stream_text (BadEmm fault) = codes "bad emm " ++ emm_fault_name fault
-stream_text (BadEcm fault) = codes "bad ecm " ++ ecm_fault_name fault
-stream_text Parity = codes "parity"
+stream_text (stream.BadEmm packet fault) = codes "bad emm " ++ emm_fault_name fault
+stream_text (stream.BadEcm packet fault) = codes "bad ecm " ++ ecm_fault_name fault
+stream_text (stream.Parity packet) = codes "parity"
 
--- the line of a packet that breaks a rule
-unfoldable pub stream_line : ℕ → StreamCause → List ℕ
-stream_line packet cause =
-    codes "stream packet " ++ (decimal packet ++ (codes ": " ++ (stream_text cause ++ codes "\n")))
+-- the line of a stream that is refused
+unfoldable pub stream_line : StreamRefusal StreamFault → List ℕ
+stream_line found =
+    codes "stream packet "
+    ++ (decimal (refused_packet stream_packet found)
+    ++ (codes ": " ++ (refusal_text stream_text found ++ codes "\n")))
 
 -- the line of a book that is over a limit
 unfoldable pub book_limit_line : BookLimit → List ℕ
@@ -176,11 +194,11 @@ line_of (Missing word) = missing_line word
 line_of (Revoked leaf period) = revoked_line leaf period
 line_of DepotFault = codes "device fault\n"
 line_of PrintFault = []
-line_of (BadSite fault) = site_line fault
+line_of (BadSite word fault) = site_line fault
 line_of (BadBook word line) = book_line word line
-line_of (BadCard fault) = card_line fault
-line_of (BadClear packet cause) = clear_line packet cause
-line_of (BadStream packet cause) = stream_line packet cause
+line_of (BadCard word fault) = card_line fault
+line_of (BadClear refusal) = clear_line refusal
+line_of (BadStream refusal) = stream_line refusal
 line_of (Limit kind) = limit_line kind
 line_of NoMemory = codes "no memory\n"
 line_of (Unheard leaf period) = unheard_line leaf period

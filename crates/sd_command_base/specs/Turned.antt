@@ -53,8 +53,8 @@ opening_status word port.NoMemory = NoMemory
 
 -- the status if OUT was not closed: a refusal of a stream stands, and running out of memory, and else the device failed
 abbrev pub unclosed_status : Status → Status
-unclosed_status (BadClear packet cause) = BadClear packet cause
-unclosed_status (BadStream packet cause) = BadStream packet cause
+unclosed_status (BadClear refusal) = BadClear refusal
+unclosed_status (BadStream refusal) = BadStream refusal
 unclosed_status NoMemory = NoMemory
 unclosed_status _ = DepotFault
 
@@ -87,8 +87,8 @@ pub record IsClosed (a b : DepotState) (out : List ℕ) (held : Option (List ℕ
 
 -- the status is a refusal in the midst of a stream
 abbrev pub is_break : Status → Bool
-is_break (BadClear packet cause) = true
-is_break (BadStream packet cause) = true
+is_break (BadClear refusal) = true
+is_break (BadStream refusal) = true
 is_break _ = false
 
 -- makes OUT of these bytes, which may be those of a stream as far as it goes, and ends so

@@ -31,16 +31,16 @@ pub fn read_site<D: Depot>(alloc: Global, depot: &mut D, word: Word<'_>) -> Resu
         (depot_state D.Depot depot.old) (depot_state D.Depot depot.new) result }
 {
     let bytes = read_bytes(alloc, depot, word, MOST_SITE_BYTES, LimitKind::SiteBytes)?;
-    judge_site(&bytes)
+    judge_site(word.number, &bytes)
 }
 
-/// The site that a file's bytes say.
-fn judge_site(bytes: &[u8]) -> Result<Site, Status>
-    ensures { SureOutcome fields_of (told_site (site_of bytes.now)) result }
+/// The site that the bytes of this word's file say.
+fn judge_site(word: u8, bytes: &[u8]) -> Result<Site, Status>
+    ensures { SureOutcome fields_of (told_site word (site_of bytes.now)) result }
 {
     match sd_site::read(bytes) {
         Ok(site) => Ok(site),
-        Err(fault) => Err(Status::BadSite(fault)),
+        Err(fault) => Err(Status::BadSite { word, fault }),
     }
 }
 
@@ -120,13 +120,13 @@ pub fn read_card_bytes<D: Depot>(
     read_bytes(alloc, depot, word, MOST_CARD_BYTES, LimitKind::CardBytes)
 }
 
-/// The status of bytes that are no card, or of an allocation that failed.
-pub fn card_fault(fault: CardFault) -> Status
-    ensures { result ≡ refused_card fault }
+/// The status where the bytes of this word's file are no card, or of an allocation that failed.
+pub fn card_fault(word: u8, fault: CardFault) -> Status
+    ensures { result ≡ refused_card word fault }
 {
     match fault {
         CardFault::NoMemory => Status::NoMemory,
-        _ => Status::BadCard(fault),
+        _ => Status::BadCard { word, fault },
     }
 }
 

@@ -1,11 +1,11 @@
 ghost use Rattle.std.specs.Prelude.{◌≡◌};
 ghost use Rattle.sd_command_base.specs.Exits.{code_of};
 
+use crate::StreamRefusal;
 use sd_base::NoMemory;
 use sd_book::BookLimit;
-use sd_engine::BreakCause;
-use sd_message::{EcmFault, EmmFault};
-use sd_psi::FormFault;
+use sd_message::StreamFault;
+use sd_psi::ClearFault;
 use sd_site::{CardFault, SiteFault};
 use std::alloc::AllocError;
 
@@ -24,16 +24,16 @@ pub enum Status {
     DepotFault,
     /// Exit 5: an I/O error while printing.
     PrintFault,
-    /// Exit 6: the site file is refused.
-    BadSite(SiteFault),
+    /// Exit 6: the site file that this argument names is refused.
+    BadSite { word: u8, fault: SiteFault },
     /// Exit 7: this line of the file that this argument names is refused, the first such line. Lines count from 1.
     BadBook { word: u8, line: u32 },
-    /// Exit 8: the card is refused.
-    BadCard(CardFault),
-    /// Exit 9: this packet of the clear stream is refused. Packets count from 0.
-    BadClear { packet: u64, cause: ClearCause },
-    /// Exit 10: this packet of the stream is refused. Packets count from 0.
-    BadStream { packet: u64, cause: StreamCause },
+    /// Exit 8: the card's file that this argument names is refused.
+    BadCard { word: u8, fault: CardFault },
+    /// Exit 9: a packet of the clear stream is refused.
+    BadClear(StreamRefusal<ClearFault>),
+    /// Exit 10: a packet of the stream is refused.
+    BadStream(StreamRefusal<StreamFault>),
     /// Exit 11: a limit is exceeded.
     Limit(LimitKind),
     /// Exit 12: out of memory.
@@ -66,11 +66,11 @@ impl Status {
             Status::Revoked { .. } => 3,
             Status::DepotFault => 4,
             Status::PrintFault => 5,
-            Status::BadSite(_) => 6,
+            Status::BadSite { .. } => 6,
             Status::BadBook { .. } => 7,
-            Status::BadCard(_) => 8,
-            Status::BadClear { .. } => 9,
-            Status::BadStream { .. } => 10,
+            Status::BadCard { .. } => 8,
+            Status::BadClear(_) => 9,
+            Status::BadStream(_) => 10,
             Status::Limit(_) => 11,
             Status::NoMemory => 12,
             Status::Unheard { .. } => 13,
@@ -81,52 +81,6 @@ impl Status {
             Status::Clash(_) => 18,
         }
     }
-}
-
-/// Why a packet of a clear stream is refused.
-#[derive(Clone, Copy)]
-pub enum ClearCause {
-    /// The stream breaks at it.
-    Broken(BreakCause),
-    /// It is scrambled.
-    AlreadyScrambled,
-    /// Its PID is 1 or one of the broadcast's own messages.
-    PidTaken(u16),
-    /// It is on PID 0 and no PAT by itself.
-    PatForm(FormFault),
-    /// It is a PMT without room that begins with the project's CA_descriptor.
-    PmtForm(FormFault),
-    /// It would be on the 257th PID that has a position.
-    TooManyPids,
-    /// The most packets that a clear stream may have come before it, or its control word is above the site's last.
-    TooLong,
-}
-
-/// Why a packet of a stream is refused.
-#[derive(Clone, Copy)]
-pub enum StreamCause {
-    /// The stream breaks at it.
-    Broken(BreakCause),
-    /// The most packets that a stream may have, 2^48, come before it.
-    TooLong,
-    /// The key that it gives for this period has another key check value than the one that is due.
-    WrongKey {
-        period: u32,
-        found: [u8; 16],
-        due: [u8; 16],
-    },
-    /// The control word of this number that it gives has another key check value than the one that is due.
-    WrongWord {
-        word: u32,
-        found: [u8; 16],
-        due: [u8; 16],
-    },
-    /// It is a faulty section of entitlements.
-    BadEmm(EmmFault),
-    /// It is a faulty part of a control message.
-    BadEcm(EcmFault),
-    /// Its transport_scrambling_control is not that of the control word's parity.
-    Parity,
 }
 
 /// What is over its limit.

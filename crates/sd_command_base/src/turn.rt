@@ -70,8 +70,8 @@ fn unclosed(ended: Result<(), Status>) -> Result<(), Status>
     ensures { result ≡ unclosed_by ended }
 {
     match ended {
-        Err(Status::BadClear { packet, cause }) => Err(Status::BadClear { packet, cause }),
-        Err(Status::BadStream { packet, cause }) => Err(Status::BadStream { packet, cause }),
+        Err(Status::BadClear(refusal)) => Err(Status::BadClear(refusal)),
+        Err(Status::BadStream(refusal)) => Err(Status::BadStream(refusal)),
         Err(Status::NoMemory) => Err(Status::NoMemory),
         _ => Err(Status::DepotFault),
     }

@@ -14,10 +14,11 @@ ghost use Rattle.sd_command_base.specs.Outside.{page_state};
 ghost use Rattle.sd_command_base.specs.Results.{PrintsLine, PrintsStatusLine, TakesMemory};
 
 use sd_book::BookLimit;
-use sd_command_base::{Clash, ClearCause, LimitKind, Status, StreamCause};
-use sd_engine::BreakCause;
+use sd_command_base::{Clash, LimitKind, Status, StreamRefusal};
+use sd_engine::{BreakCause, MOST_PACKETS};
+use sd_message::StreamFault;
 use sd_ports::{Sink, write_all};
-use sd_psi::FormFault;
+use sd_psi::{ClearFault, FormFault};
 use sd_site::{CardFault, SiteFault};
 use std::alloc::{AllocError, Global};
 
@@ -76,11 +77,11 @@ fn status_line(alloc: Global, status: Status) -> Result<Line, AllocError>
         Status::Missing(word) => missing_line(alloc, word),
         Status::Revoked { leaf, period } => revoked_line(alloc, leaf, period),
         Status::DepotFault => Ok(Line::Fixed("device fault\n")),
-        Status::BadSite(fault) => site_line(alloc, fault),
+        Status::BadSite { fault, .. } => site_line(alloc, fault),
         Status::BadBook { word, line } => book_line(alloc, word, line),
-        Status::BadCard(fault) => card_line(alloc, fault),
-        Status::BadClear { packet, cause } => clear_line(alloc, packet, cause),
-        Status::BadStream { packet, cause } => stream_line(alloc, packet, cause),
+        Status::BadCard { fault, .. } => card_line(alloc, fault),
+        Status::BadClear(refusal) => clear_line(alloc, refusal),
+        Status::BadStream(refusal) => stream_line(alloc, refusal),
         Status::Limit(kind) => limit_line(alloc, kind),
         Status::NoMemory => Ok(Line::Fixed("no memory\n")),
         Status::Unheard { leaf, period } => unheard_line(alloc, leaf, period),
@@ -182,34 +183,40 @@ fn site_line(alloc: Global, fault: SiteFault) -> Result<Line, AllocError>
     })
 }
 
-/// The line of a clear packet that is refused.
+/// The line of a clear stream that is refused.
 #[tactic(auto, unfolding(sd_command_base::specs::Texts::clear_line))]
-fn clear_line(alloc: Global, packet: u64, cause: ClearCause) -> Result<Line, AllocError>
-    ensures { IfOk result (λ line. bytes_of line ≡ clear_line_of packet cause) }
+fn clear_line(alloc: Global, refusal: StreamRefusal<ClearFault>) -> Result<Line, AllocError>
+    ensures { IfOk result (λ line. bytes_of line ≡ clear_line_of refusal) }
 {
-    let cause = clear_text(alloc, cause)?;
+    let (packet, cause) = match refusal {
+        StreamRefusal::Broken(found) => (
+            found.packet,
+            String::from_str(alloc, break_text(found.cause))?,
+        ),
+        StreamRefusal::TooLong => (MOST_PACKETS, String::from_str(alloc, "too long")?),
+        StreamRefusal::Packet(fault) => (fault.packet(), clear_text(alloc, fault)?),
+    };
     Ok(Line::Made(format!(in alloc; "clear packet {packet}: {cause}\n")?))
 }
 
 /// Why a clear packet is refused.
 #[tactic(auto, unfolding(sd_command_base::specs::Texts::clear_text))]
-fn clear_text(alloc: Global, cause: ClearCause) -> Result<String, AllocError>
-    ensures { IfOk result (λ text. string_bytes text ≡ clear_text_of cause) }
+fn clear_text(alloc: Global, fault: ClearFault) -> Result<String, AllocError>
+    ensures { IfOk result (λ text. string_bytes text ≡ clear_text_of fault) }
 {
-    match cause {
-        ClearCause::Broken(cause) => String::from_str(alloc, break_text(cause)),
-        ClearCause::AlreadyScrambled => String::from_str(alloc, "already scrambled"),
-        ClearCause::PidTaken(pid) => format!(in alloc; "pid {pid} is taken"),
-        ClearCause::PatForm(fault) => {
-            let form = form_text(alloc, fault)?;
+    match fault {
+        ClearFault::AlreadyScrambled(_) => String::from_str(alloc, "already scrambled"),
+        ClearFault::PidTaken(_, pid) => format!(in alloc; "pid {pid} is taken"),
+        ClearFault::PatForm(_, form) => {
+            let form = form_text(alloc, form)?;
             format!(in alloc; "pat {form}")
         }
-        ClearCause::PmtForm(fault) => {
-            let form = form_text(alloc, fault)?;
+        ClearFault::PmtForm(_, form) => {
+            let form = form_text(alloc, form)?;
             format!(in alloc; "pmt {form}")
         }
-        ClearCause::TooManyPids => String::from_str(alloc, "too many pids"),
-        ClearCause::TooLong => String::from_str(alloc, "too long"),
+        ClearFault::TooManyPids(_) => String::from_str(alloc, "too many pids"),
+        ClearFault::TooLong(_) => String::from_str(alloc, "too long"),
     }
 }
 
@@ -241,40 +248,55 @@ fn hex_text(alloc: Global, number: u32) -> Result<String, AllocError>
     hex::encode(alloc, &number.to_be_bytes())
 }
 
-/// The line of a packet that breaks a rule.
+/// The line of a stream that is refused.
 #[tactic(auto, unfolding(sd_command_base::specs::Texts::stream_line))]
-fn stream_line(alloc: Global, packet: u64, cause: StreamCause) -> Result<Line, AllocError>
-    ensures { IfOk result (λ line. bytes_of line ≡ stream_line_of packet cause) }
+fn stream_line(alloc: Global, refusal: StreamRefusal<StreamFault>) -> Result<Line, AllocError>
+    ensures { IfOk result (λ line. bytes_of line ≡ stream_line_of refusal) }
 {
-    let cause = stream_text(alloc, cause)?;
+    let (packet, cause) = match refusal {
+        StreamRefusal::Broken(found) => (
+            found.packet,
+            String::from_str(alloc, break_text(found.cause))?,
+        ),
+        StreamRefusal::TooLong => (MOST_PACKETS, String::from_str(alloc, "too long")?),
+        StreamRefusal::Packet(fault) => (fault.packet(), stream_text(alloc, fault)?),
+    };
     Ok(Line::Made(format!(in alloc; "stream packet {packet}: {cause}\n")?))
 }
 
-/// Why a packet breaks a rule.
+/// Why a packet of a stream is refused.
 #[tactic(auto, unfolding(sd_command_base::specs::Texts::stream_text))]
-fn stream_text(alloc: Global, cause: StreamCause) -> Result<String, AllocError>
-    ensures { IfOk result (λ text. string_bytes text ≡ stream_text_of cause) }
+fn stream_text(alloc: Global, fault: StreamFault) -> Result<String, AllocError>
+    ensures { IfOk result (λ text. string_bytes text ≡ stream_text_of fault) }
 {
-    match cause {
-        StreamCause::Broken(cause) => String::from_str(alloc, break_text(cause)),
-        StreamCause::TooLong => String::from_str(alloc, "too long"),
-        StreamCause::WrongKey { period, found, due } => {
+    match fault {
+        StreamFault::WrongKey {
+            period,
+            found,
+            due,
+            ..
+        } => {
             let checks = checks_text(alloc, &found, &due)?;
             format!(in alloc; "wrong key of period {period} {checks}")
         }
-        StreamCause::WrongWord { word, found, due } => {
+        StreamFault::WrongWord {
+            word,
+            found,
+            due,
+            ..
+        } => {
             let checks = checks_text(alloc, &found, &due)?;
             format!(in alloc; "wrong word {word} {checks}")
         }
-        StreamCause::BadEmm(fault) => {
+        StreamFault::BadEmm(_, fault) => {
             let fault = fault.name();
             format!(in alloc; "bad emm {fault}")
         }
-        StreamCause::BadEcm(fault) => {
+        StreamFault::BadEcm(_, fault) => {
             let fault = fault.name();
             format!(in alloc; "bad ecm {fault}")
         }
-        StreamCause::Parity => String::from_str(alloc, "parity"),
+        StreamFault::Parity(_) => String::from_str(alloc, "parity"),
     }
 }
 

@@ -11,7 +11,7 @@ use Rattle.sd_ports.specs.Memory.{Store, room_in}
 use Rattle.sd_ports.specs.Rooms.{HasTaken}
 use Rattle.sd_engine.specs.Stage.{IsTooShort}
 use Rattle.sd_engine.proofs.Chains.{chain_on}
-use Rattle.sd_spec.specs.declared.stream_fault.StreamFault.{StreamFault}
+use Rattle.sd_message.specs.declared.stream_fault.StreamFault.{StreamFault}
 use Rattle.sd_spec.specs.Offered.{offered, out_from, break_from}
 use Rattle.sd_receive.specs.Receiving.{IsAfter, IsCountable, IsLive, Refusing, card_in, receiver_does}
 use Rattle.sd_receive.specs.declared.receiver.Receiver.{Receiver}

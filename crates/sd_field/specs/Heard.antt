@@ -4,7 +4,7 @@ use Rattle.std.specs.List.{concat}
 use Rattle.sd_site.specs.CardFields.{CardFields}
 use Rattle.sd_ports.specs.Memory.{Store, room_in}
 use Rattle.sd_engine.specs.Stage.{Chain}
-use Rattle.sd_spec.specs.declared.stream_fault.StreamFault.{StreamFault}
+use Rattle.sd_message.specs.declared.stream_fault.StreamFault.{StreamFault}
 use Rattle.sd_spec.specs.Offered.{out_from, break_from}
 use Rattle.sd_receive.specs.Receiving.{IsAfter, IsLive, card_in, receiver_does}
 use Rattle.sd_receive.specs.declared.receiver.Receiver.{Receiver}

@@ -8,7 +8,7 @@ ghost use Rattle.sd_base.specs.Types.{Packets, LeafNumber};
 ghost use Rattle.sd_site.specs.SiteFields.{SiteFields, AreInRange};
 ghost use Rattle.sd_site.specs.CardFields.{CardFields};
 ghost use Rattle.sd_spec.specs.Plan.{Plan};
-ghost use Rattle.sd_spec.specs.declared.stream_fault.StreamFault.{StreamFault};
+ghost use Rattle.sd_message.specs.declared.stream_fault.StreamFault.{StreamFault};
 ghost use Rattle.sd_spec.specs.Offered.{offered, break_from};
 ghost use Rattle.sd_spec.specs.declared.event.Event.{Event};
 ghost use Rattle.sd_spec.specs.declared.event.Event.TheVariants.{Offer, Lose, Off, On};

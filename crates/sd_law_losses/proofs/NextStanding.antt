@@ -7,7 +7,7 @@ use Rattle.sd_base.proofs.Lists.{first_none, rest_none}
 use Rattle.sd_site.specs.CardFields.{CardFields}
 use Rattle.sd_spec.specs.Sent.{Item, Cat, Entitles, Controls, Carries}
 use Rattle.sd_spec.specs.declared.ending.Ending.{Ending}
-use Rattle.sd_spec.specs.declared.stream_fault.StreamFault.{StreamFault}
+use Rattle.sd_message.specs.declared.stream_fault.StreamFault.{StreamFault}
 use Rattle.sd_spec.specs.Tuned.{tuning_of}
 use Rattle.sd_psi.specs.OurCat.{cat_tuning}
 use Rattle.sd_psi.specs.declared.our_cat.Tuning.{Tuning}

@@ -21,7 +21,7 @@ use Rattle.sd_spec.specs.Keys.{key_at, key_in, key_from, first_key}
 use Rattle.sd_spec.specs.Offered.{emm_offering, key_if_none, is_mixed, says_same, no_offering, Offering}
 use Rattle.sd_spec.specs.Offered.{refuses}
 use Rattle.sd_message.specs.declared.emm_fault.EmmFault.TheVariants as Emms
-use Rattle.sd_spec.specs.declared.stream_fault.StreamFault.TheVariants as Fault
+use Rattle.sd_message.specs.declared.stream_fault.StreamFault.TheVariants as Fault
 use Rattle.sd_law_losses.specs.Kept.{entitles, is_section_item}
 use Rattle.sd_law_losses.specs.Chosen.{chosen}
 use Rattle.sd_law_losses.specs.Taken.{takes_key, how_many}

@@ -7,8 +7,8 @@ use Rattle.sd_base.specs.Types.{Packet, Packets, PacketNumber}
 use Rattle.sd_site.specs.CardFields.{CardFields}
 use Rattle.sd_spec.specs.declared.ending.Ending.{Ending}
 use Rattle.sd_spec.specs.declared.ending.Ending.TheVariants.{Opened, NoCat}
-use Rattle.sd_spec.specs.declared.stream_fault.StreamFault.{StreamFault}
-use Rattle.sd_spec.specs.declared.stream_fault.StreamFault.TheVariants as Fault
+use Rattle.sd_message.specs.declared.stream_fault.StreamFault.{StreamFault}
+use Rattle.sd_message.specs.declared.stream_fault.StreamFault.TheVariants as Fault
 use Rattle.sd_spec.specs.Offered.{out_from, break_from}
 use Rattle.sd_spec.specs.Ending.{joined, ending_of}
 use Rattle.sd_law_losses.specs.Pieces.{first_cat, pieces_of}

@@ -14,3 +14,4 @@ pub mod EcmFields
 pub mod EcmJudged
 pub mod EcmParts
 pub mod EcmFaults
+pub mod StreamFaults

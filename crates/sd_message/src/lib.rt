@@ -19,6 +19,7 @@ mod emm_period;
 mod emm_read;
 mod emm_write;
 mod frame;
+mod stream_fault;
 
 pub use ecm_fault::EcmFault;
 pub use ecm_format::{MOST_PLACES, POSITIONS};
@@ -34,3 +35,4 @@ pub use emm_period::section_count;
 pub use emm_read::read_emm;
 pub use emm_write::write_emm;
 pub use frame::{pack, section_in};
+pub use stream_fault::StreamFault;

@@ -5,3 +5,4 @@ pub mod Rewriting
 pub mod Undone
 pub mod Access
 pub mod OurCat
+pub mod ClearFaults

@@ -1,3 +1,6 @@
+ghost use Rattle.std.specs.Prelude.{◌≡◌};
+ghost use Rattle.sd_psi.specs.ClearFaults.{clear_packet};
+
 use crate::fault::FormFault;
 
 /// Why a clear packet is refused. The first number is the packet's.
@@ -15,4 +18,20 @@ pub enum ClearFault {
     TooManyPids(u64),
     /// It would be packet 2^32 - 1, or its control word would be above the site's last.
     TooLong(u64),
+}
+
+impl ClearFault {
+    /// The number of the packet that is refused.
+    pub fn packet(self) -> u64
+        ensures { result ≡ clear_packet self }
+    {
+        match self {
+            ClearFault::AlreadyScrambled(packet)
+            | ClearFault::TooManyPids(packet)
+            | ClearFault::TooLong(packet) => packet,
+            ClearFault::PidTaken(packet, _)
+            | ClearFault::PatForm(packet, _)
+            | ClearFault::PmtForm(packet, _) => packet,
+        }
+    }
 }

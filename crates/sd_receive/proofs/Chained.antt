@@ -10,7 +10,7 @@ use Rattle.sd_base.proofs.Lists.{reversed, first_none, rest_none}
 use Rattle.sd_site.specs.CardFields.{CardFields, card_fields_of}
 use Rattle.sd_site.specs.declared.card.Card.{Card}
 use Rattle.sd_engine.specs.Stage.{Chain}
-use Rattle.sd_spec.specs.declared.stream_fault.StreamFault.{StreamFault}
+use Rattle.sd_message.specs.declared.stream_fault.StreamFault.{StreamFault}
 use Rattle.sd_spec.specs.Offered.{offered, out_from, break_from}
 use Rattle.sd_spec.proofs.Turns.{one_more}
 use Rattle.sd_receive.specs.Receiving.{card_in, IsAfter, takes_key_at, steps_at, taken_keys, RefusesPacket}

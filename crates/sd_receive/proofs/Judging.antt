@@ -18,8 +18,8 @@ use Rattle.sd_spec.specs.Heard.{Heard}
 use Rattle.sd_spec.specs.Stretches.{current, seen}
 use Rattle.sd_spec.specs.Keys.{first_key, key_in, key_at, key_from}
 use Rattle.sd_spec.specs.Offered.{says_same, is_mixed, Offering, key_if_none, emm_offering}
-use Rattle.sd_spec.specs.declared.stream_fault.StreamFault.{StreamFault}
-use Rattle.sd_spec.specs.declared.stream_fault.StreamFault.TheVariants as Fault
+use Rattle.sd_message.specs.declared.stream_fault.StreamFault.{StreamFault}
+use Rattle.sd_message.specs.declared.stream_fault.StreamFault.TheVariants as Fault
 use Rattle.sd_message.specs.declared.emm_fault.EmmFault.TheVariants as Emms
 use Rattle.sd_spec.specs.Ending.{periods_told, is_unkeyed, is_all_seen, are_all}
 use Rattle.sd_receive.specs.declared.says.Says.{Says}

@@ -8,7 +8,7 @@ use Rattle.sd_message.specs.EcmParts.{Message}
 use Rattle.sd_message.specs.declared.ecm_part.EcmPart.{EcmPart}
 use Rattle.sd_message.specs.declared.ecm_fault.EcmFault.{EcmFault}
 use Rattle.sd_message.specs.declared.ecm_fault.EcmFault.TheVariants.{Back}
-use Rattle.sd_spec.specs.declared.stream_fault.StreamFault.TheVariants as Fault
+use Rattle.sd_message.specs.declared.stream_fault.StreamFault.TheVariants as Fault
 use Rattle.sd_psi.specs.declared.our_cat.Tuning.{Tuning}
 use Rattle.sd_spec.specs.Heard.{Heard, Controls}
 use Rattle.sd_spec.specs.Stretches.{newest, run_to, completes, current}

@@ -19,11 +19,10 @@ use crate::SegmentFault;
 use crate::listener::Listener;
 use crate::word::word_of;
 use sd_engine::StageFault;
-use sd_message::EcmHead;
+use sd_message::{EcmHead, StreamFault};
 use sd_ports::Sink;
 use sd_psi::Tuning;
 use sd_site::Card;
-use sd_spec::StreamFault;
 
 impl Listener {
     // Takes a control message, which packet `number` of the stream completes.

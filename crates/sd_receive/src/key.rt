@@ -10,9 +10,8 @@ ghost use Rattle.sd_receive.specs.Entitled.{HasFault};
 
 use sd_base::Steps;
 use sd_keystream::unwrap_checked;
-use sd_message::Emm;
+use sd_message::{Emm, StreamFault};
 use sd_site::Card;
-use sd_spec::StreamFault;
 use std::sync::ledger::Ledger;
 
 /// The period key in the first entry whose set has the card's leaf, still wrapped, after the key of that set. It takes

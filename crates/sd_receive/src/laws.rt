@@ -2,7 +2,7 @@
 
 ghost use Rattle.std.specs.Prelude.{◌≡◌, ℕ, ◌+◌, ◌-◌, ◌^◌, ◌<◌, ◌≤◌, ◌++◌, ◌∷◌, [], List, length, true};
 ghost use Rattle.sd_engine.specs.Stage.{Chain};
-ghost use Rattle.sd_spec.specs.declared.stream_fault.StreamFault.{StreamFault};
+ghost use Rattle.sd_message.specs.declared.stream_fault.StreamFault.{StreamFault};
 ghost use Rattle.sd_receive.specs.Receiving.{card_in, IsAfter, receiver_does, Refusing, OutcomeOf, BreakAt};
 ghost use Rattle.sd_receive.specs.declared.receiver.Receiver.{Receiver};
 ghost use Rattle.sd_site.specs.CardFields.{CardFields};

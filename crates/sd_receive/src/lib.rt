@@ -38,6 +38,7 @@ pub use ears::{Channel, channel_of};
 pub use entitled::Entitled;
 pub use held::MOST_HELD;
 pub use receiver::Receiver;
-pub use sd_spec::{Ending, StreamFault};
+pub use sd_message::StreamFault;
+pub use sd_spec::Ending;
 pub use segment::Segment;
 pub use segment_fault::SegmentFault;

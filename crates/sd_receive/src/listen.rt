@@ -14,12 +14,11 @@ use crate::listener::Listener;
 use crate::{Collect, Entitled, Segment, Taken};
 use sd_base::{NoMemory, Steps};
 use sd_engine::StageFault;
-use sd_message::EcmPart;
+use sd_message::{EcmPart, StreamFault};
 use sd_packet::Packet;
 use sd_ports::Sink;
 use sd_psi::Tuning;
 use sd_site::Card;
-use sd_spec::StreamFault;
 use std::alloc::Global;
 use std::sync::ledger::Ledger;
 

@@ -1,7 +1,8 @@
 use crate::listener::Listener;
+use sd_message::StreamFault;
 use sd_psi::Tuning;
 use sd_site::Card;
-use sd_spec::{Ending, StreamFault};
+use sd_spec::Ending;
 
 /// A receiver: its card, and what it keeps of the packets that were offered [this project, docs/FORMATS.md, Receiver].
 pub struct Receiver {

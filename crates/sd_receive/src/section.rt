@@ -14,9 +14,8 @@ use crate::entitled::Entitled;
 use crate::key::good_key_in;
 use crate::says::Says;
 use sd_base::Steps;
-use sd_message::{Emm, EmmFault};
+use sd_message::{Emm, EmmFault, StreamFault};
 use sd_site::Card;
-use sd_spec::StreamFault;
 use std::sync::ledger::Ledger;
 
 impl Entitled {

@@ -15,12 +15,12 @@ use crate::receiver::Receiver;
 use crate::turn::name_of;
 use sd_base::{NoMemory, Steps};
 use sd_engine::{Stage, StageFault};
-use sd_message::{read_ecm, read_emm};
+use sd_message::{StreamFault, read_ecm, read_emm};
 use sd_packet::Packet;
 use sd_ports::Sink;
 use sd_psi::{Tuning, cat_tuning};
 use sd_site::Card;
-use sd_spec::{Ending, StreamFault};
+use sd_spec::Ending;
 use std::alloc::Global;
 use std::sync::ledger::Ledger;
 

@@ -4,8 +4,7 @@ ghost use Rattle.sd_spec.specs.Offered.{word_fault};
 ghost use Rattle.sd_receive.specs.Held.{word_under};
 
 use sd_keystream::unwrap_checked;
-use sd_message::EcmHead;
-use sd_spec::StreamFault;
+use sd_message::{EcmHead, StreamFault};
 
 /// The control word of a complete message, under the key of its period if that is known. `WrongWord` if its check value
 /// isn't the one in the message; `number` is the packet that completes it.

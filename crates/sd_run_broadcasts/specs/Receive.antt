@@ -11,8 +11,8 @@ use Rattle.sd_site.specs.declared.format.TheConstants.{SECRETS_AT}
 use Rattle.sd_site.specs.declared.card_fault.CardFault.{CardFault}
 use Rattle.sd_site.specs.CardFaults.{height_in, leaf_in, ca_in, fault_in}
 use Rattle.sd_site.specs.CardFields.{CardFields, saying}
-use Rattle.sd_spec.specs.declared.stream_fault.StreamFault.{StreamFault}
-use Rattle.sd_spec.specs.declared.stream_fault.StreamFault.TheVariants as fault
+use Rattle.sd_message.specs.declared.stream_fault.StreamFault.{StreamFault}
+use Rattle.sd_message.specs.declared.stream_fault.StreamFault.TheVariants as fault
 use Rattle.sd_spec.specs.declared.ending.Ending.{Ending}
 use Rattle.sd_spec.specs.declared.ending.Ending.TheVariants as end
 use Rattle.sd_spec.specs.Offered.{offered, out_from, break_from}

@@ -3,7 +3,6 @@ use Rattle.std.specs.Prelude.{ℕ, List, [], ◌∷◌, length, false, Option, N
 use Rattle.std.specs.List.{flat_map}
 use Rattle.sd_base.specs.declared.memory.NoMemory.{NoMemory as OutOfMemory}
 use Rattle.sd_packet.specs.Header.{pid_of}
-use Rattle.sd_engine.specs.Driving.{most_packets}
 use Rattle.sd_engine.specs.Taken.{taken_of, end_of, IsLeft}
 use Rattle.sd_engine.specs.declared.driver.DriveFault.{DriveFault}
 use Rattle.sd_engine.specs.declared.driver.DriveFault.TheVariants as drive
@@ -12,7 +11,7 @@ use Rattle.sd_run_streams.specs.Inspected.{sections_at}
 use Rattle.sd_command_base.specs.declared.status.Status.{Status}
 use Rattle.sd_command_base.specs.declared.status.Status.TheVariants.{Done, BadStream, DepotFault, PrintFault}
 use Rattle.sd_command_base.specs.declared.status.Status.TheVariants.{NoMemory}
-use Rattle.sd_command_base.specs.declared.status.StreamCause.TheVariants.{Broken, TooLong}
+use Rattle.sd_command_base.specs.declared.stream_refusal.StreamRefusal.TheVariants.{Broken, TooLong}
 use Rattle.sd_command_base.specs.Outside.{PageState}
 use Rattle.sd_command_base.specs.Spec.{Spec, FileArgument, Readings, all_of, value, ◌>>=◌}
 use Rattle.sd_command_base.specs.Work.{NoSteps, Work}
@@ -42,8 +41,8 @@ tables_meaning stream given = all_of stream.number (given stream) >>= λ bytes. 
 -- the status of a stream that was driven
 abbrev pub drive_status : Result ℕ (DriveFault OutOfMemory) → Status
 drive_status (Ok count) = Done
-drive_status (Err (drive.Broken found)) = BadStream found.packet (Broken found.cause)
-drive_status (Err drive.TooLong) = BadStream most_packets TooLong
+drive_status (Err (drive.Broken found)) = BadStream (Broken found)
+drive_status (Err drive.TooLong) = BadStream TooLong
 drive_status (Err drive.ReadFault) = DepotFault
 drive_status (Err drive.WriteFault) = PrintFault
 drive_status (Err (drive.Refused fault)) = NoMemory

@@ -10,8 +10,8 @@ ghost use Rattle.sd_command_base.specs.Shown.{shown_word};
 
 use crate::Inspector;
 use sd_base::{NoMemory, Steps};
-use sd_command_base::{Status, StreamCause, Word, opening_fault};
-use sd_engine::{BreakCause, DriveFault, MOST_PACKETS, drive};
+use sd_command_base::{Status, StreamRefusal, Word, opening_fault};
+use sd_engine::{DriveFault, drive};
 use sd_ports::{Depot, Sink, Source};
 use std::alloc::Global;
 use std::marker::Brand;
@@ -76,14 +76,8 @@ pub(crate) fn drive_result(driven: Result<u64, DriveFault<NoMemory>>) -> Result<
 {
     match driven {
         Ok(_) => Ok(()),
-        Err(DriveFault::Broken(found)) => Err(Status::BadStream {
-            packet: found.packet,
-            cause: StreamCause::Broken(found.cause),
-        }),
-        Err(DriveFault::TooLong) => Err(Status::BadStream {
-            packet: MOST_PACKETS,
-            cause: StreamCause::TooLong,
-        }),
+        Err(DriveFault::Broken(found)) => Err(Status::BadStream(StreamRefusal::Broken(found))),
+        Err(DriveFault::TooLong) => Err(Status::BadStream(StreamRefusal::TooLong)),
         Err(DriveFault::ReadFault) => Err(Status::DepotFault),
         Err(DriveFault::WriteFault) => Err(Status::PrintFault),
         Err(DriveFault::Refused(NoMemory)) => Err(Status::NoMemory),

@@ -14,7 +14,7 @@ use Rattle.sd_site.specs.SiteFields.{SiteFields, AreInRange}
 use Rattle.sd_site.specs.CardFields.{CardFields}
 use Rattle.sd_engine.specs.Stream.{packets_of}
 use Rattle.sd_spec.specs.Plan.{Plan}
-use Rattle.sd_spec.specs.declared.stream_fault.StreamFault.{StreamFault}
+use Rattle.sd_message.specs.declared.stream_fault.StreamFault.{StreamFault}
 use Rattle.sd_spec.specs.Offered.{offered, out_from, break_from}
 use Rattle.sd_spec.specs.declared.event.Event.{Event}
 use Rattle.sd_spec.specs.declared.event.Event.TheVariants.{Offer, Lose, Off, On}

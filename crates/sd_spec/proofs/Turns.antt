@@ -2,7 +2,7 @@
 use Rattle.std.proofs.Common.{◌≡◌, ℕ, List, [], ◌∷◌, ◌++◌, Option, None, ap, is_none}
 use Rattle.std.specs.Prelude.{if◌then◌else◌}
 use Rattle.sd_site.specs.CardFields.{CardFields}
-use Rattle.sd_spec.specs.declared.stream_fault.StreamFault.{StreamFault}
+use Rattle.sd_message.specs.declared.stream_fault.StreamFault.{StreamFault}
 use Rattle.sd_spec.specs.Offered.{offered, out_from}
 
 pub one_more : (card : CardFields) (past : List (List ℕ)) (packet : List ℕ) (packets : List (List ℕ))

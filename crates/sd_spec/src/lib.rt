@@ -5,9 +5,7 @@
 mod ending;
 mod event;
 mod kind;
-mod stream_fault;
 
 pub use ending::Ending;
 pub use event::Event;
 pub use kind::Kind;
-pub use stream_fault::StreamFault;

@@ -17,17 +17,26 @@ static EXPLAINED: [(&str, Status, &str); 15] = [
     ),
     (
         "cover S B",
-        Status::BadSite(SiteFault::Line(4)),
+        Status::BadSite {
+            word: 1,
+            fault: SiteFault::Line(4),
+        },
         "sdca: SITE S: line 4 is malformed\n",
     ),
     (
         "apart S B T B",
-        Status::BadSite(SiteFault::Line(4)),
+        Status::BadSite {
+            word: 3,
+            fault: SiteFault::Line(4),
+        },
         "sdca: SITE S or SITE T: line 4 is malformed\n",
     ),
     (
         "receive K X O",
-        Status::BadCard(CardFault::Magic),
+        Status::BadCard {
+            word: 1,
+            fault: CardFault::Magic,
+        },
         "sdca: CARD K: it is no card\n",
     ),
     (

@@ -1,10 +1,10 @@
 use sd_book::BookLimit;
-use sd_command_base::{Clash, ClearCause, LimitKind, Status, StreamCause};
+use sd_command_base::{Clash, LimitKind, Status, StreamRefusal};
 use sd_command_line::tell;
-use sd_engine::BreakCause;
-use sd_message::{EcmFault, EmmFault};
+use sd_engine::{BreakCause, StreamBreak};
+use sd_message::{EcmFault, EmmFault, StreamFault};
 use sd_ports::MemSink;
-use sd_psi::FormFault;
+use sd_psi::{ClearFault, FormFault};
 use sd_site::{CardFault, SiteFault};
 use std::alloc::{AllocError, Global};
 
@@ -16,17 +16,26 @@ static LINES: [(Status, u8, &str); 39] = [
     (Status::DepotFault, 4, "device fault\n"),
     (Status::PrintFault, 5, ""),
     (
-        Status::BadSite(SiteFault::Line(4)),
+        Status::BadSite {
+            word: 1,
+            fault: SiteFault::Line(4),
+        },
         6,
         "site line 4 is malformed\n",
     ),
     (
-        Status::BadSite(SiteFault::SamePid),
+        Status::BadSite {
+            word: 3,
+            fault: SiteFault::SamePid,
+        },
         6,
         "site names one pid twice\n",
     ),
     (
-        Status::BadSite(SiteFault::Extra(10)),
+        Status::BadSite {
+            word: 1,
+            fault: SiteFault::Extra(10),
+        },
         6,
         "site has extra line 10\n",
     ),
@@ -51,37 +60,31 @@ static LINES: [(Status, u8, &str); 39] = [
         "limit: revoked in period 17\n",
     ),
     (
-        Status::BadClear {
-            packet: 4,
-            cause: ClearCause::PatForm(FormFault::Crc {
+        Status::BadClear(StreamRefusal::Packet(ClearFault::PatForm(
+            4,
+            FormFault::Crc {
                 found: 0x2AB104B2,
                 due: 0x0A,
-            }),
-        },
+            },
+        ))),
         9,
         "clear packet 4: pat crc 2ab104b2 0000000a\n",
     ),
     (
-        Status::BadClear {
-            packet: 0,
-            cause: ClearCause::PidTaken(1),
-        },
+        Status::BadClear(StreamRefusal::Packet(ClearFault::PidTaken(0, 1))),
         9,
         "clear packet 0: pid 1 is taken\n",
     ),
     (
-        Status::BadStream {
+        Status::BadStream(StreamRefusal::Broken(StreamBreak {
             packet: 7,
-            cause: StreamCause::Broken(BreakCause::Torn),
-        },
+            cause: BreakCause::Torn,
+        })),
         10,
         "stream packet 7: torn\n",
     ),
     (
-        Status::BadStream {
-            packet: 1 << 48,
-            cause: StreamCause::TooLong,
-        },
+        Status::BadStream(StreamRefusal::TooLong),
         10,
         "stream packet 281474976710656: too long\n",
     ),
@@ -90,28 +93,26 @@ static LINES: [(Status, u8, &str); 39] = [
         3,
         "receiver 5 is revoked in period 1\n",
     ),
-    (Status::BadCard(CardFault::Version), 8, "card: version\n"),
     (
-        Status::BadStream {
-            packet: 3,
-            cause: StreamCause::BadEmm(EmmFault::Mixed),
+        Status::BadCard {
+            word: 1,
+            fault: CardFault::Version,
         },
+        8,
+        "card: version\n",
+    ),
+    (
+        Status::BadStream(StreamRefusal::Packet(StreamFault::BadEmm(3, EmmFault::Mixed))),
         10,
         "stream packet 3: bad emm mixed\n",
     ),
     (
-        Status::BadStream {
-            packet: 9,
-            cause: StreamCause::BadEcm(EcmFault::Back),
-        },
+        Status::BadStream(StreamRefusal::Packet(StreamFault::BadEcm(9, EcmFault::Back))),
         10,
         "stream packet 9: bad ecm back\n",
     ),
     (
-        Status::BadStream {
-            packet: 4,
-            cause: StreamCause::Parity,
-        },
+        Status::BadStream(StreamRefusal::Packet(StreamFault::Parity(4))),
         10,
         "stream packet 4: parity\n",
     ),

@@ -1,6 +1,7 @@
 use crate::leaving::{Fault, Leaving};
 use crate::rows::{File, over, sampled, tells};
-use sd_command_base::{ClearCause, Status};
+use sd_command_base::{Status, StreamRefusal};
+use sd_psi::ClearFault;
 use sd_test_texts::SITE;
 use std::alloc::{AllocError, Global};
 
@@ -142,10 +143,7 @@ fn is_refused_alone(alloc: Global) -> Result<bool, AllocError> {
     let left = after(alloc, ONE_WORD, "send 401\noffer 0 405\n")?;
     let is_refused = matches!(
         left.status,
-        Status::BadClear {
-            packet: 400,
-            cause: ClearCause::TooLong
-        }
+        Status::BadClear(StreamRefusal::Packet(ClearFault::TooLong(400)))
     );
     Ok(is_refused && tells(&left, 9, "clear packet 400: too long\n"))
 }

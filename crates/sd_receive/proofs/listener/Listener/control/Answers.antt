@@ -2,7 +2,7 @@ use Rattle.std.proofs.Common.{◌≡◌, ◌∙◌, refl, sym, subst, List}
 use Rattle.std.specs.Prelude.{Ok}
 use Rattle.sd_site.specs.CardFields.{card_fields_of}
 use Rattle.sd_engine.specs.Stage.{vessel}
-use Rattle.sd_spec.specs.declared.stream_fault.StreamFault.TheVariants.{BadEcm}
+use Rattle.sd_message.specs.declared.stream_fault.StreamFault.TheVariants.{BadEcm}
 use Rattle.sd_spec.specs.Heard.{Heard, Controls}
 use Rattle.sd_spec.specs.Stretches.{current}
 use Rattle.sd_receive.specs.Collected.{IsCollected, IsComplete, PartOutcome}

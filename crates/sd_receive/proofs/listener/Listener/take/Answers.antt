@@ -4,7 +4,7 @@ use Rattle.sd_engine.specs.Stage.{vessel}
 use Rattle.sd_spec.specs.Heard.{Heard}
 use Rattle.sd_receive.specs.declared.ears.Heard.{Heard as Kept}
 use Rattle.sd_receive.specs.Ears.{heard_as, IsFormed}
-use Rattle.sd_spec.specs.declared.stream_fault.StreamFault.TheVariants.{BadEmm, BadEcm}
+use Rattle.sd_message.specs.declared.stream_fault.StreamFault.TheVariants.{BadEmm, BadEcm}
 use Rattle.sd_receive.specs.Listening.{TakesHeard, RefusesHeard, PacketOutcome}
 use Rattle.sd_receive.specs.declared.listener.Listener.{Listener}
 use Rattle.sd_receive.proofs.Listening.{took_nothing, dropped_heard, other_heard, section_taken, section_refused}

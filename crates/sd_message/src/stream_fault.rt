@@ -1,4 +1,7 @@
-use sd_message::{EcmFault, EmmFault};
+ghost use Rattle.std.specs.Prelude.{◌≡◌};
+ghost use Rattle.sd_message.specs.StreamFaults.{stream_packet};
+
+use crate::{EcmFault, EmmFault};
 
 /// Why a receiver refuses a packet. Packets are numbered from 0, the first of the stream [this project,
 /// docs/FORMATS.md, Receiver].
@@ -33,4 +36,18 @@ pub enum StreamFault {
     BadEcm(u64, EcmFault),
     /// A buffered packet isn't in the clear, and can't be one under its control word: the number of the packet.
     Parity(u64),
+}
+
+impl StreamFault {
+    /// The number of the packet that is refused.
+    pub fn packet(self) -> u64
+        ensures { result ≡ stream_packet self }
+    {
+        match self {
+            StreamFault::WrongKey { packet, .. } | StreamFault::WrongWord { packet, .. } => packet,
+            StreamFault::BadEmm(packet, _)
+            | StreamFault::BadEcm(packet, _)
+            | StreamFault::Parity(packet) => packet,
+        }
+    }
 }
