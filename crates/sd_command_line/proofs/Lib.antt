@@ -1,5 +1,6 @@
 pub mod Rows
 pub mod Sound
+pub mod Refused
 pub mod Words
 pub mod Items
 pub mod Others

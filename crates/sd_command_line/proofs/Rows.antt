@@ -1,18 +1,19 @@
 -- Arguments that are read one after another.
 use Rattle.std.proofs.Common.{◌≡◌, ℕ, suc, zero, ◌+◌, List, [], ◌∷◌, ◌++◌, Option, Some, None, Result, Ok, Err}
 use Rattle.std.proofs.Common.{slice_get, refl, sym, ap, ◌∙◌, arith}
-use Rattle.std.proofs.Common.{option_map, length, map, drop, get_or, string_bytes, String, Global, ◌<◌, ◌≢◌, ◌||◌}
-use Rattle.std.proofs.Common.{Bool, true, false, drop-cons, bytes_eq, ◌≤◌, ◌-◌, append_assoc}
+use Rattle.std.proofs.Common.{option_map, length, map, drop, get_or, string_bytes, String, Global, Bor, ◌<◌, ◌≢◌, ◌||◌}
+use Rattle.std.proofs.Common.{Bool, true, false, drop-cons, bytes_eq, ◌≤◌, ◌-◌, append_assoc, length-append}
 use Rattle.std.specs.List.{list_any}
+use Rattle.std.proofs.lemmas.List.{map-append}
 use Rattle.sd_command_line.specs.declared.operand.Operand.{Operand}
 use Rattle.sd_command_line.specs.declared.operand.Kind.{Kind}
 use Rattle.sd_command_line.specs.declared.operand.Kind.TheVariants as kind
-use Rattle.sd_command_line.specs.Operands.{operand_kind}
+use Rattle.sd_command_line.specs.Operands.{is_file, operand_kind}
 use Rattle.sd_command_base.specs.declared.status.Status.{Status}
 use Rattle.sd_command_line.specs.declared.argument.Argument.{Argument}
 use Rattle.sd_command_line.specs.Words as words
-use Rattle.sd_command_line.specs.Words.{before, argument_of, arguments_from, input_texts, out_text, or_output}
-use Rattle.sd_command_line.specs.Words.{with_input}
+use Rattle.sd_command_line.specs.Words.{before, argument_of, arguments_from, file_texts, input_texts, out_text}
+use Rattle.sd_command_line.specs.Words.{or_output, with_input}
 use Rattle.sd_command_line.specs.Orders.{argument_said, arguments_said}
 
 -- the argument at a place, as it is said
@@ -102,6 +103,38 @@ out_later operands (e ∷ rest) i d h same other =
     (rw (one_left operands i d h, first_left texts i e (omega (arith, h, same)))
     (other_kind (operand_kind (get_or operands i d)) (string_bytes (get_or texts i e))
     (out_text (drop (i + 1) operands) (map string_bytes (drop (i + 1) texts))) other))
+
+-- one item more at the end
+pub one_longer : {A : Type 0} (xs : List A) (x : A) (n : ℕ) → length xs ≤ n → length (xs ++ x ∷ []) ≤ n + 1
+one_longer xs x n h = let count = length-append xs (x ∷ []) in omega (arith, h, count)
+
+-- one file more was found
+pub file_found : (operands : List Operand) (texts : List (String Global)) (files : List (Bor (List ℕ)))
+    (file : Bor (List ℕ)) (i : ℕ) (d : Operand) (e : String Global) → i < length operands →
+    length operands ≡ length texts → true ≡ is_file (operand_kind (get_or operands i d)) →
+    file.now ≡ string_bytes (get_or texts i e) →
+    map (λ (text : Bor (List ℕ)). text.now) (files ++ file ∷ [])
+    ++ file_texts (drop (i + 1) operands) (map string_bytes (drop (i + 1) texts))
+    ≡ map (λ (text : Bor (List ℕ)). text.now) files
+    ++ file_texts (drop i operands) (map string_bytes (drop i texts))
+file_found operands texts files file i d e h same is text =
+    let now : Bor (List ℕ) → List ℕ = λ text. text.now in
+    let rest = file_texts (drop (i + 1) operands) (map string_bytes (drop (i + 1) texts)) in
+    let left : file_texts (drop i operands) (map string_bytes (drop i texts)) ≡ file.now ∷ rest =
+    rw (one_left operands i d h, first_left texts i e (omega (arith, h, same)), sym is, sym text) refl in
+    ap (λ (front : List (List ℕ)). front ++ rest) (map-append now files (file ∷ []))
+    ∙ append_assoc (map now files) (file.now ∷ []) rest
+    ∙ ap (λ (back : List (List ℕ)). map now files ++ back) (sym left)
+
+-- the first of what is left is no file
+pub no_file : (operands : List Operand) (texts : List (String Global)) (i : ℕ) (d : Operand) →
+    i < length operands → length operands ≡ length texts → false ≡ is_file (operand_kind (get_or operands i d)) →
+    file_texts (drop (i + 1) operands) (map string_bytes (drop (i + 1) texts))
+    ≡ file_texts (drop i operands) (map string_bytes (drop i texts))
+no_file operands [] i d h same is = absurd (omega (arith, h, same))
+no_file operands (e ∷ rest) i d h same is =
+    let texts : List (String Global) = e ∷ rest in
+    sym (rw (one_left operands i d h, first_left texts i e (omega (arith, h, same)), sym is) refl)
 
 either : (p q : Bool) → p || q ≡ (p || false) || q
 either true q = refl

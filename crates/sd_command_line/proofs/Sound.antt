@@ -16,7 +16,7 @@ use Rattle.sd_command_line.specs.declared.order.Order as declared
 use Rattle.sd_command_line.specs.Words.{Argument, Order, argument_of, arguments_from, at_most, before, counted}
 use Rattle.sd_command_line.specs.Words.{help_on, help_words, is_help, is_version, named_words, number_in, numbered}
 use Rattle.sd_command_line.specs.Words.{ordered}
-use Rattle.sd_command_line.specs.Words.{out_is_read, version_words, words_of}
+use Rattle.sd_command_line.specs.Words.{order_after, order_of, out_is_read, version_words}
 use Rattle.sd_command_line.specs.Orders.{AreOf, IsOf, IsSound, order_said, shown}
 
 -- a number that was read is within its limit
@@ -82,7 +82,7 @@ either false a b h k = k
 as_many : (m n : ℕ) (p : Bool) → not (m == n) || p ≡ false → m ≡ n
 as_many m n p h = grind (arith, h)
 
-named_command_sound : (command : Option Command) (texts : List (List ℕ)) → IfOk (words_of command texts) IsSound
+named_command_sound : (command : Option Command) (texts : List (List ℕ)) → IfOk (order_after command texts) IsSound
 named_command_sound None texts = tt
 named_command_sound (Some command) texts =
     let operands = operands_of command in
@@ -108,8 +108,8 @@ named_sound : (name : List ℕ) (texts : List (List ℕ)) → IfOk (named_words 
 unfolding named_words
 named_sound name texts =
     either (is_help name) (help_words texts)
-    (if is_version name then version_words texts else words_of (command_named name) texts) (help_sound texts)
-    (either (is_version name) (version_words texts) (words_of (command_named name) texts) (version_sound texts)
+    (if is_version name then version_words texts else order_after (command_named name) texts) (help_sound texts)
+    (either (is_version name) (version_words texts) (order_after (command_named name) texts) (version_sound texts)
     (named_command_sound (command_named name) texts))
 
 said_sound : (read : Result declared.Order Status) → IfOk (shown read) IsSound →
@@ -117,8 +117,12 @@ said_sound : (read : Result declared.Order Status) → IfOk (shown read) IsSound
 said_sound (Ok order) h = h
 said_sound (Err status) h = tt
 
--- so is one that was read of a name and other words
-pub read_sound : (read : Result declared.Order Status) (name : List ℕ) (texts : List (List ℕ)) →
-    shown read ≡ named_words name texts → IfOk read (λ order. IsSound (order_said order))
-read_sound read name texts is =
-    said_sound read (subst (λ (r : Result Order Status). IfOk r IsSound) (sym is) (named_sound name texts))
+words_sound : (words : List (List ℕ)) → IfOk (order_of words) IsSound
+words_sound [] = tt
+words_sound (name ∷ texts) = named_sound name texts
+
+-- so is one that was read of words
+pub read_sound : (read : Result declared.Order Status) (words : List (List ℕ)) → shown read ≡ order_of words →
+    IfOk read (λ order. IsSound (order_said order))
+read_sound read words is =
+    said_sound read (subst (λ (r : Result Order Status). IfOk r IsSound) (sym is) (words_sound words))

@@ -1,5 +1,6 @@
 pub mod Orders
 pub mod Words
+pub mod CommandLine
 pub mod Commands
 pub mod Exits
 pub mod Operands

@@ -1,5 +1,5 @@
 -- Public meaning: the arguments that commands take [this project, docs/FORMATS.md, Commands].
-use Rattle.std.specs.Prelude.{ℕ, ◌-◌, ◌^◌, List, codes, Bool, true, false}
+use Rattle.std.specs.Prelude.{ℕ, ◌-◌, ◌^◌, List, codes, Bool, true, false, ◌||◌}
 use Rattle.std.specs.List.{list_any}
 use Rattle.sd_command_line.specs.declared.operand.Operand.{Operand}
 use Rattle.sd_command_line.specs.declared.operand.Operand.TheVariants.{Site, Book, Accounts, Commands, Clear, Script}
@@ -45,6 +45,10 @@ is_output kind.Input = false
 is_output kind.Output = true
 is_output (kind.Number most) = false
 is_output (kind.Count most) = false
+
+-- a file, whether it is read or made
+abbrev pub is_file : Kind → Bool
+is_file kind = is_input kind || is_output kind
 
 -- the files of a command, by whether it reads some and whether it makes one; each command has a file
 abbrev pub files_where : Bool → Bool → Files

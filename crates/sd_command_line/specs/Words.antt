@@ -1,5 +1,5 @@
 -- Public meaning: what the words after the program's name say [this project, docs/FORMATS.md, Commands].
-use Rattle.std.specs.Prelude.{◌≡◌, ◌⊎◌, ℕ, zero, suc, ◌+◌, ◌-◌, ◌==◌, nat_lt, not, List, [], ◌∷◌, codes, length}
+use Rattle.std.specs.Prelude.{◌≡◌, ◌⊎◌, ℕ, zero, suc, ◌+◌, ◌-◌, ◌==◌, nat_lt, not, List, [], ◌∷◌, ◌++◌, codes, length}
 use Rattle.std.specs.Prelude.{slice_get}
 use Rattle.std.specs.Prelude.{bytes_eq, ◌||◌}
 use Rattle.std.specs.Prelude.{if◌then◌else◌, Option, Some, None, Bool, false, Result, Ok, Err}
@@ -11,7 +11,7 @@ use Rattle.sd_command_line.specs.declared.operand.Operand.{Operand}
 use Rattle.sd_command_line.specs.declared.operand.Kind.{Kind}
 use Rattle.sd_command_line.specs.declared.operand.Kind.TheVariants as kind
 use Rattle.sd_command_line.specs.Commands.{command_named, operands_of}
-use Rattle.sd_command_line.specs.Operands.{operand_kind}
+use Rattle.sd_command_line.specs.Operands.{is_file, operand_kind}
 use Rattle.sd_command_base.specs.Spec.{FileArgument}
 use Rattle.sd_command_base.specs.Shown.{NumberArgument, word_at}
 use Rattle.sd_command_base.specs.declared.status.Status.{Status}
@@ -132,9 +132,9 @@ command_words command operands texts =
     if not (length texts == length operands) || out_is_read operands texts then Err Usage
     else ordered command (arguments_from 1 operands texts)
 
-abbrev pub words_of : Option Command → List (List ℕ) → Result Order Status
-words_of None texts = Err Usage
-words_of (Some command) texts = command_words command (operands_of command) texts
+abbrev pub order_after : Option Command → List (List ℕ) → Result Order Status
+order_after None texts = Err Usage
+order_after (Some command) texts = command_words command (operands_of command) texts
 
 -- `help`, `--help` and `-h` are one command
 abbrev pub is_help : List ℕ → Bool
@@ -162,18 +162,45 @@ unfoldable pub named_words : List ℕ → List (List ℕ) → Result Order Statu
 named_words name texts =
     if is_help name then help_words texts
     else if is_version name then version_words texts
-    else words_of (command_named name) texts
+    else order_after (command_named name) texts
 
 -- The first word is the name of a command, whose row says what the others are.
 abbrev pub order_of : List (List ℕ) → Result Order Status
 order_of [] = Err Usage
 order_of (name ∷ texts) = named_words name texts
 
+-- the command of the table that the first word names
+abbrev pub command_in : List (List ℕ) → Option Command
+command_in [] = None
+command_in (name ∷ texts) = command_named name
+
+-- the texts of the arguments that are files
+abbrev pub file_texts : List Operand → List (List ℕ) → List (List ℕ)
+file_texts [] texts = []
+file_texts (operand ∷ operands) [] = []
+file_texts (operand ∷ operands) (text ∷ texts) =
+    (if is_file (operand_kind operand) then text ∷ [] else []) ++ file_texts operands texts
+
+abbrev pub files_after : Option Command → List (List ℕ) → List (List ℕ)
+files_after None texts = []
+files_after (Some command) texts =
+    if length texts == length (operands_of command) then file_texts (operands_of command) texts else []
+
+-- the files that words name, also if one of their numbers or OUT is refused
+abbrev pub files_named : List (List ℕ) → List (List ℕ)
+files_named [] = []
+files_named (name ∷ texts) = files_after (command_named name) texts
+
 -- the command of an order makes a card
 abbrev pub MakesCard : Order → Type 0
 MakesCard (CommandOf command arguments) = (command ≡ commands.Card) ⊎ (command ≡ commands.Lcard)
 MakesCard (HelpOf topic) = ⊥
 MakesCard VersionOf = ⊥
+
+-- words that were read so make a card
+abbrev pub MakesCardBy : Result Order Status → Type 0
+MakesCardBy (Ok order) = MakesCard order
+MakesCardBy (Err status) = ⊥
 
 -- the orders of the commands, by their names
 abbrev pub AccountsOf : FileArgument → FileArgument → FileArgument → Order

@@ -1,4 +1,4 @@
-ghost use Rattle.std.specs.Prelude.{◌≡◌, ◌<◌, ◌≤◌, ℕ, IfErr, IfOk, length, map, option_map, slice_get, string_bytes};
+ghost use Rattle.std.specs.Prelude.{◌≡◌, ◌<◌, ◌≤◌, IfOk, length, map, option_map, slice_get, string_bytes};
 ghost use Rattle.std.specs.Prelude.{◌-◌};
 ghost use Rattle.sd_command_base.specs.Shown.{shown_number, shown_word};
 ghost use Rattle.sd_command_line.specs.Orders.{all_said, argument_said, arguments_said, one_said};
@@ -37,8 +37,7 @@ impl<'a> Arguments<'a> {
     pub fn read(operands: &[Operand], texts: &'a [String]) -> Result<Arguments<'a>, Status>
         requires one_each { length operands.now ≡ length texts.now }
         requires few { length operands.now ≤ 4 }
-        ensures value { arguments_from 1 operands.now (map string_bytes texts.now) ≡ all_said result }
-        ensures fault { IfErr result (λ status. (word : ℕ) × (status ≡ Status.BadWord word)) }
+        ensures { arguments_from 1 operands.now (map string_bytes texts.now) ≡ all_said result }
     {
         let mut list = ArrayVec::new();
         for index in 0..operands.len() {
@@ -93,8 +92,7 @@ impl<'a> Arguments<'a> {
 
 /// The argument of this kind.
 fn read_argument<'a>(place: u8, kind: Kind, text: &'a str) -> Result<Argument<'a>, Status>
-    ensures value { argument_of place kind text.now ≡ one_said place result }
-    ensures fault { IfErr result (λ status. status ≡ Status.BadWord place) }
+    ensures { argument_of place kind text.now ≡ one_said place result }
 {
     match kind {
         Kind::Input => Ok(Argument::Input(text)),
@@ -112,8 +110,7 @@ fn read_argument<'a>(place: u8, kind: Kind, text: &'a str) -> Result<Argument<'a
 
 /// The number of this word, which must be at least 1 and at most the greatest.
 fn read_count(word: u8, text: &str, most: u32) -> Result<u32, Status>
-    ensures value { result ≡ counted word (number_in word most text.now) }
-    ensures fault { IfErr result (λ status. status ≡ Status.BadWord word) }
+    ensures { result ≡ counted word (number_in word most text.now) }
 {
     match read_number(word, text, most) {
         Ok(0) => Err(Status::BadWord(word)),
@@ -126,7 +123,6 @@ fn read_count(word: u8, text: &str, most: u32) -> Result<u32, Status>
 fn read_number(word: u8, text: &str, most: u32) -> Result<u32, Status>
     ensures value { result ≡ number_in word most text.now }
     ensures fits { IfOk result (λ number. number ≤ most) }
-    ensures fault { IfErr result (λ status. status ≡ Status.BadWord word) }
 {
     match number_after(b"", text.as_bytes()) {
         Ok(number) if number <= most => Ok(number),

@@ -2,13 +2,14 @@ ghost use Rattle.std.specs.Prelude.{◌≡◌, map, string_bytes, IfOk};
 ghost use Rattle.sd_command_line.specs.Explained.{argument_line, argument_of, command_line, count_line, explained};
 ghost use Rattle.sd_command_line.specs.Explained.{has_two_sites as two_sites, help_line, of_argument, of_sites};
 ghost use Rattle.sd_command_line.specs.Explained.{shown, site_line, sites_line, topic_line, usage_line, word_line};
-ghost use Rattle.sd_command_line.specs.Commands.{command_named};
+ghost use Rattle.sd_command_line.specs.CommandLine.{words_of};
 ghost use Rattle.sd_command_line.specs.Reasons.{card_reason, missing_reason, output_reason, range_reason};
 ghost use Rattle.sd_command_line.specs.Reasons.{line_reason};
 ghost use Rattle.sd_command_line.specs.Reasons.{site_reason};
 
 use crate::found::{Argument, find_argument};
-use crate::{Command, is_help, is_version, reason};
+use crate::order::{is_help, is_version};
+use crate::{CommandLine, reason};
 use sd_command_base::Status;
 use sd_site::{CardFault, SiteFault};
 use std::alloc::{AllocError, Global};
@@ -21,23 +22,27 @@ const SECOND_SITE: u8 = 3;
 
 /// The line that explains a status to a user, or no text if the status is about no argument.
 #[tactic(auto, unfolding(crate::specs::Explained::explained))]
-pub fn explanation(alloc: Global, words: &[String], status: Status) -> Result<String, AllocError>
-    ensures { IfOk result (λ text. string_bytes text ≡ explained (map string_bytes words.now) status) }
+pub fn explanation(
+    alloc: Global,
+    line: &CommandLine<'_>,
+    status: Status,
+) -> Result<String, AllocError>
+    ensures { IfOk result (λ text. string_bytes text ≡ explained (words_of line.now) status) }
 {
     match status {
-        Status::Usage => usage(alloc, words),
-        Status::Missing(word) => missing(alloc, words, word),
-        Status::BadSite(fault) => site(alloc, words, fault),
-        Status::BadBook { word, line } => book(alloc, words, word, line),
-        Status::BadCard(fault) => card(alloc, words, fault),
-        Status::BadWord(word) => range(alloc, words, word),
+        Status::Usage => usage(alloc, line),
+        Status::Missing(word) => missing(alloc, line, word),
+        Status::BadSite(fault) => site(alloc, line, fault),
+        Status::BadBook { word, line: number } => book(alloc, line, word, number),
+        Status::BadCard(fault) => card(alloc, line, fault),
+        Status::BadWord(word) => range(alloc, line, word),
         _ => Ok(String::new(alloc)),
     }
 }
 
 /// The line of an argument.
 #[tactic(auto, unfolding(crate::specs::Explained::argument_line))]
-fn line(alloc: Global, argument: Argument<'_>, reason: &str) -> Result<String, AllocError>
+fn about(alloc: Global, argument: Argument<'_>, reason: &str) -> Result<String, AllocError>
     ensures { IfOk result (λ text. string_bytes text ≡ argument_line reason.now (shown argument.entry)) }
 {
     let name = argument.operand.name();
@@ -47,10 +52,10 @@ fn line(alloc: Global, argument: Argument<'_>, reason: &str) -> Result<String, A
 
 /// The line of words that are refused.
 #[tactic(auto, unfolding(crate::specs::Explained::usage_line))]
-fn usage(alloc: Global, words: &[String]) -> Result<String, AllocError>
-    ensures { IfOk result (λ text. string_bytes text ≡ usage_line (map string_bytes words.now)) }
+fn usage(alloc: Global, line: &CommandLine<'_>) -> Result<String, AllocError>
+    ensures { IfOk result (λ text. string_bytes text ≡ usage_line (words_of line.now)) }
 {
-    let [name, texts @ ..] = words else {
+    let [name, texts @ ..] = line.words else {
         return String::from_str(alloc, "sdca: no command is given; see sdca help\n");
     };
     if is_help(name.as_str()) {
@@ -58,7 +63,7 @@ fn usage(alloc: Global, words: &[String]) -> Result<String, AllocError>
     } else if is_version(name.as_str()) {
         word(alloc, reason::miscounted(), name.as_str())
     } else {
-        command(alloc, words, name.as_str(), texts.len())
+        command(alloc, line, name.as_str(), texts.len())
     }
 }
 
@@ -84,24 +89,29 @@ fn no_page(alloc: Global, topic: &str) -> Result<String, AllocError>
 }
 
 /// The line of words that begin with a name and this number of arguments, which are refused.
-fn command(alloc: Global, words: &[String], name: &str, count: usize) -> Result<String, AllocError>
+fn command(
+    alloc: Global,
+    line: &CommandLine<'_>,
+    name: &str,
+    count: usize,
+) -> Result<String, AllocError>
     ensures { IfOk result (λ text. string_bytes text
-        ≡ command_line (map string_bytes words.now) name.now count (command_named name.now)) }
+        ≡ command_line (words_of line.now) name.now count line.now.command) }
 {
-    match Command::of(name) {
-        Some(command) if count == command.operands().len() => output(alloc, words, count as u8),
+    match line.command {
+        Some(command) if count == command.operands().len() => output(alloc, line, count as u8),
         Some(_) => wrong_number(alloc, name),
         None => word(alloc, reason::unknown(), name),
     }
 }
 
 /// The line of OUT, the argument of this number, that is one of the inputs.
-fn output(alloc: Global, words: &[String], number: u8) -> Result<String, AllocError>
+fn output(alloc: Global, line: &CommandLine<'_>, number: u8) -> Result<String, AllocError>
     ensures { IfOk result (λ text. string_bytes text ≡
-        of_argument (map string_bytes words.now) number (λ operand. output_reason)) }
+        of_argument (words_of line.now) number (λ operand. output_reason)) }
 {
-    match find_argument(words, number) {
-        Some(argument) => line(alloc, argument, reason::output()),
+    match find_argument(line, number) {
+        Some(argument) => about(alloc, argument, reason::output()),
         None => Ok(String::new(alloc)),
     }
 }
@@ -123,49 +133,46 @@ fn word(alloc: Global, reason: &str, word: &str) -> Result<String, AllocError>
 }
 
 /// The line of a file that isn't there.
-fn missing(alloc: Global, words: &[String], word: u8) -> Result<String, AllocError>
+fn missing(alloc: Global, line: &CommandLine<'_>, word: u8) -> Result<String, AllocError>
     ensures { IfOk result (λ text. string_bytes text ≡
-        of_argument (map string_bytes words.now) word (λ operand. missing_reason operand)) }
+        of_argument (words_of line.now) word (λ operand. missing_reason operand)) }
 {
-    match find_argument(words, word) {
-        Some(argument) => line(alloc, argument, reason::missing(argument.operand)),
+    match find_argument(line, word) {
+        Some(argument) => about(alloc, argument, reason::missing(argument.operand)),
         None => Ok(String::new(alloc)),
     }
 }
 
 /// Whether the words are of a command that reads two sites.
-fn has_two_sites(words: &[String]) -> bool
-    ensures { result ≡ two_sites (map string_bytes words.now) }
+fn has_two_sites(line: &CommandLine<'_>) -> bool
+    ensures { result ≡ two_sites (words_of line.now) }
 {
-    match words {
+    match line.words {
         [name, ..] => name.as_str() == "apart",
         [] => false,
     }
 }
 
 /// The line of a site that is refused.
-fn site(alloc: Global, words: &[String], fault: SiteFault) -> Result<String, AllocError>
-    ensures { IfOk result (λ text. string_bytes text ≡ site_line (map string_bytes words.now) (site_reason fault)) }
+fn site(alloc: Global, line: &CommandLine<'_>, fault: SiteFault) -> Result<String, AllocError>
+    ensures { IfOk result (λ text. string_bytes text ≡ site_line (words_of line.now) (site_reason fault)) }
 {
     let reason = reason::site(alloc, fault)?;
-    if has_two_sites(words) {
-        return either_site(alloc, words, reason.as_str());
+    if has_two_sites(line) {
+        return either_site(alloc, line, reason.as_str());
     }
-    match find_argument(words, FIRST) {
-        Some(argument) => line(alloc, argument, reason.as_str()),
+    match find_argument(line, FIRST) {
+        Some(argument) => about(alloc, argument, reason.as_str()),
         None => Ok(String::new(alloc)),
     }
 }
 
 /// The line of two sites of which one is refused: the status doesn't say which.
-fn either_site(alloc: Global, words: &[String], reason: &str) -> Result<String, AllocError>
-    ensures { IfOk result (λ text. string_bytes text ≡ of_sites (argument_of (map string_bytes words.now) 1)
-        (argument_of (map string_bytes words.now) 3) reason.now) }
+fn either_site(alloc: Global, line: &CommandLine<'_>, reason: &str) -> Result<String, AllocError>
+    ensures { IfOk result (λ text. string_bytes text ≡ of_sites (argument_of (words_of line.now) 1)
+        (argument_of (words_of line.now) 3) reason.now) }
 {
-    match (
-        find_argument(words, FIRST),
-        find_argument(words, SECOND_SITE),
-    ) {
+    match (find_argument(line, FIRST), find_argument(line, SECOND_SITE)) {
         (Some(first), Some(second)) => sites(alloc, first.text, second.text, reason),
         _ => Ok(String::new(alloc)),
     }
@@ -180,39 +187,39 @@ fn sites(alloc: Global, first: &str, second: &str, reason: &str) -> Result<Strin
 }
 
 /// The line of a file of which a line is refused.
-fn book(alloc: Global, words: &[String], word: u8, number: u32) -> Result<String, AllocError>
+fn book(alloc: Global, line: &CommandLine<'_>, word: u8, number: u32) -> Result<String, AllocError>
     ensures { IfOk result (λ text. string_bytes text ≡
-        of_argument (map string_bytes words.now) word (λ operand. line_reason operand number)) }
+        of_argument (words_of line.now) word (λ operand. line_reason operand number)) }
 {
-    match find_argument(words, word) {
+    match find_argument(line, word) {
         Some(argument) => {
             let reason = reason::line(alloc, argument.operand, number)?;
-            line(alloc, argument, reason.as_str())
+            about(alloc, argument, reason.as_str())
         }
         None => Ok(String::new(alloc)),
     }
 }
 
 /// The line of a card that is refused.
-fn card(alloc: Global, words: &[String], fault: CardFault) -> Result<String, AllocError>
+fn card(alloc: Global, line: &CommandLine<'_>, fault: CardFault) -> Result<String, AllocError>
     ensures { IfOk result (λ text. string_bytes text ≡
-        of_argument (map string_bytes words.now) 1 (λ operand. card_reason fault)) }
+        of_argument (words_of line.now) 1 (λ operand. card_reason fault)) }
 {
-    match find_argument(words, FIRST) {
-        Some(argument) => line(alloc, argument, reason::card(fault)),
+    match find_argument(line, FIRST) {
+        Some(argument) => about(alloc, argument, reason::card(fault)),
         None => Ok(String::new(alloc)),
     }
 }
 
 /// The line of a number that is refused.
-fn range(alloc: Global, words: &[String], word: u8) -> Result<String, AllocError>
+fn range(alloc: Global, line: &CommandLine<'_>, word: u8) -> Result<String, AllocError>
     ensures { IfOk result (λ text. string_bytes text ≡
-        of_argument (map string_bytes words.now) word (λ operand. range_reason operand)) }
+        of_argument (words_of line.now) word (λ operand. range_reason operand)) }
 {
-    match find_argument(words, word) {
+    match find_argument(line, word) {
         Some(argument) => {
             let reason = reason::range(alloc, argument.operand)?;
-            line(alloc, argument, reason.as_str())
+            about(alloc, argument, reason.as_str())
         }
         None => Ok(String::new(alloc)),
     }

@@ -1,8 +1,9 @@
 ghost use Rattle.std.specs.Prelude.{◌≡◌, map, option_map, slice_get, string_bytes, Some};
+ghost use Rattle.sd_command_line.specs.CommandLine.{words_of};
 ghost use Rattle.sd_command_line.specs.Commands.{operands_of};
 ghost use Rattle.sd_command_line.specs.Explained.{argument_at as argument_there, argument_of, shown};
 
-use crate::{Command, Operand};
+use crate::{Command, CommandLine, Operand};
 
 /// An argument of a command.
 #[derive(Clone, Copy)]
@@ -12,14 +13,14 @@ pub(crate) struct Argument<'a> {
 }
 
 /// The argument of this number, if the first word is a command that takes as many. They are numbered from 1.
-pub(crate) fn find_argument(words: &[String], number: u8) -> Option<Argument<'_>>
-    ensures { option_map shown result ≡ argument_of (map string_bytes words.now) number }
+pub(crate) fn find_argument<'a>(line: &CommandLine<'a>, number: u8) -> Option<Argument<'a>>
+    ensures { option_map shown result ≡ argument_of (words_of line.now) number }
 {
     let place = usize::from(number).checked_sub(1)?;
-    let [name, texts @ ..] = words else {
+    let [_, texts @ ..] = line.words else {
         return None;
     };
-    argument_at(Command::of(name.as_str())?, texts, place)
+    argument_at(line.command?, texts, place)
 }
 
 /// The argument at this place behind the command's name.

@@ -4,6 +4,7 @@
 
 mod argument;
 mod command;
+mod command_line;
 mod exit;
 mod explain;
 mod found;
@@ -16,9 +17,10 @@ mod telling;
 
 pub use argument::{Argument, Arguments};
 pub use command::{COMMANDS, Command};
+pub use command_line::CommandLine;
 pub use exit::Exit;
 pub use explain::explanation;
 pub use help_command::{help, version};
 pub use operand::{Files, Kind, Operand};
-pub use order::{Order, holds_secrets, is_help, is_version, read_words};
+pub use order::Order;
 pub use telling::tell;

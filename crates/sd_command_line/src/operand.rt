@@ -1,5 +1,6 @@
 ghost use Rattle.std.specs.Prelude.{◌≡◌};
-ghost use Rattle.sd_command_line.specs.Operands.{operand_kind, meaning_of, operand_name};
+ghost use Rattle.sd_command_line.specs.Operands.{is_file as kind_is_file, operand_kind, meaning_of};
+ghost use Rattle.sd_command_line.specs.Operands.{operand_name};
 
 /// What an argument is.
 #[derive(Clone, Copy, PartialEq, Eq)]
@@ -12,6 +13,15 @@ pub enum Kind {
     Number(u32),
     /// A number that is at least 1 and at most this.
     Count(u32),
+}
+
+impl Kind {
+    /// Whether an argument of this kind is a file.
+    pub fn is_file(self) -> bool
+        ensures { result ≡ kind_is_file self }
+    {
+        matches!(self, Kind::Input | Kind::Output)
+    }
 }
 
 /// The files that the arguments of a command name.

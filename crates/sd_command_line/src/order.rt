@@ -1,10 +1,11 @@
-ghost use Rattle.std.specs.Prelude.{[], ◌≡◌, ◌↔◌, bytes_eq, length, map, option_map, string_bytes, true, IfOk, IfErr};
+ghost use Rattle.std.specs.Prelude.{[], ◌≡◌, ◌↔◌, bytes_eq, length, map, option_map, string_bytes, true};
 ghost use Rattle.std.specs.List.{list_any};
-ghost use Rattle.sd_command_line.specs.Commands.{operands_of};
-ghost use Rattle.sd_command_line.specs.Words.{command_words, help_words, input_texts, named_words, order_of, MakesCard};
+ghost use Rattle.sd_command_line.specs.Commands.{command_named, operands_of};
+ghost use Rattle.sd_command_line.specs.Words.{command_in, command_words, help_words, input_texts, named_words};
+ghost use Rattle.sd_command_line.specs.Words.{order_of, MakesCard};
 ghost use Rattle.sd_command_line.specs.Words.{is_help as names_help, is_version as names_version};
 ghost use Rattle.sd_command_line.specs.Words.{out_is_read, out_text, version_words, with_input};
-ghost use Rattle.sd_command_line.specs.Orders.{order_said, shown, IsSound, RefusesWords};
+ghost use Rattle.sd_command_line.specs.Orders.{order_said, shown};
 
 use crate::argument::Arguments;
 use crate::{Command, Kind, Operand};
@@ -26,23 +27,26 @@ pub enum Order<'a> {
     Version,
 }
 
-/// What the arguments ask for, or the status of their refusal.
-pub fn read_words(words: &[String]) -> Result<Order<'_>, Status>
-    ensures value { shown result ≡ order_of (map string_bytes words.now) }
-    ensures fits { IfOk result (λ order. IsSound (order_said order)) }
-    ensures fault { IfErr result RefusesWords }
+/// What the arguments ask for, or the status of their refusal. The command is the one that the first of them names.
+pub(crate) fn read_words(words: &[String], command: Option<Command>) -> Result<Order<'_>, Status>
+    requires { command ≡ command_in (map string_bytes words.now) }
+    ensures { shown result ≡ order_of (map string_bytes words.now) }
 {
     match words {
-        [name, texts @ ..] => read_named(name.as_str(), texts),
+        [name, texts @ ..] => read_named(name.as_str(), command, texts),
         _ => Err(Status::Usage),
     }
 }
 
-/// What the words after this name say.
+/// What the words after this name say, which is that of the command.
 #[tactic(auto, unfolding(crate::specs::Words::named_words))]
-fn read_named<'a>(name: &str, texts: &'a [String]) -> Result<Order<'a>, Status>
-    ensures value { shown result ≡ named_words name.now (map string_bytes texts.now) }
-    ensures fault { IfErr result RefusesWords }
+fn read_named<'a>(
+    name: &str,
+    command: Option<Command>,
+    texts: &'a [String],
+) -> Result<Order<'a>, Status>
+    requires { command ≡ command_named name.now }
+    ensures { shown result ≡ named_words name.now (map string_bytes texts.now) }
 {
     if is_help(name) {
         return read_help(texts);
@@ -50,21 +54,21 @@ fn read_named<'a>(name: &str, texts: &'a [String]) -> Result<Order<'a>, Status>
     if is_version(name) {
         return read_version(texts);
     }
-    match Command::of(name) {
+    match command {
         Some(command) => read_command(command, texts),
         None => Err(Status::Usage),
     }
 }
 
 /// Whether a first word asks for help.
-pub fn is_help(name: &str) -> bool
+pub(crate) fn is_help(name: &str) -> bool
     ensures { result ≡ names_help name.now }
 {
     matches!(name, "help" | "--help" | "-h")
 }
 
 /// Whether a first word asks for the version.
-pub fn is_version(name: &str) -> bool
+pub(crate) fn is_version(name: &str) -> bool
     ensures { result ≡ names_version name.now }
 {
     matches!(name, "version" | "--version")
@@ -72,8 +76,7 @@ pub fn is_version(name: &str) -> bool
 
 /// Help on a command, or on all.
 fn read_help<'a>(texts: &[String]) -> Result<Order<'a>, Status>
-    ensures value { shown result ≡ help_words (map string_bytes texts.now) }
-    ensures fault { IfErr result RefusesWords }
+    ensures { shown result ≡ help_words (map string_bytes texts.now) }
 {
     match texts {
         [] => Ok(Order::Help { topic: None }),
@@ -87,8 +90,7 @@ fn read_help<'a>(texts: &[String]) -> Result<Order<'a>, Status>
 
 /// `version` takes no arguments.
 fn read_version<'a>(texts: &[String]) -> Result<Order<'a>, Status>
-    ensures value { shown result ≡ version_words (map string_bytes texts.now) }
-    ensures fault { IfErr result RefusesWords }
+    ensures { shown result ≡ version_words (map string_bytes texts.now) }
 {
     if texts.is_empty() {
         Ok(Order::Version)
@@ -99,8 +101,7 @@ fn read_version<'a>(texts: &[String]) -> Result<Order<'a>, Status>
 
 /// The arguments of a command.
 fn read_command<'a>(command: Command, texts: &'a [String]) -> Result<Order<'a>, Status>
-    ensures value { shown result ≡ command_words command (operands_of command) (map string_bytes texts.now) }
-    ensures fault { IfErr result RefusesWords }
+    ensures { shown result ≡ command_words command (operands_of command) (map string_bytes texts.now) }
 {
     let operands = command.operands();
     if texts.len() != operands.len() || out_is_input(operands, texts) {
@@ -161,7 +162,7 @@ fn names_input(kind: Kind, text: &str, name: &str) -> bool
 }
 
 /// Whether OUT holds the secrets of a receiver.
-pub fn holds_secrets(order: &Order<'_>) -> bool
+pub(crate) fn holds_secrets(order: &Order<'_>) -> bool
     ensures { (result ≡ true) ↔ MakesCard (order_said order.now) }
 {
     match order {

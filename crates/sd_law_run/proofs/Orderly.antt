@@ -16,7 +16,7 @@ use Rattle.sd_command_line.specs.Commands.{command_named, operands_of}
 use Rattle.sd_command_line.specs.Operands.{operand_kind}
 use Rattle.sd_command_line.specs.Words.{Argument, OutOf, Order, CommandOf, HelpOf, VersionOf, file, file_of, before}
 use Rattle.sd_command_line.specs.Words.{out_text, or_output}
-use Rattle.sd_command_line.specs.Words.{argument_of, arguments_from, out_is_read, ordered, command_words, words_of}
+use Rattle.sd_command_line.specs.Words.{argument_of, arguments_from, out_is_read, ordered, command_words, order_after}
 use Rattle.sd_command_line.specs.Words.{is_help}
 use Rattle.sd_command_line.specs.Words.{is_version, help_on, help_words, version_words, named_words, order_of}
 use Rattle.std.proofs.Common.{suc, length, slice_get, not, ◌==◌, ◌≤◌, ◌+◌, arith, eqb-true}
@@ -140,7 +140,8 @@ order_names (name ∷ texts) =
     (names_if (is_version name) (name ∷ texts) (version_words texts) _ (version_names name texts)
     (by_command (command_named name) refl))
   where
-    by_command : (found : Option Command) → command_named name ≡ found → NamesOut (name ∷ texts) (words_of found texts)
+    by_command : (found : Option Command) → command_named name ≡ found →
+        NamesOut (name ∷ texts) (order_after found texts)
     by_command None e = tt
     by_command (Some command) e = row_names command name texts e
 

@@ -33,6 +33,7 @@ ghost use Rattle.sd_law_run.specs.Headline.{card_for, HeadResult, CardResult, Re
 
 use sd_base::Steps;
 use sd_command_base::Status;
+use sd_command_line::CommandLine;
 use sd_ports::{Depot, Sink};
 use std::alloc::Global;
 use std::sync::ledger::Ledger;
@@ -121,7 +122,7 @@ pub fn run<D: Depot, P: Sink, L: Ledger>(
     ensures refused { RefusesFirst result → IsUnmade (depot_state D.Depot depot.old) (depot_state D.Depot depot.new)
         × Appends (page_state P.Sink print.old).printed (page_state P.Sink print.new).printed (line_of result) }
 {
-    sd_run::run(alloc, words, depot, print, steps)
+    sd_run::run(alloc, &CommandLine::read(words), depot, print, steps)
 }
 
 /// What `run` gives for `head`, `card` and `receive` follows from the specification of each command: whatever meets the

@@ -328,105 +328,105 @@ example Trial = (refl, refl)
 -- What a command does with the words at its places is the work of its row.
 
 -- `accounts`
-pub accounts_works : (words : List Argument) {command : Command} {one two three : FileArgument} {a b : Outside}
-    {status : Status} → command ≡ Accounts → one ≡ file 1 words → two ≡ file 2 words → three ≡ file 3 words →
-    Implements (accounts_meaning one two three) a b status → Implements (command_meaning command words) a b status
-accounts_works words is at_one at_two at_three done = rw is (rw (at_one, at_two, at_three) at done)
+pub accounts_works : (words : List Argument) {one two three : FileArgument} {a b : Outside}
+    {status : Status} → one ≡ file 1 words → two ≡ file 2 words → three ≡ file 3 words →
+    Implements (accounts_meaning one two three) a b status → Implements (command_meaning Accounts words) a b status
+accounts_works words at_one at_two at_three done = rw (at_one, at_two, at_three) at done
 
 -- `apart`
-pub apart_works : (words : List Argument) {command : Command} {one two three four : FileArgument} {a b : Outside}
-    {status : Status} → command ≡ Apart → one ≡ file 1 words → two ≡ file 2 words → three ≡ file 3 words →
+pub apart_works : (words : List Argument) {one two three four : FileArgument} {a b : Outside}
+    {status : Status} → one ≡ file 1 words → two ≡ file 2 words → three ≡ file 3 words →
     four ≡ file 4 words → Implements (apart_meaning one two three four) a b status →
-    Implements (command_meaning command words) a b status
-apart_works words is at_one at_two at_three at_four done = rw is (rw (at_one, at_two, at_three, at_four) at done)
+    Implements (command_meaning Apart words) a b status
+apart_works words at_one at_two at_three at_four done = rw (at_one, at_two, at_three, at_four) at done
 
 -- `book`
-pub book_works : (words : List Argument) {command : Command} {one two three four : FileArgument} {a b : Outside}
-    {status : Status} → command ≡ Book → one ≡ file 1 words → two ≡ file 2 words → three ≡ file 3 words →
+pub book_works : (words : List Argument) {one two three four : FileArgument} {a b : Outside}
+    {status : Status} → one ≡ file 1 words → two ≡ file 2 words → three ≡ file 3 words →
     four ≡ file 4 words → Implements (book_meaning one two three four) a b status →
-    Implements (command_meaning command words) a b status
-book_works words is at_one at_two at_three at_four done = rw is (rw (at_one, at_two, at_three, at_four) at done)
+    Implements (command_meaning Book words) a b status
+book_works words at_one at_two at_three at_four done = rw (at_one, at_two, at_three, at_four) at done
 
 -- `card`
-pub card_works : (words : List Argument) {command : Command} {one three : FileArgument} {two : NumberArgument}
-    {a b : Outside} {status : Status} → command ≡ Card → one ≡ file 1 words → two ≡ number 2 words →
+pub card_works : (words : List Argument) {one three : FileArgument} {two : NumberArgument}
+    {a b : Outside} {status : Status} → one ≡ file 1 words → two ≡ number 2 words →
     three ≡ file 3 words → Implements (card_meaning one two three) a b status →
-    Implements (command_meaning command words) a b status
-card_works words is at_one at_two at_three done = rw is (rw (at_one, at_two, at_three) at done)
+    Implements (command_meaning Card words) a b status
+card_works words at_one at_two at_three done = rw (at_one, at_two, at_three) at done
 
 -- `cover`
-pub cover_works : (words : List Argument) {command : Command} {one two : FileArgument} {a b : Outside}
-    {status : Status} → command ≡ Cover → one ≡ file 1 words → two ≡ file 2 words →
-    Implements (cover_meaning one two) a b status → Implements (command_meaning command words) a b status
-cover_works words is at_one at_two done = rw is (rw (at_one, at_two) at done)
+pub cover_works : (words : List Argument) {one two : FileArgument} {a b : Outside}
+    {status : Status} → one ≡ file 1 words → two ≡ file 2 words →
+    Implements (cover_meaning one two) a b status → Implements (command_meaning Cover words) a b status
+cover_works words at_one at_two done = rw (at_one, at_two) at done
 
 -- `head`
-pub head_works : (words : List Argument) {command : Command} {one two three four : FileArgument} {a b : Outside}
-    {status : Status} → command ≡ Head → one ≡ file 1 words → two ≡ file 2 words → three ≡ file 3 words →
+pub head_works : (words : List Argument) {one two three four : FileArgument} {a b : Outside}
+    {status : Status} → one ≡ file 1 words → two ≡ file 2 words → three ≡ file 3 words →
     four ≡ file 4 words → Implements (head_meaning one two three four) a b status →
-    Implements (command_meaning command words) a b status
-head_works words is at_one at_two at_three at_four done = rw is (rw (at_one, at_two, at_three, at_four) at done)
+    Implements (command_meaning Head words) a b status
+head_works words at_one at_two at_three at_four done = rw (at_one, at_two, at_three, at_four) at done
 
 -- `layered`
-pub layered_works : (words : List Argument) {command : Command} {one two : FileArgument} {three : NumberArgument}
-    {a b : Outside} {status : Status} → command ≡ Layered → one ≡ file 1 words → two ≡ file 2 words →
+pub layered_works : (words : List Argument) {one two : FileArgument} {three : NumberArgument}
+    {a b : Outside} {status : Status} → one ≡ file 1 words → two ≡ file 2 words →
     three ≡ number 3 words → Implements (layered_meaning one two three) a b status →
-    Implements (command_meaning command words) a b status
-layered_works words is at_one at_two at_three done = rw is (rw (at_one, at_two, at_three) at done)
+    Implements (command_meaning Layered words) a b status
+layered_works words at_one at_two at_three done = rw (at_one, at_two, at_three) at done
 
 -- `lcard`
-pub lcard_works : (words : List Argument) {command : Command} {one four : FileArgument} {two three : NumberArgument}
-    {a b : Outside} {status : Status} → command ≡ Lcard → one ≡ file 1 words → two ≡ number 2 words →
+pub lcard_works : (words : List Argument) {one four : FileArgument} {two three : NumberArgument}
+    {a b : Outside} {status : Status} → one ≡ file 1 words → two ≡ number 2 words →
     three ≡ number 3 words → four ≡ file 4 words → Implements (lcard_meaning one two three four) a b status →
-    Implements (command_meaning command words) a b status
-lcard_works words is at_one at_two at_three at_four done = rw is (rw (at_one, at_two, at_three, at_four) at done)
+    Implements (command_meaning Lcard words) a b status
+lcard_works words at_one at_two at_three at_four done = rw (at_one, at_two, at_three, at_four) at done
 
 -- `messages`
-pub messages_works : (words : List Argument) {command : Command} {one two : FileArgument} {a b : Outside}
-    {status : Status} → command ≡ Messages → one ≡ file 1 words → two ≡ file 2 words →
-    Implements (messages_meaning one two) a b status → Implements (command_meaning command words) a b status
-messages_works words is at_one at_two done = rw is (rw (at_one, at_two) at done)
+pub messages_works : (words : List Argument) {one two : FileArgument} {a b : Outside}
+    {status : Status} → one ≡ file 1 words → two ≡ file 2 words →
+    Implements (messages_meaning one two) a b status → Implements (command_meaning Messages words) a b status
+messages_works words at_one at_two done = rw (at_one, at_two) at done
 
 -- `opens`
-pub opens_works : (words : List Argument) {command : Command} {one two three : FileArgument} {a b : Outside}
-    {status : Status} → command ≡ Opens → one ≡ file 1 words → two ≡ file 2 words → three ≡ file 3 words →
-    Implements (opens_meaning one two three) a b status → Implements (command_meaning command words) a b status
-opens_works words is at_one at_two at_three done = rw is (rw (at_one, at_two, at_three) at done)
+pub opens_works : (words : List Argument) {one two three : FileArgument} {a b : Outside}
+    {status : Status} → one ≡ file 1 words → two ≡ file 2 words → three ≡ file 3 words →
+    Implements (opens_meaning one two three) a b status → Implements (command_meaning Opens words) a b status
+opens_works words at_one at_two at_three done = rw (at_one, at_two, at_three) at done
 
 -- `plan`
-pub plan_works : (words : List Argument) {command : Command} {one two : FileArgument} {three four : NumberArgument}
-    {a b : Outside} {status : Status} → command ≡ Air → one ≡ file 1 words → two ≡ file 2 words →
+pub plan_works : (words : List Argument) {one two : FileArgument} {three four : NumberArgument}
+    {a b : Outside} {status : Status} → one ≡ file 1 words → two ≡ file 2 words →
     three ≡ number 3 words → four ≡ number 4 words → Implements (air_meaning one two three four.value) a b status →
-    Implements (command_meaning command words) a b status
-plan_works words is at_one at_two at_three at_four done = rw is (rw (at_one, at_two, at_three, at_four) at done)
+    Implements (command_meaning Air words) a b status
+plan_works words at_one at_two at_three at_four done = rw (at_one, at_two, at_three, at_four) at done
 
 -- `receive`
-pub receive_works : (words : List Argument) {command : Command} {one two three : FileArgument} {a b : Outside}
-    {status : Status} → command ≡ Receive → one ≡ file 1 words → two ≡ file 2 words → three ≡ file 3 words →
-    Implements (receive_meaning one two three) a b status → Implements (command_meaning command words) a b status
-receive_works words is at_one at_two at_three done = rw is (rw (at_one, at_two, at_three) at done)
+pub receive_works : (words : List Argument) {one two three : FileArgument} {a b : Outside}
+    {status : Status} → one ≡ file 1 words → two ≡ file 2 words → three ≡ file 3 words →
+    Implements (receive_meaning one two three) a b status → Implements (command_meaning Receive words) a b status
+receive_works words at_one at_two at_three done = rw (at_one, at_two, at_three) at done
 
 -- `sample`
-pub sample_works : (words : List Argument) {command : Command} {three : FileArgument} {one two : NumberArgument}
-    {a b : Outside} {status : Status} → command ≡ Sample → one ≡ number 1 words → two ≡ number 2 words →
+pub sample_works : (words : List Argument) {three : FileArgument} {one two : NumberArgument}
+    {a b : Outside} {status : Status} → one ≡ number 1 words → two ≡ number 2 words →
     three ≡ file 3 words → Implements (sample_meaning one.value two.value three) a b status →
-    Implements (command_meaning command words) a b status
-sample_works words is at_one at_two at_three done = rw is (rw (at_one, at_two, at_three) at done)
+    Implements (command_meaning Sample words) a b status
+sample_works words at_one at_two at_three done = rw (at_one, at_two, at_three) at done
 
 -- `show`
-pub show_works : (words : List Argument) {command : Command} {one : FileArgument} {a b : Outside}
-    {status : Status} → command ≡ Show → one ≡ file 1 words → Implements (show_meaning one) a b status →
-    Implements (command_meaning command words) a b status
-show_works words is at_one done = rw is (rw at_one at done)
+pub show_works : (words : List Argument) {one : FileArgument} {a b : Outside}
+    {status : Status} → one ≡ file 1 words → Implements (show_meaning one) a b status →
+    Implements (command_meaning Show words) a b status
+show_works words at_one done = rw at_one at done
 
 -- `tables`
-pub tables_works : (words : List Argument) {command : Command} {one : FileArgument} {a b : Outside}
-    {status : Status} → command ≡ Tables → one ≡ file 1 words → Implements (tables_meaning one) a b status →
-    Implements (command_meaning command words) a b status
-tables_works words is at_one done = rw is (rw at_one at done)
+pub tables_works : (words : List Argument) {one : FileArgument} {a b : Outside}
+    {status : Status} → one ≡ file 1 words → Implements (tables_meaning one) a b status →
+    Implements (command_meaning Tables words) a b status
+tables_works words at_one done = rw at_one at done
 
 -- `trace`
-pub trace_works : (words : List Argument) {command : Command} {one two three : FileArgument} {a b : Outside}
-    {status : Status} → command ≡ Trace → one ≡ file 1 words → two ≡ file 2 words → three ≡ file 3 words →
-    Implements (trace_meaning one two three) a b status → Implements (command_meaning command words) a b status
-trace_works words is at_one at_two at_three done = rw is (rw (at_one, at_two, at_three) at done)
+pub trace_works : (words : List Argument) {one two three : FileArgument} {a b : Outside}
+    {status : Status} → one ≡ file 1 words → two ≡ file 2 words → three ≡ file 3 words →
+    Implements (trace_meaning one two three) a b status → Implements (command_meaning Trace words) a b status
+trace_works words at_one at_two at_three done = rw (at_one, at_two, at_three) at done

@@ -53,37 +53,6 @@ command_meaning Tables words given = tables_meaning (file 1 words) given
 command_meaning Trace words given = trace_meaning (file 1 words) (file 2 words) (file 3 words) given
 command_meaning Trial words given = trial_meaning (file 1 words) (file 2 words) (file 3 words) given
 
--- the commands by what they are on: books, cards, streams and broadcasts
-abbrev pub OnBooks : Command → Type 0
-OnBooks Accounts = Unit {0}
-OnBooks Apart = Unit {0}
-OnBooks Book = Unit {0}
-OnBooks Plan = Unit {0}
-OnBooks _ = ⊥
-
-abbrev pub OnCards : Command → Type 0
-OnCards Card = Unit {0}
-OnCards Cover = Unit {0}
-OnCards Layered = Unit {0}
-OnCards Lcard = Unit {0}
-OnCards Opens = Unit {0}
-OnCards Show = Unit {0}
-OnCards Trace = Unit {0}
-OnCards _ = ⊥
-
-abbrev pub OnStreams : Command → Type 0
-OnStreams Messages = Unit {0}
-OnStreams Sample = Unit {0}
-OnStreams Tables = Unit {0}
-OnStreams _ = ⊥
-
-abbrev pub OnBroadcasts : Command → Type 0
-OnBroadcasts Field = Unit {0}
-OnBroadcasts Head = Unit {0}
-OnBroadcasts Receive = Unit {0}
-OnBroadcasts Trial = Unit {0}
-OnBroadcasts _ = ⊥
-
 -- the work of an order
 abbrev pub order_meaning : Order → Readings → Spec Work
 order_meaning (CommandOf command arguments) given = command_meaning command arguments given

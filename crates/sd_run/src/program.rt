@@ -1,18 +1,20 @@
-ghost use Rattle.std.specs.Prelude.{◌≡◌, ◌<◌, ℕ, None, Err, map, string_bytes};
+ghost use Rattle.std.specs.Prelude.{◌≡◌, ◌<◌, ℕ, Err, IfErr, map, string_bytes};
 ghost use Rattle.std.specs.Process.{exit_status};
 ghost use Rattle.sd_command_base.specs.Exits.{code_of};
-ghost use Rattle.sd_command_base.specs.Outside.{outside, depot_state, Outside, PageState};
+ghost use Rattle.sd_command_base.specs.Outside.{outside, depot_state, PageState};
 ghost use Rattle.sd_command_base.specs.Results.{RunResult, IsToldAs};
+ghost use Rattle.sd_command_line.specs.CommandLine.{words_of};
 ghost use Rattle.sd_command_line.specs.Words.{order_of};
+ghost use Rattle.sd_run.specs.Answers.{IsAnswer, IsAnswerTo, IsUnread};
 ghost use Rattle.sd_run.specs.Meaning.{meaning};
 
-use crate::edge::{makes_secrets, names_output};
+use crate::edge::{depot_for, names_output};
 use crate::lines::Lines;
 use crate::run;
 use sd_base::Steps;
 use sd_command_base::Status;
-use sd_command_line::{explanation, tell};
-use sd_host::{HostDepot, StdPrint};
+use sd_command_line::{CommandLine, explanation, tell};
+use sd_host::StdPrint;
 use sd_ports::{Depot, write_all};
 use std::alloc::Global;
 use std::env;
@@ -29,12 +31,9 @@ pub fn start<R: Env + Files + Print + AllocGlobal, O: Write + Drop, E: Write + C
     output: O,
     error: E,
 ) -> ExitCode
-    ensures { (status : Status) × (exit_status result ≡ code_of status) }
+    ensures { (status : Status) × (IsAnswer status × (exit_status result ≡ code_of status)) }
 {
-    match words(rt) {
-        Ok(words) => exit_of(answer(rt, &words, output, error)),
-        Err(status) => exit_of(tell(rt.alloc(), &mut StdPrint::new(output), status)),
-    }
+    exit_of(answer(rt, output, error))
 }
 
 /// The exit of a status.
@@ -44,8 +43,24 @@ fn exit_of(status: Status) -> ExitCode
     ExitCode::from(status.code())
 }
 
+/// Runs the process's words, if they can be read.
+fn answer<R: Env + Files + Print + AllocGlobal, O: Write + Drop, E: Write + Copy + Drop>(
+    rt: &R,
+    output: O,
+    error: E,
+) -> Status
+    ensures { IsAnswer result }
+{
+    match words(rt) {
+        Ok(words) => answer_to(rt, &words, output, error),
+        Err(status) => tell(rt.alloc(), &mut StdPrint::new(output), status),
+    }
+}
+
 /// The words after the program's name. Words that aren't UTF-8 are a faulty command line.
-fn words(rt: &(impl Env + AllocGlobal)) -> Result<Vec<String>, Status> {
+fn words(rt: &(impl Env + AllocGlobal)) -> Result<Vec<String>, Status>
+    ensures { IfErr result IsUnread }
+{
     match env::args(rt) {
         Ok(args) => Ok(args.skip(1).collect(rt.alloc())?),
         Err(error) if error.kind() == ErrorKind::OutOfMemory => Err(Status::NoMemory),
@@ -55,34 +70,33 @@ fn words(rt: &(impl Env + AllocGlobal)) -> Result<Vec<String>, Status> {
 
 /// Runs the words. If a file that they name is the standard output, all lines go to the standard error, so that none
 /// comes into a stream. A refusal is explained on the standard error, too.
-fn answer<R: Files + Print + AllocGlobal, O: Write + Drop, E: Write + Copy + Drop>(
+fn answer_to<R: Files + Print + AllocGlobal, O: Write + Drop, E: Write + Copy + Drop>(
     rt: &R,
     words: &[String],
     output: O,
     error: E,
 ) -> Status
-    // The answer is one of `run` to these words, over files of which nothing is known.
-    ensures value { (a b : Outside) × (a.place.files ≡ None) ×
-        RunResult (meaning (map string_bytes words.now)) a b result }
+    ensures value { IsAnswerTo (map string_bytes words.now) result }
     ensures words { (status : Status) → order_of (map string_bytes words.now) ≡ Err status → IsToldAs status result }
 {
     let alloc = rt.alloc();
-    let mut depot = HostDepot::new(alloc, rt, makes_secrets(words));
-    let to_error = names_output(&depot, words);
+    let line = CommandLine::read(words);
+    let mut depot = depot_for(alloc, rt, &line);
+    let to_error = names_output(&depot, &line);
     let lines = Lines {
         output,
         error,
         to_error,
     };
-    let status = counted::<Brand, _, _>(alloc, words, &mut depot, lines, Blank::new(1));
-    explain(alloc, words, status, error);
+    let status = counted::<Brand, _, _>(alloc, &line, &mut depot, lines, Blank::new(1));
+    explain(alloc, &line, status, error);
     status
 }
 
 /// Runs the words with a counter over a new ledger, and writes what is printed.
 fn counted<L: Ledger, D: Depot, W: Write + Drop>(
     alloc: Global,
-    words: &[String],
+    line: &CommandLine<'_>,
     depot: &mut D,
     lines: W,
     blank: Blank,
@@ -90,20 +104,20 @@ fn counted<L: Ledger, D: Depot, W: Write + Drop>(
     requires name { blank.name ≡ L.name }
     requires parts { blank.parts ≡ L.parts }
     requires some { 0 < blank.parts }
-    ensures value { (before after : PageState) × ((steps : ℕ) × RunResult (meaning (map string_bytes words.now))
+    ensures value { (before after : PageState) × ((steps : ℕ) × RunResult (meaning (words_of line.now))
         (outside (depot_state D.Depot depot.old) before 0)
         (outside (depot_state D.Depot depot.new) after steps) result) }
-    ensures words { (status : Status) → order_of (map string_bytes words.now) ≡ Err status → IsToldAs status result }
+    ensures words { (status : Status) → order_of (words_of line.now) ≡ Err status → IsToldAs status result }
 {
     let mut print = StdPrint::new(lines);
     let mut steps = Steps::<L>::new(blank);
-    run(alloc, words, depot, &mut print, &mut steps)
+    run(alloc, line, depot, &mut print, &mut steps)
 }
 
 /// Says to a user what is wrong with an argument. The status and its line are the answer, so it doesn't matter if this
 /// can't be said.
-fn explain<E: Write + Drop>(alloc: Global, words: &[String], status: Status, error: E) {
-    if let Ok(text) = explanation(alloc, words, status) {
+fn explain<E: Write + Drop>(alloc: Global, line: &CommandLine<'_>, status: Status, error: E) {
+    if let Ok(text) = explanation(alloc, line, status) {
         write_all(&mut StdPrint::new(error), text.as_bytes()).ok();
     }
 }

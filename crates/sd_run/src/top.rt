@@ -1,10 +1,11 @@
-ghost use Rattle.std.specs.Prelude.{◌≡◌, Some, Err, IsErrOf, map, string_bytes};
+ghost use Rattle.std.specs.Prelude.{◌≡◌, Some, Err, IsErrOf};
 ghost use Rattle.sd_base.specs.Count.{HasNotRisen};
 ghost use Rattle.sd_ports.specs.Files.{Files};
 ghost use Rattle.sd_command_base.specs.Outside.{outside, page_state, depot_state};
 ghost use Rattle.sd_command_base.specs.Spec.{contents_of};
 ghost use Rattle.sd_command_base.specs.Outcome.{Implements, status_of};
 ghost use Rattle.sd_command_base.specs.Results.{RunResult, HasAnswerCause, IsMeant, IsToldAs};
+ghost use Rattle.sd_command_line.specs.CommandLine.{words_of};
 ghost use Rattle.sd_command_line.specs.Words.{order_of};
 ghost use Rattle.sd_run.specs.Meaning.{meaning, order_meaning};
 ghost use Rattle.sd_command_line.specs.Orders.{order_said, IsSound};
@@ -12,22 +13,21 @@ ghost use Rattle.sd_command_line.specs.Orders.{order_said, IsSound};
 use crate::work::work;
 use sd_base::Steps;
 use sd_command_base::Status;
-use sd_command_line::{Order, help, read_words, tell, version};
+use sd_command_line::{CommandLine, Order, help, tell, version};
 use sd_ports::{Depot, Sink};
 use std::alloc::Global;
 use std::sync::ledger::Ledger;
 
-/// Runs the command that the arguments (`words`) say, and prints the line of the status that it returns. The arguments
-/// are those after the program's name, numbered from 0.
+/// Runs the command that the arguments (`line`) say, and prints the line of the status that it returns.
 pub fn run<D: Depot, P: Sink, L: Ledger>(
     alloc: Global,
-    words: &[String],
+    line: &CommandLine<'_>,
     depot: &mut D,
     print: &mut P,
     steps: &mut Steps<L>,
 ) -> Status
     // The work that the arguments and files ask for is done: text is printed, a file made, and the status returned.
-    ensures value { RunResult (meaning (map string_bytes words.now))
+    ensures value { RunResult (meaning (words_of line.now))
         (outside (depot_state D.Depot depot.old) (page_state P.Sink print.old) steps.old)
         (outside (depot_state D.Depot depot.new) (page_state P.Sink print.new) steps.new) result }
     // Each port that was opened is closed.
@@ -37,15 +37,15 @@ pub fn run<D: Depot, P: Sink, L: Ledger>(
         (outside (depot_state D.Depot depot.old) (page_state P.Sink print.old) steps.old)
         (outside (depot_state D.Depot depot.new) (page_state P.Sink print.new) steps.new) result }
     // Refused arguments are answered at once, and `Usage` is returned for them alone.
-    ensures words { (status : Status) → order_of (map string_bytes words.now) ≡ Err status → IsToldAs status result }
-    ensures usage { result ≡ Status.Usage → order_of (map string_bytes words.now) ≡ Err Status.Usage }
+    ensures words { (status : Status) → order_of (words_of line.now) ≡ Err status → IsToldAs status result }
+    ensures usage { result ≡ Status.Usage → order_of (words_of line.now) ≡ Err Status.Usage }
     // If the model knows the file system's contents and no I/O error occurred, the answer is that of the work, or out
     // of memory.
     ensures complete { (files : Files) → D.files depot.old ≡ Some files →
         HasNotRisen (D.faults depot.old) (D.faults depot.new) → HasNotRisen (P.faults print.old) (P.faults print.new) →
-        IsMeant (meaning (map string_bytes words.now) (contents_of files)).result result }
+        IsMeant (meaning (words_of line.now) (contents_of files)).result result }
 {
-    match obey(alloc, words, depot, print, steps) {
+    match obey(alloc, line, depot, print, steps) {
         Ok(()) => Status::Done,
         Err(Status::PrintFault) => Status::PrintFault,
         Err(status) => tell(alloc, print, status),
@@ -55,19 +55,19 @@ pub fn run<D: Depot, P: Sink, L: Ledger>(
 /// Runs the command that the arguments say.
 fn obey<D: Depot, P: Sink, L: Ledger>(
     alloc: Global,
-    words: &[String],
+    line: &CommandLine<'_>,
     depot: &mut D,
     print: &mut P,
     steps: &mut Steps<L>,
 ) -> Result<(), Status>
-    ensures value { Implements (meaning (map string_bytes words.now))
+    ensures value { Implements (meaning (words_of line.now))
         (outside (depot_state D.Depot depot.old) (page_state P.Sink print.old) steps.old)
         (outside (depot_state D.Depot depot.new) (page_state P.Sink print.new) steps.new) (status_of result) }
-    ensures words { (status : Status) → order_of (map string_bytes words.now) ≡ Err status → IsErrOf result status }
+    ensures words { (status : Status) → order_of (words_of line.now) ≡ Err status → IsErrOf result status }
 {
-    match read_words(words) {
-        Ok(order) => follow(alloc, &order, depot, print, steps),
-        Err(status) => Err(status),
+    match line.order() {
+        Ok(order) => follow(alloc, order, depot, print, steps),
+        Err(status) => Err(*status),
     }
 }
 

@@ -1,11 +1,11 @@
-//! The work of a command, by what it is on: books, cards, streams or broadcasts.
+//! The work of a command: each command is a row, which picks its arguments by their places.
 
 ghost use Rattle.std.specs.Prelude.{ℕ};
-ghost use Rattle.sd_command_base.specs.Outside.{outside, page_state, depot_state};
+ghost use Rattle.sd_command_base.specs.Outside.{outside, page_state, depot_state, PageState};
 ghost use Rattle.sd_command_base.specs.Outcome.{Implements, status_of};
 ghost use Rattle.sd_command_line.specs.Commands.{operands_of};
 ghost use Rattle.sd_command_line.specs.Orders.{arguments_said, AreOf};
-ghost use Rattle.sd_run.specs.Meaning.{command_meaning, OnBooks, OnBroadcasts, OnCards, OnStreams};
+ghost use Rattle.sd_run.specs.Meaning.{command_meaning};
 
 use sd_base::Steps;
 use sd_command_base::Status;
@@ -17,7 +17,7 @@ use sd_run_streams::{messages, sample, tables};
 use std::alloc::Global;
 use std::sync::ledger::Ledger;
 
-/// Runs a command with its arguments. A command uses the files of the places at which its row has them.
+/// Runs a command with its arguments.
 pub(crate) fn work<D: Depot, P: Sink, L: Ledger>(
     alloc: Global,
     command: Command,
@@ -32,144 +32,345 @@ pub(crate) fn work<D: Depot, P: Sink, L: Ledger>(
         (outside (depot_state D.Depot depot.new) (page_state P.Sink print.new) steps.new) (status_of result) }
 {
     match command {
-        Command::Accounts | Command::Apart | Command::Book | Command::Plan => {
-            on_books(alloc, command, row, depot, print)
-        }
-        Command::Card
-        | Command::Cover
-        | Command::Layered
-        | Command::Lcard
-        | Command::Opens
-        | Command::Show
-        | Command::Trace => on_cards(alloc, command, row, depot, print, steps),
-        Command::Messages | Command::Sample | Command::Tables => {
-            on_streams(alloc, command, row, depot, print)
-        }
-        Command::Field | Command::Head | Command::Receive | Command::Trial => {
-            on_broadcasts(alloc, command, row, depot, print, steps)
-        }
+        Command::Accounts => accounts_row(alloc, row, depot, print),
+        Command::Apart => apart_row(alloc, row, depot, print),
+        Command::Book => book_row(alloc, row, depot),
+        Command::Card => card_row(alloc, row, depot, steps),
+        Command::Cover => cover_row(alloc, row, depot, print),
+        Command::Field => field_row(alloc, row, depot, print, steps),
+        Command::Head => head_row(alloc, row, depot, steps),
+        Command::Layered => layered_row(alloc, row, depot, print),
+        Command::Lcard => lcard_row(alloc, row, depot, steps),
+        Command::Messages => messages_row(alloc, row, depot, print),
+        Command::Opens => opens_row(alloc, row, depot, print),
+        Command::Plan => plan_row(alloc, row, depot, print),
+        Command::Receive => receive_row(alloc, row, depot, steps),
+        Command::Sample => sample_row(alloc, row, depot),
+        Command::Show => show_row(alloc, row, depot, print),
+        Command::Tables => tables_row(alloc, row, depot, print),
+        Command::Trace => trace_row(alloc, row, depot, print),
+        Command::Trial => trial_row(alloc, row, depot, print, steps),
     }
 }
 
-/// Runs a command on books with its arguments.
-fn on_books<D: Depot, P: Sink>(
+/// `accounts` with the arguments of its row.
+#[tactic(auto, using(crate::proofs::Rows::accounts_works))]
+fn accounts_row<D: Depot, P: Sink>(
     alloc: Global,
-    command: Command,
     row: &Arguments<'_>,
     depot: &mut D,
     print: &mut P,
 ) -> Result<(), Status>
-    requires group { OnBooks command }
-    requires row { AreOf 1 (operands_of command) (arguments_said 1 row.now.list.items) }
-    ensures { (steps : ℕ) → Implements (command_meaning command (arguments_said 1 row.now.list.items))
+    ensures { (steps : ℕ) → Implements (command_meaning Command.Accounts (arguments_said 1 row.now.list.items))
         (outside (depot_state D.Depot depot.old) (page_state P.Sink print.old) steps)
         (outside (depot_state D.Depot depot.new) (page_state P.Sink print.new) steps) (status_of result) }
 {
-    let first = row.file(1);
-    let second = row.file(2);
-    let third = row.file(3);
-    let fourth = row.file(4);
-    match command {
-        Command::Accounts => accounts(alloc, depot, print, first, second, third),
-        Command::Apart => apart(alloc, depot, print, first, second, third, fourth),
-        Command::Book => book(alloc, depot, first, second, third, fourth),
-        Command::Plan => {
-            let clears = row.number(3);
-            let pids = row.number(4);
-            plan(alloc, depot, print, first, second, clears, pids.value)
-        }
-        _ => unreachable!(),
-    }
+    accounts(alloc, depot, print, row.file(1), row.file(2), row.file(3))
 }
 
-/// Runs a command on cards and covers with its arguments.
-fn on_cards<D: Depot, P: Sink, L: Ledger>(
+/// `apart` with the arguments of its row.
+#[tactic(auto, using(crate::proofs::Rows::apart_works))]
+fn apart_row<D: Depot, P: Sink>(
     alloc: Global,
-    command: Command,
+    row: &Arguments<'_>,
+    depot: &mut D,
+    print: &mut P,
+) -> Result<(), Status>
+    ensures { (steps : ℕ) → Implements (command_meaning Command.Apart (arguments_said 1 row.now.list.items))
+        (outside (depot_state D.Depot depot.old) (page_state P.Sink print.old) steps)
+        (outside (depot_state D.Depot depot.new) (page_state P.Sink print.new) steps) (status_of result) }
+{
+    apart(
+        alloc,
+        depot,
+        print,
+        row.file(1),
+        row.file(2),
+        row.file(3),
+        row.file(4),
+    )
+}
+
+/// `book` with the arguments of its row.
+#[tactic(auto, using(crate::proofs::Rows::book_works))]
+fn book_row<D: Depot>(alloc: Global, row: &Arguments<'_>, depot: &mut D) -> Result<(), Status>
+    ensures { (page : PageState) (steps : ℕ) →
+        Implements (command_meaning Command.Book (arguments_said 1 row.now.list.items))
+        (outside (depot_state D.Depot depot.old) page steps)
+        (outside (depot_state D.Depot depot.new) page steps) (status_of result) }
+{
+    book(
+        alloc,
+        depot,
+        row.file(1),
+        row.file(2),
+        row.file(3),
+        row.file(4),
+    )
+}
+
+/// `card` with the arguments of its row.
+#[tactic(auto, using(crate::proofs::Rows::card_works))]
+fn card_row<D: Depot, L: Ledger>(
+    alloc: Global,
+    row: &Arguments<'_>,
+    depot: &mut D,
+    steps: &mut Steps<L>,
+) -> Result<(), Status>
+    ensures { (page : PageState) → Implements (command_meaning Command.Card (arguments_said 1 row.now.list.items))
+        (outside (depot_state D.Depot depot.old) page steps.old)
+        (outside (depot_state D.Depot depot.new) page steps.new) (status_of result) }
+{
+    card(alloc, depot, row.file(1), row.number(2), row.file(3), steps)
+}
+
+/// `cover` with the arguments of its row.
+#[tactic(auto, using(crate::proofs::Rows::cover_works))]
+fn cover_row<D: Depot, P: Sink>(
+    alloc: Global,
+    row: &Arguments<'_>,
+    depot: &mut D,
+    print: &mut P,
+) -> Result<(), Status>
+    ensures { (steps : ℕ) → Implements (command_meaning Command.Cover (arguments_said 1 row.now.list.items))
+        (outside (depot_state D.Depot depot.old) (page_state P.Sink print.old) steps)
+        (outside (depot_state D.Depot depot.new) (page_state P.Sink print.new) steps) (status_of result) }
+{
+    cover(alloc, depot, print, row.file(1), row.file(2))
+}
+
+/// `field` with the arguments of its row.
+fn field_row<D: Depot, P: Sink, L: Ledger>(
+    alloc: Global,
     row: &Arguments<'_>,
     depot: &mut D,
     print: &mut P,
     steps: &mut Steps<L>,
 ) -> Result<(), Status>
-    requires group { OnCards command }
-    requires row { AreOf 1 (operands_of command) (arguments_said 1 row.now.list.items) }
-    ensures { Implements (command_meaning command (arguments_said 1 row.now.list.items))
+    ensures { Implements (command_meaning Command.Field (arguments_said 1 row.now.list.items))
         (outside (depot_state D.Depot depot.old) (page_state P.Sink print.old) steps.old)
         (outside (depot_state D.Depot depot.new) (page_state P.Sink print.new) steps.new) (status_of result) }
 {
-    let first = row.file(1);
-    let second = row.file(2);
-    let third = row.file(3);
-    match command {
-        Command::Card => card(alloc, depot, first, row.number(2), third, steps),
-        Command::Cover => cover(alloc, depot, print, first, second),
-        Command::Layered => layered(alloc, depot, print, first, second, row.number(3)),
-        Command::Lcard => {
-            let leaf = row.number(2);
-            lcard(alloc, depot, first, leaf, row.number(3), row.file(4), steps)
-        }
-        Command::Opens => opens(alloc, depot, print, first, second, third),
-        Command::Show => show(alloc, depot, print, first),
-        Command::Trace => trace(alloc, depot, print, first, second, third),
-        _ => unreachable!(),
-    }
+    field(
+        alloc,
+        depot,
+        print,
+        row.file(1),
+        row.file(2),
+        row.file(3),
+        steps,
+    )
 }
 
-/// Runs a command on streams with its arguments.
-fn on_streams<D: Depot, P: Sink>(
+/// `head` with the arguments of its row.
+#[tactic(auto, using(crate::proofs::Rows::head_works))]
+fn head_row<D: Depot, L: Ledger>(
     alloc: Global,
-    command: Command,
+    row: &Arguments<'_>,
+    depot: &mut D,
+    steps: &mut Steps<L>,
+) -> Result<(), Status>
+    ensures { (page : PageState) → Implements (command_meaning Command.Head (arguments_said 1 row.now.list.items))
+        (outside (depot_state D.Depot depot.old) page steps.old)
+        (outside (depot_state D.Depot depot.new) page steps.new) (status_of result) }
+{
+    head(
+        alloc,
+        depot,
+        row.file(1),
+        row.file(2),
+        row.file(3),
+        row.file(4),
+        steps,
+    )
+}
+
+/// `layered` with the arguments of its row.
+#[tactic(auto, using(crate::proofs::Rows::layered_works))]
+fn layered_row<D: Depot, P: Sink>(
+    alloc: Global,
     row: &Arguments<'_>,
     depot: &mut D,
     print: &mut P,
 ) -> Result<(), Status>
-    requires group { OnStreams command }
-    requires row { AreOf 1 (operands_of command) (arguments_said 1 row.now.list.items) }
-    ensures { (steps : ℕ) → Implements (command_meaning command (arguments_said 1 row.now.list.items))
+    ensures { (steps : ℕ) → Implements (command_meaning Command.Layered (arguments_said 1 row.now.list.items))
         (outside (depot_state D.Depot depot.old) (page_state P.Sink print.old) steps)
         (outside (depot_state D.Depot depot.new) (page_state P.Sink print.new) steps) (status_of result) }
 {
-    let first = row.file(1);
-    match command {
-        Command::Messages => messages(alloc, depot, print, first, row.file(2)),
-        Command::Sample => {
-            let packets = row.number(2);
-            sample(
-                alloc,
-                depot,
-                row.number(1).value,
-                packets.value,
-                row.file(3),
-            )
-        }
-        Command::Tables => tables(alloc, depot, print, first),
-        _ => unreachable!(),
-    }
+    layered(alloc, depot, print, row.file(1), row.file(2), row.number(3))
 }
 
-/// Runs a command on broadcasts with its arguments.
-fn on_broadcasts<D: Depot, P: Sink, L: Ledger>(
+/// `lcard` with the arguments of its row.
+#[tactic(auto, using(crate::proofs::Rows::lcard_works))]
+fn lcard_row<D: Depot, L: Ledger>(
     alloc: Global,
-    command: Command,
+    row: &Arguments<'_>,
+    depot: &mut D,
+    steps: &mut Steps<L>,
+) -> Result<(), Status>
+    ensures { (page : PageState) → Implements (command_meaning Command.Lcard (arguments_said 1 row.now.list.items))
+        (outside (depot_state D.Depot depot.old) page steps.old)
+        (outside (depot_state D.Depot depot.new) page steps.new) (status_of result) }
+{
+    lcard(
+        alloc,
+        depot,
+        row.file(1),
+        row.number(2),
+        row.number(3),
+        row.file(4),
+        steps,
+    )
+}
+
+/// `messages` with the arguments of its row.
+#[tactic(auto, using(crate::proofs::Rows::messages_works))]
+fn messages_row<D: Depot, P: Sink>(
+    alloc: Global,
+    row: &Arguments<'_>,
+    depot: &mut D,
+    print: &mut P,
+) -> Result<(), Status>
+    ensures { (steps : ℕ) → Implements (command_meaning Command.Messages (arguments_said 1 row.now.list.items))
+        (outside (depot_state D.Depot depot.old) (page_state P.Sink print.old) steps)
+        (outside (depot_state D.Depot depot.new) (page_state P.Sink print.new) steps) (status_of result) }
+{
+    messages(alloc, depot, print, row.file(1), row.file(2))
+}
+
+/// `opens` with the arguments of its row.
+#[tactic(auto, using(crate::proofs::Rows::opens_works))]
+fn opens_row<D: Depot, P: Sink>(
+    alloc: Global,
+    row: &Arguments<'_>,
+    depot: &mut D,
+    print: &mut P,
+) -> Result<(), Status>
+    ensures { (steps : ℕ) → Implements (command_meaning Command.Opens (arguments_said 1 row.now.list.items))
+        (outside (depot_state D.Depot depot.old) (page_state P.Sink print.old) steps)
+        (outside (depot_state D.Depot depot.new) (page_state P.Sink print.new) steps) (status_of result) }
+{
+    opens(alloc, depot, print, row.file(1), row.file(2), row.file(3))
+}
+
+/// `plan` with the arguments of its row.
+#[tactic(auto, using(crate::proofs::Rows::plan_works, crate::proofs::Ordered::plan_fits))]
+fn plan_row<D: Depot, P: Sink>(
+    alloc: Global,
+    row: &Arguments<'_>,
+    depot: &mut D,
+    print: &mut P,
+) -> Result<(), Status>
+    requires { AreOf 1 (operands_of Command.Plan) (arguments_said 1 row.now.list.items) }
+    ensures { (steps : ℕ) → Implements (command_meaning Command.Plan (arguments_said 1 row.now.list.items))
+        (outside (depot_state D.Depot depot.old) (page_state P.Sink print.old) steps)
+        (outside (depot_state D.Depot depot.new) (page_state P.Sink print.new) steps) (status_of result) }
+{
+    let pids = row.number(4);
+    plan(
+        alloc,
+        depot,
+        print,
+        row.file(1),
+        row.file(2),
+        row.number(3),
+        pids.value,
+    )
+}
+
+/// `receive` with the arguments of its row.
+#[tactic(auto, using(crate::proofs::Rows::receive_works))]
+fn receive_row<D: Depot, L: Ledger>(
+    alloc: Global,
+    row: &Arguments<'_>,
+    depot: &mut D,
+    steps: &mut Steps<L>,
+) -> Result<(), Status>
+    ensures { (page : PageState) → Implements (command_meaning Command.Receive (arguments_said 1 row.now.list.items))
+        (outside (depot_state D.Depot depot.old) page steps.old)
+        (outside (depot_state D.Depot depot.new) page steps.new) (status_of result) }
+{
+    receive(alloc, depot, row.file(1), row.file(2), row.file(3), steps)
+}
+
+/// `sample` with the arguments of its row.
+#[tactic(auto, using(crate::proofs::Rows::sample_works, crate::proofs::Ordered::packets_fit))]
+fn sample_row<D: Depot>(alloc: Global, row: &Arguments<'_>, depot: &mut D) -> Result<(), Status>
+    requires { AreOf 1 (operands_of Command.Sample) (arguments_said 1 row.now.list.items) }
+    ensures { (page : PageState) (steps : ℕ) →
+        Implements (command_meaning Command.Sample (arguments_said 1 row.now.list.items))
+        (outside (depot_state D.Depot depot.old) page steps)
+        (outside (depot_state D.Depot depot.new) page steps) (status_of result) }
+{
+    let seed = row.number(1);
+    let packets = row.number(2);
+    sample(alloc, depot, seed.value, packets.value, row.file(3))
+}
+
+/// `show` with the arguments of its row.
+#[tactic(auto, using(crate::proofs::Rows::show_works))]
+fn show_row<D: Depot, P: Sink>(
+    alloc: Global,
+    row: &Arguments<'_>,
+    depot: &mut D,
+    print: &mut P,
+) -> Result<(), Status>
+    ensures { (steps : ℕ) → Implements (command_meaning Command.Show (arguments_said 1 row.now.list.items))
+        (outside (depot_state D.Depot depot.old) (page_state P.Sink print.old) steps)
+        (outside (depot_state D.Depot depot.new) (page_state P.Sink print.new) steps) (status_of result) }
+{
+    show(alloc, depot, print, row.file(1))
+}
+
+/// `tables` with the arguments of its row.
+#[tactic(auto, using(crate::proofs::Rows::tables_works))]
+fn tables_row<D: Depot, P: Sink>(
+    alloc: Global,
+    row: &Arguments<'_>,
+    depot: &mut D,
+    print: &mut P,
+) -> Result<(), Status>
+    ensures { (steps : ℕ) → Implements (command_meaning Command.Tables (arguments_said 1 row.now.list.items))
+        (outside (depot_state D.Depot depot.old) (page_state P.Sink print.old) steps)
+        (outside (depot_state D.Depot depot.new) (page_state P.Sink print.new) steps) (status_of result) }
+{
+    tables(alloc, depot, print, row.file(1))
+}
+
+/// `trace` with the arguments of its row.
+#[tactic(auto, using(crate::proofs::Rows::trace_works))]
+fn trace_row<D: Depot, P: Sink>(
+    alloc: Global,
+    row: &Arguments<'_>,
+    depot: &mut D,
+    print: &mut P,
+) -> Result<(), Status>
+    ensures { (steps : ℕ) → Implements (command_meaning Command.Trace (arguments_said 1 row.now.list.items))
+        (outside (depot_state D.Depot depot.old) (page_state P.Sink print.old) steps)
+        (outside (depot_state D.Depot depot.new) (page_state P.Sink print.new) steps) (status_of result) }
+{
+    trace(alloc, depot, print, row.file(1), row.file(2), row.file(3))
+}
+
+/// `trial` with the arguments of its row.
+fn trial_row<D: Depot, P: Sink, L: Ledger>(
+    alloc: Global,
     row: &Arguments<'_>,
     depot: &mut D,
     print: &mut P,
     steps: &mut Steps<L>,
 ) -> Result<(), Status>
-    requires group { OnBroadcasts command }
-    requires row { AreOf 1 (operands_of command) (arguments_said 1 row.now.list.items) }
-    ensures { Implements (command_meaning command (arguments_said 1 row.now.list.items))
+    ensures { Implements (command_meaning Command.Trial (arguments_said 1 row.now.list.items))
         (outside (depot_state D.Depot depot.old) (page_state P.Sink print.old) steps.old)
         (outside (depot_state D.Depot depot.new) (page_state P.Sink print.new) steps.new) (status_of result) }
 {
-    let first = row.file(1);
-    let second = row.file(2);
-    let third = row.file(3);
-    match command {
-        Command::Field => field(alloc, depot, print, first, second, third, steps),
-        Command::Head => head(alloc, depot, first, second, third, row.file(4), steps),
-        Command::Receive => receive(alloc, depot, first, second, third, steps),
-        Command::Trial => trial(alloc, depot, print, first, second, third, steps),
-        _ => unreachable!(),
-    }
+    trial(
+        alloc,
+        depot,
+        print,
+        row.file(1),
+        row.file(2),
+        row.file(3),
+        steps,
+    )
 }

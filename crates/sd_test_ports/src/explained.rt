@@ -1,5 +1,5 @@
 use sd_command_base::Status;
-use sd_command_line::explanation;
+use sd_command_line::{CommandLine, explanation};
 use sd_site::{CardFault, SiteFault};
 use std::alloc::{AllocError, Global};
 
@@ -93,7 +93,7 @@ fn is_explained(alloc: Global, text: &str, status: Status, want: &str) -> Result
     for word in text.split(' ') {
         words.push(String::from_str(alloc, word)?)?;
     }
-    Ok(explanation(alloc, &words, status)?.as_str() == want)
+    Ok(explanation(alloc, &CommandLine::read(&words), status)?.as_str() == want)
 }
 
 #[test]

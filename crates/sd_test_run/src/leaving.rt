@@ -3,6 +3,7 @@ ghost use Rattle.std.specs.Prelude.{◌≡◌, ◌<◌, ◌≤◌};
 use crate::files::{Files, ROOM};
 use sd_base::Steps;
 use sd_command_base::Status;
+use sd_command_line::CommandLine;
 use sd_ports::{Depot, MemSink, Sink};
 use sd_ports_memory::MemDepot;
 use sd_run::run;
@@ -127,7 +128,7 @@ fn counted<D: Depot, P: Sink, L: Ledger>(
     requires some { 0 < blank.parts }
 {
     let mut steps = Steps::<L>::new(blank);
-    run(alloc, words, depot, print, &mut steps)
+    run(alloc, &CommandLine::read(words), depot, print, &mut steps)
 }
 
 /// The file O that the words make.

@@ -13,14 +13,16 @@ pub returns-clause-head : goal.returns-clause-head
 returns-clause-head g c names plan clear words site book stream given well =
     let a = outside (depot_state g.D.Depot c.args.depot.now) (page_state g.P.Sink c.args.print.now) c.args.steps.now in
     let b = outside (depot_state g.D.Depot c.run.new.depot) (page_state g.P.Sink c.run.new.print) c.run.new.steps in
-    let own = subst (λ (w : List (List ℕ)). RunResult (meaning w) a b c.run.result) words c.run.ensures.value in
+    let told = rw c.read.ensures at c.run.ensures.value in
+    let own = subst (λ (w : List (List ℕ)). RunResult (meaning w) a b c.run.result) words told in
     head_part names plan clear a given b c.run.result (head_answers names a b c.run.result site book stream own) well
 
 pub returns-clause-card : goal.returns-clause-card
 returns-clause-card g c names leaf site u words says apart good within well =
     let a = outside (depot_state g.D.Depot c.args.depot.now) (page_state g.P.Sink c.args.print.now) c.args.steps.now in
     let b = outside (depot_state g.D.Depot c.run.new.depot) (page_state g.P.Sink c.run.new.print) c.run.new.steps in
-    let own = subst (λ (w : List (List ℕ)). RunResult (meaning w) a b c.run.result) words c.run.ensures.value in
+    let told = rw c.read.ensures at c.run.ensures.value in
+    let own = subst (λ (w : List (List ℕ)). RunResult (meaning w) a b c.run.result) words told in
     card_part names site u a b c.run.result good within
     (card_answers names leaf u a b c.run.result apart says (leaf_low _ site u good within) own) well
 
@@ -28,7 +30,8 @@ pub returns-clause-receive : goal.returns-clause-receive
 returns-clause-receive g c names plan u clear z words card stream given within card_there stream_there well =
     let a = outside (depot_state g.D.Depot c.args.depot.now) (page_state g.P.Sink c.args.print.now) c.args.steps.now in
     let b = outside (depot_state g.D.Depot c.run.new.depot) (page_state g.P.Sink c.run.new.print) c.run.new.steps in
-    let own = subst (λ (w : List (List ℕ)). RunResult (meaning w) a b c.run.result) words c.run.ensures.value in
+    let told = rw c.read.ensures at c.run.ensures.value in
+    let own = subst (λ (w : List (List ℕ)). RunResult (meaning w) a b c.run.result) words told in
     receive_part names plan clear z given u a b c.run.result within card_there stream_there
     (receive_answers names a b c.run.result card stream own) well
 
@@ -36,7 +39,8 @@ pub returns-clause-lost : goal.returns-clause-lost
 returns-clause-lost g c names plan u clear z flags words card stream given within card_there stream_there well =
     let a = outside (depot_state g.D.Depot c.args.depot.now) (page_state g.P.Sink c.args.print.now) c.args.steps.now in
     let b = outside (depot_state g.D.Depot c.run.new.depot) (page_state g.P.Sink c.run.new.print) c.run.new.steps in
-    let own = subst (λ (w : List (List ℕ)). RunResult (meaning w) a b c.run.result) words c.run.ensures.value in
+    let told = rw c.read.ensures at c.run.ensures.value in
+    let own = subst (λ (w : List (List ℕ)). RunResult (meaning w) a b c.run.result) words told in
     lost_part names plan clear z given u flags a b c.run.result within card_there stream_there
     (receive_answers names a b c.run.result card stream own) well
 
@@ -45,25 +49,25 @@ returns-clause-done g c files told is =
     done_leaves (meaning (map string_bytes c.args.words.now)) files
     (outside (depot_state g.D.Depot c.args.depot.now) (page_state g.P.Sink c.args.print.now) c.args.steps.now)
     (outside (depot_state g.D.Depot c.run.new.depot) (page_state g.P.Sink c.run.new.print) c.run.new.steps) c.run.result
-    told is c.run.ensures.value
+    told is (rw c.read.ensures at c.run.ensures.value)
 
 pub returns-clause-files : goal.returns-clause-files
 returns-clause-files g c files name told other =
     file_stays (map string_bytes c.args.words.now) files
     (outside (depot_state g.D.Depot c.args.depot.now) (page_state g.P.Sink c.args.print.now) c.args.steps.now)
     (outside (depot_state g.D.Depot c.run.new.depot) (page_state g.P.Sink c.run.new.print) c.run.new.steps) c.run.result
-    told c.run.ensures.value name other
+    told (rw c.read.ensures at c.run.ensures.value) name other
 
 pub returns-clause-made : goal.returns-clause-made
 returns-clause-made g c =
     one_made (map string_bytes c.args.words.now)
     (outside (depot_state g.D.Depot c.args.depot.now) (page_state g.P.Sink c.args.print.now) c.args.steps.now)
     (outside (depot_state g.D.Depot c.run.new.depot) (page_state g.P.Sink c.run.new.print) c.run.new.steps) c.run.result
-    c.run.ensures.value
+    (rw c.read.ensures at c.run.ensures.value)
 
 pub returns-clause-refused : goal.returns-clause-refused
 returns-clause-refused g c refuses =
     refusal_leaves (map string_bytes c.args.words.now)
     (outside (depot_state g.D.Depot c.args.depot.now) (page_state g.P.Sink c.args.print.now) c.args.steps.now)
     (outside (depot_state g.D.Depot c.run.new.depot) (page_state g.P.Sink c.run.new.print) c.run.new.steps) c.run.result
-    refuses c.run.ensures.value
+    refuses (rw c.read.ensures at c.run.ensures.value)

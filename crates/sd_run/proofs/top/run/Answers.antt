@@ -1,10 +1,10 @@
 use Rattle.std.proofs.Common.{rules, ◌≡◌, subst, inl, inr, refl}
-use Rattle.std.specs.Prelude.{map, string_bytes}
 use Rattle.sd_command_base.specs.declared.status.Status.{Status}
 use Rattle.sd_command_base.specs.declared.status.Status.TheVariants.{Done, PrintFault}
 use Rattle.sd_command_base.specs.Outcome.{Implements}
 use Rattle.sd_command_base.specs.Outside.{depot_state, page_state, outside}
 use Rattle.sd_command_base.specs.Results.{RunResult, IsToldAs}
+use Rattle.sd_command_line.specs.CommandLine.{words_of}
 use Rattle.sd_command_base.proofs.RunAnswers.{done_line, cut_line, lineless_answers, causes, completes, told_as}
 use Rattle.sd_run.proofs.Ordered.{usage_said}
 use Rattle.sd_run.specs.Meaning.{meaning}
@@ -12,7 +12,7 @@ use Rattle.sd_run.proofs.top.run.Goals as goal
 
 pub returns-in-Ok : goal.returns-in-Ok
 returns-in-Ok g c =
-    let words = map string_bytes c.args.words.now in
+    let words = words_of c.args.line.now in
     let a = outside (depot_state g.D.Depot c.args.depot.now) (page_state g.P.Sink c.args.print.now) c.args.steps.now in
     let b =
     outside (depot_state g.D.Depot c.obey.new.depot) (page_state g.P.Sink c.obey.new.print) c.obey.new.steps in
@@ -28,7 +28,7 @@ returns-in-Ok g c =
 
 pub returns-in-Err-PrintFault : goal.returns-in-Err-PrintFault
 returns-in-Err-PrintFault g c =
-    let words = map string_bytes c.args.words.now in
+    let words = words_of c.args.line.now in
     let a = outside (depot_state g.D.Depot c.args.depot.now) (page_state g.P.Sink c.args.print.now) c.args.steps.now in
     let b =
     outside (depot_state g.D.Depot c.obey.new.depot) (page_state g.P.Sink c.obey.new.print) c.obey.new.steps in
@@ -47,7 +47,7 @@ returns-in-Err-PrintFault g c =
 
 pub returns-in-Err : goal.returns-in-Err
 returns-in-Err g c =
-    let words = map string_bytes c.args.words.now in
+    let words = words_of c.args.line.now in
     let a = outside (depot_state g.D.Depot c.args.depot.now) (page_state g.P.Sink c.args.print.now) c.args.steps.now in
     let b =
     outside (depot_state g.D.Depot c.obey.new.depot) (page_state g.P.Sink c.tell.new.print) c.obey.new.steps in

@@ -7,7 +7,7 @@ loop-index-preserved c =
     let count = c.loop-index.invariant.count in
     let grown = c.push.ensures.items in
     let text = c.as_str.ensures.value ∙ ap string_bytes c.index-texts-index.is in
-    let read = rw (c.kind.ensures, text) at c.in-Ok.ensures.value in
+    let read = rw (c.kind.ensures, text) at c.in-Ok.ensures in
     record {
       count =
           ap length grown

@@ -1,4 +1,4 @@
-use Rattle.sd_run.proofs.program.answer.Given as goal
+use Rattle.sd_run.proofs.program.answer_to.Given as goal
 
 abbrev pub ghosts-counted : goal.ghosts-counted
 ghosts-counted g a = record { name = a.blank.name; parts = a.blank.parts }
