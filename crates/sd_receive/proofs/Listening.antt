@@ -33,7 +33,7 @@ use Rattle.sd_receive.proofs.Collecting as Collecting
 use Rattle.sd_receive.specs.Holding.{Holding, held_more}
 use Rattle.sd_receive.specs.Listening.{IsListenerAfter, IsListenerAtMessage, CountsMore, PassesOffering}
 use Rattle.sd_receive.specs.Listening.{StopsAtOffering, TakesHeard, RefusesHeard, TookSome}
-use Rattle.sd_receive.specs.Listening.{PacketOutcome}
+use Rattle.sd_receive.specs.Listening.{IsStill, PacketOutcome}
 use Rattle.sd_receive.specs.declared.listener.Listener.{Listener}
 use Rattle.sd_receive.proofs.Stretching.{stays_open}
 use Rattle.sd_receive.proofs.Holding.{nothing_held, held_same, held_other}
@@ -59,6 +59,10 @@ stops_none offering why fault wrote = record { fault = fault; bytes_are = ap con
 -- no byte is taken
 pub took_nothing : (u : SinkState) (Says : List ℕ → Type 0) → Says [] → TookSome u u Says
 took_nothing u Says says = record { bytes = []; says = says; took = took_none u }
+
+-- nothing is changed
+pub still : (card : CardFields) (s : Listener) → IsStill card s s
+still card s = record { follows = λ past follows. follows; written = refl }
 
 -- a packet that is dropped
 pub dropped_heard : (card : CardFields) (tuning : Tuning) (n : ℕ) (s : Listener) →
@@ -212,19 +216,31 @@ comes_weaker T S R Q u v t (Err Write) takes refuses comes = record {
   room = comes.room;
 }
 
+-- what is kept of control messages is of what was heard still
+pub part_left : (card : CardFields) (past : List Heard) (s t : Listener) → t.closed ≡ s.closed →
+    t.entitled ≡ s.entitled → t.segment ≡ s.segment → IsCollected past t.collect → IsListenerAfter card past s →
+    IsListenerAfter card past t
+part_left card past s t closed entitled segment collects follows = record {
+  closed = closed ∙ follows.closed;
+  entitled = subst (λ (e : Entitled). IsEntitled card past e) (sym entitled) follows.entitled;
+  collect = collects;
+  segment = segment ∙ follows.segment;
+}
+
 -- a part that completes a message is taken as the message is
 pub message_heard : (card : CardFields) (tuning : Tuning) (n : ℕ) (part : EcmPart) (head : EcmHead) (s t : Listener) →
-    t.entitled ≡ s.entitled → t.segment ≡ s.segment → t.written ≡ s.written →
+    t.closed ≡ s.closed → t.entitled ≡ s.entitled → t.segment ≡ s.segment →
     ((past : List Heard) → IsCollected past s.collect → current past ≡ s.entitled.period →
     IsComplete past part head t.collect) →
     (past : List Heard) → IsListenerAfter card past s → is_closed past ≡ false →
     IsListenerAtMessage card past part head t
-message_heard card tuning n part head s t entitled segment written complete = λ past follows unclosed. record {
-  unclosed = unclosed;
-  entitled = subst (λ (e : Entitled). IsEntitled card past e) (sym entitled) follows.entitled;
-  collect = complete past follows.collect (sym follows.entitled.period);
-  segment = segment ∙ follows.segment;
-}
+message_heard card tuning n part head s t closed entitled segment complete = λ past follows unclosed.
+    let done = complete past follows.collect (sym follows.entitled.period) in
+    record {
+      unclosed = unclosed;
+      follows = part_left card past s t closed entitled segment done.before follows;
+      collect = done;
+    }
 
 -- nothing was heard
 pub follows_none : (card : CardFields) (t : Listener) → t.closed ≡ false → IsEntitled card [] t.entitled →

@@ -24,13 +24,12 @@ pub record IsListenerAfter (card : CardFields) (past : List Heard) (state : List
   pub collect : IsCollected past state.collect
   pub segment : state.segment ≡ holding_after card past
 
--- what is kept of what was heard before a part that completes the message that says this, and of the part
+-- what is kept of what was heard before a part that completes the message that says this, with the message at hand
 pub record IsListenerAtMessage (card : CardFields) (past : List Heard) (part : EcmPart) (head : EcmHead)
     (state : Listener) : Type 0 where
   pub unclosed : is_closed past ≡ false
-  pub entitled : IsEntitled card past state.entitled
+  pub follows : IsListenerAfter card past state
   pub collect : IsComplete past part head state.collect
-  pub segment : state.segment ≡ holding_after card past
 
 -- a number as a count of 64 bits, which is at most 2^64 - 1
 abbrev pub capped : ℕ → ℕ
@@ -62,6 +61,11 @@ abbrev pub RefusesHeard : CardFields → Tuning → ℕ → Heard → Listener �
 RefusesHeard card tuning n heard s fault bytes = (past : List Heard) → IsListenerAfter card past s →
     is_closed past ≡ false →
     StopsAtOffering (heard_offering card tuning n past heard) fault bytes
+
+-- what is kept is of the same that was heard, and as many packets are counted
+pub record IsStill (card : CardFields) (s t : Listener) : Type 0 where
+  pub follows : (past : List Heard) → IsListenerAfter card past s → IsListenerAfter card past t
+  pub written : t.written ≡ s.written
 
 -- the message that the part in packet n completes is taken, with these bytes written
 abbrev pub TakesMessage : CardFields → Tuning → ℕ → EcmHead → Listener → Listener → List ℕ → Type 0

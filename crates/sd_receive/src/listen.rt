@@ -1,4 +1,4 @@
-ghost use Rattle.std.specs.Prelude.{◌≡◌, ◌+◌, ◌≤◌, ◌<◌, [], false, List, IfOk, IsErrOf};
+ghost use Rattle.std.specs.Prelude.{◌≡◌, ◌+◌, ◌≤◌, ◌<◌, [], false, List, Err, IfOk, IsErrOf};
 ghost use Rattle.std.specs.Prelude.{if◌then◌else◌};
 ghost use Rattle.sd_base.specs.Count.{IsCaused};
 ghost use Rattle.sd_site.specs.CardFields.{CardFields, card_fields_of};
@@ -6,7 +6,7 @@ ghost use Rattle.sd_message.specs.EcmForm.{IsEcm};
 ghost use Rattle.sd_engine.specs.Stage.{vessel};
 ghost use Rattle.sd_spec.specs.Heard.{Heard as Thing, Controls};
 ghost use Rattle.sd_receive.specs.Ears.{heard_as, IsFormed};
-ghost use Rattle.sd_receive.specs.Listening.{IsListenerAfter, TakesHeard, RefusesHeard, PacketOutcome};
+ghost use Rattle.sd_receive.specs.Listening.{IsListenerAfter, TakesHeard, RefusesHeard, PacketOutcome, IsStill};
 ghost use Rattle.sd_receive.specs.Receiving.{takes_key_of};
 
 use crate::ears::Heard;
@@ -79,6 +79,8 @@ impl Listener {
             steps.new ≤ steps.old
             + (if takes_key_of (card_fields_of card.now) past (heard_as number packet.now heard.entry)
             then card.now.height else 0) }
+        ensures stands { (fault : StreamFault) → result ≡ Err (StageFault.Refused fault) →
+            IsStill (card_fields_of card.now) self.old self.new }
         ensures cause { IsCaused (K.faults out.old) (K.faults out.new) (IsErrOf result StageFault.Write) }
     {
         match heard {
@@ -113,6 +115,8 @@ impl Listener {
         ensures value { PacketOutcome (TakesHeard (card_fields_of card.now) tuning number (Controls part.now)
             self.old) (RefusesHeard (card_fields_of card.now) tuning number (Controls part.now) self.old)
             (vessel K.Sink out.old) (vessel K.Sink out.new) self.new result }
+        ensures stands { (fault : StreamFault) → result ≡ Err (StageFault.Refused fault) →
+            IsStill (card_fields_of card.now) self.old self.new }
         ensures cause { IsCaused (K.faults out.old) (K.faults out.new) (IsErrOf result StageFault.Write) }
     {
         match self.collect.take(self.entitled.period(), part) {

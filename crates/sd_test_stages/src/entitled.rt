@@ -108,7 +108,11 @@ fn heard<L: Ledger>(
             }
         }
     }
-    Some(Ok((entitled.key(), entitled.revoked(), entitled.unkeyed())))
+    Some(Ok((
+        entitled.key_of(entitled.period()),
+        entitled.revoked(),
+        entitled.unkeyed(),
+    )))
 }
 
 fn counted<L: Ledger>(

@@ -5,10 +5,11 @@ use Rattle.sd_spec.specs.Heard.{Heard}
 use Rattle.sd_receive.specs.declared.ears.Heard.{Heard as Kept}
 use Rattle.sd_receive.specs.Ears.{heard_as, IsFormed}
 use Rattle.sd_spec.specs.declared.stream_fault.StreamFault.TheVariants.{BadEmm, BadEcm}
-use Rattle.sd_receive.specs.Listening.{TakesHeard, RefusesHeard, PacketOutcome}
+use Rattle.sd_receive.specs.declared.entitled.Entitled.{Entitled}
+use Rattle.sd_receive.specs.Listening.{TakesHeard, RefusesHeard, PacketOutcome, IsStill}
 use Rattle.sd_receive.specs.declared.listener.Listener.{Listener}
 use Rattle.sd_receive.proofs.Listening.{took_nothing, dropped_heard, other_heard, section_taken, section_refused}
-use Rattle.sd_receive.proofs.Listening.{bad_section, bad_part}
+use Rattle.sd_receive.proofs.Listening.{bad_section, bad_part, still}
 use Rattle.sd_receive.proofs.listener.Listener.take.Goals as goal
 
 pub returns-in-Dropped-clause-value : goal.returns-in-Dropped-clause-value
@@ -107,3 +108,25 @@ section-requires-clause-sets g c =
 pub control-requires-clause-form : goal.control-requires-clause-form
 control-requires-clause-form g c =
     subst (λ (h : Kept). IsFormed c.args.card.now.height h) c.in-Controls.is c.requires.form
+
+pub returns-in-Err-clause-stands : goal.returns-in-Err-clause-stands
+returns-in-Err-clause-stands g c = λ fault is.
+    let s = c.args.self.now in
+    let with_it : Entitled → Listener = λ e. record {
+      closed = s.closed;
+      entitled = e;
+      collect = s.collect;
+      segment = s.segment;
+      written = s.written;
+    } in
+    subst (λ (e : Entitled). IsStill (card_fields_of c.args.card.now) s (with_it e)) (sym c.in-Err.ensures.unchanged)
+    (still (card_fields_of c.args.card.now) s)
+
+pub returns-in-Controls-clause-stands : goal.returns-in-Controls-clause-stands
+returns-in-Controls-clause-stands g c = c.control.ensures.stands
+
+pub returns-in-BadEmm-clause-stands : goal.returns-in-BadEmm-clause-stands
+returns-in-BadEmm-clause-stands g c = λ fault is. still (card_fields_of c.args.card.now) c.args.self.now
+
+pub returns-in-BadEcm-clause-stands : goal.returns-in-BadEcm-clause-stands
+returns-in-BadEcm-clause-stands g c = λ fault is. still (card_fields_of c.args.card.now) c.args.self.now
