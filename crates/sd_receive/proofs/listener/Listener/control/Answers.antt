@@ -1,5 +1,5 @@
 use Rattle.std.proofs.Common.{◌≡◌, ◌∙◌, refl, sym, subst, List}
-use Rattle.std.specs.Prelude.{Ok}
+use Rattle.std.specs.Prelude.{None, Ok}
 use Rattle.sd_site.specs.CardFields.{card_fields_of}
 use Rattle.sd_engine.specs.Stage.{vessel}
 use Rattle.sd_spec.specs.declared.stream_fault.StreamFault.TheVariants.{BadEcm}
@@ -25,7 +25,7 @@ returns-in-Ok-Waits-clause-value g c =
       written = s.written;
     } in
     took_nothing (vessel g.K.Sink c.args.out.now)
-    (TakesHeard (card_fields_of c.args.card.now) c.args.tuning c.args.number (Controls c.args.part.now) s t)
+    (TakesHeard (card_fields_of c.args.card.now) c.args.tuning c.args.number (Controls c.args.part.now) None s t)
     (part_waiting (card_fields_of c.args.card.now) c.args.tuning c.args.number c.args.part.now s t refl refl refl
     refl
     (λ past collects now. subst (λ (taken : Taken). PartOutcome past c.args.part.now c.take.new.self (Ok taken))
@@ -73,11 +73,11 @@ returns-in-Ok-Complete-clause-value g c =
     c.in-Ok-Complete.field-0-is
     (c.in-Ok-Complete.ensures.value past collects (now ∙ sym c.period.ensures)) in
     comes_weaker (TakesMessage card c.args.tuning c.args.number head t)
-    (TakesHeard card c.args.tuning c.args.number (Controls c.args.part.now) s)
+    (TakesHeard card c.args.tuning c.args.number (Controls c.args.part.now) None s)
     (RefusesMessage card c.args.tuning c.args.number head t)
     (RefusesHeard card c.args.tuning c.args.number (Controls c.args.part.now) s)
     (vessel g.K.Sink c.args.out.now) (vessel g.K.Sink c.complete.new.out) c.complete.new.self c.complete.result
-    (λ x bytes takes past follows unclosed. takes past c.args.part.now
+    (λ x bytes takes past follows unclosed judged. takes past c.args.part.now
     (message_heard card c.args.tuning c.args.number c.args.part.now head s t refl refl refl done past follows
     unclosed))
     (λ fault bytes refuses past follows unclosed. refuses past c.args.part.now
