@@ -18,6 +18,7 @@ use Rattle.sd_spec.proofs.Hearing.{no_fault_in_none, newest_waits, newest_comple
 use Rattle.sd_receive.specs.Gathered.{places_of, newest_of, next_run, IsGathered}
 use Rattle.sd_receive.specs.Collected.{parts_collected, IsMessageKept, IsCollected, fault_of, IsWaiting, IsComplete}
 use Rattle.sd_receive.specs.declared.collect.Collect.{Collect}
+use Rattle.sd_receive.specs.declared.run.Run.{Run}
 use Rattle.sd_receive.proofs.Gathering.{no_places, none_newest}
 
 -- nothing was heard
@@ -112,16 +113,24 @@ waiting_part past part state counts good gathered kept incomplete =
       };
     }
 
--- a part that isn't the last completes nothing, nor one that goes on with no part
+-- a part that isn't the last completes nothing
 pub not_last : (past : List Heard) (part : EcmPart) → (part.part == part.last_part) ≡ false →
     completes past (Controls part) ≡ None
 not_last past part other = rw other refl
 
-pub no_run : (past : List Heard) (part : EcmPart) (all : List Place) → exceeds (newest past).message part ≡ true →
-    IsGathered (next_run (parts_collected past) part) None all → completes past (Controls part) ≡ None
-no_run past part all counts gathered =
-    untold past part (run_is_next past part counts ∙ none_newest (next_run (parts_collected past) part)
-    (sym gathered.part))
+-- a last part that counts and goes on with no part: what was collected is dropped
+pub dropping_part : (past : List Heard) (part : EcmPart) (state : Collect) (kept : Option EcmPart) (all : List Place) →
+    exceeds (newest past).message part ≡ true →
+    (part_fault (next_run (parts_collected past) part) ≡ None)
+    × IsGathered (next_run (parts_collected past) part) kept all → kept ≡ None →
+    IsGathered [] state.run.part state.run.places.items →
+    IsMessageKept (newest past).message state.last state.places.items → IsWaiting past part state
+dropping_part past part state kept all counts good none empty last =
+    let next : next_run (parts_collected past) part ≡ [] =
+    none_newest (next_run (parts_collected past) part) (sym good.1.part ∙ none) in
+    waiting_part past part state counts good.0
+    (subst (λ (run : List EcmPart). IsGathered run state.run.part state.run.places.items) (sym next) empty) last
+    (untold past part (run_is_next past part counts ∙ next))
 
 -- a part that is refused by itself
 pub bad_part : (past : List Heard) (part : EcmPart) (fault : EcmFault) → exceeds (newest past).message part ≡ true →
@@ -203,19 +212,19 @@ complete_part past part message counts good done forth =
 pub settled : (past : List Heard) (part : EcmPart) (head : EcmHead) (old new : Collect) →
     IsComplete past part head old →
     IsGathered [] new.run.part new.run.places.items → new.last ≡ Some (ecm_head_of part) →
-    new.places.items ≡ old.run.places.items →
+    new.places.items ≡ old.coming.places.items →
     IsCollected (Controls part ∷ past) new
 unfolding parts_collected run_of counted
 settled past part head old new complete empty last places =
-    let after = newest_completes past (Controls part) (message_of head old.run.places.items) complete.complete in
+    let after = newest_completes past (Controls part) (message_of head old.coming.places.items) complete.complete in
     record {
       run = subst (λ (st : Stretch). IsGathered (run_of (counted st.message st.after)) new.run.part
           new.run.places.items) (sym after) empty;
       last = subst (λ (st : Stretch). IsMessageKept st.message new.last new.places.items) (sym after)
-          (subst (λ (l : List Place). IsMessageKept (Some (message_of head old.run.places.items)) new.last l)
+          (subst (λ (l : List Place). IsMessageKept (Some (message_of head old.coming.places.items)) new.last l)
           (sym places)
           (subst (λ (o : Option EcmHead).
-          IsMessageKept (Some (message_of head old.run.places.items)) o old.run.places.items)
+          IsMessageKept (Some (message_of head old.coming.places.items)) o old.coming.places.items)
           (sym (last ∙ ap Some (sym complete.says)))
           (record { says = refl; good = complete.good })));
     }
@@ -267,3 +276,11 @@ ends_here past part (Some newest_part) all counts last some gathered =
 pub good_places : (run : List EcmPart) (kept : Option EcmPart) (all : List Place) → IsGathered run kept all →
     ArePlaces all
 good_places run kept all gathered = subst ArePlaces (sym gathered.places) gathered.good.places
+
+-- the parts that were copied are those that are collected
+pub copied : (past : List Heard) (state : Collect) (copy : Run) → IsCollected past state →
+    copy.part ≡ state.run.part → copy.places.items ≡ state.run.places.items →
+    IsGathered (parts_collected past) copy.part copy.places.items
+copied past state copy collects part places =
+    subst (λ (kept : Option EcmPart). IsGathered (parts_collected past) kept copy.places.items) (sym part)
+    (subst (λ (all : List Place). IsGathered (parts_collected past) state.run.part all) (sym places) collects.run)

@@ -1,6 +1,6 @@
 -- Parts one after the other.
 use Rattle.std.proofs.Common.{◌≡◌, inl, inr, ℕ, zero, suc, ◌+◌, ◌-◌, ◌^◌, ◌<◌, ◌≤◌, List, [], ◌∷◌, ◌++◌, length}
-use Rattle.std.proofs.Common.{get_or, length-append, refl, sym, ap, subst, ◌∙◌, arith, true, false, Bool}
+use Rattle.std.proofs.Common.{get_or, length-append, length-take, refl, sym, ap, subst, ◌∙◌, arith, true, false, Bool}
 use Rattle.std.specs.Prelude.{All, Option, Some, None, flat_map, reverse, not, nat_le, nat_lt, if◌then◌else◌}
 use Rattle.std.specs.List.{list_any}
 use Rattle.std.proofs.lemmas.Grind.{flat_map-append}
@@ -67,6 +67,10 @@ as_many (part ∷ run) =
 -- a part has no more positions than a part may have
 pub few : (part : EcmPart) → IsEcm part → part.count ≤ 13
 few part form = omega (arith, form.counted.few, few_positions part.version)
+
+-- nor does it list more
+pub few_listed : (part : EcmPart) → IsEcm part → length (listed_places part) ≤ 13
+few_listed part form = omega (arith, few part form, length-take part.count part.positions)
 
 -- a part lists as many positions as it counts
 pub long_as_counted : (part : EcmPart) → IsPart part → length (listed_places part) ≡ part.count
@@ -391,6 +395,16 @@ none_wrong_part part run kept all gathered good few =
 pub begins : (part : EcmPart) (run : List EcmPart) → part.part ≡ 0 → next_run run part ≡ part ∷ []
 unfolding next_run
 begins part run first = rw (eq-eqb part.part 0 first) refl
+
+-- nothing is wrong with a part that begins a message
+pub begun : (part : EcmPart) (run : List EcmPart) (kept : Option EcmPart) (all : List Place) → part.part ≡ 0 →
+    IsEcm part → (part_fault (part ∷ []) ≡ None → IsGathered (part ∷ []) kept all) →
+    (part_fault (next_run run part) ≡ None) × IsGathered (next_run run part) kept all
+unfolding places_of
+begun part run kept all first form gathered =
+    let good = none_wrong part [] refl refl (omega (arith, few_listed part form)) in
+    subst (λ (more : List EcmPart). (part_fault more ≡ None) × IsGathered more kept all)
+    (sym (begins part run first)) (good, gathered good)
 
 pub goes_on : (part : EcmPart) (run more : List EcmPart) → (part.part ≡ 0 → ⊥) → run_with part run ≡ more →
     next_run run part ≡ more

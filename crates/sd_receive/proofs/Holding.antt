@@ -6,13 +6,12 @@ use Rattle.std.proofs.lemmas.Bool.{cases_lt, lt-ltb, le-ltb}
 use Rattle.sd_site.specs.CardFields.{CardFields}
 use Rattle.sd_keystream.specs.Wrapping.{wrapped as under}
 use Rattle.sd_message.specs.EcmParts.{Message, message_of}
-use Rattle.sd_message.specs.declared.ecm_part.EcmPart.{EcmPart}
 use Rattle.sd_message.specs.declared.ecm_part.Place.{Place}
 use Rattle.sd_message.specs.declared.ecm_message.EcmHead.{EcmHead}
 use Rattle.sd_psi.specs.declared.our_cat.Tuning.{Tuning}
-use Rattle.sd_spec.specs.Heard.{Heard, Controls, Other}
+use Rattle.sd_spec.specs.Heard.{Heard, Other}
 use Rattle.sd_spec.specs.Stretches.{Stretch, newest, completes, others, other_with, held_in}
-use Rattle.sd_spec.specs.Keys.{key_in, key_at}
+use Rattle.sd_spec.specs.Keys.{key_at}
 use Rattle.sd_spec.specs.Confirmed.{Wrote}
 use Rattle.sd_spec.specs.Offered.{segment_wrote, stretch_wrote}
 use Rattle.sd_spec.proofs.Hearing.{newest_waits, newest_completes}
@@ -20,7 +19,7 @@ use Rattle.sd_receive.specs.Holding.{after_message, held_more}
 use Rattle.sd_receive.specs.Writing.{wrote_of}
 use Rattle.sd_receive.proofs.HoldWalking.{between_messages}
 use Rattle.sd_receive.specs.Held.{word_under, held_under, held_after, holding_after, pair_wrote, unwritten}
-use Rattle.sd_receive.proofs.Stretching.{holds_more, holds_same, sees_same}
+use Rattle.sd_receive.proofs.Stretching.{holds_more, holds_same}
 
 -- nothing was heard
 pub nothing_held : (card : CardFields) → holding_after card [] ≡ None
@@ -124,11 +123,6 @@ unfolding holding_after
 held_begun card past heard message done =
     ap (λ (st : Stretch). held_after card st st.message) (newest_completes past heard message done)
     ∙ begun_under past message (word_under message (key_at card past message.period))
-
--- the key of a period stays as it is where a part is heard
-pub same_key : (card : CardFields) (past : List Heard) (part : EcmPart) (q : ℕ) →
-    key_at card (Controls part ∷ past) q ≡ key_at card past q
-same_key card past part q = ap (key_in card) (sees_same q past part)
 
 -- what is written between two messages is what is written of what is held
 pair_of : (card : CardFields) (tuning : Tuning) (stretch : Stretch) (a b : Message) (key : Option (List ℕ)) →

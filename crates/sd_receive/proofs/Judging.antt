@@ -6,7 +6,7 @@ use Rattle.std.specs.Prelude.{All, find, is_none, is_some, not, take, drop, repl
 use Rattle.std.specs.Prelude.{Option, Some, None}
 use Rattle.std.specs.List.{list_any, list_all, range_with_len}
 use Rattle.std.specs.Option.{option_or, option_map_or}
-use Rattle.std.specs.Prelude.{Result, Ok, Err, MatchResult, IsErr, IsErrAnd}
+use Rattle.std.specs.Prelude.{Result, Ok, Err, IfOk, MatchResult, IsErr, IsErrAnd}
 use Rattle.std.proofs.lemmas.List.{get_or-drop, get_or-replicate, length-replicate, take-append-le, take_all}
 use Rattle.std.proofs.Math.ListN.{get_or-append}
 use Rattle.std.proofs.Math.Seq.{get_or-append_right}
@@ -17,7 +17,7 @@ use Rattle.sd_message.specs.declared.emm.Emm.{Emm}
 use Rattle.sd_spec.specs.Heard.{Heard}
 use Rattle.sd_spec.specs.Stretches.{current, seen}
 use Rattle.sd_spec.specs.Keys.{first_key, key_in, key_at, key_from}
-use Rattle.sd_spec.specs.Offered.{says_same, is_mixed, Offering, key_if_none, emm_offering}
+use Rattle.sd_spec.specs.Offered.{says_same, is_mixed, Offering, key_if_none, key_offering, emm_offering}
 use Rattle.sd_message.specs.declared.stream_fault.StreamFault.{StreamFault}
 use Rattle.sd_message.specs.declared.stream_fault.StreamFault.TheVariants as Fault
 use Rattle.sd_message.specs.declared.emm_fault.EmmFault.TheVariants as Emms
@@ -26,7 +26,7 @@ use Rattle.sd_receive.specs.declared.says.Says.{Says}
 use Rattle.sd_receive.specs.declared.entitled.Entitled.{Entitled}
 use Rattle.sd_receive.specs.Entitled.{says_in, said, SayAlike, is_said_otherwise, key_kept, has_index, all_marked}
 use Rattle.sd_spec.specs.Taken.{takes_key}
-use Rattle.sd_receive.specs.Entitled.{cleared, is_told_revoked, told_below, IsEntitled}
+use Rattle.sd_receive.specs.Entitled.{cleared, is_told_revoked, told_below, IsEntitled, IsJudged, HasFault}
 use Rattle.sd_receive.proofs.Periods.{closes, ahead_none}
 
 -- all marks up to a place are set where all tests up to it hold
@@ -267,9 +267,72 @@ pub unknown_none : (kept : Option (List ℕ)) → is_some kept ≡ false → kep
 unknown_none (Some key) not_known = absurd (true≢false not_known)
 unknown_none None not_known = refl
 
+-- the steps of a section's key
+pub steps_of : (found : Option (List ℕ)) (before after most : ℕ) → after ≤ before + most →
+    (found ≡ None → after ≡ before) → after ≤ before + (if not (is_none found) then most else 0)
+steps_of None before after most within same = omega (arith, same refl)
+steps_of (Some key) before after most within same = within
+
 -- the steps of a section's key, if none was known
 pub steps_counted : (kept found : Option (List ℕ)) (before after most : ℕ) → kept ≡ None → after ≤ before + most →
     (found ≡ None → after ≡ before) →
     after ≤ before + (if is_none kept && not (is_none found) then most else 0)
 steps_counted kept None before after most none within same = rw none (omega (arith, same refl))
 steps_counted kept (Some key) before after most none within same = rw none within
+
+-- a section of a past period is right, whatever key comes with it
+pub judged_past : (card : CardFields) (n : ℕ) (tr : List Heard) (emm : Emm) (key : Option (List ℕ)) →
+    emm.period < current tr → IsJudged card n tr emm key
+judged_past card n tr emm key past = record {
+  fault = past_offering card n tr emm past;
+  unmixed = λ h. absurd (omega (arith, past, h));
+  gives = λ h none. absurd (omega (arith, past, h));
+}
+
+some_key : (key : Option (List ℕ)) → is_some key ≡ true → key ≡ None → ⊥
+some_key None some none = false≢true some
+some_key (Some key) some none = cc
+
+module _ (card : CardFields) (n : ℕ) (tr : List Heard) (emm : Emm) (state : Entitled) (is : IsEntitled card tr state)
+    (h : current tr ≤ emm.period)
+    (same : (if state.period == emm.period then is_said_otherwise state.says emm else false) ≡ false) where
+  -- so is one that says the same of a period whose key is known
+  pub judged_known : (key : Option (List ℕ)) → is_some (key_kept state emm.period) ≡ true → IsJudged card n tr emm key
+  judged_known key known = record {
+    fault = good_offering card n tr emm state is h same
+        (known_offers n emm (key_kept state emm.period) (key_from card emm) known);
+    unmixed = λ _. sym (differs_is card tr state is emm h) ∙ same;
+    gives = λ _ none. absurd (some_key (key_kept state emm.period) known
+        (kept_is card tr state is emm.period h ∙ none));
+  }
+
+  -- and one of another period, if its key is right
+  pub judged_new : (key : Option (List ℕ)) → key_kept state emm.period ≡ None → key ≡ key_from card emm →
+      (key_offering n emm (key_from card emm)).fault ≡ None → IsJudged card n tr emm key
+  judged_new key none gives good = record {
+    fault = good_offering card n tr emm state is h same
+        (ap (λ (o : Option (List ℕ)). (key_if_none n emm o (key_from card emm)).fault) none ∙ good);
+    unmixed = λ _. sym (differs_is card tr state is emm h) ∙ same;
+    gives = λ _ _. gives;
+  }
+
+  -- the fault of its key is its own
+  pub key_faults : {X : Type 0} (result : Result X StreamFault) → key_kept state emm.period ≡ None →
+      HasFault result (key_offering n emm (key_from card emm)).fault →
+      HasFault result (emm_offering card n tr emm).fault
+  key_faults (Ok x) none good = good_offering card n tr emm state is h same
+      (ap (λ (o : Option (List ℕ)). (key_if_none n emm o (key_from card emm)).fault) none ∙ good)
+  key_faults (Err fault) none bad = bad_offering card n tr emm state is h same fault
+      (ap (λ (o : Option (List ℕ)). (key_if_none n emm o (key_from card emm)).fault) none ∙ bad)
+
+-- the key that a section gives, if that isn't wrong, is judged
+pub judged_key : (card : CardFields) (n : ℕ) (emm : Emm) (state : Entitled)
+    (result : Result (Option (List ℕ)) StreamFault) →
+    ((tr : List Heard) → IsEntitled card tr state → current tr ≤ emm.period) →
+    (if state.period == emm.period then is_said_otherwise state.says emm else false) ≡ false →
+    key_kept state emm.period ≡ None → IfOk result (λ key. key ≡ key_from card emm) →
+    HasFault result (key_offering n emm (key_from card emm)).fault →
+    IfOk result (λ key. (tr : List Heard) → IsEntitled card tr state → IsJudged card n tr emm key)
+judged_key card n emm state (Ok key) ahead same none gives good = λ tr is.
+    judged_new card n tr emm state is (ahead tr is) same key none gives good
+judged_key card n emm state (Err fault) ahead same none gives bad = tt

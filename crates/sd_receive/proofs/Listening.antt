@@ -1,7 +1,9 @@
 -- What things that are heard come to.
 use Rattle.std.proofs.Common.{◌≡◌, inl, inr, ℕ, List, [], ◌∷◌, length, refl, sym, ap, ◌∙◌, subst, true, false, Bool}
 use Rattle.std.proofs.Common.{arith}
-use Rattle.std.specs.Prelude.{Option, Some, None, is_none, nat_lt, Result, Ok, Err, if◌then◌else◌, bytes_eq}
+use Rattle.std.specs.Prelude.{Option, Some, None, is_none, not, nat_lt, Result, Ok, Err, IfOk, if◌then◌else◌}
+use Rattle.std.specs.Prelude.{bytes_eq, ◌+◌, ◌≤◌}
+use Rattle.std.proofs.lemmas.Bool.{le-leb, le-ltb}
 use Rattle.std.specs.List.{concat}
 use Rattle.sd_site.specs.CardFields.{CardFields}
 use Rattle.sd_tree.specs.Keys.{check_value_of}
@@ -20,20 +22,23 @@ use Rattle.sd_message.specs.declared.stream_fault.StreamFault.TheVariants as Fau
 use Rattle.sd_psi.specs.declared.our_cat.Tuning.{Tuning}
 use Rattle.sd_spec.specs.Heard.{Heard, Dropped, Entitles, Controls, BadEmm, BadEcm, Other}
 use Rattle.sd_spec.specs.Stretches.{completes, current, seen, is_closed}
-use Rattle.sd_spec.specs.Keys.{key_from, key_at}
+use Rattle.sd_spec.specs.Keys.{key_from, key_at, key_in}
+use Rattle.sd_spec.specs.Taken.{takes_key}
 use Rattle.sd_spec.specs.Offered.{Offering, no_offering, refuses, key_offering, key_if_none, is_mixed}
 use Rattle.sd_spec.specs.Offered.{emm_offering}
 use Rattle.sd_spec.specs.Offered.{heard_offering}
-use Rattle.sd_receive.specs.Entitled.{IsEntitled}
+use Rattle.sd_receive.specs.Entitled.{IsEntitled, IsJudged, HasFault}
+use Rattle.sd_receive.specs.declared.ears.Heard.TheVariants as Kinds
 use Rattle.sd_receive.specs.declared.entitled.Entitled.{Entitled}
 use Rattle.sd_receive.proofs.Keeping.{nothing_told}
+use Rattle.sd_receive.proofs.Judging.{steps_of}
 use Rattle.sd_receive.specs.Collected.{IsCollected, IsWaiting, IsComplete, fault_of}
 use Rattle.sd_receive.specs.declared.collect.Collect.{Collect}
 use Rattle.sd_receive.proofs.Collecting as Collecting
 use Rattle.sd_receive.specs.Holding.{Holding, held_more}
 use Rattle.sd_receive.specs.Listening.{IsListenerAfter, IsListenerAtMessage, CountsMore, PassesOffering}
 use Rattle.sd_receive.specs.Listening.{StopsAtOffering, TakesHeard, RefusesHeard, TookSome}
-use Rattle.sd_receive.specs.Listening.{PacketOutcome}
+use Rattle.sd_receive.specs.Listening.{IsStill, Judgement, PacketOutcome}
 use Rattle.sd_receive.specs.declared.listener.Listener.{Listener}
 use Rattle.sd_receive.proofs.Stretching.{stays_open}
 use Rattle.sd_receive.proofs.Holding.{nothing_held, held_same, held_other}
@@ -60,10 +65,14 @@ stops_none offering why fault wrote = record { fault = fault; bytes_are = ap con
 pub took_nothing : (u : SinkState) (Says : List ℕ → Type 0) → Says [] → TookSome u u Says
 took_nothing u Says says = record { bytes = []; says = says; took = took_none u }
 
+-- nothing is changed
+pub still : (card : CardFields) (s : Listener) → IsStill card s s
+still card s = record { follows = λ past follows. follows; written = refl }
+
 -- a packet that is dropped
 pub dropped_heard : (card : CardFields) (tuning : Tuning) (n : ℕ) (s : Listener) →
-    TakesHeard card tuning n Dropped s s []
-dropped_heard card tuning n s = λ past follows unclosed. (
+    (key : Option (List ℕ)) → TakesHeard card tuning n Dropped key s s []
+dropped_heard card tuning n s key = λ past follows unclosed judged. (
   passes_none (heard_offering card tuning n past Dropped) s.written refl refl,
   record {
     closed = follows.closed ∙ (unclosed ∙ sym (stays_open past Dropped unclosed refl));
@@ -77,8 +86,8 @@ dropped_heard card tuning n s = λ past follows unclosed. (
 pub other_heard : (card : CardFields) (tuning : Tuning) (n : ℕ) (packet : List ℕ) (s t : Listener) →
     t.closed ≡ s.closed →
     t.entitled ≡ s.entitled → t.collect ≡ s.collect → t.written ≡ s.written → t.segment ≡ held_more s.segment n packet →
-    TakesHeard card tuning n (Other n packet) s t []
-other_heard card tuning n packet s t closed entitled collect written segment = λ past follows unclosed. (
+    (key : Option (List ℕ)) → TakesHeard card tuning n (Other n packet) key s t []
+other_heard card tuning n packet s t closed entitled collect written segment key = λ past follows unclosed judged. (
   subst (λ (k : ℕ). PassesOffering (heard_offering card tuning n past (Other n packet)) s.written k []) (sym written)
       (passes_none (heard_offering card tuning n past (Other n packet)) s.written refl refl),
   record {
@@ -118,30 +127,74 @@ section_writes_none card n past emm =
     (key_if_none n emm (key_at card past emm.period) (key_from card emm)) refl
     (keys_write_none n emm (key_at card past emm.period) (key_from card emm)))
 
--- a section that is taken, and one that is refused
+-- an offering that writes nothing and has this fault refuses the packet
+refusal_is : (offering : Offering) (why : StreamFault) → offering.wrote ≡ [] → offering.fault ≡ Some why →
+    offering ≡ refuses why
+refusal_is offering why wrote fault =
+    ap (λ (w : List (List ℕ)). record { wrote = w; fault = offering.fault }) wrote
+    ∙ ap (λ (f : Option StreamFault). record { wrote = []; fault = f }) fault
+
+-- what was found of a section after what was heard
+pub section_judged : (card : CardFields) (n : ℕ) (past : List Heard) (emm : Emm) (state : Entitled)
+    (result : Result (Option (List ℕ)) StreamFault) → IsEntitled card past state →
+    IfOk result (λ key. (tr : List Heard) → IsEntitled card tr state → IsJudged card n tr emm key) →
+    ((tr : List Heard) → IsEntitled card tr state → HasFault result (emm_offering card n tr emm).fault) →
+    Judgement card n past (Entitles emm) result
+section_judged card n past emm state (Ok key) is good found = good past is
+section_judged card n past emm state (Err why) is good found = λ tuning.
+    refusal_is (emm_offering card n past emm) why (section_writes_none card n past emm) (found past is)
+
+-- before anything was heard a section's key alone is judged
+first_offering : (card : CardFields) (n : ℕ) (emm : Emm) →
+    emm_offering card n [] emm ≡ key_offering n emm (key_from card emm)
+unfolding emm_offering current seen key_in
+first_offering card n emm = rw (le-ltb emm.period 0 (omega arith)) refl
+
+none_seen : (q : ℕ) (emm : Emm) → is_mixed (seen q []) emm ≡ false
+unfolding seen
+none_seen q emm = refl
+
+pub first_judged : (card : CardFields) (n : ℕ) (emm : Emm) (result : Result (Option (List ℕ)) StreamFault) →
+    IfOk result (λ key. key ≡ key_from card emm) → HasFault result (key_offering n emm (key_from card emm)).fault →
+    Judgement card n [] (Entitles emm) result
+first_judged card n emm (Ok key) is found = record {
+  fault = ap (λ (o : Offering). o.fault) (first_offering card n emm) ∙ found;
+  unmixed = λ h. none_seen emm.period emm;
+  gives = λ h none. is;
+}
+first_judged card n emm (Err why) is found = λ tuning.
+    refusal_is (emm_offering card n [] emm) why (section_writes_none card n [] emm)
+    (ap (λ (o : Offering). o.fault) (first_offering card n emm) ∙ found)
+
+-- it takes a key if it gives one
+first_takes : (card : CardFields) (emm : Emm) → not (is_none (key_from card emm)) ≡ takes_key card [] emm
+unfolding takes_key current seen key_in
+first_takes card emm = rw (le-leb 0 emm.period (omega arith)) refl
+
+pub first_steps : (card : CardFields) (emm : Emm) (before after most : ℕ) → after ≤ before + most →
+    (key_from card emm ≡ None → after ≡ before) → after ≤ before + (if takes_key card [] emm then most else 0)
+first_steps card emm before after most within same =
+    subst (λ (b : Bool). after ≤ before + (if b then most else 0)) (first_takes card emm)
+    (steps_of (key_from card emm) before after most within same)
+
+-- a section that is taken
 pub section_taken : (card : CardFields) (tuning : Tuning) (n : ℕ) (emm : Emm) (s t : Listener) → t.closed ≡ s.closed →
     t.segment ≡ s.segment → t.collect ≡ s.collect → t.written ≡ s.written →
-    ((past : List Heard) → IsEntitled card past s.entitled → IsEntitled card (Entitles emm ∷ past) t.entitled) →
-    ((past : List Heard) → IsEntitled card past s.entitled → (emm_offering card n past emm).fault ≡ None) →
-    TakesHeard card tuning n (Entitles emm) s t []
-section_taken card tuning n emm s t closed segment collect written entitled good = λ past follows unclosed. (
+    (key : Option (List ℕ)) → ((past : List Heard) → IsEntitled card past s.entitled →
+    IsJudged card n past emm key → IsEntitled card (Entitles emm ∷ past) t.entitled) →
+    TakesHeard card tuning n (Entitles emm) key s t []
+section_taken card tuning n emm s t closed segment collect written key entitled = λ past follows unclosed judged. (
   subst (λ (k : ℕ). PassesOffering (heard_offering card tuning n past (Entitles emm)) s.written k []) (sym written)
-      (passes_none (emm_offering card n past emm) s.written (good past follows.entitled)
+      (passes_none (emm_offering card n past emm) s.written judged.fault
       (section_writes_none card n past emm)),
   record {
     closed = closed ∙ (follows.closed ∙ (unclosed ∙ sym (stays_open past (Entitles emm) unclosed refl)));
-    entitled = entitled past follows.entitled;
+    entitled = entitled past follows.entitled judged;
     collect = subst (λ (c : Collect). IsCollected (Entitles emm ∷ past) c) (sym collect)
         (Collecting.entitles past emm s.collect follows.collect);
     segment = segment ∙ (follows.segment ∙ sym (held_same card past (Entitles emm) refl refl));
   },
 )
-
-pub section_refused : (card : CardFields) (tuning : Tuning) (n : ℕ) (emm : Emm) (s : Listener) (why : StreamFault) →
-    ((past : List Heard) → IsEntitled card past s.entitled → (emm_offering card n past emm).fault ≡ Some why) →
-    RefusesHeard card tuning n (Entitles emm) s why []
-section_refused card tuning n emm s why bad = λ past follows unclosed.
-    stops_none (emm_offering card n past emm) why (bad past follows.entitled) (section_writes_none card n past emm)
 
 -- a part that completes nothing, and one that is refused
 none_is : {A : Type 0} (o : Option A) → o ≡ None → is_none o ≡ true
@@ -152,8 +205,8 @@ pub part_waiting : (card : CardFields) (tuning : Tuning) (n : ℕ) (part : EcmPa
     t.entitled ≡ s.entitled → t.segment ≡ s.segment → t.written ≡ s.written →
     ((past : List Heard) → IsCollected past s.collect → current past ≡ s.entitled.period →
     IsWaiting past part t.collect) →
-    TakesHeard card tuning n (Controls part) s t []
-part_waiting card tuning n part s t closed entitled segment written waits = λ past follows unclosed.
+    TakesHeard card tuning n (Controls part) None s t []
+part_waiting card tuning n part s t closed entitled segment written waits = λ past follows unclosed judged.
     let waiting = waits past follows.collect (sym follows.entitled.period) in
     let offers = part_waits card tuning n past part waiting.fault waiting.incomplete in (
       subst (λ (k : ℕ). PassesOffering (heard_offering card tuning n past (Controls part)) s.written k []) (sym written)
@@ -212,19 +265,31 @@ comes_weaker T S R Q u v t (Err Write) takes refuses comes = record {
   room = comes.room;
 }
 
+-- what is kept of control messages is of what was heard still
+pub part_left : (card : CardFields) (past : List Heard) (s t : Listener) → t.closed ≡ s.closed →
+    t.entitled ≡ s.entitled → t.segment ≡ s.segment → IsCollected past t.collect → IsListenerAfter card past s →
+    IsListenerAfter card past t
+part_left card past s t closed entitled segment collects follows = record {
+  closed = closed ∙ follows.closed;
+  entitled = subst (λ (e : Entitled). IsEntitled card past e) (sym entitled) follows.entitled;
+  collect = collects;
+  segment = segment ∙ follows.segment;
+}
+
 -- a part that completes a message is taken as the message is
 pub message_heard : (card : CardFields) (tuning : Tuning) (n : ℕ) (part : EcmPart) (head : EcmHead) (s t : Listener) →
-    t.entitled ≡ s.entitled → t.segment ≡ s.segment → t.written ≡ s.written →
+    t.closed ≡ s.closed → t.entitled ≡ s.entitled → t.segment ≡ s.segment →
     ((past : List Heard) → IsCollected past s.collect → current past ≡ s.entitled.period →
     IsComplete past part head t.collect) →
     (past : List Heard) → IsListenerAfter card past s → is_closed past ≡ false →
     IsListenerAtMessage card past part head t
-message_heard card tuning n part head s t entitled segment written complete = λ past follows unclosed. record {
-  unclosed = unclosed;
-  entitled = subst (λ (e : Entitled). IsEntitled card past e) (sym entitled) follows.entitled;
-  collect = complete past follows.collect (sym follows.entitled.period);
-  segment = segment ∙ follows.segment;
-}
+message_heard card tuning n part head s t closed entitled segment complete = λ past follows unclosed.
+    let done = complete past follows.collect (sym follows.entitled.period) in
+    record {
+      unclosed = unclosed;
+      follows = part_left card past s t closed entitled segment done.before follows;
+      collect = done;
+    }
 
 -- nothing was heard
 pub follows_none : (card : CardFields) (t : Listener) → t.closed ≡ false → IsEntitled card [] t.entitled →

@@ -1,12 +1,12 @@
 -- What a message that is complete comes to.
 use Rattle.std.proofs.Common.{◌≡◌, ◌⊎◌, inl, inr, ℕ, ◌+◌, ◌≤◌, List, [], ◌∷◌, length, refl, sym, ap, ◌∙◌, subst, arith}
-use Rattle.std.specs.Prelude.{Option, Some, None, max, option_map, Result, Ok, Err}
+use Rattle.std.specs.Prelude.{Option, Some, None, option_map, Result, Ok, Err}
 use Rattle.std.specs.List.{concat}
 use Rattle.std.specs.Option.{option_map_or}
 use Rattle.std.specs.Result.{MatchResult}
 use Rattle.sd_base.specs.Count.{with_added, IsCaused}
 use Rattle.sd_site.specs.CardFields.{CardFields}
-use Rattle.sd_message.specs.EcmParts.{Message, message_of}
+use Rattle.sd_message.specs.EcmParts.{message_of}
 use Rattle.sd_message.specs.declared.ecm_part.EcmPart.{EcmPart}
 use Rattle.sd_message.specs.declared.ecm_message.EcmHead.{EcmHead}
 use Rattle.sd_engine.specs.Stage.{SinkState, IsCutShort, TookBytes}
@@ -14,12 +14,11 @@ use Rattle.sd_message.specs.declared.stream_fault.StreamFault.{StreamFault}
 use Rattle.sd_message.specs.declared.stream_fault.StreamFault.TheVariants as Fault
 use Rattle.sd_psi.specs.declared.our_cat.Tuning.{Tuning}
 use Rattle.sd_spec.specs.Heard.{Heard, Controls}
-use Rattle.sd_spec.specs.Stretches.{newest, completes, current}
+use Rattle.sd_spec.specs.Stretches.{newest, completes}
 use Rattle.sd_spec.specs.Keys.{key_at}
 use Rattle.sd_spec.specs.Confirmed.{Wrote}
 use Rattle.sd_spec.specs.Offered.{Offering, word_fault, wrote_or, heard_offering}
-use Rattle.sd_receive.specs.Entitled.{IsEntitled}
-use Rattle.sd_receive.specs.declared.entitled.Entitled.{Entitled}
+use Rattle.sd_receive.specs.Entitled.{IsEntitled, key_kept}
 use Rattle.sd_receive.specs.Collected.{IsCollected}
 use Rattle.sd_receive.specs.Holding.{Holding, after_message}
 use Rattle.sd_receive.specs.Held.{word_under, holding_after, pair_wrote}
@@ -28,53 +27,43 @@ use Rattle.sd_receive.specs.Listening.{TookSome, StopsAtOffering, TakesMessage}
 use Rattle.sd_receive.specs.Listening.{RefusesMessage}
 use Rattle.sd_receive.specs.declared.listener.Listener.{Listener}
 use Rattle.sd_receive.proofs.Stretching.{closes}
-use Rattle.sd_receive.proofs.Holding.{held_begun, same_key, wrote_is}
+use Rattle.sd_receive.proofs.Judging.{kept_is}
+use Rattle.sd_receive.proofs.Holding.{held_begun, wrote_is}
 use Rattle.sd_receive.proofs.Offering.{part_completes, not_past}
 
 -- the message is of no past period
 pub in_turn : (card : CardFields) (past : List Heard) (part : EcmPart) (head : EcmHead) (state : Listener) →
     IsListenerAtMessage card past part head state → state.entitled.period ≤ head.period
 in_turn card past part head state done =
-    let now = not_past past part (message_of head state.collect.run.places.items) done.collect.fault
+    let now = not_past past part (message_of head state.collect.coming.places.items) done.collect.fault
     done.collect.complete in
-    omega (arith, now, done.entitled.period)
+    omega (arith, now, done.follows.entitled.period)
 
--- the key that is kept is that of the message's period
-max_right : (a b : ℕ) → b ≤ a → max a b ≡ a
-max_right a b h = omega (arith, h)
-
-current_is : (past : List Heard) (part : EcmPart) (message : Message) → completes past (Controls part) ≡ Some message →
-    current past ≤ message.period → current (Controls part ∷ past) ≡ message.period
-unfolding current
-current_is past part message done high =
-    ap (λ (m : Option Message). max (option_map_or (λ (b : Message). b.period) m 0) (current past)) done
-    ∙ max_right message.period (current past) high
-
-pub key_now : (card : CardFields) (past : List Heard) (part : EcmPart) (message : Message) (state : Entitled) →
-    completes past (Controls part) ≡ Some message → current past ≤ message.period →
-    IsEntitled card (Controls part ∷ past) state → state.key ≡ key_at card past message.period
-key_now card past part message state done high entitled =
-    entitled.key
-    ∙ (ap (λ (q : ℕ). key_at card (Controls part ∷ past) q) (current_is past part message done high)
-    ∙ same_key card past part message.period)
+-- the key that is known is that of the message's period
+pub key_ahead : (card : CardFields) (past : List Heard) (part : EcmPart) (head : EcmHead) (state : Listener) →
+    IsListenerAtMessage card past part head state → key_kept state.entitled head.period ≡ key_at card past head.period
+key_ahead card past part head state done =
+    kept_is card past state.entitled done.follows.entitled head.period
+    (not_past past part (message_of head state.collect.coming.places.items) done.collect.fault done.collect.complete)
 
 -- what the part offers, by what is kept
 pub offering_is : (card : CardFields) (tuning : Tuning) (n : ℕ) (past : List Heard) (part : EcmPart) (head : EcmHead)
     (state : Listener) →
     IsListenerAtMessage card past part head state → heard_offering card tuning n past (Controls part)
     ≡ wrote_or (pair_wrote state.collect.last state.segment head.since card.ca tuning.ecm
-    state.collect.run.places.items)
-    (word_fault n (message_of head state.collect.run.places.items) (key_at card past head.period))
+    state.collect.coming.places.items)
+    (word_fault n (message_of head state.collect.coming.places.items) (key_at card past head.period))
 unfolding holding_after
 offering_is card tuning n past part head state done =
-    let message = message_of head state.collect.run.places.items in
+    let message = message_of head state.collect.coming.places.items in
     let fault = word_fault n message (key_at card past head.period) in
     part_completes card tuning n past part message done.collect.fault done.collect.complete
     ∙ ap (λ (w : Wrote). wrote_or w fault)
-    (wrote_is card tuning (newest past) state.collect.last state.collect.places.items message done.collect.last.says
+    (wrote_is card tuning (newest past) state.collect.last state.collect.places.items message
+    done.follows.collect.last.says
     ∙ ap (λ (held : Option Holding). pair_wrote state.collect.last held head.since card.ca tuning.ecm
-    state.collect.run.places.items)
-    (sym done.segment))
+    state.collect.coming.places.items)
+    (sym done.follows.segment))
 
 -- what the message offers where a held packet is refused, where its word is, and where nothing is
 pub refuses_parity : (offering : Offering) (wrote : Wrote) (fault : Option StreamFault) (k : ℕ) (bytes : List ℕ) →
@@ -117,11 +106,11 @@ pub renewed : (card : CardFields) (past : List Heard) (part : EcmPart) (head : E
     IsListenerAtMessage card past part head s → IsEntitled card (Controls part ∷ past) t.entitled →
     IsCollected (Controls part ∷ past) t.collect →
     key ≡ key_at card past head.period →
-    t.segment ≡ option_map (λ w. after_message (message_of head s.collect.run.places.items) w [])
-    (word_under (message_of head s.collect.run.places.items) key) →
+    t.segment ≡ option_map (λ w. after_message (message_of head s.collect.coming.places.items) w [])
+    (word_under (message_of head s.collect.coming.places.items) key) →
     t.closed ≡ head.closing → IsListenerAfter card (Controls part ∷ past) t
 renewed card past part head s t key done entitled collects is segment closed =
-    let message = message_of head s.collect.run.places.items in
+    let message = message_of head s.collect.coming.places.items in
     record {
       closed = closed ∙ sym (closes past (Controls part) message done.unclosed done.collect.complete);
       entitled = entitled;
@@ -161,15 +150,15 @@ counted_follows card past t n follows = record {
 abbrev pub Begins : CardFields → ℕ → EcmHead → Listener → Listener → Result (Unit {0}) StreamFault → Type 0
 Begins card n head s t result = (past : List Heard) (part : EcmPart) → IsListenerAtMessage card past part head s →
     MatchResult result
-    (λ _. (word_fault n (message_of head s.collect.run.places.items) (key_at card past head.period) ≡ None)
+    (λ _. (word_fault n (message_of head s.collect.coming.places.items) (key_at card past head.period) ≡ None)
     × IsListenerAfter card (Controls part ∷ past) t)
-    (λ fault. word_fault n (message_of head s.collect.run.places.items) (key_at card past head.period) ≡ Some fault)
+    (λ fault. word_fault n (message_of head s.collect.coming.places.items) (key_at card past head.period) ≡ Some fault)
 
 -- all bytes that the message may write are of what it comes to
 allowed : (card : CardFields) (tuning : Tuning) (n : ℕ) (head : EcmHead) (s t : Listener) (wrote : Wrote)
     (refused : Option ℕ)
     (result : Result (Unit {0}) StreamFault) (bytes : List ℕ) →
-    wrote ≡ pair_wrote s.collect.last s.segment head.since card.ca tuning.ecm s.collect.run.places.items →
+    wrote ≡ pair_wrote s.collect.last s.segment head.since card.ca tuning.ecm s.collect.coming.places.items →
     wrote.refused ≡ refused →
     Begins card n head s t result → bytes ≡ concat wrote.packets →
     ((x : Listener) × TakesMessage card tuning n head s x bytes) ⊎
@@ -179,9 +168,9 @@ allowed card tuning n head s t wrote (Some k) result bytes is told begins writte
       Fault.Parity k,
       λ past part done.
           refuses_parity (heard_offering card tuning n past (Controls part)) wrote
-          (word_fault n (message_of head s.collect.run.places.items) (key_at card past head.period)) k bytes
+          (word_fault n (message_of head s.collect.coming.places.items) (key_at card past head.period)) k bytes
           (offering_is card tuning n past part head s done
-          ∙ ap (λ (w : Wrote). wrote_or w (word_fault n (message_of head s.collect.run.places.items)
+          ∙ ap (λ (w : Wrote). wrote_or w (word_fault n (message_of head s.collect.coming.places.items)
           (key_at card past head.period))) (sym is))
           told written,
     )
@@ -190,9 +179,9 @@ allowed card tuning n head s t wrote None (Err fault) bytes is told begins writt
       fault,
       λ past part done.
           refuses_word (heard_offering card tuning n past (Controls part)) wrote
-          (word_fault n (message_of head s.collect.run.places.items) (key_at card past head.period)) fault bytes
+          (word_fault n (message_of head s.collect.coming.places.items) (key_at card past head.period)) fault bytes
           (offering_is card tuning n past part head s done
-          ∙ ap (λ (w : Wrote). wrote_or w (word_fault n (message_of head s.collect.run.places.items)
+          ∙ ap (λ (w : Wrote). wrote_or w (word_fault n (message_of head s.collect.coming.places.items)
           (key_at card past head.period))) (sym is))
           told (begins past part done) written,
     )
@@ -201,10 +190,10 @@ allowed card tuning n head s t wrote None (Ok done) bytes is told begins written
       counting t (with_added s.written (length wrote.packets)),
       λ past part completes. (
         passes_all (heard_offering card tuning n past (Controls part)) wrote
-            (word_fault n (message_of head s.collect.run.places.items) (key_at card past head.period)) s.written
+            (word_fault n (message_of head s.collect.coming.places.items) (key_at card past head.period)) s.written
             (counting t (with_added s.written (length wrote.packets))).written bytes
             (offering_is card tuning n past part head s completes
-            ∙ ap (λ (w : Wrote). wrote_or w (word_fault n (message_of head s.collect.run.places.items)
+            ∙ ap (λ (w : Wrote). wrote_or w (word_fault n (message_of head s.collect.coming.places.items)
             (key_at card past head.period))) (sym is))
             told (begins past part completes).0 written
             (λ total h. counting_is t (with_added s.written (length wrote.packets)) ∙
@@ -217,7 +206,7 @@ allowed card tuning n head s t wrote None (Ok done) bytes is told begins written
 -- a write that failed amid them
 pub cut_message : (card : CardFields) (tuning : Tuning) (n : ℕ) (head : EcmHead) (s t : Listener) (wrote : Wrote)
     (result : Result (Unit {0}) StreamFault) (u v : SinkState) →
-    wrote ≡ pair_wrote s.collect.last s.segment head.since card.ca tuning.ecm s.collect.run.places.items →
+    wrote ≡ pair_wrote s.collect.last s.segment head.since card.ca tuning.ecm s.collect.coming.places.items →
     Begins card n head s t result → IsCutShort u v (λ bytes. bytes ≡ concat wrote.packets) →
     IsCutShort u v (λ bytes. ((x : Listener) × TakesMessage card tuning n head s x bytes)
     ⊎ ((fault : StreamFault) × RefusesMessage card tuning n head s fault bytes))
@@ -233,17 +222,17 @@ cut_message card tuning n head s t wrote result u v is begins cut = record {
 -- what the message comes to where a held packet is refused, where its word is, and where nothing is
 pub parity_message : (card : CardFields) (tuning : Tuning) (n : ℕ) (head : EcmHead) (s : Listener) (wrote : Wrote)
     (k : ℕ) (u v : SinkState) →
-    wrote ≡ pair_wrote s.collect.last s.segment head.since card.ca tuning.ecm s.collect.run.places.items →
+    wrote ≡ pair_wrote s.collect.last s.segment head.since card.ca tuning.ecm s.collect.coming.places.items →
     (wrote.refused ≡ Some k) × TookBytes u v (concat wrote.packets) →
     TookSome u v (RefusesMessage card tuning n head s (Fault.Parity k))
 parity_message card tuning n head s wrote k u v is told = record {
   bytes = concat wrote.packets;
   says = λ past part done.
       refuses_parity (heard_offering card tuning n past (Controls part)) wrote
-      (word_fault n (message_of head s.collect.run.places.items) (key_at card past head.period)) k
+      (word_fault n (message_of head s.collect.coming.places.items) (key_at card past head.period)) k
       (concat wrote.packets)
       (offering_is card tuning n past part head s done
-      ∙ ap (λ (w : Wrote). wrote_or w (word_fault n (message_of head s.collect.run.places.items)
+      ∙ ap (λ (w : Wrote). wrote_or w (word_fault n (message_of head s.collect.coming.places.items)
       (key_at card past head.period))) (sym is))
       told.0 refl;
   took = told.1;
@@ -252,17 +241,17 @@ parity_message card tuning n head s wrote k u v is told = record {
 pub word_message : (card : CardFields) (tuning : Tuning) (n : ℕ) (head : EcmHead) (s t : Listener) (wrote : Wrote)
     (fault : StreamFault)
     (count : ℕ) (u v : SinkState) →
-    wrote ≡ pair_wrote s.collect.last s.segment head.since card.ca tuning.ecm s.collect.run.places.items →
+    wrote ≡ pair_wrote s.collect.last s.segment head.since card.ca tuning.ecm s.collect.coming.places.items →
     (wrote.refused ≡ None) × (count ≡ length wrote.packets) × TookBytes u v (concat wrote.packets) →
     Begins card n head s t (Err fault) → TookSome u v (RefusesMessage card tuning n head s fault)
 word_message card tuning n head s t wrote fault count u v is told begins = record {
   bytes = concat wrote.packets;
   says = λ past part done.
       refuses_word (heard_offering card tuning n past (Controls part)) wrote
-      (word_fault n (message_of head s.collect.run.places.items) (key_at card past head.period)) fault
+      (word_fault n (message_of head s.collect.coming.places.items) (key_at card past head.period)) fault
       (concat wrote.packets)
       (offering_is card tuning n past part head s done
-      ∙ ap (λ (w : Wrote). wrote_or w (word_fault n (message_of head s.collect.run.places.items)
+      ∙ ap (λ (w : Wrote). wrote_or w (word_fault n (message_of head s.collect.coming.places.items)
       (key_at card past head.period))) (sym is))
       told.0 (begins past part done) refl;
   took = told.2;
@@ -270,7 +259,7 @@ word_message card tuning n head s t wrote fault count u v is told begins = recor
 
 pub taken_message : (card : CardFields) (tuning : Tuning) (n : ℕ) (head : EcmHead) (s t x : Listener) (wrote : Wrote)
     (count : ℕ) (u v : SinkState) →
-    wrote ≡ pair_wrote s.collect.last s.segment head.since card.ca tuning.ecm s.collect.run.places.items →
+    wrote ≡ pair_wrote s.collect.last s.segment head.since card.ca tuning.ecm s.collect.coming.places.items →
     (wrote.refused ≡ None) × (count ≡ length wrote.packets) × TookBytes u v (concat wrote.packets) →
     Begins card n head s t (Ok tt) → x ≡ counting t (with_added s.written count) →
     TookSome u v (TakesMessage card tuning n head s x)
@@ -278,10 +267,10 @@ taken_message card tuning n head s t x wrote count u v is told begins same = rec
   bytes = concat wrote.packets;
   says = λ past part done. (
     passes_all (heard_offering card tuning n past (Controls part)) wrote
-        (word_fault n (message_of head s.collect.run.places.items) (key_at card past head.period)) s.written x.written
-        (concat wrote.packets)
+        (word_fault n (message_of head s.collect.coming.places.items) (key_at card past head.period)) s.written
+        x.written (concat wrote.packets)
         (offering_is card tuning n past part head s done
-        ∙ ap (λ (w : Wrote). wrote_or w (word_fault n (message_of head s.collect.run.places.items)
+        ∙ ap (λ (w : Wrote). wrote_or w (word_fault n (message_of head s.collect.coming.places.items)
         (key_at card past head.period))) (sym is))
         told.0 (begins past part done).0 refl
         (λ total h. ap (λ (l : Listener). l.written) same ∙ (counting_is t (with_added s.written count)

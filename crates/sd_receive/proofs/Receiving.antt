@@ -1,11 +1,11 @@
 -- What a packet comes to for the receiver.
 use Rattle.std.proofs.Common.{◌≡◌, inl, inr, ℕ, suc, ◌+◌, ◌-◌, ◌<◌, ◌≤◌, ◌++◌, List, [], ◌∷◌, length}
 use Rattle.std.proofs.Common.{append-nil, refl, sym, ap, ◌∙◌, subst, true, false, Bool, arith}
-use Rattle.std.specs.Prelude.{◌==◌, ◌&&◌, is_none, find, Option, Some, None, option_map, IfSome, OnOk, IsErrOf}
+use Rattle.std.specs.Prelude.{◌==◌, ◌&&◌, is_none, not, find, Option, Some, None, option_map, IfSome, OnOk, IsErrOf}
 use Rattle.std.specs.Prelude.{reverse, Result, Ok, Err, if◌then◌else◌}
 use Rattle.std.specs.List.{concat}
 use Rattle.std.specs.Option.{option_or}
-use Rattle.std.proofs.lemmas.Bool.{true≢false}
+use Rattle.std.proofs.lemmas.Bool.{cases_Bool, le-ltb, true≢false}
 use Rattle.std.proofs.lemmas.List.{reverse-append, reverse-reverse}
 use Rattle.sd_base.proofs.Bools.{tested}
 use Rattle.sd_site.specs.declared.card.Card.{Card}
@@ -23,16 +23,30 @@ use Rattle.sd_psi.specs.Forms.{cat_fault, section_in}
 use Rattle.sd_spec.specs.Tuned.{tuned_by, tuning_of}
 use Rattle.sd_psi.specs.OurCat.{tuning_in, is_for, cat_tuning}
 use Rattle.sd_psi.specs.declared.our_cat.Tuning.{Tuning}
-use Rattle.sd_spec.specs.Heard.{Heard, hears}
+use Rattle.sd_message.specs.EcmForm.{IsEcm}
+use Rattle.sd_message.specs.EcmParts.{Message}
+use Rattle.sd_message.specs.declared.ecm_part.EcmPart.{EcmPart}
+use Rattle.sd_message.specs.declared.ecm_fault.EcmFault.{EcmFault}
+use Rattle.sd_spec.specs.Heard.{Heard, Controls, hears}
 use Rattle.sd_spec.specs.declared.ending.Ending.{Ending}
 use Rattle.sd_spec.specs.declared.ending.Ending.TheVariants.{Opened}
-use Rattle.sd_spec.specs.Stretches.{is_closed}
+use Rattle.sd_spec.specs.Stretches.{is_closed, current, seen, newest, completes, run_to, run_of}
+use Rattle.sd_spec.specs.Stretches.{counted as counted_of}
+use Rattle.sd_spec.specs.Keys.{key_in}
 use Rattle.sd_spec.specs.Runs.{run_name_heard, name_in, are_two, is_turn, of_run}
-use Rattle.sd_spec.specs.Offered.{Offering, no_offering, heard, offered, heard_offering, break_from}
+use Rattle.sd_spec.specs.Offered.{Offering, no_offering, refuses, heard, offered, heard_offering, break_from}
+use Rattle.sd_spec.specs.Offered.{part_offering, part_fault, message_offering, is_back}
+use Rattle.sd_spec.proofs.Hearing.{no_fault_in_none}
 use Rattle.sd_spec.specs.Ending.{run_ending, joined, turns_at, run_wrote, ended_before}
 use Rattle.sd_spec.proofs.Runs.{same_run, new_run, never_turns, ended_on, ended_now}
-use Rattle.sd_receive.specs.Listening.{IsListenerAfter, capped, TakesHeard, RefusesHeard, PacketOutcome}
-use Rattle.sd_receive.specs.Receiving.{card_in, with_run, IsAfter, TurnsBy, takes_key_of, takes_key_at, steps_at}
+use Rattle.sd_receive.specs.Ears.{heard_as, IsFormed}
+use Rattle.sd_receive.specs.declared.ears.Heard.{Heard as Kept}
+use Rattle.sd_receive.specs.declared.ears.Heard.TheVariants as Kinds
+use Rattle.sd_receive.specs.Gathered.{places_of}
+use Rattle.sd_receive.proofs.Gathering.{few_listed, none_wrong}
+use Rattle.sd_receive.specs.Listening.{IsListenerAfter, capped, heard_of_run, IsJudgedAs, Judgement, TakesHeard}
+use Rattle.sd_receive.specs.Listening.{RefusesHeard, IsStill, PacketOutcome}
+use Rattle.sd_receive.specs.Receiving.{card_in, IsAfter, TurnsBy, takes_key_of, takes_key_at, steps_at}
 use Rattle.sd_receive.specs.Receiving.{TakesPacket, receiver_does, Refusing, IsFit}
 use Rattle.sd_receive.specs.declared.listener.Listener.{Listener}
 use Rattle.sd_receive.specs.declared.receiver.Receiver.{Receiver}
@@ -51,14 +65,15 @@ counted s count tuning = record {
   refusal = s.refusal;
 }
 
--- the receiver with another name of the run at hand, of which this is kept
-abbrev pub listening : Receiver → Option (Option ℕ) → Listener → Receiver
-listening s name listener = record {
+-- the receiver after one packet more, with another name of the run at hand, of which this is kept, after runs that
+-- ended so
+abbrev pub listening : Receiver → ℕ → Option (Option ℕ) → Ending → Listener → Receiver
+listening s count name so_far listener = record {
   card = s.card;
-  count = s.count;
+  count = count;
   tuning = s.tuning;
   name = name;
-  so_far = s.so_far;
+  so_far = so_far;
   listener = listener;
   refusal = s.refusal;
 }
@@ -140,12 +155,11 @@ abbrev pub thing_of : Receiver → Tuning → List ℕ → Heard
 thing_of s kept packet = hears s.card.height kept s.count packet
 
 -- what is kept of the run that is at hand with a packet, before it
-record Stands (past : List (List ℕ)) (s : Receiver) (packet : List ℕ) (thing : Heard) (count : ℕ) (u : Receiver) :
+record Stands (past : List (List ℕ)) (s : Receiver) (packet : List ℕ) (thing : Heard) (so_far : Ending) (u : Listener) :
     Type 0 where
-  same : u ≡ with_run (counted s count s.tuning) u.so_far u.listener
-  follows : IsListenerAfter (card_in s) (of_run (heard (card_in s) past) thing) u.listener
-  written : u.listener.written ≡ capped (wrote_before (card_in s) past packet)
-  so_far : u.so_far ≡ ended_before (card_in s) (packet ∷ past)
+  follows : IsListenerAfter (card_in s) (of_run (heard (card_in s) past) thing) u
+  written : u.written ≡ capped (wrote_before (card_in s) past packet)
+  so_far_is : so_far ≡ ended_before (card_in s) (packet ∷ past)
 
 -- whether the packet ends the run at hand
 ends_run : (past : List (List ℕ)) (s : Receiver) (packet : List ℕ) (kept : Tuning) → IsAfter past s →
@@ -163,11 +177,11 @@ is_ended : (past : List (List ℕ)) (s : Receiver) (thing : Heard) → IsAfter p
 unfolding is_turn
 is_ended past s thing after = ap (λ (name : Option (Option ℕ)). are_two name (run_name_heard thing)) (sym after.name)
 
-stands : (past : List (List ℕ)) (s : Receiver) (packet : List ℕ) (kept : Tuning) (count : ℕ) (u : Receiver) →
-    IsAfter past s →
-    s.tuning ≡ Some kept → TurnsBy (run_name_heard (thing_of s kept packet)) (counted s count s.tuning) u →
-    Stands past s packet (thing_of s kept packet) count u
-stands past s packet kept count u after some turned =
+stands : (past : List (List ℕ)) (s : Receiver) (packet : List ℕ) (kept : Tuning) (so_far : Ending) (u : Listener) →
+    IsAfter past s → s.tuning ≡ Some kept →
+    TurnsBy (are_two s.name (run_name_heard (thing_of s kept packet))) s.so_far s.listener u so_far →
+    Stands past s packet (thing_of s kept packet) so_far u
+stands past s packet kept so_far u after some turned =
     let card = card_in s in
     let thing = thing_of s kept packet in
     let ends = ends_run past s packet kept after some in
@@ -177,27 +191,23 @@ stands past s packet kept count u after some turned =
     let now = turned.1 two in
     let turns = ends ∙ two in
     record {
-      same = now.same;
-      follows = subst (λ (h : List Heard). IsListenerAfter card h u.listener)
+      follows = subst (λ (h : List Heard). IsListenerAfter card h u)
           (sym (new_run (heard card past) thing (ends_too ∙ two)))
-          (now.follows (heard card past) after.follows);
+          (now.follows card (heard card past) after.follows);
       written = now.written ∙ sym (rw turns refl);
-      so_far = now.so_far (heard card past) (run_wrote card past) after.follows after.written
+      so_far_is = now.ends card (heard card past) (run_wrote card past) after.follows after.written
           ∙ (ap (λ (e : Ending). joined e (run_ending card (heard card past) (run_wrote card past))) after.so_far
           ∙ sym (ended_now card past packet turns));
     })
     (λ one.
     let is = turned.0 one in
     let stays = ends ∙ one in
-    let listener : u.listener ≡ s.listener = ap (λ (r : Receiver). r.listener) is in
     record {
-      same = is ∙ (subst (λ (r : Receiver).
-          counted s count s.tuning ≡ with_run (counted s count s.tuning) r.so_far r.listener) (sym is) refl);
-      follows = subst (λ (l : Listener). IsListenerAfter card (of_run (heard card past) thing) l) (sym listener)
+      follows = subst (λ (l : Listener). IsListenerAfter card (of_run (heard card past) thing) l) (sym is.0)
           (subst (λ (h : List Heard). IsListenerAfter card h s.listener)
           (sym (same_run (heard card past) thing (ends_too ∙ one))) after.follows);
-      written = ap (λ (l : Listener). l.written) listener ∙ (after.written ∙ sym (rw stays refl));
-      so_far = ap (λ (r : Receiver). r.so_far) is ∙ (after.so_far ∙ sym (ended_on card past packet stays));
+      written = ap (λ (l : Listener). l.written) is.0 ∙ (after.written ∙ sym (rw stays refl));
+      so_far_is = is.1 ∙ (after.so_far ∙ sym (ended_on card past packet stays));
     })
 
 -- nothing that was heard is closed
@@ -206,25 +216,22 @@ unfolding is_closed
 none_closed = refl
 
 -- a packet after the closing message of its run
-pub idle_closed : (s : Receiver) (packet : List ℕ) (kept : Tuning) (count : ℕ) (u : Receiver) → s.tuning ≡ Some kept →
-    TurnsBy (run_name_heard (thing_of s kept packet)) (counted s count s.tuning) u → u.listener.closed ≡ true →
-    count ≡ capped (s.count + 1) → receiver_does s packet u [] 0
-idle_closed s packet kept count u some turned closed added = λ past after countable.
+pub idle_closed : (s : Receiver) (packet : List ℕ) (kept : Tuning) (count : ℕ) → s.tuning ≡ Some kept →
+    are_two s.name (run_name_heard (thing_of s kept packet)) ≡ false → s.listener.closed ≡ true →
+    count ≡ capped (s.count + 1) → receiver_does s packet (counted s count s.tuning) [] 0
+idle_closed s packet kept count some one closed added = λ past after countable.
     let card = card_in s in
     let thing = thing_of s kept packet in
-    let stood = stands past s packet kept count u after some turned in
     let told : tuning_of s.card.ca past ≡ Some kept = sym after.tuning ∙ some in
-    let shut : is_closed (of_run (heard card past) thing) ≡ true = sym stood.follows.closed ∙ closed in
+    let shut : is_closed (of_run (heard card past) thing) ≡ true =
+    ap is_closed (same_run (heard card past) thing (is_ended past s thing after ∙ one))
+    ∙ (sym after.follows.closed ∙ closed) in
     let shut_too = subst (λ (n : ℕ).
     is_closed (of_run (heard card past) (hears s.card.height kept n packet)) ≡ true) after.count shut in
     let rests = was_closed card past packet kept told shut_too in
-    tested (are_two s.name (run_name_heard thing))
-    (λ two. absurd (true≢false (sym shut ∙ (ap is_closed (new_run (heard card past) thing
-    (is_ended past s thing after ∙ two)) ∙ none_closed))))
-    (λ one. subst (λ (r : Receiver). TakesPacket past s packet r [] 0) (sym (turned.0 one))
-    (idle past s packet s.tuning count after rests.0 rests.1 (ends_run past s packet kept after some ∙ one)
+    idle past s packet s.tuning count after rests.0 rests.1 (ends_run past s packet kept after some ∙ one)
     (omega (arith, added, after.count, countable))
-    (kept_tuning s.card.ca past packet s.tuning kept some after.tuning)))
+    (kept_tuning s.card.ca past packet s.tuning kept some after.tuning)
 
 -- how many steps a packet takes that is heard
 pub heard_steps : (card : CardFields) (past : List (List ℕ)) (packet : List ℕ) (tuning : Tuning) →
@@ -236,10 +243,38 @@ pub heard_steps : (card : CardFields) (past : List (List ℕ)) (packet : List �
 unfolding takes_key_at
 heard_steps card past packet tuning is unclosed = rw (is, unclosed) refl
 
--- the steps that a packet took at most
-abbrev pub TakesFew : CardFields → Listener → Heard → ℕ → ℕ → Type 0
-TakesFew card listener thing from to = (past : List Heard) → IsListenerAfter card past listener →
-    to ≤ from + (if takes_key_of card past thing then card.height else 0)
+-- what was found of a packet before anything was changed: whether it begins a run, the key that it gives, and the
+-- steps that this took
+pub record Found (s : Receiver) (packet : List ℕ) (kept : Tuning) (begins : Bool) (from to : ℕ) : Type 0 where
+  pub tuned : s.tuning ≡ Some kept
+  pub begins_is : begins ≡ are_two s.name (run_name_heard (thing_of s kept packet))
+  pub goes_on : (s.listener.closed && not begins) ≡ false
+  pub few : (past : List Heard) → IsListenerAfter (card_in s) past s.listener →
+      to ≤ from + (if takes_key_of (card_in s) (heard_of_run begins past) (thing_of s kept packet) then s.card.height
+      else 0)
+
+-- what was heard of the run at hand with a packet
+run_heard : (past : List (List ℕ)) (s : Receiver) (packet : List ℕ) (kept : Tuning) (begins : Bool) →
+    IsAfter past s → begins ≡ are_two s.name (run_name_heard (thing_of s kept packet)) →
+    of_run (heard (card_in s) past) (thing_of s kept packet) ≡ heard_of_run begins (heard (card_in s) past)
+unfolding of_run
+run_heard past s packet kept begins after is =
+    ap (λ (b : Bool). heard_of_run b (heard (card_in s) past))
+    (is_ended past s (thing_of s kept packet) after ∙ sym is)
+
+-- it isn't closed
+open_of : (closed begins : Bool) (past : List Heard) → closed ≡ is_closed past → (closed && not begins) ≡ false →
+    is_closed (heard_of_run begins past) ≡ false
+open_of closed true past is on = none_closed
+open_of true false past is on = absurd (true≢false on)
+open_of false false past is on = sym is
+
+run_open : (past : List (List ℕ)) (s : Receiver) (packet : List ℕ) (kept : Tuning) (begins : Bool) (from to : ℕ) →
+    IsAfter past s → Found s packet kept begins from to →
+    is_closed (of_run (heard (card_in s) past) (thing_of s kept packet)) ≡ false
+run_open past s packet kept begins from to after found =
+    ap is_closed (run_heard past s packet kept begins after found.begins_is)
+    ∙ open_of s.listener.closed begins (heard (card_in s) past) after.follows.closed found.goes_on
 
 -- what is known of a packet that is heard before the closing message of its run
 record Hears (past : List (List ℕ)) (s : Receiver) (packet : List ℕ) (kept : Tuning) : Type 0 where
@@ -268,92 +303,143 @@ was_known past s packet kept after some unclosed =
           (of_run (heard card past) (thing_at n)) (thing_at n) then s.card.height else 0) back;
     }
 
+-- how many steps were taken, by what is kept
+steps_known : (past : List (List ℕ)) (s : Receiver) (packet : List ℕ) (kept : Tuning) (begins : Bool) (from to : ℕ) →
+    IsAfter past s → Found s packet kept begins from to → to - from ≤ steps_at (card_in s) past packet
+steps_known past s packet kept begins from to after found =
+    let card = card_in s in
+    let thing = thing_of s kept packet in
+    let known = was_known past s packet kept after found.tuned (run_open past s packet kept begins from to after found)
+    in
+    let steps = subst (λ (run : List Heard).
+    to ≤ from + (if takes_key_of card run thing then s.card.height else 0))
+    (sym (run_heard past s packet kept begins after found.begins_is)) (found.few (heard card past) after.follows) in
+    omega (arith, steps, known.few)
+
 -- a packet that is heard and taken
-pub heard_does : (s : Receiver) (packet : List ℕ) (kept : Tuning) (count : ℕ) (u : Receiver)
-    (name : Option (Option ℕ)) (t : Listener) (bytes : List ℕ) (from to : ℕ) →
-    s.tuning ≡ Some kept → TurnsBy (run_name_heard (thing_of s kept packet)) (counted s count s.tuning) u →
-    u.listener.closed ≡ false → count ≡ capped (s.count + 1) →
+pub heard_does : (s : Receiver) (packet : List ℕ) (kept : Tuning) (begins : Bool) (key : Option (List ℕ)) (count : ℕ)
+    (name : Option (Option ℕ)) (so_far : Ending) (u t : Listener) (bytes : List ℕ) (from to : ℕ) →
+    Found s packet kept begins from to → TurnsBy begins s.so_far s.listener u so_far →
+    ((past : List Heard) → IsListenerAfter (card_in s) past s.listener →
+    IsJudgedAs (card_in s) s.count (heard_of_run begins past) (thing_of s kept packet) key) →
+    count ≡ capped (s.count + 1) →
     name ≡ option_or (run_name_heard (thing_of s kept packet)) s.name →
-    TakesFew (card_in s) u.listener (thing_of s kept packet) from to →
-    TakesHeard (card_in s) kept s.count (thing_of s kept packet) u.listener t bytes →
-    receiver_does s packet (listening u name t) bytes (to - from)
-heard_does s packet kept count u name t bytes from to some turned unclosed added named few takes =
+    TakesHeard (card_in s) kept s.count (thing_of s kept packet) key u t bytes →
+    receiver_does s packet (listening s count name so_far t) bytes (to - from)
+heard_does s packet kept begins key count name so_far u t bytes from to found turned judged added named takes =
     λ past after countable.
     let card = card_in s in
     let thing = thing_of s kept packet in
-    let run = of_run (heard card past) thing in
-    let stood = stands past s packet kept count u after some turned in
-    let open_yet : is_closed run ≡ false = sym stood.follows.closed ∙ unclosed in
-    let known = was_known past s packet kept after some open_yet in
-    let taken = takes run stood.follows open_yet in
+    let run_is = run_heard past s packet kept begins after found.begins_is in
+    let stood = stands past s packet kept so_far u after found.tuned
+    (subst (λ (b : Bool). TurnsBy b s.so_far s.listener u so_far) found.begins_is turned) in
+    let open_yet = run_open past s packet kept begins from to after found in
+    let known = was_known past s packet kept after found.tuned open_yet in
+    let taken = takes (of_run (heard card past) thing) stood.follows open_yet
+    (subst (λ (run : List Heard). IsJudgedAs card s.count run thing key) (sym run_is)
+    (judged (heard card past) after.follows)) in
     let good = ap (λ (o : Offering). o.fault) known.offers ∙ taken.0.fault in
-    let steps = few run stood.follows in
+    let steps = steps_known past s packet kept begins from to after found in
     let wrote : t.written ≡ capped (run_wrote card (packet ∷ past)) =
     taken.0.counted (wrote_before card past packet) stood.written
     ∙ ap capped (ap (λ (o : Offering). wrote_before card past packet + length o.wrote) (sym known.offers)
     ∙ sym (wrote_now card past packet)) in
-    subst (λ (r : Receiver). TakesPacket past s packet (listening r name t) bytes (to - from)) (sym stood.same)
-    (record {
+    record {
       fault = good;
       bytes_are = taken.0.bytes_are ∙ ap (λ (o : Offering). concat o.wrote) (sym known.offers);
-      few = omega (arith, steps, known.few);
+      few = steps;
       after = record {
         count = omega (arith, added, after.count, countable, plus_one (length past));
-        tuning = kept_tuning s.card.ca past packet s.tuning kept some after.tuning;
+        tuning = kept_tuning s.card.ca past packet s.tuning kept found.tuned after.tuning;
         name = named ∙ (ap (option_or (run_name_heard thing)) after.name
             ∙ (name_now (heard card past) thing (run_name_heard thing) refl ∙ ap name_in (sym known.hearing)));
-        so_far = stood.so_far;
+        so_far = stood.so_far_is;
         follows = subst (λ (h : List Heard). IsListenerAfter card h t) (sym known.hearing) taken.1;
         written = wrote;
         unbroken = unbroken_more card past packet after.unbroken good;
         unrefused = after.unrefused;
       };
       same = refl;
-    })
+    }
 
--- and one that is refused
-pub heard_refuses : (s : Receiver) (packet : List ℕ) (kept : Tuning) (count : ℕ) (u : Receiver) (why : StreamFault)
-    (bytes : List ℕ) (from to : ℕ) →
-    s.tuning ≡ Some kept → TurnsBy (run_name_heard (thing_of s kept packet)) (counted s count s.tuning) u →
-    u.listener.closed ≡ false →
-    TakesFew (card_in s) u.listener (thing_of s kept packet) from to →
-    RefusesHeard (card_in s) kept s.count (thing_of s kept packet) u.listener why bytes →
+-- and one that is refused: when it is judged, or when it is taken
+pub heard_refuses : (s : Receiver) (packet : List ℕ) (kept : Tuning) (begins : Bool) (so_far : Ending) (u : Listener)
+    (why : StreamFault) (bytes : List ℕ) (from to : ℕ) →
+    Found s packet kept begins from to → TurnsBy begins s.so_far s.listener u so_far →
+    RefusesHeard (card_in s) kept s.count (thing_of s kept packet) u why bytes →
     Refusing s packet why bytes (to - from)
-heard_refuses s packet kept count u why bytes from to some turned unclosed few refuses = λ past after countable.
+heard_refuses s packet kept begins so_far u why bytes from to found turned refuses = λ past after countable.
     let card = card_in s in
     let thing = thing_of s kept packet in
-    let run = of_run (heard card past) thing in
-    let stood = stands past s packet kept count u after some turned in
-    let open_yet : is_closed run ≡ false = sym stood.follows.closed ∙ unclosed in
-    let known = was_known past s packet kept after some open_yet in
-    let stopped = refuses run stood.follows open_yet in
-    let steps = few run stood.follows in
+    let stood = stands past s packet kept so_far u after found.tuned
+    (subst (λ (b : Bool). TurnsBy b s.so_far s.listener u so_far) found.begins_is turned) in
+    let open_yet = run_open past s packet kept begins from to after found in
+    let known = was_known past s packet kept after found.tuned open_yet in
+    let stopped = refuses (of_run (heard card past) thing) stood.follows open_yet in
     record {
       fault = ap (λ (o : Offering). o.fault) known.offers ∙ stopped.fault;
       bytes_are = stopped.bytes_are ∙ ap (λ (o : Offering). concat o.wrote) (sym known.offers);
-      few = omega (arith, steps, known.few);
+      few = steps_known past s packet kept begins from to after found;
     }
 
--- it may be offered a packet still: what is kept is of what was heard of the run at hand
-pub fit_turned : (s : Receiver) (name : Option (Option ℕ)) (u : Receiver) → TurnsBy name s u →
-    (past : List Heard) × IsListenerAfter (card_in s) past s.listener →
-    (past : List Heard) × IsListenerAfter (card_in u) past u.listener
-fit_turned s name u turned (past, follows) =
-    tested (are_two s.name name)
-    (λ two. (
-      [],
-      subst (λ (c : CardFields). IsListenerAfter c [] u.listener)
-          (ap (λ (r : Receiver). card_in r) (sym (turned.1 two).same)) ((turned.1 two).follows past follows),
-    ))
-    (λ one. subst (λ (r : Receiver). (more : List Heard) ×
-    IsListenerAfter (card_in r) more r.listener) (sym (turned.0 one)) (past, follows))
+pub judged_refuses : (s : Receiver) (packet : List ℕ) (kept : Tuning) (begins : Bool) (why : StreamFault)
+    (from to : ℕ) → Found s packet kept begins from to →
+    ((past : List Heard) → IsListenerAfter (card_in s) past s.listener →
+    Judgement (card_in s) s.count (heard_of_run begins past) (thing_of s kept packet) (Err why)) →
+    Refusing s packet why [] (to - from)
+judged_refuses s packet kept begins why from to found judged = λ past after countable.
+    let card = card_in s in
+    let thing = thing_of s kept packet in
+    let run_is = run_heard past s packet kept begins after found.begins_is in
+    let known = was_known past s packet kept after found.tuned (run_open past s packet kept begins from to after found)
+    in
+    let offers : offered card past packet ≡ refuses why = known.offers
+    ∙ (ap (λ (run : List Heard). heard_offering card kept s.count run thing) run_is
+    ∙ judged (heard card past) after.follows kept) in
+    record {
+      fault = ap (λ (o : Offering). o.fault) offers;
+      bytes_are = ap (λ (o : Offering). concat o.wrote) (sym offers);
+      few = steps_known past s packet kept begins from to after found;
+    }
 
--- what a turn leaves as it was
-pub turned_same : (s : Receiver) (name : Option (Option ℕ)) (u : Receiver) → TurnsBy name s u →
-    u ≡ with_run s u.so_far u.listener
-turned_same s name u turned =
-    tested (are_two s.name name) (λ two. (turned.1 two).same)
-    (λ one. turned.0 one ∙ subst (λ (r : Receiver). s ≡ with_run s r.so_far r.listener) (sym (turned.0 one)) refl)
+-- what is kept of the run at hand with a packet is of what was heard of it
+pub turned_follows : (card : CardFields) (begins : Bool) (before so_far : Ending) (l u : Listener) →
+    TurnsBy begins before l u so_far → (past : List Heard) → IsListenerAfter card past l →
+    IsListenerAfter card (heard_of_run begins past) u
+turned_follows card true before so_far l u turned past follows = (turned.1 refl).follows card past follows
+turned_follows card false before so_far l u turned past follows =
+    subst (λ (m : Listener). IsListenerAfter card past m) (sym (turned.0 refl).0) follows
+
+pub turned_open : (card : CardFields) (begins : Bool) (before so_far : Ending) (l u : Listener) →
+    TurnsBy begins before l u so_far → (past : List Heard) × IsListenerAfter card past l →
+    (l.closed && not begins) ≡ false → u.closed ≡ false
+turned_open card begins before so_far l u turned (past, follows) goes_on =
+    (turned_follows card begins before so_far l u turned past follows).closed
+    ∙ open_of l.closed begins past follows.closed goes_on
+
+-- a refused packet leaves what is kept, if it begins no run
+stands_still : (s : Receiver) (so_far : Ending) (u t : Listener) → TurnsBy false s.so_far s.listener u so_far →
+    IsStill (card_in s) u t → (past : List (List ℕ)) → IsAfter past s →
+    IsAfter past (listening s s.count s.name so_far t)
+stands_still s so_far u t turned still past after =
+    let is = turned.0 refl in
+    record {
+      count = after.count;
+      tuning = after.tuning;
+      name = after.name;
+      so_far = is.1 ∙ after.so_far;
+      follows = still.follows (heard (card_in s) past)
+          (subst (λ (l : Listener). IsListenerAfter (card_in s) (heard (card_in s) past) l) (sym is.0) after.follows);
+      written = still.written ∙ (ap (λ (l : Listener). l.written) is.0 ∙ after.written);
+      unbroken = after.unbroken;
+      unrefused = after.unrefused;
+    }
+
+-- what is said of a packet that is taken, if it was
+pub of_taken : {P : Type 0} (result : Result (Unit {0}) (StageFault StreamFault)) →
+    ((fault : StageFault StreamFault) → result ≡ Err fault → ⊥) → OnOk result P → P
+of_taken (Ok done) taken says = says
+of_taken (Err fault) taken says = absurd (taken fault refl)
 
 -- what is said of all that a packet comes to, by its answer
 pub grew_of : (T : Listener → List ℕ → Type 0) (R : StreamFault → List ℕ → Type 0) (u v : SinkState) (t : Listener)
@@ -412,59 +498,119 @@ cut_of T R u v t (Err Write) from to Does Refuses s is comes does refuses = reco
 }
 
 -- it may be offered a packet still, where this one isn't refused
-pub fit_after : (u : Receiver) (name : Option (Option ℕ)) (t : Listener) (tuning : Tuning) (n : ℕ) (thing : Heard)
-    (R : StreamFault → List ℕ → Type 0) (v w : SinkState) (result : Result (Unit {0}) (StageFault StreamFault)) →
-    (past : List Heard) × IsListenerAfter (card_in u) past u.listener → u.listener.closed ≡ false →
-    IfSome u.tuning (λ kept. kept.ecm < 8192) →
-    PacketOutcome (TakesHeard (card_in u) tuning n thing u.listener) R v w t result →
-    OnOk result (IsFit (listening u name t))
-fit_after u name t tuning n thing R v w (Ok done) (past, follows) unclosed ecm comes =
-    record { ecm = ecm; follows = (thing ∷ past, (comes.says past follows (sym follows.closed ∙ unclosed)).1) }
-fit_after u name t tuning n thing R v w (Err fault) live unclosed ecm comes = tt
-
--- the same of a card and a thing that are the same
-pub takes_same : (c d : CardFields) (tuning : Tuning) (n : ℕ) (a b : Heard) (l t : Listener) (bytes : List ℕ) →
-    c ≡ d → a ≡ b → TakesHeard c tuning n a l t bytes → TakesHeard d tuning n b l t bytes
-takes_same c d tuning n a b l t bytes card thing takes =
-    subst (λ (x : CardFields). TakesHeard x tuning n b l t bytes) card
-    (subst (λ (x : Heard). TakesHeard c tuning n x l t bytes) thing takes)
-
-pub refuses_same : (c d : CardFields) (tuning : Tuning) (n : ℕ) (a b : Heard) (l : Listener) (why : StreamFault)
-    (bytes : List ℕ) → c ≡ d → a ≡ b → RefusesHeard c tuning n a l why bytes → RefusesHeard d tuning n b l why bytes
-refuses_same c d tuning n a b l why bytes card thing refuses =
-    subst (λ (x : CardFields). RefusesHeard x tuning n b l why bytes) card
-    (subst (λ (x : Heard). RefusesHeard c tuning n x l why bytes) thing refuses)
-
-pub few_same : (c d : CardFields) (a b : Heard) (l : Listener) (from to : ℕ) → c ≡ d → a ≡ b →
-    TakesFew c l a from to → TakesFew d l b from to
-few_same c d a b l from to card thing few =
-    subst (λ (x : CardFields). TakesFew x l b from to) card (subst (λ (x : Heard). TakesFew c l x from to) thing few)
-
--- what is known of the receiver once the run at hand was ended, or not
-pub record Ready (s : Receiver) (packet : List ℕ) (kept : Tuning) (count : ℕ) (thing : Heard) (u : Receiver) : Type 0
-  where
-    pub turned : TurnsBy (run_name_heard (thing_of s kept packet)) (counted s count s.tuning) u
-    pub thing_is : thing ≡ thing_of s kept packet
-    pub card_is : card_in u ≡ card_in s
-    pub name_is : u.name ≡ s.name
-    pub tuning_is : u.tuning ≡ s.tuning
-    pub live : (past : List Heard) × IsListenerAfter (card_in u) past u.listener
-
-pub ready : (s : Receiver) (packet : List ℕ) (kept : Tuning) (count : ℕ) (thing : Heard) (u : Receiver)
-    (name : Option (Option ℕ)) → thing ≡ thing_of s kept packet → name ≡ run_name_heard thing →
-    TurnsBy name (counted s count s.tuning) u → (past : List Heard) × IsListenerAfter (card_in s) past s.listener →
-    Ready s packet kept count thing u
-ready s packet kept count thing u name is named turned live =
-    let same = turned_same (counted s count s.tuning) name u turned in
+pub fit_after : (s : Receiver) (count : ℕ) (name : Option (Option ℕ)) (so_far : Ending) (u t : Listener)
+    (tuning : Tuning) (n : ℕ) (thing : Heard) (key : Option (List ℕ)) (R : StreamFault → List ℕ → Type 0)
+    (v w : SinkState) (result : Result (Unit {0}) (StageFault StreamFault)) →
+    (past : List Heard) × IsListenerAfter (card_in s) past u × IsJudgedAs (card_in s) n past thing key →
+    u.closed ≡ false → IfSome s.tuning (λ kept. kept.ecm < 8192) →
+    PacketOutcome (TakesHeard (card_in s) tuning n thing key u) R v w t result →
+    OnOk result (IsFit (listening s count name so_far t))
+fit_after s count name so_far u t tuning n thing key R v w (Ok done) (past, follows, judged) unclosed ecm comes =
     record {
-      turned = subst (λ (n : Option (Option ℕ)).
-          TurnsBy n (counted s count s.tuning) u) (named ∙ ap run_name_heard is) turned;
-      thing_is = is;
-      card_is = ap (λ (r : Receiver). card_in r) same;
-      name_is = ap (λ (r : Receiver). r.name) same;
-      tuning_is = ap (λ (r : Receiver). r.tuning) same;
-      live = fit_turned (counted s count s.tuning) name u turned live;
+      ecm = ecm;
+      follows = (thing ∷ past, (comes.says past follows (sym follows.closed ∙ unclosed) judged).1);
     }
+fit_after s count name so_far u t tuning n thing key R v w (Err fault) live unclosed ecm comes = tt
+
+-- what is found of a thing is found of the one that is heard now
+pub found_of : (s : Receiver) (packet : List ℕ) (kept : Tuning) (thing : Heard) (name : Option (Option ℕ))
+    (begins : Bool) (from to : ℕ) → s.tuning ≡ Some kept → thing ≡ thing_of s kept packet →
+    name ≡ run_name_heard thing → begins ≡ are_two s.name name → (s.listener.closed && not begins) ≡ false →
+    ((past : List Heard) → IsListenerAfter (card_in s) past s.listener →
+    to ≤ from + (if takes_key_of (card_in s) (heard_of_run begins past) thing then s.card.height else 0)) →
+    Found s packet kept begins from to
+found_of s packet kept thing name begins from to tuned is named begins_is goes_on few = record {
+  tuned = tuned;
+  begins_is = begins_is ∙ ap (are_two s.name) (named ∙ ap run_name_heard is);
+  goes_on = goes_on;
+  few = subst (λ (h : Heard). (past : List Heard) → IsListenerAfter (card_in s) past s.listener →
+      to ≤ from + (if takes_key_of (card_in s) (heard_of_run begins past) h then s.card.height else 0)) is few;
+}
+
+-- what has no name begins no run
+nameless : (name : Option (Option ℕ)) → are_two name None ≡ true → ⊥
+nameless None two = true≢false (sym two)
+nameless (Some name) two = true≢false (sym two)
+
+-- before anything was heard nothing is wrong with a part, nor with the message that it completes
+first_run : (part : EcmPart) → run_to (newest []) part ≡ (if part.part == 0 then part ∷ [] else [])
+unfolding run_to newest run_of counted_of
+first_run part = refl
+
+first_fault : (part : EcmPart) → IsEcm part → part_fault (run_to (newest []) part) ≡ None
+unfolding places_of
+first_fault part form =
+    ap part_fault (first_run part)
+    ∙ elim (cases_Bool (part.part == 0)) [
+      | inl h ↦ rw h (none_wrong part [] refl refl (omega (arith, few_listed part form)))
+      | inr h ↦ rw h no_fault_in_none
+    ]
+
+first_message : (card : CardFields) (tuning : Tuning) (n : ℕ) (message : Option Message) →
+    (message_offering card tuning n [] message).fault ≡ None
+unfolding newest is_back current key_in seen
+first_message card tuning n None = refl
+first_message card tuning n (Some message) = rw (le-ltb message.period 0 (omega arith)) refl
+
+-- no message that begins a run is refused when it is taken
+first_part : (card : CardFields) (tuning : Tuning) (n : ℕ) (part : EcmPart) → IsEcm part →
+    (heard_offering card tuning n [] (Controls part)).fault ≡ None
+first_part card tuning n part form =
+    ap (λ (fault : Option EcmFault).
+    (part_offering n fault (message_offering card tuning n [] (completes [] (Controls part)))).fault)
+    (first_fault part form)
+    ∙ first_message card tuning n (completes [] (Controls part))
+
+pub first_passes : (card : CardFields) (tuning : Tuning) (n k h : ℕ) (packet : List ℕ) (heard : Kept)
+    (name : Option (Option ℕ)) (key : Option (List ℕ)) → IsFormed h heard →
+    are_two name (run_name_heard (heard_as k packet heard)) ≡ true →
+    IsJudgedAs card n [] (heard_as k packet heard) key →
+    (heard_offering card tuning n [] (heard_as k packet heard)).fault ≡ None
+first_passes card tuning n k h packet (Kinds.Entitles emm) name key form two judged = judged.fault
+first_passes card tuning n k h packet (Kinds.Controls part) name key form two judged =
+    first_part card tuning n part.now form
+first_passes card tuning n k h packet Kinds.Dropped name key form two judged = absurd (nameless name two)
+first_passes card tuning n k h packet (Kinds.BadEmm fault) name key form two judged = absurd (nameless name two)
+first_passes card tuning n k h packet (Kinds.BadEcm fault) name key form two judged = absurd (nameless name two)
+first_passes card tuning n k h packet Kinds.Other name key form two judged = absurd (nameless name two)
+
+-- after a packet that is refused when it is taken the receiver is after the same packets as before it: it begins no run
+pub stands_after : (s : Receiver) (packet : List ℕ) (kept : Tuning) (h : Kept) (begins : Bool) (key : Option (List ℕ))
+    (so_far : Ending) (u t : Listener) (v w : SinkState) (result : Result (Unit {0}) (StageFault StreamFault))
+    (fault : StreamFault) → IsFormed s.card.height h →
+    begins ≡ are_two s.name (run_name_heard (heard_as s.count packet h)) →
+    TurnsBy begins s.so_far s.listener u so_far →
+    ((past : List Heard) → IsListenerAfter (card_in s) past s.listener →
+    IsJudgedAs (card_in s) s.count (heard_of_run begins past) (heard_as s.count packet h) key) →
+    IsStill (card_in s) u t → result ≡ Err (Refused fault) →
+    PacketOutcome (TakesHeard (card_in s) kept s.count (heard_as s.count packet h) key u)
+    (RefusesHeard (card_in s) kept s.count (heard_as s.count packet h) u) v w t result →
+    (past : List (List ℕ)) → IsAfter past s → IsAfter past (listening s s.count s.name so_far t)
+stands_after s packet kept h false key so_far u t v w result fault form is turned judged still bad comes past after =
+    stands_still s so_far u t turned still past after
+stands_after s packet kept h true key so_far u t v w result fault form is turned judged still bad comes past after =
+    let card = card_in s in
+    let thing = heard_as s.count packet h in
+    let says = (subst (λ (r : Result (Unit {0}) (StageFault StreamFault)).
+    PacketOutcome (TakesHeard card kept s.count thing key u) (RefusesHeard card kept s.count thing u) v w t r)
+    bad comes).says in
+    let stops = says [] ((turned.1 refl).follows card (heard card past) after.follows) none_closed in
+    let passes = first_passes card kept s.count s.count s.card.height packet h s.name key form (sym is)
+    (judged (heard card past) after.follows) in
+    absurd (let both = sym passes ∙ stops.fault in cc)
+
+-- a run that is over is closed, and isn't left
+pub over_parts : (closed begins : Bool) → (closed && not begins) ≡ true → (closed ≡ true) × (begins ≡ false)
+over_parts true false is = (refl, refl)
+over_parts true true is = absurd (true≢false (sym is))
+over_parts false begins is = absurd (true≢false (sym is))
+
+-- nothing was written, but steps may be counted
+pub grew_by_steps : (u : SinkState) (from to : ℕ) (Says : List ℕ → ℕ → Type 0) → Says [] (to - from) →
+    HasGrown u u from to Says
+grew_by_steps u from to Says says =
+    let took = took_none u in
+    record { bytes = []; steps = to - from; says = says; taken = took.taken; room = took.room; counted = omega arith }
 
 -- nothing was written
 pub grew_none : (u : SinkState) (from : ℕ) (Says : List ℕ → ℕ → Type 0) → Says [] 0 → HasGrown u u from from Says

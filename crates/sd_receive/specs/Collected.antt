@@ -46,18 +46,18 @@ pub record IsWaiting (past : List Heard) (part : EcmPart) (state : Collect) : Ty
   pub incomplete : completes past (Controls part) ≡ None
   pub after : IsCollected (Controls part ∷ past) state
 
--- Nothing is wrong with a part, and it completes the message that says this. Its positions and the message before it
--- are kept.
+-- Nothing is wrong with a part, and it completes the message that says this. Its positions are at hand, and what was
+-- kept before the part still is.
 pub record IsComplete (past : List Heard) (part : EcmPart) (head : EcmHead) (state : Collect) : Type 0 where
   pub fault : fault_of past part ≡ None
-  pub complete : completes past (Controls part) ≡ Some (message_of head state.run.places.items)
-  pub ends : state.run.part ≡ Some part
+  pub complete : completes past (Controls part) ≡ Some (message_of head state.coming.places.items)
+  pub ends : state.coming.part ≡ Some part
   pub says : head ≡ ecm_head_of part
-  pub good : ArePlaces state.run.places.items
-  pub last : IsMessageKept (newest past).message state.last state.places.items
+  pub good : ArePlaces state.coming.places.items
+  pub before : IsCollected past state
 
--- the result of a part: it is refused, completes no message, or completes one
+-- the result of a part: it completes no message, completes one, or is refused and leaves what is kept
 abbrev pub PartOutcome : List Heard → EcmPart → Collect → Result Taken EcmFault → Type 0
 PartOutcome past part state (Ok Waits) = IsWaiting past part state
 PartOutcome past part state (Ok (Complete head)) = IsComplete past part head state
-PartOutcome past part state (Err fault) = fault_of past part ≡ Some fault
+PartOutcome past part state (Err fault) = (fault_of past part ≡ Some fault) × IsCollected past state

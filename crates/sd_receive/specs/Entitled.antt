@@ -1,6 +1,7 @@
 -- Public meaning: what a receiver keeps of the sections of entitlements that it heard, and of the periods of control
 -- messages.
-use Rattle.std.specs.Prelude.{◌≡◌, ℕ, ◌==◌, ◌&&◌, ◌^◌, ◌<◌, Bool, true, false, not, nat_le, nat_lt, List, [], ◌∷◌, All}
+use Rattle.std.specs.Prelude.{◌≡◌, ℕ, ◌==◌, ◌&&◌, ◌^◌, ◌<◌, ◌≤◌, Bool, true, false, not, nat_le, nat_lt, List, []}
+use Rattle.std.specs.Prelude.{◌∷◌, All}
 use Rattle.std.specs.Prelude.{bytes_eq, find, filter, get_or, take, drop, replicate, ◌++◌, is_none, if◌then◌else◌}
 use Rattle.std.specs.Prelude.{Option, Some, None}
 use Rattle.std.specs.Prelude.{Result, MatchResult}
@@ -11,7 +12,8 @@ use Rattle.sd_message.specs.declared.emm.Emm.{Emm}
 use Rattle.sd_message.specs.declared.stream_fault.StreamFault.{StreamFault}
 use Rattle.sd_spec.specs.Heard.{Heard, Dropped, Entitles, Controls, BadEmm, BadEcm, Other}
 use Rattle.sd_spec.specs.Stretches.{completes, current, seen}
-use Rattle.sd_spec.specs.Keys.{key_at}
+use Rattle.sd_spec.specs.Keys.{key_at, key_from}
+use Rattle.sd_spec.specs.Offered.{emm_offering, is_mixed}
 use Rattle.sd_spec.specs.Ending.{periods_told, is_unkeyed, is_all_seen}
 use Rattle.sd_receive.specs.declared.says.Says.{Says}
 use Rattle.sd_receive.specs.declared.entitled.Entitled.{Entitled}
@@ -97,6 +99,13 @@ with_key state key = record {
   unkeyed = state.unkeyed;
   long = state.long;
 }
+
+-- Nothing is wrong with a section in packet n after what was heard, and this is the key that it gives, if that of its
+-- period isn't known [this project, docs/FORMATS.md, Receiver].
+pub record IsJudged (card : CardFields) (n : ℕ) (tr : List Heard) (emm : Emm) (key : Option (List ℕ)) : Type 0 where
+  pub fault : (emm_offering card n tr emm).fault ≡ None
+  pub unmixed : current tr ≤ emm.period → is_mixed (seen emm.period tr) emm ≡ false
+  pub gives : current tr ≤ emm.period → key_at card tr emm.period ≡ None → key ≡ key_from card emm
 
 -- the result is this fault if there is one, and no fault else
 abbrev pub HasFault : {X : Type 0} → Result X StreamFault → Option StreamFault → Type 0

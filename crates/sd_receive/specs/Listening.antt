@@ -1,5 +1,6 @@
 -- Public meaning: what a receiver that took a CAT does with what it hears.
-use Rattle.std.specs.Prelude.{◌≡◌, ◌⊎◌, ℕ, ◌+◌, ◌-◌, ◌^◌, min, false, List, ◌∷◌, length, Some, None, Result, Ok, Err}
+use Rattle.std.specs.Prelude.{◌≡◌, ◌⊎◌, ℕ, ◌+◌, ◌-◌, ◌^◌, min, Bool, false, if◌then◌else◌, List, [], ◌∷◌, length}
+use Rattle.std.specs.Prelude.{Option, Some, None, Result, Ok, Err}
 use Rattle.std.specs.List.{concat}
 use Rattle.sd_site.specs.CardFields.{CardFields}
 use Rattle.sd_message.specs.declared.ecm_part.EcmPart.{EcmPart}
@@ -9,10 +10,10 @@ use Rattle.sd_engine.specs.declared.stage.StageFault.{StageFault}
 use Rattle.sd_engine.specs.declared.stage.StageFault.TheVariants.{Write, Refused}
 use Rattle.sd_message.specs.declared.stream_fault.StreamFault.{StreamFault}
 use Rattle.sd_psi.specs.declared.our_cat.Tuning.{Tuning}
-use Rattle.sd_spec.specs.Heard.{Heard, Controls}
+use Rattle.sd_spec.specs.Heard.{Heard, Dropped, Entitles, Controls, BadEmm, BadEcm, Other}
 use Rattle.sd_spec.specs.Stretches.{is_closed}
-use Rattle.sd_spec.specs.Offered.{Offering, heard_offering}
-use Rattle.sd_receive.specs.Entitled.{IsEntitled}
+use Rattle.sd_spec.specs.Offered.{Offering, heard_offering, refuses}
+use Rattle.sd_receive.specs.Entitled.{IsEntitled, IsJudged}
 use Rattle.sd_receive.specs.Collected.{IsCollected, IsComplete}
 use Rattle.sd_receive.specs.Held.{holding_after}
 use Rattle.sd_receive.specs.declared.listener.Listener.{Listener}
@@ -24,13 +25,12 @@ pub record IsListenerAfter (card : CardFields) (past : List Heard) (state : List
   pub collect : IsCollected past state.collect
   pub segment : state.segment ≡ holding_after card past
 
--- what is kept of what was heard before a part that completes the message that says this, and of the part
+-- what is kept of what was heard before a part that completes the message that says this, with the message at hand
 pub record IsListenerAtMessage (card : CardFields) (past : List Heard) (part : EcmPart) (head : EcmHead)
     (state : Listener) : Type 0 where
   pub unclosed : is_closed past ≡ false
-  pub entitled : IsEntitled card past state.entitled
+  pub follows : IsListenerAfter card past state
   pub collect : IsComplete past part head state.collect
-  pub segment : state.segment ≡ holding_after card past
 
 -- a number as a count of 64 bits, which is at most 2^64 - 1
 abbrev pub capped : ℕ → ℕ
@@ -51,9 +51,29 @@ pub record StopsAtOffering (offering : Offering) (why : StreamFault) (bytes : Li
   pub fault : offering.fault ≡ Some why
   pub bytes_are : bytes ≡ concat offering.wrote
 
--- a thing that is heard as packet n is taken, with these bytes written
-abbrev pub TakesHeard : CardFields → Tuning → ℕ → Heard → Listener → Listener → List ℕ → Type 0
-TakesHeard card tuning n heard s t bytes = (past : List Heard) → IsListenerAfter card past s → is_closed past ≡ false →
+-- what was heard of the run of what comes: nothing, if that begins a run
+abbrev pub heard_of_run : Bool → List Heard → List Heard
+heard_of_run begins past = if begins then [] else past
+
+-- if a section is heard as packet n, nothing is wrong with it and it gives this key
+abbrev pub IsJudgedAs : CardFields → ℕ → List Heard → Heard → Option (List ℕ) → Type 0
+IsJudgedAs card n past (Entitles emm) key = IsJudged card n past emm key
+IsJudgedAs card n past Dropped key = Unit {0}
+IsJudgedAs card n past (Controls part) key = Unit {0}
+IsJudgedAs card n past (BadEmm fault) key = Unit {0}
+IsJudgedAs card n past (BadEcm fault) key = Unit {0}
+IsJudgedAs card n past (Other k packet) key = Unit {0}
+
+-- the result of judging what is heard as packet n: this key, or nothing is written and the packet is refused
+abbrev pub Judgement : CardFields → ℕ → List Heard → Heard → Result (Option (List ℕ)) StreamFault → Type 0
+Judgement card n past heard (Ok key) = IsJudgedAs card n past heard key
+Judgement card n past heard (Err fault) =
+    (tuning : Tuning) → heard_offering card tuning n past heard ≡ refuses fault
+
+-- a thing that is heard as packet n, of which this key was judged, is taken, with these bytes written
+abbrev pub TakesHeard : CardFields → Tuning → ℕ → Heard → Option (List ℕ) → Listener → Listener → List ℕ → Type 0
+TakesHeard card tuning n heard key s t bytes = (past : List Heard) → IsListenerAfter card past s →
+    is_closed past ≡ false → IsJudgedAs card n past heard key →
     PassesOffering (heard_offering card tuning n past heard) s.written t.written bytes ×
     IsListenerAfter card (heard ∷ past) t
 
@@ -62,6 +82,11 @@ abbrev pub RefusesHeard : CardFields → Tuning → ℕ → Heard → Listener �
 RefusesHeard card tuning n heard s fault bytes = (past : List Heard) → IsListenerAfter card past s →
     is_closed past ≡ false →
     StopsAtOffering (heard_offering card tuning n past heard) fault bytes
+
+-- what is kept is of the same that was heard, and as many packets are counted
+pub record IsStill (card : CardFields) (s t : Listener) : Type 0 where
+  pub follows : (past : List Heard) → IsListenerAfter card past s → IsListenerAfter card past t
+  pub written : t.written ≡ s.written
 
 -- the message that the part in packet n completes is taken, with these bytes written
 abbrev pub TakesMessage : CardFields → Tuning → ℕ → EcmHead → Listener → Listener → List ℕ → Type 0

@@ -1,5 +1,5 @@
 -- Public meaning: the receiver as a stage of packets.
-use Rattle.std.specs.Prelude.{◌≡◌, ℕ, ◌-◌, ◌*◌, ◌^◌, ◌<◌, ◌≤◌, true, false, List, [], ◌∷◌, ◌++◌, length, reverse}
+use Rattle.std.specs.Prelude.{◌≡◌, ℕ, ◌-◌, ◌*◌, ◌^◌, ◌<◌, ◌≤◌, Bool, true, false, List, [], ◌∷◌, ◌++◌, length, reverse}
 use Rattle.std.specs.Prelude.{if◌then◌else◌, Option, Some, None, IfSome}
 use Rattle.std.specs.List.{concat}
 use Rattle.sd_site.specs.CardFields.{CardFields, card_fields_of}
@@ -7,7 +7,7 @@ use Rattle.sd_message.specs.declared.stream_fault.StreamFault.{StreamFault}
 use Rattle.sd_spec.specs.declared.ending.Ending.{Ending}
 use Rattle.sd_spec.specs.Tuned.{tuning_of}
 use Rattle.sd_spec.specs.Heard.{Heard}
-use Rattle.sd_spec.specs.Runs.{name_in, are_two}
+use Rattle.sd_spec.specs.Runs.{name_in}
 use Rattle.sd_spec.specs.Ending.{joined, run_ending, run_wrote, ended_before}
 use Rattle.sd_spec.specs.Offered.{heard, offered, out_from, break_from}
 pub use Rattle.sd_spec.specs.Taken.{takes_key_of}
@@ -19,18 +19,6 @@ use Rattle.sd_receive.specs.declared.receiver.Receiver.{Receiver}
 -- what the receiver's card says
 abbrev pub card_in : Receiver → CardFields
 card_in receiver = card_fields_of receiver.card
-
--- the receiver with another current run, after runs that ended so
-abbrev pub with_run : Receiver → Ending → Listener → Receiver
-with_run s so_far listener = record {
-  card = s.card;
-  count = s.count;
-  tuning = s.tuning;
-  name = s.name;
-  so_far = so_far;
-  listener = listener;
-  refusal = s.refusal;
-}
 
 -- what is kept after these packets, of which the newest comes first, and none was refused [this project,
 -- docs/FORMATS.md, Receiver]
@@ -44,18 +32,17 @@ pub record IsAfter (past : List (List ℕ)) (receiver : Receiver) : Type 0 where
   pub unbroken : break_from (card_in receiver) [] (reverse past) ≡ None
   pub unrefused : receiver.refusal ≡ None
 
--- the current run was ended: all that was heard of it was forgotten but how it ended
-pub record HasTurned (s t : Receiver) : Type 0 where
-  pub same : t ≡ with_run s t.so_far t.listener
-  pub follows : (past : List Heard) → IsListenerAfter (card_in s) past s.listener →
-      IsListenerAfter (card_in s) [] t.listener
-  pub written : t.listener.written ≡ 0
-  pub so_far : (past : List Heard) (total : ℕ) → IsListenerAfter (card_in s) past s.listener →
-      s.listener.written ≡ capped total → t.so_far ≡ joined s.so_far (run_ending (card_in s) past total)
+-- the current run was ended after runs that ended so: all that was heard of it was forgotten but how it ended
+pub record HasTurned (before : Ending) (s t : Listener) (so_far : Ending) : Type 0 where
+  pub follows : (card : CardFields) (past : List Heard) → IsListenerAfter card past s → IsListenerAfter card [] t
+  pub written : t.written ≡ 0
+  pub ends : (card : CardFields) (past : List Heard) (total : ℕ) → IsListenerAfter card past s →
+      s.written ≡ capped total → so_far ≡ joined before (run_ending card past total)
 
--- a message of the run of this name ends the current run, if that has another name
-abbrev pub TurnsBy : Option (Option ℕ) → Receiver → Receiver → Type 0
-TurnsBy name s t = (are_two s.name name ≡ false → t ≡ s) × (are_two s.name name ≡ true → HasTurned s t)
+-- the current run is ended if another begins
+abbrev pub TurnsBy : Bool → Ending → Listener → Listener → Ending → Type 0
+TurnsBy begins before s t so_far =
+    (begins ≡ false → (t ≡ s) × (so_far ≡ before)) × (begins ≡ true → HasTurned before s t so_far)
 
 -- the most steps of the generator for a packet: as many as the tree is high if it takes a key, and else none
 abbrev pub steps_at : CardFields → List (List ℕ) → List ℕ → ℕ

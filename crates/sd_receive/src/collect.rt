@@ -17,8 +17,10 @@ pub enum Taken {
 /// Receiver].
 #[derive(Drop)]
 pub struct Collect {
-    // The parts of the next message.
+    // The parts of the next message that arrived.
     pub(crate) run: Run,
+    // The parts of the message that a part completes, while it is judged. `run` is as before until it is settled.
+    pub(crate) coming: Run,
     // What the newest complete message says, but for its positions.
     pub(crate) last: Option<EcmHead>,
     // The PIDs and positions of the newest complete message.

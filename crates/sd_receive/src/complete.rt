@@ -1,4 +1,4 @@
-ghost use Rattle.std.specs.Prelude.{◌≡◌, ◌<◌, ◌∷◌, [], List, option_map, Some, None, MatchResult, IsErrOf};
+ghost use Rattle.std.specs.Prelude.{◌≡◌, ◌<◌, ◌∷◌, [], List, option_map, Some, None, Err, IfErr, MatchResult, IsErrOf};
 ghost use Rattle.sd_base.specs.Count.{IsCaused};
 ghost use Rattle.sd_site.specs.CardFields.{CardFields, card_fields_of};
 ghost use Rattle.sd_message.specs.EcmForm.{AreShort};
@@ -40,6 +40,7 @@ impl Listener {
         ensures value { PacketOutcome (TakesMessage (card_fields_of card.now) tuning number head.now self.old)
             (RefusesMessage (card_fields_of card.now) tuning number head.now self.old)
             (vessel K.Sink out.old) (vessel K.Sink out.new) self.new result }
+        ensures unchanged { (fault : StreamFault) → result ≡ Err (StageFault.Refused fault) → self.new ≡ self.old }
         ensures cause { IsCaused (K.faults out.old) (K.faults out.new) (IsErrOf result StageFault.Write) }
     {
         match self.write(card, tuning, head, out) {
@@ -69,9 +70,9 @@ impl Listener {
         out: &mut K,
     ) -> Result<u64, SegmentFault>
         requires ecm { tuning.ecm < 8192 }
-        requires short { AreShort self.now.collect.run.places.items }
+        requires short { AreShort self.now.collect.coming.places.items }
         ensures value { WriteOutcome (pair_wrote self.now.collect.last self.now.segment head.now.since card.now.ca
-            tuning.ecm self.now.collect.run.places.items) (vessel K.Sink out.old) (vessel K.Sink out.new) result }
+            tuning.ecm self.now.collect.coming.places.items) (vessel K.Sink out.old) (vessel K.Sink out.new) result }
         ensures cause { IsCaused (K.faults out.old) (K.faults out.new) (IsErrOf result SegmentFault.Write) }
     {
         match self.collect.last() {
@@ -83,24 +84,26 @@ impl Listener {
         }
     }
 
-    // Begins to buffer packets after the message, if its control word is known.
+    // Keeps the message and begins to buffer packets after it, if its control word isn't wrong. A wrong one changes
+    // nothing.
     fn begin(&mut self, number: u64, head: &EcmHead) -> Result<(), StreamFault>
         requires live { (card : CardFields) × (past : List Heard) × (part : EcmPart) ×
             IsListenerAtMessage card past part head.now self.old }
         ensures value { (card : CardFields) (past : List Heard) (part : EcmPart) →
             IsListenerAtMessage card past part head.now self.old →
             MatchResult result
-            (λ _. (word_fault number (message_of head.now self.old.collect.run.places.items)
+            (λ _. (word_fault number (message_of head.now self.old.collect.coming.places.items)
             (key_at card past head.now.period) ≡ None)
             × IsListenerAfter card (Controls part ∷ past) self.new)
-            (λ fault. word_fault number (message_of head.now self.old.collect.run.places.items)
+            (λ fault. word_fault number (message_of head.now self.old.collect.coming.places.items)
             (key_at card past head.now.period)
             ≡ Some fault) }
         ensures written { self.new.written ≡ self.old.written }
+        ensures unchanged { IfErr result (λ _. self.new ≡ self.old) }
     {
-        self.entitled.message(head.period);
-        match word_of(number, head, self.entitled.key()) {
+        match word_of(number, head, self.entitled.key_of(head.period)) {
             Ok(word) => {
+                self.entitled.message(head.period);
                 self.renew(head, word);
                 Ok(())
             }
@@ -114,7 +117,7 @@ impl Listener {
         ensures collect { (past : List Heard) (part : EcmPart) → IsComplete past part head.now self.old.collect →
             IsCollected (Controls part ∷ past) self.new.collect }
         ensures segment { self.new.segment ≡
-            option_map (λ w. after_message (message_of head.now self.old.collect.run.places.items) w []) word }
+            option_map (λ w. after_message (message_of head.now self.old.collect.coming.places.items) w []) word }
         ensures closed { self.new.closed ≡ head.now.closing }
         ensures same { (self.new.entitled ≡ self.old.entitled) × (self.new.written ≡ self.old.written) }
     {

@@ -1,5 +1,5 @@
 ghost use Rattle.std.specs.Prelude.{◌≡◌, ◌↔◌, ◌+◌, ◌≤◌, ◌∷◌, [], List, None, option_map, length, if◌then◌else◌, IfOk};
-ghost use Rattle.std.specs.Prelude.{IsTrue};
+ghost use Rattle.std.specs.Prelude.{IfErr, IsTrue};
 ghost use Rattle.sd_message.specs.EcmSpelled.{listed_places};
 ghost use Rattle.sd_message.specs.EcmForm.{IsEcm};
 ghost use Rattle.sd_message.specs.EcmParts.{ecm_head_of};
@@ -29,10 +29,21 @@ impl Run {
     /// Forgets the parts.
     #[tactic(auto, using(crate::proofs::Gathering::none_gathered))]
     pub fn clear(&mut self)
-        ensures { IsGathered [] self.new.part self.new.places.items }
+        ensures gathered { IsGathered [] self.new.part self.new.places.items }
+        ensures places { self.new.places.items ≡ [] }
     {
         self.part = None;
         self.places.clear();
+    }
+
+    /// Takes the parts of another run instead of its own. Nothing is allocated.
+    pub fn copy(&mut self, other: &Run)
+        ensures part { self.new.part ≡ other.now.part }
+        ensures places { self.new.places.items ≡ other.now.places.items }
+    {
+        self.places.clear();
+        self.places.extend_from_slice(&other.places).unwrap();
+        self.part = other.part;
     }
 
     /// Whether there is no part.
@@ -51,14 +62,17 @@ impl Run {
 
     /// Takes a part of a later message than the newest complete one, or says what is wrong with it. Part 0 begins a
     /// message, the part that is awaited next is added, and any other drops what was collected. Nothing is allocated.
+    /// A part with which something is wrong changes nothing.
     pub fn take(&mut self, part: &EcmPart) -> Result<(), EcmFault>
         requires { IsEcm part.now }
-        ensures { (run : List EcmPart) → IsGathered run self.old.part self.old.places.items →
+        ensures value { (run : List EcmPart) → IsGathered run self.old.part self.old.places.items →
             GatherOutcome (next_run run part.now) self.new.part self.new.places.items result }
+        ensures unchanged { IfErr result (λ _. self.new ≡ self.old) }
     {
         if part.part == 0 {
             self.clear();
-            return self.add(part);
+            self.put(part);
+            return Ok(());
         }
         if self.goes_on(part) {
             return self.add(part);
@@ -85,8 +99,9 @@ impl Run {
     // Adds the next part, if nothing is wrong with it.
     fn add(&mut self, part: &EcmPart) -> Result<(), EcmFault>
         requires { IsEcm part.now }
-        ensures { (run : List EcmPart) → IsGathered run self.old.part self.old.places.items →
+        ensures value { (run : List EcmPart) → IsGathered run self.old.part self.old.places.items →
             IsNext run part.now → GatherOutcome (part.now ∷ run) self.new.part self.new.places.items result }
+        ensures unchanged { IfErr result (λ _. self.new ≡ self.old) }
     {
         if let Some(fault) = self.fault(part) {
             return Err(fault);

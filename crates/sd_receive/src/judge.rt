@@ -6,7 +6,7 @@ ghost use Rattle.sd_message.specs.declared.ecm_part.EcmPart.{EcmPart};
 ghost use Rattle.sd_spec.specs.Heard.{Heard, Controls};
 ghost use Rattle.sd_spec.specs.Stretches.{completes};
 ghost use Rattle.sd_spec.specs.Ending.{periods_told, is_unkeyed};
-ghost use Rattle.sd_receive.specs.Entitled.{IsEntitled, IsStateAt, is_told_revoked, all_marked};
+ghost use Rattle.sd_receive.specs.Entitled.{IsEntitled, IsStateAt, is_told_revoked, all_marked, key_kept};
 
 use crate::entitled::Entitled;
 use crate::marks::{SECTIONS, are_all_marked, clear};
@@ -39,11 +39,15 @@ impl Entitled {
         self.period
     }
 
-    /// The key of the current period, if that is known.
-    pub fn key(&self) -> Option<[u8; 32]>
-        ensures { result ≡ self.now.key }
+    /// The key of a period, if it is the current one and its key is known.
+    pub fn key_of(&self, period: u32) -> Option<[u8; 32]>
+        ensures { result ≡ key_kept self.now period }
     {
-        self.key
+        if period == self.period {
+            self.key
+        } else {
+            None
+        }
     }
 
     /// Takes a complete control message of this period, which must not be before the current one.

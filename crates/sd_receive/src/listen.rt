@@ -1,4 +1,4 @@
-ghost use Rattle.std.specs.Prelude.{◌≡◌, ◌+◌, ◌≤◌, ◌<◌, [], false, List, IfOk, IsErrOf};
+ghost use Rattle.std.specs.Prelude.{◌≡◌, ℕ, ◌+◌, ◌≤◌, ◌<◌, [], false, List, None, Err, IfOk, IsErrOf};
 ghost use Rattle.std.specs.Prelude.{if◌then◌else◌};
 ghost use Rattle.sd_base.specs.Count.{IsCaused};
 ghost use Rattle.sd_site.specs.CardFields.{CardFields, card_fields_of};
@@ -6,10 +6,12 @@ ghost use Rattle.sd_message.specs.EcmForm.{IsEcm};
 ghost use Rattle.sd_engine.specs.Stage.{vessel};
 ghost use Rattle.sd_spec.specs.Heard.{Heard as Thing, Controls};
 ghost use Rattle.sd_receive.specs.Ears.{heard_as, IsFormed};
-ghost use Rattle.sd_receive.specs.Listening.{IsListenerAfter, TakesHeard, RefusesHeard, PacketOutcome};
+ghost use Rattle.sd_receive.specs.Listening.{IsListenerAfter, heard_of_run, Judgement, TakesHeard, RefusesHeard};
+ghost use Rattle.sd_receive.specs.Listening.{PacketOutcome, IsStill};
 ghost use Rattle.sd_receive.specs.Receiving.{takes_key_of};
 
 use crate::ears::Heard;
+use crate::key::good_key_in;
 use crate::listener::Listener;
 use crate::{Collect, Entitled, Segment, Taken};
 use sd_base::{NoMemory, Steps};
@@ -53,31 +55,62 @@ impl Listener {
         self.written = 0;
     }
 
-    // Takes packet `number` of the stream, which was read as `heard`. The run must not be closed. For a packet that is
-    // no message the caller knows what was heard, so nothing is left of the choice.
+    // Judges packet `number` of the stream, which was read as `heard`, before anything is kept of it: the key that a
+    // section gives. Of a run that the packet begins nothing was heard.
     #[inline(always)]
-    pub fn take<K: Sink, L: Ledger>(
+    pub fn judge<L: Ledger>(
+        &self,
+        card: &Card,
+        number: u64,
+        heard: Heard<'_>,
+        begins: bool,
+        steps: &mut Steps<L>,
+    ) -> Result<Option<[u8; 32]>, StreamFault>
+        requires form { IsFormed card.now.height heard }
+        ensures value { (packet : List ℕ) (past : List Thing) →
+            IsListenerAfter (card_fields_of card.now) past self.now →
+            Judgement (card_fields_of card.now) number (heard_of_run begins past)
+            (heard_as number packet heard.entry) result }
+        ensures steps { (packet : List ℕ) (past : List Thing) →
+            IsListenerAfter (card_fields_of card.now) past self.now → steps.new ≤ steps.old
+            + (if takes_key_of (card_fields_of card.now) (heard_of_run begins past)
+            (heard_as number packet heard.entry) then card.now.height else 0) }
+    {
+        match heard {
+            Heard::Entitles(emm) => {
+                if begins {
+                    good_key_in(card, number, emm, steps)
+                } else {
+                    self.entitled.judge(card, number, emm, steps)
+                }
+            }
+            _ => Ok(None),
+        }
+    }
+
+    // Takes packet `number` of the stream, which was read as `heard` and of which this key was judged. The run must not
+    // be closed. For a packet that is no message the caller knows what was heard, so nothing is left of the choice.
+    #[inline(always)]
+    pub fn take<K: Sink>(
         &mut self,
         card: &Card,
         number: u64,
         tuning: Tuning,
         packet: &Packet,
         heard: Heard<'_>,
+        key: Option<[u8; 32]>,
         out: &mut K,
-        steps: &mut Steps<L>,
     ) -> Result<(), StageFault<StreamFault>>
         requires ecm { tuning.ecm < 8192 }
         requires live { (past : List Thing) × IsListenerAfter (card_fields_of card.now) past self.old }
         requires open { self.old.closed ≡ false }
         requires form { IsFormed card.now.height heard }
         ensures value { PacketOutcome
-            (TakesHeard (card_fields_of card.now) tuning number (heard_as number packet.now heard.entry) self.old)
+            (TakesHeard (card_fields_of card.now) tuning number (heard_as number packet.now heard.entry) key self.old)
             (RefusesHeard (card_fields_of card.now) tuning number (heard_as number packet.now heard.entry) self.old)
             (vessel K.Sink out.old) (vessel K.Sink out.new) self.new result }
-        ensures steps { (past : List Thing) → IsListenerAfter (card_fields_of card.now) past self.old →
-            steps.new ≤ steps.old
-            + (if takes_key_of (card_fields_of card.now) past (heard_as number packet.now heard.entry)
-            then card.now.height else 0) }
+        ensures stands { (fault : StreamFault) → result ≡ Err (StageFault.Refused fault) →
+            IsStill (card_fields_of card.now) self.old self.new }
         ensures cause { IsCaused (K.faults out.old) (K.faults out.new) (IsErrOf result StageFault.Write) }
     {
         match heard {
@@ -86,10 +119,10 @@ impl Listener {
                 self.segment.hold(number, packet);
                 Ok(())
             }
-            Heard::Entitles(emm) => match self.entitled.section(card, number, emm, steps) {
-                Ok(()) => Ok(()),
-                Err(fault) => Err(StageFault::Refused(fault)),
-            },
+            Heard::Entitles(emm) => {
+                self.entitled.keep(emm, key);
+                Ok(())
+            }
             Heard::Controls(part) => self.control(card, number, tuning, part, out),
             Heard::BadEmm(fault) => Err(StageFault::Refused(StreamFault::BadEmm(number, fault))),
             Heard::BadEcm(fault) => Err(StageFault::Refused(StreamFault::BadEcm(number, fault))),
@@ -110,8 +143,10 @@ impl Listener {
         requires open { self.old.closed ≡ false }
         requires form { IsEcm part.now }
         ensures value { PacketOutcome (TakesHeard (card_fields_of card.now) tuning number (Controls part.now)
-            self.old) (RefusesHeard (card_fields_of card.now) tuning number (Controls part.now) self.old)
+            None self.old) (RefusesHeard (card_fields_of card.now) tuning number (Controls part.now) self.old)
             (vessel K.Sink out.old) (vessel K.Sink out.new) self.new result }
+        ensures stands { (fault : StreamFault) → result ≡ Err (StageFault.Refused fault) →
+            IsStill (card_fields_of card.now) self.old self.new }
         ensures cause { IsCaused (K.faults out.old) (K.faults out.new) (IsErrOf result StageFault.Write) }
     {
         match self.collect.take(self.entitled.period(), part) {

@@ -1,4 +1,4 @@
-ghost use Rattle.std.specs.Prelude.{◌≤◌, vec_capacity, IfSome};
+ghost use Rattle.std.specs.Prelude.{◌≤◌, length, vec_capacity, IfSome};
 ghost use Rattle.std.proofs.Props.{props};
 ghost use Rattle.sd_message.specs.declared.ecm_format.TheConstants.{POSITIONS, MOST_PLACES};
 
@@ -11,5 +11,6 @@ pub struct Run {
     pub(crate) part: Option<EcmPart>,
     pub(crate) places: Vec<Place>,
     ghost counted: { IfSome part (λ kept. kept.count ≤ POSITIONS) } by { Prim.hlevel props },
+    ghost few: { length places.items ≤ MOST_PLACES },
     ghost room: { MOST_PLACES ≤ vec_capacity places },
 }

@@ -1,4 +1,4 @@
-ghost use Rattle.std.specs.Prelude.{◌≡◌, ◌+◌, ◌≤◌, ◌<◌, ◌==◌, ◌∷◌, false, List, None, Some, OnOk, IfErr};
+ghost use Rattle.std.specs.Prelude.{◌≡◌, ◌+◌, ◌≤◌, ◌<◌, ◌==◌, ◌∷◌, false, List, None, Some, IfOk};
 ghost use Rattle.std.specs.Prelude.{is_some, if◌then◌else◌, ℕ, Option};
 ghost use Rattle.sd_message.specs.EmmForm.{IsEmm, AreSets};
 ghost use Rattle.sd_message.specs.EmmSpelled.{listed_entries};
@@ -7,7 +7,8 @@ ghost use Rattle.sd_spec.specs.Heard.{Heard, Entitles};
 ghost use Rattle.sd_spec.specs.Stretches.{current, seen};
 ghost use Rattle.sd_spec.specs.Keys.{first_key, key_from, key_at};
 ghost use Rattle.sd_spec.specs.Offered.{emm_offering, is_mixed};
-ghost use Rattle.sd_receive.specs.Entitled.{IsEntitled, IsStateAt, HasFault, is_said_otherwise, key_kept, with_key};
+ghost use Rattle.sd_receive.specs.Entitled.{IsEntitled, IsStateAt, IsJudged, HasFault, is_said_otherwise, key_kept};
+ghost use Rattle.sd_receive.specs.Entitled.{with_key};
 ghost use Rattle.sd_spec.specs.Taken.{takes_key};
 
 use crate::entitled::Entitled;
@@ -19,45 +20,56 @@ use sd_site::Card;
 use std::sync::ledger::Ledger;
 
 impl Entitled {
-    /// Takes a section of entitlements, packet `number` of the stream. A section of an earlier period changes nothing.
-    /// The key of its period is derived if it isn't known yet.
+    /// Judges a section of entitlements, packet `number` of the stream, and gives the key of its period if that isn't
+    /// known yet. A section of an earlier period is right.
     ///
     /// It returns `BadEmm` with `Mixed` if the section disagrees with earlier ones of its period, and `WrongKey` if the
-    /// key has another check value than the section names. Then all that is kept is as it was.
-    pub fn section<L: Ledger>(
-        &mut self,
+    /// key has another check value than the section names.
+    pub fn judge<L: Ledger>(
+        &self,
         card: &Card,
         number: u64,
         emm: &Emm,
         steps: &mut Steps<L>,
-    ) -> Result<(), StreamFault>
+    ) -> Result<Option<[u8; 32]>, StreamFault>
         requires form { IsEmm emm.now }
         requires sets { AreSets card.now.height emm.now.sets (listed_entries emm.now) }
-        ensures ok { OnOk result ((tr : List Heard) → IsEntitled (card_fields_of card.now) tr self.old →
-            IsEntitled (card_fields_of card.now) (Entitles emm.now ∷ tr) self.new) }
-        ensures fault { (tr : List Heard) → IsEntitled (card_fields_of card.now) tr self.old →
+        ensures ok { IfOk result (λ key. (tr : List Heard) → IsEntitled (card_fields_of card.now) tr self.now →
+            IsJudged (card_fields_of card.now) number tr emm.now key) }
+        ensures fault { (tr : List Heard) → IsEntitled (card_fields_of card.now) tr self.now →
             HasFault result (emm_offering (card_fields_of card.now) number tr emm.now).fault }
-        ensures unchanged { IfErr result (λ _. self.new ≡ self.old) }
         ensures rise { steps.old ≤ steps.new }
-        ensures steps { (tr : List Heard) → IsEntitled (card_fields_of card.now) tr self.old → steps.new ≤
+        ensures steps { (tr : List Heard) → IsEntitled (card_fields_of card.now) tr self.now → steps.new ≤
             steps.old + (if takes_key (card_fields_of card.now) tr emm.now then card.now.height else 0) }
     {
         if emm.period < self.period {
-            return Ok(());
+            return Ok(None);
         }
         if self.differs(emm) {
             return Err(StreamFault::BadEmm(number, EmmFault::Mixed));
         }
         // A key that is known isn't copied for each section of its period.
         if self.knows_key(emm.period) {
-            self.mark(emm);
-            return Ok(());
+            return Ok(None);
         }
-        let key = good_key_in(card, number, emm, steps)?;
-        self.move_to(emm.period);
-        self.key = key;
+        good_key_in(card, number, emm, steps)
+    }
+
+    /// Keeps a section that was judged, and its key if that of its period isn't known yet. A section of an earlier
+    /// period changes nothing.
+    pub fn keep(&mut self, emm: &Emm, key: Option<[u8; 32]>)
+        requires { IsEmm emm.now }
+        ensures { (card : CardFields) (n : ℕ) (tr : List Heard) → IsEntitled card tr self.old →
+            IsJudged card n tr emm.now key → IsEntitled card (Entitles emm.now ∷ tr) self.new }
+    {
+        if emm.period < self.period {
+            return;
+        }
+        if !self.knows_key(emm.period) {
+            self.move_to(emm.period);
+            self.key = key;
+        }
         self.mark(emm);
-        Ok(())
     }
 
     // Whether a section disagrees with those seen before it on the current period. One of a later period doesn't.

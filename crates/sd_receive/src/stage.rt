@@ -1,4 +1,4 @@
-ghost use Rattle.std.specs.Prelude.{◌≡◌, ℕ, [], Some, None, Err, IfOk, OnOk, IsErrOf};
+ghost use Rattle.std.specs.Prelude.{◌≡◌, ◌&&◌, ℕ, List, [], not, Some, None, Err, IfOk, OnOk, IsErrOf};
 ghost use Rattle.sd_base.specs.Count.{IsCaused};
 ghost use Rattle.sd_engine.specs.Stage.{vessel, HasGrown, IsCutShort, IsAllowed};
 ghost use Rattle.sd_message.specs.EmmJudged.{emm_read};
@@ -12,7 +12,7 @@ use crate::ears::{Channel, Heard, channel_of};
 use crate::hearing::{ecm_heard, emm_heard};
 use crate::listener::Listener;
 use crate::receiver::Receiver;
-use crate::turn::name_of;
+use crate::turn::{differ, name_of};
 use sd_base::{NoMemory, Steps};
 use sd_engine::{Stage, StageFault};
 use sd_message::{StreamFault, read_ecm, read_emm};
@@ -44,8 +44,9 @@ impl Receiver {
         })
     }
 
-    // Takes the next packet, if none was refused before.
-    fn take<K: Sink, L: Ledger>(
+    /// Takes the next packet. If it is refused, all that is kept is as if it hadn't come, so that others can be taken
+    /// after it.
+    pub fn take<K: Sink, L: Ledger>(
         &mut self,
         packet: &Packet,
         out: &mut K,
@@ -60,6 +61,8 @@ impl Receiver {
         ensures fault { (fault : StreamFault) → result ≡ Err (StageFault.Refused fault) →
             HasGrown (vessel K.Sink out.old) (vessel K.Sink out.new) steps.old steps.new
             (Refusing self.old packet.now fault) }
+        ensures stands { (fault : StreamFault) → result ≡ Err (StageFault.Refused fault) →
+            (past : List (List ℕ)) → IsAfter past self.old → IsAfter past self.new }
         ensures prefix { IsErrOf result StageFault.Write → IsCutShort (vessel K.Sink out.old) (vessel K.Sink out.new)
             (IsAllowed (receiver_does self.old packet.now) (receiver_refuses self.old (Some packet.now))
             steps.old steps.new) }
@@ -99,6 +102,8 @@ impl Receiver {
         ensures fault { (fault : StreamFault) → result ≡ Err (StageFault.Refused fault) →
             HasGrown (vessel K.Sink out.old) (vessel K.Sink out.new) steps.old steps.new
             (Refusing self.old packet.now fault) }
+        ensures stands { (fault : StreamFault) → result ≡ Err (StageFault.Refused fault) →
+            (past : List (List ℕ)) → IsAfter past self.old → IsAfter past self.new }
         ensures prefix { IsErrOf result StageFault.Write → IsCutShort (vessel K.Sink out.old) (vessel K.Sink out.new)
             (IsAllowed (receiver_does self.old packet.now) (receiver_refuses self.old (Some packet.now))
             steps.old steps.new) }
@@ -128,6 +133,8 @@ impl Receiver {
         ensures fault { (fault : StreamFault) → result ≡ Err (StageFault.Refused fault) →
             HasGrown (vessel K.Sink out.old) (vessel K.Sink out.new) steps.old steps.new
             (Refusing self.old packet.now fault) }
+        ensures stands { (fault : StreamFault) → result ≡ Err (StageFault.Refused fault) →
+            (past : List (List ℕ)) → IsAfter past self.old → IsAfter past self.new }
         ensures prefix { IsErrOf result StageFault.Write → IsCutShort (vessel K.Sink out.old) (vessel K.Sink out.new)
             (IsAllowed (receiver_does self.old packet.now) (receiver_refuses self.old (Some packet.now))
             steps.old steps.new) }
@@ -137,7 +144,7 @@ impl Receiver {
         self.take_heard(tuning, packet, ecm_heard(&read), out, steps)
     }
 
-    // Takes the next packet, which was read as `heard`, if none was refused before.
+    // Takes the next packet, which was read as `heard`. It is judged before anything is changed.
     #[inline(always)]
     fn take_heard<K: Sink, L: Ledger>(
         &mut self,
@@ -160,21 +167,45 @@ impl Receiver {
         ensures fault { (fault : StreamFault) → result ≡ Err (StageFault.Refused fault) →
             HasGrown (vessel K.Sink out.old) (vessel K.Sink out.new) steps.old steps.new
             (Refusing self.old packet.now fault) }
+        ensures stands { (fault : StreamFault) → result ≡ Err (StageFault.Refused fault) →
+            (past : List (List ℕ)) → IsAfter past self.old → IsAfter past self.new }
         ensures prefix { IsErrOf result StageFault.Write → IsCutShort (vessel K.Sink out.old) (vessel K.Sink out.new)
             (IsAllowed (receiver_does self.old packet.now) (receiver_refuses self.old (Some packet.now))
             steps.old steps.new) }
         ensures cause { IsCaused (K.faults out.old) (K.faults out.new) (IsErrOf result StageFault.Write) }
     {
-        let number = self.count;
-        self.count = number.saturating_add(1);
         let name = name_of(heard);
-        self.turn(name);
-        if self.listener.closed {
+        let begins = differ(self.name, name);
+        if self.is_over(begins) {
+            self.count = self.count.saturating_add(1);
             return Ok(());
         }
+        let number = self.count;
+        let key = match self
+            .listener
+            .judge(&self.card, number, heard, begins, steps)
+        {
+            Ok(key) => key,
+            Err(fault) => return Err(StageFault::Refused(fault)),
+        };
+        self.so_far = self.listener.turn(begins, self.so_far);
+        if let Err(fault) = self
+            .listener
+            .take(&self.card, number, tuning, packet, heard, key, out)
+        {
+            return Err(fault);
+        }
+        self.count = number.saturating_add(1);
         self.name = name.or(self.name);
-        self.listener
-            .take(&self.card, number, tuning, packet, heard, out, steps)
+        Ok(())
+    }
+
+    // Whether the current run is closed, and what comes doesn't begin another.
+    #[inline(always)]
+    fn is_over(&self, begins: bool) -> bool
+        ensures { result ≡ (self.now.listener.closed && not begins) }
+    {
+        self.listener.closed && !begins
     }
 }
 

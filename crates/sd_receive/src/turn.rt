@@ -4,25 +4,28 @@ ghost use Rattle.sd_receive.specs.Ears.{heard_as};
 ghost use Rattle.sd_receive.specs.Receiving.{TurnsBy};
 
 use crate::ears::Heard;
-use crate::receiver::Receiver;
+use crate::listener::Listener;
+use sd_spec::Ending;
 
-impl Receiver {
-    // Ends the current run if this is the name of another. All that was heard of it is forgotten but how it ended.
+impl Listener {
+    // Ends the current run, if what comes begins another: all that was heard of it is forgotten. It returns how the
+    // runs ended so far, together; `so_far` is how those before the current one did.
     #[inline(always)]
-    pub fn turn(&mut self, name: Option<Option<u32>>)
-        ensures { TurnsBy name self.old self.new }
+    pub fn turn(&mut self, begins: bool, so_far: Ending) -> Ending
+        ensures { TurnsBy begins so_far self.old self.new result }
     {
-        if !differ(self.name, name) {
-            return;
+        if !begins {
+            return so_far;
         }
-        self.so_far = self.so_far.with(self.listener.ending());
-        self.listener.forget();
+        let ended = so_far.with(self.ending());
+        self.forget();
+        ended
     }
 }
 
 // Whether both are names of runs, and the runs differ.
 #[inline(always)]
-fn differ(before: Option<Option<u32>>, name: Option<Option<u32>>) -> bool
+pub fn differ(before: Option<Option<u32>>, name: Option<Option<u32>>) -> bool
     ensures { result ≡ are_two before name }
 {
     match (before, name) {

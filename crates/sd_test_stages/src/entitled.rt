@@ -99,15 +99,20 @@ fn heard<L: Ledger>(
         entitled.begin();
         for (row, bits) in *rows {
             let emm = emm_of(card, *row, *bits)?;
-            if let Err(fault) = entitled.section(card, 9, &emm, steps) {
-                return Some(Err(fault));
+            match entitled.judge(card, 9, &emm, steps) {
+                Ok(key) => entitled.keep(&emm, key),
+                Err(fault) => return Some(Err(fault)),
             }
             if entitled.period() <= emm.period {
                 entitled.message(emm.period);
             }
         }
     }
-    Some(Ok((entitled.key(), entitled.revoked(), entitled.unkeyed())))
+    Some(Ok((
+        entitled.key_of(entitled.period()),
+        entitled.revoked(),
+        entitled.unkeyed(),
+    )))
 }
 
 fn counted<L: Ledger>(

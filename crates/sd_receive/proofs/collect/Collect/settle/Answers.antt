@@ -7,6 +7,6 @@ use Rattle.sd_receive.proofs.collect.Collect.settle.Goals as goal
 
 pub returns-clause-value : goal.returns-clause-value
 returns-clause-value c = λ past part head complete.
-    settled past part head c.args.self.now _ complete c.clear.ensures
+    settled past part head c.args.self.now _ complete c.clear-2.ensures.gathered
     (c.head-self.ensures ∙ ap (λ (kept : Option EcmPart). option_map ecm_head_of kept) complete.ends)
     (ap (λ v. v.items) c.swap.ensures.x_after)

@@ -1,4 +1,4 @@
-use Rattle.std.proofs.Common.{◌≡◌, ◌∙◌, subst, sym, ap, refl, ◌∷◌, List, ℕ, Option, []}
+use Rattle.std.proofs.Common.{◌≡◌, ◌∙◌, subst, sym, ap, ◌∷◌, List, ℕ, Option, [], refl}
 use Rattle.std.specs.Prelude.{Some, None, option_map}
 use Rattle.sd_message.specs.EcmParts.{message_of}
 use Rattle.sd_spec.specs.Heard.{Controls}
@@ -6,8 +6,7 @@ use Rattle.sd_spec.specs.Offered.{word_fault}
 use Rattle.sd_receive.specs.Entitled.{IsEntitled}
 use Rattle.sd_receive.specs.declared.entitled.Entitled.{Entitled}
 use Rattle.sd_receive.specs.Holding.{after_message}
-use Rattle.sd_receive.proofs.Offering.{not_past}
-use Rattle.sd_receive.proofs.Messages.{in_turn, key_now, renewed}
+use Rattle.sd_receive.proofs.Messages.{in_turn, key_ahead, renewed}
 use Rattle.sd_receive.proofs.listener.Listener.begin.Goals as goal
 
 pub message-requires : goal.message-requires
@@ -16,13 +15,12 @@ message-requires c =
 
 pub returns-in-Ok-clause-value : goal.returns-in-Ok-clause-value
 returns-in-Ok-clause-value c = λ card past part done.
-    let message = message_of c.args.head.now c.args.self.now.collect.run.places.items in
-    let high = not_past past part message done.collect.fault done.collect.complete in
-    let entitled = c.message.ensures card past part message done.entitled done.collect.complete refl in
-    let key = c.key.ensures ∙ key_now card past part message c.message.new.self done.collect.complete high entitled in
+    let message = message_of c.args.head.now c.args.self.now.collect.coming.places.items in
+    let entitled = c.message.ensures card past part message done.follows.entitled done.collect.complete refl in
+    let key = c.key_of.ensures ∙ key_ahead card past part c.args.head.now c.args.self.now done in
     let word = c.in-Ok.ensures in (
       subst (λ (k : Option (List ℕ)). word_fault c.args.number message k ≡ None) key word.1,
-      renewed card past part c.args.head.now c.args.self.now c.renew.new.self c.key.result done
+      renewed card past part c.args.head.now c.args.self.now c.renew.new.self c.key_of.result done
           (subst (λ (e : Entitled). IsEntitled card (Controls part ∷ past) e) (sym c.renew.ensures.same.0) entitled)
           (c.renew.ensures.collect past part done.collect) key
           (c.renew.ensures.segment ∙ ap (λ (w : Option (List ℕ)). option_map
@@ -32,8 +30,6 @@ returns-in-Ok-clause-value c = λ card past part done.
 
 pub returns-in-Err-clause-value : goal.returns-in-Err-clause-value
 returns-in-Err-clause-value c = λ card past part done.
-    let message = message_of c.args.head.now c.args.self.now.collect.run.places.items in
-    let high = not_past past part message done.collect.fault done.collect.complete in
-    let entitled = c.message.ensures card past part message done.entitled done.collect.complete refl in
-    let key = c.key.ensures ∙ key_now card past part message c.message.new.self done.collect.complete high entitled in
+    let message = message_of c.args.head.now c.args.self.now.collect.coming.places.items in
+    let key = c.key_of.ensures ∙ key_ahead card past part c.args.head.now c.args.self.now done in
     subst (λ (k : Option (List ℕ)). word_fault c.args.number message k ≡ Some c.in-Err.fault) key c.in-Err.ensures

@@ -18,7 +18,7 @@ returns-in-Ok-begin-clause-value g c =
     let added : c.saturating_add-self.result ≡ with_added s.written c.in-Ok.count =
     omega (arith, c.begin.ensures.written) in
     taken_message (card_fields_of c.args.card.now) c.args.tuning c.args.number head s c.begin.new.self _
-    (pair_wrote s.collect.last s.segment head.since c.args.card.now.ca c.args.tuning.ecm s.collect.run.places.items)
+    (pair_wrote s.collect.last s.segment head.since c.args.card.now.ca c.args.tuning.ecm s.collect.coming.places.items)
     c.in-Ok.count
     (vessel g.K.Sink c.args.out.now) (vessel g.K.Sink c.write.new.out) refl c.in-Ok.ensures.value
     (λ past part done. c.in-Ok-begin.ensures.value (card_fields_of c.args.card.now) past part done)
@@ -29,7 +29,7 @@ returns-in-Err-clause-value g c =
     let s = c.args.self.now in
     let head = c.args.head.now in
     word_message (card_fields_of c.args.card.now) c.args.tuning c.args.number head s c.begin.new.self
-    (pair_wrote s.collect.last s.segment head.since c.args.card.now.ca c.args.tuning.ecm s.collect.run.places.items)
+    (pair_wrote s.collect.last s.segment head.since c.args.card.now.ca c.args.tuning.ecm s.collect.coming.places.items)
     c.in-Err.fault
     c.in-Ok.count (vessel g.K.Sink c.args.out.now) (vessel g.K.Sink c.write.new.out) refl c.in-Ok.ensures.value
     (λ past part done. c.in-Err.ensures.value (card_fields_of c.args.card.now) past part done)
@@ -39,11 +39,11 @@ returns-in-Err-Parity-clause-value g c =
     let s = c.args.self.now in
     let head = c.args.head.now in
     parity_message (card_fields_of c.args.card.now) c.args.tuning c.args.number head s
-    (pair_wrote s.collect.last s.segment head.since c.args.card.now.ca c.args.tuning.ecm s.collect.run.places.items)
+    (pair_wrote s.collect.last s.segment head.since c.args.card.now.ca c.args.tuning.ecm s.collect.coming.places.items)
     c.in-Err-Parity.held
     (vessel g.K.Sink c.args.out.now) (vessel g.K.Sink c.write.new.out) refl
     (subst (λ (f : SegmentFault). WriteOutcome (pair_wrote s.collect.last s.segment head.since c.args.card.now.ca
-    c.args.tuning.ecm s.collect.run.places.items)
+    c.args.tuning.ecm s.collect.coming.places.items)
     (vessel g.K.Sink c.args.out.now) (vessel g.K.Sink c.write.new.out) (Err f)) c.in-Err-Parity.field-0-is
     c.in-Err-Parity.ensures.value)
 
@@ -52,11 +52,11 @@ returns-in-Err-Write-clause-value g c =
     let s = c.args.self.now in
     let head = c.args.head.now in
     cut_message (card_fields_of c.args.card.now) c.args.tuning c.args.number head s c.begin-in-Err-Write.new.self
-    (pair_wrote s.collect.last s.segment head.since c.args.card.now.ca c.args.tuning.ecm s.collect.run.places.items)
+    (pair_wrote s.collect.last s.segment head.since c.args.card.now.ca c.args.tuning.ecm s.collect.coming.places.items)
     c.begin-in-Err-Write.result (vessel g.K.Sink c.args.out.now) (vessel g.K.Sink c.write.new.out) refl
     (λ past part done. c.begin-in-Err-Write.ensures.value (card_fields_of c.args.card.now) past part done)
     (subst (λ (f : SegmentFault). WriteOutcome (pair_wrote s.collect.last s.segment head.since c.args.card.now.ca
-    c.args.tuning.ecm s.collect.run.places.items)
+    c.args.tuning.ecm s.collect.coming.places.items)
     (vessel g.K.Sink c.args.out.now) (vessel g.K.Sink c.write.new.out) (Err f)) c.in-Err-Write.field-0-is
     c.in-Err-Write.ensures.value)
 

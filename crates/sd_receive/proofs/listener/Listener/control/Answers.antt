@@ -1,5 +1,5 @@
 use Rattle.std.proofs.Common.{◌≡◌, ◌∙◌, refl, sym, subst, List}
-use Rattle.std.specs.Prelude.{Ok}
+use Rattle.std.specs.Prelude.{None, Ok}
 use Rattle.sd_site.specs.CardFields.{card_fields_of}
 use Rattle.sd_engine.specs.Stage.{vessel}
 use Rattle.sd_message.specs.declared.stream_fault.StreamFault.TheVariants.{BadEcm}
@@ -7,9 +7,10 @@ use Rattle.sd_spec.specs.Heard.{Heard, Controls}
 use Rattle.sd_spec.specs.Stretches.{current}
 use Rattle.sd_receive.specs.Collected.{IsCollected, IsComplete, PartOutcome}
 use Rattle.sd_receive.specs.declared.collect.Taken.{Taken}
-use Rattle.sd_receive.specs.Listening.{TakesHeard, RefusesHeard, TakesMessage, RefusesMessage}
+use Rattle.sd_receive.specs.Listening.{TakesHeard, RefusesHeard, TakesMessage, RefusesMessage, IsStill}
 use Rattle.sd_receive.specs.declared.listener.Listener.{Listener}
-use Rattle.sd_receive.proofs.Listening.{took_nothing, part_waiting, part_bad, comes_weaker, message_heard}
+use Rattle.sd_receive.proofs.Listening.{took_nothing, part_waiting, part_bad, part_left, comes_weaker}
+use Rattle.sd_receive.proofs.Listening.{message_heard}
 use Rattle.sd_receive.proofs.listener.Listener.control.Goals as goal
 
 pub returns-in-Ok-Waits-clause-value : goal.returns-in-Ok-Waits-clause-value
@@ -24,7 +25,7 @@ returns-in-Ok-Waits-clause-value g c =
       written = s.written;
     } in
     took_nothing (vessel g.K.Sink c.args.out.now)
-    (TakesHeard (card_fields_of c.args.card.now) c.args.tuning c.args.number (Controls c.args.part.now) s t)
+    (TakesHeard (card_fields_of c.args.card.now) c.args.tuning c.args.number (Controls c.args.part.now) None s t)
     (part_waiting (card_fields_of c.args.card.now) c.args.tuning c.args.number c.args.part.now s t refl refl refl
     refl
     (λ past collects now. subst (λ (taken : Taken). PartOutcome past c.args.part.now c.take.new.self (Ok taken))
@@ -72,11 +73,11 @@ returns-in-Ok-Complete-clause-value g c =
     c.in-Ok-Complete.field-0-is
     (c.in-Ok-Complete.ensures.value past collects (now ∙ sym c.period.ensures)) in
     comes_weaker (TakesMessage card c.args.tuning c.args.number head t)
-    (TakesHeard card c.args.tuning c.args.number (Controls c.args.part.now) s)
+    (TakesHeard card c.args.tuning c.args.number (Controls c.args.part.now) None s)
     (RefusesMessage card c.args.tuning c.args.number head t)
     (RefusesHeard card c.args.tuning c.args.number (Controls c.args.part.now) s)
     (vessel g.K.Sink c.args.out.now) (vessel g.K.Sink c.complete.new.out) c.complete.new.self c.complete.result
-    (λ x bytes takes past follows unclosed. takes past c.args.part.now
+    (λ x bytes takes past follows unclosed judged. takes past c.args.part.now
     (message_heard card c.args.tuning c.args.number c.args.part.now head s t refl refl refl done past follows
     unclosed))
     (λ fault bytes refuses past follows unclosed. refuses past c.args.part.now
@@ -92,7 +93,35 @@ returns-in-Err-clause-value g c =
     (BadEcm c.args.number c.in-Err.fault))
     (part_bad (card_fields_of c.args.card.now) c.args.tuning c.args.number c.args.part.now c.args.self.now
     c.in-Err.fault
-    (λ past collects now. c.in-Err.ensures.value past collects (now ∙ sym c.period.ensures)))
+    (λ past collects now. (c.in-Err.ensures.value past collects (now ∙ sym c.period.ensures)).0))
 
 pub returns-in-Ok-Complete-clause-cause : goal.returns-in-Ok-Complete-clause-cause
 returns-in-Ok-Complete-clause-cause g c = c.complete.ensures.cause
+
+pub returns-in-Ok-Complete-clause-stands : goal.returns-in-Ok-Complete-clause-stands
+returns-in-Ok-Complete-clause-stands g c = λ fault is.
+    let s = c.args.self.now in
+    let card = card_fields_of c.args.card.now in
+    let t : Listener = record {
+      closed = s.closed;
+      entitled = s.entitled;
+      collect = c.take.new.self;
+      segment =
+          s.segment;
+      written = s.written;
+    } in
+    let taken = subst (λ (taken : Taken). (past : List Heard) → IsCollected past s.collect →
+    current past ≡ c.period.result → PartOutcome past c.args.part.now c.take.new.self (Ok taken))
+    c.in-Ok-Complete.field-0-is c.in-Ok-Complete.ensures.value in
+    subst (λ (x : Listener). IsStill card s x) (sym (c.complete.ensures.unchanged fault is)) (record {
+      follows = λ past follows. part_left card past s t refl refl refl
+          (taken past follows.collect (sym follows.entitled.period ∙ sym c.period.ensures)).before follows;
+      written = refl;
+    })
+
+pub returns-in-Err-clause-stands : goal.returns-in-Err-clause-stands
+returns-in-Err-clause-stands g c = λ fault is. record {
+  follows = λ past follows. part_left (card_fields_of c.args.card.now) past c.args.self.now _ refl refl refl
+      (c.in-Err.ensures.value past follows.collect (sym follows.entitled.period ∙ sym c.period.ensures)).1 follows;
+  written = refl;
+}

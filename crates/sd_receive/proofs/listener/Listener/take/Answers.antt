@@ -7,8 +7,8 @@ use Rattle.sd_receive.specs.Ears.{heard_as, IsFormed}
 use Rattle.sd_message.specs.declared.stream_fault.StreamFault.TheVariants.{BadEmm, BadEcm}
 use Rattle.sd_receive.specs.Listening.{TakesHeard, RefusesHeard, PacketOutcome}
 use Rattle.sd_receive.specs.declared.listener.Listener.{Listener}
-use Rattle.sd_receive.proofs.Listening.{took_nothing, dropped_heard, other_heard, section_taken, section_refused}
-use Rattle.sd_receive.proofs.Listening.{bad_section, bad_part}
+use Rattle.sd_receive.proofs.Listening.{took_nothing, dropped_heard, other_heard, section_taken}
+use Rattle.sd_receive.proofs.Listening.{bad_section, bad_part, still}
 use Rattle.sd_receive.proofs.listener.Listener.take.Goals as goal
 
 pub returns-in-Dropped-clause-value : goal.returns-in-Dropped-clause-value
@@ -16,10 +16,10 @@ returns-in-Dropped-clause-value g c =
     let s = c.args.self.now in
     let card = card_fields_of c.args.card.now in
     took_nothing (vessel g.K.Sink c.args.out.now)
-    (TakesHeard card c.args.tuning c.args.number (heard_as c.args.number c.args.packet.now c.args.heard) s
-    s) (subst (λ (h : Heard). TakesHeard card c.args.tuning c.args.number h s s [])
+    (TakesHeard card c.args.tuning c.args.number (heard_as c.args.number c.args.packet.now c.args.heard)
+    c.args.key s s) (subst (λ (h : Heard). TakesHeard card c.args.tuning c.args.number h c.args.key s s [])
     (ap (heard_as c.args.number c.args.packet.now) (sym c.in-Dropped.is))
-    (dropped_heard card c.args.tuning c.args.number s))
+    (dropped_heard card c.args.tuning c.args.number s c.args.key))
 
 pub returns-in-Other-clause-value : goal.returns-in-Other-clause-value
 returns-in-Other-clause-value g c =
@@ -34,46 +34,36 @@ returns-in-Other-clause-value g c =
       written = s.written;
     } in
     took_nothing (vessel g.K.Sink c.args.out.now)
-    (TakesHeard card c.args.tuning c.args.number (heard_as c.args.number c.args.packet.now c.args.heard) s
-    t) (subst (λ (h : Heard). TakesHeard card c.args.tuning c.args.number h s t [])
+    (TakesHeard card c.args.tuning c.args.number (heard_as c.args.number c.args.packet.now c.args.heard)
+    c.args.key s t) (subst (λ (h : Heard). TakesHeard card c.args.tuning c.args.number h c.args.key s t [])
     (ap (heard_as c.args.number c.args.packet.now) (sym c.in-Other.is))
-    (other_heard card c.args.tuning c.args.number c.args.packet.now s t refl refl refl refl c.hold.ensures))
+    (other_heard card c.args.tuning c.args.number c.args.packet.now s t refl refl refl refl c.hold.ensures
+    c.args.key))
 
-pub returns-in-Ok-clause-value : goal.returns-in-Ok-clause-value
-returns-in-Ok-clause-value g c =
+pub returns-in-Entitles-clause-value : goal.returns-in-Entitles-clause-value
+returns-in-Entitles-clause-value g c =
     let s = c.args.self.now in
     let card = card_fields_of c.args.card.now in
     let t : Listener = record {
       closed = s.closed;
-      entitled = c.section.new.self;
+      entitled = c.keep.new.self;
       collect = s.collect;
       segment =
           s.segment;
       written = s.written;
     } in
     took_nothing (vessel g.K.Sink c.args.out.now)
-    (TakesHeard card c.args.tuning c.args.number (heard_as c.args.number c.args.packet.now c.args.heard) s
-    t) (subst (λ (h : Heard). TakesHeard card c.args.tuning c.args.number h s t [])
+    (TakesHeard card c.args.tuning c.args.number (heard_as c.args.number c.args.packet.now c.args.heard)
+    c.args.key s t) (subst (λ (h : Heard). TakesHeard card c.args.tuning c.args.number h c.args.key s t [])
     (ap (heard_as c.args.number c.args.packet.now) (sym c.in-Entitles.is))
     (section_taken card c.args.tuning c.args.number c.in-Entitles.emm.now s t refl refl refl refl
-    (λ past entitled. c.in-Ok.ensures.ok past entitled) (λ past entitled. c.in-Ok.ensures.fault past entitled)))
-
-pub returns-in-Err-clause-value : goal.returns-in-Err-clause-value
-returns-in-Err-clause-value g c =
-    let s = c.args.self.now in
-    let card = card_fields_of c.args.card.now in
-    took_nothing (vessel g.K.Sink c.args.out.now)
-    (RefusesHeard card c.args.tuning c.args.number (heard_as c.args.number c.args.packet.now c.args.heard) s
-    c.in-Err.fault) (subst (λ (h : Heard). RefusesHeard card c.args.tuning c.args.number h s c.in-Err.fault [])
-    (ap (heard_as c.args.number c.args.packet.now) (sym c.in-Entitles.is))
-    (section_refused card c.args.tuning c.args.number c.in-Entitles.emm.now s c.in-Err.fault
-    (λ past entitled. c.in-Err.ensures.fault past entitled)))
+    c.args.key (λ past entitled judged. c.keep.ensures card c.args.number past entitled judged)))
 
 pub returns-in-Controls-clause-value : goal.returns-in-Controls-clause-value
 returns-in-Controls-clause-value g c =
     let s = c.args.self.now in
     let card = card_fields_of c.args.card.now in
-    subst (λ (h : Heard). PacketOutcome (TakesHeard card c.args.tuning c.args.number h s)
+    subst (λ (h : Heard). PacketOutcome (TakesHeard card c.args.tuning c.args.number h c.args.key s)
     (RefusesHeard card c.args.tuning c.args.number h s) (vessel g.K.Sink c.args.out.now)
     (vessel g.K.Sink c.control.new.out) c.control.new.self c.control.result)
     (ap (heard_as c.args.number c.args.packet.now) (sym c.in-Controls.is)) c.control.ensures.value
@@ -100,10 +90,19 @@ returns-in-BadEcm-clause-value g c =
     (ap (heard_as c.args.number c.args.packet.now) (sym c.in-BadEcm.is))
     (bad_part card c.args.tuning c.args.number c.in-BadEcm.fault s))
 
-pub section-requires-clause-sets : goal.section-requires-clause-sets
-section-requires-clause-sets g c =
-    (subst (λ (h : Kept). IsFormed c.args.card.now.height h) c.in-Entitles.is c.requires.form).1
+pub keep-requires : goal.keep-requires
+keep-requires g c =
+    (subst (λ (h : Kept). IsFormed c.args.card.now.height h) c.in-Entitles.is c.requires.form).0
 
 pub control-requires-clause-form : goal.control-requires-clause-form
 control-requires-clause-form g c =
     subst (λ (h : Kept). IsFormed c.args.card.now.height h) c.in-Controls.is c.requires.form
+
+pub returns-in-Controls-clause-stands : goal.returns-in-Controls-clause-stands
+returns-in-Controls-clause-stands g c = c.control.ensures.stands
+
+pub returns-in-BadEmm-clause-stands : goal.returns-in-BadEmm-clause-stands
+returns-in-BadEmm-clause-stands g c = λ fault is. still (card_fields_of c.args.card.now) c.args.self.now
+
+pub returns-in-BadEcm-clause-stands : goal.returns-in-BadEcm-clause-stands
+returns-in-BadEcm-clause-stands g c = λ fault is. still (card_fields_of c.args.card.now) c.args.self.now

@@ -28,6 +28,9 @@ returns-in_default-clause-ok g c = record {
 pub returns-in_default-clause-fault : goal.returns-in_default-clause-fault
 returns-in_default-clause-fault g c = λ fault is. ok_is_no_err (Refused fault) is
 
+pub returns-in_default-clause-stands : goal.returns-in_default-clause-stands
+returns-in_default-clause-stands g c = λ fault is. ok_is_no_err (Refused fault) is
+
 pub returns-in_default-clause-prefix : goal.returns-in_default-clause-prefix
 returns-in_default-clause-prefix g c = λ failed. ok_is_no_err Write failed
 
@@ -57,6 +60,9 @@ returns-in-Cat-clause-unrefused g c = c.take_heard.ensures.unrefused
 
 pub returns-in-Cat-clause-fault : goal.returns-in-Cat-clause-fault
 returns-in-Cat-clause-fault g c = c.take_heard.ensures.fault
+
+pub returns-in-Cat-clause-stands : goal.returns-in-Cat-clause-stands
+returns-in-Cat-clause-stands g c = c.take_heard.ensures.stands
 
 pub returns-in-Cat-clause-prefix : goal.returns-in-Cat-clause-prefix
 returns-in-Cat-clause-prefix g c = c.take_heard.ensures.prefix
@@ -88,6 +94,9 @@ returns-in-Emm-clause-unrefused g c = c.take_emm.ensures.unrefused
 pub returns-in-Emm-clause-fault : goal.returns-in-Emm-clause-fault
 returns-in-Emm-clause-fault g c = c.take_emm.ensures.fault
 
+pub returns-in-Emm-clause-stands : goal.returns-in-Emm-clause-stands
+returns-in-Emm-clause-stands g c = c.take_emm.ensures.stands
+
 pub returns-in-Emm-clause-prefix : goal.returns-in-Emm-clause-prefix
 returns-in-Emm-clause-prefix g c = c.take_emm.ensures.prefix
 
@@ -118,6 +127,9 @@ returns-in-Ecm-clause-unrefused g c = c.take_ecm.ensures.unrefused
 pub returns-in-Ecm-clause-fault : goal.returns-in-Ecm-clause-fault
 returns-in-Ecm-clause-fault g c = c.take_ecm.ensures.fault
 
+pub returns-in-Ecm-clause-stands : goal.returns-in-Ecm-clause-stands
+returns-in-Ecm-clause-stands g c = c.take_ecm.ensures.stands
+
 pub returns-in-Ecm-clause-prefix : goal.returns-in-Ecm-clause-prefix
 returns-in-Ecm-clause-prefix g c = c.take_ecm.ensures.prefix
 
@@ -144,6 +156,9 @@ returns-in-Other-clause-unrefused g c = c.take_heard-in-Other.ensures.unrefused
 
 pub returns-in-Other-clause-fault : goal.returns-in-Other-clause-fault
 returns-in-Other-clause-fault g c = c.take_heard-in-Other.ensures.fault
+
+pub returns-in-Other-clause-stands : goal.returns-in-Other-clause-stands
+returns-in-Other-clause-stands g c = c.take_heard-in-Other.ensures.stands
 
 pub returns-in-Other-clause-prefix : goal.returns-in-Other-clause-prefix
 returns-in-Other-clause-prefix g c = c.take_heard-in-Other.ensures.prefix
