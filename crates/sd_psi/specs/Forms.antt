@@ -108,12 +108,9 @@ unfoldable pub form_fault : Table → List ℕ → Option FormFault
 form_fault table packet = or_next (outer_fault table packet)
     (fault_unless (has_form table (section_in packet)) Fault.Descriptor)
 
--- of a PAT, a CAT and a PMT
+-- of a PAT and a CAT
 abbrev pub pat_fault : List ℕ → Option FormFault
 pat_fault packet = form_fault Pat packet
 
 abbrev pub cat_fault : List ℕ → Option FormFault
 cat_fault packet = form_fault Cat packet
-
-abbrev pub pmt_fault : List ℕ → Option FormFault
-pmt_fault packet = form_fault Pmt packet

@@ -21,7 +21,7 @@ pub use descriptor::{CA_TAG, CaDescriptor, Descriptor, Descriptors};
 pub use fault::FormFault;
 pub use our_cat::{CAT_HEADER, CAT_PID, Tuning, cat_descriptor, cat_tuning};
 pub use pat::{Pat, pat_in, pat_of};
-pub use pmt::{Pmt, pmt_in, pmt_of};
+pub use pmt::{Pmt, pmt_in};
 pub use program::{PmtPids, Programs};
 pub use rewrite::{restore_pmt, rewrite_pmt};
 pub use stream::{Stream, Streams};

@@ -1,19 +1,15 @@
-ghost use Rattle.std.specs.Prelude.{◌≡◌, ◌+◌, ◌<◌, ◌↔◌, true, false, Some, None, IfOk, MatchResult, IsNone};
+ghost use Rattle.std.specs.Prelude.{◌≡◌, ◌+◌, ◌<◌, ◌↔◌, true, false, IsNone};
 ghost use Rattle.std.specs.Prelude.{IfSome, IsTrue, length};
 ghost use Rattle.sd_section.specs.Header.{extension_of, version_of, current_of};
-ghost use Rattle.sd_packet.specs.Header.{payload_start_of};
-ghost use Rattle.sd_psi.specs.Forms.{section_in, pmt_fault};
 ghost use Rattle.sd_psi.specs.Rewriting.{is_first};
 ghost use Rattle.sd_psi.specs.Tables.{are_descriptors, pcr_of, has_info, info_of, loop_of, streams_in};
 ghost use Rattle.sd_psi.specs.Tables.{streams_of, are_streams as are_streams_of, is_pmt};
 
 use crate::descriptor::Descriptors;
-use crate::fault::FormFault;
-use crate::form::{Table, read};
+use crate::form::Table;
 use crate::items::{Kind, fill, size};
 use crate::stream::Streams;
 use sd_base::fields;
-use sd_packet::Packet;
 use sd_section::Section;
 
 /// A section of a program map table (ISO/IEC 13818-1, 2.4.4.8).
@@ -73,17 +69,6 @@ fn are_streams(bytes: &[u8]) -> bool
         at += size;
     }
     true
-}
-
-/// The PMT that the packet is by itself.
-#[tactic(auto, using(crate::proofs::Judging::outer_first, crate::proofs::Judging::then_good, crate::proofs::Judging::then_loops))]
-pub fn pmt_of<'a>(packet: &'a Packet) -> Result<Pmt<'a>, FormFault>
-    requires { payload_start_of packet.now < 188 }
-    ensures value { IfOk result (λ pmt. pmt.section.bytes.now ≡ section_in packet.now) }
-    ensures fault { MatchResult result (λ _. pmt_fault packet.now ≡ None) (λ fault. pmt_fault packet.now ≡ Some fault) }
-{
-    let section = read(Table::Pmt, packet)?;
-    pmt_in(&section).ok_or(FormFault::Descriptor)
 }
 
 impl<'a> Pmt<'a> {

@@ -11,7 +11,6 @@ use Rattle.sd_spec.specs.Offered.{break_from}
 use Rattle.sd_spec.specs.declared.ending.Ending.{Ending}
 use Rattle.sd_spec.specs.declared.ending.Ending.TheVariants as end
 use Rattle.sd_message.specs.declared.stream_fault.StreamFault.{StreamFault}
-use Rattle.sd_message.specs.declared.stream_fault.StreamFault.TheVariants as fault
 use Rattle.sd_command_base.specs.declared.status.Status.{Status}
 use Rattle.sd_command_base.specs.Spec.{Spec, FileArgument, and_then, ◌>>=◌}
 use Rattle.sd_command_base.specs.Work.{StepBound, Out, Work}
@@ -99,11 +98,7 @@ pub received_apart : (card : CardFields) (packets : List (List ℕ)) (refusal : 
 received_apart card packets None Whole e = ended_apart card packets e
 received_apart card packets None (Breaks found) e = e
 received_apart card packets None RunsOn e = e
-received_apart card packets (Some (fault.WrongKey packet period found due)) end e = e
-received_apart card packets (Some (fault.WrongWord packet word found due)) end e = e
-received_apart card packets (Some (fault.BadEmm packet emm)) end e = e
-received_apart card packets (Some (fault.BadEcm packet ecm)) end e = e
-received_apart card packets (Some (fault.Parity packet)) end e = e
+received_apart card packets (Some fault) end e = e
 
 pub stream_received : (card : CardFields) (bytes : List ℕ) → RefusesFirst (received_status card bytes) → ⊥
 unfolding received_status

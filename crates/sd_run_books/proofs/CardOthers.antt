@@ -1,5 +1,5 @@
 -- No command of this crate ever means `Usage`.
-use Rattle.std.proofs.Common.{ℕ, Bool, true, false, cond, List, Option, Ok, Err, ◌+◌, length, ◌^◌, Some, None}
+use Rattle.std.proofs.Common.{ℕ, Bool, true, false, cond, List, Option, Ok, Err, ◌+◌, length, ◌^◌}
 use Rattle.std.specs.Prelude.{nat_le, ◌&&◌, nat_lt, if◌then◌else◌}
 use Rattle.sd_tree.specs.Limits.{most_revoked}
 use Rattle.sd_book.specs.declared.command.Command.{Command}
@@ -11,6 +11,7 @@ use Rattle.sd_command_base.specs.Work.{work_of_text, Uncounted}
 use Rattle.sd_command_base.specs.Both.{both_by}
 use Rattle.sd_command_base.proofs.Others.{IsOther, other_after, other_both, other_site_file, other_book_file}
 use Rattle.sd_command_base.proofs.Others.{other_leaves_file, other_file}
+use Rattle.sd_command_base.proofs.CardFaults.{other_unless}
 use Rattle.sd_command_base.specs.Shown.{NumberArgument}
 use Rattle.sd_command_base.specs.Files.{site_of_file, book_of_file, most_card_bytes}
 use Rattle.sd_command_base.specs.Leaves.{leaves_of_file}
@@ -20,13 +21,12 @@ use Rattle.sd_run_books.specs.Opens.{opening, opens_meaning}
 use Rattle.sd_run_books.specs.Trace.{revoked_last, trace_text, traced, trace_meaning}
 use Rattle.sd_site.specs.SiteFields.{SiteFields}
 use Rattle.sd_site.specs.CardFields.{card_of, card_bytes}
-use Rattle.sd_site.specs.declared.card_fault.CardFault.{CardFault}
 use Rattle.sd_site.specs.CardFaults.{fault_in}
 use Rattle.sd_lsd.specs.Fields.{layer_card_of, layer_bytes}
 use Rattle.sd_command_base.specs.Made.{making}
 use Rattle.sd_run_books.specs.Card.{told_card, card_meaning}
 use Rattle.sd_run_books.specs.Lcard.{told_leaf, told_width, carding, lcard_meaning}
-use Rattle.sd_run_books.specs.Show.{card_line, line_of_file, line_unless, show_meaning, told_show}
+use Rattle.sd_run_books.specs.Show.{card_line, line_of_file, show_meaning, told_show}
 
 -- what a word says, or its refusal
 other_word : {A : Type 0} (b : Bool) (x : A) (word : ℕ) → IsOther (cond b (Ok x) (Err (BadWord word)))
@@ -130,19 +130,15 @@ other_lcard site leaf width out given =
     (λ w. value (making Uncounted out (layer_bytes (layer_card_of fields.master fields.ca fields.height w u))))
     (other_word (nat_le 1 width.value && nat_le width.value fields.height) width.value width.word) (λ w. tt)))
 
-other_unless : (fault : Option CardFault) (line : List ℕ) → IsOther (line_unless fault line)
-other_unless None line = tt
-other_unless (Some fault) line = λ e. cc
-
-other_line : (bytes : List ℕ) → IsOther (told_show bytes)
+other_line : (word : ℕ) (bytes : List ℕ) → IsOther (told_show word bytes)
 unfolding told_show
-other_line bytes = other_unless (fault_in bytes) (card_line bytes)
+other_line word bytes = other_unless word (fault_in bytes) (card_line bytes)
 
 other_line_file : (word : ℕ) (got : Option (List ℕ)) → IsOther (line_of_file word got).result
 unfolding line_of_file
 other_line_file word got =
     other_after (within word most_card_bytes CardBytes got).calls (within word most_card_bytes CardBytes got).result
-    (λ bytes. judged (told_show bytes)) (other_file word most_card_bytes CardBytes got) other_line
+    (λ bytes. judged (told_show word bytes)) (other_file word most_card_bytes CardBytes got) (other_line word)
 
 pub other_show : (card : FileArgument) (given : Readings) → IsOther (show_meaning card given).result
 other_show card given =

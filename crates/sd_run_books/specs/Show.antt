@@ -1,17 +1,15 @@
 -- Public meaning: `show CARD` [this project, docs/FORMATS.md, Card].
-use Rattle.std.specs.Prelude.{ℕ, ◌+◌, ◌*◌, ◌/◌, List, [], ◌∷◌, ◌++◌, codes, Option, Some, None, Result, Ok, Err}
+use Rattle.std.specs.Prelude.{ℕ, ◌+◌, ◌*◌, ◌/◌, List, [], ◌∷◌, ◌++◌, codes, Option, Result}
 use Rattle.hex.specs.Hex.{encode_lower}
 use Rattle.serde_json.specs.Data.{Data, number, unsigned, string, object, member, no_members}
 use Rattle.serde_json.specs.Written.{compact_text}
-use Rattle.sd_site.specs.declared.card_fault.CardFault.{CardFault}
 use Rattle.sd_site.specs.CardFaults.{height_in, leaf_in, ca_in, fault_in}
 use Rattle.sd_site.specs.Files.{check_in}
 use Rattle.sd_command_base.specs.declared.status.Status.{Status}
-use Rattle.sd_command_base.specs.declared.status.Status.TheVariants.{BadCard}
 use Rattle.sd_command_base.specs.declared.status.LimitKind.TheVariants.{CardBytes}
 use Rattle.sd_command_base.specs.Spec.{Spec, FileArgument, Readings, within, judged, value, ◌>>=◌}
 use Rattle.sd_command_base.specs.Work.{Work, work_of_text}
-use Rattle.sd_command_base.specs.Files.{most_card_bytes}
+use Rattle.sd_command_base.specs.Files.{card_unless, most_card_bytes}
 
 -- the number of labels in a card at height d, the key of the whole set not among them [Naor, Naor, Lotspiech 2001, 3.2]
 abbrev pub labels_for : ℕ → ℕ
@@ -37,18 +35,13 @@ shown_line height leaf ca check = compact_text (shown_data height leaf ca check)
 abbrev pub card_line : List ℕ → List ℕ
 card_line bytes = shown_line (height_in bytes) (leaf_in bytes) (ca_in bytes) (check_in bytes)
 
--- a line, if nothing is wrong with the card's file
-abbrev pub line_unless : Option CardFault → List ℕ → Result (List ℕ) Status
-line_unless None line = Ok line
-line_unless (Some fault) line = Err (BadCard fault)
-
--- the line of the card that a file's bytes are
-unfoldable pub told_show : List ℕ → Result (List ℕ) Status
-told_show bytes = line_unless (fault_in bytes) (card_line bytes)
+-- the line of the card that the bytes of this word's file are
+unfoldable pub told_show : ℕ → List ℕ → Result (List ℕ) Status
+told_show word bytes = card_unless word (fault_in bytes) (card_line bytes)
 
 -- the line of what the file of this word gave
 unfoldable pub line_of_file : ℕ → Option (List ℕ) → Spec (List ℕ)
-line_of_file word got = within word most_card_bytes CardBytes got >>= λ bytes. judged (told_show bytes)
+line_of_file word got = within word most_card_bytes CardBytes got >>= λ bytes. judged (told_show word bytes)
 
 -- the work that the card's file says
 abbrev pub show_meaning : FileArgument → Readings → Spec Work

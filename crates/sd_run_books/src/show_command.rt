@@ -35,15 +35,15 @@ fn read_line<D: Depot>(alloc: Global, depot: &mut D, word: Word<'_>) -> Result<S
         (depot_state D.Depot depot.old) (depot_state D.Depot depot.new) result }
 {
     let bytes = read_card_bytes(alloc, depot, word)?;
-    judge_card(alloc, &bytes)
+    judge_card(alloc, word.number, &bytes)
 }
 
-/// The line of the card that a file's bytes are.
-fn judge_card(alloc: Global, bytes: &[u8]) -> Result<String, Status>
-    ensures { JudgedOutcome (λ line. string_bytes line) (told_show bytes.now) result }
+/// The line of the card that the bytes of this word's file are.
+fn judge_card(alloc: Global, word: u8, bytes: &[u8]) -> Result<String, Status>
+    ensures { JudgedOutcome (λ line. string_bytes line) (told_show word bytes.now) result }
 {
     match Card::read(alloc, bytes) {
         Ok(card) => Ok(line_of(alloc, &card, bytes)?),
-        Err(fault) => Err(card_fault(fault)),
+        Err(fault) => Err(card_fault(word, fault)),
     }
 }

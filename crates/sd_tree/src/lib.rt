@@ -19,4 +19,4 @@ pub use leaf::{Leaf, MOST_REVOKED};
 pub use name::Name;
 pub use node::{child_towards, depth, is_above, lowest_common};
 pub use path::{leaf_node, path_node, sibling};
-pub use set::{SetName, compare_names, contains, leaves_of};
+pub use set::{SetName, compare_names, contains};

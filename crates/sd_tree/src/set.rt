@@ -1,11 +1,11 @@
-ghost use Rattle.std.specs.Prelude.{◌≡◌, ◌+◌, ◌-◌, ◌^◌, ◌<◌, ◌≤◌, ◌↔◌, ◌==◌, if◌then◌else◌};
-ghost use Rattle.std.specs.Prelude.{IsNone, IfSome, Some, length, filter};
-ghost use Rattle.sd_tree.specs.Leaves.{leaves, is_below, is_member, members};
+ghost use Rattle.std.specs.Prelude.{◌≡◌, ◌+◌, ◌^◌, ◌<◌, ◌↔◌, ◌==◌, if◌then◌else◌};
+ghost use Rattle.std.specs.Prelude.{IsNone, IfSome, Some};
+ghost use Rattle.sd_tree.specs.Leaves.{is_member};
 ghost use Rattle.sd_tree.specs.SetNames.{IsPair, IsOfHeight, set_cmp};
 
 use crate::height::Height;
 use crate::leaf::Leaf;
-use crate::node::{depth, is_above};
+use crate::node::is_above;
 use std::cmp::Ordering;
 
 /// The name of a set of leaves: all of them, or S(i,j), those below node i that aren't below j
@@ -59,26 +59,4 @@ pub fn contains(h: Height, name: SetName, u: Leaf) -> bool
         SetName::Whole => true,
         SetName::Diff { i, j } => is_above(i, node) && !is_above(j, node),
     }
-}
-
-/// The number of leaves in the set.
-#[tactic(auto, using(crate::proofs::Members::count_pair, crate::proofs::Members::count_whole, crate::proofs::Members::lower_is_node, crate::proofs::Members::upper_is_node))]
-pub fn leaves_of(h: Height, name: SetName) -> u32
-    requires { IsOfHeight h name }
-    ensures { result ≡ length (members h name) }
-{
-    match name {
-        SetName::Whole => h.leaves(),
-        SetName::Diff { i, j } => leaves_below(h, i) - leaves_below(h, j),
-    }
-}
-
-// How many leaves are below the node.
-#[tactic(auto, using(crate::proofs::Members::count_below, crate::proofs::Ancestors::depth_within))]
-fn leaves_below(h: Height, v: u32) -> u32
-    requires low { 1 ≤ v }
-    requires high { v < 2 ^ (h + 1) }
-    ensures { result ≡ length (filter (is_below h v) (leaves h)) }
-{
-    1 << (u32::from(h.get()) - depth(v))
 }
