@@ -1,9 +1,10 @@
 -- Public meaning: what a refusal is to a user, on the standard error [this project, docs/FORMATS.md, Explanations].
 use Rattle.std.specs.Prelude.{ℕ, List, [], ◌∷◌, ◌++◌, codes, length, slice_get, Option, Some, None, zero, suc}
-use Rattle.std.specs.Prelude.{if◌then◌else◌, ◌==◌, ◌||◌, Bool, false, bytes_eq}
+use Rattle.std.specs.Prelude.{if◌then◌else◌, ◌==◌, ◌||◌}
 use Rattle.sd_command_line.specs.declared.command.Command.{Command}
 use Rattle.sd_command_line.specs.declared.operand.Operand.{Operand}
 use Rattle.sd_command_line.specs.Commands.{command_named, operands_of}
+use Rattle.sd_command_line.specs.Escaped.{escaped}
 use Rattle.sd_command_line.specs.Operands.{operand_name}
 use Rattle.sd_command_base.specs.declared.status.Status.{Status}
 use Rattle.sd_command_base.specs.declared.status.Status.TheVariants.{Usage, Missing, BadSite, BadBook, BadCard}
@@ -37,7 +38,7 @@ argument_of (command ∷ texts) (suc place) = argument_at (command_named command
 -- the line of an argument: its name, its text and why it is refused
 unfoldable pub argument_line : List ℕ → Operand × List ℕ → List ℕ
 argument_line reason (operand, text) =
-    codes "sdca: " ++ (operand_name operand ++ (codes " " ++ (text ++ (codes ": " ++ (reason ++ codes "\n")))))
+    codes "sdca: " ++ (operand_name operand ++ (codes " " ++ (escaped text ++ (codes ": " ++ (reason ++ codes "\n")))))
 
 -- the line of the argument that was found, or none
 abbrev pub found_line : Option (Operand × List ℕ) → (Operand → List ℕ) → List ℕ
@@ -48,31 +49,9 @@ found_line (Some argument) reason = argument_line (reason argument.0) argument
 abbrev pub of_argument : List (List ℕ) → ℕ → (Operand → List ℕ) → List ℕ
 of_argument words number reason = found_line (argument_of words number) reason
 
--- the words are of a command that reads two sites, the first and the third of its arguments
-abbrev pub has_two_sites : List (List ℕ) → Bool
-has_two_sites [] = false
-has_two_sites (name ∷ texts) = bytes_eq name (codes "apart")
-
--- the line of two sites of which one is refused: the status doesn't say which
-unfoldable pub sites_line : List ℕ → List ℕ → List ℕ → List ℕ
-sites_line reason first second =
-    codes "sdca: SITE " ++ (first ++ (codes " or SITE " ++ (second ++ (codes ": " ++ (reason ++ codes "\n")))))
-
--- the line of the two sites that were found, or none
-abbrev pub of_sites : Option (Operand × List ℕ) → Option (Operand × List ℕ) → List ℕ → List ℕ
-of_sites None second reason = []
-of_sites (Some first) None reason = []
-of_sites (Some first) (Some second) reason = sites_line reason first.1 second.1
-
--- the line of a refused site
-abbrev pub site_line : List (List ℕ) → List ℕ → List ℕ
-site_line words reason =
-    if has_two_sites words then of_sites (argument_of words 1) (argument_of words 3) reason
-    else of_argument words 1 (λ operand. reason)
-
 -- the line of a word that is refused, which leads to the list of commands
 unfoldable pub word_line : List ℕ → List ℕ → List ℕ
-word_line reason word = codes "sdca: " ++ (word ++ (codes ": " ++ (reason ++ codes "; see sdca help\n")))
+word_line reason word = codes "sdca: " ++ (escaped word ++ (codes ": " ++ (reason ++ codes "; see sdca help\n")))
 
 -- the line of a command with a wrong number of arguments, which leads to the command's page
 unfoldable pub count_line : List ℕ → List ℕ
@@ -111,13 +90,12 @@ unfoldable pub usage_line : List (List ℕ) → List ℕ
 usage_line [] = codes "sdca: no command is given; see sdca help\n"
 usage_line (name ∷ texts) = named_line (name ∷ texts) name texts
 
--- The line that explains a status to a user, or no text if the status is about no argument. The site and the card are
--- the first arguments of their commands.
+-- the line that explains a status to a user, or no text if the status is about no argument
 unfoldable pub explained : List (List ℕ) → Status → List ℕ
 explained words Usage = usage_line words
 explained words (Missing word) = of_argument words word (λ operand. missing_reason operand)
-explained words (BadSite fault) = site_line words (site_reason fault)
+explained words (BadSite word fault) = of_argument words word (λ operand. site_reason fault)
 explained words (BadBook word line) = of_argument words word (λ operand. line_reason operand line)
-explained words (BadCard fault) = of_argument words 1 (λ operand. card_reason fault)
+explained words (BadCard word fault) = of_argument words word (λ operand. card_reason fault)
 explained words (BadWord word) = of_argument words word (λ operand. range_reason operand)
 explained words status = []

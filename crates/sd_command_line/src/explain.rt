@@ -1,24 +1,17 @@
 ghost use Rattle.std.specs.Prelude.{◌≡◌, map, string_bytes, IfOk};
-ghost use Rattle.sd_command_line.specs.Explained.{argument_line, argument_of, command_line, count_line, explained};
-ghost use Rattle.sd_command_line.specs.Explained.{has_two_sites as two_sites, help_line, of_argument, of_sites};
-ghost use Rattle.sd_command_line.specs.Explained.{shown, site_line, sites_line, topic_line, usage_line, word_line};
 ghost use Rattle.sd_command_line.specs.CommandLine.{words_of};
-ghost use Rattle.sd_command_line.specs.Reasons.{card_reason, missing_reason, output_reason, range_reason};
-ghost use Rattle.sd_command_line.specs.Reasons.{line_reason};
-ghost use Rattle.sd_command_line.specs.Reasons.{site_reason};
+ghost use Rattle.sd_command_line.specs.Explained.{argument_line, command_line, count_line, explained, help_line};
+ghost use Rattle.sd_command_line.specs.Explained.{of_argument, shown, topic_line, usage_line, word_line};
+ghost use Rattle.sd_command_line.specs.Reasons.{card_reason, line_reason, missing_reason, output_reason};
+ghost use Rattle.sd_command_line.specs.Reasons.{range_reason, site_reason};
 
+use crate::escape::escaped;
 use crate::found::{Argument, find_argument};
 use crate::order::{is_help, is_version};
 use crate::{CommandLine, reason};
 use sd_command_base::Status;
 use sd_site::{CardFault, SiteFault};
 use std::alloc::{AllocError, Global};
-
-/// The number of the argument that is a site or a card.
-const FIRST: u8 = 1;
-
-/// The number of the argument that is a second site.
-const SECOND_SITE: u8 = 3;
 
 /// The line that explains a status to a user, or no text if the status is about no argument.
 #[tactic(auto, unfolding(crate::specs::Explained::explained))]
@@ -32,9 +25,9 @@ pub fn explanation(
     match status {
         Status::Usage => usage(alloc, line),
         Status::Missing(word) => missing(alloc, line, word),
-        Status::BadSite(fault) => site(alloc, line, fault),
+        Status::BadSite { word, fault } => site(alloc, line, word, fault),
         Status::BadBook { word, line: number } => book(alloc, line, word, number),
-        Status::BadCard(fault) => card(alloc, line, fault),
+        Status::BadCard { word, fault } => card(alloc, line, word, fault),
         Status::BadWord(word) => range(alloc, line, word),
         _ => Ok(String::new(alloc)),
     }
@@ -46,7 +39,7 @@ fn about(alloc: Global, argument: Argument<'_>, reason: &str) -> Result<String, 
     ensures { IfOk result (λ text. string_bytes text ≡ argument_line reason.now (shown argument.entry)) }
 {
     let name = argument.operand.name();
-    let text = argument.text;
+    let text = escaped(alloc, argument.text)?;
     format!(in alloc; "sdca: {name} {text}: {reason}\n")
 }
 
@@ -129,6 +122,7 @@ fn wrong_number(alloc: Global, name: &str) -> Result<String, AllocError>
 fn word(alloc: Global, reason: &str, word: &str) -> Result<String, AllocError>
     ensures { IfOk result (λ text. string_bytes text ≡ word_line reason.now word.now) }
 {
+    let word = escaped(alloc, word)?;
     format!(in alloc; "sdca: {word}: {reason}; see sdca help\n")
 }
 
@@ -143,47 +137,23 @@ fn missing(alloc: Global, line: &CommandLine<'_>, word: u8) -> Result<String, Al
     }
 }
 
-/// Whether the words are of a command that reads two sites.
-fn has_two_sites(line: &CommandLine<'_>) -> bool
-    ensures { result ≡ two_sites (words_of line.now) }
-{
-    match line.words {
-        [name, ..] => name.as_str() == "apart",
-        [] => false,
-    }
-}
-
 /// The line of a site that is refused.
-fn site(alloc: Global, line: &CommandLine<'_>, fault: SiteFault) -> Result<String, AllocError>
-    ensures { IfOk result (λ text. string_bytes text ≡ site_line (words_of line.now) (site_reason fault)) }
+fn site(
+    alloc: Global,
+    line: &CommandLine<'_>,
+    word: u8,
+    fault: SiteFault,
+) -> Result<String, AllocError>
+    ensures { IfOk result (λ text. string_bytes text ≡
+        of_argument (words_of line.now) word (λ operand. site_reason fault)) }
 {
-    let reason = reason::site(alloc, fault)?;
-    if has_two_sites(line) {
-        return either_site(alloc, line, reason.as_str());
-    }
-    match find_argument(line, FIRST) {
-        Some(argument) => about(alloc, argument, reason.as_str()),
+    match find_argument(line, word) {
+        Some(argument) => {
+            let reason = reason::site(alloc, fault)?;
+            about(alloc, argument, reason.as_str())
+        }
         None => Ok(String::new(alloc)),
     }
-}
-
-/// The line of two sites of which one is refused: the status doesn't say which.
-fn either_site(alloc: Global, line: &CommandLine<'_>, reason: &str) -> Result<String, AllocError>
-    ensures { IfOk result (λ text. string_bytes text ≡ of_sites (argument_of (words_of line.now) 1)
-        (argument_of (words_of line.now) 3) reason.now) }
-{
-    match (find_argument(line, FIRST), find_argument(line, SECOND_SITE)) {
-        (Some(first), Some(second)) => sites(alloc, first.text, second.text, reason),
-        _ => Ok(String::new(alloc)),
-    }
-}
-
-/// The line that names two sites.
-#[tactic(auto, unfolding(crate::specs::Explained::sites_line))]
-fn sites(alloc: Global, first: &str, second: &str, reason: &str) -> Result<String, AllocError>
-    ensures { IfOk result (λ text. string_bytes text ≡ sites_line reason.now first.now second.now) }
-{
-    format!(in alloc; "sdca: SITE {first} or SITE {second}: {reason}\n")
 }
 
 /// The line of a file of which a line is refused.
@@ -201,11 +171,16 @@ fn book(alloc: Global, line: &CommandLine<'_>, word: u8, number: u32) -> Result<
 }
 
 /// The line of a card that is refused.
-fn card(alloc: Global, line: &CommandLine<'_>, fault: CardFault) -> Result<String, AllocError>
+fn card(
+    alloc: Global,
+    line: &CommandLine<'_>,
+    word: u8,
+    fault: CardFault,
+) -> Result<String, AllocError>
     ensures { IfOk result (λ text. string_bytes text ≡
-        of_argument (words_of line.now) 1 (λ operand. card_reason fault)) }
+        of_argument (words_of line.now) word (λ operand. card_reason fault)) }
 {
-    match find_argument(line, FIRST) {
+    match find_argument(line, word) {
         Some(argument) => about(alloc, argument, reason::card(fault)),
         None => Ok(String::new(alloc)),
     }

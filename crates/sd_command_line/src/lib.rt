@@ -5,6 +5,7 @@
 mod argument;
 mod command;
 mod command_line;
+mod escape;
 mod exit;
 mod explain;
 mod found;

@@ -4,7 +4,7 @@ use sd_site::{CardFault, SiteFault};
 use std::alloc::{AllocError, Global};
 
 // The arguments, the status, and what a user is told.
-static EXPLAINED: [(&str, Status, &str); 15] = [
+static EXPLAINED: [(&str, Status, &str); 18] = [
     (
         "cover S B",
         Status::Missing(2),
@@ -29,7 +29,7 @@ static EXPLAINED: [(&str, Status, &str); 15] = [
             word: 3,
             fault: SiteFault::Line(4),
         },
-        "sdca: SITE S or SITE T: line 4 is malformed\n",
+        "sdca: SITE T: line 4 is malformed\n",
     ),
     (
         "receive K X O",
@@ -85,6 +85,22 @@ static EXPLAINED: [(&str, Status, &str); 15] = [
         "sdca: version: wrong number of arguments; see sdca help\n",
     ),
     ("cover S B", Status::DepotFault, ""),
+    // Control characters are escaped: of C0, DEL and of C1; other characters stay.
+    (
+        "card S 9\u{1b}[31m K",
+        Status::BadWord(2),
+        "sdca: LEAF 9\\x1b[31m: not a decimal number in its range; LEAF is the receiver's number, from 0 to 2^height - 1\n",
+    ),
+    (
+        "cover S\n\u{7f}\u{9b}\u{a0}\u{e9}\\ B",
+        Status::Missing(1),
+        "sdca: SITE S\\x0a\\x7f\\xc2\\x9b\u{a0}\u{e9}\\: no such file\n",
+    ),
+    (
+        "frob\u{7f}",
+        Status::Usage,
+        "sdca: frob\\x7f: unknown command; see sdca help\n",
+    ),
 ];
 
 // Whether a user who gave these arguments is told this of the status.
