@@ -56,12 +56,7 @@ unrefused v calm refused = is_none v.failed calm refused.0
     is_none None is some = let no = some in cc
     is_none (Some fault) is some = let no = is in cc
 
--- each leaf has a seat
-pub seat_within : (v : FieldValue) (book : BookValue) (station : Station) (seats : List Seat) (u : ℕ) →
-    IsField v book station seats → u < 2 ^ v.site.height → u < length seats
-seat_within v book station seats u field low = omega (arith, low, field.many)
-
--- so its seats stand
+-- where nothing failed each leaf's seat stands
 pub seat_stands : (v : FieldValue) (seats : List Seat) (u : ℕ) (seat : Seat) → v.failed ≡ None → AreSeated v seats →
     slice_get seats u ≡ Some seat →
     IsSeated (plan_in v) (card_at v u) (taken v) (188 * length v.clear) (watch_of u v) seat

@@ -1,7 +1,6 @@
 pub mod Heard
 pub mod Seats
 pub mod Stations
-pub mod Receivers
 pub mod Fields
 pub mod Script
 pub mod Line

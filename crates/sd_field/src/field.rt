@@ -1,4 +1,4 @@
-ghost use Rattle.std.specs.Prelude.{◌≡◌, ◌↔◌, ◌<◌, ◌≤◌, ◌^◌, true, false, [], All, length, Some, None, Ok};
+ghost use Rattle.std.specs.Prelude.{◌≡◌, ◌↔◌, ◌<◌, ◌≤◌, ◌^◌, true, false, All, length, Some, None, Ok};
 ghost use Rattle.std.specs.Prelude.{Err};
 ghost use Rattle.std.specs.Prelude.{IfOk, IfErr, IfSome, IsErr, IsSome, OnOk};
 ghost use Rattle.std.specs.List.{concat};
@@ -7,16 +7,12 @@ ghost use Rattle.sd_psi.specs.declared.clear_fault.ClearFault.{ClearFault as Fau
 ghost use Rattle.sd_spec.specs.Plan.{IsPlan};
 ghost use Rattle.sd_spec.specs.Refused.{IsClear};
 ghost use Rattle.sd_spec.specs.Sent.{body};
-ghost use Rattle.sd_spec.specs.Offered.{break_from};
 ghost use Rattle.sd_spec.specs.declared.event.Event.TheVariants.{Lose, Off, Offer, On, Revoke, Send, Subscribe};
 ghost use Rattle.sd_spec.specs.Events.{is_of};
-ghost use Rattle.sd_spec.specs.Watch.{present};
 ghost use Rattle.sd_field.specs.declared.fault.FieldFault.{FieldFault as Faults};
-ghost use Rattle.sd_field.specs.Fields.{IsCommand, IsSendRefused, IsSentCut, IsWrittenCut, IsWrittenOver, TakesMemory};
-ghost use Rattle.sd_field.specs.Fields.{after_fault, after_next, card_at, next_event, next_refusal, plan_in, sends_of};
+ghost use Rattle.sd_field.specs.Fields.{IsCommand, IsSentCut, IsWrittenCut, IsWrittenOver, TakesMemory};
+ghost use Rattle.sd_field.specs.Fields.{after_fault, after_next, next_event, next_refusal, plan_in, sends_of};
 ghost use Rattle.sd_field.specs.Fields.{taken, watch_of, written_of};
-ghost use Rattle.sd_field.specs.Receivers.{IsReceiverFor};
-ghost use Rattle.sd_field.specs.Stations.{IsHeadAfter};
 
 use crate::fault::FieldFault;
 use crate::laid::event_book;
@@ -24,9 +20,7 @@ use crate::seat::{Seat, lose_next, new_seats, pass_next};
 use crate::station::Station;
 use sd_base::{NoMemory, Steps};
 use sd_book::Book;
-use sd_head::Head;
 use sd_packet::{Packet, SIZE};
-use sd_receive::Receiver;
 use sd_site::Site;
 use sd_spec::Event;
 use sd_tree::Leaf;
@@ -330,25 +324,5 @@ impl Field {
             × (result.now.commands ≡ (plan_in self.now).commands) }
     {
         &self.book
-    }
-
-    /// The receiver of a leaf, if it is on.
-    pub fn receiver(&self, u: Leaf) -> Option<&Receiver>
-        requires leaf { u < 2 ^ self.now.site.height }
-        ensures on { IsSome result ↔ ((watch_of u self.now).on ≡ true) }
-        ensures stands { ¬ IsWrittenCut u self.now →
-            break_from (card_at self.now u) []
-            (present (plan_in self.now) (taken self.now) (watch_of u self.now)) ≡ None →
-            IfSome result (λ receiver. IsReceiverFor (card_at self.now u)
-            (present (plan_in self.now) (taken self.now) (watch_of u self.now)) (written_of u self.now) receiver.now) }
-    {
-        self.seats[u.get() as usize].receiver.as_ref()
-    }
-
-    /// The head end of the field.
-    pub fn head(&self) -> &Head
-        ensures stands { ¬ IsSendRefused self.now → IsHeadAfter (plan_in self.now) (taken self.now) result.now }
-    {
-        &self.station.head
     }
 }

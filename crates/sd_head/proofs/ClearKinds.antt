@@ -12,6 +12,8 @@ use Rattle.sd_spec.specs.Refused.{is_one_too_many}
 use Rattle.sd_spec.specs.declared.kind.Kind.TheVariants.{Passed, Pmt, Scrambled}
 use Rattle.sd_head.specs.Known.{AreMarked}
 use Rattle.sd_head.specs.After.{ArePositions}
+use Rattle.sd_head.specs.Follows.{IsMove}
+use Rattle.sd_head.specs.declared.judged.Move.{Move}
 
 pub passed_is : (before : List (List ℕ)) (packet : List ℕ) → is_placed packet ≡ false → Passed ≡ kind_of before packet
 unfolding kind_of
@@ -46,7 +48,7 @@ moved_when before pid apart = elim (cases_Bool (has_moved before pid)) [
 ]
 
 -- the position is the first exactly where the PID hasn't moved
-pub first_is : (before : List (List ℕ)) (pid : ℕ) → (position_of pid before == 15) ≡ not (has_moved before pid)
+first_is : (before : List (List ℕ)) (pid : ℕ) → (position_of pid before == 15) ≡ not (has_moved before pid)
 first_is before pid = elim (cases_eq (position_of pid before) 15) [
   | inl same ↦ eq-eqb (position_of pid before) 15 same ∙ sym (ap not ((unmoved_is_none pid 15 before).0 same))
   | inr apart ↦ ne_eqb (position_of pid before) 15 apart ∙ sym (ap not (moved_when before pid apart))
@@ -60,29 +62,23 @@ placed_pid packet placed = left (is_positional (pid_of packet)) (has_payload pac
     left true b h = refl
     left false b h = h
 
--- a packet is one too many where its PID would move for the first time, and as many have moved as may
-pub too_many_is : (before : List (List ℕ)) (packet positions pids : List ℕ) → ArePositions before positions
-    → pids ≡ moved_pids before
-    → ((is_placed packet && (get_or positions (pid_of packet) 0 == 15)) && nat_le 256 (length pids))
-    ≡ is_one_too_many before packet
-too_many_is before packet positions pids are moved = by_test (is_placed packet) refl
-  where
-    by_test : (b : Bool) → is_placed packet ≡ b
-        → ((is_placed packet && (get_or positions (pid_of packet) 0 == 15)) && nat_le 256 (length pids))
-        ≡ is_one_too_many before packet
-    by_test false is = rw is refl
-    by_test true is =
-        let first : (get_or positions (pid_of packet) 0 == 15) ≡ not (has_moved before (pid_of packet)) =
-        ap (λ (x : ℕ). x == 15) (are.at (pid_of packet) (placed_pid packet is)) ∙ first_is before (pid_of packet) in
-        rw is (ap (λ (b : Bool). b && nat_le 256 (length pids)) first
-        ∙ ap (λ (xs : List ℕ). not (has_moved before (pid_of packet)) && nat_le 256 (length xs)) moved)
+-- a move is its PID's first exactly where no packet has moved the PID
+pub first_told : (before : List (List ℕ)) (packet positions : List ℕ) (next : Move) → IsMove positions packet next
+    → ArePositions before positions → next.is_first ≡ not (has_moved before (pid_of packet))
+first_told before packet positions next makes are =
+    makes.first ∙ (ap (λ (x : ℕ). x == 15) (are.at (pid_of packet) (placed_pid packet makes.placed))
+    ∙ first_is before (pid_of packet))
 
--- the same of tests that are known
-pub too_many_by : (before : List (List ℕ)) (packet positions pids : List ℕ) (first full : Bool)
-    → ArePositions before positions → pids ≡ moved_pids before
-    → first ≡ (is_placed packet && (get_or positions (pid_of packet) 0 == 15)) → full ≡ nat_le 256 (length pids)
-    → (first && full) ≡ is_one_too_many before packet
-too_many_by before packet positions pids first full are moved is crowded =
-    ap (λ (b : Bool). b && full) is
-    ∙ (ap (λ (b : Bool). (is_placed packet && (get_or positions (pid_of packet) 0 == 15)) && b) crowded
-    ∙ too_many_is before packet positions pids are moved)
+-- a packet is one too many where its PID would move for the first time, and as many have moved as may
+pub too_many_is : (before : List (List ℕ)) (packet positions pids : List ℕ) (next : Move)
+    → IsMove positions packet next → ArePositions before positions → pids ≡ moved_pids before
+    → (next.is_first && nat_le 256 (length pids)) ≡ is_one_too_many before packet
+too_many_is before packet positions pids next makes are moved =
+    rw makes.placed (ap (λ (b : Bool). b && nat_le 256 (length pids))
+    (first_told before packet positions next makes are)
+    ∙ ap (λ (xs : List ℕ). not (has_moved before (pid_of packet)) && nat_le 256 (length xs)) moved)
+
+-- and one without a position never is
+pub none_too_many : (before : List (List ℕ)) (packet : List ℕ) → is_placed packet ≡ false
+    → is_one_too_many before packet ≡ false
+none_too_many before packet none = rw none refl

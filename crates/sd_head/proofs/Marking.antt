@@ -7,36 +7,56 @@ use Rattle.std.specs.List.{list_any}
 use Rattle.std.specs.Option.{option_map_or}
 use Rattle.std.proofs.lemmas.Bool.{eq-eqb, ne_eqb}
 use Rattle.sd_packet.specs.Header.{pid_of, has_payload}
+use Rattle.sd_packet.specs.Positions.{is_positional, is_placed}
+use Rattle.sd_site.specs.SiteFields.{SiteFields}
 use Rattle.sd_section.specs.Header.{current_of}
-use Rattle.sd_psi.specs.declared.fault.FormFault.{FormFault}
 use Rattle.sd_psi.specs.Forms.{pat_fault, section_in}
 use Rattle.sd_psi.specs.Tables.{pmt_pids_of}
 use Rattle.sd_spec.specs.Kinds.{is_current_pat, pat_in_force, pmts_in}
 use Rattle.sd_spec.proofs.Following.{pat_next}
+use Rattle.sd_spec.specs.Refused.{pat_wrong}
 use Rattle.sd_head.specs.Known.{AreMarked}
+use Rattle.sd_head.specs.Follows.{pat_in, IsLearned, IsPatOf}
+use Rattle.sd_head.specs.declared.clear.Clear.{Clear}
+use Rattle.sd_head.specs.declared.judged.Judged.{Judged}
+use Rattle.sd_head.specs.declared.judged.Judged.TheVariants.{Passed, Pmt, Scrambled}
 
 -- what is marked and the PIDs that are left come to all PIDs
 pub record AreMarking (all left : List ℕ) (marks : List Bool) : Type 0 where
   pub at : (pid : ℕ) → pid < 8192 →
       (get_or marks pid false || list_any (nat_eq pid) left) ≡ list_any (nat_eq pid) all
 
--- no current PAT
-pub other_pid : (packet : List ℕ) → pid_of packet ≢ 0 → is_current_pat packet ≡ false
+-- a packet of another PID, or without a payload, is no PAT
+pub no_pat : (packet : List ℕ) → ((pid_of packet == 0) && has_payload packet) ≡ false
+    → (pat_wrong packet ≡ None) × (is_current_pat packet ≡ false)
 unfolding is_current_pat
-other_pid packet other = rw (ne_eqb (pid_of packet) 0 other) refl
-
-pub no_payload : (packet : List ℕ) → has_payload packet ≡ false → is_current_pat packet ≡ false
-unfolding is_current_pat
-no_payload packet none = rw none (and_false (pid_of packet == 0))
+no_pat packet none = (rw none refl, left (pid_of packet == 0) (has_payload packet) _ none)
   where
-    and_false : (a : Bool) → (a && false) ≡ false
-    and_false true = refl
-    and_false false = refl
+    left : (a b c : Bool) → (a && b) ≡ false → (a && (b && c)) ≡ false
+    left true true c h = absurd cc
+    left true false c h = refl
+    left false b c h = refl
 
-pub bad_pat : (packet : List ℕ) (fault : FormFault) → pid_of packet ≡ 0 → has_payload packet ≡ true
-    → pat_fault packet ≡ Some fault → is_current_pat packet ≡ false
-unfolding is_current_pat
-bad_pat packet fault zero some bad = rw (eq-eqb (pid_of packet) 0 zero) (rw some (rw bad refl))
+-- nor is a packet with a position
+pub placed_no_pat : (packet : List ℕ) → is_placed packet ≡ true
+    → (pat_wrong packet ≡ None) × (is_current_pat packet ≡ false)
+placed_no_pat packet placed =
+    let other : pid_of packet ≢ 0 = λ zero'. not_placed (rw zero' at placed) in
+    no_pat packet (rw (ne_eqb (pid_of packet) 0 other) refl)
+  where
+    not_placed : (is_positional 0 && has_payload packet) ≡ true → ⊥
+    not_placed h = cc
+
+-- what is learned of a packet tells which current PAT it is
+pub pat_told : (site : SiteFields) (clear : Clear) (packet : List ℕ) (judged : Judged)
+    → IsLearned site clear packet judged → IsPatOf packet (pat_in judged)
+pat_told site clear packet (Passed pat) learned = learned.kind
+pat_told site clear packet (Pmt next carried) learned = (placed_no_pat packet learned.moves.placed).1
+pat_told site clear packet (Scrambled next) learned = (placed_no_pat packet learned.moves.placed).1
+
+pub good_pat : (packet : List ℕ) → pid_of packet ≡ 0 → has_payload packet ≡ true → pat_fault packet ≡ None
+    → pat_wrong packet ≡ None
+good_pat packet zero some good = rw (eq-eqb (pid_of packet) 0 zero) (rw some good)
 
 pub later_pat : (packet : List ℕ) → pid_of packet ≡ 0 → has_payload packet ≡ true → pat_fault packet ≡ None
     → current_of (section_in packet) ≢ 1 → is_current_pat packet ≡ false

@@ -1,21 +1,23 @@
 -- Positions and PIDs after one packet more.
-use Rattle.std.proofs.Common.{◌≡◌, ◌≢◌, ℕ, zero, suc, ◌+◌, ◌<◌, ◌≤◌, ◌==◌, ◌&&◌, Bool, true, false, not}
+use Rattle.std.proofs.Common.{◌≡◌, ◌≢◌, ℕ, zero, suc, ◌+◌, ◌*◌, ◌<◌, ◌≤◌, ◌==◌, ◌&&◌, Bool, true, false, not}
 use Rattle.std.proofs.Common.{List, [], ◌∷◌, ◌++◌}
 use Rattle.std.proofs.Common.{◌⊎◌, nat_lt, length, get_or, set, refl, sym, ap, subst}
 use Rattle.std.proofs.Common.{◌∙◌, inl, inr, arith}
-use Rattle.std.specs.Prelude.{unwrap_or}
+use Rattle.std.specs.Prelude.{unwrap_or, Option, Some, None, IfSome}
 use Rattle.std.specs.List.{insert, position, position_or_len}
-use Rattle.std.proofs.lemmas.Bool.{cases_eq, eq-eqb, ne_eqb}
+use Rattle.std.proofs.lemmas.Bool.{cases_eq, ne_eqb}
 use Rattle.std.proofs.lemmas.Bool.Decides.{nat_tests}
 use Rattle.std.proofs.lemmas.List.{get_or-set_same, get_or-set_other}
 use Rattle.sd_packet.specs.Header.{pid_of, counter_of, has_payload}
 use Rattle.sd_packet.specs.Positions.{advanced, is_positional, is_placed, is_moving, moved, position_of}
-use Rattle.sd_packet.proofs.Positions.{one_more, own_moves}
+use Rattle.sd_packet.proofs.Positions.{advanced_is_next, counter_below, one_more, own_moves, positional_small}
 use Rattle.sd_spec.specs.Kinds.{has_moved, moved_pids, put_in}
 use Rattle.sd_spec.proofs.Following.{moved_first, moved_again, moved_unplaced}
 use Rattle.sd_head.specs.Known.{AreKnown, AreNear}
 use Rattle.sd_head.specs.After.{ArePositions}
-use Rattle.sd_head.proofs.ClearKinds.{first_is, placed_pid}
+use Rattle.sd_head.specs.Follows.{IsMove, IsMoveOf}
+use Rattle.sd_head.specs.declared.judged.Move.{Move}
+use Rattle.sd_head.proofs.ClearKinds.{first_told, placed_pid}
 
 -- a PID in its place among known ones
 pub known_more : (pid : ℕ) (pids : List ℕ) → pid < 8192 → AreKnown pids → AreKnown (put_in pid pids)
@@ -38,9 +40,6 @@ known_more pid (m ∷ ms) small known =
     by_test : (b : Bool) → nat_lt pid m ≡ b → AreKnown (put_in pid ms) → AreKnown (put_in pid (m ∷ ms))
     by_test true is rest = rw is (record { at = after })
     by_test false is rest = rw is (record { at = further rest })
-
-pub near_later : (n m : ℕ) (positions : List ℕ) → n ≤ m → AreNear n positions → AreNear m positions
-near_later n m positions later near = record { at = λ q. omega (arith, later, near.at q) }
 
 -- the position of a PID after a packet that doesn't move it, and after one that does
 stays_after : (before : List (List ℕ)) (packet : List ℕ) (pid : ℕ) → is_moving pid packet ≡ false →
@@ -103,43 +102,54 @@ positions_moved before packet positions placed small are = record {
         (advanced (get_or positions (pid_of packet) 0) (counter_of packet)) 0 apart
         ∙ (are.at pid positional ∙ sym (stays_after before packet pid (other_stays packet pid apart)))
 
--- the same of a step that is told by its parts
-pub positions_stepped : (before : List (List ℕ)) (packet positions : List ℕ) (i counter x : ℕ)
-    → is_placed packet ≡ true
-    → pid_of packet < length positions → i ≡ pid_of packet → counter ≡ counter_of packet
-    → x ≡ advanced (get_or positions (pid_of packet) 0) counter → ArePositions before positions
-    → ArePositions (before ++ packet ∷ []) (set positions i x)
-positions_stepped before packet positions i counter x placed small same counted next are =
-    subst (λ (p : ℕ). ArePositions (before ++ packet ∷ []) (set positions p x)) (sym same)
-    (subst (λ (y : ℕ). ArePositions (before ++ packet ∷ []) (set positions (pid_of packet) y))
-    (sym (next ∙ ap (advanced (get_or positions (pid_of packet) 0)) counted))
-    (positions_moved before packet positions placed small are))
+-- the positions after a move
+pub positions_after : (before : List (List ℕ)) (packet positions : List ℕ) (i : ℕ) (next : Move)
+    → IsMove positions packet next → length positions ≡ 8192 → i ≡ next.pid → ArePositions before positions
+    → ArePositions (before ++ packet ∷ []) (set positions i next.position)
+positions_after before packet positions i next makes long is are =
+    let small = positional_small (pid_of packet) (placed_pid packet makes.placed) in
+    subst (λ (p : ℕ). ArePositions (before ++ packet ∷ []) (set positions p next.position)) (sym (is ∙ makes.pid))
+    (subst (λ (y : ℕ). ArePositions (before ++ packet ∷ []) (set positions (pid_of packet) y)) (sym makes.position)
+    (positions_moved before packet positions makes.placed (omega (arith, small, long)) are))
 
--- the PIDs that have moved after a placed packet
-pub pids_first : (before : List (List ℕ)) (packet positions pids : List ℕ) → is_placed packet ≡ true
-    → ArePositions before positions → get_or positions (pid_of packet) 0 ≡ 15 → pids ≡ moved_pids before
-    → put_in (pid_of packet) pids ≡ moved_pids (before ++ packet ∷ [])
-pids_first before packet positions pids placed are first moved =
-    let none : not (has_moved before (pid_of packet)) ≡ true =
-    sym (first_is before (pid_of packet))
-    ∙ eq-eqb (position_of (pid_of packet) before) 15
-    (sym (are.at (pid_of packet) (placed_pid packet placed)) ∙ first) in
-    ap (put_in (pid_of packet)) moved
-    ∙ sym (moved_first before packet placed (negated (has_moved before (pid_of packet)) none))
+-- a move comes no further than one packet more can, and its PID is one
+pub near_after : (count : ℕ) (packet positions : List ℕ) (next : Move) → IsMove positions packet next
+    → AreNear count positions → next.position ≤ 15 + 16 * (count + 1)
+near_after count packet positions next makes near =
+    let rises = advanced_is_next (get_or positions (pid_of packet) 0) (counter_of packet) (counter_below packet) in
+    omega (arith, rises.near, near.at (pid_of packet), makes.position)
+
+pub near_if_moved : (count : ℕ) (packet positions : List ℕ) (next : Option Move) → IsMoveOf positions packet next
+    → AreNear count positions → IfSome next (λ move. move.position ≤ 15 + 16 * (count + 1))
+near_if_moved count packet positions None makes near = tt
+near_if_moved count packet positions (Some next) makes near = near_after count packet positions next makes near
+
+pub small_if_moved : (packet positions : List ℕ) (next : Option Move) → IsMoveOf positions packet next
+    → IfSome next (λ move. move.pid < 8192)
+small_if_moved packet positions None makes = tt
+small_if_moved packet positions (Some next) makes =
+    subst (λ (p : ℕ). p < 8192) (sym makes.pid) (positional_small (pid_of packet) (placed_pid packet makes.placed))
+
+-- the PIDs that have moved after a move
+pub pids_first : (before : List (List ℕ)) (packet positions pids : List ℕ) (next : Move)
+    → IsMove positions packet next → next.is_first ≡ true → ArePositions before positions → pids ≡ moved_pids before
+    → put_in next.pid pids ≡ moved_pids (before ++ packet ∷ [])
+pids_first before packet positions pids next makes first are moved =
+    ap (λ (pid : ℕ). put_in pid pids) makes.pid
+    ∙ (ap (put_in (pid_of packet)) moved
+    ∙ sym (moved_first before packet makes.placed (negated (has_moved before (pid_of packet))
+    (sym (first_told before packet positions next makes are) ∙ first))))
   where
     negated : (b : Bool) → not b ≡ true → b ≡ false
     negated true h = sym h
     negated false h = refl
 
-pub pids_again : (before : List (List ℕ)) (packet positions pids : List ℕ) → is_placed packet ≡ true
-    → ArePositions before positions → get_or positions (pid_of packet) 0 ≢ 15 → pids ≡ moved_pids before
+pub pids_again : (before : List (List ℕ)) (packet positions pids : List ℕ) (next : Move)
+    → IsMove positions packet next → next.is_first ≡ false → ArePositions before positions → pids ≡ moved_pids before
     → pids ≡ moved_pids (before ++ packet ∷ [])
-pids_again before packet positions pids placed are later moved =
-    let some : not (has_moved before (pid_of packet)) ≡ false =
-    sym (first_is before (pid_of packet))
-    ∙ ne_eqb (position_of (pid_of packet) before) 15
-    (λ e. later (are.at (pid_of packet) (placed_pid packet placed) ∙ e)) in
-    moved ∙ sym (moved_again before packet (negated (has_moved before (pid_of packet)) some))
+pids_again before packet positions pids next makes later are moved =
+    moved ∙ sym (moved_again before packet (negated (has_moved before (pid_of packet))
+    (sym (first_told before packet positions next makes are) ∙ later)))
   where
     negated : (b : Bool) → not b ≡ false → b ≡ true
     negated true h = refl

@@ -11,7 +11,7 @@ use Rattle.sd_spec.proofs.Schedule.{crypto_length_some}
 use Rattle.sd_head.specs.Kept.{IsOf, IsBefore, begins_period, revoked_before}
 use Rattle.sd_head.specs.declared.entitling.Entitling.{Entitling}
 use Rattle.sd_head.specs.Messages.{number_due}
-use Rattle.sd_head.specs.Schedule.{IsAt, begins_with, periods_begun}
+use Rattle.sd_head.specs.Schedule.{IsAt, begins_with}
 use Rattle.sd_book.specs.Commands.{revoked}
 
 -- the quotient of a whole multiple is one more than that of the number before
@@ -144,10 +144,3 @@ unfolding period_of
 revoked_now plan k entitling of =
     let one : period_of plan k + 1 ≡ suc (period_of plan k) = omega arith in
     of.period.begun.revoked_are ∙ ap (revoked_before plan.site.height plan.commands) one
-
--- and none before the first
-pub revoked_at : (plan : Plan) (k : ℕ) (entitling : Entitling) → IsAt plan k entitling →
-    entitling.index.revoked ≡ revoked_before plan.site.height plan.commands (periods_begun plan k)
-unfolding period_of
-revoked_at plan zero entitling at = at.revoked_are
-revoked_at plan (suc k) entitling at = at.period.begun.revoked_are

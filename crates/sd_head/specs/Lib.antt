@@ -5,6 +5,7 @@ pub mod Schedule
 pub mod Staged
 pub mod Known
 pub mod After
+pub mod Follows
 pub mod Crypto
 pub mod Packets
 pub mod Kept

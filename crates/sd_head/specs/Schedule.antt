@@ -1,6 +1,6 @@
 -- Public meaning: when crypto periods and periods begin, and why a head end refuses.
-use Rattle.std.specs.Prelude.{◌≡◌, ℕ, zero, suc, ◌+◌, ◌%◌, ◌==◌, ◌&&◌, Bool, true, List, [], length, Option, Some, None}
-use Rattle.sd_spec.specs.Plan.{Plan, crypto_length, crypto_of, period_of}
+use Rattle.std.specs.Prelude.{◌≡◌, ℕ, zero, suc, ◌%◌, ◌==◌, ◌&&◌, Bool, true, List, [], length, Option, Some, None}
+use Rattle.sd_spec.specs.Plan.{Plan, crypto_length, crypto_of}
 use Rattle.sd_spec.specs.Refused.{refusal_of}
 use Rattle.sd_head.specs.declared.entitling.Entitling.{Entitling}
 use Rattle.sd_head.specs.Kept.{begins_period, IsNew, IsOf}
@@ -11,11 +11,6 @@ use Rattle.sd_head.specs.declared.fault.HeadFault.TheVariants.{Clear, NoMemory}
 abbrev pub IsAt : Plan → ℕ → Entitling → Type 0
 IsAt plan zero entitling = IsNew plan entitling
 IsAt plan (suc k) entitling = IsOf plan (crypto_of plan.site k) entitling
-
--- how many periods have begun after so many packets
-abbrev pub periods_begun : Plan → ℕ → ℕ
-periods_begun plan zero = 0
-periods_begun plan (suc k) = period_of plan k + 1
 
 -- a period begins with packet k
 unfoldable pub begins_with : Plan → ℕ → Bool

@@ -8,15 +8,15 @@ pub(crate) const PIDS: usize = 8192;
 /// The position of a PID that no packet has moved.
 pub(crate) const FIRST_POSITION: u64 = 15;
 
-/// What is kept of the clear packets that were taken.
+/// The state after the clear packets so far: how many they are, the positions of PIDs, and the PIDs of PMTs.
 #[derive(Drop)]
 pub struct Clear {
     pub(crate) count: u32,
-    // By PID.
+    // The position of each PID, indexed by PID.
     pub(crate) positions: Vec<u64>,
-    // Those whose positions have moved, ascending.
+    // The PIDs whose positions have moved, ascending.
     pub(crate) pids: Vec<u16>,
-    // By PID: whether the PAT in force names it.
+    // Whether the PAT in force gives the PID to a PMT, indexed by PID.
     pub(crate) pmts: Vec<bool>,
     pub ghost positions_long: { vec_len positions ≡ 8192 },
     pub ghost pmts_long: { vec_len pmts ≡ 8192 },

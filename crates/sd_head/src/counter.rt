@@ -21,14 +21,14 @@ impl Model for Counter {
 }
 
 impl Counter {
-    /// That of the PID's first packet.
+    /// The counter of a PID's first packet, 0.
     pub fn new() -> Counter
         ensures { result ≡ 0 }
     {
         Counter { value: 0 }
     }
 
-    /// Takes it for a packet.
+    /// The counter of the next packet. It rises by 1 mod 16.
     pub fn take(&mut self) -> u8
         ensures value { result ≡ self.old }
         ensures fits { result < 16 }

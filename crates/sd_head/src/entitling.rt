@@ -26,8 +26,8 @@ use sd_tree::{HIGHEST, check_value, period_key};
 use std::alloc::Global;
 use std::sync::ledger::Ledger;
 
-/// The period and the crypto period at work, with the packets of the period's entitlements and the index of its
-/// revoked leaves (this project, docs/FORMATS.md, Broadcast).
+/// The current period and crypto period, with the packets of the period's entitlements and the index of its revoked
+/// leaves (this project, docs/FORMATS.md, Broadcast).
 #[derive(Drop)]
 pub struct Entitling {
     book: Book,
@@ -126,13 +126,6 @@ impl Entitling {
         ensures value { result.now ≡ self.old.emms.items }
     {
         self.emms.as_mut_slice()
-    }
-
-    /// The index of the leaves that are revoked in the last period that has begun.
-    pub fn index(&self) -> &CoverIndex
-        ensures { result.now ≡ self.now.index }
-    {
-        &self.index
     }
 
     /// The crypto period.

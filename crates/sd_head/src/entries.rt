@@ -27,7 +27,7 @@ pub fn entries_of<L: Ledger>(
     Ok(listed(alloc, site, q, sets, steps)?)
 }
 
-// The same, or the allocator's own error.
+// `entries_of` with the allocator's error.
 #[tactic(auto, using(crate::proofs::Listing::entry_more))]
 fn listed<L: Ledger>(
     alloc: Global,

@@ -1,7 +1,5 @@
-ghost use Rattle.std.specs.Prelude.{◌≡◌, ℕ, List, [], IfOk, length};
-ghost use Rattle.sd_spec.specs.Plan.{Plan};
-ghost use Rattle.sd_head.specs.Kept.{plan_of, revoked_before};
-ghost use Rattle.sd_head.specs.Schedule.{periods_begun};
+ghost use Rattle.std.specs.Prelude.{◌≡◌, [], IfOk};
+ghost use Rattle.sd_head.specs.Kept.{plan_of};
 ghost use Rattle.sd_head.specs.Staged.{head_does, head_ends, head_refuses, IsAfter, IsReady};
 
 use crate::fault::HeadFault;
@@ -10,7 +8,6 @@ use crate::sender::Sender;
 use crate::{Clear, Entitling};
 use sd_base::{NoMemory, Steps};
 use sd_book::Book;
-use sd_cover::CoverIndex;
 use sd_engine::{Stage, StageFault};
 use sd_packet::Packet;
 use sd_ports::Sink;
@@ -42,15 +39,6 @@ impl Head {
             refusal: None,
             site,
         })
-    }
-
-    /// The index of the revoked leaves: those of the last period that has begun, and none where none has.
-    pub fn index(&self) -> &CoverIndex
-        ensures value { result.now ≡ self.now.entitling.index }
-        ensures revoked { (plan : Plan) (before : List (List ℕ)) → IsAfter plan before self.now → result.now.revoked
-            ≡ revoked_before plan.site.height plan.commands (periods_begun plan (length before)) }
-    {
-        self.entitling.index()
     }
 }
 
@@ -101,15 +89,8 @@ impl<K: Sink, L: Ledger> Stage<K, L> for Head {
         let message = self
             .sender
             .prepare(&self.site, crypto, &self.clear, inserted.message);
-        let mut carried = *packet;
-        self.clear.carry(
-            admitted.kind,
-            &self.site,
-            &mut carried,
-            crypto.number,
-            &crypto.word,
-        );
-        self.clear.take(packet);
+        let carried = admitted.judged.carry(packet, crypto.number, &crypto.word);
+        self.clear.take(&admitted.judged);
         let emms = self.entitling.emms();
         match self.sender.send_packet(
             inserted.begins,

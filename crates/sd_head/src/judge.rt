@@ -1,22 +1,25 @@
-ghost use Rattle.std.specs.Prelude.{◌≡◌, ◌≢◌, ◌+◌, ◌-◌, ◌*◌, ◌<◌, ◌≤◌, ◌==◌, ◌&&◌, ℕ, List, true, false, Some, None};
-ghost use Rattle.std.specs.Prelude.{IfOk, OnOk, MatchResult, nat_le};
+ghost use Rattle.std.specs.Prelude.{◌≡◌, ◌+◌, ◌-◌, ◌*◌, ◌^◌, ◌<◌, ◌≤◌, ◌&&◌, ℕ, List, true, false, Some, None};
+ghost use Rattle.std.specs.Prelude.{IfOk, OnOk, MatchResult, MatchOption, is_none, nat_le};
 ghost use Rattle.std.specs.Prelude.{length, get_or, slice_index};
-ghost use Rattle.sd_packet.specs.Header.{pid_of, payload_start_of};
-ghost use Rattle.sd_packet.specs.Positions.{is_placed, first_position};
+ghost use Rattle.sd_packet.specs.Header.{payload_start_of};
+ghost use Rattle.sd_packet.specs.Positions.{is_placed};
 ghost use Rattle.sd_site.specs.SiteFields.{fields_of};
+ghost use Rattle.sd_psi.specs.Rewriting.{restore_fault};
 ghost use Rattle.sd_spec.specs.Plan.{crypto_length, word_of};
 ghost use Rattle.sd_spec.specs.Kinds.{kind_of};
-ghost use Rattle.sd_spec.specs.declared.kind.Kind.TheVariants.{Passed, Pmt};
+ghost use Rattle.sd_spec.specs.Carried.{pmt_carried};
+ghost use Rattle.sd_spec.specs.declared.kind.Kind.TheVariants as Kind;
 ghost use Rattle.sd_spec.specs.Refused.{refusal_of, is_reserved_pid as is_taken_pid, pat_wrong};
-ghost use Rattle.sd_spec.specs.Refused.{is_full_own as is_full_pmt, is_one_too_many, is_too_long};
-ghost use Rattle.sd_head.specs.After.{IsAfter, MayFollow, IsKindAfter};
+ghost use Rattle.sd_spec.specs.Refused.{is_full_own, is_too_long};
+ghost use Rattle.sd_head.specs.After.{IsAfter};
+ghost use Rattle.sd_head.specs.Follows.{form_refusal, move_in, IsLearned, IsMove, IsPatOf, IsOfKind, MayFollow};
 
 use crate::clear::{Clear, FIRST_POSITION};
+use crate::judged::{Judged, Move};
 use sd_message::MOST_PLACES;
-use sd_packet::Packet;
-use sd_psi::{ClearFault, FormFault, pat_of, restore_pmt, rewrite_pmt};
+use sd_packet::{Packet, advance};
+use sd_psi::{ClearFault, FormFault, Pat, pat_of, restore_pmt, rewrite_pmt};
 use sd_site::Site;
-use sd_spec::Kind;
 
 impl Clear {
     /// How many packets were taken.
@@ -42,28 +45,13 @@ impl Clear {
         self.positions[usize::from(pid)]
     }
 
-    // What becomes of the packet.
-    fn kind(&self, packet: &Packet) -> Kind
-        ensures value { (before : List (List ℕ)) → IsAfter before self.now → result ≡ kind_of before packet.now }
-        ensures placed { result ≢ Passed → is_placed packet.now ≡ true }
-    {
-        if !packet.is_placed() {
-            Kind::Passed
-        } else if self.is_pmt(packet.pid()) {
-            Kind::Pmt
-        } else {
-            Kind::Scrambled
-        }
-    }
-
-    /// What becomes of the packet as the next one, or why it is refused: the first rule that it breaks
+    /// What is learned of the packet as the next one, or why it is refused: the first rule that it breaks
     /// (docs/FORMATS.md, Broadcast).
-    pub fn judge(&self, site: &Site, packet: &Packet) -> Result<Kind, ClearFault>
+    pub fn judge<'a>(&self, site: &Site, packet: &'a Packet) -> Result<Judged<'a>, ClearFault>
         ensures value { (before : List (List ℕ)) → IsAfter before self.now → MatchResult result
             (λ _. refusal_of (fields_of site.now) before packet.now ≡ None)
             (λ fault. refusal_of (fields_of site.now) before packet.now ≡ Some fault) }
-        ensures kind { IfOk result (IsKindAfter self.now packet.now) }
-        ensures follows { OnOk result (MayFollow self.now packet.now) }
+        ensures follows { IfOk result (MayFollow (fields_of site.now) self.now packet.now) }
         ensures word { OnOk result (word_of (fields_of site.now) self.now.count ≤ site.now.last_word) }
     {
         let number = u64::from(self.count);
@@ -74,38 +62,84 @@ impl Clear {
         if is_taken(site, pid) {
             return Err(ClearFault::PidTaken(number, pid));
         }
-        if let Some(fault) = pat_fault(packet) {
-            return Err(ClearFault::PatForm(number, fault));
+        match self.judge_form(site, packet) {
+            Ok(_) if self.is_at_end(site) => Err(ClearFault::TooLong(number)),
+            Ok(judged) => Ok(judged),
+            Err(fault) => Err(fault),
         }
-        let kind = self.kind(packet);
-        if is_full_own(kind, site, packet) {
+    }
+
+    // Judges the packet by what it is.
+    fn judge_form<'a>(&self, site: &Site, packet: &'a Packet) -> Result<Judged<'a>, ClearFault>
+        ensures value { (before : List (List ℕ)) → IsAfter before self.now → MatchResult result
+            (λ _. form_refusal (fields_of site.now) before packet.now ≡ None)
+            (λ fault. form_refusal (fields_of site.now) before packet.now ≡ Some fault) }
+        ensures learned { IfOk result (IsLearned (fields_of site.now) self.now packet.now) }
+    {
+        if packet.is_placed() {
+            return self.judge_placed(site, packet);
+        }
+        match current_pat(packet) {
+            Ok(pat) => Ok(Judged::Passed(pat)),
+            Err(fault) => Err(ClearFault::PatForm(u64::from(self.count), fault)),
+        }
+    }
+
+    // Judges a packet that has a position.
+    fn judge_placed<'a>(&self, site: &Site, packet: &'a Packet) -> Result<Judged<'a>, ClearFault>
+        requires { is_placed packet.now ≡ true }
+        ensures value { (before : List (List ℕ)) → IsAfter before self.now → MatchResult result
+            (λ _. form_refusal (fields_of site.now) before packet.now ≡ None)
+            (λ fault. form_refusal (fields_of site.now) before packet.now ≡ Some fault) }
+        ensures learned { IfOk result (IsLearned (fields_of site.now) self.now packet.now) }
+    {
+        let number = u64::from(self.count);
+        let next = self.next_move(packet);
+        let Some(judged) = self.judge_kind(site, packet, next) else {
             return Err(ClearFault::PmtForm(number, FormFault::NoRoom));
-        }
-        if self.is_one_too_many(packet) {
+        };
+        if self.is_one_too_many(next) {
             return Err(ClearFault::TooManyPids(number));
         }
-        if self.is_at_end(site) {
-            return Err(ClearFault::TooLong(number));
+        Ok(judged)
+    }
+
+    // How the packet moves the position of its PID.
+    fn next_move(&self, packet: &Packet) -> Move
+        requires placed { is_placed packet.now ≡ true }
+        requires number { self.now.count < 2 ^ 32 }
+        ensures { IsMove self.now.positions.items packet.now result }
+    {
+        let pid = packet.pid();
+        let position = self.position_of(pid);
+        Move {
+            pid,
+            position: advance(position, packet.counter()),
+            is_first: position == FIRST_POSITION,
         }
-        Ok(kind)
     }
 
-    // Whether another PID would have a position than those that may have one.
-    fn is_one_too_many(&self, packet: &Packet) -> bool
-        ensures value { (before : List (List ℕ)) → IsAfter before self.now →
-            result ≡ is_one_too_many before packet.now }
-        ensures room { result ≡ false → is_placed packet.now ≡ true →
-            slice_index self.now.positions.items (pid_of packet.now) ≡ first_position →
-            length self.now.pids.items < MOST_PLACES }
+    // What is learned of a packet that makes this move, unless it is a PMT that is refused.
+    fn judge_kind<'a>(&self, site: &Site, packet: &'a Packet, next: Move) -> Option<Judged<'a>>
+        requires { IsMove self.now.positions.items packet.now next }
+        ensures value { (before : List (List ℕ)) → IsAfter before self.now → MatchOption result
+            (is_full_own (fields_of site.now) (kind_of before packet.now) packet.now ≡ true)
+            (λ _. is_full_own (fields_of site.now) (kind_of before packet.now) packet.now ≡ false) }
+        ensures moves { MatchOption result Unit (λ judged. move_in judged ≡ Some next) }
+        ensures kind { MatchOption result Unit (IsOfKind (fields_of site.now) self.now.pmts.items packet.now) }
     {
-        self.is_first(packet) && self.is_crowded()
+        if !self.is_pmt(next.pid) {
+            return Some(Judged::Scrambled(next));
+        }
+        let carried = carried_pmt(site, packet)?;
+        Some(Judged::Pmt(next, carried))
     }
 
-    // Whether as many PIDs have positions as may.
-    fn is_crowded(&self) -> bool
-        ensures { result ≡ nat_le MOST_PLACES (length self.now.pids.items) }
+    // Whether the PID would be one more than may have positions.
+    fn is_one_too_many(&self, next: Move) -> bool
+        ensures { result ≡ (next.is_first && nat_le MOST_PLACES (length self.now.pids.items)) }
     {
-        self.pids.len() >= MOST_PLACES
+        next.is_first && self.pids.len() >= MOST_PLACES
     }
 
     // Whether no number of a packet, or no control word of the site's, is left for the packet.
@@ -113,14 +147,6 @@ impl Clear {
         ensures { result ≡ is_too_long (fields_of site.now) self.now.count }
     {
         self.count == u32::MAX || u64::from(self.count) >= most_packets(site)
-    }
-
-    // Whether the packet is the first that moves its PID's position.
-    fn is_first(&self, packet: &Packet) -> bool
-        ensures { result ≡ (is_placed packet.now
-            && (slice_index self.now.positions.items (pid_of packet.now) == first_position)) }
-    {
-        packet.is_placed() && self.position_of(packet.pid()) == FIRST_POSITION
     }
 }
 
@@ -139,34 +165,42 @@ fn is_taken(site: &Site, pid: u16) -> bool
     pid == 1 || pid == site.emm || pid == site.ecm
 }
 
-// What is wrong with a packet that is to be a PAT.
-fn pat_fault(packet: &Packet) -> Option<FormFault>
-    ensures { result ≡ pat_wrong packet.now }
+// The current PAT that the packet is, if it is one, or what is wrong with a packet that must be a PAT.
+fn current_pat(packet: &Packet) -> Result<Option<Pat<'_>>, FormFault>
+    ensures { MatchResult result (λ pat. (pat_wrong packet.now ≡ None) × IsPatOf packet.now pat)
+        (λ fault. pat_wrong packet.now ≡ Some fault) }
 {
-    if packet.pid() == 0 && !packet.payload().is_empty() {
-        pat_of(packet).err()
+    if packet.pid() != 0 || packet.payload().is_empty() {
+        return Ok(None);
+    }
+    let pat = pat_of(packet)?;
+    if pat.current() {
+        Ok(Some(pat))
     } else {
-        None
+        Ok(None)
     }
 }
 
-// Whether it is a PMT that can't be rewritten, and that could be restored all the same.
-fn is_full_own(kind: Kind, site: &Site, packet: &Packet) -> bool
-    requires { kind ≢ Passed → payload_start_of packet.now < 188 }
-    ensures { result ≡ is_full_pmt (fields_of site.now) kind packet.now }
+// The PMT as it is carried. There is none if it can't be rewritten and could be restored all the same.
+fn carried_pmt(site: &Site, packet: &Packet) -> Option<Packet>
+    requires { payload_start_of packet.now < 188 }
+    ensures { MatchOption result (is_full_own (fields_of site.now) Kind.Pmt packet.now ≡ true)
+        (λ carried. (is_full_own (fields_of site.now) Kind.Pmt packet.now ≡ false)
+        × (carried ≡ pmt_carried (fields_of site.now) packet.now)) }
 {
-    kind == Kind::Pmt && is_full(site, packet)
+    let mut carried = *packet;
+    match rewrite_pmt(&mut carried, site.ca, site.ecm) {
+        Ok(()) => Some(carried),
+        Err(_) if is_restorable(site, packet) => None,
+        Err(_) => Some(carried),
+    }
 }
 
-// Whether a PMT could be restored, and can't be rewritten all the same.
-fn is_full(site: &Site, packet: &Packet) -> bool
+// Whether the PMT could be restored.
+fn is_restorable(site: &Site, packet: &Packet) -> bool
     requires { payload_start_of packet.now < 188 }
-    ensures { result ≡ is_full_pmt (fields_of site.now) Pmt packet.now }
+    ensures { result ≡ is_none (restore_fault site.now.ca site.now.ecm packet.now) }
 {
     let mut restored = *packet;
-    if restore_pmt(&mut restored, site.ca, site.ecm).is_err() {
-        return false;
-    }
-    let mut rewritten = *packet;
-    rewrite_pmt(&mut rewritten, site.ca, site.ecm).is_err()
+    restore_pmt(&mut restored, site.ca, site.ecm).is_ok()
 }

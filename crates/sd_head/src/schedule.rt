@@ -2,25 +2,25 @@ ghost use Rattle.std.specs.Prelude.{◌≡◌, ◌-◌, ◌%◌, ◌^◌, ◌==�
 ghost use Rattle.sd_site.specs.SiteFields.{fields_of};
 ghost use Rattle.sd_spec.specs.Plan.{crypto_length, crypto_of, word_of};
 ghost use Rattle.sd_spec.specs.Refused.{refusal_of};
-ghost use Rattle.sd_head.specs.After.{IsAfter as IsKept, MayFollow, IsKindAfter};
+ghost use Rattle.sd_head.specs.After.{IsAfter as IsKept};
+ghost use Rattle.sd_head.specs.Follows.{MayFollow};
 ghost use Rattle.sd_head.specs.Kept.{plan_of, IsOf};
 ghost use Rattle.sd_head.specs.declared.fault.HeadFault.{HeadFault as Faults};
 ghost use Rattle.sd_head.specs.Messages.{number_due};
 ghost use Rattle.sd_head.specs.Schedule.{begins_with, IsAt, IsDue};
 
 use crate::fault::HeadFault;
-use crate::{Clear, Entitling};
+use crate::{Clear, Entitling, Judged};
 use sd_base::{NoMemory, Steps};
 use sd_packet::Packet;
 use sd_site::Site;
-use sd_spec::Kind;
 use std::sync::ledger::Ledger;
 
-/// What a packet that isn't refused comes to.
+/// What is known of a packet that isn't refused.
 #[derive(Clone, Copy)]
-pub struct Admitted {
-    /// What becomes of it.
-    pub kind: Kind,
+pub struct Admitted<'a> {
+    /// What was learned of it.
+    pub judged: Judged<'a>,
     /// What stands before it.
     pub inserted: Inserted,
 }
@@ -35,21 +35,21 @@ pub struct Inserted {
 }
 
 /// Judges the packet, and begins the crypto period that begins with it, if one does.
-pub fn admit<L: Ledger>(
+pub fn admit<'a, L: Ledger>(
     entitling: &mut Entitling,
     clear: &Clear,
     site: &Site,
-    packet: &Packet,
+    packet: &'a Packet,
     steps: &mut Steps<L>,
-) -> Result<Admitted, HeadFault>
+) -> Result<Admitted<'a>, HeadFault>
     requires { IsAt (plan_of site.now entitling.old.book) clear.now.count entitling.old }
     ensures book { entitling.new.book ≡ entitling.old.book }
-    ensures follows { OnOk result (MayFollow clear.now packet.now) }
+    ensures follows { IfOk result (λ admitted.
+        MayFollow (fields_of site.now) clear.now packet.now admitted.judged) }
     ensures judged { (before : List (List ℕ)) → IsKept before clear.now →
         OnOk result (refusal_of (fields_of site.now) before packet.now ≡ None) }
     ensures value { OnOk result
         (IsOf (plan_of site.now entitling.old.book) (crypto_of (fields_of site.now) clear.now.count) entitling.new) }
-    ensures kind { IfOk result (λ admitted. IsKindAfter clear.now packet.now admitted.kind) }
     ensures message { IfOk result (λ admitted.
         admitted.inserted.message ≡ number_due (fields_of site.now) clear.now.count) }
     ensures begins { IfOk result (λ admitted.
@@ -57,12 +57,12 @@ pub fn admit<L: Ledger>(
     ensures fault { (before : List (List ℕ)) (fault : Faults) → IsKept before clear.now → result ≡ Err fault →
         IsDue (plan_of site.now entitling.old.book) before (Some packet.now) fault }
 {
-    let kind = match clear.judge(site, packet) {
-        Ok(kind) => kind,
+    let judged = match clear.judge(site, packet) {
+        Ok(judged) => judged,
         Err(fault) => return Err(HeadFault::Clear(fault)),
     };
     match begin(entitling, site, clear.count(), steps) {
-        Ok(inserted) => Ok(Admitted { kind, inserted }),
+        Ok(inserted) => Ok(Admitted { judged, inserted }),
         Err(_) => Err(HeadFault::NoMemory),
     }
 }

@@ -5,8 +5,8 @@ use crate::counter::Counter;
 use sd_message::Place;
 use sd_packet::Packet;
 
-/// Sends the site's own messages, each PID's packets under counters that rise from 0 on (this project,
-/// docs/FORMATS.md, Sections).
+/// Sends the site's CAT, EMMs and ECMs. The continuity counters of each PID start at 0 (this project, docs/FORMATS.md,
+/// Sections).
 #[derive(Drop)]
 pub struct Sender {
     pub(crate) cat: Packet,

@@ -1,54 +1,66 @@
-ghost use Rattle.std.specs.Prelude.{◌≡◌, ◌+◌, ◌^◌, ◌<◌, ◌≤◌, ◌++◌, ◌∷◌, [], ℕ, List, true, false, MatchOption};
-ghost use Rattle.std.specs.Prelude.{IfSome, length, nat_lt, vec_len, vec_capacity, slice_index};
+ghost use Rattle.std.specs.Prelude.{◌≡◌, ◌+◌, ◌*◌, ◌<◌, ◌≤◌, ◌++◌, ◌∷◌, [], ℕ, List, length, nat_lt};
+ghost use Rattle.std.specs.Prelude.{IfSome, vec_len, vec_capacity};
 ghost use Rattle.std.specs.List.{position};
-ghost use Rattle.sd_packet.specs.Header.{pid_of};
-ghost use Rattle.sd_packet.specs.Positions.{is_placed, first_position};
-ghost use Rattle.sd_psi.specs.Forms.{section_in};
+ghost use Rattle.sd_packet.specs.Positions.{first_position};
 ghost use Rattle.sd_psi.specs.Tables.{pmt_pids_of};
+ghost use Rattle.sd_site.specs.SiteFields.{SiteFields};
 ghost use Rattle.sd_message.specs.declared.ecm_format.TheConstants.{MOST_PLACES};
-ghost use Rattle.sd_spec.specs.Kinds.{is_current_pat, pmts_in, moved_pids, put_in};
+ghost use Rattle.sd_spec.specs.Kinds.{pmts_in, moved_pids, put_in};
 ghost use Rattle.sd_head.specs.Known.{AreKnown, AreNear, AreMarked};
-ghost use Rattle.sd_head.specs.After.{IsAfter, ArePositions, MayFollow};
+ghost use Rattle.sd_head.specs.After.{IsAfter, ArePositions};
+ghost use Rattle.sd_head.specs.Follows.{move_in, pat_in, HasRoom, IsMoveOf, IsPatOf, MayFollow};
 
-use crate::clear::{Clear, FIRST_POSITION};
-use sd_packet::{Packet, advance};
-use sd_psi::{Pat, pat_of};
+use crate::clear::Clear;
+use crate::judged::{Judged, Move};
+use sd_psi::Pat;
 
 impl Clear {
-    /// Takes the packet as the next one.
-    pub fn take(&mut self, packet: &Packet)
-        requires { MayFollow self.old packet.now }
-        ensures { (before : List (List ℕ)) → IsAfter before self.old → IsAfter (before ++ packet.now ∷ []) self.new }
+    /// Takes the packet, of which this was learned, as the next one.
+    pub fn take(&mut self, judged: &Judged<'_>)
+        requires { (site : SiteFields) × (packet : List ℕ) × MayFollow site self.old packet judged.now }
+        ensures { (site : SiteFields) (before : List (List ℕ)) (packet : List ℕ) →
+            MayFollow site self.old packet judged.now → IsAfter before self.old →
+            IsAfter (before ++ packet ∷ []) self.new }
     {
-        learn(&mut self.pmts, packet);
-        move_position(&mut self.positions, &mut self.pids, packet);
+        learn(&mut self.pmts, judged.pat());
+        move_position(&mut self.positions, &mut self.pids, judged.next());
         self.count += 1;
     }
 }
 
-// Where the packet is a current PAT, marks the PIDs of its PMTs and no others.
-fn learn(marks: &mut [bool], packet: &Packet)
-    requires { length marks.old ≡ 8192 }
-    ensures { (before : List (List ℕ)) → AreMarked (pmts_in before) marks.old →
-        AreMarked (pmts_in (before ++ packet.now ∷ [])) marks.new }
-{
-    if let Some(pat) = current_pat(packet) {
-        mark(marks, &pat);
+impl<'a> Judged<'a> {
+    // The current PAT that the packet is, if it is one.
+    fn pat(&self) -> Option<Pat<'a>>
+        ensures { result ≡ pat_in self.now }
+    {
+        match self {
+            Judged::Passed(pat) => *pat,
+            Judged::Pmt(_, _) => None,
+            Judged::Scrambled(_) => None,
+        }
+    }
+
+    // The move that the packet makes, if it has a position.
+    fn next(&self) -> Option<Move>
+        ensures { result ≡ move_in self.now }
+    {
+        match self {
+            Judged::Passed(_) => None,
+            Judged::Pmt(next, _) => Some(*next),
+            Judged::Scrambled(next) => Some(*next),
+        }
     }
 }
 
-// The current PAT that the packet is by itself.
-fn current_pat(packet: &Packet) -> Option<Pat<'_>>
-    ensures { MatchOption result (is_current_pat packet.now ≡ false) (λ pat. (is_current_pat packet.now ≡ true)
-        × (pat.section.bytes.now ≡ section_in packet.now)) }
+// If the packet is a current PAT, marks the PIDs of its PMTs and no others.
+fn learn(marks: &mut [bool], pat: Option<Pat<'_>>)
+    requires { length marks.old ≡ 8192 }
+    ensures { (before : List (List ℕ)) (packet : List ℕ) → IsPatOf packet pat.entry →
+        AreMarked (pmts_in before) marks.old → AreMarked (pmts_in (before ++ packet ∷ [])) marks.new }
 {
-    if packet.pid() != 0 || packet.payload().is_empty() {
-        return None;
+    if let Some(pat) = pat {
+        mark(marks, &pat);
     }
-    let Ok(pat) = pat_of(packet) else {
-        return None;
-    };
-    if pat.current() { Some(pat) } else { None }
 }
 
 // Marks the PIDs of its PMTs, and no others.
@@ -63,32 +75,31 @@ fn mark(marks: &mut [bool], pat: &Pat)
     }
 }
 
-// Moves the position of the packet's PID, if it has one, and puts a PID that moves for the first time among the others.
-fn move_position(positions: &mut [u64], pids: &mut Vec<u16>, packet: &Packet)
+// Makes a packet's move, if it makes one, and puts a PID that moves for the first time among the others.
+fn move_position(positions: &mut [u64], pids: &mut Vec<u16>, next: Option<Move>)
     requires long { length positions.old ≡ 8192 }
-    requires bounded { AreNear (2 ^ 32) positions.old }
     requires few { vec_len pids.old ≤ MOST_PLACES }
     requires capacity { MOST_PLACES ≤ vec_capacity pids.old }
     requires known { AreKnown pids.old.items }
-    requires room { is_placed packet.now ≡ true →
-        slice_index positions.old (pid_of packet.now) ≡ first_position → length pids.old.items < MOST_PLACES }
-    ensures placed { (before : List (List ℕ)) → ArePositions before positions.old →
-        ArePositions (before ++ packet.now ∷ []) positions.new }
-    ensures moved { (before : List (List ℕ)) → ArePositions before positions.old → pids.old.items ≡ moved_pids before →
-        pids.new.items ≡ moved_pids (before ++ packet.now ∷ []) }
-    ensures near { (n : ℕ) → AreNear n positions.old → AreNear (n + 1) positions.new }
+    requires pid { IfSome next (λ move. move.pid < 8192) }
+    requires room { HasRoom pids.old.items next }
+    ensures placed { (before : List (List ℕ)) (packet : List ℕ) → IsMoveOf positions.old packet next →
+        ArePositions before positions.old → ArePositions (before ++ packet ∷ []) positions.new }
+    ensures moved { (before : List (List ℕ)) (packet : List ℕ) → IsMoveOf positions.old packet next →
+        ArePositions before positions.old → pids.old.items ≡ moved_pids before →
+        pids.new.items ≡ moved_pids (before ++ packet ∷ []) }
+    ensures near { (n : ℕ) → IfSome next (λ move. move.position ≤ first_position + 16 * (n + 1)) →
+        AreNear n positions.old → AreNear (n + 1) positions.new }
     ensures few { vec_len pids.new ≤ MOST_PLACES }
     ensures capacity { MOST_PLACES ≤ vec_capacity pids.new }
     ensures known { AreKnown pids.new.items }
 {
-    if !packet.is_placed() {
+    let Some(next) = next else {
         return;
-    }
-    let pid = packet.pid();
-    let position = positions[usize::from(pid)];
-    positions[usize::from(pid)] = advance(position, packet.counter());
-    if position == FIRST_POSITION {
-        add(pids, pid);
+    };
+    positions[usize::from(next.pid)] = next.position;
+    if next.is_first {
+        add(pids, next.pid);
     }
 }
 

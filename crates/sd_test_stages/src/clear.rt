@@ -35,11 +35,14 @@ const FULL_OWN: Ends = (
 
 // What becomes of the packet, which is taken, in crypto period 0, or why it is refused.
 fn step(clear: &mut Clear, site: &Site, packet: &Packet) -> Result<Packet, ClearFault> {
-    let kind = clear.judge(site, packet)?;
-    let mut carried = *packet;
-    clear.carry(kind, site, &mut carried, 0, &control_word(&site.master, 0));
-    clear.take(packet);
-    Ok(carried)
+    match clear.judge(site, packet) {
+        Ok(judged) => {
+            let carried = judged.carry(packet, 0, &control_word(&site.master, 0));
+            clear.take(&judged);
+            Ok(carried)
+        }
+        Err(fault) => Err(fault),
+    }
 }
 
 // Whether the packet, which is taken, is carried.
@@ -52,7 +55,10 @@ fn is_carried(clear: &mut Clear, site: &Site, packet: Option<Packet>) -> bool {
 
 // Why the packet is refused.
 fn refusal(clear: &Clear, site: &Site, packet: Option<Packet>) -> Option<ClearFault> {
-    clear.judge(site, &packet?).err()
+    match clear.judge(site, &packet?) {
+        Ok(_) => None,
+        Err(fault) => Some(fault),
+    }
 }
 
 // Clear packets in turn, and what they become.

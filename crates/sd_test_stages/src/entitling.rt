@@ -31,9 +31,8 @@ static SECOND_CHECK: [u8; 16] = [
     0xBF, 0xA8, 0x80, 0x7F, 0x78, 0x5E, 0x1F, 0xC8, 0xF7, 0xF0, 0x55, 0xA5, 0x75, 0x33, 0x72, 0xB8,
 ];
 
-// What is kept once a crypto period has begun: the packets of entitlements, the crypto period, and how many sets the
-// index gives.
-type Begun = (Vec<[u8; SIZE]>, CryptoPeriod, usize);
+// What is kept once a crypto period has begun: the packets of entitlements, and the crypto period.
+type Begun = (Vec<[u8; SIZE]>, CryptoPeriod);
 
 // What is kept before the first crypto period.
 fn before(alloc: Global, site: &Site) -> Option<Entitling>
@@ -58,9 +57,8 @@ fn begin<L: Ledger>(
     if is_second && has_next {
         entitling.begin(site, 1, steps).ok()?;
     }
-    let sets = entitling.index().sets(alloc, steps).ok()?.len();
     let emms = entitling.emms().to_vec(alloc).ok()?;
-    Some((emms, *entitling.crypto(), sets))
+    Some((emms, *entitling.crypto()))
 }
 
 fn counted<L: Ledger>(alloc: Global, site: &Site, is_second: bool, blank: Blank) -> Option<Begun>
@@ -89,7 +87,7 @@ fn are_of(emms: &[[u8; SIZE]], section: &[u8; 79]) -> bool {
 
 // Whether the crypto period and the period of a number, 0 or 1, begin with these entitlements and this check value.
 fn is_begun(alloc: Global, number: u32, section: &[u8; 79], check: &[u8; 16]) -> Option<bool> {
-    let (emms, crypto, _) = begun(alloc, &site_of(SITE)?, number == 1)?;
+    let (emms, crypto) = begun(alloc, &site_of(SITE)?, number == 1)?;
     let is_due = (crypto.number, crypto.period) == (number, number) && crypto.check == *check;
     Some(is_due && are_of(&emms, section))
 }
@@ -110,11 +108,10 @@ static SEVENTH_CHECK: [u8; 16] = [
     0x1B, 0x74, 0x70, 0xF9, 0xAA, 0xB7, 0xBC, 0x5E, 0xC2, 0xB2, 0x3E, 0x36, 0x70, 0x39, 0x51, 0x26,
 ];
 
-// Whether control word 7 and this period are begun with a packet of entitlements, and there is one set.
+// Whether control word 7 and this period are begun with a packet of entitlements.
 fn is_begun_at(alloc: Global, text: &str, period: u32) -> Option<bool> {
-    let (emms, crypto, sets) = begun(alloc, &site_of(text)?, false)?;
-    let is_due = (crypto.number, crypto.period, sets) == (7, period, 1)
-        && crypto.check == SEVENTH_CHECK;
+    let (emms, crypto) = begun(alloc, &site_of(text)?, false)?;
+    let is_due = (crypto.number, crypto.period) == (7, period) && crypto.check == SEVENTH_CHECK;
     Some(is_due && emms.len() == 1 && (period > 1 || are_of(&emms, &OTHERS)))
 }
 

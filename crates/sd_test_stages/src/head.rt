@@ -59,40 +59,31 @@ static SECOND: &str = site!("messages 2\n");
 
 type Answer = Result<u64, DriveFault<HeadFault>>;
 
-// What a head end answers for a stream, and how many sets its index gives then.
+// What a head end answers for a stream.
 fn driven<L: Ledger>(
-    alloc: Global,
     source: &mut MemSource,
     sink: &mut MemSink,
     head: &mut Head,
     blank: Blank,
-) -> Option<(Answer, usize)>
+) -> Answer
     requires name { blank.name ≡ L.name }
     requires parts { blank.parts ≡ L.parts }
     requires some { 0 < blank.parts }
     requires live { IsReady head.old }
 {
     let mut steps = Steps::<L>::new(blank);
-    let answer = drive(source, sink, head, &mut steps);
-    let sets = head.index().sets(alloc, &mut steps).ok()?;
-    Some((answer, sets.len()))
+    drive(source, sink, head, &mut steps)
 }
 
-// What a head end answers for a clear stream and writes of it, with at most so many bytes a read and a write; and how
-// many sets its index gives then.
-fn sent(
-    alloc: Global,
-    head: &mut Head,
-    clear: Vec<u8>,
-    most: usize,
-) -> Option<(Answer, Vec<u8>, usize)>
+// What a head end answers for a clear stream and writes of it, with at most so many bytes a read and a write.
+fn sent(alloc: Global, head: &mut Head, clear: Vec<u8>, most: usize) -> Option<(Answer, Vec<u8>)>
     requires most { 1 ≤ most }
     requires live { IsReady head.old }
 {
     let mut source = MemSource::new(clear, most, Vec::new(alloc));
     let mut sink = MemSink::new(alloc, 2000, most, Vec::new(alloc)).ok()?;
-    let (answer, sets) = driven::<Brand>(alloc, &mut source, &mut sink, head, Blank::new(1))?;
-    Some((answer, sink.into_bytes(), sets))
+    let answer = driven::<Brand>(&mut source, &mut sink, head, Blank::new(1));
+    Some((answer, sink.into_bytes()))
 }
 
 // The head end of a site with an empty book.
@@ -163,15 +154,14 @@ static STREAMS: [Row; 3] = [
     ),
 ];
 
-// Whether the row's answer is given and its packets are written, of one set, with at most so many bytes a read and a
-// write.
+// Whether the row's answer is given and its packets are written, with at most so many bytes a read and a write.
 fn is_sent(alloc: Global, row: &Row, most: usize) -> Option<bool>
     requires { 1 ≤ most }
 {
     let (clear, second, answer, due) = row;
     let mut head = head(alloc, if *second { SECOND } else { SITE })?;
     let sent = sent(alloc, &mut head, joined(alloc, clear)?, most)?;
-    Some(sent == (*answer, joined(alloc, due)?, 1))
+    Some(sent == (*answer, joined(alloc, due)?))
 }
 
 #[test]
@@ -216,7 +206,7 @@ fn later_head(alloc: Global) -> Option<Head>
 
 // What it writes of no clear packet.
 fn later(alloc: Global) -> Option<Vec<u8>> {
-    let (answer, bytes, _) = sent(alloc, &mut later_head(alloc)?, Vec::new(alloc), 1000)?;
+    let (answer, bytes) = sent(alloc, &mut later_head(alloc)?, Vec::new(alloc), 1000)?;
     answer.is_ok().then_some(bytes)
 }
 

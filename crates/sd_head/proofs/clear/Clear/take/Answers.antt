@@ -1,31 +1,31 @@
-use Rattle.std.proofs.Common.{◌≡◌, ◌+◌, ◌^◌, ◌++◌, ◌∷◌, [], ◌∙◌, ℕ, List, sym, ap, subst, arith, length-append}
-use Rattle.std.specs.Prelude.{slice_index}
+use Rattle.std.proofs.Common.{◌≡◌, ◌+◌, ◌++◌, ◌∷◌, [], ◌∙◌, ℕ, List, sym, ap, subst, arith, length-append}
 use Rattle.std.specs.Vec.{with_items}
 use Rattle.std.proofs.lemmas.List.{with_items_is}
-use Rattle.sd_packet.specs.Header.{pid_of}
 use Rattle.sd_spec.specs.Kinds.{pmts_in}
 use Rattle.sd_head.specs.After.{ArePositions}
 use Rattle.sd_head.specs.Known.{AreNear, AreMarked}
-use Rattle.sd_head.proofs.Moving.{near_later}
+use Rattle.sd_head.specs.Follows.{move_in, IsMoveOf, IsPatOf}
+use Rattle.sd_head.proofs.Marking.{pat_told}
+use Rattle.sd_head.proofs.Moving.{near_if_moved, small_if_moved}
 use Rattle.sd_head.proofs.clear.Clear.take.Goals as goal
 
 pub move_position-requires : goal.move_position-requires
 move_position-requires c =
     let clear = c.args.self.now in
-    let same = c.deref_mut-2.ensures.value in record {
+    let learned = c.requires.2.learned in record {
       long = omega (arith, c.deref_mut-2.ensures.len, clear.positions_long);
-      bounded = subst (AreNear (2 ^ 32)) (sym same) (near_later clear.count (2 ^ 32) clear.positions.items
-          (omega (arith, c.requires.number)) clear.positions_near);
       few = clear.pids_few;
       capacity = clear.pids_room;
       known = clear.pids_known;
-      room = λ placed first. c.requires.room placed
-          (ap (λ (ps : List ℕ). slice_index ps (pid_of c.args.packet.now)) (sym same) ∙ first);
+      pid = rw c.next.ensures (small_if_moved c.requires.1 clear.positions.items (move_in c.args.judged.now)
+          learned.moves);
+      room = rw c.next.ensures learned.room;
     }
 
 pub invariant_of-self : goal.invariant_of-self
 invariant_of-self c =
     let clear = c.args.self.now in
+    let learned = c.requires.2.learned in
     let positions : (with_items clear.positions c.move_position.new.positions).items ≡ c.move_position.new.positions =
     with_items_is clear.positions c.move_position.new.positions
     (omega (arith, c.move_position.auto.positions, c.deref_mut-2.ensures.len)) in record {
@@ -35,23 +35,30 @@ invariant_of-self c =
       pids_room = c.move_position.ensures.capacity;
       pids_known = c.move_position.ensures.known;
       positions_near = subst (AreNear (clear.count + 1)) (sym positions) (c.move_position.ensures.near clear.count
+          (rw c.next.ensures (near_if_moved clear.count c.requires.1 clear.positions.items
+          (move_in c.args.judged.now) learned.moves clear.positions_near))
           (subst (AreNear clear.count) (sym c.deref_mut-2.ensures.value) clear.positions_near));
     }
 
 pub returns : goal.returns
-returns c = λ before after.
+returns c = λ site before packet follows after.
     let clear = c.args.self.now in
-    let all = before ++ c.args.packet.now ∷ [] in
-    let placed : ArePositions before c.deref_mut-2.result.now =
-    subst (ArePositions before) (sym c.deref_mut-2.ensures.value) after.placed in
+    let all = before ++ packet ∷ [] in
+    let same = sym c.deref_mut-2.ensures.value in
+    let placed : ArePositions before c.deref_mut-2.result.now = subst (ArePositions before) same after.placed in
+    let makes : IsMoveOf c.deref_mut-2.result.now packet c.next.result =
+    rw c.next.ensures (subst (λ (ps : List ℕ). IsMoveOf ps packet (move_in c.args.judged.now)) same
+    follows.learned.moves) in
+    let pat : IsPatOf packet c.pat.result =
+    rw c.pat.ensures (pat_told site clear packet c.args.judged.now follows.learned) in
     let positions : (with_items clear.positions c.move_position.new.positions).items ≡ c.move_position.new.positions =
     with_items_is clear.positions c.move_position.new.positions
     (omega (arith, c.move_position.auto.positions, c.deref_mut-2.ensures.len)) in
     let marks : (with_items clear.pmts c.learn.new.marks).items ≡ c.learn.new.marks =
     with_items_is clear.pmts c.learn.new.marks (omega (arith, c.learn.auto.marks, c.deref_mut.ensures.len)) in record {
-      number = ap (λ (n : ℕ). n + 1) after.number ∙ sym (length-append before (c.args.packet.now ∷ []));
-      placed = subst (ArePositions all) (sym positions) (c.move_position.ensures.placed before placed);
-      moved = c.move_position.ensures.moved before placed after.moved;
-      marked = subst (AreMarked (pmts_in all)) (sym marks) (c.learn.ensures before
+      number = ap (λ (n : ℕ). n + 1) after.number ∙ sym (length-append before (packet ∷ []));
+      placed = subst (ArePositions all) (sym positions) (c.move_position.ensures.placed before packet makes placed);
+      moved = c.move_position.ensures.moved before packet makes placed after.moved;
+      marked = subst (AreMarked (pmts_in all)) (sym marks) (c.learn.ensures before packet pat
           (subst (AreMarked (pmts_in before)) (sym c.deref_mut.ensures.value) after.marked));
     }

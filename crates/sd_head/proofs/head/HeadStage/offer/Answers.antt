@@ -44,7 +44,7 @@ pub returns-in-Ok-send_packet-clause-value : goal.returns-in-Ok-send_packet-clau
 returns-in-Ok-send_packet-clause-value g c = record {
   bytes = (tables_bytes c.prepare-message.new.self c.in-Ok.admitted.inserted.begins c.emms-emms.result.now
       ++ message_bytes c.args.self.now.site.ecm c.prepare-message.new.self c.prepare-message.result)
-      ++ c.carry.new.packet;
+      ++ c.carry-carried.result;
   steps = c.admit.new.steps;
   says = does c.args.self.now (record {
     site = c.args.self.now.site;
@@ -53,7 +53,7 @@ returns-in-Ok-send_packet-clause-value g c = record {
     sender = c.send_packet.new.self;
     refusal = c.args.self.now.refusal;
   }) c.args.packet.now c.prepare-message.new.self c.in-Ok.admitted.inserted.begins c.emms-emms.result.now
-      c.prepare-message.result c.carry.new.packet
+      c.prepare-message.result c.carry-carried.result
       (record {
         judged = c.in-Ok.ensures.judged;
         at_work = still_of (plan_in c.args.self.now)
@@ -68,7 +68,8 @@ returns-in-Ok-send_packet-clause-value g c = record {
             ∙ ap (λ (x : CryptoPeriod). message_due (fields_of c.args.self.now.site) x c.args.self.now.clear.count)
             c.crypto-crypto.ensures;
         places_are = c.prepare-message.ensures.places;
-        carried_is = λ before kept number word. c.carry.ensures before kept
+        carried_is = λ before kept number word. c.carry-carried.ensures (fields_of c.args.self.now.site)
+            c.args.self.now.clear before c.in-Ok.ensures.follows kept
             (ap (λ (x : CryptoPeriod). x.number) c.crypto-crypto.ensures ∙ number)
             (ap (λ (x : CryptoPeriod). x.word) c.crypto-crypto.ensures ∙ (word
             ∙ ap (control_word_of c.args.self.now.site.master)
@@ -78,7 +79,8 @@ returns-in-Ok-send_packet-clause-value g c = record {
         site_is = refl;
         book_is = c.admit.ensures.book;
         refusal_is = refl;
-        taken = c.take.ensures;
+        taken = λ before. c.take.ensures (fields_of c.args.self.now.site) before c.args.packet.now
+            c.in-Ok.ensures.follows;
         follows = c.in-Ok-send_packet.ensures.next;
       })
       c.admit.new.steps;
@@ -97,7 +99,7 @@ returns-in-Ok-send_packet-clause-ok g c =
         sender = c.send_packet.new.self;
         refusal = c.args.self.now.refusal;
       }) c.args.packet.now c.prepare-message.new.self c.in-Ok.admitted.inserted.begins c.emms-emms.result.now
-          c.prepare-message.result c.carry.new.packet
+          c.prepare-message.result c.carry-carried.result
           (record {
             judged = c.in-Ok.ensures.judged;
             at_work = still_of (plan_in c.args.self.now)
@@ -112,7 +114,8 @@ returns-in-Ok-send_packet-clause-ok g c =
                 ∙ ap (λ (x : CryptoPeriod). message_due
                 (fields_of c.args.self.now.site) x c.args.self.now.clear.count) c.crypto-crypto.ensures;
             places_are = c.prepare-message.ensures.places;
-            carried_is = λ before kept number word. c.carry.ensures before kept
+            carried_is = λ before kept number word. c.carry-carried.ensures (fields_of c.args.self.now.site)
+                c.args.self.now.clear before c.in-Ok.ensures.follows kept
                 (ap (λ (x : CryptoPeriod). x.number) c.crypto-crypto.ensures ∙ number)
                 (ap (λ (x : CryptoPeriod). x.word) c.crypto-crypto.ensures ∙ (word
                 ∙ ap (control_word_of c.args.self.now.site.master)
@@ -122,7 +125,8 @@ returns-in-Ok-send_packet-clause-ok g c =
             site_is = refl;
             book_is = c.admit.ensures.book;
             refusal_is = refl;
-            taken = c.take.ensures;
+            taken = λ before. c.take.ensures (fields_of c.args.self.now.site) before c.args.packet.now
+                c.in-Ok.ensures.follows;
             follows = c.in-Ok-send_packet.ensures.next;
           })
           live.0 live.1,
@@ -133,7 +137,7 @@ pub returns-in-Err-send_packet-clause-prefix : goal.returns-in-Err-send_packet-c
 returns-in-Err-send_packet-clause-prefix g c = λ fails. record {
   bytes = (tables_bytes c.prepare-message.new.self c.in-Ok.admitted.inserted.begins c.emms-emms.result.now
       ++ message_bytes c.args.self.now.site.ecm c.prepare-message.new.self c.prepare-message.result)
-      ++ c.carry.new.packet;
+      ++ c.carry-carried.result;
   says = (
     c.admit.new.steps,
     omega arith,
@@ -174,7 +178,7 @@ returns-in-Err-send_packet-clause-prefix g c = λ fails. record {
         };
         refusal = c.args.self.now.refusal;
       }) c.args.packet.now c.prepare-message.new.self c.in-Ok.admitted.inserted.begins c.emms-emms.result.now
-          c.prepare-message.result c.carry.new.packet
+          c.prepare-message.result c.carry-carried.result
           (record {
             judged = c.in-Ok.ensures.judged;
             at_work = c.in-Ok.ensures.value;
@@ -185,7 +189,8 @@ returns-in-Err-send_packet-clause-prefix g c = λ fails. record {
                 ∙ ap (λ (x : CryptoPeriod). message_due (fields_of c.args.self.now.site) x c.args.self.now.clear.count)
                 c.crypto-crypto.ensures;
             places_are = c.prepare-message.ensures.places;
-            carried_is = λ before kept number word. c.carry.ensures before kept
+            carried_is = λ before kept number word. c.carry-carried.ensures (fields_of c.args.self.now.site)
+                c.args.self.now.clear before c.in-Ok.ensures.follows kept
                 (ap (λ (x : CryptoPeriod). x.number) c.crypto-crypto.ensures ∙ number)
                 (ap (λ (x : CryptoPeriod). x.word) c.crypto-crypto.ensures ∙ (word
                 ∙ ap (control_word_of c.args.self.now.site.master)
@@ -195,7 +200,8 @@ returns-in-Err-send_packet-clause-prefix g c = λ fails. record {
             site_is = refl;
             book_is = c.admit.ensures.book;
             refusal_is = refl;
-            taken = c.take.ensures;
+            taken = λ before. c.take.ensures (fields_of c.args.self.now.site) before c.args.packet.now
+                c.in-Ok.ensures.follows;
             follows = record { cat = refl; cats = refl; emms_next = refl; ecms = refl };
           })
           c.admit.new.steps,
@@ -263,14 +269,12 @@ prepare-message-requires-clause-kept g c =
 pub prepare-message-requires-clause-due : goal.prepare-message-requires-clause-due
 prepare-message-requires-clause-due g c = c.in-Ok.ensures.message
 
-pub carry-requires-clause-follows : goal.carry-requires-clause-follows
-carry-requires-clause-follows g c = c.in-Ok.ensures.follows
-
-pub carry-requires-clause-kind : goal.carry-requires-clause-kind
-carry-requires-clause-kind g c = c.in-Ok.ensures.kind
+pub carry-carried-requires : goal.carry-carried-requires
+carry-carried-requires g c =
+    (fields_of c.args.self.now.site, c.args.self.now.clear, c.in-Ok.ensures.follows)
 
 pub take-requires : goal.take-requires
-take-requires g c = c.in-Ok.ensures.follows
+take-requires g c = (fields_of c.args.self.now.site, c.args.packet.now, c.in-Ok.ensures.follows)
 
 pub send_packet-requires-clause-fits : goal.send_packet-requires-clause-fits
 send_packet-requires-clause-fits g c = c.prepare-message.ensures.fits
