@@ -1,5 +1,5 @@
 ghost use Rattle.std.specs.Prelude.{◌≡◌, ◌+◌, ◌-◌, ◌*◌, ◌^◌, ◌<◌, ◌≤◌, ◌&&◌, ℕ, List, true, false, Some, None};
-ghost use Rattle.std.specs.Prelude.{IfOk, OnOk, MatchResult, MatchOption, is_none, nat_le};
+ghost use Rattle.std.specs.Prelude.{IfOk, IfSome, OnOk, MatchResult, MatchOption, is_none, nat_le};
 ghost use Rattle.std.specs.Prelude.{length, get_or, slice_index};
 ghost use Rattle.sd_packet.specs.Header.{payload_start_of};
 ghost use Rattle.sd_packet.specs.Positions.{is_placed};
@@ -125,8 +125,8 @@ impl Clear {
         ensures value { (before : List (List ℕ)) → IsAfter before self.now → MatchOption result
             (is_full_own (fields_of site.now) (kind_of before packet.now) packet.now ≡ true)
             (λ _. is_full_own (fields_of site.now) (kind_of before packet.now) packet.now ≡ false) }
-        ensures moves { MatchOption result Unit (λ judged. move_in judged ≡ Some next) }
-        ensures kind { MatchOption result Unit (IsOfKind (fields_of site.now) self.now.pmts.items packet.now) }
+        ensures moves { IfSome result (λ judged. move_in judged ≡ Some next) }
+        ensures kind { IfSome result (IsOfKind (fields_of site.now) self.now.pmts.items packet.now) }
     {
         if !self.is_pmt(next.pid) {
             return Some(Judged::Scrambled(next));
