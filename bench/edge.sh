@@ -1,9 +1,9 @@
 #!/bin/sh
 # Shows how the program behaves at the machine's edge: OUT as the standard output, the modes of cards, names that lead
 # to one file, kinds of files and of faults, exits of streams, what a refusal is to a user, and pipes that stay open. It
-# is a part of the gate, and can be run by hand, from any folder: `bench/edge.sh`, or `SDCA=PROGRAM bench/edge.sh` with a
-# program that is built already. It takes some 3 seconds, and needs Python 3, but no root and no strace. A row that holds
-# prints nothing. A row that can't be tried here says so and isn't counted. The last line is `N passed, M failed`.
+# is a part of the gate, and can be run by hand, from any folder: `bench/edge.sh`, or `SDCA=PROGRAM bench/edge.sh` with
+# a program that is built already. It takes some 3 seconds, and needs Python 3, but no root and no strace. A row that
+# holds prints nothing. A row that can't be tried here says so and isn't counted. The last line is `N passed, M failed`.
 [ $# -eq 0 ] || { echo "edge.sh takes no argument: SDCA=PROGRAM bench/edge.sh" >&2; exit 2; }
 . "$(dirname "$0")/shared.sh"
 live=$top/bench/live.py
@@ -67,6 +67,9 @@ row "its report goes to the standard error" same err report
 python3 "$live" socket "$program" accounts S A /dev/stdout >got 2>err
 row "accounts into a socket: the book alone" same got BA
 row "accounts into a socket: the report goes to the standard error" same err report
+
+python3 "$live" full "$program" head S N C /dev/stdout 2>err
+row "a full pipe in which no write waits: a device fault" is "$? $(cat err)" "4 device fault"
 
 # --- OUT is the standard output: a regular file
 sdca card S 5 /dev/stdout >got 2>err
@@ -285,8 +288,8 @@ row "a closed standard output: OUT is whole" same K K5
 
 # --- what a refusal is to a user
 for pair in "cover S no:sdca: BOOK no: no such file" "card S 5 no/x:sdca: OUT no/x: no such folder" \
-    "card S 9 K:sdca: LEAF 9: not a decimal number in its range; LEAF is the receiver's number, from 0 to 2^height - 1" \
-    "cover B B:sdca: SITE B: line 1 is malformed" "receive S X K:sdca: CARD S: it is no card" \
+    "card S 9 K:sdca: LEAF 9: not a decimal number in its range; LEAF is the receiver's number, from 0 to \
+2^height - 1" "cover B B:sdca: SITE B: line 1 is malformed" "receive S X K:sdca: CARD S: it is no card" \
     "cover S:sdca: cover: wrong number of arguments; see sdca help cover" \
     "card S 5 S:sdca: OUT S: it is one of the inputs" "frob:sdca: frob: unknown command; see sdca help" \
     "help frob:sdca: frob: unknown command; see sdca help"; do
