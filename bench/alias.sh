@@ -70,10 +70,10 @@ row "a symbolic link to no file" made elsewhere
 ./sdca card site $leaf /dev/stdout | cat >piped
 row "standard output that is a pipe" made piped
 mkfifo pipe
-cat pipe >read &
+timeout 120 cat pipe >piece &
 ./sdca card site $leaf pipe
 wait $!
-row "a named pipe" made read
+row "a named pipe" made piece
 row "it is one still" [ -p pipe ]
 ./sdca card site $leaf /dev/null
 row "/dev/null is a device still" [ -c /dev/null ]

@@ -59,7 +59,7 @@ sdca cover S B >due
 row "no OUT: lines go to the standard output" same got due
 
 mkfifo both-pipe
-cat both-pipe >got &
+timeout 120 cat both-pipe >got &
 sdca accounts S A both-pipe >both-pipe 2>err
 wait $!
 row "OUT by a named pipe's name, which is the standard output too: the book alone" same got BA
@@ -158,7 +158,7 @@ row "/dev/full: a device fault" is "$status $(cat lines)" "4 device fault"
 sdca cover S B >/dev/full 2>err
 row "lines to /dev/full: exit 5" is "$status" 5
 mkfifo pipe
-cat pipe >got &
+timeout 120 cat pipe >got &
 sdca card S 5 pipe
 wait $!
 row "a named pipe" same got K5

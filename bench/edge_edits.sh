@@ -6,7 +6,7 @@
 # of the last commit, where tools/build.py proves only the crates that changed and those above, and builds the program.
 # The last line is `N passed, M failed`.
 . "$(dirname "$0")/shared.sh"
-most_seconds=600
+most_seconds=1800
 clone=$work/clone
 kept=crates/sdca/out/rlib
 git clone -q "$top" "$clone" || fail "the repository can't be cloned"
