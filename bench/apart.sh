@@ -12,6 +12,7 @@
 # and the peak memory of `apart`, less the files of both books, which is to be at most 64 MiB.
 set -eu
 . "$(dirname "$0")/shared.sh"
+compile runs
 rounds=3
 periods=1024
 

@@ -15,6 +15,7 @@
 # stricter one. Without OpenSSL's headers it says so and measures nothing.
 set -eu
 . "$(dirname "$0")/shared.sh"
+compile runs
 rounds=10
 
 if ! echo '#include <openssl/sha.h>' | cc -E - >/dev/null 2>&1; then

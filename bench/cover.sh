@@ -16,6 +16,7 @@
 # replay is cheap for both and the cover is what is measured.
 set -eu
 . "$(dirname "$0")/shared.sh"
+compile runs
 compile cover
 rounds=5
 

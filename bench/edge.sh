@@ -1,25 +1,13 @@
 #!/bin/sh
-# Shows how the program behaves at the machine's edge: OUT as the standard output, the modes of cards, names that lead to
-# one file, kinds of files and of faults, and what a refusal is to a user. It needs no root and no strace; as root two
-# rows are left out. To be run by hand, from any folder: `bench/edge.sh`, or `SDCA=PROGRAM bench/edge.sh` with a program
-# that is built already. A row that holds prints nothing. The last line is `N passed, M failed`.
+# Shows how the program behaves at the machine's edge: OUT as the standard output, the modes of cards, names that lead
+# to one file, kinds of files and of faults, exits of streams, what a refusal is to a user, and pipes that stay open. It
+# is a part of the gate, and can be run by hand, from any folder: `bench/edge.sh`, or `SDCA=PROGRAM bench/edge.sh` with
+# a program that is built already. It takes some 3 seconds, and needs Python 3, but no root and no strace. A row that
+# holds prints nothing. A row that can't be tried here says so and isn't counted. The last line is `N passed, M failed`.
 [ $# -eq 0 ] || { echo "edge.sh takes no argument: SDCA=PROGRAM bench/edge.sh" >&2; exit 2; }
 . "$(dirname "$0")/shared.sh"
-
-passed=0
-failed=0
-
-# TEXT TEST..: the row of this text holds where the test does.
-row() {
-    text=$1
-    shift
-    if "$@"; then
-        passed=$((passed + 1))
-    else
-        failed=$((failed + 1))
-        echo "FAILED: $text"
-    fi
-}
+live=$top/bench/live.py
+umask 022
 
 # WORDS..: runs the program; its exit is in $status.
 sdca() {
@@ -28,8 +16,13 @@ sdca() {
 }
 is() { [ "$1" = "$2" ]; }
 same() { cmp -s "$1" "$2"; }
-none() { ! [ -e "$1" ]; }
 mode() { stat -c %a "$1"; }
+
+# COUNT FILE: the bytes of its first COUNT packets.
+first_packets() { head -c $((188 * $1)) "$2"; }
+
+# FIRST COUNT FILE: the bytes of its packets without COUNT of them from number FIRST on.
+without() { first_packets "$1" "$3" && tail -c "+$((188 * ($1 + $2) + 1))" "$3"; }
 
 printf '%s\n' 'height 3' 'master 000102030405060708090a0b0c0d0e0f101112131415161718191a1b1c1d1e1f' 'ca 1234' 'emm 496' \
     'ecm 497' 'ecm-every 200' 'crypto-ecms 2' 'period-cryptos 1' >S
@@ -38,11 +31,12 @@ printf 'assign ann 5\nperiod\ndrop ann\n' >A
 : >N
 sdca sample 7 600 C
 sdca head S B C X
+sdca head S N C XN
 sdca card S 0 K0
 sdca card S 5 K5
 sdca accounts S A BA >report
 head -c 56300 C >torn
-sums() { cksum S B A C X K0 K5; }
+sums() { cksum S B A N C X K0 K5; }
 before=$(sums)
 
 # --- OUT is the standard output: a pipe
@@ -63,6 +57,19 @@ row "accounts: the report goes to the standard error" same err report
 "$program" cover S B 2>err | cat >got
 sdca cover S B >due
 row "no OUT: lines go to the standard output" same got due
+
+mkfifo both-pipe
+timeout 120 cat both-pipe >got &
+sdca accounts S A both-pipe >both-pipe 2>err
+wait $!
+row "OUT by a named pipe's name, which is the standard output too: the book alone" same got BA
+row "its report goes to the standard error" same err report
+python3 "$live" socket "$program" accounts S A /dev/stdout >got 2>err
+row "accounts into a socket: the book alone" same got BA
+row "accounts into a socket: the report goes to the standard error" same err report
+
+python3 "$live" full "$program" head S N C /dev/stdout 2>err
+row "a full pipe in which no write waits: a device fault" is "$? $(cat err)" "4 device fault"
 
 # --- OUT is the standard output: a regular file
 sdca card S 5 /dev/stdout >got 2>err
@@ -113,6 +120,29 @@ sdca head a b c d e f >words 2>err
 row "too many words: usage is printed" is "$(cat words)" usage
 row "too many words: exit" is "$status" 1
 
+# --- how many arguments there are; the last two commands of the list have pages without arguments
+"$program" help | sed -n 's/^  \([a-z]* [A-Z ]*[A-Z]\)  .*/\1/p' >table
+while read -r command operands; do
+    for words in "${operands% *}" "$operands more"; do
+        [ "$words" != "$operands" ] || words=
+        # shellcheck disable=SC2086 # the arguments of a command
+        sdca "$command" $words >lines 2>err
+        row "$command $words: usage" is "$status $(cat lines err)" \
+            "1 usage
+sdca: $command: wrong number of arguments; see sdca help $command"
+    done
+done <table
+row "help lists 18 commands with arguments" is "$(wc -l <table)" 18
+for words in "help cover more" "version more"; do
+    # shellcheck disable=SC2086 # the words of a command
+    sdca $words >lines 2>err
+    row "$words: usage" is "$status $(cat lines err)" \
+        "1 usage
+sdca: ${words%% *}: wrong number of arguments; see sdca help"
+done
+sdca card S 5 "$(printf 'K\377')" >lines 2>err
+row "a word that isn't UTF-8: usage, and nothing is explained" is "$status $(cat lines err)" "1 usage"
+
 # --- devices
 sdca head S /dev/null C /dev/null >lines 2>err
 row "/dev/null as BOOK, and /dev/null as OUT by the same word: usage" is "$status" 1
@@ -128,7 +158,7 @@ row "/dev/full: a device fault" is "$status $(cat lines)" "4 device fault"
 sdca cover S B >/dev/full 2>err
 row "lines to /dev/full: exit 5" is "$status" 5
 mkfifo pipe
-cat pipe >got &
+timeout 120 cat pipe >got &
 sdca card S 5 pipe
 wait $!
 row "a named pipe" same got K5
@@ -150,11 +180,12 @@ row "so is a book" is "$(mode BB)" 644
 : >K && chmod 640 K
 sdca card S 5 K
 row "a file that was there keeps its mode" is "$(mode K)" 640
-rm -f O
-umask 077
-sdca head S B C O
+rm -f O K L
+sdca card S 5 K
+(umask 077 && exec "$program" head S B C O)
 row "umask 077" is "$(mode O)" 600
-umask 022
+(umask 0 && "$program" card S 5 K9 && exec "$program" lcard S 5 2 L9)
+row "umask 0: cards are the owner's alone still" is "$(mode K9) $(mode L9)" "600 600"
 
 # --- aliases
 mkdir folder
@@ -165,10 +196,19 @@ for out in ./S "$work/S" folder/../S hard symbolic folder/symbolic /dev/stdin; d
     sdca card S 5 "$out" >lines 2>err <S
     row "OUT is the site by $out" is "$status $(cat lines)" "4 device fault"
 done
+for out in ./B ./C; do
+    sdca head S B C "$out" >lines 2>err
+    row "head: OUT is another input by $out" is "$status $(cat lines)" "4 device fault"
+done
+sdca book S B N ./N >lines 2>err
+row "book: OUT is its third input" is "$status $(cat lines)" "4 device fault"
 row "all inputs are as they were" is "$(sums)" "$before"
 cat K0 K0 K0 >long
 sdca card S 5 long
 row "a longer file is cut off" same long K5
+head -c 2000000 /dev/zero >long
+sdca card S 5 long
+row "a file of 2 MB is cut off" same long K5
 ln -s elsewhere dangling
 sdca card S 5 dangling
 row "a symbolic link to no file" same elsewhere K5
@@ -178,6 +218,35 @@ row "a site from the standard input" same K K5
 row "a stream from a file that is the standard input" same got C
 cat X | "$program" receive K0 /dev/stdin got
 row "a stream from a pipe" same got C
+
+cp S 'blank '
+sdca card 'blank ' 5 K
+row "a name with a blank at its end" same K K5
+path=$(printf './%.0s' $(seq 1000))
+sdca card "${path}S" 5 "${path}K6"
+row "names of more than 2,000 bytes" same K6 K5
+
+# --- exits of streams
+# A broadcast has a CAT, the EMM of period 0 and an ECM before clear packet 0, a packet each, and an ECM before clear
+# packet 200. That of the empty book, XN, has the three again before clear packet 400, and an ECM behind the last.
+without 1 1 X >unheard
+sdca receive K0 unheard got >lines 2>err
+tail -c 37600 C >due
+row "without the EMM of period 0" is "$status $(cat lines)" "13 receiver 0 did not hear its entitlement for period 0"
+row "its clear packets" same got due
+first_packets 400 XN >broken
+sdca receive K0 broken got >lines 2>err
+first_packets 200 C >due
+row "a stream that ends early" is "$status $(cat lines)" "14 stream ends before message 2"
+row "its clear packets" same got due
+without 103 1 XN >gap
+sdca receive K0 gap got >lines 2>err
+without 100 1 C >due
+row "a packet is missing" is "$status $(cat lines)" "15 1 clear packets are missing"
+row "its clear packets" same got due
+sdca receive K0 C got >lines 2>err
+row "a stream without a CAT" is "$status $(cat lines)" "16 no CAT for this card"
+row "nothing of it is written" is "$(wc -c <got)" 0
 
 # --- kinds of faults
 ln -s loop loop
@@ -193,13 +262,25 @@ for pair in "S/x missing file word 3" "no/x missing file word 3" "loop device fa
     sdca card S 5 "${pair%% *}" >lines 2>err
     row "card to ${pair%% *}" is "$(cat lines)" "${pair#* }"
 done
-if [ "$(id -u)" != 0 ]; then
-    cp S shut && chmod 000 shut
-    sdca cover shut B >lines 2>err
-    row "a file that may not be read" is "$(cat lines)" "device fault"
-    sdca card S 5 shut >lines 2>err
-    row "a file that may not be written" is "$(cat lines)" "device fault"
+# Root may read and write all, so root tries these as nobody, who may not look into the folder of the program.
+as_user=
+if [ "$(id -u)" = 0 ]; then
+    as_user="setpriv --reuid=65534 --regid=65534 --clear-groups"
+    mkdir copied && cp "$program" copied/sdca && chmod 711 "$work" && chmod 755 copied/sdca
 fi
+cp S shut && chmod 000 shut
+for words in "cover shut B" "card S 5 shut"; do
+    # shellcheck disable=SC2086 # the words of a command
+    if [ -z "$as_user" ]; then
+        sdca $words >lines 2>err
+    elif $as_user copied/sdca version >lines 2>err; then
+        $as_user copied/sdca $words >lines 2>err
+    else
+        left_out "$words: shut may not be opened" "nothing can be run as nobody"
+        continue
+    fi
+    row "$words: shut may not be opened" is "$(cat lines)" "device fault"
+done
 sdca cover S B >&- 2>err
 row "a closed standard output: exit 5" is "$status" 5
 sdca card S 5 K >&- 2>err
@@ -207,8 +288,8 @@ row "a closed standard output: OUT is whole" same K K5
 
 # --- what a refusal is to a user
 for pair in "cover S no:sdca: BOOK no: no such file" "card S 5 no/x:sdca: OUT no/x: no such folder" \
-    "card S 9 K:sdca: LEAF 9: not a decimal number in its range; LEAF is the receiver's number, from 0 to 2^height - 1" \
-    "cover B B:sdca: SITE B: line 1 is malformed" "receive S X K:sdca: CARD S: it is no card" \
+    "card S 9 K:sdca: LEAF 9: not a decimal number in its range; LEAF is the receiver's number, from 0 to \
+2^height - 1" "cover B B:sdca: SITE B: line 1 is malformed" "receive S X K:sdca: CARD S: it is no card" \
     "cover S:sdca: cover: wrong number of arguments; see sdca help cover" \
     "card S 5 S:sdca: OUT S: it is one of the inputs" "frob:sdca: frob: unknown command; see sdca help" \
     "help frob:sdca: frob: unknown command; see sdca help"; do
@@ -247,5 +328,38 @@ row "a limit on file sizes, its signal ignored: exit 4" is "$?" 4
 head -c "$(wc -c <big)" C >due
 row "OUT is a prefix" same big due
 
-echo "$passed passed, $failed failed"
-[ $failed = 0 ]
+# --- a pipe that stays open: OUT has all that the packets known so far decide. An older program fails these rows
+row "head of 200 and 201 packets: 203 and 205 of the broadcast" is \
+    "$(python3 "$live" fed C O 200 201 -- "$program" head S N /dev/stdin O)" "$((188 * 203)) $((188 * 205))"
+row "head to the end" same O XN
+row "receive: nothing before ECM 1, then each stretch at the ECM behind it" is \
+    "$(python3 "$live" fed XN R 203 204 407 608 -- "$program" receive K0 /dev/stdin R)" \
+    "0 $((188 * 200)) $((188 * 400)) $((188 * 600))"
+row "receive to the end" same R C
+
+# --- a standard output that can't be looked at, since nothing is in /dev. An older program fails these rows
+# WORDS..: runs them in a namespace of their own, in which nothing is in /dev.
+blind() { unshare -rm sh -c 'mount -t tmpfs none /dev && exec "$@"' sh "$@"; }
+if blind true 2>err; then
+    blind "$program" accounts S A unseen >unseen 2>err
+    row "accounts: OUT is the standard output and can't be known: the report doesn't lie over it" same unseen BA
+    row "accounts: the report goes to the standard error" same err report
+    blind "$program" receive K5 X R >lines 2>err
+    row "receive: its line goes to the standard error" is "$(cat lines err)" "receiver 5 is revoked in period 1"
+    row "receive: nothing is on the standard output" is "$(cat lines)" ""
+    sdca cover S B >due
+    blind "$program" cover S B >got 2>err
+    row "no OUT: lines go to the standard output" same got due
+else
+    left_out "a standard output that can't be looked at" "unshare -rm: $(cat err)"
+fi
+
+# --- control characters of an argument are escaped. An older program fails these rows
+sdca card S "$(printf '9\033[31m\177\302\233\303\251')" K9 >lines 2>err
+letter=$(printf '\303\251')
+row "an argument with ESC, DEL, U+009B and a letter of two bytes" is "$(cut -d: -f 1,2 err)" \
+    'sdca: LEAF 9\x1b[31m\x7f\xc2\x9b'"$letter"
+sdca "$(printf 'a\nb')" >lines 2>err
+row "an unknown command with a line feed" is "$(cat err)" 'sdca: a\x0ab: unknown command; see sdca help'
+
+end_rows

@@ -15,6 +15,7 @@
 set -eu
 picture=${1:+$(CDPATH='' cd "$(dirname "$1")" && pwd -P)/$(basename "$1")}
 . "$(dirname "$0")/shared.sh"
+compile runs
 rounds=10
 widths="4 5 20"
 leaves=$(seq 0 5243 1043357)

@@ -13,6 +13,7 @@
 # be the same within 1 MiB, and at most 16 MiB.
 set -eu
 . "$(dirname "$0")/shared.sh"
+compile runs
 rounds=7
 
 streams=.

@@ -11,6 +11,7 @@
 # It prints for each book the times of both and their ratio, which is to be at most 1.00.
 set -eu
 . "$(dirname "$0")/shared.sh"
+compile runs
 rounds=10
 crypto_packets=400
 pids=3

@@ -11,11 +11,38 @@ fail() {
     exit 1
 }
 
+# The rows of a script that shows how the program behaves. A row that holds prints nothing.
+passed=0
+failed=0
+
+# TEXT TEST..: the row of this text holds if the test does.
+row() {
+    text=$1
+    shift
+    if "$@"; then
+        passed=$((passed + 1))
+    else
+        failed=$((failed + 1))
+        echo "FAILED: $text"
+    fi
+}
+
+# TEXT WHY: the row of this text can't be tried here. It isn't counted.
+left_out() { echo "left out: $1: $2"; }
+
+# Ends a script of rows.
+end_rows() {
+    echo "$passed passed, $failed failed"
+    [ "$failed" = 0 ]
+    exit
+}
+
 # FILE: its name by which it is found from everywhere.
 absolute() { echo "$(CDPATH='' cd "$(dirname "$1")" && pwd -P)/$(basename "$1")"; }
 
 if [ -n "${SDCA:-}" ]; then
     program=$(absolute "$SDCA")
+    [ -x "$program" ] || fail "$SDCA is no program"
 else
     "$top/sdca" build || fail "the program can't be built"
     program=$top/out/sdca
@@ -37,8 +64,6 @@ compile() {
     shift
     cc -O2 -o "$name" "$top/bench/$name.c" "$@"
 }
-
-compile runs
 
 # COUNT: `book` revokes so many of the 1,048,576 leaves, drawn at random, in ascending order.
 make_book() {

@@ -3,7 +3,8 @@
 `rattle`, and builds out/sdca for the processor CPU. `rt all check` and `rt run` do the same work and more beside it.
 
 A crate is proved again if its sources, its line in crates.txt, the toolchain or a library below it changed since its
-last proof. A library is its statements alone, so a changed comment or proof stops at its crate.
+last proof; a folder that was moved or copied is proved still. A library is its statements alone, so a changed comment
+or proof stops at its crate.
 
 --left prints how many crates are left to prove or build, and does nothing.
 
@@ -85,7 +86,8 @@ class Crate:
         """Computes the key of all that the proof depends on, once the crates below are proved."""
         self.seen = self.times()
         below = [(it.name, it.sum) for it in self.below]
-        parts = [self.kit.version, cpu, self.words(), below]
+        words = [it.replace(f"{TOP}/", "") for it in self.words()]
+        parts = [self.kit.version, cpu, words, below]
         parts += [(os.path.relpath(file, self.folder), sum_of([file])) for file in self.files()]
         self.key = hashlib.sha256(repr(parts).encode()).hexdigest()
 
