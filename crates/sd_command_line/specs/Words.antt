@@ -11,7 +11,7 @@ use Rattle.sd_command_line.specs.declared.operand.Operand.{Operand}
 use Rattle.sd_command_line.specs.declared.operand.Kind.{Kind}
 use Rattle.sd_command_line.specs.declared.operand.Kind.TheVariants as kind
 use Rattle.sd_command_line.specs.Commands.{command_named, operands_of}
-use Rattle.sd_command_line.specs.Operands.{is_file, operand_kind}
+use Rattle.sd_command_line.specs.Operands.{is_file, is_output, operand_kind}
 use Rattle.sd_command_base.specs.Spec.{FileArgument}
 use Rattle.sd_command_base.specs.Shown.{NumberArgument, word_at}
 use Rattle.sd_command_base.specs.declared.status.Status.{Status}
@@ -190,6 +190,14 @@ files_after (Some command) texts =
 abbrev pub files_named : List (List ℕ) → List (List ℕ)
 files_named [] = []
 files_named (name ∷ texts) = files_after (command_named name) texts
+
+abbrev pub has_out : Option Command → Bool
+has_out None = false
+has_out (Some command) = list_any (λ operand. is_output (operand_kind operand)) (operands_of command)
+
+-- the first word names a command that has OUT
+abbrev pub names_out : List (List ℕ) → Bool
+names_out words = has_out (command_in words)
 
 -- the command of an order makes a card
 abbrev pub MakesCard : Order → Type 0

@@ -138,30 +138,10 @@ impl Command {
     }
 
     /// The files that the arguments name.
-    #[tactic(auto, unfolding(crate::specs::Commands::operands_of))]
     pub fn files(self) -> Files
         ensures { result ≡ files_of self }
     {
-        match self {
-            Command::Accounts
-            | Command::Book
-            | Command::Card
-            | Command::Head
-            | Command::Lcard
-            | Command::Receive => Files::Both,
-            Command::Sample => Files::Output,
-            Command::Apart
-            | Command::Cover
-            | Command::Field
-            | Command::Layered
-            | Command::Messages
-            | Command::Opens
-            | Command::Plan
-            | Command::Show
-            | Command::Tables
-            | Command::Trace
-            | Command::Trial => Files::Inputs,
-        }
+        Files::among(self.operands())
     }
 
     /// Whether OUT holds the secrets of a receiver.

@@ -1,7 +1,8 @@
 ghost use Rattle.std.specs.Prelude.{◌≡◌, ◌↔◌, ◌≤◌, IfErr, IfOk, length, map, string_bytes, true};
 ghost use Rattle.sd_command_line.specs.Orders.{order_said, shown, IsSound, RefusesWords};
-ghost use Rattle.sd_command_line.specs.Words.{MakesCardBy, command_in, file_texts, files_named, order_of};
+ghost use Rattle.sd_command_line.specs.Words.{MakesCardBy, command_in, file_texts, files_named, names_out, order_of};
 
+use crate::operand::has_output;
 use crate::order::{holds_secrets, read_words};
 use crate::{Command, Operand, Order};
 use arrayvec::ArrayVec;
@@ -50,6 +51,16 @@ impl<'a> CommandLine<'a> {
         match &self.order {
             Ok(order) => holds_secrets(order),
             Err(_) => false,
+        }
+    }
+
+    /// Whether the first word names a command that has OUT.
+    pub fn has_out(&self) -> bool
+        ensures { result ≡ names_out (words_of self.now) }
+    {
+        match self.command {
+            Some(command) => has_output(command.operands()),
+            None => false,
         }
     }
 

@@ -1,6 +1,8 @@
 ghost use Rattle.std.specs.Prelude.{◌≡◌};
-ghost use Rattle.sd_command_line.specs.Operands.{is_file as kind_is_file, operand_kind, meaning_of};
-ghost use Rattle.sd_command_line.specs.Operands.{operand_name};
+ghost use Rattle.std.specs.List.{list_any};
+ghost use Rattle.sd_command_line.specs.Operands.{is_file as kind_is_file, is_input as kind_is_input};
+ghost use Rattle.sd_command_line.specs.Operands.{is_output as kind_is_output, files_among, operand_kind};
+ghost use Rattle.sd_command_line.specs.Operands.{meaning_of, operand_name};
 
 /// What an argument is.
 #[derive(Clone, Copy, PartialEq, Eq)]
@@ -20,7 +22,21 @@ impl Kind {
     pub fn is_file(self) -> bool
         ensures { result ≡ kind_is_file self }
     {
-        matches!(self, Kind::Input | Kind::Output)
+        self.is_input() || self.is_output()
+    }
+
+    /// Whether it is a file that is read.
+    fn is_input(self) -> bool
+        ensures { result ≡ kind_is_input self }
+    {
+        matches!(self, Kind::Input)
+    }
+
+    /// Whether it is the file that is made.
+    fn is_output(self) -> bool
+        ensures { result ≡ kind_is_output self }
+    {
+        matches!(self, Kind::Output)
     }
 }
 
@@ -33,6 +49,33 @@ pub enum Files {
     Output,
     /// Files that are read, and the file that is made.
     Both,
+}
+
+impl Files {
+    /// The files that arguments name.
+    pub(crate) fn among(operands: &[Operand]) -> Files
+        ensures { result ≡ files_among operands.now }
+    {
+        match (has_input(operands), has_output(operands)) {
+            (_, false) => Files::Inputs,
+            (false, true) => Files::Output,
+            (true, true) => Files::Both,
+        }
+    }
+}
+
+/// Whether an argument is a file that is read.
+fn has_input(operands: &[Operand]) -> bool
+    ensures { result ≡ list_any (λ operand. kind_is_input (operand_kind operand)) operands.now }
+{
+    operands.iter().any(|operand| operand.kind().is_input())
+}
+
+/// Whether an argument is the file that is made.
+pub(crate) fn has_output(operands: &[Operand]) -> bool
+    ensures { result ≡ list_any (λ operand. kind_is_output (operand_kind operand)) operands.now }
+{
+    operands.iter().any(|operand| operand.kind().is_output())
 }
 
 /// An argument that a command takes.
