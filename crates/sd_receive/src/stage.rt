@@ -26,7 +26,7 @@ use std::sync::ledger::Ledger;
 
 impl Receiver {
     /// A receiver with this card, before the first packet. All memory that it needs is allocated here: by its layout
-    /// 995,328 bytes, which no clause says.
+    /// 999,424 bytes, which no clause says.
     pub fn new(alloc: Global, card: Card) -> Result<Receiver, NoMemory>
         ensures value { IfOk result (IsAfter []) }
         ensures card { IfOk result (λ receiver. receiver.card ≡ card) }
@@ -63,6 +63,7 @@ impl Receiver {
             (Refusing self.old packet.now fault) }
         ensures stands { (fault : StreamFault) → result ≡ Err (StageFault.Refused fault) →
             (past : List (List ℕ)) → IsAfter past self.old → IsAfter past self.new }
+        ensures fit { (fault : StreamFault) → result ≡ Err (StageFault.Refused fault) → IsFit self.new }
         ensures prefix { IsErrOf result StageFault.Write → IsCutShort (vessel K.Sink out.old) (vessel K.Sink out.new)
             (IsAllowed (receiver_does self.old packet.now) (receiver_refuses self.old (Some packet.now))
             steps.old steps.new) }
@@ -104,6 +105,7 @@ impl Receiver {
             (Refusing self.old packet.now fault) }
         ensures stands { (fault : StreamFault) → result ≡ Err (StageFault.Refused fault) →
             (past : List (List ℕ)) → IsAfter past self.old → IsAfter past self.new }
+        ensures fit { (fault : StreamFault) → result ≡ Err (StageFault.Refused fault) → IsFit self.new }
         ensures prefix { IsErrOf result StageFault.Write → IsCutShort (vessel K.Sink out.old) (vessel K.Sink out.new)
             (IsAllowed (receiver_does self.old packet.now) (receiver_refuses self.old (Some packet.now))
             steps.old steps.new) }
@@ -135,6 +137,7 @@ impl Receiver {
             (Refusing self.old packet.now fault) }
         ensures stands { (fault : StreamFault) → result ≡ Err (StageFault.Refused fault) →
             (past : List (List ℕ)) → IsAfter past self.old → IsAfter past self.new }
+        ensures fit { (fault : StreamFault) → result ≡ Err (StageFault.Refused fault) → IsFit self.new }
         ensures prefix { IsErrOf result StageFault.Write → IsCutShort (vessel K.Sink out.old) (vessel K.Sink out.new)
             (IsAllowed (receiver_does self.old packet.now) (receiver_refuses self.old (Some packet.now))
             steps.old steps.new) }
@@ -169,6 +172,7 @@ impl Receiver {
             (Refusing self.old packet.now fault) }
         ensures stands { (fault : StreamFault) → result ≡ Err (StageFault.Refused fault) →
             (past : List (List ℕ)) → IsAfter past self.old → IsAfter past self.new }
+        ensures fit { (fault : StreamFault) → result ≡ Err (StageFault.Refused fault) → IsFit self.new }
         ensures prefix { IsErrOf result StageFault.Write → IsCutShort (vessel K.Sink out.old) (vessel K.Sink out.new)
             (IsAllowed (receiver_does self.old packet.now) (receiver_refuses self.old (Some packet.now))
             steps.old steps.new) }

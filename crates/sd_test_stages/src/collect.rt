@@ -2,7 +2,7 @@ ghost use Rattle.std.specs.Prelude.{IfSome};
 ghost use Rattle.sd_message.specs.EcmForm.{IsEcm};
 
 use crate::packets::packet;
-use sd_message::{EcmPart, Place, read_ecm};
+use sd_message::{EcmFault, EcmPart, Place, read_ecm};
 use sd_receive::{Collect, Taken};
 
 // Both parts of a message that an independent implementation wrote, up to the stuffing.
@@ -87,4 +87,23 @@ fn is_forgotten(collect: &mut Collect) -> bool {
 fn collected_messages_are_forgotten(rt: HostRuntime) {
     let mut collect = Collect::new(rt.alloc()).expect(&rt, "memory");
     assert!(rt; is_forgotten(&mut collect));
+}
+
+// Whether a message that goes back, to a period before the current one, leaves the parts before its last one.
+fn is_left(collect: &mut Collect) -> Option<bool> {
+    if !come(collect, &[(FIRST, 0)]) {
+        return Some(false);
+    }
+    let part = part_in(SECOND)?;
+    let is_back = match collect.take(10, &part) {
+        Err(fault) => fault == EcmFault::Back,
+        Ok(_) => false,
+    };
+    Some(is_back && come(collect, &[(SECOND, 14)]))
+}
+
+#[test]
+fn refused_parts_change_nothing(rt: HostRuntime) {
+    let mut collect = Collect::new(rt.alloc()).expect(&rt, "memory");
+    assert!(rt; is_left(&mut collect) == Some(true));
 }

@@ -31,6 +31,9 @@ returns-in_default-clause-fault g c = λ fault is. ok_is_no_err (Refused fault) 
 pub returns-in_default-clause-stands : goal.returns-in_default-clause-stands
 returns-in_default-clause-stands g c = λ fault is. ok_is_no_err (Refused fault) is
 
+pub returns-in_default-clause-fit : goal.returns-in_default-clause-fit
+returns-in_default-clause-fit g c = λ fault is. ok_is_no_err (Refused fault) is
+
 pub returns-in_default-clause-prefix : goal.returns-in_default-clause-prefix
 returns-in_default-clause-prefix g c = λ failed. ok_is_no_err Write failed
 
@@ -63,6 +66,9 @@ returns-in-Cat-clause-fault g c = c.take_heard.ensures.fault
 
 pub returns-in-Cat-clause-stands : goal.returns-in-Cat-clause-stands
 returns-in-Cat-clause-stands g c = c.take_heard.ensures.stands
+
+pub returns-in-Cat-clause-fit : goal.returns-in-Cat-clause-fit
+returns-in-Cat-clause-fit g c = c.take_heard.ensures.fit
 
 pub returns-in-Cat-clause-prefix : goal.returns-in-Cat-clause-prefix
 returns-in-Cat-clause-prefix g c = c.take_heard.ensures.prefix
@@ -97,6 +103,9 @@ returns-in-Emm-clause-fault g c = c.take_emm.ensures.fault
 pub returns-in-Emm-clause-stands : goal.returns-in-Emm-clause-stands
 returns-in-Emm-clause-stands g c = c.take_emm.ensures.stands
 
+pub returns-in-Emm-clause-fit : goal.returns-in-Emm-clause-fit
+returns-in-Emm-clause-fit g c = c.take_emm.ensures.fit
+
 pub returns-in-Emm-clause-prefix : goal.returns-in-Emm-clause-prefix
 returns-in-Emm-clause-prefix g c = c.take_emm.ensures.prefix
 
@@ -130,6 +139,9 @@ returns-in-Ecm-clause-fault g c = c.take_ecm.ensures.fault
 pub returns-in-Ecm-clause-stands : goal.returns-in-Ecm-clause-stands
 returns-in-Ecm-clause-stands g c = c.take_ecm.ensures.stands
 
+pub returns-in-Ecm-clause-fit : goal.returns-in-Ecm-clause-fit
+returns-in-Ecm-clause-fit g c = c.take_ecm.ensures.fit
+
 pub returns-in-Ecm-clause-prefix : goal.returns-in-Ecm-clause-prefix
 returns-in-Ecm-clause-prefix g c = c.take_ecm.ensures.prefix
 
@@ -159,6 +171,9 @@ returns-in-Other-clause-fault g c = c.take_heard-in-Other.ensures.fault
 
 pub returns-in-Other-clause-stands : goal.returns-in-Other-clause-stands
 returns-in-Other-clause-stands g c = c.take_heard-in-Other.ensures.stands
+
+pub returns-in-Other-clause-fit : goal.returns-in-Other-clause-fit
+returns-in-Other-clause-fit g c = c.take_heard-in-Other.ensures.fit
 
 pub returns-in-Other-clause-prefix : goal.returns-in-Other-clause-prefix
 returns-in-Other-clause-prefix g c = c.take_heard-in-Other.ensures.prefix

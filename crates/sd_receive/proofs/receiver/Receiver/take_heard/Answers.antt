@@ -100,6 +100,21 @@ returns-in-Err-take-clause-stands g c = λ fault why.
     c.turn-self.ensures (λ past follows. c.in-Ok.ensures.value packet past follows)
     (c.take.ensures.stands fault (c.in-Err-take.is ∙ why)) (c.in-Err-take.is ∙ why) c.take.ensures.value
 
+pub returns-in-Err-take-clause-fit : goal.returns-in-Err-take-clause-fit
+returns-in-Err-take-clause-fit g c = λ fault why.
+    let s = c.args.self.now in
+    let begins = c.differ-begins.result in
+    let l = c.requires.fit.follows in
+    record {
+      ecm = c.requires.fit.ecm;
+      follows = (
+        heard_of_run begins l.0,
+        (c.take.ensures.stands fault (c.in-Err-take.is ∙ why)).follows (heard_of_run begins l.0)
+            (turned_follows (card_in s) begins s.so_far c.turn-self.result s.listener c.turn-self.new.self
+            c.turn-self.ensures l.0 l.1),
+      );
+    }
+
 pub returns-in-Err-take-clause-prefix : goal.returns-in-Err-take-clause-prefix
 returns-in-Err-take-clause-prefix g c = λ failed.
     let s = c.args.self.now in
