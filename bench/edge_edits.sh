@@ -74,21 +74,22 @@ try_rows "$program"
 mv rows before
 host=crates/sd_host/src/identity.rt
 start=crates/sd_run/src/program.rt
-try 1 "OUT is compared with two inputs alone" $host 'may_make(inputs, kind' \
-    'may_make(&inputs[..inputs.len().min(2)], kind'
+edge=crates/sd_run/src/edge.rt
+try 1 "OUT is compared with two inputs alone" $host 'spare_inputs(inputs, kind' \
+    'spare_inputs(&inputs[..inputs.len().min(2)], kind'
 try 2 "an old OUT of 1 MB isn't cut off" $host 'if kind == Kind::Regular {' \
     'if kind == Kind::Regular && metadata.size() < 1_000_000 {'
-try 3 "a pipe is never the standard output" $host 'Kind::Regular | Kind::Stream => Some(Identity::of(&metadata)),' \
-    'Kind::Regular => Some(Identity::of(&metadata)), Kind::Stream => None,'
+try 3 "a pipe is never the standard output" $host 'Kind::Regular | Kind::Stream => Output::Known(file),' \
+    'Kind::Regular => Output::Known(file), Kind::Stream => Output::Other,'
 try 4 "a name above 1,000 bytes is missing" $host 'let file = fs::open(files, name)?;' \
     'if name.len() > 1_000 { return Err(Error::from(ErrorKind::NotFound)); } let file = fs::open(files, name)?;'
-try 5 "losses end with exit 0" $start 'exit_of(answer(rt, &words, output, error))' \
-    'exit_of(match answer(rt, &words, output, error) { Status::Gaps(_) => Status::Done, status => status })'
+try 5 "losses end with exit 0" $start 'exit_of(answer(rt, output, error))' \
+    'exit_of(match answer(rt, output, error) { Status::Gaps(_) => Status::Done, status => status })'
 try 6 "an argument too many is dropped" $start 'args.skip(1).collect' 'args.skip(1).take(5).collect'
-try 7 "a card has the mode of other files" $start 'makes_secrets(words))' 'makes_secrets(words) && words.len() > 4)'
-try 8 "a line goes into a stream" $start 'names_output(&depot, words);' \
-    'names_output(&depot, words) && words.len() > 4;'
+try 7 "a card has the mode of other files" $edge 'line.makes_card())' 'line.makes_card() && line.files().is_empty())'
+try 8 "a line goes into a stream" $start 'names_output(&depot, &line);' \
+    'names_output(&depot, &line) && words.len() > 4;'
 try 9 "nothing is explained" $start 'text.as_bytes()).ok();' '&text.as_bytes()[..0]).ok();'
-try 10 "no argument is the standard output" crates/sd_run/src/edge.rt 'return true;' 'return false;'
+try 10 "no argument is the standard output" $edge 'depot.is_output(name)' 'false && depot.is_output(name)'
 
 end_rows
