@@ -32,7 +32,7 @@ use Rattle.sd_spec.proofs.Bodies.{body_bytes, closed_bytes}
 use Rattle.sd_psi.specs.declared.clear_fault.ClearFault.{ClearFault}
 use Rattle.sd_psi.specs.declared.clear_fault.ClearFault.TheVariants.{AlreadyScrambled, PidTaken, PatForm, PmtForm}
 use Rattle.sd_psi.specs.declared.clear_fault.ClearFault.TheVariants.{TooManyPids, TooLong}
-use Rattle.sd_command_base.specs.declared.status.Status.TheVariants.{Done}
+use Rattle.sd_command_base.specs.declared.status.Status.TheVariants.{Done, DepotFault}
 use Rattle.sd_command_base.specs.Turned.{Wrote, all_written, some_written}
 use Rattle.sd_command_base.specs.Streams.{packet_in, refused_status}
 use Rattle.sd_run_broadcasts.specs.Head.{clear_status, status_where, sent_by, sent_where}
