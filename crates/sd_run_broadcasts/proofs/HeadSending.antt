@@ -32,7 +32,7 @@ use Rattle.sd_spec.proofs.Bodies.{body_bytes, closed_bytes}
 use Rattle.sd_psi.specs.declared.clear_fault.ClearFault.{ClearFault}
 use Rattle.sd_psi.specs.declared.clear_fault.ClearFault.TheVariants.{AlreadyScrambled, PidTaken, PatForm, PmtForm}
 use Rattle.sd_psi.specs.declared.clear_fault.ClearFault.TheVariants.{TooManyPids, TooLong}
-use Rattle.sd_command_base.specs.declared.status.Status.TheVariants.{Done, BadClear}
+use Rattle.sd_command_base.specs.declared.status.Status.TheVariants.{Done, BadClear, DepotFault}
 use Rattle.sd_command_base.specs.Turned.{Wrote, all_written, some_written}
 use Rattle.sd_psi.specs.ClearFaults.{clear_packet}
 use Rattle.sd_command_base.specs.declared.stream_refusal.StreamRefusal.TheVariants.{Packet}
