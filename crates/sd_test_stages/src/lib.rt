@@ -1,19 +1,12 @@
-//! Tests of the stages: what a head end sends, what a receiver hears, collects, is entitled to, holds and opens, and
-//! what it makes of broadcasts of which packets are lost.
+//! Tests of the stages: what a head end sends, and what a receiver hears, collects, is entitled to, holds and opens.
 #![tactic(auto)]
 
-#[cfg(test)]
-mod choices;
 #[cfg(test)]
 mod clear;
 #[cfg(test)]
 mod collect;
 #[cfg(test)]
-mod due;
-#[cfg(test)]
 mod ending;
-#[cfg(test)]
-mod ends;
 #[cfg(test)]
 mod entitled;
 #[cfg(test)]
@@ -28,8 +21,6 @@ mod made;
 mod packets;
 #[cfg(test)]
 mod receive;
-#[cfg(test)]
-mod rows;
 #[cfg(test)]
 mod sections;
 #[cfg(test)]

@@ -145,10 +145,11 @@ impl<'a> Trial<'a> {
         Ok(told == Some(self.due(alloc, choice)?))
     }
 
-    /// The first choice of the packets of which the receiver makes something else than is due.
-    fn first_wrong(&self, alloc: Global) -> Result<Option<u32>, AllocError> {
+    /// The first choice of all packets but at most so many of which the receiver makes something else than is due.
+    fn first_wrong(&self, alloc: Global, most_lost: u32) -> Result<Option<u32>, AllocError> {
         for choice in 0..1u32 << SENT {
-            if !self.is_due(alloc, choice)? {
+            let are_few_lost = choice.count_ones().saturating_add(most_lost) >= SENT as u32;
+            if are_few_lost && !self.is_due(alloc, choice)? {
                 return Ok(Some(choice));
             }
         }
@@ -161,8 +162,8 @@ fn is_chosen(choice: u32, place: u32) -> bool {
     choice.wrapping_shr(place) & 1 == 1
 }
 
-/// The first wrong choice of the packets of a broadcast.
-fn first_wrong(alloc: Global, layout: Layout) -> Result<Option<u32>, Fail> {
+/// The first wrong choice of the packets of a broadcast, of which at most so many are lost.
+fn first_wrong(alloc: Global, layout: Layout, most_lost: u32) -> Result<Option<u32>, Fail> {
     let (book, span): (&[u8], u32) = match layout.later {
         0 => (b"", 2),
         1 => (b"period\nrevoke 5\n", 1),
@@ -182,7 +183,7 @@ fn first_wrong(alloc: Global, layout: Layout) -> Result<Option<u32>, Fail> {
     if !trial.is_laid_out() {
         return Err("another order of packets".into());
     }
-    Ok(trial.first_wrong(alloc)?)
+    Ok(trial.first_wrong(alloc, most_lost)?)
 }
 
 // A broadcast in one period; one in which the leaf is revoked in the next period; and one of version 2 with later words
@@ -212,9 +213,19 @@ static LAYOUTS: [Layout; 3] = [
 ];
 
 #[test]
+fn few_losses_give_what_is_confirmed(rt: HostRuntime) -> Result<(), Fail> {
+    for layout in &LAYOUTS {
+        let wrong = first_wrong(rt.alloc(), *layout, 3)?;
+        assert!(rt; wrong.is_none(), "{wrong:?}");
+    }
+    Ok(())
+}
+
+// Takes many minutes before its proof, so `quick-tests` leaves it out.
+#[test]
 fn every_choice_of_packets_gives_what_is_confirmed(rt: HostRuntime) -> Result<(), Fail> {
     for layout in &LAYOUTS {
-        let wrong = first_wrong(rt.alloc(), *layout)?;
+        let wrong = first_wrong(rt.alloc(), *layout, SENT as u32)?;
         assert!(rt; wrong.is_none(), "{wrong:?}");
     }
     Ok(())
