@@ -1,13 +1,15 @@
-ghost use Rattle.std.specs.Prelude.{◌≡◌, ◌<◌, ◌≤◌, IfSome};
-ghost use Rattle.sd_receive.specs.Receiving.{IsLive};
+ghost use Rattle.std.specs.Prelude.{◌≡◌, ◌<◌, ◌≤◌, [], IfSome};
+ghost use Rattle.sd_receive.specs.Receiving.{IsAfter, IsLive};
 
 use crate::packets::{ALL, beginning};
 use hex::FromHex;
 use sd_base::Steps;
-use sd_engine::{DriveFault, drive};
+use sd_engine::{DriveFault, StageFault, drive};
+use sd_packet::Packet;
 use sd_ports::MemSink;
 use sd_ports_memory::MemSource;
 use sd_receive::{Ending, Receiver, StreamFault};
+use sd_section::seal;
 use sd_site::Card;
 use sha2::{Digest, Sha256};
 use std::alloc::Global;
@@ -66,7 +68,8 @@ fn add_packet(bytes: &mut Vec<u8>, text: &str) -> Option<()> {
 
 // The receiver with the card.
 fn receiver(alloc: Global) -> Option<Receiver>
-    ensures { IfSome result IsLive }
+    ensures live { IfSome result IsLive }
+    ensures fresh { IfSome result (IsAfter []) }
 {
     let file = <[u8; 252]>::from_hex(CARD).ok()?;
     let card = Card::read(alloc, &file).ok()?;
@@ -139,4 +142,71 @@ fn streams_are_opened(rt: HostRuntime) {
     for row in &STREAMS {
         assert!(rt; is_opened(rt.alloc(), row) == Some(true));
     }
+}
+
+// The packets of the stream, and before the section one like it whose check value is another.
+fn with_wrong_ones(alloc: Global) -> Option<Vec<Packet>> {
+    let mut packets = Vec::new(alloc);
+    for text in PACKETS {
+        let bytes = beginning(text)?;
+        if text == ALL {
+            packets.push(wrong(bytes)?).ok()?;
+        }
+        packets.push(Packet::new(bytes)?).ok()?;
+    }
+    Some(packets)
+}
+
+// The packet of entitlements whose check value's first byte is changed.
+fn wrong(bytes: [u8; 188]) -> Option<Packet> {
+    let mut bytes = bytes;
+    bytes[23] ^= 1;
+    let length = usize::from(u16::from_be_bytes([bytes[6], bytes[7]]) % 4096);
+    let section = bytes.get_mut(5..8 + length)?;
+    if section.len() >= 4 {
+        seal(section);
+    }
+    Packet::new(bytes)
+}
+
+// How many of these packets are refused, where the others are taken.
+fn refused<L: Ledger>(
+    packets: &[Packet],
+    sink: &mut MemSink,
+    receiver: &mut Receiver,
+    blank: Blank,
+) -> Option<usize>
+    requires name { blank.name ≡ L.name }
+    requires parts { blank.parts ≡ L.parts }
+    requires some { 0 < blank.parts }
+    requires fresh { IsAfter [] receiver.old }
+    requires live { IsLive receiver.old }
+{
+    let mut steps = Steps::<L>::new(blank);
+    let mut count: usize = 0;
+    for packet in packets {
+        match receiver.take(packet, sink, &mut steps) {
+            Ok(()) => {}
+            Err(StageFault::Refused(_)) => count = count.saturating_add(1),
+            Err(StageFault::Write) => return None,
+        }
+    }
+    Some(count)
+}
+
+// How many packets are refused, how the stream ends, and what is written, if a wrong section comes before the right
+// one.
+fn opened_after_refusals(alloc: Global) -> Option<(usize, Ending, Vec<u8>)> {
+    let mut receiver = receiver(alloc)?;
+    let mut sink = MemSink::new(alloc, 1000, 1000, Vec::new(alloc)).ok()?;
+    let packets = with_wrong_ones(alloc)?;
+    let count = refused::<Brand>(&packets, &mut sink, &mut receiver, Blank::new(1))?;
+    Some((count, receiver.ending(), sink.into_bytes()))
+}
+
+#[test]
+fn streams_are_opened_after_refusals(rt: HostRuntime) {
+    let (count, ending, clear) = opened_after_refusals(rt.alloc()).expect(&rt, "packets");
+    assert!(rt; (count, ending) == (1, Ending::Opened));
+    assert!(rt; are_clear(&clear) == Some(true));
 }
