@@ -50,10 +50,10 @@ card_good : (word : ℕ) (card : CardFields) → IsCard card → (card_of_file w
 unfolding card_of_file
 card_good word card is =
     then_is (within word most_card_bytes CardBytes (Some (card_bytes card))) (card_bytes card)
-    (λ bytes. judged (told_card bytes))
+    (λ bytes. judged (told_card word bytes))
     (ap (λ b. cond b (Err (Limit CardBytes)) (Ok (card_bytes card)))
     (le-ltb most_card_bytes (length (card_bytes card)) (card_length card is)))
-    ∙ card_read (card_bytes card) card is refl
+    ∙ card_read word (card_bytes card) card is refl
 
 pub received : (given : Readings) (card stream out : FileArgument) (fields : CardFields) (bytes : List ℕ) →
     IsCard fields →

@@ -66,9 +66,9 @@ unfolding site_of_file
 site_good given word fields good =
     ap (λ (got : Option (List ℕ)). (site_of_file word.number got).result) good.there
     ∙ then_is (within word.number most_site_bytes SiteBytes (Some good.bytes)) good.bytes
-    (λ bytes. judged (told_site (site_of bytes)))
+    (λ bytes. judged (told_site word.number (site_of bytes)))
     (file_read word.number most_site_bytes SiteBytes good.bytes (site_fits good.bytes fields good.is_site))
-    ∙ ap told_site (answered (lines_of good.bytes) (Ok fields) (good.is_site.text, good.is_site.ranges))
+    ∙ ap (told_site word.number) (answered (lines_of good.bytes) (Ok fields) (good.is_site.text, good.is_site.ranges))
 
 pub book_good : (given : Readings) (d : ℕ) (word : FileArgument) (commands : List Command) → d ≤ 20 →
     IsGoodBook (given word) d commands → (book_in given d word).result ≡ Ok commands

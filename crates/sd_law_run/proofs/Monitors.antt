@@ -41,10 +41,10 @@ unfolding line_of_file
 card_told word card is =
     let bytes = card_bytes card in
     let short = card_length card is in
-    then_is (within word most_card_bytes CardBytes (Some bytes)) bytes (λ bytes. judged (told_show bytes))
+    then_is (within word most_card_bytes CardBytes (Some bytes)) bytes (λ bytes. judged (told_show word bytes))
     (file_read word most_card_bytes CardBytes bytes (omega (arith, short)))
-    ∙ line_read bytes (shown_line card.height card.leaf card.ca (check_in bytes)) card is refl (written_is_good card is)
-    refl
+    ∙ line_read word bytes (shown_line card.height card.leaf card.ca (check_in bytes)) card is refl
+    (written_is_good card is) refl
 
 pub show_good : (words : List (List ℕ)) (given : Readings) (good : IsGoodShow words given) →
     (meaning words given).result
@@ -60,12 +60,12 @@ show_good words given good =
     (card_told good.card.number card good.is_card)
 
 -- the line of a leaf's card says its height, its leaf and its system
-pub made_shown : (master : List ℕ) (ca d u : ℕ) → ca < 2 ^ 16 → 1 ≤ d → d ≤ 20 → u < 2 ^ d →
-    told_show (card_bytes (card_of master ca d u))
+pub made_shown : (word : ℕ) (master : List ℕ) (ca d u : ℕ) → ca < 2 ^ 16 → 1 ≤ d → d ≤ 20 → u < 2 ^ d →
+    told_show word (card_bytes (card_of master ca d u))
     ≡ Ok (shown_line d u ca (check_in (card_bytes (card_of master ca d u))))
 unfolding card_of
-made_shown master ca d u system some low leaf =
+made_shown word master ca d u system some low leaf =
     let card = card_of master ca d u in
     let is = made_is_card master ca d u system some low leaf in
-    line_read (card_bytes card) (shown_line d u ca (check_in (card_bytes card))) card is refl (written_is_good card is)
-    refl
+    line_read word (card_bytes card) (shown_line d u ca (check_in (card_bytes card))) card is refl
+    (written_is_good card is) refl

@@ -66,10 +66,11 @@ pub value_is : {A : Type 0} (x y : A) → (value x).result ≡ Ok y → x ≡ y
 value_is x y e = cc
 
 -- the site that a file says is in its ranges
-pub site_right : (bytes : List ℕ) (site : SiteFields) → told_site (site_of bytes) ≡ Ok site → IsSite bytes site
-site_right bytes site e = by_answer (site_of bytes) refl e
+pub site_right : (word : ℕ) (bytes : List ℕ) (site : SiteFields) → told_site word (site_of bytes) ≡ Ok site →
+    IsSite bytes site
+site_right word bytes site e = by_answer (site_of bytes) refl e
   where
-    by_answer : (r : Result SiteFields SiteFault) → site_of bytes ≡ r → told_site r ≡ Ok site → IsSite bytes site
+    by_answer : (r : Result SiteFields SiteFault) → site_of bytes ≡ r → told_site word r ≡ Ok site → IsSite bytes site
     by_answer (Ok found) f e =
         let same : found ≡ site = cc in
         let tells : Tells (lines_of bytes) (Ok site) =
@@ -111,10 +112,10 @@ plan_right site book given plan e =
     let commands = then_ok (book_of_file book.number fields.from.height (given book))
     (λ commands. value (record { site = fields.from; commands = commands })) plan fields.next_is in
     let site_read = then_ok (within site.number most_site_bytes SiteBytes (given site))
-    (λ bytes. judged (told_site (site_of bytes))) fields.from fields.first_is in
+    (λ bytes. judged (told_site site.number (site_of bytes))) fields.from fields.first_is in
     let book_read = then_ok (within book.number most_book_bytes BookBytes (given book))
     (λ bytes. judged (told_book book.number (book_of fields.from.height bytes))) commands.from commands.first_is in
-    let is_site = site_right site_read.from fields.from site_read.next_is in
+    let is_site = site_right site.number site_read.from fields.from site_read.next_is in
     let is_within = book_right book.number fields.from.height book_read.from commands.from book_read.next_is in
     let made : Plan = record { site = fields.from; commands = commands.from } in
     subst IsPlan (value_is made plan commands.next_is) (record {

@@ -1,5 +1,5 @@
 //! Good arguments and good files mean work. `run` does that work if no I/O error occurs and memory suffices.
-ghost use Rattle.std.specs.Prelude.{◌≡◌, ◌⊎◌, ◌≤◌, ◌<◌, ◌^◌, ◌++◌, List, Some, None, Ok, Err, length};
+ghost use Rattle.std.specs.Prelude.{◌≡◌, ◌⊎◌, ◌≤◌, ◌<◌, ◌^◌, ◌++◌, ℕ, List, Some, None, Ok, Err, length};
 ghost use Rattle.sd_book.specs.Text.{text_of};
 ghost use Rattle.sd_lsd.specs.Fields.{layer_bytes, layer_card_of};
 ghost use Rattle.sd_run_books.specs.AccountsCommand.{accounts_value, making_then, report_line};
@@ -106,8 +106,8 @@ pub fn good_cards_are_shown()
 /// The line of the card of a leaf names the leaf, the tree's height and the system that the card was made for.
 #[tactic(auto, using(crate::proofs::Monitors::made_shown))]
 pub fn made_cards_are_shown()
-    ensures { (master : Key) (ca : SystemId) (d : Height) (u : LeafNumber) → ca < 2 ^ 16 → 1 ≤ d → d ≤ 20 → u < 2 ^ d →
-        told_show (card_bytes (card_of master ca d u))
+    ensures { (word : ℕ) (master : Key) (ca : SystemId) (d : Height) (u : LeafNumber) → ca < 2 ^ 16 → 1 ≤ d → d ≤ 20 →
+        u < 2 ^ d → told_show word (card_bytes (card_of master ca d u))
         ≡ Ok (shown_line d u ca (check_in (card_bytes (card_of master ca d u)))) }
 {}
 

@@ -1,6 +1,6 @@
 //! The messages of a broadcast, each one section, alone in its packet after pointer 0. Entitlements: which sets of
 //! receivers a period names, each with the period key wrapped for it. Control messages: the control word of a crypto
-//! period, wrapped, and the positions of the stream's PIDs.
+//! period, wrapped, and the positions of the stream's PIDs. And why a receiver refuses a packet.
 #![tactic(auto)]
 
 mod body;

@@ -1,21 +1,16 @@
 -- What a card's file says by its fields.
-use Rattle.std.proofs.Common.{◌≡◌, ◌⊎◌, ℕ, ◌+◌, ◌*◌, ◌/◌, List, [], ◌∷◌, ◌++◌, length, take}
-use Rattle.std.proofs.Common.{drop, append_assoc, Option, None, Ok, Err, refl, sym, ap}
-use Rattle.std.proofs.Common.{subst, ◌∙◌, inl, inr}
+use Rattle.std.proofs.Common.{◌≡◌, ℕ, ◌+◌, ◌*◌, ◌/◌, List, [], ◌∷◌, ◌++◌, length, take}
+use Rattle.std.proofs.Common.{drop, append_assoc, Option, Ok, refl, sym, ap, ◌∙◌}
 use Rattle.std.specs.List.{concat}
 use Rattle.std.proofs.lemmas.List.{take_at, drop_at}
 use Rattle.sd_site.specs.Files.{AreSecrets, check_of, file_body}
 use Rattle.sd_site.proofs.Written.{after_head}
 use Rattle.sd_site.specs.declared.card_fault.CardFault.{CardFault}
-use Rattle.sd_site.specs.declared.card_fault.CardFault.TheVariants as fault
-use Rattle.sd_site.specs.CardFaults.{height_in, fault_in, IsFaultOf}
+use Rattle.sd_site.specs.CardFaults.{height_in, fault_in}
 use Rattle.sd_site.specs.CardFields.{CardFields, IsCard, card_head, card_bytes}
 use Rattle.sd_site.proofs.Spellings.{height_written, leaf_written, ca_written, written_is_good}
-use Rattle.sd_command_base.specs.declared.status.Status.{Status}
-use Rattle.sd_command_base.specs.declared.status.Status.TheVariants.{BadCard, NoMemory}
-use Rattle.sd_command_base.specs.Outcome.{IsRefusal, IsEnding}
-use Rattle.sd_command_base.specs.Files.{refused_card}
-use Rattle.sd_run_broadcasts.specs.Receive.{secrets_of, card_said, card_unless, told_card}
+use Rattle.sd_command_base.specs.Files.{card_unless}
+use Rattle.sd_run_broadcasts.specs.Receive.{secrets_of, card_said, told_card}
 
 -- secrets that were joined are found again
 secrets_again : (secrets : List (List ℕ)) (rest : List ℕ) → AreSecrets secrets →
@@ -48,61 +43,10 @@ said_again card is =
     let height : height_in (card_bytes card) ≡ card.height = height_written card in
     rw (height, leaf_written card is, ca_written card is, secrets) refl
 
-unless_none : (fault : Option CardFault) (card : CardFields) → fault ≡ None → card_unless fault card ≡ Ok card
-unless_none fault card none = ap (λ (f : Option CardFault). card_unless f card) none
-
 -- so the card that was read is the one that is told
-pub card_read : (bytes : List ℕ) (card : CardFields) → IsCard card → bytes ≡ card_bytes card → told_card bytes ≡ Ok card
+pub card_read : (word : ℕ) (bytes : List ℕ) (card : CardFields) → IsCard card → bytes ≡ card_bytes card →
+    told_card word bytes ≡ Ok card
 unfolding told_card
-card_read bytes card is e =
-    unless_none (fault_in bytes) (card_said bytes) (ap fault_in e ∙ written_is_good card is)
+card_read word bytes card is e =
+    ap (λ (f : Option CardFault). card_unless word f (card_said bytes)) (ap fault_in e ∙ written_is_good card is)
     ∙ ap Ok (ap card_said e ∙ said_again card is)
-
--- and a fault that isn't out of memory is told
-pub card_faulty : (bytes : List ℕ) (found : CardFault) → IsFaultOf bytes found → (found ≡ fault.NoMemory → ⊥) →
-    told_card bytes ≡ Err (BadCard found)
-unfolding told_card
-card_faulty bytes found (inl some) other = ap (λ (f : Option CardFault). card_unless f (card_said bytes)) some
-card_faulty bytes found (inr memory) other = absurd (other memory.0)
-
--- so what is answered to it is meant
-pub card_refused : (bytes : List ℕ) (found : CardFault) (status : Status) → status ≡ refused_card found →
-    IsFaultOf bytes found →
-    ((told_card bytes ≡ Err status) × IsRefusal status × IsEnding status) ⊎ (status ≡ NoMemory)
-card_refused bytes fault.Magic status is h =
-    inl (
-      card_faulty bytes fault.Magic h (λ e. cc) ∙ ap Err (sym is),
-      subst IsRefusal (sym is) tt,
-      subst IsEnding (sym is) tt,
-    )
-card_refused bytes fault.Version status is h =
-    inl (
-      card_faulty bytes fault.Version h (λ e. cc) ∙ ap Err (sym is),
-      subst IsRefusal (sym is) tt,
-      subst IsEnding (sym is) tt,
-    )
-card_refused bytes fault.Height status is h =
-    inl (
-      card_faulty bytes fault.Height h (λ e. cc) ∙ ap Err (sym is),
-      subst IsRefusal (sym is) tt,
-      subst IsEnding (sym is) tt,
-    )
-card_refused bytes fault.Leaf status is h =
-    inl (
-      card_faulty bytes fault.Leaf h (λ e. cc) ∙ ap Err (sym is),
-      subst IsRefusal (sym is) tt,
-      subst IsEnding (sym is) tt,
-    )
-card_refused bytes fault.Length status is h =
-    inl (
-      card_faulty bytes fault.Length h (λ e. cc) ∙ ap Err (sym is),
-      subst IsRefusal (sym is) tt,
-      subst IsEnding (sym is) tt,
-    )
-card_refused bytes (fault.Check found due) status is h =
-    inl (
-      card_faulty bytes (fault.Check found due) h (λ e. cc) ∙ ap Err (sym is),
-      subst IsRefusal (sym is) tt,
-      subst IsEnding (sym is) tt,
-    )
-card_refused bytes fault.NoMemory status is h = inr is

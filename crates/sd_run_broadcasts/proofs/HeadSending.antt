@@ -32,9 +32,10 @@ use Rattle.sd_spec.proofs.Bodies.{body_bytes, closed_bytes}
 use Rattle.sd_psi.specs.declared.clear_fault.ClearFault.{ClearFault}
 use Rattle.sd_psi.specs.declared.clear_fault.ClearFault.TheVariants.{AlreadyScrambled, PidTaken, PatForm, PmtForm}
 use Rattle.sd_psi.specs.declared.clear_fault.ClearFault.TheVariants.{TooManyPids, TooLong}
-use Rattle.sd_command_base.specs.declared.status.Status.TheVariants.{Done}
+use Rattle.sd_command_base.specs.declared.status.Status.TheVariants.{Done, BadClear}
 use Rattle.sd_command_base.specs.Turned.{Wrote, all_written, some_written}
-use Rattle.sd_command_base.specs.Streams.{packet_in, refused_status}
+use Rattle.sd_psi.specs.ClearFaults.{clear_packet}
+use Rattle.sd_command_base.specs.declared.stream_refusal.StreamRefusal.TheVariants.{Packet}
 use Rattle.sd_run_broadcasts.specs.Head.{clear_status, status_where, sent_by, sent_where}
 use Rattle.sd_run_broadcasts.specs.Head.{sent_of}
 use Rattle.sd_run_broadcasts.specs.Head.{sent_status, stop_status, sent_told}
@@ -44,15 +45,15 @@ use Rattle.sd_run_broadcasts.specs.Head.{sent_status, stop_status, sent_told}
 -- the fault, if there is one, names this packet
 abbrev Names : ℕ → Option ClearFault → Type 0
 Names k None = Unit {0}
-Names k (Some fault) = packet_in fault ≡ k
+Names k (Some fault) = clear_packet fault ≡ k
 
-names_where : (b : Bool) (k : ℕ) (fault : ClearFault) (next : Option ClearFault) → packet_in fault ≡ k → Names k next →
-    Names k (fault_where b fault next)
+names_where : (b : Bool) (k : ℕ) (fault : ClearFault) (next : Option ClearFault) → clear_packet fault ≡ k →
+    Names k next → Names k (fault_where b fault next)
 names_where true k fault next is h = is
 names_where false k fault next is h = h
 
 names_form : (o : Option FormFault) (k : ℕ) (told : FormFault → ClearFault) (next : Option ClearFault) →
-    ((form : FormFault) → packet_in (told form) ≡ k) → Names k next → Names k (form_where o told next)
+    ((form : FormFault) → clear_packet (told form) ≡ k) → Names k next → Names k (form_where o told next)
 names_form None k told next is h = h
 names_form (Some form) k told next is h = is form
 
@@ -76,7 +77,7 @@ names_own site before packet =
     (names_where (is_one_too_many before packet) k (TooManyPids k) long refl
     (names_where (is_too_long site k) k (TooLong k) None refl tt)))))
 
-named : (k : ℕ) (o : Option ClearFault) (fault : ClearFault) → Names k o → o ≡ Some fault → packet_in fault ≡ k
+named : (k : ℕ) (o : Option ClearFault) (fault : ClearFault) → Names k o → o ≡ Some fault → clear_packet fault ≡ k
 named k o fault h is = subst (Names k) is h
 
 -- of a refusal and those after it
@@ -98,17 +99,17 @@ split site before (x ∷ xs) ys h =
 -- the first refusal is of this packet, or of one after it
 later_by : (site : SiteFields) (before ys : List (List ℕ)) (y : List ℕ) (fault : ClearFault) (o : Option ClearFault) →
     refusal_of site before y ≡ o → option_map_or Some o (refusal_from site (before ++ y ∷ []) ys) ≡ Some fault →
-    (refusal_from site (before ++ y ∷ []) ys ≡ Some fault → length (before ++ y ∷ []) ≤ packet_in fault) →
-    length before ≤ packet_in fault
+    (refusal_from site (before ++ y ∷ []) ys ≡ Some fault → length (before ++ y ∷ []) ≤ clear_packet fault) →
+    length before ≤ clear_packet fault
 later_by site before ys y fault (Some first) is h next =
-    let own : packet_in fault ≡ length before = named (length before) (refusal_of site before y) fault
+    let own : clear_packet fault ≡ length before = named (length before) (refusal_of site before y) fault
     (names_own site before y) (is ∙ h) in
     omega (arith, own)
 later_by site before ys y fault None is h next = let rest = next h in omega (arith, rest, length-append before (y ∷ []))
 
 later : (site : SiteFields) (before ys : List (List ℕ)) (fault : ClearFault) → refusal_from site before ys
     ≡ Some fault →
-    length before ≤ packet_in fault
+    length before ≤ clear_packet fault
 unfolding refusal_from
 later site before [] fault h = absurd (cc)
 later site before (y ∷ ys) fault h =
@@ -164,10 +165,11 @@ sent_begins plan clear end k (Some fault) within none is =
     let rest : refusal_from plan.site ([] ++ take k clear) (drop k clear) ≡ Some fault =
     sym (split plan.site [] (take k clear) (drop k clear) none)
     ∙ ap (refusal_from plan.site []) (take-append-drop k clear) ∙ is in
-    let high : k ≤ packet_in fault =
+    let high : k ≤ clear_packet fault =
     omega (arith, later plan.site ([] ++ take k clear) (drop k clear) fault rest, length-take k clear, within) in
-    subst (λ (ps : List (List ℕ)). IsPrefix (concat (body plan ps)) (concat (body plan (take (packet_in fault) clear))))
-    (take-take k (packet_in fault) clear high) (body_taken plan k (take (packet_in fault) clear))
+    subst (λ (ps : List (List ℕ)). IsPrefix (concat (body plan ps))
+    (concat (body plan (take (clear_packet fault) clear))))
+    (take-take k (clear_packet fault) clear high) (body_taken plan k (take (clear_packet fault) clear))
 
 begins : (plan : Plan) (bytes : List ℕ) (k : ℕ) → k ≤ length (taken_of bytes) → refusal_from plan.site []
     (take k (taken_of bytes)) ≡ None →
@@ -252,8 +254,8 @@ sent_unrefused plan bytes end none is = (
 -- and of one of which a packet is
 sent_refused : (plan : Plan) (bytes : List ℕ) (fault : ClearFault) → refusal_from plan.site [] (taken_of bytes)
     ≡ Some fault →
-    (concat (body plan (take (packet_in fault) (taken_of bytes))) ≡ sent_of plan bytes)
-    × (refused_status fault ≡ sent_status plan bytes)
+    (concat (body plan (take (clear_packet fault) (taken_of bytes))) ≡ sent_of plan bytes)
+    × (BadClear (Packet fault) ≡ sent_status plan bytes)
 unfolding sent_of sent_status
 sent_refused plan bytes fault is = (
   sym (ap (λ (first : Option ClearFault). concat (sent_where plan (taken_of bytes) (end_of bytes) first)) is),
@@ -276,7 +278,7 @@ here_is clear count packet at =
 first_refused : (site : SiteFields) (clear : List (List ℕ)) (count : ℕ) (packet : List ℕ) (fault : ClearFault) →
     refusal_from site [] (take count clear) ≡ None → slice_get clear count ≡ Some packet →
     refusal_of site (take count clear) packet ≡ Some fault →
-    (refusal_from site [] clear ≡ Some fault) × (packet_in fault ≡ count)
+    (refusal_from site [] clear ≡ Some fault) × (clear_packet fault ≡ count)
 unfolding refusal_from
 first_refused site clear count packet fault none at due =
     let here = here_is clear count packet at in

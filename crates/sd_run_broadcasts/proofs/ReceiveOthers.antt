@@ -1,28 +1,23 @@
 -- `receive` never means `Usage`.
-use Rattle.std.proofs.Common.{ℕ, List, Option, Some, None}
-use Rattle.sd_site.specs.declared.card_fault.CardFault.{CardFault}
-use Rattle.sd_site.specs.CardFields.{CardFields}
+use Rattle.std.proofs.Common.{ℕ, List, Option}
 use Rattle.sd_site.specs.CardFaults.{fault_in}
 use Rattle.sd_command_base.specs.declared.status.LimitKind.TheVariants.{CardBytes}
 use Rattle.sd_command_base.specs.Spec.{FileArgument, Readings, all_of, judged, value, within}
 use Rattle.sd_command_base.specs.Files.{most_card_bytes}
 use Rattle.sd_command_base.proofs.Others.{IsOther, other_after, other_file, other_stream}
-use Rattle.sd_run_broadcasts.specs.Receive.{card_said, card_unless, told_card, card_of_file, receiving, stream_meaning}
+use Rattle.sd_command_base.proofs.CardFaults.{other_unless}
+use Rattle.sd_run_broadcasts.specs.Receive.{card_said, told_card, card_of_file, receiving, stream_meaning}
 use Rattle.sd_run_broadcasts.specs.Receive.{receive_meaning}
 
-other_unless : (fault : Option CardFault) (card : CardFields) → IsOther (card_unless fault card)
-other_unless None card = tt
-other_unless (Some fault) card = λ e. cc
-
-other_receiver : (bytes : List ℕ) → IsOther (told_card bytes)
+other_receiver : (word : ℕ) (bytes : List ℕ) → IsOther (told_card word bytes)
 unfolding told_card
-other_receiver bytes = other_unless (fault_in bytes) (card_said bytes)
+other_receiver word bytes = other_unless word (fault_in bytes) (card_said bytes)
 
 other_card_file : (word : ℕ) (got : Option (List ℕ)) → IsOther (card_of_file word got).result
 unfolding card_of_file
 other_card_file word got =
     other_after (within word most_card_bytes CardBytes got).calls (within word most_card_bytes CardBytes got).result
-    (λ bytes. judged (told_card bytes)) (other_file word most_card_bytes CardBytes got) other_receiver
+    (λ bytes. judged (told_card word bytes)) (other_file word most_card_bytes CardBytes got) (other_receiver word)
 
 pub other_receive : (card stream out : FileArgument) (given : Readings) →
     IsOther (receive_meaning card stream out given).result

@@ -20,7 +20,6 @@ use Rattle.sd_engine.proofs.Taken.{least_of, is_over, all_few}
 use Rattle.sd_engine.specs.declared.driver.DriveFault.{DriveFault}
 use Rattle.sd_engine.specs.declared.driver.DriveFault.TheVariants as drive
 use Rattle.sd_message.specs.declared.stream_fault.StreamFault.{StreamFault}
-use Rattle.sd_message.specs.declared.stream_fault.StreamFault.TheVariants as fault
 use Rattle.sd_spec.specs.declared.ending.Ending.{Ending}
 use Rattle.sd_spec.specs.declared.ending.Ending.TheVariants as end
 use Rattle.sd_spec.specs.Tuned.{tuning_of}
@@ -32,21 +31,15 @@ use Rattle.sd_receive.specs.Receiving.{receiver_ends, receiver_refuses}
 use Rattle.sd_receive.specs.Receiving.{OutcomeOf, BreakAt}
 use Rattle.sd_receive.proofs.Chained.{came_to_all, broke_at, out_joined, steps_more}
 use Rattle.sd_command_base.specs.declared.status.Status.{Status}
-use Rattle.sd_command_base.specs.declared.status.Status.TheVariants.{DepotFault}
+use Rattle.sd_command_base.specs.declared.status.Status.TheVariants.{BadStream, DepotFault}
+use Rattle.sd_command_base.specs.declared.stream_refusal.StreamRefusal.TheVariants.{Packet}
 use Rattle.sd_command_base.specs.Outcome.{IsEnding}
 use Rattle.sd_command_base.specs.Turned.{Wrote, all_written, some_written}
-use Rattle.sd_run_broadcasts.specs.Receive.{ended_status, ending_status, status_at, unless_refused, refused_status}
+use Rattle.sd_run_broadcasts.specs.Receive.{ended_status, ending_status, status_at, unless_refused}
 use Rattle.sd_run_broadcasts.specs.Receive.{stopped_status, received_of, received_status, received_steps, ReceivesLeft}
 use Rattle.sd_run_broadcasts.specs.Receive.{upto_break}
 
 -- the statuses may stand at the end of work
-refused_ends : (why : StreamFault) → IsEnding (refused_status why)
-refused_ends (fault.WrongKey packet period found due) = tt
-refused_ends (fault.WrongWord packet word found due) = tt
-refused_ends (fault.BadEmm packet emm) = tt
-refused_ends (fault.BadEcm packet ecm) = tt
-refused_ends (fault.Parity packet) = tt
-
 ending_ends : (leaf : ℕ) (ending : Ending) → IsEnding (ending_status leaf ending)
 ending_ends leaf end.Opened = tt
 ending_ends leaf (end.Revoked period) = tt
@@ -63,7 +56,7 @@ stream_ends card packets RunsOn = tt
 
 unless_ends : (why : Option StreamFault) (status : Status) → IsEnding status → IsEnding (unless_refused why status)
 unless_ends None status ends = ends
-unless_ends (Some why) status ends = refused_ends why
+unless_ends (Some why) status ends = tt
 
 received_ends : (card : CardFields) (bytes : List ℕ) → IsEnding (received_status card bytes)
 unfolding received_status
@@ -80,7 +73,7 @@ none_refused card bytes end none is = rw (none, is) refl
 
 some_refused : (card : CardFields) (bytes : List ℕ) (why : StreamFault) →
     break_from card [] (taken_of bytes) ≡ Some why →
-    received_status card bytes ≡ refused_status why
+    received_status card bytes ≡ BadStream (Packet why)
 unfolding received_status
 some_refused card bytes why some =
     ap (λ (f : Option StreamFault). unless_refused f (status_at card (taken_of bytes) (end_of bytes))) some
@@ -351,7 +344,7 @@ wrote_some card bytes a b prefix n short taken counted few = record {
 -- the stream was received up to a packet that is refused
 refused_wrote : (card : CardFields) (bytes : List ℕ) (a b : DriveState Receiver) (why : StreamFault) →
     card_in a.stage ≡ card → IsAfter [] a.stage →
-    RefusesAt receiver_does receiver_refuses bytes a b why → Receives card bytes a b (refused_status why)
+    RefusesAt receiver_does receiver_refuses bytes a b why → Receives card bytes a b (BadStream (Packet why))
 refused_wrote card bytes a b why is after h =
     go (slice_get (taken_of bytes) h.count) refl h.passed.bytes h.passed.steps h.passed.taken h.passed.counted
     h.passed.says
@@ -359,7 +352,7 @@ refused_wrote card bytes a b why is after h =
     go : (here : Option (List ℕ)) → slice_get (taken_of bytes) h.count ≡ here → (wrote : List ℕ) (n : ℕ) →
         Appends a.sink.held b.sink.held wrote → b.steps ≤ a.steps + n →
         ChainToRefusal receiver_does receiver_refuses a.stage (take h.count (taken_of bytes)) here why b.stage wrote n →
-        Receives card bytes a b (refused_status why)
+        Receives card bytes a b (BadStream (Packet why))
     go None at wrote n taken counted (mid, first, last, m, k, chain, kept, joined, all) =
         let came = came_to_all (take h.count (taken_of bytes)) a.stage mid first m after
         (let few = some_few bytes h.count in omega (arith, few)) chain in
@@ -373,7 +366,7 @@ refused_wrote card bytes a b why is after h =
         let came = all_through card early a.stage mid first m is after (let few = some_few bytes h.count in
         omega (arith, few)) chain in
         let most = next_steps card packets h.count packet at came.unbroken in
-        wrote_all card bytes a b (refused_status why) wrote n
+        wrote_all card bytes a b (BadStream (Packet why)) wrote n
         (sym (some_refused card bytes why (ap (break_from card []) split.1 ∙ broke.broken)))
         (joined ∙ broke.written ∙ ap (λ (ps : List (List ℕ)). concat (out_from card [] ps)) (sym split.1))
         taken counted (let few = broke.few in omega (arith, all, few, most))

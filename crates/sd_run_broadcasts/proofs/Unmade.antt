@@ -5,7 +5,6 @@ use Rattle.std.specs.Prelude.{◌⊎◌}
 use Rattle.sd_engine.specs.declared.driver.DriveFault.{DriveFault}
 use Rattle.sd_engine.specs.declared.driver.DriveFault.TheVariants as drive
 use Rattle.sd_message.specs.declared.stream_fault.StreamFault.{StreamFault}
-use Rattle.sd_message.specs.declared.stream_fault.StreamFault.TheVariants as fault
 use Rattle.sd_command_base.specs.declared.status.Status.{Status}
 use Rattle.sd_command_base.specs.declared.status.Status.TheVariants.{NoMemory, BadClear, BadStream, DepotFault}
 use Rattle.sd_command_base.specs.Outcome.{status_of}
@@ -22,11 +21,7 @@ never_memory (drive.Broken found) e = cc
 never_memory drive.TooLong e = cc
 never_memory drive.ReadFault e = cc
 never_memory drive.WriteFault e = cc
-never_memory (drive.Refused (fault.WrongKey packet period found due)) e = cc
-never_memory (drive.Refused (fault.WrongWord packet word found due)) e = cc
-never_memory (drive.Refused (fault.BadEmm packet emm)) e = cc
-never_memory (drive.Refused (fault.BadEcm packet ecm)) e = cc
-never_memory (drive.Refused (fault.Parity packet)) e = cc
+never_memory (drive.Refused fault) e = cc
 
 -- OUT isn't made if the files aren't opened
 pub not_opened : (from out : FileArgument) (a b : DepotState) (status : Status) → NotOpened from out a b status →
@@ -38,8 +33,8 @@ not_opened from out a b status (stopped_then there stopped) = stopped.asked.made
 
 -- a file that fails to close doesn't take memory
 unclosed_memory : (status : Status) → unclosed_status status ≡ NoMemory → status ≡ NoMemory
-unclosed_memory (BadClear packet cause) e = e
-unclosed_memory (BadStream packet cause) e = e
+unclosed_memory (BadClear refusal) e = e
+unclosed_memory (BadStream refusal) e = e
 unclosed_memory NoMemory e = refl
 unclosed_memory _ e = absurd cc
 

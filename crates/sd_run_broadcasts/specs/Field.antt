@@ -19,14 +19,13 @@ use Rattle.sd_field.specs.Fields.{FieldValue, plan_in, sends_of, taken, written_
 use Rattle.sd_field.specs.Script.{script_of}
 use Rattle.sd_command_base.specs.declared.status.Status.{Status}
 use Rattle.sd_command_base.specs.declared.status.Status.TheVariants.{BadBook, BadClear, Limit, NoMemory}
-use Rattle.sd_command_base.specs.declared.status.ClearCause.TheVariants.{Broken}
+use Rattle.sd_command_base.specs.declared.stream_refusal.StreamRefusal.TheVariants.{Broken, Packet}
 use Rattle.sd_command_base.specs.declared.status.LimitKind.TheVariants.{BookBytes, FieldHeight, FieldPackets}
 use Rattle.sd_command_base.specs.declared.status.LimitKind.TheVariants.{FieldEvents}
 use Rattle.sd_command_base.specs.Spec.{Spec, FileArgument, Readings, judged, value, within, ◌>>=◌}
 use Rattle.sd_command_base.specs.Work.{Work}
 use Rattle.sd_command_base.specs.Files.{low_site_of_file, most_book_bytes}
 use Rattle.sd_command_base.specs.Printed.{printing}
-use Rattle.sd_command_base.specs.Streams.{refused_status}
 
 -- the greatest height of a field's tree
 abbrev pub most_height : ℕ
@@ -39,7 +38,7 @@ most_clear_bytes = 16384 * 188
 -- the packets of a clear stream, or where it breaks
 abbrev pub unbroken : Option StreamBreak → List (List ℕ) → Result (List (List ℕ)) Status
 unbroken None packets = Ok packets
-unbroken (Some found) packets = Err (BadClear found.packet (Broken found.cause))
+unbroken (Some found) packets = Err (BadClear (Broken found))
 
 -- the packets of a clear stream of these bytes, or the status of the place where it breaks
 abbrev pub told_clear : List ℕ → Result (List (List ℕ)) Status
@@ -118,7 +117,7 @@ lines_to v (suc n) = lines_to v n ++ wrote_line n (written_of n v)
 -- a text, unless a clear packet is refused
 abbrev pub unrefused : Option ClearFault → List ℕ → Result (List ℕ) Status
 unrefused None text = Ok text
-unrefused (Some fault) text = Err (refused_status fault)
+unrefused (Some fault) text = Err (BadClear (Packet fault))
 
 -- all lines of a field, or the first refusal among the clear packets that are sent
 unfoldable pub text_in : FieldValue → Result (List ℕ) Status

@@ -4,8 +4,8 @@ use Rattle.sd_spec.specs.Refused.{refusal_from}
 use Rattle.sd_psi.specs.declared.clear_fault.ClearFault.{ClearFault}
 use Rattle.sd_field.specs.Fields.{FieldValue, after_next, next_refusal, taken}
 use Rattle.sd_command_base.specs.declared.status.Status.{Status}
-use Rattle.sd_command_base.specs.declared.status.Status.TheVariants.{NoMemory}
-use Rattle.sd_command_base.specs.Streams.{refused_status}
+use Rattle.sd_command_base.specs.declared.status.Status.TheVariants.{BadClear, NoMemory}
+use Rattle.sd_command_base.specs.declared.stream_refusal.StreamRefusal.TheVariants.{Packet}
 use Rattle.sd_run_broadcasts.specs.Field.{done_field}
 
 -- one event was done, or none was left, or the clear packet that it sends is refused, or memory didn't suffice
@@ -14,7 +14,7 @@ EventOutcome before now (Ok true) =
     (now ≡ after_next before) × (before.done < length before.events) × (next_refusal before ≡ None)
 EventOutcome before now (Ok false) = (now ≡ before) × (before.done ≡ length before.events)
 EventOutcome before now (Err status) =
-    ((fault : ClearFault) × (next_refusal before ≡ Some fault) × (status ≡ refused_status fault))
+    ((fault : ClearFault) × (next_refusal before ≡ Some fault) × (status ≡ BadClear (Packet fault)))
     ⊎ (status ≡ NoMemory)
 
 -- this field once all of its events are done
@@ -27,5 +27,5 @@ PlayOutcome before now (Ok done) =
     (now ≡ all_done before) × (refusal_from before.site [] (taken (all_done before)) ≡ None)
 PlayOutcome before now (Err status) =
     ((fault : ClearFault) × (refusal_from before.site [] (taken (all_done before)) ≡ Some fault)
-    × (status ≡ refused_status fault))
+    × (status ≡ BadClear (Packet fault)))
     ⊎ (status ≡ NoMemory)

@@ -1,7 +1,6 @@
 -- Public meaning: `head SITE BOOK CLEAR OUT` [this project, docs/FORMATS.md, Broadcast].
 use Rattle.std.specs.Prelude.{ℕ, List, [], take, Option, Some, None, Result, Ok, Err}
 use Rattle.std.specs.List.{concat}
-use Rattle.sd_engine.specs.Driving.{most_packets}
 use Rattle.sd_engine.specs.Taken.{StreamEnd, Whole, Breaks, RunsOn, taken_of, end_of, IsLeft}
 use Rattle.sd_engine.specs.declared.driver.DriveFault.{DriveFault}
 use Rattle.sd_engine.specs.declared.driver.DriveFault.TheVariants as drive
@@ -11,24 +10,24 @@ use Rattle.sd_spec.specs.Plan.{Plan}
 use Rattle.sd_spec.specs.Refused.{refusal_from}
 use Rattle.sd_spec.specs.Sent.{body, broadcast}
 use Rattle.sd_psi.specs.declared.clear_fault.ClearFault.{ClearFault}
+use Rattle.sd_psi.specs.ClearFaults.{clear_packet}
 use Rattle.sd_command_base.specs.declared.status.Status.{Status}
 use Rattle.sd_command_base.specs.declared.status.Status.TheVariants.{Done, BadClear, DepotFault, NoMemory}
-use Rattle.sd_command_base.specs.declared.status.ClearCause.TheVariants.{Broken, TooLong}
+use Rattle.sd_command_base.specs.declared.stream_refusal.StreamRefusal.TheVariants.{Broken, TooLong, Packet}
 use Rattle.sd_command_base.specs.Spec.{Spec, FileArgument, Readings, all_of, value, ◌>>=◌}
 use Rattle.sd_command_base.specs.Work.{Uncounted, Work}
-use Rattle.sd_command_base.specs.Streams.{packet_in, refused_status}
 use Rattle.sd_command_base.specs.Files.{site_of_file, book_of_file}
 use Rattle.sd_command_base.specs.Turned.{turning, Wrote}
 
 -- the status that comes of the end of a clear stream of which no packet is refused
 abbrev pub clear_status : StreamEnd → Status
 clear_status Whole = Done
-clear_status (Breaks found) = BadClear found.packet (Broken found.cause)
-clear_status RunsOn = BadClear most_packets TooLong
+clear_status (Breaks found) = BadClear (Broken found)
+clear_status RunsOn = BadClear TooLong
 
 abbrev pub status_where : StreamEnd → Option ClearFault → Status
 status_where end None = clear_status end
-status_where end (Some fault) = refused_status fault
+status_where end (Some fault) = BadClear (Packet fault)
 
 -- what is sent for a clear stream: the broadcast, or its body alone where the stream breaks, or that of the packets
 -- before the first one that is refused
@@ -39,7 +38,7 @@ sent_by plan clear RunsOn = body plan clear
 
 abbrev pub sent_where : Plan → List (List ℕ) → StreamEnd → Option ClearFault → List (List ℕ)
 sent_where plan clear end None = sent_by plan clear end
-sent_where plan clear end (Some fault) = body plan (take (packet_in fault) clear)
+sent_where plan clear end (Some fault) = body plan (take (clear_packet fault) clear)
 
 unfoldable pub sent_of : Plan → List ℕ → List ℕ
 sent_of plan bytes =
@@ -72,12 +71,12 @@ head_meaning site book clear out given = plan_meaning site book given >>= sendin
 -- the status of a clear stream that was driven
 abbrev pub stop_status : Option ClearFault → Status
 stop_status None = NoMemory
-stop_status (Some fault) = refused_status fault
+stop_status (Some fault) = BadClear (Packet fault)
 
 abbrev pub sent_told : {F : Type 0} → (F → Option ClearFault) → Result ℕ (DriveFault F) → Status
 sent_told told (Ok count) = Done
-sent_told told (Err (drive.Broken found)) = BadClear found.packet (Broken found.cause)
-sent_told told (Err drive.TooLong) = BadClear most_packets TooLong
+sent_told told (Err (drive.Broken found)) = BadClear (Broken found)
+sent_told told (Err drive.TooLong) = BadClear TooLong
 sent_told told (Err drive.ReadFault) = DepotFault
 sent_told told (Err drive.WriteFault) = DepotFault
 sent_told told (Err (drive.Refused fault)) = stop_status (told fault)

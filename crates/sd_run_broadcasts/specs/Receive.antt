@@ -1,34 +1,29 @@
 -- Public meaning: `receive CARD STREAM OUT` [this project, docs/FORMATS.md, Receiver].
 use Rattle.std.specs.Prelude.{ℕ, zero, suc, ◌+◌, ◌*◌, ◌/◌, ◌≤◌, List, [], ◌∷◌, take, drop, reverse, Option}
-use Rattle.std.specs.Prelude.{Some, None, is_none, if◌then◌else◌, Result, Ok, Err}
+use Rattle.std.specs.Prelude.{Some, None, is_none, if◌then◌else◌, Result}
 use Rattle.std.specs.List.{concat}
 use Rattle.sd_engine.specs.Taken.{StreamEnd, Whole, Breaks, RunsOn, taken_of, end_of, IsLeft}
-use Rattle.sd_engine.specs.Driving.{most_packets}
 use Rattle.sd_engine.specs.declared.driver.DriveFault.{DriveFault}
 use Rattle.sd_engine.specs.declared.driver.DriveFault.TheVariants as drive
 use Rattle.sd_site.specs.declared.file.TheConstants.{SECRET_BYTES}
 use Rattle.sd_site.specs.declared.format.TheConstants.{SECRETS_AT}
-use Rattle.sd_site.specs.declared.card_fault.CardFault.{CardFault}
 use Rattle.sd_site.specs.CardFaults.{height_in, leaf_in, ca_in, fault_in}
 use Rattle.sd_site.specs.CardFields.{CardFields, saying}
 use Rattle.sd_message.specs.declared.stream_fault.StreamFault.{StreamFault}
-use Rattle.sd_message.specs.declared.stream_fault.StreamFault.TheVariants as fault
 use Rattle.sd_spec.specs.declared.ending.Ending.{Ending}
 use Rattle.sd_spec.specs.declared.ending.Ending.TheVariants as end
 use Rattle.sd_spec.specs.Offered.{offered, out_from, break_from}
 use Rattle.sd_spec.specs.Ending.{ending_of}
 use Rattle.sd_receive.specs.Receiving.{taken_keys}
 use Rattle.sd_command_base.specs.declared.status.Status.{Status}
-use Rattle.sd_command_base.specs.declared.status.Status.TheVariants.{Done, Revoked, DepotFault, BadCard, BadStream}
+use Rattle.sd_command_base.specs.declared.status.Status.TheVariants.{Done, Revoked, DepotFault, BadStream}
 use Rattle.sd_command_base.specs.declared.status.Status.TheVariants.{Unheard}
 use Rattle.sd_command_base.specs.declared.status.Status.TheVariants.{Unclosed, Gaps, NoCat}
-use Rattle.sd_command_base.specs.declared.status.StreamCause.TheVariants.{Broken, TooLong, WrongKey, WrongWord}
-use Rattle.sd_command_base.specs.declared.status.StreamCause.TheVariants.{BadEmm}
-use Rattle.sd_command_base.specs.declared.status.StreamCause.TheVariants.{BadEcm, Parity}
+use Rattle.sd_command_base.specs.declared.stream_refusal.StreamRefusal.TheVariants.{Broken, TooLong, Packet}
 use Rattle.sd_command_base.specs.declared.status.LimitKind.TheVariants.{CardBytes}
 use Rattle.sd_command_base.specs.Spec.{Spec, FileArgument, Readings, all_of, within, judged, value, ◌>>=◌}
 use Rattle.sd_command_base.specs.Work.{UpTo, Work}
-use Rattle.sd_command_base.specs.Files.{most_card_bytes}
+use Rattle.sd_command_base.specs.Files.{card_unless, most_card_bytes}
 use Rattle.sd_command_base.specs.Turned.{turning, Wrote}
 
 -- the first n secrets in these bytes
@@ -42,30 +37,17 @@ card_said bytes =
     saying (height_in bytes) (leaf_in bytes) (ca_in bytes)
     (secrets_of (height_in bytes * (height_in bytes + 1) / 2 + 1) (drop SECRETS_AT bytes))
 
--- a card, unless there is a fault
-abbrev pub card_unless : Option CardFault → CardFields → Result CardFields Status
-card_unless None card = Ok card
-card_unless (Some fault) card = Err (BadCard fault)
-
--- the card of a file of these bytes, or the status of its fault
-unfoldable pub told_card : List ℕ → Result CardFields Status
-told_card bytes = card_unless (fault_in bytes) (card_said bytes)
+-- the card that the bytes of this word's file say, or the status of its fault
+unfoldable pub told_card : ℕ → List ℕ → Result CardFields Status
+told_card word bytes = card_unless word (fault_in bytes) (card_said bytes)
 
 -- the card in the file of argument `word`
 unfoldable pub card_of_file : ℕ → Option (List ℕ) → Spec CardFields
-card_of_file word got = within word most_card_bytes CardBytes got >>= λ bytes. judged (told_card bytes)
+card_of_file word got = within word most_card_bytes CardBytes got >>= λ bytes. judged (told_card word bytes)
 
 -- the card in the file of this argument
 abbrev pub card_in : Readings → FileArgument → Spec CardFields
 card_in given word = card_of_file word.number (given word)
-
--- the status of a packet that is refused
-abbrev pub refused_status : StreamFault → Status
-refused_status (fault.WrongKey packet period found due) = BadStream packet (WrongKey period found due)
-refused_status (fault.WrongWord packet word found due) = BadStream packet (WrongWord word found due)
-refused_status (fault.BadEmm packet emm) = BadStream packet (BadEmm emm)
-refused_status (fault.BadEcm packet ecm) = BadStream packet (BadEcm ecm)
-refused_status (fault.Parity packet) = BadStream packet Parity
 
 -- the status of how a stream ended for the receiver of this leaf
 abbrev pub ending_status : ℕ → Ending → Status
@@ -83,13 +65,13 @@ ended_status card packets = ending_status card.leaf (ending_of card (reverse pac
 -- the status of a stream of which no packet is refused
 abbrev pub status_at : CardFields → List (List ℕ) → StreamEnd → Status
 status_at card packets Whole = ended_status card packets
-status_at card packets (Breaks found) = BadStream found.packet (Broken found.cause)
-status_at card packets RunsOn = BadStream most_packets TooLong
+status_at card packets (Breaks found) = BadStream (Broken found)
+status_at card packets RunsOn = BadStream TooLong
 
 -- this status, unless a packet is refused
 abbrev pub unless_refused : Option StreamFault → Status → Status
 unless_refused None status = status
-unless_refused (Some fault) status = refused_status fault
+unless_refused (Some fault) status = BadStream (Packet fault)
 
 -- what the receiver of a card writes of a stream of these bytes
 unfoldable pub received_of : CardFields → List ℕ → List ℕ
@@ -125,11 +107,11 @@ receive_meaning card stream out given = card_in given card >>= λ fields. stream
 
 -- the status of a drive that didn't reach the end of its stream
 abbrev pub stopped_status : DriveFault StreamFault → Status
-stopped_status (drive.Broken found) = BadStream found.packet (Broken found.cause)
-stopped_status drive.TooLong = BadStream most_packets TooLong
+stopped_status (drive.Broken found) = BadStream (Broken found)
+stopped_status drive.TooLong = BadStream TooLong
 stopped_status drive.ReadFault = DepotFault
 stopped_status drive.WriteFault = DepotFault
-stopped_status (drive.Refused fault) = refused_status fault
+stopped_status (drive.Refused fault) = BadStream (Packet fault)
 
 -- what a card opens of the rest of a stream was written, as far as the two ports went, within its steps
 pub record ReceivesLeft (card : CardFields) (left held now : Option (List ℕ)) (from to : ℕ) (status : Status) : Type 0

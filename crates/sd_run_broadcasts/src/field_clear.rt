@@ -5,8 +5,8 @@ ghost use Rattle.sd_run_broadcasts.specs.FieldClear.{BeginsWithPacket, broken_st
 ghost use Rattle.sd_run_broadcasts.specs.Field.{clear_of_file, told_clear};
 
 use sd_base::NoMemory;
-use sd_command_base::{ClearCause, LimitKind, Status, Word, read_bytes};
-use sd_engine::BreakCause;
+use sd_command_base::{LimitKind, Status, StreamRefusal, Word, read_bytes};
+use sd_engine::{BreakCause, StreamBreak};
 use sd_packet::{Packet, SIZE};
 use sd_ports::Depot;
 use std::alloc::Global;
@@ -79,8 +79,8 @@ fn first_packet(bytes: &[u8]) -> Result<Packet, BreakCause>
 fn broken(packets: usize, cause: BreakCause) -> Status
     ensures { result ≡ broken_status packets cause }
 {
-    Status::BadClear {
+    Status::BadClear(StreamRefusal::Broken(StreamBreak {
         packet: packets as u64,
-        cause: ClearCause::Broken(cause),
-    }
+        cause,
+    }))
 }

@@ -2,7 +2,7 @@ ghost use Rattle.std.specs.Prelude.{◌≡◌, None};
 ghost use Rattle.sd_run_broadcasts.specs.FieldPlayed.{EventOutcome, PlayOutcome};
 
 use sd_base::Steps;
-use sd_command_base::{Status, refused};
+use sd_command_base::{Status, StreamRefusal};
 use sd_field::{Field, FieldFault};
 use std::sync::ledger::Ledger;
 
@@ -23,7 +23,7 @@ fn advance<L: Ledger>(field: &mut Field, steps: &mut Steps<L>) -> Result<bool, S
 {
     match field.step(steps) {
         Ok(more) => Ok(more),
-        Err(FieldFault::Clear(fault)) => Err(refused(fault)),
+        Err(FieldFault::Clear(fault)) => Err(Status::BadClear(StreamRefusal::Packet(fault))),
         Err(FieldFault::NoMemory) => Err(Status::NoMemory),
     }
 }

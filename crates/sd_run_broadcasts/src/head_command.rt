@@ -7,8 +7,8 @@ ghost use Rattle.sd_command_base.specs.Turned.{HasPortCause};
 ghost use Rattle.sd_command_base.specs.Shown.{shown_word};
 
 use sd_base::Steps;
-use sd_command_base::{ClearCause, Status, Word, close_both, open_both, read_both, refused};
-use sd_engine::{DriveFault, MOST_PACKETS, drive};
+use sd_command_base::{Status, StreamRefusal, Word, close_both, open_both, read_both};
+use sd_engine::{DriveFault, drive};
 use sd_head::{Head, HeadFault};
 use sd_ports::{Depot, Sink, Source};
 use std::alloc::Global;
@@ -62,16 +62,12 @@ fn told(driven: Result<u64, DriveFault<HeadFault>>) -> Result<(), Status>
 {
     match driven {
         Ok(_) => Ok(()),
-        Err(DriveFault::Broken(found)) => Err(Status::BadClear {
-            packet: found.packet,
-            cause: ClearCause::Broken(found.cause),
-        }),
-        Err(DriveFault::TooLong) => Err(Status::BadClear {
-            packet: MOST_PACKETS,
-            cause: ClearCause::TooLong,
-        }),
+        Err(DriveFault::Broken(found)) => Err(Status::BadClear(StreamRefusal::Broken(found))),
+        Err(DriveFault::TooLong) => Err(Status::BadClear(StreamRefusal::TooLong)),
         Err(DriveFault::ReadFault | DriveFault::WriteFault) => Err(Status::DepotFault),
-        Err(DriveFault::Refused(HeadFault::Clear(fault))) => Err(refused(fault)),
+        Err(DriveFault::Refused(HeadFault::Clear(fault))) => {
+            Err(Status::BadClear(StreamRefusal::Packet(fault)))
+        }
         Err(DriveFault::Refused(HeadFault::NoMemory)) => Err(Status::NoMemory),
     }
 }

@@ -7,14 +7,14 @@ ghost use Rattle.sd_command_base.specs.Outcome.{Implements, IsEnding, status_of}
 ghost use Rattle.sd_command_base.specs.Turned.{HasPortCause};
 ghost use Rattle.sd_run_broadcasts.specs.Receive.{ReceivesLeft, card_of_file, told_card, receive_meaning};
 ghost use Rattle.sd_run_broadcasts.specs.Receive.{stream_meaning};
-ghost use Rattle.sd_run_broadcasts.specs.Receive.{ending_status, refused_status, stopped_status};
+ghost use Rattle.sd_run_broadcasts.specs.Receive.{ending_status, stopped_status};
 ghost use Rattle.sd_command_base.specs.Shown.{shown_word};
 
 use sd_base::Steps;
 use sd_command_base::{
-    Status, StreamCause, Word, card_fault, close_both, open_both, read_card_bytes,
+    Status, StreamRefusal, Word, card_fault, close_both, open_both, read_card_bytes,
 };
-use sd_engine::{DriveFault, MOST_PACKETS, drive};
+use sd_engine::{DriveFault, drive};
 use sd_ports::{Depot, Sink, Source};
 use sd_receive::{Ending, Receiver, StreamFault};
 use sd_site::Card;
@@ -54,17 +54,17 @@ fn read_receiver<D: Depot>(alloc: Global, depot: &mut D, word: Word<'_>) -> Resu
     ensures new { IfOk result (IsAfter []) }
 {
     let bytes = read_card_bytes(alloc, depot, word)?;
-    judge_card(alloc, &bytes)
+    judge_card(alloc, word.number, &bytes)
 }
 
-/// The receiver of the card that a file's bytes say.
-fn judge_card(alloc: Global, bytes: &[u8]) -> Result<Receiver, Status>
-    ensures value { JudgedOutcome card_in (told_card bytes.now) result }
+/// The receiver of the card that the bytes of this word's file say.
+fn judge_card(alloc: Global, word: u8, bytes: &[u8]) -> Result<Receiver, Status>
+    ensures value { JudgedOutcome card_in (told_card word bytes.now) result }
     ensures new { IfOk result (IsAfter []) }
 {
     match Card::read(alloc, bytes) {
         Ok(card) => Ok(Receiver::new(alloc, card)?),
-        Err(fault) => Err(card_fault(fault)),
+        Err(fault) => Err(card_fault(word, fault)),
     }
 }
 
@@ -133,39 +133,9 @@ fn stopped(fault: DriveFault<StreamFault>) -> Status
     ensures { result ≡ stopped_status fault }
 {
     match fault {
-        DriveFault::Broken(found) => Status::BadStream {
-            packet: found.packet,
-            cause: StreamCause::Broken(found.cause),
-        },
-        DriveFault::TooLong => Status::BadStream {
-            packet: MOST_PACKETS,
-            cause: StreamCause::TooLong,
-        },
+        DriveFault::Broken(found) => Status::BadStream(StreamRefusal::Broken(found)),
+        DriveFault::TooLong => Status::BadStream(StreamRefusal::TooLong),
         DriveFault::ReadFault | DriveFault::WriteFault => Status::DepotFault,
-        DriveFault::Refused(fault) => refused(fault),
+        DriveFault::Refused(fault) => Status::BadStream(StreamRefusal::Packet(fault)),
     }
-}
-
-/// The status of a packet that is refused.
-fn refused(fault: StreamFault) -> Status
-    ensures { result ≡ refused_status fault }
-{
-    let (packet, cause) = match fault {
-        StreamFault::WrongKey {
-            packet,
-            period,
-            found,
-            due,
-        } => (packet, StreamCause::WrongKey { period, found, due }),
-        StreamFault::WrongWord {
-            packet,
-            word,
-            found,
-            due,
-        } => (packet, StreamCause::WrongWord { word, found, due }),
-        StreamFault::BadEmm(packet, fault) => (packet, StreamCause::BadEmm(fault)),
-        StreamFault::BadEcm(packet, fault) => (packet, StreamCause::BadEcm(fault)),
-        StreamFault::Parity(packet) => (packet, StreamCause::Parity),
-    };
-    Status::BadStream { packet, cause }
 }

@@ -14,5 +14,5 @@ returns-in-Err-Clear g c =
     inl (
       fault,
       (c.in-Err-Clear.ensures.clear fault c.requires.calm).0 (ap (λ (f : FieldFault). Err f) c.in-Err-Clear.field-0-is),
-      c.refused.ensures,
+      refl,
     )

@@ -13,7 +13,7 @@ unfolding card_of_file
 returns-in_err-bytes-clause-value g c =
     let p = err_from_is_err_and c.from_residual.result c.from_residual.ensures.1 in
     rw (p.1, p.2) (looks_first (λ bytes. bytes.items) card_in (within c.args.word.number most_card_bytes CardBytes)
-    (λ bytes. judged (told_card bytes)) c.args.word.text.now
+    (λ bytes. judged (told_card c.args.word.number bytes)) c.args.word.text.now
     (depot_state g.D.Depot c.args.depot.now) (depot_state g.D.Depot c.read_card_bytes.new.depot)
     c.in_err-bytes.field-0.0 c.in_err-bytes.ensures)
 
@@ -22,6 +22,6 @@ unfolding card_of_file
 returns-clause-value g c =
     let judges = rw c.deref.ensures.value at c.judge_card.ensures.value in
     looks_judged (λ bytes. bytes.items) card_in (within c.args.word.number most_card_bytes CardBytes)
-    told_card c.args.word.text.now
+    (told_card c.args.word.number) c.args.word.text.now
     (depot_state g.D.Depot c.args.depot.now) (depot_state g.D.Depot c.read_card_bytes.new.depot) c.in_ok-bytes.bytes
     c.judge_card.result c.in_ok-bytes.ensures judges

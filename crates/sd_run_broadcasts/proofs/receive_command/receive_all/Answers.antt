@@ -3,12 +3,11 @@ use Rattle.sd_base.specs.Count.{IsCaused}
 use Rattle.sd_engine.specs.declared.driver.DriveFault.{DriveFault}
 use Rattle.sd_engine.specs.declared.driver.DriveFault.TheVariants as drive
 use Rattle.sd_message.specs.declared.stream_fault.StreamFault.{StreamFault}
-use Rattle.sd_message.specs.declared.stream_fault.StreamFault.TheVariants as fault
 use Rattle.sd_command_base.specs.declared.status.Status.{Status}
 use Rattle.sd_command_base.specs.declared.status.Status.TheVariants.{DepotFault}
 use Rattle.sd_command_base.specs.Outcome.{IsEnding, status_of}
 use Rattle.sd_command_base.specs.Turned.{HasPortCause}
-use Rattle.sd_run_broadcasts.specs.Receive.{refused_status, stopped_status}
+use Rattle.sd_run_broadcasts.specs.Receive.{stopped_status}
 use Rattle.sd_run_broadcasts.proofs.Received.{new_lives, left_ended, left_stopped}
 use Rattle.sd_run_broadcasts.proofs.Unmade.{never_memory}
 use Rattle.sd_run_broadcasts.proofs.receive_command.receive_all.Goals as goal
@@ -21,14 +20,6 @@ no_port from_before from_now out_before out_now status read written other = reco
   calm = λ _. (read, written);
   failed = λ e. absurd (other e);
 }
-
--- a refusal isn't a device fault
-refused_is_no_port : (why : StreamFault) → refused_status why ≡ DepotFault → ⊥
-refused_is_no_port (fault.WrongKey packet period found due) e = cc
-refused_is_no_port (fault.WrongWord packet word found due) e = cc
-refused_is_no_port (fault.BadEmm packet emm) e = cc
-refused_is_no_port (fault.BadEcm packet ecm) e = cc
-refused_is_no_port (fault.Parity packet) e = cc
 
 -- what stops a drive is a device fault where a port failed
 stopped_cause : (from_before from_now out_before out_now : ℕ) (why : DriveFault StreamFault) →
@@ -48,7 +39,7 @@ stopped_cause a b p q drive.WriteFault read written = record {
   failed = λ _. inr (written.failed refl);
 }
 stopped_cause a b p q (drive.Refused why) read written =
-    no_port a b p q _ (read.calm (λ e. cc)) (written.calm (λ e. cc)) (refused_is_no_port why)
+    no_port a b p q _ (read.calm (λ e. cc)) (written.calm (λ e. cc)) (λ e. cc)
 
 -- a drive that ended did not fail
 ok_is_no_err : {P T E : Type 0} (x : T) (fault : E) → ◌≡◌ {A = Result T E} (Ok x) (Err fault) → P
