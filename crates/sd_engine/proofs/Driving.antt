@@ -419,8 +419,8 @@ pub packet_stopped : {S F : Type 0} (does : S → List ℕ → S → List ℕ �
     IsCutShort sink sink' (IsAllowed (does stage packet) (refuses stage (Some packet)) steps steps')) →
     count < most_packets
     → DriveOutcome does ends refuses a (moment left' sink' stage' steps') (Err (stopped_by fault))
-packet_stopped does ends refuses a left left' sink sink' stage stage' steps steps' count old new packet result StageWrite
-    way gives is
+packet_stopped does ends refuses a left left' sink sink' stage stage' steps steps' count old new packet result
+    StageWrite way gives is
     refused cut few =
     inl (packet_cut does ends refuses a left left' sink sink' stage stage' steps steps' count old new packet way gives
     (cut is) few)

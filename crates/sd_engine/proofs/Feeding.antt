@@ -57,7 +57,8 @@ read_into piece buf filled more k within few =
 -- a read into the rest of the piece
 pub read_once : {E : Type 0} (result : Result ℕ E) (a b : Option (List ℕ)) (piece buf : List ℕ) (filled k : ℕ) →
     filled ≤ length piece → ReadsAtMost result buf → ReadConsumes a b result buf →
-    IfOk result (λ more. ReadsMore a b (waiting piece 0 filled) (waiting (put_mid filled k piece buf) 0 (filled + more)))
+    IfOk result (λ more.
+    ReadsMore a b (waiting piece 0 filled) (waiting (put_mid filled k piece buf) 0 (filled + more)))
 read_once (Ok more) a b piece buf filled k within bound read = record {
   bytes = take more buf;
   consumed = read.0;

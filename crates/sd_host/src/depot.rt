@@ -158,8 +158,8 @@ impl<'a, R: Files + Print> Depot for HostDepot<'a, R> {
         Ok(HostOutlet::new(target, buffer))
     }
 
-    /// The memory is taken before the file is made. No link is followed, and the standard output is never written so: its
-    /// name is there.
+    /// The memory is taken before the file is made. No link is followed, and the standard output is never written so:
+    /// its name is there.
     fn create_new(
         &mut self,
         alloc: Global,

@@ -1,6 +1,6 @@
 -- Public meaning: why a file system refuses, and what it counts: misses, faults, ports made and ports open.
-use Rattle.std.specs.Prelude.{◌≡◌, ℕ, ◌+◌, ◌%◌, ◌^◌, ◌<◌, ◌≤◌, List, length, Bool, true, false, Option, Result, Ok, IfOk}
-use Rattle.std.specs.Prelude.{OnOk, OnErr, IsErrOf}
+use Rattle.std.specs.Prelude.{◌≡◌, ℕ, ◌+◌, ◌%◌, ◌^◌, ◌<◌, ◌≤◌, List, length, Bool, true, false, Option, Result, Ok}
+use Rattle.std.specs.Prelude.{IfOk, OnOk, OnErr, IsErrOf}
 use Rattle.sd_base.specs.Count.{HasRisen, with_added}
 use Rattle.sd_ports.specs.Bytes.{GivesAll, IsTakenFrom, LosesPrefix}
 use Rattle.sd_ports.specs.declared.fault.DepotFault.{DepotFault}
@@ -60,8 +60,8 @@ pub record CountsCalls {T : Type 0} (before now : ℕ) (result : Result T FileFa
   pub missing : IsErrOf result file.Missing → now ≡ with_added before 1
   pub most : now ≤ with_added before 2
 
--- A new whole file takes two calls, one to make it and one to close it, and one alone if the name is there or its folder
--- isn't.
+-- A new whole file takes two calls, one to make it and one to close it, and one alone if the name is there or its
+-- folder isn't.
 pub record CountsNewCalls (before now : ℕ) (result : Result New FileFault) : Type 0 where
   pub made : result ≡ Ok Made → now ≡ with_added before 2
   pub there : result ≡ Ok There → now ≡ with_added before 1

@@ -1,6 +1,6 @@
 -- Public meaning: the contents of a file system that the model knows, and what a call changes in them.
-use Rattle.std.specs.Prelude.{◌≡◌, ℕ, ◌<◌, ◌≤◌, ◌⊎◌, List, [], length, Option, None, Some, IsSome, IfSome, Result, Ok, Err}
-use Rattle.std.specs.Prelude.{OnOk, IsErrOf}
+use Rattle.std.specs.Prelude.{◌≡◌, ℕ, ◌<◌, ◌≤◌, ◌⊎◌, List, [], length, Option, None, Some, IsSome, IfSome, Result}
+use Rattle.std.specs.Prelude.{Ok, Err, OnOk, IsErrOf}
 use Rattle.std.specs.Ordering.{nat_cmp}
 use Rattle.std.specs.Cmp.Lexicographic.{slice_cmp}
 use Rattle.std.specs.FinMap.{FinMap, get, insert}

@@ -62,8 +62,8 @@ pub trait Depot {
         ensures ports { CountsOpen (opened self.old) (opened self.new) result }
         ensures calls { calls self.new ≡ with_added (calls self.old) 1 };
 
-    /// Makes a file that is new, and opens it for writing. `Ok(None)` is a name that is there already, as a file, a link
-    /// or a folder: nothing changes then. `Missing` is a folder that isn't there.
+    /// Makes a file that is new, and opens it for writing. `Ok(None)` is a name that is there already, as a file, a
+    /// link or a folder: nothing changes then. `Missing` is a folder that isn't there.
     fn create_new(&mut self, alloc: Global, name: &str) -> Result<Option<Self::Outlet>, DepotFault>
         ensures new { OnOk (port_in result) (IsNotThere (files self.old) name.now) }
         ensures there { result ≡ Ok None → IsThere (files self.old) name.now }
@@ -91,7 +91,8 @@ pub trait Depot {
         ensures calls { calls self.new ≡ with_added (calls self.old) 1 };
 
     /// Closes a file that was made under this name, and takes over the port's count of faults. The only fault is
-    /// `Failed`, for which the depot counts a fault of its own. On a machine, a file of `create_new` is on the disk then.
+    /// `Failed`, for which the depot counts a fault of its own. On a machine, a file of `create_new` is on the disk
+    /// then.
     fn close_out(&mut self, name: &str, port: Self::Outlet) -> Result<(), DepotFault>
         requires { IsThere (files self.old) name.now }
         ensures closed { OnOk result (ClosesFile (files self.old) (files self.new) name.now (Self.Outlet.held port)) }

@@ -1,5 +1,5 @@
-ghost use Rattle.std.specs.Prelude.{◌≡◌, ◌≤◌, ◌<◌, ◌^◌, ◌↔◌, IfOk, IsErr, IsSome, OnOk, OnErr, IsErrOf, Ok, Some, None, []};
-ghost use Rattle.std.specs.Prelude.{true, false, string_bytes};
+ghost use Rattle.std.specs.Prelude.{◌≡◌, ◌≤◌, ◌<◌, ◌^◌, ◌↔◌, IfOk, IsErr, IsSome, OnOk, OnErr, IsErrOf, Ok, Some};
+ghost use Rattle.std.specs.Prelude.{None, [], true, false, string_bytes};
 ghost use Rattle.std.specs.Option.{option_map};
 ghost use Rattle.std.specs.FinMap as map;
 ghost use Rattle.sd_base.specs.Count.{HasCause, IsCaused, with_added};

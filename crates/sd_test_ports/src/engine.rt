@@ -1,10 +1,10 @@
-ghost use Rattle.std.specs.Prelude.{◌≡◌, ◌<◌, []};
+ghost use Rattle.std.specs.Prelude.{◌≡◌, ◌<◌, None, []};
 
 use crate::ends::{sink, source};
 use sd_base::Steps;
 use sd_engine::{DriveFault, Stage, StageFault, drive};
 use sd_packet::{Packet, SIZE};
-use sd_ports::{MemSink, Sink, read_all, write_all};
+use sd_ports::{MemSink, PortFault, Sink, read_all, write_all};
 use sd_ports_memory::MemSource;
 use std::alloc::{AllocError, Global};
 use std::marker::Brand;
@@ -59,10 +59,49 @@ impl<K: Sink, L: Ledger> Stage<K, L> for Copier {
     }
 }
 
+/// A sink that keeps what it takes until it is handed on, which fails at the call of this number.
+#[derive(Drop)]
+struct Keeper {
+    waiting: u64,
+    handed: u64,
+    failing: u64,
+    faults: u64,
+}
+
+impl Sink for Keeper {
+    ghost held = { λ s. None };
+
+    ghost faults = { λ s. s.faults };
+
+    ghost room = { λ s. None };
+
+    ghost waits = { λ s. s.waiting };
+
+    fn write(&mut self, piece: &[u8]) -> Result<usize, PortFault> {
+        self.waiting = self.waiting.saturating_add(piece.len() as u64);
+        Ok(piece.len())
+    }
+
+    fn hand_on(&mut self) -> Result<(), PortFault> {
+        if self.handed == self.failing {
+            self.faults = self.faults.saturating_add(1);
+            return Err(PortFault);
+        }
+        self.handed = self.handed.saturating_add(1);
+        self.waiting = 0;
+        Ok(())
+    }
+}
+
 type Answer = Result<u64, DriveFault<u64>>;
 
 // What a drive answers where packet `bad` is refused.
-fn driven<L: Ledger>(source: &mut MemSource, sink: &mut MemSink, bad: u64, blank: Blank) -> Answer
+fn driven<L: Ledger, K: Sink>(
+    source: &mut MemSource,
+    sink: &mut K,
+    bad: u64,
+    blank: Blank,
+) -> Answer
     requires name { blank.name ≡ L.name }
     requires parts { blank.parts ≡ L.parts }
     requires some { 0 < blank.parts }
@@ -109,7 +148,7 @@ fn is_driven(alloc: Global, stream: &[u8], row: &Drive) -> Result<bool, AllocErr
     let (bad, most, read, write, answer, copied, rest) = *row;
     let mut source = source(alloc, stream, most, read)?;
     let mut sink = sink(alloc, 1000, SIZE, write)?;
-    let result = driven::<Brand>(&mut source, &mut sink, bad, Blank::new(1));
+    let result = driven::<Brand, MemSink>(&mut source, &mut sink, bad, Blank::new(1));
     let Ok(left) = read_all(alloc, &mut source, stream.len()) else {
         return Err(AllocError);
     };
@@ -121,6 +160,36 @@ fn packets_are_offered_up_to_the_first_fault(rt: HostRuntime) -> Result<(), Allo
     let packets = [packet(0), packet(1), packet(2), packet(3), packet(4)];
     for row in &DRIVES {
         assert!(rt; is_driven(rt.alloc(), packets.as_flattened(), row)?);
+    }
+    Ok(())
+}
+
+// The call that fails, the answer, how many calls handed on, and how many bytes wait then. A read gives one packet.
+static HANDED: [(u64, Answer, u64, u64); 3] = [
+    (0, Err(DriveFault::WriteFault), 0, 0),
+    (2, Err(DriveFault::WriteFault), 2, 188),
+    (9, Ok(3), 4, 0),
+];
+
+// Whether three packets that a sink keeps until it hands them on are answered so.
+fn is_handed(alloc: Global, row: &(u64, Answer, u64, u64)) -> Result<bool, AllocError> {
+    let (failing, answer, handed, waiting) = *row;
+    let packets = [packet(0), packet(1), packet(2)];
+    let mut source = source(alloc, packets.as_flattened(), SIZE, 999)?;
+    let mut sink = Keeper {
+        waiting: 0,
+        handed: 0,
+        failing,
+        faults: 0,
+    };
+    let result = driven::<Brand, Keeper>(&mut source, &mut sink, 9, Blank::new(1));
+    Ok(result == answer && (sink.handed, sink.waiting) == (handed, waiting))
+}
+
+#[test]
+fn what_waits_is_handed_on_before_a_read(rt: HostRuntime) -> Result<(), AllocError> {
+    for row in &HANDED {
+        assert!(rt; is_handed(rt.alloc(), row)?);
     }
     Ok(())
 }

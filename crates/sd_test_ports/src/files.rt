@@ -1,7 +1,10 @@
 use crate::machine::Machine;
 use sd_host::HostDepot;
-use sd_ports::{Depot, FileFault, New, read_file, write_all, write_file, write_new};
+use sd_ports::{Depot, FileFault, New, Sink, read_file, write_all, write_file, write_new};
 use std::alloc::Global;
+use std::io::{Error, ErrorKind};
+use std::os::unix::fs::MetadataExt;
+use std::{fs, io};
 
 /// What is read and written.
 pub(crate) const TEXT: &[u8] = b"abcdefg";
@@ -83,6 +86,26 @@ pub(crate) fn write(
     bytes: &[u8],
 ) -> Result<(), FileFault> {
     host_call(alloc, depot, name, Call::Write(bytes)).map(|_| ())
+}
+
+/// How many bytes a file of the host holds once TEXT was written, and once it was handed on, before it is closed.
+pub(crate) fn handed_on(
+    rt: &HostRuntime,
+    depot: &mut HostDepot<'_, HostRuntime>,
+    name: &str,
+) -> io::Result<(u64, u64)> {
+    let Ok(mut port) = depot.create_out(rt.alloc(), name) else {
+        return Err(Error::from(ErrorKind::Other));
+    };
+    let written = write_all(&mut port, TEXT);
+    let waiting = fs::metadata(rt, name)?.size();
+    let handed = port.hand_on();
+    let there = fs::metadata(rt, name)?.size();
+    if written.is_ok() && handed.is_ok() && depot.close_out(name, port).is_ok() {
+        Ok((waiting, there))
+    } else {
+        Err(Error::from(ErrorKind::Other))
+    }
 }
 
 /// Writes a new file of the host.

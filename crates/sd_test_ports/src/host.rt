@@ -1,4 +1,6 @@
-use crate::files::{Call, TEXT, gives, host_call, machine_call, machine_gives, make_new, write};
+use crate::files::{
+    Call, TEXT, gives, handed_on, host_call, machine_call, machine_gives, make_new, write,
+};
 use crate::machine::{Machine, Trouble};
 use sd_host::{HostDepot, StdPrint};
 use sd_ports::{FileFault, New, PortFault, write_all};
@@ -105,6 +107,14 @@ fn long_pieces_follow_what_waits(rt: HostRuntime) -> io::Result<()> {
         let there = host_call(alloc, &mut reader, name, Call::Read(200000));
         assert!(rt; there.is_ok_and(|read| are_in_turn(&read, &pieces)));
     }
+    fs::remove_file(&rt, name)
+}
+
+#[test]
+fn what_waits_is_handed_on(rt: HostRuntime) -> io::Result<()> {
+    let name = "sd_host_handed";
+    let mut depot = HostDepot::new(rt.alloc(), &rt, false);
+    assert!(rt; handed_on(&rt, &mut depot, name)? == (0, 7));
     fs::remove_file(&rt, name)
 }
 

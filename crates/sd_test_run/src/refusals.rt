@@ -35,11 +35,6 @@ const H17: Part = Part::Site(1, "height 17\n");
 
 const NONE: &[Part] = &[];
 
-/// As many bytes as a book has at most, and one more.
-const MOST: &[Part] = &[Part::Times(32_768, &[b'x'; 1024])];
-
-const MORE: &[Part] = &[Part::Times(32_768, &[b'x'; 1024]), Part::Bytes(b"x")];
-
 /// Of a tree of height 17, as many leaves as may be revoked, and one more; as many of which no two are siblings.
 const HALF: &[Part] = &[Part::Revokes(65_536, 1)];
 
@@ -87,7 +82,7 @@ type Refusal = (
     &'static str,
 );
 
-static REFUSALS: [Refusal; 42] = [
+static REFUSALS: [Refusal; 25] = [
     (
         "cover S F",
         Part::Site(3, "ca 123\n"),
@@ -121,25 +116,6 @@ static REFUSALS: [Refusal; 42] = [
         "site has extra line 13\n",
     ),
     (
-        "cover S F",
-        S,
-        &[Part::Times(1024, b"period\n")],
-        NONE,
-        11,
-        "limit: periods\n",
-    ),
-    (
-        "cover S F",
-        H17,
-        OVER_HALF,
-        NONE,
-        11,
-        "limit: revoked in period 0\n",
-    ),
-    ("cover S F", S, MORE, NONE, 11, "limit: book bytes\n"),
-    ("cover S F", S, MOST, NONE, 7, "word 2 line 1 is refused\n"),
-    ("accounts S F O", S, MORE, NONE, 11, "limit: book bytes\n"),
-    (
         "accounts S F O",
         S,
         &[Part::Bytes(b"drop bob\n")],
@@ -148,46 +124,12 @@ static REFUSALS: [Refusal; 42] = [
         "word 2 line 1 is refused\n",
     ),
     (
-        "accounts S F O",
-        H17,
-        &[Part::Dropped(65_537)],
-        NONE,
-        11,
-        "limit: revoked in period 0\n",
-    ),
-    ("book S F G O", S, NONE, MORE, 11, "limit: book bytes\n"),
-    (
-        "book S F G O",
-        S,
-        &[Part::Times(1000, b"period\n")],
-        &[Part::Times(24, b"period\n")],
-        11,
-        "limit: periods\n",
-    ),
-    ("opens S F G", S, NONE, MORE, 11, "limit: book bytes\n"),
-    (
         "opens S F G",
         S,
         NONE,
         &[Part::Bytes(b"3\n2\n")],
         7,
         "word 3 line 2 is refused\n",
-    ),
-    (
-        "trace S F G",
-        H17,
-        HALF,
-        &[Part::Bytes(b"131071\n")],
-        11,
-        "limit: traced\n",
-    ),
-    (
-        "trial S N G",
-        Part::Site(1, "height 7\n"),
-        NONE,
-        NONE,
-        11,
-        "limit: trial height\n",
     ),
     (
         "trial S N G",
@@ -217,33 +159,9 @@ static REFUSALS: [Refusal; 42] = [
         "trial S F G",
         H1,
         NONE,
-        &[Part::Packets(8191, 65_536), Part::Bytes(&[0x47])],
-        11,
-        "limit: trial packets\n",
-    ),
-    (
-        "trial S F G",
-        H1,
-        NONE,
         &[Part::Packets(8191, 65_535), Part::Packets(1, 1)],
         9,
         "clear packet 65535: pid 1 is taken\n",
-    ),
-    (
-        "field S F G",
-        Part::Site(1, "height 7\n"),
-        NONE,
-        NONE,
-        11,
-        "limit: field height\n",
-    ),
-    (
-        "field S F G",
-        S,
-        &[Part::Times(16_384, &[0; 188]), Part::Bytes(&[0])],
-        NONE,
-        11,
-        "limit: field packets\n",
     ),
     (
         "field S F G",
@@ -252,14 +170,6 @@ static REFUSALS: [Refusal; 42] = [
         NONE,
         9,
         "clear packet 0: no sync\n",
-    ),
-    (
-        "field S F G",
-        S,
-        NONE,
-        &[Part::Times(8, b"offer 0 65536\n"), Part::Bytes(b"off 0\n")],
-        11,
-        "limit: field events\n",
     ),
     (
         "field S F G",
@@ -301,7 +211,6 @@ static REFUSALS: [Refusal; 42] = [
         7,
         "word 3 line 2 is refused\n",
     ),
-    ("field S F G", S, NONE, MORE, 11, "limit: book bytes\n"),
     (
         "field S F G",
         S,
@@ -369,18 +278,102 @@ static REFUSALS: [Refusal; 42] = [
     (
         "receive F G O",
         S,
-        &[Part::Times(8193, &[0])],
-        NONE,
-        11,
-        "limit: card bytes\n",
-    ),
-    (
-        "receive F G O",
-        S,
         &[Part::Times(8192, &[0])],
         NONE,
         8,
         "card: magic\n",
+    ),
+];
+
+// What is over a limit.
+static LIMITS: [Refusal; 11] = [
+    (
+        "cover S F",
+        S,
+        &[Part::Times(1024, b"period\n")],
+        NONE,
+        11,
+        "limit: periods\n",
+    ),
+    (
+        "cover S F",
+        H17,
+        OVER_HALF,
+        NONE,
+        11,
+        "limit: revoked in period 0\n",
+    ),
+    (
+        "accounts S F O",
+        H17,
+        &[Part::Dropped(65_537)],
+        NONE,
+        11,
+        "limit: revoked in period 0\n",
+    ),
+    (
+        "book S F G O",
+        S,
+        &[Part::Times(1000, b"period\n")],
+        &[Part::Times(24, b"period\n")],
+        11,
+        "limit: periods\n",
+    ),
+    (
+        "trace S F G",
+        H17,
+        HALF,
+        &[Part::Bytes(b"131071\n")],
+        11,
+        "limit: traced\n",
+    ),
+    (
+        "trial S N G",
+        Part::Site(1, "height 7\n"),
+        NONE,
+        NONE,
+        11,
+        "limit: trial height\n",
+    ),
+    (
+        "trial S F G",
+        H1,
+        NONE,
+        &[Part::Packets(8191, 65_536), Part::Bytes(&[0x47])],
+        11,
+        "limit: trial packets\n",
+    ),
+    (
+        "field S F G",
+        Part::Site(1, "height 7\n"),
+        NONE,
+        NONE,
+        11,
+        "limit: field height\n",
+    ),
+    (
+        "field S F G",
+        S,
+        &[Part::Times(16_384, &[0; 188]), Part::Bytes(&[0])],
+        NONE,
+        11,
+        "limit: field packets\n",
+    ),
+    (
+        "field S F G",
+        S,
+        NONE,
+        &[Part::Times(8, b"offer 0 65536\n"), Part::Bytes(b"off 0\n")],
+        11,
+        "limit: field events\n",
+    ),
+    (
+        "receive F G O",
+        S,
+        &[Part::Times(8193, &[0])],
+        NONE,
+        11,
+        "limit: card bytes\n",
     ),
 ];
 
@@ -544,14 +537,25 @@ fn is_listed(left: &Leaving, start: &str, lines: usize) -> bool {
         && left.printed.iter().filter(|byte| **byte == b'\n').count() == lines
 }
 
+/// Whether a command is refused with the row's exit and line, and makes nothing.
+fn is_refused(alloc: Global, refusal: &Refusal) -> Result<bool, AllocError> {
+    let (words, site, f, g, exit, line) = refusal;
+    let left = after(alloc, words, *site, f, g)?;
+    Ok(is_ended(&left, *exit, line) && left.out.is_none())
+}
+
 #[test]
 fn refusals_are_by_name(rt: HostRuntime) -> Result<(), AllocError> {
-    for (words, site, f, g, exit, line) in &REFUSALS {
-        let left = after(rt.alloc(), words, *site, f, g)?;
-        assert!(rt;
-            is_ended(&left, *exit, line) && left.out.is_none(),
-            "{words} {line}"
-        );
+    for (place, refusal) in REFUSALS.iter().enumerate() {
+        assert!(rt; is_refused(rt.alloc(), refusal)?, "row {place}");
+    }
+    Ok(())
+}
+
+#[test]
+fn what_is_over_a_limit_is_refused(rt: HostRuntime) -> Result<(), AllocError> {
+    for (place, limit) in LIMITS.iter().enumerate() {
+        assert!(rt; is_refused(rt.alloc(), limit)?, "row {place}");
     }
     Ok(())
 }

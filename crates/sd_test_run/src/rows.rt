@@ -2,8 +2,6 @@ ghost use Rattle.std.specs.Prelude.{◌≤◌};
 
 use crate::files::Files;
 use crate::leaving::{Fault, Leaving, left};
-use sd_book::BookLimit;
-use sd_command_base::{LimitKind, Status};
 use sd_engine::sample;
 use sd_ports::MemSink;
 use sd_test_texts::{SITE, site_start};
@@ -435,34 +433,6 @@ fn a_failed_print_is_told(rt: HostRuntime) -> Result<(), AllocError> {
             "{prefix}"
         );
     }
-    Ok(())
-}
-
-/// A book with a line more than a book has at most.
-fn long_book(alloc: Global) -> Result<Vec<u8>, AllocError> {
-    let mut book = Vec::new(alloc);
-    for _line in 0..1_048_577 {
-        book.extend_from_slice(b"revoke 5\n")?;
-    }
-    Ok(book)
-}
-
-/// Whether `cover` refuses a book for its lines.
-fn is_limited(alloc: Global, book: &[u8]) -> Result<bool, AllocError> {
-    let left = cover(alloc, SITE, book, 65_536, Fault::Nowhere)?;
-    Ok(matches!(
-        left.status,
-        Status::Limit(LimitKind::Book(BookLimit::Lines))
-    ))
-}
-
-#[test]
-fn lines_are_counted(rt: HostRuntime) -> Result<(), AllocError> {
-    let alloc = rt.alloc();
-    let mut book = long_book(alloc)?;
-    assert!(rt; is_limited(alloc, &book)?);
-    book.truncate(9 * 1_048_576);
-    assert!(rt; is_covered(alloc, SITE, &book, 65_536, 0, ALL_BUT_FIVE)?);
     Ok(())
 }
 
