@@ -1,10 +1,12 @@
 -- What stays while a port tries again, or while bytes wait.
-use Rattle.std.proofs.Common.{◌≡◌, ◌≤◌, ℕ, ◌+◌, ◌-◌, List, ◌++◌, length, take, drop, arith, subst, append-nil}
-use Rattle.std.proofs.Common.{sym, ap, ◌∙◌, length-drop}
+use Rattle.std.proofs.Common.{◌≡◌, ◌≤◌, ℕ, ◌+◌, ◌-◌, List, [], ◌++◌, length, take, drop, arith, subst, append-nil}
+use Rattle.std.proofs.Common.{refl, sym, ap, ◌∙◌, length-drop}
 use Rattle.std.proofs.lemmas.List.{take_all, take-append-drop, drop-append-le, drop-drop}
-use Rattle.std.specs.Prelude.{Option, None, Some}
-use Rattle.std.specs.Io.KnownBytes.{Appends, Consumes, Keeps, append_known}
+use Rattle.std.proofs.Math.Seq.{drop-nil}
+use Rattle.std.specs.Prelude.{Option, None, Some, Result, Ok, Err}
+use Rattle.std.specs.Io.KnownBytes.{Appends, Consumes, Keeps, WriteAppends, append_known}
 use Rattle.std.proofs.KnownBytes.{Keeps-refl, Keeps-trans, append_known-grown, append_known-moved}
+use Rattle.sd_host.specs.Waiting.{given_to}
 
 -- what is left stayed twice
 pub kept_twice : (a b c : Option (List ℕ)) → Keeps a b → Keeps b c → Keeps a c
@@ -53,3 +55,21 @@ pub kept_grown : (a b : Option (List ℕ)) (old new more : List ℕ) (done : ℕ
     → done ≤ length old → new ≡ old ++ more → Appends a (append_known b (drop done new)) more
 kept_grown a b old new more done p h e =
     append_known-grown a b (drop done old) (drop done new) more p (ap (drop done) e ∙ drop-append-le done old more h)
+
+-- where nothing waits, a port was given what its writer has
+none_waits : (known : Option (List ℕ)) (waiting : List ℕ) (sent : ℕ) → waiting ≡ [] →
+    given_to known waiting sent ≡ known
+none_waits None waiting sent none = refl
+none_waits (Some xs) waiting sent none =
+    ap (λ (bytes : List ℕ). Some (xs ++ bytes)) (ap (drop sent) none ∙ drop-nil sent) ∙ ap Some (append-nil xs)
+
+-- so what its writer took was given to it
+pub written_past : {E : Type 0} (result : Result ℕ E) (a b c : Option (List ℕ)) (waiting piece : List ℕ) (sent : ℕ) →
+    Keeps a (given_to b waiting sent) → waiting ≡ [] → WriteAppends b c result piece →
+    WriteAppends a (given_to c waiting sent) result piece
+written_past (Ok n) a b c waiting piece sent kept none wrote =
+    subst (λ (after : Option (List ℕ)). Appends a after (take n piece)) (sym (none_waits c waiting sent none))
+    (kept_appends a b c (take n piece) (subst (Keeps a) (none_waits b waiting sent none) kept) wrote)
+written_past (Err e) a b c waiting piece sent kept none wrote =
+    subst (Keeps a) (sym (none_waits c waiting sent none))
+    (kept_twice a b c (subst (Keeps a) (none_waits b waiting sent none) kept) wrote)

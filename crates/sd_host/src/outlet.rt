@@ -97,8 +97,9 @@ impl<F: Write + Drop> Sink for HostOutlet<F> {
 
     ghost waits = { λ s. vec_len s.waiting - s.sent };
 
-    /// All goes through the buffer. Once that is full, what waits there is written first. It takes no memory.
-    #[tactic(auto, using(crate::proofs::Kept::kept_grown))]
+    /// Once the buffer is full, what waits there is written first. A piece as long as the buffer is written past it,
+    /// after what waits. It takes no memory.
+    #[tactic(auto, using(crate::proofs::Kept::kept_grown, crate::proofs::Kept::written_past))]
     fn write(&mut self, piece: &[u8]) -> Result<usize, PortFault>
         requires { 0 < length piece.now }
         ensures some { IfOk result (λ k. 0 < k) }
@@ -111,6 +112,10 @@ impl<F: Write + Drop> Sink for HostOutlet<F> {
             (given_to (F.Write.contents self.new.file.writer) self.new.waiting.items self.new.sent) result piece.now }
         ensures one { OnErr result (self.new.file.faults ≡ with_added self.old.file.faults 1) }
     {
+        if piece.len() >= BUFFER {
+            self.send()?;
+            return self.file.write(piece);
+        }
         self.make_room()?;
         let count = piece.len().min(BUFFER - self.waiting.len());
         self.waiting.extend_from_slice(&piece[..count]).unwrap();
