@@ -1,9 +1,10 @@
 #!/bin/sh
-# Shows how the program behaves at the machine's edge: OUT as the standard output, the modes of cards, names that lead
-# to one file, kinds of files and of faults, exits of streams, what a refusal is to a user, and pipes that stay open. It
-# is a part of the gate, and can be run by hand, from any folder: `bench/edge.sh`, or `SDCA=PROGRAM bench/edge.sh` with
-# a program that is built already. It takes some 3 seconds, and needs Python 3, but no root and no strace. A row that
-# holds prints nothing. A row that can't be tried here says so and isn't counted. The last line is `N passed, M failed`.
+# Shows how the program behaves at the machine's edge: OUT as the standard output, the modes of cards and sites, names
+# that lead to one file, kinds of files and of faults, exits of streams, what a refusal is to a user, chains of sites,
+# and pipes that stay open. It is a part of the gate, and can be run by hand, from any folder: `bench/edge.sh`, or
+# `SDCA=PROGRAM bench/edge.sh` with a program that is built already. It takes some 4 seconds, and needs Python 3, but no
+# root. A row that holds prints nothing. A row that can't be tried here, as without strace, says so and isn't counted.
+# The last line is `N passed, M failed`.
 [ $# -eq 0 ] || { echo "edge.sh takes no argument: SDCA=PROGRAM bench/edge.sh" >&2; exit 2; }
 . "$(dirname "$0")/shared.sh"
 live=$top/bench/live.py
@@ -132,7 +133,7 @@ while read -r command operands; do
 sdca: $command: wrong number of arguments; see sdca help $command"
     done
 done <table
-row "help lists 18 commands with arguments" is "$(wc -l <table)" 18
+row "help lists 20 commands with arguments" is "$(wc -l <table)" 20
 for words in "help cover more" "version more"; do
     # shellcheck disable=SC2086 # the words of a command
     sdca $words >lines 2>err
@@ -301,6 +302,7 @@ done
 # --- the examples of help; one whose files are missing (exit 2) is tried again after the others
 mkdir shown
 ln -s "$top/examples" shown/examples
+{ cat S && printf 'messages 3\nfirst-word 1\nlast-word 0\nfirst-period 0\n'; } >shown/site-0.txt
 commands=$("$program" help | sed -n 's/^  \([a-z]*\) [A-Z].*/\1/p')
 for turn in 1 2 3; do
     missing=
@@ -327,6 +329,112 @@ done
 row "a limit on file sizes, its signal ignored: exit 4" is "$?" 4
 head -c "$(wc -c <big)" C >due
 row "OUT is a prefix" same big due
+
+# --- chains of sites. An older program fails these rows
+mkdir chain
+: >chain/book
+cp shown/site-0.txt chain
+# SITE OUT: the arguments that make OUT, the site after SITE, with 1,000 control words.
+after() { echo "next chain/$1 chain/book 1000 chain/$2"; }
+# WORDS: runs the program with these words; its exit, lines and explanation are in $answer.
+ask() {
+    # shellcheck disable=SC2086 # the words of a command
+    sdca $1 >lines 2>err
+    answer="$status $(cat lines err)"
+}
+there="19 file word 4 is there"
+(umask 0 && exec "$program" next chain/site-0.txt chain/book 1000 chain/site-1.txt) >lines 2>err
+row "next makes the site after the first one" is "$? $(cat lines err)" "0 period 1 packet 0 revoked 0"
+row "umask 0: it is the owner's alone" is "$(mode chain/site-1.txt)" 600
+{ cat S && printf 'messages 3\nfirst-word 1\nlast-word 1000\nfirst-period 1\nbook 0 %s\n' \
+    "$(sha256sum <chain/book | cut -c 1-64)"; } >due
+row "its lines" same chain/site-1.txt due
+ask "$(after site-0.txt site-1.txt)"
+row "a site is made once" is "$answer" "$there
+sdca: OUT chain/site-1.txt: it is there already; each site is made once"
+row "it is as it was" same chain/site-1.txt due
+ask "$(after site-0.txt site-2.txt)"
+row "a name is passed over" is "$answer" "19 file word 4 does not follow file word 1
+sdca: OUT chain/site-2.txt: its name is not that of SITE with the last number one higher"
+for pair in "chain/site-1.txt /dev/stdout" "/dev/stdin chain/site-2.txt"; do
+    ask "next ${pair% *} chain/book 1000 ${pair#* }"
+    row "next ${pair% *} .. ${pair#* }: no name that follows" is \
+        "$status $(cat lines err | grep -c 'does not follow')" "19 1"
+done
+ask "twin chain/site-1.txt 1000 chain/site-2.txt"
+row "twin prints nothing" is "$answer" "0 "
+sed 's/^first-word 1$/first-word 1001/; s/^last-word 1000$/last-word 2000/' due >twin
+row "a twin's lines" same chain/site-2.txt twin
+row "a twin is the owner's alone" is "$(mode chain/site-2.txt)" 600
+echo 'revoke 5' >chain/book
+ask "$(after site-2.txt site-3.txt)"
+row "what is appended holds from the first packet on" is "$answer" "0 period 2 packet 0 revoked 1
+revoke 5"
+# The sites that are made from here on are site-4.txt, which is removed after each.
+fourth=chain/site-4.txt
+ln -s elsewhere-else "$fourth"
+ask "$(after site-3.txt site-4.txt)"
+row "a link to no file is there" is "$(head -n 1 lines)" "${there#19 }"
+row "it isn't followed" test ! -e chain/elsewhere-else
+rm "$fourth" && mkdir "$fourth"
+ask "$(after site-3.txt site-4.txt)"
+row "a folder is there" is "$(head -n 1 lines)" "${there#19 }"
+rmdir "$fourth"
+for _ in $(seq 40); do
+    ("$program" next chain/site-3.txt chain/book 1000 "$fourth" >/dev/null 2>&1; echo $? >>exits) &
+done
+wait
+row "of forty at once one makes the site" is "$(sort -n exits | uniq -c | awk '{ print $1, $2 }' | paste -sd ,)" \
+    "1 0,39 19"
+row "it is whole" is "$(wc -l <"$fourth")" 13
+for book in /dev/null N S; do
+    ask "next $fourth $book 1000 chain/site-5.txt"
+    row "next with $book: not the book of the site" is "$answer" "21 book is not that of the site
+sdca: BOOK $book: it doesn't begin with the book of the site's line 13; an old book was put back, or a line was \
+changed or lost"
+done
+rm -f O
+ask "head chain/site-3.txt N C O"
+row "head with another book" is "$answer" "21 book is not that of the site
+sdca: BOOK N: it is not the book of the site's line 13; if it only got longer, make the next site"
+row "nothing is made" test ! -e O
+ask "head chain/site-3.txt chain/book C O"
+row "head with its site's book" is "$answer" "0 "
+sdca card chain/site-0.txt 5 K && sdca receive K O got >lines 2>err
+row "who was revoked before next opens nothing" is "$(cat lines) $(wc -c <got)" "receiver 5 is revoked in period 2 0"
+ask "head chain/site-0.txt chain/book C O"
+row "the first site has no control word" is "$(cat lines)" "clear packet 0: too long"
+rm "$fourth"
+(ulimit -f 0 && trap '' XFSZ && exec "$program" next chain/site-3.txt chain/book 1000 "$fourth") >/dev/null 2>&1
+row "no byte of a site can be written: exit 4" is "$?" 4
+ask "next $fourth chain/book 1000 chain/site-5.txt"
+row "no site is made from what is left of it" is "$status $(head -n 1 lines)" "6 site is short"
+rm "$fourth"
+sdca next chain/site-3.txt chain/book 1000 "$fourth" >&- 2>err
+row "a closed standard output: exit 5" is "$status" 5
+row "the site is whole" is "$(wc -l <"$fourth")" 13
+rm "$fourth"
+if strace -o trace true 2>err; then
+    # WORDS..: runs them under strace, which sees what is brought to the disk.
+    traced() { strace -f -y -o trace -e trace=fsync,fdatasync "$@"; }
+    synced() { sed -n 's/.*sync([0-9]*<\(.*\)>) *= 0$/\1/p' trace | paste -sd ' '; }
+    # shellcheck disable=SC2046 # the words of a command
+    traced "$program" $(after site-3.txt site-4.txt) >lines 2>err
+    row "a site and its folder are on the disk" is "$(synced)" "$(pwd -P)/$fourth $(pwd -P)/chain"
+    for turn in 1 2; do
+        rm "$fourth"
+        # shellcheck disable=SC2046 # the words of a command
+        traced -e inject=fsync:error=EIO:when=$turn "$program" $(after site-3.txt site-4.txt) >lines 2>err
+        row "sync $turn fails: exit 4" is "$? $(cat lines)" "4 device fault"
+    done
+    cp chain/site-3.txt site-3.txt
+    traced "$program" next site-3.txt chain/book 1000 site-4.txt >lines 2>err
+    row "a name without a folder: the current one is on the disk" is "$(synced)" "$(pwd -P)/site-4.txt $(pwd -P)"
+    traced "$program" card S 5 K >lines 2>err
+    row "no other file waits for the disk" is "$(synced)" ""
+else
+    left_out "what is brought to the disk" "strace: $(cat err)"
+fi
 
 # --- a pipe that stays open: OUT has all that the packets known so far decide. An older program fails these rows
 row "head of 200 and 201 packets: 203 and 205 of the broadcast" is \
