@@ -1,3 +1,4 @@
 pub mod Faults
+pub mod Folder
 pub mod Kept
 pub mod Waiting

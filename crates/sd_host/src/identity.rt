@@ -1,10 +1,12 @@
 ghost use Rattle.std.specs.Prelude.{◌≡◌, ◌↔◌, ◌⊎◌, if◌then◌else◌, bit_and, IsTrue, IsErr, OnOk, OnErr};
 ghost use Rattle.std.specs.Fs.{metadata_mode};
+ghost use Rattle.sd_host.specs.Folder.{folder_in};
 ghost use Rattle.sd_host.specs.Kept.{IsKept, MayMake, MayRead, output_of, with_input};
 
 use std::fs::{Files, Metadata, OpenFile, OpenOptions};
 use std::io::{Error, ErrorKind};
 use std::os::unix::fs::{MetadataExt, OpenOptionsExt};
+use std::path::Path;
 use std::{fs, io};
 
 /// The bits of a mode that tell the kind of file.
@@ -14,6 +16,9 @@ const KIND: u32 = 0o170000;
 const PRIVATE: u32 = 0o600;
 
 const SHARED: u32 = 0o666;
+
+/// The path of the current folder.
+const CURRENT: &str = ".";
 
 /// The path of the standard output.
 const OUTPUT: &str = "/dev/stdout";
@@ -218,11 +223,12 @@ pub fn sync_folder<R: Files>(files: &R, folder: &str) -> io::Result<()> {
 }
 
 /// The folder of the file of that name.
-pub fn folder_of(name: &str) -> &str {
-    match name.rsplit_once('/') {
-        Some(("", _)) => "/",
-        Some((folder, _)) => folder,
-        None => ".",
+pub fn folder_of(name: &str) -> &str
+    ensures { result.now ≡ folder_in name.now }
+{
+    match Path::new(name).parent() {
+        Some(folder) if !folder.as_str().is_empty() => folder.as_str(),
+        _ => CURRENT,
     }
 }
 
