@@ -1,23 +1,26 @@
 -- Lines tell one thing alone.
 use Rattle.std.proofs.Common.{arith, ◌≡◌, ℕ, zero, suc, ◌+◌, ◌<◌, ◌≤◌, Bool, true, false, cond, eqb, List, [], length}
 use Rattle.std.proofs.Common.{Option, Some, None, Result, Ok, Err, refl, ◌∙◌, sym, ap, subst, inl, inr, eq-eqb}
-use Rattle.std.proofs.lemmas.Bool.{cases_lt, ne_eqb, lt-ltb, le-ltb}
+use Rattle.std.proofs.lemmas.Bool.{cases_lt, ne_eqb, lt-ltb, le-ltb, eqb-true, and_parts}
 use Rattle.std.proofs.lemmas.Option.{none-some, same_Some, slice_get_past, slice_get-get_or, option_and_then_some}
-use Rattle.std.specs.Prelude.{nat_lt, slice_get, is_some, unwrap_or, IsErrOf, IfOk, MatchResult, ◌↔◌}
+use Rattle.std.specs.Prelude.{nat_lt, slice_get, get_or, is_some, unwrap_or, IsSome, IfSome, IsErrOf, IfOk}
+use Rattle.std.specs.Prelude.{MatchResult, ◌↔◌, ◌||◌}
 use Rattle.std.specs.Int.{w16, from_be_bytes}
 use Rattle.sd_base.specs.Lines.{lines_of}
 use Rattle.sd_base.specs.Number.{decimal_after}
 use Rattle.sd_site.specs.declared.site_fault.SiteFault.{SiteFault}
 use Rattle.sd_site.specs.declared.site_fault.SiteFault.TheVariants.{Line, Range, SamePid, Extra, Short}
+use Rattle.sd_site.specs.declared.book_line.BookLine.{BookLine}
 use Rattle.sd_site.specs.declared.site.Site.{Site}
 use Rattle.sd_site.specs.SiteFields.{SiteFields, AreInRange, fields_of}
-use Rattle.sd_site.specs.Forms.{NumberLine, BytesLine, Form, number, bytes, forms, IsWithin, bytes_after, number_on}
-use Rattle.sd_site.specs.Forms.{bytes_on, number_or, height_line, master_line, ca_line, emm_line, ecm_line}
-use Rattle.sd_site.specs.Forms.{every_line, cryptos_line, span_line, messages_line, first_word_line}
-use Rattle.sd_site.specs.Forms.{last_word_line, first_period_line}
-use Rattle.sd_site.specs.Text.{SpellsSite, IsSite, site_on, site_of}
+use Rattle.sd_site.specs.Forms.{NumberLine, BytesLine, Form, number, bytes, book, forms, IsWithin, bytes_after}
+use Rattle.sd_site.specs.Forms.{book_after, most_book_size, number_on, bytes_on, number_or, height_line, master_line}
+use Rattle.sd_site.specs.Forms.{ca_line, emm_line, ecm_line, every_line, cryptos_line, span_line, messages_line}
+use Rattle.sd_site.specs.Forms.{first_word_line, last_word_line, first_period_line}
+use Rattle.sd_site.specs.Text.{SpellsSite, IsSite, said_on, site_on, site_of, book_on, book_line_of}
 use Rattle.sd_site.specs.SiteFaults.{IsInForm, IsGood, IsMalformed, IsOutOfRange, NextIs, AreGood, IsCauseOf}
-use Rattle.sd_site.proofs.Walk.{Tells, lines_told}
+use Rattle.sd_site.specs.Written.{is_whole, fewer_taken}
+use Rattle.sd_site.proofs.Walk.{Answer, SaysBook, Tells, lines_told}
 
 -- ---- what lines tell that are good up to line n and no further
 
@@ -25,6 +28,7 @@ use Rattle.sd_site.proofs.Walk.{Tells, lines_told}
 abbrev in_form : Form → List ℕ → Bool
 in_form (number form) line = is_some (decimal_after form.word line)
 in_form (bytes form) line = is_some (bytes_after form.word form.count line)
+in_form book line = is_some (book_after line)
 
 -- the decimal on a line
 abbrev number_or_0 : NumberLine → Option (List ℕ) → ℕ
@@ -55,18 +59,22 @@ fields_on lines = record {
 abbrev same_pid : List (List ℕ) → Bool
 same_pid lines = eqb (number_or_0 emm_line (slice_get lines 3)) (number_or_0 ecm_line (slice_get lines 4))
 
+-- what good lines say of the site and its book
+abbrev all_on : List (List ℕ) → Answer
+all_on lines = Ok (fields_on lines, book_on lines)
+
 -- the answer where no line is bad or too many
-abbrev at_end : ℕ → List (List ℕ) → Result SiteFields SiteFault
-at_end n lines = cond (nat_lt n 8) (Err Short) (cond (same_pid lines) (Err SamePid) (Ok (fields_on lines)))
+abbrev at_end : ℕ → List (List ℕ) → Answer
+at_end n lines = cond (nat_lt n 8) (Err Short) (cond (same_pid lines) (Err SamePid) (all_on lines))
 
 -- the answer by the form and the line after n good ones
-abbrev answer : ℕ → List (List ℕ) → Option Form → Option (List ℕ) → Result SiteFields SiteFault
+abbrev answer : ℕ → List (List ℕ) → Option Form → Option (List ℕ) → Answer
 answer n lines (Some form) (Some line) = cond (in_form form line) (Err (Range (n + 1))) (Err (Line (n + 1)))
-answer n lines None (Some line) = Err (Extra 13)
+answer n lines None (Some line) = Err (Extra 14)
 answer n lines form None = at_end n lines
 
 -- n lines are good, line n + 1 is not, and the answer is what follows from that
-record Stops (lines : List (List ℕ)) (r : Result SiteFields SiteFault) : Type 0 where
+record Stops (lines : List (List ℕ)) (r : Answer) : Type 0 where
   n : ℕ
   good : AreGood n lines
   stop : NextIs IsGood n lines → ⊥
@@ -87,6 +95,7 @@ apart P Q either n lines p q =
 good_in_form : (form : Form) (line : List ℕ) → IsGood form line → IsInForm form line
 good_in_form (number form) line good = (good.0, good.1)
 good_in_form (bytes form) line good = good
+good_in_form book line good = (good.0, good.1)
 
 nothing : {A : Type 0} (o : Option A) → ((x : A) × (o ≡ Some x) → ⊥) → is_some o ≡ false
 nothing None never = refl
@@ -95,10 +104,12 @@ nothing (Some x) never = absurd (never (x, refl))
 in_form_false : (form : Form) (line : List ℕ) → IsMalformed form line → in_form form line ≡ false
 in_form_false (number form) line never = nothing (decimal_after form.word line) never
 in_form_false (bytes form) line never = nothing (bytes_after form.word form.count line) never
+in_form_false book line never = nothing (book_after line) never
 
 in_form_true : (form : Form) (line : List ℕ) → IsInForm form line → in_form form line ≡ true
 in_form_true (number form) line holds = ap is_some holds.1
 in_form_true (bytes form) line holds = ap is_some holds.1
+in_form_true book line holds = ap is_some holds.1
 
 -- a line that is not in its form, or out of range, is not good
 malformed_not_good : (form : Form) (line : List ℕ) → IsMalformed form line → IsGood form line → ⊥
@@ -128,11 +139,11 @@ ended : (P : Form → List ℕ → Type 0) (lines : List (List ℕ)) (n : ℕ) �
 ended P lines n past next = none-some _ (sym (slice_get_past lines n past) ∙ next.3)
 
 -- no form is left
-all_forms : (P : Form → List ℕ → Type 0) (lines : List (List ℕ)) (n : ℕ) → 12 ≤ n → NextIs P n lines → ⊥
+all_forms : (P : Form → List ℕ → Type 0) (lines : List (List ℕ)) (n : ℕ) → 13 ≤ n → NextIs P n lines → ⊥
 unfolding forms
 all_forms P lines n past next = none-some _ (sym (slice_get_past forms n past) ∙ next.2)
 
-no_form : slice_get forms 12 ≡ None
+no_form : slice_get forms 13 ≡ None
 unfolding forms
 no_form = refl
 
@@ -142,7 +153,7 @@ answer_at_end n lines None = refl
 answer_at_end n lines (Some form) = refl
 
 -- good lines that end stop there
-end_stops : (lines : List (List ℕ)) (r : Result SiteFields SiteFault) → AreGood (length lines) lines
+end_stops : (lines : List (List ℕ)) (r : Answer) → AreGood (length lines) lines
     → r ≡ at_end (length lines) lines → Stops lines r
 end_stops lines r good e = record {
   n = length lines;
@@ -158,15 +169,15 @@ short_stops lines (few, good) =
 
 extra_stops : (lines : List (List ℕ)) (k : ℕ) → IsCauseOf lines (Extra k) → Stops lines (Err (Extra k))
 extra_stops lines k (place, many, good) = record {
-  n = 12;
+  n = 13;
   good = good;
-  stop = λ next. all_forms IsGood lines 12 (omega arith) next;
-  is = rw (place, no_form, slice_get-get_or lines 12 [] many) refl;
+  stop = λ next. all_forms IsGood lines 13 (omega arith) next;
+  is = rw (place, no_form, slice_get-get_or lines 13 [] many) refl;
 }
 
 -- eight good lines or more end with the PIDs
-pids_stop : (lines : List (List ℕ)) (r : Result SiteFields SiteFault) → 8 ≤ length lines
-    → AreGood (length lines) lines → r ≡ cond (same_pid lines) (Err SamePid) (Ok (fields_on lines)) → Stops lines r
+pids_stop : (lines : List (List ℕ)) (r : Answer) → 8 ≤ length lines
+    → AreGood (length lines) lines → r ≡ cond (same_pid lines) (Err SamePid) (all_on lines) → Stops lines r
 pids_stop lines r least good e = end_stops lines r good (rw (le-ltb (length lines) 8 least) e)
 
 same_pid_stops : (lines : List (List ℕ)) → IsCauseOf lines SamePid → Stops lines (Err SamePid)
@@ -202,47 +213,66 @@ good_optional n left_out value form lines is there reads within =
     let here = slice_get-get_or lines n [] there in
     (number form, _, is, here, (value, rw here at reads, within))
 
+-- line 13 is good, where it is there and says a book in its range
+good_book : (lines : List (List ℕ)) → slice_get forms 12 ≡ Some book → 12 < length lines
+    → IfSome (slice_get lines 12) (λ line. IsSome (book_after line))
+    → IfSome (book_on lines) (λ said. said.size ≤ most_book_size) → NextIs IsGood 12 lines
+unfolding book_on
+good_book lines is there says range =
+    let line = get_or lines 12 [] in
+    let here = slice_get-get_or lines 12 [] there in
+    (book, line, is, here, by_book (book_after line) refl (rw here at says) (rw here at range))
+  where
+    by_book : (said : Option BookLine) → book_after (get_or lines 12 []) ≡ said → IsSome said
+        → IfSome said (λ said. said.size ≤ most_book_size) → IsGood book (get_or lines 12 [])
+    by_book None e some range = absurd cc
+    by_book (Some said) e some range = (said, e, range)
+
 -- the lines of a site are good
 spelled_good : (lines : List (List ℕ)) (site : SiteFields) → SpellsSite lines site → AreInRange site
-    → AreGood (length lines) lines
+    → IfSome (book_on lines) (λ said. said.size ≤ most_book_size) → AreGood (length lines) lines
 unfolding forms
-spelled_good lines site spells ranges zero lt =
+spelled_good lines site spells ranges size zero lt =
     good_number 0 _ height_line lines refl spells.height ranges.height
-spelled_good lines site spells ranges (suc zero) lt =
+spelled_good lines site spells ranges size (suc zero) lt =
     good_bytes 1 _ master_line lines refl spells.master
-spelled_good lines site spells ranges (suc (suc zero)) lt =
+spelled_good lines site spells ranges size (suc (suc zero)) lt =
     good_bytes 2 _ ca_line lines refl spells.ca.1
-spelled_good lines site spells ranges (suc (suc (suc zero))) lt =
+spelled_good lines site spells ranges size (suc (suc (suc zero))) lt =
     good_number 3 _ emm_line lines refl spells.emm ranges.emm
-spelled_good lines site spells ranges (suc (suc (suc (suc zero)))) lt =
+spelled_good lines site spells ranges size (suc (suc (suc (suc zero)))) lt =
     good_number 4 _ ecm_line lines refl spells.ecm ranges.ecm
-spelled_good lines site spells ranges (suc (suc (suc (suc (suc zero))))) lt =
+spelled_good lines site spells ranges size (suc (suc (suc (suc (suc zero))))) lt =
     good_number 5 _ every_line lines refl spells.every ranges.every
-spelled_good lines site spells ranges (suc (suc (suc (suc (suc (suc zero)))))) lt =
+spelled_good lines site spells ranges size (suc (suc (suc (suc (suc (suc zero)))))) lt =
     good_number 6 _ cryptos_line lines refl spells.cryptos ranges.cryptos
-spelled_good lines site spells ranges (suc (suc (suc (suc (suc (suc (suc zero))))))) lt =
+spelled_good lines site spells ranges size (suc (suc (suc (suc (suc (suc (suc zero))))))) lt =
     good_number 7 _ span_line lines refl spells.span ranges.span
-spelled_good lines site spells ranges (suc (suc (suc (suc (suc (suc (suc (suc zero)))))))) lt =
+spelled_good lines site spells ranges size (suc (suc (suc (suc (suc (suc (suc (suc zero)))))))) lt =
     good_optional 8 _ _ messages_line lines refl lt spells.messages ranges.messages
-spelled_good lines site spells ranges (suc (suc (suc (suc (suc (suc (suc (suc (suc zero))))))))) lt =
+spelled_good lines site spells ranges size (suc (suc (suc (suc (suc (suc (suc (suc (suc zero))))))))) lt =
     good_optional 9 _ _ first_word_line lines refl lt spells.first_word ranges.first_word
-spelled_good lines site spells ranges (suc (suc (suc (suc (suc (suc (suc (suc (suc (suc zero)))))))))) lt =
+spelled_good lines site spells ranges size (suc (suc (suc (suc (suc (suc (suc (suc (suc (suc zero)))))))))) lt =
     good_optional 10 _ _ last_word_line lines refl lt spells.last_word ranges.last_word
-spelled_good lines site spells ranges (suc (suc (suc (suc (suc (suc (suc (suc (suc (suc (suc zero))))))))))) lt =
+spelled_good lines site spells ranges size (suc (suc (suc (suc (suc (suc (suc (suc (suc (suc (suc zero))))))))))) lt =
     good_optional 11 _ _ first_period_line lines refl lt spells.first_period ranges.first_period
-spelled_good lines site spells ranges (suc (suc (suc (suc (suc (suc (suc (suc (suc (suc (suc (suc i)))))))))))) lt =
+spelled_good lines site spells ranges size
+    (suc (suc (suc (suc (suc (suc (suc (suc (suc (suc (suc (suc zero)))))))))))) lt =
+    good_book lines refl lt spells.book size
+spelled_good lines site spells ranges size
+    (suc (suc (suc (suc (suc (suc (suc (suc (suc (suc (suc (suc (suc i))))))))))))) lt =
     absurd (omega (arith, spells.most))
 
-site_stops : (lines : List (List ℕ)) (site : SiteFields) → SpellsSite lines site → AreInRange site
-    → Stops lines (Ok site)
-site_stops lines site spells ranges =
+site_stops : (lines : List (List ℕ)) (site : SiteFields) (said : Option BookLine) → SpellsSite lines site
+    → AreInRange site → SaysBook lines said → Stops lines (Ok (site, said))
+site_stops lines site said spells ranges says =
     let differ : same_pid lines ≡ false = rw (spells.emm, spells.ecm) (ne_eqb _ _ ranges.apart) in
-    pids_stop lines (Ok site) spells.least (spelled_good lines site spells ranges)
-    (rw differ (ap Ok (sym (spelled lines site spells))))
+    pids_stop lines (Ok (site, said)) spells.least (spelled_good lines site spells ranges (rw says.is says.range))
+    (rw (differ, says.is, spelled lines site spells) refl)
 
 -- whatever lines tell follows from how far they are good
-stops : (lines : List (List ℕ)) (r : Result SiteFields SiteFault) → Tells lines r → Stops lines r
-stops lines (Ok site) tells = site_stops lines site tells.0 tells.1
+stops : (lines : List (List ℕ)) (r : Answer) → Tells lines r → Stops lines r
+stops lines (Ok said) tells = site_stops lines said.0 said.1 tells.0 tells.1 tells.2
 stops lines (Err (Line k)) tells = line_stops lines k tells
 stops lines (Err (Range k)) tells = range_stops lines k tells
 stops lines (Err SamePid) tells = same_pid_stops lines tells
@@ -262,7 +292,7 @@ one_end m n lines good_m stop_m good_n stop_n =
     ]
 
 -- lines tell one thing alone
-pub one_answer : (lines : List (List ℕ)) (q r : Result SiteFields SiteFault) → Tells lines q → Tells lines r → q ≡ r
+pub one_answer : (lines : List (List ℕ)) (q r : Answer) → Tells lines q → Tells lines r → q ≡ r
 one_answer lines q r tells_q tells_r =
     let a = stops lines q tells_q in
     let b = stops lines r tells_r in
@@ -270,22 +300,22 @@ one_answer lines q r tells_q tells_r =
     a.is ∙ ap (λ (n : ℕ). answer n lines (slice_get forms n) (slice_get lines n)) same ∙ sym b.is
 
 -- what lines tell is the answer on them
-pub answered : (lines : List (List ℕ)) (r : Result SiteFields SiteFault) → Tells lines r → site_on lines ≡ r
-answered lines r tells = one_answer lines (site_on lines) r (lines_told lines) tells
+pub answered : (lines : List (List ℕ)) (r : Answer) → Tells lines r → said_on lines ≡ r
+answered lines r tells = one_answer lines (said_on lines) r (lines_told lines) tells
 
 -- ---- the same of a function's answer
 
 -- answers with their types, for equations between them
-abbrev done : SiteFields → Result SiteFields SiteFault
-done x = Ok x
+abbrev done : SiteFields × Option BookLine → Answer
+done said = Ok said
 
-abbrev failed : SiteFault → Result SiteFields SiteFault
+abbrev failed : SiteFault → Answer
 failed fault = Err fault
 
 abbrev refused : SiteFault → Result Site SiteFault
 refused fault = Err fault
 
-ok_is : (x y : SiteFields) → done x ≡ done y → x ≡ y
+ok_is : (x y : SiteFields × Option BookLine) → done x ≡ done y → x ≡ y
 ok_is x y e = cc
 
 err_is : (x y : SiteFault) → failed x ≡ failed y → x ≡ y
@@ -294,40 +324,123 @@ err_is x y e = cc
 refusal_is : (x y : SiteFault) → refused x ≡ refused y → x ≡ y
 refusal_is x y e = cc
 
-not_err : (fault : SiteFault) (x : SiteFields) → failed fault ≡ done x → ⊥
+-- answers on the site alone
+abbrev alone : SiteFields → Result SiteFields SiteFault
+alone site = Ok site
+
+abbrev alone_failed : SiteFault → Result SiteFields SiteFault
+alone_failed fault = Err fault
+
+alone_is : (x y : SiteFields) → alone x ≡ alone y → x ≡ y
+alone_is x y e = cc
+
+alone_err : (x y : SiteFault) → alone_failed x ≡ alone_failed y → x ≡ y
+alone_err x y e = cc
+
+rejects : (fault : SiteFault) (site : SiteFields) → alone_failed fault ≡ alone site → ⊥
+rejects fault site e = absurd cc
+
+not_err : (fault : SiteFault) (x : SiteFields × Option BookLine) → failed fault ≡ done x → ⊥
 not_err fault x e = absurd cc
 
 accepts : (site : Site) (fault : SiteFault) → Ok site ≡ refused fault → ⊥
 accepts site fault e = absurd cc
 
--- the function answers what the lines say
+-- the function answers what the text says of the site
 abbrev pub Gives : Result Site SiteFault → List ℕ → Type 0
 Gives r text = MatchResult r (λ site. site_of text ≡ Ok (fields_of site)) (λ fault. site_of text ≡ Err fault)
 
-tells : (text : List ℕ) (r : Result SiteFields SiteFault) → site_of text ≡ r → Tells (lines_of text) r
-tells text r e = subst (λ (r : Result SiteFields SiteFault). Tells (lines_of text) r) e (lines_told (lines_of text))
+tells : (text : List ℕ) (r : Answer) → said_on (lines_of text) ≡ r → Tells (lines_of text) r
+tells text r e = subst (λ (r : Answer). Tells (lines_of text) r) e (lines_told (lines_of text))
+
+-- what the lines say, by what they say of the site alone
+all_told : (text : List ℕ) (r : Answer) → said_on (lines_of text) ≡ r → (site : SiteFields) → site_of text ≡ Ok site
+    → said_on (lines_of text) ≡ Ok (site, book_line_of text)
+unfolding site_on
+all_told text (Ok said) e site f =
+    let same : said.0 ≡ site = alone_is _ _ (rw e at f) in
+    e ∙ (λ i. Ok (same i, sym (tells text (Ok said) e).2.is i))
+all_told text (Err fault) e site f = absurd (rejects _ _ (rw e at f))
+
+fault_told : (text : List ℕ) (r : Answer) → said_on (lines_of text) ≡ r → (fault : SiteFault) → site_of text ≡ Err fault
+    → said_on (lines_of text) ≡ Err fault
+unfolding site_on
+fault_told text (Ok said) e fault f = absurd (rejects _ _ (sym (rw e at f)))
+fault_told text (Err other) e fault f = e ∙ ap (λ (f : SiteFault). failed f) (alone_err _ _ (rw e at f))
+
+-- the site and what line 13 says, each alone
+pub both_told : (text : List ℕ) (r : Result (Site × Option BookLine) SiteFault)
+    → MatchResult r (λ said. said_on (lines_of text) ≡ Ok (fields_of said.0, said.1))
+    (λ fault. said_on (lines_of text) ≡ Err fault)
+    → MatchResult r (λ said. (site_of text ≡ Ok (fields_of said.0)) × (book_line_of text ≡ said.1))
+    (λ fault. site_of text ≡ Err fault)
+unfolding site_on
+both_told text (Ok said) e = (rw e refl, (tells text (Ok (fields_of said.0, said.1)) e).2.is)
+both_told text (Err fault) e = rw e refl
+
+-- a site file says itself, and what line 13 says
+pub site_told : (text : List ℕ) (fields : SiteFields) → IsSite text fields
+    → said_on (lines_of text) ≡ Ok (fields, book_line_of text)
+site_told text fields is = answered (lines_of text) (Ok (fields, book_line_of text))
+    (is.text, is.ranges, record { is = refl; range = is.size })
+
+-- what a site file says is the site of its bytes
+pub site_said : (text : List ℕ) (fields : SiteFields) → IsSite text fields → site_of text ≡ Ok fields
+unfolding site_on
+site_said text fields is = rw (site_told text fields is) refl
+
+-- and the site of bytes is what they say as a site file
+pub said_is_site : (text : List ℕ) (fields : SiteFields) → site_of text ≡ Ok fields → IsSite text fields
+said_is_site text fields e =
+    let told = all_told text (said_on (lines_of text)) refl fields e in
+    let h = tells text (Ok (fields, book_line_of text)) told in
+    record { text = h.0; ranges = h.1; size = h.2.range }
 
 -- what is read is a site file that says this
 pub is_site : (text : List ℕ) (r : Result Site SiteFault) → Gives r text → IfOk r (λ site. IsSite text (fields_of site))
-is_site text (Ok site) gives = let h = tells text (Ok (fields_of site)) gives in record { text = h.0; ranges = h.1 }
+is_site text (Ok site) gives = said_is_site text (fields_of site) gives
 is_site text (Err fault) gives = tt
 
 -- what is a site file is read
 pub is_read : (text : List ℕ) (r : Result Site SiteFault) → Gives r text → (fields : SiteFields)
     → IsSite text fields → MatchResult r (λ site. fields_of site ≡ fields) (λ _. ⊥)
 is_read text (Ok site) gives fields is =
-    ok_is _ _ (sym gives ∙ answered (lines_of text) (Ok fields) (is.text, is.ranges))
+    let told = all_told text (said_on (lines_of text)) refl (fields_of site) gives in
+    ap (λ (said : SiteFields × Option BookLine). said.0) (ok_is _ _ (sym told ∙ site_told text fields is))
 is_read text (Err fault) gives fields is =
-    not_err _ _ (sym gives ∙ answered (lines_of text) (Ok fields) (is.text, is.ranges))
+    let told = fault_told text (said_on (lines_of text)) refl fault gives in
+    not_err _ _ (sym told ∙ site_told text fields is)
 
 -- each fault comes exactly where the lines have it
 pub is_cause : (text : List ℕ) (r : Result Site SiteFault) → Gives r text → (fault : SiteFault)
     → IsErrOf r fault ↔ IsCauseOf (lines_of text) fault
-is_cause text (Ok site) gives fault = (
-  λ err. absurd (accepts site fault err),
-  λ cause. absurd (not_err _ _ (sym (answered (lines_of text) (Err fault) cause) ∙ gives)),
-)
-is_cause text (Err other) gives fault = (
-  λ err. tells text (Err fault) (gives ∙ ap (λ (f : SiteFault). failed f) (refusal_is _ _ err)),
-  λ cause. ap (λ (f : SiteFault). Err f) (err_is _ _ (sym gives ∙ answered (lines_of text) (Err fault) cause)),
-)
+is_cause text (Ok site) gives fault =
+    let told = all_told text (said_on (lines_of text)) refl (fields_of site) gives in (
+      λ err. absurd (accepts site fault err),
+      λ cause. absurd (not_err _ _ (sym (answered (lines_of text) (Err fault) cause) ∙ told)),
+    )
+is_cause text (Err other) gives fault =
+    let told = fault_told text (said_on (lines_of text)) refl other gives in (
+      λ err. tells text (Err fault) (told ∙ ap (λ (f : SiteFault). failed f) (refusal_is _ _ err)),
+      λ cause. ap (λ (f : SiteFault). Err f) (err_is _ _ (sym told ∙ answered (lines_of text) (Err fault) cause)),
+    )
+
+-- a site file with thirteen lines says its book
+pub thirteen_say : (text : List ℕ) (site : SiteFields) → site_of text ≡ Ok site → length (lines_of text) ≡ 13
+    → IsSome (book_line_of text)
+unfolding book_on
+thirteen_say text site e count =
+    let told = all_told text (said_on (lines_of text)) refl site e in
+    let says = (tells text (Ok (site, book_line_of text)) told).0.book in
+    let here = slice_get-get_or (lines_of text) 12 [] (omega (arith, count)) in
+    rw here (rw here at says)
+
+-- and so does a file that a next site is made from, where no first site is taken
+pub newest_say : (text : List ℕ) (site : SiteFields) (first : Bool) → site_of text ≡ Ok site
+    → (is_whole 13 text || fewer_taken first text site) ≡ true → first ≡ false → IsSome (book_line_of text)
+newest_say text site true e whole none = absurd cc
+newest_say text site false e whole none = by_whole (is_whole 13 text) refl whole
+  where
+    by_whole : (whole : Bool) → is_whole 13 text ≡ whole → (whole || false) ≡ true → IsSome (book_line_of text)
+    by_whole true is holds = thirteen_say text site e (eqb-true _ _ (and_parts _ _ is).0)
+    by_whole false is holds = absurd cc

@@ -3,6 +3,7 @@ pub mod Walk
 pub mod Alone
 pub mod LeftOut
 pub mod Short
+pub mod SiteText
 pub mod Places
 pub mod Keys
 pub mod Made

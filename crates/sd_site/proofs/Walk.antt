@@ -4,17 +4,18 @@ use Rattle.std.proofs.Common.{◌∷◌, length, Option, Some, None, Result, Ok,
 use Rattle.std.proofs.Common.{true≢false}
 use Rattle.std.proofs.lemmas.Bool.{eqb-true, eqb-false, cases_lt, and_parts, leb-true, le-leb, and_from}
 use Rattle.std.proofs.lemmas.Option.{none-some, same_Some, slice_get_past}
-use Rattle.std.specs.Prelude.{◌&&◌, nat_le, slice_get}
+use Rattle.std.specs.Prelude.{◌&&◌, nat_le, slice_get, IsSome, IfSome}
 use Rattle.sd_base.specs.Number.{decimal_after}
 use Rattle.sd_site.specs.declared.site_fault.SiteFault.{SiteFault}
 use Rattle.sd_site.specs.declared.site_fault.SiteFault.TheVariants.{Range, SamePid}
+use Rattle.sd_site.specs.declared.book_line.BookLine.{BookLine}
 use Rattle.sd_site.specs.SiteFields.{SiteFields, AreInRange}
-use Rattle.sd_site.specs.Forms.{NumberLine, BytesLine, number, bytes, forms, IsWithin, bytes_after, number_on, bytes_on}
-use Rattle.sd_site.specs.Forms.{number_or, height_line, master_line, ca_line, emm_line, ecm_line, every_line}
-use Rattle.sd_site.specs.Forms.{cryptos_line, span_line, messages_line, first_word_line, last_word_line}
-use Rattle.sd_site.specs.Forms.{first_period_line}
+use Rattle.sd_site.specs.Forms.{NumberLine, BytesLine, number, bytes, book, forms, IsWithin, bytes_after, book_after}
+use Rattle.sd_site.specs.Forms.{number_on, bytes_on, most_book_size, number_or, height_line, master_line, ca_line}
+use Rattle.sd_site.specs.Forms.{emm_line, ecm_line, every_line, cryptos_line, span_line, messages_line}
+use Rattle.sd_site.specs.Forms.{first_word_line, last_word_line, first_period_line}
 use Rattle.sd_site.specs.Text.{◌>>=◌, SpellsSite, in_range, well_formed, number_at, optional_at, bytes_at, judged_whole}
-use Rattle.sd_site.specs.Text.{optional_on, site_on}
+use Rattle.sd_site.specs.Text.{optional_on, in_book_range, book_at, book_on, said_on}
 use Rattle.sd_site.specs.declared.optional.Optional.{Optional}
 use Rattle.sd_site.specs.SiteFaults.{IsGood, NextIs, AreGood, IsCauseOf}
 
@@ -24,14 +25,23 @@ pub record Walked (n : ℕ) (lines rest : List (List ℕ)) : Type 0 where
   pub count : length lines ≡ n + length rest
   pub good : AreGood n lines
 
+-- an answer on lines: the site and what line 13 says, or a fault
+abbrev pub Answer : Type 0
+Answer = Result (SiteFields × Option BookLine) SiteFault
+
+-- this is what line 13 says, in its range, or it is left out
+pub record SaysBook (lines : List (List ℕ)) (said : Option BookLine) : Type 0 where
+  pub is : book_on lines ≡ said
+  pub range : IfSome said (λ book. book.size ≤ most_book_size)
+
 -- what the lines are where this is the answer
-abbrev pub Tells : List (List ℕ) → Result SiteFields SiteFault → Type 0
-Tells lines (Ok site) = SpellsSite lines site × AreInRange site
+abbrev pub Tells : List (List ℕ) → Answer → Type 0
+Tells lines (Ok said) = SpellsSite lines said.0 × AreInRange said.0 × SaysBook lines said.1
 Tells lines (Err fault) = IsCauseOf lines fault
 
 -- what follows a step
 abbrev Step : Type 0 → Type 0
-Step A = A × List (List ℕ) → Result SiteFields SiteFault
+Step A = A × List (List ℕ) → Answer
 
 -- a number in range passes the test
 out_of_range : (low high value other : ℕ) → (value ≡ other) → low ≤ other → other ≤ high
@@ -179,7 +189,7 @@ joined (Err fault) f g = refl
 -- the same line as the first of the steps that are one step's
 optional_first : {A : Type 0} (n left_out : ℕ) (form : NumberLine) (lines rest : List (List ℕ)) → 8 ≤ n
     → Passed n lines rest → slice_get forms n ≡ Some (number form) → IsWithin form left_out
-    → (inner : ℕ × List (List ℕ) → Result A SiteFault) → (answer : A → Result SiteFields SiteFault)
+    → (inner : ℕ × List (List ℕ) → Result A SiteFault) → (answer : A → Answer)
     → ((value : ℕ) (after : List (List ℕ)) → number_or left_out form (slice_get lines n) ≡ Some value
     → IsWithin form value → Passed (n + 1) lines after → Tells lines (inner (value, after) >>= answer))
     → Tells lines ((optional_at (n + 1) form left_out rest >>= inner) >>= answer)
@@ -200,7 +210,7 @@ record SaysOptional (lines : List (List ℕ)) (optional : Optional) : Type 0 whe
 
 -- the lines after the eighth: each is left out, or as above
 optional_steps : (lines rest : List (List ℕ)) → Walked 8 lines rest
-    → (answer : Optional × List (List ℕ) → Result SiteFields SiteFault)
+    → (answer : Step Optional)
     → ((optional : Optional) (after : List (List ℕ)) → SaysOptional lines optional → Passed 12 lines after
     → Tells lines (answer (optional, after)))
     → Tells lines (optional_on rest >>= answer)
@@ -224,33 +234,85 @@ optional_steps lines rest walked answer more =
       first_period_in = first_period_in;
     }) passed12))))
 
--- the PIDs are equal, or all is good
-pids : (lines : List (List ℕ)) (site : SiteFields) → 8 ≤ length lines → AreGood (length lines) lines
-    → number_on emm_line (slice_get lines 3) ≡ Some site.emm
-    → number_on ecm_line (slice_get lines 4) ≡ Some site.ecm
-    → ((site.emm ≡ site.ecm → ⊥) → SpellsSite lines site × AreInRange site)
-    → (same : Bool) → eqb site.emm site.ecm ≡ same → Tells lines (cond same (Err SamePid) (Ok site))
-pids lines site least good emm ecm more true e = (least, good, emm ∙ ap Some (eqb-true _ _ e) ∙ sym ecm)
-pids lines site least good emm ecm more false e = more (eqb-false _ _ e)
+-- line 13 is in its range or out of it
+book_judged : (lines rest : List (List ℕ)) (line : List ℕ) (said : BookLine) → Walked 12 lines (line ∷ rest)
+    → slice_get forms 12 ≡ Some book → slice_get lines 12 ≡ Some line → book_after line ≡ Some said
+    → (answer : Step (Option BookLine))
+    → (said.size ≤ most_book_size → Walked 13 lines rest → Tells lines (answer (Some said, rest)))
+    → (within : Bool) → nat_le said.size most_book_size ≡ within
+    → Tells lines ((cond within (Ok said) (Err (Range 13)) >>= λ said. Ok (Some said, rest)) >>= answer)
+book_judged lines rest line said walked is here e answer more true within =
+    let inside = leb-true said.size most_book_size within in
+    more inside (walk 12 lines rest line walked (book, line, is, here, (said, e, inside)))
+book_judged lines rest line said walked is here e answer more false out =
+    let never : IsGood book line → ⊥ = λ good.
+    let same = ap (λ (said : BookLine). said.size) (same_Some _ _ (sym e ∙ good.1)) in
+    true≢false (sym (le-leb said.size most_book_size (omega (arith, same, good.2))) ∙ out) in
+    (12, refl, walked.good, (book, line, is, here, ((said, e), never)))
 
--- after twelve good lines none is to be, and the PIDs are to differ
-whole_case : (lines rest : List (List ℕ)) (site : SiteFields) → Passed 12 lines rest
-    → number_on emm_line (slice_get lines 3) ≡ Some site.emm
-    → number_on ecm_line (slice_get lines 4) ≡ Some site.ecm
-    → (8 ≤ length lines → length lines ≤ 12 → (site.emm ≡ site.ecm → ⊥) → SpellsSite lines site × AreInRange site)
-    → Tells lines (judged_whole rest site)
-whole_case lines (line ∷ rest) site (inl walked) emm ecm more = (refl, omega (arith, walked.count), walked.good)
-whole_case lines (line ∷ rest) site (inr (k, eight, below, walked, e)) emm ecm more = absurd cc
-whole_case lines [] site passed emm ecm more =
+-- line 13 is good, out of range or malformed
+book_case : (lines rest : List (List ℕ)) (line : List ℕ) → Walked 12 lines (line ∷ rest)
+    → slice_get forms 12 ≡ Some book → (answer : Step (Option BookLine))
+    → ((said : BookLine) → book_after line ≡ Some said → said.size ≤ most_book_size → Walked 13 lines rest
+    → Tells lines (answer (Some said, rest)))
+    → (read : Option BookLine) → book_after line ≡ read
+    → Tells lines ((in_book_range read >>= λ said. Ok (Some said, rest)) >>= answer)
+book_case lines rest line walked is answer more None e =
+    (12, refl, walked.good, (book, line, is, next 12 lines rest line walked, λ h. none-some _ (sym e ∙ h.1)))
+book_case lines rest line walked is answer more (Some said) e =
+    let here = next 12 lines rest line walked in
+    book_judged lines rest line said walked is here e answer (more said e) (nat_le said.size most_book_size) refl
+
+-- line 13, if it is there, says a book
+abbrev MaySayBook : List (List ℕ) → Type 0
+MaySayBook lines = IfSome (slice_get lines 12) (λ line. IsSome (book_after line))
+
+-- line 13: it is left out, or as above
+book_step : (lines rest : List (List ℕ)) → Passed 12 lines rest → (answer : Step (Option BookLine))
+    → ((said : Option BookLine) (after : List (List ℕ)) → MaySayBook lines → SaysBook lines said
+    → Passed 13 lines after → Tells lines (answer (said, after)))
+    → Tells lines (book_at rest >>= answer)
+unfolding book_on forms
+book_step lines [] passed answer more =
     let all = passed_all 12 lines (omega arith) passed in
+    let count = (over all.0 lines all.3).0 in
+    let none = slice_get_past lines 12 (omega (arith, count, all.2)) in
+    more None [] (rw none tt) (record { is = rw none refl; range = tt })
+    (inr (all.0, all.1, omega (arith, all.2), all.3, refl))
+book_step lines (line ∷ rest) (inl walked) answer more =
+    let here = next 12 lines rest line walked in
+    book_case lines rest line walked refl answer
+    (λ said e inside after. more (Some said) rest (rw (here, e) refl) (record { is = rw here e; range = inside })
+    (inl after)) (book_after line) refl
+book_step lines (line ∷ rest) (inr (k, eight, below, walked, e)) answer more = absurd cc
+
+-- the PIDs are equal, or all is good
+pids : (lines : List (List ℕ)) (said : SiteFields × Option BookLine) → 8 ≤ length lines
+    → AreGood (length lines) lines → number_on emm_line (slice_get lines 3) ≡ Some said.0.emm
+    → number_on ecm_line (slice_get lines 4) ≡ Some said.0.ecm
+    → ((said.0.emm ≡ said.0.ecm → ⊥) → Tells lines (Ok said))
+    → (same : Bool) → eqb said.0.emm said.0.ecm ≡ same → Tells lines (cond same (Err SamePid) (Ok said))
+pids lines said least good emm ecm more true e = (least, good, emm ∙ ap Some (eqb-true _ _ e) ∙ sym ecm)
+pids lines said least good emm ecm more false e = more (eqb-false _ _ e)
+
+-- after thirteen good lines none is to be, and the PIDs are to differ
+whole_case : (lines rest : List (List ℕ)) (said : SiteFields × Option BookLine) → Passed 13 lines rest
+    → number_on emm_line (slice_get lines 3) ≡ Some said.0.emm
+    → number_on ecm_line (slice_get lines 4) ≡ Some said.0.ecm
+    → (8 ≤ length lines → length lines ≤ 13 → (said.0.emm ≡ said.0.ecm → ⊥) → Tells lines (Ok said))
+    → Tells lines (judged_whole rest said)
+whole_case lines (line ∷ rest) said (inl walked) emm ecm more = (refl, omega (arith, walked.count), walked.good)
+whole_case lines (line ∷ rest) said (inr (k, eight, below, walked, e)) emm ecm more = absurd cc
+whole_case lines [] said passed emm ecm more =
+    let all = passed_all 13 lines (omega arith) passed in
     let h = over all.0 lines all.3 in
     let least : 8 ≤ length lines = omega (arith, h.0, all.1) in
-    let most : length lines ≤ 12 = omega (arith, h.0, all.2) in
-    pids lines site least h.1 emm ecm (more least most) (eqb site.emm site.ecm) refl
+    let most : length lines ≤ 13 = omega (arith, h.0, all.2) in
+    pids lines said least h.1 emm ecm (more least most) (eqb said.0.emm said.0.ecm) refl
 
 -- the lines are what the answer says
-pub lines_told : (lines : List (List ℕ)) → Tells lines (site_on lines)
-unfolding site_on forms
+pub lines_told : (lines : List (List ℕ)) → Tells lines (said_on lines)
+unfolding said_on forms
 lines_told lines =
     let start : Walked 0 lines lines = record {
       after = λ j. (let e : 0 + j ≡ j = omega arith in rw e refl);
@@ -266,7 +328,8 @@ lines_told lines =
     number_step 6 cryptos_line lines rest6 (omega arith) walked6 refl _ (λ cryptos rest7 cryptos_is cryptos_in walked7.
     number_step 7 span_line lines rest7 (omega arith) walked7 refl _ (λ span rest8 span_is span_in walked8.
     optional_steps lines rest8 walked8 _ (λ optional rest12 says passed12.
-    whole_case lines rest12 _ passed12 emm_is ecm_is (λ least most apart. (
+    book_step lines rest12 passed12 _ (λ said rest13 may_say says_book passed13.
+    whole_case lines rest13 _ passed13 emm_is ecm_is (λ least most apart. (
       record {
         least = least;
         most = most;
@@ -282,6 +345,7 @@ lines_told lines =
         first_word = says.first_word;
         last_word = says.last_word;
         first_period = says.first_period;
+        book = may_say;
       },
       record {
         height = height_in;
@@ -296,4 +360,5 @@ lines_told lines =
         last_word = says.last_word_in;
         first_period = says.first_period_in;
       },
-    )))))))))))
+      says_book,
+    ))))))))))))

@@ -2,6 +2,8 @@ pub mod Forms
 pub mod SiteFields
 pub mod Text
 pub mod SiteFaults
+pub mod Written
+pub mod Chain
 pub mod CardFields
 pub mod CardFaults
 pub mod Hanging

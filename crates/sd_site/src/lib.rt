@@ -2,9 +2,11 @@
 //! the keys that this leads to, and the file that keeps it. A layer card (`sd_lsd`) keeps its secrets by the same code.
 #![tactic(auto)]
 
+mod book_line;
 mod card;
 mod card_fault;
 mod card_read;
+mod chain;
 mod count;
 mod file;
 mod format;
@@ -12,6 +14,7 @@ mod hanging;
 mod key;
 mod labels;
 mod make;
+mod newest;
 mod optional;
 mod place;
 mod secret_key;
@@ -19,8 +22,10 @@ mod site;
 mod site_fault;
 mod site_name;
 mod site_read;
+mod site_write;
 mod write;
 
+pub use book_line::{BookLine, MOST_BOOK_SIZE};
 pub use card::Card;
 pub use card_fault::CardFault;
 pub use file::{
@@ -28,9 +33,10 @@ pub use file::{
 };
 pub use hanging::hanging_above;
 pub use labels::push_labels;
+pub use newest::read_newest;
 pub use secret_key::key_below;
 pub use site::{
     MOST_CRYPTOS, MOST_EVERY, MOST_FIRST_PERIOD, MOST_MESSAGES, MOST_SPAN, MOST_WORD, Site,
 };
 pub use site_fault::SiteFault;
-pub use site_read::read;
+pub use site_read::{read, read_with_book};

@@ -7,7 +7,7 @@ pub enum SiteFault {
     Range(u32),
     /// All lines are good, and the two PIDs are equal.
     SamePid,
-    /// A line stands after twelve good ones.
+    /// A line stands after thirteen good ones.
     Extra(u32),
     /// All lines that are there are good, and there are fewer than eight.
     Short,

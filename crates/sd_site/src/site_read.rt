@@ -7,16 +7,22 @@ ghost use Rattle.sd_site.specs.Forms.{IsWithin, height_line, master_line, ca_lin
 ghost use Rattle.sd_site.specs.Forms.{every_line, cryptos_line, span_line, messages_line};
 ghost use Rattle.sd_site.specs.SiteFaults.{IsCauseOf};
 ghost use Rattle.sd_site.specs.Text.{IsSite, site_of, ◌>>=◌ as ◌>>>◌, number_at, optional_at, optional_on, bytes_at};
+ghost use Rattle.sd_site.specs.Text.{book_at, book_line_of, in_book_range, said_on};
+ghost use Rattle.sd_site.specs.Forms.{book_after};
 
+use crate::book_line::{BookLine, MOST_BOOK_SIZE};
 use crate::optional::Optional;
 use crate::site::{
     MOST_CRYPTOS, MOST_EVERY, MOST_FIRST_PERIOD, MOST_MESSAGES, MOST_SPAN, MOST_WORD, Site,
 };
 use crate::site_fault::SiteFault;
 use hex::FromHex;
-use sd_base::{NumberFault, next_line, number_after};
+use sd_base::{NumberFault, cut_at_space, next_line, number_after};
 use sd_packet::{HIGHEST_POSITIONAL, LOWEST_POSITIONAL};
 use sd_tree::{HIGHEST, Height};
+
+// The number of the line that says the site's book, which is the last.
+const BOOK_LINE: u32 = 13;
 
 // The number on line k, which is the first of these bytes, and the bytes after the line.
 fn number_line<'a>(
@@ -162,6 +168,35 @@ fn tree_lines(bytes: &[u8]) -> Result<(u8, [u8; 32], u16, &[u8]), SiteFault>
     Ok((height as u8, master, u16::from_be_bytes(ca), rest))
 }
 
+// What line 13 says.
+#[tactic(auto, using(crate::proofs::Digits::bytes_of_digits), unfolding(crate::specs::Forms::book_after, sd_base::specs::Number::rest_after))]
+fn book_line(line: &[u8]) -> Result<BookLine, SiteFault>
+    ensures { result ≡ in_book_range (book_after line.now) }
+{
+    let text = line
+        .strip_prefix(b"book ")
+        .ok_or(SiteFault::Line(BOOK_LINE))?;
+    let (size, digits) = cut_at_space(text).ok_or(SiteFault::Line(BOOK_LINE))?;
+    let digest = <[u8; 32] as FromHex>::from_hex(digits).map_err(|_| SiteFault::Line(BOOK_LINE))?;
+    match number_after(b"", size) {
+        Ok(size) if size <= MOST_BOOK_SIZE => Ok(BookLine { size, digest }),
+        Ok(_) | Err(NumberFault::TooLarge) => Err(SiteFault::Range(BOOK_LINE)),
+        Err(NumberFault::Malformed) => Err(SiteFault::Line(BOOK_LINE)),
+    }
+}
+
+// What line 13 says, if it is there, and the bytes after it.
+fn optional_book(bytes: &[u8]) -> Result<(Option<BookLine>, &[u8]), SiteFault>
+    ensures { MatchResult result
+        (λ cut. book_at (lines_of bytes.now) ≡ Ok (cut.0, lines_of cut.1.now))
+        (λ fault. book_at (lines_of bytes.now) ≡ Err fault) }
+{
+    let Some((line, rest)) = next_line(bytes) else {
+        return Ok((None, bytes));
+    };
+    Ok((Some(book_line(line)?), rest))
+}
+
 /// The site that a file's bytes say. Nothing is allocated.
 pub fn read(bytes: &[u8]) -> Result<Site, SiteFault>
     // What is read is a site file that says this.
@@ -179,23 +214,43 @@ pub fn read(bytes: &[u8]) -> Result<Site, SiteFault>
 }
 
 // The other clauses of `read` follow from this one.
-#[tactic(auto, unfolding(crate::specs::Text::site_on))]
 fn judge(bytes: &[u8]) -> Result<Site, SiteFault>
     ensures { MatchResult result
         (λ site. site_of bytes.now ≡ Ok (fields_of site)) (λ fault. site_of bytes.now ≡ Err fault) }
+{
+    let (site, _) = read_with_book(bytes)?;
+    Ok(site)
+}
+
+/// The site that a file's bytes say, and what line 13 says of its book, if it is there.
+pub fn read_with_book(bytes: &[u8]) -> Result<(Site, Option<BookLine>), SiteFault>
+    ensures value { MatchResult result
+        (λ said. (site_of bytes.now ≡ Ok (fields_of said.0)) × (book_line_of bytes.now ≡ said.1))
+        (λ fault. site_of bytes.now ≡ Err fault) }
+{
+    judge_lines(bytes)
+}
+
+// The clause of `read_with_book` follows from this one.
+#[tactic(auto, unfolding(crate::specs::Text::said_on))]
+fn judge_lines(bytes: &[u8]) -> Result<(Site, Option<BookLine>), SiteFault>
+    ensures { MatchResult result
+        (λ said. said_on (lines_of bytes.now) ≡ Ok (fields_of said.0, said.1))
+        (λ fault. said_on (lines_of bytes.now) ≡ Err fault) }
 {
     let (height, master, ca, rest) = tree_lines(bytes)?;
     let height = Height::new(height).ok_or(SiteFault::Range(1))?;
     let (emm, ecm, rest) = pid_lines(rest)?;
     let (every, cryptos, span, rest) = schedule_lines(rest)?;
     let (optional, rest) = optional_lines(rest)?;
+    let (book, rest) = optional_book(rest)?;
     if next_line(rest).is_some() {
-        return Err(SiteFault::Extra(13));
+        return Err(SiteFault::Extra(BOOK_LINE + 1));
     }
     if emm == ecm {
         return Err(SiteFault::SamePid);
     }
-    Ok(Site {
+    let site = Site {
         height,
         master,
         ca,
@@ -208,5 +263,6 @@ fn judge(bytes: &[u8]) -> Result<Site, SiteFault>
         first_word: optional.first_word,
         last_word: optional.last_word,
         first_period: optional.first_period,
-    })
+    };
+    Ok((site, book))
 }
