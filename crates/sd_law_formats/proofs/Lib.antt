@@ -1,2 +1,5 @@
 pub mod SharedParts
 pub mod SharedSections
+mod WrittenSites
+mod ShortSites
+mod TornSites

@@ -1,10 +1,30 @@
-//! The greatest length of a site file, for crates that read a limited number of bytes of it.
+//! Site files: what is written is read, what is torn is not, and how long they are.
 
-ghost use Rattle.std.specs.Prelude.{ℕ, ◌≤◌, List, length};
+ghost use Rattle.std.specs.Prelude.{◌≡◌, ◌≢◌, ℕ, ◌≤◌, List, length, Bool, Option, Some, Ok};
+ghost use Rattle.sd_ports.specs.Bytes.{IsPrefix};
 ghost use Rattle.sd_site.specs.SiteFields.{SiteFields};
 ghost use Rattle.sd_site.specs.Text.{IsSite};
+ghost use Rattle.sd_site.specs.Written.{IsSayable, is_first, newest_of, site_text};
+ghost use Rattle.sd_site.specs.declared.book_line.BookLine.{BookLine};
 
-/// A site file has at most 238 bytes.
+/// A site file has at most 317 bytes.
 pub fn sites_are_short()
-    ensures { (bytes : List ℕ) (site : SiteFields) → IsSite bytes site → length bytes ≤ 238 }
+    ensures { (bytes : List ℕ) (site : SiteFields) → IsSite bytes site → length bytes ≤ 317 }
+{}
+
+/// A site file that is written is read as the site and the book that it was written from. It has at most 317 bytes.
+#[tactic(auto, using(crate::proofs::WrittenSites::site_read, crate::proofs::ShortSites::short_written))]
+pub fn written_sites_are_read()
+    ensures read { (fewer : List ℕ → SiteFields → Bool) (site : SiteFields) (book : BookLine) → IsSayable site book →
+        newest_of fewer (site_text site book) ≡ Ok (site, Some book) }
+    ensures short { (site : SiteFields) (book : BookLine) → IsSayable site book → length (site_text site book) ≤ 317 }
+{}
+
+/// No next site is made from a torn site file: one that is a proper prefix of what was written for a site with control
+/// words. It isn't whole, and isn't a first site either.
+#[tactic(auto, using(crate::proofs::TornSites::torn_sites))]
+pub fn torn_sites_are_short()
+    ensures { (site : SiteFields) (book : BookLine) (torn : List ℕ) (other : SiteFields × Option BookLine) →
+        IsSayable site book → site.first_word ≤ site.last_word → IsPrefix torn (site_text site book) →
+        torn ≢ site_text site book → newest_of is_first torn ≡ Ok other → ⊥ }
 {}
