@@ -8,6 +8,7 @@ pub mod Texts
 pub mod Places
 pub mod Looked
 pub mod Making
+pub mod News
 pub mod Turning
 pub mod Thirds
 pub mod Streamed

@@ -10,18 +10,13 @@ use Rattle.sd_ports.specs.declared.file.FileFault.TheVariants as file
 use Rattle.sd_command_base.specs.declared.status.Status.{Status}
 use Rattle.sd_command_base.specs.Outside.{DepotState, PageState, Outside, outside}
 use Rattle.sd_command_base.specs.Spec.{FileArgument, value}
-use Rattle.sd_command_base.specs.Work.{StepBound, Uncounted, Out}
+use Rattle.sd_command_base.specs.Work.{StepBound, Uncounted}
 use Rattle.sd_command_base.specs.Outcome.{Progress, untouched, writing, Outcome, ended, exhausted, failed, nowhere}
 use Rattle.sd_command_base.specs.Outcome.{OutcomeWithin}
 use Rattle.sd_command_base.specs.Outcome.{status_of}
 use Rattle.sd_command_base.proofs.Firsts.{takes_none}
 use Rattle.sd_command_base.proofs.Moves.{comes_moved}
-use Rattle.sd_command_base.specs.Made.{making}
-use Rattle.sd_command_base.specs.Made.{making_told}
-
--- the file of a word, with these bytes
-abbrev out_of : FileArgument → List ℕ → Out
-out_of word bytes = record { word = word.number; name = word.text; bytes = bytes }
+use Rattle.sd_command_base.specs.Made.{out_of, making, making_told}
 
 stands_short : (most : StepBound) (word : FileArgument) (bytes : List ℕ) (a b : DepotState) (page : PageState)
     (steps : ℕ) →

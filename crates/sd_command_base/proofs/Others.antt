@@ -1,21 +1,25 @@
 -- Files that are read never answer `Usage`.
 use Rattle.std.proofs.Common.{◌≢◌, ℕ, Bool, true, false, cond, List, length, Option, Some, None, Result, Ok, Err}
-use Rattle.std.specs.Prelude.{nat_lt, IfErr}
+use Rattle.std.specs.Prelude.{nat_lt, if◌then◌else◌, IfErr}
 use Rattle.sd_site.specs.SiteFields.{SiteFields}
 use Rattle.sd_site.specs.Text.{site_of}
 use Rattle.sd_site.specs.declared.site_fault.SiteFault.{SiteFault}
+use Rattle.sd_site.specs.declared.book_line.BookLine.{BookLine}
 use Rattle.sd_book.specs.declared.command.Command.{Command}
 use Rattle.sd_book.specs.declared.fault.BookFault.{BookFault}
 use Rattle.sd_book.specs.declared.fault.BookFault.TheVariants as book
 use Rattle.sd_book.specs.Text.{book_of}
 use Rattle.sd_command_base.specs.declared.status.Status.{Status}
-use Rattle.sd_command_base.specs.declared.status.Status.TheVariants.{Usage, Limit}
+use Rattle.sd_command_base.specs.declared.status.Status.TheVariants.{Usage, BadBook, Limit, OtherBook}
 use Rattle.sd_command_base.specs.declared.status.LimitKind.{LimitKind}
 use Rattle.sd_command_base.specs.declared.status.LimitKind.TheVariants.{SiteBytes, BookBytes}
-use Rattle.sd_command_base.specs.Spec.{Spec, and_then, all_of, judged, value, within, ◌>>=◌}
+use Rattle.sd_command_base.specs.Spec.{Spec, FileArgument, and_then, all_of, judged, value, within, ◌>>=◌}
 use Rattle.sd_command_base.specs.Both.{both_by}
 use Rattle.sd_command_base.specs.Files.{told_site, told_book, told_low, site_of_file, book_of_file, low_site_of_file}
-use Rattle.sd_command_base.specs.Files.{most_book_bytes, most_site_bytes}
+use Rattle.sd_command_base.specs.Files.{most_book_bytes, most_site_bytes, BookText, ends_lines, begins_with_book}
+use Rattle.sd_command_base.specs.Files.{is_book, told_own, own_book_of_file, told_whole, told_longer}
+use Rattle.sd_command_base.specs.Files.{longer_book_of_file}
+use Rattle.sd_command_base.specs.Made.{NewFile, making_new}
 use Rattle.sd_command_base.specs.Leaves.{told_leaves, leaves_of_file}
 use Rattle.sd_command_base.specs.Text.{leaves_of_text}
 
@@ -99,3 +103,46 @@ other_leaves_file word d got =
     other_after (within word most_book_bytes BookBytes got).calls (within word most_book_bytes BookBytes got).result
     (λ bytes. judged (told_leaves word (leaves_of_text d bytes))) (other_file word most_book_bytes BookBytes got)
     (λ bytes. other_leaves word (leaves_of_text d bytes))
+
+other_own : (own : Bool) (told : Result (List Command) Status) → IsOther told →
+    IsOther (if own then told else Err OtherBook)
+other_own true told h = h
+other_own false told h = λ e. cc
+
+pub other_own_book_file : (word d : ℕ) (line : Option BookLine) (got : Option (List ℕ)) →
+    IsOther (own_book_of_file word d line got).result
+unfolding own_book_of_file
+other_own_book_file word d line got =
+    other_after (within word most_book_bytes BookBytes got).calls (within word most_book_bytes BookBytes got).result
+    (λ bytes. judged (told_own word d line bytes)) (other_file word most_book_bytes BookBytes got)
+    (λ bytes. other_own (is_book line bytes) (told_book word (book_of d bytes)) (other_book word (book_of d bytes)))
+
+other_ended : (ends : Bool) (word : ℕ) (bytes : List ℕ) (commands : List Command) →
+    IsOther {A = BookText} (if ends then Ok (record { bytes = bytes; commands = commands })
+    else Err (BadBook word (length commands)))
+other_ended true word bytes commands = tt
+other_ended false word bytes commands = λ e. cc
+
+other_whole : (word : ℕ) (bytes : List ℕ) (told : Result (List Command) Status) → IsOther told →
+    IsOther (told_whole word bytes told)
+other_whole word bytes (Ok commands) h = other_ended (ends_lines bytes) word bytes commands
+other_whole word bytes (Err status) h = h
+
+other_longer : (begins : Bool) (told : Result BookText Status) → IsOther told →
+    IsOther (if begins then told else Err OtherBook)
+other_longer true told h = h
+other_longer false told h = λ e. cc
+
+pub other_longer_book_file : (word d : ℕ) (line : Option BookLine) (got : Option (List ℕ)) →
+    IsOther (longer_book_of_file word d line got).result
+unfolding longer_book_of_file
+other_longer_book_file word d line got =
+    other_after (within word most_book_bytes BookBytes got).calls (within word most_book_bytes BookBytes got).result
+    (λ bytes. judged (told_longer word d line bytes)) (other_file word most_book_bytes BookBytes got)
+    (λ bytes. other_longer (begins_with_book line bytes) (told_whole word bytes (told_book word (book_of d bytes)))
+    (other_whole word bytes (told_book word (book_of d bytes)) (other_book word (book_of d bytes))))
+
+-- no file that must be new answers it
+pub other_new : (made : NewFile) (out : FileArgument) (got : Option (List ℕ)) → IsOther (making_new made out got).result
+other_new made out None = tt
+other_new made out (Some bytes) = λ e. cc

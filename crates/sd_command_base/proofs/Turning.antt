@@ -17,7 +17,7 @@ use Rattle.sd_command_base.specs.declared.status.Status.TheVariants.{PrintFault}
 use Rattle.sd_command_base.specs.declared.status.Status.TheVariants.{BadSite, BadBook, BadCard, BadClear, BadStream}
 use Rattle.sd_command_base.specs.declared.status.Status.TheVariants.{Limit}
 use Rattle.sd_command_base.specs.declared.status.Status.TheVariants.{NoMemory, Unheard, Unclosed, Gaps, NoCat}
-use Rattle.sd_command_base.specs.declared.status.Status.TheVariants.{BadWord, Clash}
+use Rattle.sd_command_base.specs.declared.status.Status.TheVariants.{BadWord, Clash, BadOut, OtherBook}
 use Rattle.sd_command_base.specs.Outside.{DepotState, PageState, Outside, outside}
 use Rattle.sd_command_base.specs.Spec.{Spec, FileArgument, IsGot, all_of, value, ◌>>=◌}
 use Rattle.sd_command_base.specs.Work.{StepBound, Work, TakesSteps}
@@ -141,6 +141,8 @@ by_break (Gaps packets) = inr (inr (refl, refl, λ e. cc))
 by_break NoCat = inr (inr (refl, refl, λ e. cc))
 by_break (BadWord word) = inr (inr (refl, refl, λ e. cc))
 by_break (Clash clash) = inr (inr (refl, refl, λ e. cc))
+by_break (BadOut word cause) = inr (inr (refl, refl, λ e. cc))
+by_break OtherBook = inr (inr (refl, refl, λ e. cc))
 
 no_break : (s : Status) → (s ≡ NoMemory) ⊎ (s ≡ DepotFault) → is_break s ≡ true → ⊥
 no_break s (inl is) breaks = let same : is_break NoMemory ≡ true = ap is_break (sym is) ∙ breaks in absurd (cc)

@@ -1,5 +1,8 @@
 -- Public meaning: what the files say that several commands read [this project, docs/FORMATS.md, Site and Book].
-use Rattle.std.specs.Prelude.{ℕ, nat_lt, if◌then◌else◌, List, Option, Some, None, Result, Ok, Err}
+use Rattle.std.specs.Prelude.{ℕ, ◌-◌, nat_lt, nat_le, ◌==◌, ◌&&◌, ◌||◌, if◌then◌else◌, Bool, true, bytes_eq, List}
+use Rattle.std.specs.Prelude.{length, take, get_or, Option, Some, None, Result, Ok, Err}
+use Rattle.sha2.specs.Sha256.{sha256}
+use Rattle.sd_site.specs.declared.book_line.BookLine.{BookLine}
 use Rattle.sd_site.specs.SiteFields.{SiteFields}
 use Rattle.sd_site.specs.Text.{site_of}
 use Rattle.sd_site.specs.declared.site_fault.SiteFault.{SiteFault}
@@ -11,6 +14,7 @@ use Rattle.sd_site.specs.declared.card_fault.CardFault.{CardFault}
 use Rattle.sd_site.specs.declared.card_fault.CardFault.TheVariants as card
 use Rattle.sd_command_base.specs.declared.status.Status.{Status}
 use Rattle.sd_command_base.specs.declared.status.Status.TheVariants.{BadSite, BadBook, BadCard, Limit, NoMemory}
+use Rattle.sd_command_base.specs.declared.status.Status.TheVariants.{OtherBook}
 use Rattle.sd_command_base.specs.declared.status.LimitKind.{LimitKind}
 use Rattle.sd_command_base.specs.declared.status.LimitKind.TheVariants.{SiteBytes, BookBytes, Book}
 use Rattle.sd_command_base.specs.Spec.{Spec, FileArgument, Readings, within, judged, ◌>>=◌}
@@ -75,3 +79,52 @@ book_of_file word d got =
 
 abbrev pub book_in : Readings → ℕ → FileArgument → Spec (List Command)
 book_in given d word = book_of_file word.number d (given word)
+
+-- the bytes are whole lines: there is none, or the last one is a line feed
+abbrev pub ends_lines : List ℕ → Bool
+ends_lines bytes = nat_le (length bytes) 0 || (get_or bytes (length bytes - 1) 0 == 10)
+
+-- the bytes begin with the book of a site's line 13, which is whole lines; if the site has no line 13, they may be any
+-- [this project, docs/FORMATS.md, Chains of sites]
+abbrev pub begins_with_book : Option BookLine → List ℕ → Bool
+begins_with_book None bytes = true
+begins_with_book (Some line) bytes =
+    nat_le line.size (length bytes)
+    && (ends_lines (take line.size bytes) && bytes_eq (sha256 (take line.size bytes)) line.digest)
+
+-- the bytes are the book of a site's line 13; if the site has no line 13, they may be any
+abbrev pub is_book : Option BookLine → List ℕ → Bool
+is_book None bytes = true
+is_book (Some line) bytes = (length bytes == line.size) && bytes_eq (sha256 bytes) line.digest
+
+-- the commands of a book that must be that of the site's line 13
+abbrev pub told_own : ℕ → ℕ → Option BookLine → List ℕ → Result (List Command) Status
+told_own word d line bytes = if is_book line bytes then told_book word (book_of d bytes) else Err OtherBook
+
+-- the book, for a tree of height d, that the file of this word gave, if it is that of the site's line 13
+unfoldable pub own_book_of_file : ℕ → ℕ → Option BookLine → Option (List ℕ) → Spec (List Command)
+own_book_of_file word d line got =
+    within word most_book_bytes BookBytes got >>= λ bytes. judged (told_own word d line bytes)
+
+-- the bytes of a book's file, and the commands that they say
+pub record BookText : Type 0 where
+  pub bytes : List ℕ
+  pub commands : List Command
+
+-- a book's file, if it is whole lines; else its last line is refused, each line being a command
+abbrev pub told_whole : ℕ → List ℕ → Result (List Command) Status → Result BookText Status
+told_whole word bytes (Err status) = Err status
+told_whole word bytes (Ok commands) =
+    if ends_lines bytes then Ok (record { bytes = bytes; commands = commands })
+    else Err (BadBook word (length commands))
+
+-- a book's file that must begin with the book of the site's line 13, and be whole lines
+abbrev pub told_longer : ℕ → ℕ → Option BookLine → List ℕ → Result BookText Status
+told_longer word d line bytes =
+    if begins_with_book line bytes then told_whole word bytes (told_book word (book_of d bytes)) else Err OtherBook
+
+-- the book's file, for a tree of height d, that the file of this word gave, if it begins with the book of the site's
+-- line 13 and is whole lines
+unfoldable pub longer_book_of_file : ℕ → ℕ → Option BookLine → Option (List ℕ) → Spec BookText
+longer_book_of_file word d line got =
+    within word most_book_bytes BookBytes got >>= λ bytes. judged (told_longer word d line bytes)

@@ -11,7 +11,7 @@ use Rattle.sd_command_base.specs.declared.status.Status.TheVariants.{PrintFault}
 use Rattle.sd_command_base.specs.declared.status.Status.TheVariants.{BadSite, BadBook, BadCard, BadClear, BadStream}
 use Rattle.sd_command_base.specs.declared.status.Status.TheVariants.{Limit}
 use Rattle.sd_command_base.specs.declared.status.Status.TheVariants.{NoMemory, Unheard, Unclosed, Gaps, NoCat}
-use Rattle.sd_command_base.specs.declared.status.Status.TheVariants.{BadWord, Clash}
+use Rattle.sd_command_base.specs.declared.status.Status.TheVariants.{BadWord, Clash, BadOut, OtherBook}
 use Rattle.sd_command_base.specs.Outside.{DepotState, PageState, Outside}
 use Rattle.sd_command_base.specs.Spec.{Spec, Readings, IsGiven}
 use Rattle.sd_command_base.specs.Work.{Out, Work, files_with, made_with, all_calls, TakesSteps}
@@ -37,6 +37,8 @@ IsRefusal (Gaps packets) = ⊥
 IsRefusal NoCat = ⊥
 IsRefusal (BadWord word) = Unit {0}
 IsRefusal (Clash clash) = Unit {0}
+IsRefusal (BadOut word cause) = Unit {0}
+IsRefusal OtherBook = Unit {0}
 
 -- the status may stand at the end of work
 abbrev pub IsEnding : Status → Type 0
@@ -59,6 +61,8 @@ IsEnding (Gaps packets) = Unit {0}
 IsEnding NoCat = Unit {0}
 IsEnding (BadWord word) = Unit {0}
 IsEnding (Clash clash) = Unit {0}
+IsEnding (BadOut word cause) = Unit {0}
+IsEnding OtherBook = Unit {0}
 
 -- no I/O error occurred
 pub record IsFaultless (a b : Outside) : Type 0 where

@@ -9,7 +9,7 @@ use Rattle.sd_command_base.specs.declared.status.Status.TheVariants.{PrintFault}
 use Rattle.sd_command_base.specs.declared.status.Status.TheVariants.{BadSite, BadBook, BadCard, BadClear, BadStream}
 use Rattle.sd_command_base.specs.declared.status.Status.TheVariants.{Limit}
 use Rattle.sd_command_base.specs.declared.status.Status.TheVariants.{NoMemory, Unheard, Unclosed, Gaps, NoCat}
-use Rattle.sd_command_base.specs.declared.status.Status.TheVariants.{BadWord, Clash}
+use Rattle.sd_command_base.specs.declared.status.Status.TheVariants.{BadWord, Clash, BadOut, OtherBook}
 use Rattle.sd_command_base.specs.Texts.{line_of}
 use Rattle.sd_command_base.specs.Outside.{PageState, Outside}
 use Rattle.sd_command_base.specs.Spec.{Spec, Readings}
@@ -37,6 +37,8 @@ TakesMemory (Gaps packets) = Unit {0}
 TakesMemory NoCat = ⊥
 TakesMemory (BadWord word) = Unit {0}
 TakesMemory (Clash clash) = Unit {0}
+TakesMemory (BadOut word cause) = Unit {0}
+TakesMemory OtherBook = ⊥
 
 -- the line of a status was printed and is answered, or printing failed at it
 abbrev pub PrintsLine : PageState → PageState → Status → Status → Type 0

@@ -28,7 +28,7 @@ use Rattle.sd_command_base.specs.declared.status.Status.TheVariants.{PrintFault}
 use Rattle.sd_command_base.specs.declared.status.Status.TheVariants.{BadSite, BadBook, BadCard, BadClear, BadStream}
 use Rattle.sd_command_base.specs.declared.status.Status.TheVariants.{Limit, NoMemory, Unheard, Unclosed, Gaps, NoCat}
 use Rattle.sd_command_base.specs.declared.status.Status.TheVariants.{BadWord}
-use Rattle.sd_command_base.specs.declared.status.Status.TheVariants.{Clash}
+use Rattle.sd_command_base.specs.declared.status.Status.TheVariants.{Clash, BadOut, OtherBook}
 use Rattle.sd_command_base.specs.declared.status.LimitKind.{LimitKind}
 use Rattle.sd_command_base.specs.declared.status.LimitKind.TheVariants.{SiteBytes, BookBytes, CardBytes, Book}
 use Rattle.sd_command_base.specs.declared.status.LimitKind.TheVariants.{TrialHeight}
@@ -37,6 +37,8 @@ use Rattle.sd_command_base.specs.declared.status.LimitKind.TheVariants.{FieldPac
 use Rattle.sd_command_base.specs.declared.status.LimitKind.TheVariants.{FieldEvents}
 use Rattle.sd_command_base.specs.declared.status.Clash.{Clash as ClashKind}
 use Rattle.sd_command_base.specs.declared.status.Clash.TheVariants.{Heights, Masters, NoWords, SharedWord, Books}
+use Rattle.sd_command_base.specs.declared.status.OutCause.{OutCause}
+use Rattle.sd_command_base.specs.declared.status.OutCause.TheVariants.{There, Name}
 use Rattle.sd_command_base.specs.declared.stream_refusal.StreamRefusal.{StreamRefusal}
 use Rattle.sd_command_base.specs.declared.stream_refusal.StreamRefusal.TheVariants as refusal
 
@@ -186,6 +188,11 @@ clash_line (Books leaf period) =
     codes "books disagree on receiver "
     ++ (decimal leaf ++ (codes " in period " ++ (decimal period ++ codes "\n")))
 
+-- the line of a file that must not be OUT
+unfoldable pub out_line : ℕ → OutCause → List ℕ
+out_line word There = codes "file word " ++ (decimal word ++ codes " is there\n")
+out_line word Name = codes "file word " ++ (decimal word ++ codes " does not follow file word 1\n")
+
 -- the line that a status prints; none where the work is done, or where printing failed
 unfoldable pub line_of : Status → List ℕ
 line_of Done = []
@@ -207,3 +214,5 @@ line_of (Gaps packets) = gaps_line packets
 line_of NoCat = codes "no CAT for this card\n"
 line_of (BadWord word) = word_line word
 line_of (Clash clash) = clash_line clash
+line_of (BadOut word cause) = out_line word cause
+line_of OtherBook = codes "book is not that of the site\n"

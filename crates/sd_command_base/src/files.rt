@@ -12,7 +12,7 @@ use crate::word::Word;
 use crate::{LimitKind, Status};
 use sd_book::{Book, BookFault};
 use sd_ports::{Depot, FileFault, read_file};
-use sd_site::{CardFault, Site};
+use sd_site::{CardFault, MOST_BOOK_SIZE, Site};
 use sd_tree::Height;
 use std::alloc::Global;
 
@@ -20,7 +20,7 @@ use std::alloc::Global;
 pub const MOST_SITE_BYTES: usize = 4_096;
 
 /// As many bytes as a book file may have.
-pub const MOST_BOOK_BYTES: usize = 33_554_432;
+pub const MOST_BOOK_BYTES: usize = MOST_BOOK_SIZE as usize;
 
 /// As many bytes as a card's file may have.
 pub const MOST_CARD_BYTES: usize = 8_192;
@@ -87,7 +87,7 @@ pub fn read_book<D: Depot>(
 }
 
 /// The book that the bytes of this word's file say.
-fn judge_book(alloc: Global, word: u8, bytes: &[u8], h: Height) -> Result<Book, Status>
+pub(crate) fn judge_book(alloc: Global, word: u8, bytes: &[u8], h: Height) -> Result<Book, Status>
     ensures value { JudgedOutcome (λ book. book.commands) (told_book word (book_of h bytes.now)) result }
     ensures height { IfOk result (λ book. book.height ≡ h) }
 {

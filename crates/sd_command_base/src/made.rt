@@ -1,14 +1,14 @@
-ghost use Rattle.std.specs.Prelude.{◌≡◌, ℕ, IsErrOf};
+ghost use Rattle.std.specs.Prelude.{◌≡◌, ℕ, List, IsErrOf};
 ghost use Rattle.sd_command_base.specs.Outside.{PageState, depot_state, outside};
 ghost use Rattle.sd_command_base.specs.Spec.{value};
 ghost use Rattle.sd_command_base.specs.Work.{StepBound};
 ghost use Rattle.sd_command_base.specs.Outcome.{OutcomeWithin, status_of};
-ghost use Rattle.sd_command_base.specs.Made.{making, making_told};
+ghost use Rattle.sd_command_base.specs.Made.{NewStep, making, making_told, new_told};
 ghost use Rattle.sd_command_base.specs.Shown.{shown_word};
 
-use crate::Status;
 use crate::word::Word;
-use sd_ports::{Depot, FileFault, write_file};
+use crate::{OutCause, Status};
+use sd_ports::{Depot, FileFault, New, write_file, write_new};
 use std::alloc::Global;
 
 /// Makes the file that a word names, with these bytes.
@@ -33,6 +33,40 @@ pub fn told(word: u8, written: Result<(), FileFault>) -> Result<(), Status>
 {
     match written {
         Ok(()) => Ok(()),
+        Err(FileFault::Missing) => Err(Status::Missing(word)),
+        Err(FileFault::Failed) => Err(Status::DepotFault),
+        Err(FileFault::NoMemory) => Err(Status::NoMemory),
+        Err(FileFault::TooBig) => unreachable!(),
+    }
+}
+
+/// Makes the file that a word names, with these bytes, if nothing has its name. What is printed after it is the
+/// caller's.
+pub fn make_new<D: Depot>(
+    alloc: Global,
+    depot: &mut D,
+    word: Word<'_>,
+    bytes: &[u8],
+) -> Result<(), Status>
+    ensures { (pieces : List (List ℕ)) (page : PageState) (steps : ℕ) →
+        NewStep (record { bytes = bytes.now; pieces = pieces }) (shown_word word.entry)
+        (outside (depot_state D.Depot depot.old) page steps) (outside (depot_state D.Depot depot.new) page steps)
+        result }
+{
+    told_new(word.number, write_new(alloc, depot, word.text, bytes))
+}
+
+/// What is answered once the file of this word was to be made new.
+fn told_new(word: u8, written: Result<New, FileFault>) -> Result<(), Status>
+    requires { ¬ IsErrOf written FileFault.TooBig }
+    ensures { result ≡ new_told word written }
+{
+    match written {
+        Ok(New::Made) => Ok(()),
+        Ok(New::There) => Err(Status::BadOut {
+            word,
+            cause: OutCause::There,
+        }),
         Err(FileFault::Missing) => Err(Status::Missing(word)),
         Err(FileFault::Failed) => Err(Status::DepotFault),
         Err(FileFault::NoMemory) => Err(Status::NoMemory),

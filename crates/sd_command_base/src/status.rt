@@ -52,6 +52,10 @@ pub enum Status {
     BadWord(u8),
     /// Exit 18: two broadcasts must not share one set of cards.
     Clash(Clash),
+    /// Exit 19: this argument must not be OUT. Nothing is made.
+    BadOut { word: u8, cause: OutCause },
+    /// Exit 21: BOOK is not the book of the site's line 13, or does not begin with it.
+    OtherBook,
 }
 
 impl Status {
@@ -79,6 +83,8 @@ impl Status {
             Status::NoCat => 16,
             Status::BadWord(_) => 17,
             Status::Clash(_) => 18,
+            Status::BadOut { .. } => 19,
+            Status::OtherBook => 21,
         }
     }
 }
@@ -122,6 +128,15 @@ pub enum Clash {
     /// In this period, the first of both in which their books disagree, this leaf is the least that one book revokes
     /// and the other doesn't.
     Books { leaf: u32, period: u32 },
+}
+
+/// Why an argument must not be OUT, the site that is made of a site.
+#[derive(Clone, Copy)]
+pub enum OutCause {
+    /// A file, link or folder has its name already.
+    There,
+    /// Its name is not that of SITE with the last number one higher.
+    Name,
 }
 
 impl From<NoMemory> for Status {
