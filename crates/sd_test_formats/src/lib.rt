@@ -22,3 +22,5 @@ mod psi;
 mod section;
 #[cfg(test)]
 mod site;
+#[cfg(test)]
+mod site_chain;

@@ -140,7 +140,7 @@ static BAD: [(usize, usize, &str, SiteFault); 34] = [
         9,
         9,
         "messages 1\nfirst-word 7\nlast-word 9\nfirst-period 1\n",
-        SiteFault::Extra(13),
+        SiteFault::Line(13),
     ),
 ];
 
