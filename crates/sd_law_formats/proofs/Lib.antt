@@ -1,5 +1,6 @@
 pub mod SharedParts
 pub mod SharedSections
-mod WrittenSites
-mod ShortSites
-mod TornSites
+pub mod WrittenSites
+pub mod ShortSites
+pub mod TornSites
+pub mod TornLines

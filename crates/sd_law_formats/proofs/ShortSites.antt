@@ -17,8 +17,12 @@ use Rattle.sd_site.specs.declared.book_line.BookLine.{BookLine}
 long_text : (word text rest : List ℕ) →
     length ((word ++ (text ++ 10 ∷ [])) ++ rest) ≡ length word + length text + 1 + length rest
 long_text word text rest =
-    omega (arith, length-append (word ++ (text ++ 10 ∷ [])) rest, length-append word (text ++ 10 ∷ []),
-    length-append text (10 ∷ []))
+    omega (
+      arith,
+      length-append (word ++ (text ++ 10 ∷ [])) rest,
+      length-append word (text ++ 10 ∷ []),
+      length-append text (10 ∷ []),
+    )
 
 -- the line of a number of at most so many digits before others
 long_number : (form : NumberLine) (n k : ℕ) (rest : List ℕ) → 0 < k → n < 10 ^ k → n < 2 ^ 64 →
@@ -35,10 +39,13 @@ long_bytes form bytes rest =
 -- line 13
 long_book : (book : BookLine) → book.size ≤ 33554432 → length book.digest ≡ 32 → length (book_text book) ≤ 79
 long_book book size digest =
-    omega (arith, length-append (decimal book.size) (32 ∷ (encode_lower book.digest ++ 10 ∷ [])),
-    length-append (encode_lower book.digest) (10 ∷ []), length-encode_with lower_digits book.digest,
-    length-decimal-le 8 book.size (omega arith) (omega arith) (omega arith))
-
+    omega (
+      arith,
+      length-append (decimal book.size) (32 ∷ (encode_lower book.digest ++ 10 ∷ [])),
+      length-append (encode_lower book.digest) (10 ∷ []),
+      length-encode_with lower_digits book.digest,
+      length-decimal-le 8 book.size (omega arith) (omega arith) (omega arith),
+    )
 
 -- a site's file has at most 317 bytes
 pub short_written : (site : SiteFields) (book : BookLine) → IsSayable site book → length (site_text site book) ≤ 317

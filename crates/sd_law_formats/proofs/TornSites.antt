@@ -1,5 +1,6 @@
 -- A site file that is torn makes no site.
-use Rattle.std.proofs.Common.{arith, ◌≡◌, ◌≢◌, ℕ, ◌+◌, ◌<◌, ◌≤◌, ◌==◌, ◌||◌, Bool, true, false, cond, List, [], ◌∷◌, ◌++◌}
+use Rattle.std.proofs.Common.{arith, ◌≡◌, ◌≢◌, ℕ, ◌+◌, ◌<◌, ◌≤◌, ◌==◌, ◌||◌, Bool, true, false, cond, List, [], ◌∷◌}
+use Rattle.std.proofs.Common.{◌++◌}
 use Rattle.std.proofs.Common.{length, take, Option, None, Result, Ok, Err, refl, sym, ap, ◌∙◌, ◌⊎◌, inl, inr}
 use Rattle.std.proofs.lemmas.Bool.{and_parts, eqb-true, ltb-true}
 use Rattle.std.proofs.lemmas.List.{append-nil, take_at, length-append}
@@ -83,8 +84,8 @@ twelve_say site book torn rest is whole twelve =
     rw (lines, lines_said site book [] None is refl) refl
 
 -- a file that is taken is good, and is thirteen lines or a first site's
-taken_parts : (said : Result SiteFields SiteFault) (line : Option BookLine) (fewer : SiteFields → Bool) (thirteen : Bool)
-    (other : SiteFields × Option BookLine) →
+taken_parts : (said : Result SiteFields SiteFault) (line : Option BookLine) (fewer : SiteFields → Bool)
+    (thirteen : Bool) (other : SiteFields × Option BookLine) →
     (said >>= λ site. cond (thirteen || fewer site) (Ok (site, line)) (Err Short)) ≡ Ok other →
     (site : SiteFields) × (said ≡ Ok site) × ((thirteen ≡ true) ⊎ (fewer site ≡ true))
 taken_parts (Err fault) line fewer thirteen other e = absurd cc
@@ -109,8 +110,13 @@ torn_short site book torn other is words byte rest whole e =
           let said = twelve_say site book torn (byte ∷ rest) is whole both.0 in
           let same = ap (λ (r : Result SiteFields SiteFault). result_unwrap_or r site) (sym said ∙ parts.1) in
           let none = ltb-true _ _ both.1 in
-          omega (arith, words, none, ap (λ (s : SiteFields). s.first_word) same,
-          ap (λ (s : SiteFields). s.last_word) same)
+          omega (
+            arith,
+            words,
+            none,
+            ap (λ (s : SiteFields). s.first_word) same,
+            ap (λ (s : SiteFields). s.last_word) same,
+          )
     ]
 
 -- by the two texts alone

@@ -1,5 +1,6 @@
 -- A site file that is written is read, as what it was written from.
-use Rattle.std.proofs.Common.{arith, ◌≡◌, ◌≢◌, ℕ, zero, suc, ◌+◌, ◌*◌, ◌/◌, ◌%◌, ◌^◌, ◌<◌, ◌≤◌, ◌==◌, Bool, true, false, List, get_or, [], ◌∷◌, ◌++◌, length, Option, Some, cond}
+use Rattle.std.proofs.Common.{arith, ◌≡◌, ◌≢◌, ℕ, zero, suc, ◌+◌, ◌*◌, ◌/◌, ◌%◌, ◌^◌, ◌<◌, ◌≤◌, ◌==◌, Bool, true, false}
+use Rattle.std.proofs.Common.{List, get_or, [], ◌∷◌, ◌++◌, length, Option, Some, cond}
 use Rattle.std.proofs.Common.{Ok, refl, sym, ap, ◌∙◌, append_assoc}
 use Rattle.std.proofs.lemmas.Grind.{common_steps}
 use Rattle.std.proofs.lemmas.Bool.{and_from, and_parts, le-leb, eq-eqb, ne_eqb}
@@ -20,7 +21,10 @@ use Rattle.hex.proofs.HexLemmas.{decode_of-encode_lower, length-encode_with}
 use Rattle.sd_base.specs.Lines.{lines_of, is_line, cut_at_space}
 use Rattle.sd_base.proofs.Cuts.{line_cut}
 use Rattle.sd_base.proofs.DecimalNumbers.{after_word, decimal_after_decimal, decimal_in_line, number_of_decimal}
-use Rattle.sd_site.specs.Forms.{height_line, master_line, ca_line, emm_line, ecm_line, every_line, cryptos_line, span_line, messages_line, first_word_line, last_word_line, first_period_line, NumberLine, BytesLine, IsWithin, bytes_after, bytes_said, book_after, book_word, most_book_size, digest_bytes}
+use Rattle.sd_site.specs.Forms.{height_line, master_line, ca_line, emm_line, ecm_line, every_line, cryptos_line}
+use Rattle.sd_site.specs.Forms.{span_line, messages_line, first_word_line, last_word_line, first_period_line}
+use Rattle.sd_site.specs.Forms.{NumberLine, BytesLine, IsWithin, bytes_after, bytes_said, book_after, book_word}
+use Rattle.sd_site.specs.Forms.{most_book_size, digest_bytes}
 use Rattle.sd_site.specs.Text.{number_at, bytes_at, said_on, site_on, book_on, optional_on, book_at}
 use Rattle.sd_site.specs.SiteFields.{SiteFields}
 use Rattle.sd_site.specs.Written.{IsSayable, site_text, newest_of, number_text, bytes_text, book_text}
@@ -140,24 +144,34 @@ book_line_cut book size =
     sym (append_assoc book_word (decimal book.size ++ 32 ∷ encode_lower book.digest) (10 ∷ [])
     ∙ ap (λ (r : List ℕ). book_word ++ r) (append_assoc (decimal book.size) (32 ∷ encode_lower book.digest) (10 ∷ [])))
     in
-    ap lines_of shape ∙ line_cut (book_line_on book) [] (joined_line book_word (decimal book.size ++ 32 ∷ encode_lower book.digest) refl said)
+    ap lines_of shape ∙ line_cut (book_line_on book) []
+    (joined_line book_word (decimal book.size ++ 32 ∷ encode_lower book.digest) refl said)
 
 -- it has one line feed
 book_feed : (book : BookLine) → book.size ≤ most_book_size → feeds (book_text book) ≡ 1
 book_feed book size =
-    let said = sum_by-append (λ byte. cond (byte == 10) 1 0) (decimal book.size) (32 ∷ (encode_lower book.digest ++ 10 ∷ [])) in
+    let said = sum_by-append (λ byte. cond (byte == 10) 1 0) (decimal book.size)
+    (32 ∷ (encode_lower book.digest ++ 10 ∷ [])) in
     let digits = sum_by-append (λ byte. cond (byte == 10) 1 0) (encode_lower book.digest) (10 ∷ []) in
-    omega (arith, said, digits, no_feeds (decimal book.size) (decimal_in_line book.size (omega arith)),
-    no_feeds (encode_lower book.digest) (digits_on_line book.digest))
+    omega (
+      arith,
+      said,
+      digits,
+      no_feeds (decimal book.size) (decimal_in_line book.size (omega arith)),
+      no_feeds (encode_lower book.digest) (digits_on_line book.digest),
+    )
 
 -- and says the book
 pub book_read : (book : BookLine) → book.size ≤ most_book_size → length book.digest ≡ digest_bytes →
     IsBytes book.digest → book_after (book_line_on book) ≡ Some book
 unfolding book_after
 book_read book size long are =
-    rw (after_word book_word (decimal book.size ++ 32 ∷ encode_lower book.digest),
-    cut_after (decimal book.size) (encode_lower book.digest) (digits_decimal own book.size (omega arith)),
-    number_of_decimal book.size (omega arith), digits_read book.digest digest_bytes long are) refl
+    rw (
+      after_word book_word (decimal book.size ++ 32 ∷ encode_lower book.digest),
+      cut_after (decimal book.size) (encode_lower book.digest) (digits_decimal own book.size (omega arith)),
+      number_of_decimal book.size (omega arith),
+      digits_read book.digest digest_bytes long are,
+    ) refl
 
 -- the first twelve lines of a site's file, and others
 abbrev pub site_lines : SiteFields → List (List ℕ) → List (List ℕ)
@@ -184,19 +198,23 @@ lines_said site book others said is rest =
     let r = is.ranges in
     let master = bytes_are site.master is.master.1 in
     let other : (site.emm == site.ecm) ≡ false = ne_eqb _ _ r.apart in
-    rw (number_read 1 height_line site.height _ r.height (omega (arith, r.height.1)),
-    bytes_read 2 master_line site.master _ is.master.0 master,
-    bytes_read 3 ca_line (to_be_bytes w16 site.ca) _ refl (two_bytes site.ca is.ca),
-    number_read 4 emm_line site.emm _ r.emm (omega (arith, r.emm.1)),
-    number_read 5 ecm_line site.ecm _ r.ecm (omega (arith, r.ecm.1)),
-    number_read 6 every_line site.every _ r.every (omega (arith, r.every.1)),
-    number_read 7 cryptos_line site.cryptos _ r.cryptos (omega (arith, r.cryptos.1)),
-    number_read 8 span_line site.span _ r.span (omega (arith, r.span.1)),
-    number_read 9 messages_line site.messages _ r.messages (omega (arith, r.messages.1)),
-    number_read 10 first_word_line site.first_word _ r.first_word (omega (arith, r.first_word.1)),
-    number_read 11 last_word_line site.last_word _ r.last_word (omega (arith, r.last_word.1)),
-    number_read 12 first_period_line site.first_period others r.first_period (omega (arith, r.first_period.1)),
-    rest, other, from_be_bytes-to_be_bytes_2 site.ca is.ca) refl
+    rw (
+      number_read 1 height_line site.height _ r.height (omega (arith, r.height.1)),
+      bytes_read 2 master_line site.master _ is.master.0 master,
+      bytes_read 3 ca_line (to_be_bytes w16 site.ca) _ refl (two_bytes site.ca is.ca),
+      number_read 4 emm_line site.emm _ r.emm (omega (arith, r.emm.1)),
+      number_read 5 ecm_line site.ecm _ r.ecm (omega (arith, r.ecm.1)),
+      number_read 6 every_line site.every _ r.every (omega (arith, r.every.1)),
+      number_read 7 cryptos_line site.cryptos _ r.cryptos (omega (arith, r.cryptos.1)),
+      number_read 8 span_line site.span _ r.span (omega (arith, r.span.1)),
+      number_read 9 messages_line site.messages _ r.messages (omega (arith, r.messages.1)),
+      number_read 10 first_word_line site.first_word _ r.first_word (omega (arith, r.first_word.1)),
+      number_read 11 last_word_line site.last_word _ r.last_word (omega (arith, r.last_word.1)),
+      number_read 12 first_period_line site.first_period others r.first_period (omega (arith, r.first_period.1)),
+      rest,
+      other,
+      from_be_bytes-to_be_bytes_2 site.ca is.ca,
+    ) refl
 
 -- line 13 says the book
 pub book_said : (site : SiteFields) (book : BookLine) → IsSayable site book →
@@ -210,19 +228,21 @@ pub lines_written : (site : SiteFields) (book : BookLine) → IsSayable site boo
 unfolding site_text
 lines_written site book is =
     let r = is.ranges in
-    rw (number_cut height_line site.height _ refl (omega (arith, r.height.1)),
-    bytes_cut master_line site.master _ refl,
-    bytes_cut ca_line (to_be_bytes w16 site.ca) _ refl,
-    number_cut emm_line site.emm _ refl (omega (arith, r.emm.1)),
-    number_cut ecm_line site.ecm _ refl (omega (arith, r.ecm.1)),
-    number_cut every_line site.every _ refl (omega (arith, r.every.1)),
-    number_cut cryptos_line site.cryptos _ refl (omega (arith, r.cryptos.1)),
-    number_cut span_line site.span _ refl (omega (arith, r.span.1)),
-    number_cut messages_line site.messages _ refl (omega (arith, r.messages.1)),
-    number_cut first_word_line site.first_word _ refl (omega (arith, r.first_word.1)),
-    number_cut last_word_line site.last_word _ refl (omega (arith, r.last_word.1)),
-    number_cut first_period_line site.first_period _ refl (omega (arith, r.first_period.1)),
-    book_line_cut book is.size) refl
+    rw (
+      number_cut height_line site.height _ refl (omega (arith, r.height.1)),
+      bytes_cut master_line site.master _ refl,
+      bytes_cut ca_line (to_be_bytes w16 site.ca) _ refl,
+      number_cut emm_line site.emm _ refl (omega (arith, r.emm.1)),
+      number_cut ecm_line site.ecm _ refl (omega (arith, r.ecm.1)),
+      number_cut every_line site.every _ refl (omega (arith, r.every.1)),
+      number_cut cryptos_line site.cryptos _ refl (omega (arith, r.cryptos.1)),
+      number_cut span_line site.span _ refl (omega (arith, r.span.1)),
+      number_cut messages_line site.messages _ refl (omega (arith, r.messages.1)),
+      number_cut first_word_line site.first_word _ refl (omega (arith, r.first_word.1)),
+      number_cut last_word_line site.last_word _ refl (omega (arith, r.last_word.1)),
+      number_cut first_period_line site.first_period _ refl (omega (arith, r.first_period.1)),
+      book_line_cut book is.size,
+    ) refl
 
 -- so is a number's, and that of bytes
 number_feed : (form : NumberLine) (n : ℕ) (rest : List ℕ) → is_line form.word ≡ true → n < 2 ^ 64 →
@@ -238,19 +258,21 @@ pub feeds_written : (site : SiteFields) (book : BookLine) → IsSayable site boo
 unfolding site_text
 feeds_written site book is =
     let r = is.ranges in
-    rw (number_feed height_line site.height _ refl (omega (arith, r.height.1)),
-    bytes_feed master_line site.master _ refl,
-    bytes_feed ca_line (to_be_bytes w16 site.ca) _ refl,
-    number_feed emm_line site.emm _ refl (omega (arith, r.emm.1)),
-    number_feed ecm_line site.ecm _ refl (omega (arith, r.ecm.1)),
-    number_feed every_line site.every _ refl (omega (arith, r.every.1)),
-    number_feed cryptos_line site.cryptos _ refl (omega (arith, r.cryptos.1)),
-    number_feed span_line site.span _ refl (omega (arith, r.span.1)),
-    number_feed messages_line site.messages _ refl (omega (arith, r.messages.1)),
-    number_feed first_word_line site.first_word _ refl (omega (arith, r.first_word.1)),
-    number_feed last_word_line site.last_word _ refl (omega (arith, r.last_word.1)),
-    number_feed first_period_line site.first_period _ refl (omega (arith, r.first_period.1)),
-    book_feed book is.size) refl
+    rw (
+      number_feed height_line site.height _ refl (omega (arith, r.height.1)),
+      bytes_feed master_line site.master _ refl,
+      bytes_feed ca_line (to_be_bytes w16 site.ca) _ refl,
+      number_feed emm_line site.emm _ refl (omega (arith, r.emm.1)),
+      number_feed ecm_line site.ecm _ refl (omega (arith, r.ecm.1)),
+      number_feed every_line site.every _ refl (omega (arith, r.every.1)),
+      number_feed cryptos_line site.cryptos _ refl (omega (arith, r.cryptos.1)),
+      number_feed span_line site.span _ refl (omega (arith, r.span.1)),
+      number_feed messages_line site.messages _ refl (omega (arith, r.messages.1)),
+      number_feed first_word_line site.first_word _ refl (omega (arith, r.first_word.1)),
+      number_feed last_word_line site.last_word _ refl (omega (arith, r.last_word.1)),
+      number_feed first_period_line site.first_period _ refl (omega (arith, r.first_period.1)),
+      book_feed book is.size,
+    ) refl
 
 -- a site's file is read as what it was written from
 pub site_read : (fewer : List ℕ → SiteFields → Bool) (site : SiteFields) (book : BookLine) → IsSayable site book →
@@ -258,5 +280,9 @@ pub site_read : (fewer : List ℕ → SiteFields → Bool) (site : SiteFields) (
 unfolding newest_of site_on book_on
 site_read fewer site book is =
     let digest = bytes_are book.digest is.digest.1 in
-    rw (lines_written site book is, lines_said site book (book_line_on book ∷ []) (Some book) is (book_said site book is),
-    feeds_written site book is, book_read book is.size is.digest.0 digest) refl
+    rw (
+      lines_written site book is,
+      lines_said site book (book_line_on book ∷ []) (Some book) is (book_said site book is),
+      feeds_written site book is,
+      book_read book is.size is.digest.0 digest,
+    ) refl

@@ -1,11 +1,12 @@
 //! Site files: what is written is read, what is torn is not, and how long they are.
 
-ghost use Rattle.std.specs.Prelude.{◌≡◌, ◌≢◌, ℕ, ◌≤◌, List, length, Bool, Option, Some, Ok};
+ghost use Rattle.std.specs.Prelude.{◌≡◌, ◌≢◌, ℕ, ◌≤◌, List, length, Bool, Option, Some, Ok, Err};
 ghost use Rattle.sd_ports.specs.Bytes.{IsPrefix};
 ghost use Rattle.sd_site.specs.SiteFields.{SiteFields};
 ghost use Rattle.sd_site.specs.Text.{IsSite};
 ghost use Rattle.sd_site.specs.Written.{IsSayable, is_first, newest_of, site_text};
 ghost use Rattle.sd_site.specs.declared.book_line.BookLine.{BookLine};
+ghost use Rattle.sd_site.specs.declared.site_fault.SiteFault.TheVariants.{Range};
 
 /// A site file has at most 317 bytes.
 pub fn sites_are_short()
@@ -21,10 +22,12 @@ pub fn written_sites_are_read()
 {}
 
 /// No next site is made from a torn site file: one that is a proper prefix of what was written for a site with control
-/// words. It isn't whole, and isn't a first site either.
-#[tactic(auto, using(crate::proofs::TornSites::torn_sites))]
+/// words. It isn't whole, and isn't a first site either. It is refused, and not since line 12 is out of range.
+#[tactic(auto, using(crate::proofs::TornSites::torn_sites, crate::proofs::TornLines::torn_in_range))]
 pub fn torn_sites_are_short()
-    ensures { (site : SiteFields) (book : BookLine) (torn : List ℕ) (other : SiteFields × Option BookLine) →
+    ensures refused { (site : SiteFields) (book : BookLine) (torn : List ℕ) (other : SiteFields × Option BookLine) →
         IsSayable site book → site.first_word ≤ site.last_word → IsPrefix torn (site_text site book) →
         torn ≢ site_text site book → newest_of is_first torn ≡ Ok other → ⊥ }
+    ensures range { (site : SiteFields) (book : BookLine) (torn : List ℕ) → IsSayable site book →
+        IsPrefix torn (site_text site book) → newest_of is_first torn ≡ Err (Range 12) → ⊥ }
 {}
