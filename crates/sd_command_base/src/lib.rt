@@ -22,8 +22,8 @@ mod word;
 
 pub use both::read_both;
 pub use files::{
-    MOST_BOOK_BYTES, book_fault, card_fault, read_book, read_bytes, read_card_bytes, read_low_site,
-    read_site,
+    MOST_BOOK_BYTES, MOST_SITE_BYTES, book_fault, card_fault, read_book, read_bytes,
+    read_card_bytes, read_low_site, read_site,
 };
 pub use leaves::read_leaves;
 pub use line::as_line;

@@ -28,3 +28,11 @@ pub mod CardOthers
 pub mod Carding
 pub mod NoFloat
 pub mod ShownCards
+pub mod FollowingNames
+pub mod Merged
+pub mod ToldPeriods
+pub mod WholeLines
+pub mod OwnBook
+pub mod Origins
+pub mod Chaining
+pub mod ChainOthers

@@ -18,3 +18,8 @@ pub mod Trace
 pub mod Card
 pub mod Lcard
 pub mod Show
+pub mod SiteNames
+pub mod Chain
+pub mod Told
+pub mod Next
+pub mod Twin
