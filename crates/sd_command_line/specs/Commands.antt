@@ -1,21 +1,22 @@
 -- Public meaning: what help says of each command [this project, docs/FORMATS.md, Help].
-use Rattle.std.specs.Prelude.{ℕ, List, [], ◌∷◌, codes, bytes_eq, if◌then◌else◌, Option, Some, None}
+use Rattle.std.specs.Prelude.{◌≡◌, ◌⊎◌, ℕ, List, [], ◌∷◌, codes, bytes_eq, if◌then◌else◌, Option, Some, None}
+use Rattle.std.specs.Prelude.{Bool, false, ◌||◌}
+use Rattle.std.specs.List.{list_any}
 use Rattle.sd_command_line.specs.declared.command.Command.{Command}
 use Rattle.sd_command_line.specs.declared.command.Command.TheVariants.{Accounts, Book, Card, Cover, Field, Head}
 use Rattle.sd_command_line.specs.declared.command.Command.TheVariants.{Layered}
 use Rattle.sd_command_line.specs.declared.command.Command.TheVariants.{Lcard}
-use Rattle.sd_command_line.specs.declared.command.Command.TheVariants.{Apart, Messages, Opens, Plan, Receive, Sample}
+use Rattle.sd_command_line.specs.declared.command.Command.TheVariants.{Apart, Messages, Next, Opens, Plan}
+use Rattle.sd_command_line.specs.declared.command.Command.TheVariants.{Receive, Sample}
 use Rattle.sd_command_line.specs.declared.command.Command.TheVariants.{Show}
 use Rattle.sd_command_line.specs.declared.command.Command.TheVariants.{Tables}
-use Rattle.sd_command_line.specs.declared.command.Command.TheVariants.{Trace, Trial}
+use Rattle.sd_command_line.specs.declared.command.Command.TheVariants.{Trace, Trial, Twin}
 use Rattle.sd_command_line.specs.declared.operand.Operand.{Operand}
 use Rattle.sd_command_line.specs.declared.operand.Operand.TheVariants as word
 use Rattle.sd_command_line.specs.declared.operand.Files.{Files}
 use Rattle.sd_command_line.specs.Operands.{files_among}
 use Rattle.sd_command_line.specs.declared.exit.Exit.{Exit}
-use Rattle.sd_command_line.specs.Exits.{exits_of_books, exits_of_cards, exits_of_clear_streams, exits_of_layers}
-use Rattle.sd_command_line.specs.Exits.{exits_of_monitors, exits_of_pairs, exits_of_receivers, exits_of_samples}
-use Rattle.sd_command_line.specs.Exits.{exits_of_shown_cards, exits_of_tables}
+use Rattle.sd_command_line.specs.Exits.{is_common, of_own_book, of_pair, of_receiver, refuses}
 
 -- the command's name
 unfoldable pub command_name : Command → List ℕ
@@ -29,6 +30,7 @@ command_name Head = codes "head"
 command_name Layered = codes "layered"
 command_name Lcard = codes "lcard"
 command_name Messages = codes "messages"
+command_name Next = codes "next"
 command_name Opens = codes "opens"
 command_name Plan = codes "plan"
 command_name Receive = codes "receive"
@@ -37,12 +39,13 @@ command_name Show = codes "show"
 command_name Tables = codes "tables"
 command_name Trace = codes "trace"
 command_name Trial = codes "trial"
+command_name Twin = codes "twin"
 
 -- all commands, by their names
 abbrev pub commands : List Command
 commands =
-    Accounts ∷ Apart ∷ Book ∷ Card ∷ Cover ∷ Field ∷ Head ∷ Layered ∷ Lcard ∷ Messages ∷ Opens ∷ Plan ∷ Receive ∷ Sample
-    ∷ Show ∷ Tables ∷ Trace ∷ Trial ∷ []
+    Accounts ∷ Apart ∷ Book ∷ Card ∷ Cover ∷ Field ∷ Head ∷ Layered ∷ Lcard ∷ Messages ∷ Next ∷ Opens ∷ Plan ∷ Receive
+    ∷ Sample ∷ Show ∷ Tables ∷ Trace ∷ Trial ∷ Twin ∷ []
 
 -- the first of them that has this name
 abbrev pub first_named : List ℕ → List Command → Option Command
@@ -65,6 +68,7 @@ operands_of Head = word.Site ∷ word.Book ∷ word.Clear ∷ word.Out ∷ []
 operands_of Layered = word.Site ∷ word.Book ∷ word.Width ∷ []
 operands_of Lcard = word.Site ∷ word.Leaf ∷ word.Width ∷ word.Out ∷ []
 operands_of Messages = word.Site ∷ word.Stream ∷ []
+operands_of Next = word.Site ∷ word.Book ∷ word.Words ∷ word.NewSite ∷ []
 operands_of Opens = word.Site ∷ word.Book ∷ word.Leaves ∷ []
 operands_of Plan = word.Site ∷ word.Book ∷ word.Clears ∷ word.Pids ∷ []
 operands_of Receive = word.Card ∷ word.Stream ∷ word.Out ∷ []
@@ -73,6 +77,7 @@ operands_of Show = word.Card ∷ []
 operands_of Tables = word.Stream ∷ []
 operands_of Trace = word.Site ∷ word.Book ∷ word.Leaves ∷ []
 operands_of Trial = word.Site ∷ word.Book ∷ word.Clear ∷ []
+operands_of Twin = word.Site ∷ word.Words ∷ word.NewSite ∷ []
 
 -- the files that they name
 abbrev pub files_of : Command → Files
@@ -90,6 +95,7 @@ work_of Head = codes "makes the scrambled broadcast of a clear stream"
 work_of Layered = codes "prints the sets of each period's layered cover"
 work_of Lcard = codes "makes the smaller card of a receiver for layered covers"
 work_of Messages = codes "prints the messages of a broadcast, one line each"
+work_of Next = codes "makes the site of the next broadcast: new control words, a new period"
 work_of Opens = codes "prints which sets of each period the cards of a coalition open"
 work_of Plan = codes "prints the size of a broadcast on air, before it is made"
 work_of Receive = codes "writes the clear packets that a card opens, of one broadcast or of several in a row"
@@ -98,27 +104,24 @@ work_of Show = codes "prints the fields of a card's file, without its keys"
 work_of Tables = codes "prints the tables of a stream, one line of JSON each"
 work_of Trace = codes "prints the receivers whose cards a decoder holds, found by queries"
 work_of Trial = codes "prints what each receiver writes from a broadcast"
+work_of Twin = codes "makes the site of a broadcast at the same time: new control words, the same periods"
 
--- the exits that it may have
-unfoldable pub exits_of : Command → List Exit
-exits_of Accounts = exits_of_books
-exits_of Apart = exits_of_pairs
-exits_of Book = exits_of_books
-exits_of Card = exits_of_cards
-exits_of Cover = exits_of_books
-exits_of Field = exits_of_clear_streams
-exits_of Head = exits_of_clear_streams
-exits_of Layered = exits_of_layers
-exits_of Lcard = exits_of_cards
-exits_of Messages = exits_of_monitors
-exits_of Opens = exits_of_books
-exits_of Plan = exits_of_layers
-exits_of Receive = exits_of_receivers
-exits_of Sample = exits_of_samples
-exits_of Show = exits_of_shown_cards
-exits_of Tables = exits_of_tables
-exits_of Trace = exits_of_books
-exits_of Trial = exits_of_clear_streams
+-- OUT holds secrets: those of a receiver, or the master secret of a site
+abbrev pub MakesSecrets : Command → Type 0
+MakesSecrets command = (command ≡ Card) ⊎ (command ≡ Lcard) ⊎ (command ≡ Next) ⊎ (command ≡ Twin)
+
+-- the command may end so with arguments each of which is good
+abbrev pub is_own : Command → Exit → Bool
+is_own Apart exit = of_pair exit
+is_own Head exit = of_own_book exit
+is_own Next exit = of_own_book exit
+is_own Receive exit = of_receiver exit
+is_own command exit = false
+
+-- the command may end so
+unfoldable pub ends_with : Command → Exit → Bool
+ends_with command exit =
+    is_common exit || (is_own command exit || list_any (λ operand. refuses operand exit) (operands_of command))
 
 -- an example of its arguments
 unfoldable pub example_of : Command → List ℕ
@@ -132,6 +135,7 @@ example_of Head = codes "head examples/site.txt examples/book.txt clear.ts broad
 example_of Layered = codes "layered examples/site.txt examples/book.txt 2"
 example_of Lcard = codes "lcard examples/site.txt 2 2 layer-card-2"
 example_of Messages = codes "messages examples/site.txt broadcast.ts"
+example_of Next = codes "next site-0.txt examples/book.txt 1000 site-1.txt"
 example_of Opens = codes "opens examples/site.txt examples/book.txt examples/pooled.txt"
 example_of Plan = codes "plan examples/site.txt examples/book.txt 600 3"
 example_of Receive = codes "receive card-2 broadcast.ts opened.ts"
@@ -140,3 +144,4 @@ example_of Show = codes "show card-2"
 example_of Tables = codes "tables broadcast.ts"
 example_of Trace = codes "trace examples/site.txt examples/book.txt examples/pair.txt"
 example_of Trial = codes "trial examples/site.txt examples/book.txt clear.ts"
+example_of Twin = codes "twin site-1.txt 1000 site-2.txt"

@@ -1,12 +1,15 @@
--- Public meaning: the line of each exit, and the exits that commands have [this project, docs/FORMATS.md, Exits].
-use Rattle.std.specs.Prelude.{ℕ, List, [], ◌∷◌, codes}
+-- Public meaning: the line of each exit, and by which exits arguments are refused [this project, docs/FORMATS.md,
+-- Exits].
+use Rattle.std.specs.Prelude.{ℕ, List, [], ◌∷◌, codes, Bool, true, false}
 use Rattle.sd_command_line.specs.declared.exit.Exit.{Exit}
 use Rattle.sd_command_line.specs.declared.exit.Exit.TheVariants.{Done, Usage, Missing, Revoked, DepotFault, PrintFault}
 use Rattle.sd_command_line.specs.declared.exit.Exit.TheVariants.{BadSite, BadBook, BadCard, BadClear, BadStream, Limit}
 use Rattle.sd_command_line.specs.declared.exit.Exit.TheVariants.{NoMemory, Unheard, Unclosed, Gaps, NoCat, BadWord}
-use Rattle.sd_command_line.specs.declared.exit.Exit.TheVariants.{Clash}
+use Rattle.sd_command_line.specs.declared.exit.Exit.TheVariants.{Clash, BadOut, OtherBook}
 use Rattle.sd_command_line.specs.declared.operand.Files.{Files}
 use Rattle.sd_command_line.specs.declared.operand.Files.TheVariants.{Inputs, Output, Both}
+use Rattle.sd_command_line.specs.declared.operand.Operand.{Operand}
+use Rattle.sd_command_line.specs.declared.operand.Operand.TheVariants as argument
 
 -- its number, and when it comes, for a command with these files
 unfoldable pub exit_line : Files → Exit → List ℕ
@@ -35,47 +38,99 @@ exit_line files Gaps = codes "  15  clear packets are missing from OUT\n"
 exit_line files NoCat = codes "  16  the stream has no CAT for this card\n"
 exit_line files BadWord = codes "  17  argument N is not a decimal number, or is out of range\n"
 exit_line files Clash = codes "  18  two broadcasts must not share one set of cards\n"
+exit_line files BadOut = codes "  19  OUT is there already, or its name does not follow that of SITE\n"
+exit_line files OtherBook = codes "  21  BOOK is not the book of the site's line 13\n"
 
--- the exits of a command that reads a site, a book and maybe more text
-abbrev pub exits_of_books : List Exit
-exits_of_books = Done ∷ Usage ∷ Missing ∷ DepotFault ∷ PrintFault ∷ BadSite ∷ BadBook ∷ Limit ∷ NoMemory ∷ []
+-- all exits, by their numbers
+abbrev pub exits : List Exit
+exits =
+    Done ∷ Usage ∷ Missing ∷ Revoked ∷ DepotFault ∷ PrintFault ∷ BadSite ∷ BadBook ∷ BadCard ∷ BadClear ∷ BadStream
+    ∷ Limit ∷ NoMemory ∷ Unheard ∷ Unclosed ∷ Gaps ∷ NoCat ∷ BadWord ∷ Clash ∷ BadOut ∷ OtherBook ∷ []
 
--- those of a command that makes a card of a site
-abbrev pub exits_of_cards : List Exit
-exits_of_cards = Done ∷ Usage ∷ Missing ∷ DepotFault ∷ PrintFault ∷ BadSite ∷ Limit ∷ NoMemory ∷ BadWord ∷ []
+-- each command may end so
+abbrev pub is_common : Exit → Bool
+is_common Done = true
+is_common Usage = true
+is_common Missing = true
+is_common DepotFault = true
+is_common PrintFault = true
+is_common NoMemory = true
+is_common exit = false
 
--- those of a command that reads a clear stream besides a site and a book
-abbrev pub exits_of_clear_streams : List Exit
-exits_of_clear_streams =
-    Done ∷ Usage ∷ Missing ∷ DepotFault ∷ PrintFault ∷ BadSite ∷ BadBook ∷ BadClear ∷ Limit ∷ NoMemory ∷ []
+-- so a site is refused
+abbrev pub of_site : Exit → Bool
+of_site BadSite = true
+of_site Limit = true
+of_site exit = false
 
--- those of a command that takes a width besides a site and a book
-abbrev pub exits_of_layers : List Exit
-exits_of_layers = Done ∷ Usage ∷ Missing ∷ DepotFault ∷ PrintFault ∷ BadSite ∷ BadBook ∷ Limit ∷ NoMemory ∷ BadWord ∷ []
+-- so a file is refused that has a command, a change, an event or a leaf in each line
+abbrev pub of_lines : Exit → Bool
+of_lines BadBook = true
+of_lines Limit = true
+of_lines exit = false
 
--- those of a command that reads two sites and their books
-abbrev pub exits_of_pairs : List Exit
-exits_of_pairs = Done ∷ Usage ∷ Missing ∷ DepotFault ∷ PrintFault ∷ BadSite ∷ BadBook ∷ Limit ∷ NoMemory ∷ Clash ∷ []
+-- so a card is refused
+abbrev pub of_card : Exit → Bool
+of_card BadCard = true
+of_card Limit = true
+of_card exit = false
 
--- those of a command that opens a broadcast with a card
-abbrev pub exits_of_receivers : List Exit
-exits_of_receivers =
-    Done ∷ Usage ∷ Missing ∷ Revoked ∷ DepotFault ∷ PrintFault ∷ BadCard ∷ BadStream ∷ Limit ∷ NoMemory ∷ Unheard
-    ∷ Unclosed ∷ Gaps ∷ NoCat ∷ []
+-- so a clear stream is refused
+abbrev pub of_clear : Exit → Bool
+of_clear BadClear = true
+of_clear exit = false
 
--- those of a command that makes a stream of a number
-abbrev pub exits_of_samples : List Exit
-exits_of_samples = Done ∷ Usage ∷ Missing ∷ DepotFault ∷ PrintFault ∷ NoMemory ∷ BadWord ∷ []
+-- so a stream is refused
+abbrev pub of_stream : Exit → Bool
+of_stream BadStream = true
+of_stream exit = false
 
--- those of a command that shows a stream
-abbrev pub exits_of_tables : List Exit
-exits_of_tables = Done ∷ Usage ∷ Missing ∷ DepotFault ∷ PrintFault ∷ BadStream ∷ NoMemory ∷ []
+-- so a number is refused
+abbrev pub of_number : Exit → Bool
+of_number BadWord = true
+of_number exit = false
 
--- those of a command that shows the messages of a site in a stream
-abbrev pub exits_of_monitors : List Exit
-exits_of_monitors =
-    Done ∷ Usage ∷ Missing ∷ DepotFault ∷ PrintFault ∷ BadSite ∷ BadStream ∷ Limit ∷ NoMemory ∷ []
+-- so a site that is to be made of a site is refused
+abbrev pub of_new_site : Exit → Bool
+of_new_site BadOut = true
+of_new_site exit = false
 
--- those of a command that shows a card
-abbrev pub exits_of_shown_cards : List Exit
-exits_of_shown_cards = Done ∷ Usage ∷ Missing ∷ DepotFault ∷ PrintFault ∷ BadCard ∷ Limit ∷ NoMemory ∷ []
+-- so an argument is refused
+abbrev pub refuses : Operand → Exit → Bool
+refuses argument.Site exit = of_site exit
+refuses argument.Book exit = of_lines exit
+refuses argument.Accounts exit = of_lines exit
+refuses argument.Commands exit = of_lines exit
+refuses argument.Script exit = of_lines exit
+refuses argument.Leaves exit = of_lines exit
+refuses argument.Card exit = of_card exit
+refuses argument.Clear exit = of_clear exit
+refuses argument.Stream exit = of_stream exit
+refuses argument.Leaf exit = of_number exit
+refuses argument.Width exit = of_number exit
+refuses argument.Number exit = of_number exit
+refuses argument.Packets exit = of_number exit
+refuses argument.Clears exit = of_number exit
+refuses argument.Pids exit = of_number exit
+refuses argument.Words exit = of_number exit
+refuses argument.NewSite exit = of_new_site exit
+refuses argument.Out exit = false
+
+-- so two broadcasts are refused
+abbrev pub of_pair : Exit → Bool
+of_pair Clash = true
+of_pair exit = false
+
+-- so the book is refused that must be that of the site's line 13, or begin with it
+abbrev pub of_own_book : Exit → Bool
+of_own_book OtherBook = true
+of_own_book exit = false
+
+-- so a receiver ends that did not open all of a stream
+abbrev pub of_receiver : Exit → Bool
+of_receiver Revoked = true
+of_receiver Unheard = true
+of_receiver Unclosed = true
+of_receiver Gaps = true
+of_receiver NoCat = true
+of_receiver exit = false

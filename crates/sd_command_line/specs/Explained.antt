@@ -8,11 +8,12 @@ use Rattle.sd_command_line.specs.Escaped.{escaped}
 use Rattle.sd_command_line.specs.Operands.{operand_name}
 use Rattle.sd_command_base.specs.declared.status.Status.{Status}
 use Rattle.sd_command_base.specs.declared.status.Status.TheVariants.{Usage, Missing, BadSite, BadBook, BadCard}
-use Rattle.sd_command_base.specs.declared.status.Status.TheVariants.{BadWord}
+use Rattle.sd_command_base.specs.declared.status.Status.TheVariants.{BadWord, BadOut, OtherBook}
 use Rattle.sd_command_line.specs.declared.found.Argument.{Argument}
-use Rattle.sd_command_line.specs.Words.{is_help, is_version}
+use Rattle.sd_command_line.specs.Words.{command_in, is_help, is_version}
 use Rattle.sd_command_line.specs.Reasons.{card_reason, line_reason, miscounted_reason, missing_reason}
-use Rattle.sd_command_line.specs.Reasons.{no_page_reason, output_reason, range_reason, site_reason, unknown_reason}
+use Rattle.sd_command_line.specs.Reasons.{no_page_reason, out_reason, output_reason, own_book_reason, range_reason}
+use Rattle.sd_command_line.specs.Reasons.{site_reason, unknown_reason}
 
 -- what an argument is, and its text
 abbrev pub shown : Argument → Operand × List ℕ
@@ -90,6 +91,11 @@ unfoldable pub usage_line : List (List ℕ) → List ℕ
 usage_line [] = codes "sdca: no command is given; see sdca help\n"
 usage_line (name ∷ texts) = named_line (name ∷ texts) name texts
 
+-- BOOK is argument 2 of each command that asks whether it is the site's
+-- [this project, docs/FORMATS.md, Commands: `head SITE BOOK CLEAR OUT`, `next SITE BOOK WORDS OUT`]
+abbrev pub book_word : ℕ
+book_word = 2
+
 -- the line that explains a status to a user, or no text if the status is about no argument
 unfoldable pub explained : List (List ℕ) → Status → List ℕ
 explained words Usage = usage_line words
@@ -98,4 +104,6 @@ explained words (BadSite word fault) = of_argument words word (λ operand. site_
 explained words (BadBook word line) = of_argument words word (λ operand. line_reason operand line)
 explained words (BadCard word fault) = of_argument words word (λ operand. card_reason fault)
 explained words (BadWord word) = of_argument words word (λ operand. range_reason operand)
+explained words (BadOut word cause) = of_argument words word (λ operand. out_reason cause)
+explained words OtherBook = of_argument words book_word (λ operand. own_book_reason (command_in words))
 explained words status = []

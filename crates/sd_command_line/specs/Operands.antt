@@ -6,7 +6,7 @@ use Rattle.sd_command_line.specs.declared.operand.Operand.TheVariants.{Site, Boo
 use Rattle.sd_command_line.specs.declared.operand.Operand.TheVariants.{Stream}
 use Rattle.sd_command_line.specs.declared.operand.Operand.TheVariants.{Card, Leaves, Leaf, Width, Number, Packets}
 use Rattle.sd_command_line.specs.declared.operand.Operand.TheVariants.{Clears}
-use Rattle.sd_command_line.specs.declared.operand.Operand.TheVariants.{Pids, Out}
+use Rattle.sd_command_line.specs.declared.operand.Operand.TheVariants.{Pids, Words, NewSite, Out}
 use Rattle.sd_command_line.specs.declared.operand.Kind.{Kind}
 use Rattle.sd_command_line.specs.declared.operand.Kind.TheVariants as kind
 use Rattle.sd_command_line.specs.declared.operand.Files.{Files}
@@ -30,6 +30,8 @@ operand_kind Number = kind.Number (2 ^ 32 - 1)
 operand_kind Packets = kind.Number 1000000
 operand_kind Clears = kind.Count (2 ^ 32 - 1)
 operand_kind Pids = kind.Number 256
+operand_kind Words = kind.Count (2 ^ 32 - 1)
+operand_kind NewSite = kind.Output
 operand_kind Out = kind.Output
 
 -- a file that is read
@@ -79,12 +81,14 @@ operand_name Number = codes "NUMBER"
 operand_name Packets = codes "PACKETS"
 operand_name Clears = codes "PACKETS"
 operand_name Pids = codes "PIDS"
+operand_name Words = codes "WORDS"
+operand_name NewSite = codes "OUT"
 operand_name Out = codes "OUT"
 
 -- what it says
 unfoldable pub meaning_of : Operand → List ℕ
 meaning_of Site =
-    codes "the site file: height, master, PIDs, period lengths, version of messages, control words, first period"
+    codes "the site file: height, master, PIDs, period lengths, messages, control words, first period, book"
 meaning_of Book = codes "the book: one command per line, subscribe LEAF, revoke LEAF or period"
 meaning_of Accounts =
     codes "the accounts: one change per line, assign NAME LEAF, drop NAME, restore NAME or period"
@@ -102,4 +106,8 @@ meaning_of Packets = codes "the number of packets, at most 1000000"
 meaning_of Clears =
     codes "how many clear packets: 1 to 4294967295, at most ecm-every * crypto-ecms for each control word of SITE"
 meaning_of Pids = codes "the number of PIDs from 32 to 8175 that carry payload, at most 256"
+meaning_of Words =
+    codes "how many control words the broadcast has: 1 to 4294967295, at most those that SITE has left"
+meaning_of NewSite =
+    codes "the site that is made: a new file, of which the name is that of SITE with its last number one higher"
 meaning_of Out = codes "the output file; /dev/stdout for a pipe, and all lines then go to standard error"

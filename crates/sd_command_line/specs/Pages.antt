@@ -1,13 +1,15 @@
 -- Public meaning: the texts that help prints, and that of the version [this project, docs/FORMATS.md, Help].
-use Rattle.std.specs.Prelude.{ℕ, ◌-◌, ◌^◌, List, ◌++◌, codes, Option, Some, None}
+use Rattle.std.specs.Prelude.{ℕ, ◌-◌, ◌^◌, List, [], ◌++◌, codes, Option, Some, None}
+use Rattle.std.specs.Prelude.{if◌then◌else◌}
 use Rattle.std.specs.List.{flat_map}
 use Rattle.std.specs.Fmt.{padded, format_spec}
 use Rattle.sd_command_line.specs.declared.command.Command.{Command}
 use Rattle.sd_command_line.specs.declared.operand.Operand.{Operand}
 use Rattle.sd_command_line.specs.Operands.{meaning_of, operand_name as word_of}
-use Rattle.sd_command_line.specs.Exits.{exit_line}
-use Rattle.sd_command_line.specs.Commands.{commands, example_of, exits_of, files_of, command_name, operands_of}
-use Rattle.sd_command_line.specs.Commands.{work_of}
+use Rattle.sd_command_line.specs.declared.exit.Exit.{Exit}
+use Rattle.sd_command_line.specs.Exits.{exit_line, exits}
+use Rattle.sd_command_line.specs.Commands.{commands, ends_with, example_of, files_of, command_name}
+use Rattle.sd_command_line.specs.Commands.{operands_of, work_of}
 
 -- a text at the left of a column of that width in characters, filled up with spaces
 abbrev pub at_left : ℕ → List ℕ → List ℕ
@@ -42,6 +44,10 @@ overview =
 unfoldable pub head_text : Command → List ℕ
 head_text topic = codes "sdca " ++ (usage_of topic ++ (codes "\n" ++ (work_of topic ++ codes "\n\narguments\n")))
 
+-- the line of an exit, if the command may end with it
+unfoldable pub exit_text : Command → Exit → List ℕ
+exit_text topic exit = if ends_with topic exit then exit_line (files_of topic) exit else []
+
 -- the last lines of it
 unfoldable pub tail_text : Command → List ℕ
 tail_text topic = codes "\nexample\n  sdca " ++ (example_of topic ++ codes "\n")
@@ -50,7 +56,7 @@ tail_text topic = codes "\nexample\n  sdca " ++ (example_of topic ++ codes "\n")
 unfoldable pub page_text : Command → List ℕ
 page_text topic =
     head_text topic ++ flat_map operand_line (operands_of topic) ++ codes "\nexits\n"
-    ++ flat_map (exit_line (files_of topic)) (exits_of topic) ++ tail_text topic
+    ++ flat_map (exit_text topic) exits ++ tail_text topic
 
 -- what help prints of a command, or of all
 unfoldable pub help_text : Option Command → List ℕ

@@ -1,16 +1,21 @@
 -- Public meaning: why an argument is refused, as a user reads it [this project, docs/FORMATS.md, Explanations].
-use Rattle.std.specs.Prelude.{ℕ, List, ◌++◌, codes}
+use Rattle.std.specs.Prelude.{ℕ, List, ◌++◌, codes, Option, Some}
 use Rattle.std.specs.Fmt.{decimal}
 use Rattle.sd_site.specs.declared.site_fault.SiteFault.{SiteFault}
 use Rattle.sd_site.specs.declared.site_fault.SiteFault.TheVariants as site
 use Rattle.sd_site.specs.declared.card_fault.CardFault.{CardFault}
 use Rattle.sd_site.specs.declared.card_fault.CardFault.TheVariants as card
+use Rattle.sd_command_base.specs.declared.status.OutCause.{OutCause}
+use Rattle.sd_command_base.specs.declared.status.OutCause.TheVariants.{There, Name}
+use Rattle.sd_command_line.specs.declared.command.Command.{Command}
+use Rattle.sd_command_line.specs.declared.command.Command.TheVariants.{Next}
 use Rattle.sd_command_line.specs.declared.operand.Operand.{Operand}
-use Rattle.sd_command_line.specs.declared.operand.Operand.TheVariants.{Out}
+use Rattle.sd_command_line.specs.declared.operand.Operand.TheVariants.{NewSite, Out}
 use Rattle.sd_command_line.specs.Operands.{meaning_of, operand_name}
 
 -- why a file isn't there
 unfoldable pub missing_reason : Operand → List ℕ
+missing_reason NewSite = codes "no such folder"
 missing_reason Out = codes "no such folder"
 missing_reason operand = codes "no such file"
 
@@ -29,6 +34,17 @@ miscounted_reason = codes "wrong number of arguments"
 -- why OUT is refused
 unfoldable pub output_reason : List ℕ
 output_reason = codes "it is one of the inputs"
+
+-- why a file must not be made
+unfoldable pub out_reason : OutCause → List ℕ
+out_reason There = codes "it is there already; each site is made once"
+out_reason Name = codes "its name is not that of SITE with the last number one higher"
+
+-- why a book is refused: for `next` it must begin with that of the site, for other commands it must be that
+unfoldable pub own_book_reason : Option Command → List ℕ
+own_book_reason (Some Next) =
+    codes "it doesn't begin with the book of the site's line 13; an old book was put back, or a line was changed or lost"
+own_book_reason command = codes "it is not the book of the site's line 13; if it only got longer, make the next site"
 
 -- why a site is refused
 unfoldable pub site_reason : SiteFault → List ℕ

@@ -1,5 +1,5 @@
 -- Public meaning: what the words after the program's name say [this project, docs/FORMATS.md, Commands].
-use Rattle.std.specs.Prelude.{◌≡◌, ◌⊎◌, ℕ, zero, suc, ◌+◌, ◌-◌, ◌==◌, nat_lt, not, List, [], ◌∷◌, ◌++◌, codes, length}
+use Rattle.std.specs.Prelude.{ℕ, zero, suc, ◌+◌, ◌-◌, ◌==◌, nat_lt, not, List, [], ◌∷◌, ◌++◌, codes, length}
 use Rattle.std.specs.Prelude.{slice_get}
 use Rattle.std.specs.Prelude.{bytes_eq, ◌||◌}
 use Rattle.std.specs.Prelude.{if◌then◌else◌, Option, Some, None, Bool, false, Result, Ok, Err}
@@ -10,7 +10,7 @@ use Rattle.sd_command_line.specs.declared.command.Command.TheVariants as command
 use Rattle.sd_command_line.specs.declared.operand.Operand.{Operand}
 use Rattle.sd_command_line.specs.declared.operand.Kind.{Kind}
 use Rattle.sd_command_line.specs.declared.operand.Kind.TheVariants as kind
-use Rattle.sd_command_line.specs.Commands.{command_named, operands_of}
+use Rattle.sd_command_line.specs.Commands.{command_named, operands_of, MakesSecrets}
 use Rattle.sd_command_line.specs.Operands.{is_file, is_output, operand_kind}
 use Rattle.sd_command_base.specs.Spec.{FileArgument}
 use Rattle.sd_command_base.specs.Shown.{NumberArgument, word_at}
@@ -199,16 +199,16 @@ has_out (Some command) = list_any (λ operand. is_output (operand_kind operand))
 abbrev pub names_out : List (List ℕ) → Bool
 names_out words = has_out (command_in words)
 
--- the command of an order makes a card
-abbrev pub MakesCard : Order → Type 0
-MakesCard (CommandOf command arguments) = (command ≡ commands.Card) ⊎ (command ≡ commands.Lcard)
-MakesCard (HelpOf topic) = ⊥
-MakesCard VersionOf = ⊥
+-- the command of an order makes a file that holds secrets
+abbrev pub HoldsSecrets : Order → Type 0
+HoldsSecrets (CommandOf command arguments) = MakesSecrets command
+HoldsSecrets (HelpOf topic) = ⊥
+HoldsSecrets VersionOf = ⊥
 
--- words that were read so make a card
-abbrev pub MakesCardBy : Result Order Status → Type 0
-MakesCardBy (Ok order) = MakesCard order
-MakesCardBy (Err status) = ⊥
+-- words that were read so make such a file
+abbrev pub HoldsSecretsBy : Result Order Status → Type 0
+HoldsSecretsBy (Ok order) = HoldsSecrets order
+HoldsSecretsBy (Err status) = ⊥
 
 -- the orders of the commands, by their names
 abbrev pub AccountsOf : FileArgument → FileArgument → FileArgument → Order
@@ -239,6 +239,10 @@ LayeredOf site book width = CommandOf commands.Layered (InputOf site ∷ InputOf
 abbrev pub LcardOf : FileArgument → NumberArgument → NumberArgument → FileArgument → Order
 LcardOf site leaf width out = CommandOf commands.Lcard (InputOf site ∷ NumberOf leaf ∷ NumberOf width ∷ OutOf out ∷ [])
 
+abbrev pub NextOf : FileArgument → FileArgument → NumberArgument → FileArgument → Order
+NextOf site book words out =
+    CommandOf commands.Next (InputOf site ∷ InputOf book ∷ NumberOf words ∷ OutOf out ∷ [])
+
 abbrev pub OpensOf : FileArgument → FileArgument → FileArgument → Order
 OpensOf site book leaves = CommandOf commands.Opens (InputOf site ∷ InputOf book ∷ InputOf leaves ∷ [])
 
@@ -268,3 +272,6 @@ TraceOf site book leaves = CommandOf commands.Trace (InputOf site ∷ InputOf bo
 
 abbrev pub TrialOf : FileArgument → FileArgument → FileArgument → Order
 TrialOf site book clear = CommandOf commands.Trial (InputOf site ∷ InputOf book ∷ InputOf clear ∷ [])
+
+abbrev pub TwinOf : FileArgument → NumberArgument → FileArgument → Order
+TwinOf site words out = CommandOf commands.Twin (InputOf site ∷ NumberOf words ∷ OutOf out ∷ [])

@@ -1,9 +1,9 @@
-ghost use Rattle.std.specs.Prelude.{◌≡◌, ◌↔◌, ◌⊎◌, ◌≤◌, length, true};
-ghost use Rattle.sd_command_line.specs.Commands.{example_of, exits_of, command_name, operands_of, command_named};
-ghost use Rattle.sd_command_line.specs.Commands.{files_of, first_named, work_of};
+ghost use Rattle.std.specs.Prelude.{◌≡◌, ◌↔◌, ◌≤◌, length, true};
+ghost use Rattle.sd_command_line.specs.Commands.{example_of, command_name, operands_of, command_named};
+ghost use Rattle.sd_command_line.specs.Commands.{ends_with, files_of, first_named, is_own, work_of, MakesSecrets};
 
-use crate::exit::{self, Exit};
-use crate::operand::{Files, Operand};
+use crate::exit::Exit;
+use crate::operand::{Files, Operand, any_refuses};
 
 /// A command of the program that takes files, numbers or both.
 #[derive(Clone, Copy)]
@@ -28,6 +28,8 @@ pub enum Command {
     Lcard,
     /// `messages SITE STREAM`: prints the EMM sections and ECMs of a broadcast.
     Messages,
+    /// `next SITE BOOK WORDS OUT`: makes the site of the next broadcast from a site.
+    Next,
     /// `opens SITE BOOK LEAVES`: prints which sets a coalition of cards opens.
     Opens,
     /// `plan SITE BOOK PACKETS PIDS`: prints the size of a broadcast on air.
@@ -44,10 +46,12 @@ pub enum Command {
     Trace,
     /// `trial SITE BOOK CLEAR`: prints what each receiver writes from a broadcast.
     Trial,
+    /// `twin SITE WORDS OUT`: makes the site of a broadcast at the same time from a site.
+    Twin,
 }
 
 /// All commands, by their names.
-pub const COMMANDS: [Command; 18] = [
+pub const COMMANDS: [Command; 20] = [
     Command::Accounts,
     Command::Apart,
     Command::Book,
@@ -58,6 +62,7 @@ pub const COMMANDS: [Command; 18] = [
     Command::Layered,
     Command::Lcard,
     Command::Messages,
+    Command::Next,
     Command::Opens,
     Command::Plan,
     Command::Receive,
@@ -66,6 +71,7 @@ pub const COMMANDS: [Command; 18] = [
     Command::Tables,
     Command::Trace,
     Command::Trial,
+    Command::Twin,
 ];
 
 impl Command {
@@ -93,6 +99,7 @@ impl Command {
             Command::Layered => "layered",
             Command::Lcard => "lcard",
             Command::Messages => "messages",
+            Command::Next => "next",
             Command::Opens => "opens",
             Command::Plan => "plan",
             Command::Receive => "receive",
@@ -101,6 +108,7 @@ impl Command {
             Command::Tables => "tables",
             Command::Trace => "trace",
             Command::Trial => "trial",
+            Command::Twin => "twin",
         }
     }
 
@@ -126,6 +134,12 @@ impl Command {
             Command::Layered => &[Operand::Site, Operand::Book, Operand::Width],
             Command::Lcard => &[Operand::Site, Operand::Leaf, Operand::Width, Operand::Out],
             Command::Messages => &[Operand::Site, Operand::Stream],
+            Command::Next => &[
+                Operand::Site,
+                Operand::Book,
+                Operand::Words,
+                Operand::NewSite,
+            ],
             Command::Opens => &[Operand::Site, Operand::Book, Operand::Leaves],
             Command::Plan => &[Operand::Site, Operand::Book, Operand::Clears, Operand::Pids],
             Command::Receive => &[Operand::Card, Operand::Stream, Operand::Out],
@@ -134,6 +148,7 @@ impl Command {
             Command::Tables => &[Operand::Stream],
             Command::Trace => &[Operand::Site, Operand::Book, Operand::Leaves],
             Command::Trial => &[Operand::Site, Operand::Book, Operand::Clear],
+            Command::Twin => &[Operand::Site, Operand::Words, Operand::NewSite],
         }
     }
 
@@ -144,11 +159,14 @@ impl Command {
         Files::among(self.operands())
     }
 
-    /// Whether OUT holds the secrets of a receiver.
+    /// Whether OUT holds secrets: those of a receiver, or the master secret of a site.
     pub fn holds_secrets(self) -> bool
-        ensures { (result ≡ true) ↔ ((self ≡ Command.Card) ⊎ (self ≡ Command.Lcard)) }
+        ensures { (result ≡ true) ↔ MakesSecrets self }
     {
-        matches!(self, Command::Card | Command::Lcard)
+        matches!(
+            self,
+            Command::Card | Command::Lcard | Command::Next | Command::Twin
+        )
     }
 
     /// The command's line in help: what it does.
@@ -168,6 +186,8 @@ impl Command {
             Command::Layered => "prints the sets of each period's layered cover",
             Command::Lcard => "makes the smaller card of a receiver for layered covers",
             Command::Messages => "prints the messages of a broadcast, one line each",
+            Command::Next =>
+                "makes the site of the next broadcast: new control words, a new period",
             Command::Opens => "prints which sets of each period the cards of a coalition open",
             Command::Plan => "prints the size of a broadcast on air, before it is made",
             Command::Receive =>
@@ -177,26 +197,31 @@ impl Command {
             Command::Tables => "prints the tables of a stream, one line of JSON each",
             Command::Trace => "prints the receivers whose cards a decoder holds, found by queries",
             Command::Trial => "prints what each receiver writes from a broadcast",
+            Command::Twin =>
+                "makes the site of a broadcast at the same time: new control words, the same periods",
         }
     }
 
-    /// The exits that the command may have, in ascending order.
-    #[tactic(auto, unfolding(crate::specs::Commands::exits_of))]
-    pub fn exits(self) -> &'static [Exit]
-        ensures { result.now ≡ exits_of self }
+    /// Whether the command may end with this exit.
+    #[tactic(auto, unfolding(crate::specs::Commands::ends_with))]
+    pub fn may_end(self, exit: Exit) -> bool
+        ensures { result ≡ ends_with self exit }
+    {
+        exit.is_common() || self.has_own(exit) || any_refuses(self.operands(), exit)
+    }
+
+    /// Whether the command may end so with arguments each of which is good.
+    fn has_own(self, exit: Exit) -> bool
+        ensures { result ≡ is_own self exit }
     {
         match self {
-            Command::Accounts | Command::Book | Command::Cover | Command::Opens | Command::Trace =>
-                { exit::of_books() }
-            Command::Apart => exit::of_pairs(),
-            Command::Card | Command::Lcard => exit::of_cards(),
-            Command::Field | Command::Head | Command::Trial => exit::of_clear_streams(),
-            Command::Layered | Command::Plan => exit::of_layers(),
-            Command::Messages => exit::of_monitors(),
-            Command::Receive => exit::of_receivers(),
-            Command::Sample => exit::of_samples(),
-            Command::Show => exit::of_shown_cards(),
-            Command::Tables => exit::of_tables(),
+            Command::Apart => matches!(exit, Exit::Clash),
+            Command::Head | Command::Next => matches!(exit, Exit::OtherBook),
+            Command::Receive => matches!(
+                exit,
+                Exit::Revoked | Exit::Unheard | Exit::Unclosed | Exit::Gaps | Exit::NoCat
+            ),
+            _ => false,
         }
     }
 
@@ -218,6 +243,7 @@ impl Command {
             Command::Layered => "layered examples/site.txt examples/book.txt 2",
             Command::Lcard => "lcard examples/site.txt 2 2 layer-card-2",
             Command::Messages => "messages examples/site.txt broadcast.ts",
+            Command::Next => "next site-0.txt examples/book.txt 1000 site-1.txt",
             Command::Opens => "opens examples/site.txt examples/book.txt examples/pooled.txt",
             Command::Plan => "plan examples/site.txt examples/book.txt 600 3",
             Command::Receive => "receive card-2 broadcast.ts opened.ts",
@@ -226,6 +252,7 @@ impl Command {
             Command::Tables => "tables broadcast.ts",
             Command::Trace => "trace examples/site.txt examples/book.txt examples/pair.txt",
             Command::Trial => "trial examples/site.txt examples/book.txt clear.ts",
+            Command::Twin => "twin site-1.txt 1000 site-2.txt",
         }
     }
 }

@@ -1,6 +1,7 @@
 ghost use Rattle.std.specs.Prelude.{◌≡◌, ◌↔◌, ◌≤◌, IfErr, IfOk, length, map, string_bytes, true};
 ghost use Rattle.sd_command_line.specs.Orders.{order_said, shown, IsSound, RefusesWords};
-ghost use Rattle.sd_command_line.specs.Words.{MakesCardBy, command_in, file_texts, files_named, names_out, order_of};
+ghost use Rattle.sd_command_line.specs.Words.{HoldsSecretsBy, command_in, file_texts, files_named, names_out};
+ghost use Rattle.sd_command_line.specs.Words.{order_of};
 
 use crate::operand::has_output;
 use crate::order::{holds_secrets, read_words};
@@ -44,9 +45,9 @@ impl<'a> CommandLine<'a> {
         &self.order
     }
 
-    /// Whether the words make a card, a file that holds the secrets of a receiver.
-    pub fn makes_card(&self) -> bool
-        ensures { (result ≡ true) ↔ MakesCardBy (order_of (words_of self.now)) }
+    /// Whether the words make a file that holds secrets: a card, or a site.
+    pub fn holds_secrets(&self) -> bool
+        ensures { (result ≡ true) ↔ HoldsSecretsBy (order_of (words_of self.now)) }
     {
         match &self.order {
             Ok(order) => holds_secrets(order),

@@ -1,7 +1,5 @@
 ghost use Rattle.std.specs.Prelude.{◌≡◌};
-ghost use Rattle.sd_command_line.specs.Exits.{exits_of_books, exits_of_cards, exits_of_clear_streams, exits_of_layers};
-ghost use Rattle.sd_command_line.specs.Exits.{exits_of_monitors, exits_of_pairs, exits_of_receivers, exits_of_samples};
-ghost use Rattle.sd_command_line.specs.Exits.{exits_of_shown_cards, exits_of_tables, exit_line};
+ghost use Rattle.sd_command_line.specs.Exits.{exit_line, is_common as is_of_all};
 
 use crate::operand::Files;
 
@@ -46,7 +44,36 @@ pub enum Exit {
     BadWord,
     /// Exit 18: two broadcasts must not share one set of cards.
     Clash,
+    /// Exit 19: OUT is there already, or its name does not follow that of SITE.
+    BadOut,
+    /// Exit 21: BOOK is not the book of the site's line 13.
+    OtherBook,
 }
+
+/// All exits, by their numbers.
+pub const EXITS: [Exit; 21] = [
+    Exit::Done,
+    Exit::Usage,
+    Exit::Missing,
+    Exit::Revoked,
+    Exit::DepotFault,
+    Exit::PrintFault,
+    Exit::BadSite,
+    Exit::BadBook,
+    Exit::BadCard,
+    Exit::BadClear,
+    Exit::BadStream,
+    Exit::Limit,
+    Exit::NoMemory,
+    Exit::Unheard,
+    Exit::Unclosed,
+    Exit::Gaps,
+    Exit::NoCat,
+    Exit::BadWord,
+    Exit::Clash,
+    Exit::BadOut,
+    Exit::OtherBook,
+];
 
 impl Exit {
     /// The exit's line in the page of a command with these files: its number in four columns, and when the program ends
@@ -76,7 +103,25 @@ impl Exit {
             Exit::NoCat => "  16  the stream has no CAT for this card\n",
             Exit::BadWord => "  17  argument N is not a decimal number, or is out of range\n",
             Exit::Clash => "  18  two broadcasts must not share one set of cards\n",
+            Exit::BadOut =>
+                "  19  OUT is there already, or its name does not follow that of SITE\n",
+            Exit::OtherBook => "  21  BOOK is not the book of the site's line 13\n",
         }
+    }
+
+    /// Whether each command may end so.
+    pub fn is_common(self) -> bool
+        ensures { result ≡ is_of_all self }
+    {
+        matches!(
+            self,
+            Exit::Done
+                | Exit::Usage
+                | Exit::Missing
+                | Exit::DepotFault
+                | Exit::PrintFault
+                | Exit::NoMemory
+        )
     }
 }
 
@@ -104,177 +149,4 @@ fn missing_line(files: Files) -> &'static str
         Files::Both =>
             "   2  the file that argument N names does not exist; for OUT, its folder does not exist\n",
     }
-}
-
-/// The exits of a command that reads a site, a book and possibly another text file.
-pub fn of_books() -> &'static [Exit]
-    ensures { result.now ≡ exits_of_books }
-{
-    &[
-        Exit::Done,
-        Exit::Usage,
-        Exit::Missing,
-        Exit::DepotFault,
-        Exit::PrintFault,
-        Exit::BadSite,
-        Exit::BadBook,
-        Exit::Limit,
-        Exit::NoMemory,
-    ]
-}
-
-/// The exits of a command that makes a card of a site.
-pub fn of_cards() -> &'static [Exit]
-    ensures { result.now ≡ exits_of_cards }
-{
-    &[
-        Exit::Done,
-        Exit::Usage,
-        Exit::Missing,
-        Exit::DepotFault,
-        Exit::PrintFault,
-        Exit::BadSite,
-        Exit::Limit,
-        Exit::NoMemory,
-        Exit::BadWord,
-    ]
-}
-
-/// The exits of a command that reads a clear stream besides a site and a book.
-pub fn of_clear_streams() -> &'static [Exit]
-    ensures { result.now ≡ exits_of_clear_streams }
-{
-    &[
-        Exit::Done,
-        Exit::Usage,
-        Exit::Missing,
-        Exit::DepotFault,
-        Exit::PrintFault,
-        Exit::BadSite,
-        Exit::BadBook,
-        Exit::BadClear,
-        Exit::Limit,
-        Exit::NoMemory,
-    ]
-}
-
-/// The exits of a command that takes a width besides a site and a book.
-pub fn of_layers() -> &'static [Exit]
-    ensures { result.now ≡ exits_of_layers }
-{
-    &[
-        Exit::Done,
-        Exit::Usage,
-        Exit::Missing,
-        Exit::DepotFault,
-        Exit::PrintFault,
-        Exit::BadSite,
-        Exit::BadBook,
-        Exit::Limit,
-        Exit::NoMemory,
-        Exit::BadWord,
-    ]
-}
-
-/// The exits of a command that reads two sites and their books.
-pub fn of_pairs() -> &'static [Exit]
-    ensures { result.now ≡ exits_of_pairs }
-{
-    &[
-        Exit::Done,
-        Exit::Usage,
-        Exit::Missing,
-        Exit::DepotFault,
-        Exit::PrintFault,
-        Exit::BadSite,
-        Exit::BadBook,
-        Exit::Limit,
-        Exit::NoMemory,
-        Exit::Clash,
-    ]
-}
-
-/// The exits of a command that opens a broadcast with a card.
-pub fn of_receivers() -> &'static [Exit]
-    ensures { result.now ≡ exits_of_receivers }
-{
-    &[
-        Exit::Done,
-        Exit::Usage,
-        Exit::Missing,
-        Exit::Revoked,
-        Exit::DepotFault,
-        Exit::PrintFault,
-        Exit::BadCard,
-        Exit::BadStream,
-        Exit::Limit,
-        Exit::NoMemory,
-        Exit::Unheard,
-        Exit::Unclosed,
-        Exit::Gaps,
-        Exit::NoCat,
-    ]
-}
-
-/// The exits of a command that makes a stream of a number.
-pub fn of_samples() -> &'static [Exit]
-    ensures { result.now ≡ exits_of_samples }
-{
-    &[
-        Exit::Done,
-        Exit::Usage,
-        Exit::Missing,
-        Exit::DepotFault,
-        Exit::PrintFault,
-        Exit::NoMemory,
-        Exit::BadWord,
-    ]
-}
-
-/// The exits of a command that shows a stream.
-pub fn of_tables() -> &'static [Exit]
-    ensures { result.now ≡ exits_of_tables }
-{
-    &[
-        Exit::Done,
-        Exit::Usage,
-        Exit::Missing,
-        Exit::DepotFault,
-        Exit::PrintFault,
-        Exit::BadStream,
-        Exit::NoMemory,
-    ]
-}
-
-/// The exits of a command that shows the messages of a site in a stream.
-pub fn of_monitors() -> &'static [Exit]
-    ensures { result.now ≡ exits_of_monitors }
-{
-    &[
-        Exit::Done,
-        Exit::Usage,
-        Exit::Missing,
-        Exit::DepotFault,
-        Exit::PrintFault,
-        Exit::BadSite,
-        Exit::BadStream,
-        Exit::Limit,
-        Exit::NoMemory,
-    ]
-}
-
-/// The exits of a command that shows a card.
-pub fn of_shown_cards() -> &'static [Exit]
-    ensures { result.now ≡ exits_of_shown_cards }
-{
-    &[
-        Exit::Done,
-        Exit::Usage,
-        Exit::Missing,
-        Exit::DepotFault,
-        Exit::PrintFault,
-        Exit::BadCard,
-        Exit::Limit,
-        Exit::NoMemory,
-    ]
 }

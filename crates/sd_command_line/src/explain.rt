@@ -1,17 +1,21 @@
 ghost use Rattle.std.specs.Prelude.{◌≡◌, map, string_bytes, IfOk};
 ghost use Rattle.sd_command_line.specs.CommandLine.{words_of};
 ghost use Rattle.sd_command_line.specs.Explained.{argument_line, command_line, count_line, explained, help_line};
-ghost use Rattle.sd_command_line.specs.Explained.{of_argument, shown, topic_line, usage_line, word_line};
-ghost use Rattle.sd_command_line.specs.Reasons.{card_reason, line_reason, missing_reason, output_reason};
-ghost use Rattle.sd_command_line.specs.Reasons.{range_reason, site_reason};
+ghost use Rattle.sd_command_line.specs.Explained.{book_word, of_argument, shown, topic_line, usage_line, word_line};
+ghost use Rattle.sd_command_line.specs.Reasons.{card_reason, line_reason, missing_reason, out_reason, output_reason};
+ghost use Rattle.sd_command_line.specs.Reasons.{own_book_reason, range_reason, site_reason};
+ghost use Rattle.sd_command_line.specs.Words.{command_in};
 
 use crate::escape::escaped;
 use crate::found::{Argument, find_argument};
 use crate::order::{is_help, is_version};
 use crate::{CommandLine, reason};
-use sd_command_base::Status;
+use sd_command_base::{OutCause, Status};
 use sd_site::{CardFault, SiteFault};
 use std::alloc::{AllocError, Global};
+
+/// BOOK is this argument of each command that asks whether it is the site's.
+const BOOK_WORD: u8 = 2;
 
 /// The line that explains a status to a user, or no text if the status is about no argument.
 #[tactic(auto, unfolding(crate::specs::Explained::explained))]
@@ -29,6 +33,8 @@ pub fn explanation(
         Status::BadBook { word, line: number } => book(alloc, line, word, number),
         Status::BadCard { word, fault } => card(alloc, line, word, fault),
         Status::BadWord(word) => range(alloc, line, word),
+        Status::BadOut { word, cause } => out(alloc, line, word, cause),
+        Status::OtherBook => own_book(alloc, line),
         _ => Ok(String::new(alloc)),
     }
 }
@@ -196,6 +202,33 @@ fn range(alloc: Global, line: &CommandLine<'_>, word: u8) -> Result<String, Allo
             let reason = reason::range(alloc, argument.operand)?;
             about(alloc, argument, reason.as_str())
         }
+        None => Ok(String::new(alloc)),
+    }
+}
+
+/// The line of a file that must not be made.
+fn out(
+    alloc: Global,
+    line: &CommandLine<'_>,
+    word: u8,
+    cause: OutCause,
+) -> Result<String, AllocError>
+    ensures { IfOk result (λ text. string_bytes text ≡
+        of_argument (words_of line.now) word (λ operand. out_reason cause)) }
+{
+    match find_argument(line, word) {
+        Some(argument) => about(alloc, argument, reason::out(cause)),
+        None => Ok(String::new(alloc)),
+    }
+}
+
+/// The line of a book that is not the site's.
+fn own_book(alloc: Global, line: &CommandLine<'_>) -> Result<String, AllocError>
+    ensures { IfOk result (λ text. string_bytes text ≡
+        of_argument (words_of line.now) book_word (λ operand. own_book_reason (command_in (words_of line.now)))) }
+{
+    match find_argument(line, BOOK_WORD) {
+        Some(argument) => about(alloc, argument, reason::own_book(line.command)),
         None => Ok(String::new(alloc)),
     }
 }

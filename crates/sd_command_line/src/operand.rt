@@ -3,6 +3,9 @@ ghost use Rattle.std.specs.List.{list_any};
 ghost use Rattle.sd_command_line.specs.Operands.{is_file as kind_is_file, is_input as kind_is_input};
 ghost use Rattle.sd_command_line.specs.Operands.{is_output as kind_is_output, files_among, operand_kind};
 ghost use Rattle.sd_command_line.specs.Operands.{meaning_of, operand_name};
+ghost use Rattle.sd_command_line.specs.Exits.{refuses as argument_refuses};
+
+use crate::exit::Exit;
 
 /// What an argument is.
 #[derive(Clone, Copy, PartialEq, Eq)]
@@ -78,6 +81,13 @@ pub(crate) fn has_output(operands: &[Operand]) -> bool
     operands.iter().any(|operand| operand.kind().is_output())
 }
 
+/// Whether the program may end with this exit because one of the arguments is refused.
+pub(crate) fn any_refuses(operands: &[Operand], exit: Exit) -> bool
+    ensures { result ≡ list_any (λ operand. argument_refuses operand exit) operands.now }
+{
+    operands.iter().any(|operand| operand.refuses(exit))
+}
+
 /// An argument that a command takes.
 #[derive(Clone, Copy)]
 pub enum Operand {
@@ -111,6 +121,10 @@ pub enum Operand {
     Clears,
     /// PIDS, the number of PIDs that have positions, at most 256.
     Pids,
+    /// WORDS, a number of control words, from 1 to 2^32 - 1, for which the numbers above those of SITE suffice.
+    Words,
+    /// OUT of `next` and `twin`, a site file that must be new, and whose name follows that of SITE.
+    NewSite,
     /// OUT, the output file.
     Out,
 }
@@ -136,7 +150,8 @@ impl Operand {
             Operand::Number => "NUMBER",
             Operand::Packets | Operand::Clears => "PACKETS",
             Operand::Pids => "PIDS",
-            Operand::Out => "OUT",
+            Operand::Words => "WORDS",
+            Operand::NewSite | Operand::Out => "OUT",
         }
     }
 
@@ -156,9 +171,9 @@ impl Operand {
             | Operand::Leaves => Kind::Input,
             Operand::Leaf | Operand::Width | Operand::Number => Kind::Number(u32::MAX),
             Operand::Packets => Kind::Number(1_000_000),
-            Operand::Clears => Kind::Count(u32::MAX),
+            Operand::Clears | Operand::Words => Kind::Count(u32::MAX),
             Operand::Pids => Kind::Number(256),
-            Operand::Out => Kind::Output,
+            Operand::NewSite | Operand::Out => Kind::Output,
         }
     }
 
@@ -169,7 +184,7 @@ impl Operand {
     {
         match self {
             Operand::Site =>
-                "the site file: height, master, PIDs, period lengths, version of messages, control words, first period",
+                "the site file: height, master, PIDs, period lengths, messages, control words, first period, book",
             Operand::Book =>
                 "the book: one command per line, subscribe LEAF, revoke LEAF or period",
             Operand::Accounts => {
@@ -191,8 +206,39 @@ impl Operand {
                 "how many clear packets: 1 to 4294967295, at most ecm-every * crypto-ecms for each control word of SITE"
             }
             Operand::Pids => "the number of PIDs from 32 to 8175 that carry payload, at most 256",
+            Operand::Words => {
+                "how many control words the broadcast has: 1 to 4294967295, at most those that SITE has left"
+            }
+            Operand::NewSite => {
+                "the site that is made: a new file, of which the name is that of SITE with its last number one higher"
+            }
             Operand::Out =>
                 "the output file; /dev/stdout for a pipe, and all lines then go to standard error",
+        }
+    }
+    /// Whether the program may end with this exit because the argument, or what it names, is refused.
+    fn refuses(self, exit: Exit) -> bool
+        ensures { result ≡ argument_refuses self exit }
+    {
+        match self {
+            Operand::Site => matches!(exit, Exit::BadSite | Exit::Limit),
+            Operand::Book
+            | Operand::Accounts
+            | Operand::Commands
+            | Operand::Script
+            | Operand::Leaves => matches!(exit, Exit::BadBook | Exit::Limit),
+            Operand::Card => matches!(exit, Exit::BadCard | Exit::Limit),
+            Operand::Clear => matches!(exit, Exit::BadClear),
+            Operand::Stream => matches!(exit, Exit::BadStream),
+            Operand::Leaf
+            | Operand::Width
+            | Operand::Number
+            | Operand::Packets
+            | Operand::Clears
+            | Operand::Pids
+            | Operand::Words => matches!(exit, Exit::BadWord),
+            Operand::NewSite => matches!(exit, Exit::BadOut),
+            Operand::Out => false,
         }
     }
 }

@@ -1,10 +1,10 @@
 ghost use Rattle.std.specs.Prelude.{◌≡◌, ◌++◌, IfOk, OnOk, string_bytes};
 ghost use Rattle.std.specs.List.{flat_map};
-ghost use Rattle.sd_command_line.specs.Exits.{exit_line};
-ghost use Rattle.sd_command_line.specs.Pages.{head_text, operand_line, overview as overview_text, page_text, spaced};
-ghost use Rattle.sd_command_line.specs.Pages.{tail_text, topic_line, usage_of};
+ghost use Rattle.sd_command_line.specs.Pages.{exit_text, head_text, operand_line, overview as overview_text, page_text};
+ghost use Rattle.sd_command_line.specs.Pages.{spaced, tail_text, topic_line, usage_of};
 
-use crate::{COMMANDS, Command, Exit, Files, Operand};
+use crate::exit::{EXITS, Exit};
+use crate::{COMMANDS, Command, Operand};
 use std::alloc::{AllocError, Global};
 use std::fmt::Write;
 
@@ -35,7 +35,7 @@ pub fn page(alloc: Global, topic: Command) -> Result<String, AllocError>
     let mut text = head(alloc, topic)?;
     push_operands(&mut text, topic.operands())?;
     text.push_str("\nexits\n")?;
-    push_exits(&mut text, topic.exits(), topic.files())?;
+    push_exits(&mut text, topic, &EXITS)?;
     push_tail(&mut text, topic)?;
     Ok(text)
 }
@@ -98,12 +98,23 @@ fn push_operand(text: &mut String, operand: Operand) -> Result<(), AllocError>
     write!(text, "  {name:<8}  {meaning}\n")
 }
 
-/// The lines of the exits of a command with these files.
-fn push_exits(text: &mut String, exits: &[Exit], files: Files) -> Result<(), AllocError>
-    ensures { OnOk result (string_bytes text.new ≡ string_bytes text.old ++ flat_map (exit_line files) exits.now) }
+/// The lines of those of the exits with which a command may end.
+fn push_exits(text: &mut String, topic: Command, exits: &[Exit]) -> Result<(), AllocError>
+    ensures { OnOk result (string_bytes text.new ≡ string_bytes text.old ++ flat_map (exit_text topic) exits.now) }
 {
     for exit in exits {
-        text.push_str(exit.line(files))?;
+        push_exit(text, topic, *exit)?;
+    }
+    Ok(())
+}
+
+/// The line of an exit, if a command may end with it.
+#[tactic(auto, unfolding(crate::specs::Pages::exit_text))]
+fn push_exit(text: &mut String, topic: Command, exit: Exit) -> Result<(), AllocError>
+    ensures { OnOk result (string_bytes text.new ≡ string_bytes text.old ++ exit_text topic exit) }
+{
+    if topic.may_end(exit) {
+        text.push_str(exit.line(topic.files()))?;
     }
     Ok(())
 }

@@ -1,9 +1,11 @@
 ghost use Rattle.std.specs.Prelude.{◌≡◌, IfOk, string_bytes};
 ghost use Rattle.sd_command_line.specs.Reasons.{card_reason, line_of, line_reason, missing_reason};
-ghost use Rattle.sd_command_line.specs.Reasons.{miscounted_reason, no_page_reason, output_reason, range_reason};
+ghost use Rattle.sd_command_line.specs.Reasons.{miscounted_reason, no_page_reason, out_reason, output_reason};
+ghost use Rattle.sd_command_line.specs.Reasons.{own_book_reason, range_reason};
 ghost use Rattle.sd_command_line.specs.Reasons.{rule_of, site_reason, unknown_reason};
 
-use crate::Operand;
+use crate::{Command, Operand};
+use sd_command_base::OutCause;
 use sd_site::{CardFault, SiteFault};
 use std::alloc::{AllocError, Global};
 
@@ -13,7 +15,7 @@ pub(crate) fn missing(operand: Operand) -> &'static str
     ensures { result.now ≡ missing_reason operand }
 {
     match operand {
-        Operand::Out => "no such folder",
+        Operand::NewSite | Operand::Out => "no such folder",
         _ => "no such file",
     }
 }
@@ -48,6 +50,30 @@ pub(crate) fn output() -> &'static str
     ensures { result.now ≡ output_reason }
 {
     "it is one of the inputs"
+}
+
+/// Why a file must not be made.
+#[tactic(auto, unfolding(crate::specs::Reasons::out_reason))]
+pub(crate) fn out(cause: OutCause) -> &'static str
+    ensures { result.now ≡ out_reason cause }
+{
+    match cause {
+        OutCause::There => "it is there already; each site is made once",
+        OutCause::Name => "its name is not that of SITE with the last number one higher",
+    }
+}
+
+/// Why a book is refused by this command: `next` takes one that begins with the site's, others take the site's.
+#[tactic(auto, unfolding(crate::specs::Reasons::own_book_reason))]
+pub(crate) fn own_book(command: Option<Command>) -> &'static str
+    ensures { result.now ≡ own_book_reason command }
+{
+    match command {
+        Some(Command::Next) => {
+            "it doesn't begin with the book of the site's line 13; an old book was put back, or a line was changed or lost"
+        }
+        _ => "it is not the book of the site's line 13; if it only got longer, make the next site",
+    }
 }
 
 /// Why a site is refused.

@@ -9,12 +9,13 @@ ghost use Rattle.sd_command_base.specs.Texts.{revoked_line as revoked_line_of, u
 ghost use Rattle.sd_command_base.specs.Texts.{unclosed_line as unclosed_line_of, gaps_line as gaps_line_of};
 ghost use Rattle.sd_command_base.specs.Texts.{missing_line as missing_line_of, book_line as book_line_of};
 ghost use Rattle.sd_command_base.specs.Texts.{word_line as word_line_of, clash_line as clash_line_of};
+ghost use Rattle.sd_command_base.specs.Texts.{out_line as out_line_of};
 ghost use Rattle.sd_command_line.specs.Lines.{bytes_of};
 ghost use Rattle.sd_command_base.specs.Outside.{page_state};
 ghost use Rattle.sd_command_base.specs.Results.{PrintsLine, PrintsStatusLine, TakesMemory};
 
 use sd_book::BookLimit;
-use sd_command_base::{Clash, LimitKind, Status, StreamRefusal};
+use sd_command_base::{Clash, LimitKind, OutCause, Status, StreamRefusal};
 use sd_engine::{BreakCause, MOST_PACKETS};
 use sd_message::StreamFault;
 use sd_ports::{Sink, write_all};
@@ -90,6 +91,8 @@ fn status_line(alloc: Global, status: Status) -> Result<Line, AllocError>
         Status::NoCat => Ok(Line::Fixed("no CAT for this card\n")),
         Status::BadWord(word) => word_line(alloc, word),
         Status::Clash(clash) => clash_line(alloc, clash),
+        Status::BadOut { word, cause } => out_line(alloc, word, cause),
+        Status::OtherBook => Ok(Line::Fixed("book is not that of the site\n")),
     }
 }
 
@@ -133,6 +136,17 @@ fn clash_line(alloc: Global, clash: Clash) -> Result<Line, AllocError>
             "books disagree on receiver {leaf} in period {period}\n"
         )?),
     })
+}
+
+/// The line of a file that must not be made.
+#[tactic(auto, unfolding(sd_command_base::specs::Texts::out_line))]
+fn out_line(alloc: Global, word: u8, cause: OutCause) -> Result<Line, AllocError>
+    ensures { IfOk result (λ line. bytes_of line ≡ out_line_of word cause) }
+{
+    Ok(Line::Made(match cause {
+        OutCause::There => format!(in alloc; "file word {word} is there\n")?,
+        OutCause::Name => format!(in alloc; "file word {word} does not follow file word 1\n")?,
+    }))
 }
 
 /// The line of a leaf that is revoked.

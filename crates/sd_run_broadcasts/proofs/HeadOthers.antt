@@ -1,22 +1,40 @@
 -- `head` never means `Usage`.
-use Rattle.std.proofs.Common.{ℕ, List, Option}
-use Rattle.sd_command_base.specs.Spec.{FileArgument, Readings, all_of, value, ◌>>=◌}
-use Rattle.sd_command_base.specs.Files.{site_of_file, book_of_file}
-use Rattle.sd_command_base.proofs.Others.{IsOther, other_after, other_stream, other_site_file, other_book_file}
-use Rattle.sd_run_broadcasts.specs.Head.{plan_by, sending, sending_of, head_meaning}
+use Rattle.std.proofs.Common.{ℕ, List, Option, Result, Ok, Err}
+use Rattle.sd_site.specs.SiteFields.{SiteFields}
+use Rattle.sd_site.specs.Text.{book_line_of, site_of}
+use Rattle.sd_site.specs.declared.book_line.BookLine.{BookLine}
+use Rattle.sd_site.specs.declared.site_fault.SiteFault.{SiteFault}
+use Rattle.sd_command_base.specs.declared.status.LimitKind.TheVariants.{SiteBytes}
+use Rattle.sd_command_base.specs.Spec.{FileArgument, Readings, all_of, judged, value, within, ◌>>=◌}
+use Rattle.sd_command_base.specs.Files.{most_site_bytes, own_book_of_file, told_site}
+use Rattle.sd_command_base.proofs.Others.{IsOther, other_after, other_file, other_own_book_file, other_stream}
+use Rattle.sd_run_broadcasts.specs.Head.{plan_by, sending, sending_of, head_meaning, site_and_line_of_file}
+use Rattle.sd_run_broadcasts.specs.Head.{with_line}
+
+other_said : (word : ℕ) (line : Option BookLine) (r : Result SiteFields SiteFault) →
+    IsOther (with_line line (told_site word r))
+other_said word line (Ok fields) = tt
+other_said word line (Err fault) = λ e. cc
+
+other_site_and_line : (word : ℕ) (got : Option (List ℕ)) → IsOther (site_and_line_of_file word got).result
+unfolding site_and_line_of_file
+other_site_and_line word got =
+    other_after (within word most_site_bytes SiteBytes got).calls (within word most_site_bytes SiteBytes got).result
+    (λ bytes. judged (with_line (book_line_of bytes) (told_site word (site_of bytes))))
+    (other_file word most_site_bytes SiteBytes got) (λ bytes. other_said word (book_line_of bytes) (site_of bytes))
 
 other_plan : (site book : ℕ) (site_got book_got : Option (List ℕ)) →
     IsOther (plan_by site book site_got book_got).result
 unfolding plan_by
 other_plan site book site_got book_got =
-    other_after (site_of_file site site_got).calls (site_of_file site site_got).result
-    (λ fields. book_of_file book fields.height book_got >>= λ commands. value
-    (record { site = fields; commands = commands }))
-    (other_site_file site site_got)
-    (λ fields. other_after (book_of_file book fields.height book_got).calls
-    (book_of_file book fields.height book_got).result
-    (λ commands. value (record { site = fields; commands = commands })) (other_book_file book fields.height book_got)
-    (λ commands. tt))
+    other_after (site_and_line_of_file site site_got).calls (site_and_line_of_file site site_got).result
+    (λ said. own_book_of_file book said.0.height said.1 book_got
+    >>= λ commands. value (record { site = said.0; commands = commands }))
+    (other_site_and_line site site_got)
+    (λ said. other_after (own_book_of_file book said.0.height said.1 book_got).calls
+    (own_book_of_file book said.0.height said.1 book_got).result
+    (λ commands. value (record { site = said.0; commands = commands }))
+    (other_own_book_file book said.0.height said.1 book_got) (λ commands. tt))
 
 pub other_head : (site book clear out : FileArgument) (given : Readings) →
     IsOther (head_meaning site book clear out given).result

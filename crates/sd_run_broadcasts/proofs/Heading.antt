@@ -16,7 +16,7 @@ use Rattle.sd_head.specs.declared.head.Head.{Head}
 use Rattle.sd_head.specs.Schedule.{IsDue}
 use Rattle.sd_head.specs.Staged.{IsAfter, head_does, head_ends, head_refuses, RefusesPacket}
 use Rattle.sd_command_base.specs.declared.status.Status.{Status}
-use Rattle.sd_command_base.specs.declared.status.Status.TheVariants.{DepotFault, NoMemory}
+use Rattle.sd_command_base.specs.declared.status.Status.TheVariants.{DepotFault}
 use Rattle.sd_command_base.specs.Outside.{DepotState, PageState, Outside, outside}
 use Rattle.sd_command_base.specs.Spec.{Spec, FileArgument, IsGot, ◌>>=◌}
 use Rattle.sd_command_base.specs.Outcome.{OutcomeWithin, Implements}

@@ -5,7 +5,7 @@ pub mod Others
 pub mod HeadSending
 pub mod Heading
 pub mod HeadOthers
-pub mod Planned
+pub mod Said
 pub mod Cards
 pub mod Received
 pub mod ReceiveOthers

@@ -6,6 +6,9 @@ use Rattle.sd_engine.specs.declared.driver.DriveFault.{DriveFault}
 use Rattle.sd_engine.specs.declared.driver.DriveFault.TheVariants as drive
 use Rattle.sd_head.specs.declared.fault.HeadFault.{HeadFault}
 use Rattle.sd_head.specs.declared.fault.HeadFault.TheVariants as head
+use Rattle.sd_site.specs.SiteFields.{SiteFields}
+use Rattle.sd_site.specs.Text.{book_line_of, site_of}
+use Rattle.sd_site.specs.declared.book_line.BookLine.{BookLine}
 use Rattle.sd_spec.specs.Plan.{Plan}
 use Rattle.sd_spec.specs.Refused.{refusal_from}
 use Rattle.sd_spec.specs.Sent.{body, broadcast}
@@ -14,9 +17,10 @@ use Rattle.sd_psi.specs.ClearFaults.{clear_packet}
 use Rattle.sd_command_base.specs.declared.status.Status.{Status}
 use Rattle.sd_command_base.specs.declared.status.Status.TheVariants.{Done, BadClear, DepotFault, NoMemory}
 use Rattle.sd_command_base.specs.declared.stream_refusal.StreamRefusal.TheVariants.{Broken, TooLong, Packet}
-use Rattle.sd_command_base.specs.Spec.{Spec, FileArgument, Readings, all_of, value, ◌>>=◌}
+use Rattle.sd_command_base.specs.Spec.{Spec, FileArgument, Readings, all_of, judged, value, within, ◌>>=◌}
 use Rattle.sd_command_base.specs.Work.{Uncounted, Work}
-use Rattle.sd_command_base.specs.Files.{site_of_file, book_of_file}
+use Rattle.sd_command_base.specs.declared.status.LimitKind.TheVariants.{SiteBytes}
+use Rattle.sd_command_base.specs.Files.{most_site_bytes, own_book_of_file, told_site}
 use Rattle.sd_command_base.specs.Turned.{turning, Wrote}
 
 -- the status that comes of the end of a clear stream of which no packet is refused
@@ -51,12 +55,23 @@ sent_status plan bytes = status_where (end_of bytes) (refusal_from plan.site [] 
 abbrev pub sending : Plan → FileArgument → List ℕ → Work
 sending plan out bytes = turning Uncounted out (sent_of plan bytes) (sent_status plan bytes)
 
--- the site and the book of what their files gave
+-- a site that was judged, with what its line 13 says of its book, if it is there
+abbrev pub with_line : Option BookLine → Result SiteFields Status → Result (SiteFields × Option BookLine) Status
+with_line line (Err status) = Err status
+with_line line (Ok fields) = Ok (fields, line)
+
+-- the site of what the file of this word gave, with what its line 13 says
+unfoldable pub site_and_line_of_file : ℕ → Option (List ℕ) → Spec (SiteFields × Option BookLine)
+site_and_line_of_file word got =
+    within word most_site_bytes SiteBytes got
+    >>= λ bytes. judged (with_line (book_line_of bytes) (told_site word (site_of bytes)))
+
+-- the site and its own book of what their files gave
 unfoldable pub plan_by : ℕ → ℕ → Option (List ℕ) → Option (List ℕ) → Spec Plan
 plan_by site book site_got book_got = do
-  fields ← site_of_file site site_got
-  commands ← book_of_file book fields.height book_got
-  value (record { site = fields; commands = commands })
+  said ← site_and_line_of_file site site_got
+  commands ← own_book_of_file book said.0.height said.1 book_got
+  value (record { site = said.0; commands = commands })
 
 abbrev pub plan_meaning : FileArgument → FileArgument → Readings → Spec Plan
 plan_meaning site book given = plan_by site.number book.number (given site) (given book)

@@ -6,8 +6,9 @@ ghost use Rattle.sd_run_broadcasts.specs.Head.{head_meaning, refusal_in, sent_to
 ghost use Rattle.sd_command_base.specs.Turned.{HasPortCause};
 ghost use Rattle.sd_command_base.specs.Shown.{shown_word};
 
+use crate::head_plan::read_plan;
 use sd_base::Steps;
-use sd_command_base::{Status, StreamRefusal, Word, close_both, open_both, read_both};
+use sd_command_base::{Status, StreamRefusal, Word, close_both, open_both};
 use sd_engine::{DriveFault, drive};
 use sd_head::{Head, HeadFault};
 use sd_ports::{Depot, Sink, Source};
@@ -33,7 +34,7 @@ pub fn head<D: Depot, L: Ledger>(
         (outside (depot_state D.Depot depot.new) page steps.new)
         (status_of result) }
 {
-    let (site, book) = read_both(alloc, depot, site, book)?;
+    let (site, book) = read_plan(alloc, depot, site, book)?;
     let mut head = Head::new(alloc, site, book)?;
     let (mut inlet, mut outlet) = open_both(alloc, depot, clear, out)?;
     let sent = send(&mut inlet, &mut outlet, &mut head, steps);

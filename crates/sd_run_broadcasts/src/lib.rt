@@ -9,6 +9,7 @@ mod field_lines;
 mod field_play;
 mod field_script;
 mod head_command;
+mod head_plan;
 mod receive_command;
 mod trial_command;
 mod trial_hear;

@@ -2,6 +2,6 @@ use Rattle.std.proofs.Common.{rules}
 use Rattle.sd_command_line.specs.Reasons.{missing_reason}
 use Rattle.sd_command_line.proofs.reason.missing.Goals as goal
 
-pub returns-in-Out : goal.returns-in-Out
+pub returns-in-NewSite : goal.returns-in-NewSite
 unfolding missing_reason
-returns-in-Out c = search rules
+returns-in-NewSite c = search rules

@@ -1,4 +1,4 @@
-use Rattle.std.proofs.Common.{refl, sym, subst, Some, Ok, Err, []}
+use Rattle.std.proofs.Common.{refl, sym, subst, Some, []}
 use Rattle.std.proofs.lemmas.Result.{err_from_is_err_and}
 use Rattle.sd_site.specs.SiteFields.{fields_of}
 use Rattle.sd_ports.proofs.Outlets.{there_after}
@@ -14,18 +14,11 @@ use Rattle.sd_command_base.specs.Shown.{shown_word}
 use Rattle.sd_command_base.proofs.Looked.{opened_got}
 use Rattle.sd_command_base.proofs.Turning.{turned_obeys, not_turned}
 use Rattle.sd_run_broadcasts.proofs.Heading.{by_plan, plan_follows, no_plan}
-use Rattle.sd_run_broadcasts.proofs.Planned.{reads_plan}
 use Rattle.sd_run_broadcasts.proofs.head_command.head.Goals as goal
-use Rattle.sd_command_base.specs.Both.{SiteBook}
 use Rattle.sd_command_base.proofs.Thirds.{wanting_obeys}
-use Rattle.sd_site.specs.declared.site.Site.{Site}
-use Rattle.sd_book.specs.declared.book.Book.{Book}
 
-abbrev both_read : Site × Book → SiteBook
-both_read both = record { site = fields_of both.0; commands = both.1.commands }
-
-pub read_both-requires : goal.read_both-requires
-read_both-requires g c = c.requires.0
+pub read_plan-requires : goal.read_plan-requires
+read_plan-requires g c = c.requires.0
 
 pub new-requires : goal.new-requires
 new-requires g c = c.in_ok-site.ensures.height
@@ -43,10 +36,9 @@ returns-in_err-site g c page =
     rw (p.1, p.2) (no_plan (λ plan. record { site = fields_of plan.0; commands = plan.1.commands })
     (shown_word c.args.site)
     (shown_word c.args.book) (shown_word c.args.clear) (shown_word c.args.out)
-    (depot_state g.D.Depot c.args.depot.now) (depot_state g.D.Depot c.read_both.new.depot) page c.args.steps.now
+    (depot_state g.D.Depot c.args.depot.now) (depot_state g.D.Depot c.read_plan.new.depot) page c.args.steps.now
     c.in_err-site.field-0.0
-    (reads_plan both_read (shown_word c.args.site) (shown_word c.args.book) (depot_state g.D.Depot c.args.depot.now)
-    (depot_state g.D.Depot c.read_both.new.depot) (Err c.in_err-site.field-0.0) c.in_err-site.ensures.value))
+    c.in_err-site.ensures.value)
 
 -- memory was out for the head end
 pub returns-in_err-head : goal.returns-in_err-head
@@ -54,7 +46,7 @@ returns-in_err-head g c page =
     let p = err_from_is_err_and c.from_residual-in_err-head.result c.from_residual-in_err-head.ensures.1 in
     let clear = shown_word c.args.clear in
     let out = shown_word c.args.out in
-    let q = depot_state g.D.Depot c.read_both.new.depot in
+    let q = depot_state g.D.Depot c.read_plan.new.depot in
     let got = some_got q.files clear.text in
     let plan : Plan = record { site = fields_of c.in_ok-site.site; commands = c.in_ok-site.book.commands } in
     rw (p.1, p.2) (plan_follows (λ plan. record { site = fields_of plan.0; commands = plan.1.commands })
@@ -62,8 +54,7 @@ returns-in_err-head g c page =
     (shown_word c.args.book) clear out got.0 (depot_state g.D.Depot c.args.depot.now) q page c.args.steps.now
     (outside q page c.args.steps.now)
     (c.in_ok-site.site, c.in_ok-site.book) NoMemory c.requires.1 c.requires.2
-    (reads_plan both_read (shown_word c.args.site) (shown_word c.args.book) (depot_state g.D.Depot c.args.depot.now) q
-    (Ok (c.in_ok-site.site, c.in_ok-site.book)) c.in_ok-site.ensures.value) got.1
+    c.in_ok-site.ensures.value got.1
     (wanting_obeys (sending_of clear out got.0 plan) q page c.args.steps.now NoMemory refl))
 
 -- the stream was not opened, or OUT not made
@@ -72,7 +63,7 @@ returns-in_err-inlet g c page =
     let p = err_from_is_err_and c.from_residual-in_err-inlet.result c.from_residual-in_err-inlet.ensures.1 in
     let clear = shown_word c.args.clear in
     let out = shown_word c.args.out in
-    let q = depot_state g.D.Depot c.read_both.new.depot in
+    let q = depot_state g.D.Depot c.read_plan.new.depot in
     let r = depot_state g.D.Depot c.open_both.new.depot in
     let status = c.in_err-inlet.field-0.0 in
     let plan : Plan = record { site = fields_of c.in_ok-site.site; commands = c.in_ok-site.book.commands } in
@@ -84,20 +75,19 @@ returns-in_err-inlet g c page =
     (shown_word c.args.book) clear out none.got (depot_state g.D.Depot c.args.depot.now) q page c.args.steps.now
     (outside r page c.args.steps.now)
     (c.in_ok-site.site, c.in_ok-site.book) status c.requires.1 c.requires.2
-    (reads_plan both_read (shown_word c.args.site) (shown_word c.args.book) (depot_state g.D.Depot c.args.depot.now) q
-    (Ok (c.in_ok-site.site, c.in_ok-site.book)) c.in_ok-site.ensures.value) none.is_got
+    c.in_ok-site.ensures.value none.is_got
     none.obeys)
 
 pub close_both-requires : goal.close_both-requires
 close_both-requires g c =
-    there_after (g.D.Depot.files c.read_both.new.depot) (g.D.Depot.files c.open_both.new.depot) c.args.out.text.now []
+    there_after (g.D.Depot.files c.read_plan.new.depot) (g.D.Depot.files c.open_both.new.depot) c.args.out.text.now []
     c.in_ok-inlet.ensures.ok.files
 
 pub returns : goal.returns
 returns g c page =
     let clear = shown_word c.args.clear in
     let out = shown_word c.args.out in
-    let q = depot_state g.D.Depot c.read_both.new.depot in
+    let q = depot_state g.D.Depot c.read_plan.new.depot in
     let m = depot_state g.D.Depot c.open_both.new.depot in
     let r = depot_state g.D.Depot c.close_both.new.depot in
     let plan : Plan = record { site = fields_of c.in_ok-site.site; commands = c.in_ok-site.book.commands } in
@@ -108,8 +98,7 @@ returns g c page =
     c.args.steps.now
     (outside r page c.send-sent.new.steps) (c.in_ok-site.site, c.in_ok-site.book) (status_of c.close_both.result)
     c.requires.1 c.requires.2
-    (reads_plan both_read (shown_word c.args.site) (shown_word c.args.book) (depot_state g.D.Depot c.args.depot.now) q
-    (Ok (c.in_ok-site.site, c.in_ok-site.book)) c.in_ok-site.ensures.value)
+    c.in_ok-site.ensures.value
     (opened_got q.files clear.text _ sent.bytes opened.opens sent.is_left)
     (turned_obeys (λ bytes. Uncounted) (sent_of plan) (sent_status plan) clear out sent.bytes q m r page
     c.args.steps.now

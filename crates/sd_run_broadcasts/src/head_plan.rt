@@ -1,0 +1,56 @@
+ghost use Rattle.std.specs.Prelude.{◌≡◌, ◌≢◌, IfOk};
+ghost use Rattle.sd_site.specs.SiteFields.{fields_of};
+ghost use Rattle.sd_site.specs.Text.{book_line_of, site_of};
+ghost use Rattle.sd_command_base.specs.Files.{told_site};
+ghost use Rattle.sd_command_base.specs.Outside.{depot_state};
+ghost use Rattle.sd_command_base.specs.Reads.{FileOutcome, FilesOutcome, SureOutcome};
+ghost use Rattle.sd_command_base.specs.Shown.{shown_word};
+ghost use Rattle.sd_run_broadcasts.specs.Head.{plan_meaning, site_and_line_of_file, with_line};
+
+use sd_book::Book;
+use sd_command_base::{LimitKind, MOST_SITE_BYTES, Status, Word, read_bytes, read_own};
+use sd_ports::Depot;
+use sd_site::{BookLine, Site, read_with_book};
+use std::alloc::Global;
+
+/// Reads the site, and then the book for its tree, which must be that of the site's line 13 if it has one.
+pub fn read_plan<D: Depot>(
+    alloc: Global,
+    depot: &mut D,
+    site: Word<'_>,
+    book: Word<'_>,
+) -> Result<(Site, Book), Status>
+    requires { site.number ≢ book.number }
+    ensures value { FilesOutcome (λ plan. record { site = fields_of plan.0; commands = plan.1.commands })
+        (plan_meaning (shown_word site.entry) (shown_word book.entry))
+        (depot_state D.Depot depot.old) (depot_state D.Depot depot.new) result }
+    ensures height { IfOk result (λ plan. plan.1.height ≡ plan.0.height) }
+{
+    let (site, line) = read_site(alloc, depot, site)?;
+    let book = read_own(alloc, depot, book, site.height, line)?;
+    Ok((site, book))
+}
+
+/// The site of the word's file, and what its line 13 says of its book.
+fn read_site<D: Depot>(
+    alloc: Global,
+    depot: &mut D,
+    word: Word<'_>,
+) -> Result<(Site, Option<BookLine>), Status>
+    ensures { FileOutcome (λ said. (fields_of said.0, said.1)) (site_and_line_of_file word.entry.number)
+        word.entry.text.now (depot_state D.Depot depot.old) (depot_state D.Depot depot.new) result }
+{
+    let bytes = read_bytes(alloc, depot, word, MOST_SITE_BYTES, LimitKind::SiteBytes)?;
+    judge_site(word.number, &bytes)
+}
+
+/// The site that the bytes of this word's file say, and what its line 13 says of its book.
+fn judge_site(word: u8, bytes: &[u8]) -> Result<(Site, Option<BookLine>), Status>
+    ensures { SureOutcome (λ said. (fields_of said.0, said.1))
+        (with_line (book_line_of bytes.now) (told_site word (site_of bytes.now))) result }
+{
+    match read_with_book(bytes) {
+        Ok(said) => Ok(said),
+        Err(fault) => Err(Status::BadSite { word, fault }),
+    }
+}
