@@ -86,7 +86,7 @@ try 4 "a name above 1,000 bytes is missing" $host 'let file = fs::open(files, na
 try 5 "losses end with exit 0" $start 'exit_of(answer(rt, output, error))' \
     'exit_of(match answer(rt, output, error) { Status::Gaps(_) => Status::Done, status => status })'
 try 6 "an argument too many is dropped" $start 'args.skip(1).collect' 'args.skip(1).take(5).collect'
-try 7 "a card has the mode of other files" $edge 'line.makes_card())' 'line.makes_card() && line.files().is_empty())'
+try 7 "a card has the mode of other files" $edge 'line.holds_secrets())' 'line.holds_secrets() && line.files().is_empty())'
 try 8 "a line goes into a stream" $start 'names_output(&depot, &line);' \
     'names_output(&depot, &line) && words.len() > 4;'
 try 9 "nothing is explained" $start 'text.as_bytes()).ok();' '&text.as_bytes()[..0]).ok();'
