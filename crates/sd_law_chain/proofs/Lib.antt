@@ -1,0 +1,17 @@
+pub mod Lines
+pub mod Within
+pub mod Links
+pub mod Rising
+pub mod Growing
+pub mod Cuts
+pub mod Following
+pub mod Held
+pub mod Meeting
+pub mod Lost
+pub mod BrokenOff
+pub mod Apart
+pub mod OneChannel
+pub mod Said
+pub mod Found
+pub mod Making
+pub mod Own
