@@ -4,3 +4,4 @@ pub mod WrittenSites
 pub mod ShortSites
 pub mod TornSites
 pub mod TornLines
+pub mod SayableSites

@@ -1,6 +1,6 @@
 //! Site files: what is written is read, what is torn is not, and how long they are.
 
-ghost use Rattle.std.specs.Prelude.{◌≡◌, ◌≢◌, ℕ, ◌≤◌, List, length, Bool, Option, Some, Ok, Err};
+ghost use Rattle.std.specs.Prelude.{◌≡◌, ◌≢◌, ℕ, ◌<◌, ◌≤◌, All, List, length, Bool, Option, Some, Ok, Err};
 ghost use Rattle.sd_ports.specs.Bytes.{IsPrefix};
 ghost use Rattle.sd_site.specs.SiteFields.{SiteFields};
 ghost use Rattle.sd_site.specs.Text.{IsSite};
@@ -11,6 +11,12 @@ ghost use Rattle.sd_site.specs.declared.site_fault.SiteFault.TheVariants.{Range}
 /// A site file has at most 317 bytes.
 pub fn sites_are_short()
     ensures { (bytes : List ℕ) (site : SiteFields) → IsSite bytes site → length bytes ≤ 317 }
+{}
+
+/// What a site file says can be written, with any book.
+pub fn read_sites_are_sayable()
+    ensures { (bytes : List ℕ) (site : SiteFields) (book : BookLine) → IsSite bytes site → book.size ≤ 33554432 →
+        (length book.digest ≡ 32) × All (λ byte. byte < 256) book.digest → IsSayable site book }
 {}
 
 /// A site file that is written is read as the site and the book that it was written from. It has at most 317 bytes.
