@@ -13,7 +13,7 @@ use Rattle.sd_command_base.specs.declared.status.Status.TheVariants.{PrintFault}
 use Rattle.sd_command_base.specs.declared.status.Status.TheVariants.{BadSite, BadBook, BadCard, BadClear, BadStream}
 use Rattle.sd_command_base.specs.declared.status.Status.TheVariants.{Limit}
 use Rattle.sd_command_base.specs.declared.status.Status.TheVariants.{NoMemory, Unheard, Unclosed, Gaps, NoCat}
-use Rattle.sd_command_base.specs.declared.status.Status.TheVariants.{BadWord, Clash}
+use Rattle.sd_command_base.specs.declared.status.Status.TheVariants.{BadWord, Clash, BadOut, OtherBook}
 use Rattle.sd_law_run.specs.Helped.{help_exit, in_column, IsOrdered}
 use Rattle.sd_run.proofs.Examples.{words_in, arguments_in, example_order}
 use Rattle.sd_run.proofs.Rows.{example}
@@ -45,6 +45,8 @@ exit_numbers files (Gaps packets) = refl
 exit_numbers files NoCat = refl
 exit_numbers files (BadWord word) = refl
 exit_numbers files (Clash clash) = refl
+exit_numbers files (BadOut word cause) = refl
+exit_numbers files OtherBook = refl
 
 -- the example of each command
 pub examples_are_ordered : (command : Command) → IsOrdered command

@@ -1,9 +1,10 @@
 -- Good words over good files mean work.
-use Rattle.std.proofs.Common.{◌≡◌, ℕ, ◌≤◌, ◌^◌, cond, List, length, Option, Some, Result, Ok, Err, ap, ◌∙◌, le-ltb}
-use Rattle.std.proofs.Common.{lt-ltb, arith, refl}
+use Rattle.std.proofs.Common.{◌≡◌, ℕ, ◌≤◌, ◌^◌, true, cond, List, length, Option, Some, Result, Ok, Err, ap, ◌∙◌}
+use Rattle.std.proofs.Common.{le-ltb, lt-ltb, arith, refl}
 use Rattle.sd_site.specs.SiteFields.{SiteFields}
-use Rattle.sd_site.specs.Text.{site_of, IsSite}
-use Rattle.sd_site.proofs.Alone.{answered}
+use Rattle.sd_site.specs.Text.{book_line_of, site_of, IsSite}
+use Rattle.sd_site.specs.declared.book_line.BookLine.{BookLine}
+use Rattle.sd_site.proofs.Alone.{site_said}
 use Rattle.sd_site.specs.CardFields.{card_of, card_bytes}
 use Rattle.sd_engine.specs.Sample.{sample_of}
 use Rattle.sd_book.specs.declared.command.Command.{Command}
@@ -11,7 +12,7 @@ use Rattle.sd_book.specs.Text.{SpellsBook, book_of, text_of}
 use Rattle.sd_book.proofs.Judged.{book_again}
 use Rattle.sd_base.specs.Lines.{lines_of}
 use Rattle.sd_command_base.specs.declared.status.Status.{Status}
-use Rattle.sd_command_base.specs.declared.status.Status.TheVariants.{Done, Limit, BadWord}
+use Rattle.sd_command_base.specs.declared.status.Status.TheVariants.{Done, Limit, BadWord, OtherBook}
 use Rattle.sd_command_base.specs.declared.status.LimitKind.{LimitKind}
 use Rattle.sd_command_base.specs.declared.status.LimitKind.TheVariants.{SiteBytes, BookBytes}
 use Rattle.sd_command_base.specs.Spec.{FileArgument, Readings, all_of, judged, value, within, ◌>>=◌}
@@ -19,14 +20,14 @@ use Rattle.sd_command_base.specs.Work.{Uncounted, NoSteps}
 use Rattle.sd_command_base.proofs.Follow.{then_is}
 use Rattle.sd_command_line.specs.Words.{Order, order_of, CoverOf, CardOf, SampleOf, TablesOf, HeadOf}
 use Rattle.sd_command_base.specs.Files.{most_site_bytes, most_book_bytes, told_site, told_book, site_of_file}
-use Rattle.sd_command_base.specs.Files.{book_of_file}
+use Rattle.sd_command_base.specs.Files.{book_of_file, is_book, own_book_of_file, told_own}
 use Rattle.sd_command_base.specs.Files.{site_in, book_in}
 use Rattle.sd_command_base.specs.Both.{SiteBook, both_meaning, both_by}
 use Rattle.sd_book.proofs.Short.{book_short}
 use Rattle.sd_site.proofs.Short.{site_short}
 use Rattle.sd_book.proofs.Written.{spelled_again}
 use Rattle.sd_book.specs.Limits.{IsWithinLimits}
-use Rattle.sd_law_run.specs.Good.{IsGoodSite, IsGoodBook}
+use Rattle.sd_law_run.specs.Good.{IsGoodSite, IsGoodBook, IsOwnBook}
 use Rattle.sd_run_books.specs.Cover.{covering, cover_meaning}
 use Rattle.sd_law_run.specs.Good.{IsGoodCover}
 use Rattle.sd_command_base.specs.Made.{making}
@@ -40,6 +41,7 @@ use Rattle.std.specs.List.{concat}
 use Rattle.sd_engine.specs.Taken.{Whole, taken_of}
 use Rattle.sd_spec.specs.Sent.{broadcast}
 use Rattle.sd_run_broadcasts.specs.Head.{plan_by, plan_meaning, sending, sending_of, sent_of, sent_status, head_meaning}
+use Rattle.sd_run_broadcasts.specs.Head.{site_and_line_of_file, with_line}
 use Rattle.sd_law_run.specs.Good.{plan_told, IsGoodHead}
 use Rattle.sd_run_broadcasts.proofs.HeadSending.{sent_unrefused}
 use Rattle.sd_run.specs.Meaning.{order_meaning, meaning}
@@ -49,7 +51,7 @@ pub file_read : (word most : ℕ) (kind : LimitKind) (bytes : List ℕ) → leng
 file_read word most kind bytes short = ap (λ b. cond b (Err (Limit kind)) (Ok bytes)) (le-ltb most (length bytes) short)
 
 -- sites and books are short enough
-site_fits : (bytes : List ℕ) (site : SiteFields) → IsSite bytes site → length bytes ≤ most_site_bytes
+pub site_fits : (bytes : List ℕ) (site : SiteFields) → IsSite bytes site → length bytes ≤ most_site_bytes
 site_fits bytes site is = omega (arith, site_short bytes site is)
 
 pub book_fits : (d : ℕ) (bytes : List ℕ) (commands : List Command) → d ≤ 20 → SpellsBook (lines_of bytes) commands →
@@ -68,7 +70,7 @@ site_good given word fields good =
     ∙ then_is (within word.number most_site_bytes SiteBytes (Some good.bytes)) good.bytes
     (λ bytes. judged (told_site word.number (site_of bytes)))
     (file_read word.number most_site_bytes SiteBytes good.bytes (site_fits good.bytes fields good.is_site))
-    ∙ ap (told_site word.number) (answered (lines_of good.bytes) (Ok fields) (good.is_site.text, good.is_site.ranges))
+    ∙ ap (told_site word.number) (site_said good.bytes fields good.is_site)
 
 pub book_good : (given : Readings) (d : ℕ) (word : FileArgument) (commands : List Command) → d ≤ 20 →
     IsGoodBook (given word) d commands → (book_in given d word).result ≡ Ok commands
@@ -140,18 +142,46 @@ tables_good words given good = (
   ap stream_status good.whole,
 )
 
+-- a site is read with its line 13
+said_good : (given : Readings) (word : FileArgument) (fields : SiteFields) (good : IsGoodSite (given word) fields) →
+    (site_and_line_of_file word.number (given word)).result ≡ Ok (fields, book_line_of good.bytes)
+unfolding site_and_line_of_file
+said_good given word fields good =
+    ap (λ (got : Option (List ℕ)). (site_and_line_of_file word.number got).result) good.there
+    ∙ then_is (within word.number most_site_bytes SiteBytes (Some good.bytes)) good.bytes
+    (λ bytes. judged (with_line (book_line_of bytes) (told_site word.number (site_of bytes))))
+    (file_read word.number most_site_bytes SiteBytes good.bytes (site_fits good.bytes fields good.is_site))
+    ∙ ap (λ r. with_line (book_line_of good.bytes) (told_site word.number r))
+    (site_said good.bytes fields good.is_site)
+
+-- and its own book
+own_good : (given : Readings) (d : ℕ) (word : FileArgument) (line : Option BookLine) (commands : List Command) →
+    d ≤ 20 → (good : IsGoodBook (given word) d commands) → is_book line good.bytes ≡ true →
+    (own_book_of_file word.number d line (given word)).result ≡ Ok commands
+unfolding own_book_of_file
+own_good given d word line commands low good own =
+    ap (λ (got : Option (List ℕ)). (own_book_of_file word.number d line got).result) good.there
+    ∙ then_is (within word.number most_book_bytes BookBytes (Some good.bytes)) good.bytes
+    (λ bytes. judged (told_own word.number d line bytes))
+    (file_read word.number most_book_bytes BookBytes good.bytes
+    (book_fits d good.bytes commands low good.is_book good.within))
+    ∙ ap (λ b. cond b (told_book word.number (book_of d good.bytes)) (Err OtherBook)) own
+    ∙ ap (told_book word.number) (book_again d good.bytes commands good.is_book good.within)
+
 pub plan_good : (given : Readings) (site book : FileArgument) (fields : SiteFields) (commands : List Command) →
-    IsGoodSite (given site) fields →
-    IsGoodBook (given book) fields.height commands →
+    (good_site : IsGoodSite (given site) fields) →
+    (good_book : IsGoodBook (given book) fields.height commands) → IsOwnBook good_site good_book →
     (plan_meaning site book given).result ≡ Ok (record { site = fields; commands = commands })
 unfolding plan_by
-plan_good given site book fields commands good_site good_book =
-    then_is (site_in given site) fields
-    (λ fields. book_in given fields.height book >>= λ commands. value (record { site = fields; commands = commands }))
-    (site_good given site fields good_site)
-    ∙ then_is (book_in given fields.height book) commands
+plan_good given site book fields commands good_site good_book own =
+    let line = book_line_of good_site.bytes in
+    then_is (site_and_line_of_file site.number (given site)) (fields, line)
+    (λ said. own_book_of_file book.number said.0.height said.1 (given book)
+    >>= λ commands. value (record { site = said.0; commands = commands }))
+    (said_good given site fields good_site)
+    ∙ then_is (own_book_of_file book.number fields.height line (given book)) commands
     (λ commands. value (record { site = fields; commands = commands }))
-    (book_good given fields.height book commands (site_low (given site) fields good_site) good_book)
+    (own_good given fields.height book line commands (site_low (given site) fields good_site) good_book own)
 
 pub head_good : (words : List (List ℕ)) (given : Readings) (good : IsGoodHead words given) →
     ((meaning words given).result ≡ Ok (sending (plan_told good) good.out good.bytes))
@@ -163,7 +193,8 @@ head_good words given good =
     let sent = sent_unrefused plan good.bytes Whole good.is_clear good.whole in (
       ordered words given (HeadOf good.site good.book good.clear good.out) good.order
           ∙ then_is (plan_meaning good.site good.book given) plan (sending_of good.clear good.out (given good.clear))
-          (plan_good given good.site good.book good.fields good.commands good.good_site good.good_book)
+          (plan_good given good.site good.book good.fields good.commands good.good_site good.good_book
+          good.own)
           ∙ ap (λ (got : Option (List ℕ)). (sending_of good.clear good.out got plan).result) good.there,
       sent.0,
       sent.1,

@@ -1,4 +1,5 @@
 pub mod Goodness
+pub mod Chained
 pub mod Keyed
 pub mod Kept
 pub mod Layers
@@ -21,3 +22,11 @@ pub mod Sent
 pub mod Trials
 pub mod Examples
 pub mod Monitors
+pub mod FolderBegins
+pub mod FolderCalls
+pub mod FolderEnds
+pub mod FolderFiles
+pub mod FolderNames
+pub mod FolderOrders
+pub mod FolderRefusals
+pub mod FolderRuns

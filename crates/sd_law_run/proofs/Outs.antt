@@ -80,7 +80,7 @@ done_leaves meant files a b answer told is answers =
     }
 
 -- the file that a run makes is the one that its words name
-out_is : (words : List (List ℕ)) (given : Readings) (work : Work) (out : Out) →
+pub out_is : (words : List (List ℕ)) (given : Readings) (work : Work) (out : Out) →
     (meaning words given).result ≡ Ok work → work.out ≡ Some out → out_name words ≡ Some out.name
 out_is words given work out is makes =
     let orderly : IsOrderly (out_name words) work =

@@ -117,16 +117,24 @@ module _ (names : Names) (plan : Plan) (clear : List (List ℕ)) (at : Outside) 
     head_work files told =
         let out = word_at 4 names.stream in
         let bytes = given.clear.bytes in
-        let site = subst (λ (got : Option (List ℕ)). IsGoodSite got plan.site) (of_told at files names.site told)
-        given.site in
-        let book = subst (λ (got : Option (List ℕ)). IsGoodBook got plan.site.height plan.commands)
-        (of_told at files names.book told) given.book in
+        let site : IsGoodSite (get files names.site) plan.site = record {
+          bytes = given.site.bytes;
+          there = sym (of_told at files names.site told) ∙ given.site.there;
+          is_site = given.site.is_site;
+        } in
+        let book : IsGoodBook (get files names.book) plan.site.height plan.commands = record {
+          bytes = given.book.bytes;
+          there = sym (of_told at files names.book told) ∙ given.book.there;
+          is_book = given.book.is_book;
+          within = given.book.within;
+        } in
         let there = sym (of_told at files names.clear told) ∙ given.clear.there in
         let is_clear = subst (IsClear plan.site) (sym given.clear.packets) given.clear.is_clear in
         let sent = sent_unrefused plan bytes Whole is_clear given.clear.whole in
         then_is (plan_meaning (word_at 1 names.site) (word_at 2 names.book) (contents_of files)) plan
         (sending_of (word_at 3 names.clear) out (get files names.clear))
-        (plan_good (contents_of files) (word_at 1 names.site) (word_at 2 names.book) plan.site plan.commands site book)
+        (plan_good (contents_of files) (word_at 1 names.site) (word_at 2 names.book) plan.site plan.commands site book
+        given.own)
         ∙ (ap (λ (got : Option (List ℕ)). (sending_of (word_at 3 names.clear) out got plan).result) there
         ∙ (ap (λ (bs : List ℕ). Ok (turning Uncounted out bs (sent_status plan bytes)))
         (sym sent.0 ∙ ap (λ (ps : List (List ℕ)). concat (broadcast plan ps)) given.clear.packets)

@@ -1,15 +1,16 @@
 -- What `head` sent where it is done.
-use Rattle.std.proofs.Common.{◌≡◌, ℕ, ◌-◌, ◌≤◌, ◌++◌, List, [], ◌∷◌, length, Option, Some, None}
+use Rattle.std.proofs.Common.{◌≡◌, ℕ, ◌-◌, ◌≤◌, ◌++◌, Bool, true, false, cond, List, [], ◌∷◌, length, Option}
+use Rattle.std.proofs.Common.{Some, None}
 use Rattle.std.proofs.Common.{Result, Ok, Err, refl, sym, ap, subst, ◌∙◌}
 use Rattle.std.specs.FinMap.{insert}
 use Rattle.std.specs.List.{concat}
 use Rattle.std.proofs.lemmas.List.Elements.{All-weaker}
 use Rattle.sd_ports.specs.Files.{Files}
-use Rattle.sd_base.specs.Lines.{lines_of}
 use Rattle.sd_site.specs.SiteFields.{SiteFields}
-use Rattle.sd_site.specs.Text.{site_of, IsSite}
+use Rattle.sd_site.specs.Text.{book_line_of, site_of, IsSite}
+use Rattle.sd_site.specs.declared.book_line.BookLine.{BookLine}
 use Rattle.sd_site.specs.declared.site_fault.SiteFault.{SiteFault}
-use Rattle.sd_site.proofs.Walk.{Tells, lines_told}
+use Rattle.sd_site.proofs.Alone.{said_is_site}
 use Rattle.sd_book.specs.declared.command.Command.{Command}
 use Rattle.sd_book.specs.declared.fault.BookFault.{BookFault}
 use Rattle.sd_book.specs.Limits.{IsWithinLimits, IsDraft}
@@ -27,7 +28,7 @@ use Rattle.sd_law_broadcast.specs.Synced.{AreBytes}
 use Rattle.sd_law_broadcast.proofs.Cut.{taken_synced, taken_whole}
 use Rattle.sd_law_broadcast.proofs.Taken.{broadcast_taken}
 use Rattle.sd_command_base.specs.declared.status.Status.{Status}
-use Rattle.sd_command_base.specs.declared.status.Status.TheVariants.{Done}
+use Rattle.sd_command_base.specs.declared.status.Status.TheVariants.{Done, OtherBook}
 use Rattle.sd_command_base.specs.Spec.{Spec, FileArgument, Readings, contents_of, and_then, all_of, judged, value}
 use Rattle.sd_command_base.specs.Spec.{within}
 use Rattle.sd_command_base.specs.Spec.{◌>>=◌}
@@ -36,10 +37,10 @@ use Rattle.sd_command_base.specs.Work.{Work, files_with}
 use Rattle.sd_command_base.specs.Results.{RunResult}
 use Rattle.sd_command_base.specs.declared.status.LimitKind.TheVariants.{SiteBytes, BookBytes}
 use Rattle.sd_command_line.specs.Words.{Order, HeadOf, order_of}
-use Rattle.sd_command_base.specs.Files.{most_site_bytes, most_book_bytes, told_site, told_book, site_of_file}
-use Rattle.sd_command_base.specs.Files.{book_of_file}
+use Rattle.sd_command_base.specs.Files.{is_book, most_site_bytes, most_book_bytes, own_book_of_file, told_book}
+use Rattle.sd_command_base.specs.Files.{told_own, told_site}
 use Rattle.sd_run_broadcasts.specs.Head.{status_where, sent_status, sending, sending_of, plan_by, plan_meaning}
-use Rattle.sd_run_broadcasts.specs.Head.{head_meaning}
+use Rattle.sd_run_broadcasts.specs.Head.{head_meaning, site_and_line_of_file, with_line}
 use Rattle.sd_run.specs.Meaning.{order_meaning, meaning}
 use Rattle.sd_law_run.specs.Sent.{IsSent}
 use Rattle.sd_law_run.proofs.Plans.{ca_fits}
@@ -72,10 +73,7 @@ site_right word bytes site e = by_answer (site_of bytes) refl e
   where
     by_answer : (r : Result SiteFields SiteFault) → site_of bytes ≡ r → told_site word r ≡ Ok site → IsSite bytes site
     by_answer (Ok found) f e =
-        let same : found ≡ site = cc in
-        let tells : Tells (lines_of bytes) (Ok site) =
-        subst (Tells (lines_of bytes)) (f ∙ ap (λ (s : SiteFields). Ok s) same) (lines_told (lines_of bytes)) in
-        record { text = tells.0; ranges = tells.1 }
+        let same : found ≡ site = cc in said_is_site bytes site (f ∙ ap (λ (s : SiteFields). Ok s) same)
     by_answer (Err fault) f e = absurd (cc)
 
 -- the commands that a book says are within the limits
@@ -100,27 +98,46 @@ book_right word d bytes commands e = by_answer (judged_lines d [] (said_by bytes
         lines_within d [] (said_by bytes) commands (judged_none d) (f ∙ ap (λ (c : List Command). Ok c) same)
     by_answer (Err fault) f e = absurd (cc)
 
+-- a site that was read with its line 13
+line_right : (line : Option BookLine) (r : Result SiteFields Status) (said : SiteFields × Option BookLine) →
+    with_line line r ≡ Ok said → r ≡ Ok said.0
+line_right line (Ok found) said e = cc
+line_right line (Err status) said e = absurd (cc)
+
+-- a book that is the site's own
+own_right : (own : Bool) (r : Result (List Command) Status) (commands : List Command) →
+    cond own r (Err OtherBook) ≡ Ok commands → r ≡ Ok commands
+own_right true r commands e = e
+own_right false r commands e = absurd (cc)
+
 -- so the two are a plan
 plan_right : (site book : FileArgument) (given : Readings) (plan : Plan) →
     (plan_meaning site book given).result ≡ Ok plan →
     IsPlan plan
-unfolding plan_by site_of_file book_of_file
+unfolding plan_by site_and_line_of_file own_book_of_file
 plan_right site book given plan e =
-    let fields = then_ok (site_of_file site.number (given site))
-    (λ fields. book_of_file book.number fields.height (given book) >>= λ commands.
-    value (record { site = fields; commands = commands })) plan e in
-    let commands = then_ok (book_of_file book.number fields.from.height (given book))
-    (λ commands. value (record { site = fields.from; commands = commands })) plan fields.next_is in
+    let said = then_ok (site_and_line_of_file site.number (given site))
+    (λ said. own_book_of_file book.number said.0.height said.1 (given book) >>= λ commands.
+    value (record { site = said.0; commands = commands })) plan e in
+    let fields = said.from.0 in
+    let line = said.from.1 in
+    let commands = then_ok (own_book_of_file book.number fields.height line (given book))
+    (λ commands. value (record { site = fields; commands = commands })) plan said.next_is in
     let site_read = then_ok (within site.number most_site_bytes SiteBytes (given site))
-    (λ bytes. judged (told_site site.number (site_of bytes))) fields.from fields.first_is in
+    (λ bytes. judged (with_line (book_line_of bytes) (told_site site.number (site_of bytes)))) said.from
+    said.first_is in
     let book_read = then_ok (within book.number most_book_bytes BookBytes (given book))
-    (λ bytes. judged (told_book book.number (book_of fields.from.height bytes))) commands.from commands.first_is in
-    let is_site = site_right site.number site_read.from fields.from site_read.next_is in
-    let is_within = book_right book.number fields.from.height book_read.from commands.from book_read.next_is in
-    let made : Plan = record { site = fields.from; commands = commands.from } in
+    (λ bytes. judged (told_own book.number fields.height line bytes)) commands.from commands.first_is in
+    let is_site = site_right site.number site_read.from fields
+    (line_right (book_line_of site_read.from) (told_site site.number (site_of site_read.from)) said.from
+    site_read.next_is) in
+    let is_within = book_right book.number fields.height book_read.from commands.from
+    (own_right (is_book line book_read.from) (told_book book.number (book_of fields.height book_read.from))
+    commands.from book_read.next_is) in
+    let made : Plan = record { site = fields; commands = commands.from } in
     subst IsPlan (value_is made plan commands.next_is) (record {
       site = is_site.ranges;
-      ca = ca_fits site_read.from fields.from is_site;
+      ca = ca_fits site_read.from fields is_site;
       book = is_within;
     })
 

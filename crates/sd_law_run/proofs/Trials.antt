@@ -20,7 +20,7 @@ use Rattle.sd_command_base.specs.declared.status.Status.TheVariants.{PrintFault}
 use Rattle.sd_command_base.specs.declared.status.Status.TheVariants.{BadSite, BadBook, BadCard, BadClear, BadStream}
 use Rattle.sd_command_base.specs.declared.status.Status.TheVariants.{Limit}
 use Rattle.sd_command_base.specs.declared.status.Status.TheVariants.{NoMemory, Unheard, Unclosed, Gaps, NoCat}
-use Rattle.sd_command_base.specs.declared.status.Status.TheVariants.{BadWord, Clash}
+use Rattle.sd_command_base.specs.declared.status.Status.TheVariants.{BadWord, Clash, BadOut, OtherBook}
 use Rattle.sd_command_base.specs.declared.status.LimitKind.TheVariants.{SiteBytes, BookBytes, TrialHeight}
 use Rattle.sd_command_base.specs.Spec.{FileArgument, Readings, contents_of, all_of, judged, value, within, ◌>>=◌}
 use Rattle.sd_command_base.specs.Outside.{Outside}
@@ -80,6 +80,8 @@ line_refused u wrote (Gaps packets) e = absurd (cc)
 line_refused u wrote NoCat e = absurd (cc)
 line_refused u wrote (BadWord word) e = absurd (cc)
 line_refused u wrote (Clash clash) e = absurd (cc)
+line_refused u wrote (BadOut word cause) e = absurd (cc)
+line_refused u wrote OtherBook e = absurd (cc)
 
 receiver_refused : (site : SiteFields) (bytes : List ℕ) (u : ℕ) → receiver_line site bytes u ≡ Err Done → ⊥
 unfolding receiver_line

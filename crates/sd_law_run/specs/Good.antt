@@ -1,11 +1,10 @@
 -- Public meaning: arguments and files that mean work: they are there, in their grammars and within their limits.
-use Rattle.std.specs.Prelude.{◌≡◌, ℕ, List, Option, Some, Ok, ◌≤◌, [], ◌++◌, ◌+◌, length, None, ◌^◌, ◌<◌}
+use Rattle.std.specs.Prelude.{◌≡◌, ℕ, List, Option, Some, Ok, ◌≤◌, [], ◌++◌, ◌+◌, length, None, ◌^◌, ◌<◌, ◌||◌, true}
 use Rattle.sd_base.specs.Types.{Bytes, Packets, Height, Leaves}
 use Rattle.sd_command_base.specs.Spec.{FileArgument, Readings}
 use Rattle.sd_command_line.specs.Words.{SampleOf, order_of, ReceiveOf, CoverOf, CardOf, TablesOf, HeadOf}
 use Rattle.sd_command_line.specs.Words.{AccountsOf, ApartOf, BookOf, LayeredOf, LcardOf, MessagesOf, OpensOf, PlanOf}
-use Rattle.sd_command_line.specs.Words.{ShowOf}
-use Rattle.sd_command_line.specs.Words.{TraceOf}
+use Rattle.sd_command_line.specs.Words.{NextOf, ShowOf, TraceOf, TwinOf}
 use Rattle.sd_engine.specs.Taken.{Whole, taken_of, end_of}
 use Rattle.sd_site.specs.CardFields.{CardFields, IsCard, card_bytes}
 use Rattle.sd_run_books.specs.Judged.{book_of}
@@ -15,7 +14,9 @@ use Rattle.sd_command_base.specs.Shown.{NumberArgument}
 use Rattle.sd_spec.specs.Plan.{Plan}
 use Rattle.sd_spec.specs.Refused.{IsClear, refusal_from}
 use Rattle.sd_law_broadcast.specs.Synced.{AreBytes}
-use Rattle.sd_site.specs.Text.{IsSite}
+use Rattle.sd_site.specs.Text.{IsSite, book_line_of}
+use Rattle.sd_site.specs.Written.{is_first, is_whole}
+use Rattle.sd_site.specs.declared.book_line.BookLine.{BookLine}
 use Rattle.sd_command_base.specs.Text.{leaves_of_text}
 use Rattle.sd_cover.specs.Trace.{not_among}
 use Rattle.sd_tree.specs.Limits.{most_revoked}
@@ -24,7 +25,10 @@ use Rattle.sd_run_books.specs.Trace.{revoked_last}
 use Rattle.sd_base.specs.Lines.{lines_of}
 use Rattle.sd_book.specs.Text.{SpellsBook}
 use Rattle.sd_book.specs.Limits.{IsWithinLimits}
-use Rattle.sd_command_base.specs.Files.{most_book_bytes}
+use Rattle.sd_command_base.specs.Files.{begins_with_book, ends_lines, is_book, most_book_bytes}
+use Rattle.sd_run_books.specs.Chain.{own_commands}
+use Rattle.sd_run_books.specs.Next.{Origin}
+use Rattle.sd_run_books.specs.SiteNames.{follows}
 
 -- a file is there and a site, and says this
 pub record IsGoodSite (got : Option Bytes) (fields : SiteFields) : Type 0 where
@@ -38,6 +42,11 @@ pub record IsGoodBook (got : Option Bytes) (d : Height) (commands : List Command
   pub there : got ≡ Some bytes
   pub is_book : SpellsBook (lines_of bytes) commands
   pub within : IsWithinLimits d commands
+
+-- the book is that of the site's line 13, if the site has one
+abbrev pub IsOwnBook : {got more : Option Bytes} {fields : SiteFields} {commands : List Command} →
+    IsGoodSite got fields → IsGoodBook more fields.height commands → Type 0
+IsOwnBook site book = is_book (book_line_of site.bytes) book.bytes ≡ true
 
 -- a file is there and a clear stream for a site: it ends whole, its packets are these, and none of them is refused
 pub record IsGoodClear (got : Option Bytes) (site : SiteFields) (clear : Packets) : Type 0 where
@@ -104,8 +113,8 @@ pub record IsGoodShow (words : List Bytes) (given : Readings) : Type 0 where
   pub is_card : IsCard fields
   pub there : given card ≡ Some (card_bytes fields)
 
--- the arguments are `head SITE BOOK CLEAR OUT`, the files are there, a site, a book and a stream of which no packet is
--- refused
+-- the arguments are `head SITE BOOK CLEAR OUT`, the files are there, a site, its own book and a stream of which no
+-- packet is refused
 pub record IsGoodHead (words : List Bytes) (given : Readings) : Type 0 where
   pub site : FileArgument
   pub book : FileArgument
@@ -116,6 +125,7 @@ pub record IsGoodHead (words : List Bytes) (given : Readings) : Type 0 where
   pub good_site : IsGoodSite (given site) fields
   pub commands : List Command
   pub good_book : IsGoodBook (given book) fields.height commands
+  pub own : IsOwnBook good_site good_book
   pub bytes : Bytes
   pub there : given clear ≡ Some bytes
   pub whole : end_of bytes ≡ Whole
@@ -260,3 +270,49 @@ pub record IsGoodTrace (words : List Bytes) (given : Readings) : Type 0 where
   pub good_leaves : IsGoodLeaves given fields.height leaves coalition
   pub few : length (revoked_last fields.height commands)
       + length (not_among fields.height (revoked_last fields.height commands) coalition) ≤ most_revoked
+
+-- the arguments are `next SITE BOOK WORDS OUT`. OUT's name follows that of SITE, and no file has it. SITE has all
+-- thirteen lines or is a first site, its first period isn't the last one, and so many control words are left. BOOK is
+-- good, begins with SITE's book and ends with a line feed
+pub record IsGoodNext (words : List Bytes) (given : Readings) : Type 0 where
+  pub site : FileArgument
+  pub book : FileArgument
+  pub count : NumberArgument
+  pub out : FileArgument
+  pub order : order_of words ≡ Ok (NextOf site book count out)
+  pub named : follows site.text out.text ≡ true
+  pub free : given out ≡ None
+  pub fields : SiteFields
+  pub good_site : IsGoodSite (given site) fields
+  pub newest : (is_whole 13 good_site.bytes || is_first good_site.bytes fields) ≡ true
+  pub period : fields.first_period < 4294967295
+  pub left : fields.last_word + count.value ≤ 4294967295
+  pub commands : List Command
+  pub good_book : IsGoodBook (given book) fields.height commands
+  pub begins : begins_with_book (book_line_of good_site.bytes) good_book.bytes ≡ true
+  pub ends : ends_lines good_book.bytes ≡ true
+
+-- what the next site is made from: the site, the commands of its book, and the longer book
+abbrev pub origin_told : {words : List Bytes} {given : Readings} → IsGoodNext words given → Origin
+origin_told good = record {
+  site = good.fields;
+  own = own_commands (book_line_of good.good_site.bytes) good.good_book.bytes;
+  bytes = good.good_book.bytes;
+  commands = good.commands;
+}
+
+-- the arguments are `twin SITE WORDS OUT`. OUT's name follows that of SITE, and no file has it. SITE has all thirteen
+-- lines, of which the last says this of its book, and so many control words are left
+pub record IsGoodTwin (words : List Bytes) (given : Readings) : Type 0 where
+  pub site : FileArgument
+  pub count : NumberArgument
+  pub out : FileArgument
+  pub order : order_of words ≡ Ok (TwinOf site count out)
+  pub named : follows site.text out.text ≡ true
+  pub free : given out ≡ None
+  pub fields : SiteFields
+  pub good_site : IsGoodSite (given site) fields
+  pub whole : is_whole 13 good_site.bytes ≡ true
+  pub line : BookLine
+  pub said : book_line_of good_site.bytes ≡ Some line
+  pub left : fields.last_word + count.value ≤ 4294967295

@@ -19,7 +19,7 @@ use Rattle.sd_law_losses.specs.Endings.{first_revoked}
 use Rattle.sd_command_base.specs.declared.status.Status.{Status}
 use Rattle.sd_command_base.specs.declared.status.Status.TheVariants.{Done, NoMemory}
 use Rattle.sd_command_base.specs.Outside.{Outside}
-use Rattle.sd_law_run.specs.Good.{IsGoodSite, IsGoodBook, IsGoodClear}
+use Rattle.sd_law_run.specs.Good.{IsGoodSite, IsGoodBook, IsGoodClear, IsOwnBook}
 use Rattle.sd_law_run.specs.Opened.{entitled_periods, revoked_status}
 
 -- the names of the files
@@ -47,10 +47,11 @@ receive_run names = codes "receive" ∷ names.card ∷ names.stream ∷ names.ou
 abbrev pub file_in : Outside → FileName → Option Bytes
 file_in at name = option_and_then (λ files. get files name) at.place.files
 
--- SITE, BOOK and CLEAR are a site, a book of its tree and a clear stream, all within their limits
+-- SITE, BOOK and CLEAR are a site, its own book and a clear stream, all within their limits
 pub record AreGiven (at : Outside) (names : Names) (plan : Plan) (packets : Packets) : Type 0 where
   pub site : IsGoodSite (file_in at names.site) plan.site
   pub book : IsGoodBook (file_in at names.book) plan.site.height plan.commands
+  pub own : IsOwnBook site book
   pub clear : IsGoodClear (file_in at names.clear) plan.site packets
 
 -- no I/O error occurred, and memory sufficed

@@ -13,7 +13,7 @@ use Rattle.sd_command_base.specs.declared.status.Status.TheVariants.{PrintFault}
 use Rattle.sd_command_base.specs.declared.status.Status.TheVariants.{BadSite, BadBook, BadCard, BadClear, BadStream}
 use Rattle.sd_command_base.specs.declared.status.Status.TheVariants.{Limit}
 use Rattle.sd_command_base.specs.declared.status.Status.TheVariants.{NoMemory, Unheard, Unclosed, Gaps, NoCat}
-use Rattle.sd_command_base.specs.declared.status.Status.TheVariants.{BadWord, Clash}
+use Rattle.sd_command_base.specs.declared.status.Status.TheVariants.{BadWord, Clash, BadOut, OtherBook}
 use Rattle.sd_command_line.specs.Words.{Argument, CommandOf, order_of}
 
 -- the exit of a status, as help lists it [this project, docs/FORMATS.md, Exits]
@@ -37,6 +37,8 @@ help_exit (Gaps packets) = exit.Gaps
 help_exit NoCat = exit.NoCat
 help_exit (BadWord word) = exit.BadWord
 help_exit (Clash clash) = exit.Clash
+help_exit (BadOut word cause) = exit.BadOut
+help_exit OtherBook = exit.OtherBook
 
 -- a number at the right of a column of four
 abbrev pub in_column : ℕ → Bytes

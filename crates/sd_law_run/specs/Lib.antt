@@ -8,3 +8,4 @@ pub mod Fielded
 pub mod Left
 pub mod Outcome
 pub mod Helped
+pub mod Folders

@@ -1,5 +1,5 @@
 //! Good arguments and good files mean work. `run` does that work if no I/O error occurs and memory suffices.
-ghost use Rattle.std.specs.Prelude.{◌≡◌, ◌⊎◌, ◌≤◌, ◌<◌, ◌^◌, ◌++◌, ℕ, List, Some, None, Ok, Err, length};
+ghost use Rattle.std.specs.Prelude.{◌≡◌, ◌⊎◌, ◌≤◌, ◌<◌, ◌^◌, ◌++◌, ℕ, List, [], Some, None, Ok, Err, length};
 ghost use Rattle.sd_book.specs.Text.{text_of};
 ghost use Rattle.sd_lsd.specs.Fields.{layer_bytes, layer_card_of};
 ghost use Rattle.sd_run_books.specs.AccountsCommand.{accounts_value, making_then, report_line};
@@ -14,7 +14,7 @@ ghost use Rattle.sd_run_broadcasts.specs.Trial.{trial_meaning};
 ghost use Rattle.sd_run_books.specs.Air.{planning};
 ghost use Rattle.sd_law_run.specs.Good.{IsGoodApart, IsGoodPlan};
 ghost use Rattle.sd_law_run.specs.Good.{IsGoodAccounts, IsGoodBooks, IsGoodLayered, IsGoodLcard, IsGoodOpens};
-ghost use Rattle.sd_law_run.specs.Good.{IsGoodTrace, IsGoodBook};
+ghost use Rattle.sd_law_run.specs.Good.{IsGoodTrace, IsGoodBook, IsGoodNext, IsGoodTwin, origin_told};
 ghost use Rattle.sd_book.specs.Limits.{IsWithinLimits};
 ghost use Rattle.sd_law_run.specs.Left.{HasOut, IsAsBefore};
 ghost use Rattle.sd_engine.specs.Stream.{packets_of};
@@ -37,7 +37,10 @@ ghost use Rattle.sd_command_base.specs.Outside.{Outside};
 ghost use Rattle.sd_command_base.specs.Work.{NoSteps, Uncounted, Work, work_of_text};
 ghost use Rattle.sd_run_books.specs.Cover.{covering};
 ghost use Rattle.sd_law_run.specs.Good.{IsGoodCover, IsGoodCard, IsGoodSample, IsGoodTables, plan_told, IsGoodHead};
-ghost use Rattle.sd_command_base.specs.Made.{making};
+ghost use Rattle.sd_command_base.specs.Made.{making, new_work};
+ghost use Rattle.sd_site.specs.Chain.{twin_site};
+ghost use Rattle.sd_site.specs.Written.{site_text};
+ghost use Rattle.sd_run_books.specs.Next.{next_made};
 ghost use Rattle.sd_run_streams.specs.Messages.{monitoring};
 ghost use Rattle.sd_run_books.specs.Show.{shown_line, told_show};
 ghost use Rattle.sd_site.specs.Files.{check_in};
@@ -174,6 +177,23 @@ pub fn good_sites_are_judged()
         clash_of (record { site = good.fields; commands = good.commands })
         (record { site = good.other_fields; commands = good.more_commands }) ≡ Some clash →
         (meaning words (contents_of files)).result ≡ Err (Clash clash) }
+{}
+
+/// `next SITE BOOK WORDS OUT` over a site of the chain's end and a book that begins with its own makes the next site,
+/// and prints its periods.
+#[tactic(auto, using(crate::proofs::Chained::next_good))]
+pub fn good_nexts_are_made()
+    ensures { (words : List Bytes) (files : Files) (good : IsGoodNext words (contents_of files)) →
+        (meaning words (contents_of files)).result
+        ≡ Ok (new_work (next_made (origin_told good) good.count.value) good.out) }
+{}
+
+/// `twin SITE WORDS OUT` over a site of thirteen lines makes the site of a broadcast at the same time.
+#[tactic(auto, using(crate::proofs::Chained::twin_good))]
+pub fn good_twins_are_made()
+    ensures { (words : List Bytes) (files : Files) (good : IsGoodTwin words (contents_of files)) →
+        (meaning words (contents_of files)).result ≡ Ok (new_work
+        (record { bytes = site_text (twin_site good.count.value good.fields) good.line; pieces = [] }) good.out) }
 {}
 
 /// `lcard SITE LEAF WIDTH OUT` over a site with the leaf makes its layer card.

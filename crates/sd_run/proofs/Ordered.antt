@@ -11,7 +11,7 @@ use Rattle.sd_command_base.proofs.Givens.{any_given}
 use Rattle.sd_command_base.proofs.RunAnswers.{usage_meant}
 use Rattle.sd_command_base.proofs.Others.{IsOther}
 use Rattle.sd_command_line.proofs.Others.{other_help, other_version}
-use Rattle.sd_command_line.specs.declared.command.Command.TheVariants.{Plan, Sample}
+use Rattle.sd_command_line.specs.declared.command.Command.TheVariants.{Next, Plan, Sample, Twin}
 use Rattle.sd_command_line.specs.Words.{Argument, InputOf, OutOf, NumberOf, Order, CommandOf, HelpOf, VersionOf, number}
 use Rattle.sd_command_line.specs.Words.{order_of}
 use Rattle.sd_command_line.specs.Commands.{operands_of}
@@ -90,6 +90,25 @@ plan_fits (site ∷ book ∷ NumberOf packets ∷ []) h = absurd h.1.1.1
 plan_fits (site ∷ book ∷ NumberOf packets ∷ InputOf word ∷ rest) h = absurd h.1.1.1.0
 plan_fits (site ∷ book ∷ NumberOf packets ∷ OutOf word ∷ rest) h = absurd h.1.1.1.0
 plan_fits (site ∷ book ∷ NumberOf packets ∷ NumberOf pids ∷ rest) h = (h.1.1.0.1.0, h.1.1.1.0.1)
+
+-- a next site has some control words
+pub next_fits : (a : List Argument) → AreOf 1 (operands_of Next) a → 1 ≤ (number 3 a).value
+unfolding operands_of
+next_fits [] h = absurd h
+next_fits (site ∷ []) h = absurd h.1
+next_fits (site ∷ book ∷ []) h = absurd h.1.1
+next_fits (site ∷ book ∷ InputOf word ∷ rest) h = absurd h.1.1.0
+next_fits (site ∷ book ∷ OutOf word ∷ rest) h = absurd h.1.1.0
+next_fits (site ∷ book ∷ NumberOf words ∷ rest) h = h.1.1.0.1.0
+
+-- so has a twin
+pub twin_fits : (a : List Argument) → AreOf 1 (operands_of Twin) a → 1 ≤ (number 2 a).value
+unfolding operands_of
+twin_fits [] h = absurd h
+twin_fits (site ∷ []) h = absurd h.1
+twin_fits (site ∷ InputOf word ∷ rest) h = absurd h.1.0
+twin_fits (site ∷ OutOf word ∷ rest) h = absurd h.1.0
+twin_fits (site ∷ NumberOf words ∷ rest) h = h.1.0.1.0
 
 -- no order answers `Usage`
 other_order : (order : Order) (given : Readings) → IsOther (order_meaning order given).result

@@ -10,7 +10,7 @@ use Rattle.sd_command_base.specs.Shown.{NumberArgument}
 use Rattle.sd_command_base.specs.Both.{both_meaning}
 use Rattle.sd_command_base.specs.Files.{site_in, book_in}
 use Rattle.sd_command_base.specs.Leaves.{leaves_in}
-use Rattle.sd_command_base.specs.Made.{making}
+use Rattle.sd_command_base.specs.Made.{making, making_new}
 use Rattle.sd_run_books.specs.AccountsCommand.{accounts_in, making_then, report_line, accounts_meaning}
 use Rattle.sd_run_books.specs.Apart.{apart_meaning, plan_of_both, told_apart}
 use Rattle.sd_run_books.specs.Book.{longer_book, book_meaning}
@@ -21,6 +21,9 @@ use Rattle.sd_run_broadcasts.specs.Head.{sending_of, head_meaning}
 use Rattle.sd_run_books.specs.Layered.{layers_of_file, layering, layered_meaning}
 use Rattle.sd_run_books.specs.Lcard.{told_leaf, told_width, carding, lcard_meaning}
 use Rattle.sd_run_streams.specs.Messages.{messages_meaning, monitoring, stream_meaning as monitor_meaning}
+use Rattle.sd_run_books.specs.Chain.{newest_of_file, told_name}
+use Rattle.sd_run_books.specs.Next.{next_made, next_meaning, origin_of_files}
+use Rattle.sd_run_books.specs.Twin.{twin_made, twin_meaning}
 use Rattle.sd_run_books.specs.Opens.{opening, opens_meaning}
 use Rattle.sd_run_books.specs.Air.{plan_meaning as air_meaning, planning, roomy_site_of_file}
 use Rattle.sd_run_broadcasts.specs.Receive.{received_status}
@@ -36,17 +39,20 @@ use Rattle.sd_run_broadcasts.specs.Prefixes.{prefix_of_file}
 use Rattle.sd_run_broadcasts.specs.Trial.{plan_meaning as trial_plan, trial_text, trying, trial_meaning}
 use Rattle.sd_run_broadcasts.specs.Trial.{most_clear_bytes}
 use Rattle.sd_engine.specs.Sample.{sample_of}
+use Rattle.sd_site.specs.Chain.{most_word}
 use Rattle.sd_site.specs.SiteFields.{SiteFields}
+use Rattle.sd_site.specs.Written.{none_fewer}
 use Rattle.sd_book.specs.Text.{text_of}
 use Rattle.sd_lsd.specs.Fields.{layer_card_of, layer_bytes}
 use Rattle.sd_command_line.specs.declared.command.Command.{Command}
 use Rattle.sd_command_line.specs.declared.command.Command.TheVariants.{Accounts, Book, Card, Cover, Field, Head}
 use Rattle.sd_command_line.specs.declared.command.Command.TheVariants.{Layered}
 use Rattle.sd_command_line.specs.declared.command.Command.TheVariants.{Lcard}
-use Rattle.sd_command_line.specs.declared.command.Command.TheVariants.{Apart, Messages, Opens, Plan as Air, Receive}
+use Rattle.sd_command_line.specs.declared.command.Command.TheVariants.{Apart, Messages, Next, Opens, Plan as Air}
+use Rattle.sd_command_line.specs.declared.command.Command.TheVariants.{Receive}
 use Rattle.sd_command_line.specs.declared.command.Command.TheVariants.{Sample}
 use Rattle.sd_command_line.specs.declared.command.Command.TheVariants.{Show}
-use Rattle.sd_command_line.specs.declared.command.Command.TheVariants.{Tables, Trace, Trial}
+use Rattle.sd_command_line.specs.declared.command.Command.TheVariants.{Tables, Trace, Trial, Twin}
 use Rattle.sd_command_line.specs.declared.operand.Operand.{Operand}
 use Rattle.sd_command_line.specs.Commands.{command_named, example_of, command_name, operands_of}
 use Rattle.sd_command_line.specs.Operands.{operand_kind}
@@ -61,11 +67,13 @@ use Rattle.sd_run_broadcasts.proofs.ReceiveOthers.{other_receive}
 use Rattle.sd_run_books.proofs.Others.{other_accounts}
 use Rattle.sd_run_books.proofs.Others.{other_apart}
 use Rattle.sd_run_books.proofs.Others.{other_book_order}
+use Rattle.sd_run_books.proofs.ChainOthers.{other_next, other_twin}
 use Rattle.sd_run_broadcasts.proofs.FieldOthers.{other_field}
 use Rattle.sd_run_streams.proofs.Others.{other_messages}
 use Rattle.sd_run_books.proofs.Others.{other_plan}
 use Rattle.sd_run_broadcasts.proofs.Others.{other_trial}
-use Rattle.sd_run.proofs.Works.{AreOrderly, orderly_after, same_name, made_whole, turned, none_made, sent_apart}
+use Rattle.sd_run.proofs.Works.{AreOrderly, orderly_after, same_name, made_new, made_whole, turned, none_made}
+use Rattle.sd_run.proofs.Works.{sent_apart}
 use Rattle.sd_run.proofs.Works.{stream_apart, stream_received, text_quiet}
 use Rattle.sd_run.proofs.Examples.{IsExample, words_in, onto_first, arguments_in}
 use Rattle.sd_base.specs.Number.{decimal_value}
@@ -142,6 +150,27 @@ receive_orderly card stream out given =
     (λ bytes. value (receiving fields out bytes))
     (λ bytes. turned (UpTo (received_steps fields bytes)) out (received_of fields bytes)
     (received_status fields bytes) (stream_received fields bytes)))
+
+next_orderly : (site book : FileArgument) (words : NumberArgument) (out : FileArgument) (given : Readings) →
+    AreOrderly (Some out.text) (next_meaning site book words out given).result
+unfolding next_meaning
+next_orderly site book words out given =
+    let origin = origin_of_files site.number book.number words (given site) (given book) in
+    orderly_after (Some out.text) (judged (told_name site out))
+    (λ named. origin >>= λ found. making_new (next_made found words.value) out (given out))
+    (λ named. orderly_after (Some out.text) origin (λ found. making_new (next_made found words.value) out (given out))
+    (λ found. made_new (next_made found words.value) out (given out)))
+
+twin_orderly : (site : FileArgument) (words : NumberArgument) (out : FileArgument) (given : Readings) →
+    AreOrderly (Some out.text) (twin_meaning site words out given).result
+unfolding twin_meaning
+twin_orderly site words out given =
+    let newest = newest_of_file none_fewer site.number most_word words (given site) in
+    orderly_after (Some out.text) (judged (told_name site out))
+    (λ named. newest >>= λ found. making_new (twin_made found.0 found.1 words.value) out (given out))
+    (λ named. orderly_after (Some out.text) newest
+    (λ found. making_new (twin_made found.0 found.1 words.value) out (given out))
+    (λ found. made_new (twin_made found.0 found.1 words.value) out (given out)))
 
 -- and those that make none
 cover_orderly : (site book : FileArgument) (given : Readings) → AreOrderly None (cover_meaning site book given).result
@@ -270,6 +299,7 @@ command_orderly Head words given = head_orderly (file 1 words) (file 2 words) (f
 command_orderly Layered words given = layered_orderly (file 1 words) (file 2 words) (number 3 words) given
 command_orderly Lcard words given = lcard_orderly (file 1 words) (number 2 words) (number 3 words) (file 4 words) given
 command_orderly Messages words given = messages_orderly (file 1 words) (file 2 words) given
+command_orderly Next words given = next_orderly (file 1 words) (file 2 words) (number 3 words) (file 4 words) given
 command_orderly Opens words given = opens_orderly (file 1 words) (file 2 words) (file 3 words) given
 command_orderly Air words given =
     air_orderly (file 1 words) (file 2 words) (number 3 words) (number 4 words).value given
@@ -279,6 +309,7 @@ command_orderly Show words given = show_orderly (file 1 words) given
 command_orderly Tables words given = tables_orderly (file 1 words) given
 command_orderly Trace words given = trace_orderly (file 1 words) (file 2 words) (file 3 words) given
 command_orderly Trial words given = trial_orderly (file 1 words) (file 2 words) (file 3 words) given
+command_orderly Twin words given = twin_orderly (file 1 words) (number 2 words) (file 3 words) given
 
 -- no command answers `Usage`
 pub other_command : (command : Command) (words : List Argument) (given : Readings) →
@@ -293,6 +324,7 @@ other_command Head words given = other_head (file 1 words) (file 2 words) (file 
 other_command Layered words given = other_layered (file 1 words) (file 2 words) (number 3 words) given
 other_command Lcard words given = other_lcard (file 1 words) (number 2 words) (number 3 words) (file 4 words) given
 other_command Messages words given = other_messages (file 1 words) (file 2 words) given
+other_command Next words given = other_next (file 1 words) (file 2 words) (number 3 words) (file 4 words) given
 other_command Opens words given = other_opens (file 1 words) (file 2 words) (file 3 words) given
 other_command Air words given =
     other_plan (file 1 words) (file 2 words) (number 3 words) (number 4 words).value given
@@ -302,6 +334,7 @@ other_command Show words given = other_show (file 1 words) given
 other_command Tables words given = other_tables (file 1 words) given
 other_command Trace words given = other_trace (file 1 words) (file 2 words) (file 3 words) given
 other_command Trial words given = other_trial (file 1 words) (file 2 words) (file 3 words) given
+other_command Twin words given = other_twin (file 1 words) (number 2 words) (file 3 words) given
 
 -- the example of each command is words that order it
 pub example : (command : Command) → IsExample command
@@ -316,6 +349,7 @@ example Head = (refl, refl)
 example Layered = (refl, refl)
 example Lcard = (refl, refl)
 example Messages = (refl, refl)
+example Next = (refl, refl)
 example Opens = (refl, refl)
 example Air = (refl, refl)
 example Receive = (refl, refl)
@@ -324,6 +358,7 @@ example Show = (refl, refl)
 example Tables = (refl, refl)
 example Trace = (refl, refl)
 example Trial = (refl, refl)
+example Twin = (refl, refl)
 
 -- What a command does with the words at its places is the work of its row.
 
@@ -387,6 +422,13 @@ pub messages_works : (words : List Argument) {one two : FileArgument} {a b : Out
     Implements (messages_meaning one two) a b status → Implements (command_meaning Messages words) a b status
 messages_works words at_one at_two done = rw (at_one, at_two) at done
 
+-- `next`
+pub next_works : (words : List Argument) {one two four : FileArgument} {three : NumberArgument}
+    {a b : Outside} {status : Status} → one ≡ file 1 words → two ≡ file 2 words →
+    three ≡ number 3 words → four ≡ file 4 words → Implements (next_meaning one two three four) a b status →
+    Implements (command_meaning Next words) a b status
+next_works words at_one at_two at_three at_four done = rw (at_one, at_two, at_three, at_four) at done
+
 -- `opens`
 pub opens_works : (words : List Argument) {one two three : FileArgument} {a b : Outside}
     {status : Status} → one ≡ file 1 words → two ≡ file 2 words → three ≡ file 3 words →
@@ -430,3 +472,10 @@ pub trace_works : (words : List Argument) {one two three : FileArgument} {a b : 
     {status : Status} → one ≡ file 1 words → two ≡ file 2 words → three ≡ file 3 words →
     Implements (trace_meaning one two three) a b status → Implements (command_meaning Trace words) a b status
 trace_works words at_one at_two at_three done = rw (at_one, at_two, at_three) at done
+
+-- `twin`
+pub twin_works : (words : List Argument) {one three : FileArgument} {two : NumberArgument}
+    {a b : Outside} {status : Status} → one ≡ file 1 words → two ≡ number 2 words →
+    three ≡ file 3 words → Implements (twin_meaning one two three) a b status →
+    Implements (command_meaning Twin words) a b status
+twin_works words at_one at_two at_three done = rw (at_one, at_two, at_three) at done

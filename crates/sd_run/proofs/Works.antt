@@ -14,7 +14,7 @@ use Rattle.sd_message.specs.declared.stream_fault.StreamFault.{StreamFault}
 use Rattle.sd_command_base.specs.declared.status.Status.{Status}
 use Rattle.sd_command_base.specs.Spec.{Spec, FileArgument, and_then, ◌>>=◌}
 use Rattle.sd_command_base.specs.Work.{StepBound, Out, Work}
-use Rattle.sd_command_base.specs.Made.{making}
+use Rattle.sd_command_base.specs.Made.{NewFile, making, making_new, out_of}
 use Rattle.sd_command_base.specs.Turned.{turning}
 use Rattle.sd_command_base.specs.Streams.{stream_status}
 use Rattle.sd_run_broadcasts.specs.Head.{status_where, sent_status}
@@ -51,6 +51,14 @@ made_whole steps out bytes = record {
   makes = λ made e. same_name (record { word = out.number; name = out.text; bytes = bytes }) made e;
   keeps = λ refusal. absurd refusal;
 }
+
+pub made_new : (made : NewFile) (out : FileArgument) (got : Option (List ℕ)) →
+    AreOrderly (Some out.text) (making_new made out got).result
+made_new made out None = record {
+  makes = λ found e. same_name (out_of out made.bytes) found e;
+  keeps = λ refusal. absurd refusal;
+}
+made_new made out (Some bytes) = tt
 
 pub turned : (steps : StepBound) (out : FileArgument) (bytes : List ℕ) (ends : Status) → (RefusesFirst ends → ⊥) →
     IsOrderly (Some out.text) (turning steps out bytes ends)

@@ -6,10 +6,11 @@ use Rattle.sd_command_line.specs.declared.command.Command.{Command}
 use Rattle.sd_command_line.specs.declared.command.Command.TheVariants.{Accounts, Book, Card, Cover, Field, Head}
 use Rattle.sd_command_line.specs.declared.command.Command.TheVariants.{Layered}
 use Rattle.sd_command_line.specs.declared.command.Command.TheVariants.{Lcard}
-use Rattle.sd_command_line.specs.declared.command.Command.TheVariants.{Apart, Messages, Opens, Plan, Receive, Sample}
+use Rattle.sd_command_line.specs.declared.command.Command.TheVariants.{Apart, Messages, Next, Opens, Plan}
+use Rattle.sd_command_line.specs.declared.command.Command.TheVariants.{Receive, Sample}
 use Rattle.sd_command_line.specs.declared.command.Command.TheVariants.{Show}
 use Rattle.sd_command_line.specs.declared.command.Command.TheVariants.{Tables}
-use Rattle.sd_command_line.specs.declared.command.Command.TheVariants.{Trace, Trial}
+use Rattle.sd_command_line.specs.declared.command.Command.TheVariants.{Trace, Trial, Twin}
 use Rattle.sd_command_line.specs.Words.{Argument, Order, CommandOf, HelpOf, VersionOf, file, number, order_of}
 use Rattle.sd_run_books.specs.Cover.{cover_meaning}
 use Rattle.sd_run_books.specs.Card.{card_meaning}
@@ -24,10 +25,12 @@ use Rattle.sd_run_books.specs.Book.{book_meaning}
 use Rattle.sd_run_books.specs.Layered.{layered_meaning}
 use Rattle.sd_run_books.specs.Lcard.{lcard_meaning}
 use Rattle.sd_run_streams.specs.Messages.{messages_meaning}
+use Rattle.sd_run_books.specs.Next.{next_meaning}
 use Rattle.sd_run_books.specs.Opens.{opens_meaning}
 use Rattle.sd_run_books.specs.Air.{plan_meaning}
 use Rattle.sd_run_books.specs.Show.{show_meaning}
 use Rattle.sd_run_books.specs.Trace.{trace_meaning}
+use Rattle.sd_run_books.specs.Twin.{twin_meaning}
 use Rattle.sd_run_broadcasts.specs.Trial.{trial_meaning}
 use Rattle.sd_command_line.specs.Help.{help_meaning, version_meaning}
 
@@ -43,6 +46,7 @@ command_meaning Head words given = head_meaning (file 1 words) (file 2 words) (f
 command_meaning Layered words given = layered_meaning (file 1 words) (file 2 words) (number 3 words) given
 command_meaning Lcard words given = lcard_meaning (file 1 words) (number 2 words) (number 3 words) (file 4 words) given
 command_meaning Messages words given = messages_meaning (file 1 words) (file 2 words) given
+command_meaning Next words given = next_meaning (file 1 words) (file 2 words) (number 3 words) (file 4 words) given
 command_meaning Opens words given = opens_meaning (file 1 words) (file 2 words) (file 3 words) given
 command_meaning Plan words given =
     plan_meaning (file 1 words) (file 2 words) (number 3 words) (number 4 words).value given
@@ -52,6 +56,7 @@ command_meaning Show words given = show_meaning (file 1 words) given
 command_meaning Tables words given = tables_meaning (file 1 words) given
 command_meaning Trace words given = trace_meaning (file 1 words) (file 2 words) (file 3 words) given
 command_meaning Trial words given = trial_meaning (file 1 words) (file 2 words) (file 3 words) given
+command_meaning Twin words given = twin_meaning (file 1 words) (number 2 words) (file 3 words) given
 
 -- the work of an order
 abbrev pub order_meaning : Order → Readings → Spec Work

@@ -5,7 +5,7 @@ use Rattle.sd_command_base.specs.declared.status.Status.TheVariants.{PrintFault}
 use Rattle.sd_command_base.specs.declared.status.Status.TheVariants.{BadSite, BadBook, BadCard, BadClear, BadStream}
 use Rattle.sd_command_base.specs.declared.status.Status.TheVariants.{Limit}
 use Rattle.sd_command_base.specs.declared.status.Status.TheVariants.{NoMemory, Unheard, Unclosed, Gaps, NoCat}
-use Rattle.sd_command_base.specs.declared.status.Status.TheVariants.{BadWord, Clash}
+use Rattle.sd_command_base.specs.declared.status.Status.TheVariants.{BadWord, Clash, BadOut, OtherBook}
 
 -- Arguments or files are refused before a file is made or a text is printed. Each status has its row, so that a new one
 -- must be decided.
@@ -29,3 +29,5 @@ RefusesFirst (Gaps packets) = ⊥
 RefusesFirst NoCat = ⊥
 RefusesFirst (BadWord word) = Unit {0}
 RefusesFirst (Clash clash) = Unit {0}
+RefusesFirst (BadOut word cause) = Unit {0}
+RefusesFirst OtherBook = Unit {0}

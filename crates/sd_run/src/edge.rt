@@ -1,7 +1,7 @@
 ghost use Rattle.std.specs.Prelude.{◌≡◌, ◌↔◌, true};
 ghost use Rattle.sd_host.specs.declared.identity.Output.TheVariants.{Unknown};
 ghost use Rattle.sd_command_line.specs.CommandLine.{words_of};
-ghost use Rattle.sd_command_line.specs.Words.{names_out, order_of, MakesCardBy};
+ghost use Rattle.sd_command_line.specs.Words.{names_out, order_of, HoldsSecretsBy};
 
 use sd_command_line::CommandLine;
 use sd_host::HostDepot;
@@ -14,9 +14,9 @@ pub(crate) fn depot_for<'a, R: Files + Print>(
     files: &'a R,
     line: &CommandLine<'_>,
 ) -> HostDepot<'a, R>
-    ensures { (result.private ≡ true) ↔ MakesCardBy (order_of (words_of line.now)) }
+    ensures { (result.private ≡ true) ↔ HoldsSecretsBy (order_of (words_of line.now)) }
 {
-    HostDepot::new(alloc, files, line.makes_card())
+    HostDepot::new(alloc, files, line.holds_secrets())
 }
 
 /// Whether a file that the words name is the standard output, also if one of their numbers is refused; or whether OUT

@@ -11,7 +11,9 @@ use sd_base::Steps;
 use sd_command_base::Status;
 use sd_command_line::{Arguments, Command};
 use sd_ports::{Depot, Sink};
-use sd_run_books::{accounts, apart, book, card, cover, layered, lcard, opens, plan, show, trace};
+use sd_run_books::{
+    accounts, apart, book, card, cover, layered, lcard, next, opens, plan, show, trace, twin,
+};
 use sd_run_broadcasts::{field, head, receive, trial};
 use sd_run_streams::{messages, sample, tables};
 use std::alloc::Global;
@@ -42,6 +44,7 @@ pub(crate) fn work<D: Depot, P: Sink, L: Ledger>(
         Command::Layered => layered_row(alloc, row, depot, print),
         Command::Lcard => lcard_row(alloc, row, depot, steps),
         Command::Messages => messages_row(alloc, row, depot, print),
+        Command::Next => next_row(alloc, row, depot, print),
         Command::Opens => opens_row(alloc, row, depot, print),
         Command::Plan => plan_row(alloc, row, depot, print),
         Command::Receive => receive_row(alloc, row, depot, steps),
@@ -50,6 +53,7 @@ pub(crate) fn work<D: Depot, P: Sink, L: Ledger>(
         Command::Tables => tables_row(alloc, row, depot, print),
         Command::Trace => trace_row(alloc, row, depot, print),
         Command::Trial => trial_row(alloc, row, depot, print, steps),
+        Command::Twin => twin_row(alloc, row, depot),
     }
 }
 
@@ -238,6 +242,30 @@ fn messages_row<D: Depot, P: Sink>(
     messages(alloc, depot, print, row.file(1), row.file(2))
 }
 
+/// `next` with the arguments of its row.
+#[tactic(auto, using(crate::proofs::Rows::next_works, crate::proofs::Ordered::next_fits))]
+fn next_row<D: Depot, P: Sink>(
+    alloc: Global,
+    row: &Arguments<'_>,
+    depot: &mut D,
+    print: &mut P,
+) -> Result<(), Status>
+    requires { AreOf 1 (operands_of Command.Next) (arguments_said 1 row.now.list.items) }
+    ensures { (steps : ℕ) → Implements (command_meaning Command.Next (arguments_said 1 row.now.list.items))
+        (outside (depot_state D.Depot depot.old) (page_state P.Sink print.old) steps)
+        (outside (depot_state D.Depot depot.new) (page_state P.Sink print.new) steps) (status_of result) }
+{
+    next(
+        alloc,
+        depot,
+        print,
+        row.file(1),
+        row.file(2),
+        row.number(3),
+        row.file(4),
+    )
+}
+
 /// `opens` with the arguments of its row.
 #[tactic(auto, using(crate::proofs::Rows::opens_works))]
 fn opens_row<D: Depot, P: Sink>(
@@ -373,4 +401,16 @@ fn trial_row<D: Depot, P: Sink, L: Ledger>(
         row.file(3),
         steps,
     )
+}
+
+/// `twin` with the arguments of its row.
+#[tactic(auto, using(crate::proofs::Rows::twin_works, crate::proofs::Ordered::twin_fits))]
+fn twin_row<D: Depot>(alloc: Global, row: &Arguments<'_>, depot: &mut D) -> Result<(), Status>
+    requires { AreOf 1 (operands_of Command.Twin) (arguments_said 1 row.now.list.items) }
+    ensures { (page : PageState) (steps : ℕ) →
+        Implements (command_meaning Command.Twin (arguments_said 1 row.now.list.items))
+        (outside (depot_state D.Depot depot.old) page steps)
+        (outside (depot_state D.Depot depot.new) page steps) (status_of result) }
+{
+    twin(alloc, depot, row.file(1), row.number(2), row.file(3))
 }

@@ -1,10 +1,10 @@
-use sd_command_base::Status;
+use sd_command_base::{OutCause, Status};
 use sd_command_line::{CommandLine, explanation};
 use sd_site::{CardFault, SiteFault};
 use std::alloc::{AllocError, Global};
 
 // The arguments, the status, and what a user is told.
-static EXPLAINED: [(&str, Status, &str); 18] = [
+static EXPLAINED: [(&str, Status, &str); 23] = [
     (
         "cover S B",
         Status::Missing(2),
@@ -48,6 +48,37 @@ static EXPLAINED: [(&str, Status, &str); 18] = [
         "card S 9 K",
         Status::BadWord(2),
         "sdca: LEAF 9: not a decimal number in its range; LEAF is the receiver's number, from 0 to 2^height - 1\n",
+    ),
+    (
+        "next S0 B 9 S1",
+        Status::BadOut {
+            word: 4,
+            cause: OutCause::There,
+        },
+        "sdca: OUT S1: it is there already; each site is made once\n",
+    ),
+    (
+        "twin S0 9 S2",
+        Status::BadOut {
+            word: 3,
+            cause: OutCause::Name,
+        },
+        "sdca: OUT S2: its name is not that of SITE with the last number one higher\n",
+    ),
+    (
+        "next S0 B 9 S1",
+        Status::OtherBook,
+        "sdca: BOOK B: it doesn't begin with the book of the site's line 13; an old book was put back, or a line was changed or lost\n",
+    ),
+    (
+        "head S B C O",
+        Status::OtherBook,
+        "sdca: BOOK B: it is not the book of the site's line 13; if it only got longer, make the next site\n",
+    ),
+    (
+        "twin S0 9 no/S1",
+        Status::Missing(3),
+        "sdca: OUT no/S1: no such folder\n",
     ),
     (
         "cover S",

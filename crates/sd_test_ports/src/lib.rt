@@ -1,5 +1,6 @@
 //! Tests of the outside and of what goes through it: ports in memory and on the machine, streams that are driven,
-//! sample streams, the inspector and its lines, statuses and what they are to a user.
+//! sample streams, the inspector and its lines, the book of a site's line 13, files that must be new, statuses and what
+//! they are to a user.
 #![tactic(auto)]
 
 #[cfg(test)]
@@ -18,6 +19,8 @@ mod host;
 mod lines;
 #[cfg(test)]
 mod machine;
+#[cfg(test)]
+mod own_book;
 #[cfg(test)]
 mod ports;
 #[cfg(test)]

@@ -1,5 +1,5 @@
 use sd_book::BookLimit;
-use sd_command_base::{Clash, LimitKind, Status, StreamRefusal};
+use sd_command_base::{Clash, LimitKind, OutCause, Status, StreamRefusal};
 use sd_command_line::tell;
 use sd_engine::{BreakCause, StreamBreak};
 use sd_message::{EcmFault, EmmFault, StreamFault};
@@ -9,7 +9,7 @@ use sd_site::{CardFault, SiteFault};
 use std::alloc::{AllocError, Global};
 
 // Statuses, their codes, and their lines.
-static LINES: [(Status, u8, &str); 39] = [
+static LINES: [(Status, u8, &str); 42] = [
     (Status::Done, 0, ""),
     (Status::Usage, 1, "usage\n"),
     (Status::Missing(3), 2, "missing file word 3\n"),
@@ -182,6 +182,23 @@ static LINES: [(Status, u8, &str); 39] = [
         18,
         "books disagree on receiver 5 in period 2\n",
     ),
+    (
+        Status::BadOut {
+            word: 4,
+            cause: OutCause::There,
+        },
+        19,
+        "file word 4 is there\n",
+    ),
+    (
+        Status::BadOut {
+            word: 3,
+            cause: OutCause::Name,
+        },
+        19,
+        "file word 3 does not follow file word 1\n",
+    ),
+    (Status::OtherBook, 21, "book is not that of the site\n"),
 ];
 
 // Whether the status has this code, and is told by this line.

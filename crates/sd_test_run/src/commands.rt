@@ -1,5 +1,5 @@
 use crate::files::Files;
-use crate::leaving::{Fault, Leaving, left, made};
+use crate::leaving::{Fault, Leaving, left, made, out_name};
 use crate::row::Row;
 use crate::sums::has_sum;
 use sd_command_base::Status;
@@ -20,7 +20,7 @@ struct Whole<'a> {
     left: Leaving,
 }
 
-// The books, the accounts and the leaves that the commands read.
+// The books, the accounts, the leaves and the first site of a chain that the commands read.
 const TEXTS: &str = "
 $ B
 revoke 0
@@ -40,10 +40,26 @@ revoke 2
 $ L
 1
 6
+$ E
+$ 1
+height 3
+master 000102030405060708090a0b0c0d0e0f101112131415161718191a1b1c1d1e1f
+ca 1234
+emm 496
+ecm 497
+ecm-every 20
+crypto-ecms 2
+period-cryptos 1
+messages 3
+first-word 1
+last-word 0
+first-period 0
 ";
 
-// The clear stream, the card and the broadcast that they read, and the commands that make them.
-const MADE: &str = "C = sample 0 3 O
+// The second site of the chain, the clear stream, the card and the broadcast that they read, and the commands that make
+// them.
+const MADE: &str = "5 = next 1 E 1000 2
+C = sample 0 3 O
 K = card S 0 O
 X = head S M C O
 ";
@@ -159,7 +175,7 @@ impl<'a> Whole<'a> {
                 return Ok(false);
             }
         }
-        Ok(self.left.out.is_none() || self.fails_at(alloc, "O", true)?)
+        Ok(self.left.out.is_none() || self.fails_at(alloc, out_name(&self.words), true)?)
     }
 
     /// Whether the first and the second call of the port of this name are told where they fail.
@@ -196,6 +212,8 @@ $ accounts S A O | S A | | 6004a0e63339f065 | 20a39407d36daa17
 $ book S R M O | S R M | | 1be60745ace5d12f |
 $ card S 0 O | S | | a4b19001906beb19 |
 $ lcard S 5 2 O | S | | c2961eac63670ce1 |
+$ next 1 R 1000 2 | 1 R | | 3f8ce7de43fc2f05 | 8d0754468986376f
+$ twin 5 500 6 | 5 | | 9e4a612bcb53447c |
 $ sample 0 4 O | | | fcc946789d7bffb6 |
 $ head S M C O | S M C | streams | 9c6d622db9f9fa35 |
 $ receive K X O | K X | streams | 3e68d36a18df2132 |

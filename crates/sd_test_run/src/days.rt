@@ -4,7 +4,7 @@ use sd_ports_memory::MemDepot;
 use sd_test_texts::{BOOK, site};
 use std::alloc::{AllocError, Global};
 
-// The sites of two multiplexes, on the first day and on the second, as examples/reserve.sh makes them.
+// The sites of two multiplexes, on the first day and on the second, which are made by hand.
 static SITES: [(&str, &str); 4] = [
     (
         "site-1",

@@ -31,7 +31,7 @@ pub(crate) struct Leaving {
     pub(crate) status: Status,
     /// The bytes that were printed.
     pub(crate) printed: Vec<u8>,
-    /// The file O.
+    /// The file O, or the site that was to be made.
     pub(crate) out: Option<Vec<u8>>,
     /// Whether some call of the depot failed.
     pub(crate) failed: bool,
@@ -69,11 +69,19 @@ pub(crate) fn left(
     Ok(Leaving {
         status,
         printed: print.into_bytes(),
-        out: copy_of(alloc, depot.get("O"))?,
+        out: copy_of(alloc, depot.get(out_name(words)))?,
         failed: depot.faults() > 0,
         made: depot.made(),
         stayed: depot.misses() == 0 && files.stand_in(&depot),
     })
+}
+
+/// The name of OUT: the last of the words if they make a site, whose name they can't choose, and else O.
+pub(crate) fn out_name<'a>(words: &[&'a str]) -> &'a str {
+    match words {
+        ["next" | "twin", .., out] => out,
+        _ => "O",
+    }
 }
 
 /// Lets the call of the depot or of its ports fail; the numbers of the prints that fail.
@@ -131,7 +139,7 @@ fn counted<D: Depot, P: Sink, L: Ledger>(
     run(alloc, &CommandLine::read(words), depot, print, &mut steps)
 }
 
-/// The file O that the words make.
+/// The file that the words make.
 pub(crate) fn made(alloc: Global, files: &Files, words: &[&str]) -> Result<Vec<u8>, AllocError> {
     let left = left(alloc, files, words, ROOM, Fault::Nowhere)?;
     left.out.ok_or(AllocError)

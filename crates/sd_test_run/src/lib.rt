@@ -1,11 +1,13 @@
 //! Tests of the program's one call over files in memory, of which a call may fail: what each command prints and makes,
-//! refusals and limits, the day of examples/day.sh, hostile input, and receivers that stay on.
+//! refusals and limits, the day of examples/day.sh, a chain of sites, hostile input, and receivers that stay on.
 #![tactic(auto)]
 
 #[cfg(test)]
 mod boxes;
 #[cfg(test)]
 mod broadcasts;
+#[cfg(test)]
+mod chains;
 #[cfg(test)]
 mod changes;
 #[cfg(test)]

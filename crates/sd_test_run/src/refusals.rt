@@ -17,13 +17,25 @@ messages 2
 first-word 4294967295
 last-word 4294967295
 first-period 4294967295
+book 33554432 000102030405060708090a0b0c0d0e0f101112131415161718191a1b1c1d1e1f
 ",
 );
 
-/// All lines after the eighth, and another.
+/// All lines after the eighth up to an empty thirteenth one; with the book of line 13 out of its range; and up to a
+/// fourteenth line.
 const THIRTEEN: Part = Part::Site(
     9,
     "messages 1\nfirst-word 0\nlast-word 0\nfirst-period 0\n\n",
+);
+
+const LARGE_BOOK: Part = Part::Site(
+    9,
+    "messages 1\nfirst-word 0\nlast-word 0\nfirst-period 0\nbook 33554433 e3b0c44298fc1c149afbf4c8996fb92427ae41e4649b934ca495991b7852b855\n",
+);
+
+const FOURTEEN: Part = Part::Site(
+    9,
+    "messages 1\nfirst-word 0\nlast-word 0\nfirst-period 0\nbook 0 e3b0c44298fc1c149afbf4c8996fb92427ae41e4649b934ca495991b7852b855\n\n",
 );
 
 /// The site as it is, and with trees of other heights.
@@ -82,7 +94,7 @@ type Refusal = (
     &'static str,
 );
 
-static REFUSALS: [Refusal; 25] = [
+static REFUSALS: [Refusal; 30] = [
     (
         "cover S F",
         Part::Site(3, "ca 123\n"),
@@ -113,7 +125,47 @@ static REFUSALS: [Refusal; 25] = [
         NONE,
         NONE,
         6,
-        "site has extra line 13\n",
+        "site line 13 is malformed\n",
+    ),
+    (
+        "cover S F",
+        LARGE_BOOK,
+        NONE,
+        NONE,
+        6,
+        "site line 13 is out of range\n",
+    ),
+    (
+        "cover S F",
+        FOURTEEN,
+        NONE,
+        NONE,
+        6,
+        "site has extra line 14\n",
+    ),
+    (
+        "next S F 0 O",
+        S,
+        NONE,
+        NONE,
+        17,
+        "word 3 is out of range\n",
+    ),
+    (
+        "next S N 1 O",
+        THIRTEEN,
+        NONE,
+        NONE,
+        19,
+        "file word 4 does not follow file word 1\n",
+    ),
+    (
+        "twin S 1 O",
+        THIRTEEN,
+        NONE,
+        NONE,
+        19,
+        "file word 3 does not follow file word 1\n",
     ),
     (
         "accounts S F O",

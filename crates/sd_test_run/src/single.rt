@@ -36,7 +36,7 @@ proved in logic dac8208d650f15bf (rattle-kit-13f)
 ";
 
 /// The lines of `help` that stand at its ends and beside the longest words.
-const LISTED: [(usize, &str); 4] = [
+const LISTED: [(usize, &str); 5] = [
     (
         0,
         "sdca: conditional access for transport streams, by Subset Difference",
@@ -50,14 +50,19 @@ const LISTED: [(usize, &str); 4] = [
         "  book SITE BOOK COMMANDS OUT  makes a longer book: its commands, then those of COMMANDS",
     ),
     (
-        19,
-        "  trial SITE BOOK CLEAR        prints what each receiver writes from a broadcast",
+        12,
+        "  next SITE BOOK WORDS OUT     makes the site of the next broadcast: new control words, a new period",
+    ),
+    (
+        21,
+        "  twin SITE WORDS OUT          makes the site of a broadcast at the same time: new control words, the same periods",
     ),
 ];
 
 // The words of `help`, and lines of what it prints: of the list; and of exits 1 and 2 in the page of a command, with
-// inputs and OUT, and with OUT alone. They are lines 10 and 11 of the page of a command with three arguments.
-static PAGES: [(&[&str], &[(usize, &str)]); 3] = [
+// inputs and OUT, and with OUT alone. They are lines 10 and 11 of the page of a command with three arguments. Exits 19
+// and 21 are the last ones of `next`.
+static PAGES: [(&[&str], &[(usize, &str)]); 4] = [
     (&["help"], &LISTED),
     (
         &["help", "receive"],
@@ -80,6 +85,20 @@ static PAGES: [(&[&str], &[(usize, &str)]); 3] = [
                 "   1  usage: unknown command, wrong number of arguments, or text not in UTF-8",
             ),
             (11, "   2  the folder of OUT does not exist"),
+        ],
+    ),
+    (
+        &["help", "next"],
+        &[
+            (
+                20,
+                "  19  OUT is there already, or its name does not follow that of SITE",
+            ),
+            (21, "  21  BOOK is not the book of the site's line 13"),
+            (
+                24,
+                "  sdca next site-0.txt examples/book.txt 1000 site-1.txt",
+            ),
         ],
     ),
 ];
