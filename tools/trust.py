@@ -21,7 +21,13 @@ from collections import defaultdict
 TOP = os.path.dirname(os.path.dirname(os.path.realpath(__file__)))
 PAGE = f"{TOP}/docs/TRUST.md"
 MARK = "<!-- From here on tools/trust.py writes this page. -->\n"
-LAWS = ["sd_law_run::run.head,card,receive,lost", "sd_law_coalition::periods_known", "sd_law_coalition::words_known"]
+LAWS = [
+    "sd_law_run::run.head,card,receive,lost",
+    "sd_law_coalition::periods_known",
+    "sd_law_coalition::words_known",
+    "sd_law_chain::cut_off_cards_stay_out",
+    "sd_law_chain::chains_with_books_are_kept",
+]
 # The sources that comments name in brackets.
 SOURCES = ["ISO/IEC 13818-1", "Naor, Naor, Lotspiech", "FIPS 180-4", "this project"]
 
