@@ -410,9 +410,12 @@ row "no byte of a site can be written: exit 4" is "$?" 4
 ask "next $fourth chain/book 1000 chain/site-5.txt"
 row "no site is made from what is left of it" is "$status $(head -n 1 lines)" "6 site is short"
 rm "$fourth"
-sdca next chain/site-3.txt chain/book 1000 "$fourth" >&- 2>err
-row "a closed standard output: exit 5" is "$status" 5
+sdca next chain/site-3.txt chain/book 1000 "$fourth" >/dev/full 2>err
+row "nothing can be printed: exit 5" is "$status" 5
 row "the site is whole" is "$(wc -l <"$fourth")" 13
+rm "$fourth"
+sdca next chain/site-3.txt chain/book 1000 "$fourth" >&- 2>err
+row "a closed standard output: lines on the standard error" is "$status $(head -c 7 err) $(wc -l <"$fourth")" "0 period  13"
 rm "$fourth"
 if strace -o trace true 2>err; then
     # WORDS..: runs them under strace, which sees what is brought to the disk.
