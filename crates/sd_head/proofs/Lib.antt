@@ -8,6 +8,7 @@ mod Stepping
 pub mod Chained
 pub mod ClearKinds
 pub mod Refusing
+pub mod Judging
 pub mod Carrying
 pub mod Marking
 pub mod Moving

@@ -1,18 +1,19 @@
 -- Public meaning: what is learned of a clear packet that may be the next one.
-use Rattle.std.specs.Prelude.{◌≡◌, ℕ, ◌-◌, ◌^◌, ◌<◌, ◌==◌, Bool, true, false, List, length, get_or, slice_index}
-use Rattle.std.specs.Prelude.{Option, Some, None, IfSome}
+use Rattle.std.specs.Prelude.{◌≡◌, ℕ, ◌-◌, ◌^◌, ◌<◌, ◌≤◌, ◌==◌, ◌&&◌, nat_le, Bool, true, false, List, length, get_or}
+use Rattle.std.specs.Prelude.{slice_index, Option, Some, None, IfSome, Result, IfOk, OnOk, MatchResult}
 use Rattle.sd_packet.specs.Header.{pid_of, counter_of, scrambling_of}
 use Rattle.sd_packet.specs.Positions.{is_placed, advanced, first_position}
 use Rattle.sd_site.specs.SiteFields.{SiteFields}
 use Rattle.sd_psi.specs.declared.pat.Pat.{Pat}
 use Rattle.sd_psi.specs.declared.clear_fault.ClearFault.{ClearFault}
-use Rattle.sd_psi.specs.declared.clear_fault.ClearFault.TheVariants.{PatForm, PmtForm, TooManyPids}
-use Rattle.sd_psi.specs.declared.fault.FormFault.TheVariants as Form
+use Rattle.sd_psi.specs.declared.clear_fault.ClearFault.TheVariants.{TooManyPids, TooLong}
 use Rattle.sd_psi.specs.Forms.{section_in}
 use Rattle.sd_message.specs.EcmVersions.{most_places}
-use Rattle.sd_spec.specs.Kinds.{kind_of, is_current_pat}
+use Rattle.sd_spec.specs.Kinds.{is_current_pat}
+use Rattle.sd_spec.specs.Plan.{word_of}
 use Rattle.sd_spec.specs.Carried.{pmt_carried}
-use Rattle.sd_spec.specs.Refused.{fault_where, form_where, pat_wrong, is_full_own, is_one_too_many}
+use Rattle.sd_spec.specs.Refused.{refusal_of, fault_where, is_too_long}
+use Rattle.sd_head.specs.After.{IsAfter}
 use Rattle.sd_head.specs.declared.clear.Clear.{Clear}
 use Rattle.sd_head.specs.declared.judged.Judged.{Judged}
 use Rattle.sd_head.specs.declared.judged.Judged.TheVariants.{Passed, Pmt, Scrambled}
@@ -71,10 +72,18 @@ pub record MayFollow (site : SiteFields) (clear : Clear) (packet : List ℕ) (ju
   pub number : clear.count < 2 ^ 32 - 1
   pub learned : IsLearned site clear packet judged
 
--- why a packet is refused after these packets by what it is: by the rules on PATs, on PMTs and on new PIDs, in turn
+-- why a packet that makes this move is one too many: its PID would be one more than may have positions, or no number
+-- or no control word is left for it [this project, docs/FORMATS.md, Broadcast]
+abbrev pub limit_fault : SiteFields → Clear → Move → Option ClearFault
+limit_fault site clear next =
+    fault_where (next.is_first && nat_le most_places (length clear.pids.items)) (TooManyPids clear.count)
+    (fault_where (is_too_long site clear.count) (TooLong clear.count) None)
+
+-- the result of judging a packet as the next one: what is learned of it, or the first rule that it breaks
 -- [this project, docs/FORMATS.md, Broadcast]
-abbrev pub form_refusal : SiteFields → List (List ℕ) → List ℕ → Option ClearFault
-form_refusal site before packet =
-    form_where (pat_wrong packet) (PatForm (length before))
-    (fault_where (is_full_own site (kind_of before packet) packet) (PmtForm (length before) Form.NoRoom)
-    (fault_where (is_one_too_many before packet) (TooManyPids (length before)) None))
+pub record IsJudgement (site : SiteFields) (clear : Clear) (packet : List ℕ) (result : Result Judged ClearFault)
+    : Type 0 where
+  pub value : (before : List (List ℕ)) → IsAfter before clear → MatchResult result
+      (λ _. refusal_of site before packet ≡ None) (λ fault. refusal_of site before packet ≡ Some fault)
+  pub follows : IfOk result (MayFollow site clear packet)
+  pub word : OnOk result (word_of site clear.count ≤ site.last_word)

@@ -12,24 +12,20 @@ use sd_keystream::{Parity, scramble};
 use sd_packet::Packet;
 
 impl<'a> Judged<'a> {
-    /// What the packet, of which this was learned, becomes in the crypto period whose control word has this number and
-    /// is this (docs/FORMATS.md, Broadcast).
-    pub fn carry(&self, packet: &Packet, number: u32, word: &[u8; 32]) -> Packet
-        requires { (site : SiteFields) × (clear : Clears) × MayFollow site clear packet.now self.now }
+    /// Makes of the packet, of which this was learned, what it becomes in the crypto period whose control word has this
+    /// number and is this (docs/FORMATS.md, Broadcast).
+    pub fn carry(&self, packet: &mut Packet, number: u32, word: &[u8; 32])
+        requires { (site : SiteFields) × (clear : Clears) × MayFollow site clear packet.old self.now }
         ensures { (site : SiteFields) (clear : Clears) (before : List (List ℕ)) →
-            MayFollow site clear packet.now self.now → IsAfter before clear →
+            MayFollow site clear packet.old self.now → IsAfter before clear →
             number ≡ word_of site (length before) →
             word.now ≡ control_word_of site.master number →
-            result ≡ carried site before packet.now }
+            packet.new ≡ carried site before packet.old }
     {
         match self {
-            Judged::Passed(_) => *packet,
-            Judged::Pmt(_, carried) => *carried,
-            Judged::Scrambled(next) => {
-                let mut carried = *packet;
-                scramble(&mut carried, word, next.position, parity(number));
-                carried
-            }
+            Judged::Passed(_) => {}
+            Judged::Pmt(_, carried) => *packet = *carried,
+            Judged::Scrambled(next) => scramble(packet, word, next.position, parity(number)),
         }
     }
 }

@@ -77,7 +77,14 @@ impl<K: Sink, L: Ledger> Stage<K, L> for Head {
         if let Some(fault) = self.refusal {
             return Err(StageFault::Refused(fault));
         }
-        let admitted = match admit(&mut self.entitling, &self.clear, &self.site, packet, steps) {
+        let judgement = self.clear.judge(&self.site, packet);
+        let admitted = match admit(
+            &mut self.entitling,
+            &self.clear,
+            &self.site,
+            &judgement,
+            steps,
+        ) {
             Ok(admitted) => admitted,
             Err(fault) => {
                 self.refusal = Some(fault);
@@ -89,8 +96,11 @@ impl<K: Sink, L: Ledger> Stage<K, L> for Head {
         let message = self
             .sender
             .prepare(&self.site, crypto, &self.clear, inserted.message);
-        let carried = admitted.judged.carry(packet, crypto.number, &crypto.word);
-        self.clear.take(&admitted.judged);
+        let mut carried = *packet;
+        admitted
+            .judged
+            .carry(&mut carried, crypto.number, &crypto.word);
+        self.clear.take(admitted.judged);
         let emms = self.entitling.emms();
         match self.sender.send_packet(
             inserted.begins,

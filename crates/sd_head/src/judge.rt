@@ -1,18 +1,17 @@
 ghost use Rattle.std.specs.Prelude.{◌≡◌, ◌+◌, ◌-◌, ◌*◌, ◌^◌, ◌<◌, ◌≤◌, ◌&&◌, ℕ, List, true, false, Some, None};
-ghost use Rattle.std.specs.Prelude.{IfOk, IfSome, OnOk, MatchResult, MatchOption, is_none, nat_le};
+ghost use Rattle.std.specs.Prelude.{IfOk, OnOk, MatchResult, MatchOption, is_none, nat_le};
 ghost use Rattle.std.specs.Prelude.{length, get_or, slice_index};
-ghost use Rattle.sd_packet.specs.Header.{payload_start_of};
+ghost use Rattle.sd_packet.specs.Header.{payload_start_of, pid_of, scrambling_of};
 ghost use Rattle.sd_packet.specs.Positions.{is_placed};
 ghost use Rattle.sd_site.specs.SiteFields.{fields_of};
 ghost use Rattle.sd_psi.specs.Rewriting.{restore_fault};
 ghost use Rattle.sd_spec.specs.Plan.{crypto_length, word_of};
-ghost use Rattle.sd_spec.specs.Kinds.{kind_of};
 ghost use Rattle.sd_spec.specs.Carried.{pmt_carried};
 ghost use Rattle.sd_spec.specs.declared.kind.Kind.TheVariants as Kind;
 ghost use Rattle.sd_spec.specs.Refused.{refusal_of, is_reserved_pid as is_taken_pid, pat_wrong};
 ghost use Rattle.sd_spec.specs.Refused.{is_full_own, is_too_long};
 ghost use Rattle.sd_head.specs.After.{IsAfter};
-ghost use Rattle.sd_head.specs.Follows.{form_refusal, move_in, IsLearned, IsMove, IsPatOf, IsOfKind, MayFollow};
+ghost use Rattle.sd_head.specs.Follows.{limit_fault, IsJudgement, IsMove, IsPatOf, MayFollow};
 
 use crate::clear::{Clear, FIRST_POSITION};
 use crate::judged::{Judged, Move};
@@ -62,46 +61,83 @@ impl Clear {
         if is_taken(site, pid) {
             return Err(ClearFault::PidTaken(number, pid));
         }
-        match self.judge_form(site, packet) {
-            Ok(_) if self.is_at_end(site) => Err(ClearFault::TooLong(number)),
-            Ok(judged) => Ok(judged),
-            Err(fault) => Err(fault),
-        }
-    }
-
-    // Judges the packet by what it is.
-    fn judge_form<'a>(&self, site: &Site, packet: &'a Packet) -> Result<Judged<'a>, ClearFault>
-        ensures value { (before : List (List ℕ)) → IsAfter before self.now → MatchResult result
-            (λ _. form_refusal (fields_of site.now) before packet.now ≡ None)
-            (λ fault. form_refusal (fields_of site.now) before packet.now ≡ Some fault) }
-        ensures learned { IfOk result (IsLearned (fields_of site.now) self.now packet.now) }
-    {
         if packet.is_placed() {
-            return self.judge_placed(site, packet);
-        }
-        match current_pat(packet) {
-            Ok(pat) => Ok(Judged::Passed(pat)),
-            Err(fault) => Err(ClearFault::PatForm(u64::from(self.count), fault)),
+            self.judge_placed(site, packet)
+        } else {
+            self.judge_passed(site, packet)
         }
     }
 
-    // Judges a packet that has a position.
-    fn judge_placed<'a>(&self, site: &Site, packet: &'a Packet) -> Result<Judged<'a>, ClearFault>
-        requires { is_placed packet.now ≡ true }
-        ensures value { (before : List (List ℕ)) → IsAfter before self.now → MatchResult result
-            (λ _. form_refusal (fields_of site.now) before packet.now ≡ None)
-            (λ fault. form_refusal (fields_of site.now) before packet.now ≡ Some fault) }
-        ensures learned { IfOk result (IsLearned (fields_of site.now) self.now packet.now) }
+    // Judges a packet that has no position, is clear, and is on a PID that it may have.
+    fn judge_passed<'a>(&self, site: &Site, packet: &'a Packet) -> Result<Judged<'a>, ClearFault>
+        requires unplaced { is_placed packet.now ≡ false }
+        requires number { self.now.count < 2 ^ 32 }
+        requires clear { scrambling_of packet.now ≡ 0 }
+        requires free { is_taken_pid (fields_of site.now) (pid_of packet.now) ≡ false }
+        ensures { IsJudgement (fields_of site.now) self.now packet.now result }
     {
         let number = u64::from(self.count);
-        let next = self.next_move(packet);
-        let Some(judged) = self.judge_kind(site, packet, next) else {
-            return Err(ClearFault::PmtForm(number, FormFault::NoRoom));
-        };
-        if self.is_one_too_many(next) {
-            return Err(ClearFault::TooManyPids(number));
+        match current_pat(packet) {
+            Ok(_) if self.is_at_end(site) => Err(ClearFault::TooLong(number)),
+            Ok(pat) => Ok(Judged::Passed(pat)),
+            Err(fault) => Err(ClearFault::PatForm(number, fault)),
         }
-        Ok(judged)
+    }
+
+    // Judges a packet that has a position, is clear, and is on a PID that it may have. Most are scrambled: what is
+    // learned of those is small, and nothing else is copied.
+    fn judge_placed<'a>(&self, site: &Site, packet: &'a Packet) -> Result<Judged<'a>, ClearFault>
+        requires placed { is_placed packet.now ≡ true }
+        requires number { self.now.count < 2 ^ 32 }
+        requires clear { scrambling_of packet.now ≡ 0 }
+        requires free { is_taken_pid (fields_of site.now) (pid_of packet.now) ≡ false }
+        ensures { IsJudgement (fields_of site.now) self.now packet.now result }
+    {
+        let next = self.next_move(packet);
+        if self.is_pmt(next.pid) {
+            return self.judge_pmt(site, packet, next);
+        }
+        match self.limit(site, next) {
+            Some(fault) => Err(fault),
+            None => Ok(Judged::Scrambled(next)),
+        }
+    }
+
+    // Judges a PMT that makes this move.
+    fn judge_pmt<'a>(
+        &self,
+        site: &Site,
+        packet: &'a Packet,
+        next: Move,
+    ) -> Result<Judged<'a>, ClearFault>
+        requires moves { IsMove self.now.positions.items packet.now next }
+        requires pmt { get_or self.now.pmts.items (pid_of packet.now) false ≡ true }
+        requires number { self.now.count < 2 ^ 32 }
+        requires clear { scrambling_of packet.now ≡ 0 }
+        requires free { is_taken_pid (fields_of site.now) (pid_of packet.now) ≡ false }
+        ensures { IsJudgement (fields_of site.now) self.now packet.now result }
+    {
+        let Some(carried) = carried_pmt(site, packet) else {
+            return Err(ClearFault::PmtForm(u64::from(self.count), FormFault::NoRoom));
+        };
+        match self.limit(site, next) {
+            Some(fault) => Err(fault),
+            None => Ok(Judged::Pmt(next, carried)),
+        }
+    }
+
+    // Why a packet that makes this move is one too many: no position is left for its PID, or nothing for the packet.
+    fn limit(&self, site: &Site, next: Move) -> Option<ClearFault>
+        ensures { result ≡ limit_fault (fields_of site.now) self.now next }
+    {
+        let number = u64::from(self.count);
+        if self.is_one_too_many(next) {
+            return Some(ClearFault::TooManyPids(number));
+        }
+        if self.is_at_end(site) {
+            return Some(ClearFault::TooLong(number));
+        }
+        None
     }
 
     // How the packet moves the position of its PID.
@@ -117,22 +153,6 @@ impl Clear {
             position: advance(position, packet.counter()),
             is_first: position == FIRST_POSITION,
         }
-    }
-
-    // What is learned of a packet that makes this move, unless it is a PMT that is refused.
-    fn judge_kind<'a>(&self, site: &Site, packet: &'a Packet, next: Move) -> Option<Judged<'a>>
-        requires { IsMove self.now.positions.items packet.now next }
-        ensures value { (before : List (List ℕ)) → IsAfter before self.now → MatchOption result
-            (is_full_own (fields_of site.now) (kind_of before packet.now) packet.now ≡ true)
-            (λ _. is_full_own (fields_of site.now) (kind_of before packet.now) packet.now ≡ false) }
-        ensures moves { IfSome result (λ judged. move_in judged ≡ Some next) }
-        ensures kind { IfSome result (IsOfKind (fields_of site.now) self.now.pmts.items packet.now) }
-    {
-        if !self.is_pmt(next.pid) {
-            return Some(Judged::Scrambled(next));
-        }
-        let carried = carried_pmt(site, packet)?;
-        Some(Judged::Pmt(next, carried))
     }
 
     // Whether the PID would be one more than may have positions.

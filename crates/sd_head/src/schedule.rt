@@ -1,9 +1,8 @@
-ghost use Rattle.std.specs.Prelude.{◌≡◌, ◌-◌, ◌%◌, ◌^◌, ◌==◌, ◌<◌, ℕ, List, Some, None, Err, true, IfOk, OnOk, OnErr};
+ghost use Rattle.std.specs.Prelude.{◌≡◌, ◌-◌, ◌%◌, ◌^◌, ◌==◌, ◌<◌, ℕ, List, Some, Ok, Err, true, IfOk, OnOk, OnErr};
 ghost use Rattle.sd_site.specs.SiteFields.{fields_of};
 ghost use Rattle.sd_spec.specs.Plan.{crypto_length, crypto_of, word_of};
-ghost use Rattle.sd_spec.specs.Refused.{refusal_of};
 ghost use Rattle.sd_head.specs.After.{IsAfter as IsKept};
-ghost use Rattle.sd_head.specs.Follows.{MayFollow};
+ghost use Rattle.sd_head.specs.Follows.{IsJudgement};
 ghost use Rattle.sd_head.specs.Kept.{plan_of, IsOf};
 ghost use Rattle.sd_head.specs.declared.fault.HeadFault.{HeadFault as Faults};
 ghost use Rattle.sd_head.specs.Messages.{number_due};
@@ -12,15 +11,15 @@ ghost use Rattle.sd_head.specs.Schedule.{begins_with, IsAt, IsDue};
 use crate::fault::HeadFault;
 use crate::{Clear, Entitling, Judged};
 use sd_base::{NoMemory, Steps};
-use sd_packet::Packet;
+use sd_psi::ClearFault;
 use sd_site::Site;
 use std::sync::ledger::Ledger;
 
 /// What is known of a packet that isn't refused.
 #[derive(Clone, Copy)]
-pub struct Admitted<'a> {
+pub struct Admitted<'a, 'b> {
     /// What was learned of it.
-    pub judged: Judged<'a>,
+    pub judged: &'b Judged<'a>,
     /// What stands before it.
     pub inserted: Inserted,
 }
@@ -34,32 +33,31 @@ pub struct Inserted {
     pub begins: bool,
 }
 
-/// Judges the packet, and begins the crypto period that begins with it, if one does.
-pub fn admit<'a, L: Ledger>(
+/// Admits the packet of which this is the judgement, and begins the crypto period that begins with it, if one does.
+pub fn admit<'a, 'b, L: Ledger>(
     entitling: &mut Entitling,
     clear: &Clear,
     site: &Site,
-    packet: &'a Packet,
+    judgement: &'b Result<Judged<'a>, ClearFault>,
     steps: &mut Steps<L>,
-) -> Result<Admitted<'a>, HeadFault>
-    requires { IsAt (plan_of site.now entitling.old.book) clear.now.count entitling.old }
+) -> Result<Admitted<'a, 'b>, HeadFault>
+    requires at { IsAt (plan_of site.now entitling.old.book) clear.now.count entitling.old }
+    requires judgement { (packet : List ℕ) × IsJudgement (fields_of site.now) clear.now packet judgement.now }
     ensures book { entitling.new.book ≡ entitling.old.book }
-    ensures follows { IfOk result (λ admitted.
-        MayFollow (fields_of site.now) clear.now packet.now admitted.judged) }
-    ensures judged { (before : List (List ℕ)) → IsKept before clear.now →
-        OnOk result (refusal_of (fields_of site.now) before packet.now ≡ None) }
+    ensures judged { IfOk result (λ admitted. judgement.now ≡ Ok admitted.judged.now) }
     ensures value { OnOk result
         (IsOf (plan_of site.now entitling.old.book) (crypto_of (fields_of site.now) clear.now.count) entitling.new) }
     ensures message { IfOk result (λ admitted.
         admitted.inserted.message ≡ number_due (fields_of site.now) clear.now.count) }
     ensures begins { IfOk result (λ admitted.
         admitted.inserted.begins ≡ (clear.now.count % crypto_length (fields_of site.now) == 0)) }
-    ensures fault { (before : List (List ℕ)) (fault : Faults) → IsKept before clear.now → result ≡ Err fault →
-        IsDue (plan_of site.now entitling.old.book) before (Some packet.now) fault }
+    ensures fault { (before : List (List ℕ)) (packet : List ℕ) (fault : Faults) → IsKept before clear.now →
+        IsJudgement (fields_of site.now) clear.now packet judgement.now → result ≡ Err fault →
+        IsDue (plan_of site.now entitling.old.book) before (Some packet) fault }
 {
-    let judged = match clear.judge(site, packet) {
+    let judged = match judgement {
         Ok(judged) => judged,
-        Err(fault) => return Err(HeadFault::Clear(fault)),
+        Err(fault) => return Err(HeadFault::Clear(*fault)),
     };
     match begin(entitling, site, clear.count(), steps) {
         Ok(inserted) => Ok(Admitted { judged, inserted }),

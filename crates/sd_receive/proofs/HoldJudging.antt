@@ -1,10 +1,10 @@
 -- What becomes of one held packet.
-use Rattle.std.proofs.Common.{ℕ, ◌+◌, ◌-◌, ◌%◌, ◌^◌, ◌<◌, ◌≤◌, ◌≡◌, ◌==◌, ◌&&◌, true, false, not, List, []}
+use Rattle.std.proofs.Common.{ℕ, ◌+◌, ◌%◌, ◌^◌, ◌<◌, ◌≡◌, ◌==◌, ◌&&◌, true, false, not, List, []}
 use Rattle.std.proofs.Common.{◌∷◌, ◌++◌, map}
-use Rattle.std.proofs.Common.{get_or, refl, sym, ap, ◌∙◌, inl, inr, arith}
+use Rattle.std.proofs.Common.{get_or, refl, sym, ap, ◌∙◌, arith}
 use Rattle.std.specs.Prelude.{Option, Some, None, Result, Ok, Err, OnOk, OnErr, MatchResult, nat_le}
 use Rattle.std.specs.Option.{option_map_or}
-use Rattle.std.proofs.lemmas.Bool.{cases_lt, leb-true, le-leb, lt-leb, and_parts, eq-eqb}
+use Rattle.std.proofs.lemmas.Bool.{leb-true, and_parts, eq-eqb}
 use Rattle.sd_packet.specs.Header.{pid_of, scrambling_of}
 use Rattle.sd_packet.specs.Positions.{is_placed, moved_by}
 use Rattle.sd_psi.specs.Rewriting.{restored, restore_fault}
@@ -14,9 +14,10 @@ use Rattle.sd_spec.specs.Confirmed.{Segment, position_in, tracked, is_confirmed,
 use Rattle.sd_spec.proofs.Unmarked.{unmarked_stays, marked_back}
 use Rattle.sd_receive.specs.declared.held.Held.{Held}
 use Rattle.sd_receive.specs.declared.confirm.Confirming.{Confirming}
+use Rattle.sd_receive.specs.declared.pids.Pids.{Pids}
 use Rattle.sd_receive.specs.Tracking.{led_to, start_of, packets_in}
 use Rattle.sd_receive.specs.Holding.{held_pair}
-use Rattle.sd_receive.specs.Writing.{segment_in, segment_of, IsReady, IsOwn}
+use Rattle.sd_receive.specs.Writing.{segment_in, segment_of, IsReady, IsOwn, AreNear, AreConfirmed}
 use Rattle.sd_receive.proofs.Places.{found_short}
 
 -- the packets of held ones, without their numbers
@@ -42,20 +43,12 @@ by_table c pid ready small =
     ap (λ (t : ℕ). option_map_or (λ p. nat_le t p && nat_le p (t + 15)) (position_in c.last.now pid) false)
     (table_is c pid ready small)
 
-pub unconfirmed : (c : Confirming) (pid : ℕ) → IsReady c → pid < 8192 → position_in c.last.now pid ≡ None →
-    is_confirmed (segment_in c) pid ≡ false
-unconfirmed c pid ready small none =
-    by_table c pid ready small
-    ∙ ap (λ (o : Option ℕ). option_map_or (λ p. nat_le (get_or c.tracks.now.table.items pid 0) p && nat_le p
-    (get_or c.tracks.now.table.items pid 0 + 15)) o false) none
-
-pub near : (c : Confirming) (pid position : ℕ) → IsReady c → pid < 8192 → position_in c.last.now pid ≡ Some position →
-    is_confirmed (segment_in c) pid ≡ (nat_le (get_or c.tracks.now.table.items pid 0) position && nat_le position
-    (get_or c.tracks.now.table.items pid 0 + 15))
-near c pid position ready small is =
-    by_table c pid ready small
-    ∙ ap (λ (o : Option ℕ). option_map_or (λ p. nat_le (get_or c.tracks.now.table.items pid 0) p && nat_le p
-    (get_or c.tracks.now.table.items pid 0 + 15)) o false) is
+-- so what is near to the table is confirmed
+pub near_confirmed : (c : Confirming) (pids : Pids) → IsReady c →
+    AreNear c.tracks.now.table.items c.last.now pids → AreConfirmed c pids
+near_confirmed c pids ready near = record {
+  at = λ pid small. near.at pid small ∙ sym (by_table c pid ready small);
+}
 
 short_by : (o : Option ℕ) (t : ℕ) → ((x : ℕ) → o ≡ Some x → x < 2 ^ 48) →
     option_map_or (λ p. nat_le t p && nat_le p (t + 15)) o false ≡ true → t < 2 ^ 48
@@ -103,28 +96,6 @@ pub judged_near : (c : Confirming) (before : List (List ℕ)) (h : Held) → IsO
 judged_near c before h own dark even close =
     judged_by (segment_in c) before h.number h.packet dark even close
     ∙ ap (λ (x : ℕ). Ok (descrambled h.packet (segment_in c).word x ∷ [])) (own_is c before h own)
-
-near_by : (t p : ℕ) → t ≤ p → nat_le (p - t) 15 ≡ (nat_le t p && nat_le p (t + 15))
-near_by t p low = elim (cases_lt (t + 15) p) [
-  | inl far ↦ rw (lt-leb (p - t) 15 (omega (arith, low, far))) (rw (le-leb t p low) (rw (lt-leb p (t + 15) far) refl))
-  | inr close ↦ rw (le-leb (p - t) 15 (omega (arith, low, close)))
-      (rw (le-leb t p low) (rw (le-leb p (t + 15) close) refl))
-]
-
--- a position that is at most 15 above the tracked one confirms
-pub near_is : (c : Confirming) (pid position : ℕ) → IsReady c → pid < 8192 →
-    position_in c.last.now pid ≡ Some position →
-    get_or c.tracks.now.table.items pid 0 ≤ position →
-    nat_le (position - get_or c.tracks.now.table.items pid 0) 15 ≡ is_confirmed (segment_in c) pid
-near_is c pid position ready small is low = near_by (get_or c.tracks.now.table.items pid 0) position low
-    ∙ sym (near c pid position ready small is)
-
--- and one below it doesn't
-pub below_is : (c : Confirming) (pid position : ℕ) → IsReady c → pid < 8192 →
-    position_in c.last.now pid ≡ Some position →
-    position < get_or c.tracks.now.table.items pid 0 → is_confirmed (segment_in c) pid ≡ false
-below_is c pid position ready small is low =
-    near c pid position ready small is ∙ rw (lt-leb (get_or c.tracks.now.table.items pid 0) position low) refl
 
 -- what a packet is after its descriptor was removed, or wasn't
 pub unmarked_after : (s : Segment) (p q : List ℕ) (r : Result (Unit {0}) FormFault) → is_placed p ≡ true →

@@ -6,7 +6,7 @@ use Rattle.std.specs.Prelude.{All, find, is_none, is_some, not, take, drop, repl
 use Rattle.std.specs.Prelude.{Option, Some, None}
 use Rattle.std.specs.List.{list_any, list_all, range_with_len}
 use Rattle.std.specs.Option.{option_or, option_map_or}
-use Rattle.std.specs.Prelude.{Result, Ok, Err, IfOk, MatchResult, IsErr, IsErrAnd}
+use Rattle.std.specs.Prelude.{Result, Ok, Err, OnOk, MatchResult, IsErr, IsErrAnd}
 use Rattle.std.proofs.lemmas.List.{get_or-drop, get_or-replicate, length-replicate, take-append-le, take_all}
 use Rattle.std.proofs.Math.ListN.{get_or-append}
 use Rattle.std.proofs.Math.Seq.{get_or-append_right}
@@ -327,12 +327,12 @@ module _ (card : CardFields) (n : ℕ) (tr : List Heard) (emm : Emm) (state : En
 
 -- the key that a section gives, if that isn't wrong, is judged
 pub judged_key : (card : CardFields) (n : ℕ) (emm : Emm) (state : Entitled)
-    (result : Result (Option (List ℕ)) StreamFault) →
+    (key : Option (List ℕ)) (result : Result (Unit {0}) StreamFault) →
     ((tr : List Heard) → IsEntitled card tr state → current tr ≤ emm.period) →
     (if state.period == emm.period then is_said_otherwise state.says emm else false) ≡ false →
-    key_kept state emm.period ≡ None → IfOk result (λ key. key ≡ key_from card emm) →
+    key_kept state emm.period ≡ None → OnOk result (key ≡ key_from card emm) →
     HasFault result (key_offering n emm (key_from card emm)).fault →
-    IfOk result (λ key. (tr : List Heard) → IsEntitled card tr state → IsJudged card n tr emm key)
-judged_key card n emm state (Ok key) ahead same none gives good = λ tr is.
+    OnOk result ((tr : List Heard) → IsEntitled card tr state → IsJudged card n tr emm key)
+judged_key card n emm state key (Ok done) ahead same none gives good = λ tr is.
     judged_new card n tr emm state is (ahead tr is) same key none gives good
-judged_key card n emm state (Err fault) ahead same none gives bad = tt
+judged_key card n emm state key (Err fault) ahead same none gives bad = tt

@@ -3,6 +3,8 @@ pub mod Tables
 pub mod HoldKeeping
 pub mod Sinks
 pub mod HoldJudging
+pub mod PidBits
+pub mod Confirming
 pub mod HoldWalking
 pub mod Stretching
 pub mod Holding

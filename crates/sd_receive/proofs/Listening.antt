@@ -1,7 +1,7 @@
 -- What things that are heard come to.
 use Rattle.std.proofs.Common.{◌≡◌, inl, inr, ℕ, List, [], ◌∷◌, length, refl, sym, ap, ◌∙◌, subst, true, false, Bool}
 use Rattle.std.proofs.Common.{arith}
-use Rattle.std.specs.Prelude.{Option, Some, None, is_none, not, nat_lt, Result, Ok, Err, IfOk, if◌then◌else◌}
+use Rattle.std.specs.Prelude.{Option, Some, None, is_none, not, nat_lt, Result, Ok, Err, OnOk, if◌then◌else◌}
 use Rattle.std.specs.Prelude.{bytes_eq, ◌+◌, ◌≤◌}
 use Rattle.std.proofs.lemmas.Bool.{le-leb, le-ltb}
 use Rattle.std.specs.List.{concat}
@@ -28,7 +28,6 @@ use Rattle.sd_spec.specs.Offered.{Offering, no_offering, refuses, key_offering, 
 use Rattle.sd_spec.specs.Offered.{emm_offering}
 use Rattle.sd_spec.specs.Offered.{heard_offering}
 use Rattle.sd_receive.specs.Entitled.{IsEntitled, IsJudged, HasFault}
-use Rattle.sd_receive.specs.declared.ears.Heard.TheVariants as Kinds
 use Rattle.sd_receive.specs.declared.entitled.Entitled.{Entitled}
 use Rattle.sd_receive.proofs.Keeping.{nothing_told}
 use Rattle.sd_receive.proofs.Judging.{steps_of}
@@ -136,12 +135,12 @@ refusal_is offering why wrote fault =
 
 -- what was found of a section after what was heard
 pub section_judged : (card : CardFields) (n : ℕ) (past : List Heard) (emm : Emm) (state : Entitled)
-    (result : Result (Option (List ℕ)) StreamFault) → IsEntitled card past state →
-    IfOk result (λ key. (tr : List Heard) → IsEntitled card tr state → IsJudged card n tr emm key) →
+    (key : Option (List ℕ)) (result : Result (Unit {0}) StreamFault) → IsEntitled card past state →
+    OnOk result ((tr : List Heard) → IsEntitled card tr state → IsJudged card n tr emm key) →
     ((tr : List Heard) → IsEntitled card tr state → HasFault result (emm_offering card n tr emm).fault) →
-    Judgement card n past (Entitles emm) result
-section_judged card n past emm state (Ok key) is good found = good past is
-section_judged card n past emm state (Err why) is good found = λ tuning.
+    Judgement card n past (Entitles emm) key result
+section_judged card n past emm state key (Ok done) is good found = good past is
+section_judged card n past emm state key (Err why) is good found = λ tuning.
     refusal_is (emm_offering card n past emm) why (section_writes_none card n past emm) (found past is)
 
 -- before anything was heard a section's key alone is judged
@@ -154,15 +153,16 @@ none_seen : (q : ℕ) (emm : Emm) → is_mixed (seen q []) emm ≡ false
 unfolding seen
 none_seen q emm = refl
 
-pub first_judged : (card : CardFields) (n : ℕ) (emm : Emm) (result : Result (Option (List ℕ)) StreamFault) →
-    IfOk result (λ key. key ≡ key_from card emm) → HasFault result (key_offering n emm (key_from card emm)).fault →
-    Judgement card n [] (Entitles emm) result
-first_judged card n emm (Ok key) is found = record {
+pub first_judged : (card : CardFields) (n : ℕ) (emm : Emm) (key : Option (List ℕ))
+    (result : Result (Unit {0}) StreamFault) → OnOk result (key ≡ key_from card emm) →
+    HasFault result (key_offering n emm (key_from card emm)).fault →
+    Judgement card n [] (Entitles emm) key result
+first_judged card n emm key (Ok done) is found = record {
   fault = ap (λ (o : Offering). o.fault) (first_offering card n emm) ∙ found;
   unmixed = λ h. none_seen emm.period emm;
   gives = λ h none. is;
 }
-first_judged card n emm (Err why) is found = λ tuning.
+first_judged card n emm key (Err why) is found = λ tuning.
     refusal_is (emm_offering card n [] emm) why (section_writes_none card n [] emm)
     (ap (λ (o : Offering). o.fault) (first_offering card n emm) ∙ found)
 

@@ -14,7 +14,7 @@ use Rattle.sd_message.specs.declared.stream_fault.StreamFault.{StreamFault}
 use Rattle.sd_message.specs.declared.stream_fault.StreamFault.TheVariants as Fault
 use Rattle.sd_psi.specs.declared.our_cat.Tuning.{Tuning}
 use Rattle.sd_spec.specs.Heard.{Heard, Controls}
-use Rattle.sd_spec.specs.Stretches.{newest, completes}
+use Rattle.sd_spec.specs.Stretches.{newest}
 use Rattle.sd_spec.specs.Keys.{key_at}
 use Rattle.sd_spec.specs.Confirmed.{Wrote}
 use Rattle.sd_spec.specs.Offered.{Offering, word_fault, wrote_or, heard_offering}

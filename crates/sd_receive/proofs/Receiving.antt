@@ -382,12 +382,12 @@ heard_refuses s packet kept begins so_far u why bytes from to found turned refus
       few = steps_known past s packet kept begins from to after found;
     }
 
-pub judged_refuses : (s : Receiver) (packet : List ℕ) (kept : Tuning) (begins : Bool) (why : StreamFault)
-    (from to : ℕ) → Found s packet kept begins from to →
+pub judged_refuses : (s : Receiver) (packet : List ℕ) (kept : Tuning) (begins : Bool) (key : Option (List ℕ))
+    (why : StreamFault) (from to : ℕ) → Found s packet kept begins from to →
     ((past : List Heard) → IsListenerAfter (card_in s) past s.listener →
-    Judgement (card_in s) s.count (heard_of_run begins past) (thing_of s kept packet) (Err why)) →
+    Judgement (card_in s) s.count (heard_of_run begins past) (thing_of s kept packet) key (Err why)) →
     Refusing s packet why [] (to - from)
-judged_refuses s packet kept begins why from to found judged = λ past after countable.
+judged_refuses s packet kept begins key why from to found judged = λ past after countable.
     let card = card_in s in
     let thing = thing_of s kept packet in
     let run_is = run_heard past s packet kept begins after found.begins_is in

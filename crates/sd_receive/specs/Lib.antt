@@ -8,3 +8,4 @@ pub mod Receiving
 pub mod Entitled
 pub mod Gathered
 pub mod Collected
+pub mod Pids

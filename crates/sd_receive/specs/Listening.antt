@@ -65,9 +65,9 @@ IsJudgedAs card n past (BadEcm fault) key = Unit {0}
 IsJudgedAs card n past (Other k packet) key = Unit {0}
 
 -- the result of judging what is heard as packet n: this key, or nothing is written and the packet is refused
-abbrev pub Judgement : CardFields → ℕ → List Heard → Heard → Result (Option (List ℕ)) StreamFault → Type 0
-Judgement card n past heard (Ok key) = IsJudgedAs card n past heard key
-Judgement card n past heard (Err fault) =
+abbrev pub Judgement : CardFields → ℕ → List Heard → Heard → Option (List ℕ) → Result Unit StreamFault → Type 0
+Judgement card n past heard key (Ok done) = IsJudgedAs card n past heard key
+Judgement card n past heard key (Err fault) =
     (tuning : Tuning) → heard_offering card tuning n past heard ≡ refuses fault
 
 -- a thing that is heard as packet n, of which this key was judged, is taken, with these bytes written

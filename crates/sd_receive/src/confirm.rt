@@ -1,18 +1,19 @@
-ghost use Rattle.std.specs.Prelude.{◌≡◌, ◌<◌, ◌≤◌, ◌∷◌, ℕ, List, [], IsErrOf, get_or, MatchResult, Ok, Err, Some};
+ghost use Rattle.std.specs.Prelude.{◌≡◌, ◌≤◌, ◌∷◌, ℕ, List, [], IsErrOf, get_or, length, MatchResult, Ok, Err};
 ghost use Rattle.std.specs.Prelude.{if◌then◌else◌};
 ghost use Rattle.std.specs.Result.{OnOk, OnErr, IfErr};
 ghost use Rattle.sd_base.specs.Count.{IsCaused};
 ghost use Rattle.sd_engine.specs.Stage.{vessel, TookBytes};
 ghost use Rattle.sd_packet.specs.Header.{pid_of};
-ghost use Rattle.sd_spec.specs.Confirmed.{position_in, is_confirmed as is_confirmed_pid};
 ghost use Rattle.sd_spec.specs.Confirmed.{is_odd as is_odd_packet, judged};
 ghost use Rattle.sd_spec.specs.Confirmed.{unmarked, written_from};
 ghost use Rattle.sd_receive.specs.Writing.{WriteOutcome, HasStopped, IsReady, IsOwn, holding_in};
-ghost use Rattle.sd_receive.specs.Writing.{segment_in};
+ghost use Rattle.sd_receive.specs.Writing.{segment_in, is_near_to, AreNear, AreConfirmed};
+ghost use Rattle.sd_receive.specs.declared.tracks.TheConstants.{PIDS};
 
 use crate::held::{Held, Word};
+use crate::pids::Pids;
 use crate::segment_fault::SegmentFault;
-use crate::tracks::Tracks;
+use crate::tracks::{PIDS, Tracks};
 use sd_keystream::descramble;
 use sd_message::Place;
 use sd_packet::Packet;
@@ -47,15 +48,29 @@ fn put<K: Sink>(packet: &Packet, out: &mut K) -> Result<(), SegmentFault>
     }
 }
 
-// The position of a PID, if it is among these places.
-#[tactic(auto, unfolding(sd_spec::specs::Confirmed::position_in))]
-fn position(places: &[Place], pid: u16) -> Option<u64>
-    ensures { result ≡ position_in places.now pid }
+// Whether a position is at most 15 above the one that the buffered packets lead to, and not below it.
+#[tactic(auto, using(crate::proofs::Confirming::near_by, crate::proofs::Confirming::below))]
+fn is_near(tracked: u64, position: u64) -> bool
+    ensures { result ≡ is_near_to tracked position }
 {
-    places
-        .iter()
-        .find(|place| place.pid == pid)
-        .map(|place| place.position)
+    tracked <= position && position - tracked <= RESIDUAL
+}
+
+// The PIDs that are confirmed: the buffered packets lead to these positions, by PID, and these are the next message's
+// places. Of places of one PID the first counts.
+fn confirmed_in(tracked: &[u64], places: &[Place]) -> Pids
+    requires { length tracked.now ≡ PIDS }
+    ensures { AreNear tracked.now places.now result }
+{
+    let mut confirmed = Pids::none();
+    for i in (0..places.len()).rev() {
+        let Place { pid, position } = places[i];
+        let index = usize::from(pid);
+        if index < PIDS {
+            confirmed.set(pid, is_near(tracked[index], position));
+        }
+    }
+    confirmed
 }
 
 impl<'a> Confirming<'a> {
@@ -66,10 +81,22 @@ impl<'a> Confirming<'a> {
             (vessel K.Sink out.old) (vessel K.Sink out.new) result }
         ensures cause { IsCaused (K.faults out.old) (K.faults out.new) (IsErrOf result SegmentFault.Write) }
     {
+        let confirmed = self.confirmed();
+        self.write_by(&confirmed, out)
+    }
+
+    // Writes what is confirmed, if these are the PIDs that are.
+    fn write_by<K: Sink>(&self, confirmed: &Pids, out: &mut K) -> Result<u64, SegmentFault>
+        requires ready { IsReady self.now }
+        requires confirmed { AreConfirmed self.now confirmed.now }
+        ensures value { WriteOutcome (written_from (segment_in self.now) [] (holding_in self.now).held)
+            (vessel K.Sink out.old) (vessel K.Sink out.new) result }
+        ensures cause { IsCaused (K.faults out.old) (K.faults out.new) (IsErrOf result SegmentFault.Write) }
+    {
         let mut count = 0;
         for held in &self.tracks.held {
             let mut packet = held.packet;
-            let written = self.judge(held, &mut packet)?;
+            let written = self.judge(held, confirmed, &mut packet)?;
             if written {
                 put(&packet, out)?;
                 count += 1;
@@ -78,11 +105,26 @@ impl<'a> Confirming<'a> {
         Ok(count)
     }
 
+    // The PIDs that are confirmed, which are the same for all buffered packets.
+    #[tactic(auto, using(crate::proofs::HoldJudging::near_confirmed))]
+    fn confirmed(&self) -> Pids
+        requires ready { IsReady self.now }
+        ensures { AreConfirmed self.now result }
+    {
+        confirmed_in(&self.tracks.table, self.last)
+    }
+
     // Turns a buffered packet into the clear packet that is written for it, and answers whether it is written. A
     // scrambled packet isn't written if its PID isn't confirmed, and is refused if it can't be one under the control
     // word.
-    fn judge(&self, held: &Held, packet: &mut Packet) -> Result<bool, SegmentFault>
+    fn judge(
+        &self,
+        held: &Held,
+        confirmed: &Pids,
+        packet: &mut Packet,
+    ) -> Result<bool, SegmentFault>
         requires ready { IsReady self.now }
+        requires confirmed { AreConfirmed self.now confirmed.now }
         requires position { held.now.position ≤ get_or self.now.tracks.now.table.items (pid_of held.now.packet) 0 }
         requires same { packet.old ≡ held.now.packet }
         ensures { (before : List (List ℕ)) → IsOwn self.now before held.now →
@@ -99,7 +141,7 @@ impl<'a> Confirming<'a> {
         if self.is_odd(packet) {
             return Err(SegmentFault::Parity(held.number));
         }
-        if !self.is_confirmed(packet.pid()) {
+        if !confirmed.has(packet.pid()) {
             return Ok(false);
         }
         descramble(packet, &self.word.bytes, held.position);
@@ -122,19 +164,5 @@ impl<'a> Confirming<'a> {
         if packet.is_placed() {
             let _ = restore_pmt(packet, self.ca, self.ecm);
         }
-    }
-
-    // Whether the PID's position in the next message is 0 to 15 above the one that the buffered packets lead to.
-    #[tactic(auto, using(crate::proofs::HoldJudging::unconfirmed, crate::proofs::HoldJudging::near_is, crate::proofs::HoldJudging::below_is))]
-    fn is_confirmed(&self, pid: u16) -> bool
-        requires ready { IsReady self.now }
-        requires pid { pid < 8192 }
-        ensures { result ≡ is_confirmed_pid (segment_in self.now) pid }
-    {
-        let Some(position) = position(self.last, pid) else {
-            return false;
-        };
-        let tracked = self.tracks.table[usize::from(pid)];
-        tracked <= position && position - tracked <= RESIDUAL
     }
 }

@@ -1,4 +1,4 @@
-ghost use Rattle.std.specs.Prelude.{◌≡◌, ◌+◌, ◌≤◌, None, IsNone, IfOk, option_map};
+ghost use Rattle.std.specs.Prelude.{◌≡◌, ◌+◌, ◌≤◌, None, IsNone, OnOk, OnErr, option_map};
 ghost use Rattle.sd_message.specs.EmmForm.{AreSets};
 ghost use Rattle.sd_message.specs.EmmSpelled.{listed_entries};
 ghost use Rattle.sd_message.specs.declared.emm_format.TheConstants.{MOST_ENTRIES};
@@ -36,28 +36,32 @@ pub fn wrapped_key_in<L: Ledger>(
     None
 }
 
-/// The period key in the first entry whose set has the card's leaf, if there is one. `WrongKey` if its check value
-/// isn't the one in the section; `number` is the section's packet.
+/// Puts the period key in the first entry whose set has the card's leaf, if there is one, in place of `key`. `WrongKey`
+/// if its check value isn't the one in the section; `number` is the section's packet.
 pub fn good_key_in<L: Ledger>(
     card: &Card,
     number: u64,
     emm: &Emm,
+    key: &mut Option<[u8; 32]>,
     steps: &mut Steps<L>,
-) -> Result<Option<[u8; 32]>, StreamFault>
+) -> Result<(), StreamFault>
     requires count { emm.now.count ≤ MOST_ENTRIES }
     requires sets { AreSets card.now.height emm.now.sets (listed_entries emm.now) }
-    ensures value { IfOk result (λ key. key ≡ key_from (card_fields_of card.now) emm.now) }
+    ensures value { OnOk result (key.new ≡ key_from (card_fields_of card.now) emm.now) }
+    ensures refused { OnErr result (key.new ≡ key.old) }
     ensures fault { HasFault result (key_offering number emm.now (key_from (card_fields_of card.now) emm.now)).fault }
     ensures steps { (steps.old ≤ steps.new) × (steps.new ≤ steps.old + card.now.height) }
     ensures unchanged { key_from (card_fields_of card.now) emm.now ≡ None → steps.new ≡ steps.old }
 {
     let Some(pair) = wrapped_key_in(card, emm, steps) else {
-        return Ok(None);
+        *key = None;
+        return Ok(());
     };
-    let key = pair.0;
-    let text = pair.1;
-    match unwrap_checked(&key, u64::from(emm.period), &text, &emm.check) {
-        Ok(own) => Ok(Some(own)),
+    match unwrap_checked(&pair.0, u64::from(emm.period), &pair.1, &emm.check) {
+        Ok(own) => {
+            *key = Some(own);
+            Ok(())
+        }
         Err(found) => Err(StreamFault::WrongKey {
             packet: number,
             period: emm.period,

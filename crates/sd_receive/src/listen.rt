@@ -55,8 +55,8 @@ impl Listener {
         self.written = 0;
     }
 
-    // Judges packet `number` of the stream, which was read as `heard`, before anything is kept of it: the key that a
-    // section gives. Of a run that the packet begins nothing was heard.
+    // Judges packet `number` of the stream, which was read as `heard`, before anything is kept of it. The key that a
+    // section gives comes in place of `key`. Of a run that the packet begins nothing was heard.
     #[inline(always)]
     pub fn judge<L: Ledger>(
         &self,
@@ -64,13 +64,14 @@ impl Listener {
         number: u64,
         heard: Heard<'_>,
         begins: bool,
+        key: &mut Option<[u8; 32]>,
         steps: &mut Steps<L>,
-    ) -> Result<Option<[u8; 32]>, StreamFault>
+    ) -> Result<(), StreamFault>
         requires form { IsFormed card.now.height heard }
         ensures value { (packet : List ℕ) (past : List Thing) →
             IsListenerAfter (card_fields_of card.now) past self.now →
             Judgement (card_fields_of card.now) number (heard_of_run begins past)
-            (heard_as number packet heard.entry) result }
+            (heard_as number packet heard.entry) key.new result }
         ensures steps { (packet : List ℕ) (past : List Thing) →
             IsListenerAfter (card_fields_of card.now) past self.now → steps.new ≤ steps.old
             + (if takes_key_of (card_fields_of card.now) (heard_of_run begins past)
@@ -79,12 +80,12 @@ impl Listener {
         match heard {
             Heard::Entitles(emm) => {
                 if begins {
-                    good_key_in(card, number, emm, steps)
+                    good_key_in(card, number, emm, key, steps)
                 } else {
-                    self.entitled.judge(card, number, emm, steps)
+                    self.entitled.judge(card, number, emm, key, steps)
                 }
             }
-            _ => Ok(None),
+            _ => Ok(()),
         }
     }
 

@@ -1,4 +1,4 @@
-ghost use Rattle.std.specs.Prelude.{◌≡◌, ◌+◌, ◌≤◌, ◌<◌, ◌==◌, ◌∷◌, false, List, None, Some, IfOk};
+ghost use Rattle.std.specs.Prelude.{◌≡◌, ◌+◌, ◌≤◌, ◌<◌, ◌==◌, ◌∷◌, false, List, None, Some, OnOk, OnErr};
 ghost use Rattle.std.specs.Prelude.{is_some, if◌then◌else◌, ℕ, Option};
 ghost use Rattle.sd_message.specs.EmmForm.{IsEmm, AreSets};
 ghost use Rattle.sd_message.specs.EmmSpelled.{listed_entries};
@@ -20,22 +20,24 @@ use sd_site::Card;
 use std::sync::ledger::Ledger;
 
 impl Entitled {
-    /// Judges a section of entitlements, packet `number` of the stream, and gives the key of its period if that isn't
-    /// known yet. A section of an earlier period is right.
+    /// Judges a section of entitlements, packet `number` of the stream, and puts the key of its period in place of
+    /// `key`, if that key isn't known yet. A section of an earlier period is right.
     ///
     /// It returns `BadEmm` with `Mixed` if the section disagrees with earlier ones of its period, and `WrongKey` if the
-    /// key has another check value than the section names.
+    /// key has another check value than the section names. `key` is as it was then.
     pub fn judge<L: Ledger>(
         &self,
         card: &Card,
         number: u64,
         emm: &Emm,
+        key: &mut Option<[u8; 32]>,
         steps: &mut Steps<L>,
-    ) -> Result<Option<[u8; 32]>, StreamFault>
+    ) -> Result<(), StreamFault>
         requires form { IsEmm emm.now }
         requires sets { AreSets card.now.height emm.now.sets (listed_entries emm.now) }
-        ensures ok { IfOk result (λ key. (tr : List Heard) → IsEntitled (card_fields_of card.now) tr self.now →
-            IsJudged (card_fields_of card.now) number tr emm.now key) }
+        ensures ok { OnOk result ((tr : List Heard) → IsEntitled (card_fields_of card.now) tr self.now →
+            IsJudged (card_fields_of card.now) number tr emm.now key.new) }
+        ensures refused { OnErr result (key.new ≡ key.old) }
         ensures fault { (tr : List Heard) → IsEntitled (card_fields_of card.now) tr self.now →
             HasFault result (emm_offering (card_fields_of card.now) number tr emm.now).fault }
         ensures rise { steps.old ≤ steps.new }
@@ -43,20 +45,21 @@ impl Entitled {
             steps.old + (if takes_key (card_fields_of card.now) tr emm.now then card.now.height else 0) }
     {
         if emm.period < self.period {
-            return Ok(None);
+            return Ok(());
         }
         if self.differs(emm) {
             return Err(StreamFault::BadEmm(number, EmmFault::Mixed));
         }
         // A key that is known isn't copied for each section of its period.
         if self.knows_key(emm.period) {
-            return Ok(None);
+            return Ok(());
         }
-        good_key_in(card, number, emm, steps)
+        good_key_in(card, number, emm, key, steps)
     }
 
     /// Keeps a section that was judged, and its key if that of its period isn't known yet. A section of an earlier
     /// period changes nothing.
+    #[inline(always)]
     pub fn keep(&mut self, emm: &Emm, key: Option<[u8; 32]>)
         requires { IsEmm emm.now }
         ensures { (card : CardFields) (n : ℕ) (tr : List Heard) → IsEntitled card tr self.old →

@@ -9,7 +9,6 @@ ghost use Rattle.sd_receive.specs.Receiving.{IsAfter, IsFit, IsLive, Refusing, r
 ghost use Rattle.sd_receive.specs.Receiving.{receiver_refuses};
 
 use crate::ears::{Channel, Heard, channel_of};
-use crate::hearing::{ecm_heard, emm_heard};
 use crate::listener::Listener;
 use crate::receiver::Receiver;
 use crate::turn::{differ, name_of};
@@ -111,8 +110,11 @@ impl Receiver {
             steps.old steps.new) }
         ensures cause { IsCaused (K.faults out.old) (K.faults out.new) (IsErrOf result StageFault.Write) }
     {
-        let read = read_emm(self.card.height(), packet);
-        self.take_heard(tuning, packet, emm_heard(&read), out, steps)
+        match &read_emm(self.card.height(), packet) {
+            Ok(Some(emm)) => self.take_heard(tuning, packet, Heard::Entitles(emm), out, steps),
+            Ok(None) => self.take_heard(tuning, packet, Heard::Dropped, out, steps),
+            Err(fault) => self.take_heard(tuning, packet, Heard::BadEmm(*fault), out, steps),
+        }
     }
 
     // Takes the next packet, on the PID of control messages.
@@ -143,8 +145,11 @@ impl Receiver {
             steps.old steps.new) }
         ensures cause { IsCaused (K.faults out.old) (K.faults out.new) (IsErrOf result StageFault.Write) }
     {
-        let read = read_ecm(packet);
-        self.take_heard(tuning, packet, ecm_heard(&read), out, steps)
+        match &read_ecm(packet) {
+            Ok(Some(part)) => self.take_heard(tuning, packet, Heard::Controls(part), out, steps),
+            Ok(None) => self.take_heard(tuning, packet, Heard::Dropped, out, steps),
+            Err(fault) => self.take_heard(tuning, packet, Heard::BadEcm(*fault), out, steps),
+        }
     }
 
     // Takes the next packet, which was read as `heard`. It is judged before anything is changed.
@@ -185,13 +190,14 @@ impl Receiver {
             return Ok(());
         }
         let number = self.count;
-        let key = match self
+        let mut key = None;
+        match self
             .listener
-            .judge(&self.card, number, heard, begins, steps)
+            .judge(&self.card, number, heard, begins, &mut key, steps)
         {
-            Ok(key) => key,
+            Ok(()) => {}
             Err(fault) => return Err(StageFault::Refused(fault)),
-        };
+        }
         self.so_far = self.listener.turn(begins, self.so_far);
         if let Err(fault) = self
             .listener

@@ -37,7 +37,8 @@ const FULL_OWN: Ends = (
 fn step(clear: &mut Clear, site: &Site, packet: &Packet) -> Result<Packet, ClearFault> {
     match clear.judge(site, packet) {
         Ok(judged) => {
-            let carried = judged.carry(packet, 0, &control_word(&site.master, 0));
+            let mut carried = *packet;
+            judged.carry(&mut carried, 0, &control_word(&site.master, 0));
             clear.take(&judged);
             Ok(carried)
         }

@@ -99,8 +99,9 @@ fn heard<L: Ledger>(
         entitled.begin();
         for (row, bits) in *rows {
             let emm = emm_of(card, *row, *bits)?;
-            match entitled.judge(card, 9, &emm, steps) {
-                Ok(key) => entitled.keep(&emm, key),
+            let mut key = None;
+            match entitled.judge(card, 9, &emm, &mut key, steps) {
+                Ok(()) => entitled.keep(&emm, key),
                 Err(fault) => return Some(Err(fault)),
             }
             if entitled.period() <= emm.period {

@@ -2,8 +2,8 @@ use Rattle.std.proofs.Common.{◌≡◌, ◌==◌, true, false, sym, ◌∙◌, 
 use Rattle.std.proofs.Common.{eq-eqb, ne_eqb}
 use Rattle.sd_packet.specs.Header.{pid_of, scrambling_of}
 use Rattle.sd_site.specs.SiteFields.{fields_of}
-use Rattle.sd_spec.specs.Refused.{is_reserved_pid, is_too_long}
-use Rattle.sd_head.proofs.Refusing.{scrambled_refused, taken_refused, form_refused, long_refused, none_refused}
+use Rattle.sd_spec.specs.Refused.{is_reserved_pid}
+use Rattle.sd_head.proofs.Refusing.{scrambled_refused, taken_refused}
 use Rattle.sd_head.proofs.clear.Clear.judge.Goals as goal
 
 pub returns-then-scrambling-ne0-clause-value : goal.returns-then-scrambling-ne0-clause-value
@@ -24,38 +24,3 @@ returns-then-is_taken-clause-value c =
     λ before after. taken_refused (fields_of c.args.site.now) before packet c.from-number.result c.pid-pid.result
     (c.from-number.ensures ∙ after.number)
     c.pid-pid.ensures.value clear free
-
-pub returns-in-Ok-clause-value : goal.returns-in-Ok-clause-value
-returns-in-Ok-clause-value c =
-    let packet = c.args.packet.now in
-    let clear : (scrambling_of packet == 0) ≡ true =
-    eq-eqb (scrambling_of packet) 0 (sym c.scrambling.ensures.value ∙ c.if-scrambling-ne0.false) in
-    let free : is_reserved_pid (fields_of c.args.site.now) (pid_of packet) ≡ false =
-    ap (is_reserved_pid (fields_of c.args.site.now)) (sym c.pid-pid.ensures.value)
-    ∙ (sym c.is_taken.ensures ∙ c.if-is_taken.false) in
-    λ before after. long_refused (fields_of c.args.site.now) before packet c.from-number.result
-    (c.from-number.ensures ∙ after.number) clear free (c.in-Ok.ensures.value before after)
-    (ap (is_too_long (fields_of c.args.site.now)) (sym after.number) ∙ (sym c.is_at_end.ensures ∙ c.if-is_at_end.true))
-
-pub returns-in-Ok-2-clause-value : goal.returns-in-Ok-2-clause-value
-returns-in-Ok-2-clause-value c =
-    let packet = c.args.packet.now in
-    let clear : (scrambling_of packet == 0) ≡ true =
-    eq-eqb (scrambling_of packet) 0 (sym c.scrambling.ensures.value ∙ c.if-scrambling-ne0.false) in
-    let free : is_reserved_pid (fields_of c.args.site.now) (pid_of packet) ≡ false =
-    ap (is_reserved_pid (fields_of c.args.site.now)) (sym c.pid-pid.ensures.value)
-    ∙ (sym c.is_taken.ensures ∙ c.if-is_taken.false) in
-    λ before after. none_refused (fields_of c.args.site.now) before packet clear free
-    (c.in-Ok.ensures.value before after)
-    (ap (is_too_long (fields_of c.args.site.now)) (sym after.number) ∙ (sym c.is_at_end.ensures ∙ c.if-is_at_end.false))
-
-pub returns-in-Err-clause-value : goal.returns-in-Err-clause-value
-returns-in-Err-clause-value c =
-    let packet = c.args.packet.now in
-    let clear : (scrambling_of packet == 0) ≡ true =
-    eq-eqb (scrambling_of packet) 0 (sym c.scrambling.ensures.value ∙ c.if-scrambling-ne0.false) in
-    let free : is_reserved_pid (fields_of c.args.site.now) (pid_of packet) ≡ false =
-    ap (is_reserved_pid (fields_of c.args.site.now)) (sym c.pid-pid.ensures.value)
-    ∙ (sym c.is_taken.ensures ∙ c.if-is_taken.false) in
-    λ before after. form_refused (fields_of c.args.site.now) before packet c.in-Err.fault clear free
-    (c.in-Err.ensures.value before after)

@@ -1,28 +1,25 @@
-use Rattle.std.proofs.Common.{◌∙◌, sym}
+use Rattle.std.proofs.Common.{ℕ, get_or, false, ◌∙◌, sym, ap}
 use Rattle.sd_site.specs.SiteFields.{fields_of}
-use Rattle.sd_head.proofs.ClearKinds.{too_many_is}
-use Rattle.sd_head.proofs.Marking.{placed_no_pat}
-use Rattle.sd_head.proofs.Refusing.{many_refused, form_right}
+use Rattle.sd_head.proofs.Judging.{scrambled_judged, scrambled_refused_by}
 use Rattle.sd_head.proofs.clear.Clear.judge_placed.Goals as goal
 
-pub returns-then-is_one_too_many-clause-value : goal.returns-then-is_one_too_many-clause-value
-returns-then-is_one_too_many-clause-value c =
-    let packet = c.args.packet.now in
-    let clear = c.args.self.now in
-    λ before after.
-    many_refused (fields_of c.args.site.now) before packet c.from-number.result
-    (c.from-number.ensures ∙ after.number) c.requires (c.in-Some.ensures.value before after)
-    (sym (too_many_is before packet clear.positions.items clear.pids.items c.next_move-next.result
-    c.next_move-next.ensures after.placed after.moved)
-    ∙ (sym c.is_one_too_many.ensures ∙ c.if-is_one_too_many.true))
+pub judge_pmt-requires-clause-pmt : goal.judge_pmt-requires-clause-pmt
+judge_pmt-requires-clause-pmt c =
+    ap (λ (p : ℕ). get_or c.args.self.now.pmts.items p false) (sym c.next_move-next.ensures.pid)
+    ∙ (sym c.is_pmt.ensures ∙ c.if-is_pmt.true)
 
-pub returns-clause-value : goal.returns-clause-value
-returns-clause-value c =
-    let packet = c.args.packet.now in
-    let clear = c.args.self.now in
-    λ before after.
-    form_right (fields_of c.args.site.now) before packet (placed_no_pat packet c.requires).0
-    (c.in-Some.ensures.value before after)
-    (sym (too_many_is before packet clear.positions.items clear.pids.items c.next_move-next.result
-    c.next_move-next.ensures after.placed after.moved)
-    ∙ (sym c.is_one_too_many.ensures ∙ c.if-is_one_too_many.false))
+pub returns-in-Some : goal.returns-in-Some
+returns-in-Some c =
+    scrambled_refused_by (fields_of c.args.site.now) c.args.self.now c.args.packet.now c.next_move-next.result
+    c.in-Some.fault c.next_move-next.ensures
+    (ap (λ (p : ℕ). get_or c.args.self.now.pmts.items p false) (sym c.next_move-next.ensures.pid)
+    ∙ (sym c.is_pmt.ensures ∙ c.if-is_pmt.false))
+    c.requires.clear c.requires.free (sym c.limit.ensures ∙ c.in-Some.is)
+
+pub returns-in-None : goal.returns-in-None
+returns-in-None c =
+    scrambled_judged (fields_of c.args.site.now) c.args.self.now c.args.packet.now c.next_move-next.result
+    c.requires.number c.next_move-next.ensures
+    (ap (λ (p : ℕ). get_or c.args.self.now.pmts.items p false) (sym c.next_move-next.ensures.pid)
+    ∙ (sym c.is_pmt.ensures ∙ c.if-is_pmt.false))
+    c.requires.clear c.requires.free (sym c.limit.ensures ∙ c.in-None.is)

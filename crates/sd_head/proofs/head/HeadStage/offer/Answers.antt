@@ -12,6 +12,8 @@ use Rattle.sd_spec.specs.Plan.{Plan, crypto_of}
 use Rattle.sd_head.specs.declared.crypto.CryptoPeriod.{CryptoPeriod}
 use Rattle.sd_head.specs.Kept.{uncounted}
 use Rattle.sd_head.specs.Lending.{with_emms}
+use Rattle.sd_head.specs.Follows.{IsJudgement}
+use Rattle.sd_head.proofs.Judging.{judged_follows, judged_right}
 use Rattle.sd_head.proofs.Periods.{still_of, left_alike}
 use Rattle.sd_head.specs.Messages.{message_due}
 use Rattle.sd_head.specs.Sending.{counter_after}
@@ -22,7 +24,14 @@ use Rattle.sd_head.proofs.Stepping.{does, ready, kept_refuses, at_count}
 use Rattle.sd_head.proofs.head.HeadStage.offer.Goals as goal
 
 pub returns-in-Err-clause-fault : goal.returns-in-Err-clause-fault
-returns-in-Err-clause-fault g c = λ fault same.
+returns-in-Err-clause-fault g c =
+    let told : IsJudgement (fields_of c.args.self.now.site) c.args.self.now.clear c.args.packet.now
+    c.judge-judgement.result = record {
+      value = c.judge-judgement.ensures.value;
+      follows = c.judge-judgement.ensures.follows;
+      word = c.judge-judgement.ensures.word;
+    } in
+    λ fault same.
     let none = took_none (vessel g.K.Sink c.args.out.now) in
     record {
       bytes = [];
@@ -33,7 +42,7 @@ returns-in-Err-clause-fault g c = λ fault same.
             subst (λ (q : Plan). IsDue q before (Some c.args.packet.now) fault) after.keeps_to
             (subst (IsDue (plan_in c.args.self.now) before (Some c.args.packet.now))
             (same_refusal c.in-Err.fault fault same)
-            (c.admit.ensures.fault before c.in-Err.fault after.clear_is c.in-Err.is)));
+            (c.admit.ensures.fault before c.args.packet.now c.in-Err.fault after.clear_is told c.in-Err.is)));
       };
       taken = none.taken;
       room = none.room;
@@ -44,7 +53,7 @@ pub returns-in-Ok-send_packet-clause-value : goal.returns-in-Ok-send_packet-clau
 returns-in-Ok-send_packet-clause-value g c = record {
   bytes = (tables_bytes c.prepare-message.new.self c.in-Ok.admitted.inserted.begins c.emms-emms.result.now
       ++ message_bytes c.args.self.now.site.ecm c.prepare-message.new.self c.prepare-message.result)
-      ++ c.carry-carried.result;
+      ++ c.carry.new.packet;
   steps = c.admit.new.steps;
   says = does c.args.self.now (record {
     site = c.args.self.now.site;
@@ -53,9 +62,10 @@ returns-in-Ok-send_packet-clause-value g c = record {
     sender = c.send_packet.new.self;
     refusal = c.args.self.now.refusal;
   }) c.args.packet.now c.prepare-message.new.self c.in-Ok.admitted.inserted.begins c.emms-emms.result.now
-      c.prepare-message.result c.carry-carried.result
+      c.prepare-message.result c.carry.new.packet
       (record {
-        judged = c.in-Ok.ensures.judged;
+        judged = λ before kept. judged_right (fields_of c.args.self.now.site) before c.args.packet.now
+            (c.judge-judgement.ensures.value before kept) c.in-Ok.ensures.judged;
         at_work = still_of (plan_in c.args.self.now)
             (crypto_of (fields_of c.args.self.now.site) c.args.self.now.clear.count)
             c.admit.new.entitling c.emms-emms.result.now c.send_packet.new.emms c.in-Ok.ensures.value
@@ -68,8 +78,8 @@ returns-in-Ok-send_packet-clause-value g c = record {
             ∙ ap (λ (x : CryptoPeriod). message_due (fields_of c.args.self.now.site) x c.args.self.now.clear.count)
             c.crypto-crypto.ensures;
         places_are = c.prepare-message.ensures.places;
-        carried_is = λ before kept number word. c.carry-carried.ensures (fields_of c.args.self.now.site)
-            c.args.self.now.clear before c.in-Ok.ensures.follows kept
+        carried_is = λ before kept number word. c.carry.ensures (fields_of c.args.self.now.site)
+            c.args.self.now.clear before (judged_follows c.judge-judgement.ensures.follows c.in-Ok.ensures.judged) kept
             (ap (λ (x : CryptoPeriod). x.number) c.crypto-crypto.ensures ∙ number)
             (ap (λ (x : CryptoPeriod). x.word) c.crypto-crypto.ensures ∙ (word
             ∙ ap (control_word_of c.args.self.now.site.master)
@@ -80,7 +90,7 @@ returns-in-Ok-send_packet-clause-value g c = record {
         book_is = c.admit.ensures.book;
         refusal_is = refl;
         taken = λ before. c.take.ensures (fields_of c.args.self.now.site) before c.args.packet.now
-            c.in-Ok.ensures.follows;
+            (judged_follows c.judge-judgement.ensures.follows c.in-Ok.ensures.judged);
         follows = c.in-Ok-send_packet.ensures.next;
       })
       c.admit.new.steps;
@@ -90,54 +100,54 @@ returns-in-Ok-send_packet-clause-value g c = record {
 }
 
 pub returns-in-Ok-send_packet-clause-ok : goal.returns-in-Ok-send_packet-clause-ok
-returns-in-Ok-send_packet-clause-ok g c =
-    let live = c.requires.live c.in_default.is in (
-      λ calm. ready c.args.self.now (record {
-        site = c.args.self.now.site;
-        clear = c.take.new.self;
-        entitling = with_emms c.admit.new.entitling c.send_packet.new.emms;
-        sender = c.send_packet.new.self;
-        refusal = c.args.self.now.refusal;
-      }) c.args.packet.now c.prepare-message.new.self c.in-Ok.admitted.inserted.begins c.emms-emms.result.now
-          c.prepare-message.result c.carry-carried.result
-          (record {
-            judged = c.in-Ok.ensures.judged;
-            at_work = still_of (plan_in c.args.self.now)
-                (crypto_of (fields_of c.args.self.now.site) c.args.self.now.clear.count)
-                c.admit.new.entitling c.emms-emms.result.now c.send_packet.new.emms c.in-Ok.ensures.value
-                c.emms-emms.ensures.value c.send_packet.auto.emms c.in-Ok-send_packet.ensures.alike;
-            placed = c.prepare-message.ensures.unchanged;
-            due_is = c.in-Ok.ensures.begins;
-            emms_of = sym (left_alike c.admit.new.entitling c.emms-emms.result.now c.send_packet.new.emms
-                c.emms-emms.ensures.value c.send_packet.auto.emms c.in-Ok-send_packet.ensures.alike);
-            message_of = c.prepare-message.ensures.value
-                ∙ ap (λ (x : CryptoPeriod). message_due
-                (fields_of c.args.self.now.site) x c.args.self.now.clear.count) c.crypto-crypto.ensures;
-            places_are = c.prepare-message.ensures.places;
-            carried_is = λ before kept number word. c.carry-carried.ensures (fields_of c.args.self.now.site)
-                c.args.self.now.clear before c.in-Ok.ensures.follows kept
-                (ap (λ (x : CryptoPeriod). x.number) c.crypto-crypto.ensures ∙ number)
-                (ap (λ (x : CryptoPeriod). x.word) c.crypto-crypto.ensures ∙ (word
-                ∙ ap (control_word_of c.args.self.now.site.master)
-                (sym (ap (λ (x : CryptoPeriod). x.number) c.crypto-crypto.ensures))));
-          })
-          (record {
-            site_is = refl;
-            book_is = c.admit.ensures.book;
-            refusal_is = refl;
-            taken = λ before. c.take.ensures (fields_of c.args.self.now.site) before c.args.packet.now
-                c.in-Ok.ensures.follows;
-            follows = c.in-Ok-send_packet.ensures.next;
-          })
-          live.0 live.1,
-      c.in_default.is,
-    )
+returns-in-Ok-send_packet-clause-ok g c = let live = c.requires.live c.in_default.is in (
+  λ calm. ready c.args.self.now (record {
+    site = c.args.self.now.site;
+    clear = c.take.new.self;
+    entitling = with_emms c.admit.new.entitling c.send_packet.new.emms;
+    sender = c.send_packet.new.self;
+    refusal = c.args.self.now.refusal;
+  }) c.args.packet.now c.prepare-message.new.self c.in-Ok.admitted.inserted.begins c.emms-emms.result.now
+      c.prepare-message.result c.carry.new.packet
+      (record {
+        judged = λ before kept. judged_right (fields_of c.args.self.now.site) before c.args.packet.now
+            (c.judge-judgement.ensures.value before kept) c.in-Ok.ensures.judged;
+        at_work = still_of (plan_in c.args.self.now)
+            (crypto_of (fields_of c.args.self.now.site) c.args.self.now.clear.count)
+            c.admit.new.entitling c.emms-emms.result.now c.send_packet.new.emms c.in-Ok.ensures.value
+            c.emms-emms.ensures.value c.send_packet.auto.emms c.in-Ok-send_packet.ensures.alike;
+        placed = c.prepare-message.ensures.unchanged;
+        due_is = c.in-Ok.ensures.begins;
+        emms_of = sym (left_alike c.admit.new.entitling c.emms-emms.result.now c.send_packet.new.emms
+            c.emms-emms.ensures.value c.send_packet.auto.emms c.in-Ok-send_packet.ensures.alike);
+        message_of = c.prepare-message.ensures.value
+            ∙ ap (λ (x : CryptoPeriod). message_due
+            (fields_of c.args.self.now.site) x c.args.self.now.clear.count) c.crypto-crypto.ensures;
+        places_are = c.prepare-message.ensures.places;
+        carried_is = λ before kept number word. c.carry.ensures (fields_of c.args.self.now.site)
+            c.args.self.now.clear before (judged_follows c.judge-judgement.ensures.follows c.in-Ok.ensures.judged) kept
+            (ap (λ (x : CryptoPeriod). x.number) c.crypto-crypto.ensures ∙ number)
+            (ap (λ (x : CryptoPeriod). x.word) c.crypto-crypto.ensures ∙ (word
+            ∙ ap (control_word_of c.args.self.now.site.master)
+            (sym (ap (λ (x : CryptoPeriod). x.number) c.crypto-crypto.ensures))));
+      })
+      (record {
+        site_is = refl;
+        book_is = c.admit.ensures.book;
+        refusal_is = refl;
+        taken = λ before. c.take.ensures (fields_of c.args.self.now.site) before c.args.packet.now
+            (judged_follows c.judge-judgement.ensures.follows c.in-Ok.ensures.judged);
+        follows = c.in-Ok-send_packet.ensures.next;
+      })
+      live.0 live.1,
+  c.in_default.is,
+)
 
 pub returns-in-Err-send_packet-clause-prefix : goal.returns-in-Err-send_packet-clause-prefix
 returns-in-Err-send_packet-clause-prefix g c = λ fails. record {
   bytes = (tables_bytes c.prepare-message.new.self c.in-Ok.admitted.inserted.begins c.emms-emms.result.now
       ++ message_bytes c.args.self.now.site.ecm c.prepare-message.new.self c.prepare-message.result)
-      ++ c.carry-carried.result;
+      ++ c.carry.new.packet;
   says = (
     c.admit.new.steps,
     omega arith,
@@ -178,19 +188,22 @@ returns-in-Err-send_packet-clause-prefix g c = λ fails. record {
         };
         refusal = c.args.self.now.refusal;
       }) c.args.packet.now c.prepare-message.new.self c.in-Ok.admitted.inserted.begins c.emms-emms.result.now
-          c.prepare-message.result c.carry-carried.result
+          c.prepare-message.result c.carry.new.packet
           (record {
-            judged = c.in-Ok.ensures.judged;
+            judged = λ before kept. judged_right (fields_of c.args.self.now.site) before c.args.packet.now
+                (c.judge-judgement.ensures.value before kept) c.in-Ok.ensures.judged;
             at_work = c.in-Ok.ensures.value;
             placed = c.prepare-message.ensures.unchanged;
             due_is = c.in-Ok.ensures.begins;
             emms_of = ap (map uncounted) c.emms-emms.ensures.value;
             message_of = c.prepare-message.ensures.value
-                ∙ ap (λ (x : CryptoPeriod). message_due (fields_of c.args.self.now.site) x c.args.self.now.clear.count)
+                ∙ ap (λ (x : CryptoPeriod). message_due
+                (fields_of c.args.self.now.site) x c.args.self.now.clear.count)
                 c.crypto-crypto.ensures;
             places_are = c.prepare-message.ensures.places;
-            carried_is = λ before kept number word. c.carry-carried.ensures (fields_of c.args.self.now.site)
-                c.args.self.now.clear before c.in-Ok.ensures.follows kept
+            carried_is = λ before kept number word. c.carry.ensures (fields_of c.args.self.now.site)
+                c.args.self.now.clear before
+                (judged_follows c.judge-judgement.ensures.follows c.in-Ok.ensures.judged) kept
                 (ap (λ (x : CryptoPeriod). x.number) c.crypto-crypto.ensures ∙ number)
                 (ap (λ (x : CryptoPeriod). x.word) c.crypto-crypto.ensures ∙ (word
                 ∙ ap (control_word_of c.args.self.now.site.master)
@@ -201,7 +214,7 @@ returns-in-Err-send_packet-clause-prefix g c = λ fails. record {
             book_is = c.admit.ensures.book;
             refusal_is = refl;
             taken = λ before. c.take.ensures (fields_of c.args.self.now.site) before c.args.packet.now
-                c.in-Ok.ensures.follows;
+                (judged_follows c.judge-judgement.ensures.follows c.in-Ok.ensures.judged);
             follows = record { cat = refl; cats = refl; emms_next = refl; ecms = refl };
           })
           c.admit.new.steps,
@@ -240,8 +253,18 @@ returns-in-Some-clause-prefix g c = λ failed. refusal_is_no_write c.in-Some.fau
 pub returns-in-Some-clause-cause : goal.returns-in-Some-clause-cause
 returns-in-Some-clause-cause g c = refusal_is_calm (g.K.Sink.faults c.args.out.now) c.in-Some.fault
 
-pub admit-requires : goal.admit-requires
-admit-requires g c = at_count c.args.self.now c.requires.live c.in_default.is
+pub admit-requires-clause-judgement : goal.admit-requires-clause-judgement
+admit-requires-clause-judgement g c = (
+  c.args.packet.now,
+  record {
+    value = c.judge-judgement.ensures.value;
+    follows = c.judge-judgement.ensures.follows;
+    word = c.judge-judgement.ensures.word;
+  },
+)
+
+pub admit-requires-clause-at : goal.admit-requires-clause-at
+admit-requires-clause-at g c = at_count c.args.self.now c.requires.live c.in_default.is
 
 pub returns-in-Err-clause-value : goal.returns-in-Err-clause-value
 returns-in-Err-clause-value g c = tt
@@ -269,12 +292,19 @@ prepare-message-requires-clause-kept g c =
 pub prepare-message-requires-clause-due : goal.prepare-message-requires-clause-due
 prepare-message-requires-clause-due g c = c.in-Ok.ensures.message
 
-pub carry-carried-requires : goal.carry-carried-requires
-carry-carried-requires g c =
-    (fields_of c.args.self.now.site, c.args.self.now.clear, c.in-Ok.ensures.follows)
+pub carry-requires : goal.carry-requires
+carry-requires g c = (
+  fields_of c.args.self.now.site,
+  c.args.self.now.clear,
+  judged_follows c.judge-judgement.ensures.follows c.in-Ok.ensures.judged,
+)
 
 pub take-requires : goal.take-requires
-take-requires g c = (fields_of c.args.self.now.site, c.args.packet.now, c.in-Ok.ensures.follows)
+take-requires g c = (
+  fields_of c.args.self.now.site,
+  c.args.packet.now,
+  judged_follows c.judge-judgement.ensures.follows c.in-Ok.ensures.judged,
+)
 
 pub send_packet-requires-clause-fits : goal.send_packet-requires-clause-fits
 send_packet-requires-clause-fits g c = c.prepare-message.ensures.fits

@@ -28,8 +28,8 @@ returns-then-is_odd c = λ before own.
     ap (is_odd segment) (sym c.requires.same) ∙ (sym c.is_odd.ensures ∙ c.if-is_odd.true) in
     (refl, judged_odd segment before held.number held.packet dark odd)
 
-pub returns-then-not-is_confirmed : goal.returns-then-not-is_confirmed
-returns-then-not-is_confirmed c = λ before own.
+pub returns-then-not-has : goal.returns-then-not-has
+returns-then-not-has c = λ before own.
     let segment = segment_in c.args.self.now in
     let held = c.args.held.now in
     let dark : (scrambling_of held.packet == 0) ≡ false =
@@ -40,13 +40,15 @@ returns-then-not-is_confirmed c = λ before own.
     let far : is_confirmed segment (pid_of held.packet) ≡ false =
     ap (λ (p : List ℕ). is_confirmed segment (pid_of p)) (sym c.requires.same)
     ∙ (ap (is_confirmed segment) (sym c.pid.ensures.value)
-    ∙ (sym c.is_confirmed.ensures ∙ c.if-not-is_confirmed.true)) in
+    ∙ (sym (c.requires.confirmed.at c.pid.result c.pid.ensures.fits)
+    ∙ (sym c.has.ensures ∙ c.if-not-has.true))) in
     judged_far segment before held.number held.packet dark even far
 
 pub descramble-requires-clause-position : goal.descramble-requires-clause-position
 descramble-requires-clause-position c =
     let sure : is_confirmed (segment_in c.args.self.now) c.pid.result ≡ true =
-    sym c.is_confirmed.ensures ∙ c.if-not-is_confirmed.false in
+    sym (c.requires.confirmed.at c.pid.result c.pid.ensures.fits)
+    ∙ (sym c.has.ensures ∙ c.if-not-has.false) in
     let short = confirmed_short c.args.self.now c.pid.result c.requires.ready c.pid.ensures.fits sure in
     let at : c.pid.result ≡ pid_of c.args.held.now.packet = c.pid.ensures.value ∙ ap pid_of c.requires.same in
     let up = rw (← at) at c.requires.position in
@@ -65,7 +67,8 @@ returns c = λ before own.
     let close : is_confirmed segment (pid_of held.packet) ≡ true =
     ap (λ (p : List ℕ). is_confirmed segment (pid_of p)) (sym c.requires.same)
     ∙ (ap (is_confirmed segment) (sym c.pid.ensures.value)
-    ∙ (sym c.is_confirmed.ensures ∙ c.if-not-is_confirmed.false)) in
+    ∙ (sym (c.requires.confirmed.at c.pid.result c.pid.ensures.fits)
+    ∙ (sym c.has.ensures ∙ c.if-not-has.false))) in
     let clear = λ (p : List ℕ). descrambled p segment.word held.position in
     judged_near c.args.self.now before held own dark even close
     ∙ ap (λ (p : List ℕ). Ok (p ∷ [])) (ap clear (sym c.requires.same) ∙ sym c.descramble.ensures)

@@ -1,5 +1,4 @@
 use Rattle.std.proofs.Common.{◌∙◌, sym, arith, ◌≤◌}
-use Rattle.std.specs.Prelude.{None}
 use Rattle.sd_site.specs.CardFields.{card_fields_of}
 use Rattle.sd_spec.specs.Stretches.{current}
 use Rattle.sd_spec.specs.Keys.{key_from}
@@ -11,7 +10,7 @@ use Rattle.sd_receive.proofs.entitled.Entitled.judge.Goals as goal
 
 pub returns-then-emm-self-clause-ok : goal.returns-then-emm-self-clause-ok
 returns-then-emm-self-clause-ok g c tr is =
-    judged_past _ c.args.number tr c.args.emm.now None (omega (arith, c.if-emm-self.true, is.period))
+    judged_past _ c.args.number tr c.args.emm.now c.args.key.now (omega (arith, c.if-emm-self.true, is.period))
 
 pub returns-then-emm-self-clause-fault : goal.returns-then-emm-self-clause-fault
 returns-then-emm-self-clause-fault g c tr is =
@@ -27,7 +26,7 @@ pub returns-then-knows_key-clause-ok : goal.returns-then-knows_key-clause-ok
 returns-then-knows_key-clause-ok g c tr is =
     let h : current tr ≤ c.args.emm.now.period = omega (arith, c.if-emm-self.false, is.period) in
     judged_known _ c.args.number tr c.args.emm.now c.args.self.now is h
-    (sym c.differs.ensures ∙ c.if-differs.false) None (sym c.knows_key.ensures ∙ c.if-knows_key.true)
+    (sym c.differs.ensures ∙ c.if-differs.false) c.args.key.now (sym c.knows_key.ensures ∙ c.if-knows_key.true)
 
 pub returns-then-knows_key-clause-fault : goal.returns-then-knows_key-clause-fault
 returns-then-knows_key-clause-fault g c tr is =
@@ -39,7 +38,7 @@ returns-then-knows_key-clause-fault g c tr is =
 
 pub returns-clause-ok : goal.returns-clause-ok
 returns-clause-ok g c =
-    judged_key _ c.args.number c.args.emm.now c.args.self.now c.good_key_in.result
+    judged_key _ c.args.number c.args.emm.now c.args.self.now c.good_key_in.new.key c.good_key_in.result
     (λ tr is. omega (arith, c.if-emm-self.false, is.period))
     (sym c.differs.ensures ∙ c.if-differs.false)
     (unknown_none _ (sym c.knows_key.ensures ∙ c.if-knows_key.false)) c.good_key_in.ensures.value

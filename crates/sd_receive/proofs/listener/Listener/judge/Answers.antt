@@ -13,10 +13,12 @@ returns-then-begins-clause-value g c = λ packet past follows.
     let card = card_fields_of c.args.card.now in
     let n = c.args.number in
     let found = c.good_key_in.ensures in
-    subst (λ (b : Bool). Judgement card n (heard_of_run b past) (heard_as n packet c.args.heard) c.good_key_in.result)
+    subst (λ (b : Bool). Judgement card n (heard_of_run b past) (heard_as n packet c.args.heard)
+    c.good_key_in.new.key c.good_key_in.result)
     (sym c.if-begins.true)
-    (subst (λ (h : Heard). Judgement card n [] (heard_as n packet h) c.good_key_in.result) (sym c.in-Entitles.is)
-    (first_judged card n c.in-Entitles.emm.now c.good_key_in.result found.value found.fault))
+    (subst (λ (h : Heard). Judgement card n [] (heard_as n packet h) c.good_key_in.new.key c.good_key_in.result)
+    (sym c.in-Entitles.is)
+    (first_judged card n c.in-Entitles.emm.now c.good_key_in.new.key c.good_key_in.result found.value found.fault))
 
 pub returns-then-begins-clause-steps : goal.returns-then-begins-clause-steps
 returns-then-begins-clause-steps g c = λ packet past follows.
@@ -35,8 +37,10 @@ returns-else-begins-clause-value g c = λ packet past follows.
     let card = card_fields_of c.args.card.now in
     let n = c.args.number in
     let found = c.judge.ensures in
-    subst (λ (b : Bool). Judgement card n (heard_of_run b past) (heard_as n packet c.args.heard) c.judge.result)
+    subst (λ (b : Bool). Judgement card n (heard_of_run b past) (heard_as n packet c.args.heard)
+    c.judge.new.key c.judge.result)
     (sym c.if-begins.false)
-    (subst (λ (h : Heard). Judgement card n past (heard_as n packet h) c.judge.result) (sym c.in-Entitles.is)
-    (section_judged card n past c.in-Entitles.emm.now c.args.self.now.entitled c.judge.result follows.entitled
-    found.ok found.fault))
+    (subst (λ (h : Heard). Judgement card n past (heard_as n packet h) c.judge.new.key c.judge.result)
+    (sym c.in-Entitles.is)
+    (section_judged card n past c.in-Entitles.emm.now c.args.self.now.entitled c.judge.new.key c.judge.result
+    follows.entitled found.ok found.fault))

@@ -48,9 +48,9 @@ returns-in-Err-clause-fault g c = λ fault same.
     subst (λ (f : StreamFault). HasGrown (vessel g.K.Sink c.args.out.now) (vessel g.K.Sink c.args.out.now) from to
     (Refusing s packet f)) (same_refusal c.in-Err.fault fault same)
     (grew_by_steps (vessel g.K.Sink c.args.out.now) from to (Refusing s packet c.in-Err.fault)
-    (judged_refuses s packet kept begins c.in-Err.fault from to found
+    (judged_refuses s packet kept begins c.judge.new.key c.in-Err.fault from to found
     (λ past follows. subst (λ (h : Heard). Judgement (card_in s) s.count (heard_of_run begins past) h
-    (Err c.in-Err.fault)) is (c.in-Err.ensures.value packet past follows))))
+    c.judge.new.key (Err c.in-Err.fault)) is (c.in-Err.ensures.value packet past follows))))
 
 pub take-requires-clause-open : goal.take-requires-clause-open
 take-requires-clause-open g c =
@@ -73,7 +73,7 @@ returns-in-Err-take-clause-fault g c = λ fault why.
     (c.name_of-name.ensures s.count packet) c.differ-begins.ensures (sym c.is_over.ensures ∙ c.if-is_over.false)
     (λ past follows. c.judge.ensures.steps packet past follows) in
     let card = card_in s in
-    let key = c.in-Ok.key in
+    let key = c.judge.new.key in
     let u = c.turn-self.new.self in
     let t = c.take.new.self in
     let judged = subst (λ (h : Heard). (past : List Heard) → IsListenerAfter card past s.listener →
@@ -93,7 +93,7 @@ pub returns-in-Err-take-clause-stands : goal.returns-in-Err-take-clause-stands
 returns-in-Err-take-clause-stands g c = λ fault why.
     let s = c.args.self.now in
     let packet = c.args.packet.now in
-    stands_after s packet c.args.tuning c.args.heard c.differ-begins.result c.in-Ok.key c.turn-self.result
+    stands_after s packet c.args.tuning c.args.heard c.differ-begins.result c.judge.new.key c.turn-self.result
     c.turn-self.new.self c.take.new.self (vessel g.K.Sink c.args.out.now) (vessel g.K.Sink c.take.new.out) c.take.result
     fault c.requires.form
     (c.differ-begins.ensures ∙ ap (λ (n : Option (Option ℕ)). are_two s.name n) (c.name_of-name.ensures s.count packet))
@@ -129,7 +129,7 @@ returns-in-Err-take-clause-prefix g c = λ failed.
     (c.name_of-name.ensures s.count packet) c.differ-begins.ensures (sym c.is_over.ensures ∙ c.if-is_over.false)
     (λ past follows. c.judge.ensures.steps packet past follows) in
     let card = card_in s in
-    let key = c.in-Ok.key in
+    let key = c.judge.new.key in
     let u = c.turn-self.new.self in
     let t = c.take.new.self in
     let judged = subst (λ (h : Heard). (past : List Heard) → IsListenerAfter card past s.listener →
@@ -166,7 +166,7 @@ returns-clause-value g c =
     (c.name_of-name.ensures s.count packet) c.differ-begins.ensures (sym c.is_over.ensures ∙ c.if-is_over.false)
     (λ past follows. c.judge.ensures.steps packet past follows) in
     let card = card_in s in
-    let key = c.in-Ok.key in
+    let key = c.judge.new.key in
     let u = c.turn-self.new.self in
     let t = c.take.new.self in
     let judged = subst (λ (h : Heard). (past : List Heard) → IsListenerAfter card past s.listener →
@@ -201,7 +201,7 @@ returns-clause-ok g c =
     (c.name_of-name.ensures s.count packet) c.differ-begins.ensures (sym c.is_over.ensures ∙ c.if-is_over.false)
     (λ past follows. c.judge.ensures.steps packet past follows) in
     let card = card_in s in
-    let key = c.in-Ok.key in
+    let key = c.judge.new.key in
     let u = c.turn-self.new.self in
     let t = c.take.new.self in
     let judged = subst (λ (h : Heard). (past : List Heard) → IsListenerAfter card past s.listener →

@@ -9,8 +9,8 @@ use Rattle.sd_receive.specs.declared.segment_fault.SegmentFault.{SegmentFault}
 use Rattle.sd_receive.specs.declared.segment_fault.SegmentFault.TheVariants.{Parity, Write}
 use Rattle.sd_receive.proofs.HoldWalking.{before_in, own_here, own_within, at_place, written_none, written_still}
 use Rattle.sd_receive.proofs.HoldWalking.{written_more, written_refused, written_short, written_all}
-use Rattle.sd_receive.proofs.confirm.Confirming.write.Goals as goal
-use Rattle.sd_receive.proofs.confirm.Confirming.write.Goals.{then-written+in_ok-put, else-written}
+use Rattle.sd_receive.proofs.confirm.Confirming.write_by.Goals as goal
+use Rattle.sd_receive.proofs.confirm.Confirming.write_by.Goals.{then-written+in_ok-put, else-written}
 
 -- a refused packet is no failed write
 parity_is_no_write : {P : Type 0} (number : ℕ) → ◌≡◌ {A = Result ℕ SegmentFault} (Err (Parity number)) (Err Write) → P

@@ -1,7 +1,7 @@
 use Rattle.std.proofs.Common.{◌≡◌, ◌≤◌}
 use Rattle.sd_engine.specs.Stage.{vessel}
 use Rattle.sd_receive.specs.Writing.{IsWritten}
-use Rattle.sd_receive.proofs.confirm.Confirming.write.Given as goal
+use Rattle.sd_receive.proofs.confirm.Confirming.write_by.Given as goal
 
 -- what the packets so far come to was written, and nothing failed
 abbrev pub invariant-loop-held : goal.invariant-loop-held

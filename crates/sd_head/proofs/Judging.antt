@@ -1,0 +1,203 @@
+-- The judgement of a packet.
+use Rattle.std.proofs.Common.{◌≡◌, ℕ, ◌-◌, ◌^◌, ◌<◌, ◌≤◌, ◌&&◌, Bool, true, false, List, length, get_or}
+use Rattle.std.proofs.Common.{nat_le, refl, sym, ap, subst, ◌∙◌, arith}
+use Rattle.std.specs.Prelude.{Option, Some, None, Result, Ok, Err, IfOk, MatchResult}
+use Rattle.std.proofs.lemmas.Bool.Decides.{nat_tests}
+use Rattle.sd_packet.specs.Header.{pid_of, scrambling_of}
+use Rattle.sd_packet.specs.Positions.{is_placed}
+use Rattle.sd_site.specs.SiteFields.{SiteFields}
+use Rattle.sd_psi.specs.declared.pat.Pat.{Pat}
+use Rattle.sd_psi.specs.declared.fault.FormFault.{FormFault}
+use Rattle.sd_psi.specs.declared.fault.FormFault.TheVariants as Form
+use Rattle.sd_psi.specs.declared.clear_fault.ClearFault.{ClearFault}
+use Rattle.sd_psi.specs.declared.clear_fault.ClearFault.TheVariants.{PatForm, PmtForm, TooManyPids, TooLong}
+use Rattle.sd_spec.specs.Kinds.{kind_of}
+use Rattle.sd_spec.specs.Plan.{word_of}
+use Rattle.sd_spec.specs.Carried.{pmt_carried}
+use Rattle.sd_spec.specs.declared.kind.Kind.TheVariants as Kind
+use Rattle.sd_spec.specs.Refused.{refusal_of, fault_where, is_reserved_pid, pat_wrong, is_full_own, is_too_long}
+use Rattle.sd_head.specs.After.{IsAfter}
+use Rattle.sd_head.specs.Follows.{limit_fault, HasRoom, IsJudgement, IsMove, IsPatOf, MayFollow}
+use Rattle.sd_head.specs.declared.clear.Clear.{Clear}
+use Rattle.sd_head.specs.declared.judged.Judged.{Judged}
+use Rattle.sd_head.specs.declared.judged.Judged.TheVariants.{Passed, Pmt, Scrambled}
+use Rattle.sd_head.specs.declared.judged.Move.{Move}
+use Rattle.sd_head.proofs.ClearKinds.{none_too_many, passed_is, placed_pid, pmt_is, scrambled_is, too_many_is}
+use Rattle.sd_head.proofs.Marking.{placed_no_pat}
+use Rattle.sd_head.proofs.Refusing.{pat_refused, full_refused, limits_decide}
+use Rattle.sd_packet.proofs.Positions.{positional_small}
+
+-- a packet that is refused
+pub refused : (site : SiteFields) (clear : Clear) (packet : List ℕ) (fault : ClearFault)
+    → ((before : List (List ℕ)) → IsAfter before clear → refusal_of site before packet ≡ Some fault)
+    → IsJudgement site clear packet (Err fault)
+refused site clear packet fault why = record { value = why; follows = tt; word = tt }
+
+-- no test refuses
+none_where : (a b : Bool) (f g : ClearFault) → fault_where a f (fault_where b g None) ≡ None
+    → (a ≡ false) × (b ≡ false)
+none_where true b f g h = absurd cc
+none_where false true f g h = absurd cc
+none_where false false f g h = (refl, refl)
+
+-- a stream isn't too long where a number and a control word are left
+pub numbers_left : (site : SiteFields) (k : ℕ) → k < 2 ^ 32 → is_too_long site k ≡ false
+    → (k < 2 ^ 32 - 1) × (word_of site k ≤ site.last_word)
+numbers_left site k small left = grind (arith, nat_tests, small, left)
+
+-- a PID has room for its first move
+has_room : (pids : List ℕ) (next : Move) → (next.is_first && nat_le 256 (length pids)) ≡ false
+    → HasRoom pids (Some next)
+has_room pids next few = λ first. grind (arith, nat_tests, rw first at few)
+
+-- what refuses a packet with a position, if its form doesn't
+pub limit_decides : (site : SiteFields) (clear : Clear) (before : List (List ℕ)) (packet : List ℕ) (next : Move)
+    → IsMove clear.positions.items packet next → scrambling_of packet ≡ 0
+    → is_reserved_pid site (pid_of packet) ≡ false → is_full_own site (kind_of before packet) packet ≡ false
+    → IsAfter before clear → refusal_of site before packet ≡ limit_fault site clear next
+limit_decides site clear before packet next moves unscrambled free full after =
+    limits_decide site before packet unscrambled free (placed_no_pat packet moves.placed).0 full
+    ∙ (ap (λ (many : Bool). fault_where many (TooManyPids (length before))
+    (fault_where (is_too_long site (length before)) (TooLong (length before)) None))
+    (sym (too_many_is before packet clear.positions.items clear.pids.items next moves after.placed after.moved))
+    ∙ ap (λ (n : ℕ). fault_where (next.is_first && nat_le 256 (length clear.pids.items)) (TooManyPids n)
+    (fault_where (is_too_long site n) (TooLong n) None)) (sym after.number))
+
+-- a scrambled packet, and a PMT, by the marks
+not_full : (site : SiteFields) (clear : Clear) (before : List (List ℕ)) (packet : List ℕ) → is_placed packet ≡ true
+    → get_or clear.pmts.items (pid_of packet) false ≡ false → IsAfter before clear
+    → is_full_own site (kind_of before packet) packet ≡ false
+not_full site clear before packet placed mark after =
+    let known = positional_small (pid_of packet) (placed_pid packet placed) in
+    ap (λ kind. is_full_own site kind packet)
+    (sym (scrambled_is before packet clear.pmts.items placed after.marked known mark))
+
+full_as : (site : SiteFields) (clear : Clear) (before : List (List ℕ)) (packet : List ℕ) (full : Bool)
+    → is_placed packet ≡ true → get_or clear.pmts.items (pid_of packet) false ≡ true
+    → is_full_own site Kind.Pmt packet ≡ full → IsAfter before clear
+    → is_full_own site (kind_of before packet) packet ≡ full
+full_as site clear before packet full placed mark own after =
+    let known = positional_small (pid_of packet) (placed_pid packet placed) in
+    ap (λ kind. is_full_own site kind packet)
+    (sym (pmt_is before packet clear.pmts.items placed after.marked known mark)) ∙ own
+
+-- a packet that is scrambled, and one that is refused in its place
+pub scrambled_judged : (site : SiteFields) (clear : Clear) (packet : List ℕ) (next : Move) → clear.count < 2 ^ 32
+    → IsMove clear.positions.items packet next → get_or clear.pmts.items (pid_of packet) false ≡ false
+    → scrambling_of packet ≡ 0 → is_reserved_pid site (pid_of packet) ≡ false → limit_fault site clear next ≡ None
+    → IsJudgement site clear packet (Ok (Scrambled next))
+scrambled_judged site clear packet next small moves mark unscrambled free none =
+    let few = none_where (next.is_first && nat_le 256 (length clear.pids.items)) (is_too_long site clear.count)
+    (TooManyPids clear.count) (TooLong clear.count) none in
+    let left = numbers_left site clear.count small few.1 in record {
+      value = λ before after. limit_decides site clear before packet next moves unscrambled free
+          (not_full site clear before packet moves.placed mark after) after ∙ none;
+      follows = record {
+        unscrambled = unscrambled;
+        number = left.0;
+        learned = record { moves = moves; room = has_room clear.pids.items next few.0; kind = mark };
+      };
+      word = left.1;
+    }
+
+pub scrambled_refused_by : (site : SiteFields) (clear : Clear) (packet : List ℕ) (next : Move) (fault : ClearFault)
+    → IsMove clear.positions.items packet next → get_or clear.pmts.items (pid_of packet) false ≡ false
+    → scrambling_of packet ≡ 0 → is_reserved_pid site (pid_of packet) ≡ false
+    → limit_fault site clear next ≡ Some fault → IsJudgement site clear packet (Err fault)
+scrambled_refused_by site clear packet next fault moves mark unscrambled free some =
+    refused site clear packet fault (λ before after. limit_decides site clear before packet next moves unscrambled free
+    (not_full site clear before packet moves.placed mark after) after ∙ some)
+
+-- a PMT, and one that is refused in its place
+pub pmt_judged : (site : SiteFields) (clear : Clear) (packet carried : List ℕ) (next : Move) → clear.count < 2 ^ 32
+    → IsMove clear.positions.items packet next → get_or clear.pmts.items (pid_of packet) false ≡ true
+    → scrambling_of packet ≡ 0 → is_reserved_pid site (pid_of packet) ≡ false
+    → is_full_own site Kind.Pmt packet ≡ false → carried ≡ pmt_carried site packet
+    → limit_fault site clear next ≡ None → IsJudgement site clear packet (Ok (Pmt next carried))
+pmt_judged site clear packet carried next small moves mark unscrambled free own is none =
+    let few = none_where (next.is_first && nat_le 256 (length clear.pids.items)) (is_too_long site clear.count)
+    (TooManyPids clear.count) (TooLong clear.count) none in
+    let left = numbers_left site clear.count small few.1 in record {
+      value = λ before after. limit_decides site clear before packet next moves unscrambled free
+          (full_as site clear before packet false moves.placed mark own after) after ∙ none;
+      follows = record {
+        unscrambled = unscrambled;
+        number = left.0;
+        learned = record { moves = moves; room = has_room clear.pids.items next few.0; kind = (mark, is) };
+      };
+      word = left.1;
+    }
+
+pub pmt_refused_by : (site : SiteFields) (clear : Clear) (packet : List ℕ) (next : Move) (fault : ClearFault)
+    → IsMove clear.positions.items packet next → get_or clear.pmts.items (pid_of packet) false ≡ true
+    → scrambling_of packet ≡ 0 → is_reserved_pid site (pid_of packet) ≡ false
+    → is_full_own site Kind.Pmt packet ≡ false
+    → limit_fault site clear next ≡ Some fault → IsJudgement site clear packet (Err fault)
+pmt_refused_by site clear packet next fault moves mark unscrambled free own some =
+    refused site clear packet fault (λ before after. limit_decides site clear before packet next moves unscrambled free
+    (full_as site clear before packet false moves.placed mark own after) after ∙ some)
+
+pub full_pmt_refused : (site : SiteFields) (clear : Clear) (packet : List ℕ) (next : Move) (n : ℕ) → n ≡ clear.count
+    → IsMove clear.positions.items packet next → get_or clear.pmts.items (pid_of packet) false ≡ true
+    → scrambling_of packet ≡ 0 → is_reserved_pid site (pid_of packet) ≡ false
+    → is_full_own site Kind.Pmt packet ≡ true → IsJudgement site clear packet (Err (PmtForm n Form.NoRoom))
+full_pmt_refused site clear packet next n is moves mark unscrambled free own =
+    refused site clear packet (PmtForm n Form.NoRoom) (λ before after.
+    full_refused site before packet n (is ∙ after.number) unscrambled free (placed_no_pat packet moves.placed).0
+    (full_as site clear before packet true moves.placed mark own after))
+
+-- a packet without a position: refused by its form or as too long, or passed
+pub bad_pat_refused : (site : SiteFields) (clear : Clear) (packet : List ℕ) (n : ℕ) (fault : FormFault)
+    → n ≡ clear.count → scrambling_of packet ≡ 0 → is_reserved_pid site (pid_of packet) ≡ false
+    → pat_wrong packet ≡ Some fault → IsJudgement site clear packet (Err (PatForm n fault))
+bad_pat_refused site clear packet n fault is unscrambled free wrong =
+    refused site clear packet (PatForm n fault) (λ before after.
+    pat_refused site before packet n fault (is ∙ after.number) unscrambled free wrong)
+
+long_told : (site : SiteFields) (clear : Clear) (before : List (List ℕ)) (packet : List ℕ) (long : Bool)
+    → is_placed packet ≡ false → scrambling_of packet ≡ 0 → is_reserved_pid site (pid_of packet) ≡ false
+    → pat_wrong packet ≡ None → is_too_long site clear.count ≡ long → IsAfter before clear
+    → refusal_of site before packet ≡ fault_where long (TooLong clear.count) None
+long_told site clear before packet long unplaced unscrambled free right is after =
+    limits_decide site before packet unscrambled free right
+    (ap (λ kind. is_full_own site kind packet) (sym (passed_is before packet unplaced)))
+    ∙ rw (none_too_many before packet unplaced)
+    (ap (λ (n : ℕ). fault_where (is_too_long site n) (TooLong n) None) (sym after.number)
+    ∙ ap (λ (b : Bool). fault_where b (TooLong clear.count) None) is)
+
+pub long_refused : (site : SiteFields) (clear : Clear) (packet : List ℕ) (n : ℕ) → n ≡ clear.count
+    → is_placed packet ≡ false → scrambling_of packet ≡ 0 → is_reserved_pid site (pid_of packet) ≡ false
+    → pat_wrong packet ≡ None → is_too_long site clear.count ≡ true → IsJudgement site clear packet (Err (TooLong n))
+long_refused site clear packet n is unplaced unscrambled free right long =
+    refused site clear packet (TooLong n) (λ before after.
+    long_told site clear before packet true unplaced unscrambled free right long after
+    ∙ ap (λ (k : ℕ). Some (TooLong k)) (sym is))
+
+pub passed_judged : (site : SiteFields) (clear : Clear) (packet : List ℕ) (pat : Option Pat) → clear.count < 2 ^ 32
+    → is_placed packet ≡ false → scrambling_of packet ≡ 0 → is_reserved_pid site (pid_of packet) ≡ false
+    → pat_wrong packet ≡ None → IsPatOf packet pat → is_too_long site clear.count ≡ false
+    → IsJudgement site clear packet (Ok (Passed pat))
+passed_judged site clear packet pat small unplaced unscrambled free right is long =
+    let left = numbers_left site clear.count small long in record {
+      value = λ before after. long_told site clear before packet false unplaced unscrambled free right long after;
+      follows = record {
+        unscrambled = unscrambled;
+        number = left.0;
+        learned = record { moves = unplaced; room = tt; kind = is };
+      };
+      word = left.1;
+    }
+
+-- a packet that was judged right may follow, and nothing refuses it
+pub judged_follows : {site : SiteFields} {clear : Clear} {packet : List ℕ} {result : Result Judged ClearFault}
+    {judged : Judged} → IfOk result (MayFollow site clear packet) → result ≡ Ok judged
+    → MayFollow site clear packet judged
+judged_follows {site} {clear} {packet} follows is = subst (λ r. IfOk r (MayFollow site clear packet)) is follows
+
+pub judged_right : (site : SiteFields) (before : List (List ℕ)) (packet : List ℕ)
+    {result : Result Judged ClearFault} {judged : Judged} → MatchResult result
+    (λ _. refusal_of site before packet ≡ None) (λ fault. refusal_of site before packet ≡ Some fault)
+    → result ≡ Ok judged → refusal_of site before packet ≡ None
+judged_right site before packet value is =
+    subst (λ r. MatchResult r (λ _. refusal_of site before packet ≡ None)
+    (λ fault. refusal_of site before packet ≡ Some fault)) is value
