@@ -1,10 +1,13 @@
 #!/usr/bin/env python3
-"""trust.py [--write | --check | --why NAME]: every definition that the claims of LAWS rest on.
+"""trust.py [--write | --check | --why NAME]: every definition that the claims of PARTS rest on.
 
 Who trusts the checker still has to read what it checked: the clauses, and each definition that they cite, down to the
 words of the toolchain. Names are followed through the `use` lines of each file: to definitions in specs/, and by way of
 `declared` to the types, constants and traits in src/. Proofs are not followed, since the checker reads them. A name
 that a variable hides counts as cited, so the list may be too long and is never too short.
+
+The page comes in parts, one for each kind of claim: its clauses, and the definitions that no part before has. So a
+reader can stop after any of them.
 
 Without an option it prints how much there is to read. --write writes docs/TRUST.md below the line of its mark, and
 leaves what is above it as it is. --check compares, prints what differs, and exits with 1 if something does. --why
@@ -21,12 +24,44 @@ from collections import defaultdict
 TOP = os.path.dirname(os.path.dirname(os.path.realpath(__file__)))
 PAGE = f"{TOP}/docs/TRUST.md"
 MARK = "<!-- From here on tools/trust.py writes this page. -->\n"
-LAWS = [
-    "sd_law_run::run.head,card,receive,lost",
-    "sd_law_coalition::periods_known",
-    "sd_law_coalition::words_known",
-    "sd_law_chain::cut_off_cards_stay_out",
-    "sd_law_chain::chains_with_books_are_kept",
+# The parts of the page: a head, what is claimed, and the laws with those of their clauses that say it, or all.
+PARTS = [
+    (
+        "The headline and losses",
+        "What `head`, `card` and `receive` do of good files, and `receive` of a broadcast of which packets are lost.",
+        ["sd_law_run::run.head,card,receive,lost"],
+    ),
+    (
+        "Refusals and files",
+        "What is answered where a file is refused, and which files change.",
+        ["sd_law_run::run.refused,made,files"],
+    ),
+    (
+        "Several broadcasts",
+        "What colluding cards know of all that is sent by one master's sites, and under which keystreams texts lie.",
+        [
+            "sd_law_broadcast::periods_known",
+            "sd_law_broadcast::words_known",
+            "sd_law_broadcast::the_revoked_know_nothing",
+            "sd_law_broadcast::who_is_entitled_knows",
+            "sd_law_broadcast::texts_lie_under_their_keystreams",
+            "sd_law_broadcast::what_is_sent_is_used",
+        ],
+    ),
+    (
+        "Interleavings",
+        "What receivers write that are switched off and on, over any order of events.",
+        [
+            "sd_law_field::one_packet_for_a_place",
+            "sd_law_field::written_packets_are_confirmed",
+            "sd_law_field::what_was_sent_stays",
+        ],
+    ),
+    (
+        "Chains of sites",
+        "That a card which a `next` revokes stays out of the broadcasts of a chain.",
+        ["sd_law_chain::cut_off_cards_stay_out", "sd_law_chain::chains_with_books_are_kept"],
+    ),
 ]
 # The sources that comments name in brackets.
 SOURCES = ["ISO/IEC 13818-1", "Naor, Naor, Lotspiech", "FIPS 180-4", "this project"]
@@ -41,6 +76,7 @@ SPEC_HEAD = re.compile(
 SOURCE_HEAD = re.compile(
     r"^(?:pub(?:\(\w+\))?\s+)?(struct|enum|trait|const)\s+(\w+)|^(impl)(?:<.*>)?\s+Model\s+for\s+(\w+)", re.M
 )
+VARIANT = re.compile(r"^(\s+)[A-Z]\w*(?=\s*[,({])", re.M)
 FUNCTION = re.compile(r"^pub fn (\w+)", re.M)
 CLAUSE = re.compile(r"\b(?:requires|ensures)\b\s*(\w*)\s*\{")
 
@@ -132,7 +168,9 @@ class File:
         for head in SOURCE_HEAD.finditer(self.bare):
             end = block(self.bare, head.end())
             name = f"impl {head[4]}" if head[3] else head[2]
-            self.add(name, head.start(), end, self.bare[head.end() : end])
+            cites = self.bare[head.end() : end]
+            # (the names of an enum's variants cite nothing)
+            self.add(name, head.start(), end, VARIANT.sub(r"\1", cites) if head[1] == "enum" else cites)
 
     def clauses(self, function, wanted):
         """The item of a function with these of its clauses, or all: its signature and clauses, and no body."""
@@ -148,8 +186,10 @@ class File:
         if missing:
             sys.exit(f"trust.py: {function} has no clause {', '.join(missing)}")
         kept = [(start, stop) for name, start, stop in parts if not wanted or name in wanted]
+        # (a comment between the signature and the first clause is of that clause)
+        stop = parts[0][1] if kept[0][0] == parts[0][1] else head.start() + len(self.bare[head.start() : parts[0][1]].rstrip())
         shown, cites = (
-            "\n".join([text[head.start() : parts[0][1]].rstrip(), *(f"    {text[start:stop]}" for start, stop in kept)])
+            "\n".join([text[head.start() : stop].rstrip(), *(f"    {text[start:end]}" for start, end in kept)])
             for text in (self.text, self.bare)
         )
         self.add(f"fn {function}", head.start(), head.end(), cites)
@@ -157,11 +197,16 @@ class File:
         before, _, _ = item.text.partition(f"pub fn {function}")
         return Item(self, item.name, item.first, before + shown, cites)
 
-    def renamed(self, items):
-        """A line for each name that these items use and that is another one where it is defined."""
-        found = [(local, ".".join([*parts, name])) for local, (parts, name) in self.names.items() if local != name]
-        used = [it for it in found if any(re.search(rf"(?<![\w'.]){re.escape(it[0])}\b", item.cites) for item in items)]
-        return [f"-- here {local} is {name}" for local, name in sorted(used)]
+    def used_names(self, items):
+        """The names of other files that these items use, and what they are there."""
+        found = [(local, parts, name) for local, (parts, name) in self.names.items() if "◌" not in local]
+        return [it for it in found if any(re.search(rf"(?<![\w'.]){re.escape(it[0])}\b", item.cites) for item in items)]
+
+    def renamed(self, items, doubled):
+        """A line for each name that these items use and that is another one where it is defined, or is of the names that
+        are several things on the page."""
+        used = [it for it in self.used_names(items) if it[0] != it[2] or it[0] in doubled]
+        return [f"-- here {local} is {'.'.join([*parts, name])}" for local, parts, name in sorted(used)]
 
 
 class Repository:
@@ -237,16 +282,16 @@ class Repository:
         return [it for it in found if it is not None and it is not item]
 
 
-def laws(repository):
-    for law in LAWS:
-        name, _, clauses = law.partition(".")
-        crate, function = name.split("::")
-        files = [it for it in repository.source(crate) if re.search(rf"^pub fn {function}\b", it.bare, re.M)]
-        yield files[0].clauses(function, [it for it in clauses.split(",") if it])
+def law(repository, words):
+    """The item of a law with the clauses that are named after it, or all."""
+    name, _, clauses = words.partition(".")
+    crate, function = name.split("::")
+    files = [it for it in repository.source(crate) if re.search(rf"^pub fn {function}\b", it.bare, re.M)]
+    return files[0].clauses(function, [it for it in clauses.split(",") if it])
 
 
 def reached(repository, roots):
-    """The items under the laws, each with one that cites it, and the words of the toolchain by their modules."""
+    """The items under these laws, each with one that cites it, and the words of the toolchain by their modules."""
     parents, words, waiting = {root: None for root in roots}, defaultdict(set), list(roots)
     while waiting:
         item = waiting.pop(0)
@@ -285,23 +330,36 @@ def purpose(crate):
         return textwrap.fill(" ".join(line[3:].strip() for line in file if line.startswith("//!")), 120)
 
 
-def summary(items, words):
+def summary(items):
     specs = [item for item in items if item.file.is_spec]
     others = [item for item in items if not item.file.is_spec]
     files, crates = {it.file for it in items}, {it.file.crate for it in items}
-    return textwrap.fill(
+    return (
         f"{len(specs)} definitions of {sum(it.lines for it in specs)} lines in specs/, and {len(others)} types, "
         f"constants and traits of {sum(it.lines for it in others)} lines in src/, in {len(files)} files of "
-        f"{len(crates)} crates. They cite {sum(map(len, words.values()))} words of the toolchain.",
-        120,
+        f"{len(crates)} crates"
     )
 
 
-def sum_of(items):
+def doubled_names(repository, items):
+    """The names that are several things on the page: in files that use them, or where they are defined."""
+    meant = defaultdict(set)
+    for file in {it.file for it in items}:
+        own = [it for it in items if it.file is file]
+        for local, parts, name in file.used_names(own):
+            found = repository.find(parts, name)
+            meant[local].add(found if found is not None else (parts, name))
+        for item in own:
+            meant[item.name].add(item)
+    return {name for name, things in meant.items() if len(things) > 1}
+
+
+def sum_of(items, doubled):
     """One sum over what all of them say, and the names that they use for others, without comments and layout."""
     texts = [f"{item.file.path} {item.claim}" for item in items]
     for file in {item.file for item in items}:
-        texts += [f"{file.path} {line}" for line in file.renamed([item for item in items if item.file is file])]
+        own = [item for item in items if item.file is file]
+        texts += [f"{file.path} {line}" for line in file.renamed(own, doubled)]
     return hashlib.sha256("\n".join(sorted(texts)).encode()).hexdigest()
 
 
@@ -314,18 +372,34 @@ def fenced(head, texts):
     return ["", head, "", "```antt", "\n\n".join(texts), "```"]
 
 
-def page(repository, roots, parents, words):
-    """The part of docs/TRUST.md that this script writes."""
-    items = [item for item in parents if item not in roots]
-    lines = ["", summary(items, words), "", f"Their sum is `{sum_of(parents)}`.", "", "## The claims"]
+def part(repository, title, claim, roots, items, doubled):
+    """A part of the page: the clauses, and these definitions by their crates."""
+    added = textwrap.fill(f"{summary(items)} that no part before has.", 120)
+    lines = ["", f"## {title}", "", claim, "", added]
     for root in roots:
-        lines += fenced(f"`{root.file.path}`:", [*joined(root.file.renamed([root])), root.text])
+        lines += fenced(f"`{root.file.path}`:", [*joined(root.file.renamed([root], doubled)), root.text])
     crate = None
     for file, own in reading_order(repository, items).items():
         if file.crate != crate:
             crate = file.crate
-            lines += ["", f"## {crate}", "", purpose(crate)]
-        lines += fenced(f"`{file.path}`:", [*joined(file.renamed(own)), *(item.text for item in own)])
+            lines += ["", f"### {crate}", "", purpose(crate)]
+        lines += fenced(f"`{file.path}`:", [*joined(file.renamed(own, doubled)), *(item.text for item in own)])
+    return lines
+
+
+def page(repository, parts, parents, words):
+    """The part of docs/TRUST.md that this script writes."""
+    roots = [root for _, _, own in parts for root in own]
+    items = [item for item in parents if item not in roots]
+    doubled = doubled_names(repository, list(parents))
+    cited = sum(map(len, words.values()))
+    lines = ["", textwrap.fill(f"{summary(items)}. They cite {cited} words of the toolchain.", 120)]
+    lines += ["", f"Their sum is `{sum_of(parents, doubled)}`."]
+    shown = set()
+    for title, claim, own in parts:
+        new = [item for item in reached(repository, own)[0] if item not in roots and item not in shown]
+        lines += part(repository, title, claim, own, new, doubled)
+        shown.update(new)
     lines += ["", "## Words of the toolchain", ""]
     lines += [f"- `{module}`: {' '.join(f'`{word}`' for word in sorted(words[module]))}" for module in sorted(words)]
     lines += ["", "## Sources", "", "| Source that the comment names | Definitions |", "|---|---|"]
@@ -345,8 +419,8 @@ def main(options):
         print(__doc__)
         return 2
     repository = Repository()
-    roots = list(laws(repository))
-    parents, words = reached(repository, roots)
+    parts = [(title, claim, [law(repository, it) for it in laws]) for title, claim, laws in PARTS]
+    parents, words = reached(repository, [root for _, _, own in parts for root in own])
     if options[:1] == ["--why"]:
         item = next((it for it in parents if it.name == options[1]), None)
         if item is None:
@@ -355,7 +429,7 @@ def main(options):
             print(f"{item.name}  {item.file.path}:{item.first}")
             item = parents[item]
         return 0
-    new = page(repository, roots, parents, words)
+    new = page(repository, parts, parents, words)
     with open(PAGE, encoding="utf-8") as file:
         head, mark, old = file.read().partition(MARK)
     if options == ["--check"]:
@@ -363,7 +437,7 @@ def main(options):
     if options == ["--write"]:
         with open(PAGE, "w", encoding="utf-8") as file:
             file.write(head + mark + new)
-    print(summary([item for item in parents if item not in roots], words))
+    print(summary(list(parents)))
     return 0
 
 
