@@ -187,7 +187,9 @@ class File:
             sys.exit(f"trust.py: {function} has no clause {', '.join(missing)}")
         kept = [(start, stop) for name, start, stop in parts if not wanted or name in wanted]
         # (a comment between the signature and the first clause is of that clause)
-        stop = parts[0][1] if kept[0][0] == parts[0][1] else head.start() + len(self.bare[head.start() : parts[0][1]].rstrip())
+        stop = parts[0][1]
+        if kept[0][0] != stop:
+            stop = head.start() + len(self.bare[head.start() : stop].rstrip())
         shown, cites = (
             "\n".join([text[head.start() : stop].rstrip(), *(f"    {text[start:end]}" for start, end in kept)])
             for text in (self.text, self.bare)
@@ -203,8 +205,8 @@ class File:
         return [it for it in found if any(re.search(rf"(?<![\w'.]){re.escape(it[0])}\b", item.cites) for item in items)]
 
     def renamed(self, items, doubled):
-        """A line for each name that these items use and that is another one where it is defined, or is of the names that
-        are several things on the page."""
+        """A line for each name that these items use and that is another one where it is defined, or is one of the names
+        that are several things on the page."""
         used = [it for it in self.used_names(items) if it[0] != it[2] or it[0] in doubled]
         return [f"-- here {local} is {'.'.join([*parts, name])}" for local, parts, name in sorted(used)]
 
