@@ -133,7 +133,8 @@ while read -r command operands; do
 sdca: $command: wrong number of arguments; see sdca help $command"
     done
 done <table
-row "help lists 20 commands with arguments" is "$(wc -l <table)" 20
+of_source=$(sed -n 's/^pub const COMMANDS: \[Command; \([0-9]*\)\].*/\1/p' "$top/crates/sd_command_line/src/command.rt")
+row "help lists $of_source commands with arguments" is "$(wc -l <table)" "$of_source"
 for words in "help cover more" "version more"; do
     # shellcheck disable=SC2086 # the words of a command
     sdca $words >lines 2>err
