@@ -1,0 +1,74 @@
+-- What a receiver writes of a broadcast of which one packet is lost.
+use Rattle.std.proofs.Common.{◌≡◌, refl, ℕ, suc, ◌+◌, ◌<◌, ◌^◌}
+use Rattle.std.proofs.Common.{List, [], ◌∷◌, ◌++◌, length, drop, arith, sym, ap, ◌∙◌, append_assoc}
+use Rattle.std.proofs.Common.{append-nil, length-append}
+use Rattle.std.proofs.lemmas.List.{take_at, drop_at}
+use Rattle.sd_site.specs.SiteFields.{SiteFields}
+use Rattle.sd_site.specs.CardFields.{card_of}
+use Rattle.sd_spec.specs.Plan.{Plan, IsPlan}
+use Rattle.sd_spec.specs.Offered.{out_from}
+use Rattle.sd_spec.specs.Refused.{IsClear}
+use Rattle.sd_spec.specs.Sent.{Item, packet_of, packets_from, broadcast}
+use Rattle.sd_law_broadcast.specs.Packets.{AreWholePackets}
+use Rattle.sd_law_losses.specs.Chosen.{chosen}
+use Rattle.sd_law_losses.specs.Confirmed.{confirmed}
+use Rattle.sd_law_losses.proofs.Theorem.{confirmed_alone}
+use Rattle.sd_law_progress.specs.Cost.{IsSentBetween, without}
+use Rattle.sd_law_progress.proofs.CostLists.{all_but, chosen_but, chosen_beside}
+
+-- the packets of things, and of others after them
+packets_of_both : (site : SiteFields) (earlier xs ys : List Item) →
+    packets_from site earlier (xs ++ ys) ≡ packets_from site earlier xs ++ packets_from site (earlier ++ xs) ys
+unfolding packets_from
+packets_of_both site earlier [] ys = ap (λ (zs : List Item). packets_from site zs ys) (sym (append-nil earlier))
+packets_of_both site earlier (x ∷ xs) ys =
+    ap (λ (ps : List (List ℕ)). packet_of site earlier x ∷ ps)
+    (packets_of_both site (earlier ++ x ∷ []) xs ys
+    ∙ ap (λ (zs : List Item). packets_from site (earlier ++ x ∷ []) xs ++ packets_from site zs ys)
+    (append_assoc earlier (x ∷ []) xs))
+
+packets_many : (site : SiteFields) (earlier items : List Item) → length (packets_from site earlier items) ≡ length items
+unfolding packets_from
+packets_many site earlier [] = refl
+packets_many site earlier (item ∷ items) = ap suc (packets_many site (earlier ++ item ∷ []) items)
+
+-- so a receiver writes of the packets but this one what is confirmed of the things but this one
+pub received_but : (plan : Plan) (clear : List (List ℕ)) (u : ℕ) (before : List Item) (x : Item) (after : List Item) →
+    IsPlan plan → IsClear plan.site clear → AreWholePackets clear → u < 2 ^ plan.site.height →
+    IsSentBetween plan clear before x after →
+    out_from (card_of plan.site.master plan.site.ca plan.site.height u) [] (without (length before)
+    (broadcast plan clear)) ≡ confirmed plan u clear (before ++ after)
+unfolding broadcast packets_from
+received_but plan clear u before x after is all whole leaf lost =
+    ap (out_from (card_of plan.site.master plan.site.ca plan.site.height u) []) (sym left_out)
+    ∙ (confirmed_alone plan clear u (all_but before after) is all whole leaf
+    ∙ ap (confirmed plan u clear) (ap (chosen (all_but before after)) lost ∙ chosen_but before x after))
+  where
+    ps : List (List ℕ)
+    ps = packets_from plan.site [] before
+
+    p : List ℕ
+    p = packet_of plan.site before x
+
+    qs : List (List ℕ)
+    qs = packets_from plan.site (before ++ x ∷ []) after
+
+    all_packets : broadcast plan clear ≡ ps ++ p ∷ qs
+    all_packets = ap (packets_from plan.site []) lost ∙ packets_of_both plan.site [] before (x ∷ after)
+
+    first : length ps ≡ length before
+    first = packets_many plan.site [] before
+
+    next : length (ps ++ p ∷ []) ≡ length before + 1
+    next = omega (arith, length-append ps (p ∷ []), first)
+
+    left_out : chosen (all_but before after) (broadcast plan clear) ≡ without (length before) (broadcast plan clear)
+    left_out =
+        ap (chosen (all_but before after)) all_packets
+        ∙ (chosen_beside before after ps p qs first (packets_many plan.site (before ++ x ∷ []) after)
+        ∙ sym (ap (without (length before)) all_packets
+        ∙ (ap (λ (xs : List (List ℕ)). xs ++ drop (length before + 1) (ps ++ p ∷ qs))
+        (take_at ps (p ∷ qs) (length before) first)
+        ∙ ap (λ (xs : List (List ℕ)). ps ++ xs)
+        (ap (drop (length before + 1)) (sym (append_assoc ps (p ∷ []) qs))
+        ∙ drop_at (ps ++ p ∷ []) qs (length before + 1) next))))
