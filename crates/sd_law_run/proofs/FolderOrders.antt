@@ -1,8 +1,6 @@
 -- The orders of `next` and `twin`.
 use Rattle.std.proofs.Common.{arith, eqb-true, zero, suc, ◌≡◌, ◌≢◌, ℕ, ◌-◌, ◌^◌, ◌≤◌, ◌==◌, ◌||◌, not, Bool, true}
-use Rattle.std.proofs.Common.{false, cond, ◌⊎◌, inl, inr, sym, ◌∙◌}
-use Rattle.std.specs.Str.{bytes_eq}
-use Rattle.std.proofs.lemmas.Slice.Eq.{bytes_eq-Decides}
+use Rattle.std.proofs.Common.{false, cond}
 use Rattle.std.proofs.Common.{List, [], ◌∷◌, length, Option, Some, None, Result, Ok, Err, refl, ap, subst}
 use Rattle.sd_base.specs.Types.{Bytes}
 use Rattle.sd_command_base.specs.declared.status.Status.{Status}
@@ -10,13 +8,11 @@ use Rattle.sd_command_base.specs.declared.status.Status.TheVariants.{Usage}
 use Rattle.sd_command_base.specs.Shown.{word_at}
 use Rattle.sd_command_line.specs.declared.command.Command.{Command}
 use Rattle.sd_command_line.specs.declared.command.Command.TheVariants.{Next, Twin}
-use Rattle.sd_command_line.specs.Commands.{command_named, example_of, operands_of}
+use Rattle.sd_command_line.specs.Commands.{command_named, operands_of}
 use Rattle.sd_command_line.specs.Words.{Argument, CommandOf, HelpOf, InputOf, NumberOf, Order, OutOf, VersionOf}
 use Rattle.sd_command_line.specs.Words.{arguments_from, before, command_in, counted, help_on, help_words, is_help}
 use Rattle.sd_command_line.specs.Words.{is_version, named_words, number, number_in, numbered, order_after, order_of}
 use Rattle.sd_command_line.specs.Words.{ordered, out_is_read, version_words}
-use Rattle.sd_run.proofs.Examples.{arguments_in, example_order, words_in}
-use Rattle.sd_run.proofs.Rows.{example}
 use Rattle.sd_law_chain.proofs.Found.{one_value, unmet}
 
 -- a command makes sites or not
@@ -24,6 +20,11 @@ pub data Kind (command : Command) : Type 0 where
   is_next : command ≡ Next → Kind command
   is_twin : command ≡ Twin → Kind command
   is_other : command ≢ Next → command ≢ Twin → Kind command
+
+pub kind_of : (command : Command) → Kind command
+kind_of Next = is_next refl
+kind_of Twin = is_twin refl
+kind_of command = is_other (λ e. absurd cc) (λ e. absurd cc)
 
 -- the arguments of an order
 abbrev arguments_or : List Argument → Order → List Argument
@@ -36,34 +37,6 @@ abbrev command_or : Command → Order → Command
 command_or instead (CommandOf command arguments) = command
 command_or instead (HelpOf topic) = instead
 command_or instead VersionOf = instead
-
--- commands of one example are one command
-same_example : (one other : Command) → example_of one ≡ example_of other → one ≡ other
-same_example one other e =
-    let own = CommandOf one (arguments_in (example_order one)) in
-    let its = CommandOf other (arguments_in (example_order other)) in
-    let same : Ok own ≡ Ok its = sym (example one).1 ∙ (ap (λ line. order_of (words_in line)) e ∙ (example other).1) in
-    ap (command_or one) (one_value (Ok own) own its refl same)
-
--- whether a command is another one is seen by their examples
-is_or_not : (one other : Command) → (one ≡ other) ⊎ (one ≢ other)
-is_or_not one other = by_test (bytes_eq (example_of one) (example_of other)) refl
-  where
-    by_test : (b : Bool) → bytes_eq (example_of one) (example_of other) ≡ b → (one ≡ other) ⊎ (one ≢ other)
-    by_test true e = inl (same_example one other ((bytes_eq-Decides (example_of one) (example_of other)).0 e))
-    by_test false e =
-        inr (λ same. absurd (
-        let f = sym ((bytes_eq-Decides (example_of one) (example_of other)).1 (ap example_of same)) ∙ e in cc
-        ))
-
-pub kind_of : (command : Command) → Kind command
-kind_of command = elim (is_or_not command Next) [
-  | inl next ↦ is_next next
-  | inr no_next ↦ elim (is_or_not command Twin) [
-    | inl twin ↦ is_twin twin
-    | inr no_twin ↦ is_other no_next no_twin
-  ]
-]
 
 no_help : (topic : Option Command) (command : Command) (arguments : List Argument) →
     help_on topic ≡ Ok (CommandOf command arguments) → ⊥
