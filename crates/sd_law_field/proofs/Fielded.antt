@@ -31,7 +31,7 @@ use Rattle.sd_law_field.specs.Fielded.{IsGoodField, confirmed_line, confirmed_li
 use Rattle.sd_law_field.specs.Fielded.{sent_for, wrote_for}
 
 -- the site with the book of the events is a plan
-plan_is : (site : SiteFields) (clear : List (List ℕ)) (events : List Event) → IsGoodField site clear events →
+pub plan_is : (site : SiteFields) (clear : List (List ℕ)) (events : List Event) → IsGoodField site clear events →
     IsPlan (plan_for site clear events)
 plan_is site clear events good =
     let long = length-reverse events in

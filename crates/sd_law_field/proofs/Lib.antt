@@ -12,3 +12,7 @@ pub mod Fielded
 pub mod Never
 pub mod Tried
 pub mod Ends
+pub mod Reached
+pub mod Stays
+pub mod Changed
+pub mod Moments

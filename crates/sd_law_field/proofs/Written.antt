@@ -102,7 +102,7 @@ places_entitled plan clear u past is fit whole synced leaf =
     (λ xs. places_are_entitled plan (taken clear past) u xs is leaf) (times (watch plan clear u past))
 
 -- what it writes for a place is the clear packet
-written_for : (plan : Plan) (clear : List (List ℕ)) (u i j : ℕ) (past : List Event) → IsPlan plan →
+pub written_for : (plan : Plan) (clear : List (List ℕ)) (u i j : ℕ) (past : List Event) → IsPlan plan →
     IsClear plan.site (taken clear past) → AreWholePackets (taken clear past) → AreSynced (taken clear past) →
     u < 2 ^ plan.site.height →
     slice_get (places_of plan u (taken clear past) (watch plan clear u past)) i ≡ Some j →

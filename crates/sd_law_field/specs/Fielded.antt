@@ -59,10 +59,14 @@ pub record IsGoodField (site : SiteFields) (clear : Packets) (events : List Even
   pub synced : AreSynced (sent_for clear events)
   pub sent : IsClear site (sent_for clear events)
 
--- what leaf u's receivers write, one time after the other
+-- what leaf u's receivers write, one time after the other, if the head end sends by this plan
+abbrev pub wrote_by : Plan → Packets → List Event → LeafNumber → Packets
+wrote_by plan clear events u =
+    written plan (card_at plan u) (sent_for clear events) (watch plan clear u (reverse events))
+
+-- the same by the site with the book of the events
 abbrev pub wrote_for : SiteFields → Packets → List Event → LeafNumber → Packets
-wrote_for site clear events u = written (plan_for site clear events) (card_at (plan_for site clear events) u)
-    (sent_for clear events) (watch (plan_for site clear events) clear u (reverse events))
+wrote_for site clear events u = wrote_by (plan_for site clear events) clear events u
 
 -- a field over whole packets, as `Field` keeps it: `sends` of a field answers the last two
 pub record IsWhole (v : FieldValue) : Type 0 where

@@ -1,3 +1,5 @@
 pub mod Times
 pub mod Fielded
 pub mod Trials
+pub mod Choices
+pub mod Changed

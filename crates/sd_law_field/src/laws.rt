@@ -1,19 +1,20 @@
 //! Laws on what a field prints, in terms of the clear packets that are confirmed to its receivers.
 
-ghost use Rattle.std.specs.Prelude.{◌≡◌, ◌^◌, ◌<◌, [], ℕ, false, List, Ok, None, Some, All, length, slice_get};
+ghost use Rattle.std.specs.Prelude.{◌≡◌, ◌^◌, ◌<◌, [], ℕ, false, List, Ok, None, Some, All, get_or, length};
+ghost use Rattle.std.specs.Prelude.{slice_get, take};
 ghost use Rattle.std.specs.List.Sorted.{IsStrictlyIncreasing};
 ghost use Rattle.sd_base.specs.Types.{Bytes, Packets, LeafNumber, PacketNumber};
 ghost use Rattle.sd_site.specs.SiteFields.{SiteFields};
 ghost use Rattle.sd_spec.specs.Plan.{period_of};
 ghost use Rattle.sd_spec.specs.Refused.{IsClear};
-ghost use Rattle.sd_law_losses.specs.Confirmed.{is_revoked_in};
+ghost use Rattle.sd_law_losses.specs.Confirmed.{is_revoked_in, packets_at};
 ghost use Rattle.sd_spec.specs.declared.event.Event.{Event};
 ghost use Rattle.sd_spec.specs.Watch.{present};
 ghost use Rattle.sd_field.specs.Fields.{FieldValue, IsSentOver, IsWrittenOver, card_at, plan_in, taken, watch_of};
 ghost use Rattle.sd_spec.specs.Offered.{break_from};
 ghost use Rattle.sd_run_broadcasts.specs.Field.{field_text};
 ghost use Rattle.sd_law_field.specs.Fielded.{IsGoodField, IsWhole, confirmed_lines, confirmed_places};
-ghost use Rattle.sd_law_field.specs.Fielded.{plan_for, sent_for, wrote_for};
+ghost use Rattle.sd_law_field.specs.Fielded.{plan_for, sent_for, wrote_by, wrote_for};
 
 /// Take a field within its limits, of which no clear packet that is sent is refused. It prints what was sent, and for
 /// each leaf the number and the digest of the clear packets that are confirmed to it in all times that its receiver was
@@ -56,6 +57,42 @@ pub fn receivers_write_one_packet()
         slice_get (confirmed_places site clear events u) i ≡ Some j →
         slice_get (confirmed_places site clear events v) k ≡ Some j →
         slice_get (wrote_for site clear events u) i ≡ slice_get (wrote_for site clear events v) k }
+{}
+
+/// Each packet that a receiver writes has a number, and is the clear packet of that number. So no two receivers ever
+/// write different packets for one place: in whatever order commands, sends, deliveries, losses and power cuts come, at
+/// whatever moments the two are looked at, and also if they stand in two fields with one clear stream. What is written
+/// up to a moment is the same by the book of the events up to then and by that of all events.
+pub fn no_two_receivers_differ()
+    ensures numbered { (site : SiteFields) (clear : Packets) (events : List Event) (u : LeafNumber) →
+        IsGoodField site clear events → u < 2 ^ site.height →
+        length (wrote_for site clear events u) ≡ length (confirmed_places site clear events u) }
+    ensures clear { (site : SiteFields) (clear : Packets) (events : List Event) (u : LeafNumber) (i : ℕ)
+        (j : PacketNumber) → IsGoodField site clear events → u < 2 ^ site.height →
+        slice_get (confirmed_places site clear events u) i ≡ Some j →
+        slice_get (wrote_for site clear events u) i ≡ Some (get_or clear j []) }
+    ensures moments { (site : SiteFields) (clear : Packets) (events : List Event) (n : ℕ) →
+        IsGoodField site clear events → IsGoodField site clear (take n events) }
+    ensures book { (site : SiteFields) (clear : Packets) (events : List Event) (u : LeafNumber) (n : ℕ) →
+        IsGoodField site clear events → wrote_by (plan_for site clear events) clear (take n events) u
+        ≡ wrote_for site clear (take n events) u }
+    ensures same { (site other : SiteFields) (clear : Packets) (events more : List Event) (u v : LeafNumber) (i k : ℕ)
+        (j : PacketNumber) → IsGoodField site clear events → IsGoodField other clear more → u < 2 ^ site.height →
+        v < 2 ^ other.height → slice_get (confirmed_places site clear events u) i ≡ Some j →
+        slice_get (confirmed_places other clear more v) k ≡ Some j →
+        slice_get (wrote_for site clear events u) i ≡ slice_get (wrote_for other clear more v) k }
+{}
+
+/// In whatever order commands, sends, deliveries, losses and power cuts come: what the receivers of a leaf write are
+/// clear packets that were sent, each once and in the order of the stream, of periods in which the leaf isn't revoked.
+/// So no two receivers ever write different packets for one place.
+pub fn receivers_write_clear_packets()
+    ensures { (site : SiteFields) (clear : Packets) (events : List Event) (u : LeafNumber) →
+        IsGoodField site clear events → u < 2 ^ site.height →
+        (places : List PacketNumber) × IsStrictlyIncreasing places
+        × All (λ j. j < length (sent_for clear events)) places
+        × All (λ j. is_revoked_in (plan_for site clear events) u (period_of (plan_for site clear events) j) ≡ false)
+        places × (wrote_for site clear events u ≡ packets_at clear places) }
 {}
 
 /// Over whole packets no receiver of a field ever refuses one, and no write ever passes the room that a field takes.

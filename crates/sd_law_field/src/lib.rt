@@ -3,6 +3,8 @@
 #![tactic(auto)]
 
 pub mod books;
+pub mod choices;
+pub mod covers;
 pub mod laws;
 pub mod pools;
 pub mod sent;

@@ -14,6 +14,7 @@ ghost use Rattle.sd_spec.specs.declared.event.Event.{Event};
 ghost use Rattle.sd_spec.specs.declared.event.Event.TheVariants.{Offer, Lose, Off, On};
 ghost use Rattle.sd_spec.specs.Book.{sends, plan_after};
 ghost use Rattle.sd_spec.specs.Watch.{Watch, watched, stream, count_sent, watch, times, present, written};
+ghost use Rattle.sd_law_field.specs.Times.{places_of, taken};
 
 /// A receiver has passed no more packets than were sent. It was offered packets that it has passed, each at most once
 /// and in the order in which they were sent, in all times that it was on together.
@@ -82,12 +83,17 @@ pub fn new_receivers_wrote_nothing()
         w.on ≡ false → written plan card clear (watched u n (On u) w) ≡ written plan card clear w }
 {}
 
-/// What a receiver was offered, and what it wrote, depends on no later event, though the head end sends by the book of
-/// all events.
+/// What a receiver was offered, which clear packets are confirmed to it, and what it wrote, depends on no later event,
+/// though the head end sends by the book of all events.
 pub fn what_was_received_stays()
     ensures offered { (site : SiteFields) (later past : List Event) (clear : Packets) (u : LeafNumber) →
         AreInRange site → watch (plan_after site (length clear) (later ++ past)) clear u past
         ≡ watch (plan_after site (length clear) past) clear u past }
+    ensures places { (site : SiteFields) (later past : List Event) (clear : Packets) (u : LeafNumber) →
+        AreInRange site → places_of (plan_after site (length clear) (later ++ past)) u (taken clear past)
+        (watch (plan_after site (length clear) (later ++ past)) clear u past)
+        ≡ places_of (plan_after site (length clear) past) u (taken clear past)
+        (watch (plan_after site (length clear) past) clear u past) }
     ensures written { (site : SiteFields) (later past : List Event) (card : CardFields) (clear : Packets)
         (u : LeafNumber) → AreInRange site →
         written (plan_after site (length clear) (later ++ past)) card (take (sends (length clear) past) clear)
