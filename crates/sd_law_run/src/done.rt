@@ -27,14 +27,16 @@ pub fn done_pairs_are_apart()
 {}
 
 /// If `field` succeeds in a file system whose contents the model knows, its files were a site whose tree is low enough,
-/// a clear stream and a script within their limits. It printed exactly the lines of what is confirmed to its receivers.
+/// a clear stream and a script within their limits. If each number of the clear stream is a byte's, it printed exactly
+/// the lines of what is confirmed to its receivers.
 pub fn done_fields_had_good_files()
     ensures { (words : List Bytes) (site clear script : FileArgument) (files : Files) (a b : Outside) →
         order_of words ≡ Ok (FieldOf site clear script) → a.place.files ≡ Some files →
         RunResult (meaning words) a b Status.Done → IsFielded words files a b }
 {}
 
-/// What the files of a good run of `field` say is a good field, of which the laws on fields speak.
+/// What the files of a good run of `field` say is a good field, of which the laws on fields speak, if each number of
+/// the clear stream is a byte's.
 pub fn good_field_runs_are_good_fields()
     ensures { (words : List Bytes) (given : Readings) (good : IsGoodFieldRun words given) → AreBytes good.bytes →
         IsGoodField good.fields (packets_of good.bytes) good.events }
