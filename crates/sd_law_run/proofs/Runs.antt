@@ -12,7 +12,8 @@ use Rattle.sd_command_base.specs.Texts.{line_of}
 use Rattle.sd_command_base.specs.Outside.{PageState, Outside}
 use Rattle.sd_command_base.specs.Spec.{Spec, Readings, contents_of}
 use Rattle.sd_command_base.specs.Work.{Work, files_with, IsWithinSteps, TakesSteps}
-use Rattle.sd_command_base.specs.Outcome.{PrintsAll, Outcome, refused, ended, unclosed, exhausted, failed, nowhere, cut_off}
+use Rattle.sd_command_base.specs.Outcome.{PrintsAll}
+use Rattle.sd_command_base.specs.Outcome.{Outcome, refused, ended, unclosed, exhausted, failed, nowhere, cut_off}
 use Rattle.sd_command_base.specs.Results.{RunResult, PrintsStatusLine, with_page}
 use Rattle.sd_command_base.proofs.RunAnswers.{own_line, done_line, causes, told_given}
 use Rattle.sd_law_run.specs.Headline.{IsUndisturbed}

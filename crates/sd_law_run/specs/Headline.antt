@@ -103,5 +103,6 @@ pub record ReceiveResult (names : Names) (plan : Plan) (u : LeafNumber) (clear :
   -- at most as many steps of the generator as the tree is high, for each period in which the leaf isn't revoked
   pub steps : b.steps ≤ a.steps + plan.site.height * entitled_periods plan u clear
   pub others : (name : FileName) → name ≢ names.out → file_in b name ≡ file_in a name
-  -- the line of the answer is printed, and nothing else: a revoked leaf is named with its period, and `Done` has no line
+  -- the line of the answer is printed, and nothing else: `Done` has no line, and a revoked leaf is named with its
+  -- period
   pub told : Appends a.page.printed b.page.printed (line_of answer)

@@ -31,8 +31,8 @@ abbrev pub runs_told : {words : List Bytes} {given : Readings} → IsGoodApart w
 runs_told good clear more =
     record { plan = first_told good; clear = clear } ∷ record { plan = second_told good; clear = more } ∷ []
 
--- What an `apart` that is done says: its files were two sites and their books. Whatever clear streams the two broadcast,
--- the premises of the laws on several broadcasts are met. Exactly both lines were printed.
+-- What an `apart` that is done says: its files were two sites and their books. Whatever clear streams the two
+-- broadcast, the premises of the laws on several broadcasts are met. Exactly both lines were printed.
 pub record IsApart (words : List Bytes) (files : Files) (a b : Outside) : Type 0 where
   pub good : IsGoodApart words (contents_of files)
   pub apart : (clear more : Packets) → IsClear good.fields clear → IsClear good.other_fields more →
