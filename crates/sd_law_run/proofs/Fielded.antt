@@ -20,7 +20,7 @@ use Rattle.sd_field.specs.Script.{by_run, judged as judged_line, put_before, scr
 use Rattle.sd_field.specs.declared.fault.ScriptFault.{ScriptFault}
 use Rattle.sd_field.proofs.Scripts.{IsGood, line_good}
 use Rattle.sd_law_broadcast.specs.Packets.{IsWholePacket, AreWholePackets}
-use Rattle.sd_law_broadcast.specs.Synced.{IsSynced, AreSynced}
+use Rattle.sd_law_broadcast.specs.Synced.{AreBytes, IsSynced, AreSynced}
 use Rattle.sd_law_broadcast.proofs.Cut.{taken_synced, taken_whole}
 use Rattle.sd_command_base.specs.declared.status.Status.{Status}
 use Rattle.sd_command_base.specs.declared.status.Status.TheVariants.{Limit}
@@ -38,7 +38,7 @@ use Rattle.sd_law_field.proofs.Fielded.{text_is_confirmed}
 use Rattle.sd_command_line.specs.Words.{FieldOf}
 use Rattle.sd_run.specs.Meaning.{meaning}
 use Rattle.sd_law_run.specs.Good.{IsGoodSite}
-use Rattle.sd_law_run.specs.Fielded.{IsGoodField}
+use Rattle.sd_law_run.specs.Fielded.{IsGoodFieldRun}
 use Rattle.sd_law_run.proofs.Goodness.{file_read, ordered, site_good}
 use Rattle.sd_law_run.proofs.Plans.{ca_fits}
 
@@ -99,9 +99,9 @@ all_taken bytes short =
     let few = packets_few bytes in take_all most_packets (packets_of bytes) (omega (arith, few, short))
 
 -- words and files of a good field are within its limits
-limits : {words : List (List ℕ)} {given : Readings} (good : IsGoodField words given) →
+pub limits : {words : List (List ℕ)} {given : Readings} (good : IsGoodFieldRun words given) → AreBytes good.bytes →
     fielded.IsGoodField good.fields (packets_of good.bytes) good.events
-limits good =
+limits good are =
     let clear = packets_of good.bytes in
     let same = all_taken good.bytes good.short in
     let fits = script_fits good.fields.height 1 0 (lines_of good.text) good.events (omega arith) good.says in
@@ -113,7 +113,7 @@ limits good =
       few = omega (arith, fits.0);
       leaves = All-permutation (λ event. is_of good.fields.height event ≡ true) good.events (reverse good.events)
           (IsPermutation-reverse good.events) fits.1;
-      whole = All-take IsWholePacket count clear (subst AreWholePackets same (taken_whole good.bytes good.are_bytes));
+      whole = All-take IsWholePacket count clear (subst AreWholePackets same (taken_whole good.bytes are));
       synced = All-take IsSynced count clear (subst AreSynced same (taken_synced good.bytes));
       sent = good.is_clear;
     }
@@ -163,11 +163,12 @@ inputs_good given site clear fields packets is_site is_clear =
     ∙ then_is (clear_of_file clear.number (given clear)) packets
     (λ all. value {A = Inputs} (record { site = fields; clear = all })) is_clear
 
-pub field_good : (words : List (List ℕ)) (given : Readings) (good : IsGoodField words given) →
+pub field_good : (words : List (List ℕ)) (given : Readings) (good : IsGoodFieldRun words given) →
+    AreBytes good.bytes →
     (meaning words given).result
     ≡ Ok (printing (Ok (confirmed_lines good.fields (packets_of good.bytes) good.events (2 ^ good.fields.height))))
 unfolding field_meaning
-field_good words given good =
+field_good words given good are =
     let clear = packets_of good.bytes in
     let inputs : Inputs = record { site = good.fields; clear = clear } in
     ordered words given (FieldOf good.site good.clear good.script) good.order
@@ -182,4 +183,4 @@ field_good words given good =
     (script_good given good.script good.fields.height good.text good.events good.script_there good.script_short
     good.says)
     ∙ ap (λ (text : Result (List ℕ) Status). Ok (printing text))
-    (text_is_confirmed good.fields clear good.events (limits good))
+    (text_is_confirmed good.fields clear good.events (limits good are))

@@ -20,6 +20,9 @@ pub mod Orderly
 pub mod Outs
 pub mod Sent
 pub mod Trials
+pub mod Readable
+pub mod Paired
+pub mod Played
 pub mod Examples
 pub mod Monitors
 pub mod FolderBegins

@@ -57,4 +57,5 @@ lost_part names plan clear z given u flags a b answer leaf card_there stream_the
       steps = omega (arith, few, most);
       others = others_in a b t.files names.out (concat (confirmed plan u clear (kept_items plan clear flags))) t.told
           left;
+      told = done.printed;
     }

@@ -42,7 +42,7 @@ use Rattle.sd_law_run.proofs.Goodness.{site_good, plan_good}
 use Rattle.sd_law_run.proofs.Broadcasts.{received, opened_bytes, opened_status, opened_steps}
 use Rattle.sd_law_run.proofs.Shelf.{made_there, others_stay}
 use Rattle.sd_law_run.proofs.Plans.{good_plan}
-use Rattle.sd_law_run.proofs.Runs.{runs_work}
+use Rattle.sd_law_run.proofs.Runs.{runs_work, none_said}
 
 -- the broadcast as a file
 abbrev stream_of : Plan → List (List ℕ) → List ℕ
@@ -154,6 +154,7 @@ module _ (names : Names) (plan : Plan) (clear : List (List ℕ)) (at : Outside) 
           sent_is = made_in b t.files names.stream (stream_of plan clear) done.left;
           periods = covers_named;
           others = others_in at b t.files names.stream (stream_of plan clear) t.told done.left;
+          silent = none_said at.page b.page answer done.printed done.ends;
         }
 
     pub receive_part : (u : ℕ) (a b : Outside) (answer : Status) → u < 2 ^ plan.site.height →
@@ -183,6 +184,7 @@ module _ (names : Names) (plan : Plan) (clear : List (List ℕ)) (at : Outside) 
               taken.1;
           steps = omega (arith, few, most);
           others = others_in a b t.files names.out (concat (opened_by plan u clear)) t.told left;
+          told = done.printed;
         }
 
 pub card_part : (names : Names) (site : SiteFields) (u : ℕ) (a b : Outside) (answer : Status) →
@@ -206,4 +208,5 @@ card_part names site u a b answer good leaf answers well =
       done = done.ends;
       card_is = made_in b t.files names.card bytes done.left ∙ ap (λ (bs : List ℕ). Some bs) (card_same site u);
       others = others_in a b t.files names.card bytes t.told done.left;
+      silent = none_said a.page b.page answer done.printed done.ends;
     }

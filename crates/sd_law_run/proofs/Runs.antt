@@ -1,16 +1,21 @@
 -- What a run leaves where no device failed and memory was not out.
-use Rattle.std.proofs.Common.{◌≡◌, ◌≢◌, ℕ, Some, Result, Ok, sym, ap, subst, ◌∙◌}
+use Rattle.std.proofs.Common.{◌≡◌, ◌≢◌, ℕ, ◌++◌, List, [], Some, Result, Ok, sym, ap, subst, ◌∙◌, inl, inr}
+use Rattle.std.specs.List.{concat}
+use Rattle.std.specs.Io.KnownBytes.{Appends}
+use Rattle.std.proofs.KnownBytes.{Appends-trans}
 use Rattle.sd_base.specs.Count.{HasNotRisen}
 use Rattle.sd_base.proofs.Arithmetic.{still_or_rose}
 use Rattle.sd_ports.specs.Files.{Files}
 use Rattle.sd_command_base.specs.declared.status.Status.{Status}
-use Rattle.sd_command_base.specs.declared.status.Status.TheVariants.{PrintFault, NoMemory}
-use Rattle.sd_command_base.specs.Outside.{Outside}
+use Rattle.sd_command_base.specs.declared.status.Status.TheVariants.{Done, PrintFault, NoMemory}
+use Rattle.sd_command_base.specs.Texts.{line_of}
+use Rattle.sd_command_base.specs.Outside.{PageState, Outside}
 use Rattle.sd_command_base.specs.Spec.{Spec, Readings, contents_of}
 use Rattle.sd_command_base.specs.Work.{Work, files_with, IsWithinSteps, TakesSteps}
+use Rattle.sd_command_base.specs.Outcome.{PrintsAll}
 use Rattle.sd_command_base.specs.Outcome.{Outcome, refused, ended, unclosed, exhausted, failed, nowhere, cut_off}
-use Rattle.sd_command_base.specs.Results.{RunResult, with_page}
-use Rattle.sd_command_base.proofs.RunAnswers.{own_line, causes, told_given}
+use Rattle.sd_command_base.specs.Results.{RunResult, PrintsStatusLine, with_page}
+use Rattle.sd_command_base.proofs.RunAnswers.{own_line, done_line, causes, told_given}
 use Rattle.sd_law_run.specs.Headline.{IsUndisturbed}
 
 -- work that was done
@@ -18,6 +23,7 @@ pub record IsWorked (work : Work) (files : Files) (a b : Outside) (answer : Stat
   pub ends : answer ≡ work.ends
   pub left : b.place.files ≡ files_with work.out (Some files)
   pub steps : IsWithinSteps work.steps a.steps b.steps
+  pub printed : Appends a.page.printed b.page.printed (concat work.pieces ++ line_of answer)
 
 same_work : (meant : Result Work Status) (work other : Work) → meant ≡ Ok work → meant ≡ Ok other → other ≡ work
 same_work meant work other e f = let both = sym f ∙ e in cc
@@ -26,13 +32,14 @@ same_work meant work other e f = let both = sym f ∙ e in cc
 ended_with : (meant : Result Work Status) (work : Work) (files : Files) (a b : Outside) (status : Status) →
     meant ≡ Ok work → a.place.files ≡ Some files → HasNotRisen a.place.faults b.place.faults → status ≢ PrintFault →
     status ≢ NoMemory → Outcome meant a b status → (status ≡ work.ends)
-    × (b.place.files ≡ files_with work.out (Some files))
+    × (b.place.files ≡ files_with work.out (Some files)) × PrintsAll work a.page b.page
 ended_with meant work files a b status is told depot print memory (refused e r h k c m) =
     absurd (let both = sym e ∙ is in cc)
 ended_with meant work files a b status is told depot print memory (ended other e s i h k c m) =
     let same : other ≡ work = same_work meant work other is e in (
       s ∙ ap (λ (w : Work). w.ends) same,
       h.files ∙ ap (λ (w : Work). files_with w.out a.place.files) same ∙ ap (files_with work.out) told,
+      subst (λ (w : Work). PrintsAll w a.page b.page) same k,
     )
 ended_with meant work files a b status is told depot print memory (unclosed other e s i j t out f h k r o c m) =
     absurd (still_or_rose a.place.faults b.place.faults depot r)
@@ -46,6 +53,21 @@ ended_with meant work files a b status is told depot print memory (cut_off other
 steps_of : (meant : Result Work Status) (work : Work) (before now : ℕ) → meant ≡ Ok work →
     TakesSteps meant before now → IsWithinSteps work.steps before now
 steps_of meant work before now is h = subst (λ (r : Result Work Status). TakesSteps r before now) is h
+
+-- the line of the answer was printed, if printing didn't fail
+line_said : (a b : PageState) (status answer : Status) → PrintsStatusLine a b status answer → answer ≢ PrintFault →
+    Appends a.printed b.printed (line_of answer)
+line_said a b status answer tells print =
+    elim tells.says [
+      | inl said ↦ subst (λ (s : Status). Appends a.printed b.printed (line_of s)) (sym said.0) said.1
+      | inr cut ↦ absurd (print cut.0)
+    ]
+
+-- work that is done has no line
+pub none_said : (a b : PageState) (answer : Status) → Appends a.printed b.printed (line_of answer) → answer ≡ Done →
+    Appends a.printed b.printed []
+none_said a b answer said is =
+    subst (λ (l : List ℕ). Appends a.printed b.printed l) (ap line_of is ∙ done_line) said
 
 -- a run does the work that is meant
 pub runs_work : (meant : Readings → Spec Work) (work : Work) (files : Files) (a b : Outside) (answer : Status) →
@@ -67,4 +89,6 @@ runs_work meant work files a b answer due told answers well =
       ends = sym own ∙ done.0;
       left = done.1;
       steps = steps_of (meant answers.obeyed.given).result work a.steps b.steps is obeys.steps;
+      printed = Appends-trans a.page.printed answers.page.printed b.page.printed (concat work.pieces) (line_of answer)
+          done.2 (line_said answers.page b.page answers.status answer answers.told print);
     }

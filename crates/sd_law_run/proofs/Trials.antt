@@ -1,7 +1,6 @@
 -- The files that a trial had which is done.
-use Rattle.std.proofs.Common.{◌≡◌, ℕ, zero, suc, ◌^◌, ◌≤◌, Bool, true, false, cond, List, [], ◌∷◌, length}
+use Rattle.std.proofs.Common.{◌≡◌, ℕ, zero, suc, ◌^◌, ◌≤◌, Bool, true, false, List, [], ◌∷◌, length}
 use Rattle.std.proofs.Common.{Option, None, Some, Result, Ok, Err, refl, sym, ap, subst, ◌∙◌, append-nil, ltb-false}
-use Rattle.std.specs.Prelude.{nat_lt}
 use Rattle.std.specs.List.{concat}
 use Rattle.std.specs.Io.KnownBytes.{Appends}
 use Rattle.sd_ports.specs.Files.{Files}
@@ -43,6 +42,7 @@ use Rattle.sd_law_field.proofs.Tried.{trial_right, trial_done}
 use Rattle.sd_law_run.specs.Tried.{IsTried}
 use Rattle.sd_law_run.proofs.Plans.{ca_fits}
 use Rattle.sd_law_run.proofs.Outs.{done_leaves}
+use Rattle.sd_law_run.proofs.Readable.{low_taken}
 use Rattle.sd_law_run.proofs.Sent.{then_ok, value_is, site_right, book_right, all_read}
 
 -- no step of a trial is refused as done
@@ -112,12 +112,12 @@ text_refused plan prefix e =
     all_refused plan (length prefix.bytes) (told_sent plan prefix) (told_refused plan prefix) e
 
 -- so a trial that is done has its text
-has_text : (told : Result (List ℕ) Status) → (told ≡ Err Done → ⊥) → (printing told).ends ≡ Done →
+pub has_text : (told : Result (List ℕ) Status) → (told ≡ Err Done → ⊥) → (printing told).ends ≡ Done →
     (text : List ℕ) × (told ≡ Ok text)
 has_text (Ok text) a e = (text, refl)
 has_text (Err status) a e = absurd (a (ap (λ (s : Status). Err s) e))
 
-pieces_are : (told : Result (List ℕ) Status) (text : List ℕ) → told ≡ Ok text → (printing told).pieces ≡ text ∷ []
+pub pieces_are : (told : Result (List ℕ) Status) (text : List ℕ) → told ≡ Ok text → (printing told).pieces ≡ text ∷ []
 pieces_are told text e = ap (λ (r : Result (List ℕ) Status). (printing r).pieces) e
 
 -- and all of its stream was short enough
@@ -127,16 +127,6 @@ all_of_it most bytes e = (whole_prefix most bytes short, short)
   where
     short : length bytes ≤ most
     short = ltb-false most (length bytes) e
-
--- the height of a site that is taken
-low_right : (site found : SiteFields) → told_low most_height TrialHeight site ≡ Ok found →
-    (site ≡ found) × (site.height ≤ most_height)
-low_right site found e = by_test (nat_lt most_height site.height) refl e
-  where
-    by_test : (t : Bool) → nat_lt most_height site.height ≡ t → cond t (Err (Limit TrialHeight)) (Ok site) ≡ Ok found →
-        (site ≡ found) × (site.height ≤ most_height)
-    by_test true f e = absurd (cc)
-    by_test false f e = (let same : site ≡ found = cc in same, ltb-false most_height site.height f)
 
 low_plan : (site book : FileArgument) (given : Readings) (plan : Plan) →
     (plan_meaning site book given).result ≡ Ok plan →
@@ -150,7 +140,7 @@ low_plan site book given plan e =
     (λ commands. value (record { site = fields.from; commands = commands })) plan fields.next_is in
     let any = then_ok (site_of_file site.number (given site))
     (λ site. judged (told_low most_height TrialHeight site)) fields.from fields.first_is in
-    let low = low_right any.from fields.from any.next_is in
+    let low = low_taken most_height TrialHeight any.from fields.from any.next_is in
     let site_read = then_ok (within site.number most_site_bytes SiteBytes (given site))
     (λ bytes. judged (told_site site.number (site_of bytes))) any.from any.first_is in
     let book_read = then_ok (within book.number most_book_bytes BookBytes (given book))
@@ -161,7 +151,7 @@ low_plan site book given plan e =
     let made : Plan = record { site = fields.from; commands = commands.from } in
     subst (λ (p : Plan). IsPlan p × (p.site.height ≤ most_height)) (value_is made plan commands.next_is) (
       record { site = is_site.ranges; ca = ca_fits site_read.from fields.from is_site; book = is_within },
-      subst (λ (s : SiteFields). s.height ≤ most_height) low.0 low.1,
+      low.1,
     )
 
 -- what is printed is the lines of a stream of which no packet is refused

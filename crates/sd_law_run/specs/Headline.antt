@@ -3,6 +3,7 @@ use Rattle.std.specs.Prelude.{◌≡◌, ◌≢◌, ◌+◌, ◌-◌, ◌*◌, �
 use Rattle.std.specs.FinMap.{get}
 use Rattle.std.specs.List.{concat}
 use Rattle.std.specs.Option.{option_and_then}
+use Rattle.std.specs.Io.KnownBytes.{Appends}
 use Rattle.sd_base.specs.Types.{Bytes, FileName, Packets, LeafNumber, PeriodNumber}
 use Rattle.sd_base.specs.Count.{HasNotRisen}
 use Rattle.sd_tree.specs.Names.{given}
@@ -18,6 +19,7 @@ use Rattle.sd_law_losses.specs.Confirmed.{opened_by}
 use Rattle.sd_law_losses.specs.Endings.{first_revoked}
 use Rattle.sd_command_base.specs.declared.status.Status.{Status}
 use Rattle.sd_command_base.specs.declared.status.Status.TheVariants.{Done, NoMemory}
+use Rattle.sd_command_base.specs.Texts.{line_of}
 use Rattle.sd_command_base.specs.Outside.{Outside}
 use Rattle.sd_law_run.specs.Good.{IsGoodSite, IsGoodBook, IsGoodClear, IsOwnBook}
 use Rattle.sd_law_run.specs.Opened.{entitled_periods, revoked_status}
@@ -78,6 +80,8 @@ pub record HeadResult (names : Names) (plan : Plan) (clear : Packets) (a b : Out
         NamesPeriod plan q (sets_named plan.site.height plan.site.emm q (taken_of (concat (broadcast plan clear))))
     -- all other files are as they were
     pub others : (name : FileName) → name ≢ names.stream → file_in b name ≡ file_in a name
+    -- nothing more is printed
+    pub silent : Appends a.page.printed b.page.printed []
 
 -- The result of `card SITE LEAF CARD`.
 pub record CardResult (names : Names) (site : SiteFields) (u : LeafNumber) (a b : Outside) (answer : Status) : Type 0
@@ -86,6 +90,8 @@ pub record CardResult (names : Names) (site : SiteFields) (u : LeafNumber) (a b 
     -- CARD is the card of the leaf
     pub card_is : file_in b names.card ≡ Some (card_for site u)
     pub others : (name : FileName) → name ≢ names.card → file_in b name ≡ file_in a name
+    -- nothing more is printed
+    pub silent : Appends a.page.printed b.page.printed []
 
 -- The result of `receive CARD STREAM OUT`, if CARD is the card of leaf u and STREAM is the broadcast.
 pub record ReceiveResult (names : Names) (plan : Plan) (u : LeafNumber) (clear : Packets) (a b : Outside)
@@ -97,3 +103,6 @@ pub record ReceiveResult (names : Names) (plan : Plan) (u : LeafNumber) (clear :
   -- at most as many steps of the generator as the tree is high, for each period in which the leaf isn't revoked
   pub steps : b.steps ≤ a.steps + plan.site.height * entitled_periods plan u clear
   pub others : (name : FileName) → name ≢ names.out → file_in b name ≡ file_in a name
+  -- the line of the answer is printed, and nothing else: `Done` has no line, and a revoked leaf is named with its
+  -- period
+  pub told : Appends a.page.printed b.page.printed (line_of answer)

@@ -5,6 +5,7 @@ pub mod Sent
 pub mod Lost
 pub mod Tried
 pub mod Fielded
+pub mod Pairs
 pub mod Left
 pub mod Outcome
 pub mod Helped

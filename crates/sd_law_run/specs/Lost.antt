@@ -2,6 +2,7 @@
 -- Receiver].
 use Rattle.std.specs.Prelude.{◌≡◌, ◌≢◌, ℕ, ◌+◌, ◌-◌, ◌*◌, ◌≤◌, ◌++◌, Bool, true, false, List, [], length, Some, Ok}
 use Rattle.std.specs.List.{concat, list_any}
+use Rattle.std.specs.Io.KnownBytes.{Appends}
 use Rattle.sd_base.specs.Types.{Bytes, FileName, Packets, Arrived, LeafNumber, PeriodNumber}
 use Rattle.sd_site.specs.CardFields.{card_of, card_bytes}
 use Rattle.sd_spec.specs.Plan.{Plan, period_of}
@@ -13,6 +14,7 @@ use Rattle.sd_law_losses.specs.Endings.{ending_told}
 use Rattle.sd_law_losses.specs.Taken.{how_many}
 use Rattle.sd_command_base.specs.declared.status.Status.{Status}
 use Rattle.sd_command_base.specs.declared.status.Status.TheVariants.{Revoked}
+use Rattle.sd_command_base.specs.Texts.{line_of}
 use Rattle.sd_command_base.specs.Outside.{Outside}
 use Rattle.sd_command_base.specs.Spec.{FileArgument, Readings}
 use Rattle.sd_command_base.specs.Work.{UpTo, Work}
@@ -73,3 +75,5 @@ pub record LossResult (names : Names) (plan : Plan) (u : LeafNumber) (clear : Pa
   -- leaf arrived
   pub steps : b.steps ≤ a.steps + plan.site.height * kept_periods plan u clear kept
   pub others : (name : FileName) → name ≢ names.out → file_in b name ≡ file_in a name
+  -- the line of the answer is printed, and nothing else
+  pub told : Appends a.page.printed b.page.printed (line_of answer)

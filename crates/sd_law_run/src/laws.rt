@@ -19,7 +19,7 @@ ghost use Rattle.sd_book.specs.Limits.{IsWithinLimits};
 ghost use Rattle.sd_law_run.specs.Left.{HasOut, IsAsBefore};
 ghost use Rattle.sd_engine.specs.Stream.{packets_of};
 ghost use Rattle.sd_law_field.specs.Fielded.{confirmed_lines};
-ghost use Rattle.sd_law_run.specs.Fielded.{IsGoodField};
+ghost use Rattle.sd_law_run.specs.Fielded.{IsGoodFieldRun};
 ghost use Rattle.sd_law_run.specs.Tried.{IsGoodTrial, IsTried, plan_tried};
 ghost use Rattle.sd_book.specs.Commands.{revoked};
 ghost use Rattle.sd_book.specs.declared.command.Command.{Command};
@@ -55,6 +55,7 @@ ghost use Rattle.sd_run.specs.Meaning.{meaning};
 ghost use Rattle.sd_spec.specs.Plan.{Plan, IsPlan};
 ghost use Rattle.sd_spec.specs.Refused.{IsClear};
 ghost use Rattle.sd_law_broadcast.specs.Packets.{AreWholePackets};
+ghost use Rattle.sd_law_broadcast.specs.Synced.{AreBytes};
 ghost use Rattle.sd_run_broadcasts.specs.Receive.{receiving};
 ghost use Rattle.sd_law_run.specs.Good.{IsGoodReceive};
 ghost use Rattle.sd_law_run.specs.Opened.{IsBroadcastTo, IsOpened};
@@ -231,7 +232,8 @@ pub fn good_trials_are_printed()
 /// receivers.
 #[tactic(auto, using(crate::proofs::Fielded::field_good))]
 pub fn good_fields_are_printed()
-    ensures { (words : List Bytes) (files : Files) (good : IsGoodField words (contents_of files)) →
+    ensures { (words : List Bytes) (files : Files) (good : IsGoodFieldRun words (contents_of files)) →
+        AreBytes good.bytes →
         (meaning words (contents_of files)).result ≡ Ok (printing (Ok
         (confirmed_lines good.fields (packets_of good.bytes) good.events (2 ^ good.fields.height)))) }
 {}

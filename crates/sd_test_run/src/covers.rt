@@ -58,7 +58,7 @@ fn plain_cover(alloc: Global, d: u32, leaves: u32) -> Result<String, AllocError>
 }
 
 /// The site with a tree of height d.
-fn site_of(alloc: Global, d: u32) -> Result<String, AllocError> {
+pub(crate) fn site_of(alloc: Global, d: u32) -> Result<String, AllocError> {
     let rest = SITE.strip_prefix("height 3").unwrap_or(SITE);
     format!(in alloc; "height {d}{rest}")
 }

@@ -1,4 +1,5 @@
 use crate::leaving::{Fault, Leaving};
+use crate::parts::{Part, bytes_of};
 use crate::rows::{File, over, sampled, tells};
 use sd_command_base::{Status, StreamRefusal};
 use sd_psi::ClearFault;
@@ -151,5 +152,70 @@ fn is_refused_alone(alloc: Global) -> Result<bool, AllocError> {
 #[test]
 fn refused_sends_are_told_alone(rt: HostRuntime) -> Result<(), AllocError> {
     assert!(rt; is_refused_alone(rt.alloc())?);
+    Ok(())
+}
+
+/// A site with a message and a period for each packet, whose first period is 823.
+const OWN_PERIODS: &str = "height 1
+master a2cff8fcc9da35af5de122bd16dcf1ba26f3742ab4c6b9fdfaec10ecfdf9195d
+ca b325
+emm 8175
+ecm 32
+ecm-every 1
+crypto-ecms 1
+period-cryptos 1
+messages 2
+first-word 1
+last-word 1000001
+first-period 823
+";
+
+/// As many null packets as the script sends.
+const NULLS: &[Part] = &[Part::Packets(8191, 1023)];
+
+const CHANGES: &str = "send 1
+subscribe 1
+send 1
+revoke 1
+send 200
+revoke 0
+send 821
+subscribe 1
+offer 0 65536
+offer 1 65536
+";
+
+const CHANGED: &str = "sends 1023 packets 4092 period 1023
+receiver 0 wrote 1022 digest f9425dfb392e9ccd99fd6dba3aade1e0
+receiver 1 wrote 2 digest 359c3b375d9d49ddc89b3cc78a8f3eb5
+";
+
+#[test]
+fn each_packet_may_have_a_period(rt: HostRuntime) -> Result<(), AllocError> {
+    let alloc = rt.alloc();
+    let clear = bytes_of(alloc, NULLS)?;
+    let left = over_field(alloc, OWN_PERIODS.as_bytes(), &clear, CHANGES.as_bytes())?;
+    assert!(rt; tells(&left, 0, CHANGED));
+    Ok(())
+}
+
+/// A script of more than 1,200 lines: each packet is sent, and is offered to receiver 0, by a line of its own.
+const EACH_BY_A_LINE: &[Part] = &[
+    Part::Times(250, b"send 1\n"),
+    Part::Bytes(b"revoke 5\n"),
+    Part::Times(350, b"send 1\n"),
+    Part::Bytes(b"offer 5 607\n"),
+    Part::Times(607, b"offer 0 1\n"),
+];
+
+#[test]
+fn a_script_may_have_a_line_for_each_event(rt: HostRuntime) -> Result<(), AllocError> {
+    let alloc = rt.alloc();
+    let clear = sampled(alloc, 7, 600)?;
+    let script = bytes_of(alloc, EACH_BY_A_LINE)?;
+    let left = over_field(alloc, SITE.as_bytes(), &clear, &script)?;
+    let first = "sends 600 packets 607 period 1\n";
+    let due = lines(alloc, first, &[400, 0, 0, 0, 0, 400, 0, 0])?;
+    assert!(rt; tells(&left, 0, &due));
     Ok(())
 }

@@ -11,6 +11,8 @@ mod chains;
 #[cfg(test)]
 mod changes;
 #[cfg(test)]
+mod clashes;
+#[cfg(test)]
 mod commands;
 #[cfg(test)]
 mod covers;
@@ -26,6 +28,8 @@ mod fields;
 mod files;
 #[cfg(test)]
 mod hostile;
+#[cfg(test)]
+mod large;
 #[cfg(test)]
 mod leaving;
 #[cfg(test)]
@@ -48,6 +52,8 @@ mod runs;
 mod session;
 #[cfg(test)]
 mod several;
+#[cfg(test)]
+mod shows;
 #[cfg(test)]
 mod single;
 #[cfg(test)]

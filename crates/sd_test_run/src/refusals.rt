@@ -94,7 +94,7 @@ type Refusal = (
     &'static str,
 );
 
-static REFUSALS: [Refusal; 30] = [
+static REFUSALS: [Refusal; 33] = [
     (
         "cover S F",
         Part::Site(3, "ca 123\n"),
@@ -174,6 +174,30 @@ static REFUSALS: [Refusal; 30] = [
         NONE,
         7,
         "word 2 line 1 is refused\n",
+    ),
+    (
+        "accounts S F O",
+        S,
+        &[Part::Bytes(b"assign ann 5\nassign ann 6\n")],
+        NONE,
+        7,
+        "word 2 line 2 is refused\n",
+    ),
+    (
+        "accounts S F O",
+        S,
+        &[Part::Bytes(b"assign ann 5\nassign bob 5\n")],
+        NONE,
+        7,
+        "word 2 line 2 is refused\n",
+    ),
+    (
+        "accounts S F O",
+        S,
+        &[Part::Bytes(b"assign ann 5\ndrop ann\nassign bob 5\n")],
+        NONE,
+        7,
+        "word 2 line 3 is refused\n",
     ),
     (
         "opens S F G",

@@ -85,6 +85,16 @@ first-word 4294967294
 $ sample 7 2 short | 0 | 7503303d8ed4d577
 $ head site empty short sent | 0 | 49d112fb4587ce28
 $ receive card-0 sent out | 0 | 7503303d8ed4d577
+$ trial site empty short | 0
+clear 2 broadcast 9
+receiver 0 wrote 2 done
+receiver 1 wrote 2 done
+receiver 2 wrote 2 done
+receiver 3 wrote 2 done
+receiver 4 wrote 2 done
+receiver 5 wrote 2 done
+receiver 6 wrote 2 done
+receiver 7 wrote 2 done
 $ sample 7 3 short | 0 | 3e68d36a18df2132
 $ head site empty short sent | 9 | 357d8190e4548142
 clear packet 2: too long
