@@ -38,7 +38,7 @@ PARTS = [
     ),
     (
         "Several broadcasts",
-        "What colluding cards know of all that is sent by one master's sites, and under which keystreams texts lie.",
+        "What colluding cards know of all broadcasts of a master, under which keystreams texts lie, and what is hashed.",
         [
             "sd_law_broadcast::periods_known",
             "sd_law_broadcast::words_known",
@@ -46,6 +46,9 @@ PARTS = [
             "sd_law_broadcast::who_is_entitled_knows",
             "sd_law_broadcast::texts_lie_under_their_keystreams",
             "sd_law_broadcast::what_is_sent_is_used",
+            "sd_law_keys::wraps_are_steps",
+            "sd_law_keys::inputs_are_hashed",
+            "sd_law_keys::inputs_differ",
         ],
     ),
     (
@@ -54,6 +57,8 @@ PARTS = [
         [
             "sd_law_field::one_packet_for_a_place",
             "sd_law_field::written_packets_are_confirmed",
+            "sd_law_field::no_two_receivers_differ",
+            "sd_law_field::every_choice_is_reached",
             "sd_law_field::what_was_sent_stays",
         ],
     ),
@@ -61,6 +66,11 @@ PARTS = [
         "Chains of sites",
         "That a card which a `next` revokes stays out of the broadcasts of a chain.",
         ["sd_law_chain::cut_off_cards_stay_out", "sd_law_chain::chains_with_books_are_kept"],
+    ),
+    (
+        "Any stream",
+        "What a receiver writes of a stream that nobody vouches for.",
+        ["sd_law_keys::written_packets_are_named"],
     ),
 ]
 # The sources that comments name in brackets.

@@ -11,8 +11,8 @@ ghost use Rattle.sd_law_broadcast.specs.Known.{IsStepInRuns};
 ghost use Rattle.sd_law_broadcast.specs.Pads.{Pad, PeriodKey, SetKey, Word, pads_of, payload_pad};
 ghost use Rattle.sd_law_broadcast.specs.Runs.{Run, is_veiled};
 
-/// Each text of a broadcast that lies under the keystream of a set's key is the key of a period, and is a step of what is
-/// known: from the key of one of the period's sets to the period's key. So a period's key lies under the keys of its
+/// Each text of a broadcast that lies under the keystream of a set's key is the key of a period, and is a step of what
+/// is known: from the key of one of the period's sets to the period's key. So a period's key lies under the keys of its
 /// sets alone. Each that lies under the keystream of a period's key is a control word, which is used in that period.
 /// Under a control word lie payloads alone.
 pub fn wraps_are_steps()

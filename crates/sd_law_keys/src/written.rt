@@ -9,9 +9,9 @@ ghost use Rattle.sd_message.specs.EcmParts.{Message};
 ghost use Rattle.sd_spec.specs.Offered.{out_from};
 ghost use Rattle.sd_law_keys.specs.Written.{CameClear, IsKeyIn, IsMessageIn, IsWrittenOf};
 
-/// Of any stream, each packet that is written came with control 00, or is a packet of the stream descrambled under a word
-/// with the check value that its message names, at a position that two messages frame. So a card by whose keys no word
-/// has the check value that its message names writes packets that came with control 00 alone.
+/// Of any stream, each packet that is written came with control 00, or is a packet of the stream descrambled under a
+/// word with the check value that its message names, at a position that two messages frame. So a card by whose keys no
+/// word has the check value that its message names writes packets that came with control 00 alone.
 pub fn written_packets_are_named()
     ensures each { (card : CardFields) (packets : Packets) (out : Packet) → Contains (out_from card [] packets) out →
         IsWrittenOf card (reverse packets) out }
