@@ -1,5 +1,6 @@
 -- What is gathered of what was heard was heard.
-use Rattle.std.proofs.Common.{◌≡◌, ℕ, ◌+◌, ◌==◌, ◌&&◌, Bool, true, false, List, [], ◌∷◌, ◌++◌, Some, None, refl, sym, ap}
+use Rattle.std.proofs.Common.{◌≡◌, ℕ, ◌+◌, ◌==◌, ◌&&◌, Bool, true, false, List, [], ◌∷◌, ◌++◌, Some, None, refl, sym}
+use Rattle.std.proofs.Common.{ap}
 use Rattle.std.proofs.Common.{subst, ◌∙◌, append_assoc}
 use Rattle.std.specs.Prelude.{All, Option, reverse, not, nat_lt, length, flat_map, if◌then◌else◌}
 use Rattle.std.proofs.lemmas.Bool.{or_parts, not-false}
@@ -66,7 +67,8 @@ counted_heard P message (Other n packet ∷ things) all =
     counted_heard P message things (All-tail P (Other n packet) things all)
 
 -- the parts of a run are some of those that count
-with_part : (Q : EcmPart → Type 0) (part : EcmPart) (run : List EcmPart) → Q part → All Q run → All Q (run_with part run)
+with_part : (Q : EcmPart → Type 0) (part : EcmPart) (run : List EcmPart) → Q part → All Q run
+    → All Q (run_with part run)
 with_part Q part [] is all = All-nil Q
 with_part Q part (before ∷ run) is all = by_test ((before.number == part.number) && (before.part + 1 == part.part))
   where
@@ -163,7 +165,8 @@ told_by_run false run message is = absurd cc
 
 -- a message that is completed without a fault of its parts is in the packets
 pub message_in : (card : CardFields) (past : List (List ℕ)) (so_far : List Heard) (part : EcmPart) (message : Message)
-    → All (IsHeardIn card past) so_far → IsHeardIn card past (Controls part) → part_fault (run_to (newest so_far) part) ≡ None
+    → All (IsHeardIn card past) so_far → IsHeardIn card past (Controls part)
+    → part_fault (run_to (newest so_far) part) ≡ None
     → IsRunning (newest so_far) → completes so_far (Controls part) ≡ Some message → IsMessageIn card past message
 message_in card past so_far part message all is none running done =
     let told = told_by_run (part.part == part.last_part) (run_to (newest so_far) part) message done in

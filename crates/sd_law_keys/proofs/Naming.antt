@@ -1,6 +1,7 @@
 -- Each packet that is written was named by the messages around it.
 use Rattle.std.proofs.Common.{◌≡◌, ℕ, ◌+◌, ◌==◌, ◌&&◌, ◌||◌, Bool, true, false, nat_le, nat_lt, List, [], ◌∷◌}
-use Rattle.std.proofs.Common.{◌++◌, length, map, Some, None, refl, sym, ap, subst, ◌∙◌, inl, inr, append_assoc, append-nil, arith}
+use Rattle.std.proofs.Common.{◌++◌, length, map, Some, None, refl, sym, ap, subst, ◌∙◌, inl, inr, arith}
+use Rattle.std.proofs.Common.{append_assoc, append-nil}
 use Rattle.std.proofs.Common.{◌<◌, ◌≤◌, ◌≢◌}
 use Rattle.std.specs.Prelude.{All, Contains, Option, bytes_eq, is_none, reverse, if◌then◌else◌}
 use Rattle.std.specs.List.{list_any}
@@ -27,14 +28,16 @@ use Rattle.sd_message.specs.declared.stream_fault.StreamFault.{StreamFault}
 use Rattle.sd_message.specs.declared.stream_fault.StreamFault.TheVariants as Fault
 use Rattle.sd_spec.specs.Tuned.{tuning_of}
 use Rattle.sd_spec.specs.Heard.{Heard, Dropped, Entitles, Controls, BadEmm, BadEcm, Other, hears}
-use Rattle.sd_spec.specs.Stretches.{Stretch, counted, exceeds, message_told, newest, run_of, run_to, run_with, completes}
+use Rattle.sd_spec.specs.Stretches.{Stretch, completes, counted, exceeds, message_told, newest, run_of, run_to}
+use Rattle.sd_spec.specs.Stretches.{run_with}
 use Rattle.sd_spec.specs.Stretches.{is_closed, current, seen, held_in}
 use Rattle.sd_spec.specs.Runs.{of_run}
 use Rattle.sd_spec.specs.Keys.{key_from, key_at}
 use Rattle.sd_spec.specs.Confirmed.{Segment, position_in, tracked, written_from}
 use Rattle.sd_spec.specs.Offered.{Offering, heard, no_offering, refuses, is_mixed, key_if_none, emm_offering}
 use Rattle.sd_spec.specs.Offered.{part_fault, is_before, is_back, most_held, segment_wrote, stretch_wrote, word_fault}
-use Rattle.sd_spec.specs.Offered.{wrote_or, message_offering, part_offering, heard_offering, tuned_offering, offered, out_from}
+use Rattle.sd_spec.specs.Offered.{wrote_or, message_offering, part_offering, heard_offering, tuned_offering, offered}
+use Rattle.sd_spec.specs.Offered.{out_from}
 use Rattle.sd_spec.proofs.Hearing.{tuned_more}
 use Rattle.sd_law_keys.specs.Written.{CameClear, GoesOn, IsFramed, IsHeardIn, IsKeyIn, IsMessageIn}
 use Rattle.sd_law_keys.specs.Written.{IsOpened, IsWrittenOf, OpenPackets, clear, opened}
@@ -42,7 +45,8 @@ use Rattle.sd_law_keys.proofs.Sources.{all_later, other_here}
 use Rattle.sd_law_keys.proofs.Gathered.{held_heard, message_in, one_on}
 use Rattle.sd_law_keys.proofs.Sound.{IsSound, IsUpTo, key_later, message_later, sound_none, sound_run}
 use Rattle.sd_law_keys.proofs.Sound.{heard_here, sound_more, up_to_here, up_to_run}
-use Rattle.sd_law_keys.proofs.Openings.{IsFrom, written_is_from, IsDescrambled, judged_is, plain_is, placed_is, parity_is}
+use Rattle.sd_law_keys.proofs.Openings.{IsFrom, written_is_from, IsDescrambled, judged_is, plain_is, placed_is}
+use Rattle.sd_law_keys.proofs.Openings.{parity_is}
 use Rattle.sd_law_keys.proofs.Openings.{framed}
 
 -- the segment between two messages, under this key
@@ -189,6 +193,10 @@ stretch_is card tuning past stretch (Some a) b out pair here m = by_test (nat_le
         (pair a refl (grind (arith, nat_tests, since))) (here a refl) some
     by_test false other none = absurd (no_member out none)
 
+-- message b has a lower position for the PID of a place, or none
+abbrev is_lower : Message → Place → Bool
+is_lower b place = option_map_or (λ position. nat_lt position place.position) (position_in b.places place.pid) true
+
 -- a position that isn't lower
 one_goes_on : (position : ℕ) (other : Option ℕ) → option_map_or (λ p. nat_lt p position) other true ≡ false
     → (p : ℕ) × (other ≡ Some p) × (position ≤ p)
@@ -197,16 +205,13 @@ one_goes_on position (Some p) none = (p, refl, grind (arith, nat_tests, none))
 
 -- a message that isn't refused goes on behind the newest
 places_go_on : (a b : Message) (places : List Place)
-    → list_any (λ place. option_map_or (λ position. nat_lt position place.position) (position_in b.places place.pid) true)
+    → list_any (is_lower b)
     places ≡ false
     → All (λ (place : Place). (p : ℕ) × (position_in b.places place.pid ≡ Some p) × (place.position ≤ p)) places
 places_go_on a b [] none =
     All-nil (λ (place : Place). (p : ℕ) × (position_in b.places place.pid ≡ Some p) × (place.position ≤ p))
 places_go_on a b (place ∷ places) none =
-    let tests = or_parts
-    (option_map_or (λ position. nat_lt position place.position) (position_in b.places place.pid) true)
-    (list_any (λ (one : Place). option_map_or (λ position. nat_lt position one.position) (position_in b.places one.pid)
-    true) places) none in
+    let tests = or_parts (is_lower b place) (list_any (is_lower b) places) none in
     All-cons (λ (one : Place). (p : ℕ) × (position_in b.places one.pid ≡ Some p) × (one.position ≤ p)) place places
     (one_goes_on place.position (position_in b.places place.pid) tests.0) (places_go_on a b places tests.1)
 
@@ -214,13 +219,13 @@ goes_on_by : (a b : Message) → is_before b a ≡ false → a.number < b.number
 unfolding is_before
 goes_on_by a b none number =
     let period = or_parts (nat_lt b.period a.period) (nat_lt b.word a.word || (nat_lt b.clear a.clear
-    || list_any (λ place. option_map_or (λ position. nat_lt position place.position) (position_in b.places place.pid) true)
+    || list_any (is_lower b)
     a.places)) none in
     let word = or_parts (nat_lt b.word a.word) (nat_lt b.clear a.clear
-    || list_any (λ place. option_map_or (λ position. nat_lt position place.position) (position_in b.places place.pid) true)
+    || list_any (is_lower b)
     a.places) period.1 in
     let clears = or_parts (nat_lt b.clear a.clear)
-    (list_any (λ place. option_map_or (λ position. nat_lt position place.position) (position_in b.places place.pid) true)
+    (list_any (is_lower b)
     a.places) word.1 in record {
       number = number;
       period = grind (arith, nat_tests, period.0);
@@ -274,7 +279,8 @@ number_later so_far part a b is done =
     (run_of (part ∷ counted (newest so_far).message (newest so_far).after)) b
     (λ c told. number_told part (counted (newest so_far).message (newest so_far).after) c told) refl
     (subst (λ (m : Option Message). (if part.part == part.last_part
-    then message_told (if exceeds m part then run_of (part ∷ counted (newest so_far).message (newest so_far).after) else [])
+    then message_told (if exceeds m part
+    then run_of (part ∷ counted (newest so_far).message (newest so_far).after) else [])
     else None) ≡ Some b) is done)
 
 -- the packets that were buffered, once a later one completes a message
@@ -306,13 +312,15 @@ behind_later card tuning past packet a b so_far part tuned (inr (later, earlier,
 
 -- what the completion of a message writes
 message_is : (card : CardFields) (tuning : Tuning) (n : ℕ) (past : List (List ℕ)) (packet : List ℕ)
-    (so_far : List Heard) (part : EcmPart) (message : Option Message) (out : List ℕ) → tuning_of card.ca past ≡ Some tuning
+    (so_far : List Heard) (part : EcmPart) (message : Option Message) (out : List ℕ)
+    → tuning_of card.ca past ≡ Some tuning
     → IsSound card past so_far → IsUpTo card past so_far → IsHeardIn card (packet ∷ past) (Controls part)
     → part_fault (run_to (newest so_far) part) ≡ None
     → completes so_far (Controls part) ≡ message
     → Contains (message_offering card tuning n so_far message).wrote out → IsWrittenOf card (packet ∷ past) out
 message_is card tuning n past packet so_far part None out tuned sound up is right done m = absurd (no_member out m)
-message_is card tuning n past packet so_far part (Some b) out tuned sound up is right done m = by_test (is_back so_far b) refl m
+message_is card tuning n past packet so_far part (Some b) out tuned sound up is right done m =
+    by_test (is_back so_far b) refl m
   where
     all : All (IsHeardIn card (packet ∷ past)) so_far
     all = all_later card past (packet ∷ []) so_far sound.are_heard
@@ -413,8 +421,10 @@ tuned_is card past packet (Some tuning) out is sound m = by_test (is_closed (of_
         → IsWrittenOf card (packet ∷ past) out
     by_test true none = absurd (no_member out none)
     by_test false some =
-        heard_is card tuning (length past) past packet run thing out is (sound_run card past (heard card past) thing sound)
-        (up_to_run card past (heard card past) thing (up_to_here card past)) (heard_here card past packet tuning is) some
+        heard_is card tuning (length past) past packet run thing out is
+        (sound_run card past (heard card past) thing sound)
+        (up_to_run card past (heard card past) thing (up_to_here card past)) (heard_here card past packet tuning is)
+        some
 
 offered_is : (card : CardFields) (past : List (List ℕ)) (packet out : List ℕ) → IsSound card past (heard card past)
     → Contains (offered card past packet).wrote out → IsWrittenOf card (packet ∷ past) out
@@ -480,7 +490,8 @@ out_of_one : (card : CardFields) (past : List (List ℕ)) (packet : List ℕ) (p
     (fault : Option StreamFault) → (offered card past packet).fault ≡ fault → IsSound card past (heard card past)
     → ((offered card past packet).fault ≡ None → Contains (out_from card (packet ∷ past) packets) out
     → IsWrittenOf card (reverse packets ++ packet ∷ past) out)
-    → Contains ((offered card past packet).wrote ++ (if is_none fault then out_from card (packet ∷ past) packets else []))
+    → Contains ((offered card past packet).wrote
+    ++ (if is_none fault then out_from card (packet ∷ past) packets else []))
     out → IsWrittenOf card (reverse packets ++ packet ∷ past) out
 out_of_one card past packet packets out (Some fault) is sound later m =
     elim (Contains-append_cases (offered card past packet).wrote [] out m) [

@@ -189,7 +189,8 @@ pub none_run : IsRunning (newest [])
 unfolding newest counted run_of
 none_run = none_gathered.good
 
-pub begins_anew : (b : Message) (before : List Heard) → IsRunning (record { message = Some b; before = before; after = [] })
+pub begins_anew : (b : Message) (before : List Heard)
+    → IsRunning (record { message = Some b; before = before; after = [] })
 unfolding counted run_of
 begins_anew b before = none_gathered.good
 

@@ -26,7 +26,8 @@ use Rattle.sd_spec.specs.Stretches.{Stretch, counted, newest, run_to, completes,
 use Rattle.sd_spec.specs.Runs.{is_turn, of_run}
 use Rattle.sd_spec.specs.Keys.{first_key, key_from, key_in, key_at}
 use Rattle.sd_spec.specs.Offered.{Offering, heard, heard_with, no_offering, refuses, says_same, is_mixed}
-use Rattle.sd_spec.specs.Offered.{key_offering, key_if_none, emm_offering, part_fault, is_back, stretch_wrote, word_fault}
+use Rattle.sd_spec.specs.Offered.{key_offering, key_if_none, emm_offering, part_fault, is_back, stretch_wrote}
+use Rattle.sd_spec.specs.Offered.{word_fault}
 use Rattle.sd_spec.specs.Offered.{wrote_or, message_offering, part_offering, heard_offering}
 use Rattle.sd_spec.specs.Offered.{tuned_offering, offered}
 use Rattle.sd_spec.proofs.Hearing.{newest_waits, newest_completes}
@@ -344,7 +345,8 @@ message_taken card tuning n past packet so_far part b sound up is right done goo
       tells = message_in card (packet ∷ past) so_far part b
           (all_later card past (packet ∷ []) so_far sound.are_heard) is right sound.running done;
       key_is = λ key known.
-          key_later card past packet b.period key (key_taken card past so_far b.period key up sound.keys sound.agreed known);
+          key_later card past packet b.period key
+          (key_taken card past so_far b.period key up sound.keys sound.agreed known);
       checked = λ key known. word_checked n b key (ap (word_fault n b) (sym known) ∙ word);
     }
 

@@ -81,7 +81,8 @@ pad_told runs run pad name there m is =
     (item_told runs run item there (sent_is_of run item sent)) own)
 
 pub keys_are_steps : (runs : List Run) (run : Run) (pad : Pad) (name : SetName) → Contains runs run
-    → Contains (pads_of run) pad → pad.key ≡ SetKey name → IsStepInRuns runs (OfTree (Key name)) (Known.PeriodKey pad.number)
+    → Contains (pads_of run) pad → pad.key ≡ SetKey name
+    → IsStepInRuns runs (OfTree (Key name)) (Known.PeriodKey pad.number)
     × (pad.text ≡ period_key_of run.plan.site.master pad.number)
 keys_are_steps runs run pad name there m is = pad_told runs run pad (SetKey name) there m is
 

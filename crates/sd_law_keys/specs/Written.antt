@@ -50,8 +50,8 @@ pub record IsMessageIn (card : CardFields) (past : Packets) (message : Message) 
 abbrev pub Agree : Emm → Emm → Type 0
 Agree a b = (a.sets ≡ b.sets) × (a.sections ≡ b.sections) × (a.check ≡ b.check)
 
--- The card knew this key of the period after some of these packets. All sections of the period that were seen until then
--- agree, and name the check value of the key [this project, docs/FORMATS.md, Receiver].
+-- The card knew this key of the period after some of these packets. All sections of the period that were seen until
+-- then agree, and name the check value of the key [this project, docs/FORMATS.md, Receiver].
 pub record IsKeyIn (card : CardFields) (past : Packets) (q : PeriodNumber) (key : Key) : Type 0 where
   pub later : Packets
   pub earlier : Packets
@@ -80,8 +80,8 @@ pub record OpenPackets (card : CardFields) (past : Packets) (a b : Message) (key
   pub key_is : IsKeyIn card past a.period key
   pub checked : check_value_of (under key a.word a.wrapped) ≡ a.check
 
--- After some of these packets `a` was the newest complete message, and those were buffered behind it, no more than may be.
--- The next part completed `b` [this project, docs/FORMATS.md, Receiver].
+-- After some of these packets `a` was the newest complete message, and those were buffered behind it, no more than may
+-- be. The next part completed `b` [this project, docs/FORMATS.md, Receiver].
 pub record AreBuffered (card : CardFields) (past : Packets) (a b : Message) (packets : Packets) : Type 0 where
   pub later : Packets
   pub earlier : Packets

@@ -14,8 +14,7 @@ pub fn inputs_are_hashed()
 {}
 
 /// Two labels, keys or check values with two names have two inputs, whether of one master or of two: another kind,
-/// another master, label or key, or another number makes another input. So the input of a check value is none of a key,
-/// too.
+/// another master, label or key, or another number makes another input. So no check value is of the input of a key.
 #[tactic(auto, using(crate::proofs::Apart::inputs_differ))]
 pub fn inputs_differ()
     ensures { (a b : Hashed) → IsSized a → IsSized b → input_of a ≡ input_of b → a ≡ b }

@@ -16,7 +16,8 @@ pub fn written_packets_are_named()
     ensures each { (card : CardFields) (packets : Packets) (out : Packet) → Contains (out_from card [] packets) out →
         IsWrittenOf card (reverse packets) out }
     ensures strangers { (card : CardFields) (packets : Packets) (out : Packet) →
-        ((a : Message) (key : Key) → IsMessageIn card (reverse packets) a → IsKeyIn card (reverse packets) a.period key →
-        check_value_of (under key a.word a.wrapped) ≢ a.check) → Contains (out_from card [] packets) out →
+        ((a : Message) (key : Key) → IsMessageIn card (reverse packets) a →
+        IsKeyIn card (reverse packets) a.period key → check_value_of (under key a.word a.wrapped) ≢ a.check) →
+        Contains (out_from card [] packets) out →
         CameClear card (reverse packets) out }
 {}
