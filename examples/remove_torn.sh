@@ -1,10 +1,19 @@
 #!/bin/sh
-# remove_torn.sh FOLDER: removes the newest site of a chain if it is torn, as a call of `next` or `twin` leaves it that
-# was cut off, and says what it found. Not to be run if that call ended with exit 0. It looks and removes under the lock
-# of append.sh, under which `next` and `twin` should run too. SDCA=PROGRAM names the program.
+# remove_torn.sh FOLDER [SITE]: says whether the newest site of a chain is torn, as a call of `next` or `twin` leaves it
+# that was cut off. If it is SITE, such as site-3.txt, and torn, it is removed. Never name a site whose call ended with
+# exit 0, or that was on air. It looks and removes under the lock of append.sh, under which `next` and `twin` should run
+# too. Exit 0: the newest site is whole now. SDCA=PROGRAM names the program.
 
 set -eu
 umask 077
+
+fail() {
+    echo "remove_torn.sh: $1" >&2
+    exit 1
+}
+
+[ $# = 1 ] || [ $# = 2 ] || fail "its arguments are FOLDER [SITE]"
+wanted=${2:-}
 cd "$1"
 : "${SDCA:=sdca}"
 exec 9>book.lock
@@ -12,24 +21,28 @@ flock 9
 
 n=0
 while [ -e "site-$((n + 1)).txt" ]; do n=$((n + 1)); done
-if [ "$n" = 0 ]; then
-    echo "there is no site but the first one: go on from it"
+site=site-$n.txt
+whole() {
+    echo "site-$1.txt is whole: go on by next from it"
     exit
-fi
+}
+[ "$n" != 0 ] || whole 0
 # What `next` says of a copy, and what it makes of that, is thrown away.
 trial=$(mktemp -d ./trial.XXXXXX)
 trap 'rm -rf "$trial"' EXIT
-cp "site-$n.txt" "$trial"
-said=$("$SDCA" next "$trial/site-$n.txt" book.txt 1 "$trial/site-$((n + 1)).txt" 2>/dev/null) && status=0 || status=$?
+cp "$site" "$trial"
+said=$("$SDCA" next "$trial/$site" book.txt 1 "$trial/site-$((n + 1)).txt" 2>/dev/null) && status=0 || status=$?
+case $status,$said in
+    0,* | 7,* | 11,* | 17,* | 21,* | "6,site line 12 is out of range") whole "$n" ;;
+    6,*) ;;
+    *) fail "can't tell: next ended with exit $status ($said)" ;;
+esac
+# Of a torn file only the last line is refused, which lacks its line feed, or lines are missing.
 line=$(echo "$said" | sed -n 's/^site line \([0-9]*\) is .*/\1/p')
-if [ "$status" != 6 ]; then
-    echo "site-$n.txt is whole: go on from it"
-elif [ "${line:-14}" -le "$(wc -l <"site-$n.txt")" ]; then
-    # (of a torn file only the last line is refused, which lacks its line feed)
-    echo "site-$n.txt is not torn: $said"
-    exit 1
-else
-    rm "site-$n.txt"
-    sync .
-    echo "site-$n.txt was torn ($said) and is removed: go on from site-$((n - 1)).txt"
-fi
+[ "$said" = "site is short" ] || [ "${line:-0}" -gt "$(wc -l <"$site")" ] ||
+    fail "$site was changed and is not torn: $said"
+[ "$wanted" = "$site" ] || fail "$site is torn ($said); remove_torn.sh $1 $site removes it"
+rm "$site"
+sync .
+echo "$site was torn ($said) and is removed"
+whole $((n - 1))

@@ -32,8 +32,8 @@ PARTS = [
         ["sd_law_run::run.head,card,receive,lost"],
     ),
     (
-        "Refusals and files",
-        "What is answered where a file is refused, and which files change.",
+        "Answers and files",
+        "What holds of any run: what a refusal before the work says, and which files change.",
         ["sd_law_run::run.refused,made,files"],
     ),
     (
@@ -64,13 +64,23 @@ PARTS = [
     ),
     (
         "Chains of sites",
-        "That a card which a `next` revokes stays out of the broadcasts of a chain.",
-        ["sd_law_chain::cut_off_cards_stay_out", "sd_law_chain::chains_with_books_are_kept"],
+        "That a card which a `next` revokes stays out of the broadcasts of a chain, and what `next` and `twin` make of it.",
+        [
+            "sd_law_chain::cut_off_cards_stay_out",
+            "sd_law_chain::chains_with_books_are_kept",
+            "sd_law_chain::calls_make_the_next_site",
+            "sd_law_chain::heads_take_the_book_of_the_site",
+        ],
     ),
     (
         "Any stream",
         "What a receiver writes of a stream that nobody vouches for.",
         ["sd_law_keys::written_packets_are_named"],
+    ),
+    (
+        "Every command",
+        "What each command does and answers, whatever its arguments and files: a definition for each (`meaning`).",
+        ["sd_run::run.value,ports,cause,words,usage,complete", "sd_law_run::run.done"],
     ),
 ]
 # The sources that comments name in brackets.
