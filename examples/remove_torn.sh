@@ -49,10 +49,10 @@ fi
 # Of a torn file only the last line is refused, which lacks its line feed, or lines are missing.
 line=$(echo "$said" | sed -n 's/^site line \([0-9]*\) is .*/\1/p')
 [ "$said" = "site is short" ] || [ "${line:-0}" -gt "$(wc -l <"$site")" ] ||
-    fail "$site was changed and is not torn: put it back from a copy ($said)"
+    fail "$site is not torn: put it back from a copy, or remove it if no call made it ($said)"
 if [ "$wanted" != "$site" ]; then
     echo "remove_torn.sh: $site is torn ($said). If the call that made it ended with exit 0, or it was" >&2
-    fail "on air, put it back from a copy. Else this removes it: remove_torn.sh $1 $site"
+    fail "on air, put it back from a copy. Else this removes it: $0 $1 $site"
 fi
 rm "$site"
 sync .
