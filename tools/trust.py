@@ -45,6 +45,8 @@ PARTS = [
             "sd_law_broadcast::the_revoked_know_nothing",
             "sd_law_broadcast::who_is_entitled_knows",
             "sd_law_broadcast::texts_lie_under_their_keystreams",
+            "sd_law_broadcast::a_broadcast_repeats_no_keystream",
+            "sd_law_broadcast::broadcasts_repeat_no_keystream",
             "sd_law_broadcast::what_is_sent_is_used",
             "sd_law_keys::wraps_are_steps",
             "sd_law_keys::inputs_are_hashed",
@@ -60,6 +62,7 @@ PARTS = [
             "sd_law_field::no_two_receivers_differ",
             "sd_law_field::every_choice_is_reached",
             "sd_law_field::what_was_sent_stays",
+            "sd_law_covers::kept_is_as_fresh",
         ],
     ),
     (
