@@ -1,7 +1,7 @@
 -- The lines of a field by what is confirmed to its receivers.
 use Rattle.std.proofs.Common.{arith, ◌≡◌, ℕ, zero, suc, ◌/◌, ◌<◌, ◌≤◌, ◌^◌, false, List, [], ◌++◌, refl, sym, ap}
 use Rattle.std.proofs.Common.{◌∙◌, length, take, reverse, take_all, Ok}
-use Rattle.std.specs.Prelude.{All, Option, None, Some, slice_get}
+use Rattle.std.specs.Prelude.{All, Option, None, Some}
 use Rattle.std.specs.List.{concat}
 use Rattle.std.specs.List.Sorted.{IsStrictlyIncreasing}
 use Rattle.std.proofs.lemmas.List.{length-map, length-reverse}
@@ -22,13 +22,13 @@ use Rattle.sd_spec.specs.declared.event.Event.{Event}
 use Rattle.sd_spec.specs.Book.{sends}
 use Rattle.sd_spec.specs.Watch.{watch, written}
 use Rattle.sd_spec.proofs.Fitting.{event_plans_fit}
-use Rattle.sd_law_field.proofs.Written.{one_packet, written_is_confirmed, places_rise, places_are_sent, places_entitled}
+use Rattle.sd_law_field.proofs.Written.{written_is_confirmed, places_rise, places_are_sent, places_entitled}
 use Rattle.sd_field.specs.Fields as field
 use Rattle.sd_run_broadcasts.specs.Field.{digest_of, done_field, field_text, first_line, lines_to, receiver_line}
 use Rattle.sd_run_broadcasts.specs.Field.{text_in}
 use Rattle.sd_run_broadcasts.specs.Field.{unrefused, wrote_line}
 use Rattle.sd_law_field.specs.Fielded.{IsGoodField, confirmed_line, confirmed_lines, confirmed_places, plan_for}
-use Rattle.sd_law_field.specs.Fielded.{sent_for, wrote_for}
+use Rattle.sd_law_field.specs.Fielded.{sent_for}
 
 -- the site with the book of the events is a plan
 pub plan_is : (site : SiteFields) (clear : List (List ℕ)) (events : List Event) → IsGoodField site clear events →
@@ -149,14 +149,3 @@ done_is_clear site clear events text is =
     ap (refusal_from site []) (sym (sent_same site clear events))
     ∙ clear_where (refusal_from site [] (field.taken (done_field site clear events)))
     (lines_to (done_field site clear events) (2 ^ site.height)) text is
-
--- two receivers that wrote for one place
-pub one_for_a_place : (site : SiteFields) (clear : List (List ℕ)) (events : List Event) (u v i k j : ℕ) →
-    IsGoodField site clear events → u < 2 ^ site.height → v < 2 ^ site.height →
-    slice_get (confirmed_places site clear events u) i ≡ Some j →
-    slice_get (confirmed_places site clear events v) k ≡ Some j →
-    slice_get (wrote_for site clear events u) i ≡ slice_get (wrote_for site clear events v) k
-one_for_a_place site clear events u v i k j good leaf other at there =
-    one_packet (plan_for site clear events) clear u v i k j (reverse events) (reverse events)
-    (plan_is site clear events good) good.sent good.whole good.synced good.sent good.whole good.synced leaf other at
-    there

@@ -1,19 +1,17 @@
 -- What receivers write, at whatever moments of whatever fields.
-use Rattle.std.proofs.Common.{arith, ◌≡◌, ℕ, ◌<◌, ◌≤◌, ◌^◌, true, false, List, [], ◌∷◌, ◌++◌, refl, sym, ap}
+use Rattle.std.proofs.Common.{arith, ◌≡◌, ℕ, ◌<◌, ◌≤◌, ◌^◌, true, List, [], ◌∷◌, ◌++◌, refl, sym, ap}
 use Rattle.std.proofs.Common.{subst, ◌∙◌, length, get_or, take, drop, reverse}
 use Rattle.std.specs.Prelude.{All, Some, slice_get}
-use Rattle.std.specs.List.Sorted.{IsStrictlyIncreasing}
 use Rattle.std.proofs.lemmas.List.{length-map, length-take, reverse-append, take-append-drop, take-take}
 use Rattle.std.proofs.lemmas.List.Elements.{All-head, All-tail, All-take}
 use Rattle.std.proofs.Math.Seq.{get_or-take}
 use Rattle.sd_site.specs.SiteFields.{SiteFields}
 use Rattle.sd_site.specs.CardFields.{card_of}
-use Rattle.sd_spec.specs.Plan.{period_of}
 use Rattle.sd_spec.specs.Refused.{IsClear}
 use Rattle.sd_law_broadcast.specs.Packets.{IsWholePacket}
 use Rattle.sd_law_broadcast.specs.Synced.{IsSynced}
 use Rattle.sd_law_broadcast.proofs.Clear.{take_clear}
-use Rattle.sd_law_losses.specs.Confirmed.{is_revoked_in, packet_at, packets_at}
+use Rattle.sd_law_losses.specs.Confirmed.{packet_at, packets_at}
 use Rattle.sd_law_losses.proofs.Losses.{all_second}
 use Rattle.sd_spec.specs.declared.event.Event.{Event}
 use Rattle.sd_spec.specs.Events.{is_of}
@@ -22,7 +20,7 @@ use Rattle.sd_spec.proofs.Sends.{sends_rise}
 use Rattle.sd_spec.proofs.Offers.{written_stays_later}
 use Rattle.sd_law_field.specs.Fielded.{IsGoodField, confirmed_places, plan_for, sent_for, wrote_by, wrote_for}
 use Rattle.sd_law_field.proofs.Written.{written_for, written_is_confirmed}
-use Rattle.sd_law_field.proofs.Fielded.{confirmed_entitled, confirmed_rise, confirmed_sent, plan_is}
+use Rattle.sd_law_field.proofs.Fielded.{confirmed_sent, plan_is}
 
 -- each packet that is written has a number
 pub each_has_a_number : (site : SiteFields) (clear : List (List ℕ)) (events : List Event) (u : ℕ) →
@@ -62,22 +60,15 @@ of_all n clear (j ∷ places) below =
     (ap (λ (rest : List (List ℕ)). get_or clear j [] ∷ rest)
     (of_all n clear places (All-tail (λ i. i < length (take n clear)) j places below)))
 
--- what is written are clear packets, in their order
+-- what is written are the confirmed clear packets
 pub clear_are_written : (site : SiteFields) (clear : List (List ℕ)) (events : List Event) (u : ℕ) →
     IsGoodField site clear events → u < 2 ^ site.height →
-    (places : List ℕ) × IsStrictlyIncreasing places × All (λ j. j < length (sent_for clear events)) places
-    × All (λ j. is_revoked_in (plan_for site clear events) u (period_of (plan_for site clear events) j) ≡ false) places
-    × (wrote_for site clear events u ≡ packets_at clear places)
+    wrote_for site clear events u ≡ packets_at clear (confirmed_places site clear events u)
 clear_are_written site clear events u good leaf =
-    let below = confirmed_sent site clear events u good leaf in (
-      confirmed_places site clear events u,
-      confirmed_rise site clear events u good leaf,
-      below,
-      confirmed_entitled site clear events u good leaf,
-      written_is_confirmed (plan_for site clear events) clear u (reverse events) (plan_is site clear events good)
-          good.sent good.whole good.synced leaf
-          ∙ of_all (sends (length clear) (reverse events)) clear (confirmed_places site clear events u) below,
-    )
+    written_is_confirmed (plan_for site clear events) clear u (reverse events) (plan_is site clear events good)
+    good.sent good.whole good.synced leaf
+    ∙ of_all (sends (length clear) (reverse events)) clear (confirmed_places site clear events u)
+    (confirmed_sent site clear events u good leaf)
 
 -- The first events of a field.
 

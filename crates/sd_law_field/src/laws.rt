@@ -48,17 +48,6 @@ pub fn done_fields_sent_clear_packets()
         field_text site clear events ≡ Ok text → IsClear site (sent_for clear events) }
 {}
 
-/// Two receivers that wrote for one clear packet wrote the same packet.
-#[tactic(auto, using(crate::proofs::Fielded::one_for_a_place))]
-pub fn receivers_write_one_packet()
-    ensures { (site : SiteFields) (clear : Packets) (events : List Event) (u v : LeafNumber) (i k : ℕ)
-        (j : PacketNumber) →
-        IsGoodField site clear events → u < 2 ^ site.height → v < 2 ^ site.height →
-        slice_get (confirmed_places site clear events u) i ≡ Some j →
-        slice_get (confirmed_places site clear events v) k ≡ Some j →
-        slice_get (wrote_for site clear events u) i ≡ slice_get (wrote_for site clear events v) k }
-{}
-
 /// Each packet that a receiver writes has a number, and is the clear packet of that number. So no two receivers ever
 /// write different packets for one place: in whatever order commands, sends, deliveries, losses and power cuts come, at
 /// whatever moments the two are looked at, and also if they stand in two fields with one clear stream. What is written
@@ -83,16 +72,13 @@ pub fn no_two_receivers_differ()
         slice_get (wrote_for site clear events u) i ≡ slice_get (wrote_for other clear more v) k }
 {}
 
-/// In whatever order commands, sends, deliveries, losses and power cuts come: what the receivers of a leaf write are
-/// clear packets that were sent, each once and in the order of the stream, of periods in which the leaf isn't revoked.
-/// So no two receivers ever write different packets for one place.
+/// In whatever order commands, sends, deliveries, losses and power cuts come: what the receivers of a leaf write are the
+/// clear packets that are confirmed to it, all of them and nothing else. By `confirmed_places_are_entitled` these were
+/// sent, are written each once and in the order of the stream, and are of periods in which the leaf isn't revoked.
 pub fn receivers_write_clear_packets()
     ensures { (site : SiteFields) (clear : Packets) (events : List Event) (u : LeafNumber) →
         IsGoodField site clear events → u < 2 ^ site.height →
-        (places : List PacketNumber) × IsStrictlyIncreasing places
-        × All (λ j. j < length (sent_for clear events)) places
-        × All (λ j. is_revoked_in (plan_for site clear events) u (period_of (plan_for site clear events) j) ≡ false)
-        places × (wrote_for site clear events u ≡ packets_at clear places) }
+        wrote_for site clear events u ≡ packets_at clear (confirmed_places site clear events u) }
 {}
 
 /// Over whole packets no receiver of a field ever refuses one, and no write ever passes the room that a field takes.
