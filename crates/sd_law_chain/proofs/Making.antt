@@ -3,6 +3,7 @@ use Rattle.std.proofs.Common.{arith, ◌≡◌, ℕ, ◌+◌, ◌-◌, ◌≤◌
 use Rattle.std.proofs.Common.{List, [], length, take, Option, Some, None, Result, Ok, Err, refl, ap, sym, subst, ◌∙◌}
 use Rattle.std.specs.Prelude.{◌↔◌, ◌||◌, IsSome, if◌then◌else◌}
 use Rattle.std.specs.Str.{bytes_eq}
+use Rattle.std.proofs.lemmas.Bool.{and_parts}
 use Rattle.std.proofs.lemmas.Bool.Decides.{nat_tests}
 use Rattle.std.proofs.lemmas.List.{length-take, length-take-le}
 use Rattle.std.proofs.lemmas.Slice.Eq.{bytes_eq-Decides}
@@ -89,10 +90,6 @@ longer_back word d line bytes commands size begins book ends =
     ∙ ap (λ (t : Bool). cond t (Ok (record { bytes = bytes; commands = commands }))
     (Err (BadBook word (length commands)))) ends
 
-both_true : (a b : Bool) → (a && b) ≡ true → (a ≡ true) × (b ≡ true)
-both_true true b h = (refl, h)
-both_true false b h = absurd cc
-
 -- what `next` asks of the first bytes of BOOK
 abbrev IsOwn : Bytes → Bytes → Type 0
 IsOwn book bytes = IsLike (take (length book) bytes) book × EndsLines (take (length book) bytes)
@@ -104,8 +101,9 @@ begins_ok (Some line) book bytes is h =
     let own : Bytes = take (length book) bytes in
     let said : begins_with_book (Some (line_of book)) bytes ≡ true =
     ap (λ (l : BookLine). begins_with_book (Some l) bytes) (sym is) ∙ h in
-    let one = both_true (nat_le (length book) (length bytes)) (ends_lines own && bytes_eq (sha256 own) (sha256 book)) said in
-    let two = both_true (ends_lines own) (bytes_eq (sha256 own) (sha256 book)) one.1 in
+    let one = and_parts (nat_le (length book) (length bytes))
+    (ends_lines own && bytes_eq (sha256 own) (sha256 book)) said in
+    let two = and_parts (ends_lines own) (bytes_eq (sha256 own) (sha256 book)) one.1 in
     let fits : length book ≤ length bytes = grind (arith, nat_tests, one.0) in
     ((length-take-le (length book) bytes fits, (bytes_eq-Decides (sha256 own) (sha256 book)).0 two.1), two.0)
 

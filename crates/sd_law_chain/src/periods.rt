@@ -23,7 +23,7 @@ pub fn broadcasts_are_followed()
 /// first period of the new site, and so is what comes before the (k+1)-th line `period` that was appended, k being at
 /// least 1. So what is appended without a line `period`, or with one, holds at once.
 pub fn new_sites_hold_what_is_appended()
-    ensures some { (root : Link) (calls : List Call) (n : ℕ) (more : Bytes) →
+    ensures decided { (root : Link) (calls : List Call) (n : ℕ) (more : Bytes) →
         IsNextAt calls n (book_at root calls (n - 1) ++ more) →
         last_period (commands_said (book_at root calls (n - 1))) < (site_at root calls n).first_period }
     ensures held { (root : Link) (calls : List Call) (n : ℕ) (more : Bytes) → IsChain root calls →

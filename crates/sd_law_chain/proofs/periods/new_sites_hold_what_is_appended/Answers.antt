@@ -1,8 +1,8 @@
 use Rattle.sd_law_chain.proofs.Held.{above_last, held_at_once, held_until}
 use Rattle.sd_law_chain.proofs.periods.new_sites_hold_what_is_appended.Goals as goal
 
-pub returns-clause-some : goal.returns-clause-some
-returns-clause-some c = above_last
+pub returns-clause-decided : goal.returns-clause-decided
+returns-clause-decided c = above_last
 
 pub returns-clause-held : goal.returns-clause-held
 returns-clause-held c = held_until
