@@ -1,5 +1,5 @@
 -- What a site file says can be written.
-use Rattle.std.proofs.Common.{arith, ◌≡◌, ℕ, suc, ◌+◌, ◌*◌, ◌<◌, ◌≤◌, ◌==◌, Bool, true, false, cond, List, [], ◌∷◌}
+use Rattle.std.proofs.Common.{arith, ◌≡◌, ℕ, suc, ◌+◌, ◌*◌, ◌^◌, ◌<◌, ◌≤◌, ◌==◌, Bool, true, false, cond, List, [], ◌∷◌}
 use Rattle.std.proofs.Common.{length, Option, Some, None, Result, Ok, Err, refl, ap, ◌∙◌, slice_index}
 use Rattle.std.proofs.lemmas.Bool.{eqb-true}
 use Rattle.std.proofs.lemmas.List.Elements.{All-nil, All-cons}
@@ -56,17 +56,22 @@ line_bytes form (Some line) bytes e = by_digits (rest_after form.word line) e
 two_bytes : (bytes : List ℕ) → from_be_bytes w16 bytes ≡ slice_index bytes 0 * 256 + slice_index bytes 1
 two_bytes bytes = refl
 
+-- the number of the system has 16 bits
+pub ca_fits : (text : List ℕ) (site : SiteFields) → IsSite text site → site.ca < 2 ^ 16
+ca_fits text site is =
+    let ca = is.text.ca in
+    let two = line_bytes ca_line _ ca.0 ca.1 in
+    omega (arith, ca.2, two_bytes ca.0, two.1 0, two.1 1)
+
 -- what a site file says can be written with any book
 pub said_sayable : (text : List ℕ) (site : SiteFields) (book : BookLine) → IsSite text site →
     book.size ≤ most_book_size → (length book.digest ≡ digest_bytes) × All (λ byte. byte < 256) book.digest →
     IsSayable site book
 said_sayable text site book is size digest =
     let master = line_bytes master_line _ site.master is.text.master in
-    let ca = is.text.ca in
-    let two = line_bytes ca_line _ ca.0 ca.1 in
     record {
       ranges = is.ranges;
-      ca = omega (arith, ca.2, two_bytes ca.0, two.1 0, two.1 1);
+      ca = ca_fits text site is;
       master = (master.0, numbers_are site.master master.1);
       size = size;
       digest = digest;

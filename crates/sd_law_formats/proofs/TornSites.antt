@@ -10,7 +10,7 @@ use Rattle.sd_base.specs.Lines.{lines_of, onto_first_line}
 use Rattle.sd_ports.specs.Bytes.{IsPrefix}
 use Rattle.sd_site.specs.SiteFields.{SiteFields}
 use Rattle.sd_site.specs.Text.{◌>>=◌, site_of, site_on, book_line_of}
-use Rattle.sd_site.specs.Written.{IsSayable, site_text, is_whole, is_first, newest_of}
+use Rattle.sd_site.specs.Written.{IsSayable, site_text, is_whole, is_first, newest_of, none_fewer}
 use Rattle.sd_site.specs.declared.book_line.BookLine.{BookLine}
 use Rattle.sd_site.specs.declared.site_fault.SiteFault.{SiteFault}
 use Rattle.sd_site.specs.declared.site_fault.SiteFault.TheVariants.{Short}
@@ -126,3 +126,22 @@ pub torn_sites : (site : SiteFields) (book : BookLine) (torn : List ℕ) (other 
 torn_sites site book torn other is words ([], whole) proper e = proper (sym (append-nil torn) ∙ whole)
 torn_sites site book torn other is words (byte ∷ rest, whole) proper e =
     torn_short site book torn other is words byte rest whole e
+
+-- it is not thirteen lines
+pub torn_not_whole : (site : SiteFields) (book : BookLine) (torn : List ℕ) → IsSayable site book →
+    IsPrefix torn (site_text site book) → torn ≢ site_text site book → is_whole 13 torn ≡ true → ⊥
+torn_not_whole site book torn is ([], whole) proper thirteen = proper (sym (append-nil torn) ∙ whole)
+torn_not_whole site book torn is (byte ∷ rest, whole) proper thirteen =
+    not_thirteen site book torn byte rest is whole thirteen
+
+-- so no twin is made from it
+pub torn_no_twin : (site : SiteFields) (book : BookLine) (torn : List ℕ) (other : SiteFields × Option BookLine) →
+    IsSayable site book → IsPrefix torn (site_text site book) → torn ≢ site_text site book →
+    newest_of none_fewer torn ≡ Ok other → ⊥
+unfolding newest_of
+torn_no_twin site book torn other is prefix proper e =
+    let parts = taken_parts (site_of torn) (book_line_of torn) (none_fewer torn) (is_whole 13 torn) other e in
+    elim parts.2 [
+      | inl thirteen ↦ torn_not_whole site book torn is prefix proper thirteen
+      | inr fewer ↦ absurd (let f : false ≡ true = fewer in cc)
+    ]

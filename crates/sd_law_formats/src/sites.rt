@@ -1,10 +1,11 @@
 //! Site files: what is written is read, what is torn is not, and how long they are.
 
-ghost use Rattle.std.specs.Prelude.{◌≡◌, ◌≢◌, ℕ, ◌<◌, ◌≤◌, All, List, length, Bool, Option, Some, Ok, Err};
+ghost use Rattle.std.specs.Prelude.{◌≡◌, ◌≢◌, ℕ, ◌<◌, ◌≤◌, All, List, length, Bool, true, Option, Some, Ok, Err};
 ghost use Rattle.sd_ports.specs.Bytes.{IsPrefix};
 ghost use Rattle.sd_site.specs.SiteFields.{SiteFields};
+ghost use Rattle.sd_site.specs.Forms.{digest_bytes, most_book_size};
 ghost use Rattle.sd_site.specs.Text.{IsSite};
-ghost use Rattle.sd_site.specs.Written.{IsSayable, is_first, newest_of, site_text};
+ghost use Rattle.sd_site.specs.Written.{IsSayable, is_first, is_whole, newest_of, none_fewer, site_text};
 ghost use Rattle.sd_site.specs.declared.book_line.BookLine.{BookLine};
 ghost use Rattle.sd_site.specs.declared.site_fault.SiteFault.TheVariants.{Range};
 
@@ -15,8 +16,8 @@ pub fn sites_are_short()
 
 /// What a site file says can be written, with any book.
 pub fn read_sites_are_sayable()
-    ensures { (bytes : List ℕ) (site : SiteFields) (book : BookLine) → IsSite bytes site → book.size ≤ 33554432 →
-        (length book.digest ≡ 32) × All (λ byte. byte < 256) book.digest → IsSayable site book }
+    ensures { (bytes : List ℕ) (site : SiteFields) (book : BookLine) → IsSite bytes site → book.size ≤ most_book_size →
+        (length book.digest ≡ digest_bytes) × All (λ byte. byte < 256) book.digest → IsSayable site book }
 {}
 
 /// A site file that is written is read as the site and the book that it was written from. It has at most 317 bytes.
@@ -28,9 +29,14 @@ pub fn written_sites_are_read()
 {}
 
 /// No next site is made from a torn site file: one that is a proper prefix of what was written for a site with control
-/// words. It isn't whole, and isn't a first site either. It is refused, and not since line 12 is out of range.
-#[tactic(auto, using(crate::proofs::TornSites::torn_sites, crate::proofs::TornLines::torn_in_range))]
+/// words. It isn't whole, and isn't a first site either. It is refused, and not since line 12 is out of range. No twin
+/// is made from a torn site file, whatever the site.
 pub fn torn_sites_are_short()
+    ensures whole { (site : SiteFields) (book : BookLine) (torn : List ℕ) → IsSayable site book →
+        IsPrefix torn (site_text site book) → torn ≢ site_text site book → is_whole 13 torn ≡ true → ⊥ }
+    ensures twin { (site : SiteFields) (book : BookLine) (torn : List ℕ) (other : SiteFields × Option BookLine) →
+        IsSayable site book → IsPrefix torn (site_text site book) → torn ≢ site_text site book →
+        newest_of none_fewer torn ≡ Ok other → ⊥ }
     ensures refused { (site : SiteFields) (book : BookLine) (torn : List ℕ) (other : SiteFields × Option BookLine) →
         IsSayable site book → site.first_word ≤ site.last_word → IsPrefix torn (site_text site book) →
         torn ≢ site_text site book → newest_of is_first torn ≡ Ok other → ⊥ }

@@ -40,7 +40,7 @@ use Rattle.sd_run.specs.Meaning.{meaning}
 use Rattle.sd_law_run.specs.Good.{IsGoodSite}
 use Rattle.sd_law_run.specs.Fielded.{IsGoodFieldRun}
 use Rattle.sd_law_run.proofs.Goodness.{file_read, ordered, site_good}
-use Rattle.sd_law_run.proofs.Plans.{ca_fits}
+use Rattle.sd_law_formats.proofs.SayableSites.{ca_fits}
 
 -- the events of a script are few, and their leaves are of the tree
 abbrev Fits : ℕ → ℕ → List Event → Type 0

@@ -3,7 +3,7 @@ use Rattle.std.proofs.Common.{arith, ◌≡◌, ◌≢◌, ◌⊎◌, inl, inr, 
 use Rattle.std.proofs.Common.{true, false}
 use Rattle.std.proofs.Common.{List, [], ◌∷◌, ◌++◌, length}
 use Rattle.std.proofs.Common.{Option, Some, None, Ok, refl, sym, ap, subst, ◌∙◌}
-use Rattle.std.specs.FinMap.{insert}
+use Rattle.std.specs.FinMap.{get, insert}
 use Rattle.std.specs.Str.{bytes_eq}
 use Rattle.std.proofs.lemmas.Option.{same_Some}
 use Rattle.std.proofs.lemmas.Slice.Eq.{bytes_eq-Decides}
@@ -11,10 +11,11 @@ use Rattle.sd_base.specs.Types.{Bytes, FileName}
 use Rattle.sd_ports.specs.Files.{Files}
 use Rattle.sd_ports.specs.Bytes.{IsPrefix}
 use Rattle.sd_command_base.specs.declared.status.Status.{Status}
+use Rattle.sd_command_base.specs.declared.status.Status.TheVariants.{Done}
 use Rattle.sd_command_base.specs.Outside.{DepotState, Outside}
 use Rattle.sd_command_base.specs.Results.{RunResult}
 use Rattle.sd_command_base.specs.Spec.{FileArgument, Readings, contents_of, judged}
-use Rattle.sd_command_base.specs.Work.{Out, Work}
+use Rattle.sd_command_base.specs.Work.{Out, Work, files_with}
 use Rattle.sd_command_line.specs.declared.command.Command.{Command}
 use Rattle.sd_command_line.specs.declared.command.Command.TheVariants.{Next, Twin}
 use Rattle.sd_command_line.specs.Words.{Argument, CommandOf, HelpOf, Order, VersionOf, file, number, order_of}
@@ -33,7 +34,8 @@ use Rattle.sd_law_run.specs.Folders.{AsksFor, FolderOutcome, kept, longer, torn,
 use Rattle.sd_law_run.specs.Folders.{SparesNames}
 use Rattle.sd_law_run.specs.Folders.{name_at, number_in, text_of_link}
 use Rattle.sd_law_run.proofs.Left.{run_leaves}
-use Rattle.sd_law_run.proofs.Outs.{out_is}
+use Rattle.sd_law_run.proofs.Outs.{done_leaves, out_is}
+use Rattle.sd_law_run.proofs.Shelf.{made_there}
 use Rattle.sd_law_run.proofs.FolderNames.{find_name}
 use Rattle.sd_law_run.proofs.FolderOrders.{IsRead, Kind, is_next, is_other, is_twin, kind_of, next_counts, order_so}
 use Rattle.sd_law_run.proofs.FolderOrders.{twin_counts}
@@ -176,12 +178,33 @@ whole_or_not prefix bytes = by_test (bytes_eq prefix bytes) refl
 pub none_dead : IsDead None
 none_dead text newest none read = absurd cc
 
+-- a run that is done has made the whole file
+done_whole : (words : List Bytes) (files : Files) (a b : Outside) (answer : Status) → a.place.files ≡ Some files →
+    RunResult (meaning words) a b answer →
+    (has : HasOut files (meaning words (contents_of files)).result a.place b.place) → answer ≡ Done →
+    has.prefix ≡ has.out.bytes
+done_whole words files a b answer told answers has is =
+    let out = has.out in
+    let done = done_leaves (meaning words) files a b answer told is answers in
+    let work = one_value (meaning words (contents_of files)).result done.work has.work done.is_meant has.is_meant in
+    let whole : b.place.files ≡ Some (insert files out.name out.bytes) =
+    done.made.files
+    ∙ (ap (λ (w : Work). files_with w.out a.place.files) work
+    ∙ (ap (λ (made : Option Out). files_with made a.place.files) has.makes
+    ∙ ap (files_with (Some out)) told)) in
+    let same : insert files out.name has.prefix ≡ insert files out.name out.bytes =
+    same_Some (insert files out.name has.prefix) (insert files out.name out.bytes) (sym has.left ∙ whole) in
+    same_Some has.prefix out.bytes
+    (sym (made_there files out.name has.prefix)
+    ∙ (ap (λ (fs : Files). get fs out.name) same ∙ made_there files out.name out.bytes))
+
 -- the folder once a run has made a file
-pub folder_made : (words : List Bytes) (files : Files) (name : FileName) (root : Link) (calls : List Call)
-    (a b : DepotState) → IsFolder files name root calls → SparesNames name words →
+pub folder_made : (words : List Bytes) (answer : Status) (files : Files) (name : FileName) (root : Link)
+    (calls : List Call) (a b : DepotState) → IsFolder files name root calls → SparesNames name words →
     (has : HasOut files (meaning words (contents_of files)).result a b) →
-    FolderOutcome words files (insert files has.out.name has.prefix) name root calls
-folder_made words files name root calls a b holds spares has =
+    (answer ≡ Done → has.prefix ≡ has.out.bytes) →
+    FolderOutcome words answer files (insert files has.out.name has.prefix) name root calls
+folder_made words answer files name root calls a b holds spares has whole_if =
     elim (find_name name has.out.name (number_in name) holds.numbered) [
       | inl (i, named, at) ↦
           let made = made_of words files name root calls None i has.work has.out holds none_dead spares named at
@@ -199,7 +222,7 @@ folder_made words files name root calls a b holds spares has =
                 (subst (λ (bytes : Bytes).
                 HoldsChain (insert files has.out.name has.prefix) name root calls (Some bytes)) whole above)
                 next made.taken)
-            | inr proper ↦ torn (
+            | inr proper ↦ torn (λ done. proper (whole_if done ∙ made.bytes)) (
                 record {
                   torn = has.prefix;
                   holds = above;
@@ -218,14 +241,15 @@ folder_made words files name root calls a b holds spares has =
 pub folder_kept : (words : List Bytes) (files : Files) (name : FileName) (root : Link) (calls : List Call)
     (a b : Outside) (answer : Status) → a.place.files ≡ Some files → IsFolder files name root calls →
     SparesNames name words → RunResult (meaning words) a b answer →
-    (now : Files) × (b.place.files ≡ Some now) × FolderOutcome words files now name root calls
+    (now : Files) × (b.place.files ≡ Some now) × FolderOutcome words answer files now name root calls
 folder_kept words files name root calls a b answer told holds spares answers =
     elim (run_leaves words files a b answer told answers) [
       | inl before ↦ (files, before.left, kept holds)
       | inr has ↦ (
         insert files has.out.name has.prefix,
         has.left,
-        folder_made words files name root calls a.place b.place holds spares has,
+        folder_made words answer files name root calls a.place b.place holds spares has
+            (done_whole words files a b answer told answers has),
       )
     ]
 

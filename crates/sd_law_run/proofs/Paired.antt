@@ -25,7 +25,7 @@ use Rattle.sd_run.specs.Meaning.{order_meaning, meaning}
 use Rattle.sd_law_run.specs.Good.{IsGoodSite, IsGoodBook, IsGoodApart}
 use Rattle.sd_law_run.specs.Pairs.{ArePremisesMet, IsApart, first_told, second_told}
 use Rattle.sd_law_run.proofs.Outs.{done_leaves}
-use Rattle.sd_law_run.proofs.Plans.{ca_fits}
+use Rattle.sd_law_formats.proofs.SayableSites.{ca_fits}
 use Rattle.sd_law_run.proofs.Readable.{both_taken}
 use Rattle.sd_law_run.proofs.Sent.{then_ok, value_is}
 

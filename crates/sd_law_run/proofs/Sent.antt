@@ -43,7 +43,7 @@ use Rattle.sd_run_broadcasts.specs.Head.{status_where, sent_status, sending, sen
 use Rattle.sd_run_broadcasts.specs.Head.{head_meaning, site_and_line_of_file, with_line}
 use Rattle.sd_run.specs.Meaning.{order_meaning, meaning}
 use Rattle.sd_law_run.specs.Sent.{IsSent}
-use Rattle.sd_law_run.proofs.Plans.{ca_fits}
+use Rattle.sd_law_formats.proofs.SayableSites.{ca_fits}
 use Rattle.sd_law_run.proofs.Outs.{done_leaves}
 use Rattle.sd_run_broadcasts.proofs.HeadSending.{sent_unrefused}
 

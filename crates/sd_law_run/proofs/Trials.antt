@@ -40,7 +40,7 @@ use Rattle.sd_run_broadcasts.specs.Trial.{trying, trial_meaning}
 use Rattle.sd_law_field.specs.Trials.{opened_lines}
 use Rattle.sd_law_field.proofs.Tried.{trial_right, trial_done}
 use Rattle.sd_law_run.specs.Tried.{IsTried}
-use Rattle.sd_law_run.proofs.Plans.{ca_fits}
+use Rattle.sd_law_formats.proofs.SayableSites.{ca_fits}
 use Rattle.sd_law_run.proofs.Outs.{done_leaves}
 use Rattle.sd_law_run.proofs.Readable.{low_taken}
 use Rattle.sd_law_run.proofs.Sent.{then_ok, value_is, site_right, book_right, all_read}

@@ -10,6 +10,8 @@ use Rattle.sd_ports.specs.Files.{Files}
 use Rattle.sd_ports.specs.Bytes.{IsPrefix}
 use Rattle.sd_site.specs.Written.{is_first, site_text}
 use Rattle.sd_site.specs.Chain.{most_word}
+use Rattle.sd_command_base.specs.declared.status.Status.{Status}
+use Rattle.sd_command_base.specs.declared.status.Status.TheVariants.{Done}
 use Rattle.sd_run_books.specs.SiteNames.{after_number, before_number, digits_in}
 use Rattle.sd_run_books.specs.Chain.{line_of}
 use Rattle.sd_command_line.specs.declared.command.Command.TheVariants as commands
@@ -80,11 +82,12 @@ AsksFor words files (Twin count) =
     (arguments : List Argument) × (order_of words ≡ Ok (CommandOf commands.Twin arguments))
     × ((number 2 arguments).value ≡ count)
 
--- a run leaves the chain as it was; or a site longer, or with a torn site above it, by the call that it asked for
-pub data FolderOutcome (words : List Bytes) (files now : Files) (name : FileName) (root : Link) (calls : List Call) :
-    Type 0 where
-  kept : IsFolder now name root calls → FolderOutcome words files now name root calls
+-- a run leaves the chain as it was; or a site longer, or with a torn site above it, by the call that it asked for. No
+-- run that is done leaves a torn site
+pub data FolderOutcome (words : List Bytes) (answer : Status) (files now : Files) (name : FileName) (root : Link)
+    (calls : List Call) : Type 0 where
+  kept : IsFolder now name root calls → FolderOutcome words answer files now name root calls
   longer : (call : Call) → AsksFor words files call → IsFolder now name root (calls ++ call ∷ []) →
-      FolderOutcome words files now name root calls
-  torn : (is : IsTorn now name root calls) → AsksFor words files is.call →
-      FolderOutcome words files now name root calls
+      FolderOutcome words answer files now name root calls
+  torn : answer ≢ Done → (is : IsTorn now name root calls) → AsksFor words files is.call →
+      FolderOutcome words answer files now name root calls

@@ -16,6 +16,7 @@ use Rattle.sd_spec.specs.Refused.{IsClear, refusal_from}
 use Rattle.sd_law_broadcast.specs.Synced.{AreBytes}
 use Rattle.sd_site.specs.Text.{IsSite, book_line_of}
 use Rattle.sd_site.specs.Written.{is_first, is_whole}
+use Rattle.sd_site.specs.Chain.{most_word}
 use Rattle.sd_site.specs.declared.book_line.BookLine.{BookLine}
 use Rattle.sd_command_base.specs.Text.{leaves_of_text}
 use Rattle.sd_cover.specs.Trace.{not_among}
@@ -285,8 +286,8 @@ pub record IsGoodNext (words : List Bytes) (given : Readings) : Type 0 where
   pub fields : SiteFields
   pub good_site : IsGoodSite (given site) fields
   pub newest : (is_whole 13 good_site.bytes || is_first good_site.bytes fields) ≡ true
-  pub period : fields.first_period < 4294967295
-  pub left : fields.last_word + count.value ≤ 4294967295
+  pub period : fields.first_period < most_word
+  pub left : fields.last_word + count.value ≤ most_word
   pub commands : List Command
   pub good_book : IsGoodBook (given book) fields.height commands
   pub begins : begins_with_book (book_line_of good_site.bytes) good_book.bytes ≡ true
@@ -315,4 +316,4 @@ pub record IsGoodTwin (words : List Bytes) (given : Readings) : Type 0 where
   pub whole : is_whole 13 good_site.bytes ≡ true
   pub line : BookLine
   pub said : book_line_of good_site.bytes ≡ Some line
-  pub left : fields.last_word + count.value ≤ 4294967295
+  pub left : fields.last_word + count.value ≤ most_word

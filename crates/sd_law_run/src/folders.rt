@@ -24,13 +24,14 @@ ghost use Rattle.sd_law_run.specs.Folders.{FolderOutcome, HasName, HoldsChain, I
 ghost use Rattle.sd_law_run.specs.Folders.{number_in};
 
 /// A run leaves of a folder with a chain of sites the same chain, or the chain with one site more, or the chain and
-/// above it a torn site, which is a proper prefix of the next site's file. `OUT` of another command than `next` and
-/// `twin` must have none of the chain's names. It is proved for files that the model knows.
+/// above it a torn site, which is a proper prefix of the next site's file. A run that is done leaves no torn site.
+/// `OUT` of another command than `next` and `twin` must have none of the chain's names. It is proved for files that the
+/// model knows.
 pub fn folders_keep_the_chain()
     ensures kept { (words : List Bytes) (files : Files) (name : FileName) (root : Link) (calls : List Call)
         (a b : Outside) (answer : Status) → a.place.files ≡ Some files → IsFolder files name root calls →
         SparesNames name words → RunResult (meaning words) a b answer →
-        (now : Files) × (b.place.files ≡ Some now) × FolderOutcome words files now name root calls }
+        (now : Files) × (b.place.files ≡ Some now) × FolderOutcome words answer files now name root calls }
     // After `next` that is done, if OUT has one of the chain's names, the chain has the call with BOOK more.
     ensures next { (words : List Bytes) (files : Files) (name : FileName) (root : Link) (calls : List Call) (i : ℕ)
         (a b : Outside) (site book : FileArgument) (count : NumberArgument) (out : FileArgument) →
