@@ -24,6 +24,7 @@ making steps out bytes = record {
   pieces = [];
   ends = Done;
   breaks = false;
+  live = false;
   steps = steps;
 }
 
@@ -47,6 +48,7 @@ new_work made out = record {
   pieces = made.pieces;
   ends = Done;
   breaks = false;
+  live = false;
   steps = NoSteps;
 }
 

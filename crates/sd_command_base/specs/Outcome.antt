@@ -103,12 +103,14 @@ PrintsSome work a b = (count : ℕ) × Appends a.printed b.printed (concat (take
 abbrev pub PrintsPrefix : Work → PageState → PageState → Type 0
 PrintsPrefix work a b = AppendsPrefix a.printed b.printed (concat work.pieces)
 
--- How far work came: nothing was done; or OUT has a prefix of its bytes and nothing was printed; or OUT is whole, where
--- there is one, and some first pieces were printed.
+-- How far work came: nothing was done; or OUT has a prefix of its bytes and nothing was printed, or of live work some
+-- first pieces; or OUT is whole, where there is one, and some first pieces were printed.
 pub data Progress (meant : Result Work Status) (a b : Outside) : Type 0 where
   untouched : IsUnmade a.place b.place → b.page.printed ≡ a.page.printed → Progress meant a b
   writing : (work : Work) → meant ≡ Ok work → (out : Out) → work.out ≡ Some out → IsMadeShort out a.place b.place →
       b.page.printed ≡ a.page.printed → Progress meant a b
+  telling : (work : Work) → meant ≡ Ok work → work.live ≡ true → (out : Out) → work.out ≡ Some out →
+      IsMadeShort out a.place b.place → PrintsSome work a.page b.page → Progress meant a b
   printing : (work : Work) → meant ≡ Ok work → IsMade work.out a.place b.place → PrintsSome work a.page b.page →
       Progress meant a b
 
@@ -126,10 +128,10 @@ pub data Outcome (meant : Result Work Status) (a b : Outside) (status : Status) 
       IsMade work.out a.place b.place → PrintsAll work a.page b.page → IsFaultless a b →
       b.place.misses ≡ a.place.misses →
       Outcome meant a b status
-  -- a refusal in the midst of a stream stands, though OUT failed to close after it
+  -- a refusal in the midst of a stream stands, though OUT failed to close after it; all is printed
   unclosed : (work : Work) → meant ≡ Ok work → status ≡ work.ends → IsEnding status → IsRefusal status →
       work.breaks ≡ true → (out : Out) → work.out ≡ Some out → IsMadeShort out a.place b.place →
-      b.page.printed ≡ a.page.printed →
+      PrintsAll work a.page b.page →
       HasRisen a.place.faults b.place.faults → b.place.stops ≡ a.place.stops → b.page.faults ≡ a.page.faults →
       b.place.misses ≡ a.place.misses → Outcome meant a b status
   -- out of memory, which stands though OUT failed to close after it
@@ -147,6 +149,10 @@ pub data Outcome (meant : Result Work Status) (a b : Outside) (status : Status) 
   cut_off : (work : Work) → meant ≡ Ok work → status ≡ PrintFault → IsMade work.out a.place b.place →
       PrintsPrefix work a.page b.page → HasRisen a.page.faults b.page.faults →
       b.place.faults ≡ a.place.faults → b.place.misses ≡ a.place.misses → Outcome meant a b status
+  -- printing failed at the text of live work, while OUT was written or after it failed to close
+  cut_short : (work : Work) → meant ≡ Ok work → work.live ≡ true → status ≡ PrintFault → (out : Out) →
+      work.out ≡ Some out → IsMadeShort out a.place b.place → PrintsPrefix work a.page b.page →
+      HasRisen a.page.faults b.page.faults → b.place.misses ≡ a.place.misses → Outcome meant a b status
 
 -- what a command left after it, before the line of its status is told
 pub record OutcomeWithin (meant : Spec Work) (a b : Outside) (status : Status) : Type 0 where

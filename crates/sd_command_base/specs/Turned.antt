@@ -10,7 +10,7 @@ use Rattle.sd_ports.specs.declared.fault.DepotFault.{DepotFault as PortRefusal}
 use Rattle.sd_ports.specs.declared.fault.DepotFault.TheVariants as port
 use Rattle.sd_command_base.specs.declared.status.Status.{Status}
 use Rattle.sd_command_base.specs.declared.status.Status.TheVariants.{Missing, DepotFault, BadClear, BadStream}
-use Rattle.sd_command_base.specs.declared.status.Status.TheVariants.{NoMemory}
+use Rattle.sd_command_base.specs.declared.status.Status.TheVariants.{NoMemory, PrintFault}
 use Rattle.sd_command_base.specs.Outside.{DepotState}
 use Rattle.sd_command_base.specs.Spec.{FileArgument}
 use Rattle.sd_command_base.specs.Work.{StepBound, Work}
@@ -51,11 +51,13 @@ opening_status word port.Missing = Missing word
 opening_status word port.Failed = DepotFault
 opening_status word port.NoMemory = NoMemory
 
--- the status if OUT was not closed: a refusal of a stream stands, and running out of memory, and else the device failed
+-- the status if OUT was not closed: a refusal of a stream stands, and running out of memory, and that printing failed,
+-- and else the device failed
 abbrev pub unclosed_status : Status → Status
 unclosed_status (BadClear refusal) = BadClear refusal
 unclosed_status (BadStream refusal) = BadStream refusal
 unclosed_status NoMemory = NoMemory
+unclosed_status PrintFault = PrintFault
 unclosed_status _ = DepotFault
 
 abbrev pub unclosed_by : Result (Unit {0}) Status → Result (Unit {0}) Status
@@ -98,6 +100,7 @@ turning steps out bytes ends = record {
   pieces = [];
   ends = ends;
   breaks = is_break ends;
+  live = false;
   steps = steps;
 }
 

@@ -26,11 +26,13 @@ pub record Work : Type 0 where
   pub ends : Status
   -- the status is a refusal in the midst of a stream, which stands though OUT fails to close after it
   pub breaks : Bool
+  -- the pieces are printed while OUT is written: some may be printed while OUT has a prefix of its bytes
+  pub live : Bool
   pub steps : StepBound
 
 -- prints a text and makes no file, without a step of the generator
 abbrev pub work_of_text : List ℕ → Work
-work_of_text text = record { out = None; pieces = text ∷ []; ends = Done; breaks = false; steps = NoSteps }
+work_of_text text = record { out = None; pieces = text ∷ []; ends = Done; breaks = false; live = false; steps = NoSteps }
 
 -- the files once OUT has these of its bytes, if the model knows them
 abbrev pub files_with : Option Out → Option Files → Option Files

@@ -65,7 +65,8 @@ pub fn close_both<D: Depot>(
     }
 }
 
-/// What is answered where OUT was not closed: a refusal that is known stands, and running out of memory.
+/// What is answered where OUT was not closed: a refusal that is known stands, and running out of memory, and that print
+/// failed.
 fn unclosed(ended: Result<(), Status>) -> Result<(), Status>
     ensures { result ≡ unclosed_by ended }
 {
@@ -73,6 +74,7 @@ fn unclosed(ended: Result<(), Status>) -> Result<(), Status>
         Err(Status::BadClear(refusal)) => Err(Status::BadClear(refusal)),
         Err(Status::BadStream(refusal)) => Err(Status::BadStream(refusal)),
         Err(Status::NoMemory) => Err(Status::NoMemory),
+        Err(Status::PrintFault) => Err(Status::PrintFault),
         _ => Err(Status::DepotFault),
     }
 }

@@ -4,3 +4,5 @@ pub mod Feeding
 pub mod Driving
 pub mod Taken
 pub mod Sample
+pub mod Cut
+pub mod Seeking

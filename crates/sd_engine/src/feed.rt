@@ -154,6 +154,7 @@ fn begin(piece: &mut [u8], span: Span) -> usize
 
 /// The next packet with what waits after it, or `None` at the end of the input. What waits in the sink is handed on
 /// before anything is read.
+#[inline(always)]
 pub fn next<S: Source, K: Sink>(
     source: &mut S,
     sink: &mut K,

@@ -75,6 +75,7 @@ making_then out bytes text = record {
   pieces = text ∷ [];
   ends = Done;
   breaks = false;
+  live = false;
   steps = NoSteps;
 }
 

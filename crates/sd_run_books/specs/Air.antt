@@ -132,6 +132,7 @@ planning plan m pids = record {
   pieces = air_text plan m pids ∷ [];
   ends = Done;
   breaks = false;
+  live = false;
   steps = NoSteps;
 }
 

@@ -18,6 +18,7 @@ monitoring site bytes = record {
   pieces = message_lines site 0 (taken_of bytes);
   ends = stream_status (end_of bytes);
   breaks = false;
+  live = false;
   steps = NoSteps;
 }
 

@@ -32,6 +32,7 @@ inspecting bytes = record {
   pieces = packet_lines [] (taken_of bytes);
   ends = stream_status (end_of bytes);
   breaks = false;
+  live = false;
   steps = NoSteps;
 }
 

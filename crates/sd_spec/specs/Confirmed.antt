@@ -1,5 +1,5 @@
 -- Public meaning: what is written of the packets between two control messages.
-use Rattle.std.specs.Prelude.{◌+◌, ◌%◌, ◌==◌, ◌&&◌, ◌||◌, Bool, false, not, nat_le, List, [], ◌∷◌, ◌++◌}
+use Rattle.std.specs.Prelude.{ℕ, ◌+◌, ◌%◌, ◌==◌, ◌&&◌, ◌||◌, Bool, false, not, nat_le, List, [], ◌∷◌, ◌++◌}
 use Rattle.std.specs.Prelude.{find, is_none, if◌then◌else◌, Option, Some, None, option_map, Result, Ok, Err}
 use Rattle.std.specs.Option.{option_map_or}
 use Rattle.sd_base.specs.Types.{Packet, Packets, Pid, Position, SystemId, Key, PacketNumber}
@@ -24,26 +24,37 @@ pub record Segment : Type 0 where
 unfoldable pub position_in : List Place → Pid → Option Position
 position_in places pid = option_map (λ place. place.position) (find (λ place. place.pid == pid) places)
 
+-- the position of a PID, or the first one if it is not among these places
+abbrev pub position_or_first : List Place → Pid → Position
+position_or_first places pid = option_map_or (λ p. p) (position_in places pid) first_position
+
 -- the tracked position of a PID after these packets, from that in the first message on [this project, docs/FORMATS.md,
 -- Receiver]
 unfoldable pub tracked : Message → Pid → Packets → Position
-tracked first pid packets = moved_by pid (option_map_or (λ p. p) (position_in first.places pid) first_position) packets
+tracked first pid packets = moved_by pid (position_or_first first.places pid) packets
+
+-- a position is at most 15 above the tracked one, and not below it
+abbrev pub is_near_to : Position → Position → Bool
+is_near_to tracked position = nat_le tracked position && nat_le position (tracked + 15)
 
 -- the PID is confirmed: the second message's position is 0 to 15 above the tracked one [this project, docs/FORMATS.md,
 -- Receiver]
 unfoldable pub is_confirmed : Segment → Pid → Bool
 is_confirmed segment pid =
-    option_map_or (λ position. nat_le (tracked segment.first pid segment.packets) position
-    && nat_le position (tracked segment.first pid segment.packets + 15)) (position_in segment.last.places pid) false
+    option_map_or (is_near_to (tracked segment.first pid segment.packets)) (position_in segment.last.places pid) false
 
 -- a packet in the clear as it is written: without the project's CA_descriptor if it is a PMT that has it
 unfoldable pub unmarked : Segment → Packet → Packet
 unmarked segment packet =
     if is_placed packet && is_none (restore_fault segment.ca segment.ecm packet) then restored packet else packet
 
+-- the packet can't be one under the control word of this number
+abbrev pub is_odd_under : ℕ → Packet → Bool
+is_odd_under word packet = not (is_placed packet) || not (scrambling_of packet == 2 + word % 2)
+
 -- the packet can't be one under the control word
 abbrev pub is_odd : Segment → Packet → Bool
-is_odd segment packet = not (is_placed packet) || not (scrambling_of packet == 2 + segment.first.word % 2)
+is_odd segment packet = is_odd_under segment.first.word packet
 
 -- what is written of a buffered packet after those before it, one packet or none; or its number, if it is refused [this
 -- project, docs/FORMATS.md, Receiver]

@@ -17,3 +17,5 @@ pub mod Taken
 pub mod Events
 pub mod Book
 pub mod Watch
+pub mod Counting
+pub mod Reports

@@ -5,7 +5,9 @@
 mod ending;
 mod event;
 mod kind;
+mod report;
 
 pub use ending::Ending;
 pub use event::Event;
 pub use kind::Kind;
+pub use report::{Report, Tally};
