@@ -14,6 +14,7 @@ use Rattle.sd_spec.specs.Heard.{Heard, Dropped, Entitles, Controls, BadEmm, BadE
 use Rattle.sd_spec.specs.Stretches.{counted, run_of, newest, is_closed}
 use Rattle.sd_spec.specs.Confirmed.{is_odd_under}
 use Rattle.sd_spec.specs.Offered.{heard, offered, same_header}
+use Rattle.sd_spec.specs.Taken.{takes_key_at}
 
 -- the packet has an error that could not be corrected [ISO/IEC 13818-1, 2.4.3.3]
 abbrev pub is_marked : Packet → Bool
@@ -81,9 +82,19 @@ unfoldable pub counts : CardFields → Packets → Packet → Bool
 counts card past packet = not (is_marked packet) && (not (is_doubled card past packet)
     && (not (is_stray_at card past packet) && is_none (offered card past packet).fault))
 
--- those of these packets that count, after others that counted, the newest first
+-- those of these packets that count, after others that counted, which have the newest first
 unfoldable pub counting : CardFields → Packets → Packets → Packets
 counting card past [] = []
 counting card past (packet ∷ packets) =
     if counts card past packet then packet ∷ counting card (packet ∷ past) packets
     else counting card past packets
+
+-- how many of these packets have a key of a period tried, after others that counted: those that are neither marked nor
+-- doubled nor odd, and are heard as a section that gives a key that isn't known yet, right or wrong [this project,
+-- docs/FORMATS.md, Receiver]
+unfoldable pub tried_keys : CardFields → Packets → Packets → ℕ
+tried_keys card past [] = 0
+tried_keys card past (packet ∷ packets) =
+    (if (is_marked packet || (is_doubled card past packet || is_stray_at card past packet)) then 0
+    else if takes_key_at card past packet then 1 else 0)
+    + tried_keys card (if counts card past packet then packet ∷ past else past) packets
