@@ -1,5 +1,5 @@
 -- Public meaning: which packets count for a receiver that goes on, whatever comes.
-use Rattle.std.specs.Prelude.{ℕ, ◌+◌, ◌==◌, ◌&&◌, ◌||◌, Bool, true, false, not, nat_le, List, [], ◌∷◌, length, take}
+use Rattle.std.specs.Prelude.{ℕ, ◌+◌, ◌==◌, ◌&&◌, ◌||◌, Bool, false, not, nat_le, List, [], ◌∷◌, length, take}
 use Rattle.std.specs.Prelude.{filter, flat_map, bytes_eq, is_none, if◌then◌else◌}
 use Rattle.std.specs.List.{list_any, list_all}
 use Rattle.std.specs.Option.{option_map_or}
@@ -11,7 +11,7 @@ use Rattle.sd_message.specs.declared.ecm_part.EcmPart.{EcmPart}
 use Rattle.sd_message.specs.declared.ecm_part.Place.{Place}
 use Rattle.sd_spec.specs.Tuned.{tuning_of}
 use Rattle.sd_spec.specs.Heard.{Heard, Dropped, Entitles, Controls, BadEmm, BadEcm, Other, hears}
-use Rattle.sd_spec.specs.Stretches.{counted, run_of, newest, is_closed}
+use Rattle.sd_spec.specs.Stretches.{counted, run_of, newest, is_closed, held_in}
 use Rattle.sd_spec.specs.Confirmed.{is_odd_under}
 use Rattle.sd_spec.specs.Offered.{heard, offered, same_header}
 use Rattle.sd_spec.specs.Taken.{takes_key_at}
@@ -69,6 +69,12 @@ is_stray past (Entitles emm) = false
 is_stray past (Controls part) = false
 is_stray past (BadEmm fault) = false
 is_stray past (BadEcm fault) = false
+
+-- a packet that is buffered after the newest message can't be under that message's control word
+unfoldable pub holds_stray : List Heard → Bool
+holds_stray past = option_map_or
+    (λ message. list_any (λ held. is_scrambled_packet held.1 && is_odd_under message.word held.1)
+    (held_in (newest past))) (newest past).message false
 
 -- the packet is odd, after these that counted
 unfoldable pub is_stray_at : CardFields → Packets → Packet → Bool

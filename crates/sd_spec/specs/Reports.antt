@@ -1,7 +1,6 @@
 -- Public meaning: what is told of a stream that may be damaged: what it had that doesn't count, and how its runs end.
-use Rattle.std.specs.Prelude.{ℕ, ◌+◌, ◌-◌, ◌^◌, ◌==◌, ◌&&◌, Bool, List, [], ◌∷◌, ◌++◌, length, take, map, filter, min}
-use Rattle.std.specs.Prelude.{reverse, get_or, is_none, if◌then◌else◌, Option, Some, None}
-use Rattle.std.specs.List.{range_with_len}
+use Rattle.std.specs.Prelude.{◌+◌, ◌-◌, ◌^◌, ◌&&◌, Bool, List, [], ◌∷◌, ◌++◌, length, min}
+use Rattle.std.specs.Prelude.{reverse, is_none, if◌then◌else◌, Option, Some, None}
 use Rattle.sd_base.specs.Types.{Packet, Packets, PacketNumber}
 use Rattle.sd_site.specs.CardFields.{CardFields}
 use Rattle.sd_message.specs.declared.stream_fault.StreamFault.{StreamFault}
