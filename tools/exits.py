@@ -62,7 +62,7 @@ def of_manual():
     found = {}
     for number, text in re.findall(r"^\.It (\d+)\n((?:(?!\.It ).*\n)+)", part, re.M):
         text = re.sub(r"^\.Ar (\w+)", lambda name: name[1].upper(), text, flags=re.M)
-        text = re.sub(r"^\.Ql ", "", text, flags=re.M)
+        text = re.sub(r"^\.(?:Ql|Cm) ", "", text, flags=re.M)
         found[int(number)] = re.sub(r" ([:;,.])(?=\s|$)", r"\1", " ".join(text.split()))
     return found
 

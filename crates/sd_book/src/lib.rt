@@ -19,5 +19,7 @@ pub use command::Command;
 pub use draft::Draft;
 pub use fault::{BookFault, BookLimit};
 pub use limits::{MOST_COMMANDS, MOST_PERIODS};
+pub use periods::last_period;
 pub use place::Place;
-pub use replay::Periods;
+pub use replay::{Periods, revoked_by};
+pub use writing::write_line;

@@ -4,8 +4,8 @@ ghost use Rattle.sd_book.specs.Commands.{commands_until, last_period};
 use crate::command::Command;
 use crate::limits::MOST_COMMANDS;
 
-/// The number of the last period of these commands.
-pub(crate) fn last_period(commands: &[Command]) -> u32
+/// The number of the last period of these commands, counted from 0.
+pub fn last_period(commands: &[Command]) -> u32
     requires { length commands.now ≤ MOST_COMMANDS }
     ensures { result ≡ last_period commands.now }
 {

@@ -85,6 +85,17 @@ impl<'a> Periods<'a> {
     }
 }
 
+/// The leaves that are revoked after these commands, ascending, each once. They may be more than a book may have: the
+/// period that the commands end in is not judged.
+pub fn revoked_by(alloc: Global, commands: &[Command]) -> Result<Vec<Leaf>, NoMemory>
+    ensures { (d : ℕ) → All (λ command. is_within d command ≡ true) commands.now →
+        IfOk result (λ leaves. leaves.items ≡ revoked_after d commands.now) }
+{
+    let mut revoked = BTreeSet::new(alloc);
+    take_all(&mut revoked, commands)?;
+    listed(alloc, &revoked)
+}
+
 /// Takes these commands into the revoked leaves, or some of them where memory runs out.
 #[tactic(auto, using(crate::proofs::Replays::one_taken))]
 fn take_all(revoked: &mut BTreeSet<Leaf>, commands: &[Command]) -> Result<(), NoMemory>

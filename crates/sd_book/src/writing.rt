@@ -18,9 +18,9 @@ pub(crate) fn text_of(alloc: Global, commands: &[Command]) -> Result<Vec<u8>, Al
     Ok(text.into_bytes())
 }
 
-/// Writes a command's line and its line feed.
+/// Writes a command's line and its line feed after the text [this project, docs/FORMATS.md, Book].
 #[tactic(auto, unfolding(crate::specs::Text::command_line))]
-fn write_line(text: &mut String, command: &Command) -> Result<(), AllocError>
+pub fn write_line(text: &mut String, command: &Command) -> Result<(), AllocError>
     ensures { OnOk result (string_bytes text.new ≡ string_bytes text.old ++ (command_line command.now ++ 10 ∷ [])) }
 {
     match *command {

@@ -6,9 +6,10 @@ use Rattle.sd_command_base.specs.Outside.{DepotState, PageState, Outside, outsid
 use Rattle.sd_command_base.specs.Spec.{Spec, and_then, ◌>>=◌}
 use Rattle.sd_command_base.specs.Work.{Out, Work, work_calls}
 use Rattle.sd_command_base.specs.Outcome.{IsFaultless, IsUnmade, IsMade, IsMadeShort, Progress, untouched, writing}
-use Rattle.sd_command_base.specs.Outcome.{printing}
+use Rattle.sd_command_base.specs.Outcome.{telling, printing}
 use Rattle.sd_command_base.specs.Outcome.{Outcome}
 use Rattle.sd_command_base.specs.Outcome.{StopsFirst, refused, ended, unclosed, exhausted, failed, nowhere, cut_off}
+use Rattle.sd_command_base.specs.Outcome.{cut_short}
 use Rattle.sd_command_base.specs.Outcome.{OutcomeWithin}
 
 unmade_moved : (calls : ℕ) (p q : DepotState) → IsUnmade (recalled calls p) q → IsUnmade p q
@@ -28,6 +29,8 @@ stands_moved : (meant : Result Work Status) (p : DepotState) (page : PageState) 
     Progress meant (outside (recalled calls p) page steps) b → Progress meant (outside p page other) b
 stands_moved meant p page calls steps other b (untouched h k) = untouched (unmade_moved calls p b.place h) k
 stands_moved meant p page calls steps other b (writing work e out f h k) = writing work e out f
+    (short_moved out calls p b.place h) k
+stands_moved meant p page calls steps other b (telling work e l out f h k) = telling work e l out f
     (short_moved out calls p b.place h) k
 stands_moved meant p page calls steps other b (printing work e h k) = printing work e
     (made_moved work.out calls p b.place h) k
@@ -55,6 +58,8 @@ comes_moved meant p page calls steps other b status (nowhere work e out f s n h 
     nowhere work e out f s n (unmade_moved calls p b.place h) k (calm_moved p page calls steps other b c) m
 comes_moved meant p page calls steps other b status (cut_off work e s h k r c m) =
     cut_off work e s (made_moved work.out calls p b.place h) k r c m
+comes_moved meant p page calls steps other b status (cut_short work e l s out f h k r m) =
+    cut_short work e l s out f (short_moved out calls p b.place h) k r m
 
 added_twice : (x n k m now : ℕ) → now ≤ with_added x n + (k + m) → now ≤ x + (n + k + m)
 added_twice x n k m now h = omega arith

@@ -24,7 +24,8 @@ use Rattle.sd_command_base.specs.Outcome.{refused, ended, exhausted, failed, now
 use Rattle.sd_command_base.specs.Outcome.{Implements, status_of, IsEnding}
 use Rattle.sd_command_base.specs.Prints.{PrintsWork}
 use Rattle.sd_command_base.specs.Reads.{FilesOutcome}
-use Rattle.sd_command_base.specs.Made.{NewFile, out_of, new_work, making_new, new_told, IsMadeNew, NewOutcome, NewStep}
+use Rattle.sd_command_base.specs.Made.{NewFile, out_of, new_work, making_new, making_told, IsMadeNew}
+use Rattle.sd_command_base.specs.Made.{NewOutcome, NewStep}
 use Rattle.sd_command_base.proofs.Moves.{then_obeys}
 use Rattle.sd_command_base.proofs.Firsts.{takes_none, first_obeys}
 use Rattle.sd_command_base.proofs.Givens.{some_got}
@@ -58,6 +59,12 @@ new_stops : (made : NewFile) (out : FileArgument) (got : Option (List ℕ)) (a b
     StopsFirst (making_new made out got).result a b
 new_stops made out None a b = λ breaks. cc
 new_stops made out (Some bytes) a b = tt
+
+-- the answer once the file of this word was to be made new
+abbrev pub answer_of : ℕ → Result New FileFault → Result (Unit {0}) Status
+answer_of word (Ok new.Made) = Ok tt
+answer_of word (Ok new.There) = Err (BadOut word There)
+answer_of word (Err fault) = making_told word (Err fault)
 
 module _ (made : NewFile) (out : FileArgument) (a b : DepotState) (page : PageState) (steps : ℕ) where
   -- where the calls and the ports are these, an outcome is all
@@ -101,7 +108,7 @@ module _ (made : NewFile) (out : FileArgument) (a b : DepotState) (page : PageSt
       HasFileCause {T = New} a.faults b.faults a.misses b.misses (Err file.Failed) →
       IsNoFile a.files b.files a.made b.made
       ⊎ (IsNotThere a.files out.text × IsShortFile a.files b.files a.made b.made out.text made.bytes) →
-      NewStep made out (outside a page steps) (outside b page steps) (new_told out.number (Err file.Failed))
+      NewStep made out (outside a page steps) (outside b page steps) (answer_of out.number (Err file.Failed))
   device_failed ports calls cause (inl none) =
       let got = some_got a.files out.text in
       within got.0 _ got.1 ports calls (failed refl (not_made got.0 none) (cause.failed refl)
@@ -116,7 +123,7 @@ module _ (made : NewFile) (out : FileArgument) (a b : DepotState) (page : PageSt
       HasFileCause a.faults b.faults a.misses b.misses written →
       (¬ IsErrOf written file.Failed → b.stops ≡ a.stops) → b.opened ≡ a.opened →
       CountsNewCalls a.calls b.calls written →
-      NewStep made out (outside a page steps) (outside b page steps) (new_told out.number written)
+      NewStep made out (outside a page steps) (outside b page steps) (answer_of out.number written)
   new_steps (Ok new.Made) file cause stops ports calls = record {
     new = (file.made refl).0;
     made = record { files = (file.made refl).1.0; made = (file.made refl).1.1 };
@@ -144,7 +151,7 @@ module _ (made : NewFile) (out : FileArgument) (a b : DepotState) (page : PageSt
 
   -- a file that must be new was made, or this is what became of it
   pub new_obeys : (written : Result New FileFault) (result : Result (Unit {0}) Status) →
-      result ≡ new_told out.number written →
+      result ≡ answer_of out.number written →
       WritesNewFile a.files b.files a.made b.made out.text made.bytes written →
       HasFileCause a.faults b.faults a.misses b.misses written →
       (¬ IsErrOf written file.Failed → b.stops ≡ a.stops) → b.opened ≡ a.opened →

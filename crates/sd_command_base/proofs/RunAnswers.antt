@@ -15,7 +15,7 @@ use Rattle.sd_command_base.specs.Spec.{Spec, Readings, contents_of, IsGiven}
 use Rattle.sd_command_base.specs.Work.{Work}
 use Rattle.sd_command_base.specs.Outcome.{IsRefusal, IsEnding, Outcome, refused, ended, unclosed, exhausted, failed}
 use Rattle.sd_command_base.specs.Outcome.{nowhere}
-use Rattle.sd_command_base.specs.Outcome.{cut_off, Implements}
+use Rattle.sd_command_base.specs.Outcome.{cut_off, cut_short, Implements}
 use Rattle.sd_command_base.specs.Results.{TakesMemory, PrintsStatusLine, with_page, RunResult, HasAnswerCause}
 use Rattle.sd_command_base.specs.Results.{IsMeant}
 use Rattle.sd_command_base.specs.Results.{IsToldAs}
@@ -88,6 +88,7 @@ page_later meant a b status (exhausted s h v c m) = inl c
 page_later meant a b status (failed s h r v c m) = inl c
 page_later meant a b status (nowhere work e out f s n h k c m) = inl c.print
 page_later meant a b status (cut_off work e s h k r c m) = inr r
+page_later meant a b status (cut_short work e l s out f h k r m) = inr r
 
 -- it is as before where printing didn't fail
 page_calm : (meant : Result Work Status) (a b : Outside) (status : Status) → Outcome meant a b status →
@@ -99,6 +100,7 @@ page_calm meant a b status (exhausted s h v c m) n = c
 page_calm meant a b status (failed s h r v c m) n = c
 page_calm meant a b status (nowhere work e out f s v h k c m) n = c.print
 page_calm meant a b status (cut_off work e s h k r c m) n = absurd (n s)
+page_calm meant a b status (cut_short work e l s out f h k r m) n = absurd (n s)
 
 -- a print fault of the command itself
 print_failed : (meant : Result Work Status) (a b : Outside) (status : Status) → Outcome meant a b status →
@@ -110,6 +112,7 @@ print_failed meant a b status (exhausted s h v c m) is = absurd (let x = sym s �
 print_failed meant a b status (failed s h r v c m) is = absurd (let x = sym s ∙ is in cc)
 print_failed meant a b status (nowhere work e out f s n h k c m) is = absurd (let x = sym s ∙ is in cc)
 print_failed meant a b status (cut_off work e s h k r c m) is = r
+print_failed meant a b status (cut_short work e l s out f h k r m) is = r
 
 depot_failed : (meant : Result Work Status) (a b : Outside) (status : Status) → Outcome meant a b status →
     status ≡ DepotFault → HasRisen a.place.faults b.place.faults
@@ -120,6 +123,7 @@ depot_failed meant a b status (exhausted s h v c m) is = absurd (let x = sym s �
 depot_failed meant a b status (failed s h r v c m) is = r
 depot_failed meant a b status (nowhere work e out f s n h k c m) is = absurd (let x = sym s ∙ is in cc)
 depot_failed meant a b status (cut_off work e s h k r c m) is = absurd (let x = sym s ∙ is in cc)
+depot_failed meant a b status (cut_short work e l s out f h k r m) is = absurd (let x = sym s ∙ is in cc)
 
 was_missing : (meant : Result Work Status) (a b : Outside) (status : Status) (word : ℕ) → Outcome meant a b status →
     status ≡ Missing word → HasRisen a.place.misses b.place.misses
@@ -130,6 +134,7 @@ was_missing meant a b status word (exhausted s h v c m) is = absurd (let x = sym
 was_missing meant a b status word (failed s h r v c m) is = absurd (let x = sym s ∙ is in cc)
 was_missing meant a b status word (nowhere work e out f s n h k c m) is = m
 was_missing meant a b status word (cut_off work e s h k r c m) is = absurd (let x = sym s ∙ is in cc)
+was_missing meant a b status word (cut_short work e l s out f h k r m) is = absurd (let x = sym s ∙ is in cc)
 
 was_done : (meant : Result Work Status) (a b : Outside) (status : Status) → Outcome meant a b status → status ≡ Done →
     b.place.faults ≡ a.place.faults
@@ -140,6 +145,7 @@ was_done meant a b status (exhausted s h v c m) is = absurd (let x = sym s ∙ i
 was_done meant a b status (failed s h r v c m) is = absurd (let x = sym s ∙ is in cc)
 was_done meant a b status (nowhere work e out f s n h k c m) is = absurd (let x = sym s ∙ is in cc)
 was_done meant a b status (cut_off work e s h k r c m) is = absurd (let x = sym s ∙ is in cc)
+was_done meant a b status (cut_short work e l s out f h k r m) is = absurd (let x = sym s ∙ is in cc)
 
 whole_line : (meant : Result Work Status) (a b : Outside) (status line answer : Status) → Outcome meant a b status →
     (line ≡ status) ⊎ (TakesMemory status × (line ≡ NoMemory)) → answer ≡ line → answer ≢ PrintFault → b.page.faults
@@ -200,6 +206,7 @@ own_meant meant files a b status answer told depot print (failed s h r v c m) is
 own_meant meant files a b status answer told depot print (nowhere work e out f s n h k c m) is = absurd
     (let x = sym told ∙ n in cc)
 own_meant meant files a b status answer told depot print (cut_off work e s h k r c m) is = absurd (print r)
+own_meant meant files a b status answer told depot print (cut_short work e l s out f h k r m) is = absurd (print r)
 
 answered : (meant : Result Work Status) (files : Files) (a b : Outside) (page : PageState) (status answer : Status) →
     a.place.files ≡ Some files →
@@ -242,6 +249,7 @@ refused_usage meant a b status (exhausted s h v c m) is = absurd (let x = sym s 
 refused_usage meant a b status (failed s h r v c m) is = absurd (let x = sym s ∙ is in cc)
 refused_usage meant a b status (nowhere work e out f s n h k c m) is = absurd (let x = sym s ∙ is in cc)
 refused_usage meant a b status (cut_off work e s h k r c m) is = absurd (let x = sym s ∙ is in cc)
+refused_usage meant a b status (cut_short work e l s out f h k r m) is = absurd (let x = sym s ∙ is in cc)
 
 -- what `Usage` is answered to is meant so
 pub usage_meant : (meant : Readings → Spec Work) (a b : Outside) (answer : Status) → RunResult meant a b answer →

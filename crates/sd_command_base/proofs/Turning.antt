@@ -21,7 +21,7 @@ use Rattle.sd_command_base.specs.declared.status.Status.TheVariants.{BadWord, Cl
 use Rattle.sd_command_base.specs.Outside.{DepotState, PageState, Outside, outside}
 use Rattle.sd_command_base.specs.Spec.{Spec, FileArgument, IsGot, all_of, value, ◌>>=◌}
 use Rattle.sd_command_base.specs.Work.{StepBound, Work, TakesSteps}
-use Rattle.sd_command_base.specs.Outcome.{IsRefusal, IsMadeShort, writing, Outcome, ended}
+use Rattle.sd_command_base.specs.Outcome.{IsRefusal, IsEnding, IsMadeShort, writing, Outcome, ended}
 use Rattle.sd_command_base.specs.Outcome.{unclosed}
 use Rattle.sd_command_base.specs.Outcome.{StopsFirst, exhausted, failed, nowhere, OutcomeWithin, status_of}
 use Rattle.sd_command_base.proofs.Firsts.{takes_none, stopped_comes, first_obeys, unmade}
@@ -33,22 +33,22 @@ use Rattle.sd_command_base.specs.Turned.{some_written, HasPortCause}
 use Rattle.sd_command_base.proofs.Looked.{none_got, all_calls as opening_calls}
 
 -- the counts of faults of a depot that took over those of two ports
-added_none : (f i o : ℕ) → f < 2 ^ 64 → i ≡ 0 → o ≡ 0 → with_added (with_added f i) o ≡ f
+pub added_none : (f i o : ℕ) → f < 2 ^ 64 → i ≡ 0 → o ≡ 0 → with_added (with_added f i) o ≡ f
 added_none f i o within none nothing = omega (arith, within, none, nothing)
 
-added_some : (f i o : ℕ) → HasRisen 0 i ⊎ HasRisen 0 o → HasRisen f (with_added (with_added f i) o)
+pub added_some : (f i o : ℕ) → HasRisen 0 i ⊎ HasRisen 0 o → HasRisen f (with_added (with_added f i) o)
 added_some f i o (inl rose) = omega (arith, rose)
 added_some f i o (inr rose) = omega (arith, rose)
 
-added_later : (f i o g : ℕ) → HasRisen (with_added (with_added f i) o) g → HasRisen f g
+pub added_later : (f i o g : ℕ) → HasRisen (with_added (with_added f i) o) g → HasRisen f g
 added_later f i o g rose = omega (arith, rose)
 
 -- two ports that were opened are closed
-both_closed : (p q r : ℕ) → p < 2 ^ 64 → q ≡ one_more (one_more p) → r < 2 ^ 64 → one_more (one_more r) ≡ q → r ≡ p
+pub both_closed : (p q r : ℕ) → p < 2 ^ 64 → q ≡ one_more (one_more p) → r < 2 ^ 64 → one_more (one_more r) ≡ q → r ≡ p
 both_closed p q r low opened small closed = omega (arith, low, opened, small, closed)
 
 -- all is a prefix, too
-all_prefix : (before now : Option (List ℕ)) (bytes : List ℕ) → Appends before now bytes → AppendsPrefix before now bytes
+pub all_prefix : (before now : Option (List ℕ)) (bytes : List ℕ) → Appends before now bytes → AppendsPrefix before now bytes
 all_prefix before now bytes h = (bytes, ([], append-nil bytes), h)
 
 -- the prefix of what was written
@@ -85,13 +85,13 @@ missed : (out : FileArgument) (bytes : List ℕ) (ends : Status) (p q r : DepotS
 missed out bytes ends p q r left held held' from f f' o o' over result h = h.closed.misses ∙ h.opened.misses
 
 -- a count stands where the status doesn't say that a device failed, and nothing but the ports' counts was added to it
-still : (a b c f f' o o' : ℕ) (status : Status) → b ≡ a → b < 2 ^ 64 → f ≡ 0 → o ≡ 0 → HasPortCause f f' o o' status →
+pub still : (a b c f f' o o' : ℕ) (status : Status) → b ≡ a → b < 2 ^ 64 → f ≡ 0 → o ≡ 0 → HasPortCause f f' o o' status →
     status ≢ DepotFault → c ≡ with_added (with_added b f') o' → c ≡ a
 still a b c f f' o o' status same within fresh empty cause other added =
     let calm = cause.calm other in added ∙ added_none b f' o' within (calm.0 ∙ fresh) (calm.1 ∙ empty) ∙ same
 
 -- and it rises where the status does
-rises : (a b c f f' o o' : ℕ) (status : Status) → b ≡ a → f ≡ 0 → o ≡ 0 → HasPortCause f f' o o' status →
+pub rises : (a b c f f' o o' : ℕ) (status : Status) → b ≡ a → f ≡ 0 → o ≡ 0 → HasPortCause f f' o o' status →
     status ≡ DepotFault → c ≡ with_added (with_added b f') o' → HasRisen a c
 rises a b c f f' o o' status same fresh empty cause is added =
     subst (λ (n : ℕ). HasRisen n c) same
@@ -119,36 +119,45 @@ stops_rose out bytes ends p q r left held held' from f f' o o' over result h is 
     rises p.stops q.stops r.stops f f' o o' (status_of over) h.opened.stops h.opened.from_fresh h.opened.out_fresh
     h.cause is h.closed.stops
 
--- a refusal of a stream stands where OUT wasn't closed, and running out of memory, and every other status gives way
+-- a refusal of a stream stands where OUT wasn't closed, and running out of memory, and that printing failed, and every
+-- other status gives way
 by_break : (s : Status) → ((unclosed_status s ≡ s) × (is_break s ≡ true) × IsRefusal s)
-    ⊎ ((s ≡ NoMemory) ⊎ ((unclosed_status s ≡ DepotFault) × (is_break s ≡ false) × (s ≢ NoMemory)))
-by_break Done = inr (inr (refl, refl, λ e. cc))
-by_break Usage = inr (inr (refl, refl, λ e. cc))
-by_break (Missing word) = inr (inr (refl, refl, λ e. cc))
-by_break (Revoked leaf period) = inr (inr (refl, refl, λ e. cc))
-by_break DepotFault = inr (inr (refl, refl, λ e. cc))
-by_break PrintFault = inr (inr (refl, refl, λ e. cc))
-by_break (BadSite word fault) = inr (inr (refl, refl, λ e. cc))
-by_break (BadBook word line) = inr (inr (refl, refl, λ e. cc))
-by_break (BadCard word fault) = inr (inr (refl, refl, λ e. cc))
+    ⊎ ((s ≡ NoMemory) ⊎ ((s ≡ PrintFault)
+    ⊎ ((unclosed_status s ≡ DepotFault) × (is_break s ≡ false) × (s ≢ NoMemory))))
+by_break Done = inr (inr (inr (refl, refl, λ e. cc)))
+by_break Usage = inr (inr (inr (refl, refl, λ e. cc)))
+by_break (Missing word) = inr (inr (inr (refl, refl, λ e. cc)))
+by_break (Revoked leaf period) = inr (inr (inr (refl, refl, λ e. cc)))
+by_break DepotFault = inr (inr (inr (refl, refl, λ e. cc)))
+by_break PrintFault = inr (inr (inl refl))
+by_break (BadSite word fault) = inr (inr (inr (refl, refl, λ e. cc)))
+by_break (BadBook word line) = inr (inr (inr (refl, refl, λ e. cc)))
+by_break (BadCard word fault) = inr (inr (inr (refl, refl, λ e. cc)))
 by_break (BadClear refusal) = inl (refl, refl, tt)
 by_break (BadStream refusal) = inl (refl, refl, tt)
-by_break (Limit kind) = inr (inr (refl, refl, λ e. cc))
+by_break (Limit kind) = inr (inr (inr (refl, refl, λ e. cc)))
 by_break NoMemory = inr (inl refl)
-by_break (Unheard leaf period) = inr (inr (refl, refl, λ e. cc))
-by_break (Unclosed number) = inr (inr (refl, refl, λ e. cc))
-by_break (Gaps packets) = inr (inr (refl, refl, λ e. cc))
-by_break NoCat = inr (inr (refl, refl, λ e. cc))
-by_break (BadWord word) = inr (inr (refl, refl, λ e. cc))
-by_break (Clash clash) = inr (inr (refl, refl, λ e. cc))
-by_break (BadOut word cause) = inr (inr (refl, refl, λ e. cc))
-by_break OtherBook = inr (inr (refl, refl, λ e. cc))
+by_break (Unheard leaf period) = inr (inr (inr (refl, refl, λ e. cc)))
+by_break (Unclosed number) = inr (inr (inr (refl, refl, λ e. cc)))
+by_break (Gaps packets) = inr (inr (inr (refl, refl, λ e. cc)))
+by_break NoCat = inr (inr (inr (refl, refl, λ e. cc)))
+by_break (BadWord word) = inr (inr (inr (refl, refl, λ e. cc)))
+by_break (Clash clash) = inr (inr (inr (refl, refl, λ e. cc)))
+by_break (BadOut word cause) = inr (inr (inr (refl, refl, λ e. cc)))
+by_break OtherBook = inr (inr (inr (refl, refl, λ e. cc)))
 
 no_break : (s : Status) → (s ≡ NoMemory) ⊎ (s ≡ DepotFault) → is_break s ≡ true → ⊥
 no_break s (inl is) breaks = let same : is_break NoMemory ≡ true = ap is_break (sym is) ∙ breaks in absurd (cc)
 no_break s (inr is) breaks = let same : is_break DepotFault ≡ true = ap is_break (sym is) ∙ breaks in absurd (cc)
 
-unclosed_told : (over : Result (Unit {0}) Status) → status_of (unclosed_by over) ≡ unclosed_status (status_of over)
+-- a stream that goes through a stage prints nothing, so that no printing fails
+no_print : (bytes : List ℕ) (ends : Status) (before now : Option (List ℕ)) (status : Status) →
+    Wrote bytes ends before now status → status ≡ PrintFault → ⊥
+no_print bytes ends before now status (all_written e ending w) is = absurd (subst IsEnding is ending)
+no_print bytes ends before now status (some_written (inl e) w) is = absurd (let same = sym e ∙ is in cc)
+no_print bytes ends before now status (some_written (inr e) w) is = absurd (let same = sym e ∙ is in cc)
+
+pub unclosed_told : (over : Result (Unit {0}) Status) → status_of (unclosed_by over) ≡ unclosed_status (status_of over)
 unclosed_told (Ok done) = refl
 unclosed_told (Err status) = refl
 
@@ -206,7 +215,8 @@ break_comes steps out bytes ends p q r page i j left held held' from f f' o o' o
     (all_written e ending w) breaks refuses rose calm =
     unclosed (turning steps out bytes ends) refl e ending refuses (ap is_break (sym e) ∙ breaks)
     (record { word = out.number; name = out.text; bytes = bytes }) refl
-    (made_short out bytes ends p q r left held held' from f f' o o' over result h) refl rose calm refl
+    (made_short out bytes ends p q r left held held' from f f' o o' over result h) (Appends-nil page.printed) rose calm
+    refl
     (missed out bytes ends p q r left held held' from f f' o o' over result h)
 break_comes steps out bytes ends p q r page i j left held held' from f f' o o' over result status h (some_written c w)
     breaks refuses rose calm =
@@ -251,7 +261,8 @@ unclosed_comes steps out bytes ends p q r page i j left held held' from f f' o o
           (stops_stand out bytes ends p q r left held held' from f f' o o' over result h
           (λ is. let same = sym out_of_memory ∙ is in cc))
           refl (missed out bytes ends p q r left held held' from f f' o o' over result h)
-      | inr (inr gives) ↦
+      | inr (inr (inl print)) ↦ absurd (no_print bytes ends held held' (status_of over) h.wrote print)
+      | inr (inr (inr gives)) ↦
           failed gives.0
           (writing (turning steps out bytes ends) refl (record { word = out.number; name = out.text; bytes = bytes })
           refl
@@ -312,7 +323,7 @@ pub record NotTurned (files : Option Files) (name : List ℕ) (meant : Option (L
   pub is_got : IsGot files name got
   pub obeys : OutcomeWithin (meant got) a b status
 
-there_got : (files : Option Files) (name : List ℕ) → IsThere files name → (bytes : List ℕ) × IsGot files name
+pub there_got : (files : Option Files) (name : List ℕ) → IsThere files name → (bytes : List ℕ) × IsGot files name
     (Some bytes)
 there_got None name there = ([], tt)
 there_got (Some m) name there = some_of (get m name) there
@@ -321,7 +332,7 @@ there_got (Some m) name there = some_of (get m name) there
     some_of None is = absurd (let h = is in cc)
     some_of (Some bytes) is = (bytes, refl)
 
-untold_got : (files : Option Files) (name bytes : List ℕ) → files ≡ None → IsGot files name (Some bytes)
+pub untold_got : (files : Option Files) (name bytes : List ℕ) → files ≡ None → IsGot files name (Some bytes)
 untold_got files name bytes none = subst (λ (o : Option Files). IsGot o name (Some bytes)) (sym none) tt
 
 pub not_turned : (steps : List ℕ → StepBound) (written : List ℕ → List ℕ) (ends : List ℕ →

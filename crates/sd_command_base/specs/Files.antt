@@ -4,6 +4,7 @@ use Rattle.std.specs.Prelude.{length, take, get_or, Option, Some, None, Result, 
 use Rattle.sha2.specs.Sha256.{sha256}
 use Rattle.sd_site.specs.declared.book_line.BookLine.{BookLine}
 use Rattle.sd_site.specs.SiteFields.{SiteFields}
+use Rattle.sd_site.specs.Forms.{most_book_size}
 use Rattle.sd_site.specs.Text.{site_of}
 use Rattle.sd_site.specs.declared.site_fault.SiteFault.{SiteFault}
 use Rattle.sd_book.specs.declared.command.Command.{Command}
@@ -25,7 +26,7 @@ most_site_bytes = 4096
 
 -- the bytes of the longest file of a book, of accounts and of leaves [this project, docs/FORMATS.md, Leaves]
 abbrev pub most_book_bytes : ℕ
-most_book_bytes = 33554432
+most_book_bytes = most_book_size
 
 -- the bytes of the longest card file [this project, docs/FORMATS.md, Card]
 abbrev pub most_card_bytes : ℕ

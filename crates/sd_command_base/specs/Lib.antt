@@ -1,5 +1,6 @@
 pub mod Exits
 pub mod Texts
+pub mod Lines
 pub mod Outside
 pub mod Spec
 pub mod Work

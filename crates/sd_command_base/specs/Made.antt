@@ -3,8 +3,6 @@ use Rattle.std.specs.Prelude.{◌≡◌, ℕ, ◌+◌, ◌≤◌, false, List, [
 use Rattle.sd_ports.specs.Files.{IsNotThere}
 use Rattle.sd_ports.specs.declared.file.FileFault.{FileFault}
 use Rattle.sd_ports.specs.declared.file.FileFault.TheVariants as file
-use Rattle.sd_ports.specs.declared.file.New.{New}
-use Rattle.sd_ports.specs.declared.file.New.TheVariants as new
 use Rattle.sd_command_base.specs.declared.status.Status.{Status}
 use Rattle.sd_command_base.specs.declared.status.Status.TheVariants.{Done, Missing, DepotFault, NoMemory, BadOut}
 use Rattle.sd_command_base.specs.declared.status.OutCause.TheVariants.{There}
@@ -61,15 +59,6 @@ free word (Some bytes) = record { calls = 2; result = Err (BadOut word There) }
 -- makes a file that must be new, by what has its name
 abbrev pub making_new : NewFile → FileArgument → Option (List ℕ) → Spec Work
 making_new made out got = free out.number got >>= λ new. value (new_work made out)
-
--- the answer of making the file that this word names, which must be new and is never too big
-abbrev pub new_told : ℕ → Result New FileFault → Result (Unit {0}) Status
-new_told word (Ok new.Made) = Ok tt
-new_told word (Ok new.There) = Err (BadOut word There)
-new_told word (Err file.Missing) = Err (Missing word)
-new_told word (Err file.TooBig) = Err DepotFault
-new_told word (Err file.Failed) = Err DepotFault
-new_told word (Err file.NoMemory) = Err NoMemory
 
 -- a file was made with all of its bytes, and nothing had its name before
 pub record IsMadeNew (out : Out) (a b : DepotState) : Type 0 where

@@ -3,7 +3,7 @@ ghost use Rattle.sd_command_base.specs.Outside.{PageState, depot_state, outside}
 ghost use Rattle.sd_command_base.specs.Spec.{value};
 ghost use Rattle.sd_command_base.specs.Work.{StepBound};
 ghost use Rattle.sd_command_base.specs.Outcome.{OutcomeWithin, status_of};
-ghost use Rattle.sd_command_base.specs.Made.{NewStep, making, making_told, new_told};
+ghost use Rattle.sd_command_base.specs.Made.{NewStep, making, making_told};
 ghost use Rattle.sd_command_base.specs.Shown.{shown_word};
 
 use crate::word::Word;
@@ -53,23 +53,12 @@ pub fn make_new<D: Depot>(
         (outside (depot_state D.Depot depot.old) page steps) (outside (depot_state D.Depot depot.new) page steps)
         result }
 {
-    told_new(word.number, write_new(alloc, depot, word.text, bytes))
-}
-
-/// What is answered once the file of this word was to be made new.
-fn told_new(word: u8, written: Result<New, FileFault>) -> Result<(), Status>
-    requires { ¬ IsErrOf written FileFault.TooBig }
-    ensures { result ≡ new_told word written }
-{
-    match written {
+    match write_new(alloc, depot, word.text, bytes) {
         Ok(New::Made) => Ok(()),
         Ok(New::There) => Err(Status::BadOut {
-            word,
+            word: word.number,
             cause: OutCause::There,
         }),
-        Err(FileFault::Missing) => Err(Status::Missing(word)),
-        Err(FileFault::Failed) => Err(Status::DepotFault),
-        Err(FileFault::NoMemory) => Err(Status::NoMemory),
-        Err(FileFault::TooBig) => unreachable!(),
+        Err(fault) => told(word.number, Err(fault)),
     }
 }

@@ -10,13 +10,13 @@ use Rattle.sd_command_line.specs.declared.command.Command.TheVariants.{Apart, Me
 use Rattle.sd_command_line.specs.declared.command.Command.TheVariants.{Receive, Sample}
 use Rattle.sd_command_line.specs.declared.command.Command.TheVariants.{Show}
 use Rattle.sd_command_line.specs.declared.command.Command.TheVariants.{Tables}
-use Rattle.sd_command_line.specs.declared.command.Command.TheVariants.{Trace, Trial, Twin}
+use Rattle.sd_command_line.specs.declared.command.Command.TheVariants.{Trace, Trial, Twin, Watch}
 use Rattle.sd_command_line.specs.declared.operand.Operand.{Operand}
 use Rattle.sd_command_line.specs.declared.operand.Operand.TheVariants as word
 use Rattle.sd_command_line.specs.declared.operand.Files.{Files}
 use Rattle.sd_command_line.specs.Operands.{files_among}
 use Rattle.sd_command_line.specs.declared.exit.Exit.{Exit}
-use Rattle.sd_command_line.specs.Exits.{is_common, of_own_book, of_pair, of_receiver, refuses}
+use Rattle.sd_command_line.specs.Exits.{is_common, ends_receiver, refuses, refuses_own_book, refuses_pair}
 
 -- the command's name
 unfoldable pub command_name : Command → List ℕ
@@ -40,12 +40,13 @@ command_name Tables = codes "tables"
 command_name Trace = codes "trace"
 command_name Trial = codes "trial"
 command_name Twin = codes "twin"
+command_name Watch = codes "watch"
 
 -- all commands, by their names
 abbrev pub commands : List Command
 commands =
     Accounts ∷ Apart ∷ Book ∷ Card ∷ Cover ∷ Field ∷ Head ∷ Layered ∷ Lcard ∷ Messages ∷ Next ∷ Opens ∷ Plan ∷ Receive
-    ∷ Sample ∷ Show ∷ Tables ∷ Trace ∷ Trial ∷ Twin ∷ []
+    ∷ Sample ∷ Show ∷ Tables ∷ Trace ∷ Trial ∷ Twin ∷ Watch ∷ []
 
 -- the first of them that has this name
 abbrev pub first_named : List ℕ → List Command → Option Command
@@ -78,6 +79,7 @@ operands_of Tables = word.Stream ∷ []
 operands_of Trace = word.Site ∷ word.Book ∷ word.Leaves ∷ []
 operands_of Trial = word.Site ∷ word.Book ∷ word.Clear ∷ []
 operands_of Twin = word.Site ∷ word.Words ∷ word.NewSite ∷ []
+operands_of Watch = word.Card ∷ word.Stream ∷ word.Out ∷ []
 
 -- the files that they name
 abbrev pub files_of : Command → Files
@@ -105,17 +107,19 @@ work_of Tables = codes "prints the tables of a stream, one line of JSON each"
 work_of Trace = codes "prints the receivers whose cards a decoder holds, found by queries"
 work_of Trial = codes "prints what each receiver writes from a broadcast"
 work_of Twin = codes "makes the site of a broadcast at the same time: new control words, the same periods"
+work_of Watch = codes "makes OUT, what the card opens of a stream that may be damaged"
 
 -- OUT holds secrets: those of a receiver, or the master secret of a site
-abbrev pub MakesSecrets : Command → Type 0
-MakesSecrets command = (command ≡ Card) ⊎ (command ≡ Lcard) ⊎ (command ≡ Next) ⊎ (command ≡ Twin)
+abbrev pub HoldsSecrets : Command → Type 0
+HoldsSecrets command = (command ≡ Card) ⊎ (command ≡ Lcard) ⊎ (command ≡ Next) ⊎ (command ≡ Twin)
 
 -- the command may end so with arguments each of which is good
 abbrev pub is_own : Command → Exit → Bool
-is_own Apart exit = of_pair exit
-is_own Head exit = of_own_book exit
-is_own Next exit = of_own_book exit
-is_own Receive exit = of_receiver exit
+is_own Apart exit = refuses_pair exit
+is_own Head exit = refuses_own_book exit
+is_own Next exit = refuses_own_book exit
+is_own Receive exit = ends_receiver exit
+is_own Watch exit = ends_receiver exit
 is_own command exit = false
 
 -- the command may end so
@@ -145,3 +149,4 @@ example_of Tables = codes "tables broadcast.ts"
 example_of Trace = codes "trace examples/site.txt examples/book.txt examples/pair.txt"
 example_of Trial = codes "trial examples/site.txt examples/book.txt clear.ts"
 example_of Twin = codes "twin site-1.txt 1000 site-2.txt"
+example_of Watch = codes "watch card-2 broadcast.ts opened.ts"

@@ -39,7 +39,8 @@ exit_line files NoCat = codes "  16  the stream has no CAT for this card\n"
 exit_line files BadWord = codes "  17  argument N is not a decimal number, or is out of range\n"
 exit_line files Clash = codes "  18  two broadcasts must not share one set of cards\n"
 exit_line files BadOut = codes "  19  OUT is there already, or its name does not follow that of SITE\n"
-exit_line files OtherBook = codes "  21  BOOK is not the book of the site's line 13\n"
+exit_line files OtherBook = 
+    codes "  21  BOOK is not the book of the site's line 13; for next, it does not begin with that book\n"
 
 -- all exits, by their numbers
 abbrev pub exits : List Exit
@@ -57,80 +58,80 @@ is_common PrintFault = true
 is_common NoMemory = true
 is_common exit = false
 
--- so a site is refused
-abbrev pub of_site : Exit → Bool
-of_site BadSite = true
-of_site Limit = true
-of_site exit = false
+-- a site is refused so
+abbrev pub refuses_site : Exit → Bool
+refuses_site BadSite = true
+refuses_site Limit = true
+refuses_site exit = false
 
--- so a file is refused that has a command, a change, an event or a leaf in each line
-abbrev pub of_lines : Exit → Bool
-of_lines BadBook = true
-of_lines Limit = true
-of_lines exit = false
+-- a file is refused so that has a command, a change, an event or a leaf in each line
+abbrev pub refuses_lines : Exit → Bool
+refuses_lines BadBook = true
+refuses_lines Limit = true
+refuses_lines exit = false
 
--- so a card is refused
-abbrev pub of_card : Exit → Bool
-of_card BadCard = true
-of_card Limit = true
-of_card exit = false
+-- a card is refused so
+abbrev pub refuses_card : Exit → Bool
+refuses_card BadCard = true
+refuses_card Limit = true
+refuses_card exit = false
 
--- so a clear stream is refused
-abbrev pub of_clear : Exit → Bool
-of_clear BadClear = true
-of_clear exit = false
+-- a clear stream is refused so
+abbrev pub refuses_clear : Exit → Bool
+refuses_clear BadClear = true
+refuses_clear exit = false
 
--- so a stream is refused
-abbrev pub of_stream : Exit → Bool
-of_stream BadStream = true
-of_stream exit = false
+-- a stream is refused so
+abbrev pub refuses_stream : Exit → Bool
+refuses_stream BadStream = true
+refuses_stream exit = false
 
--- so a number is refused
-abbrev pub of_number : Exit → Bool
-of_number BadWord = true
-of_number exit = false
+-- a number is refused so
+abbrev pub refuses_number : Exit → Bool
+refuses_number BadWord = true
+refuses_number exit = false
 
--- so a site that is to be made of a site is refused
-abbrev pub of_new_site : Exit → Bool
-of_new_site BadOut = true
-of_new_site exit = false
+-- a site that is to be made of a site is refused so
+abbrev pub refuses_new_site : Exit → Bool
+refuses_new_site BadOut = true
+refuses_new_site exit = false
 
--- so an argument is refused
+-- an argument is refused so
 abbrev pub refuses : Operand → Exit → Bool
-refuses argument.Site exit = of_site exit
-refuses argument.Book exit = of_lines exit
-refuses argument.Accounts exit = of_lines exit
-refuses argument.Commands exit = of_lines exit
-refuses argument.Script exit = of_lines exit
-refuses argument.Leaves exit = of_lines exit
-refuses argument.Card exit = of_card exit
-refuses argument.Clear exit = of_clear exit
-refuses argument.Stream exit = of_stream exit
-refuses argument.Leaf exit = of_number exit
-refuses argument.Width exit = of_number exit
-refuses argument.Number exit = of_number exit
-refuses argument.Packets exit = of_number exit
-refuses argument.Clears exit = of_number exit
-refuses argument.Pids exit = of_number exit
-refuses argument.Words exit = of_number exit
-refuses argument.NewSite exit = of_new_site exit
+refuses argument.Site exit = refuses_site exit
+refuses argument.Book exit = refuses_lines exit
+refuses argument.Accounts exit = refuses_lines exit
+refuses argument.Commands exit = refuses_lines exit
+refuses argument.Script exit = refuses_lines exit
+refuses argument.Leaves exit = refuses_lines exit
+refuses argument.Card exit = refuses_card exit
+refuses argument.Clear exit = refuses_clear exit
+refuses argument.Stream exit = refuses_stream exit
+refuses argument.Leaf exit = refuses_number exit
+refuses argument.Width exit = refuses_number exit
+refuses argument.Number exit = refuses_number exit
+refuses argument.Packets exit = refuses_number exit
+refuses argument.Clears exit = refuses_number exit
+refuses argument.Pids exit = refuses_number exit
+refuses argument.Words exit = refuses_number exit
+refuses argument.NewSite exit = refuses_new_site exit
 refuses argument.Out exit = false
 
--- so two broadcasts are refused
-abbrev pub of_pair : Exit → Bool
-of_pair Clash = true
-of_pair exit = false
+-- two broadcasts are refused so
+abbrev pub refuses_pair : Exit → Bool
+refuses_pair Clash = true
+refuses_pair exit = false
 
--- so the book is refused that must be that of the site's line 13, or begin with it
-abbrev pub of_own_book : Exit → Bool
-of_own_book OtherBook = true
-of_own_book exit = false
+-- the book is refused so that must be that of the site's line 13, or begin with it
+abbrev pub refuses_own_book : Exit → Bool
+refuses_own_book OtherBook = true
+refuses_own_book exit = false
 
--- so a receiver ends that did not open all of a stream
-abbrev pub of_receiver : Exit → Bool
-of_receiver Revoked = true
-of_receiver Unheard = true
-of_receiver Unclosed = true
-of_receiver Gaps = true
-of_receiver NoCat = true
-of_receiver exit = false
+-- a receiver ends so that did not open all of a stream
+abbrev pub ends_receiver : Exit → Bool
+ends_receiver Revoked = true
+ends_receiver Unheard = true
+ends_receiver Unclosed = true
+ends_receiver Gaps = true
+ends_receiver NoCat = true
+ends_receiver exit = false

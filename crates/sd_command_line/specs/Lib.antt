@@ -8,5 +8,4 @@ pub mod Escaped
 pub mod Explained
 pub mod Reasons
 pub mod Help
-pub mod Lines
 pub mod Pages

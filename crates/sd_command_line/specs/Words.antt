@@ -10,7 +10,7 @@ use Rattle.sd_command_line.specs.declared.command.Command.TheVariants as command
 use Rattle.sd_command_line.specs.declared.operand.Operand.{Operand}
 use Rattle.sd_command_line.specs.declared.operand.Kind.{Kind}
 use Rattle.sd_command_line.specs.declared.operand.Kind.TheVariants as kind
-use Rattle.sd_command_line.specs.Commands.{command_named, operands_of, MakesSecrets}
+use Rattle.sd_command_line.specs.Commands.{command_named, operands_of, HoldsSecrets}
 use Rattle.sd_command_line.specs.Operands.{is_file, is_output, operand_kind}
 use Rattle.sd_command_base.specs.Spec.{FileArgument}
 use Rattle.sd_command_base.specs.Shown.{NumberArgument, word_at}
@@ -199,15 +199,11 @@ has_out (Some command) = list_any (λ operand. is_output (operand_kind operand))
 abbrev pub names_out : List (List ℕ) → Bool
 names_out words = has_out (command_in words)
 
--- the command of an order makes a file that holds secrets
-abbrev pub HoldsSecrets : Order → Type 0
-HoldsSecrets (CommandOf command arguments) = MakesSecrets command
-HoldsSecrets (HelpOf topic) = ⊥
-HoldsSecrets VersionOf = ⊥
-
--- words that were read so make such a file
+-- words that were read so make a file that holds secrets
 abbrev pub HoldsSecretsBy : Result Order Status → Type 0
-HoldsSecretsBy (Ok order) = HoldsSecrets order
+HoldsSecretsBy (Ok (CommandOf command arguments)) = HoldsSecrets command
+HoldsSecretsBy (Ok (HelpOf topic)) = ⊥
+HoldsSecretsBy (Ok VersionOf) = ⊥
 HoldsSecretsBy (Err status) = ⊥
 
 -- the orders of the commands, by their names
@@ -275,3 +271,6 @@ TrialOf site book clear = CommandOf commands.Trial (InputOf site ∷ InputOf boo
 
 abbrev pub TwinOf : FileArgument → NumberArgument → FileArgument → Order
 TwinOf site words out = CommandOf commands.Twin (InputOf site ∷ NumberOf words ∷ OutOf out ∷ [])
+
+abbrev pub WatchOf : FileArgument → FileArgument → FileArgument → Order
+WatchOf card stream out = CommandOf commands.Watch (InputOf card ∷ InputOf stream ∷ OutOf out ∷ [])

@@ -1,6 +1,6 @@
 ghost use Rattle.std.specs.Prelude.{◌≡◌, ◌↔◌, ◌≤◌, length, true};
 ghost use Rattle.sd_command_line.specs.Commands.{example_of, command_name, operands_of, command_named};
-ghost use Rattle.sd_command_line.specs.Commands.{ends_with, files_of, first_named, is_own, work_of, MakesSecrets};
+ghost use Rattle.sd_command_line.specs.Commands.{ends_with, files_of, first_named, is_own, work_of, HoldsSecrets};
 
 use crate::exit::Exit;
 use crate::operand::{Files, Operand, any_refuses};
@@ -48,10 +48,12 @@ pub enum Command {
     Trial,
     /// `twin SITE WORDS OUT`: makes the site of a broadcast at the same time from a site.
     Twin,
+    /// `watch CARD STREAM OUT`: writes the clear packets that a card opens of a stream that may be damaged.
+    Watch,
 }
 
 /// All commands, by their names.
-pub const COMMANDS: [Command; 20] = [
+pub const COMMANDS: [Command; 21] = [
     Command::Accounts,
     Command::Apart,
     Command::Book,
@@ -72,6 +74,7 @@ pub const COMMANDS: [Command; 20] = [
     Command::Trace,
     Command::Trial,
     Command::Twin,
+    Command::Watch,
 ];
 
 impl Command {
@@ -109,6 +112,7 @@ impl Command {
             Command::Trace => "trace",
             Command::Trial => "trial",
             Command::Twin => "twin",
+            Command::Watch => "watch",
         }
     }
 
@@ -149,6 +153,7 @@ impl Command {
             Command::Trace => &[Operand::Site, Operand::Book, Operand::Leaves],
             Command::Trial => &[Operand::Site, Operand::Book, Operand::Clear],
             Command::Twin => &[Operand::Site, Operand::Words, Operand::NewSite],
+            Command::Watch => &[Operand::Card, Operand::Stream, Operand::Out],
         }
     }
 
@@ -161,7 +166,7 @@ impl Command {
 
     /// Whether OUT holds secrets: those of a receiver, or the master secret of a site.
     pub fn holds_secrets(self) -> bool
-        ensures { (result ≡ true) ↔ MakesSecrets self }
+        ensures { (result ≡ true) ↔ HoldsSecrets self }
     {
         matches!(
             self,
@@ -199,6 +204,7 @@ impl Command {
             Command::Trial => "prints what each receiver writes from a broadcast",
             Command::Twin =>
                 "makes the site of a broadcast at the same time: new control words, the same periods",
+            Command::Watch => "makes OUT, what the card opens of a stream that may be damaged",
         }
     }
 
@@ -217,7 +223,7 @@ impl Command {
         match self {
             Command::Apart => matches!(exit, Exit::Clash),
             Command::Head | Command::Next => matches!(exit, Exit::OtherBook),
-            Command::Receive => matches!(
+            Command::Receive | Command::Watch => matches!(
                 exit,
                 Exit::Revoked | Exit::Unheard | Exit::Unclosed | Exit::Gaps | Exit::NoCat
             ),
@@ -253,6 +259,7 @@ impl Command {
             Command::Trace => "trace examples/site.txt examples/book.txt examples/pair.txt",
             Command::Trial => "trial examples/site.txt examples/book.txt clear.ts",
             Command::Twin => "twin site-1.txt 1000 site-2.txt",
+            Command::Watch => "watch card-2 broadcast.ts opened.ts",
         }
     }
 }

@@ -46,7 +46,7 @@ pub enum Exit {
     Clash,
     /// Exit 19: OUT is there already, or its name does not follow that of SITE.
     BadOut,
-    /// Exit 21: BOOK is not the book of the site's line 13.
+    /// Exit 21: BOOK is not the book of the site's line 13, or does not begin with it.
     OtherBook,
 }
 
@@ -105,7 +105,8 @@ impl Exit {
             Exit::Clash => "  18  two broadcasts must not share one set of cards\n",
             Exit::BadOut =>
                 "  19  OUT is there already, or its name does not follow that of SITE\n",
-            Exit::OtherBook => "  21  BOOK is not the book of the site's line 13\n",
+            Exit::OtherBook =>
+                "  21  BOOK is not the book of the site's line 13; for next, it does not begin with that book\n",
         }
     }
 

@@ -2,7 +2,7 @@ ghost use Rattle.std.specs.Prelude.{[], ◌≡◌, ◌↔◌, bytes_eq, length, 
 ghost use Rattle.std.specs.List.{list_any};
 ghost use Rattle.sd_command_line.specs.Commands.{command_named, operands_of};
 ghost use Rattle.sd_command_line.specs.Words.{command_in, command_words, help_words, input_texts, named_words};
-ghost use Rattle.sd_command_line.specs.Words.{order_of, HoldsSecrets};
+ghost use Rattle.sd_command_line.specs.Words.{order_of, HoldsSecretsBy};
 ghost use Rattle.sd_command_line.specs.Words.{is_help as names_help, is_version as names_version};
 ghost use Rattle.sd_command_line.specs.Words.{out_is_read, out_text, version_words, with_input};
 ghost use Rattle.sd_command_line.specs.Orders.{order_said, shown};
@@ -163,7 +163,7 @@ fn names_input(kind: Kind, text: &str, name: &str) -> bool
 
 /// Whether OUT holds secrets: those of a receiver, or the master secret of a site.
 pub(crate) fn holds_secrets(order: &Order<'_>) -> bool
-    ensures { (result ≡ true) ↔ HoldsSecrets (order_said order.now) }
+    ensures { (result ≡ true) ↔ HoldsSecretsBy (Ok (order_said order.now)) }
 {
     match order {
         Order::Command { command, .. } => command.holds_secrets(),

@@ -38,6 +38,7 @@ use Rattle.sd_run_broadcasts.specs.Field.{field_meaning, field_text, inputs_mean
 use Rattle.sd_run_broadcasts.specs.Prefixes.{prefix_of_file}
 use Rattle.sd_run_broadcasts.specs.Trial.{plan_meaning as trial_plan, trial_text, trying, trial_meaning}
 use Rattle.sd_run_broadcasts.specs.Trial.{most_clear_bytes}
+use Rattle.sd_run_broadcasts.specs.Watch.{watch_meaning, watched_meaning, watching}
 use Rattle.sd_engine.specs.Sample.{sample_of}
 use Rattle.sd_site.specs.Chain.{most_word}
 use Rattle.sd_site.specs.SiteFields.{SiteFields}
@@ -52,7 +53,7 @@ use Rattle.sd_command_line.specs.declared.command.Command.TheVariants.{Apart, Me
 use Rattle.sd_command_line.specs.declared.command.Command.TheVariants.{Receive}
 use Rattle.sd_command_line.specs.declared.command.Command.TheVariants.{Sample}
 use Rattle.sd_command_line.specs.declared.command.Command.TheVariants.{Show}
-use Rattle.sd_command_line.specs.declared.command.Command.TheVariants.{Tables, Trace, Trial, Twin}
+use Rattle.sd_command_line.specs.declared.command.Command.TheVariants.{Tables, Trace, Trial, Twin, Watch}
 use Rattle.sd_command_line.specs.declared.operand.Operand.{Operand}
 use Rattle.sd_command_line.specs.Commands.{command_named, example_of, command_name, operands_of}
 use Rattle.sd_command_line.specs.Operands.{operand_kind}
@@ -72,9 +73,10 @@ use Rattle.sd_run_broadcasts.proofs.FieldOthers.{other_field}
 use Rattle.sd_run_streams.proofs.Others.{other_messages}
 use Rattle.sd_run_books.proofs.Others.{other_plan}
 use Rattle.sd_run_broadcasts.proofs.Others.{other_trial}
+use Rattle.sd_run_broadcasts.proofs.WatchOthers.{other_watch}
 use Rattle.sd_run.proofs.Works.{AreOrderly, orderly_after, same_name, made_new, made_whole, turned, none_made}
 use Rattle.sd_run.proofs.Works.{sent_apart}
-use Rattle.sd_run.proofs.Works.{stream_apart, stream_received, text_quiet}
+use Rattle.sd_run.proofs.Works.{stream_apart, stream_received, text_quiet, watched}
 use Rattle.sd_run.proofs.Examples.{IsExample, words_in, onto_first, arguments_in}
 use Rattle.sd_base.specs.Number.{decimal_value}
 
@@ -150,6 +152,14 @@ receive_orderly card stream out given =
     (λ bytes. value (receiving fields out bytes))
     (λ bytes. turned (UpTo (received_steps fields bytes)) out (received_of fields bytes)
     (received_status fields bytes) (stream_received fields bytes)))
+
+watch_orderly : (card stream out : FileArgument) (given : Readings) →
+    AreOrderly (Some out.text) (watch_meaning card stream out given).result
+unfolding watch_meaning
+watch_orderly card stream out given =
+    orderly_after (Some out.text) (card_in given card) (λ fields. watched_meaning fields stream out given)
+    (λ fields. orderly_after (Some out.text) (all_of stream.number (given stream))
+    (λ bytes. value (watching fields out bytes)) (λ bytes. watched fields out bytes))
 
 next_orderly : (site book : FileArgument) (words : NumberArgument) (out : FileArgument) (given : Readings) →
     AreOrderly (Some out.text) (next_meaning site book words out given).result
@@ -310,6 +320,7 @@ command_orderly Tables words given = tables_orderly (file 1 words) given
 command_orderly Trace words given = trace_orderly (file 1 words) (file 2 words) (file 3 words) given
 command_orderly Trial words given = trial_orderly (file 1 words) (file 2 words) (file 3 words) given
 command_orderly Twin words given = twin_orderly (file 1 words) (number 2 words) (file 3 words) given
+command_orderly Watch words given = watch_orderly (file 1 words) (file 2 words) (file 3 words) given
 
 -- no command answers `Usage`
 pub other_command : (command : Command) (words : List Argument) (given : Readings) →
@@ -335,6 +346,7 @@ other_command Tables words given = other_tables (file 1 words) given
 other_command Trace words given = other_trace (file 1 words) (file 2 words) (file 3 words) given
 other_command Trial words given = other_trial (file 1 words) (file 2 words) (file 3 words) given
 other_command Twin words given = other_twin (file 1 words) (number 2 words) (file 3 words) given
+other_command Watch words given = other_watch (file 1 words) (file 2 words) (file 3 words) given
 
 -- the example of each command is words that order it
 pub example : (command : Command) → IsExample command
@@ -359,6 +371,7 @@ example Tables = (refl, refl)
 example Trace = (refl, refl)
 example Trial = (refl, refl)
 example Twin = (refl, refl)
+example Watch = (refl, refl)
 
 -- What a command does with the words at its places is the work of its row.
 
@@ -479,3 +492,9 @@ pub twin_works : (words : List Argument) {one three : FileArgument} {two : Numbe
     three ≡ file 3 words → Implements (twin_meaning one two three) a b status →
     Implements (command_meaning Twin words) a b status
 twin_works words at_one at_two at_three done = rw (at_one, at_two, at_three) at done
+
+-- `watch`
+pub watch_works : (words : List Argument) {one two three : FileArgument} {a b : Outside}
+    {status : Status} → one ≡ file 1 words → two ≡ file 2 words → three ≡ file 3 words →
+    Implements (watch_meaning one two three) a b status → Implements (command_meaning Watch words) a b status
+watch_works words at_one at_two at_three done = rw (at_one, at_two, at_three) at done

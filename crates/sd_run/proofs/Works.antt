@@ -19,6 +19,7 @@ use Rattle.sd_command_base.specs.Turned.{turning}
 use Rattle.sd_command_base.specs.Streams.{stream_status}
 use Rattle.sd_run_broadcasts.specs.Head.{status_where, sent_status}
 use Rattle.sd_run_broadcasts.specs.Receive.{ended_status, ending_status, status_at, unless_refused, received_status}
+use Rattle.sd_run_broadcasts.specs.Watch.{watched_of, watched_status, watching}
 use Rattle.sd_command_base.specs.Printed.{printing}
 use Rattle.sd_command_line.specs.Words.{number}
 use Rattle.sd_run.specs.Refusals.{RefusesFirst}
@@ -112,6 +113,23 @@ pub stream_received : (card : CardFields) (bytes : List ℕ) → RefusesFirst (r
 unfolding received_status
 stream_received card bytes e =
     received_apart card (taken_of bytes) (break_from card [] (taken_of bytes)) (end_of bytes) e
+
+-- nor do those of a stream that is watched
+pub watched_apart : (card : CardFields) (bytes : List ℕ) → RefusesFirst (watched_status card bytes) → ⊥
+unfolding watched_status
+watched_apart card bytes e = by_length (nat_lt most_packets (length (cut bytes))) e
+  where
+    by_length : (over : Bool) → RefusesFirst (if over then BadStream TooLong
+        else ending_status card.leaf (ending_of card (reverse (counting card [] (watched_packets bytes))))) → ⊥
+    by_length true e = e
+    by_length false e = ending_apart card.leaf _ e
+
+pub watched : (card : CardFields) (out : FileArgument) (bytes : List ℕ) →
+    IsOrderly (Some out.text) (watching card out bytes)
+watched card out bytes = record {
+  makes = λ made e. same_name (record { word = out.number; name = out.text; bytes = watched_of card bytes }) made e;
+  keeps = λ refusal. absurd (watched_apart card bytes refusal);
+}
 
 pub text_quiet : (text : Result (List ℕ) Status) → IsOrderly None (printing text)
 text_quiet (Ok text) = none_made (printing (Ok text)) refl (λ refusal. absurd refusal)

@@ -10,7 +10,7 @@ use Rattle.sd_command_line.specs.declared.command.Command.TheVariants.{Apart, Me
 use Rattle.sd_command_line.specs.declared.command.Command.TheVariants.{Receive, Sample}
 use Rattle.sd_command_line.specs.declared.command.Command.TheVariants.{Show}
 use Rattle.sd_command_line.specs.declared.command.Command.TheVariants.{Tables}
-use Rattle.sd_command_line.specs.declared.command.Command.TheVariants.{Trace, Trial, Twin}
+use Rattle.sd_command_line.specs.declared.command.Command.TheVariants.{Trace, Trial, Twin, Watch}
 use Rattle.sd_command_line.specs.Words.{Argument, Order, CommandOf, HelpOf, VersionOf, file, number, order_of}
 use Rattle.sd_run_books.specs.Cover.{cover_meaning}
 use Rattle.sd_run_books.specs.Card.{card_meaning}
@@ -32,6 +32,7 @@ use Rattle.sd_run_books.specs.Show.{show_meaning}
 use Rattle.sd_run_books.specs.Trace.{trace_meaning}
 use Rattle.sd_run_books.specs.Twin.{twin_meaning}
 use Rattle.sd_run_broadcasts.specs.Trial.{trial_meaning}
+use Rattle.sd_run_broadcasts.specs.Watch.{watch_meaning}
 use Rattle.sd_command_line.specs.Help.{help_meaning, version_meaning}
 
 -- the work of a command with its arguments
@@ -57,6 +58,7 @@ command_meaning Tables words given = tables_meaning (file 1 words) given
 command_meaning Trace words given = trace_meaning (file 1 words) (file 2 words) (file 3 words) given
 command_meaning Trial words given = trial_meaning (file 1 words) (file 2 words) (file 3 words) given
 command_meaning Twin words given = twin_meaning (file 1 words) (number 2 words) (file 3 words) given
+command_meaning Watch words given = watch_meaning (file 1 words) (file 2 words) (file 3 words) given
 
 -- the work of an order
 abbrev pub order_meaning : Order → Readings → Spec Work

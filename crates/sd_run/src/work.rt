@@ -14,7 +14,7 @@ use sd_ports::{Depot, Sink};
 use sd_run_books::{
     accounts, apart, book, card, cover, layered, lcard, next, opens, plan, show, trace, twin,
 };
-use sd_run_broadcasts::{field, head, receive, trial};
+use sd_run_broadcasts::{field, head, receive, trial, watch};
 use sd_run_streams::{messages, sample, tables};
 use std::alloc::Global;
 use std::sync::ledger::Ledger;
@@ -54,6 +54,7 @@ pub(crate) fn work<D: Depot, P: Sink, L: Ledger>(
         Command::Trace => trace_row(alloc, row, depot, print),
         Command::Trial => trial_row(alloc, row, depot, print, steps),
         Command::Twin => twin_row(alloc, row, depot),
+        Command::Watch => watch_row(alloc, row, depot, print, steps),
     }
 }
 
@@ -413,4 +414,28 @@ fn twin_row<D: Depot>(alloc: Global, row: &Arguments<'_>, depot: &mut D) -> Resu
         (outside (depot_state D.Depot depot.new) page steps) (status_of result) }
 {
     twin(alloc, depot, row.file(1), row.number(2), row.file(3))
+}
+
+/// `watch` with the arguments of its row.
+#[tactic(auto, using(crate::proofs::Rows::watch_works))]
+fn watch_row<D: Depot, P: Sink, L: Ledger>(
+    alloc: Global,
+    row: &Arguments<'_>,
+    depot: &mut D,
+    print: &mut P,
+    steps: &mut Steps<L>,
+) -> Result<(), Status>
+    ensures { Implements (command_meaning Command.Watch (arguments_said 1 row.now.list.items))
+        (outside (depot_state D.Depot depot.old) (page_state P.Sink print.old) steps.old)
+        (outside (depot_state D.Depot depot.new) (page_state P.Sink print.new) steps.new) (status_of result) }
+{
+    watch(
+        alloc,
+        depot,
+        print,
+        row.file(1),
+        row.file(2),
+        row.file(3),
+        steps,
+    )
 }

@@ -81,17 +81,17 @@ own_count (Some line) bytes = count_by (λ byte. byte == 10) (take line.size byt
 
 -- a text whose digest is right is whole lines
 begins_whole : (line : BookLine) (bytes : List ℕ) → begins_with_book (Some line) bytes ≡ true →
-    (line.size ≤ length bytes) × (ends_lines (take line.size bytes) ≡ true)
-begins_whole line bytes h = by (nat_le line.size (length bytes)) (ends_lines (take line.size bytes)) refl refl h
+    ends_lines (take line.size bytes) ≡ true
+begins_whole line bytes h = by (nat_le line.size (length bytes)) (ends_lines (take line.size bytes)) refl h
   where
     same : Bool
     same = bytes_eq (sha256 (take line.size bytes)) line.digest
 
-    by : (fits ends : Bool) → nat_le line.size (length bytes) ≡ fits → ends_lines (take line.size bytes) ≡ ends →
-        (fits && (ends && same)) ≡ true → (line.size ≤ length bytes) × (ends_lines (take line.size bytes) ≡ true)
-    by true true fits ends h = (grind (arith, nat_tests, fits), ends)
-    by true false fits ends h = absurd cc
-    by false ends fits is h = absurd cc
+    by : (fits ends : Bool) → ends_lines (take line.size bytes) ≡ ends → (fits && (ends && same)) ≡ true →
+        ends_lines (take line.size bytes) ≡ true
+    by true true ends h = ends
+    by true false ends h = absurd cc
+    by false ends is h = absurd cc
 
 -- the commands of the site's book are the first ones of a longer book
 pub own_are_first : (d : ℕ) (line : Option BookLine) (bytes : List ℕ) (commands : List Command) →
@@ -101,7 +101,7 @@ own_are_first d None bytes commands begins is = (refl, omega arith)
 own_are_first d (Some line) bytes commands begins is =
     let own = take line.size bytes in
     let rest = drop line.size bytes in
-    let whole = (begins_whole line bytes begins).1 in
+    let whole = begins_whole line bytes begins in
     let parts : said_by bytes ≡ said_by own ++ said_by rest =
     ap said_by (sym (take-append-drop line.size bytes))
     ∙ ap (map command_of) (lines_joined own rest whole)

@@ -33,7 +33,6 @@ mod plan_periods;
 mod plan_schedule;
 mod register;
 mod report;
-mod revoked;
 mod show_command;
 mod show_line;
 mod site_name;

@@ -1,7 +1,6 @@
 //! `next SITE BOOK WORDS OUT`: the site of the broadcast after that of a site.
 
 ghost use Rattle.std.specs.Prelude.{◌≡◌, ◌≢◌, ◌<◌, ◌≤◌, ◌+◌, ◌∷◌, [], ℕ, length, IfOk, IfErr, string_bytes};
-ghost use Rattle.sd_book.specs.Commands.{last_period as last_of};
 ghost use Rattle.sd_site.specs.Chain.{most_word};
 ghost use Rattle.sd_command_base.specs.Outside.{outside, page_state, depot_state};
 ghost use Rattle.sd_command_base.specs.Outcome.{Implements, status_of};
@@ -14,7 +13,7 @@ ghost use Rattle.sd_run_books.specs.Next.{next_made as made_of, next_meaning, sh
 use crate::newest_site::judge_name;
 use crate::origin::{Origin, read_origin};
 use crate::told::told_next;
-use sd_book::Command;
+use sd_book::last_period;
 use sd_command_base::{Number, Status, Word, make_new, print_text};
 use sd_ports::{Depot, Sink};
 use sd_site::BookLine;
@@ -86,17 +85,6 @@ fn next_made(alloc: Global, origin: &Origin, words: u32) -> Result<(Vec<u8>, Str
     let bytes = site.write(alloc, &line_of(&origin.file.bytes))?;
     let lines = told_next(alloc, &site, own, book)?;
     Ok((bytes, lines))
-}
-
-/// The number of the last period of these commands.
-fn last_period(commands: &[Command]) -> u32
-    requires { length commands.now ≤ 1048576 }
-    ensures { result ≡ last_of commands.now }
-{
-    commands
-        .iter()
-        .filter(|command| **command == Command::Period)
-        .count() as u32
 }
 
 /// What line 13 says of a book with these bytes (FIPS 180-4).

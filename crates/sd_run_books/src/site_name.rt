@@ -67,7 +67,6 @@ fn digits_len(bytes: &[u8]) -> usize
 }
 
 /// Whether the second decimal is one above the first.
-#[tactic(auto, using(crate::proofs::FollowingNames::said_below, crate::proofs::FollowingNames::said_top, crate::proofs::FollowingNames::first_unsaid, crate::proofs::FollowingNames::second_unsaid))]
 fn is_one_up(digits: &[u8], next: &[u8]) -> bool
     ensures { result ≡ one_up (decimal_value digits.now) (decimal_value next.now) }
 {

@@ -2,14 +2,13 @@
 
 ghost use Rattle.std.specs.Prelude.{◌≡◌, ◌≤◌, ◌+◌, ◌*◌, ◌++◌, true, All, List, IfOk, OnOk, string_bytes};
 ghost use Rattle.sd_book.specs.declared.command.Command.{Command as Commands};
-ghost use Rattle.sd_book.specs.Commands.{is_within, revoked_after as revoked_by};
+ghost use Rattle.sd_book.specs.Commands.{is_within, revoked_after};
 ghost use Rattle.sd_site.specs.SiteFields.{fields_of};
 ghost use Rattle.sd_run_books.specs.Told.{period_text, told_next as next_text, told_of};
 
-use crate::revoked::revoked_after;
 use crate::told_changes::push_changes;
 use sd_base::NoMemory;
-use sd_book::{Book, Command};
+use sd_book::{Book, Command, revoked_by};
 use sd_command_base::replay_from;
 use sd_site::Site;
 use sd_tree::Leaf;
@@ -30,7 +29,7 @@ pub(crate) fn told_next(
     let last = book.last_period();
     let count = last.saturating_sub(site.first_period) + 1;
     let mut periods = replay_from(alloc, book, site.first_period.min(last))?;
-    let mut before = revoked_after(alloc, own)?;
+    let mut before = revoked_by(alloc, own)?;
     let mut text = String::new(alloc);
     for turn in 0..count {
         let Some(now) = periods.next(alloc)? else {
@@ -52,8 +51,8 @@ fn push_period(
     now: &[Leaf],
 ) -> Result<(), AllocError>
     requires { turn ≤ 1023 }
-    ensures { (was is : List Commands) → before.now ≡ revoked_by site.now.height was →
-        now.now ≡ revoked_by site.now.height is →
+    ensures { (was is : List Commands) → before.now ≡ revoked_after site.now.height was →
+        now.now ≡ revoked_after site.now.height is →
         OnOk result (string_bytes text.new ≡ string_bytes text.old
         ++ told_of (fields_of site.now) (site.now.first_period + turn) was is) }
 {

@@ -9,10 +9,9 @@ ghost use Rattle.sd_book.specs.Text.{command_line};
 ghost use Rattle.sd_run_books.specs.Apart.{differ};
 ghost use Rattle.sd_run_books.specs.Told.{least_of};
 
-use sd_book::Command;
+use sd_book::{Command, write_line};
 use sd_tree::Leaf;
 use std::alloc::AllocError;
-use std::fmt::Write;
 
 /// Puts a line after the text for each leaf that one of two ascending lists has alone: where each list is what a test
 /// lets through of the numbers below n, these are the leaves of which one test says yes alone.
@@ -36,11 +35,11 @@ pub(crate) fn push_changes(
                 new = vs;
             }
             (Some(us), None) => {
-                push_command(text, Command::Subscribe(leaf))?;
+                write_line(text, &Command::Subscribe(leaf))?;
                 old = us;
             }
             (None, Some(vs)) => {
-                push_command(text, Command::Revoke(leaf))?;
+                write_line(text, &Command::Revoke(leaf))?;
                 new = vs;
             }
             (None, None) => unreachable!(),
@@ -67,16 +66,4 @@ fn behind(list: &[Leaf], leaf: Leaf) -> Option<&[Leaf]>
 {
     let (first, rest) = list.split_first()?;
     (*first == leaf).then_some(rest)
-}
-
-/// Puts a command's line after the text.
-#[tactic(auto, unfolding(sd_book::specs::Text::command_line))]
-fn push_command(text: &mut String, command: Command) -> Result<(), AllocError>
-    ensures { OnOk result (string_bytes text.new ≡ string_bytes text.old ++ (command_line command ++ 10 ∷ [])) }
-{
-    match command {
-        Command::Subscribe(leaf) => write!(text, "subscribe {}\n", leaf.get()),
-        Command::Revoke(leaf) => write!(text, "revoke {}\n", leaf.get()),
-        Command::Period => text.push_str("period\n"),
-    }
 }

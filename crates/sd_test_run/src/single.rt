@@ -36,7 +36,7 @@ proved in logic dac8208d650f15bf (rattle-kit-13f)
 ";
 
 /// The lines of `help` that stand at its ends and beside the longest words.
-const LISTED: [(usize, &str); 5] = [
+const LISTED: [(usize, &str); 6] = [
     (
         0,
         "sdca: conditional access for transport streams, by Subset Difference",
@@ -56,6 +56,10 @@ const LISTED: [(usize, &str); 5] = [
     (
         21,
         "  twin SITE WORDS OUT          makes the site of a broadcast at the same time: new control words, the same periods",
+    ),
+    (
+        22,
+        "  watch CARD STREAM OUT        makes OUT, what the card opens of a stream that may be damaged",
     ),
 ];
 
@@ -94,7 +98,10 @@ static PAGES: [(&[&str], &[(usize, &str)]); 4] = [
                 20,
                 "  19  OUT is there already, or its name does not follow that of SITE",
             ),
-            (21, "  21  BOOK is not the book of the site's line 13"),
+            (
+                21,
+                "  21  BOOK is not the book of the site's line 13; for next, it does not begin with that book",
+            ),
             (
                 24,
                 "  sdca next site-0.txt examples/book.txt 1000 site-1.txt",

@@ -1,9 +1,0 @@
--- Inner: the bytes of a line that is printed.
-use Rattle.std.specs.Prelude.{ℕ, List, string_bytes}
-use Rattle.sd_command_line.specs.declared.telling.Line.{Line}
-use Rattle.sd_command_line.specs.declared.telling.Line.TheVariants.{Fixed, Made}
-
--- the bytes of a line
-abbrev pub bytes_of : Line → List ℕ
-bytes_of (Fixed text) = text.now
-bytes_of (Made text) = string_bytes text
