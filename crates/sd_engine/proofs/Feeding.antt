@@ -72,11 +72,20 @@ pub count_waits : (piece : List ℕ) (at filled : ℕ) → filled ≤ length pie
 count_waits piece at filled within =
     length-take-le (filled - at) (drop at piece) (omega (arith, within, length-drop at piece))
 
+-- what waits behind its first bytes
+pub waits_behind : (piece : List ℕ) (at filled n : ℕ) → n ≤ filled - at →
+    drop n (waiting piece at filled) ≡ waiting piece (at + n) filled
+waits_behind piece at filled n few =
+    let count : filled - at ≡ n + (filled - (at + n)) = omega (arith, few) in
+    ap (λ (m : ℕ). drop n (take m (drop at piece))) count
+    ∙ (drop-take n (filled - (at + n)) (drop at piece)
+    ∙ ap (λ (xs : List ℕ). take (filled - (at + n)) xs) (drop-drop n at piece))
+
 -- a read gave no byte, so the source is at its end
-pub end_waits : (a b c : Option (List ℕ)) (old mid piece : List ℕ) (filled more : ℕ) → more ≡ 0 →
+pub end_waits : (least : ℕ) (a b c : Option (List ℕ)) (old mid piece : List ℕ) (filled more : ℕ) → more ≡ 0 →
     ReadsMore a b old mid → ReadsMore b c mid (waiting piece 0 (filled + more)) → IsAtEnd c →
-    HasFilled a c old (waiting piece 0 filled)
-end_waits a b c old mid piece filled more none before read end = record {
+    HasFilled least a c old (waiting piece 0 filled)
+end_waits least a b c old mid piece filled more none before read end = record {
   read = subst (λ (n : ℕ). ReadsMore a c old (waiting piece 0 n)) (omega (arith, none))
       (more_read a b c old mid _ before read);
   enough = inr end;
@@ -84,16 +93,13 @@ end_waits a b c old mid piece filled more none before read end = record {
 
 -- the first packet of what waits, and what waits after it
 pub packet_given : (a b : Option (List ℕ)) (old piece packet : List ℕ) (at filled : ℕ) →
-    HasFilled a b old (waiting piece at filled) → filled ≤ length piece → TakesPacket (waiting piece at filled)
+    HasFilled 188 a b old (waiting piece at filled) → filled ≤ length piece → TakesPacket (waiting piece at filled)
     (Ok (Some packet)) →
     GivesPacket a b old (waiting piece (at + 188) filled) packet
 packet_given a b old piece packet at filled fills within takes =
     let enough : 188 ≤ filled - at = omega (arith, takes.1, length-take (filled - at) (drop at piece)) in
-    let count : filled - at ≡ 188 + (filled - (at + 188)) = omega (arith, enough) in
     let rest : drop 188 (waiting piece at filled) ≡ waiting piece (at + 188) filled =
-    ap (λ (n : ℕ). drop 188 (take n (drop at piece))) count
-    ∙ (drop-take 188 (filled - (at + 188)) (drop at piece)
-    ∙ ap (λ (xs : List ℕ). take (filled - (at + 188)) xs) (drop-drop 188 at piece)) in
+    waits_behind piece at filled 188 enough in
     let whole : packet ++ waiting piece (at + 188) filled ≡ waiting piece at filled =
     ap (λ (xs : List ℕ). packet ++ xs) (sym rest)
     ∙ (ap (λ (xs : List ℕ). xs ++ drop 188 (waiting piece at filled)) (sym takes.0)
@@ -106,7 +112,7 @@ packet_given a b old piece packet at filled fills within takes =
     }
 
 -- nothing waits, so the source is at its end
-pub none_given : (a b : Option (List ℕ)) (old new : List ℕ) → HasFilled a b old new → new ≡ [] → GivesNone a b old new
+pub none_given : (a b : Option (List ℕ)) (old new : List ℕ) → HasFilled 188 a b old new → new ≡ [] → GivesNone a b old new
 none_given a b old new fills none = record {
   read = subst (ReadsMore a b old) none fills.read;
   none = none;

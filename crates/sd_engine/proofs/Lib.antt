@@ -1,6 +1,9 @@
 pub mod Answering
 pub mod Walking
 pub mod Feeding
+pub mod Begins
+pub mod Cutting
+pub mod Searching
 pub mod Starts
 pub mod Chains
 pub mod Driving

@@ -19,10 +19,10 @@ pub record ReadsMore (before now : Option (List ℕ)) (old new : List ℕ) : Typ
   pub consumed : Consumes before now bytes
   pub joined : new ≡ old ++ bytes
 
--- the bytes of a packet wait, or all that is left
-pub record HasFilled (before now : Option (List ℕ)) (old new : List ℕ) : Type 0 where
+-- so many bytes wait at least, or all that is left
+pub record HasFilled (least : ℕ) (before now : Option (List ℕ)) (old new : List ℕ) : Type 0 where
   pub read : ReadsMore before now old new
-  pub enough : (188 ≤ length new) ⊎ IsAtEnd now
+  pub enough : (least ≤ length new) ⊎ IsAtEnd now
 
 -- what waits: a packet first, nothing, or bytes that are no packet [ISO/IEC 13818-1, 2.4.3.2]
 abbrev pub TakesPacket : List ℕ → Result (Option (List ℕ)) BreakCause → Type 0

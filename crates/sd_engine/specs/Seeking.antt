@@ -1,11 +1,11 @@
 -- Inner: how packets are found in what comes from a source, a piece of its bytes at a time.
-use Rattle.std.specs.Prelude.{◌≡◌, ℕ, zero, suc, ◌+◌, ◌-◌, ◌^◌, Bool, true, List, [], ◌∷◌, ◌++◌, length, min, Option}
-use Rattle.std.specs.Prelude.{Some, None}
+use Rattle.std.specs.Prelude.{◌≡◌, ℕ, zero, suc, ◌+◌, ◌-◌, ◌^◌, ◌<◌, ◌≤◌, Bool, true, false, List, [], ◌∷◌, ◌++◌, length}
+use Rattle.std.specs.Prelude.{◌⊎◌, ◌≢◌, take, slice_index, Option, Some, None}
 use Rattle.std.specs.Io.KnownBytes.{Consumes, IsAtEnd}
 use Rattle.sd_ports.specs.Bytes.{LosesPrefix}
-use Rattle.sd_engine.specs.Cut.{cut, skipped_before}
-use Rattle.sd_engine.specs.declared.seek.SeekFault.{SeekFault}
-use Rattle.sd_engine.specs.declared.seek.SeekFault.TheVariants.{Read, Write}
+use Rattle.sd_engine.specs.Cut.{begins_packet, cut, skipped_before}
+use Rattle.sd_engine.specs.declared.seeking.SeekFault.{SeekFault}
+use Rattle.sd_engine.specs.declared.seeking.SeekFault.TheVariants.{Read, Write, TooLong}
 
 -- what may still come: nothing, once the end was read
 abbrev pub MayCome : Bool → List ℕ → Type 0
@@ -31,19 +31,60 @@ abbrev pub Finds : List ℕ → List ℕ → Bool → ℕ → Option (List ℕ) 
 Finds bytes left ended passed (Some packet) = CutsOff bytes packet left ended passed
 Finds bytes left ended passed None = (ended ≡ true) × (left ≡ []) × CutsNone bytes passed
 
+-- what was read of a source: nothing once the end was read, and that is the end of the source
+pub record ReadsOn (before now : Option (List ℕ)) (bytes : List ℕ) (was_ended ended : Bool) : Type 0 where
+  pub read : Consumes before now bytes
+  pub nothing : was_ended ≡ true → bytes ≡ []
+  pub still : was_ended ≡ true → ended ≡ true
+  pub end : (was_ended ≡ true → IsAtEnd before) → ended ≡ true → IsAtEnd now
+
 -- the result of a search: from what waited and what was read behind it a packet was found or the end, so many bytes
--- were passed, and they were added to those that were passed before, up to 2^64 - 1
+-- were passed, and they were added to those that were passed before
 pub record SeekOutcome (before now : Option (List ℕ)) (old : List ℕ) (was_ended : Bool) (new : List ℕ) (ended : Bool)
     (skipped_old skipped_new : ℕ) (found : Option (List ℕ)) : Type 0 where
   pub bytes : List ℕ
-  pub read : Consumes before now bytes
-  pub nothing : was_ended ≡ true → bytes ≡ []
-  pub end : ended ≡ true → IsAtEnd now
+  pub reads : ReadsOn before now bytes was_ended ended
   pub passed : ℕ
   pub finds : Finds (old ++ bytes) new ended passed found
-  pub skipped : skipped_new ≡ min (skipped_old + passed) (2 ^ 64 - 1)
+  pub skipped : skipped_new ≡ skipped_old + passed
+  pub few : skipped_old < 2 ^ 64 - 1 → skipped_new < 2 ^ 64 - 1
 
--- why nothing is found: a read failed, or a write before it, and then nothing more was read
-abbrev pub SeekStop : Option (List ℕ) → Option (List ℕ) → SeekFault → Type 0
-SeekStop before now Read = LosesPrefix before now
-SeekStop before now Write = LosesPrefix before now
+-- with what waited and what was read behind it, 2^64 - 1 bytes are in no packet before the next one or the end
+pub record SkipsTooMany (before now : Option (List ℕ)) (old : List ℕ) (was_ended : Bool) (skipped_old : ℕ) :
+    Type 0 where
+  pub bytes : List ℕ
+  pub ended : Bool
+  pub reads : ReadsOn before now bytes was_ended ended
+  pub many : (more : List ℕ) → MayCome ended more → (k : ℕ) →
+      2 ^ 64 - 1 ≤ skipped_old + skipped_before k zero ((old ++ bytes) ++ more)
+
+-- why nothing is found: a read failed, or a write before one; or too many bytes are in no packet
+abbrev pub SeekStop : Option (List ℕ) → Option (List ℕ) → List ℕ → Bool → ℕ → SeekFault → Type 0
+SeekStop before now old was_ended skipped Read = (was_ended ≡ false) × LosesPrefix before now
+SeekStop before now old was_ended skipped Write = (was_ended ≡ false) × LosesPrefix before now
+SeekStop before now old was_ended skipped TooLong = SkipsTooMany before now old was_ended skipped
+
+-- the bytes of a packet and one more wait, or all that is left, and the end was read
+pub record HasFilledAhead (before now : Option (List ℕ)) (old : List ℕ) (was_ended : Bool) (new : List ℕ)
+    (ended : Bool) : Type 0 where
+  pub bytes : List ℕ
+  pub reads : ReadsOn before now bytes was_ended ended
+  pub joined : new ≡ old ++ bytes
+  pub enough : (189 ≤ length new) ⊎ (ended ≡ true)
+
+-- why not as many bytes wait: a read failed, or a write before it
+abbrev pub FillAheadStop : Option (List ℕ) → Option (List ℕ) → Bool → SeekFault → Type 0
+FillAheadStop before now was_ended Read = (was_ended ≡ false) × LosesPrefix before now
+FillAheadStop before now was_ended Write = (was_ended ≡ false) × (now ≡ before)
+FillAheadStop before now was_ended TooLong = ⊥
+
+-- the packet with which bytes begin, if they do
+abbrev pub BeginsWith : List ℕ → Option (List ℕ) → Type 0
+BeginsWith bytes (Some packet) = (begins_packet bytes ≡ true) × (packet ≡ take 188 bytes)
+BeginsWith bytes None = begins_packet bytes ≡ false
+
+-- no byte before this one is a sync byte but the first, and this one is, or is the end
+pub record IsNextSync (bytes : List ℕ) (count : ℕ) : Type 0 where
+  pub some : 0 < count
+  pub within : count ≤ length bytes
+  pub none : (i : ℕ) → 0 < i → i < count → slice_index bytes i ≢ 0x47

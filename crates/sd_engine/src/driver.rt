@@ -15,7 +15,7 @@ use std::sync::ledger::Ledger;
 pub const MOST_PACKETS: u64 = 1 << 48;
 
 /// The bytes that are kept at once. A read has room for at least 64 KiB of them.
-const ROOM: usize = 352 * SIZE;
+pub const ROOM: usize = 352 * SIZE;
 
 /// Why a stream was not driven to its end.
 #[derive(Clone, Copy, PartialEq, Eq)]

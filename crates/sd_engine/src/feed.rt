@@ -62,7 +62,7 @@ pub fn fill<S: Source, K: Sink>(
     ensures begun { IfOk result (λ now. now.at ≤ now.filled) }
     ensures within { IfOk result (λ now. now.filled ≤ length piece.new) }
     ensures length { length piece.new ≡ length piece.old }
-    ensures value { IfOk result (λ now. HasFilled (S.left source.old) (S.left source.new)
+    ensures value { IfOk result (λ now. HasFilled SIZE (S.left source.old) (S.left source.new)
         (waiting piece.old span.at span.filled) (waiting piece.new now.at now.filled)) }
     ensures alone { SIZE ≤ span.filled - span.at → (result ≡ Ok span) × (source.new ≡ source.old)
         × (sink.new ≡ sink.old) × (piece.new ≡ piece.old) }
@@ -78,33 +78,33 @@ pub fn fill<S: Source, K: Sink>(
     if sink.hand_on().is_err() {
         return Err(FeedFault::Write);
     }
-    let count = begin(piece, span);
-    match read_packet(source, sink, piece, count) {
+    let count = begin(piece, span.at, span.filled);
+    match read_until(source, sink, piece, count, SIZE) {
         Ok(filled) => Ok(Span { at: 0, filled }),
         Err(_) => Err(FeedFault::Read),
     }
 }
 
-/// Reads until the bytes of a packet wait at the beginning of the piece, or to the end of the input, and answers how
-/// many wait.
-fn read_packet<S: Source, K: Sink>(
+/// Reads until `least` bytes wait at the beginning of the piece, or to the end of the input, and answers how many wait.
+pub(crate) fn read_until<S: Source, K: Sink>(
     source: &mut S,
     sink: &K,
     piece: &mut [u8],
     count: usize,
+    least: usize,
 ) -> Result<usize, PortFault>
     requires handed { K.waits sink.now ≡ 0 }
-    requires few { count < SIZE }
-    requires room { SIZE ≤ length piece.old }
+    requires few { count < least }
+    requires room { least ≤ length piece.old }
     ensures within { IfOk result (λ filled. filled ≤ length piece.new) }
     ensures length { length piece.new ≡ length piece.old }
-    ensures value { IfOk result (λ filled. HasFilled (S.left source.old) (S.left source.new)
+    ensures value { IfOk result (λ filled. HasFilled least (S.left source.old) (S.left source.new)
         (waiting piece.old 0 count) (waiting piece.new 0 filled)) }
     ensures fault { OnErr result (LosesPrefix (S.left source.old) (S.left source.new)) }
     ensures cause { HasCause (S.faults source.old) (S.faults source.new) result }
 {
     let mut filled = count;
-    while filled < SIZE {
+    while filled < least {
         match read_more(source, sink, piece, filled) {
             Ok(0) => break,
             Ok(more) => filled += more,
@@ -114,8 +114,8 @@ fn read_packet<S: Source, K: Sink>(
     Ok(filled)
 }
 
-/// Reads once, behind what waits. It is the only read: none is reached while a packet waits, or while bytes wait in the
-/// sink.
+/// Reads once, behind what waits. It is the only read: none is reached while bytes wait in the sink, or while all waits
+/// that is needed.
 fn read_more<S: Source, K: Sink>(
     source: &mut S,
     sink: &K,
@@ -123,8 +123,7 @@ fn read_more<S: Source, K: Sink>(
     filled: usize,
 ) -> Result<usize, PortFault>
     requires handed { K.waits sink.now ≡ 0 }
-    requires few { filled < SIZE }
-    requires room { SIZE ≤ length piece.old }
+    requires room { filled < length piece.old }
     ensures within { IfOk result (λ more. filled + more ≤ length piece.new) }
     ensures length { length piece.new ≡ length piece.old }
     ensures value { IfOk result (λ more. ReadsMore (S.left source.old) (S.left source.new)
@@ -136,18 +135,19 @@ fn read_more<S: Source, K: Sink>(
     source.read(&mut piece[filled..])
 }
 
-/// Moves what waits, fewer bytes than a packet has, to the beginning of the piece, and answers how many they are.
-fn begin(piece: &mut [u8], span: Span) -> usize
-    requires begun { span.at ≤ span.filled }
-    requires within { span.filled ≤ length piece.old }
-    requires few { span.filled - span.at < SIZE }
-    ensures count { result ≡ span.filled - span.at }
-    ensures same { waiting piece.new 0 result ≡ waiting piece.old span.at span.filled }
+/// Moves the bytes that wait from `at` up to `filled`, at most a packet's, to the beginning of the piece, and answers
+/// how many they are.
+pub(crate) fn begin(piece: &mut [u8], at: usize, filled: usize) -> usize
+    requires begun { at ≤ filled }
+    requires within { filled ≤ length piece.old }
+    requires few { filled - at ≤ SIZE }
+    ensures count { result ≡ filled - at }
+    ensures same { waiting piece.new 0 result ≡ waiting piece.old at filled }
     ensures length { length piece.new ≡ length piece.old }
 {
-    let count = span.filled - span.at;
+    let count = filled - at;
     let mut bytes = [0; SIZE];
-    bytes[..count].copy_from_slice(&piece[span.at..span.filled]);
+    bytes[..count].copy_from_slice(&piece[at..filled]);
     piece[..count].copy_from_slice(&bytes[..count]);
     count
 }

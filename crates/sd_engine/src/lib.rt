@@ -7,11 +7,11 @@ mod fault;
 mod feed;
 mod sample_packet;
 mod sample_stream;
-mod seek;
+mod seeking;
 mod stage;
 
-pub use driver::{DriveFault, MOST_PACKETS, drive};
+pub use driver::{DriveFault, MOST_PACKETS, ROOM, drive};
 pub use fault::{BreakCause, StreamBreak};
 pub use sample_stream::{MOST_SAMPLE_PACKETS, sample};
-pub use seek::{Ahead, SeekFault, seek};
+pub use seeking::{Ahead, SeekFault, seek};
 pub use stage::{Stage, StageFault};

@@ -4,6 +4,7 @@ ghost use Rattle.sd_engine.specs.Sample.{next_state, state_at, generated, pid_at
 ghost use Rattle.sd_engine.specs.Sample.{adaptation_field, sample_packet_at};
 
 use crate::sample_stream::MOST_SAMPLE_PACKETS;
+use crate::seeking::SYNC_BYTE;
 use sd_packet::{SIZE, pack_section};
 
 // Program 1 has its PMT on PID 0x1000, and there its streams of types 0x1B and 0x0F on PIDs 0x0100 and 0x0101.
@@ -76,7 +77,7 @@ fn stuffed(k: u32, control: u8) -> [u8; SIZE]
 {
     let pid = pid(k);
     let mut bytes = [0xFF; SIZE];
-    bytes[0] = 0x47;
+    bytes[0] = SYNC_BYTE;
     bytes[1] = (pid / 256) as u8;
     bytes[2] = (pid % 256) as u8;
     bytes[3] = control * 16 + counter(k);

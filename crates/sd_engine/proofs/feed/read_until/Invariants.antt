@@ -1,6 +1,6 @@
 use Rattle.std.proofs.Common.{◌≡◌, ◌-◌, ◌≤◌, length}
 use Rattle.sd_engine.specs.Feeding.{waiting, ReadsMore}
-use Rattle.sd_engine.proofs.feed.read_packet.Given as goal
+use Rattle.sd_engine.proofs.feed.read_until.Given as goal
 
 -- what waits at the beginning of the piece is what waited, and the bytes that were read
 abbrev pub invariant-loop-filled : goal.invariant-loop-filled
@@ -13,4 +13,4 @@ invariant-loop-filled g l = record {
 }
 
 abbrev pub decreases-loop-filled : goal.decreases-loop-filled
-decreases-loop-filled g l = 188 - l.filled
+decreases-loop-filled g l = l.fn.least - l.filled

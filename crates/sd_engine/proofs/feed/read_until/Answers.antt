@@ -1,6 +1,6 @@
 use Rattle.std.proofs.Common.{refl, ◌∙◌, inl, arith}
 use Rattle.sd_engine.proofs.Feeding.{count_waits, end_waits, lost_on, more_read, nothing_read}
-use Rattle.sd_engine.proofs.feed.read_packet.Goals as goal
+use Rattle.sd_engine.proofs.feed.read_until.Goals as goal
 
 pub loop-filled-init : goal.loop-filled-init
 loop-filled-init g c = record {
@@ -28,7 +28,7 @@ returns-after-loop-filled-clause-value g c =
 
 pub returns-in-Ok-eq0-clause-value : goal.returns-in-Ok-eq0-clause-value
 returns-in-Ok-eq0-clause-value g c =
-    end_waits _ _ _ _ _ _ _ _ c.in-Ok-eq0.field-0-test c.loop-filled.invariant.read c.in-Ok-eq0.ensures.value
+    end_waits _ _ _ _ _ _ _ _ _ c.in-Ok-eq0.field-0-test c.loop-filled.invariant.read c.in-Ok-eq0.ensures.value
     (c.in-Ok-eq0.ensures.end c.in-Ok-eq0.field-0-test)
 
 pub returns-in-Err-clause-fault : goal.returns-in-Err-clause-fault
