@@ -48,7 +48,8 @@ pub both_closed : (p q r : ℕ) → p < 2 ^ 64 → q ≡ one_more (one_more p) �
 both_closed p q r low opened small closed = omega (arith, low, opened, small, closed)
 
 -- all is a prefix, too
-pub all_prefix : (before now : Option (List ℕ)) (bytes : List ℕ) → Appends before now bytes → AppendsPrefix before now bytes
+pub all_prefix : (before now : Option (List ℕ)) (bytes : List ℕ) → Appends before now bytes →
+    AppendsPrefix before now bytes
 all_prefix before now bytes h = (bytes, ([], append-nil bytes), h)
 
 -- the prefix of what was written
@@ -85,8 +86,8 @@ missed : (out : FileArgument) (bytes : List ℕ) (ends : Status) (p q r : DepotS
 missed out bytes ends p q r left held held' from f f' o o' over result h = h.closed.misses ∙ h.opened.misses
 
 -- a count stands where the status doesn't say that a device failed, and nothing but the ports' counts was added to it
-pub still : (a b c f f' o o' : ℕ) (status : Status) → b ≡ a → b < 2 ^ 64 → f ≡ 0 → o ≡ 0 → HasPortCause f f' o o' status →
-    status ≢ DepotFault → c ≡ with_added (with_added b f') o' → c ≡ a
+pub still : (a b c f f' o o' : ℕ) (status : Status) → b ≡ a → b < 2 ^ 64 → f ≡ 0 → o ≡ 0 →
+    HasPortCause f f' o o' status → status ≢ DepotFault → c ≡ with_added (with_added b f') o' → c ≡ a
 still a b c f f' o o' status same within fresh empty cause other added =
     let calm = cause.calm other in added ∙ added_none b f' o' within (calm.0 ∙ fresh) (calm.1 ∙ empty) ∙ same
 

@@ -41,7 +41,14 @@ first_texts text (suc n) = first_texts text n ++ text n ∷ []
 -- prints these texts, from number 0 to the last
 abbrev pub printing : (ℕ → List ℕ) → ℕ → Work
 printing text last =
-    record { out = None; pieces = first_texts text (last + 1); ends = Done; breaks = false; live = false; steps = NoSteps }
+    record {
+      out = None;
+      pieces = first_texts text (last + 1);
+      ends = Done;
+      breaks = false;
+      live = false;
+      steps = NoSteps;
+    }
 
 -- prints these sets of each period of a book for a tree of height d, with these ends
 abbrev pub listing : (List ℕ → List SetName) → (SetName → List ℕ) → ℕ → List Command → Work

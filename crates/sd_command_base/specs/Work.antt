@@ -32,7 +32,8 @@ pub record Work : Type 0 where
 
 -- prints a text and makes no file, without a step of the generator
 abbrev pub work_of_text : List ℕ → Work
-work_of_text text = record { out = None; pieces = text ∷ []; ends = Done; breaks = false; live = false; steps = NoSteps }
+work_of_text text =
+    record { out = None; pieces = text ∷ []; ends = Done; breaks = false; live = false; steps = NoSteps }
 
 -- the files once OUT has these of its bytes, if the model knows them
 abbrev pub files_with : Option Out → Option Files → Option Files

@@ -11,7 +11,8 @@ returns-in-Ok-There g c pieces page steps =
     new_obeys (record { bytes = c.args.bytes.now; pieces = pieces }) (shown_word c.args.word)
     (depot_state g.D.Depot c.args.depot.now) (depot_state g.D.Depot c.write_new.new.depot)
     page steps c.write_new.result _
-    (sym (ap (answer_of c.args.word.number) (c.in-Ok-There.is ∙ ap Ok c.in-Ok-There.field-0-is))) w.file w.cause w.stops w.ports w.calls
+    (sym (ap (answer_of c.args.word.number) (c.in-Ok-There.is ∙ ap Ok c.in-Ok-There.field-0-is)))
+    w.file w.cause w.stops w.ports w.calls
 
 pub returns-in-Err : goal.returns-in-Err
 returns-in-Err g c pieces page steps =
@@ -21,4 +22,3 @@ returns-in-Err g c pieces page steps =
     new_obeys (record { bytes = c.args.bytes.now; pieces = pieces }) (shown_word c.args.word)
     (depot_state g.D.Depot c.args.depot.now) (depot_state g.D.Depot c.write_new.new.depot)
     page steps c.write_new.result c.told.result (c.told.ensures ∙ sym is) w.file w.cause w.stops w.ports w.calls
-    w.file w.cause w.stops w.ports w.calls
