@@ -1,0 +1,9 @@
+pub mod Thinned
+pub mod Pids
+pub mod Written
+pub mod Offers
+pub mod Following
+pub mod Leaving
+pub mod Endings
+pub mod Calm
+pub mod Contained
