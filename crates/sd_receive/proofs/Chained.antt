@@ -123,7 +123,7 @@ record RefusedBy (card : CardFields) (past : List (List ℕ)) (packet : List ℕ
   few : steps ≤ steps_at card past packet
 
 refused_by : (past : List (List ℕ)) (s : Receiver) (packet : List ℕ) (why : StreamFault) (bytes : List ℕ) (steps : ℕ) →
-    RefusesPacket past s packet why bytes steps → RefusedBy (card_in s) past packet why bytes steps
+    RefusesPacket true past s packet why bytes steps → RefusedBy (card_in s) past packet why bytes steps
 refused_by past s packet why bytes steps is = record { fault = is.fault; bytes_are = is.bytes_are; few = is.few }
 
 -- one packet more takes one key more or none

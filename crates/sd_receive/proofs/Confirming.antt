@@ -7,7 +7,8 @@ use Rattle.std.proofs.lemmas.List.{drop_more}
 use Rattle.sd_message.specs.declared.ecm_part.Place.{Place}
 use Rattle.sd_spec.specs.Confirmed.{position_in}
 use Rattle.sd_receive.specs.Pids.{has_pid}
-use Rattle.sd_receive.specs.Writing.{is_near_to, AreNear}
+use Rattle.sd_spec.specs.Confirmed.{is_near_to}
+use Rattle.sd_receive.specs.Writing.{AreNear}
 use Rattle.sd_receive.specs.declared.pids.Pids.{Pids}
 
 -- a position that isn't below is near by its distance

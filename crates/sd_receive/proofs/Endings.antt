@@ -34,7 +34,7 @@ no_cat r past after none = rw (tuned_or_not r past after ∙ none) refl
 -- the endings of the runs together
 pub all_runs : (r : Receiver) (past : List (List ℕ)) (last : Ending) → IsAfter past r → is_none r.tuning ≡ false →
     last ≡ run_ending (card_in r) (heard (card_in r) past) (run_wrote (card_in r) past) →
-    joined r.so_far last ≡ ending_of (card_in r) past
+    joined r.ended.so_far last ≡ ending_of (card_in r) past
 unfolding ending_of
 all_runs r past last after some is =
     rw (tuned_or_not r past after ∙ some) (ap (λ (e : Ending). joined e last) after.so_far

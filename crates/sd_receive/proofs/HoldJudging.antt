@@ -10,12 +10,12 @@ use Rattle.sd_packet.specs.Positions.{is_placed, moved_by}
 use Rattle.sd_psi.specs.Rewriting.{restored, restore_fault}
 use Rattle.sd_psi.specs.declared.fault.FormFault.{FormFault}
 use Rattle.sd_keystream.specs.Scrambling.{descrambled}
-use Rattle.sd_spec.specs.Confirmed.{Segment, position_in, tracked, is_confirmed, is_odd, unmarked, judged}
+use Rattle.sd_spec.specs.Confirmed.{position_or_first, Segment, position_in, tracked, is_confirmed, is_odd, unmarked, judged}
 use Rattle.sd_spec.proofs.Unmarked.{unmarked_stays, marked_back}
 use Rattle.sd_receive.specs.declared.held.Held.{Held}
 use Rattle.sd_receive.specs.declared.confirm.Confirming.{Confirming}
 use Rattle.sd_receive.specs.declared.pids.Pids.{Pids}
-use Rattle.sd_receive.specs.Tracking.{led_to, start_of, packets_in}
+use Rattle.sd_receive.specs.Tracking.{led_to, packets_in}
 use Rattle.sd_receive.specs.Holding.{held_pair}
 use Rattle.sd_receive.specs.Writing.{segment_in, segment_of, IsReady, IsOwn, AreNear, AreConfirmed}
 use Rattle.sd_receive.proofs.Places.{found_short}
@@ -28,9 +28,9 @@ packets_are (h ∷ hs) = ap (λ (ps : List (List ℕ)). h.packet ∷ ps) (packet
 -- the table has where all packets lead
 table_is : (c : Confirming) (pid : ℕ) → IsReady c → pid < 8192 →
     tracked (segment_in c).first pid (segment_in c).packets ≡ get_or c.tracks.now.table.items pid 0
-unfolding segment_in segment_of tracked led_to start_of
+unfolding segment_in segment_of tracked led_to
 table_is c pid ready small =
-    ap (λ (ps : List (List ℕ)). moved_by pid (start_of c.tracks.now.places.items pid) ps)
+    ap (λ (ps : List (List ℕ)). moved_by pid (position_or_first c.tracks.now.places.items pid) ps)
     (packets_are c.tracks.now.held.items)
     ∙ sym (ready.kept.tracked.at pid small)
 
@@ -86,7 +86,7 @@ judged_by s before n p dark even close = rw dark (rw even (rw close refl))
 
 own_is : (c : Confirming) (before : List (List ℕ)) (h : Held) → IsOwn c before h →
     tracked (segment_in c).first (pid_of h.packet) (before ++ h.packet ∷ []) ≡ h.position
-unfolding segment_in segment_of tracked led_to start_of
+unfolding segment_in segment_of tracked led_to
 own_is c before h own = sym own.position
 
 pub judged_near : (c : Confirming) (before : List (List ℕ)) (h : Held) → IsOwn c before h →

@@ -10,11 +10,11 @@ use Rattle.sd_base.proofs.Fields.{field_below}
 use Rattle.sd_packet.specs.Header.{pid_of}
 use Rattle.sd_packet.specs.Positions.{moved, moved_by, first_position}
 use Rattle.sd_packet.proofs.Positions.{one_more}
-use Rattle.sd_spec.specs.Confirmed.{position_in}
+use Rattle.sd_spec.specs.Confirmed.{position_or_first, position_in}
 use Rattle.sd_spec.specs.Offered.{most_held}
 use Rattle.sd_message.specs.declared.ecm_part.Place.{Place}
 use Rattle.sd_message.specs.EcmVersions.{most_places}
-use Rattle.sd_receive.specs.Tracking.{packets_in, led_to, start_of, HasFirstPositions, IsTracked, IsKept}
+use Rattle.sd_receive.specs.Tracking.{packets_in, led_to, HasFirstPositions, IsTracked, IsKept}
 use Rattle.sd_receive.specs.declared.tracks.Tracks.{Tracks}
 use Rattle.sd_receive.specs.declared.held.Held.{Held}
 use Rattle.sd_receive.proofs.Tables.{none_started, tracked_more, own_more, led_within}
@@ -41,7 +41,7 @@ kept_none u places held room space clear = record {
 
 -- where nothing is held and no place is kept the table is one of first positions
 pub clear_again : (t : Tracks) → IsKept t → t.places.items ≡ [] → t.held.items ≡ [] → HasFirstPositions t.table.items
-unfolding led_to start_of position_in moved_by
+unfolding led_to position_in moved_by
 clear_again t is places held =
     let tracked : IsTracked [] [] t.table.items = rw places at (rw held at is.tracked) in
     record { long = tracked.long; clear = λ pid none small. tracked.at pid small }
@@ -75,7 +75,7 @@ kept_more t held table one is few same room position written =
     ap packets_in same ∙ map-append (λ (h : Held). h.packet) t.held.items (one ∷ []) in
     let led : one.position ≡ led_to t.places.items (packets_in t.held.items ++ one.packet ∷ []) pid =
     position ∙ (ap (λ (x : ℕ). moved pid x one.packet) (is.tracked.at pid (pid_within one.packet))
-    ∙ sym (one_more pid (start_of t.places.items pid) (packets_in t.held.items) one.packet)) in
+    ∙ sym (one_more pid (position_or_first t.places.items pid) (packets_in t.held.items) one.packet)) in
     record {
       few = omega (arith, ap (λ (hs : List Held). length hs) same, length_push t.held.items one, few);
       room = room;

@@ -24,3 +24,5 @@ pub mod Alike
 pub mod Gathering
 pub mod Collecting
 pub mod Walking
+pub mod Asked
+pub mod Strays

@@ -1,5 +1,5 @@
 -- What things that are heard come to.
-use Rattle.std.proofs.Common.{◌≡◌, inl, inr, ℕ, List, [], ◌∷◌, length, refl, sym, ap, ◌∙◌, subst, true, false, Bool}
+use Rattle.std.proofs.Common.{◌≡◌, ℕ, List, [], ◌∷◌, length, refl, sym, ap, ◌∙◌, subst, true, false, Bool}
 use Rattle.std.proofs.Common.{arith}
 use Rattle.std.specs.Prelude.{Option, Some, None, is_none, not, nat_lt, Result, Ok, Err, OnOk, if◌then◌else◌}
 use Rattle.std.specs.Prelude.{bytes_eq, ◌+◌, ◌≤◌}
@@ -56,9 +56,15 @@ passes_none offering n fault wrote = record {
   counted = subst (λ (ps : List (List ℕ)). CountsMore n n (length ps)) (sym wrote) (none_more n);
 }
 
-pub stops_none : (offering : Offering) (why : StreamFault) → offering.fault ≡ Some why → offering.wrote ≡ [] →
-    StopsAtOffering offering why []
-stops_none offering why fault wrote = record { fault = fault; bytes_are = ap concat (sym wrote) }
+-- no packet is no byte
+no_bytes : (strict : Bool) (packets : List (List ℕ)) → packets ≡ [] → [] ≡ (if strict then concat packets else [])
+no_bytes true packets none = ap concat (sym none)
+no_bytes false packets none = refl
+
+pub stops_none : (strict : Bool) (offering : Offering) (why : StreamFault) → offering.fault ≡ Some why →
+    offering.wrote ≡ [] → StopsAtOffering strict offering why []
+stops_none strict offering why fault wrote =
+    record { fault = fault; bytes_are = no_bytes strict offering.wrote wrote }
 
 -- no byte is taken
 pub took_nothing : (u : SinkState) (Says : List ℕ → Type 0) → Says [] → TookSome u u Says
@@ -70,8 +76,8 @@ still card s = record { follows = λ past follows. follows; written = refl }
 
 -- a packet that is dropped
 pub dropped_heard : (card : CardFields) (tuning : Tuning) (n : ℕ) (s : Listener) →
-    (key : Option (List ℕ)) → TakesHeard card tuning n Dropped key s s []
-dropped_heard card tuning n s key = λ past follows unclosed judged. (
+    (key : Option (List ℕ)) → TakesHeard true card tuning n Dropped key s s []
+dropped_heard card tuning n s key = λ past follows unclosed judged calm. (
   passes_none (heard_offering card tuning n past Dropped) s.written refl refl,
   record {
     closed = follows.closed ∙ (unclosed ∙ sym (stays_open past Dropped unclosed refl));
@@ -85,20 +91,21 @@ dropped_heard card tuning n s key = λ past follows unclosed judged. (
 pub other_heard : (card : CardFields) (tuning : Tuning) (n : ℕ) (packet : List ℕ) (s t : Listener) →
     t.closed ≡ s.closed →
     t.entitled ≡ s.entitled → t.collect ≡ s.collect → t.written ≡ s.written → t.segment ≡ held_more s.segment n packet →
-    (key : Option (List ℕ)) → TakesHeard card tuning n (Other n packet) key s t []
-other_heard card tuning n packet s t closed entitled collect written segment key = λ past follows unclosed judged. (
-  subst (λ (k : ℕ). PassesOffering (heard_offering card tuning n past (Other n packet)) s.written k []) (sym written)
-      (passes_none (heard_offering card tuning n past (Other n packet)) s.written refl refl),
-  record {
-    closed = closed ∙ (follows.closed ∙ (unclosed ∙ sym (stays_open past (Other n packet) unclosed refl)));
-    entitled = subst (λ (e : Entitled). IsEntitled card (Other n packet ∷ past) e) (sym entitled)
-        (nothing_told card (Other n packet) past s.entitled refl follows.entitled);
-    collect = subst (λ (c : Collect). IsCollected (Other n packet ∷ past) c) (sym collect)
-        (Collecting.other past n packet s.collect follows.collect);
-    segment = segment ∙ (ap (λ (h : Option Holding). held_more h n packet) follows.segment ∙
-        sym (held_other card past n packet));
-  },
-)
+    (key : Option (List ℕ)) → TakesHeard true card tuning n (Other n packet) key s t []
+other_heard card tuning n packet s t closed entitled collect written segment key =
+    λ past follows unclosed judged calm. (
+      subst (λ (k : ℕ). PassesOffering (heard_offering card tuning n past (Other n packet)) s.written k []) (sym written)
+          (passes_none (heard_offering card tuning n past (Other n packet)) s.written refl refl),
+      record {
+        closed = closed ∙ (follows.closed ∙ (unclosed ∙ sym (stays_open past (Other n packet) unclosed refl)));
+        entitled = subst (λ (e : Entitled). IsEntitled card (Other n packet ∷ past) e) (sym entitled)
+            (nothing_told card (Other n packet) past s.entitled refl follows.entitled);
+        collect = subst (λ (c : Collect). IsCollected (Other n packet ∷ past) c) (sym collect)
+            (Collecting.other past n packet s.collect follows.collect);
+        segment = segment ∙ (ap (λ (h : Option Holding). held_more h n packet) follows.segment ∙
+            sym (held_other card past n packet));
+      },
+    )
 
 -- a section writes nothing
 wrote_none : (test : Bool) (a b : Offering) → a.wrote ≡ [] → b.wrote ≡ [] → (if test then a else b).wrote ≡ []
@@ -182,19 +189,20 @@ pub section_taken : (card : CardFields) (tuning : Tuning) (n : ℕ) (emm : Emm) 
     t.segment ≡ s.segment → t.collect ≡ s.collect → t.written ≡ s.written →
     (key : Option (List ℕ)) → ((past : List Heard) → IsEntitled card past s.entitled →
     IsJudged card n past emm key → IsEntitled card (Entitles emm ∷ past) t.entitled) →
-    TakesHeard card tuning n (Entitles emm) key s t []
-section_taken card tuning n emm s t closed segment collect written key entitled = λ past follows unclosed judged. (
-  subst (λ (k : ℕ). PassesOffering (heard_offering card tuning n past (Entitles emm)) s.written k []) (sym written)
-      (passes_none (emm_offering card n past emm) s.written judged.fault
-      (section_writes_none card n past emm)),
-  record {
-    closed = closed ∙ (follows.closed ∙ (unclosed ∙ sym (stays_open past (Entitles emm) unclosed refl)));
-    entitled = entitled past follows.entitled judged;
-    collect = subst (λ (c : Collect). IsCollected (Entitles emm ∷ past) c) (sym collect)
-        (Collecting.entitles past emm s.collect follows.collect);
-    segment = segment ∙ (follows.segment ∙ sym (held_same card past (Entitles emm) refl refl));
-  },
-)
+    TakesHeard true card tuning n (Entitles emm) key s t []
+section_taken card tuning n emm s t closed segment collect written key entitled =
+    λ past follows unclosed judged calm. (
+      subst (λ (k : ℕ). PassesOffering (heard_offering card tuning n past (Entitles emm)) s.written k []) (sym written)
+          (passes_none (emm_offering card n past emm) s.written judged.fault
+          (section_writes_none card n past emm)),
+      record {
+        closed = closed ∙ (follows.closed ∙ (unclosed ∙ sym (stays_open past (Entitles emm) unclosed refl)));
+        entitled = entitled past follows.entitled judged;
+        collect = subst (λ (c : Collect). IsCollected (Entitles emm ∷ past) c) (sym collect)
+            (Collecting.entitles past emm s.collect follows.collect);
+        segment = segment ∙ (follows.segment ∙ sym (held_same card past (Entitles emm) refl refl));
+      },
+    )
 
 -- a part that completes nothing, and one that is refused
 none_is : {A : Type 0} (o : Option A) → o ≡ None → is_none o ≡ true
@@ -205,8 +213,8 @@ pub part_waiting : (card : CardFields) (tuning : Tuning) (n : ℕ) (part : EcmPa
     t.entitled ≡ s.entitled → t.segment ≡ s.segment → t.written ≡ s.written →
     ((past : List Heard) → IsCollected past s.collect → current past ≡ s.entitled.period →
     IsWaiting past part t.collect) →
-    TakesHeard card tuning n (Controls part) None s t []
-part_waiting card tuning n part s t closed entitled segment written waits = λ past follows unclosed judged.
+    TakesHeard true card tuning n (Controls part) None s t []
+part_waiting card tuning n part s t closed entitled segment written waits = λ past follows unclosed judged calm.
     let waiting = waits past follows.collect (sym follows.entitled.period) in
     let offers = part_waits card tuning n past part waiting.fault waiting.incomplete in (
       subst (λ (k : ℕ). PassesOffering (heard_offering card tuning n past (Controls part)) s.written k []) (sym written)
@@ -224,41 +232,41 @@ part_waiting card tuning n part s t closed entitled segment written waits = λ p
       },
     )
 
-pub part_bad : (card : CardFields) (tuning : Tuning) (n : ℕ) (part : EcmPart) (s : Listener) (fault : EcmFault) →
+pub part_bad : (strict : Bool) (card : CardFields) (tuning : Tuning) (n : ℕ) (part : EcmPart) (s : Listener)
+    (fault : EcmFault) →
     ((past : List Heard) → IsCollected past s.collect → current past ≡ s.entitled.period →
     fault_of past part ≡ Some fault) →
-    RefusesHeard card tuning n (Controls part) s (Fault.BadEcm n fault) []
-part_bad card tuning n part s fault bad = λ past follows unclosed.
+    RefusesHeard strict card tuning n (Controls part) s (Fault.BadEcm n fault) []
+part_bad strict card tuning n part s fault bad = λ past follows unclosed calm.
     let offers = part_refused card tuning n past part fault (bad past follows.collect (sym follows.entitled.period)) in
-    stops_none (heard_offering card tuning n past (Controls part)) (Fault.BadEcm n fault)
+    stops_none strict (heard_offering card tuning n past (Controls part)) (Fault.BadEcm n fault)
     (ap (λ (o : Offering). o.fault) offers)
     (ap (λ (o : Offering). o.wrote) offers)
 
 -- faulty sections and parts
-pub bad_section : (card : CardFields) (tuning : Tuning) (n : ℕ) (fault : EmmFault) (s : Listener) →
-    RefusesHeard card tuning n (BadEmm fault) s (Fault.BadEmm n fault) []
-bad_section card tuning n fault s = λ past follows unclosed. record { fault = refl; bytes_are = refl }
+pub bad_section : (strict : Bool) (card : CardFields) (tuning : Tuning) (n : ℕ) (fault : EmmFault) (s : Listener) →
+    RefusesHeard strict card tuning n (BadEmm fault) s (Fault.BadEmm n fault) []
+bad_section strict card tuning n fault s = λ past follows unclosed calm.
+    stops_none strict (refuses (Fault.BadEmm n fault)) (Fault.BadEmm n fault) refl refl
 
-pub bad_part : (card : CardFields) (tuning : Tuning) (n : ℕ) (fault : EcmFault) (s : Listener) →
-    RefusesHeard card tuning n (BadEcm fault) s (Fault.BadEcm n fault) []
-bad_part card tuning n fault s = λ past follows unclosed. record { fault = refl; bytes_are = refl }
+pub bad_part : (strict : Bool) (card : CardFields) (tuning : Tuning) (n : ℕ) (fault : EcmFault) (s : Listener) →
+    RefusesHeard strict card tuning n (BadEcm fault) s (Fault.BadEcm n fault) []
+bad_part strict card tuning n fault s = λ past follows unclosed calm.
+    stops_none strict (refuses (Fault.BadEcm n fault)) (Fault.BadEcm n fault) refl refl
 
 -- what more is said of what comes
-pub comes_weaker : (T S : Listener → List ℕ → Type 0) (R Q : StreamFault → List ℕ → Type 0) (u v : SinkState)
-    (t : Listener)
+pub comes_weaker : (T S : Listener → List ℕ → Type 0) (R Q : StreamFault → List ℕ → Type 0) (C D : List ℕ → Type 0)
+    (u v : SinkState) (t : Listener)
     (result : Result (Unit {0}) (StageFault StreamFault)) → ((x : Listener) (bytes : List ℕ) → T x bytes → S x bytes) →
-    ((fault : StreamFault) (bytes : List ℕ) → R fault bytes → Q fault bytes) → PacketOutcome T R u v t result →
-    PacketOutcome S Q u v t result
-comes_weaker T S R Q u v t (Ok done) takes refuses comes =
+    ((fault : StreamFault) (bytes : List ℕ) → R fault bytes → Q fault bytes) →
+    ((bytes : List ℕ) → C bytes → D bytes) → PacketOutcome T R C u v t result → PacketOutcome S Q D u v t result
+comes_weaker T S R Q C D u v t (Ok done) takes refuses cuts comes =
     record { bytes = comes.bytes; says = takes t comes.bytes comes.says; took = comes.took }
-comes_weaker T S R Q u v t (Err (Refused fault)) takes refuses comes =
+comes_weaker T S R Q C D u v t (Err (Refused fault)) takes refuses cuts comes =
     record { bytes = comes.bytes; says = refuses fault comes.bytes comes.says; took = comes.took }
-comes_weaker T S R Q u v t (Err Write) takes refuses comes = record {
+comes_weaker T S R Q C D u v t (Err Write) takes refuses cuts comes = record {
   bytes = comes.bytes;
-  says = elim comes.says [
-    | inl h ↦ inl (h.0, takes h.0 comes.bytes h.1)
-    | inr h ↦ inr (h.0, refuses h.0 comes.bytes h.1)
-  ];
+  says = cuts comes.bytes comes.says;
   prefix = comes.prefix;
   short = comes.short;
   taken = comes.taken;

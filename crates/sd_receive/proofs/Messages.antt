@@ -1,5 +1,6 @@
 -- What a message that is complete comes to.
-use Rattle.std.proofs.Common.{◌≡◌, ◌⊎◌, inl, inr, ℕ, ◌+◌, ◌≤◌, List, [], ◌∷◌, length, refl, sym, ap, ◌∙◌, subst, arith}
+use Rattle.std.proofs.Common.{◌≡◌, inl, inr, ℕ, ◌+◌, ◌≤◌, List, [], ◌∷◌, length, refl, sym, ap, ◌∙◌, subst, arith}
+use Rattle.std.proofs.Common.{true}
 use Rattle.std.specs.Prelude.{Option, Some, None, option_map, Result, Ok, Err}
 use Rattle.std.specs.List.{concat}
 use Rattle.std.specs.Option.{option_map_or}
@@ -24,7 +25,7 @@ use Rattle.sd_receive.specs.Holding.{Holding, after_message}
 use Rattle.sd_receive.specs.Held.{word_under, holding_after, pair_wrote}
 use Rattle.sd_receive.specs.Listening.{IsListenerAfter, IsListenerAtMessage, capped, CountsMore, PassesOffering}
 use Rattle.sd_receive.specs.Listening.{TookSome, StopsAtOffering, TakesMessage}
-use Rattle.sd_receive.specs.Listening.{RefusesMessage}
+use Rattle.sd_receive.specs.Listening.{RefusesMessage, CutsMessage}
 use Rattle.sd_receive.specs.declared.listener.Listener.{Listener}
 use Rattle.sd_receive.proofs.Stretching.{closes}
 use Rattle.sd_receive.proofs.Judging.{kept_is}
@@ -68,7 +69,7 @@ offering_is card tuning n past part head state done =
 -- what the message offers where a held packet is refused, where its word is, and where nothing is
 pub refuses_parity : (offering : Offering) (wrote : Wrote) (fault : Option StreamFault) (k : ℕ) (bytes : List ℕ) →
     offering ≡ wrote_or wrote fault → wrote.refused ≡ Some k → bytes ≡ concat wrote.packets →
-    StopsAtOffering offering (Fault.Parity k) bytes
+    StopsAtOffering true offering (Fault.Parity k) bytes
 refuses_parity offering wrote fault k bytes is refused written = record {
   fault = ap (λ (o : Offering). o.fault) is ∙ ap (λ (r : Option ℕ). option_map_or (λ m. Some (Fault.Parity m)) r
       fault) refused;
@@ -78,7 +79,7 @@ refuses_parity offering wrote fault k bytes is refused written = record {
 pub refuses_word : (offering : Offering) (wrote : Wrote) (fault : Option StreamFault) (why : StreamFault)
     (bytes : List ℕ) →
     offering ≡ wrote_or wrote fault → wrote.refused ≡ None → fault ≡ Some why → bytes ≡ concat wrote.packets →
-    StopsAtOffering offering why bytes
+    StopsAtOffering true offering why bytes
 refuses_word offering wrote fault why bytes is refused bad written = record {
   fault = ap (λ (o : Offering). o.fault) is ∙ (ap (λ (r : Option ℕ). option_map_or (λ m. Some (Fault.Parity m)) r
       fault) refused ∙ bad);
@@ -161,12 +162,12 @@ allowed : (card : CardFields) (tuning : Tuning) (n : ℕ) (head : EcmHead) (s t 
     wrote ≡ pair_wrote s.collect.last s.segment head.since card.ca tuning.ecm s.collect.coming.places.items →
     wrote.refused ≡ refused →
     Begins card n head s t result → bytes ≡ concat wrote.packets →
-    ((x : Listener) × TakesMessage card tuning n head s x bytes) ⊎
-    ((fault : StreamFault) × RefusesMessage card tuning n head s fault bytes)
+    CutsMessage true card tuning n head s bytes
 allowed card tuning n head s t wrote (Some k) result bytes is told begins written =
     inr (
+      refl,
       Fault.Parity k,
-      λ past part done.
+      λ past part done calm.
           refuses_parity (heard_offering card tuning n past (Controls part)) wrote
           (word_fault n (message_of head s.collect.coming.places.items) (key_at card past head.period)) k bytes
           (offering_is card tuning n past part head s done
@@ -176,8 +177,9 @@ allowed card tuning n head s t wrote (Some k) result bytes is told begins writte
     )
 allowed card tuning n head s t wrote None (Err fault) bytes is told begins written =
     inr (
+      refl,
       fault,
-      λ past part done.
+      λ past part done calm.
           refuses_word (heard_offering card tuning n past (Controls part)) wrote
           (word_fault n (message_of head s.collect.coming.places.items) (key_at card past head.period)) fault bytes
           (offering_is card tuning n past part head s done
@@ -188,7 +190,7 @@ allowed card tuning n head s t wrote None (Err fault) bytes is told begins writt
 allowed card tuning n head s t wrote None (Ok done) bytes is told begins written =
     inl (
       counting t (with_added s.written (length wrote.packets)),
-      λ past part completes. (
+      λ past part completes calm. (
         passes_all (heard_offering card tuning n past (Controls part)) wrote
             (word_fault n (message_of head s.collect.coming.places.items) (key_at card past head.period)) s.written
             (counting t (with_added s.written (length wrote.packets))).written bytes
@@ -208,8 +210,7 @@ pub cut_message : (card : CardFields) (tuning : Tuning) (n : ℕ) (head : EcmHea
     (result : Result (Unit {0}) StreamFault) (u v : SinkState) →
     wrote ≡ pair_wrote s.collect.last s.segment head.since card.ca tuning.ecm s.collect.coming.places.items →
     Begins card n head s t result → IsCutShort u v (λ bytes. bytes ≡ concat wrote.packets) →
-    IsCutShort u v (λ bytes. ((x : Listener) × TakesMessage card tuning n head s x bytes)
-    ⊎ ((fault : StreamFault) × RefusesMessage card tuning n head s fault bytes))
+    IsCutShort u v (CutsMessage true card tuning n head s)
 cut_message card tuning n head s t wrote result u v is begins cut = record {
   bytes = cut.bytes;
   says = allowed card tuning n head s t wrote wrote.refused result cut.bytes is refl begins cut.says;
@@ -224,10 +225,10 @@ pub parity_message : (card : CardFields) (tuning : Tuning) (n : ℕ) (head : Ecm
     (k : ℕ) (u v : SinkState) →
     wrote ≡ pair_wrote s.collect.last s.segment head.since card.ca tuning.ecm s.collect.coming.places.items →
     (wrote.refused ≡ Some k) × TookBytes u v (concat wrote.packets) →
-    TookSome u v (RefusesMessage card tuning n head s (Fault.Parity k))
+    TookSome u v (RefusesMessage true card tuning n head s (Fault.Parity k))
 parity_message card tuning n head s wrote k u v is told = record {
   bytes = concat wrote.packets;
-  says = λ past part done.
+  says = λ past part done calm.
       refuses_parity (heard_offering card tuning n past (Controls part)) wrote
       (word_fault n (message_of head s.collect.coming.places.items) (key_at card past head.period)) k
       (concat wrote.packets)
@@ -243,10 +244,10 @@ pub word_message : (card : CardFields) (tuning : Tuning) (n : ℕ) (head : EcmHe
     (count : ℕ) (u v : SinkState) →
     wrote ≡ pair_wrote s.collect.last s.segment head.since card.ca tuning.ecm s.collect.coming.places.items →
     (wrote.refused ≡ None) × (count ≡ length wrote.packets) × TookBytes u v (concat wrote.packets) →
-    Begins card n head s t (Err fault) → TookSome u v (RefusesMessage card tuning n head s fault)
+    Begins card n head s t (Err fault) → TookSome u v (RefusesMessage true card tuning n head s fault)
 word_message card tuning n head s t wrote fault count u v is told begins = record {
   bytes = concat wrote.packets;
-  says = λ past part done.
+  says = λ past part done calm.
       refuses_word (heard_offering card tuning n past (Controls part)) wrote
       (word_fault n (message_of head s.collect.coming.places.items) (key_at card past head.period)) fault
       (concat wrote.packets)
@@ -262,10 +263,10 @@ pub taken_message : (card : CardFields) (tuning : Tuning) (n : ℕ) (head : EcmH
     wrote ≡ pair_wrote s.collect.last s.segment head.since card.ca tuning.ecm s.collect.coming.places.items →
     (wrote.refused ≡ None) × (count ≡ length wrote.packets) × TookBytes u v (concat wrote.packets) →
     Begins card n head s t (Ok tt) → x ≡ counting t (with_added s.written count) →
-    TookSome u v (TakesMessage card tuning n head s x)
+    TookSome u v (TakesMessage true card tuning n head s x)
 taken_message card tuning n head s t x wrote count u v is told begins same = record {
   bytes = concat wrote.packets;
-  says = λ past part done. (
+  says = λ past part done calm. (
     passes_all (heard_offering card tuning n past (Controls part)) wrote
         (word_fault n (message_of head s.collect.coming.places.items) (key_at card past head.period)) s.written
         x.written (concat wrote.packets)

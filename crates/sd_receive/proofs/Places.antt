@@ -8,8 +8,8 @@ use Rattle.std.proofs.lemmas.List.{get_or-take, length-take}
 use Rattle.std.proofs.lemmas.List.Elements.{All-head, All-tail, All-from_get_or}
 use Rattle.sd_message.specs.EcmForm.{AreShort, AreAscending}
 use Rattle.sd_message.specs.declared.ecm_part.Place.{Place}
-use Rattle.sd_spec.specs.Confirmed.{position_in}
-use Rattle.sd_receive.specs.Tracking.{pids_in, start_of}
+use Rattle.sd_spec.specs.Confirmed.{position_or_first, position_in}
+use Rattle.sd_receive.specs.Tracking.{pids_in}
 
 -- a PID that no place has has no position
 pub none_found : (places : List Place) (pid : ℕ) → list_any (λ q. q == pid) (pids_in places) ≡ false →
@@ -60,8 +60,8 @@ other_found (p ∷ ps) place pid h = elim (cases_Bool (p.pid == pid)) [
 ]
 
 -- where positions have 48 bits, that at which a PID starts has
-pub start_short : (places : List Place) (pid : ℕ) → AreShort places → start_of places pid < 2 ^ 48
-unfolding start_of position_in
+pub start_short : (places : List Place) (pid : ℕ) → AreShort places → position_or_first places pid < 2 ^ 48
+unfolding position_in
 start_short [] pid h = omega arith
 start_short (p ∷ ps) pid h = elim (cases_Bool (p.pid == pid)) [
   | inl same ↦ rw same (All-head (λ (q : Place). q.position < 2 ^ 48) p ps h)

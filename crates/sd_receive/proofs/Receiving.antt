@@ -1,6 +1,6 @@
 -- What a packet comes to for the receiver.
-use Rattle.std.proofs.Common.{◌≡◌, inl, inr, ℕ, suc, ◌+◌, ◌-◌, ◌<◌, ◌≤◌, ◌++◌, List, [], ◌∷◌, length}
-use Rattle.std.proofs.Common.{append-nil, refl, sym, ap, ◌∙◌, subst, true, false, Bool, arith}
+use Rattle.std.proofs.Common.{◌≡◌, ◌⊎◌, inl, inr, ℕ, suc, ◌+◌, ◌-◌, ◌<◌, ◌≤◌, ◌++◌, List, [], ◌∷◌, length}
+use Rattle.std.proofs.Common.{append-nil, length-append, refl, sym, ap, ◌∙◌, subst, true, false, Bool, arith}
 use Rattle.std.specs.Prelude.{◌==◌, ◌&&◌, is_none, not, find, Option, Some, None, option_map, IfSome, OnOk, IsErrOf}
 use Rattle.std.specs.Prelude.{reverse, Result, Ok, Err, if◌then◌else◌}
 use Rattle.std.specs.List.{concat}
@@ -10,7 +10,7 @@ use Rattle.std.proofs.lemmas.List.{reverse-append, reverse-reverse}
 use Rattle.sd_base.proofs.Bools.{tested}
 use Rattle.sd_site.specs.declared.card.Card.{Card}
 use Rattle.sd_site.specs.CardFields.{CardFields, card_fields_of}
-use Rattle.sd_engine.specs.Stage.{SinkState, HasGrown, IsCutShort, IsAllowed}
+use Rattle.sd_engine.specs.Stage.{SinkState, HasGrown, IsCutShort}
 use Rattle.sd_engine.specs.declared.stage.StageFault.{StageFault}
 use Rattle.sd_engine.specs.declared.stage.StageFault.TheVariants.{Write, Refused}
 use Rattle.sd_engine.proofs.Chains.{took_none}
@@ -35,6 +35,7 @@ use Rattle.sd_spec.specs.Stretches.{counted as counted_of}
 use Rattle.sd_spec.specs.Keys.{key_in}
 use Rattle.sd_spec.specs.Runs.{run_name_heard, name_in, are_two, is_turn, of_run}
 use Rattle.sd_spec.specs.Offered.{Offering, no_offering, refuses, heard, offered, heard_offering, break_from}
+use Rattle.sd_spec.specs.Offered.{out_from}
 use Rattle.sd_spec.specs.Offered.{part_offering, part_fault, message_offering, is_back}
 use Rattle.sd_spec.proofs.Hearing.{no_fault_in_none}
 use Rattle.sd_spec.specs.Ending.{run_ending, joined, turns_at, run_wrote, ended_before}
@@ -45,12 +46,16 @@ use Rattle.sd_receive.specs.declared.ears.Heard.TheVariants as Kinds
 use Rattle.sd_receive.specs.Gathered.{places_of}
 use Rattle.sd_receive.proofs.Gathering.{few_listed, none_wrong}
 use Rattle.sd_receive.specs.Listening.{IsListenerAfter, capped, heard_of_run, IsJudgedAs, Judgement, TakesHeard}
-use Rattle.sd_receive.specs.Listening.{RefusesHeard, IsStill, PacketOutcome}
+use Rattle.sd_receive.specs.Listening.{RefusesHeard, IsCalm, IsStill, PacketOutcome}
 use Rattle.sd_receive.specs.Receiving.{card_in, IsAfter, TurnsBy, takes_key_of, takes_key_at, steps_at}
-use Rattle.sd_receive.specs.Receiving.{TakesPacket, receiver_does, Refusing, IsFit}
+use Rattle.sd_receive.specs.Receiving.{IsCountable, TakesPacket, RefusesPacket, TakesBy, RefusesBy, CutsBy, ended_at}
+use Rattle.sd_receive.specs.Receiving.{receiver_does, Refusing, IsFit}
+use Rattle.sd_receive.specs.declared.ended.EndedRuns.{EndedRuns}
+use Rattle.sd_spec.specs.Reports.{run_end}
+use Rattle.sd_spec.specs.Counting.{holds_stray}
 use Rattle.sd_receive.specs.declared.listener.Listener.{Listener}
 use Rattle.sd_receive.specs.declared.receiver.Receiver.{Receiver}
-use Rattle.sd_receive.proofs.Turns.{break_more, not_tuned, was_closed, was_heard, turns_is}
+use Rattle.sd_receive.proofs.Turns.{out_more, break_more, not_tuned, was_closed, was_heard, turns_is}
 use Rattle.sd_receive.proofs.Turns.{name_now, wrote_before, wrote_now}
 
 -- the receiver with another count and another tuning
@@ -60,20 +65,20 @@ counted s count tuning = record {
   count = count;
   tuning = tuning;
   name = s.name;
-  so_far = s.so_far;
+  ended = s.ended;
   listener = s.listener;
   refusal = s.refusal;
 }
 
 -- the receiver after one packet more, with another name of the run at hand, of which this is kept, after runs that
 -- ended so
-abbrev pub listening : Receiver → ℕ → Option (Option ℕ) → Ending → Listener → Receiver
-listening s count name so_far listener = record {
+abbrev pub listening : Receiver → ℕ → Option (Option ℕ) → EndedRuns → Listener → Receiver
+listening s count name ended listener = record {
   card = s.card;
   count = count;
   tuning = s.tuning;
   name = name;
-  so_far = so_far;
+  ended = ended;
   listener = listener;
   refusal = s.refusal;
 }
@@ -95,6 +100,18 @@ unbroken_more card past packet none good =
     ap (break_from card []) (last_reversed packet past)
     ∙ (break_more card [] (reverse past) packet none
     ∙ (ap (λ (b : List (List ℕ)). (offered card b packet).fault) (twice_reversed past) ∙ good))
+
+-- how many packets are written with one more
+out_with : (card : CardFields) (past : List (List ℕ)) (packet : List ℕ) → break_from card [] (reverse past) ≡ None →
+    length (out_from card [] (reverse (packet ∷ past)))
+    ≡ length (out_from card [] (reverse past)) + length (offered card past packet).wrote
+out_with card past packet none =
+    let out = out_from card [] (reverse past) in
+    let wrote : List (List ℕ) → List (List ℕ) = λ before. (offered card before packet).wrote in
+    ap (λ (packets : List (List ℕ)). length (out_from card [] packets)) (last_reversed packet past)
+    ∙ (ap (λ (xs : List (List ℕ)). length xs) (out_more card [] (reverse past) packet none)
+    ∙ (length-append out (wrote (reverse (reverse past) ++ []))
+    ∙ ap (λ (before : List (List ℕ)). length out + length (wrote before)) (twice_reversed past)))
 
 -- a packet that offers nothing, of which nothing is heard, and which ends no run
 pub idle : (past : List (List ℕ)) (s : Receiver) (packet : List ℕ) (tuning : Option Tuning) (count : ℕ) →
@@ -123,9 +140,13 @@ idle past s packet tuning count after offers same stays is tuned_is =
         so_far = after.so_far ∙ sym (ended_on card past packet stays);
         follows = subst (λ (h : List Heard). IsListenerAfter card h s.listener) (sym same) after.follows;
         written = after.written ∙ ap capped (sym wrote);
+        total = let out = out_with card past packet after.unbroken in
+            let none = ap (λ (o : Offering). length o.wrote) offers in
+            let before = after.total in omega (arith, out, none, before);
         unbroken = unbroken_more card past packet after.unbroken good;
         unrefused = after.unrefused;
       };
+      ended = sym (rw stays refl);
       same = refl;
     }
 
@@ -155,11 +176,14 @@ abbrev pub thing_of : Receiver → Tuning → List ℕ → Heard
 thing_of s kept packet = hears s.card.height kept s.count packet
 
 -- what is kept of the run that is at hand with a packet, before it
-record Stands (past : List (List ℕ)) (s : Receiver) (packet : List ℕ) (thing : Heard) (so_far : Ending) (u : Listener) :
-    Type 0 where
+record Stands (past : List (List ℕ)) (s : Receiver) (packet : List ℕ) (thing : Heard) (ended : EndedRuns)
+    (u : Listener) : Type 0 where
   follows : IsListenerAfter (card_in s) (of_run (heard (card_in s) past) thing) u
   written : u.written ≡ capped (wrote_before (card_in s) past packet)
-  so_far_is : so_far ≡ ended_before (card_in s) (packet ∷ past)
+  so_far_is : ended.so_far ≡ ended_before (card_in s) (packet ∷ past)
+  last_is : ended.last ≡ ended_at (card_in s) past packet s.ended.last
+  total : (more : ℕ) → capped (ended.written + capped (wrote_before (card_in s) past packet + more))
+      ≡ capped (length (out_from (card_in s) [] (reverse past)) + more)
 
 -- whether the packet ends the run at hand
 ends_run : (past : List (List ℕ)) (s : Receiver) (packet : List ℕ) (kept : Tuning) → IsAfter past s →
@@ -177,11 +201,16 @@ is_ended : (past : List (List ℕ)) (s : Receiver) (thing : Heard) → IsAfter p
 unfolding is_turn
 is_ended past s thing after = ap (λ (name : Option (Option ℕ)). are_two name (run_name_heard thing)) (sym after.name)
 
-stands : (past : List (List ℕ)) (s : Receiver) (packet : List ℕ) (kept : Tuning) (so_far : Ending) (u : Listener) →
+-- the run at hand ends as the receiver's current run does, once a CAT was taken
+ends_so : (card : CardFields) (past : List (List ℕ)) (tuning : Tuning) → tuning_of card.ca past ≡ Some tuning →
+    run_ending card (heard card past) (run_wrote card past) ≡ run_end card past
+ends_so card past tuning is = sym (rw is refl)
+
+stands : (past : List (List ℕ)) (s : Receiver) (packet : List ℕ) (kept : Tuning) (ended : EndedRuns) (u : Listener) →
     IsAfter past s → s.tuning ≡ Some kept →
-    TurnsBy (are_two s.name (run_name_heard (thing_of s kept packet))) s.so_far s.listener u so_far →
-    Stands past s packet (thing_of s kept packet) so_far u
-stands past s packet kept so_far u after some turned =
+    TurnsBy (are_two s.name (run_name_heard (thing_of s kept packet))) s.name s.ended s.listener u ended →
+    Stands past s packet (thing_of s kept packet) ended u
+stands past s packet kept ended u after some turned =
     let card = card_in s in
     let thing = thing_of s kept packet in
     let ends = ends_run past s packet kept after some in
@@ -195,9 +224,16 @@ stands past s packet kept so_far u after some turned =
           (sym (new_run (heard card past) thing (ends_too ∙ two)))
           (now.follows card (heard card past) after.follows);
       written = now.written ∙ sym (rw turns refl);
-      so_far_is = now.ends card (heard card past) (run_wrote card past) after.follows after.written
+      so_far_is = now.so_far card (heard card past) (run_wrote card past) after.follows after.written
           ∙ (ap (λ (e : Ending). joined e (run_ending card (heard card past) (run_wrote card past))) after.so_far
           ∙ sym (ended_now card past packet turns));
+      last_is = now.last card (heard card past) (run_wrote card past) after.follows after.written
+          ∙ (ap (λ (e : Ending). Some (record { run = s.name; ending = e }))
+          (ends_so card past kept (sym after.tuning ∙ some))
+          ∙ (ap (λ (name : Option (Option ℕ)). Some (record { run = name; ending = run_end card past })) after.name
+          ∙ sym (rw turns refl)));
+      total = λ more. let none : wrote_before card past packet ≡ 0 = rw turns refl in
+          let sum = now.total in let before = after.total in omega (arith, none, sum, before);
     })
     (λ one.
     let is = turned.0 one in
@@ -207,7 +243,11 @@ stands past s packet kept so_far u after some turned =
           (subst (λ (h : List Heard). IsListenerAfter card h s.listener)
           (sym (same_run (heard card past) thing (ends_too ∙ one))) after.follows);
       written = ap (λ (l : Listener). l.written) is.0 ∙ (after.written ∙ sym (rw stays refl));
-      so_far_is = is.1 ∙ (after.so_far ∙ sym (ended_on card past packet stays));
+      so_far_is = ap (λ (e : EndedRuns). e.so_far) is.1 ∙ (after.so_far ∙ sym (ended_on card past packet stays));
+      last_is = ap (λ (e : EndedRuns). e.last) is.1 ∙ sym (rw stays refl);
+      total = λ more. let all : wrote_before card past packet ≡ run_wrote card past = rw stays refl in
+          let same = ap (λ (e : EndedRuns). e.written) is.1 in
+          let before = after.total in let kept_so = after.written in omega (arith, all, same, before, kept_so);
     })
 
 -- nothing that was heard is closed
@@ -316,34 +356,49 @@ steps_known past s packet kept begins from to after found =
     (sym (run_heard past s packet kept begins after found.begins_is)) (found.few (heard card past) after.follows) in
     omega (arith, steps, known.few)
 
+-- nothing odd is held before anything was heard
+calm_none : (strict : Bool) → IsCalm strict []
+unfolding holds_stray newest
+calm_none true = tt
+calm_none false = refl
+
+-- nothing odd is held of the run at hand either
+calm_run : (strict : Bool) (past : List Heard) (begins : Bool) → IsCalm strict past →
+    IsCalm strict (heard_of_run begins past)
+calm_run strict past true calm = calm_none strict
+calm_run strict past false calm = calm
+
 -- a packet that is heard and taken
-pub heard_does : (s : Receiver) (packet : List ℕ) (kept : Tuning) (begins : Bool) (key : Option (List ℕ)) (count : ℕ)
-    (name : Option (Option ℕ)) (so_far : Ending) (u t : Listener) (bytes : List ℕ) (from to : ℕ) →
-    Found s packet kept begins from to → TurnsBy begins s.so_far s.listener u so_far →
+heard_opens : (strict : Bool) (s : Receiver) (packet : List ℕ) (kept : Tuning) (begins : Bool) (key : Option (List ℕ))
+    (count : ℕ) (name : Option (Option ℕ)) (ended : EndedRuns) (u t : Listener) (bytes : List ℕ) (from to : ℕ) →
+    Found s packet kept begins from to → TurnsBy begins s.name s.ended s.listener u ended →
     ((past : List Heard) → IsListenerAfter (card_in s) past s.listener →
     IsJudgedAs (card_in s) s.count (heard_of_run begins past) (thing_of s kept packet) key) →
     count ≡ capped (s.count + 1) →
     name ≡ option_or (run_name_heard (thing_of s kept packet)) s.name →
-    TakesHeard (card_in s) kept s.count (thing_of s kept packet) key u t bytes →
-    receiver_does s packet (listening s count name so_far t) bytes (to - from)
-heard_does s packet kept begins key count name so_far u t bytes from to found turned judged added named takes =
-    λ past after countable.
+    TakesHeard strict (card_in s) kept s.count (thing_of s kept packet) key u t bytes →
+    (past : List (List ℕ)) → IsAfter past s → IsCountable past → IsCalm strict (heard (card_in s) past) →
+    TakesPacket past s packet (listening s count name ended t) bytes (to - from)
+heard_opens strict s packet kept begins key count name ended u t bytes from to found turned judged added named takes =
+    λ past after countable calm.
     let card = card_in s in
     let thing = thing_of s kept packet in
     let run_is = run_heard past s packet kept begins after found.begins_is in
-    let stood = stands past s packet kept so_far u after found.tuned
-    (subst (λ (b : Bool). TurnsBy b s.so_far s.listener u so_far) found.begins_is turned) in
+    let stood = stands past s packet kept ended u after found.tuned
+    (subst (λ (b : Bool). TurnsBy b s.name s.ended s.listener u ended) found.begins_is turned) in
     let open_yet = run_open past s packet kept begins from to after found in
     let known = was_known past s packet kept after found.tuned open_yet in
     let taken = takes (of_run (heard card past) thing) stood.follows open_yet
     (subst (λ (run : List Heard). IsJudgedAs card s.count run thing key) (sym run_is)
-    (judged (heard card past) after.follows)) in
+    (judged (heard card past) after.follows))
+    (subst (λ (run : List Heard). IsCalm strict run) (sym run_is) (calm_run strict (heard card past) begins calm)) in
     let good = ap (λ (o : Offering). o.fault) known.offers ∙ taken.0.fault in
     let steps = steps_known past s packet kept begins from to after found in
-    let wrote : t.written ≡ capped (run_wrote card (packet ∷ past)) =
+    let counts : t.written ≡ capped (wrote_before card past packet + length (offered card past packet).wrote) =
     taken.0.counted (wrote_before card past packet) stood.written
-    ∙ ap capped (ap (λ (o : Offering). wrote_before card past packet + length o.wrote) (sym known.offers)
-    ∙ sym (wrote_now card past packet)) in
+    ∙ ap capped (ap (λ (o : Offering). wrote_before card past packet + length o.wrote) (sym known.offers)) in
+    let wrote : t.written ≡ capped (run_wrote card (packet ∷ past)) =
+    counts ∙ ap capped (sym (wrote_now card past packet)) in
     record {
       fault = good;
       bytes_are = taken.0.bytes_are ∙ ap (λ (o : Offering). concat o.wrote) (sym known.offers);
@@ -356,38 +411,75 @@ heard_does s packet kept begins key count name so_far u t bytes from to found tu
         so_far = stood.so_far_is;
         follows = subst (λ (h : List Heard). IsListenerAfter card h t) (sym known.hearing) taken.1;
         written = wrote;
+        total = ap (λ (n : ℕ). capped (ended.written + n)) counts
+            ∙ (stood.total (length (offered card past packet).wrote)
+            ∙ ap capped (sym (out_with card past packet after.unbroken)));
         unbroken = unbroken_more card past packet after.unbroken good;
         unrefused = after.unrefused;
       };
+      ended = stood.last_is;
       same = refl;
     }
 
+pub heard_does : (strict : Bool) (s : Receiver) (packet : List ℕ) (kept : Tuning) (begins : Bool)
+    (key : Option (List ℕ)) (count : ℕ)
+    (name : Option (Option ℕ)) (ended : EndedRuns) (u t : Listener) (bytes : List ℕ) (from to : ℕ) →
+    Found s packet kept begins from to → TurnsBy begins s.name s.ended s.listener u ended →
+    ((past : List Heard) → IsListenerAfter (card_in s) past s.listener →
+    IsJudgedAs (card_in s) s.count (heard_of_run begins past) (thing_of s kept packet) key) →
+    count ≡ capped (s.count + 1) →
+    name ≡ option_or (run_name_heard (thing_of s kept packet)) s.name →
+    TakesHeard strict (card_in s) kept s.count (thing_of s kept packet) key u t bytes →
+    TakesBy strict s packet (listening s count name ended t) bytes (to - from)
+heard_does true s packet kept begins key count name ended u t bytes from to found turned judged added named takes =
+    λ past after countable. heard_opens true s packet kept begins key count name ended u t bytes from to found turned
+    judged added named takes past after countable tt
+heard_does false s packet kept begins key count name ended u t bytes from to found turned judged added named takes =
+    heard_opens false s packet kept begins key count name ended u t bytes from to found turned judged added named takes
+
 -- and one that is refused: when it is judged, or when it is taken
-pub heard_refuses : (s : Receiver) (packet : List ℕ) (kept : Tuning) (begins : Bool) (so_far : Ending) (u : Listener)
-    (why : StreamFault) (bytes : List ℕ) (from to : ℕ) →
-    Found s packet kept begins from to → TurnsBy begins s.so_far s.listener u so_far →
-    RefusesHeard (card_in s) kept s.count (thing_of s kept packet) u why bytes →
-    Refusing s packet why bytes (to - from)
-heard_refuses s packet kept begins so_far u why bytes from to found turned refuses = λ past after countable.
+stopped_bytes : (strict : Bool) (a b : Offering) (bytes : List ℕ) → a ≡ b →
+    bytes ≡ (if strict then concat b.wrote else []) → bytes ≡ (if strict then concat a.wrote else [])
+stopped_bytes strict a b bytes is written =
+    written ∙ ap (λ (o : Offering). if strict then concat o.wrote else []) (sym is)
+
+-- a refusal, whichever receiver it is
+refuses_by : (strict : Bool) (s : Receiver) (packet : List ℕ) (why : StreamFault) (bytes : List ℕ) (steps : ℕ) →
+    ((past : List (List ℕ)) → IsAfter past s → IsCountable past → IsCalm strict (heard (card_in s) past) →
+    RefusesPacket strict past s packet why bytes steps) → RefusesBy strict s packet why bytes steps
+refuses_by true s packet why bytes steps refuses = λ past after countable. refuses past after countable tt
+refuses_by false s packet why bytes steps refuses = refuses
+
+pub heard_refuses : (strict : Bool) (s : Receiver) (packet : List ℕ) (kept : Tuning) (begins : Bool)
+    (ended : EndedRuns) (u : Listener) (why : StreamFault) (bytes : List ℕ) (from to : ℕ) →
+    Found s packet kept begins from to → TurnsBy begins s.name s.ended s.listener u ended →
+    RefusesHeard strict (card_in s) kept s.count (thing_of s kept packet) u why bytes →
+    RefusesBy strict s packet why bytes (to - from)
+heard_refuses strict s packet kept begins ended u why bytes from to found turned refuses =
+    refuses_by strict s packet why bytes (to - from) (λ past after countable calm.
     let card = card_in s in
     let thing = thing_of s kept packet in
-    let stood = stands past s packet kept so_far u after found.tuned
-    (subst (λ (b : Bool). TurnsBy b s.so_far s.listener u so_far) found.begins_is turned) in
+    let run_is = run_heard past s packet kept begins after found.begins_is in
+    let stood = stands past s packet kept ended u after found.tuned
+    (subst (λ (b : Bool). TurnsBy b s.name s.ended s.listener u ended) found.begins_is turned) in
     let open_yet = run_open past s packet kept begins from to after found in
     let known = was_known past s packet kept after found.tuned open_yet in
-    let stopped = refuses (of_run (heard card past) thing) stood.follows open_yet in
+    let stopped = refuses (of_run (heard card past) thing) stood.follows open_yet
+    (subst (λ (run : List Heard). IsCalm strict run) (sym run_is) (calm_run strict (heard card past) begins calm)) in
     record {
       fault = ap (λ (o : Offering). o.fault) known.offers ∙ stopped.fault;
-      bytes_are = stopped.bytes_are ∙ ap (λ (o : Offering). concat o.wrote) (sym known.offers);
+      bytes_are = stopped_bytes strict (offered card past packet)
+          (heard_offering card kept s.count (of_run (heard card past) thing) thing) bytes known.offers stopped.bytes_are;
       few = steps_known past s packet kept begins from to after found;
-    }
+    })
 
-pub judged_refuses : (s : Receiver) (packet : List ℕ) (kept : Tuning) (begins : Bool) (key : Option (List ℕ))
-    (why : StreamFault) (from to : ℕ) → Found s packet kept begins from to →
+pub judged_refuses : (strict : Bool) (s : Receiver) (packet : List ℕ) (kept : Tuning) (begins : Bool)
+    (key : Option (List ℕ)) (why : StreamFault) (from to : ℕ) → Found s packet kept begins from to →
     ((past : List Heard) → IsListenerAfter (card_in s) past s.listener →
     Judgement (card_in s) s.count (heard_of_run begins past) (thing_of s kept packet) key (Err why)) →
-    Refusing s packet why [] (to - from)
-judged_refuses s packet kept begins key why from to found judged = λ past after countable.
+    RefusesBy strict s packet why [] (to - from)
+judged_refuses strict s packet kept begins key why from to found judged =
+    refuses_by strict s packet why [] (to - from) (λ past after countable calm.
     let card = card_in s in
     let thing = thing_of s kept packet in
     let run_is = run_heard past s packet kept begins after found.begins_is in
@@ -398,39 +490,46 @@ judged_refuses s packet kept begins key why from to found judged = λ past after
     ∙ judged (heard card past) after.follows kept) in
     record {
       fault = ap (λ (o : Offering). o.fault) offers;
-      bytes_are = ap (λ (o : Offering). concat o.wrote) (sym offers);
+      bytes_are = stopped_bytes strict (offered card past packet) (refuses why) [] offers (if_none strict);
       few = steps_known past s packet kept begins from to after found;
-    }
+    })
+  where
+    if_none : (strict : Bool) → [] ≡ (if strict then concat [] else [])
+    if_none true = refl
+    if_none false = refl
 
 -- what is kept of the run at hand with a packet is of what was heard of it
-pub turned_follows : (card : CardFields) (begins : Bool) (before so_far : Ending) (l u : Listener) →
-    TurnsBy begins before l u so_far → (past : List Heard) → IsListenerAfter card past l →
+pub turned_follows : (card : CardFields) (begins : Bool) (name : Option (Option ℕ)) (before ended : EndedRuns)
+    (l u : Listener) → TurnsBy begins name before l u ended → (past : List Heard) → IsListenerAfter card past l →
     IsListenerAfter card (heard_of_run begins past) u
-turned_follows card true before so_far l u turned past follows = (turned.1 refl).follows card past follows
-turned_follows card false before so_far l u turned past follows =
+turned_follows card true name before ended l u turned past follows = (turned.1 refl).follows card past follows
+turned_follows card false name before ended l u turned past follows =
     subst (λ (m : Listener). IsListenerAfter card past m) (sym (turned.0 refl).0) follows
 
-pub turned_open : (card : CardFields) (begins : Bool) (before so_far : Ending) (l u : Listener) →
-    TurnsBy begins before l u so_far → (past : List Heard) × IsListenerAfter card past l →
+pub turned_open : (card : CardFields) (begins : Bool) (name : Option (Option ℕ)) (before ended : EndedRuns)
+    (l u : Listener) → TurnsBy begins name before l u ended → (past : List Heard) × IsListenerAfter card past l →
     (l.closed && not begins) ≡ false → u.closed ≡ false
-turned_open card begins before so_far l u turned (past, follows) goes_on =
-    (turned_follows card begins before so_far l u turned past follows).closed
+turned_open card begins name before ended l u turned (past, follows) goes_on =
+    (turned_follows card begins name before ended l u turned past follows).closed
     ∙ open_of l.closed begins past follows.closed goes_on
 
 -- a refused packet leaves what is kept, if it begins no run
-stands_still : (s : Receiver) (so_far : Ending) (u t : Listener) → TurnsBy false s.so_far s.listener u so_far →
+stands_still : (s : Receiver) (ended : EndedRuns) (u t : Listener) → TurnsBy false s.name s.ended s.listener u ended →
     IsStill (card_in s) u t → (past : List (List ℕ)) → IsAfter past s →
-    IsAfter past (listening s s.count s.name so_far t)
-stands_still s so_far u t turned still past after =
+    IsAfter past (listening s s.count s.name ended t)
+stands_still s ended u t turned still past after =
     let is = turned.0 refl in
+    let wrote : t.written ≡ s.listener.written = still.written ∙ ap (λ (l : Listener). l.written) is.0 in
     record {
       count = after.count;
       tuning = after.tuning;
       name = after.name;
-      so_far = is.1 ∙ after.so_far;
+      so_far = ap (λ (e : EndedRuns). e.so_far) is.1 ∙ after.so_far;
       follows = still.follows (heard (card_in s) past)
           (subst (λ (l : Listener). IsListenerAfter (card_in s) (heard (card_in s) past) l) (sym is.0) after.follows);
-      written = still.written ∙ (ap (λ (l : Listener). l.written) is.0 ∙ after.written);
+      written = wrote ∙ after.written;
+      total = ap (λ (e : EndedRuns). capped (e.written + t.written)) is.1
+          ∙ (ap (λ (n : ℕ). capped (s.ended.written + n)) wrote ∙ after.total);
       unbroken = after.unbroken;
       unrefused = after.unrefused;
     }
@@ -442,11 +541,12 @@ of_taken (Ok done) taken says = says
 of_taken (Err fault) taken says = absurd (taken fault refl)
 
 -- what is said of all that a packet comes to, by its answer
-pub grew_of : (T : Listener → List ℕ → Type 0) (R : StreamFault → List ℕ → Type 0) (u v : SinkState) (t : Listener)
+pub grew_of : (T : Listener → List ℕ → Type 0) (R : StreamFault → List ℕ → Type 0) (C : List ℕ → Type 0)
+    (u v : SinkState) (t : Listener)
     (result : Result (Unit {0}) (StageFault StreamFault)) (from to : ℕ) (Says : List ℕ → ℕ → Type 0) →
-    PacketOutcome T R u v t result →
+    PacketOutcome T R C u v t result →
     ((bytes : List ℕ) → T t bytes → Says bytes (to - from)) → OnOk result (HasGrown u v from to Says)
-grew_of T R u v t (Ok done) from to Says comes says = record {
+grew_of T R C u v t (Ok done) from to Says comes says = record {
   bytes = comes.bytes;
   steps = to - from;
   says = says comes.bytes comes.says;
@@ -454,15 +554,16 @@ grew_of T R u v t (Ok done) from to Says comes says = record {
   room = comes.took.room;
   counted = omega arith;
 }
-grew_of T R u v t (Err fault) from to Says comes says = tt
+grew_of T R C u v t (Err fault) from to Says comes says = tt
 
-pub refused_of : (T : Listener → List ℕ → Type 0) (R : StreamFault → List ℕ → Type 0) (u v : SinkState) (t : Listener)
+pub refused_of : (T : Listener → List ℕ → Type 0) (R : StreamFault → List ℕ → Type 0) (C : List ℕ → Type 0)
+    (u v : SinkState) (t : Listener)
     (result : Result (Unit {0}) (StageFault StreamFault)) (from to : ℕ) (fault : StreamFault)
     (Says : List ℕ → ℕ → Type 0) →
-    result ≡ Err (Refused fault) → PacketOutcome T R u v t result →
+    result ≡ Err (Refused fault) → PacketOutcome T R C u v t result →
     ((bytes : List ℕ) → R fault bytes → Says bytes (to - from)) → HasGrown u v from to Says
-refused_of T R u v t result from to fault Says is comes says =
-    let some = subst (λ (r : Result (Unit {0}) (StageFault StreamFault)). PacketOutcome T R u v t r) is comes in
+refused_of T R C u v t result from to fault Says is comes says =
+    let some = subst (λ (r : Result (Unit {0}) (StageFault StreamFault)). PacketOutcome T R C u v t r) is comes in
     record {
       bytes = some.bytes;
       steps = to - from;
@@ -472,45 +573,51 @@ refused_of T R u v t result from to fault Says is comes says =
       counted = omega arith;
     }
 
-pub cut_of : (T : Listener → List ℕ → Type 0) (R : StreamFault → List ℕ → Type 0) (u v : SinkState) (t : Listener)
-    (result : Result (Unit {0}) (StageFault StreamFault)) (from to : ℕ) (Does : Receiver → List ℕ → ℕ → Type 0)
-    (Refuses : StreamFault → Receiver → List ℕ → ℕ → Type 0) (s : Receiver) → IsErrOf result Write →
-    PacketOutcome T R u v t result →
-    ((x : Listener) (bytes : List ℕ) → T x bytes → (y : Receiver) × Does y bytes (to - from)) →
-    ((fault : StreamFault) (bytes : List ℕ) → R fault bytes → Refuses fault s bytes (to - from)) →
-    IsCutShort u v (IsAllowed Does Refuses from to)
-cut_of T R u v t (Ok done) from to Does Refuses s is comes does refuses = absurd (grind (arith, is))
-cut_of T R u v t (Err (Refused fault)) from to Does Refuses s is comes does refuses = absurd (grind (arith, is))
-cut_of T R u v t (Err Write) from to Does Refuses s is comes does refuses = record {
+pub cut_of : (strict : Bool) (T : Listener → List ℕ → Type 0) (R : StreamFault → List ℕ → Type 0) (u v : SinkState)
+    (t : Listener) (result : Result (Unit {0}) (StageFault StreamFault)) (from to : ℕ) (s : Receiver) (packet : List ℕ)
+    (C : List ℕ → Type 0) → IsErrOf result Write → PacketOutcome T R C u v t result →
+    ((bytes : List ℕ) → C bytes → CutsBy strict s packet from to bytes) →
+    IsCutShort u v (CutsBy strict s packet from to)
+cut_of strict T R u v t (Ok done) from to s packet C is comes cuts = absurd (grind (arith, is))
+cut_of strict T R u v t (Err (Refused fault)) from to s packet C is comes cuts = absurd (grind (arith, is))
+cut_of strict T R u v t (Err Write) from to s packet C is comes cuts = record {
   bytes = comes.bytes;
-  says = (
-    to - from,
-    omega arith,
-    elim comes.says [
-      | inl h ↦ inl (does h.0 comes.bytes h.1)
-      | inr h ↦ inr (h.0, s, refuses h.0 comes.bytes h.1)
-    ],
-  );
+  says = cuts comes.bytes comes.says;
   prefix = comes.prefix;
   short = comes.short;
   taken = comes.taken;
   room = comes.room;
 }
 
+-- the bytes of which a write may fail, whichever receiver it is
+pub cuts_by : (strict : Bool) (s : Receiver) (packet : List ℕ) (from to : ℕ) (bytes : List ℕ)
+    (Takes : Listener → Type 0) (Refuses : StreamFault → Type 0) →
+    ((x : Listener) → Takes x → (y : Receiver) × TakesBy strict s packet y bytes (to - from)) →
+    ((fault : StreamFault) → Refuses fault → RefusesBy strict s packet fault bytes (to - from)) →
+    ((x : Listener) × Takes x) ⊎ ((strict ≡ true) × (fault : StreamFault) × Refuses fault) →
+    CutsBy strict s packet from to bytes
+cuts_by true s packet from to bytes Takes Refuses takes refuses (inl h) =
+    (to - from, omega arith, inl (takes h.0 h.1))
+cuts_by true s packet from to bytes Takes Refuses takes refuses (inr h) =
+    (to - from, omega arith, inr (h.1, s, refuses h.1 h.2))
+cuts_by false s packet from to bytes Takes Refuses takes refuses (inl h) =
+    let y = takes h.0 h.1 in (to - from, omega arith, y.0, y.1)
+cuts_by false s packet from to bytes Takes Refuses takes refuses (inr h) = absurd (true≢false (sym h.0))
+
 -- it may be offered a packet still, where this one isn't refused
-pub fit_after : (s : Receiver) (count : ℕ) (name : Option (Option ℕ)) (so_far : Ending) (u t : Listener)
+pub fit_after : (s : Receiver) (count : ℕ) (name : Option (Option ℕ)) (ended : EndedRuns) (u t : Listener)
     (tuning : Tuning) (n : ℕ) (thing : Heard) (key : Option (List ℕ)) (R : StreamFault → List ℕ → Type 0)
-    (v w : SinkState) (result : Result (Unit {0}) (StageFault StreamFault)) →
+    (C : List ℕ → Type 0) (v w : SinkState) (result : Result (Unit {0}) (StageFault StreamFault)) →
     (past : List Heard) × IsListenerAfter (card_in s) past u × IsJudgedAs (card_in s) n past thing key →
     u.closed ≡ false → IfSome s.tuning (λ kept. kept.ecm < 8192) →
-    PacketOutcome (TakesHeard (card_in s) tuning n thing key u) R v w t result →
-    OnOk result (IsFit (listening s count name so_far t))
-fit_after s count name so_far u t tuning n thing key R v w (Ok done) (past, follows, judged) unclosed ecm comes =
+    PacketOutcome (TakesHeard true (card_in s) tuning n thing key u) R C v w t result →
+    OnOk result (IsFit (listening s count name ended t))
+fit_after s count name ended u t tuning n thing key R C v w (Ok done) (past, follows, judged) unclosed ecm comes =
     record {
       ecm = ecm;
-      follows = (thing ∷ past, (comes.says past follows (sym follows.closed ∙ unclosed) judged).1);
+      follows = (thing ∷ past, (comes.says past follows (sym follows.closed ∙ unclosed) judged tt).1);
     }
-fit_after s count name so_far u t tuning n thing key R v w (Err fault) live unclosed ecm comes = tt
+fit_after s count name ended u t tuning n thing key R C v w (Err fault) live unclosed ecm comes = tt
 
 -- what is found of a thing is found of the one that is heard now
 pub found_of : (s : Receiver) (packet : List ℕ) (kept : Tuning) (thing : Heard) (name : Option (Option ℕ))
@@ -574,30 +681,40 @@ first_passes card tuning n k h packet (Kinds.BadEmm fault) name key form two jud
 first_passes card tuning n k h packet (Kinds.BadEcm fault) name key form two judged = absurd (nameless name two)
 first_passes card tuning n k h packet Kinds.Other name key form two judged = absurd (nameless name two)
 
--- after a packet that is refused when it is taken the receiver is after the same packets as before it: it begins no run
-pub stands_after : (s : Receiver) (packet : List ℕ) (kept : Tuning) (h : Kept) (begins : Bool) (key : Option (List ℕ))
-    (so_far : Ending) (u t : Listener) (v w : SinkState) (result : Result (Unit {0}) (StageFault StreamFault))
+-- a packet that is refused when it is taken begins no run
+pub begins_none : (strict : Bool) (s : Receiver) (packet : List ℕ) (kept : Tuning) (h : Kept) (begins : Bool)
+    (key : Option (List ℕ)) (ended : EndedRuns) (u t : Listener) (C : List ℕ → Type 0) (v w : SinkState)
+    (result : Result (Unit {0}) (StageFault StreamFault))
     (fault : StreamFault) → IsFormed s.card.height h →
     begins ≡ are_two s.name (run_name_heard (heard_as s.count packet h)) →
-    TurnsBy begins s.so_far s.listener u so_far →
+    TurnsBy begins s.name s.ended s.listener u ended →
     ((past : List Heard) → IsListenerAfter (card_in s) past s.listener →
     IsJudgedAs (card_in s) s.count (heard_of_run begins past) (heard_as s.count packet h) key) →
-    IsStill (card_in s) u t → result ≡ Err (Refused fault) →
-    PacketOutcome (TakesHeard (card_in s) kept s.count (heard_as s.count packet h) key u)
-    (RefusesHeard (card_in s) kept s.count (heard_as s.count packet h) u) v w t result →
-    (past : List (List ℕ)) → IsAfter past s → IsAfter past (listening s s.count s.name so_far t)
-stands_after s packet kept h false key so_far u t v w result fault form is turned judged still bad comes past after =
-    stands_still s so_far u t turned still past after
-stands_after s packet kept h true key so_far u t v w result fault form is turned judged still bad comes past after =
+    result ≡ Err (Refused fault) →
+    PacketOutcome (TakesHeard true (card_in s) kept s.count (heard_as s.count packet h) key u)
+    (RefusesHeard strict (card_in s) kept s.count (heard_as s.count packet h) u) C v w t result →
+    (past : List Heard) → IsListenerAfter (card_in s) past s.listener → begins ≡ false
+begins_none strict s packet kept h false key ended u t C v w result fault form is turned judged bad comes past
+    follows = refl
+begins_none strict s packet kept h true key ended u t C v w result fault form is turned judged bad comes past
+    follows =
     let card = card_in s in
     let thing = heard_as s.count packet h in
     let says = (subst (λ (r : Result (Unit {0}) (StageFault StreamFault)).
-    PacketOutcome (TakesHeard card kept s.count thing key u) (RefusesHeard card kept s.count thing u) v w t r)
-    bad comes).says in
-    let stops = says [] ((turned.1 refl).follows card (heard card past) after.follows) none_closed in
+    PacketOutcome (TakesHeard true card kept s.count thing key u) (RefusesHeard strict card kept s.count thing u) C v w
+    t r) bad comes).says in
+    let stops = says [] ((turned.1 refl).follows card past follows) none_closed (calm_none strict) in
     let passes = first_passes card kept s.count s.count s.card.height packet h s.name key form (sym is)
-    (judged (heard card past) after.follows) in
+    (judged past follows) in
     absurd (let both = sym passes ∙ stops.fault in cc)
+
+-- after it the receiver is after the same packets as before it
+pub stands_after : (begins : Bool) (s : Receiver) (ended : EndedRuns) (u t : Listener) → begins ≡ false →
+    TurnsBy begins s.name s.ended s.listener u ended → IsStill (card_in s) u t →
+    (past : List (List ℕ)) → IsAfter past s → IsAfter past (listening s s.count s.name ended t)
+stands_after begins s ended u t none turned still past after =
+    stands_still s ended u t (subst (λ (b : Bool). TurnsBy b s.name s.ended s.listener u ended) none turned) still past
+    after
 
 -- a run that is over is closed, and isn't left
 pub over_parts : (closed begins : Bool) → (closed && not begins) ≡ true → (closed ≡ true) × (begins ≡ false)
@@ -651,11 +768,11 @@ pub first_after : (card : Card) (listener : Listener) → listener.written ≡ 0
       count = 0;
       tuning = None;
       name = None;
-      so_far = Opened;
+      ended = record { so_far = Opened; written = 0; last = None };
       listener = listener;
       refusal = None;
     })
-unfolding tuning_of heard break_from name_in ended_before run_wrote
+unfolding tuning_of heard break_from name_in ended_before run_wrote out_from
 first_after card listener none follows = record {
   count = refl;
   tuning = refl;
@@ -663,6 +780,7 @@ first_after card listener none follows = record {
   so_far = refl;
   follows = follows (card_fields_of card);
   written = none;
+  total = omega (arith, none);
   unbroken = refl;
   unrefused = refl;
 }

@@ -15,21 +15,21 @@ use Rattle.sd_packet.specs.Positions.{is_moving, moved, moved_by, first_position
 use Rattle.sd_packet.proofs.Positions.{one_more, none_moves, more_packets, moved_by_near}
 use Rattle.sd_message.specs.EcmForm.{AreShort, AreAscending}
 use Rattle.sd_message.specs.declared.ecm_part.Place.{Place}
-use Rattle.sd_spec.specs.Confirmed.{position_in}
+use Rattle.sd_spec.specs.Confirmed.{position_or_first, position_in}
 use Rattle.sd_receive.specs.declared.held.Held.{Held}
-use Rattle.sd_receive.specs.Tracking.{pids_in, packets_in, start_of, led_to, IsTracked, IsClearBut, AreKnown}
+use Rattle.sd_receive.specs.Tracking.{pids_in, packets_in, led_to, IsTracked, IsClearBut, AreKnown}
 use Rattle.sd_receive.specs.Tracking.{HaveOwn}
 use Rattle.sd_receive.proofs.Places.{none_found, none_before, same_found, other_found, start_short}
 
 -- a table of first positions is one of no place
 pub none_started : (table : List ℕ) → IsClearBut [] table → IsTracked [] [] table
-unfolding led_to start_of position_in moved_by
+unfolding led_to position_in moved_by
 none_started table is = record { long = is.long; at = λ pid small. is.clear pid refl small }
 
 -- without packets a PID is led to where it starts
 start_led : (places : List Place) (pid : ℕ) →
     led_to places [] pid ≡ option_map_or (λ p. p) (position_in places pid) first_position
-unfolding led_to start_of moved_by
+unfolding led_to moved_by
 start_led places pid = refl
 
 -- a place more in a table
@@ -102,14 +102,14 @@ none_moving pid (p ∷ ps) none = elim (cases_Bool (pid_of p == pid)) [
 -- a table of positions has the first position but for the PIDs of places and packets
 pub tracked_but : (places : List Place) (packets : List (List ℕ)) (table : List ℕ) → IsTracked places packets table →
     IsClearBut (pids_in places ++ map (λ (p : List ℕ). pid_of p) packets) table
-unfolding led_to start_of
+unfolding led_to
 tracked_but places packets table is = record {
   long = is.long;
   clear = λ pid none small.
       let both = or_parts (list_any (λ q. q == pid) (pids_in places))
       (list_any (λ q. q == pid) (map (λ (p : List ℕ). pid_of p) packets))
       (sym (list_any-append (λ (q : ℕ). q == pid) (pids_in places) (map (λ (p : List ℕ). pid_of p) packets)) ∙ none) in
-      is.at pid small ∙ (none_moves pid (start_of places pid) packets (none_moving pid packets both.1)
+      is.at pid small ∙ (none_moves pid (position_or_first places pid) packets (none_moving pid packets both.1)
       ∙ ap (λ (o : Option ℕ). option_map_or (λ p. p) o first_position) (none_found places pid both.0));
 }
 
@@ -127,9 +127,9 @@ tracked_more places packets packet table known is =
             (packets ++ packet ∷ []) q) (eqb-true (pid_of packet) pid same)
             (get_or-set_same table (pid_of packet) at 0 (omega (arith, known, is.long))
             ∙ (ap (λ (x : ℕ). moved (pid_of packet) x packet) (is.at (pid_of packet) known)
-            ∙ sym (one_more (pid_of packet) (start_of places (pid_of packet)) packets packet)))
+            ∙ sym (one_more (pid_of packet) (position_or_first places (pid_of packet)) packets packet)))
         | inr other ↦ get_or-set_other table (pid_of packet) pid at 0 (λ e. eqb-false (pid_of packet) pid other (sym e))
-            ∙ (is.at pid small ∙ sym (one_more pid (start_of places pid) packets packet ∙ rw other refl))
+            ∙ (is.at pid small ∙ sym (one_more pid (position_or_first places pid) packets packet ∙ rw other refl))
       ];
     }
 
@@ -138,7 +138,7 @@ pub led_within : (places : List Place) (packets : List (List ℕ)) (pid : ℕ) �
     led_to places packets pid < 2 ^ 63
 unfolding led_to
 led_within places packets pid short few =
-    omega (arith, start_short places pid short, moved_by_near pid (start_of places pid) packets)
+    omega (arith, start_short places pid short, moved_by_near pid (position_or_first places pid) packets)
 
 -- nor back
 pub led_further : (places : List Place) (packets : List (List ℕ)) (k pid : ℕ) →
@@ -146,11 +146,11 @@ pub led_further : (places : List Place) (packets : List (List ℕ)) (k pid : ℕ
 unfolding led_to
 led_further places packets k pid =
     let all = take-append-drop k packets in
-    let further = more_packets pid (start_of places pid) (take k packets) (drop k packets) in
-    let same : moved_by pid (start_of places pid) packets ≡ moved_by pid
-    (moved_by pid (start_of places pid) (take k packets)) (drop k packets) =
-    ap (λ (ps : List (List ℕ)). moved_by pid (start_of places pid) ps) (sym all) ∙ further in
-    omega (arith, same, moved_by_near pid (moved_by pid (start_of places pid) (take k packets)) (drop k packets))
+    let further = more_packets pid (position_or_first places pid) (take k packets) (drop k packets) in
+    let same : moved_by pid (position_or_first places pid) packets ≡ moved_by pid
+    (moved_by pid (position_or_first places pid) (take k packets)) (drop k packets) =
+    ap (λ (ps : List (List ℕ)). moved_by pid (position_or_first places pid) ps) (sym all) ∙ further in
+    omega (arith, same, moved_by_near pid (moved_by pid (position_or_first places pid) (take k packets)) (drop k packets))
 
 -- one held packet more, with the position to which it leads its PID
 pub own_more : (places : List Place) (held : List Held) (one : Held) → HaveOwn places held →

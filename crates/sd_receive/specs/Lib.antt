@@ -9,3 +9,4 @@ pub mod Entitled
 pub mod Gathered
 pub mod Collected
 pub mod Pids
+pub mod Again

@@ -1,10 +1,13 @@
 -- Public meaning: what a receiver that took a CAT does with what it hears.
-use Rattle.std.specs.Prelude.{◌≡◌, ◌⊎◌, ℕ, ◌+◌, ◌-◌, ◌^◌, min, Bool, false, if◌then◌else◌, List, [], ◌∷◌, length}
+use Rattle.std.specs.Prelude.{◌≡◌, ◌⊎◌, ℕ, ◌+◌, ◌-◌, ◌^◌, min, Bool, true, false, if◌then◌else◌, List, [], ◌∷◌}
+use Rattle.std.specs.Prelude.{length}
 use Rattle.std.specs.Prelude.{Option, Some, None, Result, Ok, Err}
 use Rattle.std.specs.List.{concat}
+use Rattle.std.specs.Result.{MatchResult}
 use Rattle.sd_site.specs.CardFields.{CardFields}
 use Rattle.sd_message.specs.declared.ecm_part.EcmPart.{EcmPart}
 use Rattle.sd_message.specs.declared.ecm_message.EcmHead.{EcmHead}
+use Rattle.sd_message.specs.EcmParts.{message_of}
 use Rattle.sd_engine.specs.Stage.{SinkState, IsCutShort, TookBytes}
 use Rattle.sd_engine.specs.declared.stage.StageFault.{StageFault}
 use Rattle.sd_engine.specs.declared.stage.StageFault.TheVariants.{Write, Refused}
@@ -12,10 +15,11 @@ use Rattle.sd_message.specs.declared.stream_fault.StreamFault.{StreamFault}
 use Rattle.sd_psi.specs.declared.our_cat.Tuning.{Tuning}
 use Rattle.sd_spec.specs.Heard.{Heard, Dropped, Entitles, Controls, BadEmm, BadEcm, Other}
 use Rattle.sd_spec.specs.Stretches.{is_closed}
-use Rattle.sd_spec.specs.Offered.{Offering, heard_offering, refuses}
+use Rattle.sd_spec.specs.Offered.{Offering, heard_offering, refuses, word_fault}
+use Rattle.sd_spec.specs.Counting.{holds_stray}
 use Rattle.sd_receive.specs.Entitled.{IsEntitled, IsJudged}
 use Rattle.sd_receive.specs.Collected.{IsCollected, IsComplete}
-use Rattle.sd_receive.specs.Held.{holding_after}
+use Rattle.sd_receive.specs.Held.{holding_after, word_under}
 use Rattle.sd_receive.specs.declared.listener.Listener.{Listener}
 
 -- what is kept of what was heard of the current run [this project, docs/FORMATS.md, Receiver]
@@ -46,10 +50,16 @@ pub record PassesOffering (offering : Offering) (before after : ℕ) (bytes : Li
   pub bytes_are : bytes ≡ concat offering.wrote
   pub counted : CountsMore before after (length offering.wrote)
 
--- these bytes are what an offering writes, and it refuses the packet
-pub record StopsAtOffering (offering : Offering) (why : StreamFault) (bytes : List ℕ) : Type 0 where
+-- what was heard is as a strict receiver takes it, which is anything, or as one does that writes nothing of a packet
+-- that it refuses: nothing odd is buffered
+abbrev pub IsCalm : Bool → List Heard → Type 0
+IsCalm true past = Unit {0}
+IsCalm false past = holds_stray past ≡ false
+
+-- an offering refuses the packet, and these bytes are what it writes, or, where the receiver isn't strict, none
+pub record StopsAtOffering (strict : Bool) (offering : Offering) (why : StreamFault) (bytes : List ℕ) : Type 0 where
   pub fault : offering.fault ≡ Some why
-  pub bytes_are : bytes ≡ concat offering.wrote
+  pub bytes_are : bytes ≡ (if strict then concat offering.wrote else [])
 
 -- what was heard of the run of what comes: nothing, if that begins a run
 abbrev pub heard_of_run : Bool → List Heard → List Heard
@@ -71,17 +81,23 @@ Judgement card n past heard key (Err fault) =
     (tuning : Tuning) → heard_offering card tuning n past heard ≡ refuses fault
 
 -- a thing that is heard as packet n, of which this key was judged, is taken, with these bytes written
-abbrev pub TakesHeard : CardFields → Tuning → ℕ → Heard → Option (List ℕ) → Listener → Listener → List ℕ → Type 0
-TakesHeard card tuning n heard key s t bytes = (past : List Heard) → IsListenerAfter card past s →
-    is_closed past ≡ false → IsJudgedAs card n past heard key →
+abbrev pub TakesHeard : Bool → CardFields → Tuning → ℕ → Heard → Option (List ℕ) → Listener → Listener → List ℕ → Type 0
+TakesHeard strict card tuning n heard key s t bytes = (past : List Heard) → IsListenerAfter card past s →
+    is_closed past ≡ false → IsJudgedAs card n past heard key → IsCalm strict past →
     PassesOffering (heard_offering card tuning n past heard) s.written t.written bytes ×
     IsListenerAfter card (heard ∷ past) t
 
 -- a thing that is heard as packet n is refused, with these bytes written
-abbrev pub RefusesHeard : CardFields → Tuning → ℕ → Heard → Listener → StreamFault → List ℕ → Type 0
-RefusesHeard card tuning n heard s fault bytes = (past : List Heard) → IsListenerAfter card past s →
-    is_closed past ≡ false →
-    StopsAtOffering (heard_offering card tuning n past heard) fault bytes
+abbrev pub RefusesHeard : Bool → CardFields → Tuning → ℕ → Heard → Listener → StreamFault → List ℕ → Type 0
+RefusesHeard strict card tuning n heard s fault bytes = (past : List Heard) → IsListenerAfter card past s →
+    is_closed past ≡ false → IsCalm strict past →
+    StopsAtOffering strict (heard_offering card tuning n past heard) fault bytes
+
+-- the bytes of which a write may fail: those of a thing that is taken, or, where the receiver is strict, refused
+abbrev pub CutsHeard : Bool → CardFields → Tuning → ℕ → Heard → Option (List ℕ) → Listener → List ℕ → Type 0
+CutsHeard strict card tuning n heard key s bytes =
+    ((t : Listener) × TakesHeard strict card tuning n heard key s t bytes)
+    ⊎ ((strict ≡ true) × (fault : StreamFault) × RefusesHeard strict card tuning n heard s fault bytes)
 
 -- what is kept is of the same that was heard, and as many packets are counted
 pub record IsStill (card : CardFields) (s t : Listener) : Type 0 where
@@ -89,17 +105,23 @@ pub record IsStill (card : CardFields) (s t : Listener) : Type 0 where
   pub written : t.written ≡ s.written
 
 -- the message that the part in packet n completes is taken, with these bytes written
-abbrev pub TakesMessage : CardFields → Tuning → ℕ → EcmHead → Listener → Listener → List ℕ → Type 0
-TakesMessage card tuning n head s t bytes = (past : List Heard) (part : EcmPart) →
-    IsListenerAtMessage card past part head s →
+abbrev pub TakesMessage : Bool → CardFields → Tuning → ℕ → EcmHead → Listener → Listener → List ℕ → Type 0
+TakesMessage strict card tuning n head s t bytes = (past : List Heard) (part : EcmPart) →
+    IsListenerAtMessage card past part head s → IsCalm strict past →
     PassesOffering (heard_offering card tuning n past (Controls part)) s.written t.written bytes ×
     IsListenerAfter card (Controls part ∷ past) t
 
 -- the message that the part in packet n completes is refused, with these bytes written
-abbrev pub RefusesMessage : CardFields → Tuning → ℕ → EcmHead → Listener → StreamFault → List ℕ → Type 0
-RefusesMessage card tuning n head s fault bytes = (past : List Heard) (part : EcmPart) →
-    IsListenerAtMessage card past part head s →
-    StopsAtOffering (heard_offering card tuning n past (Controls part)) fault bytes
+abbrev pub RefusesMessage : Bool → CardFields → Tuning → ℕ → EcmHead → Listener → StreamFault → List ℕ → Type 0
+RefusesMessage strict card tuning n head s fault bytes = (past : List Heard) (part : EcmPart) →
+    IsListenerAtMessage card past part head s → IsCalm strict past →
+    StopsAtOffering strict (heard_offering card tuning n past (Controls part)) fault bytes
+
+-- the bytes of which a write may fail: those of a message that is taken, or, where the receiver is strict, refused
+abbrev pub CutsMessage : Bool → CardFields → Tuning → ℕ → EcmHead → Listener → List ℕ → Type 0
+CutsMessage strict card tuning n head s bytes =
+    ((t : Listener) × TakesMessage strict card tuning n head s t bytes)
+    ⊎ ((strict ≡ true) × (fault : StreamFault) × RefusesMessage strict card tuning n head s fault bytes)
 
 -- a sink took some bytes that have a property
 pub record TookSome (old new : SinkState) (Says : List ℕ → Type 0) : Type 0 where
@@ -108,10 +130,22 @@ pub record TookSome (old new : SinkState) (Says : List ℕ → Type 0) : Type 0 
   pub took : TookBytes old new bytes
 
 -- the result of a packet: it is taken or refused and all that it writes went into the sink, or a write failed
-abbrev pub PacketOutcome : (Listener → List ℕ → Type 0) → (StreamFault → List ℕ → Type 0) → SinkState → SinkState →
-    Listener
-    → Result Unit (StageFault StreamFault) → Type 0
-PacketOutcome Takes Refuses old new t (Ok done) = TookSome old new (Takes t)
-PacketOutcome Takes Refuses old new t (Err (Refused fault)) = TookSome old new (Refuses fault)
-PacketOutcome Takes Refuses old new t (Err Write) =
-    IsCutShort old new (λ bytes. ((u : Listener) × Takes u bytes) ⊎ ((fault : StreamFault) × Refuses fault bytes))
+abbrev pub PacketOutcome : (Listener → List ℕ → Type 0) → (StreamFault → List ℕ → Type 0) → (List ℕ → Type 0) →
+    SinkState → SinkState → Listener → Result Unit (StageFault StreamFault) → Type 0
+PacketOutcome Takes Refuses Cuts old new t (Ok done) = TookSome old new (Takes t)
+PacketOutcome Takes Refuses Cuts old new t (Err (Refused fault)) = TookSome old new (Refuses fault)
+PacketOutcome Takes Refuses Cuts old new t (Err Write) = IsCutShort old new Cuts
+
+-- what is told of the control word of the message that packet n completes, under this key of its period: the word, or
+-- why it is wrong
+abbrev pub IsWordOf : ℕ → EcmHead → Option (List ℕ) → Result (Option (List ℕ)) StreamFault → Type 0
+IsWordOf n head key found = MatchResult found
+    (λ word. (word ≡ word_under (message_of head []) key) × (word_fault n (message_of head []) key ≡ None))
+    (λ fault. word_fault n (message_of head []) key ≡ Some fault)
+
+-- why a message is refused before anything is written: for its control word, if that is wrong and the receiver isn't
+-- strict
+abbrev pub fault_first : Bool → Result (Option (List ℕ)) StreamFault → Option StreamFault
+fault_first true found = None
+fault_first false (Ok word) = None
+fault_first false (Err fault) = Some fault

@@ -1,18 +1,23 @@
 -- Public meaning: the receiver as a stage of packets.
 use Rattle.std.specs.Prelude.{◌≡◌, ℕ, ◌-◌, ◌*◌, ◌^◌, ◌<◌, ◌≤◌, Bool, true, false, List, [], ◌∷◌, ◌++◌, length, reverse}
-use Rattle.std.specs.Prelude.{if◌then◌else◌, Option, Some, None, IfSome}
+use Rattle.std.specs.Prelude.{if◌then◌else◌, ◌+◌, Option, Some, None, IfSome}
 use Rattle.std.specs.List.{concat}
 use Rattle.sd_site.specs.CardFields.{CardFields, card_fields_of}
 use Rattle.sd_message.specs.declared.stream_fault.StreamFault.{StreamFault}
-use Rattle.sd_spec.specs.declared.ending.Ending.{Ending}
+use Rattle.sd_base.specs.Types.{RunName}
 use Rattle.sd_spec.specs.Tuned.{tuning_of}
 use Rattle.sd_spec.specs.Heard.{Heard}
 use Rattle.sd_spec.specs.Runs.{name_in}
-use Rattle.sd_spec.specs.Ending.{joined, run_ending, run_wrote, ended_before}
+use Rattle.sd_spec.specs.Ending.{joined, run_ending, run_wrote, ended_before, turns_at}
+use Rattle.sd_spec.specs.Reports.{run_end}
+use Rattle.sd_spec.specs.Counting.{holds_stray}
 use Rattle.sd_spec.specs.Offered.{heard, offered, out_from, break_from}
 pub use Rattle.sd_spec.specs.Taken.{takes_key_of}
 unfoldable pub use Rattle.sd_spec.specs.Taken.{takes_key_at, taken_keys}
+use Rattle.sd_engine.specs.Stage.{IsAllowed}
 use Rattle.sd_receive.specs.Listening.{IsListenerAfter, capped}
+use Rattle.sd_receive.specs.declared.ended.Ended.{Ended}
+use Rattle.sd_receive.specs.declared.ended.EndedRuns.{EndedRuns}
 use Rattle.sd_receive.specs.declared.listener.Listener.{Listener}
 use Rattle.sd_receive.specs.declared.receiver.Receiver.{Receiver}
 
@@ -26,23 +31,35 @@ pub record IsAfter (past : List (List ℕ)) (receiver : Receiver) : Type 0 where
   pub count : receiver.count ≡ length past
   pub tuning : receiver.tuning ≡ tuning_of receiver.card.ca past
   pub name : receiver.name ≡ name_in (heard (card_in receiver) past)
-  pub so_far : receiver.so_far ≡ ended_before (card_in receiver) past
+  pub so_far : receiver.ended.so_far ≡ ended_before (card_in receiver) past
   pub follows : IsListenerAfter (card_in receiver) (heard (card_in receiver) past) receiver.listener
   pub written : receiver.listener.written ≡ capped (run_wrote (card_in receiver) past)
+  pub total : capped (receiver.ended.written + receiver.listener.written)
+      ≡ capped (length (out_from (card_in receiver) [] (reverse past)))
   pub unbroken : break_from (card_in receiver) [] (reverse past) ≡ None
   pub unrefused : receiver.refusal ≡ None
 
--- the current run was ended after runs that ended so: all that was heard of it was forgotten but how it ended
-pub record HasTurned (before : Ending) (s t : Listener) (so_far : Ending) : Type 0 where
+-- the current run, of this name, was ended after runs that ended so: all that was heard of it was forgotten but its
+-- name, how it ended and how many packets were written of it
+pub record HasTurned (name : Option RunName) (before : EndedRuns) (s t : Listener) (ended : EndedRuns) : Type 0 where
   pub follows : (card : CardFields) (past : List Heard) → IsListenerAfter card past s → IsListenerAfter card [] t
   pub written : t.written ≡ 0
-  pub ends : (card : CardFields) (past : List Heard) (total : ℕ) → IsListenerAfter card past s →
-      s.written ≡ capped total → so_far ≡ joined before (run_ending card past total)
+  pub total : ended.written ≡ capped (before.written + s.written)
+  pub so_far : (card : CardFields) (past : List Heard) (total : ℕ) → IsListenerAfter card past s →
+      s.written ≡ capped total → ended.so_far ≡ joined before.so_far (run_ending card past total)
+  pub last : (card : CardFields) (past : List Heard) (total : ℕ) → IsListenerAfter card past s →
+      s.written ≡ capped total → ended.last ≡ Some (record { run = name; ending = run_ending card past total })
 
 -- the current run is ended if another begins
-abbrev pub TurnsBy : Bool → Ending → Listener → Listener → Ending → Type 0
-TurnsBy begins before s t so_far =
-    (begins ≡ false → (t ≡ s) × (so_far ≡ before)) × (begins ≡ true → HasTurned before s t so_far)
+abbrev pub TurnsBy : Bool → Option RunName → EndedRuns → Listener → Listener → EndedRuns → Type 0
+TurnsBy begins name before s t ended =
+    (begins ≡ false → (t ≡ s) × (ended ≡ before)) × (begins ≡ true → HasTurned name before s t ended)
+
+-- the run that ended last, if it wasn't taken yet, with a packet more: the current one if the packet begins another
+abbrev pub ended_at : CardFields → List (List ℕ) → List ℕ → Option Ended → Option Ended
+ended_at card past packet before =
+    if turns_at card past packet then Some (record { run = name_in (heard card past); ending = run_end card past })
+    else before
 
 -- the most steps of the generator for a packet: as many as the tree is high if it takes a key, and else none
 abbrev pub steps_at : CardFields → List (List ℕ) → List ℕ → ℕ
@@ -56,14 +73,14 @@ pub record TakesPacket (past : List (List ℕ)) (s : Receiver) (packet : List �
   pub bytes_are : bytes ≡ concat (offered (card_in s) past packet).wrote
   pub few : steps ≤ steps_at (card_in s) past packet
   pub after : IsAfter (packet ∷ past) t
+  pub ended : t.ended.last ≡ ended_at (card_in s) past packet s.ended.last
   pub same : t.card ≡ s.card
 
--- the result of a packet that is refused
-pub record RefusesPacket (past : List (List ℕ)) (s : Receiver) (packet : List ℕ) (why : StreamFault) (bytes : List ℕ)
-    (steps : ℕ) :
-    Type 0 where
+-- the result of a packet that is refused, by a strict receiver or by one that writes nothing of it
+pub record RefusesPacket (strict : Bool) (past : List (List ℕ)) (s : Receiver) (packet : List ℕ) (why : StreamFault)
+    (bytes : List ℕ) (steps : ℕ) : Type 0 where
   pub fault : (offered (card_in s) past packet).fault ≡ Some why
-  pub bytes_are : bytes ≡ concat (offered (card_in s) past packet).wrote
+  pub bytes_are : bytes ≡ (if strict then concat (offered (card_in s) past packet).wrote else [])
   pub few : steps ≤ steps_at (card_in s) past packet
 
 -- a packet was refused before: the receiver answers the same, and writes nothing
@@ -84,7 +101,33 @@ receiver_does s packet t bytes steps = (past : List (List ℕ)) → IsAfter past
 -- a packet is refused, whatever packets led to the receiver's state
 abbrev pub Refusing : Receiver → List ℕ → StreamFault → List ℕ → ℕ → Type 0
 Refusing s packet fault bytes steps =
-    (past : List (List ℕ)) → IsAfter past s → IsCountable past → RefusesPacket past s packet fault bytes steps
+    (past : List (List ℕ)) → IsAfter past s → IsCountable past → RefusesPacket true past s packet fault bytes steps
+
+-- a packet is taken, whatever packets led to the receiver's state, if nothing odd is buffered after them
+abbrev pub Opening : Receiver → List ℕ → Receiver → List ℕ → ℕ → Type 0
+Opening s packet t bytes steps = (past : List (List ℕ)) → IsAfter past s → IsCountable past →
+    holds_stray (heard (card_in s) past) ≡ false → TakesPacket past s packet t bytes steps
+
+-- a packet is refused and nothing of it is written, whatever packets led to the receiver's state, if nothing odd is
+-- buffered after them
+abbrev pub Leaving : Receiver → List ℕ → StreamFault → List ℕ → ℕ → Type 0
+Leaving s packet fault bytes steps = (past : List (List ℕ)) → IsAfter past s → IsCountable past →
+    holds_stray (heard (card_in s) past) ≡ false → RefusesPacket false past s packet fault bytes steps
+
+-- a packet is taken or refused, by a strict receiver or by one that writes nothing of a packet that it refuses
+abbrev pub TakesBy : Bool → Receiver → List ℕ → Receiver → List ℕ → ℕ → Type 0
+TakesBy true = receiver_does
+TakesBy false = Opening
+
+abbrev pub RefusesBy : Bool → Receiver → List ℕ → StreamFault → List ℕ → ℕ → Type 0
+RefusesBy true = Refusing
+RefusesBy false = Leaving
+
+-- the bytes of which a write may fail: those of a packet that is taken, or, where the receiver is strict, refused
+abbrev pub CutsBy : Bool → Receiver → List ℕ → ℕ → ℕ → List ℕ → Type 0
+CutsBy true s packet from to bytes = IsAllowed (receiver_does s packet) (λ fault t. Refusing s packet fault) from to bytes
+CutsBy false s packet from to bytes = (steps : ℕ) × (to ≤ from + steps)
+    × (t : Receiver) × Opening s packet t bytes steps
 
 -- at the end of the stream nothing is changed, written or counted
 abbrev pub receiver_ends : Receiver → Receiver → List ℕ → ℕ → Type 0

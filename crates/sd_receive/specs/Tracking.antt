@@ -2,13 +2,12 @@
 use Rattle.std.specs.Prelude.{◌≡◌, ℕ, ◌+◌, ◌<◌, ◌≤◌, false, ◌==◌, List, [], length, map, take, get_or, All}
 use Rattle.std.specs.Prelude.{vec_capacity}
 use Rattle.std.specs.List.{list_any}
-use Rattle.std.specs.Option.{option_map_or}
 use Rattle.sd_packet.specs.Header.{pid_of}
 use Rattle.sd_packet.specs.Positions.{first_position, moved_by}
 use Rattle.sd_message.specs.EcmForm.{AreShort}
 use Rattle.sd_message.specs.declared.ecm_part.Place.{Place}
 use Rattle.sd_message.specs.EcmVersions.{most_places}
-use Rattle.sd_spec.specs.Confirmed.{position_in}
+use Rattle.sd_spec.specs.Confirmed.{position_or_first}
 use Rattle.sd_spec.specs.Offered.{most_held}
 use Rattle.sd_receive.specs.declared.held.Held.{Held}
 use Rattle.sd_receive.specs.declared.tracks.Tracks.{Tracks}
@@ -22,14 +21,9 @@ pids_in places = map (λ (p : Place). p.pid) places
 abbrev pub packets_in : List Held → List (List ℕ)
 packets_in held = map (λ (h : Held). h.packet) held
 
--- the position of a PID before the buffered packets: that of its place, or else the first one [this project,
--- docs/FORMATS.md, Positions]
-unfoldable pub start_of : List Place → ℕ → ℕ
-start_of places pid = option_map_or (λ p. p) (position_in places pid) first_position
-
 -- the position of a PID after these packets, from its place on [this project, docs/FORMATS.md, Receiver]
 unfoldable pub led_to : List Place → List (List ℕ) → ℕ → ℕ
-led_to places packets pid = moved_by pid (start_of places pid) packets
+led_to places packets pid = moved_by pid (position_or_first places pid) packets
 
 -- a table by PID has the positions after these packets
 pub record IsTracked (places : List Place) (packets : List (List ℕ)) (table : List ℕ) : Type 0 where

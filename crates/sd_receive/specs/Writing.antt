@@ -1,5 +1,5 @@
 -- Public meaning: what is written of the buffered packets.
-use Rattle.std.specs.Prelude.{◌≡◌, ℕ, ◌+◌, ◌<◌, nat_le, ◌++◌, ◌∷◌, ◌&&◌, Bool, false, List, [], length, map, take}
+use Rattle.std.specs.Prelude.{◌≡◌, ℕ, ◌<◌, ◌++◌, ◌∷◌, false, List, [], length, map, take}
 use Rattle.std.specs.Prelude.{get_or, Option, Some, None, Result, Ok, Err}
 use Rattle.std.specs.List.{concat}
 use Rattle.std.specs.Option.{option_map_or}
@@ -9,7 +9,7 @@ use Rattle.sd_engine.specs.Stage.{SinkState, TookBytes, IsCutShort, IsTooShort}
 use Rattle.sd_message.specs.EcmForm.{AreShort}
 use Rattle.sd_message.specs.EcmParts.{Message}
 use Rattle.sd_message.specs.declared.ecm_part.Place.{Place}
-use Rattle.sd_spec.specs.Confirmed.{Segment, Wrote, written_from, position_in, is_confirmed}
+use Rattle.sd_spec.specs.Confirmed.{Segment, Wrote, written_from, position_in, is_near_to, is_confirmed}
 use Rattle.sd_receive.specs.Holding.{Holding, held_pair}
 use Rattle.sd_receive.specs.Tracking.{led_to, IsKept}
 use Rattle.sd_receive.specs.Pids.{has_pid}
@@ -96,10 +96,6 @@ pub record IsReady (c : Confirming) : Type 0 where
 -- a buffered packet after others has the position to which it led its PID
 pub record IsOwn (c : Confirming) (before : List (List ℕ)) (held : Held) : Type 0 where
   pub position : held.position ≡ led_to c.tracks.now.places.items (before ++ held.packet ∷ []) (pid_of held.packet)
-
--- a position is 0 to 15 above the one that packets lead to [this project, docs/FORMATS.md, Receiver]
-abbrev pub is_near_to : ℕ → ℕ → Bool
-is_near_to tracked position = nat_le tracked position && nat_le position (tracked + 15)
 
 -- the PIDs with a position among these places that is near to the one in this table by PID
 pub record AreNear (tracked : List ℕ) (places : List Place) (pids : Pids) : Type 0 where

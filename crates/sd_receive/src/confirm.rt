@@ -4,10 +4,10 @@ ghost use Rattle.std.specs.Result.{OnOk, OnErr, IfErr};
 ghost use Rattle.sd_base.specs.Count.{IsCaused};
 ghost use Rattle.sd_engine.specs.Stage.{vessel, TookBytes};
 ghost use Rattle.sd_packet.specs.Header.{pid_of};
-ghost use Rattle.sd_spec.specs.Confirmed.{is_odd as is_odd_packet, judged};
+ghost use Rattle.sd_spec.specs.Confirmed.{is_odd as is_odd_packet, is_near_to, judged};
 ghost use Rattle.sd_spec.specs.Confirmed.{unmarked, written_from};
 ghost use Rattle.sd_receive.specs.Writing.{WriteOutcome, HasStopped, IsReady, IsOwn, holding_in};
-ghost use Rattle.sd_receive.specs.Writing.{segment_in, is_near_to, AreNear, AreConfirmed};
+ghost use Rattle.sd_receive.specs.Writing.{segment_in, AreNear, AreConfirmed};
 ghost use Rattle.sd_receive.specs.declared.tracks.TheConstants.{PIDS};
 
 use crate::held::{Held, Word};

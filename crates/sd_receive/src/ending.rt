@@ -1,8 +1,11 @@
-ghost use Rattle.std.specs.Prelude.{◌≡◌, ℕ, ◌+◌, ◌-◌, List};
+ghost use Rattle.std.specs.Prelude.{◌≡◌, ℕ, ◌+◌, ◌-◌, List, [], length, reverse};
 ghost use Rattle.std.specs.Option.{option_map_or};
 ghost use Rattle.sd_site.specs.CardFields.{CardFields};
 ghost use Rattle.sd_spec.specs.Heard.{Heard};
 ghost use Rattle.sd_spec.specs.Ending.{run_ending, ending_of};
+ghost use Rattle.sd_spec.specs.Offered.{heard, out_from};
+ghost use Rattle.sd_spec.specs.Reports.{run_end};
+ghost use Rattle.sd_spec.specs.Runs.{name_in};
 ghost use Rattle.sd_receive.specs.Listening.{IsListenerAfter, capped};
 ghost use Rattle.sd_receive.specs.Receiving.{card_in, IsAfter};
 
@@ -19,7 +22,34 @@ impl Receiver {
         if self.tuning.is_none() {
             return Ending::NoCat;
         }
-        self.so_far.with(self.listener.ending())
+        self.ended.so_far.with(self.listener.ending())
+    }
+
+    /// How the current run ends, if it ends here and is the only one [this project, docs/FORMATS.md, Receiver].
+    pub fn run_end(&self) -> Ending
+        ensures { (past : List (List ℕ)) → IsAfter past self.now → result ≡ run_end (card_in self.now) past }
+    {
+        if self.tuning.is_none() {
+            return Ending::NoCat;
+        }
+        self.listener.ending()
+    }
+
+    /// The name of the current run, if a message was heard; it is `Some(None)` in versions 1 and 2, whose runs have
+    /// none [this project, docs/FORMATS.md, Receiver].
+    pub fn name(&self) -> Option<Option<u32>>
+        ensures { (past : List (List ℕ)) → IsAfter past self.now →
+            result ≡ name_in (heard (card_in self.now) past) }
+    {
+        self.name
+    }
+
+    /// The number of packets that were written, of all runs, at most 2^64 - 1.
+    pub fn written(&self) -> u64
+        ensures { (past : List (List ℕ)) → IsAfter past self.now →
+            result ≡ capped (length (out_from (card_in self.now) [] (reverse past))) }
+    {
+        self.ended.written.saturating_add(self.listener.written)
     }
 }
 

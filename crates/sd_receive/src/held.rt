@@ -19,8 +19,15 @@ impl Word {
     pub fn control(&self) -> u8
         ensures { result ≡ 2 + self.now.number % 2 }
     {
-        0b10 + (self.number % 2) as u8
+        control_of(self.number)
     }
+}
+
+/// The transport_scrambling_control of a packet under the control word of this number.
+pub fn control_of(number: u32) -> u8
+    ensures { result ≡ 2 + number % 2 }
+{
+    0b10 + (number % 2) as u8
 }
 
 /// A packet that is buffered.

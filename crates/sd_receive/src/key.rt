@@ -1,4 +1,4 @@
-ghost use Rattle.std.specs.Prelude.{◌≡◌, ◌+◌, ◌≤◌, None, IsNone, OnOk, OnErr, option_map};
+ghost use Rattle.std.specs.Prelude.{◌≡◌, ◌+◌, ◌≤◌, None, IsNone, OnOk, option_map};
 ghost use Rattle.sd_message.specs.EmmForm.{AreSets};
 ghost use Rattle.sd_message.specs.EmmSpelled.{listed_entries};
 ghost use Rattle.sd_message.specs.declared.emm_format.TheConstants.{MOST_ENTRIES};
@@ -48,7 +48,6 @@ pub fn good_key_in<L: Ledger>(
     requires count { emm.now.count ≤ MOST_ENTRIES }
     requires sets { AreSets card.now.height emm.now.sets (listed_entries emm.now) }
     ensures value { OnOk result (key.new ≡ key_from (card_fields_of card.now) emm.now) }
-    ensures refused { OnErr result (key.new ≡ key.old) }
     ensures fault { HasFault result (key_offering number emm.now (key_from (card_fields_of card.now) emm.now)).fault }
     ensures steps { (steps.old ≤ steps.new) × (steps.new ≤ steps.old + card.now.height) }
     ensures unchanged { key_from (card_fields_of card.now) emm.now ≡ None → steps.new ≡ steps.old }

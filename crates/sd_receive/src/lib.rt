@@ -2,11 +2,13 @@
 //! What it buffers between two control messages, and which of these packets the second message confirms.
 #![tactic(auto)]
 
+mod again;
 mod anew;
 mod collect;
 mod complete;
 mod confirm;
 mod ears;
+mod ended;
 mod ending;
 mod entitled;
 mod gather;
@@ -35,6 +37,7 @@ mod word;
 
 pub use collect::{Collect, Taken};
 pub use ears::{Channel, channel_of};
+pub use ended::Ended;
 pub use entitled::Entitled;
 pub use held::MOST_HELD;
 pub use receiver::Receiver;

@@ -1,4 +1,4 @@
-ghost use Rattle.std.specs.Prelude.{◌≡◌, ℕ, ◌+◌, ◌≤◌, ◌<◌, [], false, List, None, Err, IfOk, IsErrOf};
+ghost use Rattle.std.specs.Prelude.{◌≡◌, ℕ, ◌+◌, ◌≤◌, ◌<◌, [], true, false, List, None, Err, IfOk, IsErrOf};
 ghost use Rattle.std.specs.Prelude.{if◌then◌else◌};
 ghost use Rattle.sd_base.specs.Count.{IsCaused};
 ghost use Rattle.sd_site.specs.CardFields.{CardFields, card_fields_of};
@@ -6,7 +6,7 @@ ghost use Rattle.sd_message.specs.EcmForm.{IsEcm};
 ghost use Rattle.sd_engine.specs.Stage.{vessel};
 ghost use Rattle.sd_spec.specs.Heard.{Heard as Thing, Controls};
 ghost use Rattle.sd_receive.specs.Ears.{heard_as, IsFormed};
-ghost use Rattle.sd_receive.specs.Listening.{IsListenerAfter, heard_of_run, Judgement, TakesHeard, RefusesHeard};
+ghost use Rattle.sd_receive.specs.Listening.{IsListenerAfter, heard_of_run, Judgement, TakesHeard, RefusesHeard, CutsHeard};
 ghost use Rattle.sd_receive.specs.Listening.{PacketOutcome, IsStill};
 ghost use Rattle.sd_receive.specs.Receiving.{takes_key_of};
 
@@ -90,10 +90,11 @@ impl Listener {
     }
 
     // Takes packet `number` of the stream, which was read as `heard` and of which this key was judged. The run must not
-    // be closed. For a packet that is no message the caller knows what was heard, so nothing is left of the choice.
+    // be closed. Of a packet that is refused something may be written if the receiver is strict. For a packet that is no message the caller knows what was heard, so nothing is left of the choice.
     #[inline(always)]
     pub fn take<K: Sink>(
         &mut self,
+        strict: bool,
         card: &Card,
         number: u64,
         tuning: Tuning,
@@ -106,10 +107,12 @@ impl Listener {
         requires live { (past : List Thing) × IsListenerAfter (card_fields_of card.now) past self.old }
         requires open { self.old.closed ≡ false }
         requires form { IsFormed card.now.height heard }
-        ensures value { PacketOutcome
-            (TakesHeard (card_fields_of card.now) tuning number (heard_as number packet.now heard.entry) key self.old)
-            (RefusesHeard (card_fields_of card.now) tuning number (heard_as number packet.now heard.entry) self.old)
-            (vessel K.Sink out.old) (vessel K.Sink out.new) self.new result }
+        ensures value { PacketOutcome (TakesHeard true (card_fields_of card.now) tuning number
+            (heard_as number packet.now heard.entry) key self.old)
+            (RefusesHeard strict (card_fields_of card.now) tuning number (heard_as number packet.now heard.entry)
+            self.old)
+            (CutsHeard strict (card_fields_of card.now) tuning number (heard_as number packet.now heard.entry) key
+            self.old) (vessel K.Sink out.old) (vessel K.Sink out.new) self.new result }
         ensures stands { (fault : StreamFault) → result ≡ Err (StageFault.Refused fault) →
             IsStill (card_fields_of card.now) self.old self.new }
         ensures cause { IsCaused (K.faults out.old) (K.faults out.new) (IsErrOf result StageFault.Write) }
@@ -124,7 +127,7 @@ impl Listener {
                 self.entitled.keep(emm, key);
                 Ok(())
             }
-            Heard::Controls(part) => self.control(card, number, tuning, part, out),
+            Heard::Controls(part) => self.control(strict, card, number, tuning, part, out),
             Heard::BadEmm(fault) => Err(StageFault::Refused(StreamFault::BadEmm(number, fault))),
             Heard::BadEcm(fault) => Err(StageFault::Refused(StreamFault::BadEcm(number, fault))),
         }
@@ -133,6 +136,7 @@ impl Listener {
     // Takes a part of a control message.
     fn control<K: Sink>(
         &mut self,
+        strict: bool,
         card: &Card,
         number: u64,
         tuning: Tuning,
@@ -143,16 +147,17 @@ impl Listener {
         requires live { (past : List Thing) × IsListenerAfter (card_fields_of card.now) past self.old }
         requires open { self.old.closed ≡ false }
         requires form { IsEcm part.now }
-        ensures value { PacketOutcome (TakesHeard (card_fields_of card.now) tuning number (Controls part.now)
-            None self.old) (RefusesHeard (card_fields_of card.now) tuning number (Controls part.now) self.old)
-            (vessel K.Sink out.old) (vessel K.Sink out.new) self.new result }
+        ensures value { PacketOutcome (TakesHeard true (card_fields_of card.now) tuning number (Controls part.now)
+            None self.old)
+            (RefusesHeard strict (card_fields_of card.now) tuning number (Controls part.now) self.old)
+            (CutsHeard strict (card_fields_of card.now) tuning number (Controls part.now) None self.old) (vessel K.Sink out.old) (vessel K.Sink out.new) self.new result }
         ensures stands { (fault : StreamFault) → result ≡ Err (StageFault.Refused fault) →
             IsStill (card_fields_of card.now) self.old self.new }
         ensures cause { IsCaused (K.faults out.old) (K.faults out.new) (IsErrOf result StageFault.Write) }
     {
         match self.collect.take(self.entitled.period(), part) {
             Ok(Taken::Waits) => Ok(()),
-            Ok(Taken::Complete(head)) => self.complete(card, number, tuning, &head, out),
+            Ok(Taken::Complete(head)) => { self.complete(strict, card, number, tuning, &head, out) }
             Err(fault) => Err(StageFault::Refused(StreamFault::BadEcm(number, fault))),
         }
     }

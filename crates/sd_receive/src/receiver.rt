@@ -1,8 +1,8 @@
+use crate::ended::EndedRuns;
 use crate::listener::Listener;
 use sd_message::StreamFault;
 use sd_psi::Tuning;
 use sd_site::Card;
-use sd_spec::Ending;
 
 /// A receiver: its card, and what it keeps of the packets that were offered [this project, docs/FORMATS.md, Receiver].
 pub struct Receiver {
@@ -13,8 +13,8 @@ pub struct Receiver {
     pub(crate) tuning: Option<Tuning>,
     // The name of the current run, if a message of one was heard.
     pub(crate) name: Option<Option<u32>>,
-    // How the runs before it ended, together.
-    pub(crate) so_far: Ending,
+    // What it keeps of the runs before it.
+    pub(crate) ended: EndedRuns,
     // What it keeps of the current run.
     pub(crate) listener: Listener,
     // Why a packet was refused, if one was.
@@ -29,7 +29,7 @@ impl Drop for Receiver {
             count: _,
             tuning: _,
             name: _,
-            so_far: _,
+            ended: _,
             listener: _,
             refusal: _,
         } = self;

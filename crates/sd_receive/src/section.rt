@@ -1,4 +1,4 @@
-ghost use Rattle.std.specs.Prelude.{◌≡◌, ◌+◌, ◌≤◌, ◌<◌, ◌==◌, ◌∷◌, false, List, None, Some, OnOk, OnErr};
+ghost use Rattle.std.specs.Prelude.{◌≡◌, ◌+◌, ◌≤◌, ◌<◌, ◌==◌, ◌∷◌, false, List, None, Some, OnOk};
 ghost use Rattle.std.specs.Prelude.{is_some, if◌then◌else◌, ℕ, Option};
 ghost use Rattle.sd_message.specs.EmmForm.{IsEmm, AreSets};
 ghost use Rattle.sd_message.specs.EmmSpelled.{listed_entries};
@@ -24,7 +24,7 @@ impl Entitled {
     /// `key`, if that key isn't known yet. A section of an earlier period is right.
     ///
     /// It returns `BadEmm` with `Mixed` if the section disagrees with earlier ones of its period, and `WrongKey` if the
-    /// key has another check value than the section names. `key` is as it was then.
+    /// key has another check value than the section names.
     pub fn judge<L: Ledger>(
         &self,
         card: &Card,
@@ -37,7 +37,6 @@ impl Entitled {
         requires sets { AreSets card.now.height emm.now.sets (listed_entries emm.now) }
         ensures ok { OnOk result ((tr : List Heard) → IsEntitled (card_fields_of card.now) tr self.now →
             IsJudged (card_fields_of card.now) number tr emm.now key.new) }
-        ensures refused { OnErr result (key.new ≡ key.old) }
         ensures fault { (tr : List Heard) → IsEntitled (card_fields_of card.now) tr self.now →
             HasFault result (emm_offering (card_fields_of card.now) number tr emm.now).fault }
         ensures rise { steps.old ≤ steps.new }

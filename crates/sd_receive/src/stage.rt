@@ -1,4 +1,4 @@
-ghost use Rattle.std.specs.Prelude.{◌≡◌, ◌&&◌, ℕ, List, [], not, Some, None, Err, IfOk, OnOk, IsErrOf};
+ghost use Rattle.std.specs.Prelude.{◌≡◌, ◌&&◌, ℕ, List, [], false, not, Some, None, Err, IfOk, OnOk, IsErrOf};
 ghost use Rattle.sd_base.specs.Count.{IsCaused};
 ghost use Rattle.sd_engine.specs.Stage.{vessel, HasGrown, IsCutShort, IsAllowed};
 ghost use Rattle.sd_message.specs.EmmJudged.{emm_read};
@@ -6,9 +6,10 @@ ghost use Rattle.sd_message.specs.EcmJudged.{ecm_read};
 ghost use Rattle.sd_spec.specs.Heard.{hears, heard_emm, heard_ecm};
 ghost use Rattle.sd_receive.specs.Ears.{heard_as, IsFormed};
 ghost use Rattle.sd_receive.specs.Receiving.{IsAfter, IsFit, IsLive, Refusing, receiver_does, receiver_ends};
-ghost use Rattle.sd_receive.specs.Receiving.{receiver_refuses};
+ghost use Rattle.sd_receive.specs.Receiving.{Leaving, RefusesBy, CutsBy, receiver_refuses};
 
 use crate::ears::{Channel, Heard, channel_of};
+use crate::ended::EndedRuns;
 use crate::listener::Listener;
 use crate::receiver::Receiver;
 use crate::turn::{differ, name_of};
@@ -37,7 +38,11 @@ impl Receiver {
             count: 0,
             tuning: None,
             name: None,
-            so_far: Ending::Opened,
+            ended: EndedRuns {
+                so_far: Ending::Opened,
+                written: 0,
+                last: None,
+            },
             listener,
             refusal: None,
         })
@@ -68,16 +73,76 @@ impl Receiver {
             steps.old steps.new) }
         ensures cause { IsCaused (K.faults out.old) (K.faults out.new) (IsErrOf result StageFault.Write) }
     {
+        self.take_by(true, packet, out, steps)
+    }
+
+    /// Takes the next packet as `take` does, but writes nothing of a packet that is refused, if no packet is buffered
+    /// that can't be under the control word of the newest message. So a stream can go on behind a refused packet as if
+    /// that hadn't come.
+    pub fn take_whole<K: Sink, L: Ledger>(
+        &mut self,
+        packet: &Packet,
+        out: &mut K,
+        steps: &mut Steps<L>,
+    ) -> Result<(), StageFault<StreamFault>>
+        requires fit { IsFit self.old }
+        requires unrefused { self.old.refusal ≡ None }
+        ensures value { OnOk result (HasGrown (vessel K.Sink out.old) (vessel K.Sink out.new) steps.old steps.new
+            (receiver_does self.old packet.now self.new)) }
+        ensures ok { OnOk result (IsFit self.new) }
+        ensures unrefused { self.new.refusal ≡ None }
+        ensures fault { (fault : StreamFault) → result ≡ Err (StageFault.Refused fault) →
+            HasGrown (vessel K.Sink out.old) (vessel K.Sink out.new) steps.old steps.new
+            (Leaving self.old packet.now fault) }
+        ensures stands { (fault : StreamFault) → result ≡ Err (StageFault.Refused fault) →
+            (past : List (List ℕ)) → IsAfter past self.old → IsAfter past self.new }
+        ensures fit { (fault : StreamFault) → result ≡ Err (StageFault.Refused fault) → IsFit self.new }
+        ensures same { (fault : StreamFault) → result ≡ Err (StageFault.Refused fault) →
+            (self.new.card ≡ self.old.card) × (self.new.ended.last ≡ self.old.ended.last) }
+        ensures prefix { IsErrOf result StageFault.Write → IsCutShort (vessel K.Sink out.old) (vessel K.Sink out.new)
+            (CutsBy false self.old packet.now steps.old steps.new) }
+        ensures cause { IsCaused (K.faults out.old) (K.faults out.new) (IsErrOf result StageFault.Write) }
+    {
+        self.take_by(false, packet, out, steps)
+    }
+
+    // Takes the next packet. If it is refused, what is written of it first is written if the receiver is strict.
+    #[inline(always)]
+    fn take_by<K: Sink, L: Ledger>(
+        &mut self,
+        strict: bool,
+        packet: &Packet,
+        out: &mut K,
+        steps: &mut Steps<L>,
+    ) -> Result<(), StageFault<StreamFault>>
+        requires fit { IsFit self.old }
+        requires unrefused { self.old.refusal ≡ None }
+        ensures value { OnOk result (HasGrown (vessel K.Sink out.old) (vessel K.Sink out.new) steps.old steps.new
+            (receiver_does self.old packet.now self.new)) }
+        ensures ok { OnOk result (IsFit self.new) }
+        ensures unrefused { self.new.refusal ≡ None }
+        ensures fault { (fault : StreamFault) → result ≡ Err (StageFault.Refused fault) →
+            HasGrown (vessel K.Sink out.old) (vessel K.Sink out.new) steps.old steps.new
+            (RefusesBy strict self.old packet.now fault) }
+        ensures stands { (fault : StreamFault) → result ≡ Err (StageFault.Refused fault) →
+            (past : List (List ℕ)) → IsAfter past self.old → IsAfter past self.new }
+        ensures fit { (fault : StreamFault) → result ≡ Err (StageFault.Refused fault) → IsFit self.new }
+        ensures same { (fault : StreamFault) → result ≡ Err (StageFault.Refused fault) →
+            (self.new.card ≡ self.old.card) × (self.new.ended.last ≡ self.old.ended.last) }
+        ensures prefix { IsErrOf result StageFault.Write → IsCutShort (vessel K.Sink out.old) (vessel K.Sink out.new)
+            (CutsBy strict self.old packet.now steps.old steps.new) }
+        ensures cause { IsCaused (K.faults out.old) (K.faults out.new) (IsErrOf result StageFault.Write) }
+    {
         let Some(tuning) = self.tuning else {
             self.count = self.count.saturating_add(1);
             self.tuning = cat_tuning(self.card.ca(), packet);
             return Ok(());
         };
         match channel_of(tuning, packet) {
-            Channel::Cat => self.take_heard(tuning, packet, Heard::Dropped, out, steps),
-            Channel::Emm => self.take_emm(tuning, packet, out, steps),
-            Channel::Ecm => self.take_ecm(tuning, packet, out, steps),
-            Channel::Other => self.take_heard(tuning, packet, Heard::Other, out, steps),
+            Channel::Cat => self.take_heard(strict, tuning, packet, Heard::Dropped, out, steps),
+            Channel::Emm => self.take_emm(strict, tuning, packet, out, steps),
+            Channel::Ecm => self.take_ecm(strict, tuning, packet, out, steps),
+            Channel::Other => self.take_heard(strict, tuning, packet, Heard::Other, out, steps),
         }
     }
 
@@ -86,6 +151,7 @@ impl Receiver {
     #[inline(never)]
     fn take_emm<K: Sink, L: Ledger>(
         &mut self,
+        strict: bool,
         tuning: Tuning,
         packet: &Packet,
         out: &mut K,
@@ -101,19 +167,34 @@ impl Receiver {
         ensures unrefused { self.new.refusal ≡ None }
         ensures fault { (fault : StreamFault) → result ≡ Err (StageFault.Refused fault) →
             HasGrown (vessel K.Sink out.old) (vessel K.Sink out.new) steps.old steps.new
-            (Refusing self.old packet.now fault) }
+            (RefusesBy strict self.old packet.now fault) }
         ensures stands { (fault : StreamFault) → result ≡ Err (StageFault.Refused fault) →
             (past : List (List ℕ)) → IsAfter past self.old → IsAfter past self.new }
         ensures fit { (fault : StreamFault) → result ≡ Err (StageFault.Refused fault) → IsFit self.new }
+        ensures same { (fault : StreamFault) → result ≡ Err (StageFault.Refused fault) →
+            (self.new.card ≡ self.old.card) × (self.new.ended.last ≡ self.old.ended.last) }
         ensures prefix { IsErrOf result StageFault.Write → IsCutShort (vessel K.Sink out.old) (vessel K.Sink out.new)
-            (IsAllowed (receiver_does self.old packet.now) (receiver_refuses self.old (Some packet.now))
-            steps.old steps.new) }
+            (CutsBy strict self.old packet.now steps.old steps.new) }
         ensures cause { IsCaused (K.faults out.old) (K.faults out.new) (IsErrOf result StageFault.Write) }
     {
         match &read_emm(self.card.height(), packet) {
-            Ok(Some(emm)) => self.take_heard(tuning, packet, Heard::Entitles(emm), out, steps),
-            Ok(None) => self.take_heard(tuning, packet, Heard::Dropped, out, steps),
-            Err(fault) => self.take_heard(tuning, packet, Heard::BadEmm(*fault), out, steps),
+            Ok(Some(emm)) => self.take_heard(
+                strict,
+                tuning,
+                packet,
+                Heard::Entitles(emm),
+                out,
+                steps,
+            ),
+            Ok(None) => self.take_heard(strict, tuning, packet, Heard::Dropped, out, steps),
+            Err(fault) => self.take_heard(
+                strict,
+                tuning,
+                packet,
+                Heard::BadEmm(*fault),
+                out,
+                steps,
+            ),
         }
     }
 
@@ -121,6 +202,7 @@ impl Receiver {
     #[inline(never)]
     fn take_ecm<K: Sink, L: Ledger>(
         &mut self,
+        strict: bool,
         tuning: Tuning,
         packet: &Packet,
         out: &mut K,
@@ -136,19 +218,34 @@ impl Receiver {
         ensures unrefused { self.new.refusal ≡ None }
         ensures fault { (fault : StreamFault) → result ≡ Err (StageFault.Refused fault) →
             HasGrown (vessel K.Sink out.old) (vessel K.Sink out.new) steps.old steps.new
-            (Refusing self.old packet.now fault) }
+            (RefusesBy strict self.old packet.now fault) }
         ensures stands { (fault : StreamFault) → result ≡ Err (StageFault.Refused fault) →
             (past : List (List ℕ)) → IsAfter past self.old → IsAfter past self.new }
         ensures fit { (fault : StreamFault) → result ≡ Err (StageFault.Refused fault) → IsFit self.new }
+        ensures same { (fault : StreamFault) → result ≡ Err (StageFault.Refused fault) →
+            (self.new.card ≡ self.old.card) × (self.new.ended.last ≡ self.old.ended.last) }
         ensures prefix { IsErrOf result StageFault.Write → IsCutShort (vessel K.Sink out.old) (vessel K.Sink out.new)
-            (IsAllowed (receiver_does self.old packet.now) (receiver_refuses self.old (Some packet.now))
-            steps.old steps.new) }
+            (CutsBy strict self.old packet.now steps.old steps.new) }
         ensures cause { IsCaused (K.faults out.old) (K.faults out.new) (IsErrOf result StageFault.Write) }
     {
         match &read_ecm(packet) {
-            Ok(Some(part)) => self.take_heard(tuning, packet, Heard::Controls(part), out, steps),
-            Ok(None) => self.take_heard(tuning, packet, Heard::Dropped, out, steps),
-            Err(fault) => self.take_heard(tuning, packet, Heard::BadEcm(*fault), out, steps),
+            Ok(Some(part)) => self.take_heard(
+                strict,
+                tuning,
+                packet,
+                Heard::Controls(part),
+                out,
+                steps,
+            ),
+            Ok(None) => self.take_heard(strict, tuning, packet, Heard::Dropped, out, steps),
+            Err(fault) => self.take_heard(
+                strict,
+                tuning,
+                packet,
+                Heard::BadEcm(*fault),
+                out,
+                steps,
+            ),
         }
     }
 
@@ -156,6 +253,7 @@ impl Receiver {
     #[inline(always)]
     fn take_heard<K: Sink, L: Ledger>(
         &mut self,
+        strict: bool,
         tuning: Tuning,
         packet: &Packet,
         heard: Heard<'_>,
@@ -174,13 +272,14 @@ impl Receiver {
         ensures unrefused { self.new.refusal ≡ None }
         ensures fault { (fault : StreamFault) → result ≡ Err (StageFault.Refused fault) →
             HasGrown (vessel K.Sink out.old) (vessel K.Sink out.new) steps.old steps.new
-            (Refusing self.old packet.now fault) }
+            (RefusesBy strict self.old packet.now fault) }
         ensures stands { (fault : StreamFault) → result ≡ Err (StageFault.Refused fault) →
             (past : List (List ℕ)) → IsAfter past self.old → IsAfter past self.new }
         ensures fit { (fault : StreamFault) → result ≡ Err (StageFault.Refused fault) → IsFit self.new }
+        ensures same { (fault : StreamFault) → result ≡ Err (StageFault.Refused fault) →
+            (self.new.card ≡ self.old.card) × (self.new.ended.last ≡ self.old.ended.last) }
         ensures prefix { IsErrOf result StageFault.Write → IsCutShort (vessel K.Sink out.old) (vessel K.Sink out.new)
-            (IsAllowed (receiver_does self.old packet.now) (receiver_refuses self.old (Some packet.now))
-            steps.old steps.new) }
+            (CutsBy strict self.old packet.now steps.old steps.new) }
         ensures cause { IsCaused (K.faults out.old) (K.faults out.new) (IsErrOf result StageFault.Write) }
     {
         let name = name_of(heard);
@@ -198,11 +297,10 @@ impl Receiver {
             Ok(()) => {}
             Err(fault) => return Err(StageFault::Refused(fault)),
         }
-        self.so_far = self.listener.turn(begins, self.so_far);
-        if let Err(fault) = self
-            .listener
-            .take(&self.card, number, tuning, packet, heard, key, out)
-        {
+        self.ended.turn(begins, self.name, &mut self.listener);
+        if let Err(fault) = self.listener.take(
+            strict, &self.card, number, tuning, packet, heard, key, out,
+        ) {
             return Err(fault);
         }
         self.count = number.saturating_add(1);

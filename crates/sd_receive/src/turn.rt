@@ -1,25 +1,33 @@
 ghost use Rattle.std.specs.Prelude.{◌≡◌, ℕ, List};
 ghost use Rattle.sd_spec.specs.Runs.{are_two, run_name_heard as name_heard};
 ghost use Rattle.sd_receive.specs.Ears.{heard_as};
-ghost use Rattle.sd_receive.specs.Receiving.{TurnsBy};
+ghost use Rattle.sd_receive.specs.Receiving.{TurnsBy, HasTurned};
 
 use crate::ears::Heard;
+use crate::ended::{Ended, EndedRuns};
 use crate::listener::Listener;
-use sd_spec::Ending;
 
-impl Listener {
-    // Ends the current run, if what comes begins another: all that was heard of it is forgotten. It returns how the
-    // runs ended so far, together; `so_far` is how those before the current one did.
+impl EndedRuns {
+    // Ends the current run, of this name, if what comes begins another: all that was heard of it is forgotten.
     #[inline(always)]
-    pub fn turn(&mut self, begins: bool, so_far: Ending) -> Ending
-        ensures { TurnsBy begins so_far self.old self.new result }
+    pub fn turn(&mut self, begins: bool, name: Option<Option<u32>>, listener: &mut Listener)
+        ensures { TurnsBy begins name self.old listener.old listener.new self.new }
     {
-        if !begins {
-            return so_far;
+        if begins {
+            self.end(name, listener);
         }
-        let ended = so_far.with(self.ending());
-        self.forget();
-        ended
+    }
+
+    // Ends the current run.
+    #[inline(never)]
+    fn end(&mut self, name: Option<Option<u32>>, listener: &mut Listener)
+        ensures { HasTurned name self.old listener.old listener.new self.new }
+    {
+        let ending = listener.ending();
+        self.so_far = self.so_far.with(ending);
+        self.written = self.written.saturating_add(listener.written);
+        self.last = Some(Ended { run: name, ending });
+        listener.forget();
     }
 }
 

@@ -1,6 +1,6 @@
 use Rattle.std.proofs.Common.{◌≡◌, ◌-◌, ◌∙◌, ℕ, ap, length, get_or, arith}
 use Rattle.std.proofs.lemmas.List.{drop_all}
-use Rattle.sd_receive.specs.Writing.{is_near_to}
+use Rattle.sd_spec.specs.Confirmed.{is_near_to}
 use Rattle.sd_receive.proofs.Confirming.{none_near, one_nearer, none_nearer}
 use Rattle.sd_receive.proofs.confirm.confirmed_in.Goals as goal
 

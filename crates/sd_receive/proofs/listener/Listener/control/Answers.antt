@@ -1,4 +1,4 @@
-use Rattle.std.proofs.Common.{◌≡◌, ◌∙◌, refl, sym, subst, List}
+use Rattle.std.proofs.Common.{◌≡◌, ◌∙◌, inl, inr, refl, sym, subst, true, List}
 use Rattle.std.specs.Prelude.{None, Ok}
 use Rattle.sd_site.specs.CardFields.{card_fields_of}
 use Rattle.sd_engine.specs.Stage.{vessel}
@@ -7,7 +7,8 @@ use Rattle.sd_spec.specs.Heard.{Heard, Controls}
 use Rattle.sd_spec.specs.Stretches.{current}
 use Rattle.sd_receive.specs.Collected.{IsCollected, IsComplete, PartOutcome}
 use Rattle.sd_receive.specs.declared.collect.Taken.{Taken}
-use Rattle.sd_receive.specs.Listening.{TakesHeard, RefusesHeard, TakesMessage, RefusesMessage, IsStill}
+use Rattle.sd_receive.specs.Listening.{TakesHeard, RefusesHeard, CutsHeard, TakesMessage, RefusesMessage}
+use Rattle.sd_receive.specs.Listening.{CutsMessage, IsStill}
 use Rattle.sd_receive.specs.declared.listener.Listener.{Listener}
 use Rattle.sd_receive.proofs.Listening.{took_nothing, part_waiting, part_bad, part_left, comes_weaker}
 use Rattle.sd_receive.proofs.Listening.{message_heard}
@@ -25,7 +26,7 @@ returns-in-Ok-Waits-clause-value g c =
       written = s.written;
     } in
     took_nothing (vessel g.K.Sink c.args.out.now)
-    (TakesHeard (card_fields_of c.args.card.now) c.args.tuning c.args.number (Controls c.args.part.now) None s t)
+    (TakesHeard true (card_fields_of c.args.card.now) c.args.tuning c.args.number (Controls c.args.part.now) None s t)
     (part_waiting (card_fields_of c.args.card.now) c.args.tuning c.args.number c.args.part.now s t refl refl refl
     refl
     (λ past collects now. subst (λ (taken : Taken). PartOutcome past c.args.part.now c.take.new.self (Ok taken))
@@ -72,26 +73,30 @@ returns-in-Ok-Complete-clause-value g c =
     λ past collects now. subst (λ (taken : Taken). PartOutcome past c.args.part.now c.take.new.self (Ok taken))
     c.in-Ok-Complete.field-0-is
     (c.in-Ok-Complete.ensures.value past collects (now ∙ sym c.period.ensures)) in
-    comes_weaker (TakesMessage card c.args.tuning c.args.number head t)
-    (TakesHeard card c.args.tuning c.args.number (Controls c.args.part.now) None s)
-    (RefusesMessage card c.args.tuning c.args.number head t)
-    (RefusesHeard card c.args.tuning c.args.number (Controls c.args.part.now) s)
+    let strict = c.args.strict in
+    let n = c.args.number in
+    let part = c.args.part.now in
+    let tuning = c.args.tuning in
+    let at = message_heard card tuning n part head s t refl refl refl done in
+    comes_weaker (TakesMessage true card tuning n head t) (TakesHeard true card tuning n (Controls part) None s)
+    (RefusesMessage strict card tuning n head t) (RefusesHeard strict card tuning n (Controls part) s)
+    (CutsMessage strict card tuning n head t) (CutsHeard strict card tuning n (Controls part) None s)
     (vessel g.K.Sink c.args.out.now) (vessel g.K.Sink c.complete.new.out) c.complete.new.self c.complete.result
-    (λ x bytes takes past follows unclosed judged. takes past c.args.part.now
-    (message_heard card c.args.tuning c.args.number c.args.part.now head s t refl refl refl done past follows
-    unclosed))
-    (λ fault bytes refuses past follows unclosed. refuses past c.args.part.now
-    (message_heard card c.args.tuning c.args.number c.args.part.now head s t refl refl refl done past follows
-    unclosed))
+    (λ x bytes takes past follows unclosed judged. takes past part (at past follows unclosed))
+    (λ fault bytes refuses past follows unclosed. refuses past part (at past follows unclosed))
+    (λ bytes cuts. elim cuts [
+      | inl h ↦ inl (h.0, λ past follows unclosed judged. h.1 past part (at past follows unclosed))
+      | inr h ↦ inr (h.0, h.1, λ past follows unclosed. h.2 past part (at past follows unclosed))
+    ])
     c.complete.ensures.value
 
 pub returns-in-Err-clause-value : goal.returns-in-Err-clause-value
 returns-in-Err-clause-value g c =
     took_nothing (vessel g.K.Sink c.args.out.now)
-    (RefusesHeard (card_fields_of c.args.card.now) c.args.tuning c.args.number (Controls c.args.part.now)
+    (RefusesHeard c.args.strict (card_fields_of c.args.card.now) c.args.tuning c.args.number (Controls c.args.part.now)
     c.args.self.now
     (BadEcm c.args.number c.in-Err.fault))
-    (part_bad (card_fields_of c.args.card.now) c.args.tuning c.args.number c.args.part.now c.args.self.now
+    (part_bad c.args.strict (card_fields_of c.args.card.now) c.args.tuning c.args.number c.args.part.now c.args.self.now
     c.in-Err.fault
     (λ past collects now. (c.in-Err.ensures.value past collects (now ∙ sym c.period.ensures)).0))
 

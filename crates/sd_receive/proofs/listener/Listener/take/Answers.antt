@@ -1,11 +1,11 @@
-use Rattle.std.proofs.Common.{refl, ap, sym, subst, []}
+use Rattle.std.proofs.Common.{refl, ap, sym, subst, true, []}
 use Rattle.sd_site.specs.CardFields.{card_fields_of}
 use Rattle.sd_engine.specs.Stage.{vessel}
 use Rattle.sd_spec.specs.Heard.{Heard}
 use Rattle.sd_receive.specs.declared.ears.Heard.{Heard as Kept}
 use Rattle.sd_receive.specs.Ears.{heard_as, IsFormed}
 use Rattle.sd_message.specs.declared.stream_fault.StreamFault.TheVariants.{BadEmm, BadEcm}
-use Rattle.sd_receive.specs.Listening.{TakesHeard, RefusesHeard, PacketOutcome}
+use Rattle.sd_receive.specs.Listening.{TakesHeard, RefusesHeard, CutsHeard, PacketOutcome}
 use Rattle.sd_receive.specs.declared.listener.Listener.{Listener}
 use Rattle.sd_receive.proofs.Listening.{took_nothing, dropped_heard, other_heard, section_taken}
 use Rattle.sd_receive.proofs.Listening.{bad_section, bad_part, still}
@@ -16,8 +16,8 @@ returns-in-Dropped-clause-value g c =
     let s = c.args.self.now in
     let card = card_fields_of c.args.card.now in
     took_nothing (vessel g.K.Sink c.args.out.now)
-    (TakesHeard card c.args.tuning c.args.number (heard_as c.args.number c.args.packet.now c.args.heard)
-    c.args.key s s) (subst (λ (h : Heard). TakesHeard card c.args.tuning c.args.number h c.args.key s s [])
+    (TakesHeard true card c.args.tuning c.args.number (heard_as c.args.number c.args.packet.now c.args.heard)
+    c.args.key s s) (subst (λ (h : Heard). TakesHeard true card c.args.tuning c.args.number h c.args.key s s [])
     (ap (heard_as c.args.number c.args.packet.now) (sym c.in-Dropped.is))
     (dropped_heard card c.args.tuning c.args.number s c.args.key))
 
@@ -34,8 +34,8 @@ returns-in-Other-clause-value g c =
       written = s.written;
     } in
     took_nothing (vessel g.K.Sink c.args.out.now)
-    (TakesHeard card c.args.tuning c.args.number (heard_as c.args.number c.args.packet.now c.args.heard)
-    c.args.key s t) (subst (λ (h : Heard). TakesHeard card c.args.tuning c.args.number h c.args.key s t [])
+    (TakesHeard true card c.args.tuning c.args.number (heard_as c.args.number c.args.packet.now c.args.heard)
+    c.args.key s t) (subst (λ (h : Heard). TakesHeard true card c.args.tuning c.args.number h c.args.key s t [])
     (ap (heard_as c.args.number c.args.packet.now) (sym c.in-Other.is))
     (other_heard card c.args.tuning c.args.number c.args.packet.now s t refl refl refl refl c.hold.ensures
     c.args.key))
@@ -53,8 +53,8 @@ returns-in-Entitles-clause-value g c =
       written = s.written;
     } in
     took_nothing (vessel g.K.Sink c.args.out.now)
-    (TakesHeard card c.args.tuning c.args.number (heard_as c.args.number c.args.packet.now c.args.heard)
-    c.args.key s t) (subst (λ (h : Heard). TakesHeard card c.args.tuning c.args.number h c.args.key s t [])
+    (TakesHeard true card c.args.tuning c.args.number (heard_as c.args.number c.args.packet.now c.args.heard)
+    c.args.key s t) (subst (λ (h : Heard). TakesHeard true card c.args.tuning c.args.number h c.args.key s t [])
     (ap (heard_as c.args.number c.args.packet.now) (sym c.in-Entitles.is))
     (section_taken card c.args.tuning c.args.number c.in-Entitles.emm.now s t refl refl refl refl
     c.args.key (λ past entitled judged. c.keep.ensures card c.args.number past entitled judged)))
@@ -63,8 +63,9 @@ pub returns-in-Controls-clause-value : goal.returns-in-Controls-clause-value
 returns-in-Controls-clause-value g c =
     let s = c.args.self.now in
     let card = card_fields_of c.args.card.now in
-    subst (λ (h : Heard). PacketOutcome (TakesHeard card c.args.tuning c.args.number h c.args.key s)
-    (RefusesHeard card c.args.tuning c.args.number h s) (vessel g.K.Sink c.args.out.now)
+    subst (λ (h : Heard). PacketOutcome (TakesHeard true card c.args.tuning c.args.number h c.args.key s)
+    (RefusesHeard c.args.strict card c.args.tuning c.args.number h s)
+    (CutsHeard c.args.strict card c.args.tuning c.args.number h c.args.key s) (vessel g.K.Sink c.args.out.now)
     (vessel g.K.Sink c.control.new.out) c.control.new.self c.control.result)
     (ap (heard_as c.args.number c.args.packet.now) (sym c.in-Controls.is)) c.control.ensures.value
 
@@ -74,10 +75,10 @@ returns-in-BadEmm-clause-value g c =
     let card = card_fields_of c.args.card.now in
     let why = BadEmm c.args.number c.in-BadEmm.fault in
     took_nothing (vessel g.K.Sink c.args.out.now)
-    (RefusesHeard card c.args.tuning c.args.number (heard_as c.args.number c.args.packet.now c.args.heard) s why)
-    (subst (λ (h : Heard). RefusesHeard card c.args.tuning c.args.number h s why [])
+    (RefusesHeard c.args.strict card c.args.tuning c.args.number (heard_as c.args.number c.args.packet.now c.args.heard) s why)
+    (subst (λ (h : Heard). RefusesHeard c.args.strict card c.args.tuning c.args.number h s why [])
     (ap (heard_as c.args.number c.args.packet.now) (sym c.in-BadEmm.is))
-    (bad_section card c.args.tuning c.args.number c.in-BadEmm.fault s))
+    (bad_section c.args.strict card c.args.tuning c.args.number c.in-BadEmm.fault s))
 
 pub returns-in-BadEcm-clause-value : goal.returns-in-BadEcm-clause-value
 returns-in-BadEcm-clause-value g c =
@@ -85,10 +86,10 @@ returns-in-BadEcm-clause-value g c =
     let card = card_fields_of c.args.card.now in
     let why = BadEcm c.args.number c.in-BadEcm.fault in
     took_nothing (vessel g.K.Sink c.args.out.now)
-    (RefusesHeard card c.args.tuning c.args.number (heard_as c.args.number c.args.packet.now c.args.heard) s why)
-    (subst (λ (h : Heard). RefusesHeard card c.args.tuning c.args.number h s why [])
+    (RefusesHeard c.args.strict card c.args.tuning c.args.number (heard_as c.args.number c.args.packet.now c.args.heard) s why)
+    (subst (λ (h : Heard). RefusesHeard c.args.strict card c.args.tuning c.args.number h s why [])
     (ap (heard_as c.args.number c.args.packet.now) (sym c.in-BadEcm.is))
-    (bad_part card c.args.tuning c.args.number c.in-BadEcm.fault s))
+    (bad_part c.args.strict card c.args.tuning c.args.number c.in-BadEcm.fault s))
 
 pub keep-requires : goal.keep-requires
 keep-requires g c =

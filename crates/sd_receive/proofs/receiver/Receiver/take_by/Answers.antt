@@ -6,7 +6,7 @@ use Rattle.sd_receive.specs.Receiving.{receiver_does}
 use Rattle.sd_engine.specs.declared.stage.StageFault.TheVariants.{Write, Refused}
 use Rattle.sd_engine.proofs.Answering.{ok_is_no_err, success_is_calm}
 use Rattle.sd_receive.proofs.Receiving.{counted, idle_untuned, grew_none, ecm_fits}
-use Rattle.sd_receive.proofs.receiver.Receiver.take.Goals as goal
+use Rattle.sd_receive.proofs.receiver.Receiver.take_by.Goals as goal
 
 pub returns-in_default-clause-value : goal.returns-in_default-clause-value
 returns-in_default-clause-value g c =
@@ -33,6 +33,9 @@ returns-in_default-clause-stands g c = λ fault is. ok_is_no_err (Refused fault)
 
 pub returns-in_default-clause-fit : goal.returns-in_default-clause-fit
 returns-in_default-clause-fit g c = λ fault is. ok_is_no_err (Refused fault) is
+
+pub returns-in_default-clause-same : goal.returns-in_default-clause-same
+returns-in_default-clause-same g c = λ fault is. ok_is_no_err (Refused fault) is
 
 pub returns-in_default-clause-prefix : goal.returns-in_default-clause-prefix
 returns-in_default-clause-prefix g c = λ failed. ok_is_no_err Write failed
@@ -70,6 +73,9 @@ returns-in-Cat-clause-stands g c = c.take_heard.ensures.stands
 pub returns-in-Cat-clause-fit : goal.returns-in-Cat-clause-fit
 returns-in-Cat-clause-fit g c = c.take_heard.ensures.fit
 
+pub returns-in-Cat-clause-same : goal.returns-in-Cat-clause-same
+returns-in-Cat-clause-same g c = c.take_heard.ensures.same
+
 pub returns-in-Cat-clause-prefix : goal.returns-in-Cat-clause-prefix
 returns-in-Cat-clause-prefix g c = c.take_heard.ensures.prefix
 
@@ -105,6 +111,9 @@ returns-in-Emm-clause-stands g c = c.take_emm.ensures.stands
 
 pub returns-in-Emm-clause-fit : goal.returns-in-Emm-clause-fit
 returns-in-Emm-clause-fit g c = c.take_emm.ensures.fit
+
+pub returns-in-Emm-clause-same : goal.returns-in-Emm-clause-same
+returns-in-Emm-clause-same g c = c.take_emm.ensures.same
 
 pub returns-in-Emm-clause-prefix : goal.returns-in-Emm-clause-prefix
 returns-in-Emm-clause-prefix g c = c.take_emm.ensures.prefix
@@ -142,6 +151,9 @@ returns-in-Ecm-clause-stands g c = c.take_ecm.ensures.stands
 pub returns-in-Ecm-clause-fit : goal.returns-in-Ecm-clause-fit
 returns-in-Ecm-clause-fit g c = c.take_ecm.ensures.fit
 
+pub returns-in-Ecm-clause-same : goal.returns-in-Ecm-clause-same
+returns-in-Ecm-clause-same g c = c.take_ecm.ensures.same
+
 pub returns-in-Ecm-clause-prefix : goal.returns-in-Ecm-clause-prefix
 returns-in-Ecm-clause-prefix g c = c.take_ecm.ensures.prefix
 
@@ -174,6 +186,9 @@ returns-in-Other-clause-stands g c = c.take_heard-in-Other.ensures.stands
 
 pub returns-in-Other-clause-fit : goal.returns-in-Other-clause-fit
 returns-in-Other-clause-fit g c = c.take_heard-in-Other.ensures.fit
+
+pub returns-in-Other-clause-same : goal.returns-in-Other-clause-same
+returns-in-Other-clause-same g c = c.take_heard-in-Other.ensures.same
 
 pub returns-in-Other-clause-prefix : goal.returns-in-Other-clause-prefix
 returns-in-Other-clause-prefix g c = c.take_heard-in-Other.ensures.prefix

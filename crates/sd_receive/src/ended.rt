@@ -1,0 +1,39 @@
+ghost use Rattle.std.specs.Prelude.{◌≡◌, ℕ, List, None};
+ghost use Rattle.sd_receive.specs.Receiving.{IsAfter, IsFit};
+
+use crate::receiver::Receiver;
+use sd_spec::Ending;
+
+/// How a run ended that another followed [this project, docs/FORMATS.md, Receiver].
+#[derive(Clone, Copy)]
+pub struct Ended {
+    /// The run's name, if it has one. There is always a message of which this is the run.
+    pub run: Option<Option<u32>>,
+    /// How it ended.
+    pub ending: Ending,
+}
+
+// What is kept of the runs before the current one.
+#[derive(Clone, Copy)]
+pub struct EndedRuns {
+    // How they ended, together.
+    pub so_far: Ending,
+    // The number of packets of them that were written, at most 2^64 - 1.
+    pub written: u64,
+    // How the last of them ended, until that is taken.
+    pub last: Option<Ended>,
+}
+
+impl Receiver {
+    /// How the run ended that ended last, if it wasn't taken yet. A packet that begins another run ends the one before
+    /// it.
+    pub fn take_ended(&mut self) -> Option<Ended>
+        ensures value { result ≡ self.old.ended.last }
+        ensures taken { self.new.ended.last ≡ None }
+        ensures stands { (past : List (List ℕ)) → IsAfter past self.old → IsAfter past self.new }
+        ensures fit { IsFit self.old → IsFit self.new }
+        ensures same { (self.new.card ≡ self.old.card) × (self.new.refusal ≡ self.old.refusal) }
+    {
+        self.ended.last.take()
+    }
+}
