@@ -39,7 +39,7 @@ exit_line files NoCat = codes "  16  the stream has no CAT for this card\n"
 exit_line files BadWord = codes "  17  argument N is not a decimal number, or is out of range\n"
 exit_line files Clash = codes "  18  two broadcasts must not share one set of cards\n"
 exit_line files BadOut = codes "  19  OUT is there already, or its name does not follow that of SITE\n"
-exit_line files OtherBook = 
+exit_line files OtherBook =
     codes "  21  BOOK is not the book of the site's line 13; for next, it does not begin with that book\n"
 
 -- all exits, by their numbers
