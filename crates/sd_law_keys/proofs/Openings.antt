@@ -15,9 +15,9 @@ use Rattle.sd_psi.specs.Rewriting.{restored, restore_fault}
 use Rattle.sd_keystream.specs.Scrambling.{descrambled}
 use Rattle.sd_psi.specs.declared.our_cat.Tuning.{Tuning}
 use Rattle.sd_site.specs.CardFields.{CardFields}
-use Rattle.sd_spec.specs.Confirmed.{Segment, Wrote, is_confirmed, is_odd, judged, position_in, then_wrote, tracked}
-use Rattle.sd_spec.specs.Confirmed.{unmarked, written_from}
-use Rattle.sd_law_keys.specs.Written.{IsFramed, IsPlain, as_it_came, as_it_was, position_or_first}
+use Rattle.sd_spec.specs.Confirmed.{Segment, Wrote, is_confirmed, is_odd, judged, position_in, position_or_first}
+use Rattle.sd_spec.specs.Confirmed.{then_wrote, tracked, unmarked, written_from}
+use Rattle.sd_law_keys.specs.Written.{IsFramed, IsPlain, as_it_came, as_it_was}
 
 -- a packet that is written of these: the one that it is written of, after those before it
 pub record IsFrom (s : Segment) (before : List (List ℕ)) (helds : List (ℕ × List ℕ)) (out : List ℕ) : Type 0 where
@@ -121,7 +121,7 @@ judged_is s before held out packets is here =
 plain_by : (card : CardFields) (tuning : Tuning) (held out : List ℕ) (b : Bool)
     → (is_placed held && is_none (restore_fault card.ca tuning.ecm held)) ≡ b
     → out ≡ (if b then restored held else held) → IsPlain card tuning held out
-plain_by card tuning held out false other is = subst (IsPlain card tuning held) (sym is) as_it_came
+plain_by card tuning held out false other is = subst (IsPlain card tuning held) (sym is) (as_it_came other)
 plain_by card tuning held out true marked is =
     let tests = and_parts (is_placed held) (is_none (restore_fault card.ca tuning.ecm held)) marked in
     subst (IsPlain card tuning held) (sym is)
@@ -167,7 +167,7 @@ pub framed : (s : Segment) (pid : ℕ) (before rest : List (List ℕ)) → s.pac
 unfolding is_confirmed tracked
 framed s pid before rest stands sure =
     let (place, named, below, near) = framed_by (tracked s.first pid s.packets) (position_in s.last.places pid) sure in
-    let start : ℕ = position_or_first s.first pid in
+    let start : ℕ = position_or_first s.first.places pid in
     let all : tracked s.first pid s.packets ≡ moved_by pid (moved_by pid start before) rest =
     ap (moved_by pid start) stands ∙ more_packets pid start before rest in record {
       place = place;

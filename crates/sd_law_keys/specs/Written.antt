@@ -1,11 +1,10 @@
 -- Public meaning: where a packet comes from that a receiver writes. All lists of packets have the newest first.
-use Rattle.std.specs.Prelude.{◌≡◌, ℕ, ◌+◌, ◌%◌, ◌<◌, ◌≤◌, List, [], ◌∷◌, ◌++◌, length, map, Some, None, All}
-use Rattle.std.specs.Prelude.{AllPairs, Contains, true}
-use Rattle.std.specs.Option.{option_map_or}
+use Rattle.std.specs.Prelude.{◌≡◌, ℕ, ◌+◌, ◌%◌, ◌<◌, ◌≤◌, ◌&&◌, List, [], ◌∷◌, ◌++◌, length, map, Some, None, All}
+use Rattle.std.specs.Prelude.{AllPairs, Contains, false, is_none, true}
 use Rattle.sd_base.specs.Types.{Packet, Packets, Pid, Position, Key, PeriodNumber}
 use Rattle.sd_tree.specs.Keys.{check_value_of}
 use Rattle.sd_packet.specs.Header.{pid_of, scrambling_of}
-use Rattle.sd_packet.specs.Positions.{first_position, is_placed}
+use Rattle.sd_packet.specs.Positions.{is_placed}
 use Rattle.sd_psi.specs.Rewriting.{restored, restore_fault}
 use Rattle.sd_psi.specs.declared.our_cat.Tuning.{Tuning}
 use Rattle.sd_site.specs.CardFields.{CardFields}
@@ -20,7 +19,7 @@ use Rattle.sd_spec.specs.Heard.{Heard, Controls, hears}
 use Rattle.sd_spec.specs.Stretches.{completes, held_in, message_told, newest, seen}
 use Rattle.sd_spec.specs.Keys.{key_at}
 use Rattle.sd_spec.specs.Offered.{heard}
-use Rattle.sd_spec.specs.Confirmed.{position_in, tracked}
+use Rattle.sd_spec.specs.Confirmed.{position_in, position_or_first, tracked}
 
 -- one of these packets is heard as this by the CAT that was taken before it [this project, docs/FORMATS.md, Receiver]
 pub record IsHeardIn (card : CardFields) (past : Packets) (thing : Heard) : Type 0 where
@@ -93,15 +92,11 @@ pub record AreBuffered (card : CardFields) (past : Packets) (a b : Message) (pac
   pub are_here : All (Contains past) packets
   pub few : length packets ≤ 4096
 
--- the position that a message has for a PID; the first one if it has none
-abbrev pub position_or_first : Message → Pid → Position
-position_or_first message pid = option_map_or (λ p. p) (position_in message.places pid) first_position
-
 -- A position of a PID lies between the positions that two messages have for it, and that of the second is at most 15
 -- above the one that the buffered packets led to [this project, docs/FORMATS.md, Receiver].
 pub record IsFramed (a b : Message) (pid : Pid) (buffered : Packets) (position : Position) : Type 0 where
   pub place : Position
-  pub above : position_or_first a pid ≤ position
+  pub above : position_or_first a.places pid ≤ position
   pub named : position_in b.places pid ≡ Some place
   pub below : position ≤ place
   pub near : place ≤ tracked a pid buffered + 15
@@ -125,7 +120,7 @@ pub record IsOpened (card : CardFields) (past : Packets) (held out : Packet) : T
 -- a packet in the clear as it is written: as it came; or, if it is a PMT with the project's CA_descriptor for these
 -- PIDs, without that [this project, docs/FORMATS.md, Receiver]
 pub data IsPlain (card : CardFields) (tuning : Tuning) (came : Packet) : Packet → Type 0 where
-  as_it_came : IsPlain card tuning came came
+  as_it_came : (is_placed came && is_none (restore_fault card.ca tuning.ecm came)) ≡ false → IsPlain card tuning came came
   as_it_was : is_placed came ≡ true → restore_fault card.ca tuning.ecm came ≡ None
       → IsPlain card tuning came (restored came)
 

@@ -42,6 +42,11 @@ filter_short f low (suc n) = by_test (f low) (filter_short f (low + 1) n)
     by_test true rest = omega (arith, rest)
     by_test false rest = omega (arith, rest)
 
+-- no more things are kept between two packets than stand there
+pub few_kept : (kept : List Item) (low high : ℕ) → length (kept_in kept low high) ≤ high - low
+unfolding kept_in
+few_kept kept low high = filter_short (is_kept kept) low (high - low)
+
 and_all : (b : Bool) → (b && true) ≡ b
 and_all true = refl
 and_all false = refl
@@ -106,10 +111,6 @@ module _ (plan : Plan) (clear : List (List ℕ)) (u : ℕ) (is : IsPlan plan) (a
       itself : (x : ℕ) → (nat_le x x && nat_le x (x + 15)) ≡ true
       itself x = grind (arith, nat_tests)
 
-  few : (kept : List Item) (low high : ℕ) → length (kept_in kept low high) ≤ high - low
-  unfolding kept_in
-  few kept low high = filter_short (is_kept kept) low (high - low)
-
   -- a pair of neighbouring messages is open where the key is had
   pair_opens : (kept : List Item) (a : ℕ) → (b : Bool) →
       is_entitled_before plan.site.height u (period_of plan (start_of s a)) a kept ≡ b → opens s kept a (a + 1) ≡ b
@@ -125,7 +126,7 @@ module _ (plan : Plan) (clear : List (List ℕ)) (u : ℕ) (is : IsPlan plan) (a
       grown = grind arith
 
       short : length (kept_in kept (start_of s a) (end_of s (a + 1))) ≤ 4096
-      short = omega (arith, few kept (start_of s a) (end_of s (a + 1)), grown, is.site.every.1)
+      short = omega (arith, few_kept kept (start_of s a) (end_of s (a + 1)), grown, is.site.every.1)
 
       small : nat_le (length (kept_in kept (start_of s a) (end_of s (a + 1)))) 4096 ≡ true
       small = grind (arith, nat_tests, short)

@@ -1,9 +1,8 @@
 -- What two neighbouring messages confirm where no packet between them is lost, or one.
 use Rattle.std.proofs.Common.{◌≡◌, refl, ℕ, zero, suc, ◌+◌, ◌-◌, ◌%◌, ◌<◌, ◌≤◌, ◌&&◌, ◌||◌, Bool, true, false}
 use Rattle.std.proofs.Common.{not, nat_le}
-use Rattle.std.proofs.Common.{List, [], ◌∷◌, filter, length, take, drop, if◌then◌else◌, length-take}
+use Rattle.std.proofs.Common.{List, [], length, take, drop, length-take}
 use Rattle.std.proofs.Common.{arith, sym, ap, ◌∙◌, inl, inr, ◌⊎◌}
-use Rattle.std.specs.List.{range_with_len}
 use Rattle.std.proofs.lemmas.List.{drop_more}
 use Rattle.std.proofs.lemmas.Bool.{cases_Bool}
 use Rattle.std.proofs.lemmas.Bool.Decides.{nat_tests}
@@ -24,20 +23,7 @@ use Rattle.sd_law_losses.proofs.Pairs.{start_of, end_of, IsPair, starts_within}
 use Rattle.sd_law_losses.proofs.Setting.{Setting}
 use Rattle.sd_law_losses.proofs.Tracking.{true_at, near_at, true_on, near_on, near_below, nothing_in, stretch, flags_in}
 use Rattle.sd_law_losses.proofs.Tracking.{kept_none}
-
-few_pass : (f : ℕ → Bool) (low n : ℕ) → length (filter f (range_with_len low n)) ≤ n
-few_pass f low zero = omega arith
-few_pass f low (suc n) = by_test (f low) (few_pass f (low + 1) n)
-  where
-    by_test : (b : Bool) → length (filter f (range_with_len (low + 1) n)) ≤ n →
-        length (if b then low ∷ filter f (range_with_len (low + 1) n) else filter f (range_with_len (low + 1) n))
-        ≤ suc n
-    by_test true rest = omega (arith, rest)
-    by_test false rest = omega (arith, rest)
-
-few_kept : (kept : List Item) (low high : ℕ) → length (kept_in kept low high) ≤ high - low
-unfolding kept_in
-few_kept kept low high = few_pass (is_kept kept) low (high - low)
+use Rattle.sd_law_progress.proofs.Between.{few_kept}
 
 -- two messages of which the earlier one's key is known, with at most 4,096 packets between them
 pair_opens : (s : Setting) (kept : List Item) (a b : ℕ) →

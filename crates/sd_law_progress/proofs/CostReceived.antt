@@ -1,36 +1,21 @@
 -- What a receiver writes of a broadcast of which one packet is lost.
-use Rattle.std.proofs.Common.{◌≡◌, refl, ℕ, suc, ◌+◌, ◌<◌, ◌^◌}
+use Rattle.std.proofs.Common.{◌≡◌, ℕ, ◌+◌, ◌<◌, ◌^◌}
 use Rattle.std.proofs.Common.{List, [], ◌∷◌, ◌++◌, length, drop, arith, sym, ap, ◌∙◌, append_assoc}
-use Rattle.std.proofs.Common.{append-nil, length-append}
+use Rattle.std.proofs.Common.{length-append}
 use Rattle.std.proofs.lemmas.List.{take_at, drop_at}
-use Rattle.sd_site.specs.SiteFields.{SiteFields}
 use Rattle.sd_site.specs.CardFields.{card_of}
 use Rattle.sd_spec.specs.Plan.{Plan, IsPlan}
 use Rattle.sd_spec.specs.Offered.{out_from}
 use Rattle.sd_spec.specs.Refused.{IsClear}
 use Rattle.sd_spec.specs.Sent.{Item, packet_of, packets_from, broadcast}
+use Rattle.sd_spec.proofs.Bodies.{packets_many}
+use Rattle.sd_spec.proofs.Sending.{packets_in_turn}
 use Rattle.sd_law_broadcast.specs.Packets.{AreWholePackets}
 use Rattle.sd_law_losses.specs.Chosen.{chosen}
 use Rattle.sd_law_losses.specs.Confirmed.{confirmed}
 use Rattle.sd_law_losses.proofs.Theorem.{confirmed_alone}
 use Rattle.sd_law_progress.specs.Cost.{IsSentBetween, without}
 use Rattle.sd_law_progress.proofs.CostLists.{all_but, chosen_but, chosen_beside}
-
--- the packets of things, and of others after them
-packets_of_both : (site : SiteFields) (earlier xs ys : List Item) →
-    packets_from site earlier (xs ++ ys) ≡ packets_from site earlier xs ++ packets_from site (earlier ++ xs) ys
-unfolding packets_from
-packets_of_both site earlier [] ys = ap (λ (zs : List Item). packets_from site zs ys) (sym (append-nil earlier))
-packets_of_both site earlier (x ∷ xs) ys =
-    ap (λ (ps : List (List ℕ)). packet_of site earlier x ∷ ps)
-    (packets_of_both site (earlier ++ x ∷ []) xs ys
-    ∙ ap (λ (zs : List Item). packets_from site (earlier ++ x ∷ []) xs ++ packets_from site zs ys)
-    (append_assoc earlier (x ∷ []) xs))
-
-packets_many : (site : SiteFields) (earlier items : List Item) → length (packets_from site earlier items) ≡ length items
-unfolding packets_from
-packets_many site earlier [] = refl
-packets_many site earlier (item ∷ items) = ap suc (packets_many site (earlier ++ item ∷ []) items)
 
 -- so a receiver writes of the packets but this one what is confirmed of the things but this one
 pub received_but : (plan : Plan) (clear : List (List ℕ)) (u : ℕ) (before : List Item) (x : Item) (after : List Item) →
@@ -54,7 +39,7 @@ received_but plan clear u before x after is all whole leaf lost =
     qs = packets_from plan.site (before ++ x ∷ []) after
 
     all_packets : broadcast plan clear ≡ ps ++ p ∷ qs
-    all_packets = ap (packets_from plan.site []) lost ∙ packets_of_both plan.site [] before (x ∷ after)
+    all_packets = ap (packets_from plan.site []) lost ∙ packets_in_turn plan.site [] before (x ∷ after)
 
     first : length ps ≡ length before
     first = packets_many plan.site [] before

@@ -1,6 +1,6 @@
 -- Clear streams by what is asked of each packet alone, and of all together.
-use Rattle.std.proofs.Common.{◌≡◌, refl, ℕ, suc, ◌+◌, ◌-◌, ◌^◌, ◌<◌, ◌≤◌, ◌==◌, ◌||◌, Bool, true, false, List, [], ◌∷◌}
-use Rattle.std.proofs.Common.{◌++◌, filter, length, arith, sym, ap, ◌∙◌, inl, inr, subst, nat_lt, nat_le, Option, None}
+use Rattle.std.proofs.Common.{◌≡◌, refl, ℕ, suc, ◌+◌, ◌-◌, ◌^◌, ◌<◌, ◌≤◌, ◌||◌, Bool, true, false, List, [], ◌∷◌}
+use Rattle.std.proofs.Common.{◌++◌, filter, length, arith, sym, ap, ◌∙◌, inl, inr, subst, nat_le, Option, None}
 use Rattle.std.proofs.Common.{length-append, append_assoc}
 use Rattle.std.specs.Prelude.{if◌then◌else◌}
 use Rattle.std.specs.List.{list_any}
@@ -16,8 +16,8 @@ use Rattle.sd_spec.specs.Kinds.{pat_in_force, has_moved, moved_pids, positional_
 use Rattle.sd_spec.specs.Refused.{is_reserved_pid, pat_wrong, is_full_own, is_one_too_many, refusal_of, refusal_from}
 use Rattle.sd_spec.specs.declared.kind.Kind.{Kind}
 use Rattle.sd_spec.proofs.Following.{pat_next, moved_first}
-use Rattle.sd_law_broadcast.specs.Accepted.{IsAccepted}
 use Rattle.sd_law_broadcast.proofs.Clear.{accepted, none_then, put_in_length}
+use Rattle.sd_law_broadcast.proofs.Narrowing.{unrefused}
 use Rattle.sd_law_rules.proofs.Rows.{leaves, Row, packets_in, staying, stays, next_pat, pat_after, kind_with, kind_is}
 use Rattle.sd_law_rules.proofs.Rows.{no_pat, pat_same}
 
@@ -48,16 +48,6 @@ locals_of site before (x ∷ xs) h =
       subst (λ (pat : Option (List ℕ)). AreLocal site pat xs) (pat_next before x)
           (locals_of site (before ++ x ∷ []) xs parts.1),
     )
-
--- a packet that breaks no rule isn't refused
-not_refused : (site : SiteFields) (before : List (List ℕ)) (x : List ℕ) → IsAccepted site before x →
-    refusal_of site before x ≡ None
-unfolding refusal_of
-not_refused site before x is =
-    let zero_control : (scrambling_of x == 0) ≡ true = grind (arith, nat_tests, is.clear) in
-    let short : (length before == 2 ^ 32 - 1) ≡ false = grind (arith, nat_tests, is.short) in
-    let word : nat_lt site.last_word (word_of site (length before)) ≡ false = grind (arith, nat_tests, is.word) in
-    rw zero_control (rw (is.untaken) (rw (is.pat) (rw (is.own) (rw (is.room) (rw short (rw word refl))))))
 
 filter_grows : (p q : ℕ → Bool) (xs : List ℕ) → ((x : ℕ) → p x ≡ true → q x ≡ true) →
     length (filter p xs) ≤ length (filter q xs)
@@ -104,7 +94,7 @@ unfolding refusal_from
 clear_of site before [] are short few words = refl
 clear_of site before (x ∷ xs) are short few words =
     none_then (refusal_of site before x) (refusal_from site (before ++ x ∷ []) xs)
-    (not_refused site before x (record {
+    (unrefused site before x (record {
       clear = are.0.clear;
       untaken = are.0.untaken;
       pat = are.0.pat_right;

@@ -23,6 +23,7 @@ use Rattle.sd_spec.proofs.Schedule.{closing_needed, since_is_below, same_word}
 use Rattle.sd_law_broadcast.specs.Numbered.{numbered}
 use Rattle.sd_law_broadcast.specs.Packets.{IsWholePacket, AreWholePackets}
 use Rattle.sd_law_broadcast.proofs.Clear.{accepted, each_clear}
+use Rattle.sd_law_broadcast.proofs.Numbers.{numbered_before}
 use Rattle.sd_law_losses.specs.Confirmed.{packets_at, packet_at, upto}
 use Rattle.sd_law_losses.specs.Chosen.{chosen}
 use Rattle.sd_law_losses.specs.Kept.{is_kept, kept_in, has_arrived}
@@ -242,14 +243,7 @@ pub same_message : (plan : Plan) (xs ys : List (List ℕ)) (a k : ℕ) (closing 
 unfolding message_at
 same_message plan xs ys a k closing like long = rw long (rw (same_places xs ys like) refl)
 
--- a message that isn't the last
-pub first_is : (plan : Plan) (clear : List (List ℕ)) (a : ℕ) → a < closing_number plan.site (length clear) →
-    numbered plan clear a ≡ message_at plan (take (a * plan.site.every) clear) a (a * plan.site.every) false
-unfolding numbered
-first_is plan clear a below =
-    let less : nat_lt a (closing_number plan.site (length clear)) ≡ true = grind (arith, nat_tests, below) in
-    rw less refl
-
+-- the last message, or one behind it
 last_is : (plan : Plan) (clear : List (List ℕ)) (a : ℕ) → closing_number plan.site (length clear) ≤ a →
     numbered plan clear a ≡ message_at plan clear a (length clear - 1) true
 unfolding numbered
@@ -265,12 +259,12 @@ same_numbered plan xs ys b is long before all = elim (cases_lt b (closing_number
   | inl below ↦
       let inside : b * plan.site.every < length ys = closing_needed plan.site (length ys) b is.site below in
       let at : upto plan ys b ≡ b * plan.site.every = omega (arith, inside) in
-      first_is plan xs b (subst (λ (n : ℕ). b < closing_number plan.site n) (sym long) below)
+      numbered_before plan xs b (subst (λ (n : ℕ). b < closing_number plan.site n) (sym long) below)
       ∙ (same_message plan (take (b * plan.site.every) xs) (take (b * plan.site.every) ys) b (b * plan.site.every) false
       (subst (λ (n : ℕ). AreLike (take n xs) (take n ys)) at before)
       (length-take-le (b * plan.site.every) xs (omega (arith, inside, long))
       ∙ sym (length-take-le (b * plan.site.every) ys (omega (arith, inside))))
-      ∙ sym (first_is plan ys b below))
+      ∙ sym (numbered_before plan ys b below))
   | inr above ↦
       last_is plan xs b (subst (λ (n : ℕ). closing_number plan.site n ≤ b) (sym long) above)
       ∙ (ap (λ (n : ℕ). message_at plan xs b (n - 1) true) long

@@ -27,6 +27,7 @@ use Rattle.sd_law_broadcast.specs.Packets.{IsWholePacket, AreWholePackets}
 use Rattle.sd_law_broadcast.specs.Numbered.{numbered}
 use Rattle.sd_law_broadcast.proofs.Carrying.{kind_placed}
 use Rattle.sd_law_broadcast.proofs.Clear.{accepted, each_clear, clear_short, clear_words, clear_pids}
+use Rattle.sd_law_broadcast.proofs.Numbers.{numbered_before}
 use Rattle.sd_law_losses.specs.Kept.{is_kept, kept_in}
 use Rattle.sd_law_losses.specs.Confirmed.{packet_at, upto, tracked_position, is_traced}
 use Rattle.sd_law_losses.proofs.Tracking.{near_below}
@@ -35,7 +36,7 @@ use Rattle.sd_law_progress.specs.Progress.{things}
 use Rattle.sd_law_rules.specs.Rules.{Sketch, Judge, IsBetween, IsSound, told_of, sketches_between}
 use Rattle.sd_law_rules.proofs.Rows.{packets_joined, Row, row_at, rows_in, packets_in, kept_rows, stays, staying, views}
 use Rattle.sd_law_rules.proofs.Rows.{views_stay, pat_after, pat_stays, kind_is, kind_with}
-use Rattle.sd_law_rules.proofs.Telling.{like_joined, first_is, same_numbered, kept_packets, many, stretch_rows}
+use Rattle.sd_law_rules.proofs.Telling.{like_joined, same_numbered, kept_packets, many, stretch_rows}
 use Rattle.sd_law_rules.proofs.Telling.{sketches_are, kept_many, row_packets, flag_at, rows_back, keeps, chosen_by}
 use Rattle.sd_law_rules.proofs.Telling.{all_arrive, all_are_kept, AreLike, same_pids}
 use Rattle.sd_law_rules.proofs.Quiet.{lost_long, IsQuiet, fill_quiet, quiet_locals, quiet_pat, quiet_whole, lost_rows}
@@ -273,9 +274,9 @@ module _ (plan : Plan) (is : IsPlan plan) (clear : List (List ℕ)) (kept : List
   -- both messages are the same
   first_same : (c : ℕ) → IsFit c → numbered plan (stream c) a ≡ numbered plan clear a
   first_same c fits =
-      first_is plan (stream c) a (below_too c fits)
+      numbered_before plan (stream c) a (below_too c fits)
       ∙ (ap (λ (xs : List (List ℕ)). message_at plan xs a low false) (begins c)
-      ∙ sym (first_is plan clear a between.below))
+      ∙ sym (numbered_before plan clear a between.below))
 
   next_same : (c : ℕ) → IsFit c → numbered plan (stream c) (a + 1) ≡ numbered plan clear (a + 1)
   next_same c fits =

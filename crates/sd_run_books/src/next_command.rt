@@ -31,6 +31,7 @@ pub fn next<D: Depot, P: Sink>(
     words: Number,
     out: Word<'_>,
 ) -> Result<(), Status>
+    requires first { site.number ≡ 1 }
     requires files { (site.number ≢ book.number) × (site.number ≢ out.number) × (book.number ≢ out.number) }
     requires some { 1 ≤ words.value }
     ensures { (steps : ℕ) → Implements

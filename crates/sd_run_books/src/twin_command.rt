@@ -1,6 +1,6 @@
 //! `twin SITE WORDS OUT`: the site of a broadcast that is on air at the same time as that of a site.
 
-ghost use Rattle.std.specs.Prelude.{◌≢◌, ◌≤◌, ◌+◌, ℕ, IsSome};
+ghost use Rattle.std.specs.Prelude.{◌≡◌, ◌≢◌, ◌≤◌, ◌+◌, ℕ, IsSome};
 ghost use Rattle.sd_site.specs.SiteFields.{fields_of};
 ghost use Rattle.sd_site.specs.Chain.{most_word};
 ghost use Rattle.sd_command_base.specs.Outside.{PageState, outside, depot_state};
@@ -24,6 +24,7 @@ pub fn twin<D: Depot>(
     words: Number,
     out: Word<'_>,
 ) -> Result<(), Status>
+    requires first { site.number ≡ 1 }
     requires files { site.number ≢ out.number }
     requires some { 1 ≤ words.value }
     ensures { (page : PageState) (steps : ℕ) →
