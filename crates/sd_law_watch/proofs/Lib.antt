@@ -1,0 +1,12 @@
+pub mod Counted
+pub mod Numbers
+pub mod Odd
+pub mod Copies
+pub mod Trying
+pub mod Said
+pub mod Held
+pub mod Alike
+pub mod Writes
+pub mod Going
+pub mod Fewer
+pub mod Losses

@@ -1,0 +1,3 @@
+pub mod LeftOut
+pub mod Tried
+pub mod Fewer
