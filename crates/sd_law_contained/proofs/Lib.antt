@@ -7,3 +7,8 @@ pub mod Leaving
 pub mod Endings
 pub mod Calm
 pub mod Contained
+pub mod Masks
+pub mod Alike
+pub mod Changing
+pub mod Running
+pub mod Confirming

@@ -51,3 +51,8 @@ pub fn damage_is_contained()
         without_gaps (ending_of (card_for channel u) (reverse (counting (card_for channel u) [] packets)))
         ≡ without_gaps (ending_of_all u runs) }
 {}
+
+#[tactic(auto, using(crate::proofs::Confirming::changed_contained))]
+pub fn trial()
+    ensures { (p : Packets) → p ≡ p }
+{}
