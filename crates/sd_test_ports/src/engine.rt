@@ -116,7 +116,7 @@ fn driven<L: Ledger, K: Sink>(
 }
 
 // A packet with this number in it.
-fn packet(number: u8) -> [u8; SIZE] {
+pub(crate) fn packet(number: u8) -> [u8; SIZE] {
     let mut bytes = [0xFF; SIZE];
     bytes[..4].copy_from_slice(&[0x47, 0x01, number, 0x10]);
     bytes

@@ -1,6 +1,6 @@
-//! Tests of the outside and of what goes through it: ports in memory and on the machine, streams that are driven,
-//! sample streams, the inspector and its lines, the book of a site's line 13, files that must be new, statuses and what
-//! they are to a user.
+//! Tests of the outside and of what goes through it: ports in memory and on the machine, streams that are driven and
+//! streams that are searched, sample streams, the inspector and its lines, the book of a site's line 13, files that must
+//! be new, statuses and what they are to a user.
 #![tactic(auto)]
 
 #[cfg(test)]
@@ -27,6 +27,8 @@ mod ports;
 mod sample;
 #[cfg(test)]
 mod sections;
+#[cfg(test)]
+mod seeking;
 #[cfg(test)]
 mod status;
 #[cfg(test)]
