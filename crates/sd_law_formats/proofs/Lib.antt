@@ -5,3 +5,5 @@ pub mod ShortSites
 pub mod TornSites
 pub mod TornLines
 pub mod SayableSites
+pub mod Courses
+pub mod Finds

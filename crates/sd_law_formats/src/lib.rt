@@ -1,9 +1,10 @@
-//! What the formats come to, for whoever reads what another wrote: fields, texts, packets, sections, tables, sites, cards,
-//! books, messages and keystreams.
+//! What the formats come to, for whoever reads what another wrote: fields, texts, packets, damaged streams, sections,
+//! tables, sites, cards, books, messages and keystreams.
 #![tactic(auto)]
 
 pub mod books;
 pub mod cards;
+pub mod cutting;
 pub mod ecms;
 pub mod emms;
 pub mod fields;
