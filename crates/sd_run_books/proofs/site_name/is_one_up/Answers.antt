@@ -9,7 +9,7 @@ pub returns-else-n-lt-MOST_WORD : goal.returns-else-n-lt-MOST_WORD
 returns-else-n-lt-MOST_WORD c = search (rules, said_top)
 
 pub returns-in_default : goal.returns-in_default
-returns-in_default c = search (rules, first_unsaid)
+returns-in_default c = search (rules, first_unsaid, second_unsaid)
 
 pub returns-in_default-2 : goal.returns-in_default-2
-returns-in_default-2 c = search (rules, second_unsaid)
+returns-in_default-2 c = search (rules, first_unsaid, second_unsaid)
