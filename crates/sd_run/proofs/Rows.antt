@@ -64,7 +64,7 @@ use Rattle.sd_run_books.proofs.CardOthers.{other_cover, other_card_order, other_
 use Rattle.sd_run_books.proofs.CardOthers.{other_opens, other_show, other_trace}
 use Rattle.sd_run_streams.proofs.Others.{other_tables}
 use Rattle.sd_run_broadcasts.proofs.HeadOthers.{other_head}
-use Rattle.sd_run_broadcasts.proofs.ReceiveOthers.{other_receive}
+use Rattle.sd_run_broadcasts.proofs.ReceiveOthers.{other_receive, other_watch}
 use Rattle.sd_run_books.proofs.Others.{other_accounts}
 use Rattle.sd_run_books.proofs.Others.{other_apart}
 use Rattle.sd_run_books.proofs.Others.{other_book_order}
@@ -73,7 +73,6 @@ use Rattle.sd_run_broadcasts.proofs.FieldOthers.{other_field}
 use Rattle.sd_run_streams.proofs.Others.{other_messages}
 use Rattle.sd_run_books.proofs.Others.{other_plan}
 use Rattle.sd_run_broadcasts.proofs.Others.{other_trial}
-use Rattle.sd_run_broadcasts.proofs.WatchOthers.{other_watch}
 use Rattle.sd_run.proofs.Works.{AreOrderly, orderly_after, same_name, made_new, made_whole, turned, none_made}
 use Rattle.sd_run.proofs.Works.{sent_apart}
 use Rattle.sd_run.proofs.Works.{stream_apart, stream_received, text_quiet, watched}

@@ -1,17 +1,22 @@
 -- The kinds of work: each makes OUT or no file, and refuses words or files before anything is made.
-use Rattle.std.proofs.Common.{◌≡◌, ℕ, List, [], Option, Some, None, Result, Ok, Err}
-use Rattle.std.proofs.Common.{refl, sym, ap, ◌∙◌}
+use Rattle.std.proofs.Common.{◌≡◌, ℕ, Bool, true, false, if◌then◌else◌, List, [], reverse, Option, Some, None, Result, Ok}
+use Rattle.std.proofs.Common.{Err, refl, sym, ap, ◌∙◌}
 use Rattle.std.specs.Option.{option_map}
+use Rattle.sd_engine.specs.Cut.{is_too_long, readable}
 use Rattle.sd_engine.specs.Taken.{StreamEnd, Whole, Breaks, RunsOn, taken_of, end_of}
 use Rattle.sd_site.specs.CardFields.{CardFields}
 use Rattle.sd_spec.specs.Plan.{Plan}
 use Rattle.sd_spec.specs.Refused.{refusal_from}
 use Rattle.sd_psi.specs.declared.clear_fault.ClearFault.{ClearFault}
+use Rattle.sd_spec.specs.Counting.{counting}
+use Rattle.sd_spec.specs.Ending.{ending_of}
 use Rattle.sd_spec.specs.Offered.{break_from}
 use Rattle.sd_spec.specs.declared.ending.Ending.{Ending}
 use Rattle.sd_spec.specs.declared.ending.Ending.TheVariants as end
 use Rattle.sd_message.specs.declared.stream_fault.StreamFault.{StreamFault}
 use Rattle.sd_command_base.specs.declared.status.Status.{Status}
+use Rattle.sd_command_base.specs.declared.status.Status.TheVariants.{BadStream}
+use Rattle.sd_command_base.specs.declared.stream_refusal.StreamRefusal.TheVariants.{TooLong}
 use Rattle.sd_command_base.specs.Spec.{Spec, FileArgument, and_then, ◌>>=◌}
 use Rattle.sd_command_base.specs.Work.{StepBound, Out, Work}
 use Rattle.sd_command_base.specs.Made.{NewFile, making, making_new, out_of}
@@ -117,12 +122,13 @@ stream_received card bytes e =
 -- nor do those of a stream that is watched
 pub watched_apart : (card : CardFields) (bytes : List ℕ) → RefusesFirst (watched_status card bytes) → ⊥
 unfolding watched_status
-watched_apart card bytes e = by_length (nat_lt most_packets (length (cut bytes))) e
+watched_apart card bytes e =
+    by_length (is_too_long bytes) (ending_of card (reverse (counting card [] (readable bytes)))) e
   where
-    by_length : (over : Bool) → RefusesFirst (if over then BadStream TooLong
-        else ending_status card.leaf (ending_of card (reverse (counting card [] (watched_packets bytes))))) → ⊥
-    by_length true e = e
-    by_length false e = ending_apart card.leaf _ e
+    by_length : (over : Bool) (ending : Ending) →
+        RefusesFirst (if over then BadStream TooLong else ending_status card.leaf ending) → ⊥
+    by_length true ending e = e
+    by_length false ending e = ending_apart card.leaf ending e
 
 pub watched : (card : CardFields) (out : FileArgument) (bytes : List ℕ) →
     IsOrderly (Some out.text) (watching card out bytes)
