@@ -37,19 +37,19 @@ use Rattle.sd_law_watch.proofs.Writes.{WritesAlike, run_nothing, emm_alike, part
 abbrev pub IsSound : CardFields → List (List ℕ) → List (List ℕ) → Type 0
 IsSound card past packets = (flags : List Bool) → break_from card past (chosen flags packets) ≡ None
 
-sound_here : (card : CardFields) (past packets : List (List ℕ)) (packet : List ℕ) →
+pub sound_here : (card : CardFields) (past packets : List (List ℕ)) (packet : List ℕ) →
     IsSound card past (packet ∷ packets) →
     ((offered card past packet).fault ≡ None) × IsSound card (packet ∷ past) packets
 unfolding break_from chosen
 sound_here card past packets packet sound = (
   (unbroken (offered card past packet).fault (break_from card (packet ∷ past) (chosen [] packets))
-  (sound (true ∷ []))).0,
+      (sound (true ∷ []))).0,
   λ flags.
-  (unbroken (offered card past packet).fault (break_from card (packet ∷ past) (chosen flags packets))
-  (sound (true ∷ flags))).1,
+      (unbroken (offered card past packet).fault (break_from card (packet ∷ past) (chosen flags packets))
+      (sound (true ∷ flags))).1,
 )
 
-sound_without : (card : CardFields) (past packets : List (List ℕ)) (packet : List ℕ) →
+pub sound_without : (card : CardFields) (past packets : List (List ℕ)) (packet : List ℕ) →
     IsSound card past (packet ∷ packets) → IsSound card past packets
 unfolding chosen
 sound_without card past packets packet sound = λ flags. sound (false ∷ flags)
@@ -100,7 +100,7 @@ once_more card n past packets packet once =
     (tuned_offering card (tuning_of card.ca past) n (heard card past) packet).fault rest rest rest
     (tally_from card (n + 1) (packet ∷ past) packets) rest once
 
-fault_at : (card : CardFields) (n : ℕ) (past : List (List ℕ)) (packet : List ℕ) →
+pub fault_at : (card : CardFields) (n : ℕ) (past : List (List ℕ)) (packet : List ℕ) →
     (offered card past packet).fault ≡ None →
     (tuned_offering card (tuning_of card.ca past) n (heard card past) packet).fault ≡ None
 fault_at card n past packet none =
@@ -342,9 +342,10 @@ even_counts : (card : CardFields) (tuning : Tuning) (n : ℕ) (past counted bare
     (counts card counted packet ≡ true) × IsOnce (tally_from card (n + 1) (packet ∷ counted) packets)
 even_counts card tuning n past counted bare packets packet before even =
     let once = once_more card n counted packets packet before.once in
-    let fine = (sound_here card counted packets packet before.counted_sound).0 in
-    (counts_by card counted packet once.unmarked once.once even fine,
-    once.if_even even (fault_at card n counted packet fine))
+    let fine = (sound_here card counted packets packet before.counted_sound).0 in (
+      counts_by card counted packet once.unmarked once.once even fine,
+      once.if_even even (fault_at card n counted packet fine),
+    )
 
 step_message : (card : CardFields) (tuning : Tuning) (n : ℕ) (past counted bare packets : List (List ℕ))
     (packet : List ℕ) (thing : Heard) → Speaks thing → WritesAlike card tuning thing →
@@ -469,16 +470,16 @@ step_other card tuning n past counted bare packets packet k other is before rest
     (ap (is_stray (heard card counted)) (sym (hears_is (length counted)))
     ∙ (sym (stray_by card tuning counted packet going.counted_tuned) ∙ odd)) going.like) [
       | inl held ↦ step_odd card tuning n past counted bare (packet ∷ bare) packets packet (Other (length past + k) other)
-      (hears_is (length past)) refl nothing (tuned_more card tuning bare packet going.bare_tuned)
-      (sound_here card bare packets packet before.bare_sound).1
-      (like_is (heard_more (heard card past) (Other (length past + k) other)) (heard card counted)
-      (heard_more (heard card bare) (Other (length bare + k) other))
-      (heard_more (heard card past) (Other (length past + k) other)) (heard card counted) (heard card (packet ∷ bare))
-      refl refl (heard_by card tuning bare packet going.bare_tuned
-      ∙ ap (heard_more (heard card bare)) (hears_is (length bare))) held) odd before rest
+          (hears_is (length past)) refl nothing (tuned_more card tuning bare packet going.bare_tuned)
+          (sound_here card bare packets packet before.bare_sound).1
+          (like_is (heard_more (heard card past) (Other (length past + k) other)) (heard card counted)
+          (heard_more (heard card bare) (Other (length bare + k) other))
+          (heard_more (heard card past) (Other (length past + k) other)) (heard card counted) (heard card (packet ∷ bare))
+          refl refl (heard_by card tuning bare packet going.bare_tuned
+          ∙ ap (heard_more (heard card bare)) (hears_is (length bare))) held) odd before rest
       | inr held ↦ step_odd card tuning n past counted bare bare packets packet (Other (length past + k) other)
-      (hears_is (length past)) refl nothing going.bare_tuned
-      (sound_without card bare packets packet before.bare_sound) held odd before rest
+          (hears_is (length past)) refl nothing going.bare_tuned
+          (sound_without card bare packets packet before.bare_sound) held odd before rest
     ])
     (λ even.
     step_quiet card tuning n past counted bare packets packet (Other (length past + k) other)

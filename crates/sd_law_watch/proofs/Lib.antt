@@ -8,5 +8,6 @@ pub mod Held
 pub mod Alike
 pub mod Writes
 pub mod Going
+pub mod Unrefused
 pub mod Fewer
 pub mod Losses

@@ -1,20 +1,24 @@
 -- What is written of what counts of broadcasts.
-use Rattle.std.proofs.Common.{◌≡◌, ℕ, ◌<◌, ◌^◌, Bool, false, List, [], reverse, None, ap, ◌∙◌}
+use Rattle.std.proofs.Common.{◌≡◌, ℕ, ◌<◌, ◌^◌, Bool, false, List, [], ◌∷◌, map, reverse, None, sym, ap, ◌∙◌}
 use Rattle.sd_site.specs.CardFields.{CardFields, card_of}
 use Rattle.sd_spec.specs.Offered.{out_from, break_from}
 use Rattle.sd_spec.specs.Ending.{ending_of}
 use Rattle.sd_spec.specs.Counting.{counting}
 use Rattle.sd_spec.specs.Reports.{tally_from}
 use Rattle.sd_law_losses.specs.Chosen.{chosen}
-use Rattle.sd_law_losses.specs.Channel.{Arrival, Channel, AreRunsOf, arriving}
+use Rattle.sd_law_losses.specs.Channel.{Arrival, Channel, AreRunsOf, arriving, all_sent}
 use Rattle.sd_law_losses.specs.Many.{confirmed_from, opened_of_all}
-use Rattle.sd_law_losses.specs.Ends.{ending_of_all}
-use Rattle.sd_law_losses.proofs.Whole.{runs_part}
+use Rattle.sd_law_losses.specs.Ends.{ending_of_all, whole_ending_of}
+use Rattle.sd_law_losses.specs.Together.{joined_to}
+use Rattle.sd_spec.specs.declared.ending.Ending.TheVariants.{Opened}
+use Rattle.sd_law_losses.proofs.Whole.{runs_part, wholes, whole_stream, are_whole, whole_out}
+use Rattle.sd_law_losses.proofs.WholeEnds.{whole_end}
 use Rattle.sd_law_losses.proofs.Finishing.{runs_out, runs_break, runs_end}
 use Rattle.sd_law_watch.specs.Fewer.{AreFewerOf}
 use Rattle.sd_law_watch.proofs.Fewer.{flags_of, counting_chosen, fewer_of, fewer_arrive, are_fewer, fewer_are_runs}
 use Rattle.sd_law_watch.proofs.Fewer.{opened_same}
 use Rattle.sd_law_watch.proofs.Going.{same_out, same_ending}
+use Rattle.sd_law_watch.proofs.Unrefused.{none_refused}
 
 -- the card of a leaf
 abbrev pub card_for : Channel → ℕ → CardFields
@@ -74,9 +78,11 @@ pub true_packets : (channel : Channel) (runs : List Arrival) (u : ℕ) → AreRu
     ≡ chosen parts (opened_of_all u runs))
 true_packets channel runs u are leaf =
     let fewer : List Arrival = counted_of (card_for channel u) runs in
-    let part = runs_part channel fewer u (counted_are_runs channel (card_for channel u) runs are) leaf in
-    (part.0, counted_out channel runs u are leaf
-    ∙ (part.1 ∙ ap (chosen part.0) (counted_opened (card_for channel u) u runs)))
+    let part = runs_part channel fewer u (counted_are_runs channel (card_for channel u) runs are) leaf in (
+      part.0,
+      counted_out channel runs u are leaf
+          ∙ (part.1 ∙ ap (chosen part.0) (counted_opened (card_for channel u) u runs)),
+    )
 
 -- whatever else is lost, nothing is refused
 pub none_refused_of : (channel : Channel) (runs : List Arrival) (u : ℕ) → AreRunsOf channel runs →
@@ -107,3 +113,39 @@ pub ends_as_ever : (channel : Channel) (runs : List Arrival) (u : ℕ) → AreRu
 ends_as_ever channel runs u are leaf unmarked once =
     same_ending (card_for channel u) (arriving runs) (none_refused_of channel runs u are leaf) unmarked once
     ∙ runs_end channel runs u are leaf
+
+pub none_is_refused : (channel : Channel) (runs : List Arrival) (u : ℕ) → AreRunsOf channel runs →
+    u < 2 ^ channel.height →
+    (tally_from (card_of channel.master channel.ca channel.height u) 0 [] (arriving runs)).refused ≡ 0
+none_is_refused channel runs u are leaf =
+    none_refused (card_for channel u) (arriving runs) (none_refused_of channel runs u are leaf)
+
+-- whole broadcasts
+whole_sound : (channel : Channel) (runs : List Arrival) (u : ℕ) → AreRunsOf channel runs → u < 2 ^ channel.height →
+    (flags : List Bool) → break_from (card_for channel u) [] (chosen flags (all_sent runs)) ≡ None
+whole_sound channel runs u are leaf flags =
+    ap (λ (packets : List (List ℕ)). break_from (card_for channel u) [] (chosen flags packets))
+    (sym (whole_stream runs))
+    ∙ none_refused_of channel (wholes runs) u (are_whole channel runs are) leaf flags
+
+pub wholes_written : (channel : Channel) (runs : List Arrival) (u : ℕ) → AreRunsOf channel runs →
+    u < 2 ^ channel.height →
+    (tally_from (card_of channel.master channel.ca channel.height u) 0 [] (all_sent runs)).marked ≡ 0 →
+    (tally_from (card_of channel.master channel.ca channel.height u) 0 [] (all_sent runs)).doubled ≡ 0 →
+    out_from (card_of channel.master channel.ca channel.height u) []
+    (counting (card_of channel.master channel.ca channel.height u) [] (all_sent runs))
+    ≡ opened_of_all u runs
+wholes_written channel runs u are leaf unmarked once =
+    same_out (card_for channel u) (all_sent runs) (whole_sound channel runs u are leaf) unmarked once
+    ∙ whole_out channel runs u are leaf
+
+pub wholes_end : (channel : Channel) (run : Arrival) (runs : List Arrival) (u : ℕ) → AreRunsOf channel (run ∷ runs) →
+    u < 2 ^ channel.height →
+    (tally_from (card_of channel.master channel.ca channel.height u) 0 [] (all_sent (run ∷ runs))).marked ≡ 0 →
+    (tally_from (card_of channel.master channel.ca channel.height u) 0 [] (all_sent (run ∷ runs))).doubled ≡ 0 →
+    ending_of (card_of channel.master channel.ca channel.height u)
+    (reverse (counting (card_of channel.master channel.ca channel.height u) [] (all_sent (run ∷ runs))))
+    ≡ joined_to Opened (map (whole_ending_of u) (run ∷ runs))
+wholes_end channel run runs u are leaf unmarked once =
+    same_ending (card_for channel u) (all_sent (run ∷ runs)) (whole_sound channel (run ∷ runs) u are leaf) unmarked once
+    ∙ whole_end channel run runs u are leaf

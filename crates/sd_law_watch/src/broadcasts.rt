@@ -1,6 +1,6 @@
 //! Laws on what counts of broadcasts that lose packets.
 
-ghost use Rattle.std.specs.Prelude.{◌≡◌, ◌^◌, ◌<◌, ℕ, Bool, false, List, [], reverse};
+ghost use Rattle.std.specs.Prelude.{◌≡◌, ◌^◌, ◌<◌, ℕ, Bool, false, List, [], ◌∷◌, map, reverse};
 ghost use Rattle.sd_base.specs.Types.{LeafNumber};
 ghost use Rattle.sd_site.specs.CardFields.{card_of};
 ghost use Rattle.sd_spec.specs.Offered.{out_from};
@@ -8,16 +8,18 @@ ghost use Rattle.sd_spec.specs.Ending.{ending_of};
 ghost use Rattle.sd_spec.specs.Counting.{counting};
 ghost use Rattle.sd_spec.specs.Reports.{tally_from};
 ghost use Rattle.sd_law_losses.specs.Chosen.{chosen};
-ghost use Rattle.sd_law_losses.specs.Channel.{Arrival, Channel, AreRunsOf, arriving};
+ghost use Rattle.sd_spec.specs.declared.ending.Ending.TheVariants.{Opened};
+ghost use Rattle.sd_law_losses.specs.Channel.{Arrival, Channel, AreRunsOf, arriving, all_sent};
 ghost use Rattle.sd_law_losses.specs.Many.{confirmed_from, opened_of_all};
-ghost use Rattle.sd_law_losses.specs.Ends.{ending_of_all};
+ghost use Rattle.sd_law_losses.specs.Ends.{ending_of_all, whole_ending_of};
+ghost use Rattle.sd_law_losses.specs.Together.{joined_to};
 ghost use Rattle.sd_law_watch.specs.Fewer.{AreFewerOf};
 
 /// What doesn't count of broadcasts of one channel that follow one another is as if it had not arrived: what counts is
 /// what arrives of fewer packets of them. So only clear packets that the leaf is entitled to are written, in order, and
 /// what is written is what the messages that count confirm. If no packet is marked or doubled, exactly as much is
-/// written as if all counted, with the same ending.
-#[tactic(auto, using(crate::proofs::Losses::counts_as_fewer, crate::proofs::Losses::true_packets, crate::proofs::Losses::written_as_ever, crate::proofs::Losses::ends_as_ever))]
+/// written as if all counted, with the same ending. None of the packets is refused.
+#[tactic(auto, using(crate::proofs::Losses::counts_as_fewer, crate::proofs::Losses::true_packets, crate::proofs::Losses::written_as_ever, crate::proofs::Losses::ends_as_ever, crate::proofs::Losses::none_is_refused))]
 pub fn losses_of_runs_are_watched()
     ensures lost { (channel : Channel) (runs : List Arrival) (u : LeafNumber) → AreRunsOf channel runs →
         u < 2 ^ channel.height →
@@ -46,4 +48,28 @@ pub fn losses_of_runs_are_watched()
         ending_of (card_of channel.master channel.ca channel.height u)
         (reverse (counting (card_of channel.master channel.ca channel.height u) [] (arriving runs)))
         ≡ ending_of_all u runs }
+    ensures refused { (channel : Channel) (runs : List Arrival) (u : LeafNumber) → AreRunsOf channel runs →
+        u < 2 ^ channel.height →
+        (tally_from (card_of channel.master channel.ca channel.height u) 0 [] (arriving runs)).refused ≡ 0 }
+{}
+
+/// Of whole broadcasts of one channel of which no packet is marked or doubled, exactly the clear packets are written
+/// that the leaf is entitled to. It ends opened, or revoked in the leaf's first revoked period of the first broadcast
+/// that has one.
+#[tactic(auto, using(crate::proofs::Losses::wholes_written, crate::proofs::Losses::wholes_end))]
+pub fn whole_runs_are_watched()
+    ensures out { (channel : Channel) (runs : List Arrival) (u : LeafNumber) → AreRunsOf channel runs →
+        u < 2 ^ channel.height →
+        (tally_from (card_of channel.master channel.ca channel.height u) 0 [] (all_sent runs)).marked ≡ 0 →
+        (tally_from (card_of channel.master channel.ca channel.height u) 0 [] (all_sent runs)).doubled ≡ 0 →
+        out_from (card_of channel.master channel.ca channel.height u) []
+        (counting (card_of channel.master channel.ca channel.height u) [] (all_sent runs))
+        ≡ opened_of_all u runs }
+    ensures ending { (channel : Channel) (run : Arrival) (runs : List Arrival) (u : LeafNumber) →
+        AreRunsOf channel (run ∷ runs) → u < 2 ^ channel.height →
+        (tally_from (card_of channel.master channel.ca channel.height u) 0 [] (all_sent (run ∷ runs))).marked ≡ 0 →
+        (tally_from (card_of channel.master channel.ca channel.height u) 0 [] (all_sent (run ∷ runs))).doubled ≡ 0 →
+        ending_of (card_of channel.master channel.ca channel.height u)
+        (reverse (counting (card_of channel.master channel.ca channel.height u) [] (all_sent (run ∷ runs))))
+        ≡ joined_to Opened (map (whole_ending_of u) (run ∷ runs)) }
 {}

@@ -33,8 +33,9 @@ pub fn undamaged_streams_count()
 {}
 
 /// Odd packets cost nothing. If a receiver refuses nothing of a stream, whatever else of it is lost, and nothing of it
-/// is marked or doubled, what counts is written as the whole stream is, with the same ending.
-#[tactic(auto, using(crate::proofs::Going::same_out, crate::proofs::Going::same_ending))]
+/// is marked or doubled, what counts is written as the whole stream is, with the same ending. Also if some of it is
+/// marked or doubled, nothing is refused, and keys are tried only of sections that count.
+#[tactic(auto, using(crate::proofs::Going::same_out, crate::proofs::Going::same_ending, crate::proofs::Unrefused::none_refused, crate::proofs::Unrefused::tried_as_taken))]
 pub fn odd_packets_cost_nothing()
     ensures out { (card : CardFields) (packets : Packets) →
         ((flags : Arrived) → break_from card [] (chosen flags packets) ≡ None) →
@@ -44,6 +45,12 @@ pub fn odd_packets_cost_nothing()
         ((flags : Arrived) → break_from card [] (chosen flags packets) ≡ None) →
         (tally_from card 0 [] packets).marked ≡ 0 → (tally_from card 0 [] packets).doubled ≡ 0 →
         ending_of card (reverse (counting card [] packets)) ≡ ending_of card (reverse packets) }
+    ensures refused { (card : CardFields) (packets : Packets) →
+        ((flags : Arrived) → break_from card [] (chosen flags packets) ≡ None) →
+        (tally_from card 0 [] packets).refused ≡ 0 }
+    ensures keys { (card : CardFields) (packets : Packets) →
+        ((flags : Arrived) → break_from card [] (chosen flags packets) ≡ None) →
+        tried_keys card [] packets ≡ taken_keys card [] (counting card [] packets) }
 {}
 
 /// What doesn't count is lost: if any of it is left out, the same counts. So the packets that count count by
