@@ -1,7 +1,7 @@
 -- Clear packets that differ only in what head doesn't read come to the same positions, kinds and messages.
-use Rattle.std.proofs.Common.{◌≡◌, refl, ℕ, zero, suc, ◌+◌, ◌==◌, ◌&&◌, ◌++◌, Bool, true, false, not, List, [], ◌∷◌, length, map}
-use Rattle.std.proofs.Common.{Option, Some, None, is_none, ap, sym, ◌∙◌, inl, inr, arith}
-use Rattle.std.specs.Prelude.{if◌then◌else◌, nat_lt, nat_le, nat_eq, find, filter, reverse, slice_index, get_or, take}
+use Rattle.std.proofs.Common.{◌≡◌, refl, ℕ, zero, suc, ◌==◌, ◌++◌, Bool, true, false, List, [], ◌∷◌, length, map}
+use Rattle.std.proofs.Common.{Option, Some, ap, ◌∙◌, arith}
+use Rattle.std.specs.Prelude.{if◌then◌else◌, nat_lt, nat_eq, find, reverse, slice_index, get_or, take}
 use Rattle.std.specs.List.{list_any}
 use Rattle.std.specs.Option.{option_map_or}
 use Rattle.std.proofs.lemmas.Bool.{and_parts}
@@ -9,20 +9,18 @@ use Rattle.std.proofs.lemmas.Bool.Decides.{nat_tests}
 use Rattle.std.proofs.lemmas.List.Elements.{filter_agree}
 use Rattle.std.proofs.lemmas.List.{reverse-append}
 use Rattle.sd_base.proofs.Bools.{tested}
-use Rattle.sd_packet.specs.Header.{pid_of, scrambling_of, counter_of, payload_start_of, has_payload}
-use Rattle.sd_packet.specs.Positions.{is_positional, is_moving, is_placed, advanced, moved, moved_by, position_of}
+use Rattle.sd_packet.specs.Header.{pid_of, counter_of, payload_start_of, has_payload}
+use Rattle.sd_packet.specs.Positions.{is_moving, is_placed, advanced, moved, moved_by, position_of}
 use Rattle.sd_packet.specs.Positions.{first_position}
 use Rattle.sd_psi.specs.Tables.{pmt_pids_of}
 use Rattle.sd_psi.specs.Forms.{section_in}
-use Rattle.sd_message.specs.EcmParts.{Message}
 use Rattle.sd_message.specs.declared.ecm_part.Place.{Place}
 use Rattle.sd_spec.specs.Plan.{Plan}
-use Rattle.sd_spec.specs.declared.kind.Kind.{Kind}
 use Rattle.sd_spec.specs.declared.kind.Kind.TheVariants.{Passed, Pmt, Scrambled}
 use Rattle.sd_spec.specs.Kinds.{is_current_pat, pat_in_force, pmts_in, kind_of, has_moved, moved_pids, positional_pids}
 use Rattle.sd_spec.specs.Messages.{places_after, message_at}
 use Rattle.sd_spec.specs.Carried.{place_after}
-use Rattle.sd_law_contained.proofs.Masks.{scrambling_by, counter_by}
+use Rattle.sd_law_contained.proofs.Masks.{counter_by}
 
 -- two packets that differ only in what head doesn't read
 pub record IsAlike (packet other : List ℕ) : Type 0 where

@@ -1,12 +1,11 @@
 -- The broadcast of a clear stream of which bits are changed that head doesn't read is the broadcast with the same bits
 -- changed.
 use Rattle.std.proofs.Common.{◌≡◌, refl, ℕ, zero, suc, ◌+◌, ◌-◌, ◌/◌, ◌%◌, ◌==◌, ◌++◌, Bool, true, false, List, [], ◌∷◌}
-use Rattle.std.proofs.Common.{length, map, ap, sym, subst, ◌∙◌, inl, inr, arith, append_assoc, length-append}
-use Rattle.std.specs.Prelude.{if◌then◌else◌, get_or, count_by, filter, slice_index, All}
+use Rattle.std.proofs.Common.{length, map, ap, sym, ◌∙◌, inl, inr, arith, append_assoc, length-append}
+use Rattle.std.specs.Prelude.{if◌then◌else◌, get_or, count_by, filter}
 use Rattle.std.proofs.lemmas.List.{map-append}
 use Rattle.std.proofs.lemmas.List.Sums.{length-filter}
-use Rattle.std.proofs.lemmas.List.Elements.{All-nil, All-cons, All-head, All-tail}
-use Rattle.sd_packet.specs.Header.{pid_of}
+use Rattle.std.proofs.lemmas.List.Elements.{All-head, All-tail}
 use Rattle.sd_tree.specs.Keys.{control_word_of}
 use Rattle.sd_site.specs.SiteFields.{SiteFields}
 use Rattle.sd_keystream.specs.Scrambling.{control_of}
@@ -23,8 +22,7 @@ use Rattle.sd_spec.specs.Carried.{parity_of, place_after, pmt_carried, veiled, c
 use Rattle.sd_spec.specs.Sent.{Item, Cat, Entitles, Controls, Carries, tables_at, tables_before, message_before, added}
 use Rattle.sd_spec.specs.Sent.{sent_from, sent, closing_of, is_alike, packet_of, packets_from, broadcast}
 use Rattle.sd_law_broadcast.specs.Packets.{IsWholePacket, AreWholePackets}
-use Rattle.sd_law_losses.specs.Chosen.{chosen}
-use Rattle.sd_law_contained.specs.Changed.{changed_by, all_changed, IsTable, IsHarmless, AreHarmless, mask_of}
+use Rattle.sd_law_contained.specs.Changed.{changed_by, all_changed, IsHarmless, AreHarmless, mask_of}
 use Rattle.sd_law_contained.proofs.Masks.{changed_none, fourth_stays, laid_changed}
 use Rattle.sd_law_contained.proofs.Alike.{IsAlike, AreAlike, alike_length, alike_more, same_place, same_message, same_kind}
 

@@ -1,13 +1,11 @@
 -- Of a changed clear stream the same packets are confirmed.
 use Rattle.std.proofs.Common.{◌≡◌, refl, ℕ, zero, suc, ◌+◌, ◌-◌, ◌*◌, ◌/◌, ◌^◌, ◌<◌, ◌==◌, ◌&&◌, ◌||◌, ◌++◌, Bool, true, false, not, List}
-use Rattle.std.proofs.Common.{[], ◌∷◌, length, map, Option, Some, None, ap, sym, ◌∙◌, append-nil}
+use Rattle.std.proofs.Common.{[], ◌∷◌, length, map, Option, Some, None, ap, sym, ◌∙◌}
 use Rattle.std.specs.Prelude.{if◌then◌else◌, nat_le, get_or, take, filter, min}
 use Rattle.std.specs.List.{list_any, list_all, range_with_len}
 use Rattle.std.proofs.lemmas.List.Elements.{filter_agree}
 use Rattle.sd_packet.specs.Header.{pid_of}
 use Rattle.sd_packet.specs.Positions.{position_of, moved_by}
-use Rattle.sd_tree.specs.Leaves.{is_member}
-use Rattle.sd_message.specs.EmmSpelled.{listed_entries}
 use Rattle.sd_spec.specs.declared.kind.Kind.{Kind}
 use Rattle.sd_spec.specs.Plan.{Plan, since_of, period_of, closing_number}
 use Rattle.sd_spec.specs.Kinds.{kind_of, is_scrambled}
@@ -20,7 +18,7 @@ use Rattle.sd_law_losses.specs.Kept.{after_cat, is_carried, is_kept, kept_in, is
 use Rattle.sd_law_losses.specs.Kept.{greatest_at_most, least_above, entitles, is_last_part, is_entitled_before}
 use Rattle.sd_law_losses.specs.Confirmed.{packet_at, packets_at, upto, kept_between, is_open, tracked_position, is_traced}
 use Rattle.sd_law_losses.specs.Confirmed.{is_written_between, between, is_confirmed_at, confirmed}
-use Rattle.sd_law_losses.specs.Channel.{Arrival, Channel, AreRunsOf}
+use Rattle.sd_law_losses.specs.Channel.{Channel, AreRunsOf}
 use Rattle.sd_law_losses.specs.Many.{flags_after, kept_of_arrival, has_cat, confirmed_from}
 use Rattle.sd_law_losses.proofs.Finishing.{runs_break, runs_out}
 use Rattle.sd_law_contained.specs.Contained.{card_for, IsContained}
@@ -30,7 +28,7 @@ use Rattle.sd_law_contained.specs.Changed.{changed_by, all_changed, AreHarmless,
 use Rattle.sd_law_contained.specs.Changed.{run_changed, runs_changed, arriving_changed, masks_confirmed}
 use Rattle.sd_law_contained.specs.Changed.{confirmed_changed}
 use Rattle.sd_law_contained.proofs.Masks.{changed_none}
-use Rattle.sd_law_contained.proofs.Alike.{IsAlike, AreAlike, alike_length, alike_first, alike_at, same_moved_by}
+use Rattle.sd_law_contained.proofs.Alike.{AreAlike, alike_length, alike_first, alike_at, same_moved_by}
 use Rattle.sd_law_contained.proofs.Alike.{same_position, same_kind}
 use Rattle.sd_law_contained.proofs.Changing.{all_alike, item_changed, items_changed, things, things_changed}
 use Rattle.sd_law_contained.proofs.Running.{runs_taken, arrive_changed}
@@ -45,7 +43,7 @@ chosen_items masks (true ∷ flags) (item ∷ items) =
     ap (λ (is : List Item). item_changed masks item ∷ is) (chosen_items masks flags items)
 chosen_items masks (false ∷ flags) (item ∷ items) = chosen_items masks flags items
 
-cat_items : (masks : List (List ℕ)) (kept : List Item) →
+pub cat_items : (masks : List (List ℕ)) (kept : List Item) →
     after_cat (items_changed masks kept) ≡ items_changed masks (after_cat kept)
 unfolding after_cat
 cat_items masks [] = refl
@@ -55,7 +53,7 @@ cat_items masks (Controls part ∷ kept) = cat_items masks kept
 cat_items masks (Carries j packet ∷ kept) = cat_items masks kept
 
 -- tests that don't look at packets
-any_same : (masks : List (List ℕ)) (f g : Item → Bool) (items : List Item) →
+pub any_same : (masks : List (List ℕ)) (f g : Item → Bool) (items : List Item) →
     ((item : Item) → f (item_changed masks item) ≡ g item) →
     list_any f (items_changed masks items) ≡ list_any g items
 any_same masks f g [] each = refl
@@ -63,7 +61,7 @@ any_same masks f g (item ∷ items) each =
     ap (λ (b : Bool). b || list_any f (items_changed masks items)) (each item)
     ∙ ap (λ (b : Bool). g item || b) (any_same masks f g items each)
 
-all_same : {X : Type 0} (f g : X → Bool) (xs : List X) → ((x : X) → f x ≡ g x) → list_all f xs ≡ list_all g xs
+pub all_same : {X : Type 0} (f g : X → Bool) (xs : List X) → ((x : X) → f x ≡ g x) → list_all f xs ≡ list_all g xs
 all_same f g [] each = refl
 all_same f g (x ∷ xs) each =
     ap (λ (b : Bool). b && list_all f xs) (each x) ∙ ap (λ (b : Bool). g x && b) (all_same f g xs each)
@@ -74,7 +72,7 @@ carried_same masks j (Entitles emm) = refl
 carried_same masks j (Controls part) = refl
 carried_same masks j (Carries i packet) = refl
 
-kept_same : (masks : List (List ℕ)) (kept : List Item) (j : ℕ) →
+pub kept_same : (masks : List (List ℕ)) (kept : List Item) (j : ℕ) →
     is_kept (items_changed masks kept) j ≡ is_kept kept j
 kept_same masks kept j = any_same masks (is_carried j) (is_carried j) kept (carried_same masks j)
 
@@ -95,13 +93,13 @@ parts_same masks kept a (Controls part) =
     (λ x. any_same masks (is_part a x) (is_part a x) kept (part_same masks a x)))
 parts_same masks kept a (Carries i packet) = refl
 
-arrived_one : (masks : List (List ℕ)) (kept : List Item) (a : ℕ) →
+pub arrived_one : (masks : List (List ℕ)) (kept : List Item) (a : ℕ) →
     has_arrived (items_changed masks kept) a ≡ has_arrived kept a
 unfolding has_arrived
 arrived_one masks kept a =
     any_same masks (has_parts (items_changed masks kept) a) (has_parts kept a) kept (parts_same masks kept a)
 
-arrived_same : (masks : List (List ℕ)) (kept : List Item) (last : ℕ) →
+pub arrived_same : (masks : List (List ℕ)) (kept : List Item) (last : ℕ) →
     arrived last (items_changed masks kept) ≡ arrived last kept
 unfolding arrived
 arrived_same masks kept last =
@@ -115,7 +113,7 @@ last_same masks a (Entitles emm) = refl
 last_same masks a (Controls part) = refl
 last_same masks a (Carries i packet) = refl
 
-entitles_same : (masks : List (List ℕ)) (h u q : ℕ) (item : Item) →
+pub entitles_same : (masks : List (List ℕ)) (h u q : ℕ) (item : Item) →
     entitles h u q (item_changed masks item) ≡ entitles h u q item
 entitles_same masks h u q Cat = refl
 entitles_same masks h u q (Entitles emm) = refl
@@ -270,14 +268,14 @@ packets_changed_at clear masks (j ∷ js) =
     ∙ ap (λ (packets : List (List ℕ)). changed_by (packet_at clear j) (get_or masks j []) ∷ packets)
     (packets_changed_at clear masks js)
 
-things_kept : (tuned : Bool) (one : Damaged) → AreWholePackets one.run.clear →
+pub things_kept : (tuned : Bool) (one : Damaged) → AreWholePackets one.run.clear →
     AreHarmless [] one.run.clear one.masks →
     kept_of_arrival tuned (run_changed one) ≡ items_changed one.masks (kept_of_arrival tuned one.run)
 things_kept tuned one whole harmless =
     ap (chosen (flags_after tuned one.run.flags)) (things_changed one.run.plan one.run.clear one.masks whole harmless)
     ∙ chosen_items one.masks (flags_after tuned one.run.flags) (things one.run.plan one.run.clear)
 
-confirmed_one : (tuned : Bool) (u : ℕ) (one : Damaged) → AreWholePackets one.run.clear →
+pub confirmed_one : (tuned : Bool) (u : ℕ) (one : Damaged) → AreWholePackets one.run.clear →
     AreHarmless [] one.run.clear one.masks →
     confirmed one.run.plan u (all_changed one.run.clear one.masks) (kept_of_arrival tuned (run_changed one))
     ≡ all_changed (confirmed one.run.plan u one.run.clear (kept_of_arrival tuned one.run)) (masks_confirmed tuned u one)
@@ -301,13 +299,13 @@ confirmed_one tuned u one whole harmless =
     ∙ packets_changed_at clear masks (filter (is_confirmed_at plan u clear kept) (range_with_len 0 (length clear)))))
 
 -- the CAT is among the same
-cat_same : (masks : List (List ℕ)) (item : Item) → is_cat_item (item_changed masks item) ≡ is_cat_item item
+pub cat_same : (masks : List (List ℕ)) (item : Item) → is_cat_item (item_changed masks item) ≡ is_cat_item item
 cat_same masks Cat = refl
 cat_same masks (Entitles emm) = refl
 cat_same masks (Controls part) = refl
 cat_same masks (Carries j packet) = refl
 
-has_cat_same : (one : Damaged) → AreWholePackets one.run.clear → AreHarmless [] one.run.clear one.masks →
+pub has_cat_same : (one : Damaged) → AreWholePackets one.run.clear → AreHarmless [] one.run.clear one.masks →
     has_cat (run_changed one) ≡ has_cat one.run
 has_cat_same one whole harmless =
     ap (list_any is_cat_item) (things_kept false one whole harmless)

@@ -27,7 +27,7 @@ use Rattle.sd_law_contained.proofs.Following.{hears_numbered, turn_same, no_turn
 use Rattle.sd_law_contained.proofs.Leaving.{left_quiet, left_agree, begin_agrees}
 
 -- how a run ends
-find_same : {X : Type 0} (f g : X → Bool) → ((x : X) → f x ≡ g x) → (xs : List X) → find f xs ≡ find g xs
+pub find_same : {X : Type 0} (f g : X → Bool) → ((x : X) → f x ≡ g x) → (xs : List X) → find f xs ≡ find g xs
 find_same f g same [] = refl
 find_same {X = X} f g same (x ∷ xs) =
     ap {B = Option X} (λ (test : Bool). if test then Some x else find f xs) (same x)

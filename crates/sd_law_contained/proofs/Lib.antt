@@ -12,3 +12,4 @@ pub mod Alike
 pub mod Changing
 pub mod Running
 pub mod Confirming
+pub mod ChangedEnds

@@ -1,14 +1,14 @@
 -- A packet of which bits are changed that head doesn't read is carried with the same bits changed.
-use Rattle.std.proofs.Common.{◌≡◌, refl, ℕ, zero, suc, ◌+◌, ◌*◌, ◌%◌, ◌==◌, ◌<◌, ◌≤◌, ◌++◌, Bool, true, false, List, []}
-use Rattle.std.proofs.Common.{◌∷◌, length, take, drop, ap, sym, ◌∙◌, inl, inr, arith}
-use Rattle.std.specs.Prelude.{slice_index, slice_set, bit_xor, get_or}
+use Rattle.std.proofs.Common.{◌≡◌, refl, ℕ, zero, suc, ◌+◌, ◌*◌, ◌%◌, ◌<◌, ◌≤◌, ◌++◌, List, []}
+use Rattle.std.proofs.Common.{◌∷◌, length, take, drop, ap, sym, ◌∙◌, arith}
+use Rattle.std.specs.Prelude.{slice_index, slice_set, bit_xor}
 use Rattle.std.specs.Int.Bits.{xor_assoc, xor_comm, xor_zero_r}
 use Rattle.std.proofs.lemmas.Nat.{xor_of_8}
 use Rattle.sd_base.specs.Bits.{field}
-use Rattle.sd_packet.specs.Header.{pid_of, scrambling_of, counter_of, payload_start_of, payload_of, controlled}
+use Rattle.sd_packet.specs.Header.{pid_of, scrambling_of, counter_of, payload_start_of}
 use Rattle.sd_packet.proofs.Packets.{start_within}
 use Rattle.sd_keystream.specs.Keystream.{keystream, xored}
-use Rattle.sd_keystream.specs.Scrambling.{laid_under, payload_under, stream_number}
+use Rattle.sd_keystream.specs.Scrambling.{laid_under, stream_number}
 use Rattle.sd_law_contained.specs.Changed.{changed_by}
 
 -- an empty mask changes nothing

@@ -1,12 +1,12 @@
 -- A changed clear stream is one that head takes, and what arrives of its broadcast is changed in the same bits.
 use Rattle.std.proofs.Common.{◌≡◌, refl, ℕ, ◌==◌, ◌&&◌, ◌++◌, Bool, true, false, not, List, [], ◌∷◌, length, map}
-use Rattle.std.proofs.Common.{Option, Some, None, is_none, ap, sym, ◌∙◌, inl, inr, arith, append-nil}
-use Rattle.std.specs.Prelude.{if◌then◌else◌, nat_le, slice_index, All}
+use Rattle.std.proofs.Common.{Option, Some, None, ap, sym, ◌∙◌, inl, arith}
+use Rattle.std.specs.Prelude.{nat_le, All}
 use Rattle.std.specs.Option.{option_map_or}
 use Rattle.std.proofs.lemmas.Bool.Decides.{nat_tests}
 use Rattle.std.proofs.lemmas.List.Elements.{All-nil, All-cons, All-head, All-tail}
 use Rattle.sd_base.proofs.Bools.{tested}
-use Rattle.sd_packet.specs.Header.{pid_of, scrambling_of, has_payload}
+use Rattle.sd_packet.specs.Header.{pid_of, scrambling_of}
 use Rattle.sd_packet.specs.Positions.{is_placed}
 use Rattle.sd_site.specs.SiteFields.{SiteFields}
 use Rattle.sd_psi.specs.declared.fault.FormFault.{FormFault}
@@ -14,7 +14,6 @@ use Rattle.sd_psi.specs.declared.fault.FormFault.TheVariants as Form
 use Rattle.sd_psi.specs.declared.clear_fault.ClearFault.{ClearFault}
 use Rattle.sd_psi.specs.declared.clear_fault.ClearFault.TheVariants.{AlreadyScrambled, PidTaken, PatForm, PmtForm}
 use Rattle.sd_psi.specs.declared.clear_fault.ClearFault.TheVariants.{TooManyPids, TooLong}
-use Rattle.sd_psi.specs.Forms.{pat_fault}
 use Rattle.sd_message.specs.EcmVersions.{most_places}
 use Rattle.sd_spec.specs.declared.kind.Kind.{Kind}
 use Rattle.sd_spec.specs.declared.kind.Kind.TheVariants.{Passed, Pmt, Scrambled}
@@ -24,11 +23,11 @@ use Rattle.sd_spec.specs.Refused.{is_too_long, refusal_of, refusal_from}
 use Rattle.sd_spec.specs.Sent.{broadcast}
 use Rattle.sd_law_broadcast.specs.Packets.{IsWholePacket, AreWholePackets}
 use Rattle.sd_law_losses.specs.Chosen.{chosen}
-use Rattle.sd_law_losses.specs.Channel.{Arrival, Channel, IsRunOf, HaveTwoNames, AreRunsOf, arriving}
+use Rattle.sd_law_losses.specs.Channel.{Channel, IsRunOf, HaveTwoNames, AreRunsOf, arriving}
 use Rattle.sd_law_contained.specs.Changed.{changed_by, all_changed, IsHarmless, AreHarmless, Damaged, AreAllHarmless}
 use Rattle.sd_law_contained.specs.Changed.{runs_sent, run_changed, runs_changed, mask_of, arriving_changed}
 use Rattle.sd_law_contained.proofs.Masks.{changed_none, changed_length, changed_at, scrambling_by}
-use Rattle.sd_law_contained.proofs.Alike.{IsAlike, AreAlike, alike_length, alike_more, same_payload, same_placed}
+use Rattle.sd_law_contained.proofs.Alike.{IsAlike, AreAlike, alike_length, alike_more, same_placed}
 use Rattle.sd_law_contained.proofs.Alike.{same_has_moved, same_moved_pids, same_kind}
 use Rattle.sd_law_contained.proofs.Changing.{harmless_alike, things, broadcast_changed}
 

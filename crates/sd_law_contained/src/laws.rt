@@ -1,16 +1,18 @@
 //! Laws on what a receiver writes of one PID, whatever comes of the others.
 
-ghost use Rattle.std.specs.Prelude.{◌≡◌, [], List, None, true, false, reverse};
+ghost use Rattle.std.specs.Prelude.{◌≡◌, ◌<◌, ◌^◌, [], List, None, true, false, reverse};
 ghost use Rattle.sd_base.specs.Types.{Packets, Pid, LeafNumber};
 ghost use Rattle.sd_site.specs.CardFields.{CardFields};
 ghost use Rattle.sd_spec.specs.Offered.{out_from, break_from};
 ghost use Rattle.sd_spec.specs.Ending.{ending_of};
 ghost use Rattle.sd_spec.specs.Counting.{counting};
-ghost use Rattle.sd_law_losses.specs.Channel.{Channel, Arrival};
+ghost use Rattle.sd_law_losses.specs.Channel.{Channel, Arrival, AreRunsOf, arriving};
 ghost use Rattle.sd_law_losses.specs.Many.{confirmed_from};
 ghost use Rattle.sd_law_losses.specs.Ends.{ending_of_all};
 ghost use Rattle.sd_law_contained.specs.Alone.{on, alone, few_held_in, without_gaps};
 ghost use Rattle.sd_law_contained.specs.Contained.{card_for, IsContained};
+ghost use Rattle.sd_law_contained.specs.Changed.{Damaged, AreAllHarmless, runs_sent, runs_changed, arriving_changed};
+ghost use Rattle.sd_law_contained.specs.Changed.{confirmed_changed};
 
 /// What a receiver writes of one PID depends on the packets of that PID and on those that tell it something, and on no
 /// others. If none of some packets is refused, and never more than 4,096 are buffered, then of these alone none is
@@ -36,11 +38,11 @@ pub fn others_change_nothing()
         ≡ without_gaps (ending_of card (reverse packets)) }
 {}
 
-/// Of a stream that may be damaged, take what counts of one PID and of what tells the receiver something. If that is
-/// what arrives of broadcasts of the channel, in order, then of the PID `watch` writes exactly the clear packets that
-/// are confirmed by what arrives, and the ending is that of the broadcasts, but for the number of missing packets. All
-/// other damage changes nothing of the PID.
-#[tactic(auto, using(crate::proofs::Contained::out_contained, crate::proofs::Contained::end_contained))]
+/// Of the packets of a stream that count, take those of one PID and those that tell the receiver something. If these
+/// are together, in order, what arrives of broadcasts of the channel, then of the PID `watch` writes exactly the clear
+/// packets that are confirmed by what arrives. If some bits arrived changed that head doesn't read, exactly these are
+/// changed in what is written. The ending is that of the broadcasts, but for the number of missing packets.
+#[tactic(auto, using(crate::proofs::Contained::out_contained, crate::proofs::Contained::end_contained, crate::proofs::Confirming::changed_contained))]
 pub fn damage_is_contained()
     ensures out { (channel : Channel) (runs : List Arrival) (u : LeafNumber) (pid : Pid) (packets : Packets) →
         IsContained channel runs u pid packets →
@@ -50,9 +52,30 @@ pub fn damage_is_contained()
         IsContained channel runs u pid packets →
         without_gaps (ending_of (card_for channel u) (reverse (counting (card_for channel u) [] packets)))
         ≡ without_gaps (ending_of_all u runs) }
+    ensures changed { (channel : Channel) (damaged : List Damaged) (u : LeafNumber) (pid : Pid) (packets : Packets) →
+        AreRunsOf channel (runs_sent damaged) → AreAllHarmless damaged →
+        IsContained channel (runs_changed damaged) u pid packets →
+        on pid (out_from (card_for channel u) [] (counting (card_for channel u) [] packets))
+        ≡ confirmed_changed false u damaged }
 {}
 
-#[tactic(auto, using(crate::proofs::Confirming::changed_contained))]
-pub fn trial()
-    ensures { (p : Packets) → p ≡ p }
+/// Take broadcasts of a channel whose clear packets have some bits changed that head doesn't read. They are broadcasts
+/// of the channel, and differ from the broadcasts as they were sent in these bits alone, of the packets that carry the
+/// changed ones. So changes on air do the same: whatever is lost, a receiver refuses nothing, writes what it would
+/// write, with these bits changed, and ends as it would.
+#[tactic(auto, using(crate::proofs::Running::runs_taken, crate::proofs::Running::arrive_changed, crate::proofs::Confirming::none_changed, crate::proofs::Confirming::out_changed, crate::proofs::ChangedEnds::end_changed))]
+pub fn changes_stay_in_their_packets()
+    ensures runs { (channel : Channel) (damaged : List Damaged) → AreRunsOf channel (runs_sent damaged) →
+        AreAllHarmless damaged → AreRunsOf channel (runs_changed damaged) }
+    ensures arriving { (channel : Channel) (damaged : List Damaged) → AreRunsOf channel (runs_sent damaged) →
+        AreAllHarmless damaged → arriving (runs_changed damaged) ≡ arriving_changed damaged }
+    ensures none { (channel : Channel) (damaged : List Damaged) (u : LeafNumber) →
+        AreRunsOf channel (runs_sent damaged) → AreAllHarmless damaged → u < 2 ^ channel.height →
+        break_from (card_for channel u) [] (arriving_changed damaged) ≡ None }
+    ensures out { (channel : Channel) (damaged : List Damaged) (u : LeafNumber) →
+        AreRunsOf channel (runs_sent damaged) → AreAllHarmless damaged → u < 2 ^ channel.height →
+        out_from (card_for channel u) [] (arriving_changed damaged) ≡ confirmed_changed false u damaged }
+    ensures ending { (channel : Channel) (damaged : List Damaged) (u : LeafNumber) →
+        AreRunsOf channel (runs_sent damaged) → AreAllHarmless damaged → u < 2 ^ channel.height →
+        ending_of (card_for channel u) (reverse (arriving_changed damaged)) ≡ ending_of_all u (runs_sent damaged) }
 {}
