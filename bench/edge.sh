@@ -505,7 +505,7 @@ row "a line is printed where a run ends, while the pipe is open" is "$(cat lines
 row "and OUT has the whole run" is "$(wc -c <got)" $((188 * 600))
 exec 7>&-
 wait "$box"
-row "the box is switched off" is "$? $(tail -n 1 lines)" "14 stream ends before message 0"
+row "the box is switched off" is "$? $(tail -n 1 lines)" "14 stream ends before message 1"
 
 # --- a standard output that can't be looked at, since nothing is in /dev. An older program fails these rows
 # WORDS..: runs them in a namespace of their own, in which nothing is in /dev.
