@@ -449,6 +449,64 @@ row "receive: nothing before ECM 1, then each stretch at the ECM behind it" is \
     "0 $((188 * 200)) $((188 * 400)) $((188 * 600))"
 row "receive to the end" same R C
 
+# --- streams that may be damaged: `watch`. Of two runs the first breaks off within a packet
+# WORDS FIRST PERIOD: the lines of a site with such control words and first period.
+run_site() { cat S && printf 'messages 3\nfirst-word %s\nlast-word %s\nfirst-period %s\n' "$1" "$2" "$3"; }
+# ENDING PACKETS RUN SKIPPED WRITTEN: the line of `watch`, of no other damage.
+told() { echo "{\"doubled\":0,$1\"marked\":0,\"odd\":0,\"packets\":$2,\"refused\":0,$3\"skipped\":$4,\"written\":$5}"; }
+sdca watch K0 XN got >lines 2>err
+row "watch of a whole broadcast" is "$status $(cat lines err)" "0 $(told '' 608 '' 0 600)"
+row "its clear packets" same got C
+run_site 0 1 0 >S1
+run_site 2 3 1 >S2
+sdca sample 8 600 C8
+sdca head S1 N C R1
+sdca head S2 N C8 R2
+{ head -c $((188 * 300 + 77)) R1 && cat R2; } >seam
+sdca watch K0 seam got >lines 2>err
+{ first_packets 200 C && cat C8; } >due
+unclosed="stream ends before message 2"
+turned=$(told "\"ending\":\"$unclosed\"," 301 '"run":0,' 77 200)
+row "a torn seam of two runs: a line for each" is "$status $(cat lines)" \
+    "14 $turned
+$(told '' 908 '"run":2,' 77 800)
+$unclosed"
+row "their clear packets" same got due
+sdca receive K0 seam got >lines 2>err
+row "receive ends there" is "$status $(cat lines)" "10 stream packet 301: no sync"
+sdca watch K0 seam /dev/stdout >got 2>err
+row "OUT is the standard output: no line is among the packets" same got due
+row "the lines are on the standard error" is "$(wc -l <err) $(head -n 1 err)" "3 $turned"
+sdca watch K0 seam got >/dev/full 2>err
+row "a line can't be printed: exit 5" is "$status" 5
+row "OUT has what was written before it" is "$(wc -c <got)" $((188 * 200))
+sdca watch K0 seam /dev/full >lines 2>err
+row "OUT can't be written: exit 4, and no line but its own" is "$status $(cat lines)" "4 device fault"
+{ first_packets 99 XN && printf 'x' && cat C; } >wild
+sdca watch K0 wild got >lines 2>err
+row "a byte more behind packet 98, which is lost then" is "$(head -n 1 lines)" \
+    "$(told '"ending":"stream ends before message 1",' 698 '' 189 0)"
+row "watch: nothing before ECM 1 and a byte behind it, then each stretch so" is \
+    "$(python3 "$live" fed XN R 204 205 408 608 -- "$program" watch K0 /dev/stdin R)" \
+    "$(told '' 608 '' 0 600)
+0 $((188 * 200)) $((188 * 400)) $((188 * 400))"
+row "watch to the end" same R C
+mkfifo air
+"$program" watch K0 air got >lines 2>err &
+box=$!
+exec 7>air
+{ cat R1 && first_packets 3 R2; } >&7
+turn=0
+until [ -s lines ] || [ $turn = 100 ]; do
+    sleep 0.05
+    turn=$((turn + 1))
+done
+row "a line is printed where a run ends, while the pipe is open" is "$(cat lines)" "$(told '' 608 '"run":0,' 0 600)"
+row "and OUT has the whole run" is "$(wc -c <got)" $((188 * 600))
+exec 7>&-
+wait "$box"
+row "the box is switched off" is "$? $(tail -n 1 lines)" "14 stream ends before message 1"
+
 # --- a standard output that can't be looked at, since nothing is in /dev. An older program fails these rows
 # WORDS..: runs them in a namespace of their own, in which nothing is in /dev.
 blind() { unshare -rm sh -c 'mount -t tmpfs none /dev && exec "$@"' sh "$@"; }
