@@ -1,5 +1,5 @@
 -- What becomes of one held packet.
-use Rattle.std.proofs.Common.{ℕ, ◌+◌, ◌%◌, ◌^◌, ◌<◌, ◌≡◌, ◌==◌, ◌&&◌, true, false, not, List, []}
+use Rattle.std.proofs.Common.{ℕ, ◌+◌, ◌^◌, ◌<◌, ◌≡◌, ◌==◌, ◌&&◌, true, false, List, []}
 use Rattle.std.proofs.Common.{◌∷◌, ◌++◌, map}
 use Rattle.std.proofs.Common.{get_or, refl, sym, ap, ◌∙◌, arith}
 use Rattle.std.specs.Prelude.{Option, Some, None, Result, Ok, Err, OnOk, OnErr, MatchResult, nat_le}
@@ -104,9 +104,3 @@ pub unmarked_after : (s : Segment) (p q : List ℕ) (r : Result (Unit {0}) FormF
     q ≡ unmarked s p
 unmarked_after s p q (Ok done) placed value same fault = value ∙ sym (marked_back s p placed fault)
 unmarked_after s p q (Err f) placed value same fault = same ∙ sym (unmarked_stays s p (rw fault refl))
-
--- a packet with a place is odd by its control
-pub odd_placed : (c : Confirming) (p : List ℕ) (s k : ℕ) → is_placed p ≡ true → s ≡ scrambling_of p →
-    k ≡ 2 + c.word.now.number % 2 → not (s == k) ≡ is_odd (segment_in c) p
-unfolding segment_in segment_of
-odd_placed c p s k placed e f = rw placed (rw e (rw f refl))

@@ -138,8 +138,8 @@ fn is_among(place: &Place, others: &[Place]) -> bool
     others.iter().any(|other| other == place)
 }
 
-// Whether a packet can't be one under the control word of this number.
-fn is_odd(word: u32, packet: &Packet) -> bool
+/// Whether a packet can't be one under the control word of this number [this project, docs/FORMATS.md, Receiver].
+pub fn is_odd(word: u32, packet: &Packet) -> bool
     ensures { result ≡ is_odd_under word packet.now }
 {
     packet.scrambling() != control_of(word) || !packet.is_placed()

@@ -10,6 +10,7 @@ ghost use Rattle.sd_receive.specs.Writing.{WriteOutcome, HasStopped, IsReady, Is
 ghost use Rattle.sd_receive.specs.Writing.{segment_in, AreNear, AreConfirmed};
 ghost use Rattle.sd_receive.specs.declared.tracks.TheConstants.{PIDS};
 
+use crate::again::is_odd;
 use crate::held::{Held, Word};
 use crate::pids::Pids;
 use crate::segment_fault::SegmentFault;
@@ -149,10 +150,11 @@ impl<'a> Confirming<'a> {
     }
 
     // Whether the packet can't be one under the control word.
+    #[tactic(auto, unfolding(crate::specs::Writing::segment_in, crate::specs::Writing::segment_of))]
     fn is_odd(&self, packet: &Packet) -> bool
         ensures { result ≡ is_odd_packet (segment_in self.now) packet.now }
     {
-        !packet.is_placed() || packet.scrambling() != self.word.control()
+        is_odd(self.word.number, packet)
     }
 
     // Removes the project's CA_descriptor from a packet that is a PMT with it.

@@ -7,7 +7,7 @@ use sd_spec::Ending;
 /// How a run ended that another followed [this project, docs/FORMATS.md, Receiver].
 #[derive(Clone, Copy)]
 pub struct Ended {
-    /// The run's name, if it has one. There is always a message of which this is the run.
+    /// The run's name; it is `Some(None)` in versions 1 and 2, whose runs have none.
     pub run: Option<Option<u32>>,
     /// How it ended.
     pub ending: Ending,

@@ -14,16 +14,8 @@ pub struct Word {
     pub bytes: [u8; 32],
 }
 
-impl Word {
-    /// The transport_scrambling_control of a packet under the word: 2 if its number is even, 3 if it is odd.
-    pub fn control(&self) -> u8
-        ensures { result ≡ 2 + self.now.number % 2 }
-    {
-        control_of(self.number)
-    }
-}
-
-/// The transport_scrambling_control of a packet under the control word of this number.
+/// The transport_scrambling_control of a packet under the control word of this number: 2 if it is even, 3 if it
+/// is odd.
 pub fn control_of(number: u32) -> u8
     ensures { result ≡ 2 + number % 2 }
 {

@@ -31,6 +31,7 @@ impl Receiver {
         ensures value { IfOk result (IsAfter []) }
         ensures card { IfOk result (λ receiver. receiver.card ≡ card) }
         ensures live { IfOk result IsLive }
+        ensures told { IfOk result (λ receiver. receiver.ended.last ≡ None) }
     {
         let listener = Listener::new(alloc)?;
         Ok(Receiver {

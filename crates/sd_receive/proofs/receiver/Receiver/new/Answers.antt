@@ -10,4 +10,5 @@ returns c =
       value = first_after c.args.card c.in_ok-listener.listener fresh.0 fresh.1;
       card = refl;
       live = λ none. record { ecm = tt; follows = ([], fresh.1 (card_fields_of c.args.card)) };
+      told = refl;
     }
