@@ -217,6 +217,7 @@ $ twin 5 500 6 | 5 | | 9e4a612bcb53447c |
 $ sample 0 4 O | | | fcc946789d7bffb6 |
 $ head S M C O | S M C | streams | 9c6d622db9f9fa35 |
 $ receive K X O | K X | streams | 3e68d36a18df2132 |
+$ watch K X O | K X | streams | 3e68d36a18df2132 | 11abc475179b3ba6
 $ tables X | X | | | d29b54c31bc48ee2
 $ messages S X | S X | | | 0fb3c1549838f547
 $ show K | K | | | 733f52ad790b39c9

@@ -508,8 +508,8 @@ const MISSING: &[&str] = &[
     "4741f1110080b0530000c1000000000001000000000000000000000003018229606edb4eb380c6745a1a0ef112fb4f37fd1a5ac322f2eb828187831d8c4016f21bec8b49a29a6bf944da8fbb98bb011000000000000010428a56a6",
 ];
 
-/// The packets of a stream, how many bytes of it are left, the exit of `receive`, what it prints, and the packets
-/// that it writes.
+/// The packets of a stream, how many bytes of it are left, the exit of `receive` or `watch`, what it prints, and the
+/// packets that it writes.
 type Reception = (
     &'static [&'static str],
     usize,
@@ -526,35 +526,75 @@ static RECEIVED: [Reception; 5] = [
     (BROADCAST, 200, 10, "stream packet 1: torn\n", &[]),
 ];
 
-/// Whether a stream is received so, if a byte, a packet or more is read and written at a time.
+static WATCHED: [Reception; 3] = [
+    (
+        BROADCAST,
+        1128,
+        0,
+        "{\"doubled\":0,\"marked\":0,\"odd\":0,\"packets\":6,\"refused\":0,\"skipped\":0,\"written\":2}
+",
+        &[PAT, PMT],
+    ),
+    (
+        BROADCAST,
+        200,
+        14,
+        "{\"doubled\":0,\"ending\":\"stream ends before message 0\",\"marked\":0,\"odd\":0,\"packets\":1,\"refused\":0,\"skipped\":12,\"written\":0}
+stream ends before message 0
+",
+        &[],
+    ),
+    (
+        &[],
+        0,
+        16,
+        "{\"doubled\":0,\"ending\":\"no CAT for this card\",\"marked\":0,\"odd\":0,\"packets\":0,\"refused\":0,\"skipped\":0,\"written\":0}
+no CAT for this card
+",
+        &[],
+    ),
+];
+
+/// Whether a command takes a stream so, if a byte, a packet or more is read and written at a time.
 fn is_opened<'a>(
     alloc: Global,
+    command: &str,
     card: &'a [u8],
     stream: &'a [u8],
     due: Due<'_>,
 ) -> Result<bool, AllocError> {
     for most in [1, 188, 1000] {
         let files: [File<'a>; 2] = [("K", card), ("X", stream)];
-        if !is_done(alloc, &["receive", "K", "X", "O"], &files, most, due)? {
+        if !is_done(alloc, &[command, "K", "X", "O"], &files, most, due)? {
             return Ok(false);
         }
     }
     Ok(true)
 }
 
-/// Whether a stream is received as the row says.
-fn is_received(alloc: Global, card: &[u8], row: &Reception) -> Result<bool, AllocError> {
+/// Whether a command takes a stream as the row says.
+fn is_received(
+    alloc: Global,
+    command: &str,
+    card: &[u8],
+    row: &Reception,
+) -> Result<bool, AllocError> {
     let (packets, length, exit, line, clear) = *row;
     let mut stream = stream_of(alloc, packets)?;
     stream.truncate(length);
     let clear = stream_of(alloc, clear)?;
-    is_opened(alloc, card, &stream, Due::made(exit, line, &clear))
+    is_opened(alloc, command, card, &stream, Due::made(exit, line, &clear))
 }
 
-/// The first row of which the stream is received otherwise for a card, by its line.
-fn wrong_line(alloc: Global, card: &[u8]) -> Result<Option<&'static str>, AllocError> {
-    for row in &RECEIVED {
-        if !is_received(alloc, card, row)? {
+/// The first row of which a command takes the stream otherwise for a card, by what is printed.
+fn wrong_line(
+    alloc: Global,
+    command: &str,
+    card: &[u8],
+    rows: &[Reception],
+) -> Result<Option<&'static str>, AllocError> {
+    for row in rows {
+        if !is_received(alloc, command, card, row)? {
             return Ok(Some(row.3));
         }
     }
@@ -564,7 +604,15 @@ fn wrong_line(alloc: Global, card: &[u8]) -> Result<Option<&'static str>, AllocE
 #[test]
 fn broadcasts_are_received(rt: HostRuntime) -> Result<(), AllocError> {
     let card = card_0(rt.alloc())?;
-    let wrong = wrong_line(rt.alloc(), &card)?;
+    let wrong = wrong_line(rt.alloc(), "receive", &card, &RECEIVED)?;
+    assert!(rt; wrong.is_none(), "{wrong:?}");
+    Ok(())
+}
+
+#[test]
+fn damaged_streams_are_watched(rt: HostRuntime) -> Result<(), AllocError> {
+    let card = card_0(rt.alloc())?;
+    let wrong = wrong_line(rt.alloc(), "watch", &card, &WATCHED)?;
     assert!(rt; wrong.is_none(), "{wrong:?}");
     Ok(())
 }
