@@ -20,6 +20,7 @@ use Rattle.sd_law_losses.proofs.Theorem.{whole_refused, whole_opened, whole_ende
 use Rattle.sd_command_base.specs.declared.status.Status.TheVariants.{Limit}
 use Rattle.sd_command_base.specs.declared.status.LimitKind.TheVariants.{CardBytes}
 use Rattle.sd_command_base.specs.Spec.{FileArgument, Readings, all_of, judged, value, within, ◌>>=◌}
+use Rattle.sd_command_base.specs.Texts.{line_of}
 use Rattle.sd_command_base.specs.Work.{Work}
 use Rattle.sd_command_base.proofs.Follow.{then_is}
 use Rattle.sd_command_base.specs.Files.{most_card_bytes}
@@ -28,7 +29,7 @@ use Rattle.sd_run_broadcasts.specs.Receive.{told_card, card_of_file, ending_stat
 use Rattle.sd_run_broadcasts.specs.Receive.{received_of, received_status, received_steps, receiving, stream_meaning}
 use Rattle.sd_run_broadcasts.specs.Receive.{receive_meaning}
 use Rattle.sd_law_run.specs.Good.{IsGoodReceive}
-use Rattle.sd_law_run.specs.Opened.{entitled_periods, revoked_status, IsBroadcastTo, IsOpened}
+use Rattle.sd_law_run.specs.Opened.{entitled_periods, revoked_status, revoked_text, IsBroadcastTo, IsOpened}
 use Rattle.sd_run.specs.Meaning.{meaning}
 use Rattle.sd_run_broadcasts.proofs.Cards.{card_read}
 use Rattle.sd_run_broadcasts.proofs.Received.{none_refused, bytes_are, unrefused_steps, scaled}
@@ -46,7 +47,7 @@ card_length card is =
     let once = scaled d (d + 1) 21 (omega (arith, low)) in
     omega (arith, size, once, low)
 
-card_good : (word : ℕ) (card : CardFields) → IsCard card → (card_of_file word (Some (card_bytes card))).result ≡ Ok card
+pub card_good : (word : ℕ) (card : CardFields) → IsCard card → (card_of_file word (Some (card_bytes card))).result ≡ Ok card
 unfolding card_of_file
 card_good word card is =
     then_is (within word most_card_bytes CardBytes (Some (card_bytes card))) (card_bytes card)
@@ -75,9 +76,15 @@ receive_good words given good =
     ordered words given (ReceiveOf good.card good.stream good.out) good.order
     ∙ received given good.card good.stream good.out good.fields good.bytes good.is_card good.card_there good.there
 
-whole_status : (u : ℕ) (period : Option ℕ) → ending_status u (whole_ending period) ≡ revoked_status u period
+pub whole_status : (u : ℕ) (period : Option ℕ) → ending_status u (whole_ending period) ≡ revoked_status u period
 whole_status u None = refl
 whole_status u (Some q) = refl
+
+-- and its line
+pub whole_line : (u : ℕ) (period : Option ℕ) → line_of (revoked_status u period) ≡ revoked_text u period
+unfolding line_of
+whole_line u None = refl
+whole_line u (Some q) = refl
 
 module _ (plan : Plan) (u : ℕ) (clear : List (List ℕ)) (is : IsPlan plan) (all : IsClear plan.site clear)
     (whole : AreWholePackets clear) (leaf : u < 2 ^ plan.site.height) where

@@ -7,7 +7,7 @@ use Rattle.sd_command_base.specs.declared.status.Status.{Status}
 use Rattle.sd_command_base.specs.declared.status.Status.TheVariants.{Usage}
 use Rattle.sd_command_base.specs.Shown.{word_at}
 use Rattle.sd_command_line.specs.declared.command.Command.{Command}
-use Rattle.sd_command_line.specs.declared.command.Command.TheVariants.{Next, Twin}
+use Rattle.sd_command_line.specs.declared.command.Command.TheVariants.{Next, Twin, Watch}
 use Rattle.sd_command_line.specs.Commands.{command_named, operands_of}
 use Rattle.sd_command_line.specs.Words.{Argument, CommandOf, HelpOf, InputOf, NumberOf, Order, OutOf, VersionOf}
 use Rattle.sd_command_line.specs.Words.{arguments_from, before, command_in, counted, help_on, help_words, is_help}
@@ -24,6 +24,7 @@ pub data Kind (command : Command) : Type 0 where
 pub kind_of : (command : Command) → Kind command
 kind_of Next = is_next refl
 kind_of Twin = is_twin refl
+kind_of Watch = is_other (λ e. absurd cc) (λ e. absurd cc)
 kind_of command = is_other (λ e. absurd cc) (λ e. absurd cc)
 
 -- the arguments of an order

@@ -8,8 +8,8 @@ use Rattle.sd_command_base.specs.declared.status.Status.{Status}
 use Rattle.sd_command_base.specs.Outside.{DepotState, Outside}
 use Rattle.sd_command_base.specs.Spec.{Readings, contents_of}
 use Rattle.sd_command_base.specs.Work.{Out, Work, files_with, made_with}
-use Rattle.sd_command_base.specs.Outcome.{IsUnmade, IsMade, IsMadeShort, Progress, untouched, writing, printing}
-use Rattle.sd_command_base.specs.Outcome.{Outcome, refused, ended, unclosed, exhausted, failed, nowhere, cut_off}
+use Rattle.sd_command_base.specs.Outcome.{IsUnmade, IsMade, IsMadeShort, Progress, untouched, writing, telling, printing}
+use Rattle.sd_command_base.specs.Outcome.{Outcome, refused, ended, unclosed, exhausted, failed, nowhere, cut_off, cut_short}
 use Rattle.sd_command_base.specs.Results.{RunResult, with_page}
 use Rattle.sd_command_base.proofs.RunAnswers.{told_given}
 use Rattle.sd_law_run.specs.Left.{IsAsBefore, HasOut}
@@ -66,6 +66,7 @@ whole_made meant work a b is made = all_made meant work work.out a b is refl mad
 stood : (meant : Result Work Status) (a b : Outside) → Progress meant a b → IsLeft meant a.place b.place
 stood meant a b (untouched un k) = inl un
 stood meant a b (writing work is out makes short k) = short_made meant work out a.place b.place is makes short
+stood meant a b (telling work is live out makes short k) = short_made meant work out a.place b.place is makes short
 stood meant a b (printing work is made k) = whole_made meant work a.place b.place is made
 
 came : (meant : Result Work Status) (a b : Outside) (status : Status) → Outcome meant a b status →
@@ -78,6 +79,8 @@ came meant a b status (exhausted s h o c m) = stood meant a b h
 came meant a b status (failed s h r o c m) = stood meant a b h
 came meant a b status (nowhere work is out f s n un k c m) = inl un
 came meant a b status (cut_off work is s made k r c m) = whole_made meant work a.place b.place is made
+came meant a b status (cut_short work is live s out makes short k r m) =
+    short_made meant work out a.place b.place is makes short
 
 -- by what the files gave
 pub answers_leave : (words : List (List ℕ)) (a b : Outside) (answer : Status) →

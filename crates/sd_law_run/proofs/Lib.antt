@@ -33,3 +33,9 @@ pub mod FolderNames
 pub mod FolderOrders
 pub mod FolderRefusals
 pub mod FolderRuns
+pub mod CutBefore
+pub mod Reported
+pub mod LastLines
+pub mod Watched
+pub mod WholeTold
+pub mod WatchedWhole

@@ -1,14 +1,17 @@
 -- What `receive` leaves over any choice of a broadcast's packets.
-use Rattle.std.proofs.Common.{◌≡◌, ℕ, ◌+◌, ◌^◌, ◌<◌, ◌≤◌, Bool, List, Some, sym, ap, ◌∙◌, arith}
+use Rattle.std.proofs.Common.{◌≡◌, ℕ, ◌+◌, ◌^◌, ◌<◌, ◌≤◌, Bool, List, Some, sym, ap, subst, ◌∙◌, arith}
 use Rattle.std.specs.FinMap.{insert}
 use Rattle.std.specs.List.{concat}
+use Rattle.std.specs.Io.KnownBytes.{Appends}
 use Rattle.sd_site.specs.CardFields.{card_of}
 use Rattle.sd_site.proofs.Made.{made_is_card}
 use Rattle.sd_spec.specs.Plan.{Plan}
 use Rattle.sd_spec.specs.Sent.{broadcast}
 use Rattle.sd_law_losses.specs.Chosen.{chosen}
 use Rattle.sd_law_losses.specs.Confirmed.{confirmed}
+use Rattle.sd_law_losses.specs.Endings.{ending_told}
 use Rattle.sd_command_base.specs.declared.status.Status.{Status}
+use Rattle.sd_command_base.specs.Texts.{line_of}
 use Rattle.sd_command_base.specs.Spec.{contents_of}
 use Rattle.sd_command_base.specs.Outside.{Outside}
 use Rattle.sd_command_base.specs.Results.{RunResult}
@@ -17,7 +20,7 @@ use Rattle.sd_run_broadcasts.specs.Receive.{receiving, received_steps, receive_m
 use Rattle.sd_law_run.specs.Headline.{Names, file_in, AreGiven, IsUndisturbed, card_for}
 use Rattle.sd_law_run.specs.Lost.{kept_items, LossResult}
 use Rattle.sd_law_run.proofs.Broadcasts.{received}
-use Rattle.sd_law_run.proofs.Lost.{rest_bytes, rest_status, rest_steps, rest_revoked, rest_part}
+use Rattle.sd_law_run.proofs.Lost.{ended_line, rest_bytes, rest_status, rest_steps, rest_revoked, rest_part}
 use Rattle.sd_law_run.proofs.Runs.{runs_work}
 use Rattle.sd_law_run.proofs.Parts.{is_told, of_told, made_in, others_in, card_same, is_plan, are_whole, are_synced}
 
@@ -47,15 +50,17 @@ lost_part names plan clear z given u flags a b answer leaf card_there stream_the
     let few : b.steps ≤ a.steps + received_steps fields stream = done.steps in
     let most = rest_steps plan u clear flags is all whole synced leaf in
     let part = rest_part plan u clear flags is all whole synced leaf in
+    let ends = done.ends ∙ rest_status plan u clear flags is all whole synced leaf in
     let left = done.left ∙ ap (λ (bs : List ℕ). Some (insert t.files names.out bs)) bytes in
     record {
       written = made_in b t.files names.out (concat (confirmed plan u clear (kept_items plan clear flags))) left;
       parts = part.0;
       part = part.1;
-      ends = done.ends ∙ rest_status plan u clear flags is all whole synced leaf;
+      ends = ends;
       revoked = λ q e. rest_revoked plan u clear flags is all whole synced leaf q (sym done.ends ∙ e);
       steps = omega (arith, few, most);
       others = others_in a b t.files names.out (concat (confirmed plan u clear (kept_items plan clear flags))) t.told
           left;
-      told = done.printed;
+      told = subst (λ (l : List ℕ). Appends a.page.printed b.page.printed l)
+          (ap line_of ends ∙ ended_line u (ending_told plan u clear (kept_items plan clear flags))) done.printed;
     }

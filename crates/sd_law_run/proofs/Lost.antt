@@ -28,13 +28,14 @@ use Rattle.sd_law_losses.proofs.Revoking.{revoked_truly}
 use Rattle.sd_law_losses.proofs.Opened.{confirmed_are_opened}
 use Rattle.sd_law_losses.proofs.Later.{chosen_all_of}
 use Rattle.sd_command_base.specs.declared.status.Status.TheVariants.{Revoked}
+use Rattle.sd_command_base.specs.Texts.{line_of}
 use Rattle.sd_command_base.specs.Spec.{Readings}
 use Rattle.sd_command_base.specs.Work.{Work}
 use Rattle.sd_run_broadcasts.specs.Receive.{ending_status, ended_status, received_of, received_status, received_steps}
 use Rattle.sd_run_broadcasts.specs.Receive.{receiving}
 use Rattle.sd_law_run.specs.Good.{IsGoodReceive}
 use Rattle.sd_command_base.specs.Turned.{is_break}
-use Rattle.sd_law_run.specs.Lost.{kept_items, kept_periods, IsRestTo, IsConfirmed}
+use Rattle.sd_law_run.specs.Lost.{ending_line, kept_items, kept_periods, IsRestTo, IsConfirmed}
 use Rattle.sd_run.specs.Meaning.{meaning}
 use Rattle.sd_run_broadcasts.proofs.Received.{none_refused, bytes_are, unrefused_steps}
 use Rattle.sd_law_run.proofs.Broadcasts.{receive_good}
@@ -55,6 +56,16 @@ never_broken u (end.Unheard q) = refl
 never_broken u end.NoCat = refl
 never_broken u (end.Unclosed n) = refl
 never_broken u (end.Gaps n) = refl
+
+-- its line
+pub ended_line : (u : ℕ) (ending : Ending) → line_of (ending_status u ending) ≡ ending_line u ending
+unfolding line_of
+ended_line u end.Opened = refl
+ended_line u (end.Revoked q) = refl
+ended_line u (end.Unheard q) = refl
+ended_line u end.NoCat = refl
+ended_line u (end.Unclosed n) = refl
+ended_line u (end.Gaps n) = refl
 
 -- it is told revoked where it ends so
 told_revoked : (u q : ℕ) (ending : Ending) → ending_status u ending ≡ Revoked u q → ending ≡ end.Revoked q

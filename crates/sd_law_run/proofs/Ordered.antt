@@ -1,4 +1,4 @@
--- The words of `head`, `card` and `receive` mean what the commands do.
+-- The words of `head`, `card`, `receive` and `watch` mean what the commands do.
 use Rattle.std.proofs.Common.{◌≡◌, ◌≢◌, ℕ, ◌-◌, ◌^◌, ◌<◌, ◌≤◌, Bool, false, List, [], ◌∷◌}
 use Rattle.std.proofs.Common.{Option, Some, Result, Ok, Err, refl, sym, ap, subst, ◌∙◌, arith, le-ltb}
 use Rattle.std.specs.Prelude.{◌||◌, if◌then◌else◌}
@@ -15,14 +15,16 @@ use Rattle.sd_command_base.specs.Results.{RunResult, with_page}
 use Rattle.sd_command_line.specs.declared.command.Command.TheVariants.{Card}
 use Rattle.sd_command_line.specs.Commands.{command_named, command_name, operands_of}
 use Rattle.sd_command_line.specs.Words.{InputOf, OutOf, Order, HeadOf, CardOf, ReceiveOf, at_most, before, number_in}
-use Rattle.sd_command_line.specs.Words.{named_words, numbered, order_of, ordered}
+use Rattle.sd_command_line.specs.Words.{WatchOf, named_words, numbered, order_of, ordered}
 use Rattle.sd_command_base.specs.Shown.{word_at}
 use Rattle.sd_run_books.specs.Card.{card_meaning}
 use Rattle.sd_run_broadcasts.specs.Head.{head_meaning}
 use Rattle.sd_run_broadcasts.specs.Receive.{receive_meaning}
+use Rattle.sd_run_broadcasts.specs.Watch.{watch_meaning}
 use Rattle.sd_run.specs.Meaning.{order_meaning, meaning}
 use Rattle.sd_law_run.specs.Good.{IsGoodSite}
 use Rattle.sd_law_run.specs.Headline.{Names, head_run, card_run, receive_run}
+use Rattle.sd_law_run.specs.Watched.{watch_run}
 use Rattle.sd_law_run.proofs.Shelf.{apart_texts}
 
 -- words that differ are refused for no other word
@@ -88,6 +90,15 @@ receive_order names card stream =
     (apart_texts names.card names.out (λ e. card (sym e)))
     (apart_texts names.stream names.out (λ e. stream (sym e)))
 
+watch_order : (names : Names) → names.out ≢ names.card → names.out ≢ names.stream →
+    order_of (watch_run names) ≡ Ok (WatchOf (word_at 1 names.card) (word_at 2 names.stream) (word_at 3 names.out))
+unfolding named_words command_named command_name operands_of
+watch_order names card stream =
+    two_apart (bytes_eq names.card names.out) (bytes_eq names.stream names.out)
+    (Ok (WatchOf (word_at 1 names.card) (word_at 2 names.stream) (word_at 3 names.out)))
+    (apart_texts names.card names.out (λ e. card (sym e)))
+    (apart_texts names.stream names.out (λ e. stream (sym e)))
+
 own_order : (order : Order) (given : Readings) (a b : Outside) (status : Status) →
     OutcomeWithin (judged (Ok order) >>= λ o. order_meaning o given) a b status → OutcomeWithin
     (order_meaning order given) a b status
@@ -139,3 +150,11 @@ receive_answers names a b answer card stream answers =
     order_answers (receive_run names)
     (ReceiveOf (word_at 1 names.card) (word_at 2 names.stream) (word_at 3 names.out)) a b answer
     (receive_order names card stream) answers
+
+pub watch_answers : (names : Names) (a b : Outside) (answer : Status) → names.out ≢ names.card →
+    names.out ≢ names.stream → RunResult (meaning (watch_run names)) a b answer →
+    RunResult (watch_meaning (word_at 1 names.card) (word_at 2 names.stream) (word_at 3 names.out)) a b answer
+watch_answers names a b answer card stream answers =
+    order_answers (watch_run names)
+    (WatchOf (word_at 1 names.card) (word_at 2 names.stream) (word_at 3 names.out)) a b answer
+    (watch_order names card stream) answers

@@ -15,7 +15,7 @@ use Rattle.sd_command_base.specs.Outside.{PageState, Outside}
 use Rattle.sd_command_base.specs.Spec.{Spec, Readings, contents_of}
 use Rattle.sd_command_base.specs.Work.{Out, Work, files_with, made_with}
 use Rattle.sd_command_base.specs.Outcome.{Outcome, IsRefusal, IsMade, IsUnmade}
-use Rattle.sd_command_base.specs.Outcome.{refused, ended, unclosed, exhausted, failed, nowhere, cut_off}
+use Rattle.sd_command_base.specs.Outcome.{refused, ended, unclosed, exhausted, failed, nowhere, cut_off, cut_short}
 use Rattle.sd_command_base.specs.Results.{RunResult, PrintsStatusLine, with_page}
 use Rattle.sd_command_base.proofs.RunAnswers.{own_line, done_line, told_given}
 use Rattle.sd_run.specs.Meaning.{meaning}
@@ -53,6 +53,7 @@ came_done meant a b status (exhausted s h o c m) is = absurd (let x = sym s ∙ 
 came_done meant a b status (failed s h r o c m) is = absurd (let x = sym s ∙ is in cc)
 came_done meant a b status (nowhere work e out f s n h k c m) is = absurd (let x = sym s ∙ is in cc)
 came_done meant a b status (cut_off work e s h k r c m) is = absurd (let x = sym s ∙ is in cc)
+came_done meant a b status (cut_short work e live s out f h k r m) is = absurd (let x = sym s ∙ is in cc)
 
 -- a run that answers `Done` has done the work that is meant
 pub done_leaves : (meant : Readings → Spec Work) (files : Files) (a b : Outside) (answer : Status) →
@@ -150,6 +151,8 @@ came_quiet out meant a b status orderly refuses (failed s h r o c m) = absurd (s
 came_quiet out meant a b status orderly refuses (nowhere work is made f s n un k c m) =
     record { unmade = un; printed = none_printed a.page.printed b.page.printed k }
 came_quiet out meant a b status orderly refuses (cut_off work is s made k r c m) =
+    absurd (subst RefusesFirst s refuses)
+came_quiet out meant a b status orderly refuses (cut_short work is live s made makes short k r m) =
     absurd (subst RefusesFirst s refuses)
 
 -- the line of a refusal is its own, and was printed

@@ -4,6 +4,7 @@ use Rattle.std.proofs.Common.{Option, Some, None, Ok, Err, refl, sym, ap, subst,
 use Rattle.std.specs.FinMap.{get, insert}
 use Rattle.std.specs.List.{concat}
 use Rattle.std.specs.Option.{option_and_then}
+use Rattle.std.specs.Io.KnownBytes.{Appends}
 use Rattle.std.proofs.lemmas.List.Elements.{All-weaker}
 use Rattle.sd_site.specs.SiteFields.{SiteFields}
 use Rattle.sd_site.specs.CardFields.{card_of, card_bytes}
@@ -20,8 +21,10 @@ use Rattle.sd_law_broadcast.specs.Synced.{AreSynced}
 use Rattle.sd_law_broadcast.proofs.Cut.{taken_synced, taken_whole}
 use Rattle.sd_law_broadcast.proofs.Taken.{broadcast_taken}
 use Rattle.sd_law_losses.specs.Confirmed.{opened_by}
+use Rattle.sd_law_losses.specs.Endings.{first_revoked}
 use Rattle.sd_command_base.specs.declared.status.Status.{Status}
 use Rattle.sd_command_base.specs.declared.status.Status.TheVariants.{Done, BadWord}
+use Rattle.sd_command_base.specs.Texts.{line_of}
 use Rattle.sd_command_base.specs.Spec.{contents_of, judged, value, ◌>>=◌}
 use Rattle.sd_command_base.specs.Outside.{Outside}
 use Rattle.sd_command_base.specs.Work.{Uncounted}
@@ -39,7 +42,7 @@ use Rattle.sd_law_run.specs.Good.{IsGoodSite, IsGoodBook}
 use Rattle.sd_law_run.specs.Headline.{Names, file_in, AreGiven, IsUndisturbed, card_for}
 use Rattle.sd_law_run.specs.Headline.{HeadResult, CardResult, ReceiveResult}
 use Rattle.sd_law_run.proofs.Goodness.{site_good, plan_good}
-use Rattle.sd_law_run.proofs.Broadcasts.{received, opened_bytes, opened_status, opened_steps}
+use Rattle.sd_law_run.proofs.Broadcasts.{received, opened_bytes, opened_status, opened_steps, whole_line}
 use Rattle.sd_law_run.proofs.Shelf.{made_there, others_stay}
 use Rattle.sd_law_run.proofs.Plans.{good_plan}
 use Rattle.sd_law_run.proofs.Runs.{runs_work, none_said}
@@ -178,13 +181,15 @@ module _ (names : Names) (plan : Plan) (clear : List (List ℕ)) (at : Outside) 
         let few : b.steps ≤ a.steps + received_steps fields stream = done.steps in
         let most = opened_steps plan u clear is_plan given.clear.is_clear are_whole leaf stream taken.0 in
         let left = done.left ∙ ap (λ (bs : List ℕ). Some (insert t.files names.out bs)) bytes in
+        let ends = done.ends
+        ∙ opened_status plan u clear is_plan given.clear.is_clear are_whole leaf stream taken.0 taken.1 in
         record {
           written = made_in b t.files names.out (concat (opened_by plan u clear)) left;
-          ends = done.ends ∙ opened_status plan u clear is_plan given.clear.is_clear are_whole leaf stream taken.0
-              taken.1;
+          ends = ends;
           steps = omega (arith, few, most);
           others = others_in a b t.files names.out (concat (opened_by plan u clear)) t.told left;
-          told = done.printed;
+          told = subst (λ (l : List ℕ). Appends a.page.printed b.page.printed l)
+              (ap line_of ends ∙ whole_line u (first_revoked plan u clear)) done.printed;
         }
 
 pub card_part : (names : Names) (site : SiteFields) (u : ℕ) (a b : Outside) (answer : Status) →

@@ -13,7 +13,7 @@ use Rattle.sd_command_base.specs.Outside.{PageState, Outside}
 use Rattle.sd_command_base.specs.Spec.{Spec, Readings, contents_of}
 use Rattle.sd_command_base.specs.Work.{Work, files_with, IsWithinSteps, TakesSteps}
 use Rattle.sd_command_base.specs.Outcome.{PrintsAll}
-use Rattle.sd_command_base.specs.Outcome.{Outcome, refused, ended, unclosed, exhausted, failed, nowhere, cut_off}
+use Rattle.sd_command_base.specs.Outcome.{Outcome, refused, ended, unclosed, exhausted, failed, nowhere, cut_off, cut_short}
 use Rattle.sd_command_base.specs.Results.{RunResult, PrintsStatusLine, with_page}
 use Rattle.sd_command_base.proofs.RunAnswers.{own_line, done_line, causes, told_given}
 use Rattle.sd_law_run.specs.Headline.{IsUndisturbed}
@@ -49,6 +49,8 @@ ended_with meant work files a b status is told depot print memory (failed s h r 
 ended_with meant work files a b status is told depot print memory (nowhere other e out f s n h k c m) =
     absurd (let both = sym told ∙ n in cc)
 ended_with meant work files a b status is told depot print memory (cut_off other e s h k r c m) = absurd (print s)
+ended_with meant work files a b status is told depot print memory (cut_short other e live s out f h k r m) =
+    absurd (print s)
 
 steps_of : (meant : Result Work Status) (work : Work) (before now : ℕ) → meant ≡ Ok work →
     TakesSteps meant before now → IsWithinSteps work.steps before now

@@ -19,10 +19,9 @@ use Rattle.sd_law_losses.specs.Confirmed.{opened_by}
 use Rattle.sd_law_losses.specs.Endings.{first_revoked}
 use Rattle.sd_command_base.specs.declared.status.Status.{Status}
 use Rattle.sd_command_base.specs.declared.status.Status.TheVariants.{Done, NoMemory}
-use Rattle.sd_command_base.specs.Texts.{line_of}
 use Rattle.sd_command_base.specs.Outside.{Outside}
 use Rattle.sd_law_run.specs.Good.{IsGoodSite, IsGoodBook, IsGoodClear, IsOwnBook}
-use Rattle.sd_law_run.specs.Opened.{entitled_periods, revoked_status}
+use Rattle.sd_law_run.specs.Opened.{entitled_periods, revoked_status, revoked_text}
 
 -- the names of the files
 pub record Names : Type 0 where
@@ -105,4 +104,4 @@ pub record ReceiveResult (names : Names) (plan : Plan) (u : LeafNumber) (clear :
   pub others : (name : FileName) → name ≢ names.out → file_in b name ≡ file_in a name
   -- the line of the answer is printed, and nothing else: `Done` has no line, and a revoked leaf is named with its
   -- period
-  pub told : Appends a.page.printed b.page.printed (line_of answer)
+  pub told : Appends a.page.printed b.page.printed (revoked_text u (first_revoked plan u clear))

@@ -10,3 +10,4 @@ pub mod Left
 pub mod Outcome
 pub mod Helped
 pub mod Folders
+pub mod Watched

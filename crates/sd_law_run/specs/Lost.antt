@@ -1,12 +1,14 @@
 -- Public meaning: what `receive` writes of any choice of a broadcast's packets [this project, docs/FORMATS.md,
 -- Receiver].
-use Rattle.std.specs.Prelude.{◌≡◌, ◌≢◌, ℕ, ◌+◌, ◌-◌, ◌*◌, ◌≤◌, ◌++◌, Bool, true, false, List, [], length, Some, Ok}
+use Rattle.std.specs.Prelude.{◌≡◌, ◌≢◌, ℕ, ◌+◌, ◌-◌, ◌*◌, ◌≤◌, ◌++◌, Bool, true, false, List, [], codes, length, Some, Ok}
 use Rattle.std.specs.List.{concat, list_any}
 use Rattle.std.specs.Io.KnownBytes.{Appends}
 use Rattle.sd_base.specs.Types.{Bytes, FileName, Packets, Arrived, LeafNumber, PeriodNumber}
 use Rattle.sd_site.specs.CardFields.{card_of, card_bytes}
 use Rattle.sd_spec.specs.Plan.{Plan, period_of}
 use Rattle.sd_spec.specs.Sent.{Item, sent, closing_of, broadcast}
+use Rattle.sd_spec.specs.declared.ending.Ending.{Ending}
+use Rattle.sd_spec.specs.declared.ending.Ending.TheVariants as end
 use Rattle.sd_law_losses.specs.Chosen.{chosen}
 use Rattle.sd_law_losses.specs.Kept.{after_cat, entitles}
 use Rattle.sd_law_losses.specs.Confirmed.{confirmed, opened_by, is_revoked_in}
@@ -14,7 +16,7 @@ use Rattle.sd_law_losses.specs.Endings.{ending_told}
 use Rattle.sd_law_losses.specs.Taken.{how_many}
 use Rattle.sd_command_base.specs.declared.status.Status.{Status}
 use Rattle.sd_command_base.specs.declared.status.Status.TheVariants.{Revoked}
-use Rattle.sd_command_base.specs.Texts.{line_of}
+use Rattle.sd_command_base.specs.Texts.{gaps_line, revoked_line, unclosed_line, unheard_line}
 use Rattle.sd_command_base.specs.Outside.{Outside}
 use Rattle.sd_command_base.specs.Spec.{FileArgument, Readings}
 use Rattle.sd_command_base.specs.Work.{UpTo, Work}
@@ -30,6 +32,15 @@ kept_items plan clear flags = chosen flags (sent plan clear ++ closing_of plan c
 unfoldable pub kept_periods : Plan → LeafNumber → Packets → List Item → ℕ
 kept_periods plan u clear kept =
     how_many (λ q. list_any (entitles plan.site.height u q) (after_cat kept)) (period_of plan (length clear - 1) + 1)
+
+-- the line of how a stream ends for leaf u [this project, docs/FORMATS.md, Exits]
+abbrev pub ending_line : LeafNumber → Ending → Bytes
+ending_line u end.Opened = []
+ending_line u (end.Revoked q) = revoked_line u q
+ending_line u (end.Unheard q) = unheard_line u q
+ending_line u end.NoCat = codes "no CAT for this card\n"
+ending_line u (end.Unclosed number) = unclosed_line number
+ending_line u (end.Gaps packets) = gaps_line packets
 
 -- the arguments are `receive CARD STREAM OUT`. CARD is the card of leaf u of the site, and STREAM is the packets that
 -- are kept of the broadcast of the clear stream, one after the other
@@ -76,4 +87,4 @@ pub record LossResult (names : Names) (plan : Plan) (u : LeafNumber) (clear : Pa
   pub steps : b.steps ≤ a.steps + plan.site.height * kept_periods plan u clear kept
   pub others : (name : FileName) → name ≢ names.out → file_in b name ≡ file_in a name
   -- the line of the answer is printed, and nothing else
-  pub told : Appends a.page.printed b.page.printed (line_of answer)
+  pub told : Appends a.page.printed b.page.printed (ending_line u (ending_told plan u clear kept))

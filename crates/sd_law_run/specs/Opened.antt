@@ -11,6 +11,7 @@ use Rattle.sd_law_losses.specs.Endings.{first_revoked}
 use Rattle.sd_law_losses.specs.Taken.{how_many}
 use Rattle.sd_command_base.specs.declared.status.Status.{Status}
 use Rattle.sd_command_base.specs.declared.status.Status.TheVariants.{Done, Revoked}
+use Rattle.sd_command_base.specs.Texts.{revoked_line}
 use Rattle.sd_command_base.specs.Spec.{FileArgument, Readings}
 use Rattle.sd_command_base.specs.Work.{UpTo, Work}
 use Rattle.sd_command_line.specs.Words.{ReceiveOf, order_of}
@@ -25,6 +26,11 @@ entitled_periods plan u clear =
 abbrev pub revoked_status : LeafNumber → Option PeriodNumber → Status
 revoked_status u None = Done
 revoked_status u (Some q) = Revoked u q
+
+-- the line of that: none, or that leaf u is revoked [this project, docs/FORMATS.md, Exits]
+abbrev pub revoked_text : LeafNumber → Option PeriodNumber → Bytes
+revoked_text u None = []
+revoked_text u (Some q) = revoked_line u q
 
 -- the arguments are `receive CARD STREAM OUT`. CARD is the card of leaf u of the site, and the packets of STREAM are
 -- the broadcast of the clear stream

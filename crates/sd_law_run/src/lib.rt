@@ -7,3 +7,4 @@ pub mod headline;
 pub mod helped;
 pub mod laws;
 pub mod losses;
+pub mod watching;

@@ -1,0 +1,62 @@
+//! What the one call does for `watch`: it goes on, whatever the stream is.
+ghost use Rattle.std.specs.Prelude.{◌≡◌, ◌≢◌, ◌<◌, ◌^◌, [], ◌∷◌, codes, map, string_bytes, Some};
+ghost use Rattle.std.specs.List.{concat};
+ghost use Rattle.sd_base.specs.Types.{Bytes, Packets, LeafNumber};
+ghost use Rattle.sd_site.specs.CardFields.{CardFields, IsCard, card_bytes, card_of};
+ghost use Rattle.sd_spec.specs.Plan.{Plan};
+ghost use Rattle.sd_spec.specs.Sent.{broadcast};
+ghost use Rattle.sd_spec.specs.Counting.{counting};
+ghost use Rattle.sd_command_base.specs.Outside.{Outside, outside, page_state, depot_state};
+ghost use Rattle.sd_law_run.specs.Headline.{Names, file_in, AreGiven, IsUndisturbed, card_for};
+ghost use Rattle.sd_law_run.specs.Watched.{WatchResult, WholeResult};
+
+use sd_base::Steps;
+use sd_command_base::Status;
+use sd_command_line::CommandLine;
+use sd_ports::{Depot, Sink};
+use std::alloc::Global;
+use std::sync::ledger::Ledger;
+
+/// `sd_run::run` itself, and what follows for `watch`.
+///
+/// No bytes of a stream end `watch` before the input does, but for more packets, or more bytes in no packet, than are
+/// read of a stream. Each line that it prints is the last one that it prints of the bytes before it.
+pub fn watch<D: Depot, P: Sink, L: Ledger>(
+    alloc: Global,
+    words: &[String],
+    depot: &mut D,
+    print: &mut P,
+    steps: &mut Steps<L>,
+) -> Status
+    // Over a card and any stream it makes what the card opens of the packets that count, and prints the reports.
+    ensures goes_on { (names : Names) (card : CardFields) (bytes : Bytes) →
+        map string_bytes words.now ≡ codes "watch" ∷ names.card ∷ names.stream ∷ names.out ∷ [] →
+        names.out ≢ names.card → names.out ≢ names.stream → IsCard card →
+        file_in (outside (depot_state D.Depot depot.old) (page_state P.Sink print.old) steps.old) names.card
+        ≡ Some (card_bytes card) →
+        file_in (outside (depot_state D.Depot depot.old) (page_state P.Sink print.old) steps.old) names.stream
+        ≡ Some bytes →
+        IsUndisturbed (outside (depot_state D.Depot depot.old) (page_state P.Sink print.old) steps.old)
+        (outside (depot_state D.Depot depot.new) (page_state P.Sink print.new) steps.new) result →
+        WatchResult names card bytes
+        (outside (depot_state D.Depot depot.old) (page_state P.Sink print.old) steps.old)
+        (outside (depot_state D.Depot depot.new) (page_state P.Sink print.new) steps.new) result }
+    // Over the card of a leaf and a broadcast of which all packets count it makes what the leaf is entitled to.
+    ensures watched { (names : Names) (plan : Plan) (u : LeafNumber) (clear : Packets) (z : Outside) →
+        map string_bytes words.now ≡ codes "watch" ∷ names.card ∷ names.stream ∷ names.out ∷ [] →
+        names.out ≢ names.card → names.out ≢ names.stream →
+        AreGiven z names plan clear → u < 2 ^ plan.site.height →
+        counting (card_of plan.site.master plan.site.ca plan.site.height u) [] (broadcast plan clear)
+        ≡ broadcast plan clear →
+        file_in (outside (depot_state D.Depot depot.old) (page_state P.Sink print.old) steps.old) names.card
+        ≡ Some (card_for plan.site u) →
+        file_in (outside (depot_state D.Depot depot.old) (page_state P.Sink print.old) steps.old) names.stream
+        ≡ Some (concat (broadcast plan clear)) →
+        IsUndisturbed (outside (depot_state D.Depot depot.old) (page_state P.Sink print.old) steps.old)
+        (outside (depot_state D.Depot depot.new) (page_state P.Sink print.new) steps.new) result →
+        WholeResult names plan u clear
+        (outside (depot_state D.Depot depot.old) (page_state P.Sink print.old) steps.old)
+        (outside (depot_state D.Depot depot.new) (page_state P.Sink print.new) steps.new) result }
+{
+    sd_run::run(alloc, &CommandLine::read(words), depot, print, steps)
+}
