@@ -14,3 +14,10 @@ pub mod Cutting
 pub mod Playing
 pub mod Telling
 pub mod FieldOthers
+pub mod WatchLines
+pub mod WatchedMore
+pub mod Found
+pub mod Living
+pub mod Watched
+pub mod WatchedFile
+pub mod WatchPacket

@@ -8,8 +8,8 @@ use Rattle.sd_psi.specs.declared.clear_fault.ClearFault.{ClearFault}
 use Rattle.sd_spec.specs.declared.event.Event.{Event}
 use Rattle.sd_spec.specs.Book.{sends}
 use Rattle.sd_field.specs.declared.fault.FieldFault.{FieldFault}
-use Rattle.sd_field.specs.declared.fault.FieldFault.TheVariants.{Clear, NoMemory}
-use Rattle.sd_field.specs.Fields.{FieldValue, TakesMemory, after_next, next_event, next_refusal, refusal_at, taken}
+use Rattle.sd_field.specs.declared.fault.FieldFault.TheVariants.{Clear}
+use Rattle.sd_field.specs.Fields.{FieldValue, after_next, next_refusal, refusal_at, taken}
 use Rattle.sd_field.proofs.Refused.{goes_on_clear, stops_at_first}
 use Rattle.sd_command_base.specs.declared.status.Status.{Status}
 use Rattle.sd_run_broadcasts.specs.FieldPlayed.{EventOutcome, PlayOutcome, all_done}
@@ -68,28 +68,10 @@ played_out start now next along moves =
     let is : now ≡ all_done start = v_is ∙ ap (moved_to start) end in
     (moves.0 ∙ is, subst (λ (w : FieldValue). refusal_from start.site [] (taken w) ≡ None) is along.clear)
 
--- an event that takes memory is left
-takes_some : (v : FieldValue) (event : Option Event) → next_event v ≡ event → TakesMemory v event →
-    v.done < length v.events
-takes_some v None is takes = absurd takes
-takes_some v (Some event) is takes = slice_get_within v.events v.done event is
-
 -- the next one stops the field
 pub played_short : (start now next : FieldValue) (status : Status) → IsAlong start now →
     EventOutcome now next (Err status) → PlayOutcome start next (Err status)
-played_short start now next status along (inr (out, free, takes)) =
-    let v : FieldValue = moved_to start now.done in
-    let v_is : now ≡ v = along.same in
-    let here : TakesMemory v (next_event v) =
-    subst (λ (w : FieldValue). TakesMemory w (next_event w)) v_is takes in
-    inr (
-      out,
-      now.done,
-      here,
-      goes_on_clear v (takes_some v (next_event v) refl here) (subst (λ (w : FieldValue).
-          refusal_from start.site [] (taken w) ≡ None) v_is along.clear) (subst (λ (w : FieldValue).
-          next_refusal w ≡ None) v_is free),
-    )
+played_short start now next status along (inr out) = inr out
 played_short start now next status along (inl (fault, refused, is)) =
     let v : FieldValue = moved_to start now.done in
     let v_is : now ≡ v = along.same in
@@ -117,21 +99,6 @@ none_where : (found : Option ClearFault) (more : Bool) (result : Result Bool Fie
     ((fault : ClearFault) → found ≡ Some fault → result ≡ Err (Clear fault)) → found ≡ None
 none_where None more result is h = refl
 none_where (Some fault) more result is h = absurd (let wrong = sym is ∙ h fault refl in cc)
-
--- nor does one that runs out of memory
-pub out_of_memory : (before : FieldValue) (result : Result Bool FieldFault) (calm : before.failed ≡ None) →
-    result ≡ Err NoMemory →
-    ((fault : ClearFault) → before.failed ≡ None →
-    (result ≡ Err (Clear fault)) ↔ (next_refusal before ≡ Some fault)) →
-    (result ≡ Err NoMemory → before.failed ≡ None → TakesMemory before (next_event before)) →
-    (next_refusal before ≡ None) × TakesMemory before (next_event before)
-out_of_memory before result calm is clear memory =
-    (none_out (next_refusal before) (λ fault found. sym is ∙ (clear fault calm).1 found), memory is calm)
-  where
-    none_out : (found : Option ClearFault) → ((fault : ClearFault) → found ≡ Some fault →
-        Path (Result Bool FieldFault) (Err NoMemory) (Err (Clear fault))) → found ≡ None
-    none_out None never = refl
-    none_out (Some fault) never = absurd (let wrong = never fault refl in cc)
 
 pub moved_on : (before now : FieldValue) (more : Bool) (result : Result Bool FieldFault) → result ≡ Ok more →
     before.failed ≡ None →

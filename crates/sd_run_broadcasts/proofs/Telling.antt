@@ -50,7 +50,7 @@ text_stopped view before now status (inl (fault, refused, told)) = inl (
       ∙ ap (λ (s : Status). Err s) (sym told),
   subst IsEnding (sym told) tt,
 )
-text_stopped view before now status (inr out) = inr out.0
+text_stopped view before now status (inr out) = inr out
 
 -- one whose events are all done has the text of its lines
 pub text_told : (before now : FieldValue) (text : List ℕ) → PlayOutcome before now (Ok tt) →

@@ -1,38 +1,31 @@
 -- Inner: how the events of a field are done, one after the other.
-use Rattle.std.specs.Prelude.{◌≡◌, ◌⊎◌, ◌<◌, ◌+◌, ℕ, [], Bool, true, false, length, Some, None, Result, Ok, Err}
+use Rattle.std.specs.Prelude.{◌≡◌, ◌⊎◌, ◌<◌, [], Bool, true, false, length, Some, None, Result, Ok, Err}
 use Rattle.sd_spec.specs.Refused.{refusal_from}
 use Rattle.sd_psi.specs.declared.clear_fault.ClearFault.{ClearFault}
-use Rattle.sd_field.specs.Fields.{FieldValue, TakesMemory, after_next, next_event, next_refusal, taken}
+use Rattle.sd_field.specs.Fields.{FieldValue, after_next, next_refusal, taken}
 use Rattle.sd_command_base.specs.declared.status.Status.{Status}
 use Rattle.sd_command_base.specs.declared.status.Status.TheVariants.{BadClear, NoMemory}
 use Rattle.sd_command_base.specs.declared.stream_refusal.StreamRefusal.TheVariants.{Packet}
 use Rattle.sd_run_broadcasts.specs.Field.{done_field}
 
--- one event was done, or none was left, or the clear packet that it sends is refused, or memory didn't suffice for one
--- that takes memory and sends no refused packet
+-- one event was done, or none was left, or the clear packet that it sends is refused, or memory didn't suffice
 abbrev pub EventOutcome : FieldValue → FieldValue → Result Bool Status → Type 0
 EventOutcome before now (Ok true) =
     (now ≡ after_next before) × (before.done < length before.events) × (next_refusal before ≡ None)
 EventOutcome before now (Ok false) = (now ≡ before) × (before.done ≡ length before.events)
 EventOutcome before now (Err status) =
     ((fault : ClearFault) × (next_refusal before ≡ Some fault) × (status ≡ BadClear (Packet fault)))
-    ⊎ ((status ≡ NoMemory) × (next_refusal before ≡ None) × TakesMemory before (next_event before))
-
--- this field once n of its events are done
-abbrev pub after_events : ℕ → FieldValue → FieldValue
-after_events n v = record { site = v.site; clear = v.clear; events = v.events; done = n; failed = None }
+    ⊎ (status ≡ NoMemory)
 
 -- this field once all of its events are done
 abbrev pub all_done : FieldValue → FieldValue
 all_done v = done_field v.site v.clear v.events
 
--- all events were done, or one sends the first clear packet that is refused, or memory didn't suffice for one that takes
--- memory, up to which no packet is refused
+-- all events were done, or one sends the first clear packet that is refused, or memory didn't suffice
 abbrev pub PlayOutcome : FieldValue → FieldValue → Result (Unit {0}) Status → Type 0
 PlayOutcome before now (Ok done) =
     (now ≡ all_done before) × (refusal_from before.site [] (taken (all_done before)) ≡ None)
 PlayOutcome before now (Err status) =
     ((fault : ClearFault) × (refusal_from before.site [] (taken (all_done before)) ≡ Some fault)
     × (status ≡ BadClear (Packet fault)))
-    ⊎ ((status ≡ NoMemory) × (n : ℕ) × TakesMemory (after_events n before) (next_event (after_events n before))
-    × (refusal_from before.site [] (taken (after_events (n + 1) before)) ≡ None))
+    ⊎ (status ≡ NoMemory)

@@ -5,3 +5,8 @@ pub mod Receive
 pub mod Field
 pub mod FieldPlayed
 pub mod FieldClear
+pub mod Live
+pub mod Watch
+pub mod WatchTokens
+pub mod Found
+pub mod Watched

@@ -26,13 +26,13 @@ pub fn read_plan<D: Depot>(
         (depot_state D.Depot depot.old) (depot_state D.Depot depot.new) result }
     ensures height { IfOk result (λ plan. plan.1.height ≡ plan.0.height) }
 {
-    let (site, line) = read_site(alloc, depot, site)?;
+    let (site, line) = read_with_line(alloc, depot, site)?;
     let book = read_own(alloc, depot, book, site.height, line)?;
     Ok((site, book))
 }
 
 /// The site of the word's file, and what its line 13 says of its book.
-fn read_site<D: Depot>(
+fn read_with_line<D: Depot>(
     alloc: Global,
     depot: &mut D,
     word: Word<'_>,
@@ -41,11 +41,11 @@ fn read_site<D: Depot>(
         word.entry.text.now (depot_state D.Depot depot.old) (depot_state D.Depot depot.new) result }
 {
     let bytes = read_bytes(alloc, depot, word, MOST_SITE_BYTES, LimitKind::SiteBytes)?;
-    judge_site(word.number, &bytes)
+    judge_with_line(word.number, &bytes)
 }
 
 /// The site that the bytes of this word's file say, and what its line 13 says of its book.
-fn judge_site(word: u8, bytes: &[u8]) -> Result<(Site, Option<BookLine>), Status>
+fn judge_with_line(word: u8, bytes: &[u8]) -> Result<(Site, Option<BookLine>), Status>
     ensures { SureOutcome (λ said. (fields_of said.0, said.1))
         (with_line (book_line_of bytes.now) (told_site word (site_of bytes.now))) result }
 {

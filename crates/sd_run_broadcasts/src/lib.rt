@@ -1,7 +1,8 @@
-//! The commands on a broadcast: `head` makes one, `receive` opens one, and `trial` does both over memory. `field` does
-//! both for every receiver of a site, while packets are lost and power is cut.
+//! The commands on a broadcast: `head` makes one, `receive` opens one, `watch` opens one that may be damaged, and `trial`
+//! does both over memory. `field` does both for every receiver of a site, while packets are lost and power is cut.
 #![tactic(auto)]
 
+mod ending;
 mod field_clear;
 mod field_command;
 mod field_inputs;
@@ -17,8 +18,11 @@ mod trial_lines;
 mod trial_plan;
 mod trial_prefix;
 mod trial_send;
+mod watch_command;
+mod watch_line;
 
 pub use field_command::field;
 pub use head_command::head;
 pub use receive_command::receive;
 pub use trial_command::trial;
+pub use watch_command::watch;

@@ -1,6 +1,6 @@
 use Rattle.std.proofs.Common.{Err, ap, inl, inr, refl}
 use Rattle.sd_field.specs.declared.fault.FieldFault.{FieldFault}
-use Rattle.sd_run_broadcasts.proofs.Playing.{moved_on, out_of_memory}
+use Rattle.sd_run_broadcasts.proofs.Playing.{moved_on}
 use Rattle.sd_run_broadcasts.proofs.field_play.advance.Goals as goal
 
 pub returns-in-Ok : goal.returns-in-Ok
@@ -18,9 +18,4 @@ returns-in-Err-Clear g c =
     )
 
 pub returns-in-Err-NoMemory : goal.returns-in-Err-NoMemory
-returns-in-Err-NoMemory g c =
-    let e = c.in-Err-NoMemory.ensures in
-    let asked =
-    out_of_memory c.args.field.now _ c.requires.calm (ap (λ (f : FieldFault). Err f) c.in-Err-NoMemory.field-0-is)
-    e.clear e.memory in
-    inr (refl, asked.0, asked.1)
+returns-in-Err-NoMemory g c = inr refl

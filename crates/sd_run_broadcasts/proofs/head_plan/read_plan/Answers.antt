@@ -21,7 +21,7 @@ returns-in_err-site-clause-value g c =
     (site_and_line_of_file site.number)
     (λ given said. own_book_of_file book.number said.0.height said.1 (given book)
     >>= λ commands. value (record { site = said.0; commands = commands })) site
-    (depot_state g.D.Depot c.args.depot.now) (depot_state g.D.Depot c.read_site.new.depot) c.in_err-site.field-0.0
+    (depot_state g.D.Depot c.args.depot.now) (depot_state g.D.Depot c.read_with_line.new.depot) c.in_err-site.field-0.0
     c.in_err-site.ensures)
 
 pub returns-in_err-book-clause-value : goal.returns-in_err-book-clause-value
@@ -37,7 +37,7 @@ returns-in_err-book-clause-value g c =
     (reads_second said_of (λ book. book.commands) (λ book. record { site = fields; commands = book.commands })
     (site_and_line_of_file site.number) (λ said got. own_book_of_file book.number said.0.height said.1 got)
     (λ said commands. value (record { site = said.0; commands = commands })) site book
-    (depot_state g.D.Depot c.args.depot.now) (depot_state g.D.Depot c.read_site.new.depot)
+    (depot_state g.D.Depot c.args.depot.now) (depot_state g.D.Depot c.read_with_line.new.depot)
     (depot_state g.D.Depot c.read_own.new.depot) (c.in_ok-site.site, c.in_ok-site.line) c.in_err-book.field-0.0
     c.requires
     c.in_ok-site.ensures c.in_err-book.ensures.value))
@@ -55,6 +55,6 @@ returns-clause-value g c =
     (reads_two said_of (λ book. book.commands) (λ book. record { site = fields; commands = book.commands })
     (site_and_line_of_file site.number) (λ said got. own_book_of_file book.number said.0.height said.1 got)
     (λ said commands. record { site = said.0; commands = commands }) site book
-    (depot_state g.D.Depot c.args.depot.now) (depot_state g.D.Depot c.read_site.new.depot)
+    (depot_state g.D.Depot c.args.depot.now) (depot_state g.D.Depot c.read_with_line.new.depot)
     (depot_state g.D.Depot c.read_own.new.depot) (c.in_ok-site.site, c.in_ok-site.line) c.in_ok-book.book c.requires
     c.in_ok-site.ensures c.in_ok-book.ensures.value refl)

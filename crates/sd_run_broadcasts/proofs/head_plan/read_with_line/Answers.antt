@@ -7,7 +7,7 @@ use Rattle.sd_command_base.proofs.Follow.{alone_judges, looks_first, looks_judge
 use Rattle.sd_command_base.specs.Files.{told_site, most_site_bytes}
 use Rattle.sd_run_broadcasts.specs.Head.{site_and_line_of_file, with_line}
 use Rattle.sd_run_broadcasts.proofs.Said.{said_of}
-use Rattle.sd_run_broadcasts.proofs.head_plan.read_site.Goals as goal
+use Rattle.sd_run_broadcasts.proofs.head_plan.read_with_line.Goals as goal
 
 pub returns-in_err-bytes : goal.returns-in_err-bytes
 unfolding site_and_line_of_file
@@ -21,10 +21,10 @@ returns-in_err-bytes g c =
 pub returns : goal.returns
 unfolding site_and_line_of_file
 returns g c =
-    let judged_alone = rw c.deref.ensures.value at c.judge_site.ensures in
+    let judged_alone = rw c.deref.ensures.value at c.judge_with_line.ensures in
     looks_judged (λ bytes. bytes.items) said_of (within c.args.word.number most_site_bytes SiteBytes)
     (λ bytes. with_line (book_line_of bytes) (told_site c.args.word.number (site_of bytes))) c.args.word.text.now
     (depot_state g.D.Depot c.args.depot.now) (depot_state g.D.Depot c.read_bytes.new.depot) c.in_ok-bytes.bytes
-    c.judge_site.result c.in_ok-bytes.ensures
+    c.judge_with_line.result c.in_ok-bytes.ensures
     (alone_judges said_of (with_line (book_line_of c.in_ok-bytes.bytes.items)
-    (told_site c.args.word.number (site_of c.in_ok-bytes.bytes.items))) c.judge_site.result judged_alone)
+    (told_site c.args.word.number (site_of c.in_ok-bytes.bytes.items))) c.judge_with_line.result judged_alone)

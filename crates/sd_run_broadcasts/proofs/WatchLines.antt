@@ -1,0 +1,128 @@
+-- The line of a report.
+use Rattle.std.proofs.Common.{◌≡◌, ◌<◌, ◌+◌, ◌-◌, ◌∙◌, ℕ, suc, zero, List, [], ◌∷◌, ◌++◌, length, take, refl, sym, ap, subst, arith}
+use Rattle.std.proofs.Common.{append_assoc, length-append, Option, Some, None}
+use Rattle.std.specs.Prelude.{slice_index, codes, decimal}
+use Rattle.json.specs.Token.{Token, begin_object, end_object, key as key_token, number as number_token}
+use Rattle.json.specs.Print.{print}
+use Rattle.json.specs.Tree.{json_tokens, members_tokens}
+use Rattle.serde_json.specs.Data.{Data, Members, number, unsigned, string, object, member, no_members}
+use Rattle.serde_json.specs.Written.{compact_text, members_outline, outline}
+use Rattle.serde_json.proofs.Texts.{print-outline}
+use Rattle.sd_base.specs.Types.{RunName}
+use Rattle.sd_message.specs.StreamFaults.{stream_packet}
+use Rattle.sd_message.specs.declared.stream_fault.StreamFault.{StreamFault}
+use Rattle.sd_spec.specs.declared.ending.Ending.{Ending}
+use Rattle.sd_spec.specs.declared.ending.Ending.TheVariants as end
+use Rattle.sd_spec.specs.declared.report.Report.{Report}
+use Rattle.sd_command_base.specs.declared.status.Status.{Status}
+use Rattle.sd_command_base.specs.declared.status.Status.TheVariants.{BadStream}
+use Rattle.sd_command_base.specs.declared.stream_refusal.StreamRefusal.TheVariants.{Packet}
+use Rattle.sd_command_base.specs.Texts.{line_of, revoked_line, unheard_line, unclosed_line, gaps_line, stream_line}
+use Rattle.sd_command_base.specs.Texts.{stream_text}
+use Rattle.sd_run_broadcasts.specs.Receive.{ending_status}
+use Rattle.sd_run_broadcasts.specs.Watch.{first_text, num_member, report_data, run_member, text_member, text_of}
+use Rattle.sd_run_broadcasts.specs.WatchTokens.{text_tokens, run_tokens, EndsLine, HasFeed}
+
+-- the tokens of a value are printed as its compact text
+pub printed : (value : Data) → print (json_tokens (outline value)) ≡ compact_text value
+printed value = print-outline value
+
+-- a text that may be left out
+text_first : (name text : List ℕ) (more : Members) →
+    members_tokens (members_outline (text_member name text more))
+    ≡ text_tokens name text ++ members_tokens (members_outline more)
+text_first name [] more = refl
+text_first name (byte ∷ bytes) more = refl
+
+-- a run's name that may be left out
+run_first : (run : Option RunName) (more : Members) →
+    members_tokens (members_outline (run_member run more)) ≡ run_tokens run ++ members_tokens (members_outline more)
+run_first None more = refl
+run_first (Some None) more = refl
+run_first (Some (Some run)) more = refl
+
+-- the last byte, where it is a line feed
+last_is : (front : List ℕ) → slice_index (front ++ 10 ∷ []) (length front) ≡ 10
+last_is [] = refl
+last_is (byte ∷ front) = last_is front
+
+feeds : (front line : List ℕ) → front ++ 10 ∷ [] ≡ line → EndsLine line
+feeds front line is = λ some.
+    let long : length line ≡ length front + 1 = ap length (sym is) ∙ length-append front (10 ∷ []) in
+    let at : length line - 1 ≡ length front = omega (arith, long) in
+    rw at (subst (λ (xs : List ℕ). slice_index xs (length front) ≡ 10) is (last_is front))
+
+-- bytes that end with a line feed, and others in front of them
+record Fed (line : List ℕ) : Type 0 where
+  front : List ℕ
+  is : front ++ 10 ∷ [] ≡ line
+
+line_feed : Fed (codes "\n")
+line_feed = record { front = []; is = refl }
+
+behind : {line : List ℕ} (xs : List ℕ) → Fed line → Fed (xs ++ line)
+behind xs fed =
+    record { front = xs ++ fed.front; is = append_assoc xs fed.front (10 ∷ []) ∙ ap (λ (l : List ℕ). xs ++ l) fed.is }
+
+fed : {line : List ℕ} → Fed line → EndsLine line
+fed {line} h = feeds h.front line h.is
+
+-- the line of how a stream ended ends with a line feed
+pub ending_feed : (leaf : ℕ) (ending : Ending) → HasFeed (ending_status leaf ending)
+unfolding line_of revoked_line unheard_line unclosed_line gaps_line
+ending_feed leaf end.Opened = λ some. omega (arith, some)
+ending_feed leaf (end.Revoked period) = fed (behind (codes "receiver ") (behind (decimal leaf)
+    (behind (codes " is revoked in period ") (behind (decimal period) line_feed))))
+ending_feed leaf (end.Unheard period) = fed (behind (codes "receiver ") (behind (decimal leaf)
+    (behind (codes " did not hear its entitlement for period ") (behind (decimal period) line_feed))))
+ending_feed leaf end.NoCat = fed (record { front = codes "no CAT for this card"; is = refl })
+ending_feed leaf (end.Unclosed n) =
+    fed (behind (codes "stream ends before message ") (behind (decimal n) line_feed))
+ending_feed leaf (end.Gaps n) =
+    fed (behind (decimal n) (record { front = codes " clear packets are missing"; is = refl }))
+
+-- and so does that of a packet that is refused
+pub fault_feed : (fault : StreamFault) → HasFeed (BadStream (Packet fault))
+unfolding line_of stream_line
+fault_feed fault = fed (behind (codes "stream packet ") (behind (decimal (stream_packet fault)) (behind (codes ": ")
+    (behind (stream_text fault) line_feed))))
+
+-- the tokens of the members from `marked` on
+abbrev later : ℕ → Report → Members
+later skipped report =
+    num_member (codes "marked") report.tally.marked
+    (num_member (codes "odd") report.tally.odd
+    (num_member (codes "packets") report.packets
+    (num_member (codes "refused") report.tally.refused
+    (run_member report.run
+    (num_member (codes "skipped") skipped
+    (num_member (codes "written") report.written
+    no_members))))))
+
+-- a number after others
+abbrev num_tokens : List ℕ → ℕ → List Token
+num_tokens name n = key_token name ∷ number_token (decimal n) ∷ []
+
+-- the tokens of a report, one member after another
+pub joined : (leaf skipped : ℕ) (report : Report) (a b c d e f g h i j k l : List Token) →
+    b ≡ a ++ begin_object ∷ [] →
+    c ≡ b ++ num_tokens (codes "doubled") report.tally.doubled →
+    d ≡ c ++ text_tokens (codes "ending") (text_of (ending_status leaf report.ending)) →
+    e ≡ d ++ text_tokens (codes "first") (first_text report.tally.first) →
+    f ≡ e ++ num_tokens (codes "marked") report.tally.marked →
+    g ≡ f ++ num_tokens (codes "odd") report.tally.odd →
+    h ≡ g ++ num_tokens (codes "packets") report.packets →
+    i ≡ h ++ num_tokens (codes "refused") report.tally.refused →
+    j ≡ i ++ run_tokens report.run →
+    k ≡ j ++ num_tokens (codes "skipped") skipped →
+    l ≡ k ++ num_tokens (codes "written") report.written →
+    l ++ end_object ∷ [] ≡ a ++ json_tokens (outline (report_data leaf skipped report))
+unfolding report_data
+joined leaf skipped report a b c d e f g h i j k l to_b to_c to_d to_e to_f to_g to_h to_i to_j to_k to_l =
+    let ending = text_of (ending_status leaf report.ending) in
+    let first = first_text report.tally.first in
+    let more = later skipped report in
+    rw (to_l, to_k, to_j, to_i, to_h, to_g, to_f, to_e, to_d, to_c, to_b)
+    (rw (text_first (codes "ending") ending (text_member (codes "first") first more), text_first (codes "first") first more,
+    run_first report.run (num_member (codes "skipped") skipped (num_member (codes "written") report.written no_members)))
+    (simp append_assoc))
