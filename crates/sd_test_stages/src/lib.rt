@@ -25,3 +25,5 @@ mod receive;
 mod sections;
 #[cfg(test)]
 mod segment;
+#[cfg(test)]
+mod watch;

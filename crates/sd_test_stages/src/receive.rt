@@ -25,7 +25,7 @@ const CARD: &str = "\
      c963b493c4075571946f3c3980e9d12312e36057a5c45afdecb73654e952b3c8";
 
 // The packets of a broadcast of four clear packets that an independent implementation made, up to the stuffing.
-static PACKETS: [&str; 8] = [
+pub(crate) static PACKETS: [&str; 8] = [
     "474001100001b011ffffc1000009061234e1f0e1f192f94eeb",
     ALL,
     "4741f1100080b04b0000c1000000000000000000000000000000000000008229606edb4eb380c6745a1a0ef112fb4f37fd1a5ac322f2\
@@ -66,14 +66,18 @@ fn add_packet(bytes: &mut Vec<u8>, text: &str) -> Option<()> {
     bytes.extend_from_slice(&beginning(text)?).ok()
 }
 
+// The card.
+pub(crate) fn card(alloc: Global) -> Option<Card> {
+    let file = <[u8; 252]>::from_hex(CARD).ok()?;
+    Card::read(alloc, &file).ok()
+}
+
 // The receiver with the card.
 fn receiver(alloc: Global) -> Option<Receiver>
     ensures live { IfSome result IsLive }
     ensures fresh { IfSome result (IsAfter []) }
 {
-    let file = <[u8; 252]>::from_hex(CARD).ok()?;
-    let card = Card::read(alloc, &file).ok()?;
-    match Receiver::new(alloc, card) {
+    match Receiver::new(alloc, card(alloc)?) {
         Ok(receiver) => Some(receiver),
         Err(_) => None,
     }
@@ -109,7 +113,7 @@ fn opened(alloc: Global, left_out: usize, most: usize) -> Option<Answer>
 }
 
 // Whether these are the four clear packets.
-fn are_clear(bytes: &[u8]) -> Option<bool> {
+pub(crate) fn are_clear(bytes: &[u8]) -> Option<bool> {
     Some(Sha256::digest(bytes) == <[u8; 32]>::from_hex(CLEAR).ok()?)
 }
 
@@ -158,7 +162,7 @@ fn with_wrong_ones(alloc: Global) -> Option<Vec<Packet>> {
 }
 
 // The packet of entitlements whose check value's first byte is changed.
-fn wrong(bytes: [u8; 188]) -> Option<Packet> {
+pub(crate) fn wrong(bytes: [u8; 188]) -> Option<Packet> {
     let mut bytes = bytes;
     bytes[23] ^= 1;
     let length = usize::from(u16::from_be_bytes([bytes[6], bytes[7]]) % 4096);

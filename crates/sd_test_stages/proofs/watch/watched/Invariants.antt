@@ -1,0 +1,6 @@
+use Rattle.sd_watch.specs.Watching.{IsReady}
+use Rattle.sd_test_stages.proofs.watch.watched.Given as goal
+
+-- the watcher may be given the next packet
+abbrev pub invariant-loop-packet : goal.invariant-loop-packet
+invariant-loop-packet g l = record { ready : IsReady l.watcher }

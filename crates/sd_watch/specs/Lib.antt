@@ -1,0 +1,4 @@
+pub mod Numbered
+pub mod Tallied
+pub mod Watching
+pub mod Taking
