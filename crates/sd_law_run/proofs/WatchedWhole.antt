@@ -1,8 +1,8 @@
--- What `watch` leaves of a whole broadcast of which all packets count.
-use Rattle.std.proofs.Common.{◌≡◌, ℕ, ◌-◌, ◌*◌, ◌^◌, ◌<◌, ◌++◌, Bool, false, List, [], ◌∷◌, length, reverse}
+-- What `watch` leaves of the whole broadcast of a steady clear stream.
+use Rattle.std.proofs.Common.{◌≡◌, ℕ, ◌-◌, ◌*◌, ◌^◌, ◌<◌, ◌++◌, Bool, true, false, List, [], ◌∷◌, length, reverse}
 use Rattle.std.proofs.Common.{Some, refl, sym, ap, subst, ◌∙◌, arith, append-nil}
 use Rattle.std.specs.Prelude.{min, if◌then◌else◌}
-use Rattle.std.specs.List.{concat}
+use Rattle.std.specs.List.{concat, list_any}
 use Rattle.std.specs.Io.KnownBytes.{Appends}
 use Rattle.sd_base.specs.Types.{Bytes, Packets}
 use Rattle.sd_site.specs.CardFields.{CardFields, card_of}
@@ -14,7 +14,7 @@ use Rattle.sd_spec.specs.Offered.{out_from}
 use Rattle.sd_spec.specs.Ending.{ending_of}
 use Rattle.sd_spec.specs.Taken.{taken_keys}
 use Rattle.sd_spec.specs.declared.report.Tally.{Tally}
-use Rattle.sd_spec.specs.Counting.{counting, tried_keys}
+use Rattle.sd_spec.specs.Counting.{counting, is_marked, tried_keys}
 use Rattle.sd_spec.specs.Reports.{report_of, reports, run_end}
 use Rattle.sd_law_broadcast.specs.Packets.{AreWholePackets}
 use Rattle.sd_law_broadcast.specs.Synced.{AreSynced}
@@ -25,6 +25,8 @@ use Rattle.sd_law_losses.specs.Endings.{first_revoked, whole_ending}
 use Rattle.sd_law_losses.proofs.OneRun.{AreOneRun}
 use Rattle.sd_law_losses.proofs.Theorem.{whole_ended, whole_opened}
 use Rattle.sd_law_losses.proofs.Writing.{onto}
+use Rattle.sd_law_watch.specs.Steady.{are_steady}
+use Rattle.sd_law_watch.proofs.Broadcast.{steady_counts}
 use Rattle.sd_law_watch.proofs.Trying.{few_refused, tried_are}
 use Rattle.sd_command_base.specs.declared.status.Status.{Status}
 use Rattle.sd_command_base.specs.declared.status.Status.TheVariants.{BadStream}
@@ -48,9 +50,8 @@ use Rattle.sd_law_run.proofs.Watched.{watch_part}
 use Rattle.sd_law_run.proofs.WholeTold.{joined_cut, joined_skips, none_told, one_report, run_ends, whole_one_run}
 
 module _ (names : Names) (plan : Plan) (clear : List (List ℕ)) (z : Outside) (given : AreGiven z names plan clear)
-    (u : ℕ) (leaf : u < 2 ^ plan.site.height)
-    (all : counting (card_of plan.site.master plan.site.ca plan.site.height u) [] (broadcast plan clear)
-    ≡ broadcast plan clear) where
+    (steady : are_steady clear ≡ true) (unmarked : list_any is_marked clear ≡ false) (u : ℕ)
+    (leaf : u < 2 ^ plan.site.height) where
   abbrev card : CardFields
   card = card_of plan.site.master plan.site.ca plan.site.height u
 
@@ -65,6 +66,9 @@ module _ (names : Names) (plan : Plan) (clear : List (List ℕ)) (z : Outside) (
 
   whole : AreWholePackets clear
   whole = are_whole names plan clear z given
+
+  all : counting card [] packets ≡ packets
+  all = steady_counts plan clear u is given.clear.is_clear whole leaf steady unmarked
 
   synced : AreSynced packets
   synced = broadcast_synced plan clear is given.clear.is_clear whole (are_synced names plan clear z given)

@@ -56,7 +56,7 @@ abbrev pub all_count_tally : Tally
 all_count_tally = record { marked = 0; doubled = 0; odd = 0; refused = 0; first = None }
 
 -- The result of `watch CARD STREAM OUT`, if CARD is the card of leaf u, and STREAM is the broadcast, of which all
--- packets count.
+-- packets count
 pub record WholeResult (names : Names) (plan : Plan) (u : LeafNumber) (clear : Packets) (a b : Outside)
     (answer : Status) : Type 0 where
   -- OUT is the clear packets of the periods in which the leaf isn't revoked, and no others

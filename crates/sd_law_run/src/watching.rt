@@ -1,11 +1,12 @@
 //! What the one call does for `watch`: it goes on, whatever the stream is.
-ghost use Rattle.std.specs.Prelude.{◌≡◌, ◌≢◌, ◌<◌, ◌^◌, [], ◌∷◌, codes, map, string_bytes, Some};
-ghost use Rattle.std.specs.List.{concat};
+ghost use Rattle.std.specs.Prelude.{◌≡◌, ◌≢◌, ◌<◌, ◌^◌, [], ◌∷◌, true, false, codes, map, string_bytes, Some};
+ghost use Rattle.std.specs.List.{concat, list_any};
 ghost use Rattle.sd_base.specs.Types.{Bytes, Packets, LeafNumber};
-ghost use Rattle.sd_site.specs.CardFields.{CardFields, IsCard, card_bytes, card_of};
+ghost use Rattle.sd_site.specs.CardFields.{CardFields, IsCard, card_bytes};
 ghost use Rattle.sd_spec.specs.Plan.{Plan};
 ghost use Rattle.sd_spec.specs.Sent.{broadcast};
-ghost use Rattle.sd_spec.specs.Counting.{counting};
+ghost use Rattle.sd_spec.specs.Counting.{is_marked};
+ghost use Rattle.sd_law_watch.specs.Steady.{are_steady};
 ghost use Rattle.sd_command_base.specs.Outside.{Outside, outside, page_state, depot_state};
 ghost use Rattle.sd_law_run.specs.Headline.{Names, file_in, AreGiven, IsUndisturbed, card_for};
 ghost use Rattle.sd_law_run.specs.Watched.{WatchResult, WholeResult};
@@ -41,13 +42,13 @@ pub fn watch<D: Depot, P: Sink, L: Ledger>(
         WatchResult names card bytes
         (outside (depot_state D.Depot depot.old) (page_state P.Sink print.old) steps.old)
         (outside (depot_state D.Depot depot.new) (page_state P.Sink print.new) steps.new) result }
-    // Over the card of a leaf and a broadcast of which all packets count it makes what the leaf is entitled to.
+    // Over the card of a leaf and the broadcast of a steady clear stream of which no packet is marked, it makes exactly
+    // what the leaf is entitled to, and prints one line.
     ensures watched { (names : Names) (plan : Plan) (u : LeafNumber) (clear : Packets) (z : Outside) →
         map string_bytes words.now ≡ codes "watch" ∷ names.card ∷ names.stream ∷ names.out ∷ [] →
         names.out ≢ names.card → names.out ≢ names.stream →
-        AreGiven z names plan clear → u < 2 ^ plan.site.height →
-        counting (card_of plan.site.master plan.site.ca plan.site.height u) [] (broadcast plan clear)
-        ≡ broadcast plan clear →
+        AreGiven z names plan clear → are_steady clear ≡ true → list_any is_marked clear ≡ false →
+        u < 2 ^ plan.site.height →
         file_in (outside (depot_state D.Depot depot.old) (page_state P.Sink print.old) steps.old) names.card
         ≡ Some (card_for plan.site u) →
         file_in (outside (depot_state D.Depot depot.old) (page_state P.Sink print.old) steps.old) names.stream

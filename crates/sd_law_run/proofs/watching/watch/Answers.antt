@@ -17,10 +17,11 @@ returns-clause-goes_on g c names card bytes words out stream is card_there strea
     (watch_answers names a b c.run.result out stream own) well
 
 pub returns-clause-watched : goal.returns-clause-watched
-returns-clause-watched g c names plan u clear z words out stream given within all card_there stream_there well =
+returns-clause-watched g c names plan u clear z words out stream given steady unmarked within card_there stream_there
+    well =
     let a = outside (depot_state g.D.Depot c.args.depot.now) (page_state g.P.Sink c.args.print.now) c.args.steps.now in
     let b = outside (depot_state g.D.Depot c.run.new.depot) (page_state g.P.Sink c.run.new.print) c.run.new.steps in
     let told = rw c.read.ensures at c.run.ensures.value in
     let own = subst (λ (w : List (List ℕ)). RunResult (meaning w) a b c.run.result) words told in
-    whole_part names plan clear z given u within all a b c.run.result card_there stream_there
+    whole_part names plan clear z given steady unmarked u within a b c.run.result card_there stream_there
     (watch_answers names a b c.run.result out stream own) well
