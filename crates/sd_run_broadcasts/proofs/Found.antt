@@ -1,5 +1,6 @@
 -- What was found so far of a stream, from one search to the next.
-use Rattle.std.proofs.Common.{◌≡◌, ◌<◌, ◌≤◌, ◌+◌, ◌-◌, ◌^◌, ◌∙◌, ℕ, suc, zero, Bool, true, false, List, [], ◌∷◌, ◌++◌, length, take}
+use Rattle.std.proofs.Common.{◌≡◌, ◌<◌, ◌≤◌, ◌+◌, ◌-◌, ◌^◌, ◌∙◌, ℕ, suc, zero, Bool, true, false, List, [], ◌∷◌, ◌++◌}
+use Rattle.std.proofs.Common.{length, take}
 use Rattle.std.proofs.Common.{refl, sym, ap, subst, arith, append_assoc, append-nil, length-append}
 use Rattle.std.specs.Prelude.{nat_lt, ◌&&◌, ◌||◌, if◌then◌else◌}
 use Rattle.std.proofs.lemmas.Bool.{lt-ltb, le-ltb, ltb-true, ltb-false}
@@ -15,7 +16,7 @@ found_none = record {
   behind = λ more may k.
       let same : length {A = List ℕ} [] + k ≡ k = omega arith in
       let one : skipped_before (length {A = List ℕ} [] + k) zero ([] ++ more) ≡ skipped_before k zero ([] ++ more) =
-          ap (λ (n : ℕ). skipped_before n zero more) same in
+      ap (λ (n : ℕ). skipped_before n zero more) same in
       omega (arith, one);
   few = λ more may n under. absurd (omega (arith, under));
   low = omega arith;
@@ -35,11 +36,11 @@ found_before r b w left p more s was now passed more_passed found nothing stays 
     let both = may_both b more was now nothing stays may in
     let same : length s + 0 ≡ length s = omega arith in
     let one : skipped_before (length s) zero ((r ++ b) ++ more)
-        ≡ skipped_before (length s + 0) zero (r ++ (b ++ more)) =
-        rw (same, append_assoc r b more) refl in
+    ≡ skipped_before (length s + 0) zero (r ++ (b ++ more)) =
+    rw (same, append_assoc r b more) refl in
     let two = found.behind (b ++ more) both 0 in
     let three : skipped_before 0 zero (w ++ (b ++ more)) ≡ skipped_before 0 zero ((w ++ b) ++ more) =
-        ap (skipped_before 0 zero) (sym (append_assoc w b more)) in
+    ap (skipped_before 0 zero) (sym (append_assoc w b more)) in
     let four = off.before more may in
     omega (arith, one, two, three, four)
 
@@ -67,11 +68,11 @@ found_more r b w left p s was now passed more_passed found nothing stays off low
       let both = may_both b more was now nothing stays may in
       let next : length (s ++ p ∷ []) + k ≡ length s + suc k = omega (arith, length-append s (p ∷ [])) in
       let one : skipped_before (length (s ++ p ∷ []) + k) zero ((r ++ b) ++ more)
-          ≡ skipped_before (length s + suc k) zero (r ++ (b ++ more)) =
-          rw (next, append_assoc r b more) refl in
+      ≡ skipped_before (length s + suc k) zero (r ++ (b ++ more)) =
+      rw (next, append_assoc r b more) refl in
       let two = found.behind (b ++ more) both (suc k) in
       let three : skipped_before (suc k) zero (w ++ (b ++ more)) ≡ skipped_before (suc k) zero ((w ++ b) ++ more) =
-          ap (skipped_before (suc k) zero) (sym (append_assoc w b more)) in
+      ap (skipped_before (suc k) zero) (sym (append_assoc w b more)) in
       let four = off.behind more may k in
       omega (arith, one, two, three, four);
   few = λ more may n under.
@@ -108,11 +109,11 @@ pub found_many : (r b w more : List ℕ) (s : Packets) (was now : Bool) (passed 
 found_many r b w more s was now passed k found nothing stays may many =
     let both = may_both b more was now nothing stays may in
     let one : skipped_before (length s + k) zero ((r ++ b) ++ more)
-        ≡ skipped_before (length s + k) zero (r ++ (b ++ more)) =
-        ap (skipped_before (length s + k) zero) (append_assoc r b more) in
+    ≡ skipped_before (length s + k) zero (r ++ (b ++ more)) =
+    ap (skipped_before (length s + k) zero) (append_assoc r b more) in
     let two = found.behind (b ++ more) both k in
     let three : skipped_before k zero (w ++ (b ++ more)) ≡ skipped_before k zero ((w ++ b) ++ more) =
-        ap (skipped_before k zero) (sym (append_assoc w b more)) in
+    ap (skipped_before k zero) (sym (append_assoc w b more)) in
     omega (arith, one, two, three, many)
 
 -- what was found is read, whatever comes
@@ -135,7 +136,7 @@ reads_first bytes i (p ∷ s) rest low few =
     let same : i + 0 ≡ i = omega arith in
     let here : skipped_before i zero bytes < 2 ^ 64 - 1 = rw same at (few 0 (omega arith)) in
     let later : (n : ℕ) → n < length s → skipped_before ((i + 1) + n) zero bytes < 2 ^ 64 - 1 = λ n under.
-        let at : (i + 1) + n ≡ i + suc n = omega arith in rw at (few (suc n) (omega (arith, under))) in
+    let at : (i + 1) + n ≡ i + suc n = omega arith in rw at (few (suc n) (omega (arith, under))) in
     let next : i + length (p ∷ s) ≡ (i + 1) + length s = omega arith in
     rw (lt-ltb i (2 ^ 48) (omega (arith, low)), lt-ltb (skipped_before i zero bytes) (2 ^ 64 - 1) here, next)
     (ap (λ (ps : Packets). p ∷ ps) (reads_first bytes (i + 1) s rest (omega (arith, low)) later))
@@ -165,7 +166,7 @@ readable_begins bytes s h =
     let same : 0 + length s ≡ length s = omega arith in
     let low : 0 + length s ≤ 2 ^ 48 = let l = h.low in omega (arith, l) in
     let few : (n : ℕ) → n < length s → skipped_before (0 + n) zero bytes < 2 ^ 64 - 1 = λ n under.
-        let at : 0 + n ≡ n = omega arith in rw at (h.few n under) in
+    let at : 0 + n ≡ n = omega arith in rw at (h.few n under) in
     ap (read_from bytes 0) h.cuts ∙ reads_first bytes 0 s h.rest low few
     ∙ ap (λ (n : ℕ). s ++ read_from bytes n h.rest) same
 
@@ -186,11 +187,10 @@ pub most_readable : (bytes : List ℕ) (s : Packets) (p : List ℕ) (rest : Pack
     (readable bytes ≡ s) × (is_too_long bytes ≡ true)
 unfolding is_too_long
 most_readable bytes s p rest is most few =
-    let long : length (cut bytes) ≡ length s + suc (length rest) = ap length is ∙ length-append s (p ∷ rest) in
-    (
+    let long : length (cut bytes) ≡ length s + suc (length rest) = ap length is ∙ length-append s (p ∷ rest) in (
       readable_begins bytes s (record { rest = p ∷ rest; cuts = is; low = omega (arith, most); few = few })
-      ∙ ap (λ (n : ℕ). s ++ read_from bytes n (p ∷ rest)) most
-      ∙ ap (λ (ps : Packets). s ++ ps) (none_behind bytes (p ∷ rest)) ∙ append-nil s,
+          ∙ ap (λ (n : ℕ). s ++ read_from bytes n (p ∷ rest)) most
+          ∙ ap (λ (ps : Packets). s ++ ps) (none_behind bytes (p ∷ rest)) ∙ append-nil s,
       rw (lt-ltb (2 ^ 48) (length (cut bytes)) (omega (arith, most, long))) refl,
     )
 
@@ -202,12 +202,11 @@ unfolding is_too_long
 far_readable bytes s h many =
     let same : length s + 0 ≡ length s = omega arith in
     let here : 2 ^ 64 - 1 ≤ skipped_before (length s) zero bytes = rw same at (many 0) in
-    let long : length (cut bytes) ≡ length s + length h.rest = ap length h.cuts ∙ length-append s h.rest in
-    (
+    let long : length (cut bytes) ≡ length s + length h.rest = ap length h.cuts ∙ length-append s h.rest in (
       readable_begins bytes s h
-      ∙ ap (λ (ps : Packets). s ++ ps) (none_far bytes (length s) h.rest here) ∙ append-nil s,
+          ∙ ap (λ (ps : Packets). s ++ ps) (none_far bytes (length s) h.rest here) ∙ append-nil s,
       rw long (rw (le-ltb (skipped_before (length s + length h.rest) zero bytes) (2 ^ 64 - 1) (many (length h.rest)))
-      (by (nat_lt (2 ^ 48) (length s + length h.rest)))),
+          (by (nat_lt (2 ^ 48) (length s + length h.rest)))),
     )
   where
     by : (b : Bool) → (b || true) ≡ true

@@ -21,3 +21,4 @@ pub mod Living
 pub mod Watched
 pub mod WatchedFile
 pub mod WatchPacket
+pub mod WatchOthers

@@ -1,5 +1,6 @@
 -- What comes of a file that goes into OUT while pieces are printed, with a last piece once OUT is closed.
-use Rattle.std.proofs.Common.{◌≡◌, ◌≢◌, ◌⊎◌, ℕ, ◌^◌, ◌<◌, true, false, List, [], ◌∷◌, ◌++◌, length, take, Option, Some, None}
+use Rattle.std.proofs.Common.{◌≡◌, ◌≢◌, ◌⊎◌, ℕ, ◌^◌, ◌<◌, true, false, List, [], ◌∷◌, ◌++◌, length, take, Option}
+use Rattle.std.proofs.Common.{Some, None}
 use Rattle.std.proofs.Common.{Result, Ok, Err, refl, sym, ap, subst, ◌∙◌, inl, inr, arith, append-nil}
 use Rattle.std.proofs.Common.{append_assoc}
 use Rattle.std.specs.List.{concat}
@@ -135,7 +136,6 @@ module _ (steps : StepBound) (out : FileArgument) (bytes : List ℕ) (first : Li
     (left held held' : Option (List ℕ)) (from : List ℕ) (f f' o o' : ℕ) (over closed : Result (Unit {0}) Status)
     (status : Status)
     (h : IsLive steps out bytes first line ends p q r a b c i j left held held' from f f' o o' over closed status) where
-
   abbrev pieces : List (List ℕ)
   pieces = first ++ line ∷ []
 
@@ -146,7 +146,8 @@ module _ (steps : StepBound) (out : FileArgument) (bytes : List ℕ) (first : Li
   Comes page s = Outcome (Ok work) (outside p a i) (outside r page j) s
 
   -- OUT has a prefix of its bytes
-  short : AppendsPrefix held held' bytes → IsMadeShort (record { word = out.number; name = out.text; bytes = bytes }) p r
+  short : AppendsPrefix held held' bytes →
+      IsMadeShort (record { word = out.number; name = out.text; bytes = bytes }) p r
   short prefix =
       let it = closed_short p.files q.files r.files out.text bytes held held' h.opened.files h.opened.empty prefix
       h.closes.prefix in
@@ -163,7 +164,8 @@ module _ (steps : StepBound) (out : FileArgument) (bytes : List ℕ) (first : Li
       (record { word = out.number; name = out.text; bytes = bytes }) refl (short prefix) (count, printed)
 
   -- the first pieces are so many of all
-  firsts : Appends a.printed b.printed (concat first) → Appends a.printed b.printed (concat (take (length first) pieces))
+  firsts : Appends a.printed b.printed (concat first) →
+      Appends a.printed b.printed (concat (take (length first) pieces))
   firsts printed = subst (λ (xs : List (List ℕ)). Appends a.printed b.printed (concat xs))
       (sym (take-append_seam first (line ∷ []))) printed
 
@@ -188,7 +190,8 @@ module _ (steps : StepBound) (out : FileArgument) (bytes : List ℕ) (first : Li
       exhausted refl (told_some prefix page count printed) (stops_stand other) calm missed
 
   -- printing failed
-  comes_cut : (page : PageState) → AppendsPrefix held held' bytes → AppendsPrefix a.printed page.printed (concat pieces) →
+  comes_cut : (page : PageState) → AppendsPrefix held held' bytes →
+      AppendsPrefix a.printed page.printed (concat pieces) →
       HasRisen a.faults page.faults → Comes page PrintFault
   comes_cut page prefix printed rose = cut_short work refl refl refl
       (record { word = out.number; name = out.text; bytes = bytes }) refl (short prefix) printed rose missed
@@ -235,7 +238,8 @@ module _ (steps : StepBound) (out : FileArgument) (bytes : List ℕ) (first : Li
   stopped : is_outside (status_of over) ≡ true → Comes b (status_of over) → Comes c status
   stopped is comes =
       let only = from_outside is in
-      subst (λ (page : PageState). Comes page status) (sym only.1) (subst (λ (s : Status). Comes b s) (sym only.0) comes)
+      subst (λ (page : PageState). Comes page status) (sym only.1) (subst (λ (s : Status). Comes b s) (sym only.0)
+      comes)
 
   -- the last line, behind all pieces but it
   ends_told : (s : Status) → status_of closed ≡ s → is_outside s ≡ false → status_of over ≢ DepotFault →
@@ -284,7 +288,8 @@ module _ (steps : StepBound) (out : FileArgument) (bytes : List ℕ) (first : Li
             let rose : HasRisen p.faults r.faults =
             subst (λ (n : ℕ). HasRisen n r.faults) h.opened.faults (added_later q.faults f' o' r.faults cut_off.1) in
             elim (by_break (status_of over) ending) [
-              | inl stands ↦ ends_told (status_of over) (answer ∙ stands.0) inside other prefix printed calm (λ all same.
+              | inl stands ↦ ends_told (status_of over) (answer ∙ stands.0) inside other prefix printed calm (λ all
+                  same.
                   unclosed work refl e ending stands.2 (sym (ap is_break e) ∙ stands.1)
                   (record { word = out.number; name = out.text; bytes = bytes }) refl (short prefix) all rose
                   (stops_stand other) same missed)
@@ -308,7 +313,8 @@ module _ (steps : StepBound) (out : FileArgument) (bytes : List ℕ) (first : Li
           calm))
       by (some_lived (inr device) prefix count printed calm) =
           stopped (ap is_outside device)
-          (failed device (told_some prefix b count printed) (faults_rose device) (λ breaks. stops_rose device) calm missed)
+          (failed device (told_some prefix b count printed) (faults_rose device) (λ breaks. stops_rose device) calm
+          missed)
       by (unprinted is prefix printed rose) =
           stopped (ap is_outside is) (subst (λ (x : Status). Comes b x) (sym is) (comes_cut b prefix printed rose))
 

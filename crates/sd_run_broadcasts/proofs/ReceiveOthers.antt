@@ -13,7 +13,7 @@ other_receiver : (word : ℕ) (bytes : List ℕ) → IsOther (told_card word byt
 unfolding told_card
 other_receiver word bytes = other_unless word (fault_in bytes) (card_said bytes)
 
-other_card_file : (word : ℕ) (got : Option (List ℕ)) → IsOther (card_of_file word got).result
+pub other_card_file : (word : ℕ) (got : Option (List ℕ)) → IsOther (card_of_file word got).result
 unfolding card_of_file
 other_card_file word got =
     other_after (within word most_card_bytes CardBytes got).calls (within word most_card_bytes CardBytes got).result

@@ -1,5 +1,6 @@
 -- The line of a report.
-use Rattle.std.proofs.Common.{◌≡◌, ◌<◌, ◌+◌, ◌-◌, ◌∙◌, ℕ, suc, zero, List, [], ◌∷◌, ◌++◌, length, take, refl, sym, ap, subst, arith}
+use Rattle.std.proofs.Common.{◌≡◌, ◌<◌, ◌+◌, ◌-◌, ◌∙◌, ℕ, suc, zero, List, [], ◌∷◌, ◌++◌, length, take, refl, sym, ap}
+use Rattle.std.proofs.Common.{subst, arith}
 use Rattle.std.proofs.Common.{append_assoc, length-append, Option, Some, None}
 use Rattle.std.specs.Prelude.{slice_index, codes, decimal}
 use Rattle.json.specs.Token.{Token, begin_object, end_object, key as key_token, number as number_token}
@@ -123,6 +124,10 @@ joined leaf skipped report a b c d e f g h i j k l to_b to_c to_d to_e to_f to_g
     let first = first_text report.tally.first in
     let more = later skipped report in
     rw (to_l, to_k, to_j, to_i, to_h, to_g, to_f, to_e, to_d, to_c, to_b)
-    (rw (text_first (codes "ending") ending (text_member (codes "first") first more), text_first (codes "first") first more,
-    run_first report.run (num_member (codes "skipped") skipped (num_member (codes "written") report.written no_members)))
+    (rw (
+      text_first (codes "ending") ending (text_member (codes "first") first more),
+      text_first (codes "first") first more,
+      run_first report.run (num_member (codes "skipped") skipped (num_member (codes "written") report.written
+          no_members)),
+    )
     (simp append_assoc))

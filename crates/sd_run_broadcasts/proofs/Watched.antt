@@ -1,6 +1,8 @@
 -- How a stream is watched, from one packet to the next, and to its end.
-use Rattle.std.proofs.Common.{◌≡◌, ◌⊎◌, ◌+◌, ◌*◌, ◌^◌, ◌<◌, ◌≤◌, ◌∙◌, ℕ, zero, Bool, true, false, List, [], ◌∷◌, ◌++◌, length}
-use Rattle.std.proofs.Common.{◌≢◌, ◌-◌, take, reverse, map, refl, sym, ap, subst, inl, inr, arith, append_assoc, append-nil}
+use Rattle.std.proofs.Common.{◌≡◌, ◌⊎◌, ◌+◌, ◌*◌, ◌^◌, ◌<◌, ◌≤◌, ◌∙◌, ℕ, zero, Bool, true, false, List, [], ◌∷◌, ◌++◌}
+use Rattle.std.proofs.Common.{length}
+use Rattle.std.proofs.Common.{◌≢◌, ◌-◌, take, reverse, map, refl, sym, ap, subst, inl, inr, arith, append_assoc}
+use Rattle.std.proofs.Common.{append-nil}
 use Rattle.std.proofs.Common.{length-append, Option, Some, None}
 use Rattle.std.specs.Prelude.{min, if◌then◌else◌}
 use Rattle.std.specs.List.{concat}
@@ -104,14 +106,13 @@ unfolding watched_lines reports
 lines_begin card bytes s pieces h =
     let turned = turned_reports card s h.more in
     let last = report_of card (readable bytes) ∷ [] in
-    let line = λ (report : Report). report_line card.leaf (skipped_at bytes report.packets) report in
-    (
+    let line = λ (report : Report). report_line card.leaf (skipped_at bytes report.packets) report in (
       lines_of card bytes turned ++ lines_of card bytes last,
       map-append line (turned_reports card [] (readable bytes)) last
-      ∙ ap (λ (ps : Packets). turned_lines card bytes ps ++ lines_of card bytes last) h.is
-      ∙ ap (λ (ls : List (List ℕ)). ls ++ lines_of card bytes last)
-      (turned_then card bytes s h.more ∙ ap (λ (ls : List (List ℕ)). ls ++ lines_of card bytes turned) h.lines)
-      ∙ append_assoc pieces (lines_of card bytes turned) (lines_of card bytes last),
+          ∙ ap (λ (ps : Packets). turned_lines card bytes ps ++ lines_of card bytes last) h.is
+          ∙ ap (λ (ls : List (List ℕ)). ls ++ lines_of card bytes last)
+          (turned_then card bytes s h.more ∙ ap (λ (ls : List (List ℕ)). ls ++ lines_of card bytes turned) h.lines)
+          ∙ append_assoc pieces (lines_of card bytes turned) (lines_of card bytes last),
     )
 
 steps_begin : (card : CardFields) (bytes : List ℕ) (s : Packets) (pieces : List (List ℕ)) (from to : ℕ) →
@@ -121,8 +122,9 @@ steps_begin card bytes s pieces from to h few =
     let all : tried_keys card [] (readable bytes) ≡ tried_keys card [] s + tried_keys card (counted_of card s) h.more =
     ap (tried_keys card []) h.is ∙ tried_then card s h.more in
     let times : card.height * tried_keys card [] (readable bytes)
-        ≡ card.height * tried_keys card [] s + card.height * tried_keys card (counted_of card s) h.more =
-    ap (λ (n : ℕ). card.height * n) all ∙ times_sum card.height (tried_keys card [] s) (tried_keys card (counted_of card s) h.more) in
+    ≡ card.height * tried_keys card [] s + card.height * tried_keys card (counted_of card s) h.more =
+    ap (λ (n : ℕ). card.height * n) all ∙ times_sum card.height (tried_keys card [] s) (tried_keys card (counted_of
+    card s) h.more) in
     omega (arith, few, times)
 
 -- what was written is a prefix of all
@@ -220,8 +222,8 @@ packet_found card left left' now held held' a b from to watcher waiting next was
     let low : more_skipped < 2 ^ 64 - 1 = sought.few way.found.low in
     let sum = sought.skipped in
     let found : HasFound (way.bytes ++ sought.bytes) (way.packets ++ packet ∷ []) next ended (skipped + sought.passed) =
-        found_more way.bytes sought.bytes waiting next packet way.packets was ended skipped sought.passed way.found nothing
-        still sought.finds (omega (arith, low, sum)) in
+    found_more way.bytes sought.bytes waiting next packet way.packets was ended skipped sought.passed way.found nothing
+    still sought.finds (omega (arith, low, sum)) in
     record {
       bytes = way.bytes ++ sought.bytes;
       packets = way.packets;
@@ -234,10 +236,10 @@ packet_found card left left' now held held' a b from to watcher waiting next was
           let both = may_both sought.bytes more was ended nothing still may in
           let all = (way.bytes ++ sought.bytes) ++ more in
           let before : skipped_before (length way.packets) zero all ≡ skipped + sought.passed =
-              found_before way.bytes sought.bytes waiting next packet more way.packets was ended skipped sought.passed
-              way.found nothing still may sought.finds in
+          found_before way.bytes sought.bytes waiting next packet more way.packets was ended skipped sought.passed
+          way.found nothing still may sought.finds in
           let here : skipped_at all (length way.packets) ≡ more_skipped =
-              skipped_few all (length way.packets) more_skipped (before ∙ sym sum) low in
+          skipped_few all (length way.packets) more_skipped (before ∙ sym sum) low in
           turned_then card all way.packets (packet ∷ [])
           ∙ ap (λ (ls : List (List ℕ)). ls ++ lines_of card all (turned_reports card way.packets (packet ∷ [])))
           (ap (λ (xs : List ℕ). turned_lines card xs way.packets) (append_assoc way.bytes sought.bytes more)
@@ -264,7 +266,7 @@ packet_passed card left now held held' held2 a b c from to more watcher next_wat
     status h low outcome done tries =
     let under : length h.packets < 2 ^ 48 = let n = h.counted in omega (arith, n, low) in
     let tried : IsWithinTries card h.packets packet to more =
-        subst (λ (x : CardFields). IsWithinTries x h.packets packet to more) h.same (tries h.packets h.keeps under) in
+    subst (λ (x : CardFields). IsWithinTries x h.packets packet to more) h.same (tries h.packets h.keeps under) in
     go (subst (λ (x : CardFields). PacketOutcome x h.packets packet skipped held' held2 b c next_watcher status) h.same
     (outcome h.packets h.keeps under)) tried
   where
@@ -294,11 +296,11 @@ packet_passed card left now held held' held2 a b c from to more watcher next_wat
       steps =
           let few = h.steps in
           let sum : card.height * tried_keys card [] (h.packets ++ packet ∷ [])
-              ≡ card.height * tried_keys card [] h.packets
-              + card.height * tried_keys card (counted_of card h.packets) (packet ∷ []) =
-              ap (λ (n : ℕ). card.height * n) (tried_then card h.packets (packet ∷ []))
-              ∙ times_sum card.height (tried_keys card [] h.packets)
-              (tried_keys card (counted_of card h.packets) (packet ∷ [])) in
+          ≡ card.height * tried_keys card [] h.packets
+          + card.height * tried_keys card (counted_of card h.packets) (packet ∷ []) =
+          ap (λ (n : ℕ). card.height * n) (tried_then card h.packets (packet ∷ []))
+          ∙ times_sum card.height (tried_keys card [] h.packets)
+          (tried_keys card (counted_of card h.packets) (packet ∷ [])) in
           omega (arith, few, tried, sum);
     }
 
@@ -334,16 +336,16 @@ packet_stopped card left now held held' held2 a b c from to more watcher next_wa
     status h low outcome other tries =
     let under : length h.packets < 2 ^ 48 = let n = h.counted in omega (arith, n, low) in
     let tried : IsWithinTries card h.packets packet to more =
-        subst (λ (x : CardFields). IsWithinTries x h.packets packet to more) h.same (tries h.packets h.keeps under) in
+    subst (λ (x : CardFields). IsWithinTries x h.packets packet to more) h.same (tries h.packets h.keeps under) in
     let behind = left_behind left now h.bytes h.read in
     let rest = behind.rest in
     let may : MayCome ended rest = λ is. behind.none (h.end is) in
     let long : length (h.packets ++ packet ∷ []) ≤ 2 ^ 48 =
-        omega (arith, under, length-append h.packets (packet ∷ [])) in
+    omega (arith, under, length-append h.packets (packet ∷ [])) in
     let line = line_before card skipped h.packets packet in
     let first : Begins card (h.bytes ++ rest) (h.packets ++ packet ∷ []) (h.pieces ++ line) =
-        begins_here card h.bytes waiting rest (h.packets ++ packet ∷ []) (h.pieces ++ line) ended skipped h.found may long
-        (h.lines rest may) in
+    begins_here card h.bytes waiting rest (h.packets ++ packet ∷ []) (h.pieces ++ line) ended skipped h.found may long
+    (h.lines rest may) in
     go (h.bytes ++ rest) behind.is_left first
     (subst (λ (x : CardFields). PacketOutcome x h.packets packet skipped held' held2 b c next_watcher status) h.same
     (outcome h.packets h.keeps under)) tried
@@ -356,19 +358,19 @@ packet_stopped card left now held held' held2 a b c from to more watcher next_wa
     go bytes is_left first outcome tried =
         let line = line_before card skipped h.packets packet in
         let out_all : IsPrefix (concat (counted_out card [] h.packets)
-            ++ concat (counted_out card (counted_of card h.packets) (packet ∷ []))) (watched_of card bytes) =
-            subst (λ (xs : List ℕ). IsPrefix xs (watched_of card bytes)) (out_then card h.packets (packet ∷ []))
-            (out_begins card bytes (h.packets ++ packet ∷ []) (h.pieces ++ line) first) in
+        ++ concat (counted_out card (counted_of card h.packets) (packet ∷ []))) (watched_of card bytes) =
+        subst (λ (xs : List ℕ). IsPrefix xs (watched_of card bytes)) (out_then card h.packets (packet ∷ []))
+        (out_begins card bytes (h.packets ++ packet ∷ []) (h.pieces ++ line) first) in
         let lines = lines_begin card bytes (h.packets ++ packet ∷ []) (h.pieces ++ line) first in
         let few = h.steps in
         let sum : card.height * tried_keys card [] (h.packets ++ packet ∷ [])
-            ≡ card.height * tried_keys card [] h.packets
-            + card.height * tried_keys card (counted_of card h.packets) (packet ∷ []) =
-            ap (λ (n : ℕ). card.height * n) (tried_then card h.packets (packet ∷ []))
-            ∙ times_sum card.height (tried_keys card [] h.packets)
-            (tried_keys card (counted_of card h.packets) (packet ∷ [])) in
+        ≡ card.height * tried_keys card [] h.packets
+        + card.height * tried_keys card (counted_of card h.packets) (packet ∷ []) =
+        ap (λ (n : ℕ). card.height * n) (tried_then card h.packets (packet ∷ []))
+        ∙ times_sum card.height (tried_keys card [] h.packets)
+        (tried_keys card (counted_of card h.packets) (packet ∷ [])) in
         let steps = steps_begin card bytes (h.packets ++ packet ∷ []) (h.pieces ++ line) from more first
-            (omega (arith, few, tried, sum)) in
+        (omega (arith, few, tried, sum)) in
         so bytes is_left out_all lines steps outcome
       where
         so : (bytes : List ℕ) → IsLeft left bytes →
@@ -415,15 +417,15 @@ pub search_stopped : (card : CardFields) (left left' now held held' : Option (Li
     IsUnderWay card left left' held held' a b from to watcher waiting was skipped count → count ≤ 2 ^ 48 →
     was ≡ false → LosesPrefix left' now → status ≡ DepotFault →
     WatchesLeft card left held held' a b from to watcher any status
-search_stopped card left left' now held held' a b from to watcher waiting was skipped any count status way low going lost
-    is =
+search_stopped card left left' now held held' a b from to watcher waiting was skipped any count status way low going
+    lost is =
     let behind = left_behind left now (way.bytes ++ lost.0)
-        (Consumes-trans left left' now way.bytes lost.0 way.read lost.1) in
+    (Consumes-trans left left' now way.bytes lost.0 way.read lost.1) in
     let all = lost.0 ++ behind.rest in
     let may : MayCome was all = λ end. let wrong : true ≡ false = sym end ∙ going in cc in
     let long : length way.packets ≤ 2 ^ 48 = let n = way.counted in omega (arith, n, low) in
     let first : Begins card (way.bytes ++ all) way.packets way.pieces =
-        begins_here card way.bytes waiting all way.packets way.pieces was skipped way.found may long (way.lines all may) in
+    begins_here card way.bytes waiting all way.packets way.pieces was skipped way.found may long (way.lines all may) in
     let bytes = way.bytes ++ all in
     let lines = lines_begin card bytes way.packets way.pieces first in
     record {
@@ -433,7 +435,8 @@ search_stopped card left left' now held held' a b from to watcher waiting was sk
           (short_of_all held held' _ (watched_of card bytes) way.wrote
           (out_begins card bytes way.packets way.pieces first))
           (length way.pieces)
-          (pieces_of_all a.printed b.printed way.pieces lines.0 (watched_lines card bytes) lines.1 way.printed) way.calm;
+          (pieces_of_all a.printed b.printed way.pieces lines.0 (watched_lines card bytes) lines.1 way.printed)
+          way.calm;
       steps = steps_begin card bytes way.packets way.pieces from to first way.steps;
       last = outside_last status (ap is_outside is);
     }
@@ -479,24 +482,26 @@ unfolding watched_status
 all_watched card left left' now held held' a b from to watcher waiting next was ended skipped more_skipped count status
     way low sought ends ending =
     let behind = left_behind left now (way.bytes ++ sought.bytes)
-        (Consumes-trans left left' now way.bytes sought.bytes way.read sought.reads.read) in
+    (Consumes-trans left left' now way.bytes sought.bytes way.read sought.reads.read) in
     let bytes = way.bytes ++ sought.bytes in
     let none = sought.finds.2 in
     let end : IsAtEnd now = sought.reads.end way.end sought.finds.0 in
     let is_left : IsLeft left bytes =
-        subst (IsLeft left) (ap (λ (xs : List ℕ). bytes ++ xs) (behind.none end) ∙ append-nil bytes) behind.is_left in
+    subst (IsLeft left) (ap (λ (xs : List ℕ). bytes ++ xs) (behind.none end) ∙ append-nil bytes) behind.is_left in
     let sum = sought.skipped in
     let few : more_skipped < 2 ^ 64 - 1 = sought.few way.found.low in
     let cuts : cut bytes ≡ way.packets =
-        found_all way.bytes sought.bytes waiting way.packets was skipped sought.passed way.found sought.reads.nothing none in
+    found_all way.bytes sought.bytes waiting way.packets was skipped sought.passed way.found sought.reads.nothing
+    none in
     let before : skipped_before (length way.packets) zero bytes ≡ skipped + sought.passed =
-        found_last way.bytes sought.bytes waiting way.packets was skipped sought.passed way.found sought.reads.nothing none in
+    found_last way.bytes sought.bytes waiting way.packets was skipped sought.passed way.found sought.reads.nothing
+    none in
     let long : length way.packets ≤ 2 ^ 48 = let n = way.counted in omega (arith, n, low) in
     let all = all_readable bytes way.packets cuts long (way.found.few sought.bytes sought.reads.nothing)
-        (omega (arith, before, sum, few)) in
+    (omega (arith, before, sum, few)) in
     let here : status ≡ ending_status card.leaf (ending_of card (counted_of card way.packets)) =
-        subst (λ (x : CardFields). status ≡ ending_status x.leaf (ending_of x (counted_of x way.packets))) way.same
-        (ends way.packets way.keeps) in
+    subst (λ (x : CardFields). status ≡ ending_status x.leaf (ending_of x (counted_of x way.packets))) way.same
+    (ends way.packets way.keeps) in
     let status_is : status ≡ watched_status card bytes = rw (all.1, all.0) here in
     ends_so card left left' held held' a b from to watcher waiting was skipped count way low sought.bytes
     sought.reads.nothing bytes refl is_left all.0 status status_is ending more_skipped
@@ -513,7 +518,7 @@ unfolding watched_status
 most_watched card left left' now held held' a b from to watcher waiting next was ended skipped more_skipped count packet
     status way most sought is =
     let behind = left_behind left now (way.bytes ++ sought.bytes)
-        (Consumes-trans left left' now way.bytes sought.bytes way.read sought.reads.read) in
+    (Consumes-trans left left' now way.bytes sought.bytes way.read sought.reads.read) in
     let rest = behind.rest in
     let bytes = (way.bytes ++ sought.bytes) ++ rest in
     let nothing = sought.reads.nothing in
@@ -523,16 +528,16 @@ most_watched card left left' now held held' a b from to watcher waiting next was
     let sum = sought.skipped in
     let few : more_skipped < 2 ^ 64 - 1 = sought.few way.found.low in
     let found : HasFound (way.bytes ++ sought.bytes) (way.packets ++ packet ∷ []) next ended (skipped + sought.passed) =
-        found_more way.bytes sought.bytes waiting next packet way.packets was ended skipped sought.passed way.found nothing
-        still sought.finds (omega (arith, few, sum)) in
+    found_more way.bytes sought.bytes waiting next packet way.packets was ended skipped sought.passed way.found nothing
+    still sought.finds (omega (arith, few, sum)) in
     let cuts : cut bytes ≡ way.packets ++ packet ∷ cut (next ++ rest) =
-        found.cuts rest may ∙ append_assoc way.packets (packet ∷ []) (cut (next ++ rest)) in
+    found.cuts rest may ∙ append_assoc way.packets (packet ∷ []) (cut (next ++ rest)) in
     let before : skipped_before (length way.packets) zero bytes ≡ skipped + sought.passed =
-        found_before way.bytes sought.bytes waiting next packet rest way.packets was ended skipped sought.passed way.found
-        nothing still may sought.finds in
+    found_before way.bytes sought.bytes waiting next packet rest way.packets was ended skipped sought.passed way.found
+    nothing still may sought.finds in
     let long : length way.packets ≡ 2 ^ 48 = way.counted ∙ most in
     let all = most_readable bytes way.packets packet (cut (next ++ rest)) cuts long
-        (λ n under. found.few rest may n (omega (arith, under, length-append way.packets (packet ∷ [])))) in
+    (λ n under. found.few rest may n (omega (arith, under, length-append way.packets (packet ∷ [])))) in
     let status_is : status ≡ watched_status card bytes = rw all.1 is in
     ends_so card left left' held held' a b from to watcher waiting was skipped count way (omega (arith, most))
     (sought.bytes ++ rest) both bytes (append_assoc way.bytes sought.bytes rest) behind.is_left all.0 status status_is
@@ -549,7 +554,7 @@ unfolding watched_status
 far_watched card left left' now held held' a b from to watcher waiting was skipped last count status way low sought is
     last_is =
     let behind = left_behind left now (way.bytes ++ sought.bytes)
-        (Consumes-trans left left' now way.bytes sought.bytes way.read sought.reads.read) in
+    (Consumes-trans left left' now way.bytes sought.bytes way.read sought.reads.read) in
     let rest = behind.rest in
     let bytes = (way.bytes ++ sought.bytes) ++ rest in
     let nothing = sought.reads.nothing in
@@ -558,11 +563,11 @@ far_watched card left left' now held held' a b from to watcher waiting was skipp
     let both = may_both sought.bytes rest was sought.ended nothing still may in
     let long : length way.packets ≤ 2 ^ 48 = let n = way.counted in omega (arith, n, low) in
     let many : (k : ℕ) → 2 ^ 64 - 1 ≤ skipped_before (length way.packets + k) zero bytes = λ k.
-        found_many way.bytes sought.bytes waiting rest way.packets was sought.ended skipped k way.found nothing still may
-        (sought.many rest may k) in
+    found_many way.bytes sought.bytes waiting rest way.packets was sought.ended skipped k way.found nothing still may
+    (sought.many rest may k) in
     let joined : bytes ≡ way.bytes ++ (sought.bytes ++ rest) = append_assoc way.bytes sought.bytes rest in
     let can : IsReadable bytes way.packets = subst (λ (xs : List ℕ). IsReadable xs way.packets) (sym joined)
-        (found_readable way.bytes waiting (sought.bytes ++ rest) way.packets was skipped way.found both long) in
+    (found_readable way.bytes waiting (sought.bytes ++ rest) way.packets was skipped way.found both long) in
     let all = far_readable bytes way.packets can many in
     let status_is : status ≡ watched_status card bytes = rw all.1 is in
     let same : length way.packets + 0 ≡ length way.packets = omega arith in
@@ -579,14 +584,14 @@ pub seek_stopped : (card : CardFields) (left left' now held held' : Option (List
     WatchesLeft card left held held' a b from to watcher last status
 seek_stopped card left left' now held held' a b from to watcher waiting was skipped last count seek.Read status way low
     stop is many =
-    search_stopped card left left' now held held' a b from to watcher waiting was skipped last count status way low stop.0
-    stop.1 is
+    search_stopped card left left' now held held' a b from to watcher waiting was skipped last count status way low
+    stop.0 stop.1 is
 seek_stopped card left left' now held held' a b from to watcher waiting was skipped last count seek.Write status way low
     stop is many =
-    search_stopped card left left' now held held' a b from to watcher waiting was skipped last count status way low stop.0
-    stop.1 is
-seek_stopped card left left' now held held' a b from to watcher waiting was skipped last count seek.TooLong status way low
-    stop is many =
+    search_stopped card left left' now held held' a b from to watcher waiting was skipped last count status way low
+    stop.0 stop.1 is
+seek_stopped card left left' now held held' a b from to watcher waiting was skipped last count seek.TooLong status
+    way low stop is many =
     far_watched card left left' now held held' a b from to watcher waiting was skipped last count status way low stop is
     (many refl)
 
@@ -596,7 +601,8 @@ pub handed : (card : CardFields) (left left' held : Option (List ℕ)) (old new 
     IsUnderWay card left left' held old.held a b from to watcher waiting was skipped count → new ≡ old →
     IsUnderWay card left left' held new.held a b from to watcher waiting was skipped count
 handed card left left' held old new a b from to watcher waiting was skipped count way same =
-    subst (λ (sink : SinkState). IsUnderWay card left left' held sink.held a b from to watcher waiting was skipped count)
+    subst (λ (sink : SinkState). IsUnderWay card left left' held sink.held a b from to watcher waiting was skipped
+    count)
     (sym same) way
 
 -- a status of the outside isn't that all is done

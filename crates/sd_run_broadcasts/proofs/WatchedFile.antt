@@ -1,5 +1,6 @@
 -- What comes of a stream's file that is watched into OUT, with its lines.
-use Rattle.std.proofs.Common.{◌≡◌, ◌⊎◌, ◌≤◌, ◌^◌, ◌∙◌, ℕ, Bool, true, false, List, [], ◌∷◌, ◌++◌, length, Option, Some, Result}
+use Rattle.std.proofs.Common.{◌≡◌, ◌⊎◌, ◌≤◌, ◌^◌, ◌∙◌, ℕ, Bool, true, false, List, [], ◌∷◌, ◌++◌, length, Option}
+use Rattle.std.proofs.Common.{Some, Result}
 use Rattle.std.proofs.Common.{refl, sym, ap, subst, inl, inr, map}
 use Rattle.std.proofs.lemmas.List.{map-append}
 use Rattle.sd_base.proofs.Bools.{tested}
@@ -52,33 +53,36 @@ pub watched_obeys : (card : CardFields) (stream out : FileArgument) (p q r : Dep
     IsClosed q r out.text held' f' o' over closed →
     ((line : List ℕ) → is_outside (status_of closed) ≡ true → TellsEnd line (status_of closed) b c status) →
     ((s : List (List ℕ)) → IsWatching s watcher → length s ≤ 2 ^ 48 →
-    TellsEnd (report_line (card_of watcher).leaf skipped (report_of (card_of watcher) s)) (status_of closed) b c status) →
+    TellsEnd (report_line (card_of watcher).leaf skipped (report_of (card_of watcher) s)) (status_of closed) b c
+    status) →
     OutcomeWithin (all_of stream.number (Some w.bytes) >>= λ bytes. value (watching card out bytes)) (outside p a i)
     (outside r c j) status
-watched_obeys card stream out p q r a b c i j left held held' f f' o o' watcher skipped over closed status opened cause w
-    closes untold told =
+watched_obeys card stream out p q r a b c i j left held held' f f' o o' watcher skipped over closed status opened
+    cause w closes untold told =
     let bytes = w.bytes in
     let first = turned_lines card bytes (readable bytes) in
     let line = last_line card bytes in
     let tells : TellsEnd line (status_of closed) b c status = tested (is_outside (status_of over))
-        (λ is. untold line (outside_closed over closed (elim closes.ends [
-          | inl whole ↦ inl whole.0
-          | inr short ↦ inr short.0
-        ]) is))
-        (λ inside.
-        let keeps = w.last inside in
-        subst (λ (x : CardFields). TellsEnd (report_line x.leaf (skipped_at bytes (length (readable bytes)))
-        (report_of x (readable bytes))) (status_of closed) b c status) keeps.same
-        (subst (λ (n : ℕ). TellsEnd (report_line (card_of watcher).leaf n (report_of (card_of watcher) (readable bytes)))
-        (status_of closed) b c status) keeps.skipped_is (told (readable bytes) keeps.keeps keeps.few))) in
+    (λ is. untold line (outside_closed over closed (elim closes.ends [
+      | inl whole ↦ inl whole.0
+      | inr short ↦ inr short.0
+    ]) is))
+    (λ inside.
+    let keeps = w.last inside in
+    subst (λ (x : CardFields). TellsEnd (report_line x.leaf (skipped_at bytes (length (readable bytes)))
+    (report_of x (readable bytes))) (status_of closed) b c status) keeps.same
+    (subst (λ (n : ℕ). TellsEnd (report_line (card_of watcher).leaf n (report_of (card_of watcher) (readable bytes)))
+    (status_of closed) b c status) keeps.skipped_is (told (readable bytes) keeps.keeps keeps.few))) in
     let lived : Lived (watched_of card bytes) (first ++ line ∷ []) first (watched_status card bytes) held held' a b
-        (status_of over) =
-        subst (λ (ls : List (List ℕ)). Lived (watched_of card bytes) ls first (watched_status card bytes) held held' a b
-        (status_of over)) (all_lines card bytes) w.lived in
-    let live : IsLive (UpTo (watched_steps card bytes)) out (watched_of card bytes) first line (watched_status card bytes)
-        p q r a b c i j left held held' stream.text f f' o o' over closed status =
-        record { opened = opened; cause = cause; lived = lived; closes = closes; tells = tells } in
+    (status_of over) =
+    subst (λ (ls : List (List ℕ)). Lived (watched_of card bytes) ls first (watched_status card bytes) held held' a b
+    (status_of over)) (all_lines card bytes) w.lived in
+    let live : IsLive (UpTo (watched_steps card bytes)) out (watched_of card bytes) first line (watched_status card
+    bytes)
+    p q r a b c i j left held held' stream.text f f' o o' over closed status =
+    record { opened = opened; cause = cause; lived = lived; closes = closes; tells = tells } in
     lived_obeys (UpTo (watched_steps card bytes)) out (watched_of card bytes) first line (watched_status card bytes)
-    p q r a b c i j left held held' stream.text f f' o o' over closed status live stream.number bytes (watching card out)
+    p q r a b c i j left held held' stream.text f f' o o' over closed status live stream.number bytes (watching card
+    out)
     (ap (λ (ls : List (List ℕ)). living (UpTo (watched_steps card bytes)) out (watched_of card bytes) ls
     (watched_status card bytes)) (all_lines card bytes)) w.steps

@@ -10,13 +10,14 @@ ghost use Rattle.sd_run_broadcasts.specs.Receive.{stream_meaning};
 ghost use Rattle.sd_run_broadcasts.specs.Receive.{ending_status, stopped_status};
 ghost use Rattle.sd_command_base.specs.Shown.{shown_word};
 
+use crate::ending::ending_result;
 use sd_base::Steps;
 use sd_command_base::{
     Status, StreamRefusal, Word, card_fault, close_both, open_both, read_card_bytes,
 };
 use sd_engine::{DriveFault, drive};
 use sd_ports::{Depot, Sink, Source};
-use sd_receive::{Ending, Receiver, StreamFault};
+use sd_receive::{Receiver, StreamFault};
 use sd_site::Card;
 use std::alloc::Global;
 use std::sync::ledger::Ledger;
@@ -117,15 +118,7 @@ fn ended(receiver: &Receiver) -> Result<(), Status>
     ensures value { (past : List (List ℕ)) → IsAfter past receiver.now → status_of result
         ≡ ending_status receiver.now.card.leaf (ending_of (card_in receiver.now) past) }
 {
-    let leaf = receiver.leaf().get();
-    match receiver.ending() {
-        Ending::Opened => Ok(()),
-        Ending::Revoked(period) => Err(Status::Revoked { leaf, period }),
-        Ending::Unheard(period) => Err(Status::Unheard { leaf, period }),
-        Ending::NoCat => Err(Status::NoCat),
-        Ending::Unclosed(number) => Err(Status::Unclosed(number)),
-        Ending::Gaps(packets) => Err(Status::Gaps(packets)),
-    }
+    ending_result(receiver.leaf().get(), receiver.ending())
 }
 
 /// The status of a stream that wasn't read to its end.

@@ -118,8 +118,8 @@ fn tell_end<P: Sink>(
     ensures untold { (line : List ℕ) → is_outside (status_of ended) ≡ true →
         TellsEnd line (status_of ended) (page_state P.Sink print.old) (page_state P.Sink print.new) (status_of result) }
     ensures told { (s : List (List ℕ)) → IsWatching s watcher.now → length s ≤ 2 ^ 48 →
-        TellsEnd (line_of_report (card_of watcher.now).leaf skipped (report_of (card_of watcher.now) s)) (status_of ended)
-        (page_state P.Sink print.old) (page_state P.Sink print.new) (status_of result) }
+        TellsEnd (line_of_report (card_of watcher.now).leaf skipped (report_of (card_of watcher.now) s))
+        (status_of ended) (page_state P.Sink print.old) (page_state P.Sink print.new) (status_of result) }
 {
     if let Err(Status::DepotFault | Status::PrintFault | Status::NoMemory) = ended {
         return ended;

@@ -13,8 +13,8 @@ use sd_message::StreamFault;
 use sd_spec::Report;
 use std::alloc::{AllocError, Global};
 
-/// The line of a report for the receiver of this leaf, before which `skipped` bytes were in no packet: compact JSON with
-/// the keys in ascending order, and a line feed [this project, docs/FORMATS.md, Receiver].
+/// The line of a report for the receiver of this leaf, before which `skipped` bytes were in no packet: compact JSON
+/// with the keys in ascending order, and a line feed [this project, docs/FORMATS.md, Receiver].
 #[tactic(auto, using(crate::proofs::WatchLines::printed), unfolding(crate::specs::Watch::report_line))]
 pub fn report_line(
     alloc: Global,

@@ -52,6 +52,7 @@ returns g c =
     (watched_obeys card stream out p q r (page_state g.P.Sink c.args.print.now)
     (page_state g.P.Sink c.watch_all-ended.new.print)
     (page_state g.P.Sink c.tell_end.new.print) i j _ _ _ _ _ _ _ c.watch_all-ended.new.watcher
-    c.watch_all-ended.new.skipped c.watch_all-ended.result c.close_both-closed.result (status_of c.tell_end.result) opened
+    c.watch_all-ended.new.skipped c.watch_all-ended.result c.close_both-closed.result (status_of c.tell_end.result)
+    opened
     c.watch_all-ended.ensures.cause watched c.close_both-closed.ensures c.tell_end.ensures.untold
     c.tell_end.ensures.told)
