@@ -50,7 +50,8 @@ pub completes_same : (a b : List Heard) (thing : Heard) → said a ≡ said b �
 completes_same a b thing same =
     sym (completes_said a thing) ∙ (ap (λ (p : List Heard). completes p thing) same ∙ completes_said b thing)
 
-pub run_to_same : (a b : List Heard) (part : EcmPart) → said a ≡ said b → run_to (newest a) part ≡ run_to (newest b) part
+pub run_to_same : (a b : List Heard) (part : EcmPart) → said a ≡ said b →
+    run_to (newest a) part ≡ run_to (newest b) part
 run_to_same a b part same =
     sym (run_to_said (newest a) part)
     ∙ (ap (λ (s : Stretch). run_to s part) (newest_same a b same) ∙ run_to_said (newest b) part)

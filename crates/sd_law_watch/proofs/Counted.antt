@@ -192,7 +192,7 @@ calm_first false false true fault m d o counted refused calm none = absurd (omeg
 calm_first false false false None m d o counted refused calm none = (refl, refl, refl, calm)
 calm_first false false false (Some f) m d o counted refused calm none = absurd (cc none)
 
-nothing_counts : (card : CardFields) (past : List (List ℕ)) → counting card past [] ≡ []
+pub nothing_counts : (card : CardFields) (past : List (List ℕ)) → counting card past [] ≡ []
 unfolding counting
 nothing_counts card past = refl
 

@@ -133,7 +133,8 @@ fewer_are_runs channel gs (run ∷ runs) (is, others, rest) = (
   fewer_are_runs channel (drop (length (arrived_of run)) gs) runs rest,
 )
 
-pub opened_same : (u : ℕ) (gs : List Bool) (runs : List Arrival) → opened_of_all u (fewer_of gs runs) ≡ opened_of_all u runs
+pub opened_same : (u : ℕ) (gs : List Bool) (runs : List Arrival) →
+    opened_of_all u (fewer_of gs runs) ≡ opened_of_all u runs
 opened_same u gs [] = refl
 opened_same u gs (run ∷ runs) =
     ap (λ (packets : List (List ℕ)). opened_by run.plan u run.clear ++ packets)

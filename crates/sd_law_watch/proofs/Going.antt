@@ -29,7 +29,8 @@ use Rattle.sd_law_losses.proofs.NextEndings.{onto, reversed}
 use Rattle.sd_law_watch.proofs.Counted.{none_of, counts_by, counting_one, counting_none, unbroken}
 use Rattle.sd_law_watch.proofs.Numbers.{hears_at, refused_alike}
 use Rattle.sd_law_watch.proofs.Said.{said, ending_said}
-use Rattle.sd_law_watch.proofs.Alike.{Like, Speaks, like_none, like_more, like_other, like_dropped, like_stray, turn_same}
+use Rattle.sd_law_watch.proofs.Alike.{Like, Speaks, like_none, like_more, like_other, like_dropped, like_stray}
+use Rattle.sd_law_watch.proofs.Alike.{turn_same}
 use Rattle.sd_law_watch.proofs.Alike.{speaks_emm, speaks_part, speaks_bad_emm, speaks_bad_ecm, quiet_turn}
 use Rattle.sd_law_watch.proofs.Writes.{WritesAlike, run_nothing, emm_alike, part_alike, bad_emm_alike, bad_ecm_alike}
 
@@ -469,12 +470,14 @@ step_other card tuning n past counted bare packets packet k other is before rest
     (length bare + k) other
     (ap (is_stray (heard card counted)) (sym (hears_is (length counted)))
     ∙ (sym (stray_by card tuning counted packet going.counted_tuned) ∙ odd)) going.like) [
-      | inl held ↦ step_odd card tuning n past counted bare (packet ∷ bare) packets packet (Other (length past + k) other)
+      | inl held ↦ step_odd card tuning n past counted bare (packet ∷ bare) packets packet
+          (Other (length past + k) other)
           (hears_is (length past)) refl nothing (tuned_more card tuning bare packet going.bare_tuned)
           (sound_here card bare packets packet before.bare_sound).1
           (like_is (heard_more (heard card past) (Other (length past + k) other)) (heard card counted)
           (heard_more (heard card bare) (Other (length bare + k) other))
-          (heard_more (heard card past) (Other (length past + k) other)) (heard card counted) (heard card (packet ∷ bare))
+          (heard_more (heard card past) (Other (length past + k) other)) (heard card counted)
+          (heard card (packet ∷ bare))
           refl refl (heard_by card tuning bare packet going.bare_tuned
           ∙ ap (heard_more (heard card bare)) (hears_is (length bare))) held) odd before rest
       | inr held ↦ step_odd card tuning n past counted bare bare packets packet (Other (length past + k) other)

@@ -11,3 +11,8 @@ pub mod Going
 pub mod Unrefused
 pub mod Fewer
 pub mod Losses
+pub mod Prefix
+pub mod Ordered
+pub mod Air
+pub mod Steady
+pub mod Broadcast

@@ -9,7 +9,8 @@ use Rattle.sd_message.specs.declared.emm.Emm.{Emm}
 use Rattle.sd_message.specs.EcmParts.{Message}
 use Rattle.sd_message.specs.declared.ecm_part.EcmPart.{EcmPart}
 use Rattle.sd_spec.specs.Heard.{Heard, Dropped, Entitles, Controls, BadEmm, BadEcm, Other}
-use Rattle.sd_spec.specs.Stretches.{Stretch, exceeds, counted, run_of, message_told, run_to, completed, stretched, newest}
+use Rattle.sd_spec.specs.Stretches.{Stretch, exceeds, counted, run_of, message_told, run_to, completed, stretched}
+use Rattle.sd_spec.specs.Stretches.{newest}
 use Rattle.sd_spec.specs.Stretches.{completes, messages, with_message, is_closed, period_heard, current, seen}
 use Rattle.sd_spec.specs.Runs.{run_name_heard, name_in, are_two, is_turn}
 use Rattle.sd_spec.specs.Keys.{key_in, key_at}

@@ -1,3 +1,4 @@
 pub mod LeftOut
 pub mod Tried
 pub mod Fewer
+pub mod Steady

@@ -1,25 +1,32 @@
 //! Laws on what counts of broadcasts that lose packets.
 
-ghost use Rattle.std.specs.Prelude.{◌≡◌, ◌^◌, ◌<◌, ℕ, Bool, false, List, [], ◌∷◌, map, reverse};
-ghost use Rattle.sd_base.specs.Types.{LeafNumber};
+ghost use Rattle.std.specs.Prelude.{◌≡◌, ◌^◌, ◌<◌, Bool, true, false, List, [], ◌∷◌, map, reverse};
+ghost use Rattle.std.specs.List.{list_any};
+ghost use Rattle.sd_base.specs.Types.{LeafNumber, Packets};
 ghost use Rattle.sd_site.specs.CardFields.{card_of};
+ghost use Rattle.sd_spec.specs.Plan.{Plan, IsPlan};
+ghost use Rattle.sd_spec.specs.Refused.{IsClear};
+ghost use Rattle.sd_spec.specs.Sent.{broadcast};
 ghost use Rattle.sd_spec.specs.Offered.{out_from};
 ghost use Rattle.sd_spec.specs.Ending.{ending_of};
-ghost use Rattle.sd_spec.specs.Counting.{counting};
+ghost use Rattle.sd_spec.specs.Counting.{is_marked, counting};
 ghost use Rattle.sd_spec.specs.Reports.{tally_from};
+ghost use Rattle.sd_law_broadcast.specs.Packets.{AreWholePackets};
 ghost use Rattle.sd_law_losses.specs.Chosen.{chosen};
+ghost use Rattle.sd_law_losses.specs.Confirmed.{opened_by};
+ghost use Rattle.sd_law_losses.specs.Endings.{whole_ending, first_revoked};
 ghost use Rattle.sd_spec.specs.declared.ending.Ending.TheVariants.{Opened};
 ghost use Rattle.sd_law_losses.specs.Channel.{Arrival, Channel, AreRunsOf, arriving, all_sent};
 ghost use Rattle.sd_law_losses.specs.Many.{confirmed_from, opened_of_all};
 ghost use Rattle.sd_law_losses.specs.Ends.{ending_of_all, whole_ending_of};
 ghost use Rattle.sd_law_losses.specs.Together.{joined_to};
 ghost use Rattle.sd_law_watch.specs.Fewer.{AreFewerOf};
+ghost use Rattle.sd_law_watch.specs.Steady.{are_steady};
 
 /// What doesn't count of broadcasts of one channel that follow one another is as if it had not arrived: what counts is
 /// what arrives of fewer packets of them. So only clear packets that the leaf is entitled to are written, in order, and
 /// what is written is what the messages that count confirm. If no packet is marked or doubled, exactly as much is
 /// written as if all counted, with the same ending. None of the packets is refused.
-#[tactic(auto, using(crate::proofs::Losses::counts_as_fewer, crate::proofs::Losses::true_packets, crate::proofs::Losses::written_as_ever, crate::proofs::Losses::ends_as_ever, crate::proofs::Losses::none_is_refused))]
 pub fn losses_of_runs_are_watched()
     ensures lost { (channel : Channel) (runs : List Arrival) (u : LeafNumber) → AreRunsOf channel runs →
         u < 2 ^ channel.height →
@@ -72,4 +79,27 @@ pub fn whole_runs_are_watched()
         ending_of (card_of channel.master channel.ca channel.height u)
         (reverse (counting (card_of channel.master channel.ca channel.height u) [] (all_sent (run ∷ runs))))
         ≡ joined_to Opened (map (whole_ending_of u) (run ∷ runs)) }
+{}
+
+/// Of a whole broadcast of a steady clear stream of which no packet is marked, all packets count. So exactly the clear
+/// packets are written that the leaf is entitled to, and it ends opened, or as revoked in the first period of the
+/// broadcast in which the leaf is.
+pub fn steady_broadcasts_are_watched()
+    ensures counts { (plan : Plan) (clear : Packets) (u : LeafNumber) → IsPlan plan → IsClear plan.site clear →
+        AreWholePackets clear → u < 2 ^ plan.site.height → are_steady clear ≡ true →
+        list_any is_marked clear ≡ false →
+        counting (card_of plan.site.master plan.site.ca plan.site.height u) [] (broadcast plan clear)
+        ≡ broadcast plan clear }
+    ensures out { (plan : Plan) (clear : Packets) (u : LeafNumber) → IsPlan plan → IsClear plan.site clear →
+        AreWholePackets clear → u < 2 ^ plan.site.height → are_steady clear ≡ true →
+        list_any is_marked clear ≡ false →
+        out_from (card_of plan.site.master plan.site.ca plan.site.height u) []
+        (counting (card_of plan.site.master plan.site.ca plan.site.height u) [] (broadcast plan clear))
+        ≡ opened_by plan u clear }
+    ensures ending { (plan : Plan) (clear : Packets) (u : LeafNumber) → IsPlan plan → IsClear plan.site clear →
+        AreWholePackets clear → u < 2 ^ plan.site.height → are_steady clear ≡ true →
+        list_any is_marked clear ≡ false →
+        ending_of (card_of plan.site.master plan.site.ca plan.site.height u)
+        (reverse (counting (card_of plan.site.master plan.site.ca plan.site.height u) [] (broadcast plan clear)))
+        ≡ whole_ending (first_revoked plan u clear) }
 {}

@@ -1,6 +1,6 @@
 //! Laws on what counts of any packets.
 
-ghost use Rattle.std.specs.Prelude.{◌≡◌, ◌≢◌, ◌+◌, ◌≤◌, ℕ, Bool, true, false, List, [], ◌∷◌, ◌++◌, length, reverse};
+ghost use Rattle.std.specs.Prelude.{◌≡◌, ◌≢◌, ◌+◌, ◌≤◌, Bool, true, false, [], ◌∷◌, ◌++◌, length, reverse};
 ghost use Rattle.std.specs.Prelude.{None, Some, All, Contains};
 ghost use Rattle.sd_base.specs.Types.{Packet, Packets, Arrived, PacketNumber};
 ghost use Rattle.sd_site.specs.CardFields.{CardFields};
@@ -35,7 +35,6 @@ pub fn undamaged_streams_count()
 /// Odd packets cost nothing. If a receiver refuses nothing of a stream, whatever else of it is lost, and nothing of it
 /// is marked or doubled, what counts is written as the whole stream is, with the same ending. Also if some of it is
 /// marked or doubled, nothing is refused, and keys are tried only of sections that count.
-#[tactic(auto, using(crate::proofs::Going::same_out, crate::proofs::Going::same_ending, crate::proofs::Unrefused::none_refused, crate::proofs::Unrefused::tried_as_taken))]
 pub fn odd_packets_cost_nothing()
     ensures out { (card : CardFields) (packets : Packets) →
         ((flags : Arrived) → break_from card [] (chosen flags packets) ≡ None) →
@@ -65,7 +64,6 @@ pub fn what_is_refused_is_lost()
 
 /// A packet that comes again, as any other that doesn't count, changes nothing of what counts before and behind it. Nor
 /// does a group of at most 15 scrambled packets that count if some of them come again behind it, in any order.
-#[tactic(auto, using(crate::proofs::Counted::one_left_out, crate::proofs::Counted::copy_left_out, crate::proofs::Copies::group_again))]
 pub fn copies_change_nothing()
     ensures uncounted { (card : CardFields) (before after : Packets) (packet : Packet) →
         counts card (reverse (counting card [] before)) packet ≡ false →
