@@ -1,4 +1,4 @@
--- Clear packets that differ only in what head doesn't read come to the same positions, kinds and messages.
+-- Clear packets that differ only in what the head end doesn't read come to the same positions, kinds and messages.
 use Rattle.std.proofs.Common.{◌≡◌, refl, ℕ, zero, suc, ◌==◌, ◌++◌, Bool, true, false, List, [], ◌∷◌, length, map}
 use Rattle.std.proofs.Common.{Option, Some, ap, ◌∙◌, arith}
 use Rattle.std.specs.Prelude.{if◌then◌else◌, nat_lt, nat_eq, find, reverse, slice_index, get_or, take}
@@ -22,7 +22,7 @@ use Rattle.sd_spec.specs.Messages.{places_after, message_at}
 use Rattle.sd_spec.specs.Carried.{place_after}
 use Rattle.sd_law_contained.proofs.Masks.{counter_by}
 
--- two packets that differ only in what head doesn't read
+-- two packets that differ only in what the head end doesn't read
 pub record IsAlike (packet other : List ℕ) : Type 0 where
   pub pid : pid_of other ≡ pid_of packet
   pub fourth : slice_index other 3 ≡ slice_index packet 3
@@ -161,8 +161,8 @@ same_pat : (packet other : List ℕ) → IsAlike packet other → is_current_pat
 unfolding is_current_pat
 same_pat packet other is = tested (pid_of packet == 0)
     (λ here.
-      let zero : pid_of packet ≡ 0 = grind (arith, nat_tests, here) in
-      ap is_current_pat (is.table zero))
+    let zero : pid_of packet ≡ 0 = grind (arith, nat_tests, here) in
+    ap is_current_pat (is.table zero))
     (λ off. rw (is.pid, off) refl)
 
 found_by : (here : Bool) (packet other : List ℕ) (rest more : Option (List ℕ)) → is_current_pat packet ≡ here →
@@ -182,7 +182,8 @@ found_same (packet ∷ packets) [] are = absurd are
 found_same (packet ∷ packets) (other ∷ others) are =
     ap {B = Option (List ℕ)} (λ (test : Bool). if test then Some other else find is_current_pat others)
     (same_pat packet other are.0)
-    ∙ found_by (is_current_pat packet) packet other (find is_current_pat packets) (find is_current_pat others) refl are.0
+    ∙ found_by (is_current_pat packet) packet other (find is_current_pat packets) (find is_current_pat others) refl
+    are.0
     (found_same packets others are.1)
 
 same_pmts : (packets others : List (List ℕ)) → AreAlike packets others → pmts_in others ≡ pmts_in packets

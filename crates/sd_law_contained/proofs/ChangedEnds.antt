@@ -1,5 +1,6 @@
--- Broadcasts of which bits are changed that head doesn't read end as they were sent.
-use Rattle.std.proofs.Common.{◌≡◌, refl, ℕ, suc, ◌+◌, ◌-◌, ◌*◌, ◌&&◌, ◌||◌, Bool, false, not, List, [], ◌∷◌, length, map}
+-- Broadcasts of which bits are changed that the head end doesn't read end as they were sent.
+use Rattle.std.proofs.Common.{◌≡◌, refl, ℕ, suc, ◌+◌, ◌-◌, ◌*◌, ◌&&◌, ◌||◌, Bool, false, not, List, [], ◌∷◌, length}
+use Rattle.std.proofs.Common.{map}
 use Rattle.std.proofs.Common.{reverse, Option, ap, sym, ◌∙◌}
 use Rattle.std.specs.Prelude.{◌<◌, ◌^◌, if◌then◌else◌, find, min}
 use Rattle.std.specs.List.{list_any, range_with_len}
@@ -26,7 +27,8 @@ use Rattle.sd_law_contained.proofs.Endings.{find_same}
 use Rattle.sd_law_contained.proofs.Alike.{alike_length}
 use Rattle.sd_law_contained.proofs.Changing.{all_alike, item_changed, items_changed}
 use Rattle.sd_law_contained.proofs.Running.{runs_taken, arrive_changed}
-use Rattle.sd_law_contained.proofs.Confirming.{any_same, all_same, arrived_one, arrived_same, entitles_same, things_kept}
+use Rattle.sd_law_contained.proofs.Confirming.{any_same, all_same, arrived_one, arrived_same, entitles_same}
+use Rattle.sd_law_contained.proofs.Confirming.{things_kept}
 use Rattle.sd_law_contained.proofs.Confirming.{cat_items, cat_same, has_cat_same, confirmed_one}
 
 -- as many are confirmed
@@ -79,16 +81,16 @@ unfolding closed_told
 closed_same plan u clear other masks kept m n long same =
     let these : List Item = items_changed masks kept in
     let revoked : find (λ q. is_untold plan u these q && has_all plan these q) (periods_arrived plan other these)
-        ≡ find (λ q. is_untold plan u kept q && has_all plan kept q) (periods_arrived plan clear kept) =
-        find_same (λ q. is_untold plan u these q && has_all plan these q)
-        (λ q. is_untold plan u kept q && has_all plan kept q) (both_same masks plan u kept)
-        (periods_arrived plan other these)
-        ∙ ap (find (λ q. is_untold plan u kept q && has_all plan kept q)) (periods_same plan clear other masks kept long) in
+    ≡ find (λ q. is_untold plan u kept q && has_all plan kept q) (periods_arrived plan clear kept) =
+    find_same (λ q. is_untold plan u these q && has_all plan these q)
+    (λ q. is_untold plan u kept q && has_all plan kept q) (both_same masks plan u kept)
+    (periods_arrived plan other these)
+    ∙ ap (find (λ q. is_untold plan u kept q && has_all plan kept q)) (periods_same plan clear other masks kept long) in
     let unheard : find (is_untold plan u these) (periods_arrived plan other these)
-        ≡ find (is_untold plan u kept) (periods_arrived plan clear kept) =
-        find_same (is_untold plan u these) (is_untold plan u kept) (untold_same masks plan u kept)
-        (periods_arrived plan other these)
-        ∙ ap (find (is_untold plan u kept)) (periods_same plan clear other masks kept long) in
+    ≡ find (is_untold plan u kept) (periods_arrived plan clear kept) =
+    find_same (is_untold plan u these) (is_untold plan u kept) (untold_same masks plan u kept)
+    (periods_arrived plan other these)
+    ∙ ap (find (is_untold plan u kept)) (periods_same plan clear other masks kept long) in
     ap (λ (q : Option ℕ). ending_with q (find (is_untold plan u these) (periods_arrived plan other these))
     (length other - m)) revoked
     ∙ (ap (λ (q : Option ℕ). ending_with (find (λ x. is_untold plan u kept x && has_all plan kept x)
@@ -152,7 +154,7 @@ one_end tuned u one whole harmless =
     let other : List (List ℕ) = all_changed one.run.clear one.masks in
     let kept : List Item = kept_of_arrival tuned one.run in
     let is_kept : kept_of_arrival tuned (run_changed one) ≡ items_changed one.masks kept =
-        things_kept tuned one whole harmless in
+    things_kept tuned one whole harmless in
     ap (ending_told one.run.plan u other) is_kept
     ∙ told_same one.run.plan u one.run.clear other one.masks kept
     (alike_length one.run.clear other (all_alike [] one.run.clear one.masks harmless))

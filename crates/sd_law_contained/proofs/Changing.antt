@@ -1,5 +1,5 @@
--- The broadcast of a clear stream of which bits are changed that head doesn't read is the broadcast with the same bits
--- changed.
+-- The broadcast of a clear stream of which bits are changed that the head end doesn't read is the broadcast with the
+-- same bits changed.
 use Rattle.std.proofs.Common.{◌≡◌, refl, ℕ, zero, suc, ◌+◌, ◌-◌, ◌/◌, ◌%◌, ◌==◌, ◌++◌, Bool, true, false, List, [], ◌∷◌}
 use Rattle.std.proofs.Common.{length, map, ap, sym, ◌∙◌, inl, inr, arith, append_assoc, length-append}
 use Rattle.std.specs.Prelude.{if◌then◌else◌, get_or, count_by, filter}
@@ -24,7 +24,8 @@ use Rattle.sd_spec.specs.Sent.{sent_from, sent, closing_of, is_alike, packet_of,
 use Rattle.sd_law_broadcast.specs.Packets.{IsWholePacket, AreWholePackets}
 use Rattle.sd_law_contained.specs.Changed.{changed_by, all_changed, IsHarmless, AreHarmless, mask_of}
 use Rattle.sd_law_contained.proofs.Masks.{changed_none, fourth_stays, laid_changed}
-use Rattle.sd_law_contained.proofs.Alike.{IsAlike, AreAlike, alike_length, alike_more, same_place, same_message, same_kind}
+use Rattle.sd_law_contained.proofs.Alike.{IsAlike, AreAlike, alike_length, alike_more, same_place, same_message}
+use Rattle.sd_law_contained.proofs.Alike.{same_kind}
 
 -- a harmless mask leaves a packet alike
 pub harmless_alike : (before : List (List ℕ)) (packet mask : List ℕ) → IsHarmless before packet mask →
@@ -54,8 +55,11 @@ carried_by Pmt site before after packet mask are long is table =
     let none = table refl in
     rw none (ap (pmt_carried site) (changed_none packet) ∙ sym (changed_none (pmt_carried site packet)))
 carried_by Scrambled site before after packet mask are long is table =
-    rw (alike_length before after are, same_place before after packet (changed_by packet mask) are
-    (harmless_alike before packet mask is))
+    rw (
+      alike_length before after are,
+      same_place before after packet (changed_by packet mask) are
+          (harmless_alike before packet mask is),
+    )
     (laid_changed packet mask (control_word_of site.master (word_of site (length before))) (place_after before packet)
     (control_of (parity_of (word_of site (length before)))) long is.fourth is.pid is.start)
 
@@ -82,7 +86,8 @@ emms_stay : (masks : List (List ℕ)) (emms : List Emm) → items_changed masks 
 emms_stay masks [] = refl
 emms_stay masks (emm ∷ emms) = ap (λ (items : List Item). Entitles emm ∷ items) (emms_stay masks emms)
 
-parts_stay : (masks : List (List ℕ)) (parts : List EcmPart) → items_changed masks (map Controls parts) ≡ map Controls parts
+parts_stay : (masks : List (List ℕ)) (parts : List EcmPart) → items_changed masks (map Controls parts) ≡ map Controls
+    parts
 parts_stay masks [] = refl
 parts_stay masks (part ∷ parts) = ap (λ (items : List Item). Controls part ∷ items) (parts_stay masks parts)
 
@@ -136,14 +141,15 @@ added_changed plan before after done masks packet mask are long is place =
     let last : List Item = Carries n (carried plan.site before packet) ∷ [] in
     let here : get_or all n [] ≡ mask = mask_here done masks mask n place in
     let is_last : Carries (length after) (carried plan.site after (changed_by packet mask)) ∷ []
-        ≡ items_changed all last =
-        ap (λ (k : ℕ). Carries k (carried plan.site after (changed_by packet mask)) ∷ []) (alike_length before after are)
-        ∙ (ap (λ (p : List ℕ). Carries n p ∷ []) (carried_changed plan.site before after packet mask are long is)
-        ∙ ap (λ (m : List ℕ). Carries n (changed_by (carried plan.site before packet) m) ∷ []) (sym here)) in
+    ≡ items_changed all last =
+    ap (λ (k : ℕ). Carries k (carried plan.site after (changed_by packet mask)) ∷ []) (alike_length before after are)
+    ∙ (ap (λ (p : List ℕ). Carries n p ∷ []) (carried_changed plan.site before after packet mask are long is)
+    ∙ ap (λ (m : List ℕ). Carries n (changed_by (carried plan.site before packet) m) ∷ []) (sym here)) in
     ap (λ (k : ℕ). tables_before plan k ++ (message_before plan after
     ++ Carries (length after) (carried plan.site after (changed_by packet mask)) ∷ [])) (alike_length before after are)
     ∙ (ap (λ (items : List Item). tables ++ (items
-    ++ Carries (length after) (carried plan.site after (changed_by packet mask)) ∷ [])) (message_same plan before after are)
+    ++ Carries (length after) (carried plan.site after (changed_by packet mask)) ∷ [])) (message_same plan before
+    after are)
     ∙ (ap (λ (items : List Item). tables ++ (message ++ items)) is_last
     ∙ (ap (λ (items : List Item). items ++ (message ++ items_changed all last)) (sym (tables_stay all plan n))
     ∙ (ap (λ (items : List Item). items_changed all tables ++ (items ++ items_changed all last))
@@ -164,9 +170,9 @@ sent_changed plan (packet ∷ clear) (mask ∷ masks) before after done are whol
     let one = All-head IsWholePacket packet clear whole in
     let rest = All-tail IsWholePacket packet clear whole in
     let more = sent_changed plan clear masks (before ++ packet ∷ []) (after ++ changed_by packet mask ∷ [])
-        (done ++ mask ∷ []) (alike_more before after (packet ∷ []) (changed_by packet mask ∷ []) are
-        (harmless_alike before packet mask harmless.0, tt)) rest harmless.1
-        (length-append done (mask ∷ []) ∙ (ap (λ (n : ℕ). n + 1) place ∙ sym (length-append before (packet ∷ [])))) in
+    (done ++ mask ∷ []) (alike_more before after (packet ∷ []) (changed_by packet mask ∷ []) are
+    (harmless_alike before packet mask harmless.0, tt)) rest harmless.1
+    (length-append done (mask ∷ []) ∙ (ap (λ (n : ℕ). n + 1) place ∙ sym (length-append before (packet ∷ [])))) in
     let these : (done ++ mask ∷ []) ++ masks ≡ all = append_assoc done (mask ∷ []) masks in
     ap (λ (items : List Item). items ++ sent_from plan (after ++ changed_by packet mask ∷ []) (all_changed clear masks))
     (added_changed plan before after done masks packet mask are one.long harmless.0 place)
@@ -189,7 +195,7 @@ unfolding closing_of tables_at
 closing_stays masks plan clear =
     let message : Message = message_at plan clear (closing_number plan.site (length clear)) (length clear - 1) true in
     let tables : List Item =
-        if length clear == 0 then Cat ∷ map Entitles (emms_of (period_at plan (period_of plan 0))) else [] in
+    if length clear == 0 then Cat ∷ map Entitles (emms_of (period_at plan (period_of plan 0))) else [] in
     map-append (item_changed masks) tables (map Controls (parts_of message))
     ∙ (ap (λ (items : List Item). items ++ items_changed masks (map Controls (parts_of message)))
     (tables_by masks (length clear == 0) (emms_of (period_at plan (period_of plan 0))))
@@ -210,7 +216,8 @@ things_changed plan clear masks whole harmless =
     ∙ sym (map-append (item_changed masks) (sent plan clear) (closing_of plan clear)))
 
 -- their packets
-alike_stays : (masks : List (List ℕ)) (item other : Item) → is_alike item (item_changed masks other) ≡ is_alike item other
+alike_stays : (masks : List (List ℕ)) (item other : Item) → is_alike item (item_changed masks other) ≡ is_alike item
+    other
 alike_stays masks item Cat = refl
 alike_stays masks item (Entitles emm) = refl
 alike_stays masks item (Controls part) = refl
@@ -267,7 +274,7 @@ packets_changed masks site earlier (item ∷ items) =
 
 pub broadcast_changed : (plan : Plan) (clear masks : List (List ℕ)) → AreWholePackets clear →
     AreHarmless [] clear masks →
-    broadcast plan (all_changed clear masks) 
+    broadcast plan (all_changed clear masks)
     ≡ all_changed (broadcast plan clear) (map (mask_of masks) (things plan clear))
 unfolding broadcast
 broadcast_changed plan clear masks whole harmless =

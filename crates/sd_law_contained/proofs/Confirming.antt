@@ -1,5 +1,6 @@
 -- Of a changed clear stream the same packets are confirmed.
-use Rattle.std.proofs.Common.{◌≡◌, refl, ℕ, zero, suc, ◌+◌, ◌-◌, ◌*◌, ◌/◌, ◌^◌, ◌<◌, ◌==◌, ◌&&◌, ◌||◌, ◌++◌, Bool, true, false, not, List}
+use Rattle.std.proofs.Common.{◌≡◌, refl, ℕ, zero, suc, ◌+◌, ◌-◌, ◌*◌, ◌/◌, ◌^◌, ◌<◌, ◌==◌, ◌&&◌, ◌||◌, ◌++◌, Bool}
+use Rattle.std.proofs.Common.{true, false, not, List}
 use Rattle.std.proofs.Common.{[], ◌∷◌, length, map, Option, Some, None, ap, sym, ◌∙◌}
 use Rattle.std.specs.Prelude.{if◌then◌else◌, nat_le, get_or, take, filter, min}
 use Rattle.std.specs.List.{list_any, list_all, range_with_len}
@@ -16,7 +17,8 @@ use Rattle.sd_law_broadcast.specs.Packets.{AreWholePackets}
 use Rattle.sd_law_losses.specs.Chosen.{chosen}
 use Rattle.sd_law_losses.specs.Kept.{after_cat, is_carried, is_kept, kept_in, is_part, has_parts, has_arrived, arrived}
 use Rattle.sd_law_losses.specs.Kept.{greatest_at_most, least_above, entitles, is_last_part, is_entitled_before}
-use Rattle.sd_law_losses.specs.Confirmed.{packet_at, packets_at, upto, kept_between, is_open, tracked_position, is_traced}
+use Rattle.sd_law_losses.specs.Confirmed.{packet_at, packets_at, upto, kept_between, is_open, tracked_position}
+use Rattle.sd_law_losses.specs.Confirmed.{is_traced}
 use Rattle.sd_law_losses.specs.Confirmed.{is_written_between, between, is_confirmed_at, confirmed}
 use Rattle.sd_law_losses.specs.Channel.{Channel, AreRunsOf}
 use Rattle.sd_law_losses.specs.Many.{flags_after, kept_of_arrival, has_cat, confirmed_from}
@@ -66,7 +68,8 @@ all_same f g [] each = refl
 all_same f g (x ∷ xs) each =
     ap (λ (b : Bool). b && list_all f xs) (each x) ∙ ap (λ (b : Bool). g x && b) (all_same f g xs each)
 
-carried_same : (masks : List (List ℕ)) (j : ℕ) (item : Item) → is_carried j (item_changed masks item) ≡ is_carried j item
+carried_same : (masks : List (List ℕ)) (j : ℕ) (item : Item) → is_carried j (item_changed masks item) ≡ is_carried j
+    item
 carried_same masks j Cat = refl
 carried_same masks j (Entitles emm) = refl
 carried_same masks j (Controls part) = refl
@@ -218,7 +221,8 @@ written_same plan u clear other masks kept j a b are =
     (is_traced plan clear kept a b (pid_of (packet_at clear j)))
     (is_traced plan other (items_changed masks kept) a b (pid_of (packet_at other j)))
     (open_same plan u clear other masks kept a b are)
-    (same_kind (take j clear) (take j other) (packet_at clear j) (packet_at other j) (alike_first j clear other are) alike)
+    (same_kind (take j clear) (take j other) (packet_at clear j) (packet_at other j) (alike_first j clear other are)
+    alike)
     (ap (is_traced plan other (items_changed masks kept) a b) alike.pid
     ∙ traced_same plan clear other masks kept a b (pid_of (packet_at clear j)) are)
 
@@ -236,9 +240,9 @@ confirmed_at plan u clear other masks kept j are =
     let k : ℕ = j / plan.site.every in
     let these : List Item = items_changed masks kept in
     let messages : arrived (closing_number plan.site (length other)) these
-        ≡ arrived (closing_number plan.site (length clear)) kept =
-        ap (λ (n : ℕ). arrived (closing_number plan.site n) these) (alike_length clear other are)
-        ∙ arrived_same masks kept (closing_number plan.site (length clear)) in
+    ≡ arrived (closing_number plan.site (length clear)) kept =
+    ap (λ (n : ℕ). arrived (closing_number plan.site n) these) (alike_length clear other are)
+    ∙ arrived_same masks kept (closing_number plan.site (length clear)) in
     ap (λ (b : Bool). b && between
     (greatest_at_most k (arrived (closing_number plan.site (length other)) these))
     (least_above k (arrived (closing_number plan.site (length other)) these)) (is_written_between plan u other these j))
@@ -288,7 +292,7 @@ confirmed_one tuned u one whole harmless =
     let are = all_alike [] clear masks harmless in
     let kept : List Item = after_cat (kept_of_arrival tuned one.run) in
     let is_kept : after_cat (kept_of_arrival tuned (run_changed one)) ≡ items_changed masks kept =
-        ap after_cat (things_kept tuned one whole harmless) ∙ cat_items masks (kept_of_arrival tuned one.run) in
+    ap after_cat (things_kept tuned one whole harmless) ∙ cat_items masks (kept_of_arrival tuned one.run) in
     ap (λ (items : List Item). packets_at other (filter (is_confirmed_at plan u other items)
     (range_with_len 0 (length other)))) is_kept
     ∙ (ap (λ (n : ℕ). packets_at other (filter (is_confirmed_at plan u other (items_changed masks kept))
@@ -317,7 +321,7 @@ pub confirmed_all : (channel : Channel) (tuned : Bool) (u : ℕ) (damaged : List
 confirmed_all channel tuned u [] are harmless = refl
 confirmed_all channel tuned u (one ∷ more) are harmless =
     let first : List (List ℕ) = all_changed (confirmed one.run.plan u one.run.clear (kept_of_arrival tuned one.run))
-        (masks_confirmed tuned u one) in
+    (masks_confirmed tuned u one) in
     ap (λ (ps : List (List ℕ)). ps ++ confirmed_from (tuned || has_cat (run_changed one)) u (runs_changed more))
     (confirmed_one tuned u one are.0.whole harmless.0)
     ∙ (ap (λ (cat : Bool). first ++ confirmed_from (tuned || cat) u (runs_changed more))

@@ -243,7 +243,8 @@ heard_both card pid n m (Some tuning) packet past few same on taken =
     let thing : Heard = hears card.height tuning 0 packet in
     rw (hears_numbered card.height n tuning packet, hears_numbered card.height m tuning packet) (
       more_same pid n m past few thing same,
-      either_on pid (is_closed (of_run few (numbered m thing))) few (numbered m thing ∷ of_run few (numbered m thing)) on
+      either_on pid (is_closed (of_run few (numbered m thing))) few (numbered m thing ∷ of_run few (numbered m thing))
+          on
           (on_heard pid card.height m tuning packet (of_run few (numbered m thing))
           (of_run_on pid few (numbered m thing) on) taken),
     )

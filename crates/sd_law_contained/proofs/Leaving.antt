@@ -154,7 +154,8 @@ written_both : (pid : ℕ) (whole less : Offering) (rest mine : List (List ℕ))
     ≡ less.wrote ++ (if is_none less.fault then mine else [])
 written_both pid whole less rest mine calm still wrote more =
     rw (calm, still) (filter-append (λ p. pid_of p == pid) whole.wrote rest
-    ∙ (ap (λ (ps : List (List ℕ)). ps ++ those_on pid rest) (sym wrote) ∙ ap (λ (ps : List (List ℕ)). less.wrote ++ ps) more))
+    ∙ (ap (λ (ps : List (List ℕ)). ps ++ those_on pid rest) (sym wrote) ∙ ap (λ (ps : List (List ℕ)). less.wrote ++
+    ps) more))
 
 written_one : (pid : ℕ) (whole : Offering) (rest mine : List (List ℕ)) → whole.fault ≡ None → whole.wrote ≡ [] →
     those_on pid rest ≡ mine → those_on pid (whole.wrote ++ (if is_none whole.fault then rest else [])) ≡ mine
@@ -183,7 +184,8 @@ left_out : (card : CardFields) (pid : ℕ) (packet : List ℕ) (packets past few
     (offered card past packet).fault ≡ None → (offered card past packet).wrote ≡ [] →
     WritesAlone card pid (packet ∷ past) few packets →
     (break_from card few (alone card pid (packet ∷ past) packets) ≡ None)
-    × (those_on pid (out_from card past (packet ∷ packets)) ≡ out_from card few (alone card pid (packet ∷ past) packets))
+    × (those_on pid (out_from card past (packet ∷ packets)) ≡ out_from card few (alone card pid (packet ∷ past)
+    packets))
 unfolding out_from
 left_out card pid packet packets past few calm none rest = (
   rest.0,

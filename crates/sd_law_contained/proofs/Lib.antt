@@ -13,3 +13,4 @@ pub mod Changing
 pub mod Running
 pub mod Confirming
 pub mod ChangedEnds
+pub mod Payloads

@@ -1,4 +1,4 @@
--- A packet of which bits are changed that head doesn't read is carried with the same bits changed.
+-- A packet of which bits are changed that the head end doesn't read is carried with the same bits changed.
 use Rattle.std.proofs.Common.{◌≡◌, refl, ℕ, zero, suc, ◌+◌, ◌*◌, ◌%◌, ◌<◌, ◌≤◌, ◌++◌, List, []}
 use Rattle.std.proofs.Common.{◌∷◌, length, take, drop, ap, sym, ◌∙◌, arith}
 use Rattle.std.specs.Prelude.{slice_index, slice_set, bit_xor}

@@ -34,10 +34,12 @@ use Rattle.sd_law_contained.proofs.Thinned.{thinned, stretch_thinned, same_by, n
 use Rattle.sd_law_contained.proofs.Thinned.{message_thinned, current_thinned}
 use Rattle.sd_law_contained.proofs.Thinned.{seen_thinned, key_thinned, packets_heard, packets_thinned, AreOn, all_on}
 use Rattle.sd_law_contained.proofs.Thinned.{after_on}
-use Rattle.sd_law_contained.proofs.Written.{those_on, segment_on, packets_in, is_wrong, all_written, none_wrong, all_told}
+use Rattle.sd_law_contained.proofs.Written.{those_on, segment_on, packets_in, is_wrong, all_written, none_wrong}
+use Rattle.sd_law_contained.proofs.Written.{all_told}
 use Rattle.sd_law_contained.proofs.Written.{none_wrong_on, all_on_pid}
 
--- the second of two offerings, if the first isn't refused: it isn't refused, and writes what the first writes of one PID
+-- the second of two offerings, if the first isn't refused: it isn't refused, and writes what the first writes of one
+-- PID
 abbrev pub Follows : ℕ → Offering → Offering → Type 0
 Follows pid whole alone = whole.fault ≡ None → (alone.fault ≡ None) × (alone.wrote ≡ those_on pid whole.wrote)
 
@@ -302,7 +304,8 @@ key_follows pid n m emm None None = λ calm. (refl, refl)
 key_follows pid n m emm None (Some key) = by_check (bytes_eq (check_value_of key) emm.check)
   where
     by_check : (right : Bool) →
-        Follows pid (if right then no_offering else refuses (Fault.WrongKey n emm.period (check_value_of key) emm.check))
+        Follows pid (if right then no_offering else refuses (Fault.WrongKey n emm.period (check_value_of key)
+        emm.check))
         (if right then no_offering else refuses (Fault.WrongKey m emm.period (check_value_of key) emm.check))
     by_check true = λ calm. (refl, refl)
     by_check false = λ calm. absurd (cc)

@@ -1,5 +1,6 @@
 -- A packet keeps its PID when it is descrambled or restored, and a PID's position depends on its own packets.
-use Rattle.std.proofs.Common.{◌≡◌, refl, ℕ, zero, suc, ◌+◌, ◌==◌, ◌<◌, ◌≤◌, ◌&&◌, ◌++◌, Bool, true, false, List, [], ◌∷◌}
+use Rattle.std.proofs.Common.{◌≡◌, refl, ℕ, zero, suc, ◌+◌, ◌==◌, ◌<◌, ◌≤◌, ◌&&◌, ◌++◌, Bool, true, false, List, []}
+use Rattle.std.proofs.Common.{◌∷◌}
 use Rattle.std.proofs.Common.{length, take, ap, sym, ◌∙◌, inl, inr, arith}
 use Rattle.std.specs.Prelude.{if◌then◌else◌, filter, is_none}
 use Rattle.std.proofs.lemmas.Bool.{cases_lt}
@@ -95,7 +96,8 @@ moved_on : (pid position : ℕ) (packet : List ℕ) (packets : List (List ℕ)) 
 unfolding moved_by
 moved_on pid position packet packets true is = refl
 moved_on pid position packet packets false is =
-    ap (λ (p : ℕ). moved_by pid p packets) (sym (let still : moved pid position packet ≡ position = rw is refl in still))
+    ap (λ (p : ℕ). moved_by pid p packets) (sym (let still : moved pid position packet ≡ position = rw is refl in
+    still))
 
 pub moved_by_on : (pid position : ℕ) (packets : List (List ℕ)) →
     moved_by pid position (filter (λ packet. pid_of packet == pid) packets) ≡ moved_by pid position packets

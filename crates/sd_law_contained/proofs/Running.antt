@@ -1,4 +1,4 @@
--- A changed clear stream is one that head takes, and what arrives of its broadcast is changed in the same bits.
+-- A changed clear stream is one that the head end takes, and what arrives of its broadcast is changed in the same bits.
 use Rattle.std.proofs.Common.{◌≡◌, refl, ℕ, ◌==◌, ◌&&◌, ◌++◌, Bool, true, false, not, List, [], ◌∷◌, length, map}
 use Rattle.std.proofs.Common.{Option, Some, None, ap, sym, ◌∙◌, inl, arith}
 use Rattle.std.specs.Prelude.{nat_le, All}
@@ -74,8 +74,8 @@ refusal_same site marked other pid q wrong fault full own many more n k a b c d 
 pat_same : (packet other : List ℕ) → IsAlike packet other → pat_wrong other ≡ pat_wrong packet
 pat_same packet other is = tested (pid_of packet == 0)
     (λ here.
-      let zero : pid_of packet ≡ 0 = grind (arith, nat_tests, here) in
-      ap pat_wrong (is.table zero))
+    let zero : pid_of packet ≡ 0 = grind (arith, nat_tests, here) in
+    ap pat_wrong (is.table zero))
     (λ off. rw (is.pid, off) refl)
 
 full_by : (site : SiteFields) (kind : Kind) (packet mask : List ℕ) → (kind ≡ Pmt → mask ≡ []) →
@@ -129,8 +129,8 @@ clear_changed site [] (mask ∷ masks) before after are harmless = absurd harmle
 clear_changed site (packet ∷ packets) [] before after are harmless = absurd harmless
 clear_changed site (packet ∷ packets) (mask ∷ masks) before after are harmless =
     let rest = clear_changed site packets masks (before ++ packet ∷ []) (after ++ changed_by packet mask ∷ [])
-        (alike_more before after (packet ∷ []) (changed_by packet mask ∷ []) are
-        (harmless_alike before packet mask harmless.0, tt)) harmless.1 in
+    (alike_more before after (packet ∷ []) (changed_by packet mask ∷ []) are
+    (harmless_alike before packet mask harmless.0, tt)) harmless.1 in
     ap (λ (fault : Option ClearFault). option_map_or Some fault
     (refusal_from site (after ++ changed_by packet mask ∷ []) (all_changed packets masks)))
     (unrefused site before after packet mask are harmless.0)

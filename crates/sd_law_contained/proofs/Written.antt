@@ -1,6 +1,7 @@
 -- What is written of one PID of the packets between two messages is what is written of that PID's packets by
 -- themselves.
-use Rattle.std.proofs.Common.{◌≡◌, refl, ℕ, ◌+◌, ◌%◌, ◌==◌, ◌&&◌, ◌||◌, ◌++◌, Bool, true, false, not, List, [], ◌∷◌, map}
+use Rattle.std.proofs.Common.{◌≡◌, refl, ℕ, ◌+◌, ◌%◌, ◌==◌, ◌&&◌, ◌||◌, ◌++◌, Bool, true, false, not, List, [], ◌∷◌}
+use Rattle.std.proofs.Common.{map}
 use Rattle.std.proofs.Common.{None, ap, sym, subst, ◌∙◌, arith, append-nil}
 use Rattle.std.specs.Prelude.{if◌then◌else◌, filter, Result, Ok, Err}
 use Rattle.std.specs.List.{list_any}
@@ -11,7 +12,8 @@ use Rattle.sd_base.proofs.Bools.{tested}
 use Rattle.sd_packet.specs.Header.{pid_of, scrambling_of}
 use Rattle.sd_packet.specs.Positions.{is_placed, moved_by}
 use Rattle.sd_keystream.specs.Scrambling.{descrambled}
-use Rattle.sd_spec.specs.Confirmed.{Segment, position_in, position_or_first, tracked, is_near_to, is_confirmed, unmarked}
+use Rattle.sd_spec.specs.Confirmed.{Segment, position_in, position_or_first, tracked, is_near_to, is_confirmed}
+use Rattle.sd_spec.specs.Confirmed.{unmarked}
 use Rattle.sd_spec.specs.Confirmed.{is_odd, judged, Wrote, then_wrote, written_from}
 use Rattle.sd_law_contained.proofs.Pids.{descrambled_pid, unmarked_pid, moved_by_on}
 

@@ -1,4 +1,4 @@
--- Public meaning: broadcasts of which packets arrive with some bits changed, and what head doesn't read of clear packets.
+-- Public meaning: broadcasts of which packets arrive with some bits changed, and what the head end reads of packets.
 use Rattle.std.specs.Prelude.{◌≡◌, ℕ, ◌<◌, ◌⊎◌, ◌||◌, Bool, List, [], ◌∷◌, ◌++◌, length, slice_index, get_or, map}
 use Rattle.std.specs.Prelude.{filter, bit_xor}
 use Rattle.std.specs.List.{range_with_len}
@@ -25,11 +25,12 @@ all_changed [] masks = []
 all_changed (packet ∷ packets) [] = packet ∷ packets
 all_changed (packet ∷ packets) (mask ∷ masks) = changed_by packet mask ∷ all_changed packets masks
 
--- head reads all of the packet, after these: it is a PMT's, or on PID 0 [this project, docs/FORMATS.md, Broadcast]
+-- the head end reads all of the packet, after these: it is a PMT's, or on PID 0 [this project, docs/FORMATS.md,
+-- Broadcast]
 abbrev pub IsTable : Packets → Packet → Type 0
 IsTable before packet = (kind_of before packet ≡ Pmt) ⊎ (pid_of packet ≡ 0)
 
--- the mask changes nothing that head reads of the packet, after these: the PID, the fourth byte, which has both
+-- the mask changes nothing that the head end reads of the packet, after these: the PID, the fourth byte, which has both
 -- controls and the counter, where the payload starts, and nothing of a table
 pub record IsHarmless (before : Packets) (packet : Packet) (mask : Bytes) : Type 0 where
   pub bytes : (i : ℕ) → slice_index mask i < 256
@@ -60,7 +61,7 @@ AreAllHarmless (one ∷ more) = AreHarmless [] one.run.clear one.masks × AreAll
 abbrev pub runs_sent : List Damaged → List Arrival
 runs_sent damaged = map (λ one. one.run) damaged
 
--- the broadcast of the changed clear stream, of which the same arrives
+-- the broadcast of the changed clear stream, of which the same packets arrive
 abbrev pub run_changed : Damaged → Arrival
 run_changed one =
     record { plan = one.run.plan; clear = all_changed one.run.clear one.masks; flags = one.run.flags }

@@ -1,7 +1,7 @@
-//! Laws on what a receiver writes of one PID, whatever comes of the others.
+//! Laws on damage: what it changes in what a receiver writes, and what it leaves as it is.
 
-ghost use Rattle.std.specs.Prelude.{◌≡◌, ◌<◌, ◌^◌, [], List, None, true, false, reverse};
-ghost use Rattle.sd_base.specs.Types.{Packets, Pid, LeafNumber};
+ghost use Rattle.std.specs.Prelude.{◌≡◌, ◌<◌, ◌^◌, [], ℕ, List, slice_index, None, true, false, reverse};
+ghost use Rattle.sd_base.specs.Types.{Bytes, Packet, Packets, Pid, LeafNumber};
 ghost use Rattle.sd_site.specs.CardFields.{CardFields};
 ghost use Rattle.sd_spec.specs.Offered.{out_from, break_from};
 ghost use Rattle.sd_spec.specs.Ending.{ending_of};
@@ -12,7 +12,7 @@ ghost use Rattle.sd_law_losses.specs.Ends.{ending_of_all};
 ghost use Rattle.sd_law_contained.specs.Alone.{on, alone, few_held_in, without_gaps};
 ghost use Rattle.sd_law_contained.specs.Contained.{card_for, IsContained};
 ghost use Rattle.sd_law_contained.specs.Changed.{Damaged, AreAllHarmless, runs_sent, runs_changed, arriving_changed};
-ghost use Rattle.sd_law_contained.specs.Changed.{confirmed_changed};
+ghost use Rattle.sd_law_contained.specs.Changed.{confirmed_changed, IsTable, IsHarmless};
 
 /// What a receiver writes of one PID depends on the packets of that PID and on those that tell it something, and on no
 /// others. If none of some packets is refused, and never more than 4,096 are buffered, then of these alone none is
@@ -40,8 +40,9 @@ pub fn others_change_nothing()
 
 /// Of the packets of a stream that count, take those of one PID and those that tell the receiver something. If these
 /// are together, in order, what arrives of broadcasts of the channel, then of the PID `watch` writes exactly the clear
-/// packets that are confirmed by what arrives. If some bits arrived changed that head doesn't read, exactly these are
-/// changed in what is written. The ending is that of the broadcasts, but for the number of missing packets.
+/// packets that are confirmed by what arrives. If some bits of these arrive changed, and this does no harm, exactly
+/// these bits are changed in what is written. The ending is that of the broadcasts, but for the number of missing
+/// packets.
 #[tactic(auto, using(crate::proofs::Contained::out_contained, crate::proofs::Contained::end_contained, crate::proofs::Confirming::changed_contained))]
 pub fn damage_is_contained()
     ensures out { (channel : Channel) (runs : List Arrival) (u : LeafNumber) (pid : Pid) (packets : Packets) →
@@ -59,12 +60,15 @@ pub fn damage_is_contained()
         ≡ confirmed_changed false u damaged }
 {}
 
-/// Take broadcasts of a channel whose clear packets have some bits changed that head doesn't read. They are broadcasts
-/// of the channel, and differ from the broadcasts as they were sent in these bits alone, of the packets that carry the
-/// changed ones. So changes on air do the same: whatever is lost, a receiver refuses nothing, writes what it would
-/// write, with these bits changed, and ends as it would.
+/// A broadcast of which some bits arrive changed is the broadcast of a changed clear stream, if the changes do no harm:
+/// a packet that is carried differs in exactly the bits in which its clear packet does. So whatever is lost besides, a
+/// receiver refuses nothing, writes what it would have written, with exactly these bits changed, and ends as it would
+/// have ended. Changes behind the first five bytes of a packet do no harm, unless the head end reads all of it.
 #[tactic(auto, using(crate::proofs::Running::runs_taken, crate::proofs::Running::arrive_changed, crate::proofs::Confirming::none_changed, crate::proofs::Confirming::out_changed, crate::proofs::ChangedEnds::end_changed))]
 pub fn changes_stay_in_their_packets()
+    ensures payload { (before : Packets) (packet : Packet) (mask : Bytes) → ((i : ℕ) → slice_index mask i < 256) →
+        ((i : ℕ) → i < 5 → slice_index mask i ≡ 0) → (IsTable before packet → ⊥) → IsHarmless before packet mask }
+    ensures unchanged { (before : Packets) (packet : Packet) → IsHarmless before packet [] }
     ensures runs { (channel : Channel) (damaged : List Damaged) → AreRunsOf channel (runs_sent damaged) →
         AreAllHarmless damaged → AreRunsOf channel (runs_changed damaged) }
     ensures arriving { (channel : Channel) (damaged : List Damaged) → AreRunsOf channel (runs_sent damaged) →

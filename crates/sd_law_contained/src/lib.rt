@@ -1,4 +1,4 @@
-//! What damage of a stream costs: what isn't of a PID and is no message changes nothing of what is written of the PID.
+//! Damage is contained: that of other packets changes nothing of a PID, and changed bits stay in their packets.
 #![tactic(auto)]
 
 pub mod laws;
