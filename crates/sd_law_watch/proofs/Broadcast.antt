@@ -407,7 +407,7 @@ steady_start : (s : Setting) (laws : AreLaws s) → Steady s [] [] (closing_numb
 unfolding heard tuning_of
 steady_start s laws = record { tuned = inr (refl, refl); like = tt; parts = tt }
 
-all_fine : (s : Setting) (laws : AreLaws s) (able : AreHearable s) (good : IsUnmarked s) → are_steady s.clear ≡ true →
+pub all_fine : (s : Setting) (laws : AreLaws s) (able : AreHearable s) (good : IsUnmarked s) → are_steady s.clear ≡ true →
     AllFine s.card [] (broadcast s.plan s.clear)
 unfolding broadcast sent_before packets_from
 all_fine s laws able good steady =
@@ -416,7 +416,7 @@ all_fine s laws able good steady =
     (subst (All (IsOfBroadcast s.plan s.clear)) (sent_first s) (all_are_of_broadcast s.plan s.clear)) steady
     (steady_start s laws))
 
-none_marked : (clear : List (List ℕ)) (k : ℕ) → list_any is_marked clear ≡ false → k < length clear →
+pub none_marked : (clear : List (List ℕ)) (k : ℕ) → list_any is_marked clear ≡ false → k < length clear →
     is_marked (packet_at clear k) ≡ false
 none_marked clear k none within =
     tested (is_marked (packet_at clear k))

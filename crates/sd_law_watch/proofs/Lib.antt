@@ -16,3 +16,4 @@ pub mod Ordered
 pub mod Air
 pub mod Steady
 pub mod Broadcast
+pub mod Line

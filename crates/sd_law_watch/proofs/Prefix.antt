@@ -52,7 +52,7 @@ abbrev pub past_of : Setting → List Item → List (List ℕ)
 past_of s items = onto (packets_from s.plan.site [] items) []
 
 -- where a receiver stands after the first of the things that are sent
-stands_after : (s : Setting) (laws : AreLaws s) (able : AreHearable s) (first rest : List Item) →
+pub stands_after : (s : Setting) (laws : AreLaws s) (able : AreHearable s) (first rest : List Item) →
     sent s.plan s.clear ++ closing_of s.plan s.clear ≡ first ++ rest →
     EndsBefore s (list_any is_cat_item first) first (past_of s first)
 unfolding broadcast

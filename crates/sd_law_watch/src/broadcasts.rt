@@ -1,6 +1,6 @@
 //! Laws on what counts of broadcasts that lose packets.
 
-ghost use Rattle.std.specs.Prelude.{◌≡◌, ◌^◌, ◌<◌, Bool, true, false, List, [], ◌∷◌, map, reverse};
+ghost use Rattle.std.specs.Prelude.{◌≡◌, ◌^◌, ◌<◌, Bool, true, false, List, [], ◌∷◌, map, reverse, None};
 ghost use Rattle.std.specs.List.{list_any};
 ghost use Rattle.sd_base.specs.Types.{LeafNumber, Packets};
 ghost use Rattle.sd_site.specs.CardFields.{card_of};
@@ -10,7 +10,7 @@ ghost use Rattle.sd_spec.specs.Sent.{broadcast};
 ghost use Rattle.sd_spec.specs.Offered.{out_from};
 ghost use Rattle.sd_spec.specs.Ending.{ending_of};
 ghost use Rattle.sd_spec.specs.Counting.{is_marked, counting};
-ghost use Rattle.sd_spec.specs.Reports.{tally_from};
+ghost use Rattle.sd_spec.specs.Reports.{tally_from, report_of, reports};
 ghost use Rattle.sd_law_broadcast.specs.Packets.{AreWholePackets};
 ghost use Rattle.sd_law_losses.specs.Chosen.{chosen};
 ghost use Rattle.sd_law_losses.specs.Confirmed.{opened_by};
@@ -83,7 +83,7 @@ pub fn whole_runs_are_watched()
 
 /// Of a whole broadcast of a steady clear stream of which no packet is marked, all packets count. So exactly the clear
 /// packets are written that the leaf is entitled to, and it ends opened, or as revoked in the first period of the
-/// broadcast in which the leaf is.
+/// broadcast in which the leaf is. One report is made of it, which tells of no packet that doesn't count.
 pub fn steady_broadcasts_are_watched()
     ensures counts { (plan : Plan) (clear : Packets) (u : LeafNumber) → IsPlan plan → IsClear plan.site clear →
         AreWholePackets clear → u < 2 ^ plan.site.height → are_steady clear ≡ true →
@@ -102,4 +102,14 @@ pub fn steady_broadcasts_are_watched()
         ending_of (card_of plan.site.master plan.site.ca plan.site.height u)
         (reverse (counting (card_of plan.site.master plan.site.ca plan.site.height u) [] (broadcast plan clear)))
         ≡ whole_ending (first_revoked plan u clear) }
+    ensures tally { (plan : Plan) (clear : Packets) (u : LeafNumber) → IsPlan plan → IsClear plan.site clear →
+        AreWholePackets clear → u < 2 ^ plan.site.height → are_steady clear ≡ true →
+        list_any is_marked clear ≡ false →
+        tally_from (card_of plan.site.master plan.site.ca plan.site.height u) 0 [] (broadcast plan clear)
+        ≡ record { marked = 0; doubled = 0; odd = 0; refused = 0; first = None } }
+    ensures line { (plan : Plan) (clear : Packets) (u : LeafNumber) → IsPlan plan → IsClear plan.site clear →
+        AreWholePackets clear → u < 2 ^ plan.site.height → are_steady clear ≡ true →
+        list_any is_marked clear ≡ false →
+        reports (card_of plan.site.master plan.site.ca plan.site.height u) (broadcast plan clear)
+        ≡ report_of (card_of plan.site.master plan.site.ca plan.site.height u) (broadcast plan clear) ∷ [] }
 {}
