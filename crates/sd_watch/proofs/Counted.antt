@@ -1,17 +1,11 @@
 -- What counts of packets with one more at their end.
-use Rattle.std.proofs.Common.{arith, ◌≡◌, ℕ, suc, ◌+◌, ◌<◌, ◌≤◌, List, [], ◌∷◌, ◌++◌, refl, ap, sym, ◌∙◌}
-use Rattle.std.proofs.Common.{Bool, true, false, append-nil, append_assoc, length}
-use Rattle.std.specs.Prelude.{◌&&◌, not, is_none, reverse, if◌then◌else◌, Option, Some, None, option_map}
-use Rattle.std.specs.Option.{option_map_or, option_or}
+use Rattle.std.proofs.Common.{◌≡◌, [], ◌∷◌, ◌++◌, refl, ap, sym, ◌∙◌}
+use Rattle.std.proofs.Common.{Bool, true, false, append-nil, append_assoc}
+use Rattle.std.specs.Prelude.{reverse, if◌then◌else◌}
 use Rattle.std.proofs.lemmas.List.{reverse-append}
-use Rattle.sd_base.specs.Types.{Packet, Packets, PacketNumber}
+use Rattle.sd_base.specs.Types.{Packet, Packets}
 use Rattle.sd_site.specs.CardFields.{CardFields}
-use Rattle.sd_message.specs.declared.stream_fault.StreamFault.{StreamFault}
-use Rattle.sd_spec.specs.declared.report.Report.{Report}
-use Rattle.sd_spec.specs.Offered.{heard, offered, out_from, break_from}
-use Rattle.sd_spec.specs.Counting.{is_marked, is_doubled, is_stray_at, counts, counting, tried_keys}
-use Rattle.sd_spec.specs.Reports.{report_of, turns_after, turned_reports}
-use Rattle.sd_spec.proofs.Offers.{out_of_one_more}
+use Rattle.sd_spec.specs.Counting.{counts, counting}
 
 -- packets that are reversed before others, with one more in front
 before_past : (packet : Packet) (packets past : Packets) →

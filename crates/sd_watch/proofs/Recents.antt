@@ -1,7 +1,7 @@
 -- The last scrambled packets.
-use Rattle.std.proofs.Common.{arith, ◌≡◌, ℕ, suc, ◌+◌, ◌-◌, ◌==◌, List, [], ◌∷◌, ◌++◌, refl, ap, sym, ◌∙◌, Bool, true}
+use Rattle.std.proofs.Common.{arith, ◌≡◌, ℕ, ◌-◌, ◌==◌, [], ◌∷◌, ◌++◌, refl, ap, sym, ◌∙◌, Bool, true}
 use Rattle.std.proofs.Common.{false, length, take, drop, length-drop}
-use Rattle.std.specs.Prelude.{◌&&◌, ◌||◌, ◌≢◌, not, filter, reverse, bytes_eq, if◌then◌else◌}
+use Rattle.std.specs.Prelude.{◌||◌, ◌≢◌, filter, reverse, bytes_eq}
 use Rattle.std.specs.List.{list_any}
 use Rattle.std.proofs.lemmas.Bool.{eq-eqb, ne_eqb}
 use Rattle.std.proofs.lemmas.List.{reverse-append, length-reverse, take-append-drop, take-take, drop_at}
@@ -10,7 +10,7 @@ use Rattle.std.proofs.lemmas.List.Sorted.{list_any-IsPermutation, IsPermutation-
 use Rattle.circular_buffer.specs.Buffer.{Buffer, buffer, keep_last}
 use Rattle.sd_base.specs.Types.{Packet, Packets}
 use Rattle.sd_packet.specs.Header.{scrambling_of}
-use Rattle.sd_spec.specs.Counting.{most_again, is_scrambled_packet, is_copy}
+use Rattle.sd_spec.specs.Counting.{is_scrambled_packet, is_copy}
 use Rattle.sd_watch.specs.Watching.{IsRecent}
 use Rattle.sd_watch.specs.declared.recent.Recent.{Recent}
 

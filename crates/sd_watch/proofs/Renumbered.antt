@@ -1,8 +1,6 @@
 -- What is refused doesn't depend on the number of the packet, but for the number in the fault.
-use Rattle.std.proofs.Common.{◌≡◌, ℕ, ◌==◌, List, [], ◌∷◌, refl, ap, sym, ◌∙◌, Bool, true, false, length}
-use Rattle.std.specs.Prelude.{not, is_none, bytes_eq, nat_lt, if◌then◌else◌, Option, Some, None, option_map, Result, Ok}
-use Rattle.std.specs.Prelude.{Err}
-use Rattle.std.specs.Option.{option_map_or}
+use Rattle.std.proofs.Common.{◌≡◌, ◌==◌, List, refl, ap, sym, ◌∙◌, Bool, true, false, length}
+use Rattle.std.specs.Prelude.{bytes_eq, nat_lt, if◌then◌else◌, Option, Some, None, option_map}
 use Rattle.sd_base.specs.Types.{Packet, Packets, PacketNumber, Key}
 use Rattle.sd_tree.specs.Keys.{check_value_of}
 use Rattle.sd_keystream.specs.Wrapping.{wrapped as under}
@@ -15,7 +13,6 @@ use Rattle.sd_message.specs.declared.emm.Emm.{Emm}
 use Rattle.sd_message.specs.declared.emm_fault.EmmFault.TheVariants as Emms
 use Rattle.sd_message.specs.declared.ecm_fault.EcmFault.{EcmFault}
 use Rattle.sd_message.specs.declared.ecm_fault.EcmFault.TheVariants.{Back}
-use Rattle.sd_message.specs.declared.stream_fault.StreamFault.{StreamFault}
 use Rattle.sd_message.specs.declared.stream_fault.StreamFault.TheVariants as Fault
 use Rattle.sd_psi.specs.declared.our_cat.Tuning.{Tuning}
 use Rattle.sd_spec.specs.Confirmed.{Wrote}

@@ -1,6 +1,6 @@
 -- Nothing odd is buffered after packets that count.
-use Rattle.std.proofs.Common.{◌≡◌, ℕ, List, [], ◌∷◌, ◌++◌, refl, ap, sym, ◌∙◌, Bool, true, false, length, append-nil}
-use Rattle.std.specs.Prelude.{◌&&◌, ◌||◌, ◌==◌, not, is_none, reverse, if◌then◌else◌, Option, Some, None}
+use Rattle.std.proofs.Common.{◌≡◌, List, [], ◌∷◌, ◌++◌, refl, ap, sym, ◌∙◌, Bool, true, false, length, append-nil}
+use Rattle.std.specs.Prelude.{◌&&◌, ◌||◌, not, is_none, reverse, if◌then◌else◌, Option, Some, None}
 use Rattle.std.specs.List.{list_any}
 use Rattle.std.specs.Option.{option_map_or}
 use Rattle.std.proofs.lemmas.List.{reverse-append}
@@ -9,10 +9,9 @@ use Rattle.sd_base.specs.Types.{Packet, Packets, PacketNumber}
 use Rattle.sd_site.specs.CardFields.{CardFields}
 use Rattle.sd_message.specs.EcmParts.{Message}
 use Rattle.sd_psi.specs.declared.our_cat.Tuning.{Tuning}
-use Rattle.sd_message.specs.declared.stream_fault.StreamFault.{StreamFault}
 use Rattle.sd_spec.specs.Tuned.{tuning_of}
 use Rattle.sd_spec.specs.Heard.{Heard, Dropped, Entitles, Controls, BadEmm, BadEcm, Other, hears}
-use Rattle.sd_spec.specs.Stretches.{Stretch, newest, completed, stretched, others, other_with, held_in, is_closed}
+use Rattle.sd_spec.specs.Stretches.{newest, completed, stretched, others, is_closed}
 use Rattle.sd_spec.specs.Runs.{is_turn, of_run}
 use Rattle.sd_spec.specs.Confirmed.{is_odd_under}
 use Rattle.sd_spec.specs.Offered.{heard, heard_more, heard_with, offered}

@@ -1,19 +1,18 @@
 -- What a watcher makes of a packet that its receiver is given.
-use Rattle.std.proofs.Common.{arith, false, ◌≡◌, ℕ, ◌+◌, ◌-◌, ◌^◌, ◌<◌, ◌≤◌, List, [], ◌∷◌, refl, ap, sym, ◌∙◌, subst, length}
-use Rattle.std.specs.Prelude.{reverse, Option, Some, None, option_map}
+use Rattle.std.proofs.Common.{arith, false, ◌≡◌, ℕ, ◌+◌, ◌-◌, ◌^◌, ◌<◌, [], ◌∷◌, refl, ap, sym, ◌∙◌, subst, length}
+use Rattle.std.specs.Prelude.{reverse, Option, None, option_map}
 use Rattle.sd_base.specs.Types.{Packet, Packets}
 use Rattle.sd_message.specs.declared.stream_fault.StreamFault.{StreamFault}
 use Rattle.sd_engine.specs.Stage.{SinkState, HasGrown, IsCutShort}
 use Rattle.sd_spec.specs.declared.report.Report.{Report}
 use Rattle.sd_spec.specs.declared.report.Tally.{Tally}
-use Rattle.sd_spec.specs.Offered.{heard, offered, out_from}
+use Rattle.sd_spec.specs.Offered.{out_from}
 use Rattle.sd_receive.specs.Listening.{capped}
-use Rattle.sd_receive.specs.Receiving.{IsAfter, IsFit, receiver_does, Opening, Leaving, CutsBy, ended_at}
-use Rattle.sd_receive.specs.declared.ended.Ended.{Ended}
+use Rattle.sd_receive.specs.Receiving.{IsAfter, IsFit, receiver_does, Leaving, CutsBy, ended_at}
 use Rattle.sd_receive.specs.declared.receiver.Receiver.{Receiver}
 use Rattle.sd_watch.specs.Numbered.{renumbered}
 use Rattle.sd_watch.specs.Tallied.{tally_refuse}
-use Rattle.sd_watch.specs.Taking.{report_on, NextOutcome, TakesNext, IsNextOf, taker_does, StopsNext, taker_stops}
+use Rattle.sd_watch.specs.Taking.{report_on, NextOutcome, IsNextOf, taker_does, taker_stops}
 use Rattle.sd_watch.specs.Watching.{card_of, IsKept, IsReady, IsRecent}
 use Rattle.sd_watch.specs.declared.watcher.Watcher.{Watcher}
 

@@ -1,5 +1,5 @@
 -- What is told of packets with one more at their end.
-use Rattle.std.proofs.Common.{arith, ◌≡◌, ℕ, suc, ◌+◌, ◌<◌, ◌≤◌, List, [], ◌∷◌, ◌++◌, refl, ap, sym, ◌∙◌, Bool, true}
+use Rattle.std.proofs.Common.{arith, ◌≡◌, ℕ, suc, ◌+◌, ◌≤◌, [], ◌∷◌, ◌++◌, refl, ap, sym, ◌∙◌, Bool, true}
 use Rattle.std.proofs.Common.{false, append-nil, length}
 use Rattle.std.specs.Prelude.{◌&&◌, not, is_none, reverse, if◌then◌else◌, Option, Some, None, option_map}
 use Rattle.std.specs.Option.{option_or}
@@ -12,7 +12,7 @@ use Rattle.sd_spec.specs.Offered.{heard, offered, tuned_offering}
 use Rattle.sd_spec.specs.Counting.{is_marked, is_doubled, is_stray_at, counts, counting}
 use Rattle.sd_spec.specs.Reports.{one_marked, one_doubled, one_odd, one_refused, refused_or, tally_from}
 use Rattle.sd_watch.specs.Numbered.{renumbered}
-use Rattle.sd_watch.proofs.Counted.{past_with, counted_past}
+use Rattle.sd_watch.proofs.Counted.{counted_past}
 use Rattle.sd_watch.proofs.Renumbered.{offered_at}
 
 -- nothing is told of no packets

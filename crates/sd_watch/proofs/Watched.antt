@@ -5,10 +5,8 @@ use Rattle.std.specs.Prelude.{◌&&◌, ◌||◌, not, is_none, min, reverse, if
 use Rattle.std.specs.Prelude.{Result, Ok, Err, IfOk}
 use Rattle.std.specs.List.{concat}
 use Rattle.std.specs.Option.{option_or}
-use Rattle.std.specs.Io.KnownBytes.{Appends}
 use Rattle.std.proofs.KnownBytes.{Appends-nil}
 use Rattle.std.proofs.lemmas.List.{length-reverse, reverse-reverse}
-use Rattle.std.proofs.lemmas.List.Folds.{concat-append}
 use Rattle.sd_base.specs.Types.{Packet, Packets}
 use Rattle.sd_site.specs.CardFields.{CardFields, card_fields_of}
 use Rattle.sd_message.specs.declared.stream_fault.StreamFault.{StreamFault}
@@ -23,22 +21,20 @@ use Rattle.sd_spec.specs.Offered.{heard, offered, tuned_offering, out_from}
 use Rattle.sd_spec.specs.Ending.{turns_at}
 use Rattle.sd_spec.specs.Taken.{takes_key_at}
 use Rattle.sd_spec.specs.Counting.{is_marked, is_doubled, is_stray_at, counts, counting, tried_keys}
-use Rattle.sd_spec.specs.Reports.{run_end, one_marked, one_doubled, one_odd, tally_from, report_of, turns_after}
-use Rattle.sd_spec.specs.Reports.{turned_reports}
+use Rattle.sd_spec.specs.Reports.{run_end, tally_from, report_of, turns_after}
 use Rattle.sd_receive.specs.Listening.{capped}
-use Rattle.sd_receive.specs.Receiving.{ended_at, steps_at}
-use Rattle.sd_receive.specs.declared.ended.Ended.{Ended}
+use Rattle.sd_receive.specs.Receiving.{steps_at}
 use Rattle.sd_receive.specs.declared.receiver.Receiver.{Receiver}
 use Rattle.sd_watch.specs.Numbered.{renumbered}
 use Rattle.sd_watch.specs.Tallied.{tally_add, tally_refuse}
-use Rattle.sd_watch.specs.Taking.{uncounted_at, report_on, NextOutcome, TakesNext, IsNextOf, taker_does, StopsNext}
+use Rattle.sd_watch.specs.Taking.{uncounted_at, report_on, NextOutcome, IsNextOf, taker_does}
 use Rattle.sd_watch.specs.Taking.{taker_stops}
-use Rattle.sd_watch.specs.Watching.{card_of, counted_of, IsKept, IsWatching, IsCountable, WatchesPacket, StopsWatching}
+use Rattle.sd_watch.specs.Watching.{card_of, counted_of, IsKept, IsWatching, IsCountable, WatchesPacket}
 use Rattle.sd_watch.specs.Watching.{watcher_does, watcher_stops}
 use Rattle.sd_watch.specs.declared.uncounted.Uncounted.{Uncounted}
 use Rattle.sd_watch.specs.declared.uncounted.Uncounted.TheVariants.{Marked, Doubled, Odd}
 use Rattle.sd_watch.specs.declared.watcher.Watcher.{Watcher}
-use Rattle.sd_watch.proofs.Counted.{past_with, counted_more, turned_more, tried_more, out_more}
+use Rattle.sd_watch.proofs.Counted.{counted_more}
 use Rattle.sd_watch.proofs.Renumbered.{offered_at}
 use Rattle.sd_watch.proofs.Strays.{nothing_odd}
 use Rattle.sd_watch.proofs.Tallies.{IsLow, refused_last, last_by, with_last, tally_low, tally_more}

@@ -1,5 +1,5 @@
 -- Public meaning: a tally with one packet more, at its end.
-use Rattle.std.specs.Prelude.{◌+◌, ◌-◌, ◌^◌, ℕ, min, Option, Some}
+use Rattle.std.specs.Prelude.{Some}
 use Rattle.std.specs.Option.{option_or}
 use Rattle.sd_base.specs.Count.{with_added}
 use Rattle.sd_message.specs.declared.stream_fault.StreamFault.{StreamFault}

@@ -1,4 +1,3 @@
-use Rattle.std.specs.Prelude.{Ok, Err}
 use Rattle.sd_engine.specs.Stage.{vessel}
 use Rattle.sd_watch.proofs.Watched.{passed_watched, taken_if_ok, cut_watched}
 use Rattle.sd_watch.proofs.watcher.Watcher.watch.Goals as goal
