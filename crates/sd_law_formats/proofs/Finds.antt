@@ -4,7 +4,8 @@ use Rattle.std.proofs.Common.{length, take, drop, refl, sym, ap, subst, ◌∙�
 use Rattle.std.proofs.Common.{length-append, length-drop, length-take-le}
 use Rattle.std.specs.Prelude.{All, slice_get, slice_index, Some}
 use Rattle.std.proofs.lemmas.Bool.{cases_eq, cases_lt, both_ways, false_from_ne_true}
-use Rattle.std.proofs.lemmas.List.{get_or-append-add, get_or-append_right, get_or-drop, get_or-take, get_or_append_left}
+use Rattle.std.proofs.lemmas.List.{get_or-append-add, get_or-append_right, get_or-drop, get_or-take}
+use Rattle.std.proofs.lemmas.List.{get_or_append_left}
 use Rattle.std.proofs.lemmas.List.{drop-append-le, drop-drop, drop-take, drop_at, get_or_past, length-take, nil_from_length}
 use Rattle.std.proofs.lemmas.List.{take-append-le, take-take}
 use Rattle.sd_engine.specs.Cut.{begins_packet, cut, skipped_before}
@@ -310,7 +311,9 @@ none_up_to bytes index not stop = false_from_ne_true (begins_packet (take index 
       ]
       | inr again ↦ elim (cases_lt 188 index) [
         | inl inside ↦ inr (sym (get_or-take index bytes 188 0 inside) ∙ again)
-        | inr outside ↦ absurd (omega (arith, again, get_or_past (take index bytes) 188 0 (omega (arith, count, outside))))
+        | inr outside ↦
+            let past = get_or_past (take index bytes) 188 0 (omega (arith, count, outside)) in
+            absurd (omega (arith, again, past))
       ]
     ])))
 

@@ -6,11 +6,11 @@ ghost use Rattle.sd_engine.specs.Cut.{begins_packet, cut, skipped_before};
 ghost use Rattle.sd_engine.specs.Stream.{packets_of, ArePackets};
 ghost use Rattle.sd_law_formats.specs.Cuts.{place_of, AreApart, IsCutAt};
 
-/// Whole packets are found in bytes that may be damaged. Bytes that are packets are cut into these. If other bytes follow
-/// them, all but the last are found, and the last one too if the bytes behind it begin with the sync byte. If no packet
-/// begins in the bytes before others, the others are cut as if they were alone: nothing behind damage is lost. Whatever
-/// bytes are before them, packets are found from packet i + 1 on if it and packet i have 0x47 at no common index but the
-/// first.
+/// Whole packets are found in bytes that may be damaged. Bytes that are packets are cut into these. If other bytes
+/// follow them, all but the last are found, and the last one too if the bytes behind it begin with the sync byte. If no
+/// packet begins in the bytes before others, the others are cut as if they were alone: nothing behind damage is lost.
+/// Whatever bytes are before them, packets are found from packet i + 1 on if it and packet i have 0x47 at no common
+/// index but the first.
 pub fn packets_are_found()
     ensures whole { (n : ℕ) (bytes : List ℕ) → ArePackets n bytes → cut bytes ≡ packets_of bytes }
     ensures in_step { (n : ℕ) (bytes more : List ℕ) → ArePackets n bytes →
@@ -38,8 +38,8 @@ pub fn packets_have_places()
         skipped_before k zero (take (place_of k bytes) bytes) ≡ skipped_before k zero bytes }
 {}
 
-/// If a packet that is found ends before the bytes do, it and those before it are found at the same places whatever bytes
-/// follow: what was read decides what was found in it.
+/// If a packet that is found ends before the bytes do, it and those before it are found at the same places whatever
+/// bytes follow: what was read decides what was found in it.
 #[tactic(auto, using(crate::proofs::Finds::found_stays, crate::proofs::Finds::place_stays))]
 pub fn found_packets_stay()
     ensures packets { (k : ℕ) (bytes more : List ℕ) → k < length (cut bytes) →
