@@ -407,8 +407,8 @@ steady_start : (s : Setting) (laws : AreLaws s) → Steady s [] [] (closing_numb
 unfolding heard tuning_of
 steady_start s laws = record { tuned = inr (refl, refl); like = tt; parts = tt }
 
-pub all_fine : (s : Setting) (laws : AreLaws s) (able : AreHearable s) (good : IsUnmarked s) → are_steady s.clear ≡ true →
-    AllFine s.card [] (broadcast s.plan s.clear)
+pub all_fine : (s : Setting) (laws : AreLaws s) (able : AreHearable s) (good : IsUnmarked s) →
+    are_steady s.clear ≡ true → AllFine s.card [] (broadcast s.plan s.clear)
 unfolding broadcast sent_before packets_from
 all_fine s laws able good steady =
     subst (λ (items : List Item). AllFine s.card [] (packets_from s.plan.site [] items)) (sym (sent_first s))
