@@ -1,16 +1,15 @@
 -- What comes of a file that goes into OUT while pieces are printed, with a last piece once OUT is closed.
-use Rattle.std.proofs.Common.{◌≡◌, ◌≢◌, ◌⊎◌, ℕ, ◌^◌, ◌<◌, true, false, List, [], ◌∷◌, ◌++◌, length, take, Option}
+use Rattle.std.proofs.Common.{◌≡◌, ◌≢◌, ◌⊎◌, ℕ, true, false, List, [], ◌∷◌, ◌++◌, length, take, Option}
 use Rattle.std.proofs.Common.{Some, None}
 use Rattle.std.proofs.Common.{Result, Ok, Err, refl, sym, ap, subst, ◌∙◌, inl, inr, arith, append-nil}
 use Rattle.std.proofs.Common.{append_assoc}
 use Rattle.std.specs.List.{concat}
 use Rattle.std.specs.Io.KnownBytes.{Appends}
-use Rattle.std.proofs.KnownBytes.{Appends-nil, Appends-trans}
+use Rattle.std.proofs.KnownBytes.{Appends-trans}
 use Rattle.std.proofs.lemmas.List.Folds.{concat-append}
 use Rattle.std.proofs.Math.Seq.{take-append_seam}
-use Rattle.sd_base.specs.Count.{with_added, HasRisen}
-use Rattle.sd_ports.specs.Bytes.{IsPrefix, AppendsPrefix}
-use Rattle.sd_ports.specs.Files.{ClosesFile}
+use Rattle.sd_base.specs.Count.{HasRisen}
+use Rattle.sd_ports.specs.Bytes.{AppendsPrefix}
 use Rattle.sd_ports.proofs.Outlets.{closed_whole, cut_short as closed_short}
 use Rattle.sd_command_base.specs.declared.status.Status.{Status}
 use Rattle.sd_command_base.specs.declared.status.Status.TheVariants.{Done, Usage, Missing, Revoked, DepotFault}
@@ -23,8 +22,8 @@ use Rattle.sd_command_base.specs.Outside.{DepotState, PageState, outside}
 use Rattle.sd_command_base.specs.Spec.{FileArgument, all_of, value, ◌>>=◌}
 use Rattle.sd_command_base.specs.Work.{StepBound, Work, TakesSteps}
 use Rattle.sd_command_base.specs.Outcome.{IsEnding, IsRefusal, IsMadeShort, Progress, telling, Outcome, ended}
-use Rattle.sd_command_base.specs.Outcome.{unclosed, StopsFirst, exhausted, failed, nowhere, cut_short, OutcomeWithin}
-use Rattle.sd_command_base.specs.Outcome.{status_of, PrintsSome, PrintsPrefix}
+use Rattle.sd_command_base.specs.Outcome.{unclosed, exhausted, failed, nowhere, cut_short, OutcomeWithin}
+use Rattle.sd_command_base.specs.Outcome.{status_of}
 use Rattle.sd_command_base.proofs.Firsts.{takes_none, stopped_comes, first_obeys, unmade as unmade_files}
 use Rattle.sd_command_base.proofs.Givens.{some_got as any_got}
 use Rattle.sd_command_base.proofs.Streams.{is_other}
@@ -32,7 +31,7 @@ use Rattle.sd_command_base.proofs.Looked.{none_got, all_calls as opening_calls}
 use Rattle.sd_command_base.proofs.Turning.{added_later, all_prefix, both_closed, still, rises, unclosed_told}
 use Rattle.sd_command_base.proofs.Turning.{there_got, untold_got, NotTurned}
 use Rattle.sd_command_base.specs.Turned.{IsOpened, NotOpened, no_input, no_folder, stopped_first, stopped_then}
-use Rattle.sd_command_base.specs.Turned.{unclosed_status, unclosed_by, IsClosed, is_break, HasPortCause}
+use Rattle.sd_command_base.specs.Turned.{unclosed_status, IsClosed, is_break, HasPortCause}
 use Rattle.sd_run_broadcasts.specs.Live.{living, Lived, all_lived, some_lived, unprinted, is_outside}
 use Rattle.sd_run_broadcasts.specs.Live.{TellsEnd, untold, told, unmade, cut}
 

@@ -1,12 +1,12 @@
 -- The line of a report.
-use Rattle.std.proofs.Common.{◌≡◌, ◌<◌, ◌+◌, ◌-◌, ◌∙◌, ℕ, suc, zero, List, [], ◌∷◌, ◌++◌, length, take, refl, sym, ap}
+use Rattle.std.proofs.Common.{◌≡◌, ◌+◌, ◌-◌, ◌∙◌, ℕ, List, [], ◌∷◌, ◌++◌, length, refl, sym, ap}
 use Rattle.std.proofs.Common.{subst, arith}
 use Rattle.std.proofs.Common.{append_assoc, length-append, Option, Some, None}
 use Rattle.std.specs.Prelude.{slice_index, codes, decimal}
 use Rattle.json.specs.Token.{Token, begin_object, end_object, key as key_token, number as number_token}
 use Rattle.json.specs.Print.{print}
 use Rattle.json.specs.Tree.{json_tokens, members_tokens}
-use Rattle.serde_json.specs.Data.{Data, Members, number, unsigned, string, object, member, no_members}
+use Rattle.serde_json.specs.Data.{Data, Members, no_members}
 use Rattle.serde_json.specs.Written.{compact_text, members_outline, outline}
 use Rattle.serde_json.proofs.Texts.{print-outline}
 use Rattle.sd_base.specs.Types.{RunName}
@@ -15,7 +15,6 @@ use Rattle.sd_message.specs.declared.stream_fault.StreamFault.{StreamFault}
 use Rattle.sd_spec.specs.declared.ending.Ending.{Ending}
 use Rattle.sd_spec.specs.declared.ending.Ending.TheVariants as end
 use Rattle.sd_spec.specs.declared.report.Report.{Report}
-use Rattle.sd_command_base.specs.declared.status.Status.{Status}
 use Rattle.sd_command_base.specs.declared.status.Status.TheVariants.{BadStream}
 use Rattle.sd_command_base.specs.declared.stream_refusal.StreamRefusal.TheVariants.{Packet}
 use Rattle.sd_command_base.specs.Texts.{line_of, revoked_line, unheard_line, unclosed_line, gaps_line, stream_line}

@@ -1,15 +1,13 @@
 -- What comes of one packet that is watched.
-use Rattle.std.proofs.Common.{◌≡◌, ◌<◌, ◌≤◌, ◌+◌, ◌*◌, ◌^◌, ◌∙◌, ℕ, Bool, true, false, List, [], ◌∷◌, ◌++◌, length}
+use Rattle.std.proofs.Common.{◌≡◌, ◌<◌, ◌^◌, ◌∙◌, ℕ, Bool, true, false, List, [], ◌∷◌, length}
 use Rattle.std.proofs.Common.{Option, Some}
 use Rattle.std.proofs.Common.{None, unwrap_or, refl, sym, ap, subst, inl, inr, arith, append-nil}
 use Rattle.std.specs.Prelude.{if◌then◌else◌}
 use Rattle.std.specs.List.{concat}
 use Rattle.std.specs.Io.KnownBytes.{Appends}
 use Rattle.std.proofs.KnownBytes.{Appends-nil}
-use Rattle.sd_base.specs.Count.{HasRisen}
 use Rattle.sd_base.specs.Types.{Packet, Packets}
-use Rattle.sd_base.proofs.Bools.{tested}
-use Rattle.sd_ports.specs.Bytes.{IsPrefix, AppendsPrefix}
+use Rattle.sd_ports.specs.Bytes.{IsPrefix}
 use Rattle.sd_engine.specs.Stage.{SinkState, HasGrown, IsCutShort}
 use Rattle.sd_site.specs.CardFields.{CardFields, card_fields_of}
 use Rattle.sd_site.specs.declared.card.Card.{Card}
@@ -17,7 +15,7 @@ use Rattle.sd_spec.specs.declared.report.Report.{Report}
 use Rattle.sd_spec.specs.Offered.{offered}
 use Rattle.sd_spec.specs.Counting.{counts}
 use Rattle.sd_spec.specs.Reports.{report_of, turns_after}
-use Rattle.sd_watch.specs.Watching.{card_of, counted_of, IsWatching, WatchesPacket, StopsWatching, watcher_does}
+use Rattle.sd_watch.specs.Watching.{card_of, counted_of, IsWatching, WatchesPacket, watcher_does}
 use Rattle.sd_watch.specs.Watching.{watcher_stops}
 use Rattle.sd_watch.specs.declared.watcher.Watcher.{Watcher}
 use Rattle.sd_command_base.specs.declared.status.Status.{Status}

@@ -1,10 +1,9 @@
 -- How a stream is watched, from one packet to the next, and to its end.
 use Rattle.std.proofs.Common.{◌≡◌, ◌⊎◌, ◌+◌, ◌*◌, ◌^◌, ◌<◌, ◌≤◌, ◌∙◌, ℕ, zero, Bool, true, false, List, [], ◌∷◌, ◌++◌}
 use Rattle.std.proofs.Common.{length}
-use Rattle.std.proofs.Common.{◌≢◌, ◌-◌, take, reverse, map, refl, sym, ap, subst, inl, inr, arith, append_assoc}
+use Rattle.std.proofs.Common.{◌≢◌, ◌-◌, take, reverse, refl, sym, ap, subst, inl, inr, arith, append_assoc}
 use Rattle.std.proofs.Common.{append-nil}
 use Rattle.std.proofs.Common.{length-append, Option, Some, None}
-use Rattle.std.specs.Prelude.{min, if◌then◌else◌}
 use Rattle.std.specs.List.{concat}
 use Rattle.std.specs.Io.KnownBytes.{Appends, Consumes, IsAtEnd}
 use Rattle.std.proofs.KnownBytes.{Appends-nil, Appends-trans, Consumes-nil, Consumes-trans}
@@ -16,8 +15,8 @@ use Rattle.sd_base.specs.Types.{Packet, Packets}
 use Rattle.sd_base.proofs.Bools.{tested}
 use Rattle.sd_ports.specs.Bytes.{IsPrefix, AppendsPrefix, LosesPrefix}
 use Rattle.sd_ports.proofs.Starts.{prefix_of_prefix, after_first}
-use Rattle.sd_engine.specs.Cut.{cut, skipped_before, read_from, readable, is_too_long}
-use Rattle.sd_engine.specs.Seeking.{MayCome, CutsOff, CutsNone, ReadsOn, SeekOutcome, SeekStop, SkipsTooMany}
+use Rattle.sd_engine.specs.Cut.{cut, skipped_before, read_from, readable}
+use Rattle.sd_engine.specs.Seeking.{MayCome, SeekOutcome, SeekStop, SkipsTooMany}
 use Rattle.sd_engine.specs.Stage.{SinkState}
 use Rattle.sd_engine.specs.Taken.{IsLeft}
 use Rattle.sd_engine.specs.declared.seeking.SeekFault.{SeekFault}
@@ -36,12 +35,12 @@ use Rattle.sd_command_base.specs.declared.stream_refusal.StreamRefusal.TheVarian
 use Rattle.sd_command_base.specs.Outside.{PageState}
 use Rattle.sd_command_base.specs.Outcome.{IsEnding}
 use Rattle.sd_run_broadcasts.specs.Receive.{ending_status}
-use Rattle.sd_run_broadcasts.specs.Live.{Lived, all_lived, some_lived, unprinted, is_outside}
+use Rattle.sd_run_broadcasts.specs.Live.{all_lived, some_lived, unprinted, is_outside}
 use Rattle.sd_run_broadcasts.specs.Watch.{lines_of, report_line, skipped_at, watched_lines, watched_of, watched_status}
 use Rattle.sd_run_broadcasts.specs.Watch.{watched_steps}
 use Rattle.sd_run_broadcasts.specs.Found.{HasFound, IsReadable}
 use Rattle.sd_run_broadcasts.specs.Watched.{counted_out, turned_lines, line_before, PacketOutcome, passed, stopped}
-use Rattle.sd_run_broadcasts.specs.Watched.{unprinted as page_fault, IsWithinTries, IsUnderWay, KeepsAll, WatchesLeft}
+use Rattle.sd_run_broadcasts.specs.Watched.{unprinted as page_fault, IsWithinTries, IsUnderWay, WatchesLeft}
 use Rattle.sd_run_broadcasts.specs.Watched.{stop_status}
 use Rattle.sd_run_broadcasts.proofs.Found.{found_none, found_more, found_before, found_all, found_last, found_many}
 use Rattle.sd_run_broadcasts.proofs.Found.{found_readable, may_both, readable_begins, all_readable, most_readable}

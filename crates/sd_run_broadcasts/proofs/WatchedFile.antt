@@ -1,7 +1,7 @@
 -- What comes of a stream's file that is watched into OUT, with its lines.
-use Rattle.std.proofs.Common.{◌≡◌, ◌⊎◌, ◌≤◌, ◌^◌, ◌∙◌, ℕ, Bool, true, false, List, [], ◌∷◌, ◌++◌, length, Option}
+use Rattle.std.proofs.Common.{◌≡◌, ◌⊎◌, ◌≤◌, ◌^◌, ◌∙◌, ℕ, true, List, [], ◌∷◌, ◌++◌, length, Option}
 use Rattle.std.proofs.Common.{Some, Result}
-use Rattle.std.proofs.Common.{refl, sym, ap, subst, inl, inr, map}
+use Rattle.std.proofs.Common.{ap, subst, inl, inr}
 use Rattle.std.proofs.lemmas.List.{map-append}
 use Rattle.sd_base.proofs.Bools.{tested}
 use Rattle.sd_engine.specs.Cut.{readable}
@@ -17,9 +17,9 @@ use Rattle.sd_command_base.specs.Outcome.{OutcomeWithin, status_of}
 use Rattle.sd_command_base.specs.Turned.{IsOpened, IsClosed, HasPortCause, unclosed_by}
 use Rattle.sd_command_base.proofs.Turning.{unclosed_told}
 use Rattle.sd_run_broadcasts.specs.Live.{Lived, TellsEnd, is_outside, living}
-use Rattle.sd_run_broadcasts.specs.Watch.{lines_of, report_line, skipped_at, watched_lines, watched_of, watched_status}
+use Rattle.sd_run_broadcasts.specs.Watch.{report_line, skipped_at, watched_lines, watched_of, watched_status}
 use Rattle.sd_run_broadcasts.specs.Watch.{watched_steps, watching}
-use Rattle.sd_run_broadcasts.specs.Watched.{turned_lines, KeepsAll, WatchesLeft}
+use Rattle.sd_run_broadcasts.specs.Watched.{turned_lines, WatchesLeft}
 use Rattle.sd_run_broadcasts.proofs.Living.{IsLive, gives_none, lived_obeys}
 
 -- the last line

@@ -1,17 +1,18 @@
 -- What counts of packets that come one after the other, what is written and what is told of them.
 use Rattle.std.proofs.Common.{◌≡◌, ◌+◌, ◌++◌, true, false, List, [], ◌∷◌, reverse, refl, sym, ap, ◌∙◌, arith}
-use Rattle.std.proofs.Common.{append-nil, append_assoc}
-use Rattle.std.specs.Prelude.{if◌then◌else◌}
+use Rattle.std.proofs.Common.{append-nil, append_assoc, Option, Some, None, is_none}
+use Rattle.std.specs.Prelude.{if◌then◌else◌, ◌&&◌, not}
+use Rattle.std.proofs.lemmas.Bool.{and_parts}
 use Rattle.sd_base.specs.Types.{Packet, Packets}
 use Rattle.sd_base.proofs.Bools.{tested}
 use Rattle.sd_base.proofs.Lists.{reversed}
 use Rattle.sd_site.specs.CardFields.{CardFields}
+use Rattle.sd_message.specs.declared.stream_fault.StreamFault.{StreamFault}
 use Rattle.sd_spec.specs.declared.report.Report.{Report}
-use Rattle.sd_spec.specs.Offered.{offered, out_from, break_from}
-use Rattle.sd_spec.specs.Counting.{counts, counting, tried_keys}
+use Rattle.sd_spec.specs.Offered.{offered, out_from}
+use Rattle.sd_spec.specs.Counting.{is_marked, is_doubled, is_stray_at, counts, counting, tried_keys}
 use Rattle.sd_spec.specs.Reports.{report_of, turns_after, turned_reports}
 use Rattle.sd_spec.proofs.Turns.{one_more}
-use Rattle.sd_watch.proofs.Counted.{counts_unrefused}
 use Rattle.sd_run_broadcasts.specs.Watched.{counted_out}
 
 -- those of packets that count after others, and those others, the newest first
@@ -29,6 +30,21 @@ past_uncounted : (card : CardFields) (past s : Packets) (packet : Packet) → co
     past_after card past (packet ∷ s) ≡ past_after card past s
 unfolding counting
 past_uncounted card past s packet is = rw is refl
+
+-- one that counts isn't refused
+none_of : (fault : Option StreamFault) → is_none fault ≡ true → fault ≡ None
+none_of None is = refl
+none_of (Some fault) is = cc
+
+counts_unrefused : (card : CardFields) (past : Packets) (packet : Packet) → counts card past packet ≡ true →
+    (offered card past packet).fault ≡ None
+unfolding counts
+counts_unrefused card past packet is =
+    let fine = (offered card past packet).fault in
+    let one = and_parts (not (is_marked packet)) (not (is_doubled card past packet)
+    && (not (is_stray_at card past packet) && is_none fine)) is in
+    let two = and_parts (not (is_doubled card past packet)) (not (is_stray_at card past packet) && is_none fine) one.1 in
+    none_of fine (and_parts (not (is_stray_at card past packet)) (is_none fine) two.1).1
 
 -- what those that count write, and then what those behind them do
 pub out_joined : (card : CardFields) (past s t : Packets) →

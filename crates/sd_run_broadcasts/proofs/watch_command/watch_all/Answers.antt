@@ -1,11 +1,8 @@
-use Rattle.std.proofs.Common.{◌≡◌, ◌<◌, ◌≤◌, ◌^◌, ◌∙◌, ℕ, [], refl, ap, subst, arith}
+use Rattle.std.proofs.Common.{◌∙◌, ℕ, [], refl, ap, subst, arith}
 use Rattle.std.proofs.lemmas.Result.{err_from_is_err_and}
-use Rattle.sd_engine.specs.Feeding.{waiting}
 use Rattle.sd_engine.specs.Seeking.{SeekOutcome}
-use Rattle.sd_engine.specs.Stage.{vessel}
 use Rattle.sd_watch.specs.Watching.{card_of}
 use Rattle.sd_command_base.specs.Outside.{page_state}
-use Rattle.sd_command_base.specs.Outcome.{status_of}
 use Rattle.sd_run_broadcasts.specs.Receive.{ending_status}
 use Rattle.sd_run_broadcasts.proofs.Watched.{all_watched, handed, most_watched, not_begun, outside_undone, packet_found}
 use Rattle.sd_run_broadcasts.proofs.Watched.{packet_passed, packet_stopped, seek_stopped}

@@ -1,4 +1,4 @@
-use Rattle.std.proofs.Common.{◌≡◌, ◌∙◌, [], ◌∷◌, ◌++◌, Some, inl, inr, refl, sym, ap, subst}
+use Rattle.std.proofs.Common.{[], Some, refl}
 use Rattle.std.proofs.lemmas.Result.{err_from_is_err_and}
 use Rattle.sd_ports.proofs.Outlets.{there_after}
 use Rattle.sd_watch.specs.Watching.{card_of}
