@@ -9,7 +9,7 @@ use Rattle.std.proofs.lemmas.Bool.{cases_eq, false≢true}
 use Rattle.std.proofs.lemmas.List.{drop-append-le, take-append-le, get_or-drop, get_or_append_left}
 use Rattle.sd_engine.specs.Cut.{begins_packet, cut, skipped_before}
 use Rattle.sd_engine.specs.Seeking.{MayCome, CutsOff, CutsNone, ReadsOn, SeekOutcome, SkipsTooMany, SeekStop}
-use Rattle.sd_engine.specs.Seeking.{HasFilledAhead, IsEnough, IsFirst, IsFound, IsNextSync, IsSearching, Skips}
+use Rattle.sd_engine.specs.Seeking.{HasFilledAhead, IsEnough, IsFound, IsNextSync, IsSearching, Skips}
 use Rattle.sd_engine.specs.Seeking.{TakesFirst, FillAheadStop}
 use Rattle.sd_engine.specs.declared.seeking.SeekFault.{SeekFault}
 use Rattle.sd_engine.specs.declared.seeking.SeekFault.TheVariants.{Read, Write, TooLong}

@@ -3,7 +3,8 @@ ghost use Rattle.std.specs.Prelude.{IfOk, IfErr, IsErrOf};
 ghost use Rattle.sd_base.specs.Count.{IsCaused};
 ghost use Rattle.sd_engine.specs.Cut.{begins_packet};
 ghost use Rattle.sd_engine.specs.Feeding.{waiting};
-ghost use Rattle.sd_engine.specs.Seeking.{SeekOutcome, SeekStop, HasFilledAhead, FillAheadStop, IsFound, TakesFirst, IsNextSync};
+ghost use Rattle.sd_engine.specs.Seeking.{SeekOutcome, SeekStop, HasFilledAhead, FillAheadStop, IsFound};
+ghost use Rattle.sd_engine.specs.Seeking.{TakesFirst, IsNextSync};
 ghost use Rattle.sd_engine.specs.Stage.{vessel};
 
 use crate::feed::{begin, read_until};
@@ -38,8 +39,8 @@ pub enum SeekFault {
 
 /// Finds the next packet by its sync byte: 188 bytes that begin with it, with another sync byte or the end of the input
 /// behind them. Other bytes are passed one by one, and their number is added to `skipped`. `None` is the end of the
-/// input, behind which nothing is read again. What waits in the sink is handed on before anything is read [this project,
-/// docs/FORMATS.md, Streams].
+/// input, behind which nothing is read again. What waits in the sink is handed on before anything is read
+/// [this project, docs/FORMATS.md, Streams].
 #[inline(always)]
 pub fn seek<S: Source, K: Sink>(
     source: &mut S,
