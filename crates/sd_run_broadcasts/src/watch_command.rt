@@ -1,18 +1,15 @@
 ghost use Rattle.std.specs.Prelude.{◌≡◌, ◌≢◌, ◌-◌, ◌<◌, ◌≤◌, ◌^◌, [], List, ℕ, true, length, IfErr, IfOk, OnOk};
 ghost use Rattle.sd_base.specs.Count.{IsCaused};
-ghost use Rattle.sd_site.specs.CardFields.{card_fields_of};
-ghost use Rattle.sd_spec.specs.declared.report.Report.{Report as Reports};
-ghost use Rattle.sd_spec.specs.Ending.{ending_of};
 ghost use Rattle.sd_spec.specs.Reports.{report_of};
-ghost use Rattle.sd_watch.specs.Watching.{card_of, counted_of, IsReady, IsWatching};
-ghost use Rattle.sd_command_base.specs.Outside.{PageState, depot_state, outside, page_state};
-ghost use Rattle.sd_command_base.specs.Outcome.{Implements, IsEnding, status_of};
+ghost use Rattle.sd_watch.specs.Watching.{card_of, IsReady, IsWatching};
+ghost use Rattle.sd_command_base.specs.Outside.{depot_state, outside, page_state};
+ghost use Rattle.sd_command_base.specs.Outcome.{Implements, status_of};
 ghost use Rattle.sd_command_base.specs.Prints.{PrintsPiece};
 ghost use Rattle.sd_command_base.specs.Reads.{FileOutcome, JudgedOutcome};
 ghost use Rattle.sd_command_base.specs.Shown.{shown_word};
 ghost use Rattle.sd_command_base.specs.Turned.{HasPortCause};
 ghost use Rattle.sd_run_broadcasts.specs.Live.{TellsEnd, is_outside};
-ghost use Rattle.sd_run_broadcasts.specs.Receive.{card_of_file, ending_status, told_card};
+ghost use Rattle.sd_run_broadcasts.specs.Receive.{card_of_file, told_card};
 ghost use Rattle.sd_run_broadcasts.specs.Watch.{report_line as line_of_report, watch_meaning, watched_meaning};
 ghost use Rattle.sd_run_broadcasts.specs.Watched.{IsWithinTries, PacketOutcome, WatchesLeft, stop_status};
 
