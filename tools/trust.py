@@ -76,6 +76,20 @@ PARTS = [
         ],
     ),
     (
+        "Damaged streams",
+        "What `watch` does of any stream, that what doesn't count is as if it were lost, and that damage stays where it is.",
+        [
+            "sd_law_run::watch.goes_on,watched",
+            "sd_law_watch::losses_of_runs_are_watched",
+            "sd_law_watch::what_is_refused_is_lost",
+            "sd_law_watch::copies_change_nothing",
+            "sd_law_contained::others_change_nothing",
+            "sd_law_contained::damage_is_contained",
+            "sd_law_contained::changes_stay_in_their_packets",
+            "sd_law_formats::packets_are_found",
+        ],
+    ),
+    (
         "Any stream",
         "What a receiver writes of a stream that nobody vouches for.",
         ["sd_law_keys::written_packets_are_named"],
