@@ -64,7 +64,8 @@ use Rattle.sd_run_books.proofs.CardOthers.{other_cover, other_card_order, other_
 use Rattle.sd_run_books.proofs.CardOthers.{other_opens, other_show, other_trace}
 use Rattle.sd_run_streams.proofs.Others.{other_tables}
 use Rattle.sd_run_broadcasts.proofs.HeadOthers.{other_head}
-use Rattle.sd_run_broadcasts.proofs.ReceiveOthers.{other_receive, other_watch}
+use Rattle.sd_run_broadcasts.proofs.ReceiveOthers.{other_receive}
+use Rattle.sd_run_broadcasts.proofs.WatchOthers.{other_watch}
 use Rattle.sd_run_books.proofs.Others.{other_accounts}
 use Rattle.sd_run_books.proofs.Others.{other_apart}
 use Rattle.sd_run_books.proofs.Others.{other_book_order}
