@@ -481,7 +481,8 @@ sdca watch K0 seam got >/dev/full 2>err
 row "a line can't be printed: exit 5" is "$status" 5
 row "OUT has what was written before it" is "$(wc -c <got)" $((188 * 200))
 sdca watch K0 seam /dev/full >lines 2>err
-row "OUT can't be written: exit 4, and no line but its own" is "$status $(cat lines)" "4 device fault"
+row "OUT can't be written: exit 4, and no last line" is "$status $(cat lines)" "4 $turned
+device fault"
 { first_packets 99 XN && printf 'x' && cat C; } >wild
 sdca watch K0 wild got >lines 2>err
 row "a byte more behind packet 98, which is lost then" is "$(head -n 1 lines)" \
@@ -501,7 +502,7 @@ until [ -s lines ] || [ $turn = 100 ]; do
     sleep 0.05
     turn=$((turn + 1))
 done
-row "a line is printed where a run ends, while the pipe is open" is "$(cat lines)" "$(told '' 608 '"run":0,' 0 600)"
+row "a line is printed where a run ends, while the pipe is open" is "$(cat lines)" "$(told '' 609 '"run":0,' 0 600)"
 row "and OUT has the whole run" is "$(wc -c <got)" $((188 * 600))
 exec 7>&-
 wait "$box"
