@@ -5,12 +5,20 @@ import os
 import subprocess
 import sys
 import tempfile
+from collections import Counter
 from concurrent.futures import ThreadPoolExecutor
 
 SIZE = 188
 BITS = 48
-EMM, ECM = 0x01F0, 0x01F1
-EVERY, CRYPTO = 100, 1
+# The exits of a stream that is read to its end, if the receiver isn't revoked, and what stands in each line.
+ENDINGS = 0, 13, 14, 15
+LINE = b'"packets":'
+SYNC_BITS = 8
+PID_BITS = range(11, 24)
+CLEAR = "clear packet"
+CAT, EMM, ECM = 0x0001, 0x01F0, 0x01F1
+# How many clear packets are between two control messages; each is the first one of a crypto period.
+EVERY = 100
 
 
 def packets_of(data):
@@ -20,37 +28,25 @@ def packets_of(data):
 def kinds_of(packets):
     """What each packet of the stream is, and how many packets one that is lost may cost at most."""
     found = []
-    control = seen = 0
-    for n, packet in enumerate(packets):
+    for packet in packets:
         pid = (packet[1] & 0x1F) << 8 | packet[2]
-        if pid == 1 and not any(kind == "CAT" for kind, _ in found):
-            kind, cost = "CAT", EVERY * CRYPTO
-        elif pid == 1:
-            kind, cost = "later CAT", 0
+        if pid == CAT:
+            found.append(("later CAT", 0) if ("CAT", EVERY) in found else ("CAT", EVERY))
         elif pid == EMM:
-            kind, cost = "section", EVERY * CRYPTO
+            found.append(("entitlements", EVERY))
         elif pid == ECM:
-            last = all((p[1] & 0x1F) << 8 | p[2] != ECM for p in packets[n + 1 : n + 2 + EVERY + 8])
-            kind, cost = "control message", 2 * EVERY
+            found.append(("control message", 2 * EVERY))
         else:
-            kind, cost = "clear packet", EVERY
-        found.append((kind, cost))
+            found.append((CLEAR, EVERY))
     return found
 
 
 def lost(due, got):
-    """How many packets of the one aren't in the other, in order."""
-    at = missing = 0
-    places = {}
-    for i, packet in enumerate(got):
-        places.setdefault(packet, []).append(i)
-    for packet in due:
-        later = [i for i in places.get(packet, []) if i >= at]
-        if later:
-            at = later[0] + 1
-        else:
-            missing += 1
-    return missing
+    """How many of the packets aren't among the others; and whether those that are there stand in their order."""
+    missing = sum((Counter(due) - Counter(got)).values())
+    once = {packet: i for i, packet in enumerate(due) if due.count(packet) == 1}
+    places = [once[packet] for packet in got if packet in once]
+    return missing, all(a < b for a, b in zip(places, places[1:]))
 
 
 def main():
@@ -77,12 +73,19 @@ def main():
         with ThreadPoolExecutor(os.cpu_count()) as pool:
             for n, bit, ran, got in pool.map(run, range(len(packets) * BITS)):
                 kind, most = kinds[n]
-                cost = lost(due, got)
-                row = rows.setdefault(kind, {"flips": 0, "worst": 0, "most": most, "failed": 0})
+                # Without its sync byte a packet isn't found, nor is the one before it.
+                if bit < SYNC_BITS and n > 0:
+                    kind, most = f"{kind}, sync byte", most + kinds[n - 1][1]
+                # A message that comes to another PID is a packet more on it, which may cost what is between two messages.
+                if bit in PID_BITS and kind != CLEAR:
+                    kind, most = f"{kind}, PID", most + EVERY
+                cost, is_ordered = lost(due, got)
+                row = rows.setdefault(kind, {"flips": 0, "worst": 0, "most": 0, "failed": 0})
                 row["flips"] += 1
+                row["most"] = max(row["most"], most)
                 row["worst"] = max(row["worst"], cost)
-                ended = ran.returncode in (0, 14, 15) and f'"packets":'.encode() in ran.stdout
-                if not ended or cost > most:
+                is_ended = ran.returncode in ENDINGS and LINE in ran.stdout
+                if not is_ended or not is_ordered or cost > most:
                     row["failed"] += 1
                     print(f"FAILED: packet {n} ({kind}) bit {bit}: exit {ran.returncode}, costs {cost}")
     for kind, row in sorted(rows.items()):

@@ -10,7 +10,7 @@
 set -eu
 . "$(dirname "$0")/shared.sh"
 
-clear_packets=141
+clear_packets=139
 { sed 's/^height .*/height 3/; s/^ecm-every .*/ecm-every 100/; s/^crypto-ecms .*/crypto-ecms 1/' site && echo 'messages 3'; } >lines
 for number in 1 2; do
     { cat lines && printf 'first-word %s\nlast-word %s\n' $((number * 10)) $((number * 10 + 9)); } >"site-$number"
