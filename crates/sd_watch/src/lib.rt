@@ -2,7 +2,6 @@
 //! and reports on each run as it ends.
 #![tactic(auto)]
 
-mod copies;
 mod recent;
 mod renumber;
 mod uncounted;
