@@ -36,7 +36,12 @@ fn marked(bytes: [u8; 188]) -> Option<Packet> {
 }
 
 // What is reported on these packets, of which none turns to another run.
-fn watched<L: Ledger>(packets: &[Packet], sink: &mut MemSink, watcher: &mut Watcher, blank: Blank) -> Option<Report>
+fn watched<L: Ledger>(
+    packets: &[Packet],
+    sink: &mut MemSink,
+    watcher: &mut Watcher,
+    blank: Blank,
+) -> Option<Report>
     requires name { blank.name ≡ L.name }
     requires parts { blank.parts ≡ L.parts }
     requires some { 0 < blank.parts }
