@@ -457,12 +457,12 @@ told() { echo "{\"doubled\":0,$1\"marked\":0,\"odd\":0,\"packets\":$2,\"refused\
 sdca watch K0 XN got >lines 2>err
 row "watch of a whole broadcast" is "$status $(cat lines err)" "0 $(told '' 608 '' 0 600)"
 row "its clear packets" same got C
-run_site 0 1 0 >S1
-run_site 2 3 1 >S2
+run_site 0 1 0 >first_site
+run_site 2 3 1 >second_site
 sdca sample 8 600 C8
-sdca head S1 N C R1
-sdca head S2 N C8 R2
-{ head -c $((188 * 300 + 77)) R1 && cat R2; } >seam
+sdca head first_site N C first_run
+sdca head second_site N C8 second_run
+{ head -c $((188 * 300 + 77)) first_run && cat second_run; } >seam
 sdca watch K0 seam got >lines 2>err
 { first_packets 200 C && cat C8; } >due
 unclosed="stream ends before message 2"
@@ -496,7 +496,7 @@ mkfifo air
 "$program" watch K0 air got >lines 2>err &
 box=$!
 exec 7>air
-{ cat R1 && first_packets 3 R2; } >&7
+{ cat first_run && first_packets 3 second_run; } >&7
 turn=0
 until [ -s lines ] || [ $turn = 100 ]; do
     sleep 0.05
