@@ -2,12 +2,12 @@
 use Rattle.std.proofs.Common.{◌≡◌, ◌≢◌, ◌⊎◌, ℕ, ◌<◌, ◌≤◌, true, false, ◌==◌, ◌&&◌, ◌||◌, Bool, List, ◌++◌}
 use Rattle.std.proofs.Common.{length, take, refl, sym, ap, ◌∙◌, arith, inl, inr, length-append}
 use Rattle.std.specs.Prelude.{◌↔◌, nat_le, slice_index, Option, Some, None, IsNone, IfSome}
-use Rattle.std.proofs.lemmas.Bool.{cases_eq, eq-eqb, ne_eqb, eqb-true, le-leb, lt-leb, leb-true, and_parts, and_left, and_right}
+use Rattle.std.proofs.lemmas.Bool.{eq-eqb, ne_eqb, eqb-true, le-leb, lt-leb, leb-true, and_parts, and_left, and_right}
 use Rattle.std.proofs.lemmas.Bool.{and_from, or_cases, or_left, or_right}
 use Rattle.std.proofs.lemmas.List.{get_or-take, get_or_append_left}
 use Rattle.std.specs.Array.{IsFirstChunk}
 use Rattle.sd_engine.specs.Cut.{begins_packet}
-use Rattle.sd_engine.specs.Seeking.{BeginsWith}
+use Rattle.sd_engine.specs.Seeking.{TakesFirst}
 
 -- a first byte, a number of bytes and the byte behind a packet
 abbrev begins_by : ℕ → ℕ → ℕ → Bool
@@ -94,19 +94,21 @@ same_first : (bytes first : List ℕ) → first ≡ take 188 bytes → slice_ind
 same_first bytes first is =
     ap (λ (xs : List ℕ). slice_index xs 0) is ∙ get_or-take 188 bytes 0 0 (omega arith)
 
--- the packet of the first bytes, if the end or a sync byte is behind them
-pub packet_read : (bytes first : List ℕ) (result : Option (List ℕ)) → IsFirstChunk bytes first 188 →
-    (length bytes ≡ 188) ⊎ (slice_index bytes 188 ≡ 0x47) → (IsNone result ↔ (slice_index first 0 ≢ 0x47)) →
-    IfSome result (λ packet. packet ≡ first) → BeginsWith bytes result
-packet_read bytes first None is next none value =
-    no_sync_first bytes (λ sync. none.0 refl (same_first bytes first is.same ∙ sync))
-packet_read bytes first (Some packet) is next none value = (
-  elim (cases_eq (slice_index bytes 0) 0x47) [
-    | inl sync ↦ followed bytes sync is.enough next
-    | inr apart ↦ absurd (some_there packet (none.1 (λ sync. apart (sym (same_first bytes first is.same) ∙ sync))))
-  ],
-  value ∙ is.same,
-)
-  where
-    some_there : (packet : List ℕ) → IsNone {T = List ℕ} (Some packet) → ⊥
-    some_there packet is = let no = is in cc
+-- the packet of the first bytes, if they begin with the sync byte
+pub first_taken : (bytes first : List ℕ) (result : Option (List ℕ)) → IsFirstChunk bytes first 188 →
+    (IsNone result ↔ (slice_index first 0 ≢ 0x47)) → IfSome result (λ packet. packet ≡ first) → TakesFirst bytes result
+first_taken bytes first None is none value = record {
+  packet = λ begins. absurd (none.0 refl (same_first bytes first is.same ∙ (parts_of bytes begins).sync));
+  none = λ e. refl;
+}
+first_taken bytes first (Some packet) is none value = record {
+  packet = λ begins. ap (λ (p : List ℕ). Some p) (value ∙ is.same);
+  none = λ e. absurd (omega (arith, is.enough, ap (λ (xs : List ℕ). length xs) e));
+}
+
+-- no packet is taken of too few bytes
+pub none_taken : (bytes : List ℕ) → length bytes < 188 → TakesFirst bytes None
+none_taken bytes few = record {
+  packet = λ begins. absurd (omega (arith, few, (parts_of bytes begins).long));
+  none = λ e. refl;
+}

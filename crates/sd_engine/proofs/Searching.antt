@@ -2,14 +2,15 @@
 use Rattle.std.proofs.Common.{◌≡◌, ◌⊎◌, ℕ, zero, suc, ◌+◌, ◌-◌, ◌^◌, ◌<◌, ◌≤◌, true, false, Bool, List, [], ◌∷◌}
 use Rattle.std.proofs.Common.{◌++◌, length, take, drop, refl, sym, ap, subst, ◌∙◌, arith, inl, inr}
 use Rattle.std.proofs.Common.{append_assoc, append-nil, length-append, length-drop, length-take-le}
-use Rattle.std.specs.Prelude.{slice_index, Option, Some, None}
+use Rattle.std.specs.Prelude.{slice_index, unwrap_or, Option, Some, None}
 use Rattle.std.specs.Io.KnownBytes.{Consumes}
 use Rattle.std.proofs.KnownBytes.{Consumes-nil, Consumes-trans}
 use Rattle.std.proofs.lemmas.Bool.{cases_eq, false≢true}
 use Rattle.std.proofs.lemmas.List.{drop-append-le, take-append-le, get_or-drop, get_or_append_left}
 use Rattle.sd_engine.specs.Cut.{begins_packet, cut, skipped_before}
 use Rattle.sd_engine.specs.Seeking.{MayCome, CutsOff, CutsNone, ReadsOn, SeekOutcome, SkipsTooMany, SeekStop}
-use Rattle.sd_engine.specs.Seeking.{HasFilledAhead, BeginsWith, IsNextSync, FillAheadStop}
+use Rattle.sd_engine.specs.Seeking.{HasFilledAhead, IsEnough, IsFound, IsNextSync, IsSearching, Skips}
+use Rattle.sd_engine.specs.Seeking.{TakesFirst, FillAheadStop}
 use Rattle.sd_engine.specs.declared.seeking.SeekFault.{SeekFault}
 use Rattle.sd_engine.specs.declared.seeking.SeekFault.TheVariants.{Read, Write, TooLong}
 use Rattle.sd_engine.specs.Feeding.{waiting}
@@ -17,27 +18,6 @@ use Rattle.sd_engine.proofs.Feeding.{count_waits, waits_behind}
 use Rattle.sd_engine.proofs.Begins.{begins_still, no_sync_first, parts_of}
 use Rattle.sd_engine.proofs.Cutting.{cut_end, skipped_end, cut_packet, skipped_packet, skipped_none, cut_passed}
 use Rattle.sd_engine.proofs.Cutting.{skipped_passed}
-
--- of these bytes so many were passed, and the rest is left, whatever comes
-pub record Skips (bytes left : List ℕ) (ended : Bool) (passed : ℕ) : Type 0 where
-  pub cuts : (more : List ℕ) → MayCome ended more → cut (bytes ++ more) ≡ cut (left ++ more)
-  pub skipped : (more : List ℕ) → MayCome ended more → (k : ℕ) →
-      skipped_before k zero (bytes ++ more) ≡ passed + skipped_before k zero (left ++ more)
-  pub long : length bytes ≡ passed + length left
-
--- a search so far
-pub record IsSearching (before now : Option (List ℕ)) (old left : List ℕ) (was_ended ended : Bool)
-    (skipped_old skipped : ℕ) : Type 0 where
-  pub bytes : List ℕ
-  pub reads : ReadsOn before now bytes was_ended ended
-  pub passed : ℕ
-  pub skips : Skips (old ++ bytes) left ended passed
-  pub skipped_are : skipped ≡ skipped_old + passed
-  pub few : skipped_old < 2 ^ 64 - 1 → skipped < 2 ^ 64 - 1
-
--- enough bytes wait to tell whether they begin with a packet
-abbrev pub IsEnough : List ℕ → Bool → Type 0
-IsEnough left ended = (189 ≤ length left) ⊎ (ended ≡ true)
 
 begins_whatever : (left more : List ℕ) (ended : Bool) → IsEnough left ended → MayCome ended more →
     begins_packet (left ++ more) ≡ begins_packet left
@@ -204,12 +184,6 @@ search_passed a b old left was ended skipped_old skipped count so enough none ne
   few = λ h. few;
 }
 
--- a packet waits
-pub packet_waits : (piece packet : List ℕ) (at filled : ℕ) → filled ≤ length piece →
-    BeginsWith (waiting piece at filled) (Some packet) → 188 ≤ filled - at
-packet_waits piece packet at filled within begins =
-    omega (arith, (parts_of (waiting piece at filled) begins.0).long, count_waits piece at filled within)
-
 -- enough waits, and nothing is read
 pub filled_before : (a : Option (List ℕ)) (left : List ℕ) (ended : Bool) → IsEnough left ended →
     HasFilledAhead a a left ended left ended
@@ -236,20 +210,41 @@ search_found a b old left packet was ended skipped_old skipped so enough begins 
   few = so.few;
 }
 
--- what waits behind the packet
-pub search_gives : (a b : Option (List ℕ)) (old piece packet : List ℕ) (at filled now_at now_filled : ℕ)
+-- what is taken of a search that is done
+taken_packet : (left packet : List ℕ) → TakesFirst left (Some packet) →
+    (begins_packet left ≡ true) ⊎ (left ≡ []) → (begins_packet left ≡ true) × (packet ≡ take 188 left)
+taken_packet left packet takes (inl begins) = (begins, some_is packet (take 188 left) (takes.packet begins))
+  where
+    some_is : (x y : List ℕ) → Some x ≡ Some y → x ≡ y
+    some_is x y e = ap (λ (o : Option (List ℕ)). unwrap_or o []) e
+taken_packet left packet takes (inr none) = absurd (let no = takes.none none in cc)
+
+taken_none : (left : List ℕ) → TakesFirst left None → (begins_packet left ≡ true) ⊎ (left ≡ []) → left ≡ []
+taken_none left takes (inl begins) = absurd (let no = takes.packet begins in cc)
+taken_none left takes (inr none) = none
+
+pub packet_waits : (a b : Option (List ℕ)) (old piece packet : List ℕ) (at filled : ℕ) (was ended : Bool)
+    (skipped_old skipped : ℕ) → IsFound a b old (waiting piece at filled) was ended skipped_old skipped →
+    TakesFirst (waiting piece at filled) (Some packet) → filled ≤ length piece → 188 ≤ filled - at
+packet_waits a b old piece packet at filled was ended skipped_old skipped found takes within =
+    let begins = taken_packet (waiting piece at filled) packet takes found.first.1 in
+    omega (arith, (parts_of (waiting piece at filled) begins.0).long, count_waits piece at filled within)
+
+pub found_packet : (a b : Option (List ℕ)) (old piece packet : List ℕ) (at filled now_at now_filled : ℕ)
     (was ended now_ended : Bool) (skipped_old skipped : ℕ) →
-    IsSearching a b old (waiting piece at filled) was ended skipped_old skipped →
-    IsEnough (waiting piece at filled) ended → BeginsWith (waiting piece at filled) (Some packet) →
+    IsFound a b old (waiting piece at filled) was ended skipped_old skipped →
+    TakesFirst (waiting piece at filled) (Some packet) →
     filled ≤ length piece → now_at ≡ at + 188 → now_filled ≡ filled → now_ended ≡ ended →
     SeekOutcome a b old was (waiting piece now_at now_filled) now_ended skipped_old skipped (Some packet)
-search_gives a b old piece packet at filled now_at now_filled was ended now_ended skipped_old skipped so enough begins
-    within at_is filled_is ended_is =
+found_packet a b old piece packet at filled now_at now_filled was ended now_ended skipped_old skipped found takes within
+    at_is filled_is ended_is =
     rw ended_is (
     subst (λ (xs : List ℕ). SeekOutcome a b old was xs ended skipped_old skipped (Some packet))
-    (waits_behind piece at filled 188 (packet_waits piece packet at filled within begins)
+    (waits_behind piece at filled 188
+    (packet_waits a b old piece packet at filled was ended skipped_old skipped found takes within)
     ∙ sym (ap (λ (n : ℕ). waiting piece n now_filled) at_is ∙ ap (λ (n : ℕ). waiting piece (at + 188) n) filled_is))
-    (search_found a b old (waiting piece at filled) packet was ended skipped_old skipped so enough begins))
+    (search_found a b old (waiting piece at filled) packet was ended skipped_old skipped found.so found.first.0
+    (taken_packet (waiting piece at filled) packet takes found.first.1)))
 
 -- what waits behind the bytes that are passed
 pub search_passes : (a b : Option (List ℕ)) (old piece : List ℕ) (at filled now_at now_filled : ℕ)
@@ -286,6 +281,13 @@ search_ended a b old left was ended skipped_old skipped so (inr end) none = reco
   skipped = so.skipped_are;
   few = so.few;
 }
+
+pub found_end : (a b : Option (List ℕ)) (old left : List ℕ) (was ended : Bool) (skipped_old skipped : ℕ) →
+    IsFound a b old left was ended skipped_old skipped → TakesFirst left None →
+    SeekOutcome a b old was left ended skipped_old skipped None
+found_end a b old left was ended skipped_old skipped found takes =
+    search_ended a b old left was ended skipped_old skipped found.so found.first.0
+    (taken_none left takes found.first.1)
 
 -- too many bytes were passed
 pub search_too_long : (a b : Option (List ℕ)) (old left : List ℕ) (was ended : Bool)

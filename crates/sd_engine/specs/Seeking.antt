@@ -64,13 +64,44 @@ SeekStop before now old was_ended skipped Read = (was_ended ≡ false) × LosesP
 SeekStop before now old was_ended skipped Write = (was_ended ≡ false) × LosesPrefix before now
 SeekStop before now old was_ended skipped TooLong = SkipsTooMany before now old was_ended skipped
 
+-- enough bytes wait to tell whether they begin with a packet
+abbrev pub IsEnough : List ℕ → Bool → Type 0
+IsEnough left ended = (189 ≤ length left) ⊎ (ended ≡ true)
+
+-- of these bytes so many were passed, and the rest is left, whatever comes
+pub record Skips (bytes left : List ℕ) (ended : Bool) (passed : ℕ) : Type 0 where
+  pub cuts : (more : List ℕ) → MayCome ended more → cut (bytes ++ more) ≡ cut (left ++ more)
+  pub skipped : (more : List ℕ) → MayCome ended more → (k : ℕ) →
+      skipped_before k zero (bytes ++ more) ≡ passed + skipped_before k zero (left ++ more)
+  pub long : length bytes ≡ passed + length left
+
+-- a search so far
+pub record IsSearching (before now : Option (List ℕ)) (old left : List ℕ) (was_ended ended : Bool)
+    (skipped_old skipped : ℕ) : Type 0 where
+  pub bytes : List ℕ
+  pub reads : ReadsOn before now bytes was_ended ended
+  pub passed : ℕ
+  pub skips : Skips (old ++ bytes) left ended passed
+  pub skipped_are : skipped ≡ skipped_old + passed
+  pub few : skipped_old < 2 ^ 64 - 1 → skipped < 2 ^ 64 - 1
+
+-- a packet is first in what is left, whatever comes; or the end
+abbrev pub IsFirst : List ℕ → Bool → Type 0
+IsFirst left ended = IsEnough left ended × ((begins_packet left ≡ true) ⊎ (left ≡ []))
+
+-- a search is done: a packet is first in what is left, or nothing is left to come
+pub record IsFound (before now : Option (List ℕ)) (old left : List ℕ) (was_ended ended : Bool)
+    (skipped_old skipped : ℕ) : Type 0 where
+  pub so : IsSearching before now old left was_ended ended skipped_old skipped
+  pub first : IsFirst left ended
+
 -- the bytes of a packet and one more wait, or all that is left, and the end was read
 pub record HasFilledAhead (before now : Option (List ℕ)) (old : List ℕ) (was_ended : Bool) (new : List ℕ)
     (ended : Bool) : Type 0 where
   pub bytes : List ℕ
   pub reads : ReadsOn before now bytes was_ended ended
   pub joined : new ≡ old ++ bytes
-  pub enough : (189 ≤ length new) ⊎ (ended ≡ true)
+  pub enough : IsEnough new ended
 
 -- why not as many bytes wait: a read failed, or a write before it
 abbrev pub FillAheadStop : Option (List ℕ) → Option (List ℕ) → Bool → SeekFault → Type 0
@@ -78,10 +109,10 @@ FillAheadStop before now was_ended Read = (was_ended ≡ false) × LosesPrefix b
 FillAheadStop before now was_ended Write = (was_ended ≡ false) × (now ≡ before)
 FillAheadStop before now was_ended TooLong = ⊥
 
--- the packet with which bytes begin, if they do
-abbrev pub BeginsWith : List ℕ → Option (List ℕ) → Type 0
-BeginsWith bytes (Some packet) = (begins_packet bytes ≡ true) × (packet ≡ take 188 bytes)
-BeginsWith bytes None = begins_packet bytes ≡ false
+-- the packet of the first bytes, if they begin with one, or none of no bytes
+pub record TakesFirst (bytes : List ℕ) (found : Option (List ℕ)) : Type 0 where
+  pub packet : begins_packet bytes ≡ true → found ≡ Some (take 188 bytes)
+  pub none : bytes ≡ [] → found ≡ None
 
 -- no byte before this one is a sync byte but the first, and this one is, or is the end
 pub record IsNextSync (bytes : List ℕ) (count : ℕ) : Type 0 where

@@ -1,8 +1,10 @@
 ghost use Rattle.std.specs.Prelude.{◌≡◌, ◌+◌, ◌-◌, ◌<◌, ◌≤◌, None, length};
 ghost use Rattle.std.specs.Prelude.{IfOk, IfErr, IsErrOf};
 ghost use Rattle.sd_base.specs.Count.{IsCaused};
+ghost use Rattle.sd_engine.specs.Cut.{begins_packet};
 ghost use Rattle.sd_engine.specs.Feeding.{waiting};
-ghost use Rattle.sd_engine.specs.Seeking.{SeekOutcome, SeekStop, HasFilledAhead, FillAheadStop, BeginsWith, IsNextSync};
+ghost use Rattle.sd_engine.specs.Seeking.{SeekOutcome, SeekStop, HasFilledAhead, FillAheadStop, IsFound};
+ghost use Rattle.sd_engine.specs.Seeking.{TakesFirst, IsNextSync};
 ghost use Rattle.sd_engine.specs.Stage.{vessel};
 
 use crate::feed::{begin, read_until};
@@ -37,8 +39,8 @@ pub enum SeekFault {
 
 /// Finds the next packet by its sync byte: 188 bytes that begin with it, with another sync byte or the end of the input
 /// behind them. Other bytes are passed one by one, and their number is added to `skipped`. `None` is the end of the
-/// input, behind which nothing is read again. What waits in the sink is handed on before anything is read [this project,
-/// docs/FORMATS.md, Streams].
+/// input, behind which nothing is read again. What waits in the sink is handed on before anything is read
+/// [this project, docs/FORMATS.md, Streams].
 #[inline(always)]
 pub fn seek<S: Source, K: Sink>(
     source: &mut S,
@@ -63,10 +65,40 @@ pub fn seek<S: Source, K: Sink>(
     ensures told { IsErrOf result SeekFault.Write → K.held sink.old ≡ None }
     ensures written { IsCaused (K.faults sink.old) (K.faults sink.new) (IsErrOf result SeekFault.Write) }
 {
-    if ahead.filled - ahead.at > SIZE {
-        if let Some(packet) = first_packet(&piece[ahead.at..ahead.filled]) {
-            return Ok((Some(packet), behind(ahead, SIZE)));
-        }
+    let ahead = find(source, sink, piece, ahead, skipped)?;
+    match first_packet(&piece[ahead.at..ahead.filled]) {
+        Some(packet) => Ok((Some(packet), behind(ahead, SIZE))),
+        None => Ok((None, ahead)),
+    }
+}
+
+/// Finds the next packet, which is first in what waits then, or the end of the input, where nothing waits.
+#[inline(always)]
+fn find<S: Source, K: Sink>(
+    source: &mut S,
+    sink: &mut K,
+    piece: &mut [u8],
+    ahead: Ahead,
+    skipped: &mut u64,
+) -> Result<Ahead, SeekFault>
+    requires begun { ahead.at ≤ ahead.filled }
+    requires within { ahead.filled ≤ length piece.old }
+    requires room { 189 ≤ length piece.old }
+    ensures begun { IfOk result (λ now. now.at ≤ now.filled) }
+    ensures within { IfOk result (λ now. now.filled ≤ length piece.new) }
+    ensures length { length piece.new ≡ length piece.old }
+    ensures value { IfOk result (λ now. IsFound (S.left source.old) (S.left source.new)
+        (waiting piece.old ahead.at ahead.filled) (waiting piece.new now.at now.filled) ahead.ended now.ended
+        skipped.old skipped.new) }
+    ensures fault { IfErr result (SeekStop (S.left source.old) (S.left source.new)
+        (waiting piece.old ahead.at ahead.filled) ahead.ended skipped.old) }
+    ensures cause { IsCaused (S.faults source.old) (S.faults source.new) (IsErrOf result SeekFault.Read) }
+    ensures same { vessel K.Sink sink.new ≡ vessel K.Sink sink.old }
+    ensures told { IsErrOf result SeekFault.Write → K.held sink.old ≡ None }
+    ensures written { IsCaused (K.faults sink.old) (K.faults sink.new) (IsErrOf result SeekFault.Write) }
+{
+    if ahead.filled - ahead.at > SIZE && begins(&piece[ahead.at..ahead.filled]) {
+        return Ok(ahead);
     }
     search(source, sink, piece, ahead, skipped)
 }
@@ -79,16 +111,16 @@ fn search<S: Source, K: Sink>(
     piece: &mut [u8],
     ahead: Ahead,
     skipped: &mut u64,
-) -> Result<(Option<Packet>, Ahead), SeekFault>
+) -> Result<Ahead, SeekFault>
     requires begun { ahead.at ≤ ahead.filled }
     requires within { ahead.filled ≤ length piece.old }
     requires room { 189 ≤ length piece.old }
-    ensures begun { IfOk result (λ given. given.1.at ≤ given.1.filled) }
-    ensures within { IfOk result (λ given. given.1.filled ≤ length piece.new) }
+    ensures begun { IfOk result (λ now. now.at ≤ now.filled) }
+    ensures within { IfOk result (λ now. now.filled ≤ length piece.new) }
     ensures length { length piece.new ≡ length piece.old }
-    ensures value { IfOk result (λ given. SeekOutcome (S.left source.old) (S.left source.new)
-        (waiting piece.old ahead.at ahead.filled) ahead.ended
-        (waiting piece.new given.1.at given.1.filled) given.1.ended skipped.old skipped.new given.0) }
+    ensures value { IfOk result (λ now. IsFound (S.left source.old) (S.left source.new)
+        (waiting piece.old ahead.at ahead.filled) (waiting piece.new now.at now.filled) ahead.ended now.ended
+        skipped.old skipped.new) }
     ensures fault { IfErr result (SeekStop (S.left source.old) (S.left source.new)
         (waiting piece.old ahead.at ahead.filled) ahead.ended skipped.old) }
     ensures cause { IsCaused (S.faults source.old) (S.faults source.new) (IsErrOf result SeekFault.Read) }
@@ -100,11 +132,8 @@ fn search<S: Source, K: Sink>(
     loop {
         ahead = fill_ahead(source, sink, piece, ahead)?;
         let rest = &piece[ahead.at..ahead.filled];
-        if let Some(packet) = first_packet(rest) {
-            return Ok((Some(packet), behind(ahead, SIZE)));
-        }
-        if rest.is_empty() {
-            return Ok((None, ahead));
+        if rest.is_empty() || begins(rest) {
+            return Ok(ahead);
         }
         let passed = next_sync(rest);
         if passed as u64 >= u64::MAX - *skipped {
@@ -167,16 +196,24 @@ fn behind(ahead: Ahead, count: usize) -> Ahead
     }
 }
 
-/// The packet with which bytes begin, if they do.
+/// Whether bytes begin with a packet, if these are all that come, or more than its bytes.
 #[inline(always)]
-#[tactic(auto, using(crate::proofs::Begins::too_few, crate::proofs::Begins::not_followed))]
+#[tactic(auto, using(crate::proofs::Begins::too_few, crate::proofs::Begins::no_sync_first, crate::proofs::Begins::not_followed, crate::proofs::Begins::followed))]
+fn begins(bytes: &[u8]) -> bool
+    ensures { result ≡ begins_packet bytes.now }
+{
+    bytes.len() >= SIZE
+        && bytes[0] == SYNC_BYTE
+        && (bytes.len() == SIZE || bytes[SIZE] == SYNC_BYTE)
+}
+
+/// The packet with which bytes begin, or `None` if there are none.
+#[inline(always)]
+#[tactic(auto, using(crate::proofs::Begins::first_taken, crate::proofs::Begins::none_taken))]
 fn first_packet(bytes: &[u8]) -> Option<Packet>
-    ensures { BeginsWith bytes.now result }
+    ensures { TakesFirst bytes.now result }
 {
     let first = bytes.first_chunk::<SIZE>()?;
-    if bytes.len() > SIZE && bytes[SIZE] != SYNC_BYTE {
-        return None;
-    }
     Packet::new(*first)
 }
 

@@ -19,3 +19,4 @@ pub mod Book
 pub mod Watch
 pub mod Counting
 pub mod Reports
+pub mod Aired

@@ -53,17 +53,26 @@ is_one_too_many before packet =
 abbrev pub is_too_long : SiteFields → PacketNumber → Bool
 is_too_long site k = (k == 2 ^ 32 - 1) || nat_lt site.last_word (word_of site k)
 
+-- the first rule that a packet breaks after these packets, where it has this number, and this is wrong with it as a PAT
+abbrev pub broken_rule : SiteFields → Packets → Packet → Option FormFault → PacketNumber → Option ClearFault
+broken_rule site before packet wrong n =
+    fault_where (not (scrambling_of packet == 0)) (AlreadyScrambled n)
+    (fault_where (is_reserved_pid site (pid_of packet)) (PidTaken n (pid_of packet))
+    (form_where wrong (PatForm n)
+    (fault_where (is_full_own site (kind_of before packet) packet) (PmtForm n Form.NoRoom)
+    (fault_where (is_one_too_many before packet) (TooManyPids n)
+    (fault_where (is_too_long site (length before)) (TooLong n)
+    None)))))
+
 -- why a packet is refused after these packets, by the first rule that it breaks [this project, docs/FORMATS.md,
 -- Broadcast]
 unfoldable pub refusal_of : SiteFields → Packets → Packet → Option ClearFault
-refusal_of site before packet =
-    fault_where (not (scrambling_of packet == 0)) (AlreadyScrambled (length before))
-    (fault_where (is_reserved_pid site (pid_of packet)) (PidTaken (length before) (pid_of packet))
-    (form_where (pat_wrong packet) (PatForm (length before))
-    (fault_where (is_full_own site (kind_of before packet) packet) (PmtForm (length before) Form.NoRoom)
-    (fault_where (is_one_too_many before packet) (TooManyPids (length before))
-    (fault_where (is_too_long site (length before)) (TooLong (length before))
-    None)))))
+refusal_of site before packet = broken_rule site before packet (pat_wrong packet) (length before)
+
+-- why a packet can't be sent after these packets, where it has this number, whatever is wrong with it as a PAT [this
+-- project, docs/FORMATS.md, On air]
+unfoldable pub unsent_at : SiteFields → Packets → PacketNumber → Packet → Option ClearFault
+unsent_at site before n packet = broken_rule site before packet None n
 
 -- the first refusal among packets after others
 unfoldable pub refusal_from : SiteFields → Packets → Packets → Option ClearFault
@@ -74,3 +83,13 @@ refusal_from site before (packet ∷ packets) =
 -- no packet of a clear stream is refused
 abbrev pub IsClear : SiteFields → Packets → Type 0
 IsClear site clear = refusal_from site [] clear ≡ None
+
+-- why the first of these packets that can't be sent after others can't be
+unfoldable pub unsent_from : SiteFields → Packets → Packets → Option ClearFault
+unsent_from site before [] = None
+unsent_from site before (packet ∷ packets) =
+    option_map_or Some (unsent_at site before (length before) packet) (unsent_from site (before ++ packet ∷ []) packets)
+
+-- each packet of a clear stream can be sent
+abbrev pub IsSendable : SiteFields → Packets → Type 0
+IsSendable site clear = unsent_from site [] clear ≡ None

@@ -5,9 +5,11 @@
 mod ending;
 mod event;
 mod kind;
+mod left_out;
 mod report;
 
 pub use ending::Ending;
 pub use event::Event;
 pub use kind::Kind;
+pub use left_out::LeftOut;
 pub use report::{Report, Tally};

@@ -1,52 +1,150 @@
 -- The last scrambled packets.
-use Rattle.std.proofs.Common.{arith, ◌≡◌, ℕ, ◌-◌, ◌==◌, [], ◌∷◌, ◌++◌, refl, ap, sym, ◌∙◌, Bool, true}
-use Rattle.std.proofs.Common.{false, length, take, drop, length-drop}
-use Rattle.std.specs.Prelude.{◌||◌, ◌≢◌, filter, reverse, bytes_eq}
+use Rattle.std.proofs.Common.{arith, ◌≡◌, ℕ, suc, ◌+◌, ◌-◌, ◌%◌, ◌==◌, ◌<◌, ◌≤◌, [], ◌∷◌, ◌++◌, refl, ap, sym, ◌∙◌}
+use Rattle.std.proofs.Common.{Bool, true, false, length, take, drop, length-drop, append-nil, append_assoc, inl, inr}
+use Rattle.std.proofs.Common.{length-append, drop-cons}
+use Rattle.std.specs.Prelude.{◌||◌, ◌≢◌, filter, reverse, bytes_eq, set}
 use Rattle.std.specs.List.{list_any}
-use Rattle.std.proofs.lemmas.Bool.{eq-eqb, ne_eqb}
-use Rattle.std.proofs.lemmas.List.{reverse-append, length-reverse, take-append-drop, take-take, drop_at}
+use Rattle.std.proofs.lemmas.Bool.{eq-eqb, ne_eqb, cases_lt}
+use Rattle.std.proofs.lemmas.List.{reverse-append, length-reverse, length-take, length-set, take-append-drop, take-take}
+use Rattle.std.proofs.lemmas.List.{drop_at, drop_all, take_all, drop-set-lt, take_more_set}
 use Rattle.std.proofs.lemmas.List.Folds.{list_any-append}
 use Rattle.std.proofs.lemmas.List.Sorted.{list_any-IsPermutation, IsPermutation-reverse}
-use Rattle.circular_buffer.specs.Buffer.{Buffer, buffer, keep_last}
 use Rattle.sd_base.specs.Types.{Packet, Packets}
 use Rattle.sd_packet.specs.Header.{scrambling_of}
 use Rattle.sd_spec.specs.Counting.{is_scrambled_packet, is_copy}
 use Rattle.sd_watch.specs.Watching.{IsRecent}
 use Rattle.sd_watch.specs.declared.recent.Recent.{Recent}
 
--- the last of packets that are reversed are the first of them
-keep_reversed : (n : ℕ) (packets : Packets) → keep_last n (reverse packets) ≡ reverse (take n packets)
-keep_reversed n packets =
-    let cut : reverse packets ≡ reverse (drop n packets) ++ reverse (take n packets) =
-    ap (λ (ps : Packets). reverse ps) (sym (take-append-drop n packets))
-    ∙ reverse-append (take n packets) (drop n packets) in
-    let all : length (reverse packets) ≡ length packets = length-reverse packets in
-    let some : length (reverse (drop n packets)) ≡ length (drop n packets) = length-reverse (drop n packets) in
-    let left : length (drop n packets) ≡ length packets - n = length-drop n packets in
-    let at : length (reverse (drop n packets)) ≡ length (reverse packets) - n = omega (arith, all, some, left) in
-    ap (λ (ps : Packets). drop (length (reverse packets) - n) ps) cut
-    ∙ drop_at (reverse (drop n packets)) (reverse (take n packets)) (length (reverse packets) - n) at
+-- packets from one on and round to it
+abbrev from_round : ℕ → Packets → Packets
+from_round oldest packets = drop oldest packets ++ take oldest packets
 
--- one packet more
-pub kept_more : (scrambled : Packets) (packet : Packet) →
-    keep_last 15 (reverse (take 15 scrambled) ++ packet ∷ []) ≡ reverse (take 15 (packet ∷ scrambled))
-kept_more scrambled packet =
-    ap (λ (ps : Packets). keep_last 15 ps) (sym (reverse-append (packet ∷ []) (take 15 scrambled)))
-    ∙ (keep_reversed 15 (packet ∷ take 15 scrambled)
-    ∙ ap (λ (ps : Packets). reverse (packet ∷ ps)) (take-take 14 15 scrambled (omega arith)))
+-- no packet
+pub none_kept : (recent : Recent) → recent.packets.items ≡ [] → recent.oldest ≡ 0 → IsRecent [] recent
+none_kept recent none first = record {
+  few = let long = ap (λ (ps : Packets). length ps) none in omega (arith, long);
+  begins = λ less. first;
+  last = rw (none, first) refl;
+}
 
-pub scrambled_more : (past : Packets) (packet : Packet) (old new : Recent) → IsRecent past old →
-    scrambling_of packet ≢ 0 →
-    new.packets ≡ buffer (keep_last old.packets.capacity (old.packets.items ++ packet ∷ [])) old.packets.capacity →
+-- the packets that come before the last of those that are reversed
+all_but_oldest : (n : ℕ) (packets : Packets) → length (take (suc n) packets) ≡ suc n →
+    drop 1 (reverse (take (suc n) packets)) ≡ reverse (take n packets)
+all_but_oldest n packets full =
+    let whole : Packets = take (suc n) packets in
+    let cut : reverse whole ≡ reverse (drop n whole) ++ reverse (take n whole) =
+    ap (λ (ps : Packets). reverse ps) (sym (take-append-drop n whole)) ∙ reverse-append (take n whole) (drop n whole) in
+    let some : length (reverse (drop n whole)) ≡ length (drop n whole) = length-reverse (drop n whole) in
+    let left : length (drop n whole) ≡ length whole - n = length-drop n whole in
+    let at : length (reverse (drop n whole)) ≡ 1 = omega (arith, full, some, left) in
+    ap (λ (ps : Packets). drop 1 ps) cut
+    ∙ (drop_at (reverse (drop n whole)) (reverse (take n whole)) 1 at
+    ∙ ap (λ (ps : Packets). reverse ps) (take-take n (suc n) packets (omega arith)))
+
+-- with a packet in front
+in_front : (scrambled : Packets) (packet : Packet) →
+    reverse (take 15 (packet ∷ scrambled)) ≡ reverse (take 14 scrambled) ++ packet ∷ []
+in_front scrambled packet = reverse-append (packet ∷ []) (take 14 scrambled)
+
+-- a scrambled packet is one of those that are looked at
+scrambled_with : (past : Packets) (packet : Packet) → scrambling_of packet ≢ 0 →
+    filter is_scrambled_packet (packet ∷ past) ≡ packet ∷ filter is_scrambled_packet past
+scrambled_with past packet scrambled =
+    let test : (scrambling_of packet == 0) ≡ false = ne_eqb (scrambling_of packet) 0 scrambled in rw test refl
+
+-- as many are kept as are looked at
+kept_long : (past : Packets) (recent : Recent) → IsRecent past recent →
+    length (take 15 (filter is_scrambled_packet past)) ≡ length recent.packets.items
+kept_long past recent is =
+    let ps : Packets = recent.packets.items in
+    let k : ℕ = recent.oldest in
+    let round = length-append (drop k ps) (take k ps) in
+    let less = length-drop k ps in
+    let some = length-take k ps in
+    let same = ap (λ (l : Packets). length l) is.last in
+    let all = length-reverse (take 15 (filter is_scrambled_packet past)) in
+    omega (arith, round, less, some, same, all)
+
+-- a scrambled packet more, while there are fewer than 15
+pub added : (past : Packets) (packet : Packet) (old new : Recent) → IsRecent past old → scrambling_of packet ≢ 0 →
+    length old.packets.items < 15 → new.packets.items ≡ old.packets.items ++ packet ∷ [] → new.oldest ≡ old.oldest →
     IsRecent (packet ∷ past) new
-scrambled_more past packet old new recent scrambled is =
-    let test : (scrambling_of packet == 0) ≡ false = ne_eqb (scrambling_of packet) 0 scrambled in
-    let with : filter is_scrambled_packet (packet ∷ past) ≡ packet ∷ filter is_scrambled_packet past = rw test refl in
+added past packet old new is scrambled less more same =
+    let ps : Packets = old.packets.items in
+    let scr : Packets = filter is_scrambled_packet past in
+    let first : old.oldest ≡ 0 = is.begins less in
+    let kept = kept_long past old is in
+    let cut = length-take 15 scr in
+    let short : length scr ≤ 14 = omega (arith, kept, cut, less) in
+    let was : ps ≡ reverse scr =
+    sym (append-nil ps) ∙ (sym (ap (λ (k : ℕ). from_round k ps) first) ∙ (is.last
+    ∙ ap (λ (l : Packets). reverse l) (take_all 15 scr (omega (arith, short))))) in
+    let long = length-append ps (packet ∷ []) in
+    let all = ap (λ (l : Packets). length l) more in
     record {
-      last = is
-          ∙ (ap (λ (b : Buffer Packet). buffer (keep_last b.capacity (b.items ++ packet ∷ [])) b.capacity) recent.last
-          ∙ (ap (λ (ps : Packets). buffer ps 15) (kept_more (filter is_scrambled_packet past) packet)
-          ∙ ap (λ (ps : Packets). buffer (reverse (take 15 ps)) 15) (sym with)));
+      few = omega (arith, all, long, less);
+      begins = λ _. same ∙ first;
+      last = ap (λ (k : ℕ). from_round k new.packets.items) (same ∙ first)
+          ∙ (append-nil new.packets.items
+          ∙ (more
+          ∙ (ap (λ (l : Packets). l ++ packet ∷ []) (was
+          ∙ ap (λ (l : Packets). reverse l) (sym (take_all 14 scr short)))
+          ∙ (sym (in_front scr packet)
+          ∙ ap (λ (l : Packets). reverse (take 15 l)) (sym (scrambled_with past packet scrambled))))));
+    }
+
+-- the packets round, with one in place of the oldest
+round_more : (ps : Packets) (k : ℕ) (packet : Packet) → length ps ≡ 15 → k < 15 →
+    from_round ((k + 1) % 15) (set ps k packet) ≡ drop (k + 1) ps ++ (take k ps ++ packet ∷ [])
+round_more ps k packet long low = elim (cases_lt k 14) [
+  | inl below ↦
+      let next : (k + 1) % 15 ≡ k + 1 = omega (arith, below) in
+      ap (λ (n : ℕ). from_round n (set ps k packet)) next
+      ∙ (ap (λ (l : Packets). l ++ take (k + 1) (set ps k packet)) (drop-set-lt (k + 1) ps k packet (omega arith))
+      ∙ ap (λ (l : Packets). drop (k + 1) ps ++ l) (take_more_set ps k packet (omega (arith, long, low))))
+  | inr most ↦
+      let last : k ≡ 14 = omega (arith, low, most) in
+      let next : (k + 1) % 15 ≡ 0 = omega (arith, last) in
+      let size = length-set ps k packet in
+      let whole : set ps k packet ≡ take (k + 1) (set ps k packet) =
+      sym (take_all (k + 1) (set ps k packet) (omega (arith, size, long, last))) in
+      ap (λ (n : ℕ). from_round n (set ps k packet)) next
+      ∙ (append-nil (set ps k packet)
+      ∙ (whole
+      ∙ (take_more_set ps k packet (omega (arith, long, low))
+      ∙ ap (λ (l : Packets). l ++ (take k ps ++ packet ∷ []))
+      (sym (drop_all (k + 1) ps (omega (arith, long, last)))))))
+]
+
+-- a scrambled packet more, in place of the oldest of 15
+pub replaced : (past : Packets) (packet : Packet) (old new : Recent) → IsRecent past old → scrambling_of packet ≢ 0 →
+    15 ≤ length old.packets.items → old.oldest < 15 →
+    new.packets.items ≡ set old.packets.items old.oldest packet → new.oldest ≡ (old.oldest + 1) % 15 →
+    IsRecent (packet ∷ past) new
+replaced past packet old new is scrambled more low put next =
+    let ps : Packets = old.packets.items in
+    let k : ℕ = old.oldest in
+    let scr : Packets = filter is_scrambled_packet past in
+    let few = is.few in
+    let full : length ps ≡ 15 = omega (arith, more, few) in
+    let kept = kept_long past old is in
+    let size = length-set ps k packet in
+    let all = ap (λ (l : Packets). length l) put in
+    let following : k + 1 ≡ suc k = omega arith in
+    let rest : drop (k + 1) ps ++ take k ps ≡ reverse (take 14 scr) =
+    ap (λ (n : ℕ). drop n ps ++ take k ps) following
+    ∙ (ap (λ (l : Packets). drop 1 (l ++ take k ps)) (sym (drop-cons ps k [] (omega (arith, full, low))))
+    ∙ (ap (λ (l : Packets). drop 1 l) is.last ∙ all_but_oldest 14 scr (kept ∙ full))) in
+    record {
+      few = omega (arith, all, size, full);
+      begins = λ less. absurd (omega (arith, all, size, full, less));
+      last = ap (λ (l : Packets). from_round new.oldest l) put
+          ∙ (ap (λ (n : ℕ). from_round n (set ps k packet)) next
+          ∙ (round_more ps k packet full low
+          ∙ (sym (append_assoc (drop (k + 1) ps) (take k ps) (packet ∷ []))
+          ∙ (ap (λ (l : Packets). l ++ packet ∷ []) rest
+          ∙ (sym (in_front scr packet)
+          ∙ ap (λ (l : Packets). reverse (take 15 l)) (sym (scrambled_with past packet scrambled)))))));
     }
 
 pub clear_more : (past : Packets) (packet : Packet) (recent : Recent) → IsRecent past recent →
@@ -55,7 +153,9 @@ clear_more past packet recent is clear =
     let test : (scrambling_of packet == 0) ≡ true = eq-eqb (scrambling_of packet) 0 clear in
     let without : filter is_scrambled_packet (packet ∷ past) ≡ filter is_scrambled_packet past = rw test refl in
     record {
-      last = is.last ∙ ap (λ (ps : Packets). buffer (reverse (take 15 ps)) 15) (sym without);
+      few = is.few;
+      begins = is.begins;
+      last = is.last ∙ ap (λ (ps : Packets). reverse (take 15 ps)) (sym without);
     }
 
 -- a packet in the clear is no copy
@@ -63,30 +163,25 @@ pub clear_no_copy : (past : Packets) (packet : Packet) → scrambling_of packet 
 clear_no_copy past packet clear =
     let test : (scrambling_of packet == 0) ≡ true = eq-eqb (scrambling_of packet) 0 clear in rw test refl
 
+either : (a b : Bool) → (a || b) ≡ (b || a)
+either true true = refl
+either true false = refl
+either false true = refl
+either false false = refl
+
 -- whether a scrambled packet is among those that are kept
-copy_among : (past : Packets) (packet : Packet) (recent : Recent) (older newer : Packets) (a b : Bool) →
-    IsRecent past recent → scrambling_of packet ≢ 0 → older ++ newer ≡ recent.packets.items →
-    a ≡ list_any (bytes_eq packet) older → b ≡ list_any (bytes_eq packet) newer → (a || b) ≡ is_copy past packet
-copy_among past packet recent older newer a b is scrambled parts in_older in_newer =
+pub copy_among : (past : Packets) (packet : Packet) (recent : Recent) (b : Bool) → IsRecent past recent →
+    scrambling_of packet ≢ 0 → b ≡ list_any (bytes_eq packet) recent.packets.items → b ≡ is_copy past packet
+copy_among past packet recent b is scrambled among =
     let test : (scrambling_of packet == 0) ≡ false = ne_eqb (scrambling_of packet) 0 scrambled in
+    let p : Packet → Bool = bytes_eq packet in
+    let ps : Packets = recent.packets.items in
+    let k : ℕ = recent.oldest in
     let kept : Packets = take 15 (filter is_scrambled_packet past) in
-    let among : (a || b) ≡ list_any (bytes_eq packet) kept =
-    rw (in_older, in_newer) (sym (list_any-append (bytes_eq packet) older newer))
-    ∙ (ap (list_any (bytes_eq packet)) (parts ∙ ap (λ (b : Buffer Packet). b.items) is.last)
-    ∙ sym (list_any-IsPermutation (bytes_eq packet) kept (reverse kept) (IsPermutation-reverse kept))) in
-    among ∙ rw test refl
-
-pub copy_older : (past : Packets) (packet : Packet) (recent : Recent) (older newer : Packets) (a : Bool) →
-    IsRecent past recent → scrambling_of packet ≢ 0 → older ++ newer ≡ recent.packets.items →
-    a ≡ list_any (bytes_eq packet) older → a ≡ true → a ≡ is_copy past packet
-copy_older past packet recent older newer a is scrambled parts in_older found =
-    let b : Bool = list_any (bytes_eq packet) newer in
-    let whole = copy_among past packet recent older newer a b is scrambled parts in_older refl in
-    found ∙ (sym (ap (λ (x : Bool). x || b) found) ∙ whole)
-
-pub copy_newer : (past : Packets) (packet : Packet) (recent : Recent) (older newer : Packets) (a b : Bool) →
-    IsRecent past recent → scrambling_of packet ≢ 0 → older ++ newer ≡ recent.packets.items →
-    a ≡ list_any (bytes_eq packet) older → a ≡ false → b ≡ list_any (bytes_eq packet) newer → b ≡ is_copy past packet
-copy_newer past packet recent older newer a b is scrambled parts in_older none in_newer =
-    let whole = copy_among past packet recent older newer a b is scrambled parts in_older in_newer in
-    sym (ap (λ (x : Bool). x || b) none) ∙ whole
+    let round : list_any p ps ≡ list_any p (from_round k ps) =
+    ap (list_any p) (sym (take-append-drop k ps))
+    ∙ (list_any-append p (take k ps) (drop k ps)
+    ∙ (either (list_any p (take k ps)) (list_any p (drop k ps))
+    ∙ sym (list_any-append p (drop k ps) (take k ps)))) in
+    among ∙ (round ∙ (ap (list_any p) is.last
+    ∙ (sym (list_any-IsPermutation p kept (reverse kept) (IsPermutation-reverse kept)) ∙ rw test refl)))

@@ -1,8 +1,7 @@
 -- Public meaning: what a watcher keeps, writes and tells of packets that may be damaged.
-use Rattle.std.specs.Prelude.{◌≡◌, ℕ, ◌+◌, ◌*◌, ◌^◌, ◌<◌, ◌≤◌, true, List, [], ◌∷◌, ◌++◌, length, reverse, take}
+use Rattle.std.specs.Prelude.{◌≡◌, ℕ, ◌+◌, ◌*◌, ◌^◌, ◌<◌, ◌≤◌, true, List, [], ◌∷◌, ◌++◌, length, reverse, take, drop}
 use Rattle.std.specs.Prelude.{filter, if◌then◌else◌, Option, Some, None}
 use Rattle.std.specs.List.{concat}
-use Rattle.circular_buffer.specs.Buffer.{buffer}
 use Rattle.sd_base.specs.Types.{Packet, Packets}
 use Rattle.sd_site.specs.CardFields.{CardFields}
 use Rattle.sd_spec.specs.declared.report.Report.{Report}
@@ -14,9 +13,12 @@ use Rattle.sd_receive.specs.Receiving.{card_in, IsAfter, IsFit}
 use Rattle.sd_watch.specs.declared.recent.Recent.{Recent}
 use Rattle.sd_watch.specs.declared.watcher.Watcher.{Watcher}
 
--- the last 15 scrambled packets of these are kept, the oldest first. These have the newest first
+-- The last 15 scrambled packets of these are kept, from the oldest one on and round to it. These have the newest first.
 pub record IsRecent (past : Packets) (recent : Recent) : Type 0 where
-  pub last : recent.packets ≡ buffer (reverse (take most_again (filter is_scrambled_packet past))) 15
+  pub few : length recent.packets.items ≤ most_again
+  pub begins : length recent.packets.items < most_again → recent.oldest ≡ 0
+  pub last : drop recent.oldest recent.packets.items ++ take recent.oldest recent.packets.items
+      ≡ reverse (take most_again (filter is_scrambled_packet past))
 
 -- what the watcher's card says
 abbrev pub card_of : Watcher → CardFields

@@ -2,6 +2,7 @@
 //! and reports on each run as it ends.
 #![tactic(auto)]
 
+mod copies;
 mod recent;
 mod renumber;
 mod uncounted;

@@ -1,7 +1,7 @@
 use Rattle.std.proofs.Common.{◌≡◌, ◌-◌, ◌^◌, ◌≤◌, length}
 use Rattle.sd_engine.specs.Feeding.{waiting}
 use Rattle.sd_engine.specs.Stage.{vessel}
-use Rattle.sd_engine.proofs.Searching.{IsSearching}
+use Rattle.sd_engine.specs.Seeking.{IsSearching}
 use Rattle.sd_engine.proofs.seeking.search.Given as goal
 
 -- bytes were read and passed, and no packet is in these
