@@ -3,6 +3,8 @@
 //! cut.
 #![tactic(auto)]
 
+mod air_line;
+mod air_report;
 mod ending;
 mod field_clear;
 mod field_command;
@@ -12,6 +14,7 @@ mod field_play;
 mod field_script;
 mod head_command;
 mod head_plan;
+mod member;
 mod receive_command;
 mod trial_command;
 mod trial_hear;
