@@ -19,6 +19,8 @@ pub data StepBound : Type 0 where
   UpTo : ℕ → StepBound
 
 pub record Work : Type 0 where
+  -- the name of a file that is made new and empty before OUT
+  pub mark : Option (List ℕ)
   pub out : Option Out
   -- what is printed, in pieces of whole lines
   pub pieces : List (List ℕ)
@@ -33,7 +35,17 @@ pub record Work : Type 0 where
 -- prints a text and makes no file, without a step of the generator
 abbrev pub work_of_text : List ℕ → Work
 work_of_text text =
-    record { out = None; pieces = text ∷ []; ends = Done; breaks = false; live = false; steps = NoSteps }
+    record { mark = None; out = None; pieces = text ∷ []; ends = Done; breaks = false; live = false; steps = NoSteps }
+
+-- the files once the mark is made, if the model knows them
+abbrev pub files_marked : Option (List ℕ) → Option Files → Option Files
+files_marked None files = files
+files_marked (Some name) files = with_bytes files name []
+
+-- the count of the files that were made, once the mark was
+abbrev pub made_marked : Option (List ℕ) → ℕ → ℕ
+made_marked None made = made
+made_marked (Some name) made = with_added made 1
 
 -- the files once OUT has these of its bytes, if the model knows them
 abbrev pub files_with : Option Out → Option Files → Option Files
@@ -50,9 +62,14 @@ abbrev pub out_calls : Option Out → ℕ
 out_calls None = 0
 out_calls (Some out) = 2
 
+-- the mark is opened and closed
+abbrev pub mark_calls : Option (List ℕ) → ℕ
+mark_calls None = 0
+mark_calls (Some name) = 2
+
 -- how many calls of the depot are made for what is meant
 abbrev pub work_calls : Result Work Status → ℕ
-work_calls (Ok work) = out_calls work.out
+work_calls (Ok work) = out_calls work.out + mark_calls work.mark
 work_calls (Err status) = 0
 
 abbrev pub all_calls : Spec Work → ℕ
