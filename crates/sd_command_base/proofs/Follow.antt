@@ -7,7 +7,7 @@ use Rattle.sd_ports.specs.Files.{Files}
 use Rattle.sd_command_base.specs.declared.status.Status.{Status}
 use Rattle.sd_command_base.specs.Outside.{DepotState, PageState, Outside, outside, called}
 use Rattle.sd_command_base.specs.Spec.{Spec, FileArgument, Readings, IsGot, and_then, judged, value, ◌>>=◌}
-use Rattle.sd_command_base.specs.Work.{Out, Work}
+use Rattle.sd_command_base.specs.Work.{Out, Mark, Work}
 use Rattle.sd_command_base.specs.Outcome.{IsEnding, HasMiss, IsMade, marked_by, printing, refused, ended, exhausted, cut_off}
 use Rattle.sd_command_base.specs.Outcome.{OutcomeWithin}
 use Rattle.sd_command_base.specs.Outcome.{Implements}
@@ -154,7 +154,7 @@ none_made : (work : Work) (n : ℕ) (p q : DepotState) → work.out ≡ None →
     IsMade work.out (marked_by work.mark p) q
 none_made work n p q none unmarked e =
     subst (λ (o : Option Out). IsMade o (marked_by work.mark p) q) (sym none)
-    (subst (λ (m : Option (List ℕ)). IsMade None (marked_by m p) q) (sym unmarked)
+    (subst (λ (m : Option Mark). IsMade None (marked_by m p) q) (sym unmarked)
     (record { files = ap (λ (z : DepotState). z.files) e; made = ap (λ (z : DepotState). z.made) e }))
 
 -- work that only prints, after its files were read

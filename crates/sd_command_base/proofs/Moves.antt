@@ -1,21 +1,21 @@
 -- What a command does after calls that only asked.
-use Rattle.std.proofs.Common.{◌≡◌, ℕ, ◌+◌, ◌≤◌, List, Option, Result, Ok, Err, sym, subst, arith}
+use Rattle.std.proofs.Common.{◌≡◌, ℕ, ◌+◌, ◌≤◌, Option, Result, Ok, Err, sym, subst, arith}
 use Rattle.sd_base.specs.Count.{with_added}
 use Rattle.sd_command_base.specs.declared.status.Status.{Status}
 use Rattle.sd_command_base.specs.Outside.{DepotState, PageState, Outside, outside, recalled, called}
 use Rattle.sd_command_base.specs.Spec.{Spec, and_then, ◌>>=◌}
-use Rattle.sd_command_base.specs.Work.{Out, Work, work_calls}
+use Rattle.sd_command_base.specs.Work.{Out, Mark, Work, work_calls}
 use Rattle.sd_command_base.specs.Outcome.{IsFaultless, IsUnmade, marked_by, IsMade, IsMadeShort, Progress, untouched}
 use Rattle.sd_command_base.specs.Outcome.{marking, writing, telling, printing}
 use Rattle.sd_command_base.specs.Outcome.{Outcome}
-use Rattle.sd_command_base.specs.Outcome.{StopsFirst, refused, ended, unclosed, exhausted, failed, nowhere, cut_off}
-use Rattle.sd_command_base.specs.Outcome.{cut_short}
+use Rattle.sd_command_base.specs.Outcome.{StopsFirst, refused, ended, unclosed, exhausted, failed, unmarked, nowhere}
+use Rattle.sd_command_base.specs.Outcome.{cut_off, cut_short}
 use Rattle.sd_command_base.specs.Outcome.{OutcomeWithin}
 
 unmade_moved : (calls : ℕ) (p q : DepotState) → IsUnmade (recalled calls p) q → IsUnmade p q
 unmade_moved calls p q h = record { files = h.files; made = h.made }
 
-mark_moved : (mark : Option (List ℕ)) (calls : ℕ) (p q : DepotState) → IsUnmade (marked_by mark (recalled calls p)) q →
+mark_moved : (mark : Option Mark) (calls : ℕ) (p q : DepotState) → IsUnmade (marked_by mark (recalled calls p)) q →
     IsUnmade (marked_by mark p) q
 mark_moved mark calls p q h = record { files = h.files; made = h.made }
 
@@ -23,7 +23,7 @@ made_moved : (work : Work) (calls : ℕ) (p q : DepotState) → IsMade work.out 
     IsMade work.out (marked_by work.mark p) q
 made_moved work calls p q h = record { files = h.files; made = h.made }
 
-short_moved : (mark : Option (List ℕ)) (out : Out) (calls : ℕ) (p q : DepotState) →
+short_moved : (mark : Option Mark) (out : Out) (calls : ℕ) (p q : DepotState) →
     IsMadeShort out (marked_by mark (recalled calls p)) q → IsMadeShort out (marked_by mark p) q
 short_moved mark out calls p q h = record { prefix = h.prefix; short = h.short; files = h.files; made = h.made }
 
@@ -62,6 +62,8 @@ comes_moved meant p page calls steps other b status (exhausted s h v c m) =
     exhausted s (stands_moved meant p page calls steps other b h) v c m
 comes_moved meant p page calls steps other b status (failed s h r v c m) =
     failed s (stands_moved meant p page calls steps other b h) r (first_moved meant p calls b.place v) c m
+comes_moved meant p page calls steps other b status (unmarked work e mark f s n h k c m) =
+    unmarked work e mark f s n (unmade_moved calls p b.place h) k (calm_moved p page calls steps other b c) m
 comes_moved meant p page calls steps other b status (nowhere work e out f s n h k c m) =
     nowhere work e out f s n (mark_moved work.mark calls p b.place h) k (calm_moved p page calls steps other b c) m
 comes_moved meant p page calls steps other b status (cut_off work e s h k r c m) =

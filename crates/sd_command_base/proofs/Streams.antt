@@ -6,7 +6,7 @@ use Rattle.sd_command_base.specs.declared.status.Status.{Status}
 use Rattle.sd_command_base.specs.declared.status.Status.TheVariants.{DepotFault}
 use Rattle.sd_command_base.specs.Outside.{DepotState, PageState, outside}
 use Rattle.sd_command_base.specs.Spec.{FileArgument, IsGot, all_of, value, ◌>>=◌}
-use Rattle.sd_command_base.specs.Work.{Out, Work}
+use Rattle.sd_command_base.specs.Work.{Out, Mark, Work}
 use Rattle.sd_command_base.specs.Outcome.{IsEnding, IsMade, marked_by, printing, Outcome, ended, exhausted, failed, cut_off}
 use Rattle.sd_command_base.specs.Outcome.{OutcomeWithin, Implements}
 use Rattle.sd_command_base.specs.Prints.{PrintsReading}
@@ -37,7 +37,7 @@ none_made : (work : Work) (p q : DepotState) → work.out ≡ None → work.mark
     q.made ≡ p.made → IsMade work.out (marked_by work.mark p) q
 none_made work p q none unmarked files made =
     subst (λ (o : Option Out). IsMade o (marked_by work.mark p) q) (sym none)
-    (subst (λ (m : Option (List ℕ)). IsMade None (marked_by m p) q) (sym unmarked)
+    (subst (λ (m : Option Mark). IsMade None (marked_by m p) q) (sym unmarked)
     (record { files = files; made = made }))
 
 pub is_other : (status : Status) → IsEnding status → status ≢ DepotFault

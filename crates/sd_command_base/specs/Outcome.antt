@@ -15,8 +15,8 @@ use Rattle.sd_command_base.specs.declared.status.Status.TheVariants.{BadWord, Cl
 use Rattle.sd_command_base.specs.declared.status.Status.TheVariants.{SiteUsedUp}
 use Rattle.sd_command_base.specs.Outside.{DepotState, PageState, Outside}
 use Rattle.sd_command_base.specs.Spec.{Spec, Readings, IsGiven}
-use Rattle.sd_command_base.specs.Work.{Out, Work, files_marked, made_marked, files_with, made_with, all_calls}
-use Rattle.sd_command_base.specs.Work.{TakesSteps}
+use Rattle.sd_command_base.specs.Work.{Out, Mark, Work, files_marked, made_marked, files_with, made_with}
+use Rattle.sd_command_base.specs.Work.{all_calls, TakesSteps}
 
 -- the status refuses words or files: it isn't that work is done, and it doesn't come of the outside
 abbrev pub IsRefusal : Status → Type 0
@@ -86,7 +86,7 @@ pub record IsUnmade (a b : DepotState) : Type 0 where
   pub made : b.made ≡ a.made
 
 -- the depot once the mark is made, where there is one: an empty file, and the other files stay
-abbrev pub marked_by : Option (List ℕ) → DepotState → DepotState
+abbrev pub marked_by : Option Mark → DepotState → DepotState
 marked_by mark at = record {
   files = files_marked mark at.files;
   faults = at.faults;
@@ -162,6 +162,10 @@ pub data Outcome (meant : Result Work Status) (a b : Outside) (status : Status) 
   failed : status ≡ DepotFault → Progress meant a b → HasRisen a.place.faults b.place.faults →
       StopsFirst meant a.place b.place → b.page.faults ≡ a.page.faults → b.place.misses ≡ a.place.misses →
       Outcome meant a b status
+  -- there is no folder for the mark, in a depot that doesn't tell its files: nothing is made
+  unmarked : (work : Work) → meant ≡ Ok work → (mark : Mark) → work.mark ≡ Some mark → status ≡ Missing mark.word →
+      a.place.files ≡ None → IsUnmade a.place b.place → b.page.printed ≡ a.page.printed → IsFaultless a b →
+      HasRisen a.place.misses b.place.misses → Outcome meant a b status
   -- there is no folder for OUT, in a depot that doesn't tell its files: the mark alone is made
   nowhere : (work : Work) → meant ≡ Ok work → (out : Out) → work.out ≡ Some out → status ≡ Missing out.word →
       a.place.files ≡ None → IsUnmade (marked_by work.mark a.place) b.place → b.page.printed ≡ a.page.printed →

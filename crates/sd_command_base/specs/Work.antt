@@ -12,6 +12,11 @@ pub record Out : Type 0 where
   pub name : List ℕ
   pub bytes : List ℕ
 
+-- an empty file to be made new, beside the file of a word: the number of that word, and the name
+pub record Mark : Type 0 where
+  pub word : ℕ
+  pub name : List ℕ
+
 -- what is said of the steps of the generator that work takes: nothing, that there are none, or at most so many
 pub data StepBound : Type 0 where
   Uncounted : StepBound
@@ -19,8 +24,8 @@ pub data StepBound : Type 0 where
   UpTo : ℕ → StepBound
 
 pub record Work : Type 0 where
-  -- the name of a file that is made new and empty before OUT
-  pub mark : Option (List ℕ)
+  -- made before OUT
+  pub mark : Option Mark
   pub out : Option Out
   -- what is printed, in pieces of whole lines
   pub pieces : List (List ℕ)
@@ -38,14 +43,14 @@ work_of_text text =
     record { mark = None; out = None; pieces = text ∷ []; ends = Done; breaks = false; live = false; steps = NoSteps }
 
 -- the files once the mark is made, if the model knows them
-abbrev pub files_marked : Option (List ℕ) → Option Files → Option Files
+abbrev pub files_marked : Option Mark → Option Files → Option Files
 files_marked None files = files
-files_marked (Some name) files = with_bytes files name []
+files_marked (Some mark) files = with_bytes files mark.name []
 
 -- the count of the files that were made, once the mark was
-abbrev pub made_marked : Option (List ℕ) → ℕ → ℕ
+abbrev pub made_marked : Option Mark → ℕ → ℕ
 made_marked None made = made
-made_marked (Some name) made = with_added made 1
+made_marked (Some mark) made = with_added made 1
 
 -- the files once OUT has these of its bytes, if the model knows them
 abbrev pub files_with : Option Out → Option Files → Option Files
@@ -63,9 +68,9 @@ out_calls None = 0
 out_calls (Some out) = 2
 
 -- the mark is opened and closed
-abbrev pub mark_calls : Option (List ℕ) → ℕ
+abbrev pub mark_calls : Option Mark → ℕ
 mark_calls None = 0
-mark_calls (Some name) = 2
+mark_calls (Some mark) = 2
 
 -- how many calls of the depot are made for what is meant
 abbrev pub work_calls : Result Work Status → ℕ
