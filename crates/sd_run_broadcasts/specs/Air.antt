@@ -17,12 +17,14 @@ use Rattle.sd_spec.specs.Plan.{Plan, period_of, word_of}
 use Rattle.sd_spec.specs.Sent.{broadcast}
 use Rattle.sd_spec.specs.declared.left_out.LeftOut.{LeftOut}
 use Rattle.sd_command_base.specs.declared.status.Status.{Status}
-use Rattle.sd_command_base.specs.declared.status.Status.TheVariants.{Done, BadClear, BadSite}
+use Rattle.sd_command_base.specs.declared.status.Status.TheVariants.{Done, BadClear, BadSite, SiteUsedUp}
 use Rattle.sd_command_base.specs.declared.status.LimitKind.TheVariants.{SiteBytes}
 use Rattle.sd_command_base.specs.declared.stream_refusal.StreamRefusal.TheVariants.{Packet}
 use Rattle.sd_command_base.specs.Spec.{Spec, FileArgument, Readings, all_of, judged, value, within, ◌>>=◌}
 use Rattle.sd_command_base.specs.Work.{Uncounted, Work}
 use Rattle.sd_command_base.specs.Files.{most_site_bytes, own_book_of_file}
+use Rattle.sd_command_base.specs.Made.{unused, used_name}
+use Rattle.sd_run_broadcasts.specs.Marked.{mark_at}
 use Rattle.sd_run_broadcasts.specs.Members.{num_member, text_member, text_of}
 use Rattle.sd_run_broadcasts.specs.Watch.{skipped_at}
 use Rattle.sd_run_broadcasts.specs.declared.air_report.AirReport.{AirReport}
@@ -60,8 +62,8 @@ live_end site bytes = ended_from site [] 0 (readable bytes)
 -- the status at the end: the site is used up if the broadcast ends before a packet, or if there is more than is read of
 -- a stream
 abbrev pub ended_status : Option PacketNumber → Bool → PacketNumber → Status
-ended_status (Some n) longer count = Done
-ended_status None true count = Done
+ended_status (Some n) longer count = SiteUsedUp n
+ended_status None true count = SiteUsedUp count
 ended_status None false count = Done
 
 unfoldable pub live_status : SiteFields → List ℕ → Status
@@ -120,3 +122,27 @@ air_data report = object
 -- its line: compact JSON with the keys in ascending order, and a line feed
 unfoldable pub air_line : AirReport → List ℕ
 air_line report = compact_text (air_data report) ++ 10 ∷ []
+
+-- the file that is the mark of a site: it says that a run of `air` used the site
+abbrev pub mark_word : FileArgument → FileArgument
+mark_word site = record { number = site.number; text = used_name site.text }
+
+-- the work that makes the mark, and then OUT of what is sent for a live stream of these bytes, and prints the report
+abbrev pub airing : Plan → FileArgument → FileArgument → List ℕ → Work
+airing plan site out bytes = record {
+  mark = Some (mark_at (mark_word site));
+  out = Some (record { word = out.number; name = out.text; bytes = live_sent plan bytes });
+  pieces = air_line (air_report plan bytes) ∷ [];
+  ends = live_status plan.site bytes;
+  breaks = false;
+  live = false;
+  steps = Uncounted;
+}
+
+-- the work of `air SITE BOOK CLEAR OUT`: the site must not be used [this project, docs/FORMATS.md, On air]
+unfoldable pub air_meaning : FileArgument → FileArgument → FileArgument → FileArgument → Readings → Spec Work
+air_meaning site book clear out given = do
+  plan ← air_plan_by site.number book.number (given site) (given book)
+  bytes ← all_of clear.number (given clear)
+  new ← unused (given (mark_word site))
+  value (airing plan site out bytes)

@@ -12,4 +12,5 @@ pub mod Watch
 pub mod WatchTokens
 pub mod Found
 pub mod Watched
+pub mod Marked
 pub mod Air

@@ -1,12 +1,13 @@
 -- Public meaning: a file that goes through a stage into OUT, with a mark that is made first.
 use Rattle.std.specs.Prelude.{◌≡◌, ◌⊎◌, ℕ, ◌+◌, List, [], Option, Some, None, Result, Ok, Err}
 use Rattle.sd_base.specs.Count.{HasRisen, with_added}
-use Rattle.sd_ports.specs.Causes.{CountsOpen, one_more}
+use Rattle.sd_ports.specs.Causes.{one_more}
 use Rattle.sd_ports.specs.Files.{OpensFile, IsFresh, IsNotThere, IsThere, with_bytes}
 use Rattle.sd_command_base.specs.declared.status.Status.{Status}
 use Rattle.sd_command_base.specs.declared.status.Status.TheVariants.{Missing, DepotFault, NoMemory, SiteUsed}
 use Rattle.sd_command_base.specs.Outside.{DepotState}
 use Rattle.sd_command_base.specs.Spec.{FileArgument}
+use Rattle.sd_command_base.specs.Work.{Mark}
 use Rattle.sd_command_base.specs.Outcome.{marked_by}
 use Rattle.sd_command_base.specs.Reads.{IsAsked, IsStopped}
 use Rattle.sd_command_base.specs.Made.{out_of, IsMadeNew}
@@ -16,6 +17,10 @@ use Rattle.sd_command_base.specs.Turned.{IsOpened}
 abbrev pub MarkStopCause : DepotState → DepotState → Status → Type 0
 MarkStopCause a b status = ((status ≡ NoMemory) × (b.faults ≡ a.faults) × (b.stops ≡ a.stops))
     ⊎ ((status ≡ DepotFault) × HasRisen a.faults b.faults)
+
+-- the mark that is the file of this name
+abbrev pub mark_at : FileArgument → Mark
+mark_at mark = record { word = mark.number; name = mark.text }
 
 -- why the mark or OUT was not made, by at most so many calls, and two more if the mark was made
 pub data Unmarked (mark out : FileArgument) (calls : ℕ) (a b : DepotState) (status : Status) : Type 0 where
@@ -28,11 +33,11 @@ pub data Unmarked (mark out : FileArgument) (calls : ℕ) (a b : DepotState) (st
   -- the outside stopped it before there was a mark
   stopped_first : MarkStopCause a b status → IsAsked calls a b → b.misses ≡ a.misses → Unmarked mark out calls a b status
   -- the mark was made, and there is no folder for OUT, in a depot that doesn't tell its files
-  no_folder : status ≡ Missing out.number → a.files ≡ None → IsAsked (calls + 2) (marked_by (Some mark.text) a) b →
+  no_folder : status ≡ Missing out.number → a.files ≡ None → IsAsked (calls + 2) (marked_by (Some (mark_at mark)) a) b →
       b.faults ≡ a.faults → HasRisen a.misses b.misses → Unmarked mark out calls a b status
   -- the mark was made, and the outside stopped it
   stopped_then : IsNotThere a.files mark.text → MarkStopCause a b status →
-      IsAsked (calls + 2) (marked_by (Some mark.text) a) b → b.misses ≡ a.misses → Unmarked mark out calls a b status
+      IsAsked (calls + 2) (marked_by (Some (mark_at mark)) a) b → b.misses ≡ a.misses → Unmarked mark out calls a b status
 
 -- the mark was made, new and empty; or not
 abbrev pub MarkOutcome : FileArgument → DepotState → DepotState → Result (Unit {0}) Status → Type 0

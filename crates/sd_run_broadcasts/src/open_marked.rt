@@ -1,18 +1,15 @@
 ghost use Rattle.std.specs.Prelude.{◌≡◌, IfErr, IfOk};
 ghost use Rattle.sd_command_base.specs.Outside.{depot_state};
-ghost use Rattle.sd_command_base.specs.Marked.{IsCreatedMarked, IsOpenedMarked, MarkOutcome, NotOpenedMarked, Unmarked};
+ghost use Rattle.sd_run_broadcasts.specs.Marked.{IsCreatedMarked, IsOpenedMarked, MarkOutcome, NotOpenedMarked, Unmarked};
 ghost use Rattle.sd_command_base.specs.Shown.{shown_word};
 
-use crate::Status;
-use crate::made::told;
-use crate::turn::opening_fault;
-use crate::word::Word;
+use sd_command_base::{Status, Word, opening_fault, told};
 use sd_ports::{Depot, New, write_new};
 use std::alloc::Global;
 
 /// Opens the file that is to go through a stage, makes the mark, an empty file that must be new, and then makes OUT. If
 /// one of them fails, nothing stays open.
-pub fn open_marked<D: Depot>(
+pub(crate) fn open_marked<D: Depot>(
     alloc: Global,
     depot: &mut D,
     from: Word<'_>,
