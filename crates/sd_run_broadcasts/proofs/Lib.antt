@@ -20,6 +20,7 @@ pub mod AirLines
 pub mod WatchedMore
 pub mod Found
 pub mod Living
+pub mod Marking
 pub mod Watched
 pub mod WatchedFile
 pub mod WatchPacket
