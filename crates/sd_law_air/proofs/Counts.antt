@@ -1,12 +1,15 @@
 -- What is counted of a stream.
-use Rattle.std.proofs.Common.{◌≡◌, ℕ, ◌+◌, ◌<◌, ◌↔◌, [], ◌∷◌, ◌++◌, length, Some, None, refl, sym, arith}
-use Rattle.std.proofs.Common.{◌∙◌, cond}
+use Rattle.std.proofs.Common.{◌≡◌, ℕ, ◌+◌, ◌<◌, ◌↔◌, [], ◌∷◌, ◌++◌, length, Some, None, refl, ap, sym, arith, ◌∙◌}
+use Rattle.std.proofs.Common.{cond}
+use Rattle.std.specs.Prelude.{Option, IsSome, count_by, is_none, if◌then◌else◌, not}
 use Rattle.std.proofs.lemmas.List.Sums.{sum_by-cons}
-use Rattle.std.specs.Prelude.{IsSome, count_by}
 use Rattle.sd_base.specs.Types.{Packet, Packets}
 use Rattle.sd_site.specs.SiteFields.{SiteFields}
+use Rattle.sd_psi.specs.declared.fault.FormFault.{FormFault}
+use Rattle.sd_spec.specs.Refused.{pat_wrong}
 use Rattle.sd_spec.specs.Counting.{is_marked}
 use Rattle.sd_spec.specs.Aired.{aired, aired_from, ended_from, left_from}
+use Rattle.sd_law_air.specs.Counted.{is_no_pat}
 use Rattle.sd_law_air.proofs.Fates.{fate_of, marked, refused, sent, ends}
 
 -- each packet is marked, refused or sent
@@ -103,3 +106,31 @@ first_from site before n (packet ∷ packets) = elim (fate_of site before packet
 pub first_told : (site : SiteFields) (packets : Packets) →
     IsSome (left_from site [] 0 packets).first ↔ (0 < (left_from site [] 0 packets).refused)
 first_told site packets = first_from site [] 0 packets
+
+-- of those that are sent, the ones that are no PAT
+one_pat : (packet : Packet) → cond {A = ℕ} (is_no_pat packet) 1 0 ≡ (if is_none (pat_wrong packet) then 0 else 1)
+one_pat packet = by_wrong (pat_wrong packet)
+  where
+    by_wrong : (wrong : Option FormFault) →
+        cond {A = ℕ} (not (is_none wrong)) 1 0 ≡ (if is_none wrong then 0 else 1)
+    by_wrong None = refl
+    by_wrong (Some fault) = refl
+
+pats_from : (site : SiteFields) (before : Packets) (n : ℕ) (packets : Packets) →
+    (left_from site before n packets).pats ≡ count_by is_no_pat (aired_from site before n packets)
+unfolding aired_from left_from
+pats_from site before n [] = refl
+pats_from site before n (packet ∷ packets) = elim (fate_of site before packet) [
+  | marked bad is ↦ rw (is n) (pats_from site before (n + 1) packets)
+  | refused good fault why is ↦ rw (is n) (pats_from site before (n + 1) packets)
+  | sent good short none is ↦
+      let after = before ++ packet ∷ [] in
+      let first = sum_by-cons (λ (p : Packet). cond (is_no_pat p) 1 0) packet (aired_from site after (n + 1) packets) in
+      rw (is n) (ap (λ (one : ℕ). one + (left_from site after (n + 1) packets).pats) (sym (one_pat packet))
+      ∙ ap (λ (rest : ℕ). cond (is_no_pat packet) 1 0 + rest) (pats_from site after (n + 1) packets) ∙ sym first)
+  | ends good long why is ↦ rw (is n) refl
+]
+
+pub pats_counted : (site : SiteFields) (packets : Packets) →
+    (left_from site [] 0 packets).pats ≡ count_by is_no_pat (aired site packets)
+pats_counted site packets = pats_from site [] 0 packets

@@ -1,7 +1,6 @@
 -- Where a broadcast ends that goes on as long as it can.
-use Rattle.std.proofs.Common.{◌≡◌, ℕ, zero, suc, ◌+◌, ◌-◌, ◌*◌, ◌^◌, ◌<◌, ◌≤◌, true, false, [], ◌∷◌, ◌++◌, length, Some, None}
-use Rattle.std.proofs.Common.{refl, ap, sym}
-use Rattle.std.proofs.Common.{◌↔◌, ◌∙◌, subst, append-nil, append_assoc, arith}
+use Rattle.std.proofs.Common.{◌≡◌, ℕ, zero, suc, ◌+◌, ◌-◌, ◌*◌, ◌^◌, ◌<◌, ◌≤◌, true, false, [], ◌∷◌, ◌++◌, length}
+use Rattle.std.proofs.Common.{◌↔◌, ◌∙◌, Some, None, refl, ap, sym, subst, append-nil, append_assoc, arith}
 use Rattle.std.proofs.lemmas.Bool.Decides.{nat_tests}
 use Rattle.sd_base.specs.Types.{Packet, Packets}
 use Rattle.sd_site.specs.SiteFields.{AreInRange, SiteFields}

@@ -5,3 +5,4 @@ pub mod Among
 pub mod Reading
 pub mod Ending
 pub mod Counts
+pub mod Refusing

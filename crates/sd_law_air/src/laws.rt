@@ -1,8 +1,10 @@
 //! Laws on the packets of a clear stream that are sent by a head end that stays on the air.
 
-ghost use Rattle.std.specs.Prelude.{◌≡◌, ◌+◌, ◌-◌, ◌*◌, ◌^◌, ◌<◌, ◌≤◌, ◌++◌, ◌↔◌, [], true, length, Some, None, IsSome, count_by};
+ghost use Rattle.std.specs.Prelude.{◌≡◌, ◌+◌, ◌-◌, ◌*◌, ◌^◌, ◌<◌, ◌≤◌, ◌++◌, ◌↔◌, [], true, length, Some, None};
+ghost use Rattle.std.specs.Prelude.{IsSome, count_by};
 ghost use Rattle.std.specs.List.{concat};
 ghost use Rattle.sd_base.specs.Types.{Bytes, Packets, PacketNumber, Arrived};
+ghost use Rattle.sd_psi.specs.declared.clear_fault.ClearFault.{ClearFault};
 ghost use Rattle.sd_site.specs.SiteFields.{AreInRange, SiteFields};
 ghost use Rattle.sd_spec.specs.Counting.{is_marked};
 ghost use Rattle.sd_spec.specs.Plan.{Plan, crypto_length, word_of};
@@ -15,6 +17,7 @@ ghost use Rattle.sd_law_broadcast.specs.Synced.{AreSynced};
 ghost use Rattle.sd_law_broadcast.specs.Runs.{HasWords};
 ghost use Rattle.sd_law_air.specs.Sent.{AreAmong, AreUnmarked, sent_flags};
 ghost use Rattle.sd_law_air.specs.Ended.{EndsBefore};
+ghost use Rattle.sd_law_air.specs.Counted.{IsFirstRefused, is_no_pat};
 
 /// Whatever comes, each packet that is sent can be sent after those before it, and none is marked. They are packets of
 /// the stream in its order, so they are whole and begin with the sync byte if all of the stream do.
@@ -39,8 +42,8 @@ pub fn clear_streams_are_aired_whole()
         left_from site [] 0 clear ≡ none_left }
 {}
 
-/// What is left out is as if it weren't there: what is sent is sent again by itself, and so it is with any choice of the
-/// packets that has all that are sent.
+/// What is left out is as if it weren't there: all that is sent is sent if it stands alone, and so it is of any choice of
+/// the packets that has it.
 pub fn what_is_left_out_is_as_if_not_there()
     ensures again { (site : SiteFields) (packets : Packets) → aired site (aired site packets) ≡ aired site packets }
     ensures between { (site : SiteFields) (flags : Arrived) (packets : Packets) →
@@ -76,8 +79,9 @@ pub fn what_was_read_decides()
         ≡ concat (body plan (aired plan.site some)) ++ rest) }
 {}
 
-/// Each packet up to the end of the broadcast is marked, refused or sent, and counted so. The first rule that is broken
-/// is told exactly if a packet is refused.
+/// Each packet up to the end of the broadcast is marked, refused or sent, and counted so. If a packet is refused, the rule
+/// that the first one breaks is told, with its number among all packets, and else none is. Of the packets that are sent
+/// those are counted that are no PAT, though they are on PID 0 with a payload.
 pub fn each_packet_is_counted()
     ensures all { (site : SiteFields) (packets : Packets) → ended_from site [] 0 packets ≡ None →
         (left_from site [] 0 packets).marked + (left_from site [] 0 packets).refused + length (aired site packets)
@@ -89,4 +93,8 @@ pub fn each_packet_is_counted()
         (left_from site [] 0 packets).marked ≡ count_by is_marked packets }
     ensures first { (site : SiteFields) (packets : Packets) →
         IsSome (left_from site [] 0 packets).first ↔ (0 < (left_from site [] 0 packets).refused) }
+    ensures told { (site : SiteFields) (packets : Packets) (fault : ClearFault) →
+        (left_from site [] 0 packets).first ≡ Some fault → IsFirstRefused site packets fault }
+    ensures pats { (site : SiteFields) (packets : Packets) →
+        (left_from site [] 0 packets).pats ≡ count_by is_no_pat (aired site packets) }
 {}
