@@ -34,7 +34,7 @@ use Rattle.sd_head.proofs.Added.{sections_at, emms_are, message_stands, added_by
 use Rattle.sd_head.proofs.Added.{word_is, crypto_number, crypto_word}
 
 -- where none of some is the first refusal, the next one decides
-none_then : {F : Type 0} → (first : Option F) (rest more : Option F) → option_map_or Some first rest ≡ None →
+pub none_then : {F : Type 0} → (first : Option F) (rest more : Option F) → option_map_or Some first rest ≡ None →
     (rest ≡ None → more ≡ None) →
     option_map_or Some first more ≡ None
 none_then None rest more h f = f h
