@@ -1,12 +1,12 @@
 -- One step of a head end that goes on.
-use Rattle.std.proofs.Common.{◌≡◌, ℕ, ◌+◌, ◌-◌, ◌^◌, ◌<◌, ◌≤◌, ◌==◌, min, Bool, true, false, List, [], ◌∷◌, ◌++◌, length}
+use Rattle.std.proofs.Common.{◌≡◌, ℕ, ◌+◌, ◌-◌, ◌^◌, ◌<◌, ◌==◌, Bool, true, false, List, [], ◌∷◌, ◌++◌, length}
 use Rattle.std.proofs.Common.{refl, sym, ap, subst, ◌∙◌, arith, length-append, append-nil}
 use Rattle.std.specs.Prelude.{not, is_none, if◌then◌else◌, ◌||◌, Option, Some, None, option_map, Result, Ok, Err}
 use Rattle.std.specs.Option.{option_or}
 use Rattle.sd_base.specs.Types.{Packet, Packets, PacketNumber, Pid}
 use Rattle.sd_base.specs.Count.{with_added}
 use Rattle.sd_packet.specs.Header.{pid_of, scrambling_of}
-use Rattle.sd_site.specs.SiteFields.{SiteFields, fields_of}
+use Rattle.sd_site.specs.SiteFields.{SiteFields}
 use Rattle.sd_psi.specs.declared.fault.FormFault.TheVariants as Form
 use Rattle.sd_psi.specs.declared.clear_fault.ClearFault.{ClearFault}
 use Rattle.sd_psi.specs.declared.clear_fault.ClearFault.TheVariants.{AlreadyScrambled, PidTaken, PatForm, PmtForm}
@@ -14,23 +14,21 @@ use Rattle.sd_psi.specs.declared.clear_fault.ClearFault.TheVariants.{TooManyPids
 use Rattle.sd_spec.specs.Counting.{is_marked}
 use Rattle.sd_spec.specs.Kinds.{kind_of}
 use Rattle.sd_spec.specs.Plan.{Plan, period_of}
-use Rattle.sd_spec.specs.Refused.{broken_rule, fault_where, is_reserved_pid, is_full_own, is_one_too_many, is_too_long}
+use Rattle.sd_spec.specs.Refused.{fault_where, is_reserved_pid, is_full_own, is_one_too_many, is_too_long}
 use Rattle.sd_spec.specs.Refused.{unsent_at, pat_wrong}
 use Rattle.sd_spec.specs.Aired.{Verdict, Marked, Refused, Sent, Ends, verdict_by, verdict_of, following, aired}
 use Rattle.sd_spec.specs.Aired.{aired_from, ended_from, left_from, none_left}
 use Rattle.sd_spec.specs.declared.left_out.LeftOut.{LeftOut}
-use Rattle.sd_head.specs.Follows.{IsJudgement}
 use Rattle.sd_head.specs.Left.{is_over, renumbered, with_marked, with_refused, with_sent}
-use Rattle.sd_head.specs.Leaving.{LeavesOut}
+use Rattle.sd_head.specs.Leaving.{IsJudged, LeavesOut}
 use Rattle.sd_head.specs.Live.{live_breaks, live_ends, live_stops, live_takes, starts_period, verdict_after, IsLive}
 use Rattle.sd_head.specs.Live.{TakesPacket}
 use Rattle.sd_head.specs.Staged.{head_ends, head_sends, IsAfter, IsOfSent}
 use Rattle.sd_head.specs.declared.head.Head.{Head}
 use Rattle.sd_head.specs.declared.judged.Judged.{Judged}
-use Rattle.sd_head.specs.declared.judged.PatRule.TheVariants.{Skipped}
 use Rattle.sd_head.specs.declared.live.Live.{Live}
 use Rattle.sd_head.specs.declared.live.Taken.{Taken}
-use Rattle.sd_head.specs.declared.live.Taken.TheVariants.{On, Begins, Full}
+use Rattle.sd_head.specs.declared.live.Taken.TheVariants.{On, Begins}
 use Rattle.sd_head.proofs.Airing.{aired_more, aired_alone, ended_more, ended_alone, left_more, left_with, left_within}
 use Rattle.sd_head.proofs.Airing.{IsWithin}
 use Rattle.sd_head.proofs.Offering.{site_is}
@@ -66,9 +64,6 @@ verdict_told site before n packet found unmarked is =
     ∙ ap (option_map (renumbered n)) is))
 
 -- of a packet that is judged without the rule on PATs
-abbrev IsJudged : Live → Packet → Result Judged ClearFault → Type 0
-IsJudged s packet result = IsJudgement Skipped (fields_of s.head.site) s.head.clear packet result
-
 pub is_sent : (plan : Plan) (past : Packets) (s : Live) (packet : Packet) (judged : Judged) → IsLive plan past s →
     is_marked packet ≡ false → IsJudged s packet (Ok judged) → verdict_after plan past packet ≡ Sent
 unfolding unsent_at
@@ -268,10 +263,14 @@ sent_taken s t u packet judged bytes steps number last period taken unmarked tol
 pub sent_stops : (s : Live) (packet : Packet) (judged : Judged) (from to : ℕ) (bytes : List ℕ) →
     is_marked packet ≡ false → IsJudged s packet (Ok judged) → IsOfSent (head_sends s.head packet) from to bytes →
     live_stops s packet from to bytes
-sent_stops s packet judged from to bytes unmarked told (steps, few, (t, sends)) = (steps, few, λ plan past live. (
-  is_sent plan past s packet judged live unmarked told,
-  (sends plan (aired plan.site past) live.head_is).0,
-))
+sent_stops s packet judged from to bytes unmarked told (steps, few, (t, sends)) = (
+  steps,
+  few,
+  λ plan past live. (
+    is_sent plan past s packet judged live unmarked told,
+    (sends plan (aired plan.site past) live.head_is).0,
+  ),
+)
 
 -- at the end
 pub ends_live : (s : Live) (t : Head) (bytes : List ℕ) (steps : ℕ) → head_ends s.head t bytes steps →

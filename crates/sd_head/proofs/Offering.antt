@@ -1,5 +1,5 @@
 -- A head end's answers as those of a stage.
-use Rattle.std.proofs.Common.{◌≡◌, ℕ, ◌≤◌, ◌+◌, true, List, [], length, inl, inr, refl, sym, ap, subst, ◌∙◌, arith}
+use Rattle.std.proofs.Common.{◌≡◌, ℕ, true, List, [], length, inl, inr, refl, sym, ap, subst, ◌∙◌, arith}
 use Rattle.std.specs.Prelude.{Some, None, Result, Ok, Err, OnOk}
 use Rattle.sd_base.specs.Count.{IsCaused}
 use Rattle.sd_site.specs.SiteFields.{SiteFields, fields_of}
@@ -126,9 +126,11 @@ module _ (s : Head) (packet : List ℕ) where
       IsJudgement Asked (fields_of s.site) s.clear packet result → result ≡ Ok judged →
       head_sends s packet t bytes steps → head_does s packet t bytes steps
   does_of result judged t bytes steps told is sends = λ plan before after.
-      let there = sends plan before after in
-      (right_clear judged (subst (IsJudgement Asked (fields_of s.site) s.clear packet) is told) plan before after,
-      there.0, there.1)
+      let there = sends plan before after in (
+        right_clear judged (subst (IsJudgement Asked (fields_of s.site) s.clear packet) is told) plan before after,
+        there.0,
+        there.1,
+      )
 
   pub allowed_of : (result : Result Judged ClearFault) (judged : Judged) (from to : ℕ) (bytes : List ℕ) →
       IsJudgement Asked (fields_of s.site) s.clear packet result → result ≡ Ok judged →
