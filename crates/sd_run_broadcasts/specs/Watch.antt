@@ -96,6 +96,7 @@ watched_lines card bytes = lines_of card bytes (reports card (readable bytes))
 -- the work that makes OUT of what a card opens of a stream of these bytes, and meanwhile prints the lines
 abbrev pub watching : CardFields → FileArgument → List ℕ → Work
 watching card out bytes = record {
+  mark = None;
   out = Some (record { word = out.number; name = out.text; bytes = watched_of card bytes });
   pieces = watched_lines card bytes;
   ends = watched_status card bytes;
