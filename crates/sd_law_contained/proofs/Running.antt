@@ -1,4 +1,4 @@
--- A changed clear stream can be sent, and what arrives of its broadcast is changed in the same bits.
+-- A changed clear stream can be sent as before, and what arrives of its broadcast is changed in the same bits.
 use Rattle.std.proofs.Common.{◌≡◌, refl, ℕ, ◌==◌, ◌&&◌, ◌++◌, Bool, true, false, not, List, [], ◌∷◌, length, map}
 use Rattle.std.proofs.Common.{Option, Some, None, ap, sym, ◌∙◌, inl}
 use Rattle.std.specs.Prelude.{nat_le, All}
