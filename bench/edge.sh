@@ -508,6 +508,110 @@ exec 7>&-
 wait "$box"
 row "the box is switched off" is "$? $(tail -n 1 lines)" "14 stream ends before message 1"
 
+# --- a head end that goes on: `air`. Site 1 of a chain of its own is for a broadcast of clear packets in version 3
+: >onair_book
+mkdir onair && printf '%s\n' 'messages 3' 'first-word 1' 'last-word 0' 'first-period 0' | cat S - >onair/site-0.txt
+for n in 0 1; do sdca next onair/site-$n.txt onair_book 1000 onair/site-$((n + 1)).txt >lines; done
+site=onair/site-1.txt
+mark=$site.used
+# PACKETS SENT REFUSED SKIPPED PERIOD WORD FIRST: the line of `air`, with 1,000 control words.
+aired() {
+    printf '{%s"left":%s,"marked":0,"packets":%s,"pats":0,"period":%s,"refused":%s,"sent":%s,"skipped":%s,"word":%s}' \
+        "$7" $((1000 - $6)) "$1" "$5" "$3" "$2" "$4" "$6"
+}
+sdca head $site onair_book C due
+sdca air $site onair_book C A1 >lines 2>err
+row "air of a clear stream" is "$status $(cat lines)" "0 $(aired 600 600 0 0 1 2 '')"
+row "it is what head makes of it" same A1 due
+row "on the standard error a line where each period begins" is "$(cat err)" "$(aired 1 1 0 0 1 1 '')"
+row "the mark is there and empty" is "$(wc -c <$mark)" 0
+cp A1 A2
+for out in A2 A3; do
+    ask "air $site onair_book C $out"
+    row "a site that was used, into $out" is "$answer" "20 site is used
+sdca: SITE $site: it was used; make the next one (sdca next)"
+done
+row "OUT stays" same A2 A1
+row "no other OUT is made" test ! -e A3
+rm $mark && ln -s nowhere $mark
+ask "air $site onair_book C A3"
+row "a link has the mark's name" is "$status" 20
+rm $mark && mkdir $mark
+ask "air $site onair_book C A3"
+row "a folder has the mark's name" is "$status" 20
+rmdir $mark
+ask "air $site onair_book C $mark"
+row "OUT is the mark" is "$answer" "1 usage
+sdca: OUT $mark: it is the mark of SITE"
+ln -s site-1.txt.used onair/other
+ask "air $site onair_book C onair/other"
+row "OUT is the mark by a link" is "$status $(head -n 1 lines) $(wc -c <$mark)" "4 device fault 0"
+rm $mark onair/other
+ask "air $site onair_book nowhere A3"
+row "no CLEAR: no mark" is "$status $(ls onair)" "2 $(printf 'site-%s.txt\n' 0 1 2)"
+ask "air $site onair_book C nowhere/A3"
+row "no folder for OUT: the site is wasted" is "$status $(head -n 1 lines) $(ls $mark)" "2 missing file word 4 $mark"
+rm $mark
+for given in S chain/site-3.txt onair/site-0.txt; do
+    ask "air $given onair_book C A3"
+    echo "$status $(head -n 1 lines)"
+done >got
+row "sites that aren't for air" is "$(cat got)" "6 site is short
+21 book is not that of the site
+6 site is short"
+sed '9s/3/2/' $site >onair/version-2.txt
+sed '11s/.*/last-word 0/' $site >onair/no-word.txt
+for given in onair/version-2.txt onair/no-word.txt; do
+    ask "air $given onair_book C A3"
+    echo "$status $(head -n 1 lines)"
+done >got
+row "of version 2, or without a control word" is "$(cat got)" "6 site line 9 is out of range
+6 site line 11 is out of range"
+row "nothing was made" is "$(ls onair | grep -c used) $(ls A3 2>/dev/null)" "0 "
+sed '11s/.*/last-word 1/' $site >onair/one-word.txt
+sdca air onair/one-word.txt onair_book C got >lines 2>err
+first_packets 400 C >C400 && sdca head onair/one-word.txt onair_book C400 due
+row "the control words are used up: a report and exit 22" is "$status $(tail -n 1 lines)" "22 site is used up at packet 400"
+row "with the closing message" same got due
+{ first_packets 10 C && without 0 10 X | head -c 188 && head -c 77 C && printf '\107\100\001\020' && head -c 184 /dev/zero &&
+    without 0 10 C; } >wild_clear
+sdca head $site onair_book C due
+sdca air $site onair_book wild_clear got >lines 2>err
+row "a packet of a broadcast, a torn one and a CAT are left out" is "$status $(cat lines)" \
+    "0 $(aired 602 600 2 77 1 2 '"first":"clear packet 10: pid 1 is taken",')"
+row "and all else is sent" same got due
+rm $mark
+"$program" air $site onair_book /dev/stdin /dev/stdout <C 2>err | cat >got
+row "air into a pipe: all lines on the standard error" is "$(cat err)" "$(aired 1 1 0 0 1 1 '')
+$(aired 600 600 0 0 1 2 '')"
+row "and nothing else in the pipe" same got due
+rm $mark
+sdca air $site onair_book C got >/dev/full 2>err
+row "air: nothing can be printed: exit 5" is "$status" 5
+row "OUT is whole" same got due
+rm $mark
+rm -f exits
+for _ in $(seq 40); do
+    ("$program" air $site onair_book C "$(mktemp O.XXXXXX)" >/dev/null 2>&1; echo $? >>exits) &
+done
+wait
+row "of forty at once one sends" is "$(sort -n exits | uniq -c | awk '{ print $1, $2 }' | paste -sd ,)" "1 0,39 20"
+row "and one OUT has a byte" is "$(find . -name 'O.*' -size +0 | wc -l)" 1
+rm $mark
+row "air: before a read all that is known is sent: 200 and 201 packets" is \
+    "$(python3 "$live" fed C R 200 201 -- "$program" air $site onair_book /dev/stdin R)" "$((188 * 203)) $((188 * 203))"
+row "air to the end" same R due
+rm $mark
+if strace -o trace true 2>err; then
+    strace -f -y -o trace -e trace=openat,fsync "$program" air $site onair_book C R >lines 2>err
+    row "the mark is new and on the disk with its folder, and then OUT is opened" is \
+        "$(grep -E 'O_EXCL|fsync|"R"' trace | grep -v ENOENT | sed 's/.*\(O_EXCL\|fsync\|"R"\).*/\1/' | uniq | paste -sd ' ')" \
+        'O_EXCL fsync "R"'
+    rm $mark
+else
+    left_out "when the mark is on the disk" "strace: $(cat err)"
+fi
+
 # --- a standard output that can't be looked at, since nothing is in /dev. An older program fails these rows
 # WORDS..: runs them in a namespace of their own, in which nothing is in /dev.
 blind() { unshare -rm sh -c 'mount -t tmpfs none /dev && exec "$@"' sh "$@"; }

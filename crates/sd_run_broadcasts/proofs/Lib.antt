@@ -14,7 +14,9 @@ pub mod Cutting
 pub mod Playing
 pub mod Telling
 pub mod FieldOthers
+pub mod Members
 pub mod WatchLines
+pub mod AirLines
 pub mod WatchedMore
 pub mod Found
 pub mod Living
