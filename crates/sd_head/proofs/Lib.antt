@@ -5,6 +5,8 @@ mod Counting
 mod Starting
 mod Added
 mod Stepping
+pub mod Airing
+mod Going
 pub mod Chained
 pub mod ClearKinds
 pub mod Refusing
