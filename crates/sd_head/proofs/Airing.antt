@@ -11,6 +11,10 @@ use Rattle.sd_spec.specs.Aired.{Verdict, Marked, Refused, Sent, Ends, verdict_of
 use Rattle.sd_spec.specs.Aired.{one_marked, one_refused, one_sent, left_by, none_left, left_from}
 use Rattle.sd_spec.specs.declared.left_out.LeftOut.{LeftOut}
 
+-- nothing more
+add_none : (n : ℕ) → n ≡ n + 0
+add_none n = omega arith
+
 -- the packets that are sent of some that don't come to an end, and of others after them
 module _ (site : SiteFields) (rest : Packets) where
   aired_step : (v : Verdict) (before : Packets) (n : PacketNumber) (packet : Packet) (past : Packets) →
@@ -45,7 +49,7 @@ module _ (site : SiteFields) (rest : Packets) where
   unfolding aired_from ended_from
   aired_more before n [] h =
       ap (λ (b : Packets). aired_from site b n rest) (sym (append-nil before))
-      ∙ ap (λ (k : ℕ). aired_from site (before ++ []) k rest) {n} {n + 0} (omega arith)
+      ∙ ap (λ (k : ℕ). aired_from site (before ++ []) k rest) (add_none n)
   aired_more before n (packet ∷ past) h =
       let same : (n + 1) + length past ≡ n + suc (length past) = omega arith in
       rw same at (aired_step (verdict_of site before n packet) before n packet past h
@@ -78,7 +82,7 @@ module _ (site : SiteFields) (rest : Packets) where
   unfolding aired_from ended_from
   ended_more before n [] h =
       ap (λ (b : Packets). ended_from site b n rest) (sym (append-nil before))
-      ∙ ap (λ (k : ℕ). ended_from site (before ++ []) k rest) {n} {n + 0} (omega arith)
+      ∙ ap (λ (k : ℕ). ended_from site (before ++ []) k rest) (add_none n)
   ended_more before n (packet ∷ past) h =
       let same : (n + 1) + length past ≡ n + suc (length past) = omega arith in
       rw same at (ended_step (verdict_of site before n packet) before n packet past h
@@ -116,10 +120,11 @@ sent_first : (first : Packet) (v : Verdict) (packet : Packet) (out : LeftOut) �
 sent_first first Marked packet out = refl
 sent_first first (Refused other) packet out = refl
 sent_first first Sent packet out =
-    let a = if is_none (pat_wrong first) then 0 else 1 in
-    let b = if is_none (pat_wrong packet) then 0 else 1 in
     ap (λ (pats : ℕ). record { marked = out.marked; refused = out.refused; pats = pats; first = out.first })
-    {a + (b + out.pats)} {b + (a + out.pats)} (omega arith)
+    (in_turn (if is_none (pat_wrong first) then 0 else 1) (if is_none (pat_wrong packet) then 0 else 1) out.pats)
+  where
+    in_turn : (a b n : ℕ) → a + (b + n) ≡ b + (a + n)
+    in_turn a b n = omega arith
 sent_first first Ends packet out = refl
 
 -- of one packet alone
@@ -168,7 +173,7 @@ module _ (site : SiteFields) (last : Packet) where
   left_more before n [] h =
       left_alone (verdict_of site before n last) last
       ∙ (ap (λ (b : Packets). left_with (verdict_of site b n last) last none_left) (sym (append-nil before))
-      ∙ ap (λ (k : ℕ). left_with (verdict_of site (before ++ []) k last) last none_left) {n} {n + 0} (omega arith))
+      ∙ ap (λ (k : ℕ). left_with (verdict_of site (before ++ []) k last) last none_left) (add_none n))
   left_more before n (packet ∷ past) h =
       let same : (n + 1) + length past ≡ n + suc (length past) = omega arith in
       rw same at (left_step (verdict_of site before n packet) before n packet past h

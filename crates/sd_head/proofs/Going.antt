@@ -1,7 +1,7 @@
 -- One step of a head end that goes on.
 use Rattle.std.proofs.Common.{◌≡◌, ℕ, ◌+◌, ◌-◌, ◌^◌, ◌<◌, ◌≤◌, ◌==◌, min, Bool, true, false, List, [], ◌∷◌, ◌++◌, length}
 use Rattle.std.proofs.Common.{refl, sym, ap, subst, ◌∙◌, arith, length-append, append-nil}
-use Rattle.std.specs.Prelude.{not, is_none, if◌then◌else◌, Option, Some, None, option_map, Result, Ok, Err}
+use Rattle.std.specs.Prelude.{not, is_none, if◌then◌else◌, ◌||◌, Option, Some, None, option_map, Result, Ok, Err}
 use Rattle.std.specs.Option.{option_or}
 use Rattle.sd_base.specs.Types.{Packet, Packets, PacketNumber, Pid}
 use Rattle.sd_base.specs.Count.{with_added}
@@ -13,23 +13,27 @@ use Rattle.sd_psi.specs.declared.clear_fault.ClearFault.TheVariants.{AlreadyScra
 use Rattle.sd_psi.specs.declared.clear_fault.ClearFault.TheVariants.{TooManyPids, TooLong}
 use Rattle.sd_spec.specs.Counting.{is_marked}
 use Rattle.sd_spec.specs.Kinds.{kind_of}
-use Rattle.sd_spec.specs.Plan.{Plan}
+use Rattle.sd_spec.specs.Plan.{Plan, period_of}
 use Rattle.sd_spec.specs.Refused.{broken_rule, fault_where, is_reserved_pid, is_full_own, is_one_too_many, is_too_long}
 use Rattle.sd_spec.specs.Refused.{unsent_at, pat_wrong}
 use Rattle.sd_spec.specs.Aired.{Verdict, Marked, Refused, Sent, Ends, verdict_by, verdict_of, following, aired}
-use Rattle.sd_spec.specs.Aired.{left_from, ended_from}
+use Rattle.sd_spec.specs.Aired.{aired_from, ended_from, left_from, none_left}
 use Rattle.sd_spec.specs.declared.left_out.LeftOut.{LeftOut}
 use Rattle.sd_head.specs.Follows.{IsJudgement}
-use Rattle.sd_head.specs.Left.{renumbered, with_marked, with_refused, with_sent}
-use Rattle.sd_head.specs.Live.{live_takes, told_of, verdict_after, IsLive, LeadsTo, TakesPacket}
-use Rattle.sd_head.specs.Staged.{IsAfter}
+use Rattle.sd_head.specs.Left.{is_over, renumbered, with_marked, with_refused, with_sent}
+use Rattle.sd_head.specs.Leaving.{LeavesOut}
+use Rattle.sd_head.specs.Live.{live_breaks, live_ends, live_stops, live_takes, starts_period, verdict_after, IsLive}
+use Rattle.sd_head.specs.Live.{IsOnAir, TakesPacket}
+use Rattle.sd_head.specs.Staged.{head_ends, head_sends, IsAfter, IsOfSent, IsOn}
 use Rattle.sd_head.specs.declared.head.Head.{Head}
 use Rattle.sd_head.specs.declared.judged.Judged.{Judged}
 use Rattle.sd_head.specs.declared.judged.PatRule.TheVariants.{Skipped}
 use Rattle.sd_head.specs.declared.live.Live.{Live}
-use Rattle.sd_head.specs.declared.live.Taken.TheVariants.{On, Full}
+use Rattle.sd_head.specs.declared.live.Taken.{Taken}
+use Rattle.sd_head.specs.declared.live.Taken.TheVariants.{On, Begins, Full}
 use Rattle.sd_head.proofs.Airing.{aired_more, aired_alone, ended_more, ended_alone, left_more, left_with, left_within}
 use Rattle.sd_head.proofs.Airing.{IsWithin}
+use Rattle.sd_head.proofs.Offering.{site_is}
 
 -- the first rule that a packet breaks is the same whatever its number
 same_rule : (a b c d e : Bool) (pid : Pid) (m n : PacketNumber) →
@@ -60,11 +64,6 @@ unfolding verdict_of
 verdict_told site before n packet found unmarked is =
     rw unmarked (ap verdict_by (unsent_renumbered site before packet (length before) n
     ∙ ap (option_map (renumbered n)) is))
-
--- the site of the plan is the head end's
-site_is : (plan : Plan) (before : Packets) (head : Head) → IsAfter plan before head →
-    fields_of head.site ≡ plan.site
-site_is plan before head after = ap (λ (p : Plan). p.site) after.keeps_to
 
 -- of a packet that is judged without the rule on PATs
 abbrev IsJudged : Live → Packet → Result Judged ClearFault → Type 0
@@ -195,10 +194,6 @@ marked_taken s t packet steps marked head out packets = λ plan past live small.
     left_taken plan past packet s t Marked live small
     (marked_is plan.site (aired plan.site past) (length past) packet marked) refl head out packets
 
--- a fault that isn't the end
-abbrev pub is_over : ClearFault → Bool
-is_over fault = not (is_left (verdict_by (Some fault)))
-
 refused_by : (n : PacketNumber) (fault : ClearFault) → is_over fault ≡ false →
     verdict_by (Some (renumbered n fault)) ≡ Refused (renumbered n fault)
 refused_by n (AlreadyScrambled k) h = refl
@@ -208,20 +203,93 @@ refused_by n (PmtForm k form) h = refl
 refused_by n (TooManyPids k) h = refl
 refused_by n (TooLong k) h = absurd cc
 
-pub refused_taken : (s t : Live) (packet : Packet) (fault : ClearFault) (steps : ℕ) → is_marked packet ≡ false →
-    IsJudged s packet (Err fault) → is_over fault ≡ false → t.head ≡ s.head →
-    t.left_out ≡ with_refused s.left_out (renumbered s.packets fault) → t.packets ≡ with_added s.packets 1 →
-    live_takes s packet t On [] steps
-refused_taken s t packet fault steps unmarked told goes head out packets = λ plan past live small.
-    left_taken plan past packet s t (Refused (renumbered (length past) fault)) live small
-    (is_faulty plan past s packet fault live unmarked told ∙ refused_by (length past) fault goes) refl head
-    (out ∙ ap (λ (n : ℕ). with_refused s.left_out (renumbered n fault)) live.packets_are) packets
+ends_by : (n : PacketNumber) (fault : ClearFault) → is_over fault ≡ true →
+    verdict_by (Some (renumbered n fault)) ≡ Ends
+ends_by n (AlreadyScrambled k) h = absurd cc
+ends_by n (PidTaken k pid) h = absurd cc
+ends_by n (PatForm k form) h = absurd cc
+ends_by n (PmtForm k form) h = absurd cc
+ends_by n (TooManyPids k) h = absurd cc
+ends_by n (TooLong k) h = refl
 
-pub full_taken : (s : Live) (packet : Packet) (k : PacketNumber) (steps : ℕ) → is_marked packet ≡ false →
-    IsJudged s packet (Err (TooLong k)) → live_takes s packet s Full [] steps
-full_taken s packet k steps unmarked told = λ plan past live small.
-    let is = is_faulty plan past s packet (TooLong k) live unmarked told in record {
-      told = rw is refl;
+-- a packet that breaks a rule: it is left out, or the broadcast ends before it
+faulty_taken : (s t : Live) (packet : Packet) (fault : ClearFault) (over : Bool) (taken : Taken) (steps : ℕ) →
+    is_marked packet ≡ false → IsJudged s packet (Err fault) → is_over fault ≡ over → LeavesOut over fault s t taken →
+    live_takes s packet t taken [] steps
+faulty_taken s t packet fault true taken steps unmarked told over leaves = λ plan past live small.
+    let is = is_faulty plan past s packet fault live unmarked told ∙ ends_by (length past) fault over in record {
+      told = rw is leaves.0;
       bytes_are = rw is refl;
-      leads = rw is refl;
+      leads = rw is leaves.1;
     }
+faulty_taken s t packet fault false taken steps unmarked told over leaves = λ plan past live small.
+    let is = is_faulty plan past s packet fault live unmarked told ∙ refused_by (length past) fault over in
+    rw leaves.0 (left_taken plan past packet s t (Refused (renumbered (length past) fault)) live small is refl
+    leaves.1.same
+    (leaves.1.left_out ∙ ap (λ (n : ℕ). with_refused s.left_out (renumbered n fault)) live.packets_are)
+    leaves.1.packets)
+
+pub leaves_taken : (s t : Live) (packet : Packet) (result : Result Judged ClearFault) (fault : ClearFault)
+    (taken : Taken) (steps : ℕ) → is_marked packet ≡ false → IsJudged s packet result → result ≡ Err fault →
+    LeavesOut (is_over fault) fault s t taken → live_takes s packet t taken [] steps
+leaves_taken s t packet result fault taken steps unmarked told is leaves =
+    faulty_taken s t packet fault (is_over fault) taken steps unmarked (subst (IsJudged s packet) is told) refl leaves
+
+-- and more may be taken
+pub leaves_on : (s t : Live) (fault : ClearFault) (over : Bool) (taken : Taken) → LeavesOut over fault s t taken →
+    IsOnAir s → IsOnAir t
+leaves_on s t fault true taken leaves on = subst IsOnAir (sym leaves.1) on
+leaves_on s t fault false taken leaves on = subst IsOn (sym leaves.1.same) on
+
+-- a packet that is sent
+pub sent_taken : (s t : Live) (packet : Packet) (judged : Judged) (bytes : List ℕ) (steps last period : ℕ)
+    (taken : Taken) → is_marked packet ≡ false → IsJudged s packet (Ok judged) →
+    head_sends s.head packet t.head bytes steps → t.left_out ≡ with_sent s.left_out packet →
+    t.packets ≡ with_added s.packets 1 →
+    ((plan : Plan) (before : Packets) → IsAfter plan before s.head → last ≡ period_of plan (length before - 1)) →
+    ((plan : Plan) (before : Packets) → IsAfter plan before t.head → period ≡ period_of plan (length before - 1)) →
+    taken ≡ (if (s.head.clear.count == 0) || not (last == period) then Begins else On) →
+    live_takes s packet t taken bytes steps
+unfolding starts_period
+sent_taken s t packet judged bytes steps last period taken unmarked told sends out packets lasted begins told_is =
+    λ plan past live small.
+    let before = aired plan.site past in
+    let is = is_sent plan past s packet judged live unmarked told in
+    let there = sends plan before live.head_is in
+    let long : length (before ++ packet ∷ []) - 1 ≡ length before =
+    let more = length-append before (packet ∷ []) in omega (arith, more) in
+    let now : period ≡ period_of plan (length before) =
+    begins plan (before ++ packet ∷ []) there.1 ∙ ap (period_of plan) long in record {
+      told = rw is (told_is ∙ (ap (λ (n : ℕ). if (n == 0) || not (last == period) then Begins else On)
+          live.head_is.clear_is.number
+          ∙ (ap (λ (q : ℕ). if (length before == 0) || not (q == period) then Begins else On)
+          (lasted plan before live.head_is)
+          ∙ ap (λ (q : ℕ). if (length before == 0) || not (period_of plan (length before - 1) == q) then Begins
+          else On) now)));
+      bytes_are = rw is there.0;
+      leads = rw is (still_live plan past packet s t Sent live small is refl there.1 out packets);
+    }
+
+-- a write of it failed
+pub sent_stops : (s : Live) (packet : Packet) (judged : Judged) (from to : ℕ) (bytes : List ℕ) →
+    is_marked packet ≡ false → IsJudged s packet (Ok judged) → IsOfSent (head_sends s.head packet) from to bytes →
+    live_stops s packet from to bytes
+sent_stops s packet judged from to bytes unmarked told (steps, few, (t, sends)) = (steps, few, λ plan past live. (
+  is_sent plan past s packet judged live unmarked told,
+  (sends plan (aired plan.site past) live.head_is).0,
+))
+
+-- at the end
+pub ends_live : (s : Live) (t : Head) (bytes : List ℕ) (steps : ℕ) → head_ends s.head t bytes steps →
+    live_ends s bytes steps
+ends_live s t bytes steps ends = λ plan past live. (ends plan (aired plan.site past) live.head_is).0
+
+pub breaks_live : (s : Live) (from to : ℕ) (bytes : List ℕ) → IsOfSent (head_ends s.head) from to bytes →
+    live_breaks s from to bytes
+breaks_live s from to bytes (steps, few, (t, ends)) = (steps, few, ends_live s t bytes steps ends)
+
+-- before the first packet
+pub begun_live : (plan : Plan) (head : Head) → IsAfter plan [] head →
+    IsLive plan [] (record { head = head; packets = 0; left_out = none_left })
+unfolding aired_from ended_from left_from
+begun_live plan head after = record { head_is = after; goes_on = refl; left_out_is = refl; packets_are = refl }

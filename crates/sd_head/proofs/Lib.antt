@@ -5,6 +5,8 @@ mod Counting
 mod Starting
 mod Added
 mod Stepping
+mod Offering
+mod Last
 pub mod Airing
 mod Going
 pub mod Chained

@@ -1,5 +1,5 @@
 -- Inner: what is left out, with one packet more at its end, as it is counted.
-use Rattle.std.specs.Prelude.{ℕ, is_none, if◌then◌else◌, Some}
+use Rattle.std.specs.Prelude.{Bool, true, false, is_none, if◌then◌else◌, Some}
 use Rattle.std.specs.Option.{option_or}
 use Rattle.sd_base.specs.Types.{Packet, PacketNumber}
 use Rattle.sd_base.specs.Count.{with_added}
@@ -17,6 +17,15 @@ renumbered n (PatForm k form) = PatForm n form
 renumbered n (PmtForm k form) = PmtForm n form
 renumbered n (TooManyPids k) = TooManyPids n
 renumbered n (TooLong k) = TooLong n
+
+-- no number of a packet, or no control word, is left for it
+abbrev pub is_over : ClearFault → Bool
+is_over (AlreadyScrambled k) = false
+is_over (PidTaken k pid) = false
+is_over (PatForm k form) = false
+is_over (PmtForm k form) = false
+is_over (TooManyPids k) = false
+is_over (TooLong k) = true
 
 -- one packet more that is marked, up to 2^64 - 1
 abbrev pub with_marked : LeftOut → LeftOut

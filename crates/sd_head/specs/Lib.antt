@@ -5,6 +5,7 @@ pub mod Schedule
 pub mod Staged
 pub mod Live
 pub mod Left
+pub mod Leaving
 pub mod Known
 pub mod After
 pub mod Follows

@@ -1,4 +1,5 @@
-ghost use Rattle.std.specs.Prelude.{◌≡◌, ◌-◌, ℕ, List, [], length, false, Ok, IfOk, OnOk, IsErrOf};
+ghost use Rattle.std.specs.Prelude.{◌≡◌, ◌-◌, ◌==◌, ◌||◌, not, if◌then◌else◌, ℕ, List, [], length, false, Ok};
+ghost use Rattle.std.specs.Prelude.{IfOk, OnOk, IsErrOf};
 ghost use Rattle.sd_base.specs.Count.{with_added, IsCaused};
 ghost use Rattle.sd_engine.specs.Stage.{vessel, HasGrown, IsCutShort};
 ghost use Rattle.sd_spec.specs.Plan.{Plan, period_of, word_of};
@@ -7,9 +8,11 @@ ghost use Rattle.sd_spec.specs.Aired.{aired, left_from};
 ghost use Rattle.sd_spec.specs.Counting.{is_marked as is_marked_packet};
 ghost use Rattle.sd_head.specs.Kept.{plan_of};
 ghost use Rattle.sd_head.specs.Follows.{IsJudgement};
-ghost use Rattle.sd_head.specs.Left.{renumbered, with_marked, with_refused};
+ghost use Rattle.sd_head.specs.Left.{is_over, with_marked, with_sent};
+ghost use Rattle.sd_head.specs.Leaving.{HasRefused, LeavesOut};
 ghost use Rattle.sd_head.specs.Live.{live_breaks, live_ends, live_stops, live_takes, IsLive, IsOnAir};
 ghost use Rattle.sd_head.specs.declared.judged.PatRule.TheVariants.{Skipped};
+ghost use Rattle.sd_head.specs.declared.live.Taken.TheVariants.{Begins, On};
 
 use crate::fault::LiveFault;
 use crate::head::Head;
@@ -81,11 +84,7 @@ impl Live {
         }
         match &self.head.judge(packet, PatRule::Skipped) {
             Ok(judged) => self.send(judged, packet, out, steps),
-            Err(ClearFault::TooLong(_)) => Ok(Taken::Full),
-            Err(fault) => {
-                self.refuse(*fault);
-                Ok(Taken::On)
-            }
+            Err(fault) => Ok(self.leave_out(*fault)),
         }
     }
     /// Sends the closing message. After it nothing more can be taken.
@@ -162,11 +161,20 @@ impl Live {
         self.packets = self.packets.saturating_add(1);
     }
 
+    // Counts a packet that breaks a rule, if the broadcast doesn't end before it.
+    fn leave_out(&mut self, fault: ClearFault) -> Taken
+        ensures { LeavesOut (is_over fault) fault self.old self.new result }
+    {
+        if let ClearFault::TooLong(_) = fault {
+            return Taken::Full;
+        }
+        self.refuse(fault);
+        Taken::On
+    }
+
     // Counts a packet that breaks a rule.
     fn refuse(&mut self, fault: ClearFault)
-        ensures packets { self.new.packets ≡ with_added self.old.packets 1 }
-        ensures left_out { self.new.left_out ≡ with_refused self.old.left_out (renumbered self.old.packets fault) }
-        ensures same { self.new.head ≡ self.old.head }
+        ensures { HasRefused fault self.old self.new }
     {
         add_refused(&mut self.left_out, renumber(fault, self.packets));
         self.packets = self.packets.saturating_add(1);
@@ -192,16 +200,36 @@ impl Live {
             (live_stops self.old packet.now steps.old steps.new) }
         ensures cause { IsCaused (K.faults out.old) (K.faults out.new) (IsErrOf result LiveFault.Write) }
     {
-        let is_first = self.head.sent() == 0;
-        let period = self.head.period();
-        self.head.send(judged, packet, out, steps)?;
+        let count = self.head.sent();
+        let last = self.head.period();
+        match self.head.send(judged, packet, out, steps) {
+            Ok(()) => {
+                self.count_sent(packet);
+                Ok(told_of_sent(count, last, self.head.period()))
+            }
+            Err(fault) => Err(fault),
+        }
+    }
+
+    // Counts a packet that was sent.
+    fn count_sent(&mut self, packet: &Packet)
+        ensures packets { self.new.packets ≡ with_added self.old.packets 1 }
+        ensures left_out { self.new.left_out ≡ with_sent self.old.left_out packet.now }
+        ensures same { self.new.head ≡ self.old.head }
+    {
         add_sent(&mut self.left_out, packet);
         self.packets = self.packets.saturating_add(1);
-        if is_first || self.head.period() != period {
-            Ok(Taken::Begins)
-        } else {
-            Ok(Taken::On)
-        }
+    }
+}
+
+// What is told of a packet of this period that was sent as the one of this number, after one of the last period.
+fn told_of_sent(number: u32, last: u32, period: u32) -> Taken
+    ensures { result ≡ (if (number == 0) || not (last == period) then Begins else On) }
+{
+    if number == 0 || last != period {
+        Taken::Begins
+    } else {
+        Taken::On
     }
 }
 
