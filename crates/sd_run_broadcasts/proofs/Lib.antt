@@ -21,6 +21,7 @@ pub mod AirOthers
 pub mod WatchedMore
 pub mod Found
 pub mod Living
+pub mod Marking
 pub mod Watched
 pub mod WatchedFile
 pub mod WatchPacket
