@@ -42,7 +42,6 @@ exit_line files BadOut = codes "  19  OUT is there already, or its name does not
 exit_line files SiteUsed = codes "  20  a run of air used the site\n"
 exit_line files OtherBook =
     codes "  21  BOOK is not the book of the site's line 13; for next, it does not begin with that book\n"
-
 exit_line files SiteUsedUp = codes "  22  no number or control word is left for packet K of CLEAR\n"
 
 -- all exits, by their numbers

@@ -114,8 +114,7 @@ impl Exit {
             Exit::SiteUsed => "  20  a run of air used the site\n",
             Exit::OtherBook =>
                 "  21  BOOK is not the book of the site's line 13; for next, it does not begin with that book\n",
-            Exit::SiteUsedUp =>
-                "  22  no number or control word is left for packet K of CLEAR\n",
+            Exit::SiteUsedUp => "  22  no number or control word is left for packet K of CLEAR\n",
         }
     }
 
