@@ -26,7 +26,7 @@ use Rattle.sd_spec.specs.Offered.{out_from}
 use Rattle.sd_field.specs.Heard.{IsHeard}
 use Rattle.sd_field.specs.Seats.{IsNew, IsSeated, wrote_before}
 use Rattle.sd_field.proofs.Seats.{written_in}
-use Rattle.sd_field.proofs.Stations.{head_after}
+use Rattle.sd_field.proofs.Stations.{head_after, head_clear}
 use Rattle.sd_field.specs.Stations.{IsHeadAfter, IsStation}
 use Rattle.sd_field.specs.Fields.{AreSeated, FieldValue, IsField, IsKept, IsSendRefused, IsSentCut, IsWrittenCut}
 use Rattle.sd_field.specs.Fields.{IsCommand, IsSentOver, TakesMemory, next_event, next_refusal, refusal_at, sends_of}
@@ -395,7 +395,7 @@ field_sent v book station to seats is left calm field stands =
       done = let within = slice_get_within v.events v.done Send is in omega (arith, within);
       plan = field.plan;
       clear = subst (IsClear v.site) (sym same)
-          (head_after (plan_in v) (taken v ++ get_or v.clear (sends_of v) [] ∷ []) to.head stands.head).are_clear;
+          (head_clear (plan_in v) (taken v ++ get_or v.clear (sends_of v) [] ∷ []) to.head stands.head);
       height = field.height;
       commands = field.commands;
       count = omega (arith, stands.count, one, long, length-append (taken v) (get_or v.clear (sends_of v) [] ∷ []));
@@ -618,7 +618,7 @@ first_field v book station seats none packets few leaves height commands stands 
       leaves = leaves;
       done = let e = none in omega (arith, e);
       plan = begun.is_plan;
-      clear = subst (IsClear v.site) (sym nothing) after.are_clear;
+      clear = subst (IsClear v.site) (sym nothing) (head_clear (plan_in v) [] station.head stands.head);
       height = height;
       commands = commands;
       count = stands.count ∙ sym (ap (sends (length v.clear)) past);

@@ -9,14 +9,14 @@ use Rattle.sd_ports.specs.Rooms.{HasTaken}
 use Rattle.sd_engine.specs.Stage.{Chain, IsTooShort}
 use Rattle.sd_engine.proofs.Chains.{chain_on}
 use Rattle.sd_spec.specs.Plan.{Plan}
-use Rattle.sd_spec.specs.Refused.{refusal_of}
+use Rattle.sd_spec.specs.Refused.{refusal_of, IsClear}
 use Rattle.sd_spec.specs.Sent.{Item, added, body, bytes_added, packets_from, sent, sent_from}
 use Rattle.sd_spec.proofs.Sending.{packets_in_turn, sent_more}
 use Rattle.sd_head.specs.Schedule.{IsDue}
 use Rattle.sd_head.specs.Staged.{IsAfter, IsReady, RefusesPacket, head_does}
 use Rattle.sd_head.specs.declared.fault.HeadFault.{HeadFault}
 use Rattle.sd_head.specs.declared.head.Head.{Head}
-use Rattle.sd_head.proofs.Chained.{chained}
+use Rattle.sd_head.proofs.Chained.{all_clear, chained}
 use Rattle.sd_field.specs.Heard.{HasRoom}
 use Rattle.sd_field.specs.Stations.{IsHeadAfter, IsStation}
 use Rattle.sd_field.specs.declared.station.Station.{Station}
@@ -26,6 +26,12 @@ pub head_after : (plan : Plan) (packets : List (List ℕ)) (head : Head) → IsH
     IsAfter plan packets head
 head_after plan packets head stands =
     (chained plan packets stands.start head (concat (body plan packets)) stands.steps stands.new.0 stands.chain).1
+
+-- and they are clear
+pub head_clear : (plan : Plan) (packets : List (List ℕ)) (head : Head) → IsHeadAfter plan packets head →
+    IsClear plan.site packets
+head_clear plan packets head stands =
+    all_clear plan packets stands.start head (concat (body plan packets)) stands.steps stands.new.0 stands.chain
 
 -- so it may be offered one more
 pub head_ready : (plan : Plan) (packets : List (List ℕ)) (head : Head) → IsHeadAfter plan packets head → IsReady head

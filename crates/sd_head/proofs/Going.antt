@@ -1,12 +1,12 @@
 -- One step of a head end that goes on.
-use Rattle.std.proofs.Common.{◌≡◌, ℕ, ◌+◌, ◌-◌, ◌^◌, ◌<◌, ◌≤◌, ◌==◌, min, Bool, true, false, List, [], ◌∷◌, ◌++◌, length}
+use Rattle.std.proofs.Common.{◌≡◌, ℕ, ◌+◌, ◌-◌, ◌^◌, ◌<◌, ◌==◌, Bool, true, false, List, [], ◌∷◌, ◌++◌, length}
 use Rattle.std.proofs.Common.{refl, sym, ap, subst, ◌∙◌, arith, length-append, append-nil}
 use Rattle.std.specs.Prelude.{not, is_none, if◌then◌else◌, ◌||◌, Option, Some, None, option_map, Result, Ok, Err}
 use Rattle.std.specs.Option.{option_or}
 use Rattle.sd_base.specs.Types.{Packet, Packets, PacketNumber, Pid}
 use Rattle.sd_base.specs.Count.{with_added}
 use Rattle.sd_packet.specs.Header.{pid_of, scrambling_of}
-use Rattle.sd_site.specs.SiteFields.{SiteFields, fields_of}
+use Rattle.sd_site.specs.SiteFields.{SiteFields}
 use Rattle.sd_psi.specs.declared.fault.FormFault.TheVariants as Form
 use Rattle.sd_psi.specs.declared.clear_fault.ClearFault.{ClearFault}
 use Rattle.sd_psi.specs.declared.clear_fault.ClearFault.TheVariants.{AlreadyScrambled, PidTaken, PatForm, PmtForm}
@@ -14,23 +14,21 @@ use Rattle.sd_psi.specs.declared.clear_fault.ClearFault.TheVariants.{TooManyPids
 use Rattle.sd_spec.specs.Counting.{is_marked}
 use Rattle.sd_spec.specs.Kinds.{kind_of}
 use Rattle.sd_spec.specs.Plan.{Plan, period_of}
-use Rattle.sd_spec.specs.Refused.{broken_rule, fault_where, is_reserved_pid, is_full_own, is_one_too_many, is_too_long}
+use Rattle.sd_spec.specs.Refused.{fault_where, is_reserved_pid, is_full_own, is_one_too_many, is_too_long}
 use Rattle.sd_spec.specs.Refused.{unsent_at, pat_wrong}
 use Rattle.sd_spec.specs.Aired.{Verdict, Marked, Refused, Sent, Ends, verdict_by, verdict_of, following, aired}
 use Rattle.sd_spec.specs.Aired.{aired_from, ended_from, left_from, none_left}
 use Rattle.sd_spec.specs.declared.left_out.LeftOut.{LeftOut}
-use Rattle.sd_head.specs.Follows.{IsJudgement}
 use Rattle.sd_head.specs.Left.{is_over, renumbered, with_marked, with_refused, with_sent}
-use Rattle.sd_head.specs.Leaving.{LeavesOut}
+use Rattle.sd_head.specs.Leaving.{IsJudged, LeavesOut}
 use Rattle.sd_head.specs.Live.{live_breaks, live_ends, live_stops, live_takes, starts_period, verdict_after, IsLive}
-use Rattle.sd_head.specs.Live.{IsOnAir, TakesPacket}
-use Rattle.sd_head.specs.Staged.{head_ends, head_sends, IsAfter, IsOfSent, IsOn}
+use Rattle.sd_head.specs.Live.{TakesPacket}
+use Rattle.sd_head.specs.Staged.{head_ends, head_sends, IsAfter, IsOfSent}
 use Rattle.sd_head.specs.declared.head.Head.{Head}
 use Rattle.sd_head.specs.declared.judged.Judged.{Judged}
-use Rattle.sd_head.specs.declared.judged.PatRule.TheVariants.{Skipped}
 use Rattle.sd_head.specs.declared.live.Live.{Live}
 use Rattle.sd_head.specs.declared.live.Taken.{Taken}
-use Rattle.sd_head.specs.declared.live.Taken.TheVariants.{On, Begins, Full}
+use Rattle.sd_head.specs.declared.live.Taken.TheVariants.{On, Begins}
 use Rattle.sd_head.proofs.Airing.{aired_more, aired_alone, ended_more, ended_alone, left_more, left_with, left_within}
 use Rattle.sd_head.proofs.Airing.{IsWithin}
 use Rattle.sd_head.proofs.Offering.{site_is}
@@ -66,9 +64,6 @@ verdict_told site before n packet found unmarked is =
     ∙ ap (option_map (renumbered n)) is))
 
 -- of a packet that is judged without the rule on PATs
-abbrev IsJudged : Live → Packet → Result Judged ClearFault → Type 0
-IsJudged s packet result = IsJudgement Skipped (fields_of s.head.site) s.head.clear packet result
-
 pub is_sent : (plan : Plan) (past : Packets) (s : Live) (packet : Packet) (judged : Judged) → IsLive plan past s →
     is_marked packet ≡ false → IsJudged s packet (Ok judged) → verdict_after plan past packet ≡ Sent
 unfolding unsent_at
@@ -235,49 +230,47 @@ pub leaves_taken : (s t : Live) (packet : Packet) (result : Result Judged ClearF
 leaves_taken s t packet result fault taken steps unmarked told is leaves =
     faulty_taken s t packet fault (is_over fault) taken steps unmarked (subst (IsJudged s packet) is told) refl leaves
 
--- and more may be taken
-pub leaves_on : (s t : Live) (fault : ClearFault) (over : Bool) (taken : Taken) → LeavesOut over fault s t taken →
-    IsOnAir s → IsOnAir t
-leaves_on s t fault true taken leaves on = subst IsOnAir (sym leaves.1) on
-leaves_on s t fault false taken leaves on = subst IsOn (sym leaves.1.same) on
-
--- a packet that is sent
-pub sent_taken : (s t : Live) (packet : Packet) (judged : Judged) (bytes : List ℕ) (steps last period : ℕ)
-    (taken : Taken) → is_marked packet ≡ false → IsJudged s packet (Ok judged) →
-    head_sends s.head packet t.head bytes steps → t.left_out ≡ with_sent s.left_out packet →
-    t.packets ≡ with_added s.packets 1 →
+-- a packet that is sent, after so many, and that leads to this head end
+pub sent_taken : (s t : Live) (u : Head) (packet : Packet) (judged : Judged) (bytes : List ℕ)
+    (steps number last period : ℕ) (taken : Taken) → is_marked packet ≡ false → IsJudged s packet (Ok judged) →
+    head_sends s.head packet u bytes steps → t.head ≡ u → t.left_out ≡ with_sent s.left_out packet →
+    t.packets ≡ with_added s.packets 1 → number ≡ s.head.clear.count →
     ((plan : Plan) (before : Packets) → IsAfter plan before s.head → last ≡ period_of plan (length before - 1)) →
     ((plan : Plan) (before : Packets) → IsAfter plan before t.head → period ≡ period_of plan (length before - 1)) →
-    taken ≡ (if (s.head.clear.count == 0) || not (last == period) then Begins else On) →
-    live_takes s packet t taken bytes steps
+    taken ≡ (if (number == 0) || not (last == period) then Begins else On) → live_takes s packet t taken bytes steps
 unfolding starts_period
-sent_taken s t packet judged bytes steps last period taken unmarked told sends out packets lasted begins told_is =
-    λ plan past live small.
+sent_taken s t u packet judged bytes steps number last period taken unmarked told sends same out packets counts lasted
+    begins told_is = λ plan past live small.
     let before = aired plan.site past in
     let is = is_sent plan past s packet judged live unmarked told in
     let there = sends plan before live.head_is in
+    let after : IsAfter plan (before ++ packet ∷ []) t.head = rw same there.1 in
     let long : length (before ++ packet ∷ []) - 1 ≡ length before =
     let more = length-append before (packet ∷ []) in omega (arith, more) in
     let now : period ≡ period_of plan (length before) =
-    begins plan (before ++ packet ∷ []) there.1 ∙ ap (period_of plan) long in record {
+    begins plan (before ++ packet ∷ []) after ∙ ap (period_of plan) long in record {
       told = rw is (told_is ∙ (ap (λ (n : ℕ). if (n == 0) || not (last == period) then Begins else On)
-          live.head_is.clear_is.number
+          (counts ∙ live.head_is.clear_is.number)
           ∙ (ap (λ (q : ℕ). if (length before == 0) || not (q == period) then Begins else On)
           (lasted plan before live.head_is)
           ∙ ap (λ (q : ℕ). if (length before == 0) || not (period_of plan (length before - 1) == q) then Begins
           else On) now)));
       bytes_are = rw is there.0;
-      leads = rw is (still_live plan past packet s t Sent live small is refl there.1 out packets);
+      leads = rw is (still_live plan past packet s t Sent live small is refl after out packets);
     }
 
 -- a write of it failed
 pub sent_stops : (s : Live) (packet : Packet) (judged : Judged) (from to : ℕ) (bytes : List ℕ) →
     is_marked packet ≡ false → IsJudged s packet (Ok judged) → IsOfSent (head_sends s.head packet) from to bytes →
     live_stops s packet from to bytes
-sent_stops s packet judged from to bytes unmarked told (steps, few, (t, sends)) = (steps, few, λ plan past live. (
-  is_sent plan past s packet judged live unmarked told,
-  (sends plan (aired plan.site past) live.head_is).0,
-))
+sent_stops s packet judged from to bytes unmarked told (steps, few, (t, sends)) = (
+  steps,
+  few,
+  λ plan past live. (
+    is_sent plan past s packet judged live unmarked told,
+    (sends plan (aired plan.site past) live.head_is).0,
+  ),
+)
 
 -- at the end
 pub ends_live : (s : Live) (t : Head) (bytes : List ℕ) (steps : ℕ) → head_ends s.head t bytes steps →

@@ -1,7 +1,7 @@
 -- The judgement of a packet.
 use Rattle.std.proofs.Common.{◌≡◌, ℕ, ◌-◌, ◌^◌, ◌<◌, ◌≤◌, ◌&&◌, Bool, true, false, List, length, get_or}
-use Rattle.std.proofs.Common.{nat_le, refl, sym, ap, subst, ◌∙◌, arith}
-use Rattle.std.specs.Prelude.{Option, Some, None, Result, Ok, Err, IfOk, MatchResult}
+use Rattle.std.proofs.Common.{nat_le, refl, sym, ap, ◌∙◌, arith}
+use Rattle.std.specs.Prelude.{Option, Some, None, Ok, Err}
 use Rattle.std.proofs.lemmas.Bool.Decides.{nat_tests}
 use Rattle.sd_packet.specs.Header.{pid_of, scrambling_of}
 use Rattle.sd_packet.specs.Positions.{is_placed}
@@ -17,9 +17,8 @@ use Rattle.sd_spec.specs.Carried.{pmt_carried}
 use Rattle.sd_spec.specs.declared.kind.Kind.TheVariants as Kind
 use Rattle.sd_spec.specs.Refused.{fault_where, is_reserved_pid, pat_wrong, is_full_own, is_too_long}
 use Rattle.sd_head.specs.After.{IsAfter}
-use Rattle.sd_head.specs.Follows.{fault_by, limit_fault, wrong_by, HasRoom, IsJudgement, IsMove, IsPatOf, MayFollow}
+use Rattle.sd_head.specs.Follows.{fault_by, limit_fault, wrong_by, HasRoom, IsJudgement, IsMove, IsPatOf}
 use Rattle.sd_head.specs.declared.clear.Clear.{Clear}
-use Rattle.sd_head.specs.declared.judged.Judged.{Judged}
 use Rattle.sd_head.specs.declared.judged.Judged.TheVariants.{Passed, Pmt, Scrambled}
 use Rattle.sd_head.specs.declared.judged.Move.{Move}
 use Rattle.sd_head.specs.declared.judged.PatRule.{PatRule}
@@ -58,12 +57,14 @@ has_room : (pids : List ℕ) (next : Move) → (next.is_first && nat_le 256 (len
 has_room pids next few = λ first. grind (arith, nat_tests, rw first at few)
 
 -- what refuses a packet with a position, if its form doesn't
-pub limit_decides : (rule : PatRule) (site : SiteFields) (clear : Clear) (before : List (List ℕ)) (packet : List ℕ) (next : Move)
+pub limit_decides : (rule : PatRule) (site : SiteFields) (clear : Clear) (before : List (List ℕ)) (packet : List ℕ)
+    (next : Move)
     → IsMove clear.positions.items packet next → scrambling_of packet ≡ 0
     → is_reserved_pid site (pid_of packet) ≡ false → is_full_own site (kind_of before packet) packet ≡ false
     → IsAfter before clear → fault_by rule site before packet ≡ limit_fault site clear next
 limit_decides rule site clear before packet next moves unscrambled free full after =
-    limits_decide rule site before packet unscrambled free (wrong_none rule packet (placed_no_pat packet moves.placed).0) full
+    limits_decide rule site before packet unscrambled free (wrong_none rule packet
+    (placed_no_pat packet moves.placed).0) full
     ∙ (ap (λ (many : Bool). fault_where many (TooManyPids (length before))
     (fault_where (is_too_long site (length before)) (TooLong (length before)) None))
     (sym (too_many_is before packet clear.positions.items clear.pids.items next moves after.placed after.moved))
@@ -89,7 +90,8 @@ full_as site clear before packet full placed mark own after =
     (sym (pmt_is before packet clear.pmts.items placed after.marked known mark)) ∙ own
 
 -- a packet that is scrambled, and one that is refused in its place
-pub scrambled_judged : (rule : PatRule) (site : SiteFields) (clear : Clear) (packet : List ℕ) (next : Move) → clear.count < 2 ^ 32
+pub scrambled_judged : (rule : PatRule) (site : SiteFields) (clear : Clear) (packet : List ℕ) (next : Move)
+    → clear.count < 2 ^ 32
     → IsMove clear.positions.items packet next → get_or clear.pmts.items (pid_of packet) false ≡ false
     → scrambling_of packet ≡ 0 → is_reserved_pid site (pid_of packet) ≡ false → limit_fault site clear next ≡ None
     → IsJudgement rule site clear packet (Ok (Scrambled next))
@@ -107,16 +109,19 @@ scrambled_judged rule site clear packet next small moves mark unscrambled free n
       word = left.1;
     }
 
-pub scrambled_refused_by : (rule : PatRule) (site : SiteFields) (clear : Clear) (packet : List ℕ) (next : Move) (fault : ClearFault)
+pub scrambled_refused_by : (rule : PatRule) (site : SiteFields) (clear : Clear) (packet : List ℕ) (next : Move)
+    (fault : ClearFault)
     → IsMove clear.positions.items packet next → get_or clear.pmts.items (pid_of packet) false ≡ false
     → scrambling_of packet ≡ 0 → is_reserved_pid site (pid_of packet) ≡ false
     → limit_fault site clear next ≡ Some fault → IsJudgement rule site clear packet (Err fault)
 scrambled_refused_by rule site clear packet next fault moves mark unscrambled free some =
-    refused rule site clear packet fault (λ before after. limit_decides rule site clear before packet next moves unscrambled free
+    refused rule site clear packet fault
+    (λ before after. limit_decides rule site clear before packet next moves unscrambled free
     (not_full site clear before packet moves.placed mark after) after ∙ some)
 
 -- a PMT, and one that is refused in its place
-pub pmt_judged : (rule : PatRule) (site : SiteFields) (clear : Clear) (packet carried : List ℕ) (next : Move) → clear.count < 2 ^ 32
+pub pmt_judged : (rule : PatRule) (site : SiteFields) (clear : Clear) (packet carried : List ℕ) (next : Move)
+    → clear.count < 2 ^ 32
     → IsMove clear.positions.items packet next → get_or clear.pmts.items (pid_of packet) false ≡ true
     → scrambling_of packet ≡ 0 → is_reserved_pid site (pid_of packet) ≡ false
     → is_full_own site Kind.Pmt packet ≡ false → carried ≡ pmt_carried site packet
@@ -135,22 +140,26 @@ pmt_judged rule site clear packet carried next small moves mark unscrambled free
       word = left.1;
     }
 
-pub pmt_refused_by : (rule : PatRule) (site : SiteFields) (clear : Clear) (packet : List ℕ) (next : Move) (fault : ClearFault)
+pub pmt_refused_by : (rule : PatRule) (site : SiteFields) (clear : Clear) (packet : List ℕ) (next : Move)
+    (fault : ClearFault)
     → IsMove clear.positions.items packet next → get_or clear.pmts.items (pid_of packet) false ≡ true
     → scrambling_of packet ≡ 0 → is_reserved_pid site (pid_of packet) ≡ false
     → is_full_own site Kind.Pmt packet ≡ false
     → limit_fault site clear next ≡ Some fault → IsJudgement rule site clear packet (Err fault)
 pmt_refused_by rule site clear packet next fault moves mark unscrambled free own some =
-    refused rule site clear packet fault (λ before after. limit_decides rule site clear before packet next moves unscrambled free
+    refused rule site clear packet fault
+    (λ before after. limit_decides rule site clear before packet next moves unscrambled free
     (full_as site clear before packet false moves.placed mark own after) after ∙ some)
 
-pub full_pmt_refused : (rule : PatRule) (site : SiteFields) (clear : Clear) (packet : List ℕ) (next : Move) (n : ℕ) → n ≡ clear.count
+pub full_pmt_refused : (rule : PatRule) (site : SiteFields) (clear : Clear) (packet : List ℕ) (next : Move) (n : ℕ)
+    → n ≡ clear.count
     → IsMove clear.positions.items packet next → get_or clear.pmts.items (pid_of packet) false ≡ true
     → scrambling_of packet ≡ 0 → is_reserved_pid site (pid_of packet) ≡ false
     → is_full_own site Kind.Pmt packet ≡ true → IsJudgement rule site clear packet (Err (PmtForm n Form.NoRoom))
 full_pmt_refused rule site clear packet next n is moves mark unscrambled free own =
     refused rule site clear packet (PmtForm n Form.NoRoom) (λ before after.
-    full_refused rule site before packet n (is ∙ after.number) unscrambled free (wrong_none rule packet (placed_no_pat packet moves.placed).0)
+    full_refused rule site before packet n (is ∙ after.number) unscrambled free (wrong_none rule packet
+    (placed_no_pat packet moves.placed).0)
     (full_as site clear before packet true moves.placed mark own after))
 
 -- a packet without a position: refused by its form or as too long, or passed
@@ -161,7 +170,8 @@ bad_pat_refused rule site clear packet n fault is unscrambled free wrong =
     refused rule site clear packet (PatForm n fault) (λ before after.
     pat_refused rule site before packet n fault (is ∙ after.number) unscrambled free wrong)
 
-long_told : (rule : PatRule) (site : SiteFields) (clear : Clear) (before : List (List ℕ)) (packet : List ℕ) (long : Bool)
+long_told : (rule : PatRule) (site : SiteFields) (clear : Clear) (before : List (List ℕ)) (packet : List ℕ)
+    (long : Bool)
     → is_placed packet ≡ false → scrambling_of packet ≡ 0 → is_reserved_pid site (pid_of packet) ≡ false
     → wrong_by rule packet ≡ None → is_too_long site clear.count ≡ long → IsAfter before clear
     → fault_by rule site before packet ≡ fault_where long (TooLong clear.count) None
@@ -174,13 +184,15 @@ long_told rule site clear before packet long unplaced unscrambled free right is 
 
 pub long_refused : (rule : PatRule) (site : SiteFields) (clear : Clear) (packet : List ℕ) (n : ℕ) → n ≡ clear.count
     → is_placed packet ≡ false → scrambling_of packet ≡ 0 → is_reserved_pid site (pid_of packet) ≡ false
-    → wrong_by rule packet ≡ None → is_too_long site clear.count ≡ true → IsJudgement rule site clear packet (Err (TooLong n))
+    → wrong_by rule packet ≡ None → is_too_long site clear.count ≡ true
+    → IsJudgement rule site clear packet (Err (TooLong n))
 long_refused rule site clear packet n is unplaced unscrambled free right long =
     refused rule site clear packet (TooLong n) (λ before after.
     long_told rule site clear before packet true unplaced unscrambled free right long after
     ∙ ap (λ (k : ℕ). Some (TooLong k)) (sym is))
 
-pub passed_judged : (rule : PatRule) (site : SiteFields) (clear : Clear) (packet : List ℕ) (pat : Option Pat) → clear.count < 2 ^ 32
+pub passed_judged : (rule : PatRule) (site : SiteFields) (clear : Clear) (packet : List ℕ) (pat : Option Pat)
+    → clear.count < 2 ^ 32
     → is_placed packet ≡ false → scrambling_of packet ≡ 0 → is_reserved_pid site (pid_of packet) ≡ false
     → wrong_by rule packet ≡ None → IsPatOf packet pat → is_too_long site clear.count ≡ false
     → IsJudgement rule site clear packet (Ok (Passed pat))

@@ -1,5 +1,5 @@
 -- The period and the control word of the last packet.
-use Rattle.std.proofs.Common.{◌≡◌, ℕ, zero, suc, ◌+◌, ◌-◌, ◌*◌, ◌/◌, List, refl, subst, arith}
+use Rattle.std.proofs.Common.{◌≡◌, ℕ, zero, suc, ◌-◌, ◌*◌, ◌/◌, List, refl, subst, arith}
 use Rattle.std.proofs.Common.{ap}
 use Rattle.std.proofs.Math.Nat.{zero-div}
 use Rattle.sd_site.specs.SiteFields.{SiteFields}

@@ -1,6 +1,7 @@
 -- A head end's answers as those of a stage.
-use Rattle.std.proofs.Common.{◌≡◌, ℕ, ◌≤◌, ◌+◌, true, List, [], length, inl, inr, refl, sym, ap, subst, ◌∙◌, arith}
+use Rattle.std.proofs.Common.{◌≡◌, ℕ, true, List, [], length, inl, inr, refl, sym, ap, subst, ◌∙◌, arith}
 use Rattle.std.specs.Prelude.{Some, None, Result, Ok, Err, OnOk}
+use Rattle.sd_base.specs.Count.{IsCaused}
 use Rattle.sd_site.specs.SiteFields.{SiteFields, fields_of}
 use Rattle.sd_engine.specs.Stage.{SinkState, HasGrown, IsCutShort, IsAllowed}
 use Rattle.sd_engine.proofs.Chains.{took_none}
@@ -59,6 +60,23 @@ pub on_ok : {T E P Q : Type 0} (result : Result T E) → OnOk result P → (P �
 on_ok (Ok value) holds f = f holds
 on_ok (Err fault) holds f = tt
 
+-- a success is no fault, and one fault is another where their answers are
+ok_is_no_fault : {T E : Type 0} (value : T) (fault : E) → ◌≡◌ {A = Result T E} (Ok value) (Err fault) → ⊥
+ok_is_no_fault value fault same = cc
+
+pub same_fault : {T E : Type 0} (a b : E) → ◌≡◌ {A = Result T E} (Err a) (Err b) → a ≡ b
+same_fault a b same = cc
+
+-- so a success has no cause, whatever its value is
+pub no_cause : {T U E : Type 0} (before now : ℕ) (value : T) (other : U) (fault : E) →
+    IsCaused before now (◌≡◌ {A = Result T E} (Ok value) (Err fault)) →
+    IsCaused before now (◌≡◌ {A = Result U E} (Ok other) (Err fault))
+no_cause before now value other fault caused = record {
+  later = caused.later;
+  failed = λ failed. absurd (ok_is_no_fault other fault failed);
+  calm = λ calm. caused.calm (ok_is_no_fault value fault);
+}
+
 -- the site of the plan is the head end's
 pub site_is : (plan : Plan) (before : List (List ℕ)) (head : Head) → IsAfter plan before head →
     fields_of head.site ≡ plan.site
@@ -108,9 +126,11 @@ module _ (s : Head) (packet : List ℕ) where
       IsJudgement Asked (fields_of s.site) s.clear packet result → result ≡ Ok judged →
       head_sends s packet t bytes steps → head_does s packet t bytes steps
   does_of result judged t bytes steps told is sends = λ plan before after.
-      let there = sends plan before after in
-      (right_clear judged (subst (IsJudgement Asked (fields_of s.site) s.clear packet) is told) plan before after,
-      there.0, there.1)
+      let there = sends plan before after in (
+        right_clear judged (subst (IsJudgement Asked (fields_of s.site) s.clear packet) is told) plan before after,
+        there.0,
+        there.1,
+      )
 
   pub allowed_of : (result : Result Judged ClearFault) (judged : Judged) (from to : ℕ) (bytes : List ℕ) →
       IsJudgement Asked (fields_of s.site) s.clear packet result → result ≡ Ok judged →

@@ -20,12 +20,14 @@ use Rattle.sd_psi.specs.declared.clear_fault.ClearFault.TheVariants.{TooManyPids
 use Rattle.sd_head.specs.Follows.{fault_by, wrong_by}
 use Rattle.sd_head.specs.declared.judged.PatRule.{PatRule}
 
-pub scrambled_refused : (rule : PatRule) (site : SiteFields) (before : List (List ℕ)) (packet : List ℕ) (n : ℕ) → n ≡ length before
+pub scrambled_refused : (rule : PatRule) (site : SiteFields) (before : List (List ℕ)) (packet : List ℕ) (n : ℕ)
+    → n ≡ length before
     → (scrambling_of packet == 0) ≡ false → fault_by rule site before packet ≡ Some (AlreadyScrambled n)
 scrambled_refused rule site before packet n is scrambled =
     rw scrambled (ap (λ (k : ℕ). Some (AlreadyScrambled k)) (sym is))
 
-pub taken_refused : (rule : PatRule) (site : SiteFields) (before : List (List ℕ)) (packet : List ℕ) (n pid : ℕ) → n ≡ length before
+pub taken_refused : (rule : PatRule) (site : SiteFields) (before : List (List ℕ)) (packet : List ℕ) (n pid : ℕ)
+    → n ≡ length before
     → pid ≡ pid_of packet → (scrambling_of packet == 0) ≡ true → is_reserved_pid site (pid_of packet) ≡ true
     → fault_by rule site before packet ≡ Some (PidTaken n pid)
 taken_refused rule site before packet n pid is same clear taken =
@@ -33,14 +35,16 @@ taken_refused rule site before packet n pid is same clear taken =
     ∙ ap (λ (p : ℕ). Some (PidTaken (length before) p)) same)))
 
 -- a packet that has to be a PAT and isn't a right one
-pub pat_refused : (rule : PatRule) (site : SiteFields) (before : List (List ℕ)) (packet : List ℕ) (n : ℕ) (fault : FormFault)
+pub pat_refused : (rule : PatRule) (site : SiteFields) (before : List (List ℕ)) (packet : List ℕ) (n : ℕ)
+    (fault : FormFault)
     → n ≡ length before → scrambling_of packet ≡ 0 → is_reserved_pid site (pid_of packet) ≡ false
     → wrong_by rule packet ≡ Some fault → fault_by rule site before packet ≡ Some (PatForm n fault)
 pat_refused rule site before packet n fault is clear free wrong =
     rw (eq-eqb (scrambling_of packet) 0 clear) (rw free (rw wrong (ap (λ (k : ℕ). Some (PatForm k fault)) (sym is))))
 
 -- a PMT that can't be rewritten, and could be restored all the same
-pub full_refused : (rule : PatRule) (site : SiteFields) (before : List (List ℕ)) (packet : List ℕ) (n : ℕ) → n ≡ length before
+pub full_refused : (rule : PatRule) (site : SiteFields) (before : List (List ℕ)) (packet : List ℕ) (n : ℕ)
+    → n ≡ length before
     → scrambling_of packet ≡ 0 → is_reserved_pid site (pid_of packet) ≡ false → wrong_by rule packet ≡ None
     → is_full_own site (kind_of before packet) packet ≡ true
     → fault_by rule site before packet ≡ Some (PmtForm n Form.NoRoom)
@@ -49,7 +53,8 @@ full_refused rule site before packet n is clear free right full =
     (ap (λ (k : ℕ). Some (PmtForm k Form.NoRoom)) (sym is)))))
 
 -- of a packet in a right form the numbers of PIDs and packets decide
-pub limits_decide : (rule : PatRule) (site : SiteFields) (before : List (List ℕ)) (packet : List ℕ) → scrambling_of packet ≡ 0
+pub limits_decide : (rule : PatRule) (site : SiteFields) (before : List (List ℕ)) (packet : List ℕ)
+    → scrambling_of packet ≡ 0
     → is_reserved_pid site (pid_of packet) ≡ false → wrong_by rule packet ≡ None
     → is_full_own site (kind_of before packet) packet ≡ false
     → fault_by rule site before packet ≡ fault_where (is_one_too_many before packet) (TooManyPids (length before))

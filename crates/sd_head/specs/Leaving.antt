@@ -1,11 +1,20 @@
--- Inner: what a head end that goes on keeps after a packet that breaks a rule.
-use Rattle.std.specs.Prelude.{◌≡◌, Bool, true, false}
+-- Inner: how a head end that goes on judges a packet, and what it keeps after one that breaks a rule.
+use Rattle.std.specs.Prelude.{◌≡◌, Bool, true, false, Result}
+use Rattle.sd_base.specs.Types.{Packet}
 use Rattle.sd_base.specs.Count.{with_added}
+use Rattle.sd_site.specs.SiteFields.{fields_of}
 use Rattle.sd_psi.specs.declared.clear_fault.ClearFault.{ClearFault}
+use Rattle.sd_head.specs.Follows.{IsJudgement}
+use Rattle.sd_head.specs.declared.judged.Judged.{Judged}
+use Rattle.sd_head.specs.declared.judged.PatRule.TheVariants.{Skipped}
 use Rattle.sd_head.specs.Left.{renumbered, with_refused}
 use Rattle.sd_head.specs.declared.live.Live.{Live}
 use Rattle.sd_head.specs.declared.live.Taken.{Taken}
 use Rattle.sd_head.specs.declared.live.Taken.TheVariants.{On, Full}
+
+-- the packet is judged so as the next one, without the rule on PATs [this project, docs/FORMATS.md, On air]
+abbrev pub IsJudged : Live → Packet → Result Judged ClearFault → Type 0
+IsJudged s packet result = IsJudgement Skipped (fields_of s.head.site) s.head.clear packet result
 
 -- the packet is counted
 pub record HasRefused (fault : ClearFault) (s t : Live) : Type 0 where

@@ -5,14 +5,15 @@ use Rattle.std.specs.List.{concat}
 use Rattle.sd_base.specs.Types.{Packet, Packets, PacketNumber}
 use Rattle.sd_spec.specs.Plan.{Plan, period_of}
 use Rattle.sd_spec.specs.Sent.{sent, closing_of, bytes_added, packets_from}
-use Rattle.sd_spec.specs.Aired.{Verdict, Marked, Refused, Sent, Ends, verdict_of, following, aired, ended_from, left_from}
+use Rattle.sd_spec.specs.Aired.{Verdict, Marked, Refused, Sent, Ends, verdict_of, following, aired, ended_from}
+use Rattle.sd_spec.specs.Aired.{left_from}
 use Rattle.sd_head.specs.Staged.{IsAfter, IsOn}
 use Rattle.sd_head.specs.declared.live.Live.{Live}
 use Rattle.sd_head.specs.declared.live.Taken.{Taken}
 use Rattle.sd_head.specs.declared.live.Taken.TheVariants.{On, Begins, Full}
 
--- the broadcast goes on after these packets; of those that are sent the head end has sent the broadcast, up to where the
--- next one's part begins, and it has counted what is left out [this project, docs/FORMATS.md, On air]
+-- the broadcast goes on after these packets; the head end has sent the broadcast of those that are sent, up to where
+-- the next one's part begins, and it has counted what is left out [this project, docs/FORMATS.md, On air]
 pub record IsLive (plan : Plan) (past : Packets) (live : Live) : Type 0 where
   pub head_is : IsAfter plan (aired plan.site past) live.head
   pub goes_on : ended_from plan.site [] 0 past ≡ None

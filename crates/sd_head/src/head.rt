@@ -49,8 +49,8 @@ impl Head {
             site,
         })
     }
-    /// What is learned of the packet as the next one, or the first rule that it breaks, with the rule on PATs or without
-    /// it.
+
+    /// What is learned of the packet as the next one, or the first rule that it breaks, with the rule on PATs or not.
     pub(crate) fn judge<'a>(
         &self,
         packet: &'a Packet,

@@ -3,15 +3,12 @@ ghost use Rattle.std.specs.Prelude.{IfOk, OnOk, IsErrOf};
 ghost use Rattle.sd_base.specs.Count.{with_added, IsCaused};
 ghost use Rattle.sd_engine.specs.Stage.{vessel, HasGrown, IsCutShort};
 ghost use Rattle.sd_spec.specs.Plan.{Plan, period_of, word_of};
-ghost use Rattle.sd_site.specs.SiteFields.{fields_of};
 ghost use Rattle.sd_spec.specs.Aired.{aired, left_from};
 ghost use Rattle.sd_spec.specs.Counting.{is_marked as is_marked_packet};
 ghost use Rattle.sd_head.specs.Kept.{plan_of};
-ghost use Rattle.sd_head.specs.Follows.{IsJudgement};
 ghost use Rattle.sd_head.specs.Left.{is_over, with_marked, with_sent};
-ghost use Rattle.sd_head.specs.Leaving.{HasRefused, LeavesOut};
+ghost use Rattle.sd_head.specs.Leaving.{HasRefused, IsJudged, LeavesOut};
 ghost use Rattle.sd_head.specs.Live.{live_breaks, live_ends, live_stops, live_takes, IsLive, IsOnAir};
-ghost use Rattle.sd_head.specs.declared.judged.PatRule.TheVariants.{Skipped};
 ghost use Rattle.sd_head.specs.declared.live.Taken.TheVariants.{Begins, On};
 
 use crate::fault::LiveFault;
@@ -190,8 +187,7 @@ impl Live {
     ) -> Result<Taken, LiveFault>
         requires on { IsOnAir self.old }
         requires unmarked { is_marked_packet packet.now ≡ false }
-        requires judged {
-            IsJudgement Skipped (fields_of self.old.head.site) self.old.head.clear packet.now (Ok judged.now) }
+        requires judged { IsJudged self.old packet.now (Ok judged.now) }
         ensures value { IfOk result (λ taken. HasGrown (vessel K.Sink out.old) (vessel K.Sink out.new)
             steps.old steps.new (live_takes self.old packet.now self.new taken)) }
         ensures on { IfOk result (λ _. IsOnAir self.new) }

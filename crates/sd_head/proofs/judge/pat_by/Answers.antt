@@ -1,4 +1,4 @@
-use Rattle.std.proofs.Common.{List, ap, ◌∙◌}
+use Rattle.std.proofs.Common.{ap}
 use Rattle.sd_head.specs.Follows.{wrong_by}
 use Rattle.sd_head.proofs.Marking.{bad_pat}
 use Rattle.sd_head.proofs.judge.pat_by.Goals as goal

@@ -10,7 +10,8 @@ judge_pmt-requires-clause-pmt c =
 
 pub returns-in-Some : goal.returns-in-Some
 returns-in-Some c =
-    λ rule. scrambled_refused_by rule (fields_of c.args.site.now) c.args.self.now c.args.packet.now c.next_move-next.result
+    λ rule. scrambled_refused_by rule
+    (fields_of c.args.site.now) c.args.self.now c.args.packet.now c.next_move-next.result
     c.in-Some.fault c.next_move-next.ensures
     (ap (λ (p : ℕ). get_or c.args.self.now.pmts.items p false) (sym c.next_move-next.ensures.pid)
     ∙ (sym c.is_pmt.ensures ∙ c.if-is_pmt.false))

@@ -70,47 +70,47 @@ returns-in-Ok-send_packet-clause-value g c = record {
 
 pub returns-in-Ok-send_packet-clause-on : goal.returns-in-Ok-send_packet-clause-on
 returns-in-Ok-send_packet-clause-on g c = ready c.args.self.now (record {
-    site = c.args.self.now.site;
-    clear = c.take.new.self;
-    entitling = with_emms c.begin.new.entitling c.send_packet.new.emms;
-    sender = c.send_packet.new.self;
-    refusal = c.args.self.now.refusal;
-  }) c.args.packet.now c.prepare-message.new.self c.in-Ok.inserted.begins c.emms-emms.result.now
-      c.prepare-message.result c.carry.new.packet
-      (record {
-        judged = λ before kept. judged_sendable c.requires.judged.0 (fields_of c.args.self.now.site) before
-            c.args.packet.now (c.requires.judged.1.value before kept);
-        at_work = still_of (plan_in c.args.self.now)
-            (crypto_of (fields_of c.args.self.now.site) c.args.self.now.clear.count)
-            c.begin.new.entitling c.emms-emms.result.now c.send_packet.new.emms
-            (subst (λ (n : ℕ). IsOf (plan_in c.args.self.now) (crypto_of (fields_of c.args.self.now.site) n)
-            c.begin.new.entitling) c.count-count.ensures c.in-Ok.ensures.value)
-            c.emms-emms.ensures.value c.send_packet.auto.emms c.in-Ok-send_packet.ensures.alike;
-        placed = c.prepare-message.ensures.unchanged;
-        due_is = c.in-Ok.ensures.begins
-            ∙ ap (λ (n : ℕ). n % crypto_length (fields_of c.args.self.now.site) == 0) c.count-count.ensures;
-        emms_of = sym (left_alike c.begin.new.entitling c.emms-emms.result.now c.send_packet.new.emms
-            c.emms-emms.ensures.value c.send_packet.auto.emms c.in-Ok-send_packet.ensures.alike);
-        message_of = c.prepare-message.ensures.value
-            ∙ ap (λ (x : CryptoPeriod). message_due (fields_of c.args.self.now.site) x c.args.self.now.clear.count)
-            c.crypto-crypto.ensures;
-        places_are = c.prepare-message.ensures.places;
-        carried_is = λ before kept number word. c.carry.ensures (fields_of c.args.self.now.site)
-            c.args.self.now.clear before c.requires.judged.1.follows kept
-            (ap (λ (x : CryptoPeriod). x.number) c.crypto-crypto.ensures ∙ number)
-            (ap (λ (x : CryptoPeriod). x.word) c.crypto-crypto.ensures ∙ (word
-            ∙ ap (control_word_of c.args.self.now.site.master)
-            (sym (ap (λ (x : CryptoPeriod). x.number) c.crypto-crypto.ensures))));
-      })
-      (record {
-        site_is = refl;
-        book_is = c.begin.ensures.book;
-        refusal_is = refl;
-        taken = λ before. c.take.ensures (fields_of c.args.self.now.site) before c.args.packet.now
-            c.requires.judged.1.follows;
-        follows = c.in-Ok-send_packet.ensures.next;
-      })
-      c.requires.on.0 c.requires.on.1
+  site = c.args.self.now.site;
+  clear = c.take.new.self;
+  entitling = with_emms c.begin.new.entitling c.send_packet.new.emms;
+  sender = c.send_packet.new.self;
+  refusal = c.args.self.now.refusal;
+}) c.args.packet.now c.prepare-message.new.self c.in-Ok.inserted.begins c.emms-emms.result.now
+    c.prepare-message.result c.carry.new.packet
+    (record {
+      judged = λ before kept. judged_sendable c.requires.judged.0 (fields_of c.args.self.now.site) before
+          c.args.packet.now (c.requires.judged.1.value before kept);
+      at_work = still_of (plan_in c.args.self.now)
+          (crypto_of (fields_of c.args.self.now.site) c.args.self.now.clear.count)
+          c.begin.new.entitling c.emms-emms.result.now c.send_packet.new.emms
+          (subst (λ (n : ℕ). IsOf (plan_in c.args.self.now) (crypto_of (fields_of c.args.self.now.site) n)
+          c.begin.new.entitling) c.count-count.ensures c.in-Ok.ensures.value)
+          c.emms-emms.ensures.value c.send_packet.auto.emms c.in-Ok-send_packet.ensures.alike;
+      placed = c.prepare-message.ensures.unchanged;
+      due_is = c.in-Ok.ensures.begins
+          ∙ ap (λ (n : ℕ). n % crypto_length (fields_of c.args.self.now.site) == 0) c.count-count.ensures;
+      emms_of = sym (left_alike c.begin.new.entitling c.emms-emms.result.now c.send_packet.new.emms
+          c.emms-emms.ensures.value c.send_packet.auto.emms c.in-Ok-send_packet.ensures.alike);
+      message_of = c.prepare-message.ensures.value
+          ∙ ap (λ (x : CryptoPeriod). message_due (fields_of c.args.self.now.site) x c.args.self.now.clear.count)
+          c.crypto-crypto.ensures;
+      places_are = c.prepare-message.ensures.places;
+      carried_is = λ before kept number word. c.carry.ensures (fields_of c.args.self.now.site)
+          c.args.self.now.clear before c.requires.judged.1.follows kept
+          (ap (λ (x : CryptoPeriod). x.number) c.crypto-crypto.ensures ∙ number)
+          (ap (λ (x : CryptoPeriod). x.word) c.crypto-crypto.ensures ∙ (word
+          ∙ ap (control_word_of c.args.self.now.site.master)
+          (sym (ap (λ (x : CryptoPeriod). x.number) c.crypto-crypto.ensures))));
+    })
+    (record {
+      site_is = refl;
+      book_is = c.begin.ensures.book;
+      refusal_is = refl;
+      taken = λ before. c.take.ensures (fields_of c.args.self.now.site) before c.args.packet.now
+          c.requires.judged.1.follows;
+      follows = c.in-Ok-send_packet.ensures.next;
+    })
+    c.requires.on.0 c.requires.on.1
 
 pub returns-in-Err-clause-prefix : goal.returns-in-Err-clause-prefix
 returns-in-Err-clause-prefix g c = λ fails. record {
@@ -157,36 +157,36 @@ returns-in-Err-clause-prefix g c = λ fails. record {
         };
         refusal = c.args.self.now.refusal;
       }) c.args.packet.now c.prepare-message.new.self c.in-Ok.inserted.begins c.emms-emms.result.now
-      c.prepare-message.result c.carry.new.packet
-      (record {
-        judged = λ before kept. judged_sendable c.requires.judged.0 (fields_of c.args.self.now.site) before
-            c.args.packet.now (c.requires.judged.1.value before kept);
-        at_work = subst (λ (n : ℕ). IsOf (plan_in c.args.self.now) (crypto_of (fields_of c.args.self.now.site) n)
-            c.begin.new.entitling) c.count-count.ensures c.in-Ok.ensures.value;
-        placed = c.prepare-message.ensures.unchanged;
-        due_is = c.in-Ok.ensures.begins
-            ∙ ap (λ (n : ℕ). n % crypto_length (fields_of c.args.self.now.site) == 0) c.count-count.ensures;
-        emms_of = ap (map uncounted) c.emms-emms.ensures.value;
-        message_of = c.prepare-message.ensures.value
-            ∙ ap (λ (x : CryptoPeriod). message_due (fields_of c.args.self.now.site) x c.args.self.now.clear.count)
-            c.crypto-crypto.ensures;
-        places_are = c.prepare-message.ensures.places;
-        carried_is = λ before kept number word. c.carry.ensures (fields_of c.args.self.now.site)
-            c.args.self.now.clear before c.requires.judged.1.follows kept
-            (ap (λ (x : CryptoPeriod). x.number) c.crypto-crypto.ensures ∙ number)
-            (ap (λ (x : CryptoPeriod). x.word) c.crypto-crypto.ensures ∙ (word
-            ∙ ap (control_word_of c.args.self.now.site.master)
-            (sym (ap (λ (x : CryptoPeriod). x.number) c.crypto-crypto.ensures))));
-      })
-      (record {
-        site_is = refl;
-        book_is = c.begin.ensures.book;
-        refusal_is = refl;
-        taken = λ before. c.take.ensures (fields_of c.args.self.now.site) before c.args.packet.now
-            c.requires.judged.1.follows;
-        follows = record { cat = refl; cats = refl; emms_next = refl; ecms = refl };
-      })
-      c.begin.new.steps,
+          c.prepare-message.result c.carry.new.packet
+          (record {
+            judged = λ before kept. judged_sendable c.requires.judged.0 (fields_of c.args.self.now.site) before
+                c.args.packet.now (c.requires.judged.1.value before kept);
+            at_work = subst (λ (n : ℕ). IsOf (plan_in c.args.self.now) (crypto_of (fields_of c.args.self.now.site) n)
+                c.begin.new.entitling) c.count-count.ensures c.in-Ok.ensures.value;
+            placed = c.prepare-message.ensures.unchanged;
+            due_is = c.in-Ok.ensures.begins
+                ∙ ap (λ (n : ℕ). n % crypto_length (fields_of c.args.self.now.site) == 0) c.count-count.ensures;
+            emms_of = ap (map uncounted) c.emms-emms.ensures.value;
+            message_of = c.prepare-message.ensures.value
+                ∙ ap (λ (x : CryptoPeriod). message_due (fields_of c.args.self.now.site) x c.args.self.now.clear.count)
+                c.crypto-crypto.ensures;
+            places_are = c.prepare-message.ensures.places;
+            carried_is = λ before kept number word. c.carry.ensures (fields_of c.args.self.now.site)
+                c.args.self.now.clear before c.requires.judged.1.follows kept
+                (ap (λ (x : CryptoPeriod). x.number) c.crypto-crypto.ensures ∙ number)
+                (ap (λ (x : CryptoPeriod). x.word) c.crypto-crypto.ensures ∙ (word
+                ∙ ap (control_word_of c.args.self.now.site.master)
+                (sym (ap (λ (x : CryptoPeriod). x.number) c.crypto-crypto.ensures))));
+          })
+          (record {
+            site_is = refl;
+            book_is = c.begin.ensures.book;
+            refusal_is = refl;
+            taken = λ before. c.take.ensures (fields_of c.args.self.now.site) before c.args.packet.now
+                c.requires.judged.1.follows;
+            follows = record { cat = refl; cats = refl; emms_next = refl; ecms = refl };
+          })
+          c.begin.new.steps,
     ),
   );
   prefix = c.in-Err.ensures.value.prefix;
