@@ -39,7 +39,8 @@ module _ (plan : Plan) (clear : List (List ℕ)) (u : ℕ) (before : List Item) 
       plan.site.every ≤ 2048 → RiseNarrowly clear →
       AreConfirmedBut plan u clear (before ++ after) (cost plan.site before item)
   stretch_told item after l short narrow =
-      Totals.confirmed_but plan clear u l.is_plan l.is_sendable l.are_whole l.leaf short narrow before item after l.place
+      Totals.confirmed_but plan clear u l.is_plan l.is_sendable l.are_whole l.leaf short narrow before item after
+      l.place
 
   pub count_told : (item : Item) (after : List Item) → IsLost plan clear u before item after →
       plan.site.every ≤ 2048 → RiseNarrowly clear → length (opened_by plan u clear)
@@ -61,7 +62,8 @@ module _ (plan : Plan) (clear : List (List ℕ)) (u : ℕ) (before : List Item) 
   pub cat_told : (after : List Item) → IsLost plan clear u before Cat after → list_any is_cat_item before ≡ false →
       AreConfirmedOutside plan u clear (before ++ after) 0 (crypto_length plan.site)
   cat_told after l none j within free apart =
-      Totals.first_cat_told plan clear u l.is_plan l.is_sendable l.are_whole l.leaf before after l.place none j within free
+      Totals.first_cat_told plan clear u l.is_plan l.is_sendable l.are_whole l.leaf before after l.place none j within
+      free
       (far apart)
     where
       far : (j < 0) ⊎ (0 + crypto_length plan.site ≤ j) → crypto_length plan.site ≤ j
@@ -102,5 +104,6 @@ module _ (plan : Plan) (clear : List (List ℕ)) (u : ℕ) (before : List Item) 
         plan.site.every ≤ 2048 → confirmed plan u clear (before ++ after) ≡ opened_by plan u clear
     within_told goes_on off version short =
         nothing_lost plan clear u before (Controls part) after l.is_plan l.leaf l.place
-        (Totals.within_told plan clear u l.is_plan l.is_sendable l.are_whole l.leaf before part after l.place short goes_on
+        (Totals.within_told plan clear u l.is_plan l.is_sendable l.are_whole l.leaf before part after l.place short
+        goes_on
         off version)

@@ -4,7 +4,7 @@ use sd_site::{CardFault, SiteFault};
 use std::alloc::{AllocError, Global};
 
 // The arguments, the status, and what a user is told.
-static EXPLAINED: [(&str, Status, &str); 23] = [
+static EXPLAINED: [(&str, Status, &str); 26] = [
     (
         "cover S B",
         Status::Missing(2),
@@ -76,6 +76,16 @@ static EXPLAINED: [(&str, Status, &str); 23] = [
         "sdca: BOOK B: it is not the book of the site's line 13; if it only got longer, make the next site\n",
     ),
     (
+        "air S B C O",
+        Status::OtherBook,
+        "sdca: BOOK B: it is not the book of the site's line 13; if it only got longer, make the next site\n",
+    ),
+    (
+        "air S B C O",
+        Status::SiteUsed,
+        "sdca: SITE S: it was used; make the next one (sdca next)\n",
+    ),
+    (
         "twin S0 9 no/S1",
         Status::Missing(3),
         "sdca: OUT no/S1: no such folder\n",
@@ -89,6 +99,11 @@ static EXPLAINED: [(&str, Status, &str); 23] = [
         "card S 5 S",
         Status::Usage,
         "sdca: OUT S: it is one of the inputs\n",
+    ),
+    (
+        "air S B C S.used",
+        Status::Usage,
+        "sdca: OUT S.used: it is the mark of SITE\n",
     ),
     (
         "frob",

@@ -9,7 +9,7 @@ use sd_site::{CardFault, SiteFault};
 use std::alloc::{AllocError, Global};
 
 // Statuses, their codes, and their lines.
-static LINES: [(Status, u8, &str); 42] = [
+static LINES: [(Status, u8, &str); 44] = [
     (Status::Done, 0, ""),
     (Status::Usage, 1, "usage\n"),
     (Status::Missing(3), 2, "missing file word 3\n"),
@@ -198,7 +198,13 @@ static LINES: [(Status, u8, &str); 42] = [
         19,
         "file word 3 does not follow file word 1\n",
     ),
+    (Status::SiteUsed, 20, "site is used\n"),
     (Status::OtherBook, 21, "book is not that of the site\n"),
+    (
+        Status::SiteUsedUp(12),
+        22,
+        "site is used up at packet 12\n",
+    ),
 ];
 
 // Whether the status has this code, and is told by this line.

@@ -1,10 +1,10 @@
-ghost use Rattle.std.specs.Prelude.{◌≡◌, ◌<◌, ◌≤◌};
+ghost use Rattle.std.specs.Prelude.{◌≡◌, ◌<◌, ◌≤◌, None};
 
 use crate::files::{Files, ROOM};
 use sd_base::Steps;
 use sd_command_base::Status;
 use sd_command_line::CommandLine;
-use sd_ports::{Depot, MemSink, Sink};
+use sd_ports::{Depot, MemSink, PortFault, Sink};
 use sd_ports_memory::MemDepot;
 use sd_run::run;
 use std::alloc::{AllocError, Global};
@@ -114,7 +114,29 @@ fn copy_of(alloc: Global, bytes: Option<&[u8]>) -> Result<Option<Vec<u8>>, Alloc
     }
 }
 
-/// Runs the words and counts no step.
+/// An output that takes all bytes and keeps none.
+#[derive(Drop)]
+struct Unread;
+
+impl Sink for Unread {
+    ghost held = { λ s. None };
+
+    ghost faults = { λ s. 0 };
+
+    ghost room = { λ s. None };
+
+    ghost waits = { λ s. 0 };
+
+    fn write(&mut self, piece: &[u8]) -> Result<usize, PortFault> {
+        Ok(piece.len())
+    }
+
+    fn hand_on(&mut self) -> Result<(), PortFault> {
+        Ok(())
+    }
+}
+
+/// Runs the words and counts no step. What is said while a command runs is left unread.
 pub(crate) fn uncounted<D: Depot, P: Sink>(
     alloc: Global,
     words: &[String],
@@ -136,7 +158,14 @@ fn counted<D: Depot, P: Sink, L: Ledger>(
     requires some { 0 < blank.parts }
 {
     let mut steps = Steps::<L>::new(blank);
-    run(alloc, &CommandLine::read(words), depot, print, &mut steps)
+    run(
+        alloc,
+        &CommandLine::read(words),
+        depot,
+        print,
+        &mut Unread,
+        &mut steps,
+    )
 }
 
 /// The file that the words make.

@@ -36,7 +36,7 @@ proved in logic dac8208d650f15bf (rattle-kit-13f)
 ";
 
 /// The lines of `help` that stand at its ends and beside the longest words.
-const LISTED: [(usize, &str); 6] = [
+const LISTED: [(usize, &str); 7] = [
     (
         0,
         "sdca: conditional access for transport streams, by Subset Difference",
@@ -46,28 +46,46 @@ const LISTED: [(usize, &str); 6] = [
         "  accounts SITE ACCOUNTS OUT   makes the book from the accounts of named subscribers, and reports them",
     ),
     (
-        4,
+        3,
+        "  air SITE BOOK CLEAR OUT      makes OUT, the broadcast of a live clear stream, with a new site",
+    ),
+    (
+        5,
         "  book SITE BOOK COMMANDS OUT  makes a longer book: its commands, then those of COMMANDS",
     ),
     (
-        12,
+        13,
         "  next SITE BOOK WORDS OUT     makes the site of the next broadcast: new control words, a new period",
     ),
     (
-        21,
+        22,
         "  twin SITE WORDS OUT          makes the site of a broadcast at the same time: new control words, the same periods",
     ),
     (
-        22,
+        23,
         "  watch CARD STREAM OUT        makes OUT, what the card opens of a stream that may be damaged",
     ),
 ];
 
 // The words of `help`, and lines of what it prints: of the list; and of exits 1 and 2 in the page of a command, with
 // inputs and OUT, and with OUT alone. They are lines 10 and 11 of the page of a command with three arguments. Exits 19
-// and 21 are the last ones of `next`.
-static PAGES: [(&[&str], &[(usize, &str)]); 4] = [
+// and 21 are the last ones of `next`, and exits 20, 21 and 22 those of `air`.
+static PAGES: [(&[&str], &[(usize, &str)]); 5] = [
     (&["help"], &LISTED),
+    (
+        &["help", "air"],
+        &[
+            (19, "  20  a run of air used the site"),
+            (
+                21,
+                "  22  no number or control word is left for packet K of CLEAR",
+            ),
+            (
+                24,
+                "  sdca air site-1.txt book.txt /dev/stdin /dev/stdout",
+            ),
+        ],
+    ),
     (
         &["help", "receive"],
         &[
