@@ -25,6 +25,8 @@ pub mod Marking
 pub mod Left
 pub mod AirFaults
 pub mod Airing
+pub mod AirDone
+pub mod AirFollows
 pub mod Watched
 pub mod WatchedFile
 pub mod WatchPacket

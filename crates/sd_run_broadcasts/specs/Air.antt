@@ -142,12 +142,16 @@ airing plan site out bytes = record {
   steps = Uncounted;
 }
 
--- the work once the plan is known: the site must not be used
-abbrev pub aired_meaning : Plan → FileArgument → FileArgument → FileArgument → Readings → Spec Work
-aired_meaning plan site clear out given = do
-  bytes ← all_of clear.number (given clear)
-  new ← unused (given (mark_word site))
+-- the work once the plan is known, by what the files of the live stream and of the mark gave: the site must not be used
+abbrev pub aired_by : Plan → FileArgument → ℕ → FileArgument → Option (List ℕ) → Option (List ℕ) → Spec Work
+aired_by plan site clear out clear_got mark_got = do
+  bytes ← all_of clear clear_got
+  new ← unused mark_got
   value (airing plan site out bytes)
+
+abbrev pub aired_meaning : Plan → FileArgument → FileArgument → FileArgument → Readings → Spec Work
+aired_meaning plan site clear out given =
+    aired_by plan site clear.number out (given clear) (given (mark_word site))
 
 -- the work of `air SITE BOOK CLEAR OUT` [this project, docs/FORMATS.md, On air]
 unfoldable pub air_meaning : FileArgument → FileArgument → FileArgument → FileArgument → Readings → Spec Work
