@@ -1,17 +1,17 @@
 -- What comes of a live stream that is sent into OUT behind its mark, and then reported.
-use Rattle.std.proofs.Common.{◌≡◌, ◌≢◌, ◌⊎◌, ◌∙◌, ◌+◌, ◌≤◌, ℕ, Bool, true, false, List, [], ◌∷◌, ◌++◌, Option, Some, None}
+use Rattle.std.proofs.Common.{◌≡◌, ◌≢◌, ◌⊎◌, ◌∙◌, ℕ, Bool, true, false, List, [], ◌∷◌, Option, Some, None}
 use Rattle.std.proofs.Common.{Result, Ok, Err, refl, sym, ap, subst, inl, inr, arith, append-nil}
 use Rattle.std.specs.List.{concat}
 use Rattle.std.specs.Io.KnownBytes.{Appends}
 use Rattle.std.proofs.KnownBytes.{Appends-nil}
 use Rattle.sd_base.specs.Count.{HasRisen, with_added}
-use Rattle.sd_ports.specs.Bytes.{IsPrefix, AppendsPrefix}
+use Rattle.sd_ports.specs.Bytes.{AppendsPrefix}
 use Rattle.sd_ports.specs.Files.{ClosesFile}
 use Rattle.sd_ports.proofs.Outlets.{closed_whole, cut_short}
 use Rattle.sd_spec.specs.Plan.{Plan}
 use Rattle.sd_command_base.specs.declared.status.Status.{Status}
-use Rattle.sd_command_base.specs.declared.status.Status.TheVariants.{Done, DepotFault, NoMemory, SiteUsedUp}
-use Rattle.sd_command_base.specs.Outside.{DepotState, PageState, Outside, outside}
+use Rattle.sd_command_base.specs.declared.status.Status.TheVariants.{Done, DepotFault, NoMemory}
+use Rattle.sd_command_base.specs.Outside.{DepotState, PageState, outside}
 use Rattle.sd_command_base.specs.Spec.{FileArgument}
 use Rattle.sd_command_base.specs.Work.{Work}
 use Rattle.sd_command_base.specs.Made.{out_of}
@@ -19,11 +19,10 @@ use Rattle.sd_command_base.specs.Outcome.{IsEnding, IsMade, IsMadeShort, Outcome
 use Rattle.sd_command_base.specs.Outcome.{writing, printing, OutcomeWithin, status_of}
 use Rattle.sd_command_base.specs.Turned.{HasPortCause, IsClosed, unclosed_by}
 use Rattle.sd_command_base.proofs.Turning.{added_later, all_prefix, both_closed, rises, still}
-use Rattle.sd_run_broadcasts.specs.Air.{air_line, air_report, aired_by, airing, live_sent, live_status, mark_word}
+use Rattle.sd_run_broadcasts.specs.Air.{air_line, air_report, aired_by, airing, live_sent, mark_word}
 use Rattle.sd_run_broadcasts.specs.Marked.{with_mark, IsOpenedMarked}
-use Rattle.sd_run_broadcasts.specs.OnAir.{ended_by, finished_status, status_at, status_in, IsStop, SendsBytes, SendsLive}
+use Rattle.sd_run_broadcasts.specs.OnAir.{ended_by, status_at, status_in, IsStop, SendsBytes, SendsLive}
 use Rattle.sd_run_broadcasts.specs.OnAir.{TellsReport}
-use Rattle.sd_run_broadcasts.specs.declared.air_report.AirReport.{AirReport}
 use Rattle.sd_run_broadcasts.specs.declared.air_send.Finished.{Finished}
 
 -- the status at the end of a stream that was sent may stand at the end of work

@@ -1,14 +1,13 @@
 -- What comes of `air` by what its files gave.
-use Rattle.std.proofs.Common.{◌≡◌, ◌≢◌, ◌⊎◌, ◌∙◌, ◌+◌, ◌≤◌, ℕ, Bool, true, false, cond, List, [], ◌∷◌, ◌++◌, length}
-use Rattle.std.proofs.Common.{Option, Some, None, Result, Ok, Err, refl, sym, ap, subst, inl, inr, arith}
+use Rattle.std.proofs.Common.{◌≡◌, ◌≢◌, ◌∙◌, ◌+◌, ◌≤◌, ℕ, false, cond, List, length}
+use Rattle.std.proofs.Common.{Option, Some, None, Ok, Err, refl, sym, ap, subst, inl, inr, arith}
 use Rattle.std.proofs.Common.{length-append}
 use Rattle.std.specs.Prelude.{nat_eq, codes, ◌&&◌, ◌||◌}
-use Rattle.sd_base.specs.Count.{HasRisen}
 use Rattle.sd_base.proofs.Arithmetic.{same_number, other_number, other_number_back}
 use Rattle.sd_ports.specs.Files.{Files}
 use Rattle.sd_spec.specs.Plan.{Plan}
 use Rattle.sd_command_base.specs.declared.status.Status.{Status}
-use Rattle.sd_command_base.specs.declared.status.Status.TheVariants.{Missing, DepotFault, NoMemory, SiteUsed}
+use Rattle.sd_command_base.specs.declared.status.Status.TheVariants.{SiteUsed}
 use Rattle.sd_command_base.specs.Outside.{DepotState, PageState, Outside, outside}
 use Rattle.sd_command_base.specs.Work.{Work, all_calls}
 use Rattle.sd_command_base.specs.Spec.{Spec, FileArgument, Readings, IsGiven, IsGot, all_of, value, ◌>>=◌}
@@ -20,11 +19,11 @@ use Rattle.sd_command_base.proofs.Firsts.{first_obeys, takes_none, unmade}
 use Rattle.sd_command_base.proofs.Givens.{some_got, two_given}
 use Rattle.sd_command_base.proofs.Looked.{none_got, all_calls as opening_calls}
 use Rattle.sd_command_base.proofs.Moves.{then_obeys}
-use Rattle.sd_command_base.proofs.News.{free_got, there_got, untold_got}
+use Rattle.sd_command_base.proofs.News.{free_got, there_got}
 use Rattle.sd_run_broadcasts.specs.Air.{air_meaning, air_plan_by, air_plan_meaning, aired_by, aired_meaning, airing}
 use Rattle.sd_run_broadcasts.specs.Air.{live_sent, mark_word}
 use Rattle.sd_run_broadcasts.specs.Marked.{mark_at, with_mark, Unmarked, used, no_mark, stopped_first, no_folder}
-use Rattle.sd_run_broadcasts.specs.Marked.{stopped_then, NotOpenedMarked, no_input, stopped_open, unmarked}
+use Rattle.sd_run_broadcasts.specs.Marked.{stopped_then, IsOpenedMarked, NotOpenedMarked, no_input, stopped_open, unmarked}
 
 -- what is meant by what the files of the live stream and of the mark gave
 pub aired_follows : (plan : Plan) (site clear out : FileArgument) (a b : Outside) (status : Status)
@@ -41,6 +40,10 @@ aired_follows plan site clear out a b status got more apart is is_more obeys =
           (subst (λ (x : Option (List ℕ)). OutcomeWithin (aired_by plan site clear.number out got x) a b status)
           (sym g.gave_more) obeys);
     }
+
+-- nothing says whether a file is there whose depot doesn't tell its files
+untold_got : (files : Option Files) (name : List ℕ) → files ≡ None → IsGot files name None
+untold_got files name is = subst (λ (f : Option Files). IsGot f name None) (sym is) tt
 
 -- as many calls as are made if the live stream was opened
 calls_open : (plan : Plan) (site out : FileArgument) (clear : ℕ) (bytes : List ℕ) (more : Option (List ℕ)) (n : ℕ) →
@@ -239,3 +242,10 @@ pub same_word : (number number' : ℕ) (text text' : List ℕ) → number ≡ nu
 same_word number number' text text' is same =
     ap (λ (n : ℕ). record { number = n; text = text }) is
     ∙ ap (λ (xs : List ℕ). record { number = number'; text = xs }) same
+
+-- so are the marks of their names
+pub opened_as : (mark mark' : FileArgument) (a b : DepotState) (from out : List ℕ) (left held : Option (List ℕ))
+    (f o : ℕ) → mark ≡ mark' → IsOpenedMarked mark a b from out left held f o →
+    IsOpenedMarked mark' a b from out left held f o
+opened_as mark mark' a b from out left held f o same h =
+    subst (λ (m : FileArgument). IsOpenedMarked m a b from out left held f o) same h

@@ -7,8 +7,7 @@ use Rattle.std.specs.List.{concat}
 use Rattle.std.specs.Io.KnownBytes.{Appends, Consumes, IsAtEnd}
 use Rattle.std.proofs.KnownBytes.{Appends-nil, Appends-trans, Consumes-nil, Consumes-trans}
 use Rattle.sd_base.specs.Types.{Packet, Packets, PacketNumber}
-use Rattle.sd_ports.specs.Bytes.{IsPrefix, AppendsPrefix, LosesPrefix}
-use Rattle.sd_ports.proofs.Starts.{prefix_of_prefix}
+use Rattle.sd_ports.specs.Bytes.{IsPrefix, LosesPrefix}
 use Rattle.sd_engine.specs.Cut.{cut, skipped_before, read_from, readable, is_too_long}
 use Rattle.sd_engine.specs.Seeking.{MayCome, SeekOutcome, SeekStop, SkipsTooMany}
 use Rattle.sd_engine.specs.Stage.{SinkState}
@@ -18,7 +17,6 @@ use Rattle.sd_engine.specs.declared.seeking.SeekFault.TheVariants as seek
 use Rattle.sd_site.specs.SiteFields.{SiteFields}
 use Rattle.sd_spec.specs.Aired.{Verdict, Marked, Refused, Sent, Ends, verdict_of, following, aired, aired_from}
 use Rattle.sd_spec.specs.Aired.{ended_from, left_by, left_from, none_left, one_marked, one_refused, one_sent}
-use Rattle.sd_spec.specs.declared.left_out.LeftOut.{LeftOut}
 use Rattle.sd_spec.specs.Plan.{Plan}
 use Rattle.sd_spec.specs.Sent.{body, broadcast, bytes_added, bytes_from, closing_of, packets_from, sent}
 use Rattle.sd_spec.proofs.Bodies.{body_bytes as bytes_of_body, closed_bytes}
@@ -26,14 +24,12 @@ use Rattle.sd_head.specs.Live.{IsLive, verdict_after}
 use Rattle.sd_head.specs.declared.live.Live.{Live}
 use Rattle.sd_head.proofs.Airing.{aired_alone, aired_end, aired_more, ended_alone, ended_end, ended_more}
 use Rattle.sd_command_base.specs.declared.status.Status.{Status}
-use Rattle.sd_command_base.specs.declared.status.Status.TheVariants.{Done, DepotFault, NoMemory, SiteUsedUp}
-use Rattle.sd_run_broadcasts.specs.Air.{air_report, ended_status, found_by, live_clear, live_end, live_sent, live_status}
-use Rattle.sd_run_broadcasts.specs.Air.{report_at}
+use Rattle.sd_command_base.specs.declared.status.Status.TheVariants.{DepotFault, SiteUsedUp}
+use Rattle.sd_run_broadcasts.specs.Air.{air_report, ended_status, live_clear, live_end, live_sent, live_status}
 use Rattle.sd_run_broadcasts.specs.Found.{HasFound, IsReadable}
 use Rattle.sd_run_broadcasts.specs.OnAir.{body_bytes, bytes_for, closing_bytes, finished_status, report_after, status_at}
-use Rattle.sd_run_broadcasts.specs.OnAir.{Finishes, IsSending, IsStop, SendsBytes, SendsLive, SendsPacket, Stops}
+use Rattle.sd_run_broadcasts.specs.OnAir.{Finishes, IsSending, SendsBytes, SendsLive, SendsPacket, Stops}
 use Rattle.sd_run_broadcasts.specs.Watch.{skipped_at}
-use Rattle.sd_run_broadcasts.specs.declared.air_report.AirReport.{AirReport}
 use Rattle.sd_run_broadcasts.specs.declared.air_send.Finished.{Finished}
 use Rattle.sd_run_broadcasts.proofs.Found.{all_readable, far_readable, found_all, found_before, found_last, found_many}
 use Rattle.sd_run_broadcasts.proofs.Found.{found_more, found_none, found_readable, may_both, most_readable}

@@ -1,5 +1,5 @@
 -- Public meaning: `watch CARD STREAM OUT` [this project, docs/FORMATS.md, Receiver].
-use Rattle.std.specs.Prelude.{ℕ, zero, ◌-◌, ◌*◌, ◌^◌, true, List, [], ◌∷◌, ◌++◌, length, take, map, reverse, min}
+use Rattle.std.specs.Prelude.{ℕ, zero, ◌-◌, ◌*◌, ◌^◌, true, List, [], ◌∷◌, ◌++◌, map, reverse, min}
 use Rattle.std.specs.Prelude.{codes, if◌then◌else◌, Option, Some, None}
 use Rattle.std.specs.List.{concat}
 use Rattle.serde_json.specs.Data.{Data, Members, object, no_members}

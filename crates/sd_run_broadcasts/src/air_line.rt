@@ -25,11 +25,7 @@ pub fn air_line(alloc: Global, report: &AirReport) -> Result<Vec<u8>, AllocError
 }
 
 /// Writes a report.
-fn write_report(
-    alloc: Global,
-    out: &mut Writer,
-    report: &AirReport,
-) -> Result<(), AllocError>
+fn write_report(alloc: Global, out: &mut Writer, report: &AirReport) -> Result<(), AllocError>
     ensures tokens { OnOk result (out.new.tokens
         ≡ out.old.tokens ++ json_tokens (outline (air_data report.now))) }
     ensures before { out.new.before ≡ out.old.before }
@@ -49,11 +45,7 @@ fn write_report(
 }
 
 /// Writes why the first of the packets that break a rule does, if one does.
-fn write_first(
-    alloc: Global,
-    out: &mut Writer,
-    first: Option<ClearFault>,
-) -> Result<(), AllocError>
+fn write_first(alloc: Global, out: &mut Writer, first: Option<ClearFault>) -> Result<(), AllocError>
     ensures tokens { OnOk result (out.new.tokens
         ≡ out.old.tokens ++ text_tokens (codes "first") (broken_text first)) }
     ensures before { out.new.before ≡ out.old.before }

@@ -1,4 +1,4 @@
-use Rattle.std.proofs.Common.{◌≡◌, ◌∙◌, [], Some, None, subst}
+use Rattle.std.proofs.Common.{◌∙◌, [], Some, None, subst}
 use Rattle.std.proofs.lemmas.Result.{err_from_is_err_and}
 use Rattle.sd_ports.proofs.Outlets.{there_after}
 use Rattle.sd_command_base.specs.Made.{used_name}
@@ -9,9 +9,9 @@ use Rattle.sd_command_base.specs.Spec.{FileArgument}
 use Rattle.sd_command_base.proofs.Looked.{opened_got}
 use Rattle.sd_command_base.proofs.News.{free_got}
 use Rattle.sd_run_broadcasts.specs.Air.{mark_word}
-use Rattle.sd_run_broadcasts.specs.Marked.{IsOpenedMarked, NotOpenedMarked}
+use Rattle.sd_run_broadcasts.specs.Marked.{NotOpenedMarked}
 use Rattle.sd_run_broadcasts.proofs.AirDone.{stopped_obeys, told_obeys, IsDone}
-use Rattle.sd_run_broadcasts.proofs.AirFollows.{aired_follows, not_opened, same_word}
+use Rattle.sd_run_broadcasts.proofs.AirFollows.{aired_follows, not_opened, opened_as, same_word}
 use Rattle.sd_run_broadcasts.proofs.air_command.air_stream.Goals as goal
 
 pub returns-in_err-inlet : goal.returns-in_err-inlet
@@ -46,8 +46,7 @@ returns-in_err-close_both g c plan new =
     let j = c.send_live-sent.new.steps in
     let status = c.in_err-close_both.field-0.0 in
     let mark = same_word _ _ _ _ c.at-mark.ensures.number (c.at-mark.ensures.text ∙ c.requires.mark) in
-    let opened = subst (λ (m : FileArgument). IsOpenedMarked m p q clear.text out.text _ _ _ _) mark
-    c.in_ok-inlet.ensures.ok in
+    let opened = opened_as _ (mark_word site) p q clear.text out.text _ _ _ _ mark c.in_ok-inlet.ensures.ok in
     let sends = c.send_live-sent.ensures.value plan new in
     let done : IsDone plan site out p q r clear.text _ _ _ _ _ _ _ c.send_live-sent.result c.close_both.result =
     record {
@@ -76,8 +75,7 @@ returns g c plan new =
     let j = c.send_live-sent.new.steps in
     let status = status_of c.tell.result in
     let mark = same_word _ _ _ _ c.at-mark.ensures.number (c.at-mark.ensures.text ∙ c.requires.mark) in
-    let opened = subst (λ (m : FileArgument). IsOpenedMarked m p q clear.text out.text _ _ _ _) mark
-    c.in_ok-inlet.ensures.ok in
+    let opened = opened_as _ (mark_word site) p q clear.text out.text _ _ _ _ mark c.in_ok-inlet.ensures.ok in
     let sends = c.send_live-sent.ensures.value plan new in
     let done : IsDone plan site out p q r clear.text _ _ _ _ _ _ _ c.send_live-sent.result c.close_both.result =
     record {

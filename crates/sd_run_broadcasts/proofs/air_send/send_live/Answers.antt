@@ -31,8 +31,8 @@ loop-count-preserved g c = record {
   long = c.in-Ok-Some-default.ensures.length ∙ c.loop-count.invariant.long;
   way = λ plan new. packet_passed _ _ _ _ _ _ _ _ _ _ _ _ _
       (packet_found _ _ _ _ _ _ _ _ _ _ _ _ _ _ _
-    (handed _ _ _ _ _ _ _ _ _ _ _ (c.loop-count.invariant.way plan new) c.in-Ok-Some-default.ensures.same)
-    (subst (SeekOutcome _ _ _ _ _ _ _ _) c.in-Ok-Some-default.field-0-0-is c.in-Ok-Some-default.ensures.value))
+      (handed _ _ _ _ _ _ _ _ _ _ _ (c.loop-count.invariant.way plan new) c.in-Ok-Some-default.ensures.same)
+      (subst (SeekOutcome _ _ _ _ _ _ _ _) c.in-Ok-Some-default.field-0-0-is c.in-Ok-Some-default.ensures.value))
       c.loop-count-test.true _ c.if-not-branch.false
       (c.in_ok-send_packet-in-Ok-Some-default.ensures.value plan);
   read = c.in-Ok-Some-default.ensures.cause.calm (λ e. absurd (cc)) ∙ c.loop-count.invariant.read;
