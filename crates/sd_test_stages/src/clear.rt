@@ -1,6 +1,6 @@
 use crate::made::{Ends, Made, NULL, SCRAMBLED, plain, site_of};
 use crate::sections::{PAT, PMT, REWRITTEN};
-use sd_head::Clear;
+use sd_head::{Clear, PatRule};
 use sd_message::Place;
 use sd_packet::{Packet, pack_section};
 use sd_psi::{ClearFault, FormFault};
@@ -35,7 +35,7 @@ const FULL_OWN: Ends = (
 
 // What becomes of the packet, which is taken, in crypto period 0, or why it is refused.
 fn step(clear: &mut Clear, site: &Site, packet: &Packet) -> Result<Packet, ClearFault> {
-    match clear.judge(site, packet) {
+    match clear.judge(site, packet, PatRule::Asked) {
         Ok(judged) => {
             let mut carried = *packet;
             judged.carry(&mut carried, 0, &control_word(&site.master, 0));
@@ -56,7 +56,7 @@ fn is_carried(clear: &mut Clear, site: &Site, packet: Option<Packet>) -> bool {
 
 // Why the packet is refused.
 fn refusal(clear: &Clear, site: &Site, packet: Option<Packet>) -> Option<ClearFault> {
-    match clear.judge(site, &packet?) {
+    match clear.judge(site, &packet?, PatRule::Asked) {
         Ok(_) => None,
         Err(fault) => Some(fault),
     }

@@ -16,6 +16,8 @@ mod head;
 #[cfg(test)]
 mod hearing;
 #[cfg(test)]
+mod live;
+#[cfg(test)]
 mod made;
 #[cfg(test)]
 mod packets;
