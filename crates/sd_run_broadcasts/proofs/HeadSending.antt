@@ -119,7 +119,7 @@ later site before (y ∷ ys) fault h =
 -- What is sent of some first packets.
 
 -- what packets add after others, in turn
-bytes_in_turn : (plan : Plan) (before xs ys : List (List ℕ)) →
+pub bytes_in_turn : (plan : Plan) (before xs ys : List (List ℕ)) →
     bytes_from plan before (xs ++ ys) ≡ bytes_from plan before xs ++ bytes_from plan (before ++ xs) ys
 unfolding bytes_from
 bytes_in_turn plan before [] ys = ap (λ (b : List (List ℕ)). bytes_from plan b ys) (sym (append-nil before))

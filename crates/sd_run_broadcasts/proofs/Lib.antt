@@ -22,6 +22,8 @@ pub mod WatchedMore
 pub mod Found
 pub mod Living
 pub mod Marking
+pub mod Left
+pub mod Airing
 pub mod Watched
 pub mod WatchedFile
 pub mod WatchPacket

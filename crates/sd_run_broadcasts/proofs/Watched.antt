@@ -45,6 +45,7 @@ use Rattle.sd_run_broadcasts.specs.Watched.{stop_status}
 use Rattle.sd_run_broadcasts.proofs.Found.{found_none, found_more, found_before, found_all, found_last, found_many}
 use Rattle.sd_run_broadcasts.proofs.Found.{found_readable, may_both, readable_begins, all_readable, most_readable}
 use Rattle.sd_run_broadcasts.proofs.Found.{far_readable}
+use Rattle.sd_run_broadcasts.proofs.Left.{left_behind, prefix_of_all, short_of_all}
 use Rattle.sd_run_broadcasts.proofs.WatchedMore.{out_joined, tried_joined, turned_joined}
 
 -- the past after packets of which none is before
@@ -125,30 +126,6 @@ steps_begin card bytes s pieces from to h few =
     ap (λ (n : ℕ). card.height * n) all ∙ times_sum card.height (tried_keys card [] s) (tried_keys card (counted_of
     card s) h.more) in
     omega (arith, few, times)
-
--- what was written is a prefix of all
-prefix_of_all : (held mid held' : Option (List ℕ)) (first part whole : List ℕ) → Appends held mid first →
-    AppendsPrefix mid held' part → IsPrefix (first ++ part) whole → AppendsPrefix held held' whole
-prefix_of_all held mid held' first part whole wrote (bytes, short, more) all = (
-  first ++ bytes,
-  prefix_of_prefix (first ++ bytes) (first ++ part) whole (after_first first bytes part short) all,
-  Appends-trans held mid held' first bytes wrote more,
-)
-
-short_of_all : (held held' : Option (List ℕ)) (first whole : List ℕ) → Appends held held' first → IsPrefix first whole →
-    AppendsPrefix held held' whole
-short_of_all held held' first whole wrote all = (first, all, wrote)
-
--- what is left of a source behind what was read
-record LeftBehind (left now : Option (List ℕ)) (bytes : List ℕ) : Type 0 where
-  rest : List ℕ
-  is_left : IsLeft left (bytes ++ rest)
-  none : IsAtEnd now → rest ≡ []
-
-left_behind : (left now : Option (List ℕ)) (bytes : List ℕ) → Consumes left now bytes → LeftBehind left now bytes
-left_behind None now bytes read = record { rest = []; is_left = tt; none = λ end. refl }
-left_behind (Some xs) None bytes read = absurd read
-left_behind (Some xs) (Some ys) bytes read = record { rest = ys; is_left = read; none = λ end. end }
 
 -- what was found is read first of all that is left
 begins_here : (card : CardFields) (bytes waiting rest : List ℕ) (s : Packets) (pieces : List (List ℕ)) (ended : Bool)

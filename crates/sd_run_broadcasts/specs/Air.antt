@@ -51,6 +51,9 @@ air_plan_by site book site_got book_got = do
   commands ← own_book_of_file book said.0.height said.1 book_got
   value (record { site = said.0; commands = commands })
 
+abbrev pub air_plan_meaning : FileArgument → FileArgument → Readings → Spec Plan
+air_plan_meaning site book given = air_plan_by site.number book.number (given site) (given book)
+
 -- the clear packets that are sent of a live stream of these bytes [this project, docs/FORMATS.md, On air]
 abbrev pub live_clear : SiteFields → List ℕ → List (List ℕ)
 live_clear site bytes = aired site (readable bytes)
@@ -139,10 +142,14 @@ airing plan site out bytes = record {
   steps = Uncounted;
 }
 
--- the work of `air SITE BOOK CLEAR OUT`: the site must not be used [this project, docs/FORMATS.md, On air]
-unfoldable pub air_meaning : FileArgument → FileArgument → FileArgument → FileArgument → Readings → Spec Work
-air_meaning site book clear out given = do
-  plan ← air_plan_by site.number book.number (given site) (given book)
+-- the work once the plan is known: the site must not be used
+abbrev pub aired_meaning : Plan → FileArgument → FileArgument → FileArgument → Readings → Spec Work
+aired_meaning plan site clear out given = do
   bytes ← all_of clear.number (given clear)
   new ← unused (given (mark_word site))
   value (airing plan site out bytes)
+
+-- the work of `air SITE BOOK CLEAR OUT` [this project, docs/FORMATS.md, On air]
+unfoldable pub air_meaning : FileArgument → FileArgument → FileArgument → FileArgument → Readings → Spec Work
+air_meaning site book clear out given =
+    air_plan_meaning site book given >>= λ plan. aired_meaning plan site clear out given

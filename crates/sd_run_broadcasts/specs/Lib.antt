@@ -14,3 +14,4 @@ pub mod Found
 pub mod Watched
 pub mod Marked
 pub mod Air
+pub mod OnAir

@@ -5,7 +5,9 @@
 
 mod air_command;
 mod air_line;
+mod air_plan;
 mod air_report;
+mod air_send;
 mod ending;
 mod field_clear;
 mod field_command;
