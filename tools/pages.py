@@ -31,7 +31,7 @@ ALONE = re.compile(r"(?<![\w./*-])((?:(?:src|specs|proofs|must-fail)/)?[\w/*-]*[
 LINK = re.compile(r"(?<!!)\[[^\]]*\]\(([^)\s]+)\)")
 SECTION = re.compile(r"\b(?:docs/)?([A-Z]{4,})(?:\.md)?, (?=[A-Z])")
 TOP_FILE = re.compile(r"(?<![\w./])\./(sdca|install|quick-tests)\b")
-LABEL = re.compile(r"\b(Definitions|Contracts): ")
+LABEL = re.compile(r"\b(Definitions|Contracts|Names): ")
 LAW = re.compile(r"^pub fn (\w+)\(\)\s*\n(?:[ \t].*\n|\n)*?\{\}$", re.M)
 IN_SOURCE = re.compile(
     r"\bfn (\w+)|\b(?:struct|enum|trait|const|static|type|mod|macro_rules!) (\w+)|\bensures (\w+) *\{"
