@@ -4,7 +4,7 @@
 The pages are README.md, bench/README.md and docs/*.md but docs/TRUST.md. Each path, crate, script and link that one
 names must be there, and so must each section that is named behind its page (`docs/FORMATS.md, Site`), also in the
 comments of crates, tools and scripts. A file of a crate that is named without the crate must be in one that the same
-item names. In the index of docs/PROMISES.md what stands behind `Definitions:` and `Contracts:` are names, each behind
+item names, or in any if it names none. In the index of docs/PROMISES.md what stands behind `Definitions:` and `Contracts:` are names, each behind
 its crate, and each must be defined in that crate's specs/ or src/; and each law of the repository must be named there.
 README has at most README_LINES lines, all pages together WORDS words, a line of text 120 columns, and a cell of a
 table in docs/ARCHITECTURE.md 300 characters. The picture of the crates must be that of tools/picture.py. It prints
@@ -144,8 +144,8 @@ class Checks:
                 self.check(self.is_linked(page, target), where, f"the link {target} leads nowhere")
 
     def is_in_some(self, path, text):
-        """Whether a crate that the text names has this file."""
-        crates = {crate for crate in re.findall(r"\bsd_?\w*", text) if crate in self.crates}
+        """Whether a crate that the text names, or any if it names none, has this file."""
+        crates = {crate for crate in re.findall(r"\bsd_?\w*", text) if crate in self.crates} or self.crates
         within = path if "/" in path else f"*/{path}"
         return any(found(f"crates/{crate}/{within}") for crate in crates)
 
