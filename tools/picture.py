@@ -15,7 +15,7 @@ TOP = os.path.dirname(os.path.dirname(os.path.realpath(__file__)))
 PAGE = f"{TOP}/docs/ARCHITECTURE.md"
 HEAD = "## All crates in a picture\n"
 BLOCK = re.compile(r"```mermaid\n.*?```\n", re.S)
-MOST_WORDS = 9
+MOST_WORDS = 7
 # A label that is cut off doesn't end with one of these.
 SMALL = set("a after an and are as at by each for from in is it its of on one or over that the to what which".split())
 # Where a label ends.
