@@ -16,7 +16,8 @@ import re
 import sys
 from collections import defaultdict
 
-import picture
+sys.dont_write_bytecode = True
+import picture  # noqa: E402
 
 TOP = os.path.dirname(os.path.dirname(os.path.realpath(__file__)))
 README_LINES, WORDS, COLUMNS, CELL = 200, 32_000, 120, 300
