@@ -7,8 +7,8 @@ use Rattle.sd_ports.specs.Files.{Files}
 use Rattle.sd_command_base.specs.declared.status.Status.{Status}
 use Rattle.sd_command_base.specs.Outside.{DepotState, PageState, Outside, outside, called}
 use Rattle.sd_command_base.specs.Spec.{Spec, FileArgument, Readings, IsGot, and_then, judged, value, ◌>>=◌}
-use Rattle.sd_command_base.specs.Work.{Out, Work}
-use Rattle.sd_command_base.specs.Outcome.{IsEnding, HasMiss, IsMade, printing, refused, ended, exhausted, cut_off}
+use Rattle.sd_command_base.specs.Work.{Out, Mark, Work}
+use Rattle.sd_command_base.specs.Outcome.{IsEnding, HasMiss, IsMade, marked_by, printing, refused, ended, exhausted, cut_off}
 use Rattle.sd_command_base.specs.Outcome.{OutcomeWithin}
 use Rattle.sd_command_base.specs.Outcome.{Implements}
 use Rattle.sd_command_base.specs.Reads.{IsAsked, IsRefused, IsStopped, StepOutcome, FileOutcome, FilesOutcome}
@@ -150,25 +150,28 @@ looked_follows view meant next word p q page steps b x status h obeys =
           (then_obeys (meant h.got) (view x) next p q page steps b status h.gives.0 h.gives.1 obeys);
     }
 
-none_made : (out : Option Out) (n : ℕ) (p q : DepotState) → out ≡ None → q ≡ called n p → IsMade out p q
-none_made out n p q none e =
-    subst (λ (o : Option Out). IsMade o p q) (sym none)
-    (record { files = ap (λ (z : DepotState). z.files) e; made = ap (λ (z : DepotState). z.made) e })
+none_made : (work : Work) (n : ℕ) (p q : DepotState) → work.out ≡ None → work.mark ≡ None → q ≡ called n p →
+    IsMade work.out (marked_by work.mark p) q
+none_made work n p q none unmarked e =
+    subst (λ (o : Option Out). IsMade o (marked_by work.mark p) q) (sym none)
+    (subst (λ (m : Option Mark). IsMade None (marked_by m p) q) (sym unmarked)
+    (record { files = ap (λ (z : DepotState). z.files) e; made = ap (λ (z : DepotState). z.made) e }))
 
 -- work that only prints, after its files were read
 pub printed_obeys : (meant : Spec Work) (work : Work) (p q : DepotState) (page now : PageState) (steps : ℕ)
     (status : Status) →
     meant.result ≡ Ok work →
-    work.out ≡ None → IsEnding work.ends → q ≡ called meant.calls p → PrintsWork work page now status →
+    work.out ≡ None → work.mark ≡ None → IsEnding work.ends → q ≡ called meant.calls p →
+    PrintsWork work page now status →
     OutcomeWithin meant (outside p page steps) (outside q now steps) status
-printed_obeys meant work p q page now steps status is none ending e prints = record {
+printed_obeys meant work p q page now steps status is none unmarked ending e prints = record {
   comes = elim prints [
-    | inl all ↦ ended work is all.0 (subst IsEnding (sym all.0) ending) (none_made work.out meant.calls p q none e)
+    | inl all ↦ ended work is all.0 (subst IsEnding (sym all.0) ending) (none_made work meant.calls p q none unmarked e)
         all.1
         (record { depot = ap (λ (z : DepotState). z.faults) e; print = all.2 }) (ap (λ (z : DepotState). z.misses) e)
-    | inr (inl some) ↦ exhausted some.0 (printing work is (none_made work.out meant.calls p q none e) some.1)
+    | inr (inl some) ↦ exhausted some.0 (printing work is (none_made work meant.calls p q none unmarked e) some.1)
         (ap (λ (z : DepotState). z.stops) e) some.2 (ap (λ (z : DepotState). z.misses) e)
-    | inr (inr cut) ↦ cut_off work is cut.0 (none_made work.out meant.calls p q none e) cut.1 cut.2
+    | inr (inr cut) ↦ cut_off work is cut.0 (none_made work meant.calls p q none unmarked e) cut.1 cut.2
         (ap (λ (z : DepotState). z.faults) e) (ap (λ (z : DepotState). z.misses) e)
   ];
   ports = ap (λ (z : DepotState). z.opened) e;
@@ -249,13 +252,14 @@ reads_first view_first view first next one p q status h =
 -- work that only prints, whose files were read
 pub prints_follows : {X : Type 0} (view : X → Work) (meant : Readings →
     Spec Work) (p q : DepotState) (page now : PageState) (steps : ℕ) (x : X) (status : Status) →
-    (view x).out ≡ None → IsEnding (view x).ends → FilesOutcome view meant p q (Ok x) →
+    (view x).out ≡ None → (view x).mark ≡ None → IsEnding (view x).ends → FilesOutcome view meant p q (Ok x) →
     PrintsWork (view x) page now status →
     Implements meant (outside p page steps) (outside q now steps) status
-prints_follows view meant p q page now steps x status none ending h prints = record {
+prints_follows view meant p q page now steps x status none unmarked ending h prints = record {
   given = h.given;
   is_given = h.is_given;
-  obeyed = printed_obeys (meant h.given) (view x) p q page now steps status h.gives.0 none ending h.gives.1 prints;
+  obeyed = printed_obeys (meant h.given) (view x) p q page now steps status h.gives.0 none unmarked ending h.gives.1
+      prints;
 }
 
 -- the second of two files was read, or not

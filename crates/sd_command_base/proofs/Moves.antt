@@ -4,22 +4,28 @@ use Rattle.sd_base.specs.Count.{with_added}
 use Rattle.sd_command_base.specs.declared.status.Status.{Status}
 use Rattle.sd_command_base.specs.Outside.{DepotState, PageState, Outside, outside, recalled, called}
 use Rattle.sd_command_base.specs.Spec.{Spec, and_then, ◌>>=◌}
-use Rattle.sd_command_base.specs.Work.{Out, Work, work_calls}
-use Rattle.sd_command_base.specs.Outcome.{IsFaultless, IsUnmade, IsMade, IsMadeShort, Progress, untouched, writing}
-use Rattle.sd_command_base.specs.Outcome.{telling, printing}
+use Rattle.sd_command_base.specs.Work.{Out, Mark, Work, work_calls}
+use Rattle.sd_command_base.specs.Outcome.{IsFaultless, IsUnmade, marked_by, IsMade, IsMadeShort, Progress, untouched}
+use Rattle.sd_command_base.specs.Outcome.{marking, writing, telling, printing}
 use Rattle.sd_command_base.specs.Outcome.{Outcome}
-use Rattle.sd_command_base.specs.Outcome.{StopsFirst, refused, ended, unclosed, exhausted, failed, nowhere, cut_off}
-use Rattle.sd_command_base.specs.Outcome.{cut_short}
+use Rattle.sd_command_base.specs.Outcome.{StopsFirst, refused, ended, unclosed, exhausted, failed, unmarked, nowhere}
+use Rattle.sd_command_base.specs.Outcome.{cut_off, cut_short}
 use Rattle.sd_command_base.specs.Outcome.{OutcomeWithin}
 
 unmade_moved : (calls : ℕ) (p q : DepotState) → IsUnmade (recalled calls p) q → IsUnmade p q
 unmade_moved calls p q h = record { files = h.files; made = h.made }
 
-made_moved : (out : Option Out) (calls : ℕ) (p q : DepotState) → IsMade out (recalled calls p) q → IsMade out p q
-made_moved out calls p q h = record { files = h.files; made = h.made }
+mark_moved : (mark : Option Mark) (calls : ℕ) (p q : DepotState) → IsUnmade (marked_by mark (recalled calls p)) q →
+    IsUnmade (marked_by mark p) q
+mark_moved mark calls p q h = record { files = h.files; made = h.made }
 
-short_moved : (out : Out) (calls : ℕ) (p q : DepotState) → IsMadeShort out (recalled calls p) q → IsMadeShort out p q
-short_moved out calls p q h = record { prefix = h.prefix; short = h.short; files = h.files; made = h.made }
+made_moved : (work : Work) (calls : ℕ) (p q : DepotState) → IsMade work.out (marked_by work.mark (recalled calls p)) q →
+    IsMade work.out (marked_by work.mark p) q
+made_moved work calls p q h = record { files = h.files; made = h.made }
+
+short_moved : (mark : Option Mark) (out : Out) (calls : ℕ) (p q : DepotState) →
+    IsMadeShort out (marked_by mark (recalled calls p)) q → IsMadeShort out (marked_by mark p) q
+short_moved mark out calls p q h = record { prefix = h.prefix; short = h.short; files = h.files; made = h.made }
 
 calm_moved : (p : DepotState) (page : PageState) (calls steps other : ℕ) (b : Outside) →
     IsFaultless (outside (recalled calls p) page steps) b → IsFaultless (outside p page other) b
@@ -28,12 +34,14 @@ calm_moved p page calls steps other b h = record { depot = h.depot; print = h.pr
 stands_moved : (meant : Result Work Status) (p : DepotState) (page : PageState) (calls steps other : ℕ) (b : Outside) →
     Progress meant (outside (recalled calls p) page steps) b → Progress meant (outside p page other) b
 stands_moved meant p page calls steps other b (untouched h k) = untouched (unmade_moved calls p b.place h) k
+stands_moved meant p page calls steps other b (marking work e h k) = marking work e
+    (mark_moved work.mark calls p b.place h) k
 stands_moved meant p page calls steps other b (writing work e out f h k) = writing work e out f
-    (short_moved out calls p b.place h) k
+    (short_moved work.mark out calls p b.place h) k
 stands_moved meant p page calls steps other b (telling work e l out f h k) = telling work e l out f
-    (short_moved out calls p b.place h) k
+    (short_moved work.mark out calls p b.place h) k
 stands_moved meant p page calls steps other b (printing work e h k) = printing work e
-    (made_moved work.out calls p b.place h) k
+    (made_moved work calls p b.place h) k
 
 first_moved : (meant : Result Work Status) (p : DepotState) (calls : ℕ) (q : DepotState) →
     StopsFirst meant (recalled calls p) q → StopsFirst meant p q
@@ -47,19 +55,21 @@ pub comes_moved : (meant : Result Work Status) (p : DepotState) (page : PageStat
 comes_moved meant p page calls steps other b status (refused e r h k c m) =
     refused e r (unmade_moved calls p b.place h) k (calm_moved p page calls steps other b c) m
 comes_moved meant p page calls steps other b status (ended work e s i h k c m) =
-    ended work e s i (made_moved work.out calls p b.place h) k (calm_moved p page calls steps other b c) m
+    ended work e s i (made_moved work calls p b.place h) k (calm_moved p page calls steps other b c) m
 comes_moved meant p page calls steps other b status (unclosed work e s i j t out f h k r v c m) =
-    unclosed work e s i j t out f (short_moved out calls p b.place h) k r v c m
+    unclosed work e s i j t out f (short_moved work.mark out calls p b.place h) k r v c m
 comes_moved meant p page calls steps other b status (exhausted s h v c m) =
     exhausted s (stands_moved meant p page calls steps other b h) v c m
 comes_moved meant p page calls steps other b status (failed s h r v c m) =
     failed s (stands_moved meant p page calls steps other b h) r (first_moved meant p calls b.place v) c m
+comes_moved meant p page calls steps other b status (unmarked work e mark f s n h k c m) =
+    unmarked work e mark f s n (unmade_moved calls p b.place h) k (calm_moved p page calls steps other b c) m
 comes_moved meant p page calls steps other b status (nowhere work e out f s n h k c m) =
-    nowhere work e out f s n (unmade_moved calls p b.place h) k (calm_moved p page calls steps other b c) m
+    nowhere work e out f s n (mark_moved work.mark calls p b.place h) k (calm_moved p page calls steps other b c) m
 comes_moved meant p page calls steps other b status (cut_off work e s h k r c m) =
-    cut_off work e s (made_moved work.out calls p b.place h) k r c m
+    cut_off work e s (made_moved work calls p b.place h) k r c m
 comes_moved meant p page calls steps other b status (cut_short work e l s out f h k r m) =
-    cut_short work e l s out f (short_moved out calls p b.place h) k r m
+    cut_short work e l s out f (short_moved work.mark out calls p b.place h) k r m
 
 added_twice : (x n k m now : ℕ) → now ≤ with_added x n + (k + m) → now ≤ x + (n + k + m)
 added_twice x n k m now h = omega arith

@@ -14,7 +14,7 @@ use Rattle.sd_command_base.specs.Outside.{PageState, Outside}
 use Rattle.sd_command_base.specs.Spec.{Spec, Readings, contents_of, IsGiven}
 use Rattle.sd_command_base.specs.Work.{Work}
 use Rattle.sd_command_base.specs.Outcome.{IsRefusal, IsEnding, Outcome, refused, ended, unclosed, exhausted, failed}
-use Rattle.sd_command_base.specs.Outcome.{nowhere}
+use Rattle.sd_command_base.specs.Outcome.{unmarked, nowhere}
 use Rattle.sd_command_base.specs.Outcome.{cut_off, cut_short, Implements}
 use Rattle.sd_command_base.specs.Results.{TakesMemory, PrintsStatusLine, with_page, RunResult, HasAnswerCause}
 use Rattle.sd_command_base.specs.Results.{IsMeant}
@@ -86,6 +86,7 @@ page_later meant a b status (ended work e s i h k c m) = inl c.print
 page_later meant a b status (unclosed work e s i j t out f h k r v c m) = inl c
 page_later meant a b status (exhausted s h v c m) = inl c
 page_later meant a b status (failed s h r v c m) = inl c
+page_later meant a b status (unmarked work e mark f s n h k c m) = inl c.print
 page_later meant a b status (nowhere work e out f s n h k c m) = inl c.print
 page_later meant a b status (cut_off work e s h k r c m) = inr r
 page_later meant a b status (cut_short work e l s out f h k r m) = inr r
@@ -98,6 +99,7 @@ page_calm meant a b status (ended work e s i h k c m) n = c.print
 page_calm meant a b status (unclosed work e s i j t out f h k r v c m) n = c
 page_calm meant a b status (exhausted s h v c m) n = c
 page_calm meant a b status (failed s h r v c m) n = c
+page_calm meant a b status (unmarked work e mark f s v h k c m) n = c.print
 page_calm meant a b status (nowhere work e out f s v h k c m) n = c.print
 page_calm meant a b status (cut_off work e s h k r c m) n = absurd (n s)
 page_calm meant a b status (cut_short work e l s out f h k r m) n = absurd (n s)
@@ -110,6 +112,7 @@ print_failed meant a b status (ended work e s i h k c m) is = absurd (subst IsEn
 print_failed meant a b status (unclosed work e s i j t out f h k r v c m) is = absurd (subst IsEnding is i)
 print_failed meant a b status (exhausted s h v c m) is = absurd (let x = sym s ∙ is in cc)
 print_failed meant a b status (failed s h r v c m) is = absurd (let x = sym s ∙ is in cc)
+print_failed meant a b status (unmarked work e mark f s n h k c m) is = absurd (let x = sym s ∙ is in cc)
 print_failed meant a b status (nowhere work e out f s n h k c m) is = absurd (let x = sym s ∙ is in cc)
 print_failed meant a b status (cut_off work e s h k r c m) is = r
 print_failed meant a b status (cut_short work e l s out f h k r m) is = r
@@ -121,6 +124,7 @@ depot_failed meant a b status (ended work e s i h k c m) is = absurd (subst IsEn
 depot_failed meant a b status (unclosed work e s i j t out f h k r v c m) is = absurd (subst IsEnding is i)
 depot_failed meant a b status (exhausted s h v c m) is = absurd (let x = sym s ∙ is in cc)
 depot_failed meant a b status (failed s h r v c m) is = r
+depot_failed meant a b status (unmarked work e mark f s n h k c m) is = absurd (let x = sym s ∙ is in cc)
 depot_failed meant a b status (nowhere work e out f s n h k c m) is = absurd (let x = sym s ∙ is in cc)
 depot_failed meant a b status (cut_off work e s h k r c m) is = absurd (let x = sym s ∙ is in cc)
 depot_failed meant a b status (cut_short work e l s out f h k r m) is = absurd (let x = sym s ∙ is in cc)
@@ -132,6 +136,7 @@ was_missing meant a b status word (ended work e s i h k c m) is = absurd (subst 
 was_missing meant a b status word (unclosed work e s i j t out f h k r v c m) is = absurd (subst IsEnding is i)
 was_missing meant a b status word (exhausted s h v c m) is = absurd (let x = sym s ∙ is in cc)
 was_missing meant a b status word (failed s h r v c m) is = absurd (let x = sym s ∙ is in cc)
+was_missing meant a b status word (unmarked work e mark f s n h k c m) is = m
 was_missing meant a b status word (nowhere work e out f s n h k c m) is = m
 was_missing meant a b status word (cut_off work e s h k r c m) is = absurd (let x = sym s ∙ is in cc)
 was_missing meant a b status word (cut_short work e l s out f h k r m) is = absurd (let x = sym s ∙ is in cc)
@@ -143,6 +148,7 @@ was_done meant a b status (ended work e s i h k c m) is = c.depot
 was_done meant a b status (unclosed work e s i j t out f h k r v c m) is = absurd (subst IsRefusal is j)
 was_done meant a b status (exhausted s h v c m) is = absurd (let x = sym s ∙ is in cc)
 was_done meant a b status (failed s h r v c m) is = absurd (let x = sym s ∙ is in cc)
+was_done meant a b status (unmarked work e mark f s n h k c m) is = absurd (let x = sym s ∙ is in cc)
 was_done meant a b status (nowhere work e out f s n h k c m) is = absurd (let x = sym s ∙ is in cc)
 was_done meant a b status (cut_off work e s h k r c m) is = absurd (let x = sym s ∙ is in cc)
 was_done meant a b status (cut_short work e l s out f h k r m) is = absurd (let x = sym s ∙ is in cc)
@@ -203,6 +209,8 @@ own_meant meant files a b status answer told depot print (unclosed work e s i j 
     (still_or_rose _ _ depot r)
 own_meant meant files a b status answer told depot print (exhausted s h v c m) is = out_of_memory meant answer (is ∙ s)
 own_meant meant files a b status answer told depot print (failed s h r v c m) is = absurd (still_or_rose _ _ depot r)
+own_meant meant files a b status answer told depot print (unmarked work e mark f s n h k c m) is = absurd
+    (let x = sym told ∙ n in cc)
 own_meant meant files a b status answer told depot print (nowhere work e out f s n h k c m) is = absurd
     (let x = sym told ∙ n in cc)
 own_meant meant files a b status answer told depot print (cut_off work e s h k r c m) is = absurd (print r)
@@ -247,6 +255,7 @@ refused_usage meant a b status (ended work e s i h k c m) is = absurd (subst IsE
 refused_usage meant a b status (unclosed work e s i j t out f h k r v c m) is = absurd (subst IsEnding is i)
 refused_usage meant a b status (exhausted s h v c m) is = absurd (let x = sym s ∙ is in cc)
 refused_usage meant a b status (failed s h r v c m) is = absurd (let x = sym s ∙ is in cc)
+refused_usage meant a b status (unmarked work e mark f s n h k c m) is = absurd (let x = sym s ∙ is in cc)
 refused_usage meant a b status (nowhere work e out f s n h k c m) is = absurd (let x = sym s ∙ is in cc)
 refused_usage meant a b status (cut_off work e s h k r c m) is = absurd (let x = sym s ∙ is in cc)
 refused_usage meant a b status (cut_short work e l s out f h k r m) is = absurd (let x = sym s ∙ is in cc)

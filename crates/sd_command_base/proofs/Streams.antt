@@ -6,8 +6,8 @@ use Rattle.sd_command_base.specs.declared.status.Status.{Status}
 use Rattle.sd_command_base.specs.declared.status.Status.TheVariants.{DepotFault}
 use Rattle.sd_command_base.specs.Outside.{DepotState, PageState, outside}
 use Rattle.sd_command_base.specs.Spec.{FileArgument, IsGot, all_of, value, ◌>>=◌}
-use Rattle.sd_command_base.specs.Work.{Out, Work}
-use Rattle.sd_command_base.specs.Outcome.{IsEnding, IsMade, printing, Outcome, ended, exhausted, failed, cut_off}
+use Rattle.sd_command_base.specs.Work.{Out, Mark, Work}
+use Rattle.sd_command_base.specs.Outcome.{IsEnding, IsMade, marked_by, printing, Outcome, ended, exhausted, failed, cut_off}
 use Rattle.sd_command_base.specs.Outcome.{OutcomeWithin, Implements}
 use Rattle.sd_command_base.specs.Prints.{PrintsReading}
 use Rattle.sd_command_base.proofs.Firsts.{takes_none}
@@ -33,42 +33,45 @@ faults_added before opened now from port status same within is fresh cause = rec
   calm = λ n. let still = cause.calm n in omega (arith, same, is, within, still, fresh);
 }
 
-none_made : (out : Option Out) (p q : DepotState) → out ≡ None → q.files ≡ p.files → q.made ≡ p.made → IsMade out p q
-none_made out p q none files made = subst (λ (o : Option Out). IsMade o p q) (sym none)
-    (record { files = files; made = made })
+none_made : (work : Work) (p q : DepotState) → work.out ≡ None → work.mark ≡ None → q.files ≡ p.files →
+    q.made ≡ p.made → IsMade work.out (marked_by work.mark p) q
+none_made work p q none unmarked files made =
+    subst (λ (o : Option Out). IsMade o (marked_by work.mark p) q) (sym none)
+    (subst (λ (m : Option Mark). IsMade None (marked_by m p) q) (sym unmarked)
+    (record { files = files; made = made }))
 
 pub is_other : (status : Status) → IsEnding status → status ≢ DepotFault
 is_other status ending is = absurd (subst IsEnding is ending)
 
 -- work that only prints and reads its file meanwhile
 printed_comes : (work : Work) (p q : DepotState) (page now : PageState) (steps : ℕ) (status : Status) →
-    work.out ≡ None →
+    work.out ≡ None → work.mark ≡ None →
     IsEnding work.ends →
     IsRead p q status → PrintsReading work page now status →
     Outcome (Ok work) (outside p page steps) (outside q now steps) status
-printed_comes work p q page now steps status none ending read (inl (inl all)) =
-    ended work refl all.0 (subst IsEnding (sym all.0) ending) (none_made work.out p q none read.files read.made) all.1
+printed_comes work p q page now steps status none unmarked ending read (inl (inl all)) =
+    ended work refl all.0 (subst IsEnding (sym all.0) ending) (none_made work p q none unmarked read.files read.made) all.1
     (record { depot = read.faults.calm (is_other status (subst IsEnding (sym all.0) ending)); print = all.2 })
     read.misses
-printed_comes work p q page now steps status none ending read (inl (inr (inl some))) =
-    exhausted some.0 (printing work refl (none_made work.out p q none read.files read.made) some.1)
+printed_comes work p q page now steps status none unmarked ending read (inl (inr (inl some))) =
+    exhausted some.0 (printing work refl (none_made work p q none unmarked read.files read.made) some.1)
     (read.stops.calm (λ is. let x = sym some.0 ∙ is in cc)) some.2 read.misses
-printed_comes work p q page now steps status none ending read (inl (inr (inr cut))) =
-    cut_off work refl cut.0 (none_made work.out p q none read.files read.made) cut.1 cut.2
+printed_comes work p q page now steps status none unmarked ending read (inl (inr (inr cut))) =
+    cut_off work refl cut.0 (none_made work p q none unmarked read.files read.made) cut.1 cut.2
     (read.faults.calm (λ is. let x = sym cut.0 ∙ is in cc)) read.misses
-printed_comes work p q page now steps status none ending read (inr broken) =
-    failed broken.0 (printing work refl (none_made work.out p q none read.files read.made) broken.1)
+printed_comes work p q page now steps status none unmarked ending read (inr broken) =
+    failed broken.0 (printing work refl (none_made work p q none unmarked read.files read.made) broken.1)
     (read.faults.failed broken.0) (λ breaks. read.stops.failed broken.0) broken.2 read.misses
 
 -- so it follows what is meant by what the file gave
 pub reading_follows : (view : List ℕ →
     Work) (word : FileArgument) (bytes : List ℕ) (p q : DepotState) (page now : PageState) (steps : ℕ)
     (status : Status) →
-    (view bytes).out ≡ None → IsEnding (view bytes).ends → IsGot p.files word.text (Some bytes) → IsRead p q status →
+    (view bytes).out ≡ None → (view bytes).mark ≡ None → IsEnding (view bytes).ends → IsGot p.files word.text (Some bytes) → IsRead p q status →
     PrintsReading (view bytes) page now status →
     Implements (λ given. all_of word.number (given word) >>= λ bytes. value (view bytes)) (outside p page steps)
     (outside q now steps) status
-reading_follows view word bytes p q page now steps status none ending got read prints =
+reading_follows view word bytes p q page now steps status none unmarked ending got read prints =
     let g = one_given p.files word (Some bytes) got in record {
       given = g.given;
       is_given = g.is_given;
@@ -76,7 +79,7 @@ reading_follows view word bytes p q page now steps status none ending got read p
           (outside p page steps)
           (outside q now steps) status) (sym g.gave)
           (record {
-            comes = printed_comes (view bytes) p q page now steps status none ending read prints;
+            comes = printed_comes (view bytes) p q page now steps status none unmarked ending read prints;
             ports = read.ports;
             calls = let c = read.calls in omega arith;
             steps = takes_none (Ok (view bytes)) steps;

@@ -17,7 +17,8 @@ use Rattle.sd_command_base.specs.declared.status.Status.TheVariants.{PrintFault}
 use Rattle.sd_command_base.specs.declared.status.Status.TheVariants.{BadSite, BadBook, BadCard, BadClear, BadStream}
 use Rattle.sd_command_base.specs.declared.status.Status.TheVariants.{Limit}
 use Rattle.sd_command_base.specs.declared.status.Status.TheVariants.{NoMemory, Unheard, Unclosed, Gaps, NoCat}
-use Rattle.sd_command_base.specs.declared.status.Status.TheVariants.{BadWord, Clash, BadOut, OtherBook}
+use Rattle.sd_command_base.specs.declared.status.Status.TheVariants.{BadWord, Clash, BadOut, OtherBook, SiteUsed}
+use Rattle.sd_command_base.specs.declared.status.Status.TheVariants.{SiteUsedUp}
 use Rattle.sd_command_base.specs.Outside.{DepotState, PageState, Outside, outside}
 use Rattle.sd_command_base.specs.Spec.{Spec, FileArgument, IsGot, all_of, value, ◌>>=◌}
 use Rattle.sd_command_base.specs.Work.{StepBound, Work, TakesSteps}
@@ -145,7 +146,9 @@ by_break NoCat = inr (inr (inr (refl, refl, λ e. cc)))
 by_break (BadWord word) = inr (inr (inr (refl, refl, λ e. cc)))
 by_break (Clash clash) = inr (inr (inr (refl, refl, λ e. cc)))
 by_break (BadOut word cause) = inr (inr (inr (refl, refl, λ e. cc)))
+by_break SiteUsed = inr (inr (inr (refl, refl, λ e. cc)))
 by_break OtherBook = inr (inr (inr (refl, refl, λ e. cc)))
+by_break (SiteUsedUp packet) = inr (inr (inr (refl, refl, λ e. cc)))
 
 no_break : (s : Status) → (s ≡ NoMemory) ⊎ (s ≡ DepotFault) → is_break s ≡ true → ⊥
 no_break s (inl is) breaks = let same : is_break NoMemory ≡ true = ap is_break (sym is) ∙ breaks in absurd (cc)

@@ -6,7 +6,7 @@ use Rattle.sd_command_base.specs.declared.status.Status.TheVariants.{PrintFault}
 use Rattle.sd_command_base.specs.declared.status.Status.TheVariants.{BadSite, BadBook, BadCard, BadClear, BadStream}
 use Rattle.sd_command_base.specs.declared.status.Status.TheVariants.{Limit, NoMemory, Unheard, Unclosed, Gaps, NoCat}
 use Rattle.sd_command_base.specs.declared.status.Status.TheVariants.{BadWord}
-use Rattle.sd_command_base.specs.declared.status.Status.TheVariants.{Clash, BadOut, OtherBook}
+use Rattle.sd_command_base.specs.declared.status.Status.TheVariants.{Clash, BadOut, OtherBook, SiteUsed, SiteUsedUp}
 
 -- the exit status of the program [this project, docs/FORMATS.md, Exits]
 abbrev pub code_of : Status → ℕ
@@ -30,4 +30,6 @@ code_of NoCat = 16
 code_of (BadWord word) = 17
 code_of (Clash clash) = 18
 code_of (BadOut word cause) = 19
+code_of SiteUsed = 20
 code_of OtherBook = 21
+code_of (SiteUsedUp packet) = 22

@@ -1,10 +1,11 @@
 -- Public meaning: a file that is made whole, and one that must be new.
-use Rattle.std.specs.Prelude.{◌≡◌, ℕ, ◌+◌, ◌≤◌, false, List, [], Option, Some, None, Result, Ok, Err}
+use Rattle.std.specs.Prelude.{◌≡◌, ℕ, ◌+◌, ◌≤◌, false, List, [], ◌++◌, codes, Option, Some, None, Result, Ok, Err}
 use Rattle.sd_ports.specs.Files.{IsNotThere}
 use Rattle.sd_ports.specs.declared.file.FileFault.{FileFault}
 use Rattle.sd_ports.specs.declared.file.FileFault.TheVariants as file
 use Rattle.sd_command_base.specs.declared.status.Status.{Status}
 use Rattle.sd_command_base.specs.declared.status.Status.TheVariants.{Done, Missing, DepotFault, NoMemory, BadOut}
+use Rattle.sd_command_base.specs.declared.status.Status.TheVariants.{SiteUsed}
 use Rattle.sd_command_base.specs.declared.status.OutCause.TheVariants.{There}
 use Rattle.sd_command_base.specs.Outside.{DepotState, Outside}
 use Rattle.sd_command_base.specs.Spec.{Spec, FileArgument, IsGot, value, ◌>>=◌}
@@ -18,6 +19,7 @@ out_of out bytes = record { word = out.number; name = out.text; bytes = bytes }
 -- makes a file of these bytes, by so many steps at most
 abbrev pub making : StepBound → FileArgument → List ℕ → Work
 making steps out bytes = record {
+  mark = None;
   out = Some (out_of out bytes);
   pieces = [];
   ends = Done;
@@ -42,6 +44,7 @@ pub record NewFile : Type 0 where
 -- makes it under the name that this argument says, and then prints its pieces
 abbrev pub new_work : NewFile → FileArgument → Work
 new_work made out = record {
+  mark = None;
   out = Some (out_of out made.bytes);
   pieces = made.pieces;
   ends = Done;
@@ -55,6 +58,16 @@ new_work made out = record {
 abbrev pub free : ℕ → Option (List ℕ) → Spec (Unit {0})
 free word None = value tt
 free word (Some bytes) = record { calls = 2; result = Err (BadOut word There) }
+
+-- the name of the mark of a site: a file that a run of `air` makes before it sends with the site
+abbrev pub used_name : List ℕ → List ℕ
+used_name name = name ++ codes ".used"
+
+-- Nothing has the name of the mark, or the site is used, by what the file of that name gave. This is learned by making
+-- the mark: it takes no call of its own if the name is free, and else at most the two of making one.
+abbrev pub unused : Option (List ℕ) → Spec (Unit {0})
+unused None = value tt
+unused (Some bytes) = record { calls = 2; result = Err SiteUsed }
 
 -- makes a file that must be new, by what has its name
 abbrev pub making_new : NewFile → FileArgument → Option (List ℕ) → Spec Work

@@ -11,10 +11,12 @@ use Rattle.sd_command_base.specs.declared.status.Status.TheVariants.{PrintFault}
 use Rattle.sd_command_base.specs.declared.status.Status.TheVariants.{BadSite, BadBook, BadCard, BadClear, BadStream}
 use Rattle.sd_command_base.specs.declared.status.Status.TheVariants.{Limit}
 use Rattle.sd_command_base.specs.declared.status.Status.TheVariants.{NoMemory, Unheard, Unclosed, Gaps, NoCat}
-use Rattle.sd_command_base.specs.declared.status.Status.TheVariants.{BadWord, Clash, BadOut, OtherBook}
+use Rattle.sd_command_base.specs.declared.status.Status.TheVariants.{BadWord, Clash, BadOut, OtherBook, SiteUsed}
+use Rattle.sd_command_base.specs.declared.status.Status.TheVariants.{SiteUsedUp}
 use Rattle.sd_command_base.specs.Outside.{DepotState, PageState, Outside}
 use Rattle.sd_command_base.specs.Spec.{Spec, Readings, IsGiven}
-use Rattle.sd_command_base.specs.Work.{Out, Work, files_with, made_with, all_calls, TakesSteps}
+use Rattle.sd_command_base.specs.Work.{Out, Mark, Work, files_marked, made_marked, files_with, made_with}
+use Rattle.sd_command_base.specs.Work.{all_calls, TakesSteps}
 
 -- the status refuses words or files: it isn't that work is done, and it doesn't come of the outside
 abbrev pub IsRefusal : Status → Type 0
@@ -38,7 +40,9 @@ IsRefusal NoCat = ⊥
 IsRefusal (BadWord word) = Unit {0}
 IsRefusal (Clash clash) = Unit {0}
 IsRefusal (BadOut word cause) = Unit {0}
+IsRefusal SiteUsed = Unit {0}
 IsRefusal OtherBook = Unit {0}
+IsRefusal (SiteUsedUp packet) = ⊥
 
 -- the status may stand at the end of work
 abbrev pub IsEnding : Status → Type 0
@@ -62,7 +66,9 @@ IsEnding NoCat = Unit {0}
 IsEnding (BadWord word) = Unit {0}
 IsEnding (Clash clash) = Unit {0}
 IsEnding (BadOut word cause) = Unit {0}
+IsEnding SiteUsed = Unit {0}
 IsEnding OtherBook = Unit {0}
+IsEnding (SiteUsedUp packet) = Unit {0}
 
 -- no I/O error occurred
 pub record IsFaultless (a b : Outside) : Type 0 where
@@ -78,6 +84,18 @@ pub record HasMiss (status : Status) (before now : ℕ) : Type 0 where
 pub record IsUnmade (a b : DepotState) : Type 0 where
   pub files : b.files ≡ a.files
   pub made : b.made ≡ a.made
+
+-- the depot once the mark is made, where there is one: an empty file, and the other files stay
+abbrev pub marked_by : Option Mark → DepotState → DepotState
+marked_by mark at = record {
+  files = files_marked mark at.files;
+  faults = at.faults;
+  stops = at.stops;
+  misses = at.misses;
+  made = made_marked mark at.made;
+  opened = at.opened;
+  calls = at.calls;
+}
 
 -- OUT was made with all of its bytes, where there is one, and the other files stay
 pub record IsMade (out : Option Out) (a b : DepotState) : Type 0 where
@@ -103,16 +121,19 @@ PrintsSome work a b = (count : ℕ) × Appends a.printed b.printed (concat (take
 abbrev pub PrintsPrefix : Work → PageState → PageState → Type 0
 PrintsPrefix work a b = AppendsPrefix a.printed b.printed (concat work.pieces)
 
--- How far work came: nothing was done; or OUT has a prefix of its bytes and nothing was printed, or of live work some
--- first pieces; or OUT is whole, where there is one, and some first pieces were printed.
+-- How far work came: nothing was done; or the mark was made, where there is one, and then: nothing more was done; or OUT
+-- has a prefix of its bytes and nothing was printed, or of live work some first pieces; or OUT is whole, where there is
+-- one, and some first pieces were printed.
 pub data Progress (meant : Result Work Status) (a b : Outside) : Type 0 where
   untouched : IsUnmade a.place b.place → b.page.printed ≡ a.page.printed → Progress meant a b
-  writing : (work : Work) → meant ≡ Ok work → (out : Out) → work.out ≡ Some out → IsMadeShort out a.place b.place →
+  marking : (work : Work) → meant ≡ Ok work → IsUnmade (marked_by work.mark a.place) b.place →
       b.page.printed ≡ a.page.printed → Progress meant a b
+  writing : (work : Work) → meant ≡ Ok work → (out : Out) → work.out ≡ Some out →
+      IsMadeShort out (marked_by work.mark a.place) b.place → b.page.printed ≡ a.page.printed → Progress meant a b
   telling : (work : Work) → meant ≡ Ok work → work.live ≡ true → (out : Out) → work.out ≡ Some out →
-      IsMadeShort out a.place b.place → PrintsSome work a.page b.page → Progress meant a b
-  printing : (work : Work) → meant ≡ Ok work → IsMade work.out a.place b.place → PrintsSome work a.page b.page →
-      Progress meant a b
+      IsMadeShort out (marked_by work.mark a.place) b.place → PrintsSome work a.page b.page → Progress meant a b
+  printing : (work : Work) → meant ≡ Ok work → IsMade work.out (marked_by work.mark a.place) b.place →
+      PrintsSome work a.page b.page → Progress meant a b
 
 -- if the work is a stream that is refused, the device failed before that was known: not only at closing OUT
 abbrev pub StopsFirst : Result Work Status → DepotState → DepotState → Type 0
@@ -123,14 +144,14 @@ pub data Outcome (meant : Result Work Status) (a b : Outside) (status : Status) 
   -- the words or the files are refused, and nothing was made or printed
   refused : meant ≡ Err status → IsRefusal status → IsUnmade a.place b.place → b.page.printed ≡ a.page.printed →
       IsFaultless a b → HasMiss status a.place.misses b.place.misses → Outcome meant a b status
-  -- the work came to its end: OUT is whole, and all is printed
+  -- the work came to its end: the mark is made, OUT is whole, and all is printed
   ended : (work : Work) → meant ≡ Ok work → status ≡ work.ends → IsEnding status →
-      IsMade work.out a.place b.place → PrintsAll work a.page b.page → IsFaultless a b →
+      IsMade work.out (marked_by work.mark a.place) b.place → PrintsAll work a.page b.page → IsFaultless a b →
       b.place.misses ≡ a.place.misses →
       Outcome meant a b status
   -- a refusal in the midst of a stream stands, though OUT failed to close after it; all is printed
   unclosed : (work : Work) → meant ≡ Ok work → status ≡ work.ends → IsEnding status → IsRefusal status →
-      work.breaks ≡ true → (out : Out) → work.out ≡ Some out → IsMadeShort out a.place b.place →
+      work.breaks ≡ true → (out : Out) → work.out ≡ Some out → IsMadeShort out (marked_by work.mark a.place) b.place →
       PrintsAll work a.page b.page →
       HasRisen a.place.faults b.place.faults → b.place.stops ≡ a.place.stops → b.page.faults ≡ a.page.faults →
       b.place.misses ≡ a.place.misses → Outcome meant a b status
@@ -141,17 +162,21 @@ pub data Outcome (meant : Result Work Status) (a b : Outside) (status : Status) 
   failed : status ≡ DepotFault → Progress meant a b → HasRisen a.place.faults b.place.faults →
       StopsFirst meant a.place b.place → b.page.faults ≡ a.page.faults → b.place.misses ≡ a.place.misses →
       Outcome meant a b status
-  -- there is no folder for OUT, in a depot that doesn't tell its files
-  nowhere : (work : Work) → meant ≡ Ok work → (out : Out) → work.out ≡ Some out → status ≡ Missing out.word →
+  -- there is no folder for the mark, in a depot that doesn't tell its files: nothing is made
+  unmarked : (work : Work) → meant ≡ Ok work → (mark : Mark) → work.mark ≡ Some mark → status ≡ Missing mark.word →
       a.place.files ≡ None → IsUnmade a.place b.place → b.page.printed ≡ a.page.printed → IsFaultless a b →
       HasRisen a.place.misses b.place.misses → Outcome meant a b status
+  -- there is no folder for OUT, in a depot that doesn't tell its files: the mark alone is made
+  nowhere : (work : Work) → meant ≡ Ok work → (out : Out) → work.out ≡ Some out → status ≡ Missing out.word →
+      a.place.files ≡ None → IsUnmade (marked_by work.mark a.place) b.place → b.page.printed ≡ a.page.printed →
+      IsFaultless a b → HasRisen a.place.misses b.place.misses → Outcome meant a b status
   -- printing failed at the text of the work
-  cut_off : (work : Work) → meant ≡ Ok work → status ≡ PrintFault → IsMade work.out a.place b.place →
-      PrintsPrefix work a.page b.page → HasRisen a.page.faults b.page.faults →
-      b.place.faults ≡ a.place.faults → b.place.misses ≡ a.place.misses → Outcome meant a b status
+  cut_off : (work : Work) → meant ≡ Ok work → status ≡ PrintFault →
+      IsMade work.out (marked_by work.mark a.place) b.place → PrintsPrefix work a.page b.page →
+      HasRisen a.page.faults b.page.faults → b.place.faults ≡ a.place.faults → b.place.misses ≡ a.place.misses → Outcome meant a b status
   -- printing failed at the text of live work, while OUT was written or after it failed to close
   cut_short : (work : Work) → meant ≡ Ok work → work.live ≡ true → status ≡ PrintFault → (out : Out) →
-      work.out ≡ Some out → IsMadeShort out a.place b.place → PrintsPrefix work a.page b.page →
+      work.out ≡ Some out → IsMadeShort out (marked_by work.mark a.place) b.place → PrintsPrefix work a.page b.page →
       HasRisen a.page.faults b.page.faults → b.place.misses ≡ a.place.misses → Outcome meant a b status
 
 -- what a command left after it, before the line of its status is told

@@ -42,6 +42,7 @@ first_texts text (suc n) = first_texts text n ++ text n ∷ []
 abbrev pub printing : (ℕ → List ℕ) → ℕ → Work
 printing text last =
     record {
+      mark = None;
       out = None;
       pieces = first_texts text (last + 1);
       ends = Done;

@@ -8,9 +8,9 @@ use Rattle.sd_command_base.specs.Outcome.{IsEnding}
 -- prints a text, or nothing and ends otherwise
 abbrev pub printing : Result (List ℕ) Status → Work
 printing (Ok text) =
-    record { out = None; pieces = text ∷ []; ends = Done; breaks = false; live = false; steps = Uncounted }
+    record { mark = None; out = None; pieces = text ∷ []; ends = Done; breaks = false; live = false; steps = Uncounted }
 printing (Err status) =
-    record { out = None; pieces = []; ends = status; breaks = false; live = false; steps = Uncounted }
+    record { mark = None; out = None; pieces = []; ends = status; breaks = false; live = false; steps = Uncounted }
 
 -- a step in memory gives what is meant, or the status that it ends with, or memory was out
 abbrev pub MemoryOutcome : {X : Type 0} → (X → List ℕ) → Result (List ℕ) Status → Result X Status → Type 0

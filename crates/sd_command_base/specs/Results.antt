@@ -9,7 +9,8 @@ use Rattle.sd_command_base.specs.declared.status.Status.TheVariants.{PrintFault}
 use Rattle.sd_command_base.specs.declared.status.Status.TheVariants.{BadSite, BadBook, BadCard, BadClear, BadStream}
 use Rattle.sd_command_base.specs.declared.status.Status.TheVariants.{Limit}
 use Rattle.sd_command_base.specs.declared.status.Status.TheVariants.{NoMemory, Unheard, Unclosed, Gaps, NoCat}
-use Rattle.sd_command_base.specs.declared.status.Status.TheVariants.{BadWord, Clash, BadOut, OtherBook}
+use Rattle.sd_command_base.specs.declared.status.Status.TheVariants.{BadWord, Clash, BadOut, OtherBook, SiteUsed}
+use Rattle.sd_command_base.specs.declared.status.Status.TheVariants.{SiteUsedUp}
 use Rattle.sd_command_base.specs.Texts.{line_of}
 use Rattle.sd_command_base.specs.Outside.{PageState, Outside}
 use Rattle.sd_command_base.specs.Spec.{Spec, Readings}
@@ -38,7 +39,9 @@ TakesMemory NoCat = ⊥
 TakesMemory (BadWord word) = Unit {0}
 TakesMemory (Clash clash) = Unit {0}
 TakesMemory (BadOut word cause) = Unit {0}
+TakesMemory SiteUsed = ⊥
 TakesMemory OtherBook = ⊥
+TakesMemory (SiteUsedUp packet) = Unit {0}
 
 -- the line of a status was printed and is answered, or printing failed at it
 abbrev pub PrintsLine : PageState → PageState → Status → Status → Type 0

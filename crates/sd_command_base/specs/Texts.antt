@@ -28,7 +28,7 @@ use Rattle.sd_command_base.specs.declared.status.Status.TheVariants.{PrintFault}
 use Rattle.sd_command_base.specs.declared.status.Status.TheVariants.{BadSite, BadBook, BadCard, BadClear, BadStream}
 use Rattle.sd_command_base.specs.declared.status.Status.TheVariants.{Limit, NoMemory, Unheard, Unclosed, Gaps, NoCat}
 use Rattle.sd_command_base.specs.declared.status.Status.TheVariants.{BadWord}
-use Rattle.sd_command_base.specs.declared.status.Status.TheVariants.{Clash, BadOut, OtherBook}
+use Rattle.sd_command_base.specs.declared.status.Status.TheVariants.{Clash, BadOut, OtherBook, SiteUsed, SiteUsedUp}
 use Rattle.sd_command_base.specs.declared.status.LimitKind.{LimitKind}
 use Rattle.sd_command_base.specs.declared.status.LimitKind.TheVariants.{SiteBytes, BookBytes, CardBytes, Book}
 use Rattle.sd_command_base.specs.declared.status.LimitKind.TheVariants.{TrialHeight}
@@ -193,6 +193,10 @@ unfoldable pub out_line : ℕ → OutCause → List ℕ
 out_line word There = codes "file word " ++ (decimal word ++ codes " is there\n")
 out_line word Name = codes "file word " ++ (decimal word ++ codes " does not follow file word 1\n")
 
+-- the line of a site without a number or a control word for this packet
+unfoldable pub used_up_line : ℕ → List ℕ
+used_up_line packet = codes "site is used up at packet " ++ (decimal packet ++ codes "\n")
+
 -- the line that a status prints; none where the work is done, or where printing failed
 unfoldable pub line_of : Status → List ℕ
 line_of Done = []
@@ -215,4 +219,6 @@ line_of NoCat = codes "no CAT for this card\n"
 line_of (BadWord word) = word_line word
 line_of (Clash clash) = clash_line clash
 line_of (BadOut word cause) = out_line word cause
+line_of SiteUsed = codes "site is used\n"
 line_of OtherBook = codes "book is not that of the site\n"
+line_of (SiteUsedUp packet) = used_up_line packet

@@ -96,6 +96,7 @@ is_break _ = false
 -- makes OUT of these bytes, which may be those of a stream as far as it goes, and ends so
 abbrev pub turning : StepBound → FileArgument → List ℕ → Status → Work
 turning steps out bytes ends = record {
+  mark = None;
   out = Some (record { word = out.number; name = out.text; bytes = bytes });
   pieces = [];
   ends = ends;

@@ -12,6 +12,11 @@ pub record Out : Type 0 where
   pub name : List ℕ
   pub bytes : List ℕ
 
+-- an empty file to be made new, beside the file of a word: the number of that word, and the name
+pub record Mark : Type 0 where
+  pub word : ℕ
+  pub name : List ℕ
+
 -- what is said of the steps of the generator that work takes: nothing, that there are none, or at most so many
 pub data StepBound : Type 0 where
   Uncounted : StepBound
@@ -19,6 +24,8 @@ pub data StepBound : Type 0 where
   UpTo : ℕ → StepBound
 
 pub record Work : Type 0 where
+  -- made before OUT
+  pub mark : Option Mark
   pub out : Option Out
   -- what is printed, in pieces of whole lines
   pub pieces : List (List ℕ)
@@ -33,7 +40,17 @@ pub record Work : Type 0 where
 -- prints a text and makes no file, without a step of the generator
 abbrev pub work_of_text : List ℕ → Work
 work_of_text text =
-    record { out = None; pieces = text ∷ []; ends = Done; breaks = false; live = false; steps = NoSteps }
+    record { mark = None; out = None; pieces = text ∷ []; ends = Done; breaks = false; live = false; steps = NoSteps }
+
+-- the files once the mark is made, if the model knows them
+abbrev pub files_marked : Option Mark → Option Files → Option Files
+files_marked None files = files
+files_marked (Some mark) files = with_bytes files mark.name []
+
+-- the count of the files that were made, once the mark was
+abbrev pub made_marked : Option Mark → ℕ → ℕ
+made_marked None made = made
+made_marked (Some mark) made = with_added made 1
 
 -- the files once OUT has these of its bytes, if the model knows them
 abbrev pub files_with : Option Out → Option Files → Option Files
@@ -50,9 +67,14 @@ abbrev pub out_calls : Option Out → ℕ
 out_calls None = 0
 out_calls (Some out) = 2
 
+-- the mark is opened and closed
+abbrev pub mark_calls : Option Mark → ℕ
+mark_calls None = 0
+mark_calls (Some mark) = 2
+
 -- how many calls of the depot are made for what is meant
 abbrev pub work_calls : Result Work Status → ℕ
-work_calls (Ok work) = out_calls work.out
+work_calls (Ok work) = out_calls work.out + mark_calls work.mark
 work_calls (Err status) = 0
 
 abbrev pub all_calls : Spec Work → ℕ

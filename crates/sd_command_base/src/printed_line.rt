@@ -11,7 +11,7 @@ ghost use Rattle.sd_command_base.specs.Texts.{revoked_line as revoked_line_of, u
 ghost use Rattle.sd_command_base.specs.Texts.{unclosed_line as unclosed_line_of, gaps_line as gaps_line_of};
 ghost use Rattle.sd_command_base.specs.Texts.{missing_line as missing_line_of, book_line as book_line_of};
 ghost use Rattle.sd_command_base.specs.Texts.{word_line as word_line_of, clash_line as clash_line_of};
-ghost use Rattle.sd_command_base.specs.Texts.{out_line as out_line_of};
+ghost use Rattle.sd_command_base.specs.Texts.{out_line as out_line_of, used_up_line as used_up_line_of};
 ghost use Rattle.sd_command_base.specs.Lines.{bytes_of};
 ghost use Rattle.sd_command_base.specs.Results.{TakesMemory};
 
@@ -70,7 +70,9 @@ pub fn status_line(alloc: Global, status: Status) -> Result<Line, AllocError>
         Status::BadWord(word) => word_line(alloc, word),
         Status::Clash(clash) => clash_line(alloc, clash),
         Status::BadOut { word, cause } => out_line(alloc, word, cause),
+        Status::SiteUsed => Ok(Line::Fixed("site is used\n")),
         Status::OtherBook => Ok(Line::Fixed("book is not that of the site\n")),
+        Status::SiteUsedUp(packet) => used_up_line(alloc, packet),
     }
 }
 
@@ -96,6 +98,14 @@ fn word_line(alloc: Global, word: u8) -> Result<Line, AllocError>
     ensures { IfOk result (λ line. bytes_of line ≡ word_line_of word) }
 {
     Ok(Line::Made(format!(in alloc; "word {word} is out of range\n")?))
+}
+
+/// The line of a site without a number or a control word for this packet.
+#[tactic(auto, unfolding(crate::specs::Texts::used_up_line))]
+fn used_up_line(alloc: Global, packet: u64) -> Result<Line, AllocError>
+    ensures { IfOk result (λ line. bytes_of line ≡ used_up_line_of packet) }
+{
+    Ok(Line::Made(format!(in alloc; "site is used up at packet {packet}\n")?))
 }
 
 /// The line of two broadcasts that may not go out under one set of cards.

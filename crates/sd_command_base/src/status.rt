@@ -54,8 +54,13 @@ pub enum Status {
     Clash(Clash),
     /// Exit 19: this argument must not be OUT. Nothing is made.
     BadOut { word: u8, cause: OutCause },
+    /// Exit 20: a run of `air` used the site: the file with its name and `.used` is there. Nothing is made.
+    SiteUsed,
     /// Exit 21: BOOK is not the book of the site's line 13, or does not begin with it.
     OtherBook,
+    /// Exit 22: no number or no control word of the site is left for this packet of the clear stream. OUT has the
+    /// broadcast of the packets before it, with its closing message.
+    SiteUsedUp(u64),
 }
 
 impl Status {
@@ -84,7 +89,9 @@ impl Status {
             Status::BadWord(_) => 17,
             Status::Clash(_) => 18,
             Status::BadOut { .. } => 19,
+            Status::SiteUsed => 20,
             Status::OtherBook => 21,
+            Status::SiteUsedUp(_) => 22,
         }
     }
 }

@@ -6,3 +6,4 @@ pub mod Items
 pub mod Others
 pub mod Printing
 pub mod Finding
+mod Marks

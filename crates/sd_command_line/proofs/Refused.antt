@@ -13,7 +13,7 @@ use Rattle.sd_command_line.specs.Commands.{command_named, operands_of}
 use Rattle.sd_command_line.specs.Operands.{operand_kind}
 use Rattle.sd_command_line.specs.Words.{Argument, Order, argument_of, arguments_from, at_most, before, counted}
 use Rattle.sd_command_line.specs.Words.{help_on, help_words, is_help, is_version, named_words, number_in, numbered}
-use Rattle.sd_command_line.specs.Words.{order_after, order_of, ordered, out_is_read, version_words}
+use Rattle.sd_command_line.specs.Words.{order_after, order_of, ordered, out_is_taken, version_words}
 use Rattle.sd_command_line.specs.Orders.{RefusesWords, shown}
 
 abbrev IsWords : {A : Type 0} → Result A Status → Type 0
@@ -75,7 +75,7 @@ command_refused : (command : Option Command) (texts : List (List ℕ)) → IsWor
 command_refused None texts = usage
 command_refused (Some command) texts =
     let operands = operands_of command in
-    either (not (length texts == length operands) || out_is_read operands texts) (Err Usage)
+    either (not (length texts == length operands) || out_is_taken command operands texts) (Err Usage)
     (ordered command (arguments_from 1 operands texts)) usage
     (ordered_refused command (arguments_from 1 operands texts) (arguments_refused 1 operands texts))
 

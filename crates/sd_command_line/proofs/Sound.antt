@@ -16,7 +16,7 @@ use Rattle.sd_command_line.specs.declared.order.Order as declared
 use Rattle.sd_command_line.specs.Words.{Argument, Order, argument_of, arguments_from, at_most, before, counted}
 use Rattle.sd_command_line.specs.Words.{help_on, help_words, is_help, is_version, named_words, number_in, numbered}
 use Rattle.sd_command_line.specs.Words.{ordered}
-use Rattle.sd_command_line.specs.Words.{order_after, order_of, out_is_read, version_words}
+use Rattle.sd_command_line.specs.Words.{order_after, order_of, out_is_taken, version_words}
 use Rattle.sd_command_line.specs.Orders.{AreOf, IsOf, IsSound, order_said, shown}
 
 -- a number that was read is within its limit
@@ -86,10 +86,11 @@ named_command_sound : (command : Option Command) (texts : List (List ℕ)) → I
 named_command_sound None texts = tt
 named_command_sound (Some command) texts =
     let operands = operands_of command in
-    unless (not (length texts == length operands) || out_is_read operands texts)
+    unless (not (length texts == length operands) || out_is_taken command operands texts)
     (ordered command (arguments_from 1 operands texts))
     (λ h. ordered_sound command (arguments_from 1 operands texts)
-    (arguments_sound 1 operands texts (as_many (length texts) (length operands) (out_is_read operands texts) h)))
+    (arguments_sound 1 operands texts (as_many (length texts) (length operands) (out_is_taken command operands texts)
+    h)))
 
 topic_sound : (topic : Option Command) → IfOk (help_on topic) IsSound
 topic_sound None = tt

@@ -3,7 +3,7 @@ use Rattle.std.specs.Prelude.{◌≡◌, ◌⊎◌, ℕ, List, [], ◌∷◌, co
 use Rattle.std.specs.Prelude.{Bool, false, ◌||◌}
 use Rattle.std.specs.List.{list_any}
 use Rattle.sd_command_line.specs.declared.command.Command.{Command}
-use Rattle.sd_command_line.specs.declared.command.Command.TheVariants.{Accounts, Book, Card, Cover, Field, Head}
+use Rattle.sd_command_line.specs.declared.command.Command.TheVariants.{Accounts, Air, Book, Card, Cover, Field, Head}
 use Rattle.sd_command_line.specs.declared.command.Command.TheVariants.{Layered}
 use Rattle.sd_command_line.specs.declared.command.Command.TheVariants.{Lcard}
 use Rattle.sd_command_line.specs.declared.command.Command.TheVariants.{Apart, Messages, Next, Opens, Plan}
@@ -16,11 +16,12 @@ use Rattle.sd_command_line.specs.declared.operand.Operand.TheVariants as word
 use Rattle.sd_command_line.specs.declared.operand.Files.{Files}
 use Rattle.sd_command_line.specs.Operands.{files_among}
 use Rattle.sd_command_line.specs.declared.exit.Exit.{Exit}
-use Rattle.sd_command_line.specs.Exits.{is_common, ends_receiver, refuses, refuses_own_book, refuses_pair}
+use Rattle.sd_command_line.specs.Exits.{ends_air, is_common, ends_receiver, refuses, refuses_own_book, refuses_pair}
 
 -- the command's name
 unfoldable pub command_name : Command → List ℕ
 command_name Accounts = codes "accounts"
+command_name Air = codes "air"
 command_name Apart = codes "apart"
 command_name Book = codes "book"
 command_name Card = codes "card"
@@ -45,8 +46,8 @@ command_name Watch = codes "watch"
 -- all commands, by their names
 abbrev pub commands : List Command
 commands =
-    Accounts ∷ Apart ∷ Book ∷ Card ∷ Cover ∷ Field ∷ Head ∷ Layered ∷ Lcard ∷ Messages ∷ Next ∷ Opens ∷ Plan ∷ Receive
-    ∷ Sample ∷ Show ∷ Tables ∷ Trace ∷ Trial ∷ Twin ∷ Watch ∷ []
+    Accounts ∷ Air ∷ Apart ∷ Book ∷ Card ∷ Cover ∷ Field ∷ Head ∷ Layered ∷ Lcard ∷ Messages ∷ Next ∷ Opens ∷ Plan
+    ∷ Receive ∷ Sample ∷ Show ∷ Tables ∷ Trace ∷ Trial ∷ Twin ∷ Watch ∷ []
 
 -- the first of them that has this name
 abbrev pub first_named : List ℕ → List Command → Option Command
@@ -60,6 +61,7 @@ command_named word = first_named word commands
 -- the arguments after the name
 unfoldable pub operands_of : Command → List Operand
 operands_of Accounts = word.Site ∷ word.Accounts ∷ word.Out ∷ []
+operands_of Air = word.Site ∷ word.Book ∷ word.Live ∷ word.Out ∷ []
 operands_of Apart = word.Site ∷ word.Book ∷ word.Site ∷ word.Book ∷ []
 operands_of Book = word.Site ∷ word.Book ∷ word.Commands ∷ word.Out ∷ []
 operands_of Card = word.Site ∷ word.Leaf ∷ word.Out ∷ []
@@ -88,6 +90,7 @@ files_of command = files_among (operands_of command)
 -- what the command does
 unfoldable pub work_of : Command → List ℕ
 work_of Accounts = codes "makes the book from the accounts of named subscribers, and reports them"
+work_of Air = codes "makes OUT, the broadcast of a live clear stream, with a new site"
 work_of Apart = codes "checks whether two broadcasts may share cards"
 work_of Book = codes "makes a longer book: its commands, then those of COMMANDS"
 work_of Card = codes "makes the card of a receiver"
@@ -115,6 +118,7 @@ HoldsSecrets command = (command ≡ Card) ⊎ (command ≡ Lcard) ⊎ (command �
 
 -- the command may end so with arguments each of which is good
 abbrev pub is_own : Command → Exit → Bool
+is_own Air exit = ends_air exit
 is_own Apart exit = refuses_pair exit
 is_own Head exit = refuses_own_book exit
 is_own Next exit = refuses_own_book exit
@@ -130,6 +134,7 @@ ends_with command exit =
 -- an example of its arguments
 unfoldable pub example_of : Command → List ℕ
 example_of Accounts = codes "accounts examples/site.txt examples/accounts.txt book.txt"
+example_of Air = codes "air site-1.txt book.txt /dev/stdin /dev/stdout"
 example_of Apart = codes "apart examples/site-1.txt examples/book.txt examples/site-2.txt examples/book.txt"
 example_of Book = codes "book examples/site.txt examples/book.txt examples/today.txt longer.txt"
 example_of Card = codes "card examples/site.txt 2 card-2"

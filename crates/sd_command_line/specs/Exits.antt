@@ -5,7 +5,7 @@ use Rattle.sd_command_line.specs.declared.exit.Exit.{Exit}
 use Rattle.sd_command_line.specs.declared.exit.Exit.TheVariants.{Done, Usage, Missing, Revoked, DepotFault, PrintFault}
 use Rattle.sd_command_line.specs.declared.exit.Exit.TheVariants.{BadSite, BadBook, BadCard, BadClear, BadStream, Limit}
 use Rattle.sd_command_line.specs.declared.exit.Exit.TheVariants.{NoMemory, Unheard, Unclosed, Gaps, NoCat, BadWord}
-use Rattle.sd_command_line.specs.declared.exit.Exit.TheVariants.{Clash, BadOut, OtherBook}
+use Rattle.sd_command_line.specs.declared.exit.Exit.TheVariants.{Clash, BadOut, SiteUsed, OtherBook, SiteUsedUp}
 use Rattle.sd_command_line.specs.declared.operand.Files.{Files}
 use Rattle.sd_command_line.specs.declared.operand.Files.TheVariants.{Inputs, Output, Both}
 use Rattle.sd_command_line.specs.declared.operand.Operand.{Operand}
@@ -39,14 +39,18 @@ exit_line files NoCat = codes "  16  the stream has no CAT for this card\n"
 exit_line files BadWord = codes "  17  argument N is not a decimal number, or is out of range\n"
 exit_line files Clash = codes "  18  two broadcasts must not share one set of cards\n"
 exit_line files BadOut = codes "  19  OUT is there already, or its name does not follow that of SITE\n"
+exit_line files SiteUsed = codes "  20  a run of air used the site\n"
 exit_line files OtherBook =
     codes "  21  BOOK is not the book of the site's line 13; for next, it does not begin with that book\n"
+
+exit_line files SiteUsedUp = codes "  22  no number or control word is left for packet K of CLEAR\n"
 
 -- all exits, by their numbers
 abbrev pub exits : List Exit
 exits =
     Done ∷ Usage ∷ Missing ∷ Revoked ∷ DepotFault ∷ PrintFault ∷ BadSite ∷ BadBook ∷ BadCard ∷ BadClear ∷ BadStream
-    ∷ Limit ∷ NoMemory ∷ Unheard ∷ Unclosed ∷ Gaps ∷ NoCat ∷ BadWord ∷ Clash ∷ BadOut ∷ OtherBook ∷ []
+    ∷ Limit ∷ NoMemory ∷ Unheard ∷ Unclosed ∷ Gaps ∷ NoCat ∷ BadWord ∷ Clash ∷ BadOut ∷ SiteUsed ∷ OtherBook ∷ SiteUsedUp
+    ∷ []
 
 -- each command may end so
 abbrev pub is_common : Exit → Bool
@@ -106,6 +110,7 @@ refuses argument.Script exit = refuses_lines exit
 refuses argument.Leaves exit = refuses_lines exit
 refuses argument.Card exit = refuses_card exit
 refuses argument.Clear exit = refuses_clear exit
+refuses argument.Live exit = false
 refuses argument.Stream exit = refuses_stream exit
 refuses argument.Leaf exit = refuses_number exit
 refuses argument.Width exit = refuses_number exit
@@ -126,6 +131,13 @@ refuses_pair exit = false
 abbrev pub refuses_own_book : Exit → Bool
 refuses_own_book OtherBook = true
 refuses_own_book exit = false
+
+-- a broadcast on air is refused so, by its site or its book, or ends so
+abbrev pub ends_air : Exit → Bool
+ends_air SiteUsed = true
+ends_air OtherBook = true
+ends_air SiteUsedUp = true
+ends_air exit = false
 
 -- a receiver ends so that did not open all of a stream
 abbrev pub ends_receiver : Exit → Bool

@@ -8,12 +8,12 @@ use Rattle.sd_command_line.specs.Escaped.{escaped}
 use Rattle.sd_command_line.specs.Operands.{operand_name}
 use Rattle.sd_command_base.specs.declared.status.Status.{Status}
 use Rattle.sd_command_base.specs.declared.status.Status.TheVariants.{Usage, Missing, BadSite, BadBook, BadCard}
-use Rattle.sd_command_base.specs.declared.status.Status.TheVariants.{BadWord, BadOut, OtherBook}
+use Rattle.sd_command_base.specs.declared.status.Status.TheVariants.{BadWord, BadOut, OtherBook, SiteUsed}
 use Rattle.sd_command_line.specs.declared.found.Argument.{Argument}
-use Rattle.sd_command_line.specs.Words.{command_in, is_help, is_version}
-use Rattle.sd_command_line.specs.Reasons.{card_reason, line_reason, miscounted_reason, missing_reason}
-use Rattle.sd_command_line.specs.Reasons.{no_page_reason, out_reason, output_reason, own_book_reason, range_reason}
-use Rattle.sd_command_line.specs.Reasons.{site_reason, unknown_reason}
+use Rattle.sd_command_line.specs.Words.{command_in, is_help, is_version, out_is_mark}
+use Rattle.sd_command_line.specs.Reasons.{card_reason, line_reason, mark_reason, miscounted_reason}
+use Rattle.sd_command_line.specs.Reasons.{missing_reason, no_page_reason, out_reason, output_reason, own_book_reason}
+use Rattle.sd_command_line.specs.Reasons.{range_reason, site_reason, unknown_reason, used_reason}
 
 -- what an argument is, and its text
 abbrev pub shown : Argument → Operand × List ℕ
@@ -59,12 +59,17 @@ unfoldable pub count_line : List ℕ → List ℕ
 count_line name =
     codes "sdca: " ++ (name ++ (codes ": wrong number of arguments; see sdca help " ++ (name ++ codes "\n")))
 
--- the line of words that begin with a command's name: OUT, the last of so many arguments, is one of the inputs, or the
--- command takes another number of them
-abbrev pub command_line : List (List ℕ) → List ℕ → ℕ → Option Command → List ℕ
-command_line words name count None = word_line unknown_reason name
-command_line words name count (Some command) =
-    if count == length (operands_of command) then of_argument words count (λ operand. output_reason)
+-- why OUT is refused: it is the mark of SITE, or one of the inputs
+abbrev pub taken_reason : Command → List (List ℕ) → List ℕ
+taken_reason command texts = if out_is_mark command texts then mark_reason else output_reason
+
+-- the line of words that begin with a command's name: OUT, the last of its arguments, is taken, or the command takes
+-- another number of them
+abbrev pub command_line : List (List ℕ) → List ℕ → List (List ℕ) → Option Command → List ℕ
+command_line words name texts None = word_line unknown_reason name
+command_line words name texts (Some command) =
+    if length texts == length (operands_of command) then
+    of_argument words (length texts) (λ operand. taken_reason command texts)
     else count_line name
 
 -- the line of a word after help that names no page: help and version are no unknown commands, but have none
@@ -84,15 +89,21 @@ abbrev pub named_line : List (List ℕ) → List ℕ → List (List ℕ) → Lis
 named_line words name texts =
     if is_help name then help_line name texts
     else if is_version name then word_line miscounted_reason name
-    else command_line words name (length texts) (command_named name)
+    else command_line words name texts (command_named name)
 
 -- the line of words that are refused
 unfoldable pub usage_line : List (List ℕ) → List ℕ
 usage_line [] = codes "sdca: no command is given; see sdca help\n"
 usage_line (name ∷ texts) = named_line (name ∷ texts) name texts
 
+-- SITE is argument 1 of the command that asks whether it was used
+-- [this project, docs/FORMATS.md, Commands: `air SITE BOOK CLEAR OUT`]
+abbrev pub site_word : ℕ
+site_word = 1
+
 -- BOOK is argument 2 of each command that asks whether it is the site's
--- [this project, docs/FORMATS.md, Commands: `head SITE BOOK CLEAR OUT`, `next SITE BOOK WORDS OUT`]
+-- [this project, docs/FORMATS.md, Commands: `air SITE BOOK CLEAR OUT`, `head SITE BOOK CLEAR OUT`,
+-- `next SITE BOOK WORDS OUT`]
 abbrev pub book_word : ℕ
 book_word = 2
 
@@ -105,5 +116,6 @@ explained words (BadBook word line) = of_argument words word (λ operand. line_r
 explained words (BadCard word fault) = of_argument words word (λ operand. card_reason fault)
 explained words (BadWord word) = of_argument words word (λ operand. range_reason operand)
 explained words (BadOut word cause) = of_argument words word (λ operand. out_reason cause)
+explained words SiteUsed = of_argument words site_word (λ operand. used_reason)
 explained words OtherBook = of_argument words book_word (λ operand. own_book_reason (command_in words))
 explained words status = []

@@ -2,8 +2,8 @@
 use Rattle.std.specs.Prelude.{ℕ, ◌-◌, ◌^◌, List, codes, Bool, true, false, ◌||◌}
 use Rattle.std.specs.List.{list_any}
 use Rattle.sd_command_line.specs.declared.operand.Operand.{Operand}
-use Rattle.sd_command_line.specs.declared.operand.Operand.TheVariants.{Site, Book, Accounts, Commands, Clear, Script}
-use Rattle.sd_command_line.specs.declared.operand.Operand.TheVariants.{Stream}
+use Rattle.sd_command_line.specs.declared.operand.Operand.TheVariants.{Site, Book, Accounts, Commands, Clear, Live}
+use Rattle.sd_command_line.specs.declared.operand.Operand.TheVariants.{Script, Stream}
 use Rattle.sd_command_line.specs.declared.operand.Operand.TheVariants.{Card, Leaves, Leaf, Width, Number, Packets}
 use Rattle.sd_command_line.specs.declared.operand.Operand.TheVariants.{Clears}
 use Rattle.sd_command_line.specs.declared.operand.Operand.TheVariants.{Pids, Words, NewSite, Out}
@@ -20,6 +20,7 @@ operand_kind Book = kind.Input
 operand_kind Accounts = kind.Input
 operand_kind Commands = kind.Input
 operand_kind Clear = kind.Input
+operand_kind Live = kind.Input
 operand_kind Script = kind.Input
 operand_kind Stream = kind.Input
 operand_kind Card = kind.Input
@@ -71,6 +72,7 @@ operand_name Book = codes "BOOK"
 operand_name Accounts = codes "ACCOUNTS"
 operand_name Commands = codes "COMMANDS"
 operand_name Clear = codes "CLEAR"
+operand_name Live = codes "CLEAR"
 operand_name Script = codes "SCRIPT"
 operand_name Stream = codes "STREAM"
 operand_name Card = codes "CARD"
@@ -94,6 +96,7 @@ meaning_of Accounts =
     codes "the accounts: one change per line, assign NAME LEAF, drop NAME, restore NAME or period"
 meaning_of Commands = codes "the commands to append to BOOK, in the form of a book"
 meaning_of Clear = codes "a clear transport stream; /dev/stdin for a pipe"
+meaning_of Live = codes "a live clear transport stream, of which bad packets are left out; /dev/stdin for a pipe"
 meaning_of Script =
     codes "the events: lines send N, offer LEAF N, lose LEAF N, off LEAF, on LEAF, subscribe LEAF or revoke LEAF"
 meaning_of Stream = codes "a transport stream; /dev/stdin for a pipe"

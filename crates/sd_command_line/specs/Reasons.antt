@@ -35,6 +35,14 @@ miscounted_reason = codes "wrong number of arguments"
 unfoldable pub output_reason : List ℕ
 output_reason = codes "it is one of the inputs"
 
+-- why OUT is refused that has the name of the mark
+unfoldable pub mark_reason : List ℕ
+mark_reason = codes "it is the mark of SITE"
+
+-- why a site is refused that has its mark
+unfoldable pub used_reason : List ℕ
+used_reason = codes "it was used; make the next one (sdca next)"
+
 -- why a file must not be made
 unfoldable pub out_reason : OutCause → List ℕ
 out_reason There = codes "it is there already; each site is made once"

@@ -13,6 +13,7 @@ use Rattle.sd_command_line.specs.declared.operand.Kind.TheVariants as kind
 use Rattle.sd_command_line.specs.Commands.{command_named, operands_of, HoldsSecrets}
 use Rattle.sd_command_line.specs.Operands.{is_file, is_output, operand_kind}
 use Rattle.sd_command_base.specs.Spec.{FileArgument}
+use Rattle.sd_command_base.specs.Made.{used_name}
 use Rattle.sd_command_base.specs.Shown.{NumberArgument, word_at}
 use Rattle.sd_command_base.specs.declared.status.Status.{Status}
 use Rattle.sd_command_base.specs.declared.status.Status.TheVariants.{Usage, BadWord}
@@ -122,14 +123,24 @@ is_among texts (Some out) = list_any (λ text. bytes_eq text out) texts
 abbrev pub out_is_read : List Operand → List (List ℕ) → Bool
 out_is_read operands texts = is_among (input_texts operands texts) (out_text operands texts)
 
+-- OUT has the name of the mark of SITE, which the command makes before OUT
+abbrev pub out_is_mark : Command → List (List ℕ) → Bool
+out_is_mark commands.Air (site ∷ book ∷ clear ∷ out ∷ []) = bytes_eq out (used_name site)
+out_is_mark command texts = false
+
+-- OUT is the mark, or one of the files that are read
+abbrev pub out_is_taken : Command → List Operand → List (List ℕ) → Bool
+out_is_taken command operands texts = out_is_mark command texts || out_is_read operands texts
+
 abbrev pub ordered : Command → Result (List Argument) Status → Result Order Status
 ordered command (Ok arguments) = Ok (CommandOf command arguments)
 ordered command (Err status) = Err status
 
--- a command takes as many arguments as its row has, OUT is none of its other files, and then come the numbers
+-- A command takes as many arguments as its row has, and OUT is neither one of its other files nor the mark. Then come
+-- the numbers.
 abbrev pub command_words : Command → List Operand → List (List ℕ) → Result Order Status
 command_words command operands texts =
-    if not (length texts == length operands) || out_is_read operands texts then Err Usage
+    if not (length texts == length operands) || out_is_taken command operands texts then Err Usage
     else ordered command (arguments_from 1 operands texts)
 
 abbrev pub order_after : Option Command → List (List ℕ) → Result Order Status
@@ -209,6 +220,9 @@ HoldsSecretsBy (Err status) = ⊥
 -- the orders of the commands, by their names
 abbrev pub AccountsOf : FileArgument → FileArgument → FileArgument → Order
 AccountsOf site accounts out = CommandOf commands.Accounts (InputOf site ∷ InputOf accounts ∷ OutOf out ∷ [])
+
+abbrev pub AirOf : FileArgument → FileArgument → FileArgument → FileArgument → Order
+AirOf site book clear out = CommandOf commands.Air (InputOf site ∷ InputOf book ∷ InputOf clear ∷ OutOf out ∷ [])
 
 abbrev pub ApartOf : FileArgument → FileArgument → FileArgument → FileArgument → Order
 ApartOf site book other more =

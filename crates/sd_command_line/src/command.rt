@@ -10,6 +10,8 @@ use crate::operand::{Files, Operand, any_refuses};
 pub enum Command {
     /// `accounts SITE ACCOUNTS OUT`: makes the book from subscriber accounts.
     Accounts,
+    /// `air SITE BOOK CLEAR OUT`: makes the broadcast of a live clear stream, with a new site.
+    Air,
     /// `apart SITE BOOK SITE BOOK`: checks whether two broadcasts may share cards.
     Apart,
     /// `book SITE BOOK COMMANDS OUT`: appends commands to a book.
@@ -53,8 +55,9 @@ pub enum Command {
 }
 
 /// All commands, by their names.
-pub const COMMANDS: [Command; 21] = [
+pub const COMMANDS: [Command; 22] = [
     Command::Accounts,
+    Command::Air,
     Command::Apart,
     Command::Book,
     Command::Card,
@@ -93,6 +96,7 @@ impl Command {
     {
         match self {
             Command::Accounts => "accounts",
+            Command::Air => "air",
             Command::Apart => "apart",
             Command::Book => "book",
             Command::Card => "card",
@@ -124,6 +128,7 @@ impl Command {
     {
         match self {
             Command::Accounts => &[Operand::Site, Operand::Accounts, Operand::Out],
+            Command::Air => &[Operand::Site, Operand::Book, Operand::Live, Operand::Out],
             Command::Apart => &[Operand::Site, Operand::Book, Operand::Site, Operand::Book],
             Command::Book => &[
                 Operand::Site,
@@ -182,6 +187,7 @@ impl Command {
         match self {
             Command::Accounts =>
                 "makes the book from the accounts of named subscribers, and reports them",
+            Command::Air => "makes OUT, the broadcast of a live clear stream, with a new site",
             Command::Apart => "checks whether two broadcasts may share cards",
             Command::Book => "makes a longer book: its commands, then those of COMMANDS",
             Command::Card => "makes the card of a receiver",
@@ -221,6 +227,7 @@ impl Command {
         ensures { result ≡ is_own self exit }
     {
         match self {
+            Command::Air => matches!(exit, Exit::SiteUsed | Exit::OtherBook | Exit::SiteUsedUp),
             Command::Apart => matches!(exit, Exit::Clash),
             Command::Head | Command::Next => matches!(exit, Exit::OtherBook),
             Command::Receive | Command::Watch => matches!(
@@ -238,6 +245,7 @@ impl Command {
     {
         match self {
             Command::Accounts => "accounts examples/site.txt examples/accounts.txt book.txt",
+            Command::Air => "air site-1.txt book.txt /dev/stdin /dev/stdout",
             Command::Apart =>
                 "apart examples/site-1.txt examples/book.txt examples/site-2.txt examples/book.txt",
             Command::Book =>

@@ -46,12 +46,16 @@ pub enum Exit {
     Clash,
     /// Exit 19: OUT is there already, or its name does not follow that of SITE.
     BadOut,
+    /// Exit 20: a run of `air` used the site.
+    SiteUsed,
     /// Exit 21: BOOK is not the book of the site's line 13, or does not begin with it.
     OtherBook,
+    /// Exit 22: the broadcast ends since no number or control word of the site is left.
+    SiteUsedUp,
 }
 
 /// All exits, by their numbers.
-pub const EXITS: [Exit; 21] = [
+pub const EXITS: [Exit; 23] = [
     Exit::Done,
     Exit::Usage,
     Exit::Missing,
@@ -72,7 +76,9 @@ pub const EXITS: [Exit; 21] = [
     Exit::BadWord,
     Exit::Clash,
     Exit::BadOut,
+    Exit::SiteUsed,
     Exit::OtherBook,
+    Exit::SiteUsedUp,
 ];
 
 impl Exit {
@@ -105,8 +111,11 @@ impl Exit {
             Exit::Clash => "  18  two broadcasts must not share one set of cards\n",
             Exit::BadOut =>
                 "  19  OUT is there already, or its name does not follow that of SITE\n",
+            Exit::SiteUsed => "  20  a run of air used the site\n",
             Exit::OtherBook =>
                 "  21  BOOK is not the book of the site's line 13; for next, it does not begin with that book\n",
+            Exit::SiteUsedUp =>
+                "  22  no number or control word is left for packet K of CLEAR\n",
         }
     }
 

@@ -1,18 +1,22 @@
 ghost use Rattle.std.specs.Prelude.{◌≡◌, map, string_bytes, IfOk};
 ghost use Rattle.sd_command_line.specs.CommandLine.{words_of};
 ghost use Rattle.sd_command_line.specs.Explained.{argument_line, command_line, count_line, explained, help_line};
-ghost use Rattle.sd_command_line.specs.Explained.{book_word, of_argument, shown, topic_line, usage_line, word_line};
-ghost use Rattle.sd_command_line.specs.Reasons.{card_reason, line_reason, missing_reason, out_reason, output_reason};
-ghost use Rattle.sd_command_line.specs.Reasons.{own_book_reason, range_reason, site_reason};
+ghost use Rattle.sd_command_line.specs.Explained.{book_word, of_argument, shown, site_word, taken_reason, topic_line};
+ghost use Rattle.sd_command_line.specs.Explained.{usage_line, word_line};
+ghost use Rattle.sd_command_line.specs.Reasons.{card_reason, line_reason, missing_reason, out_reason};
+ghost use Rattle.sd_command_line.specs.Reasons.{own_book_reason, range_reason, site_reason, used_reason};
 ghost use Rattle.sd_command_line.specs.Words.{command_in};
 
 use crate::escape::escaped;
 use crate::found::{Argument, find_argument};
-use crate::order::{is_help, is_version};
-use crate::{CommandLine, reason};
+use crate::order::{is_help, is_version, out_is_mark};
+use crate::{Command, CommandLine, reason};
 use sd_command_base::{OutCause, Status};
 use sd_site::{CardFault, SiteFault};
 use std::alloc::{AllocError, Global};
+
+/// SITE is this argument of the command that asks whether it was used.
+const SITE_WORD: u8 = 1;
 
 /// BOOK is this argument of each command that asks whether it is the site's.
 const BOOK_WORD: u8 = 2;
@@ -34,6 +38,7 @@ pub fn explanation(
         Status::BadCard { word, fault } => card(alloc, line, word, fault),
         Status::BadWord(word) => range(alloc, line, word),
         Status::BadOut { word, cause } => out(alloc, line, word, cause),
+        Status::SiteUsed => used(alloc, line),
         Status::OtherBook => own_book(alloc, line),
         _ => Ok(String::new(alloc)),
     }
@@ -62,7 +67,7 @@ fn usage(alloc: Global, line: &CommandLine<'_>) -> Result<String, AllocError>
     } else if is_version(name.as_str()) {
         word(alloc, reason::miscounted(), name.as_str())
     } else {
-        command(alloc, line, name.as_str(), texts.len())
+        command(alloc, line, name.as_str(), texts)
     }
 }
 
@@ -87,30 +92,48 @@ fn no_page(alloc: Global, topic: &str) -> Result<String, AllocError>
     }
 }
 
-/// The line of words that begin with a name and this number of arguments, which are refused.
+/// The line of words that begin with a name and these arguments, which are refused.
 fn command(
     alloc: Global,
     line: &CommandLine<'_>,
     name: &str,
-    count: usize,
+    texts: &[String],
 ) -> Result<String, AllocError>
     ensures { IfOk result (λ text. string_bytes text
-        ≡ command_line (words_of line.now) name.now count line.now.command) }
+        ≡ command_line (words_of line.now) name.now (map string_bytes texts.now) line.now.command) }
 {
     match line.command {
-        Some(command) if count == command.operands().len() => output(alloc, line, count as u8),
+        Some(command) if texts.len() == command.operands().len() => {
+            output(alloc, line, texts.len() as u8, taken(command, texts))
+        }
         Some(_) => wrong_number(alloc, name),
         None => word(alloc, reason::unknown(), name),
     }
 }
 
-/// The line of OUT, the argument of this number, that is one of the inputs.
-fn output(alloc: Global, line: &CommandLine<'_>, number: u8) -> Result<String, AllocError>
+/// Why OUT is refused: it is the mark of SITE, or one of the inputs.
+fn taken(command: Command, texts: &[String]) -> &'static str
+    ensures { result.now ≡ taken_reason command (map string_bytes texts.now) }
+{
+    if out_is_mark(command, texts) {
+        reason::mark()
+    } else {
+        reason::output()
+    }
+}
+
+/// The line of OUT, the argument of this number, that is refused for this reason.
+fn output(
+    alloc: Global,
+    line: &CommandLine<'_>,
+    number: u8,
+    reason: &str,
+) -> Result<String, AllocError>
     ensures { IfOk result (λ text. string_bytes text ≡
-        of_argument (words_of line.now) number (λ operand. output_reason)) }
+        of_argument (words_of line.now) number (λ operand. reason.now)) }
 {
     match find_argument(line, number) {
-        Some(argument) => about(alloc, argument, reason::output()),
+        Some(argument) => about(alloc, argument, reason),
         None => Ok(String::new(alloc)),
     }
 }
@@ -218,6 +241,17 @@ fn out(
 {
     match find_argument(line, word) {
         Some(argument) => about(alloc, argument, reason::out(cause)),
+        None => Ok(String::new(alloc)),
+    }
+}
+
+/// The line of a site that was used.
+fn used(alloc: Global, line: &CommandLine<'_>) -> Result<String, AllocError>
+    ensures { IfOk result (λ text. string_bytes text ≡
+        of_argument (words_of line.now) site_word (λ operand. used_reason)) }
+{
+    match find_argument(line, SITE_WORD) {
+        Some(argument) => about(alloc, argument, reason::used()),
         None => Ok(String::new(alloc)),
     }
 }

@@ -101,6 +101,8 @@ pub enum Operand {
     Commands,
     /// CLEAR, a clear transport stream.
     Clear,
+    /// CLEAR of `air`, a clear transport stream of which packets that cannot be sent are left out.
+    Live,
     /// SCRIPT, the file of the events of a field.
     Script,
     /// STREAM, a transport stream.
@@ -140,7 +142,7 @@ impl Operand {
             Operand::Book => "BOOK",
             Operand::Accounts => "ACCOUNTS",
             Operand::Commands => "COMMANDS",
-            Operand::Clear => "CLEAR",
+            Operand::Clear | Operand::Live => "CLEAR",
             Operand::Script => "SCRIPT",
             Operand::Stream => "STREAM",
             Operand::Card => "CARD",
@@ -165,6 +167,7 @@ impl Operand {
             | Operand::Accounts
             | Operand::Commands
             | Operand::Clear
+            | Operand::Live
             | Operand::Script
             | Operand::Stream
             | Operand::Card
@@ -192,6 +195,9 @@ impl Operand {
             }
             Operand::Commands => "the commands to append to BOOK, in the form of a book",
             Operand::Clear => "a clear transport stream; /dev/stdin for a pipe",
+            Operand::Live => {
+                "a live clear transport stream, of which bad packets are left out; /dev/stdin for a pipe"
+            }
             Operand::Script => {
                 "the events: lines send N, offer LEAF N, lose LEAF N, off LEAF, on LEAF, subscribe LEAF or revoke LEAF"
             }
@@ -238,7 +244,7 @@ impl Operand {
             | Operand::Pids
             | Operand::Words => matches!(exit, Exit::BadWord),
             Operand::NewSite => matches!(exit, Exit::BadOut),
-            Operand::Out => false,
+            Operand::Live | Operand::Out => false,
         }
     }
 }

@@ -1,10 +1,11 @@
 ghost use Rattle.std.specs.Prelude.{[], ◌≡◌, ◌↔◌, bytes_eq, length, map, option_map, string_bytes, true};
 ghost use Rattle.std.specs.List.{list_any};
+ghost use Rattle.sd_command_base.specs.Made.{used_name};
 ghost use Rattle.sd_command_line.specs.Commands.{command_named, operands_of};
 ghost use Rattle.sd_command_line.specs.Words.{command_in, command_words, help_words, input_texts, named_words};
 ghost use Rattle.sd_command_line.specs.Words.{order_of, HoldsSecretsBy};
 ghost use Rattle.sd_command_line.specs.Words.{is_help as names_help, is_version as names_version};
-ghost use Rattle.sd_command_line.specs.Words.{out_is_read, out_text, version_words, with_input};
+ghost use Rattle.sd_command_line.specs.Words.{out_is_mark as names_mark, out_is_read, out_text, version_words, with_input};
 ghost use Rattle.sd_command_line.specs.Orders.{order_said, shown};
 
 use crate::argument::Arguments;
@@ -104,12 +105,35 @@ fn read_command<'a>(command: Command, texts: &'a [String]) -> Result<Order<'a>, 
     ensures { shown result ≡ command_words command (operands_of command) (map string_bytes texts.now) }
 {
     let operands = command.operands();
-    if texts.len() != operands.len() || out_is_input(operands, texts) {
+    if texts.len() != operands.len()
+        || out_is_mark(command, texts)
+        || out_is_input(operands, texts)
+    {
         return Err(Status::Usage);
     }
     match Arguments::read(operands, texts) {
         Ok(arguments) => Ok(Order::Command { command, arguments }),
         Err(status) => Err(status),
+    }
+}
+
+/// Whether OUT has the name of the mark of SITE, which the command makes before OUT.
+pub(crate) fn out_is_mark(command: Command, texts: &[String]) -> bool
+    ensures { result ≡ names_mark command (map string_bytes texts.now) }
+{
+    match (command, texts) {
+        (Command::Air, [site, _, _, out]) => is_mark_of(site.as_str(), out.as_str()),
+        _ => false,
+    }
+}
+
+/// Whether this is the name of the mark of a site.
+fn is_mark_of(site: &str, name: &str) -> bool
+    ensures { result ≡ bytes_eq name.now (used_name site.now) }
+{
+    match name.as_bytes().strip_prefix(site.as_bytes()) {
+        Some(end) => end == b".used".as_slice(),
+        None => false,
     }
 }
 

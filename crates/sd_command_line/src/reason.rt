@@ -1,8 +1,8 @@
 ghost use Rattle.std.specs.Prelude.{◌≡◌, IfOk, string_bytes};
 ghost use Rattle.sd_command_line.specs.Reasons.{card_reason, line_of, line_reason, missing_reason};
-ghost use Rattle.sd_command_line.specs.Reasons.{miscounted_reason, no_page_reason, out_reason, output_reason};
-ghost use Rattle.sd_command_line.specs.Reasons.{own_book_reason, range_reason};
-ghost use Rattle.sd_command_line.specs.Reasons.{rule_of, site_reason, unknown_reason};
+ghost use Rattle.sd_command_line.specs.Reasons.{mark_reason, miscounted_reason, no_page_reason, out_reason};
+ghost use Rattle.sd_command_line.specs.Reasons.{output_reason, own_book_reason, range_reason};
+ghost use Rattle.sd_command_line.specs.Reasons.{rule_of, site_reason, unknown_reason, used_reason};
 
 use crate::{Command, Operand};
 use sd_command_base::OutCause;
@@ -50,6 +50,22 @@ pub(crate) fn output() -> &'static str
     ensures { result.now ≡ output_reason }
 {
     "it is one of the inputs"
+}
+
+/// Why OUT is refused that has the name of the mark.
+#[tactic(auto, unfolding(crate::specs::Reasons::mark_reason))]
+pub(crate) fn mark() -> &'static str
+    ensures { result.now ≡ mark_reason }
+{
+    "it is the mark of SITE"
+}
+
+/// Why a site is refused that has its mark.
+#[tactic(auto, unfolding(crate::specs::Reasons::used_reason))]
+pub(crate) fn used() -> &'static str
+    ensures { result.now ≡ used_reason }
+{
+    "it was used; make the next one (sdca next)"
 }
 
 /// Why a file must not be made.

@@ -17,6 +17,7 @@ use Rattle.sd_head.specs.Staged.{head_does, head_ends, head_refuses, IsAfter}
 use Rattle.sd_head.specs.declared.fault.HeadFault.{HeadFault}
 use Rattle.sd_head.specs.declared.fault.HeadFault.TheVariants.{Clear}
 use Rattle.sd_head.specs.declared.head.Head.{Head}
+use Rattle.sd_head.proofs.Stepping.{none_then}
 
 -- the bytes of packets, each after those before it
 pub all_bytes : (plan : Plan) (before packets : List (List ℕ)) →
@@ -44,9 +45,33 @@ pub all_after : (plan : Plan) (packets : List (List ℕ)) (s t : Head) (bytes : 
     Chain head_does s packets t bytes steps → IsAfter plan packets t
 all_after plan packets s t bytes steps after chain = (chained plan packets s t bytes steps after chain).1
 
+-- packets that are clear and one more that isn't refused are clear
+still_clear : (site : SiteFields) (start packets : List (List ℕ)) (packet : List ℕ) →
+    refusal_from site start packets ≡ None →
+    refusal_of site (start ++ packets) packet ≡ None → refusal_from site start (packets ++ packet ∷ []) ≡ None
+unfolding refusal_from
+still_clear site start [] packet h now =
+    ap (λ (r : Option ClearFault). option_map_or Some r None)
+    (subst (λ (b : List (List ℕ)). refusal_of site b packet ≡ None) (append-nil start) now)
+still_clear site start (first ∷ packets) packet h now =
+    none_then (refusal_of site start first) (refusal_from site (start ++ first ∷ []) packets)
+    (refusal_from site (start ++ first ∷ []) (packets ++ packet ∷ [])) h
+    (λ rest. still_clear site (start ++ first ∷ []) packets packet rest
+    (subst (λ (b : List (List ℕ)). refusal_of site b packet ≡ None)
+    (sym (append_assoc start (first ∷ []) packets)) now))
+
+-- no packet is refused of none
+pub none_clear : (site : SiteFields) → IsClear site []
+unfolding refusal_from
+none_clear site = refl
+
 pub all_clear : (plan : Plan) (packets : List (List ℕ)) (s t : Head) (bytes : List ℕ) (steps : ℕ) → IsAfter plan [] s →
     Chain head_does s packets t bytes steps → IsClear plan.site packets
-all_clear plan packets s t bytes steps after chain = (all_after plan packets s t bytes steps after chain).are_clear
+all_clear plan packets s t bytes steps after chain =
+    (chain_writes head_does (λ before u. IsAfter plan before u × IsClear plan.site before) (bytes_added plan)
+    (λ before u packet v wrote n stands does. let here = does plan before stands.0 in
+    (here.1, (here.2, still_clear plan.site [] before packet stands.1 here.0)))
+    [] s packets t bytes steps (after, none_clear plan.site) chain).1.1
 
 pub whole_written : (plan : Plan) (packets : List (List ℕ)) (s t : Head) (bytes : List ℕ) (steps : ℕ) →
     IsAfter plan [] s →
@@ -109,7 +134,8 @@ pub first_refused : (plan : Plan) (packets rest : List (List ℕ)) (packet : Lis
 first_refused plan packets rest packet fault s t bytes steps after
     (mid, first, last, m, k, chain, refuses, joined, counted) =
     let there = all_after plan packets s mid first m after chain in
-    first_after plan.site [] packets rest packet fault there.are_clear (elim refuses.cause [
+    let clear = all_clear plan packets s mid first m after chain in
+    first_after plan.site [] packets rest packet fault clear (elim refuses.cause [
       | inl kept ↦ absurd (apart mid.refusal (Clear fault) there.unrefused kept)
       | inr due ↦ due plan packets there
     ])

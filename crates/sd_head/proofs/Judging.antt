@@ -15,23 +15,30 @@ use Rattle.sd_spec.specs.Kinds.{kind_of}
 use Rattle.sd_spec.specs.Plan.{word_of}
 use Rattle.sd_spec.specs.Carried.{pmt_carried}
 use Rattle.sd_spec.specs.declared.kind.Kind.TheVariants as Kind
-use Rattle.sd_spec.specs.Refused.{refusal_of, fault_where, is_reserved_pid, pat_wrong, is_full_own, is_too_long}
+use Rattle.sd_spec.specs.Refused.{fault_where, is_reserved_pid, pat_wrong, is_full_own, is_too_long}
 use Rattle.sd_head.specs.After.{IsAfter}
-use Rattle.sd_head.specs.Follows.{limit_fault, HasRoom, IsJudgement, IsMove, IsPatOf, MayFollow}
+use Rattle.sd_head.specs.Follows.{fault_by, limit_fault, wrong_by, HasRoom, IsJudgement, IsMove, IsPatOf, MayFollow}
 use Rattle.sd_head.specs.declared.clear.Clear.{Clear}
 use Rattle.sd_head.specs.declared.judged.Judged.{Judged}
 use Rattle.sd_head.specs.declared.judged.Judged.TheVariants.{Passed, Pmt, Scrambled}
 use Rattle.sd_head.specs.declared.judged.Move.{Move}
+use Rattle.sd_head.specs.declared.judged.PatRule.{PatRule}
+use Rattle.sd_head.specs.declared.judged.PatRule.TheVariants.{Asked, Skipped}
 use Rattle.sd_head.proofs.ClearKinds.{none_too_many, passed_is, placed_pid, pmt_is, scrambled_is, too_many_is}
 use Rattle.sd_head.proofs.Marking.{placed_no_pat}
 use Rattle.sd_head.proofs.Refusing.{pat_refused, full_refused, limits_decide}
 use Rattle.sd_packet.proofs.Positions.{positional_small}
 
+-- where nothing is wrong with a packet as a PAT nothing is, by either rule
+pub wrong_none : (rule : PatRule) (packet : List ℕ) → pat_wrong packet ≡ None → wrong_by rule packet ≡ None
+wrong_none Asked packet right = right
+wrong_none Skipped packet right = refl
+
 -- a packet that is refused
-pub refused : (site : SiteFields) (clear : Clear) (packet : List ℕ) (fault : ClearFault)
-    → ((before : List (List ℕ)) → IsAfter before clear → refusal_of site before packet ≡ Some fault)
-    → IsJudgement site clear packet (Err fault)
-refused site clear packet fault why = record { value = why; follows = tt; word = tt }
+pub refused : (rule : PatRule) (site : SiteFields) (clear : Clear) (packet : List ℕ) (fault : ClearFault)
+    → ((before : List (List ℕ)) → IsAfter before clear → fault_by rule site before packet ≡ Some fault)
+    → IsJudgement rule site clear packet (Err fault)
+refused rule site clear packet fault why = record { value = why; follows = tt; word = tt }
 
 -- no test refuses
 none_where : (a b : Bool) (f g : ClearFault) → fault_where a f (fault_where b g None) ≡ None
@@ -51,12 +58,12 @@ has_room : (pids : List ℕ) (next : Move) → (next.is_first && nat_le 256 (len
 has_room pids next few = λ first. grind (arith, nat_tests, rw first at few)
 
 -- what refuses a packet with a position, if its form doesn't
-pub limit_decides : (site : SiteFields) (clear : Clear) (before : List (List ℕ)) (packet : List ℕ) (next : Move)
+pub limit_decides : (rule : PatRule) (site : SiteFields) (clear : Clear) (before : List (List ℕ)) (packet : List ℕ) (next : Move)
     → IsMove clear.positions.items packet next → scrambling_of packet ≡ 0
     → is_reserved_pid site (pid_of packet) ≡ false → is_full_own site (kind_of before packet) packet ≡ false
-    → IsAfter before clear → refusal_of site before packet ≡ limit_fault site clear next
-limit_decides site clear before packet next moves unscrambled free full after =
-    limits_decide site before packet unscrambled free (placed_no_pat packet moves.placed).0 full
+    → IsAfter before clear → fault_by rule site before packet ≡ limit_fault site clear next
+limit_decides rule site clear before packet next moves unscrambled free full after =
+    limits_decide rule site before packet unscrambled free (wrong_none rule packet (placed_no_pat packet moves.placed).0) full
     ∙ (ap (λ (many : Bool). fault_where many (TooManyPids (length before))
     (fault_where (is_too_long site (length before)) (TooLong (length before)) None))
     (sym (too_many_is before packet clear.positions.items clear.pids.items next moves after.placed after.moved))
@@ -82,15 +89,15 @@ full_as site clear before packet full placed mark own after =
     (sym (pmt_is before packet clear.pmts.items placed after.marked known mark)) ∙ own
 
 -- a packet that is scrambled, and one that is refused in its place
-pub scrambled_judged : (site : SiteFields) (clear : Clear) (packet : List ℕ) (next : Move) → clear.count < 2 ^ 32
+pub scrambled_judged : (rule : PatRule) (site : SiteFields) (clear : Clear) (packet : List ℕ) (next : Move) → clear.count < 2 ^ 32
     → IsMove clear.positions.items packet next → get_or clear.pmts.items (pid_of packet) false ≡ false
     → scrambling_of packet ≡ 0 → is_reserved_pid site (pid_of packet) ≡ false → limit_fault site clear next ≡ None
-    → IsJudgement site clear packet (Ok (Scrambled next))
-scrambled_judged site clear packet next small moves mark unscrambled free none =
+    → IsJudgement rule site clear packet (Ok (Scrambled next))
+scrambled_judged rule site clear packet next small moves mark unscrambled free none =
     let few = none_where (next.is_first && nat_le 256 (length clear.pids.items)) (is_too_long site clear.count)
     (TooManyPids clear.count) (TooLong clear.count) none in
     let left = numbers_left site clear.count small few.1 in record {
-      value = λ before after. limit_decides site clear before packet next moves unscrambled free
+      value = λ before after. limit_decides rule site clear before packet next moves unscrambled free
           (not_full site clear before packet moves.placed mark after) after ∙ none;
       follows = record {
         unscrambled = unscrambled;
@@ -100,25 +107,25 @@ scrambled_judged site clear packet next small moves mark unscrambled free none =
       word = left.1;
     }
 
-pub scrambled_refused_by : (site : SiteFields) (clear : Clear) (packet : List ℕ) (next : Move) (fault : ClearFault)
+pub scrambled_refused_by : (rule : PatRule) (site : SiteFields) (clear : Clear) (packet : List ℕ) (next : Move) (fault : ClearFault)
     → IsMove clear.positions.items packet next → get_or clear.pmts.items (pid_of packet) false ≡ false
     → scrambling_of packet ≡ 0 → is_reserved_pid site (pid_of packet) ≡ false
-    → limit_fault site clear next ≡ Some fault → IsJudgement site clear packet (Err fault)
-scrambled_refused_by site clear packet next fault moves mark unscrambled free some =
-    refused site clear packet fault (λ before after. limit_decides site clear before packet next moves unscrambled free
+    → limit_fault site clear next ≡ Some fault → IsJudgement rule site clear packet (Err fault)
+scrambled_refused_by rule site clear packet next fault moves mark unscrambled free some =
+    refused rule site clear packet fault (λ before after. limit_decides rule site clear before packet next moves unscrambled free
     (not_full site clear before packet moves.placed mark after) after ∙ some)
 
 -- a PMT, and one that is refused in its place
-pub pmt_judged : (site : SiteFields) (clear : Clear) (packet carried : List ℕ) (next : Move) → clear.count < 2 ^ 32
+pub pmt_judged : (rule : PatRule) (site : SiteFields) (clear : Clear) (packet carried : List ℕ) (next : Move) → clear.count < 2 ^ 32
     → IsMove clear.positions.items packet next → get_or clear.pmts.items (pid_of packet) false ≡ true
     → scrambling_of packet ≡ 0 → is_reserved_pid site (pid_of packet) ≡ false
     → is_full_own site Kind.Pmt packet ≡ false → carried ≡ pmt_carried site packet
-    → limit_fault site clear next ≡ None → IsJudgement site clear packet (Ok (Pmt next carried))
-pmt_judged site clear packet carried next small moves mark unscrambled free own is none =
+    → limit_fault site clear next ≡ None → IsJudgement rule site clear packet (Ok (Pmt next carried))
+pmt_judged rule site clear packet carried next small moves mark unscrambled free own is none =
     let few = none_where (next.is_first && nat_le 256 (length clear.pids.items)) (is_too_long site clear.count)
     (TooManyPids clear.count) (TooLong clear.count) none in
     let left = numbers_left site clear.count small few.1 in record {
-      value = λ before after. limit_decides site clear before packet next moves unscrambled free
+      value = λ before after. limit_decides rule site clear before packet next moves unscrambled free
           (full_as site clear before packet false moves.placed mark own after) after ∙ none;
       follows = record {
         unscrambled = unscrambled;
@@ -128,58 +135,58 @@ pmt_judged site clear packet carried next small moves mark unscrambled free own 
       word = left.1;
     }
 
-pub pmt_refused_by : (site : SiteFields) (clear : Clear) (packet : List ℕ) (next : Move) (fault : ClearFault)
+pub pmt_refused_by : (rule : PatRule) (site : SiteFields) (clear : Clear) (packet : List ℕ) (next : Move) (fault : ClearFault)
     → IsMove clear.positions.items packet next → get_or clear.pmts.items (pid_of packet) false ≡ true
     → scrambling_of packet ≡ 0 → is_reserved_pid site (pid_of packet) ≡ false
     → is_full_own site Kind.Pmt packet ≡ false
-    → limit_fault site clear next ≡ Some fault → IsJudgement site clear packet (Err fault)
-pmt_refused_by site clear packet next fault moves mark unscrambled free own some =
-    refused site clear packet fault (λ before after. limit_decides site clear before packet next moves unscrambled free
+    → limit_fault site clear next ≡ Some fault → IsJudgement rule site clear packet (Err fault)
+pmt_refused_by rule site clear packet next fault moves mark unscrambled free own some =
+    refused rule site clear packet fault (λ before after. limit_decides rule site clear before packet next moves unscrambled free
     (full_as site clear before packet false moves.placed mark own after) after ∙ some)
 
-pub full_pmt_refused : (site : SiteFields) (clear : Clear) (packet : List ℕ) (next : Move) (n : ℕ) → n ≡ clear.count
+pub full_pmt_refused : (rule : PatRule) (site : SiteFields) (clear : Clear) (packet : List ℕ) (next : Move) (n : ℕ) → n ≡ clear.count
     → IsMove clear.positions.items packet next → get_or clear.pmts.items (pid_of packet) false ≡ true
     → scrambling_of packet ≡ 0 → is_reserved_pid site (pid_of packet) ≡ false
-    → is_full_own site Kind.Pmt packet ≡ true → IsJudgement site clear packet (Err (PmtForm n Form.NoRoom))
-full_pmt_refused site clear packet next n is moves mark unscrambled free own =
-    refused site clear packet (PmtForm n Form.NoRoom) (λ before after.
-    full_refused site before packet n (is ∙ after.number) unscrambled free (placed_no_pat packet moves.placed).0
+    → is_full_own site Kind.Pmt packet ≡ true → IsJudgement rule site clear packet (Err (PmtForm n Form.NoRoom))
+full_pmt_refused rule site clear packet next n is moves mark unscrambled free own =
+    refused rule site clear packet (PmtForm n Form.NoRoom) (λ before after.
+    full_refused rule site before packet n (is ∙ after.number) unscrambled free (wrong_none rule packet (placed_no_pat packet moves.placed).0)
     (full_as site clear before packet true moves.placed mark own after))
 
 -- a packet without a position: refused by its form or as too long, or passed
-pub bad_pat_refused : (site : SiteFields) (clear : Clear) (packet : List ℕ) (n : ℕ) (fault : FormFault)
+pub bad_pat_refused : (rule : PatRule) (site : SiteFields) (clear : Clear) (packet : List ℕ) (n : ℕ) (fault : FormFault)
     → n ≡ clear.count → scrambling_of packet ≡ 0 → is_reserved_pid site (pid_of packet) ≡ false
-    → pat_wrong packet ≡ Some fault → IsJudgement site clear packet (Err (PatForm n fault))
-bad_pat_refused site clear packet n fault is unscrambled free wrong =
-    refused site clear packet (PatForm n fault) (λ before after.
-    pat_refused site before packet n fault (is ∙ after.number) unscrambled free wrong)
+    → wrong_by rule packet ≡ Some fault → IsJudgement rule site clear packet (Err (PatForm n fault))
+bad_pat_refused rule site clear packet n fault is unscrambled free wrong =
+    refused rule site clear packet (PatForm n fault) (λ before after.
+    pat_refused rule site before packet n fault (is ∙ after.number) unscrambled free wrong)
 
-long_told : (site : SiteFields) (clear : Clear) (before : List (List ℕ)) (packet : List ℕ) (long : Bool)
+long_told : (rule : PatRule) (site : SiteFields) (clear : Clear) (before : List (List ℕ)) (packet : List ℕ) (long : Bool)
     → is_placed packet ≡ false → scrambling_of packet ≡ 0 → is_reserved_pid site (pid_of packet) ≡ false
-    → pat_wrong packet ≡ None → is_too_long site clear.count ≡ long → IsAfter before clear
-    → refusal_of site before packet ≡ fault_where long (TooLong clear.count) None
-long_told site clear before packet long unplaced unscrambled free right is after =
-    limits_decide site before packet unscrambled free right
+    → wrong_by rule packet ≡ None → is_too_long site clear.count ≡ long → IsAfter before clear
+    → fault_by rule site before packet ≡ fault_where long (TooLong clear.count) None
+long_told rule site clear before packet long unplaced unscrambled free right is after =
+    limits_decide rule site before packet unscrambled free right
     (ap (λ kind. is_full_own site kind packet) (sym (passed_is before packet unplaced)))
     ∙ rw (none_too_many before packet unplaced)
     (ap (λ (n : ℕ). fault_where (is_too_long site n) (TooLong n) None) (sym after.number)
     ∙ ap (λ (b : Bool). fault_where b (TooLong clear.count) None) is)
 
-pub long_refused : (site : SiteFields) (clear : Clear) (packet : List ℕ) (n : ℕ) → n ≡ clear.count
+pub long_refused : (rule : PatRule) (site : SiteFields) (clear : Clear) (packet : List ℕ) (n : ℕ) → n ≡ clear.count
     → is_placed packet ≡ false → scrambling_of packet ≡ 0 → is_reserved_pid site (pid_of packet) ≡ false
-    → pat_wrong packet ≡ None → is_too_long site clear.count ≡ true → IsJudgement site clear packet (Err (TooLong n))
-long_refused site clear packet n is unplaced unscrambled free right long =
-    refused site clear packet (TooLong n) (λ before after.
-    long_told site clear before packet true unplaced unscrambled free right long after
+    → wrong_by rule packet ≡ None → is_too_long site clear.count ≡ true → IsJudgement rule site clear packet (Err (TooLong n))
+long_refused rule site clear packet n is unplaced unscrambled free right long =
+    refused rule site clear packet (TooLong n) (λ before after.
+    long_told rule site clear before packet true unplaced unscrambled free right long after
     ∙ ap (λ (k : ℕ). Some (TooLong k)) (sym is))
 
-pub passed_judged : (site : SiteFields) (clear : Clear) (packet : List ℕ) (pat : Option Pat) → clear.count < 2 ^ 32
+pub passed_judged : (rule : PatRule) (site : SiteFields) (clear : Clear) (packet : List ℕ) (pat : Option Pat) → clear.count < 2 ^ 32
     → is_placed packet ≡ false → scrambling_of packet ≡ 0 → is_reserved_pid site (pid_of packet) ≡ false
-    → pat_wrong packet ≡ None → IsPatOf packet pat → is_too_long site clear.count ≡ false
-    → IsJudgement site clear packet (Ok (Passed pat))
-passed_judged site clear packet pat small unplaced unscrambled free right is long =
+    → wrong_by rule packet ≡ None → IsPatOf packet pat → is_too_long site clear.count ≡ false
+    → IsJudgement rule site clear packet (Ok (Passed pat))
+passed_judged rule site clear packet pat small unplaced unscrambled free right is long =
     let left = numbers_left site clear.count small long in record {
-      value = λ before after. long_told site clear before packet false unplaced unscrambled free right long after;
+      value = λ before after. long_told rule site clear before packet false unplaced unscrambled free right long after;
       follows = record {
         unscrambled = unscrambled;
         number = left.0;
@@ -187,17 +194,3 @@ passed_judged site clear packet pat small unplaced unscrambled free right is lon
       };
       word = left.1;
     }
-
--- a packet that was judged right may follow, and nothing refuses it
-pub judged_follows : {site : SiteFields} {clear : Clear} {packet : List ℕ} {result : Result Judged ClearFault}
-    {judged : Judged} → IfOk result (MayFollow site clear packet) → result ≡ Ok judged
-    → MayFollow site clear packet judged
-judged_follows {site} {clear} {packet} follows is = subst (λ r. IfOk r (MayFollow site clear packet)) is follows
-
-pub judged_right : (site : SiteFields) (before : List (List ℕ)) (packet : List ℕ)
-    {result : Result Judged ClearFault} {judged : Judged} → MatchResult result
-    (λ _. refusal_of site before packet ≡ None) (λ fault. refusal_of site before packet ≡ Some fault)
-    → result ≡ Ok judged → refusal_of site before packet ≡ None
-judged_right site before packet value is =
-    subst (λ r. MatchResult r (λ _. refusal_of site before packet ≡ None)
-    (λ fault. refusal_of site before packet ≡ Some fault)) is value

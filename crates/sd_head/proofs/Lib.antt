@@ -5,6 +5,10 @@ mod Counting
 mod Starting
 mod Added
 mod Stepping
+mod Offering
+mod Last
+pub mod Airing
+mod Going
 pub mod Chained
 pub mod ClearKinds
 pub mod Refusing

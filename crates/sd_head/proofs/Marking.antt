@@ -2,7 +2,7 @@
 use Rattle.std.proofs.Common.{ℕ, ◌<◌, ◌≡◌, ◌≢◌, Bool, true, false, ◌==◌, ◌&&◌, ◌||◌, List, [], ◌∷◌, ◌++◌}
 use Rattle.std.proofs.Common.{get_or}
 use Rattle.std.proofs.Common.{refl, sym, ap, subst, ◌∙◌}
-use Rattle.std.specs.Prelude.{nat_eq, Option, Some, None}
+use Rattle.std.specs.Prelude.{nat_eq, is_none, if◌then◌else◌, Option, Some, None}
 use Rattle.std.specs.List.{list_any}
 use Rattle.std.specs.Option.{option_map_or}
 use Rattle.std.proofs.lemmas.Bool.{eq-eqb, ne_eqb}
@@ -10,6 +10,7 @@ use Rattle.sd_packet.specs.Header.{pid_of, has_payload}
 use Rattle.sd_packet.specs.Positions.{is_positional, is_placed}
 use Rattle.sd_site.specs.SiteFields.{SiteFields}
 use Rattle.sd_section.specs.Header.{current_of}
+use Rattle.sd_psi.specs.declared.fault.FormFault.{FormFault}
 use Rattle.sd_psi.specs.Forms.{pat_fault, section_in}
 use Rattle.sd_psi.specs.Tables.{pmt_pids_of}
 use Rattle.sd_spec.specs.Kinds.{is_current_pat, pat_in_force, pmts_in}
@@ -36,6 +37,19 @@ no_pat packet none = (rw none refl, left (pid_of packet == 0) (has_payload packe
     left true true c h = absurd cc
     left true false c h = refl
     left false b c h = refl
+
+-- a packet that is wrong as a PAT is no current PAT
+pub bad_pat : (packet : List ℕ) (fault : FormFault) → pat_wrong packet ≡ Some fault → is_current_pat packet ≡ false
+unfolding is_current_pat
+bad_pat packet fault wrong =
+    left (pid_of packet == 0) (has_payload packet) (pat_fault packet) (current_of (section_in packet) == 1) wrong
+  where
+    left : (a b : Bool) (found : Option FormFault) (c : Bool) → (if a && b then found else None) ≡ Some fault →
+        (a && (b && (is_none found && c))) ≡ false
+    left true true (Some some) c h = refl
+    left true true None c h = absurd cc
+    left true false found c h = refl
+    left false b found c h = refl
 
 -- nor is a packet with a position
 pub placed_no_pat : (packet : List ℕ) → is_placed packet ≡ true

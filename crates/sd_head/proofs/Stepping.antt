@@ -14,7 +14,7 @@ use Rattle.sd_spec.specs.Plan.{Plan, crypto_length, crypto_of, word_in, word_of,
 use Rattle.sd_spec.specs.Plan.{closing_number}
 use Rattle.sd_spec.specs.Carried.{carried}
 use Rattle.sd_spec.specs.Messages.{places_after}
-use Rattle.sd_spec.specs.Refused.{refusal_of, refusal_from, IsClear}
+use Rattle.sd_spec.specs.Refused.{unsent_at, unsent_from, IsSendable}
 use Rattle.sd_psi.specs.declared.clear_fault.ClearFault.{ClearFault}
 use Rattle.sd_spec.specs.Sent.{Item, sent, sent_from, bytes_added, closing_of, packets_from, message_before}
 use Rattle.sd_head.specs.After.{IsAfter as IsKept}
@@ -23,7 +23,7 @@ use Rattle.sd_head.specs.declared.entitling.Entitling.{Entitling}
 use Rattle.sd_head.specs.Messages.{head_of, message_due}
 use Rattle.sd_head.specs.Items.{HasSent, HasPlaced, HasCountersAfter, tables_bytes, message_bytes}
 use Rattle.sd_head.specs.Schedule.{IsAt}
-use Rattle.sd_head.specs.Staged.{plan_in, head_does, head_ends, IsAfter, IsReady, RefusesPacket}
+use Rattle.sd_head.specs.Staged.{plan_in, head_ends, head_sends, IsAfter, IsOn, IsReady, RefusesPacket}
 use Rattle.sd_head.specs.declared.fault.HeadFault.{HeadFault}
 use Rattle.sd_head.specs.declared.sender.Sender.{Sender}
 use Rattle.sd_head.specs.declared.head.Head.{Head}
@@ -34,31 +34,32 @@ use Rattle.sd_head.proofs.Added.{sections_at, emms_are, message_stands, added_by
 use Rattle.sd_head.proofs.Added.{word_is, crypto_number, crypto_word}
 
 -- where none of some is the first refusal, the next one decides
-none_then : {F : Type 0} → (first : Option F) (rest more : Option F) → option_map_or Some first rest ≡ None →
+pub none_then : {F : Type 0} → (first : Option F) (rest more : Option F) → option_map_or Some first rest ≡ None →
     (rest ≡ None → more ≡ None) →
     option_map_or Some first more ≡ None
 none_then None rest more h f = f h
 none_then (Some x) rest more h f = absurd cc
 
--- packets that are clear and one more that isn't refused are clear
-still_clear : (site : SiteFields) (start packets : List (List ℕ)) (packet : List ℕ) →
-    refusal_from site start packets ≡ None →
-    refusal_of site (start ++ packets) packet ≡ None → refusal_from site start (packets ++ packet ∷ []) ≡ None
-unfolding refusal_from
-still_clear site start [] packet h now =
+-- packets that can be sent and one more that can be can be sent
+still_sendable : (site : SiteFields) (start packets : List (List ℕ)) (packet : List ℕ) →
+    unsent_from site start packets ≡ None →
+    unsent_at site (start ++ packets) (length (start ++ packets)) packet ≡ None →
+    unsent_from site start (packets ++ packet ∷ []) ≡ None
+unfolding unsent_from
+still_sendable site start [] packet h now =
     ap (λ (r : Option ClearFault). option_map_or Some r None)
-    (subst (λ (b : List (List ℕ)). refusal_of site b packet ≡ None) (append-nil start) now)
-still_clear site start (first ∷ packets) packet h now =
-    none_then (refusal_of site start first) (refusal_from site (start ++ first ∷ []) packets)
-    (refusal_from site (start ++ first ∷ []) (packets ++ packet ∷ [])) h
-    (λ rest. still_clear site (start ++ first ∷ []) packets packet rest
-    (subst (λ (b : List (List ℕ)). refusal_of site b packet ≡ None)
+    (subst (λ (b : List (List ℕ)). unsent_at site b (length b) packet ≡ None) (append-nil start) now)
+still_sendable site start (first ∷ packets) packet h now =
+    none_then (unsent_at site start (length start) first) (unsent_from site (start ++ first ∷ []) packets)
+    (unsent_from site (start ++ first ∷ []) (packets ++ packet ∷ [])) h
+    (λ rest. still_sendable site (start ++ first ∷ []) packets packet rest
+    (subst (λ (b : List (List ℕ)). unsent_at site b (length b) packet ≡ None)
     (sym (append_assoc start (first ∷ []) packets)) now))
 
--- no packet is refused of none
-pub none_clear : (site : SiteFields) → IsClear site []
-unfolding refusal_from
-none_clear site = refl
+-- each packet of none can be sent
+pub none_sendable : (site : SiteFields) → IsSendable site []
+unfolding unsent_from
+none_sendable site = refl
 
 -- for none nothing is sent
 pub sent_none : (plan : Plan) → sent plan [] ≡ []
@@ -79,7 +80,8 @@ placed_sent site earlier old new placed has = record {
 -- what comes of the calls for a packet
 pub record Comes (s : Head) (packet : List ℕ) (entitling : Entitling) (m : Sender) (due : Bool) (emms : List (List ℕ))
     (message : Option EcmHead) (veiled : List ℕ) : Type 0 where
-  pub judged : (before : List (List ℕ)) → IsKept before s.clear → refusal_of (fields_of s.site) before packet ≡ None
+  pub judged : (before : List (List ℕ)) → IsKept before s.clear →
+      unsent_at (fields_of s.site) before (length before) packet ≡ None
   pub at_work : IsOf (plan_in s) (crypto_of (fields_of s.site) s.clear.count) entitling
   pub placed : HasPlaced s.sender m
   pub due_is : due ≡ (s.clear.count % crypto_length (fields_of s.site) == 0)
@@ -147,7 +149,7 @@ module _ (s t : Head) (packet : List ℕ) (m : Sender) (due : Bool) (emms : List
       record {
         keeps_to = ap (λ (x : Site). plan_of x t.entitling.book) leads.site_is ∙ ap (plan_of s.site) leads.book_is;
         unrefused = leads.refusal_is ∙ after.unrefused;
-        are_clear = still_clear (fields_of s.site) [] before packet after.are_clear
+        are_sendable = still_sendable (fields_of s.site) [] before packet after.are_sendable
             (comes.judged before after.clear_is);
         clear_is = leads.taken before after.clear_is;
         entitled = subst (λ (k : ℕ). IsAt (plan_in s) k t.entitling) (sym (length-append before (packet ∷ [])))
@@ -167,14 +169,14 @@ module _ (s t : Head) (packet : List ℕ) (m : Sender) (due : Bool) (emms : List
       (placed_sent (fields_of s.site) (sent (plan_in s) before) s.sender m comes.placed after.has_sent)
       (is_due before after) (listed before after) (told before after) (veiled_is before after)
 
-  -- so the step is what a head end does
-  pub does : (steps : ℕ) →
-      head_does s packet t ((tables_bytes m due emms ++ message_bytes s.site.ecm m message) ++ veiled) steps
-  does steps = λ plan before after.
-      subst (λ (q : Plan). IsAfter q before s → (refusal_of q.site before packet ≡ None)
-      × ((tables_bytes m due emms ++ message_bytes s.site.ecm m message) ++ veiled ≡ bytes_added q before packet)
+  -- so the step is what a head end sends of a packet
+  pub sends : (steps : ℕ) →
+      head_sends s packet t ((tables_bytes m due emms ++ message_bytes s.site.ecm m message) ++ veiled) steps
+  sends steps = λ plan before after.
+      subst (λ (q : Plan). IsAfter q before s →
+      ((tables_bytes m due emms ++ message_bytes s.site.ecm m message) ++ veiled ≡ bytes_added q before packet)
       × IsAfter q (before ++ packet ∷ []) t)
-      after.keeps_to (λ here. (comes.judged before here.clear_is, written before here, stands before here)) after
+      after.keeps_to (λ here. (written before here, stands before here)) after
 
   -- and it may be offered another
   pub ready : (before : List (List ℕ)) → IsAfter (plan_in s) before s →
@@ -231,8 +233,8 @@ kept_refuses s packet kept fault is same = record {
   cause = inl (is ∙ ap Some (same_refusal kept fault same));
 }
 
--- a head end that may be offered a packet is at the number of packets that it took
-pub at_count : (s : Head) → IsReady s → s.refusal ≡ None → IsAt (plan_in s) s.clear.count s.entitling
-at_count s ready unrefused =
-    let after = (ready unrefused).1 in
+-- a head end that may be given a packet is at the number of packets that it took
+pub at_count : (s : Head) → IsOn s → IsAt (plan_in s) s.clear.count s.entitling
+at_count s on =
+    let after = on.1 in
     subst (λ (n : ℕ). IsAt (plan_in s) n s.entitling) (sym after.clear_is.number) after.entitled

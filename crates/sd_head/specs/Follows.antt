@@ -12,10 +12,13 @@ use Rattle.sd_message.specs.EcmVersions.{most_places}
 use Rattle.sd_spec.specs.Kinds.{is_current_pat}
 use Rattle.sd_spec.specs.Plan.{word_of}
 use Rattle.sd_spec.specs.Carried.{pmt_carried}
-use Rattle.sd_spec.specs.Refused.{refusal_of, fault_where, is_too_long}
+use Rattle.sd_psi.specs.declared.fault.FormFault.{FormFault}
+use Rattle.sd_spec.specs.Refused.{broken_rule, fault_where, is_too_long, pat_wrong}
 use Rattle.sd_head.specs.After.{IsAfter}
 use Rattle.sd_head.specs.declared.clear.Clear.{Clear}
 use Rattle.sd_head.specs.declared.judged.Judged.{Judged}
+use Rattle.sd_head.specs.declared.judged.PatRule.{PatRule}
+use Rattle.sd_head.specs.declared.judged.PatRule.TheVariants.{Asked, Skipped}
 use Rattle.sd_head.specs.declared.judged.Judged.TheVariants.{Passed, Pmt, Scrambled}
 use Rattle.sd_head.specs.declared.judged.Move.{Move}
 
@@ -79,11 +82,21 @@ limit_fault site clear next =
     fault_where (next.is_first && nat_le most_places (length clear.pids.items)) (TooManyPids clear.count)
     (fault_where (is_too_long site clear.count) (TooLong clear.count) None)
 
+-- what is wrong with a packet as a PAT, if the rule on PATs is asked
+abbrev pub wrong_by : PatRule → List ℕ → Option FormFault
+wrong_by Asked packet = pat_wrong packet
+wrong_by Skipped packet = None
+
+-- the first rule that a packet breaks as the next one after these packets, with the rule on PATs or without it [this
+-- project, docs/FORMATS.md, Broadcast]
+abbrev pub fault_by : PatRule → SiteFields → List (List ℕ) → List ℕ → Option ClearFault
+fault_by rule site before packet = broken_rule site before packet (wrong_by rule packet) (length before)
+
 -- the result of judging a packet as the next one: what is learned of it, or the first rule that it breaks
 -- [this project, docs/FORMATS.md, Broadcast]
-pub record IsJudgement (site : SiteFields) (clear : Clear) (packet : List ℕ) (result : Result Judged ClearFault)
-    : Type 0 where
+pub record IsJudgement (rule : PatRule) (site : SiteFields) (clear : Clear) (packet : List ℕ)
+    (result : Result Judged ClearFault) : Type 0 where
   pub value : (before : List (List ℕ)) → IsAfter before clear → MatchResult result
-      (λ _. refusal_of site before packet ≡ None) (λ fault. refusal_of site before packet ≡ Some fault)
+      (λ _. fault_by rule site before packet ≡ None) (λ fault. fault_by rule site before packet ≡ Some fault)
   pub follows : IfOk result (MayFollow site clear packet)
   pub word : OnOk result (word_of site clear.count ≤ site.last_word)

@@ -3,6 +3,9 @@ pub mod Messages
 pub mod Items
 pub mod Schedule
 pub mod Staged
+pub mod Live
+pub mod Left
+pub mod Leaving
 pub mod Known
 pub mod After
 pub mod Follows

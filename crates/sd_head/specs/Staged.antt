@@ -1,9 +1,9 @@
 -- Public meaning: the head end as a stage of packets.
-use Rattle.std.specs.Prelude.{◌≡◌, ◌⊎◌, ℕ, ◌-◌, List, [], ◌∷◌, ◌++◌, length, Option, Some, None}
+use Rattle.std.specs.Prelude.{◌≡◌, ◌⊎◌, ℕ, ◌+◌, ◌-◌, ◌≤◌, List, [], ◌∷◌, ◌++◌, length, Option, Some, None}
 use Rattle.std.specs.List.{concat}
 use Rattle.sd_spec.specs.Plan.{Plan, period_of}
 use Rattle.sd_book.specs.Commands.{revoked}
-use Rattle.sd_spec.specs.Refused.{refusal_of, IsClear}
+use Rattle.sd_spec.specs.Refused.{refusal_of, IsSendable}
 use Rattle.sd_spec.specs.Sent.{sent, closing_of, bytes_added, packets_from}
 use Rattle.sd_head.specs.After.{IsAfter as IsKept}
 use Rattle.sd_head.specs.Kept.{plan_of}
@@ -16,14 +16,20 @@ use Rattle.sd_head.specs.declared.head.Head.{Head}
 abbrev pub plan_in : Head → Plan
 plan_in head = plan_of head.site head.entitling.book
 
--- the head end has sent the broadcast of these packets, which are clear, up to where the next one's part begins
+-- the head end has sent the broadcast of these packets, which can be sent, up to where the next one's part begins
 pub record IsAfter (plan : Plan) (before : List (List ℕ)) (head : Head) : Type 0 where
   pub keeps_to : plan_in head ≡ plan
   pub unrefused : head.refusal ≡ None
-  pub are_clear : IsClear plan.site before
+  pub are_sendable : IsSendable plan.site before
   pub clear_is : IsKept before head.clear
   pub entitled : IsAt plan (length before) head.entitling
   pub has_sent : HasSent plan.site (sent plan before) head.sender
+
+-- the packet comes to what it adds to the broadcast after those before it
+abbrev pub head_sends : Head → List ℕ → Head → List ℕ → ℕ → Type 0
+head_sends s packet t bytes steps =
+    (plan : Plan) (before : List (List ℕ)) → IsAfter plan before s →
+    (bytes ≡ bytes_added plan before packet) × IsAfter plan (before ++ packet ∷ []) t
 
 -- a clear packet comes to what it adds to the broadcast after those before it
 abbrev pub head_does : Head → List ℕ → Head → List ℕ → ℕ → Type 0
@@ -46,6 +52,14 @@ pub record RefusesPacket (s : Head) (packet : Option (List ℕ)) (fault : HeadFa
 
 abbrev pub head_refuses : Head → Option (List ℕ) → HeadFault → Head → List ℕ → ℕ → Type 0
 head_refuses s packet fault t bytes steps = RefusesPacket s packet fault bytes
+
+-- it stands after some packets, and no write failed
+abbrev pub IsOn : Head → Type 0
+IsOn head = (before : List (List ℕ)) × IsAfter (plan_in head) before head
+
+-- the bytes of what a head end sends, where no more steps were counted than that takes
+abbrev pub IsOfSent : (Head → List ℕ → ℕ → Type 0) → ℕ → ℕ → List ℕ → Type 0
+IsOfSent Sends from to bytes = (steps : ℕ) × (to ≤ from + steps) × ((t : Head) × Sends t bytes steps)
 
 -- it may be offered a packet: it stands after some, or keeps a refusal
 abbrev pub IsReady : Head → Type 0

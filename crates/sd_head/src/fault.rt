@@ -8,3 +8,12 @@ pub enum HeadFault {
     /// Out of memory, where a period begins.
     NoMemory,
 }
+
+/// Why nothing more is sent of what goes on air.
+#[derive(Clone, Copy, PartialEq, Eq)]
+pub enum LiveFault {
+    /// A write failed.
+    Write,
+    /// Out of memory, where a period begins.
+    NoMemory,
+}

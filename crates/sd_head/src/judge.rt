@@ -1,20 +1,20 @@
 ghost use Rattle.std.specs.Prelude.{◌≡◌, ◌+◌, ◌-◌, ◌*◌, ◌^◌, ◌<◌, ◌≤◌, ◌&&◌, ℕ, List, true, false, Some, None};
-ghost use Rattle.std.specs.Prelude.{IfOk, OnOk, MatchResult, MatchOption, is_none, nat_le};
+ghost use Rattle.std.specs.Prelude.{MatchResult, MatchOption, is_none, nat_le, not};
 ghost use Rattle.std.specs.Prelude.{length, get_or, slice_index};
 ghost use Rattle.sd_packet.specs.Header.{payload_start_of, pid_of, scrambling_of};
 ghost use Rattle.sd_packet.specs.Positions.{is_placed};
 ghost use Rattle.sd_site.specs.SiteFields.{fields_of};
 ghost use Rattle.sd_psi.specs.Rewriting.{restore_fault};
-ghost use Rattle.sd_spec.specs.Plan.{crypto_length, word_of};
+ghost use Rattle.sd_spec.specs.Plan.{crypto_length};
 ghost use Rattle.sd_spec.specs.Carried.{pmt_carried};
 ghost use Rattle.sd_spec.specs.declared.kind.Kind.TheVariants as Kind;
-ghost use Rattle.sd_spec.specs.Refused.{refusal_of, is_reserved_pid as is_taken_pid, pat_wrong};
+ghost use Rattle.sd_spec.specs.Refused.{is_reserved_pid as is_taken_pid, pat_wrong};
 ghost use Rattle.sd_spec.specs.Refused.{is_full_own, is_too_long};
-ghost use Rattle.sd_head.specs.After.{IsAfter};
-ghost use Rattle.sd_head.specs.Follows.{limit_fault, IsJudgement, IsMove, IsPatOf, MayFollow};
+ghost use Rattle.sd_head.specs.declared.judged.PatRule.{PatRule as PatRules};
+ghost use Rattle.sd_head.specs.Follows.{limit_fault, wrong_by, IsJudgement, IsMove, IsPatOf};
 
 use crate::clear::{Clear, FIRST_POSITION};
-use crate::judged::{Judged, Move};
+use crate::judged::{Judged, Move, PatRule};
 use sd_message::MOST_PLACES;
 use sd_packet::{Packet, advance};
 use sd_psi::{ClearFault, FormFault, Pat, pat_of, restore_pmt, rewrite_pmt};
@@ -44,14 +44,15 @@ impl Clear {
         self.positions[usize::from(pid)]
     }
 
-    /// What is learned of the packet as the next one, or why it is refused: the first rule that it breaks
-    /// (docs/FORMATS.md, Broadcast).
-    pub fn judge<'a>(&self, site: &Site, packet: &'a Packet) -> Result<Judged<'a>, ClearFault>
-        ensures value { (before : List (List ℕ)) → IsAfter before self.now → MatchResult result
-            (λ _. refusal_of (fields_of site.now) before packet.now ≡ None)
-            (λ fault. refusal_of (fields_of site.now) before packet.now ≡ Some fault) }
-        ensures follows { IfOk result (MayFollow (fields_of site.now) self.now packet.now) }
-        ensures word { OnOk result (word_of (fields_of site.now) self.now.count ≤ site.now.last_word) }
+    /// What is learned of the packet as the next one, or why it is refused: the first rule that it breaks, with the
+    /// rule on PATs or without it (docs/FORMATS.md, Broadcast).
+    pub fn judge<'a>(
+        &self,
+        site: &Site,
+        packet: &'a Packet,
+        rule: PatRule,
+    ) -> Result<Judged<'a>, ClearFault>
+        ensures { IsJudgement rule (fields_of site.now) self.now packet.now result }
     {
         let number = u64::from(self.count);
         let pid = packet.pid();
@@ -64,20 +65,25 @@ impl Clear {
         if packet.is_placed() {
             self.judge_placed(site, packet)
         } else {
-            self.judge_passed(site, packet)
+            self.judge_passed(site, packet, rule)
         }
     }
 
     // Judges a packet that has no position, is clear, and is on a PID that it may have.
-    fn judge_passed<'a>(&self, site: &Site, packet: &'a Packet) -> Result<Judged<'a>, ClearFault>
+    fn judge_passed<'a>(
+        &self,
+        site: &Site,
+        packet: &'a Packet,
+        rule: PatRule,
+    ) -> Result<Judged<'a>, ClearFault>
         requires unplaced { is_placed packet.now ≡ false }
         requires number { self.now.count < 2 ^ 32 }
         requires clear { scrambling_of packet.now ≡ 0 }
         requires free { is_taken_pid (fields_of site.now) (pid_of packet.now) ≡ false }
-        ensures { IsJudgement (fields_of site.now) self.now packet.now result }
+        ensures { IsJudgement rule (fields_of site.now) self.now packet.now result }
     {
         let number = u64::from(self.count);
-        match current_pat(packet) {
+        match pat_by(rule, packet) {
             Ok(_) if self.is_at_end(site) => Err(ClearFault::TooLong(number)),
             Ok(pat) => Ok(Judged::Passed(pat)),
             Err(fault) => Err(ClearFault::PatForm(number, fault)),
@@ -91,7 +97,7 @@ impl Clear {
         requires number { self.now.count < 2 ^ 32 }
         requires clear { scrambling_of packet.now ≡ 0 }
         requires free { is_taken_pid (fields_of site.now) (pid_of packet.now) ≡ false }
-        ensures { IsJudgement (fields_of site.now) self.now packet.now result }
+        ensures { (rule : PatRules) → IsJudgement rule (fields_of site.now) self.now packet.now result }
     {
         let next = self.next_move(packet);
         if self.is_pmt(next.pid) {
@@ -115,7 +121,7 @@ impl Clear {
         requires number { self.now.count < 2 ^ 32 }
         requires clear { scrambling_of packet.now ≡ 0 }
         requires free { is_taken_pid (fields_of site.now) (pid_of packet.now) ≡ false }
-        ensures { IsJudgement (fields_of site.now) self.now packet.now result }
+        ensures { (rule : PatRules) → IsJudgement rule (fields_of site.now) self.now packet.now result }
     {
         let Some(carried) = carried_pmt(site, packet) else {
             return Err(ClearFault::PmtForm(u64::from(self.count), FormFault::NoRoom));
@@ -183,6 +189,25 @@ fn is_taken(site: &Site, pid: u16) -> bool
     ensures { result ≡ is_taken_pid (fields_of site.now) pid }
 {
     pid == 1 || pid == site.emm || pid == site.ecm
+}
+
+// The current PAT that the packet is, if it is one, or what is wrong with a packet that must be a PAT by this rule.
+fn pat_by(rule: PatRule, packet: &Packet) -> Result<Option<Pat<'_>>, FormFault>
+    ensures { MatchResult result (λ pat. (wrong_by rule packet.now ≡ None) × IsPatOf packet.now pat)
+        (λ fault. wrong_by rule packet.now ≡ Some fault) }
+{
+    match (current_pat(packet), rule) {
+        (Ok(pat), _) => Ok(pat),
+        (Err(fault), PatRule::Asked) => Err(fault),
+        (Err(_), PatRule::Skipped) => Ok(None),
+    }
+}
+
+// Whether the packet is on PID 0, has a payload, and is no PAT by itself.
+pub(crate) fn is_bad_pat(packet: &Packet) -> bool
+    ensures { result ≡ not (is_none (pat_wrong packet.now)) }
+{
+    current_pat(packet).is_err()
 }
 
 // The current PAT that the packet is, if it is one, or what is wrong with a packet that must be a PAT.

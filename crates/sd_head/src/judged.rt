@@ -22,3 +22,12 @@ pub struct Move {
     /// Whether no packet before has moved the PID's position.
     pub is_first: bool,
 }
+
+/// Whether the rule on PATs is asked when a packet is judged (this project, docs/FORMATS.md, Broadcast, On air).
+#[derive(Clone, Copy, PartialEq, Eq)]
+pub enum PatRule {
+    /// A packet on PID 0 must be a PAT by itself.
+    Asked,
+    /// A packet on PID 0 that is no PAT by itself passes.
+    Skipped,
+}

@@ -1,13 +1,13 @@
 -- Public meaning: which files keep what is written, and which output is written through the descriptor
 -- of the standard output.
-use Rattle.std.specs.Prelude.{◌≡◌, ◌⊎◌, List, ◌∷◌, [], ◌++◌}
+use Rattle.std.specs.Prelude.{◌≡◌, ◌⊎◌, List, ◌∷◌, [], ◌++◌, Option, Some, None, Result, Ok, Err}
 use Rattle.std.specs.List.{Contains}
 use Rattle.sd_host.specs.declared.identity.Identity.{Identity}
 use Rattle.sd_host.specs.declared.identity.Kind.{Kind}
 use Rattle.sd_host.specs.declared.identity.Kind.TheVariants.{Regular, Block, Stream}
 use Rattle.sd_host.specs.declared.identity.Kind.TheVariants as kind
 use Rattle.sd_host.specs.declared.identity.Output.{Output}
-use Rattle.sd_host.specs.declared.identity.Output.TheVariants.{Known, Other}
+use Rattle.sd_host.specs.declared.identity.Output.TheVariants as output
 use Rattle.sd_host.specs.declared.target.Target.{Target}
 use Rattle.sd_host.specs.declared.target.Target.TheVariants as target
 
@@ -18,14 +18,18 @@ IsKept kind = (kind ≡ Regular) ⊎ (kind ≡ Block)
 -- the standard output that is this file: no block device, terminal or other character device is taken for it
 -- [this project, docs/FORMATS.md, Commands]
 abbrev pub output_of : Kind → Identity → Output
-output_of Regular file = Known file
-output_of Block file = Other
-output_of Stream file = Known file
-output_of kind.Other file = Other
+output_of Regular file = output.File file
+output_of Block file = output.Other
+output_of Stream file = output.Pipe file
+output_of kind.Other file = output.Other
+
+-- the standard output is this file
+abbrev pub IsOutput : Output → Identity → Type 0
+IsOutput standard file = (standard ≡ output.File file) ⊎ (standard ≡ output.Pipe file)
 
 -- the file may be read: it is no regular file that is the standard output [this project, docs/FORMATS.md, Commands]
 abbrev pub MayRead : Output → Kind → Identity → Type 0
-MayRead output kind file = ¬ ((kind ≡ Regular) × (output ≡ Known file))
+MayRead standard kind file = ¬ ((kind ≡ Regular) × IsOutput standard file)
 
 -- the file may be made: it is none of the inputs that keep what is written [this project, docs/FORMATS.md, Commands]
 abbrev pub MayMake : List Identity → Kind → Identity → Type 0
@@ -42,4 +46,12 @@ with_input inputs kind.Other file = inputs
 abbrev pub IsThrough : {R F D : Type 0} → Target R F D → Type 0
 IsThrough (target.File file) = ⊥
 IsThrough (target.New file) = ⊥
+IsThrough (target.Pipe file) = ⊥
 IsThrough (target.Output files) = Unit {0}
+IsThrough (target.OutputPipe files) = Unit {0}
+
+-- the file that was made new; a name that is there already is none
+abbrev pub made_in : {F E : Type 0} → Result (Option F) E → Result F (Unit {0})
+made_in (Ok (Some file)) = Ok file
+made_in (Ok None) = Err tt
+made_in (Err error) = Err tt

@@ -1,16 +1,16 @@
-ghost use Rattle.std.specs.Prelude.{◌≡◌, ◌≢◌, ◌↔◌, None, Err, IfOk, IsErrOf, IsTrue, []};
+ghost use Rattle.std.specs.Prelude.{◌≡◌, ◌≢◌, ◌↔◌, ◌<◌, None, Err, IfOk, IsErrOf, IsTrue, [], vec_capacity, vec_len};
 ghost use Rattle.sd_base.specs.Count.{IsCaused};
 ghost use Rattle.sd_ports.specs.Causes.{HasDepotCause};
 ghost use Rattle.sd_host.specs.Faults.{fault_of, faults_after, misses_after};
-ghost use Rattle.sd_host.specs.Kept.{IsThrough};
+ghost use Rattle.sd_host.specs.Kept.{IsOutput, IsThrough};
 
 use crate::identity;
-use crate::identity::{Identity, Output};
+use crate::identity::{Identity, Kind, Output};
 use crate::inlet::HostInlet;
 use crate::outlet::{BUFFER, HostOutlet};
 use crate::target::Target;
 use sd_ports::{Depot, DepotFault};
-use std::alloc::Global;
+use std::alloc::{AllocError, Global};
 use std::fs::Files;
 use std::io;
 use std::io::ErrorKind;
@@ -58,7 +58,7 @@ impl<'a, R: Files + Print> HostDepot<'a, R> {
 
     /// Whether the file of that name is the standard output, and that a regular file, a pipe or a socket.
     pub fn is_output(&self, name: &str) -> bool
-        ensures { IsTrue result → (file : Identity) × (self.now.output ≡ Output.Known file) }
+        ensures { IsTrue result → (file : Identity) × IsOutput self.now.output file }
     {
         identity::is_output(self.files, self.output, name)
     }
@@ -75,10 +75,23 @@ impl<'a, R: Files + Print> HostDepot<'a, R> {
         ensures through { IfOk result (λ target. IsTrue is_output ↔ IsThrough target) }
     {
         if is_output {
-            return Ok(Target::Output(self.files));
+            return Ok(self.through());
         }
-        let file = identity::create(self.files, &self.inputs, self.private, name)?;
-        Ok(Target::File(file))
+        let (file, kind) = identity::create(self.files, &self.inputs, self.private, name)?;
+        match kind {
+            Kind::Stream => Ok(Target::Pipe(file)),
+            Kind::Regular | Kind::Block | Kind::Other => Ok(Target::File(file)),
+        }
+    }
+
+    /// The standard output, which is written through its own descriptor.
+    fn through(&self) -> Target<'a, R>
+        ensures { IsThrough result }
+    {
+        match self.output {
+            Output::Pipe(_) => Target::OutputPipe(self.files),
+            Output::File(_) | Output::Other | Output::Unknown => Target::Output(self.files),
+        }
     }
 
     /// Counts why a file wasn't opened, and says it.
@@ -159,7 +172,7 @@ impl<'a, R: Files + Print> Depot for HostDepot<'a, R> {
     }
 
     /// The memory is taken before the file is made. No link is followed, and the standard output is never written so:
-    /// its name is there.
+    /// its name is there. The file is among the inputs from then on, so nothing is made over it.
     fn create_new(
         &mut self,
         alloc: Global,
@@ -169,11 +182,15 @@ impl<'a, R: Files + Print> Depot for HostDepot<'a, R> {
         let Ok(buffer) = Vec::with_capacity(alloc, BUFFER) else {
             return Err(DepotFault::NoMemory);
         };
-        let file = match identity::create_new(self.files, self.private, name) {
+        let Ok(mut inputs) = with_room(alloc, &self.inputs) else {
+            return Err(DepotFault::NoMemory);
+        };
+        let file = match identity::create_new(self.files, &mut inputs, self.private, name) {
             Ok(Some(file)) => file,
             Ok(None) => return Ok(None),
             Err(error) => return self.refuse(error.kind()),
         };
+        self.inputs = inputs;
         self.made = self.made.saturating_add(1);
         self.opened = self.opened.wrapping_add(1);
         Ok(Some(HostOutlet::new(Target::New(file), buffer)))
@@ -204,4 +221,14 @@ impl<'a, R: Files + Print> Depot for HostDepot<'a, R> {
         self.faults = self.faults.saturating_add(1);
         Err(DepotFault::Failed)
     }
+}
+
+/// The same inputs, with room for one more.
+fn with_room(alloc: Global, inputs: &[Identity]) -> Result<Vec<Identity>, AllocError>
+    ensures same { IfOk result (λ more. more.items ≡ inputs.now) }
+    ensures room { IfOk result (λ more. vec_len more < vec_capacity more) }
+{
+    let mut more = Vec::with_capacity(alloc, inputs.len() + 1)?;
+    more.extend_from_slice(inputs)?;
+    Ok(more)
 }

@@ -1,7 +1,8 @@
-ghost use Rattle.std.specs.Prelude.{◌≡◌, ◌↔◌, ◌⊎◌, if◌then◌else◌, bit_and, IsTrue, IsErr, OnOk, OnErr};
+ghost use Rattle.std.specs.Prelude.{◌≡◌, ◌↔◌, ◌⊎◌, ◌<◌, ◌++◌, ◌∷◌, [], if◌then◌else◌, bit_and, IsTrue, IsErr, IfOk, OnOk, OnErr};
+ghost use Rattle.std.specs.Prelude.{vec_capacity, vec_len};
 ghost use Rattle.std.specs.Fs.{metadata_mode};
 ghost use Rattle.sd_host.specs.Folder.{folder_in};
-ghost use Rattle.sd_host.specs.Kept.{IsKept, MayMake, MayRead, output_of, with_input};
+ghost use Rattle.sd_host.specs.Kept.{made_in, IsKept, IsOutput, MayMake, MayRead, output_of, with_input};
 
 use std::fs::{Files, Metadata, OpenFile, OpenOptions};
 use std::io::{Error, ErrorKind};
@@ -85,8 +86,10 @@ impl Identity {
 /// The standard output, as far as it decides which files are it.
 #[derive(Clone, Copy, PartialEq, Eq)]
 pub enum Output {
-    /// This regular file, pipe or socket.
-    Known(Identity),
+    /// This regular file.
+    File(Identity),
+    /// This pipe or socket.
+    Pipe(Identity),
     /// Another kind of file, such as a terminal or `/dev/null`. No file is taken for it.
     Other,
     /// It can't be looked at, so no file can be compared with it.
@@ -99,16 +102,20 @@ impl Output {
         ensures { result ≡ output_of kind file }
     {
         match kind {
-            Kind::Regular | Kind::Stream => Output::Known(file),
+            Kind::Regular => Output::File(file),
+            Kind::Stream => Output::Pipe(file),
             Kind::Block | Kind::Other => Output::Other,
         }
     }
 
     /// Whether it is this file.
     pub fn is(self, file: Identity) -> bool
-        ensures { IsTrue result ↔ (self ≡ Output.Known file) }
+        ensures { IsTrue result ↔ IsOutput self file }
     {
-        self == Output::Known(file)
+        match self {
+            Output::File(output) | Output::Pipe(output) => output == file,
+            Output::Other | Output::Unknown => false,
+        }
     }
 }
 
@@ -124,7 +131,7 @@ pub fn standard_output<R: Files>(files: &R) -> Output
 
 /// Whether the file of that name is the standard output.
 pub fn is_output<R: Files>(files: &R, output: Output, name: &str) -> bool
-    ensures { IsTrue result → (file : Identity) × (output ≡ Output.Known file) }
+    ensures { IsTrue result → (file : Identity) × IsOutput output file }
 {
     match fs::metadata(files, name) {
         Ok(metadata) => output.is(Identity::of(&metadata)),
@@ -180,13 +187,14 @@ pub fn may_read(output: Output, kind: Kind, file: Identity) -> bool
 
 /// Opens a file for writing, and makes it if it isn't there; a private one is its owner's alone. A regular file is cut
 /// off; a pipe or a device stays as it is. A file that is one of the inputs is refused, before anything of it changes.
+/// The kind of the file is returned too.
 pub fn create<R: Files>(
     files: &R,
     inputs: &[Identity],
     private: bool,
     name: &str,
-) -> io::Result<R::File>
-    ensures { OnOk result ((kind : Kind) × (file : Identity) × MayMake inputs.now kind file) }
+) -> io::Result<(R::File, Kind)>
+    ensures { IfOk result (λ made. (file : Identity) × MayMake inputs.now made.1 file) }
 {
     let file = OpenOptions::new()
         .write(true)
@@ -199,19 +207,32 @@ pub fn create<R: Files>(
     if kind == Kind::Regular {
         file.set_len(0)?;
     }
-    Ok(file)
+    Ok((file, kind))
 }
 
-/// Makes a file that is new, and opens it for writing; a private one is its owner's alone. `None` is a name that is
-/// there already.
-pub fn create_new<R: Files>(files: &R, private: bool, name: &str) -> io::Result<Option<R::File>> {
+/// Makes a file that is new, and opens it for writing; a private one is its owner's alone. It is added to the inputs, so
+/// that nothing else is made over it. `None` is a name that is there already.
+pub fn create_new<R: Files>(
+    files: &R,
+    inputs: &mut Vec<Identity>,
+    private: bool,
+    name: &str,
+) -> io::Result<Option<R::File>>
+    requires room { vec_len inputs.old < vec_capacity inputs.old }
+    ensures made { OnOk (made_in result) ((file : Identity) × (inputs.new.items ≡ inputs.old.items ++ file ∷ [])) }
+    ensures unchanged { OnErr (made_in result) (inputs.new.items ≡ inputs.old.items) }
+{
     let made = OpenOptions::new()
         .write(true)
         .create_new(true)
         .mode(mode_of(private))
         .open(files, name);
     match made {
-        Ok(file) => Ok(Some(file)),
+        Ok(file) => {
+            let metadata = file.metadata()?;
+            inputs.push(Identity::of(&metadata)).unwrap();
+            Ok(Some(file))
+        }
         Err(error) if error.kind() == ErrorKind::AlreadyExists => Ok(None),
         Err(error) => Err(error),
     }

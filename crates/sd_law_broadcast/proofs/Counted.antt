@@ -16,7 +16,7 @@ use Rattle.sd_engine.specs.Driving.{most_packets}
 use Rattle.sd_spec.specs.Plan.{Plan, IsPlan, crypto_length, period_of, closing_number}
 use Rattle.sd_spec.specs.Carried.{carried}
 use Rattle.sd_spec.specs.Messages.{period_at, message_at}
-use Rattle.sd_spec.specs.Refused.{IsClear}
+use Rattle.sd_spec.specs.Refused.{IsSendable}
 use Rattle.sd_spec.specs.Sent.{Item, Entitles, Controls, Carries, tables_at, tables_before, message_before}
 use Rattle.sd_spec.specs.Sent.{added}
 use Rattle.sd_spec.specs.Sent.{packets_from, sent_from, sent, closing_of, body, broadcast}
@@ -62,7 +62,7 @@ module _ (plan : Plan) (is : IsPlan plan) (most : ℕ) (few : (k : ℕ) → leng
   tables_or_none false k = omega arith
 
   -- what one packet adds
-  pub added_upto : (before : List (List ℕ)) (packet : List ℕ) → IsClear plan.site (before ++ packet ∷ []) →
+  pub added_upto : (before : List (List ℕ)) (packet : List ℕ) → IsSendable plan.site (before ++ packet ∷ []) →
       length (added plan before packet) ≤ most + 23
   unfolding added
   added_upto before packet all =
@@ -80,7 +80,7 @@ module _ (plan : Plan) (is : IsPlan plan) (most : ℕ) (few : (k : ℕ) → leng
       )
 
   -- what packets add after others
-  pub sent_upto : (before packets : List (List ℕ)) → IsClear plan.site (before ++ packets) →
+  pub sent_upto : (before packets : List (List ℕ)) → IsSendable plan.site (before ++ packets) →
       length (sent_from plan before packets) ≤ length packets * (most + 23)
   unfolding sent_from
   sent_upto before [] all = omega arith
@@ -93,8 +93,8 @@ module _ (plan : Plan) (is : IsPlan plan) (most : ℕ) (few : (k : ℕ) → leng
         times,
       )
     where
-      whole : IsClear plan.site ((before ++ packet ∷ []) ++ packets)
-      whole = subst (IsClear plan.site) (sym (append_assoc before (packet ∷ []) packets)) all
+      whole : IsSendable plan.site ((before ++ packet ∷ []) ++ packets)
+      whole = subst (IsSendable plan.site) (sym (append_assoc before (packet ∷ []) packets)) all
 
       times : suc (length packets) * (most + 23) ≡ length packets * (most + 23) + (most + 23)
       times = rw (add-one (length packets)) at (times_next (length packets) (most + 23))
@@ -113,7 +113,7 @@ module _ (plan : Plan) (is : IsPlan plan) where
       )
 
   -- the closing message
-  closing_few : (clear : List (List ℕ)) → IsClear plan.site clear → length (closing_of plan clear) ≤ 65536
+  closing_few : (clear : List (List ℕ)) → IsSendable plan.site clear → length (closing_of plan clear) ≤ 65536
   unfolding closing_of
   closing_few clear all =
       let message : Message =
@@ -126,7 +126,8 @@ module _ (plan : Plan) (is : IsPlan plan) where
       )
 
   -- no more than a stream may have
-  pub broadcast_short : (clear : List (List ℕ)) → IsClear plan.site clear → length (broadcast plan clear) ≤ most_packets
+  pub broadcast_short : (clear : List (List ℕ)) → IsSendable plan.site clear →
+      length (broadcast plan clear) ≤ most_packets
   unfolding broadcast
   broadcast_short clear all =
       omega (
@@ -138,7 +139,7 @@ module _ (plan : Plan) (is : IsPlan plan) where
         clear_short plan.site clear all,
       )
 
-  pub body_short : (clear : List (List ℕ)) → IsClear plan.site clear → length (body plan clear) ≤ most_packets
+  pub body_short : (clear : List (List ℕ)) → IsSendable plan.site clear → length (body plan clear) ≤ most_packets
   unfolding body
   body_short clear all =
       omega (

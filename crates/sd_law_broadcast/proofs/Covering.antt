@@ -17,7 +17,7 @@ use Rattle.sd_cover.proofs.Lists.{counted_some}
 use Rattle.sd_cover.specs.Reach.{ReachesNoneOf}
 use Rattle.sd_law_covers.proofs.CoversReach.{revoked_reach_none}
 use Rattle.sd_spec.specs.Plan.{Plan, IsPlan, sets_at, period_of}
-use Rattle.sd_spec.specs.Refused.{IsClear}
+use Rattle.sd_spec.specs.Refused.{IsSendable}
 use Rattle.sd_spec.specs.Sent.{broadcast}
 use Rattle.sd_law_broadcast.specs.Packets.{AreLong}
 use Rattle.sd_law_broadcast.specs.Named.{sets_named, NamesPeriod}
@@ -56,7 +56,7 @@ none_reached plan q u is m =
     (omega (arith, high)) (below plan.site.height plan.commands q) (sets_cover plan q is) m
 
 -- all of this is true of the sets that a broadcast names for a period that it reaches
-pub period_named : (plan : Plan) (clear : List (List ℕ)) (q : ℕ) → IsPlan plan → IsClear plan.site clear →
+pub period_named : (plan : Plan) (clear : List (List ℕ)) (q : ℕ) → IsPlan plan → IsSendable plan.site clear →
     AreLong clear → plan.site.first_period ≤ q → q ≤ period_of plan (length clear - 1) →
     NamesPeriod plan q (sets_named plan.site.height plan.site.emm q (broadcast plan clear))
 period_named plan clear q is all long from reached =

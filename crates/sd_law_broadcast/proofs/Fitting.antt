@@ -45,7 +45,7 @@ use Rattle.sd_spec.specs.Plan.{since_of, closing_number}
 use Rattle.sd_spec.proofs.Naming.{version_is, named_is, name_short}
 use Rattle.sd_spec.specs.Kinds.{has_moved, positional_pids, moved_pids}
 use Rattle.sd_spec.specs.Messages.{entry_of, period_at, places_after, message_at}
-use Rattle.sd_spec.specs.Refused.{IsClear}
+use Rattle.sd_spec.specs.Refused.{IsSendable}
 use Rattle.sd_spec.proofs.Schedule.{since_is_below, closing_of_none, period_short}
 use Rattle.sd_spec.proofs.Periods.{names_are}
 use Rattle.sd_law_broadcast.proofs.Clear.{clear_short, clear_pids, clear_words}
@@ -227,7 +227,7 @@ since_before version cryptos (suc a) = inl (since_is_below version cryptos (suc 
 
 -- control messages fit, whatever clear packets are before them
 pub message_fits : (plan : Plan) (before : List (List ℕ)) (a k : ℕ) (closing : Bool) → IsPlan plan →
-    IsClear plan.site before → a < 2 ^ 32 → word_of plan.site k < 2 ^ 32 →
+    IsSendable plan.site before → a < 2 ^ 32 → word_of plan.site k < 2 ^ 32 →
     IsMessage (message_at plan before a k closing)
 unfolding message_at places_after
 message_fits plan before a k closing is clear few near =
@@ -263,7 +263,7 @@ message_fits plan before a k closing is clear few near =
         omega (arith, near, short)
 
 -- those that stand before packets
-pub message_before_fits : (plan : Plan) (before : List (List ℕ)) → IsPlan plan → IsClear plan.site before →
+pub message_before_fits : (plan : Plan) (before : List (List ℕ)) → IsPlan plan → IsSendable plan.site before →
     word_of plan.site (length before) < 2 ^ 32 →
     IsMessage (message_at plan before (length before / plan.site.every) (length before) false)
 message_before_fits plan before is clear near =
@@ -289,7 +289,7 @@ word_of_first site =
     omega (arith, begins)
 
 -- the control words of a clear stream have 4 bytes, and so has that of none
-pub word_low : (plan : Plan) (clear : List (List ℕ)) (k : ℕ) → IsPlan plan → IsClear plan.site clear →
+pub word_low : (plan : Plan) (clear : List (List ℕ)) (k : ℕ) → IsPlan plan → IsSendable plan.site clear →
     k ≤ length clear - 1 → word_of plan.site k < 2 ^ 32
 word_low plan clear k is all within = elim (cases_lt k (length clear)) [
   | inl inside ↦
@@ -304,7 +304,7 @@ word_low plan clear k is all within = elim (cases_lt k (length clear)) [
 ]
 
 -- and the closing one
-pub closing_fits : (plan : Plan) (clear : List (List ℕ)) → IsPlan plan → IsClear plan.site clear →
+pub closing_fits : (plan : Plan) (clear : List (List ℕ)) → IsPlan plan → IsSendable plan.site clear →
     IsMessage (message_at plan clear (closing_number plan.site (length clear)) (length clear - 1) true)
 closing_fits plan clear is all =
     let short = clear_short plan.site clear all in

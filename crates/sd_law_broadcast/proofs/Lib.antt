@@ -5,6 +5,7 @@ pub mod Synced
 pub mod Counted
 pub mod Taken
 pub mod Clear
+pub mod Sendable
 pub mod Fitting
 pub mod Carrying
 pub mod Sections

@@ -19,7 +19,7 @@ use Rattle.sd_message.specs.declared.emm.Emm.{Emm}
 use Rattle.sd_message.proofs.EmmSharing.{joined_are_all, all_are_of}
 use Rattle.sd_spec.specs.Plan.{Plan, IsPlan, sets_at, period_of}
 use Rattle.sd_spec.specs.Messages.{period_at}
-use Rattle.sd_spec.specs.Refused.{IsClear}
+use Rattle.sd_spec.specs.Refused.{IsSendable}
 use Rattle.sd_spec.specs.Sent.{Item, sent, closing_of, broadcast}
 use Rattle.sd_spec.proofs.Items.{all_are_of_broadcast}
 use Rattle.sd_spec.proofs.Schedule.{period_short}
@@ -197,7 +197,7 @@ sections_few plan q is low =
     omega (arith, few)
 
 -- a broadcast names the sets of each period that it reaches
-pub named_are_sets : (plan : Plan) (clear : List (List ℕ)) (q : ℕ) → IsPlan plan → IsClear plan.site clear →
+pub named_are_sets : (plan : Plan) (clear : List (List ℕ)) (q : ℕ) → IsPlan plan → IsSendable plan.site clear →
     AreLong clear → plan.site.first_period ≤ q → q ≤ period_of plan (length clear - 1) →
     sets_named plan.site.height plan.site.emm q (broadcast plan clear) ≡ sets_at plan q
 unfolding sets_named broadcast

@@ -1,18 +1,17 @@
 -- What is sent doesn't depend on the last control word that may be used.
 use Rattle.std.proofs.Common.{◌≡◌, ℕ, ◌+◌, ◌-◌, ◌/◌, ◌<◌, ◌≤◌, ◌==◌, Bool, true, false, not, List, [], ◌∷◌, ◌++◌}
 use Rattle.std.proofs.Common.{length}
-use Rattle.std.proofs.Common.{Option, Some, None, refl, ap, arith, length-append}
+use Rattle.std.proofs.Common.{Option, None, refl, ap, arith, length-append}
 use Rattle.std.proofs.lemmas.Bool.Decides.{nat_tests}
 use Rattle.sd_base.proofs.Lists.{both_none}
 use Rattle.sd_packet.specs.Header.{scrambling_of}
 use Rattle.sd_site.specs.SiteFields.{SiteFields, run_name_of}
-use Rattle.sd_psi.specs.declared.fault.FormFault.{FormFault}
 use Rattle.sd_spec.specs.Plan.{Plan, sets_at, crypto_of, word_of, period_in, period_of, closing_number}
 use Rattle.sd_spec.specs.Kinds.{kind_of}
 use Rattle.sd_spec.specs.Carried.{pmt_carried, veiled, carried_as, carried}
 use Rattle.sd_spec.specs.Messages.{entry_of, period_at, message_at}
-use Rattle.sd_spec.specs.Refused.{fault_where, form_where, is_full_own, is_too_long}
-use Rattle.sd_spec.specs.Refused.{refusal_of, refusal_from, IsClear}
+use Rattle.sd_spec.specs.Refused.{fault_where, is_full_own, is_too_long}
+use Rattle.sd_spec.specs.Refused.{unsent_at, unsent_from, IsSendable}
 use Rattle.sd_spec.specs.Sent.{Item, Cat, Entitles, Controls, Carries, tables_at, added, sent, sent_from}
 use Rattle.sd_spec.specs.Sent.{closing_of}
 use Rattle.sd_spec.specs.Sent.{packet_of, packets_from, broadcast}
@@ -107,23 +106,18 @@ passed : (b : Bool) (fault : ClearFault) (next : Option ClearFault) → b ≡ fa
 passed true fault next good rest = absurd (cc good)
 passed false fault next good rest = rest
 
-passed_form : (found : Option FormFault) (told : FormFault → ClearFault) (next : Option ClearFault) → found ≡ None →
-    next ≡ None → form_where found told next ≡ None
-passed_form None told next good rest = rest
-passed_form (Some fault) told next good rest = absurd (cc good)
-
--- a packet that breaks no rule isn't refused
-pub unrefused : (site : SiteFields) (before : List (List ℕ)) (packet : List ℕ) → IsAccepted site before packet →
-    refusal_of site before packet ≡ None
-unfolding refusal_of
-unrefused site before packet is =
+-- a packet that breaks no rule but that on PATs can be sent
+pub can_be_sent : (site : SiteFields) (before : List (List ℕ)) (packet : List ℕ) → IsAccepted site before packet →
+    unsent_at site before (length before) packet ≡ None
+unfolding unsent_at
+can_be_sent site before packet is =
     let clear = is.clear in
     let other = is.short in
     let word = is.word in
     let unscrambled : not (scrambling_of packet == 0) ≡ false = grind (arith, nat_tests, clear) in
     let short : is_too_long site (length before) ≡ false = grind (arith, nat_tests, other, word) in
-    passed _ _ _ unscrambled (passed _ _ _ is.untaken (passed_form _ _ _ is.pat (passed _ _ _ is.own
-    (passed _ _ _ is.room (passed _ _ _ short refl)))))
+    passed _ _ _ unscrambled (passed _ _ _ is.untaken (passed _ _ _ is.own
+    (passed _ _ _ is.room (passed _ _ _ short refl))))
 
 -- nor is it where its word may be used
 narrowed_one : (x : ℕ) (site : SiteFields) (before : List (List ℕ)) (packet : List ℕ) → IsAccepted site before packet →
@@ -131,7 +125,6 @@ narrowed_one : (x : ℕ) (site : SiteFields) (before : List (List ℕ)) (packet 
 narrowed_one x site before packet is few = record {
   clear = is.clear;
   untaken = is.untaken;
-  pat = is.pat;
   own = by_kind (kind_of before packet) is.own;
   room = is.room;
   short = is.short;
@@ -144,23 +137,25 @@ narrowed_one x site before packet is few = record {
     by_kind Scrambled own = own
 
 narrowed_from : (x : ℕ) (site : SiteFields) (before packets : List (List ℕ)) →
-    refusal_from site before packets ≡ None →
+    unsent_from site before packets ≡ None →
     ((k : ℕ) → length before ≤ k → k < length before + length packets → word_of site k ≤ x) →
-    refusal_from (up_to x site) before packets ≡ None
-unfolding refusal_from
+    unsent_from (up_to x site) before packets ≡ None
+unfolding unsent_from
 narrowed_from x site before [] h few = refl
 narrowed_from x site before (packet ∷ packets) h few =
-    let parts = both_none (refusal_of site before packet) (refusal_from site (before ++ packet ∷ []) packets) h in
+    let parts = both_none (unsent_at site before (length before) packet)
+    (unsent_from site (before ++ packet ∷ []) packets) h in
     let long = length-append before (packet ∷ []) in
     let one = narrowed_one x site before packet (accepted site before packet parts.0)
     (few (length before) (omega arith) (omega arith)) in
-    none_then (refusal_of (up_to x site) before packet) (refusal_from (up_to x site) (before ++ packet ∷ []) packets)
-    (unrefused (up_to x site) before packet one)
+    none_then (unsent_at (up_to x site) before (length before) packet)
+    (unsent_from (up_to x site) (before ++ packet ∷ []) packets)
+    (can_be_sent (up_to x site) before packet one)
     (narrowed_from x site (before ++ packet ∷ []) packets parts.1
     (λ k low high. few k (omega (arith, low, long)) (omega (arith, high, long))))
 
--- a clear stream whose words are no greater is one of the site with that last word
-pub clear_narrowed : (site : SiteFields) (clear : List (List ℕ)) (x : ℕ) → IsClear site clear →
-    ((k : ℕ) → k < length clear → word_of site k ≤ x) → IsClear (up_to x site) clear
+-- a clear stream that can be sent and whose words are no greater can be sent with that last word
+pub clear_narrowed : (site : SiteFields) (clear : List (List ℕ)) (x : ℕ) → IsSendable site clear →
+    ((k : ℕ) → k < length clear → word_of site k ≤ x) → IsSendable (up_to x site) clear
 clear_narrowed site clear x h few =
     narrowed_from x site [] clear h (λ k low high. few k (omega (arith, high)))

@@ -10,7 +10,7 @@ use Rattle.sd_message.specs.EcmParts.{Message, IsMessage, parts_of}
 use Rattle.sd_message.specs.declared.ecm_part.EcmPart.{EcmPart}
 use Rattle.sd_spec.specs.Plan.{Plan, IsPlan, since_of, closing_number}
 use Rattle.sd_spec.specs.Messages.{message_at}
-use Rattle.sd_spec.specs.Refused.{IsClear}
+use Rattle.sd_spec.specs.Refused.{IsSendable}
 use Rattle.sd_spec.specs.Sent.{Item, Cat, Entitles, Controls, Carries}
 use Rattle.sd_spec.specs.Items.{IsOfBroadcast, cat, entitlement, part, closing, carried_on}
 use Rattle.sd_spec.proofs.Schedule.{quotients_rise, closing_above, closing_needed}
@@ -82,7 +82,7 @@ numbered_since plan clear a = elim (cases_Bool (nat_lt a (closing_number plan.si
 ]
 
 -- each fits
-pub numbered_fits : (plan : Plan) (clear : List (List ℕ)) (a : ℕ) → IsPlan plan → IsClear plan.site clear →
+pub numbered_fits : (plan : Plan) (clear : List (List ℕ)) (a : ℕ) → IsPlan plan → IsSendable plan.site clear →
     a ≤ closing_number plan.site (length clear) → IsMessage (numbered plan clear a)
 numbered_fits plan clear a is all within = elim (cases_lt a (closing_number plan.site (length clear))) [
   | inl inner ↦

@@ -8,7 +8,7 @@ use Rattle.sd_packet.specs.Positions.{is_placed, position_of}
 use Rattle.sd_packet.proofs.Positions.{next_position, moving_rises, moved_by_near, more_packets, own_moves}
 use Rattle.sd_keystream.specs.Scrambling.{stream_number}
 use Rattle.sd_spec.specs.Carried.{place_after}
-use Rattle.sd_spec.specs.Refused.{IsClear}
+use Rattle.sd_spec.specs.Refused.{IsSendable}
 use Rattle.sd_law_broadcast.proofs.Clear.{clear_short}
 use Rattle.sd_law_broadcast.proofs.Carrying.{kind_placed}
 use Rattle.sd_spec.specs.Kinds.{is_scrambled}
@@ -31,7 +31,7 @@ place_is : (run : Run) (k : ℕ) → k < length run.clear
 place_is run k within = sym (next_position (pid_of (run_packet run k)) k run.clear within)
 
 -- a position of a clear stream has 48 bits
-place_short : (run : Run) (k : ℕ) → IsClear run.plan.site run.clear → k < length run.clear → place_at run k < 2 ^ 48
+place_short : (run : Run) (k : ℕ) → IsSendable run.plan.site run.clear → k < length run.clear → place_at run k < 2 ^ 48
 place_short run k is within =
     let near = (moved_by_near (pid_of (run_packet run k)) 15 (take (k + 1) run.clear)).1 in
     let long : length (take (k + 1) run.clear) ≡ k + 1 = length-take-le (k + 1) run.clear (omega (arith, within)) in
@@ -69,7 +69,7 @@ numbers_tell : (pid p other q : ℕ) → p < 2 ^ 48 → q < 2 ^ 48 → stream_nu
 numbers_tell pid p other q low short same = (omega (arith, low, short, same), omega (arith, low, short, same))
 
 -- scrambled packets of one stream number are one packet
-pub one_packet : (run : Run) (j k : ℕ) → IsClear run.plan.site run.clear → j < length run.clear
+pub one_packet : (run : Run) (j k : ℕ) → IsSendable run.plan.site run.clear → j < length run.clear
     → k < length run.clear → is_veiled run j ≡ true → is_veiled run k ≡ true → number_at run j ≡ number_at run k
     → j ≡ k
 unfolding number_at

@@ -7,7 +7,7 @@ use Rattle.sd_packet.specs.Header.{payload_of}
 use Rattle.sd_tree.specs.Keys.{period_key_of, control_word_of}
 use Rattle.sd_message.specs.EmmSpelled.{listed_entries}
 use Rattle.sd_spec.specs.Plan.{word_of}
-use Rattle.sd_spec.specs.Refused.{IsClear}
+use Rattle.sd_spec.specs.Refused.{IsSendable}
 use Rattle.sd_spec.specs.Sent.{Item}
 use Rattle.sd_spec.specs.Items.{IsOfBroadcast, cat, entitlement, part, closing, carried_on}
 use Rattle.sd_spec.proofs.Items.{all_are_of_broadcast}
@@ -88,20 +88,20 @@ keys_repeat a b x y masters m n keys numbers so =
     same_keys a b x.key x.number x.text y.text masters so (pad_told a x m) (text_at b x y n keys numbers)
 
 -- payloads of one run under one stream number are one
-one_payload : (run : Run) (t u number : ℕ) (x y : List ℕ) → IsClear run.plan.site run.clear
+one_payload : (run : Run) (t u number : ℕ) (x y : List ℕ) → IsSendable run.plan.site run.clear
     → IsPayload run t number x → IsPayload run u number y → x ≡ y
 one_payload run t u number x y is p q =
     let same = one_packet run p.k q.k is p.within q.within p.veiled q.veiled (sym p.at ∙ q.at) in
     p.payload ∙ (ap (λ (k : ℕ). payload_of (run_packet run k)) same ∙ sym q.payload)
 
 -- texts of one run under one key and number are one
-one_text : (run : Run) (name : KeyName) (number : ℕ) (s t : List ℕ) → IsClear run.plan.site run.clear
+one_text : (run : Run) (name : KeyName) (number : ℕ) (s t : List ℕ) → IsSendable run.plan.site run.clear
     → IsText run name number s → IsText run name number t → s ≡ t
 one_text run (SetKey name) number s t is p q = p ∙ sym q
 one_text run (PeriodKey name) number s t is p q = p ∙ sym q
 one_text run (Word w) number s t is p q = one_payload run w w number s t is p q
 
-pub texts_repeat : (run : Run) (x y : Pad) → IsClear run.plan.site run.clear → Contains (pads_of run) x
+pub texts_repeat : (run : Run) (x y : Pad) → IsSendable run.plan.site run.clear → Contains (pads_of run) x
     → Contains (pads_of run) y → x.key ≡ y.key → x.number ≡ y.number → x.text ≡ y.text
 texts_repeat run x y is m n keys numbers =
     one_text run x.key x.number x.text y.text is (pad_told run x m) (text_at run x y n keys numbers)
@@ -115,13 +115,13 @@ pub packets_repeat : (master : List ℕ) (runs : List Run) (i j k l : ℕ) (a b 
 packets_repeat master runs i j k l a b all own first second inside within veiled other words numbers =
     let is = at_place (IsRun master) runs i a first all in
     let its = at_place (IsRun master) runs j b second all in
-    let word = packet_words a.plan.site a.clear k is.is_clear inside in
+    let word = packet_words a.plan.site a.clear k is.is_sendable inside in
     let same : IsWordOf b.plan.site (word_of a.plan.site k) =
-    subst (IsWordOf b.plan.site) (sym words) (packet_words b.plan.site b.clear l its.is_clear within) in
+    subst (IsWordOf b.plan.site) (sym words) (packet_words b.plan.site b.clear l its.is_sendable within) in
     let place = one_run runs i j a b (word_of a.plan.site k) own first second word same in
     let run = one_at runs i j a b first second place in (
       place,
-      one_packet b k l its.is_clear (subst (λ (r : Run). k < length r.clear) run inside) within
+      one_packet b k l its.is_sendable (subst (λ (r : Run). k < length r.clear) run inside) within
           (subst (λ (r : Run). is_veiled r k ≡ true) run veiled) other
           (subst (λ (r : Run). number_at r k ≡ number_at b l) run numbers),
     )

@@ -22,7 +22,7 @@ use Rattle.sd_message.specs.EcmParts.{Message, IsMessage, parts_of}
 use Rattle.sd_spec.specs.Plan.{Plan, IsPlan, word_of, period_of, closing_number}
 use Rattle.sd_spec.specs.Carried.{carried}
 use Rattle.sd_spec.specs.Messages.{period_at, message_at}
-use Rattle.sd_spec.specs.Refused.{is_reserved_pid, IsClear}
+use Rattle.sd_spec.specs.Refused.{is_reserved_pid, IsSendable}
 use Rattle.sd_spec.specs.Sent.{Item, Cat, Entitles, Controls, Carries, is_alike, packet_of, packets_from}
 use Rattle.sd_spec.specs.Items.{IsOfBroadcast, cat, entitlement, part, closing, carried_on}
 use Rattle.sd_spec.proofs.Schedule.{period_short}
@@ -60,7 +60,7 @@ section_sets plan is k emm m =
     All-contains (λ (e : Emm). AreSets plan.site.height e.sets (listed_entries e)) (emms_of (period_at plan q)) emm
     (all_sets_stand plan.site.height (period_at plan q) (period_sets plan q is)) m
 
-module _ (plan : Plan) (clear : List (List ℕ)) (is : IsPlan plan) (all : IsClear plan.site clear) where
+module _ (plan : Plan) (clear : List (List ℕ)) (is : IsPlan plan) (all : IsSendable plan.site clear) where
   -- of the message before packet k
   message_at_fits : (k : ℕ) → k < length clear →
       IsMessage (message_at plan (take k clear) (k / plan.site.every) k false)
@@ -119,7 +119,7 @@ sections_of_sections (emm ∷ emms) = ap (λ (rest : List Emm). emm ∷ rest) (s
 
 -- each is of a packet's period
 pub each_section : (plan : Plan) (clear : List (List ℕ)) (items : List Item) → All (IsOfBroadcast plan clear) items →
-    IsPlan plan → IsClear plan.site clear → All (IsSectionOf plan clear) (sections_in items)
+    IsPlan plan → IsSendable plan.site clear → All (IsSectionOf plan clear) (sections_in items)
 each_section plan clear [] each is all = All-nil (IsSectionOf plan clear)
 each_section plan clear (item ∷ items) each is all =
     first item (said plan clear is all item (All-head (IsOfBroadcast plan clear) item items each))
@@ -132,7 +132,7 @@ each_section plan clear (item ∷ items) each is all =
     first (Controls one) is rest = rest
     first (Carries n packet) is rest = rest
 
-module _ (plan : Plan) (clear : List (List ℕ)) (is : IsPlan plan) (all : IsClear plan.site clear)
+module _ (plan : Plan) (clear : List (List ℕ)) (is : IsPlan plan) (all : IsSendable plan.site clear)
     (long : AreLong clear) where
   -- a clear packet's PID is none of the broadcast's own
   pub carried_pid : (k : ℕ) (packet : List ℕ) → k < length clear →

@@ -11,7 +11,7 @@ use Rattle.sd_message.specs.EcmParts.{parts_of}
 use Rattle.sd_message.specs.declared.ecm_part.EcmPart.{EcmPart}
 use Rattle.sd_message.proofs.EcmSharing.{all_are_ecms}
 use Rattle.sd_spec.specs.Plan.{Plan, IsPlan}
-use Rattle.sd_spec.specs.Refused.{IsClear}
+use Rattle.sd_spec.specs.Refused.{IsSendable}
 use Rattle.sd_spec.specs.Sent.{Item, Cat, Entitles, Controls, Carries, is_alike, packet_of, packets_from}
 use Rattle.sd_spec.specs.Sent.{sent}
 use Rattle.sd_spec.specs.Sent.{closing_of, body, broadcast}
@@ -22,7 +22,7 @@ use Rattle.sd_law_broadcast.proofs.Sections.{IsSaid, said, section_form, section
 use Rattle.sd_law_broadcast.specs.Synced.{IsSynced, AreSynced}
 use Rattle.sd_law_broadcast.proofs.Spelled.{packed_synced, cat_short, emm_short, ecm_short, carried_synced}
 
-module _ (plan : Plan) (clear : List (List ℕ)) (is : IsPlan plan) (all : IsClear plan.site clear)
+module _ (plan : Plan) (clear : List (List ℕ)) (is : IsPlan plan) (all : IsSendable plan.site clear)
     (whole : AreWholePackets clear) (synced : AreSynced clear) where
   -- the packet of each thing that is sent
   one_synced : (earlier : List Item) (item : Item) → IsSaid plan clear item →

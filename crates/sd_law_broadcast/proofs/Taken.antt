@@ -3,7 +3,7 @@ use Rattle.std.proofs.Common.{◌≡◌, ℕ, List}
 use Rattle.std.specs.List.{concat}
 use Rattle.sd_engine.specs.Taken.{Whole, taken_of, end_of}
 use Rattle.sd_spec.specs.Plan.{Plan, IsPlan}
-use Rattle.sd_spec.specs.Refused.{IsClear}
+use Rattle.sd_spec.specs.Refused.{IsSendable}
 use Rattle.sd_spec.specs.Sent.{body, broadcast}
 use Rattle.sd_law_broadcast.specs.Packets.{AreWholePackets}
 use Rattle.sd_law_broadcast.specs.Synced.{AreSynced}
@@ -11,7 +11,7 @@ use Rattle.sd_law_broadcast.proofs.Joined.{taken_again, joined_whole}
 use Rattle.sd_law_broadcast.proofs.Synced.{broadcast_synced, body_synced}
 use Rattle.sd_law_broadcast.proofs.Counted.{broadcast_short, body_short}
 
-pub broadcast_taken : (plan : Plan) (clear : List (List ℕ)) → IsPlan plan → IsClear plan.site clear →
+pub broadcast_taken : (plan : Plan) (clear : List (List ℕ)) → IsPlan plan → IsSendable plan.site clear →
     AreWholePackets clear → AreSynced clear →
     (taken_of (concat (broadcast plan clear)) ≡ broadcast plan clear) × (end_of (concat (broadcast plan clear)) ≡ Whole)
 broadcast_taken plan clear is all whole synced =
@@ -19,7 +19,7 @@ broadcast_taken plan clear is all whole synced =
     let few = broadcast_short plan is clear all in
     (taken_again (broadcast plan clear) each few, joined_whole (broadcast plan clear) each few)
 
-pub body_taken : (plan : Plan) (clear : List (List ℕ)) → IsPlan plan → IsClear plan.site clear →
+pub body_taken : (plan : Plan) (clear : List (List ℕ)) → IsPlan plan → IsSendable plan.site clear →
     AreWholePackets clear → AreSynced clear →
     (taken_of (concat (body plan clear)) ≡ body plan clear) × (end_of (concat (body plan clear)) ≡ Whole)
 body_taken plan clear is all whole synced =

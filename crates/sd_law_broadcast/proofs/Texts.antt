@@ -17,7 +17,7 @@ use Rattle.sd_message.specs.EmmSpelled.{listed_entries}
 use Rattle.sd_message.specs.Period.{emms_of}
 use Rattle.sd_message.specs.declared.emm.Emm.{Emm}
 use Rattle.sd_message.specs.declared.emm.Entry.{Entry}
-use Rattle.sd_message.proofs.EmmSharing.{joined_are_all, all_are_of}
+use Rattle.sd_message.proofs.EmmSharing.{joined_are_all}
 use Rattle.sd_message.specs.EcmParts.{Message, parts_of, IsOfMessage}
 use Rattle.sd_message.specs.declared.ecm_part.EcmPart.{EcmPart}
 use Rattle.sd_message.proofs.EcmSharing as Parts

@@ -8,7 +8,7 @@ use Rattle.std.proofs.lemmas.List.Elements.{All-get_or}
 use Rattle.std.proofs.Math.Nat.{zero-div}
 use Rattle.sd_site.specs.SiteFields.{SiteFields}
 use Rattle.sd_spec.specs.Plan.{crypto_length, crypto_of, word_in, word_of}
-use Rattle.sd_spec.specs.Refused.{IsClear}
+use Rattle.sd_spec.specs.Refused.{IsSendable}
 use Rattle.sd_law_broadcast.proofs.Clear.{clear_words}
 use Rattle.sd_law_broadcast.specs.Runs.{Run, IsRun, HasWords, ShareNoWord, HaveOwnWords, last_crypto, UsesWord}
 
@@ -22,7 +22,7 @@ at_place P xs i x there all =
     subst P (get_or_from_slice_get xs i x x there) (All-get_or P xs i x (slice_get_within xs i x there) all)
 
 -- the word of a packet is of its site's range
-pub packet_words : (site : SiteFields) (clear : List (List ℕ)) (k : ℕ) → IsClear site clear → k < length clear
+pub packet_words : (site : SiteFields) (clear : List (List ℕ)) (k : ℕ) → IsSendable site clear → k < length clear
     → IsWordOf site (word_of site k)
 unfolding word_of
 packet_words site clear k is within = (omega arith, clear_words site clear k is within)
@@ -33,7 +33,7 @@ unfolding crypto_of
 first_crypto site = zero-div (crypto_length site)
 
 -- the word of the last packet, in its crypto period
-last_within : (site : SiteFields) (clear : List (List ℕ)) → IsClear site clear → 0 < length clear
+last_within : (site : SiteFields) (clear : List (List ℕ)) → IsSendable site clear → 0 < length clear
     → word_in site (crypto_of site (length clear - 1)) ≤ site.last_word
 unfolding word_of
 last_within site clear is some = clear_words site clear (length clear - 1) is (omega (arith, some))
@@ -46,7 +46,7 @@ used_words master run t q is some (n, within, word, period) =
     let site : SiteFields = run.plan.site in
     elim (cases_lt 0 (length run.clear)) [
       | inl has ↦
-          let last = last_within site run.clear is.is_clear has in
+          let last = last_within site run.clear is.is_sendable has in
           (omega (arith, word), omega (arith, word, within, last))
       | inr none ↦
           let empty : length run.clear - 1 ≡ 0 = omega (arith, none) in

@@ -7,7 +7,7 @@ use Rattle.sd_site.specs.SiteFields.{SiteFields}
 use Rattle.sd_book.specs.Commands.{revoked}
 use Rattle.sd_spec.specs.Plan.{Plan, IsPlan, crypto_of, word_in, period_in}
 use Rattle.sd_spec.specs.Kinds.{kind_of, is_scrambled}
-use Rattle.sd_spec.specs.Refused.{IsClear}
+use Rattle.sd_spec.specs.Refused.{IsSendable}
 use Rattle.sd_spec.specs.Sent.{Item, sent, closing_of}
 
 -- a broadcast: its site and book, and its clear stream
@@ -15,12 +15,12 @@ pub record Run : Type 0 where
   pub plan : Plan
   pub clear : Packets
 
--- The site and the book of the run are within their limits, the site has this master, and no packet of the clear stream
--- is refused.
+-- The site and the book of the run are within their limits, the site has this master, and each packet of the clear
+-- stream can be sent.
 pub record IsRun (master : Key) (run : Run) : Type 0 where
   pub plan_fits : IsPlan run.plan
   pub master_is : run.plan.site.master ≡ master
-  pub is_clear : IsClear run.plan.site run.clear
+  pub is_sendable : IsSendable run.plan.site run.clear
 
 -- all that the run sends, in order [this project, docs/FORMATS.md, Broadcast]
 unfoldable pub sent_by : Run → List Item

@@ -9,7 +9,7 @@ ghost use Rattle.sd_message.specs.declared.emm.Entry.{Entry};
 ghost use Rattle.sd_message.specs.declared.ecm_part.EcmPart.{EcmPart};
 ghost use Rattle.sd_spec.specs.Plan.{word_of};
 ghost use Rattle.sd_spec.specs.Carried.{pmt_carried};
-ghost use Rattle.sd_spec.specs.Refused.{IsClear};
+ghost use Rattle.sd_spec.specs.Refused.{IsSendable};
 ghost use Rattle.sd_spec.specs.Sent.{Item, Entitles, Controls, Carries};
 ghost use Rattle.sd_spec.specs.Items.{IsOfBroadcast};
 ghost use Rattle.sd_law_broadcast.specs.Packets.{AreWholePackets};
@@ -40,9 +40,9 @@ pub fn texts_lie_under_their_keystreams()
 /// In one broadcast, texts under one key and one stream number are equal, and two scrambled packets never have the same
 /// PID and position. Nothing is asked of the site's control words.
 pub fn a_broadcast_repeats_no_keystream()
-    ensures texts { (run : Run) (x y : Pad) → IsClear run.plan.site run.clear → Contains (pads_of run) x →
+    ensures texts { (run : Run) (x y : Pad) → IsSendable run.plan.site run.clear → Contains (pads_of run) x →
         Contains (pads_of run) y → x.key ≡ y.key → x.number ≡ y.number → x.text ≡ y.text }
-    ensures packets { (run : Run) (j k : PacketNumber) → IsClear run.plan.site run.clear → j < length run.clear →
+    ensures packets { (run : Run) (j k : PacketNumber) → IsSendable run.plan.site run.clear → j < length run.clear →
         k < length run.clear → is_veiled run j ≡ true → is_veiled run k ≡ true →
         number_at run j ≡ number_at run k → j ≡ k }
 {}

@@ -1,7 +1,7 @@
 //! What is known of what a broadcast sends, and what is taken of packets that stand one after the other.
 
 ghost use Rattle.std.specs.Prelude.{◌≡◌, ◌≤◌, None, length, ◌+◌, ◌-◌, ◌*◌, ◌/◌, ◌%◌, ◌^◌, ◌<◌, ◌++◌, ◌∷◌, [], ℕ, Bool};
-ghost use Rattle.std.specs.Prelude.{◌≢◌, true, false, All, Contains, drop, get_or, take};
+ghost use Rattle.std.specs.Prelude.{◌≢◌, ◌↔◌, true, false, All, Contains, drop, get_or, take};
 ghost use Rattle.std.specs.List.{concat};
 ghost use Rattle.sd_base.specs.Types.{Bytes, Packets, Packet, Pid, Position, PeriodNumber, WordNumber, PacketNumber};
 ghost use Rattle.sd_base.specs.Types.{MessageNumber};
@@ -9,7 +9,7 @@ ghost use Rattle.sd_engine.specs.Stream.{packets_of, break_of};
 ghost use Rattle.sd_engine.specs.Driving.{most_packets};
 ghost use Rattle.sd_engine.specs.Taken.{Whole, taken_of, end_of};
 ghost use Rattle.sd_spec.specs.Plan.{Plan, IsPlan, word_of, period_of, since_of, closing_number};
-ghost use Rattle.sd_spec.specs.Refused.{IsClear, refusal_of};
+ghost use Rattle.sd_spec.specs.Refused.{IsClear, IsSendable, pat_wrong, unsent_at};
 ghost use Rattle.sd_spec.specs.Sent.{body, broadcast, Controls, Entitles, sent_from, closing_of};
 ghost use Rattle.sd_law_broadcast.specs.Packets.{AreWholePackets, IsWholePacket, AreLong};
 ghost use Rattle.sd_law_broadcast.specs.Synced.{AreSynced, AreBytes};
@@ -59,13 +59,13 @@ pub fn taken_packets_join()
 /// The packets of a broadcast are ones that a stream may have, and no more than it may; and so are those of its body.
 #[tactic(auto, using(crate::proofs::Synced::broadcast_synced, crate::proofs::Synced::body_synced, crate::proofs::Counted::broadcast_short, crate::proofs::Counted::body_short))]
 pub fn broadcasts_fit_streams()
-    ensures packets { (plan : Plan) (clear : Packets) → IsPlan plan → IsClear plan.site clear →
+    ensures packets { (plan : Plan) (clear : Packets) → IsPlan plan → IsSendable plan.site clear →
         AreWholePackets clear → AreSynced clear → AreSynced (broadcast plan clear) }
-    ensures few { (plan : Plan) (clear : Packets) → IsPlan plan → IsClear plan.site clear →
+    ensures few { (plan : Plan) (clear : Packets) → IsPlan plan → IsSendable plan.site clear →
         length (broadcast plan clear) ≤ most_packets }
-    ensures body_packets { (plan : Plan) (clear : Packets) → IsPlan plan → IsClear plan.site clear →
+    ensures body_packets { (plan : Plan) (clear : Packets) → IsPlan plan → IsSendable plan.site clear →
         AreWholePackets clear → AreSynced clear → AreSynced (body plan clear) }
-    ensures body_few { (plan : Plan) (clear : Packets) → IsPlan plan → IsClear plan.site clear →
+    ensures body_few { (plan : Plan) (clear : Packets) → IsPlan plan → IsSendable plan.site clear →
         length (body plan clear) ≤ most_packets }
 {}
 
@@ -73,39 +73,46 @@ pub fn broadcasts_fit_streams()
 /// and so of a file that is its body.
 #[tactic(auto, using(crate::proofs::Taken::broadcast_taken, crate::proofs::Taken::body_taken))]
 pub fn broadcasts_are_taken()
-    ensures whole { (plan : Plan) (clear : Packets) → IsPlan plan → IsClear plan.site clear →
+    ensures whole { (plan : Plan) (clear : Packets) → IsPlan plan → IsSendable plan.site clear →
         AreWholePackets clear → AreSynced clear →
         (taken_of (concat (broadcast plan clear)) ≡ broadcast plan clear)
         × (end_of (concat (broadcast plan clear)) ≡ Whole) }
-    ensures body { (plan : Plan) (clear : Packets) → IsPlan plan → IsClear plan.site clear →
+    ensures body { (plan : Plan) (clear : Packets) → IsPlan plan → IsSendable plan.site clear →
         AreWholePackets clear → AreSynced clear →
         (taken_of (concat (body plan clear)) ≡ body plan clear) × (end_of (concat (body plan clear)) ≡ Whole) }
 {}
 
-/// The first packets of a clear stream are a clear stream, which goes on as long as no packet is refused; a packet that
-/// is not refused breaks no rule.
-pub fn clear_streams_go_on()
-    ensures prefix { (site : SiteFields) (xs ys : Packets) → IsClear site (xs ++ ys) → IsClear site xs }
-    ensures first { (site : SiteFields) (clear : Packets) (k : PacketNumber) → IsClear site clear → IsClear site
-        (take k clear) }
-    ensures next { (site : SiteFields) (before : Packets) (packet : Packet) →
-        IsClear site (before ++ packet ∷ []) → refusal_of site before packet ≡ None }
-    ensures more { (site : SiteFields) (before : Packets) (packet : Packet) → IsClear site before →
-        refusal_of site before packet ≡ None → IsClear site (before ++ packet ∷ []) }
-    ensures each { (site : SiteFields) (clear : Packets) (k : PacketNumber) → IsClear site clear → k < length clear →
-        refusal_of site (take k clear) (get_or clear k []) ≡ None }
-    ensures rules { (site : SiteFields) (before : Packets) (packet : Packet) →
-        refusal_of site before packet ≡ None → IsAccepted site before packet }
+/// A clear stream is one of which each packet can be sent, and each that is to be a PAT is one by itself.
+pub fn clear_streams_are_sendable()
+    ensures sendable { (site : SiteFields) (clear : Packets) → IsClear site clear → IsSendable site clear }
+    ensures clear { (site : SiteFields) (clear : Packets) →
+        IsClear site clear ↔ (IsSendable site clear × All (λ packet. pat_wrong packet ≡ None) clear) }
 {}
 
-/// A clear stream has fewer than 2^32 packets, no more than 256 PIDs with positions that moved, and no control word
-/// above the site's last.
+/// If each packet of a clear stream can be sent, so can its first packets, and the stream goes on as long as the next
+/// packet can be sent. Such a packet breaks no rule but that on PATs.
+pub fn clear_streams_go_on()
+    ensures prefix { (site : SiteFields) (xs ys : Packets) → IsSendable site (xs ++ ys) → IsSendable site xs }
+    ensures first { (site : SiteFields) (clear : Packets) (k : PacketNumber) → IsSendable site clear → IsSendable site
+        (take k clear) }
+    ensures next { (site : SiteFields) (before : Packets) (packet : Packet) →
+        IsSendable site (before ++ packet ∷ []) → unsent_at site before (length before) packet ≡ None }
+    ensures more { (site : SiteFields) (before : Packets) (packet : Packet) → IsSendable site before →
+        unsent_at site before (length before) packet ≡ None → IsSendable site (before ++ packet ∷ []) }
+    ensures each { (site : SiteFields) (clear : Packets) (k : PacketNumber) → IsSendable site clear → k < length clear →
+        unsent_at site (take k clear) k (get_or clear k []) ≡ None }
+    ensures rules { (site : SiteFields) (before : Packets) (packet : Packet) →
+        unsent_at site before (length before) packet ≡ None → IsAccepted site before packet }
+{}
+
+/// If each packet of a clear stream can be sent, it has fewer than 2^32 packets, no more than 256 PIDs with positions
+/// that moved, and no control word above the site's last.
 pub fn clear_streams_are_bounded()
-    ensures packets { (site : SiteFields) (clear : Packets) → IsClear site clear → length clear < 2 ^ 32 }
-    ensures pids { (site : SiteFields) (clear : Packets) → IsClear site clear →
+    ensures packets { (site : SiteFields) (clear : Packets) → IsSendable site clear → length clear < 2 ^ 32 }
+    ensures pids { (site : SiteFields) (clear : Packets) → IsSendable site clear →
         length (moved_pids clear) ≤ most_places }
-    ensures words { (site : SiteFields) (clear : Packets) (k : PacketNumber) → IsClear site clear → k < length clear →
-        word_of site k ≤ site.last_word }
+    ensures words { (site : SiteFields) (clear : Packets) (k : PacketNumber) → IsSendable site clear →
+        k < length clear → word_of site k ≤ site.last_word }
 {}
 
 /// The entitlements of each period below 2^32 are a period's, and their sets may stand at the site's height; each
@@ -121,12 +128,12 @@ pub fn periods_fit()
 /// their control words below 2^32, and so those before packets and the closing one.
 pub fn messages_fit()
     ensures any { (plan : Plan) (before : Packets) (a : MessageNumber) (k : PacketNumber) (closing : Bool) →
-        IsPlan plan → IsClear plan.site before → a < 2 ^ 32 → word_of plan.site k < 2 ^ 32 →
+        IsPlan plan → IsSendable plan.site before → a < 2 ^ 32 → word_of plan.site k < 2 ^ 32 →
         IsMessage (message_at plan before a k closing) }
-    ensures before { (plan : Plan) (before : Packets) → IsPlan plan → IsClear plan.site before →
+    ensures before { (plan : Plan) (before : Packets) → IsPlan plan → IsSendable plan.site before →
         word_of plan.site (length before) < 2 ^ 32 →
         IsMessage (message_at plan before (length before / plan.site.every) (length before) false) }
-    ensures closing { (plan : Plan) (clear : Packets) → IsPlan plan → IsClear plan.site clear →
+    ensures closing { (plan : Plan) (clear : Packets) → IsPlan plan → IsSendable plan.site clear →
         IsMessage (message_at plan clear (closing_number plan.site (length clear)) (length clear - 1) true) }
 {}
 
@@ -134,7 +141,7 @@ pub fn messages_fit()
 /// disjoint sets that have just the leaves that are entitled in the period, one set where none is revoked and at most
 /// 2r - 1 where r are. No revoked leaf is in one of them, or reaches a label or the key of one.
 pub fn covers_are_named()
-    ensures { (plan : Plan) (clear : Packets) (q : PeriodNumber) → IsPlan plan → IsClear plan.site clear →
+    ensures { (plan : Plan) (clear : Packets) (q : PeriodNumber) → IsPlan plan → IsSendable plan.site clear →
         AreLong clear → plan.site.first_period ≤ q → q ≤ period_of plan (length clear - 1) →
         NamesPeriod plan q (sets_named plan.site.height plan.site.emm q (broadcast plan clear)) }
 {}
@@ -159,7 +166,7 @@ pub fn messages_are_numbered()
     ensures number { (plan : Plan) (clear : Packets) (a : MessageNumber) → (numbered plan clear a).number ≡ a }
     ensures since { (plan : Plan) (clear : Packets) (a : MessageNumber) →
         (numbered plan clear a).since ≡ since_of plan.site.messages plan.site.cryptos a }
-    ensures fits { (plan : Plan) (clear : Packets) (a : MessageNumber) → IsPlan plan → IsClear plan.site clear →
+    ensures fits { (plan : Plan) (clear : Packets) (a : MessageNumber) → IsPlan plan → IsSendable plan.site clear →
         a ≤ closing_number plan.site (length clear) → IsMessage (numbered plan clear a) }
     ensures parts { (plan : Plan) (clear : Packets) (one : EcmPart) → AreInRange plan.site →
         IsOfBroadcast plan clear (Controls one) →
@@ -174,13 +181,13 @@ pub fn what_is_sent_comes_in_order()
         All (IsOfRest plan clear k) (sent_from plan (take k clear) (drop k clear) ++ closing_of plan clear) }
 {}
 
-/// The last word that a site may use is in no packet that is sent. A clear stream is one of the same site with another
-/// last word, if none of its packets has a word above that.
+/// The last word that a site may use is in no packet that is sent. If each packet of a clear stream can be sent, so it
+/// can with another last word, if none of the packets has a word above that.
 pub fn last_word_is_a_bound()
     ensures sent { (plan : Plan) (clear : Packets) (x : WordNumber) →
         broadcast (plan_up_to x plan) clear ≡ broadcast plan clear }
-    ensures fewer_words { (site : SiteFields) (clear : Packets) (x : WordNumber) → IsClear site clear →
-        ((k : PacketNumber) → k < length clear → word_of site k ≤ x) → IsClear (up_to x site) clear }
+    ensures fewer_words { (site : SiteFields) (clear : Packets) (x : WordNumber) → IsSendable site clear →
+        ((k : PacketNumber) → k < length clear → word_of site k ≤ x) → IsSendable (up_to x site) clear }
 {}
 
 /// A clear packet is carried under its own header but for transport_scrambling_control, which tells whether it is

@@ -16,7 +16,7 @@ ghost use Rattle.sd_spec.specs.Sent.{Entitles, Controls};
 ghost use Rattle.sd_spec.specs.Items.{IsOfBroadcast};
 ghost use Rattle.sd_law_broadcast.specs.Runs.{Run, IsRun, HasWords, UsesWord, UsesPeriod, AgreeOnPeriods};
 
-/// A broadcast of which no packet is refused uses control words of its site's range alone.
+/// A broadcast of which each packet can be sent uses control words of its site's range alone.
 pub fn words_are_own()
     ensures { (master : Key) (run : Run) (t : WordNumber) (q : PeriodNumber) → IsRun master run →
         HasWords run.plan.site → UsesWord run t q → (run.plan.site.first_word ≤ t) × (t ≤ run.plan.site.last_word) }

@@ -30,7 +30,7 @@ air_is_run root calls air is on =
             (read_within root.site.height air.book (commands_said air.book) on.commands);
       };
       master_is = sym set.master;
-      is_clear = on.clear;
+      is_sendable = on.sendable;
     }
 
 pub all_are_runs : (root : Link) (calls : List Call) (airs : List OnAir) → IsChain root calls →

@@ -73,7 +73,7 @@ is_run_of root calls one is on whole =
       emm = sym set.emm;
       ecm = sym set.ecm;
       plan = (air_is_run root calls one.air is on).plan_fits;
-      clear = on.clear;
+      sendable = on.sendable;
       whole = whole;
     }
 

@@ -14,7 +14,7 @@ use Rattle.sd_book.specs.declared.command.Command.TheVariants.{Subscribe}
 use Rattle.sd_book.specs.Commands.{commands_until, last_period}
 use Rattle.sd_book.specs.Text.{book_of}
 use Rattle.sd_spec.specs.Plan.{Plan}
-use Rattle.sd_spec.specs.Refused.{IsClear}
+use Rattle.sd_spec.specs.Refused.{IsSendable}
 use Rattle.sd_law_broadcast.specs.Runs.{Run, HasWords}
 use Rattle.sd_command_base.specs.Files.{ends_lines}
 use Rattle.sd_run_books.specs.Chain.{commands_said, line_of}
@@ -130,14 +130,14 @@ plan_of root calls air = record { site = site_at root calls air.number; commands
 abbrev pub run_of : Link → List Call → OnAir → Run
 run_of root calls air = record { plan = plan_of root calls air; clear = air.clear }
 
--- the head end refuses neither the book nor a packet
+-- the book is not refused, and each packet can be sent
 pub record IsOnAir (root : Link) (calls : List Call) (air : OnAir) : Type 0 where
   pub there : air.number ≤ length calls
   -- each site that a call made has a control word; it is asked of the first one
   pub words : HasWords (site_at root calls air.number)
   pub book : IsLike air.book (book_at root calls air.number)
   pub commands : book_of root.site.height air.book ≡ Ok (commands_said air.book)
-  pub clear : IsClear (site_at root calls air.number) air.clear
+  pub sendable : IsSendable (site_at root calls air.number) air.clear
 
 -- the operator's duty: each site is for one broadcast
 abbrev pub HaveOwnSites : List OnAir → Type 0

@@ -1,25 +1,22 @@
--- A changed clear stream is one that the head end takes, and what arrives of its broadcast is changed in the same bits.
+-- A changed clear stream can be sent as before, and what arrives of its broadcast is changed in the same bits.
 use Rattle.std.proofs.Common.{◌≡◌, refl, ℕ, ◌==◌, ◌&&◌, ◌++◌, Bool, true, false, not, List, [], ◌∷◌, length, map}
-use Rattle.std.proofs.Common.{Option, Some, None, ap, sym, ◌∙◌, inl, arith}
+use Rattle.std.proofs.Common.{Option, Some, None, ap, sym, ◌∙◌, inl}
 use Rattle.std.specs.Prelude.{nat_le, All}
 use Rattle.std.specs.Option.{option_map_or}
-use Rattle.std.proofs.lemmas.Bool.Decides.{nat_tests}
 use Rattle.std.proofs.lemmas.List.Elements.{All-nil, All-cons, All-head, All-tail}
-use Rattle.sd_base.proofs.Bools.{tested}
 use Rattle.sd_packet.specs.Header.{pid_of, scrambling_of}
 use Rattle.sd_packet.specs.Positions.{is_placed}
 use Rattle.sd_site.specs.SiteFields.{SiteFields}
-use Rattle.sd_psi.specs.declared.fault.FormFault.{FormFault}
 use Rattle.sd_psi.specs.declared.fault.FormFault.TheVariants as Form
 use Rattle.sd_psi.specs.declared.clear_fault.ClearFault.{ClearFault}
-use Rattle.sd_psi.specs.declared.clear_fault.ClearFault.TheVariants.{AlreadyScrambled, PidTaken, PatForm, PmtForm}
+use Rattle.sd_psi.specs.declared.clear_fault.ClearFault.TheVariants.{AlreadyScrambled, PidTaken, PmtForm}
 use Rattle.sd_psi.specs.declared.clear_fault.ClearFault.TheVariants.{TooManyPids, TooLong}
 use Rattle.sd_message.specs.EcmVersions.{most_places}
 use Rattle.sd_spec.specs.declared.kind.Kind.{Kind}
 use Rattle.sd_spec.specs.declared.kind.Kind.TheVariants.{Passed, Pmt, Scrambled}
 use Rattle.sd_spec.specs.Kinds.{kind_of, has_moved, moved_pids}
-use Rattle.sd_spec.specs.Refused.{fault_where, form_where, is_reserved_pid, pat_wrong, is_full_own, is_one_too_many}
-use Rattle.sd_spec.specs.Refused.{is_too_long, refusal_of, refusal_from}
+use Rattle.sd_spec.specs.Refused.{fault_where, is_reserved_pid, is_full_own, is_one_too_many}
+use Rattle.sd_spec.specs.Refused.{is_too_long, unsent_at, unsent_from}
 use Rattle.sd_spec.specs.Sent.{broadcast}
 use Rattle.sd_law_broadcast.specs.Packets.{IsWholePacket, AreWholePackets}
 use Rattle.sd_law_losses.specs.Chosen.{chosen}
@@ -49,34 +46,25 @@ whole_changed before (packet ∷ packets) (mask ∷ masks) whole are =
     (whole_one before packet mask (All-head IsWholePacket packet packets whole) are.0)
     (whole_changed (before ++ packet ∷ []) packets masks (All-tail IsWholePacket packet packets whole) are.1)
 
--- none is refused that was not
-abbrev refusal_by : SiteFields → Bool → ℕ → Option FormFault → Bool → Bool → ℕ → Option ClearFault
-refusal_by site marked pid wrong full many n =
+-- a packet can be sent if it could before
+abbrev unsent_by : SiteFields → Bool → ℕ → Bool → Bool → ℕ → Option ClearFault
+unsent_by site marked pid full many n =
     fault_where marked (AlreadyScrambled n)
     (fault_where (is_reserved_pid site pid) (PidTaken n pid)
-    (form_where wrong (PatForm n)
     (fault_where full (PmtForm n Form.NoRoom)
     (fault_where many (TooManyPids n)
     (fault_where (is_too_long site n) (TooLong n)
-    None)))))
+    None))))
 
-refusal_same : (site : SiteFields) (marked other : Bool) (pid q : ℕ) (wrong fault : Option FormFault)
-    (full own many more : Bool) (n k : ℕ) → other ≡ marked → q ≡ pid → fault ≡ wrong → own ≡ full → more ≡ many →
-    k ≡ n → refusal_by site other q fault own more k ≡ refusal_by site marked pid wrong full many n
-refusal_same site marked other pid q wrong fault full own many more n k a b c d e f =
-    ap (λ (x : Bool). refusal_by site x q fault own more k) a
-    ∙ (ap (λ (x : ℕ). refusal_by site marked x fault own more k) b
-    ∙ (ap (λ (x : Option FormFault). refusal_by site marked pid x own more k) c
-    ∙ (ap (λ (x : Bool). refusal_by site marked pid wrong x more k) d
-    ∙ (ap (λ (x : Bool). refusal_by site marked pid wrong full x k) e
-    ∙ ap (refusal_by site marked pid wrong full many) f))))
-
-pat_same : (packet other : List ℕ) → IsAlike packet other → pat_wrong other ≡ pat_wrong packet
-pat_same packet other is = tested (pid_of packet == 0)
-    (λ here.
-    let zero : pid_of packet ≡ 0 = grind (arith, nat_tests, here) in
-    ap pat_wrong (is.table zero))
-    (λ off. rw (is.pid, off) refl)
+unsent_same : (site : SiteFields) (marked other : Bool) (pid q : ℕ) (full own many more : Bool) (n k : ℕ) →
+    other ≡ marked → q ≡ pid → own ≡ full → more ≡ many → k ≡ n →
+    unsent_by site other q own more k ≡ unsent_by site marked pid full many n
+unsent_same site marked other pid q full own many more n k a b c d e =
+    ap (λ (x : Bool). unsent_by site x q own more k) a
+    ∙ (ap (λ (x : ℕ). unsent_by site marked x own more k) b
+    ∙ (ap (λ (x : Bool). unsent_by site marked pid x more k) c
+    ∙ (ap (λ (x : Bool). unsent_by site marked pid full x k) d
+    ∙ ap (unsent_by site marked pid full many) e)))
 
 full_by : (site : SiteFields) (kind : Kind) (packet mask : List ℕ) → (kind ≡ Pmt → mask ≡ []) →
     is_full_own site kind (changed_by packet mask) ≡ is_full_own site kind packet
@@ -106,24 +94,24 @@ many_same before after packet other are is =
     (ap (has_moved after) is.pid ∙ same_has_moved (pid_of packet) before after are)
     (ap (λ (pids : List ℕ). length pids) (same_moved_pids before after are))
 
-unrefused : (site : SiteFields) (before after : List (List ℕ)) (packet mask : List ℕ) → AreAlike before after →
-    IsHarmless before packet mask → refusal_of site after (changed_by packet mask) ≡ refusal_of site before packet
-unfolding refusal_of
-unrefused site before after packet mask are is =
+still_sent : (site : SiteFields) (before after : List (List ℕ)) (packet mask : List ℕ) → AreAlike before after →
+    IsHarmless before packet mask →
+    unsent_at site after (length after) (changed_by packet mask) ≡ unsent_at site before (length before) packet
+unfolding unsent_at
+still_sent site before after packet mask are is =
     let other : List ℕ = changed_by packet mask in
     let alike = harmless_alike before packet mask is in
-    refusal_same site (not (scrambling_of packet == 0)) (not (scrambling_of other == 0)) (pid_of packet) (pid_of other)
-    (pat_wrong packet) (pat_wrong other) (is_full_own site (kind_of before packet) packet)
-    (is_full_own site (kind_of after other) other) (is_one_too_many before packet) (is_one_too_many after other)
-    (length before) (length after)
+    unsent_same site (not (scrambling_of packet == 0)) (not (scrambling_of other == 0)) (pid_of packet) (pid_of other)
+    (is_full_own site (kind_of before packet) packet) (is_full_own site (kind_of after other) other)
+    (is_one_too_many before packet) (is_one_too_many after other) (length before) (length after)
     (ap (λ (control : ℕ). not (control == 0)) (scrambling_by other packet alike.fourth)) is.pid
-    (pat_same packet other alike) (full_same site before after packet mask are is)
-    (many_same before after packet other are alike) (alike_length before after are)
+    (full_same site before after packet mask are is) (many_same before after packet other are alike)
+    (alike_length before after are)
 
 pub clear_changed : (site : SiteFields) (packets masks before after : List (List ℕ)) → AreAlike before after →
     AreHarmless before packets masks →
-    refusal_from site after (all_changed packets masks) ≡ refusal_from site before packets
-unfolding refusal_from
+    unsent_from site after (all_changed packets masks) ≡ unsent_from site before packets
+unfolding unsent_from
 clear_changed site [] [] before after are harmless = refl
 clear_changed site [] (mask ∷ masks) before after are harmless = absurd harmless
 clear_changed site (packet ∷ packets) [] before after are harmless = absurd harmless
@@ -132,9 +120,9 @@ clear_changed site (packet ∷ packets) (mask ∷ masks) before after are harmle
     (alike_more before after (packet ∷ []) (changed_by packet mask ∷ []) are
     (harmless_alike before packet mask harmless.0, tt)) harmless.1 in
     ap (λ (fault : Option ClearFault). option_map_or Some fault
-    (refusal_from site (after ++ changed_by packet mask ∷ []) (all_changed packets masks)))
-    (unrefused site before after packet mask are harmless.0)
-    ∙ ap (option_map_or Some (refusal_of site before packet)) rest
+    (unsent_from site (after ++ changed_by packet mask ∷ []) (all_changed packets masks)))
+    (still_sent site before after packet mask are harmless.0)
+    ∙ ap (option_map_or Some (unsent_at site before (length before) packet)) rest
 
 pub run_taken : (channel : Channel) (one : Damaged) → IsRunOf channel one.run →
     AreHarmless [] one.run.clear one.masks → IsRunOf channel (run_changed one)
@@ -145,7 +133,7 @@ run_taken channel one is harmless = record {
   emm = is.emm;
   ecm = is.ecm;
   plan = is.plan;
-  clear = clear_changed one.run.plan.site one.run.clear one.masks [] [] tt harmless ∙ is.clear;
+  sendable = clear_changed one.run.plan.site one.run.clear one.masks [] [] tt harmless ∙ is.sendable;
   whole = whole_changed [] one.run.clear one.masks is.whole harmless;
 }
 

@@ -23,6 +23,7 @@ use Rattle.sd_law_broadcast.specs.Synced.{AreSynced}
 use Rattle.sd_law_broadcast.proofs.Counted.{added_upto, sent_upto}
 use Rattle.sd_law_broadcast.proofs.Joined.{joined_long}
 use Rattle.sd_law_broadcast.proofs.Synced.{body_synced}
+use Rattle.sd_law_broadcast.proofs.Sendable.{clear_sendable}
 use Rattle.sd_spec.proofs.Fitting.{revoked_few}
 use Rattle.sd_law_field.specs.Times.{most_added}
 
@@ -50,11 +51,14 @@ module _ (plan : Plan) (low : plan.site.height ≤ 6) (is : IsPlan plan) where
 
 pub added_is_short : (plan : Plan) (before : List (List ℕ)) (packet : List ℕ) → plan.site.height ≤ 6 → IsPlan plan →
     IsClear plan.site (before ++ packet ∷ []) → length (added plan before packet) ≤ most_added
-added_is_short plan before packet low is all = added_upto plan is 44 (tables_few plan low is) before packet all
+added_is_short plan before packet low is all =
+    added_upto plan is 44 (tables_few plan low is) before packet
+    (clear_sendable plan.site (before ++ packet ∷ []) all)
 
 pub sent_is_short : (plan : Plan) (clear : List (List ℕ)) → plan.site.height ≤ 6 → IsPlan plan →
     IsClear plan.site clear → length (sent plan clear) ≤ most_added * length clear
-sent_is_short plan clear low is all = omega (arith, sent_upto plan is 44 (tables_few plan low is) [] clear all)
+sent_is_short plan clear low is all =
+    omega (arith, sent_upto plan is 44 (tables_few plan low is) [] clear (clear_sendable plan.site clear all))
 
 -- and how many bytes they are
 pub body_is_short : (plan : Plan) (clear : List (List ℕ)) → plan.site.height ≤ 6 → IsPlan plan →
@@ -64,7 +68,7 @@ unfolding body
 body_is_short plan clear low is all whole synced =
     omega (
       arith,
-      joined_long (body plan clear) (body_synced plan clear is all whole synced),
+      joined_long (body plan clear) (body_synced plan clear is (clear_sendable plan.site clear all) whole synced),
       packets_many plan.site [] (sent plan clear),
-      sent_upto plan is 44 (tables_few plan low is) [] clear all,
+      sent_upto plan is 44 (tables_few plan low is) [] clear (clear_sendable plan.site clear all),
     )

@@ -17,6 +17,7 @@ use Rattle.sd_psi.specs.declared.clear_fault.ClearFault.{ClearFault}
 use Rattle.sd_law_broadcast.specs.Synced.{IsSynced, AreSynced}
 use Rattle.sd_law_broadcast.proofs.Joined.{joined_long}
 use Rattle.sd_law_broadcast.proofs.Synced.{body_synced}
+use Rattle.sd_law_broadcast.proofs.Sendable.{clear_sendable}
 use Rattle.sd_law_losses.specs.Confirmed.{is_revoked_in, packet_at, packets_at}
 use Rattle.sd_spec.specs.declared.event.Event.{Event}
 use Rattle.sd_spec.specs.Book.{sends}
@@ -72,7 +73,8 @@ unfolding lines_to confirmed_lines
 first_same site clear events good =
     let plan : Plan = plan_for site clear events in
     let sent : List (List ℕ) = sent_for clear events in
-    let synced = body_synced plan sent (plan_is site clear events good) good.sent good.whole good.synced in
+    let synced = body_synced plan sent (plan_is site clear events good) (clear_sendable site sent good.sent) good.whole
+    good.synced in
     ap (λ (past : List Event). first_line (sends (length clear) past)
     (length (concat (body plan (take (sends (length clear) past) clear))) / 188) (last_period plan.commands))
     (past_is site clear events)

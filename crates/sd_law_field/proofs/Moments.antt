@@ -1,6 +1,6 @@
 -- What receivers write, at whatever moments of whatever fields.
 use Rattle.std.proofs.Common.{arith, ◌≡◌, ℕ, ◌<◌, ◌≤◌, ◌^◌, true, List, [], ◌∷◌, ◌++◌, refl, sym, ap}
-use Rattle.std.proofs.Common.{subst, ◌∙◌, length, get_or, take, drop, reverse}
+use Rattle.std.proofs.Common.{subst, ◌∙◌, length, get_or, take, take_all, drop, reverse}
 use Rattle.std.specs.Prelude.{All, Some, slice_get}
 use Rattle.std.proofs.lemmas.List.{length-map, length-take, reverse-append, take-append-drop, take-take}
 use Rattle.std.proofs.lemmas.List.Elements.{All-head, All-tail, All-take}
@@ -10,7 +10,7 @@ use Rattle.sd_site.specs.CardFields.{card_of}
 use Rattle.sd_spec.specs.Refused.{IsClear}
 use Rattle.sd_law_broadcast.specs.Packets.{IsWholePacket}
 use Rattle.sd_law_broadcast.specs.Synced.{IsSynced}
-use Rattle.sd_law_broadcast.proofs.Clear.{take_clear}
+use Rattle.sd_field.proofs.Refused.{refused_in_front}
 use Rattle.sd_law_losses.specs.Confirmed.{packet_at, packets_at}
 use Rattle.sd_law_losses.proofs.Losses.{all_second}
 use Rattle.sd_spec.specs.declared.event.Event.{Event}
@@ -91,6 +91,13 @@ first_sent n clear events =
     sym (take-take (sends (length clear) (reverse (take n events))) (sends (length clear) (reverse events)) clear
     (fewer_sent n clear events))
 
+-- the first packets of a clear stream are one
+first_clear : (site : SiteFields) (clear : List (List ℕ)) (k : ℕ) → IsClear site clear → IsClear site (take k clear)
+first_clear site clear k all =
+    let whole = subst (IsClear site) (sym (take_all (length clear) clear (omega arith))) all in
+    let each = (refused_in_front site clear (length clear)).0 whole in
+    (refused_in_front site clear k).1 (λ j low within. each j within within)
+
 pub first_are_good : (site : SiteFields) (clear : List (List ℕ)) (events : List Event) (n : ℕ) →
     IsGoodField site clear events → IsGoodField site clear (take n events)
 first_are_good site clear events n good =
@@ -105,7 +112,7 @@ first_are_good site clear events n good =
           (subst (All (λ event. is_of site.height event ≡ true)) (sym (parted n events)) good.leaves);
       whole = subst (All IsWholePacket) same (All-take IsWholePacket k (sent_for clear events) good.whole);
       synced = subst (All IsSynced) same (All-take IsSynced k (sent_for clear events) good.synced);
-      sent = subst (IsClear site) same (take_clear site (sent_for clear events) k good.sent);
+      sent = subst (IsClear site) same (first_clear site (sent_for clear events) k good.sent);
     }
 
 -- what they write is the same by the book of all events

@@ -9,6 +9,7 @@ use Rattle.sd_spec.proofs.Sending.{packets_in_turn}
 use Rattle.sd_spec.proofs.Bodies.{packets_many}
 use Rattle.sd_law_broadcast.specs.Packets.{AreWholePackets}
 use Rattle.sd_law_broadcast.specs.Synced.{AreSynced}
+use Rattle.sd_law_broadcast.proofs.Sendable.{clear_sendable}
 use Rattle.sd_spec.specs.Offered.{out_from, break_from}
 use Rattle.sd_law_losses.specs.Chosen.{chosen}
 use Rattle.sd_law_losses.specs.Confirmed.{packets_at, confirmed}
@@ -52,7 +53,8 @@ pub none_refused : (plan : Plan) (clear : List (List ℕ)) (u : ℕ) (places : L
     break_from (card_at plan u) [] (at_places [] (stream plan clear) places) ≡ None
 none_refused plan clear u places is all whole synced leaf up below =
     ap (break_from (card_at plan u) []) (stream_chosen plan clear places up below is all whole synced)
-    ∙ none_of_choice plan clear u (flags_of places (length (sent plan clear))) is all whole leaf
+    ∙ none_of_choice plan clear u (flags_of places (length (sent plan clear))) is
+    (clear_sendable plan.site clear all) whole leaf
 
 -- and writes what is confirmed to it
 pub time_writes : (plan : Plan) (clear : List (List ℕ)) (u : ℕ) (places : List ℕ) → IsPlan plan →
@@ -63,5 +65,6 @@ pub time_writes : (plan : Plan) (clear : List (List ℕ)) (u : ℕ) (places : Li
 unfolding confirmed places_in
 time_writes plan clear u places is all whole synced leaf up below =
     ap (out_from (card_at plan u) []) (stream_chosen plan clear places up below is all whole synced)
-    ∙ (confirmed_alone plan clear u (flags_of places (length (sent plan clear))) is all whole leaf
+    ∙ (confirmed_alone plan clear u (flags_of places (length (sent plan clear))) is
+    (clear_sendable plan.site clear all) whole leaf
     ∙ ap (confirmed plan u clear) (items_kept plan clear places up below))

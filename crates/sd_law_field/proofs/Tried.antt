@@ -11,7 +11,7 @@ use Rattle.sd_base.proofs.Arithmetic.{packets_in}
 use Rattle.sd_site.specs.CardFields.{CardFields, card_of}
 use Rattle.sd_engine.specs.Taken.{StreamEnd, Whole, Breaks, RunsOn, taken_of, end_of}
 use Rattle.sd_spec.specs.Plan.{Plan, IsPlan, period_of}
-use Rattle.sd_spec.specs.Refused.{IsClear, refusal_from}
+use Rattle.sd_spec.specs.Refused.{IsClear, IsSendable, refusal_from}
 use Rattle.sd_psi.specs.declared.clear_fault.ClearFault.{ClearFault}
 use Rattle.sd_spec.specs.Sent.{broadcast}
 use Rattle.sd_law_broadcast.specs.Packets.{AreWholePackets}
@@ -20,6 +20,7 @@ use Rattle.sd_law_broadcast.proofs.Joined.{joined_long}
 use Rattle.sd_law_broadcast.proofs.Cut.{taken_synced, taken_joined, taken_whole}
 use Rattle.sd_law_broadcast.proofs.Synced.{broadcast_synced}
 use Rattle.sd_law_broadcast.proofs.Taken.{broadcast_taken}
+use Rattle.sd_law_broadcast.proofs.Sendable.{clear_sendable}
 use Rattle.sd_spec.specs.Offered.{out_from, break_from}
 use Rattle.sd_spec.specs.Ending.{ending_of}
 use Rattle.sd_law_losses.specs.Confirmed.{packet_at, packets_at, opened_by, is_revoked_in}
@@ -79,6 +80,9 @@ module _ (plan : Plan) (clear : List (List ℕ)) (is : IsPlan plan) (all : IsCle
   abbrev stream : List ℕ
   stream = concat (broadcast plan clear)
 
+  can : IsSendable plan.site clear
+  can = clear_sendable plan.site clear all
+
   abbrev card : ℕ → CardFields
   card u = card_of plan.site.master plan.site.ca plan.site.height u
 
@@ -89,18 +93,18 @@ module _ (plan : Plan) (clear : List (List ℕ)) (is : IsPlan plan) (all : IsCle
   heard_bytes : (u : ℕ) → u < 2 ^ plan.site.height → received_of (card u) stream ≡ concat (opened_by plan u clear)
   heard_bytes u leaf =
       bytes_are (card u) stream
-      ∙ ap (λ (ps : List (List ℕ)). concat (out_from (card u) [] ps)) (broadcast_taken plan clear is all whole synced).0
-      ∙ ap concat (whole_opened plan clear u is all whole leaf)
+      ∙ ap (λ (ps : List (List ℕ)). concat (out_from (card u) [] ps)) (broadcast_taken plan clear is can whole synced).0
+      ∙ ap concat (whole_opened plan clear u is can whole leaf)
 
   heard_status : (u : ℕ) → u < 2 ^ plan.site.height →
       received_status (card u) stream ≡ ending_status u (whole_ending (first_revoked plan u clear))
   unfolding ended_status
   heard_status u leaf =
-      let taken = broadcast_taken plan clear is all whole synced in
+      let taken = broadcast_taken plan clear is can whole synced in
       none_refused (card u) stream Whole
-      (ap (break_from (card u) []) taken.0 ∙ whole_refused plan clear u is all whole leaf) taken.1
+      (ap (break_from (card u) []) taken.0 ∙ whole_refused plan clear u is can whole leaf) taken.1
       ∙ ap (λ (ps : List (List ℕ)). ending_status (card u).leaf (ending_of (card u) (reverse ps))) taken.0
-      ∙ ap (ending_status (card u).leaf) (whole_ended plan clear u is all whole leaf)
+      ∙ ap (ending_status (card u).leaf) (whole_ended plan clear u is can whole leaf)
       ∙ ap (λ (v : ℕ). ending_status v (whole_ending (first_revoked plan u clear))) (leaf_is u)
 
   heard_line : (u : ℕ) → u < 2 ^ plan.site.height →
@@ -141,7 +145,8 @@ trial_opened plan bytes is all are end =
     let size : length bytes / 188 ≡ length clear =
     ap (λ (xs : List ℕ). length xs / 188) (sym (taken_joined bytes end)) ∙ long_packets clear synced in
     let long : length stream / 188 ≡ length (broadcast plan clear) =
-    long_packets (broadcast plan clear) (broadcast_synced plan clear is all whole synced) in
+    long_packets (broadcast plan clear)
+    (broadcast_synced plan clear is (clear_sendable plan.site clear all) whole synced) in
     ap (trial_lines plan (length bytes)) (all_told (sent_status plan bytes) (sent_of plan bytes) stream sent.1 sent.0)
     ∙ ap (λ (n : ℕ). lines_to plan.site stream (clear_line n (length stream / 188)) (2 ^ plan.site.height)) size
     ∙ ap (λ (n : ℕ). lines_to plan.site stream (clear_line (length clear) n) (2 ^ plan.site.height)) long

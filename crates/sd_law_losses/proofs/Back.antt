@@ -17,7 +17,7 @@ use Rattle.sd_keystream.proofs.Scramblings.{undone, control_fits}
 use Rattle.sd_spec.specs.Plan.{word_of}
 use Rattle.sd_spec.specs.Kinds.{kind_of, pmts_in}
 use Rattle.sd_spec.specs.Carried.{parity_of, place_after, pmt_carried, veiled, carried_as, carried}
-use Rattle.sd_spec.specs.Refused.{refusal_of, is_full_own}
+use Rattle.sd_spec.specs.Refused.{unsent_at, is_full_own}
 use Rattle.sd_spec.specs.declared.kind.Kind.{Kind}
 use Rattle.sd_spec.specs.declared.kind.Kind.TheVariants.{Passed, Pmt, Scrambled}
 use Rattle.sd_spec.specs.Confirmed.{Segment, unmarked}
@@ -71,17 +71,17 @@ pmt_back site packet segment is placed own ca ecm = elim (cases_Bool (is_none (r
 
 -- a clear packet comes back
 pub clear_back : (site : SiteFields) (before : List (List ℕ)) (packet : List ℕ) (segment : Segment) →
-    IsWholePacket packet → refusal_of site before packet ≡ None → segment.ca ≡ site.ca → segment.ecm ≡ site.ecm →
-    kind_of before packet ≢ Scrambled → unmarked segment (carried site before packet) ≡ packet
+    IsWholePacket packet → unsent_at site before (length before) packet ≡ None → segment.ca ≡ site.ca →
+    segment.ecm ≡ site.ecm → kind_of before packet ≢ Scrambled → unmarked segment (carried site before packet) ≡ packet
 unfolding carried
-clear_back site before packet segment whole unrefused ca ecm other = by_kind (kind_of before packet) refl
+clear_back site before packet segment whole sent ca ecm other = by_kind (kind_of before packet) refl
   where
     by_kind : (kind : Kind) → kind_of before packet ≡ kind → unmarked segment
         (carried_as kind site before packet) ≡ packet
     by_kind Passed is = unplaced_stays segment packet (kind_unplaced before packet is)
     by_kind Pmt is =
         let placed = kind_placed before packet (λ e. absurd (cc)) in
-        let own = rw is at (accepted site before packet unrefused).own in
+        let own = rw is at (accepted site before packet sent).own in
         pmt_back site packet segment (placed_packet packet whole placed) placed own ca ecm
     by_kind Scrambled is = absurd (other is)
 
@@ -94,10 +94,10 @@ veiled_back site t position packet whole clear =
     (control_fits (parity_of t))
 
 pub scrambled_back : (site : SiteFields) (before : List (List ℕ)) (packet : List ℕ) → IsWholePacket packet →
-    refusal_of site before packet ≡ None → kind_of before packet ≡ Scrambled →
+    unsent_at site before (length before) packet ≡ None → kind_of before packet ≡ Scrambled →
     descrambled (carried site before packet) (control_word_of site.master (word_of site (length before)))
     (place_after before packet) ≡ packet
 unfolding carried
-scrambled_back site before packet whole unrefused is =
+scrambled_back site before packet whole sent is =
     rw is (veiled_back site (word_of site (length before)) (place_after before packet) packet whole
-    (accepted site before packet unrefused).clear)
+    (accepted site before packet sent).clear)

@@ -22,7 +22,7 @@ use Rattle.sd_message.specs.declared.ecm_part.EcmPart.{EcmPart}
 use Rattle.sd_message.proofs.EcmSharing.{all_are_ecms}
 use Rattle.sd_message.proofs.EcmDeciding.{packed_reads}
 use Rattle.sd_spec.specs.Plan.{Plan, IsPlan}
-use Rattle.sd_spec.specs.Refused.{is_reserved_pid, IsClear}
+use Rattle.sd_spec.specs.Refused.{is_reserved_pid, IsSendable}
 use Rattle.sd_spec.specs.Sent.{Item, Cat, Entitles as SendsEmm, Controls as SendsEcm, Carries, is_alike}
 use Rattle.sd_spec.specs.Sent.{packet_of}
 use Rattle.sd_spec.specs.Items.{IsOfBroadcast}
@@ -61,7 +61,7 @@ other_pid : (ca : ℕ) (packet : List ℕ) → (pid_of packet == 1) ≡ false �
 unfolding cat_tuning
 other_pid ca packet other = rw other refl
 
-module _ (plan : Plan) (clear : List (List ℕ)) (is : IsPlan plan) (all : IsClear plan.site clear)
+module _ (plan : Plan) (clear : List (List ℕ)) (is : IsPlan plan) (all : IsSendable plan.site clear)
     (long : AreLong clear) where
   -- no other thing is on the CAT's PID
   not_one : (earlier : List Item) (item : Item) → IsSaid plan clear item → is_alike Cat item ≡ false →
@@ -147,13 +147,13 @@ module _ (plan : Plan) (clear : List (List ℕ)) (is : IsPlan plan) (all : IsCle
 
 -- no packet but the CAT's is taken for one
 pub others_not_taken : (plan : Plan) (clear : List (List ℕ)) (earlier : List Item) (item : Item) → IsPlan plan →
-    IsClear plan.site clear → AreLong clear → IsOfBroadcast plan clear item → is_alike Cat item ≡ false →
+    IsSendable plan.site clear → AreLong clear → IsOfBroadcast plan clear item → is_alike Cat item ≡ false →
     cat_tuning plan.site.ca (packet_of plan.site earlier item) ≡ None
 others_not_taken plan clear earlier item is all long of' other =
     others_untaken plan clear is all long earlier item of' other
 
 pub things_heard : (plan : Plan) (clear : List (List ℕ)) (earlier : List Item) (n : ℕ) (item : Item) → IsPlan plan →
-    IsClear plan.site clear → AreLong clear → IsOfBroadcast plan clear item →
+    IsSendable plan.site clear → AreLong clear → IsOfBroadcast plan clear item →
     hears plan.site.height (tuning_to plan.site) n (packet_of plan.site earlier item) ≡ heard_of n item
 things_heard plan clear earlier n item is all long of' =
     heard_as plan clear is all long earlier n item (said plan clear is all item of')
@@ -165,13 +165,13 @@ all_long packets whole =
 
 -- so this is true of them
 pub no_other_taken : (plan : Plan) (clear : List (List ℕ)) (earlier : List Item) (item : Item) → IsPlan plan →
-    IsClear plan.site clear → AreWholePackets clear → IsOfBroadcast plan clear item → is_alike Cat item ≡ false →
+    IsSendable plan.site clear → AreWholePackets clear → IsOfBroadcast plan clear item → is_alike Cat item ≡ false →
     cat_tuning plan.site.ca (packet_of plan.site earlier item) ≡ None
 no_other_taken plan clear earlier item is all whole of' other =
     others_not_taken plan clear earlier item is all (all_long clear whole) of' other
 
 pub items_heard : (plan : Plan) (clear : List (List ℕ)) (earlier : List Item) (n : ℕ) (item : Item) → IsPlan plan →
-    IsClear plan.site clear → AreWholePackets clear → IsOfBroadcast plan clear item →
+    IsSendable plan.site clear → AreWholePackets clear → IsOfBroadcast plan clear item →
     hears plan.site.height (tuning_to plan.site) n (packet_of plan.site earlier item) ≡ heard_of n item
 items_heard plan clear earlier n item is all whole of' =
     things_heard plan clear earlier n item is all (all_long clear whole) of'

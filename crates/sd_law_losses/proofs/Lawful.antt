@@ -20,7 +20,7 @@ use Rattle.sd_message.specs.declared.ecm_part.EcmPart.{EcmPart}
 use Rattle.sd_spec.specs.Plan.{Plan, IsPlan, word_of}
 use Rattle.sd_spec.specs.Kinds.{kind_of, is_scrambled}
 use Rattle.sd_spec.specs.Messages.{period_at}
-use Rattle.sd_spec.specs.Refused.{IsClear}
+use Rattle.sd_spec.specs.Refused.{IsSendable}
 use Rattle.sd_spec.specs.Sent.{Item, Cat, Entitles, Controls, Carries, is_alike}
 use Rattle.sd_spec.specs.declared.kind.Kind.{Kind}
 use Rattle.sd_spec.specs.declared.kind.Kind.TheVariants.{Passed, Pmt, Scrambled}
@@ -127,7 +127,7 @@ section_key plan clear u q emm is leaf m =
     key_due plan q u emm is leaf m
     ∙ key_by (setting plan clear u) q (list_any (λ entry. is_member plan.site.height entry.name u) (listed_entries emm))
 
-module _ (plan : Plan) (clear : List (List ℕ)) (u : ℕ) (is : IsPlan plan) (all : IsClear plan.site clear)
+module _ (plan : Plan) (clear : List (List ℕ)) (u : ℕ) (is : IsPlan plan) (all : IsSendable plan.site clear)
     (whole : AreWholePackets clear) (leaf : u < 2 ^ plan.site.height) where
   -- the setting
   abbrev s : Setting
@@ -231,7 +231,7 @@ item_named plan clear n (Controls part) is = of_named (site_name plan.site) part
 item_named plan clear n (Carries k packet) is = refl
 
 -- so the things of the broadcast can be heard
-pub can_be_heard : (plan : Plan) (clear : List (List ℕ)) (u : ℕ) → IsPlan plan → IsClear plan.site clear →
+pub can_be_heard : (plan : Plan) (clear : List (List ℕ)) (u : ℕ) → IsPlan plan → IsSendable plan.site clear →
     AreWholePackets clear → AreHearable (setting plan clear u)
 unfolding card_of
 can_be_heard plan clear u is all whole = record {

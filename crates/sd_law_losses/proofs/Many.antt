@@ -67,7 +67,7 @@ good_in channel run u is leaf =
     let within : u < 2 ^ run.plan.site.height = subst (λ (h : ℕ). u < 2 ^ h) (sym is.height) leaf in
     subst (λ (card : CardFields). GoodRun card (tuning_in channel) u run) (card_same channel run u is)
     (subst (λ (tuning : Tuning). GoodRun (setting run.plan run.clear u).card tuning u run)
-    (tuning_same channel run u is) (good_of run u is.plan is.clear is.whole within))
+    (tuning_same channel run u is) (good_of run u is.plan is.sendable is.whole within))
 
 -- A run is over: nothing of it was refused, this was written of it, this number of keys was taken of it, and the runs
 -- that messages came of end so.

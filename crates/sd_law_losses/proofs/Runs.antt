@@ -11,7 +11,7 @@ use Rattle.sd_spec.specs.Sent.{Item, Cat, Entitles, Controls, Carries, tables_at
 use Rattle.sd_spec.specs.Sent.{packet_of, packets_from, broadcast, added, message_before}
 use Rattle.sd_spec.specs.Carried.{carried}
 use Rattle.sd_spec.specs.Items.{IsOfBroadcast}
-use Rattle.sd_spec.specs.Refused.{IsClear}
+use Rattle.sd_spec.specs.Refused.{IsSendable}
 use Rattle.sd_spec.proofs.Items.{all_are_of_broadcast}
 use Rattle.sd_law_broadcast.specs.Packets.{AreWholePackets}
 use Rattle.sd_law_broadcast.proofs.Runs.{section_names, part_names}
@@ -92,7 +92,7 @@ module _ (s : Setting) (able : AreHearable s) where
   )
 
 -- all of it for the card of a leaf
-pub good_of : (run : Arrival) (u : ℕ) → IsPlan run.plan → IsClear run.plan.site run.clear →
+pub good_of : (run : Arrival) (u : ℕ) → IsPlan run.plan → IsSendable run.plan.site run.clear →
     AreWholePackets run.clear → u < 2 ^ run.plan.site.height →
     (cat : List ℕ) × (tail : List (List ℕ))
     × IsGood (setting run.plan run.clear u).card (tuning_at (setting run.plan run.clear u)) u run cat tail

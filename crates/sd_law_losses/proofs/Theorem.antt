@@ -6,7 +6,7 @@ use Rattle.std.proofs.Common.{sym, ap, ◌∙◌}
 use Rattle.std.specs.List.{range_with_len}
 use Rattle.sd_site.specs.CardFields.{card_of}
 use Rattle.sd_spec.specs.Plan.{Plan, IsPlan}
-use Rattle.sd_spec.specs.Refused.{IsClear}
+use Rattle.sd_spec.specs.Refused.{IsSendable}
 use Rattle.sd_spec.specs.Sent.{Item, sent, closing_of, broadcast}
 use Rattle.sd_law_broadcast.specs.Packets.{AreWholePackets}
 use Rattle.sd_spec.specs.Offered.{out_from, break_from}
@@ -28,7 +28,7 @@ use Rattle.sd_law_losses.proofs.Lawful.{setting, laws_hold, can_be_heard}
 
 -- what is written
 pub confirmed_alone : (plan : Plan) (clear : List (List ℕ)) (u : ℕ) (flags : List Bool) → IsPlan plan →
-    IsClear plan.site clear → AreWholePackets clear → u < 2 ^ plan.site.height →
+    IsSendable plan.site clear → AreWholePackets clear → u < 2 ^ plan.site.height →
     out_from (card_of plan.site.master plan.site.ca plan.site.height u) [] (chosen flags (broadcast plan clear))
     ≡ confirmed plan u clear (chosen flags (sent plan clear ++ closing_of plan clear))
 unfolding card_of
@@ -38,7 +38,7 @@ confirmed_alone plan clear u flags is all whole leaf =
 
 -- and nothing is refused
 pub none_refused : (plan : Plan) (clear : List (List ℕ)) (u : ℕ) (flags : List Bool) → IsPlan plan →
-    IsClear plan.site clear → AreWholePackets clear → u < 2 ^ plan.site.height →
+    IsSendable plan.site clear → AreWholePackets clear → u < 2 ^ plan.site.height →
     break_from (card_of plan.site.master plan.site.ca plan.site.height u) [] (chosen flags
     (broadcast plan clear)) ≡ None
 none_refused plan clear u flags is all whole leaf =
@@ -47,7 +47,7 @@ none_refused plan clear u flags is all whole leaf =
 
 -- and how it ends
 pub ends_as_told : (plan : Plan) (clear : List (List ℕ)) (u : ℕ) (flags : List Bool) → IsPlan plan →
-    IsClear plan.site clear → AreWholePackets clear → u < 2 ^ plan.site.height →
+    IsSendable plan.site clear → AreWholePackets clear → u < 2 ^ plan.site.height →
     ending_of (card_of plan.site.master plan.site.ca plan.site.height u) (reverse (chosen flags (broadcast plan clear)))
     ≡ ending_told plan u clear (chosen flags (sent plan clear ++ closing_of plan clear))
 unfolding card_of
@@ -69,7 +69,7 @@ unfolding broadcast
 long_broadcast plan clear = packets_many plan.site [] (sent plan clear ++ closing_of plan clear)
 
 -- of a whole broadcast all that the leaf is entitled to is written
-pub whole_opened : (plan : Plan) (clear : List (List ℕ)) (u : ℕ) → IsPlan plan → IsClear plan.site clear →
+pub whole_opened : (plan : Plan) (clear : List (List ℕ)) (u : ℕ) → IsPlan plan → IsSendable plan.site clear →
     AreWholePackets clear → u < 2 ^ plan.site.height →
     out_from (card_of plan.site.master plan.site.ca plan.site.height u) []
     (broadcast plan clear) ≡ opened_by plan u clear
@@ -85,7 +85,7 @@ whole_opened plan clear u is all whole leaf =
     n = length (broadcast plan clear)
 
 -- and nothing of it is refused
-pub whole_refused : (plan : Plan) (clear : List (List ℕ)) (u : ℕ) → IsPlan plan → IsClear plan.site clear →
+pub whole_refused : (plan : Plan) (clear : List (List ℕ)) (u : ℕ) → IsPlan plan → IsSendable plan.site clear →
     AreWholePackets clear → u < 2 ^ plan.site.height →
     break_from (card_of plan.site.master plan.site.ca plan.site.height u) [] (broadcast plan clear) ≡ None
 whole_refused plan clear u is all whole leaf =
@@ -94,7 +94,7 @@ whole_refused plan clear u is all whole leaf =
     ∙ none_refused plan clear u (all_flags (length (broadcast plan clear))) is all whole leaf
 
 -- and how it ends
-pub whole_ended : (plan : Plan) (clear : List (List ℕ)) (u : ℕ) → IsPlan plan → IsClear plan.site clear →
+pub whole_ended : (plan : Plan) (clear : List (List ℕ)) (u : ℕ) → IsPlan plan → IsSendable plan.site clear →
     AreWholePackets clear → u < 2 ^ plan.site.height →
     ending_of (card_of plan.site.master plan.site.ca plan.site.height u) (reverse (broadcast plan clear))
     ≡ whole_ending (first_revoked plan u clear)
@@ -112,7 +112,7 @@ whole_ended plan clear u is all whole leaf =
 
 -- how many keys are taken
 pub keys_taken : (plan : Plan) (clear : List (List ℕ)) (u : ℕ) (flags : List Bool) → IsPlan plan →
-    IsClear plan.site clear → AreWholePackets clear → u < 2 ^ plan.site.height →
+    IsSendable plan.site clear → AreWholePackets clear → u < 2 ^ plan.site.height →
     taken_keys (card_of plan.site.master plan.site.ca plan.site.height u) [] (chosen flags (broadcast plan clear))
     ≡ how_many (λ q. list_any (entitles plan.site.height u q) (after_cat (chosen flags
     (sent plan clear ++ closing_of plan clear))))
@@ -122,7 +122,7 @@ keys_taken plan clear u flags is all whole leaf =
     losses_take (setting plan clear u) (laws_hold plan clear u is all whole leaf)
     (can_be_heard plan clear u is all whole) flags
 
-pub whole_keys_taken : (plan : Plan) (clear : List (List ℕ)) (u : ℕ) → IsPlan plan → IsClear plan.site clear →
+pub whole_keys_taken : (plan : Plan) (clear : List (List ℕ)) (u : ℕ) → IsPlan plan → IsSendable plan.site clear →
     AreWholePackets clear → u < 2 ^ plan.site.height →
     taken_keys (card_of plan.site.master plan.site.ca plan.site.height u) [] (broadcast plan clear)
     ≡ how_many (λ q. is_on_air plan q && not (is_revoked_in plan u q)) (period_of plan (length clear - 1) + 1)

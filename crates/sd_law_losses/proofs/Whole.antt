@@ -138,7 +138,7 @@ are_whole channel (run ∷ runs) (is, others, rest) = (
     emm = is.emm;
     ecm = is.ecm;
     plan = is.plan;
-    clear = is.clear;
+    sendable = is.sendable;
     whole = is.whole;
   },
   others_whole run runs others,
@@ -153,7 +153,7 @@ whole_confirmed channel (run ∷ runs) u tuned (is, others, rest) leaf =
     ap (λ (items : List Item). confirmed run.plan u run.clear items
     ++ confirmed_from (tuned || has_cat (whole run)) u (wholes runs)) (whole_kept tuned run)
     ∙ (ap (λ (w : List (List ℕ)). w ++ confirmed_from (tuned || has_cat (whole run)) u (wholes runs))
-    (all_are_opened run.plan run.clear u is.plan is.clear is.whole within)
+    (all_are_opened run.plan run.clear u is.plan is.sendable is.whole within)
     ∙ ap (λ (w : List (List ℕ)). opened_by run.plan u run.clear ++ w)
     (whole_confirmed channel runs u (tuned || has_cat (whole run)) rest leaf))
 
@@ -180,7 +180,7 @@ whole_keys channel (run ∷ runs) u tuned (is, others, rest) leaf =
     ap (λ (items : List Item). kept_periods run.plan u run.clear items
     + keys_from (tuned || has_cat (whole run)) u (wholes runs)) (whole_kept tuned run)
     ∙ (ap (λ (n : ℕ). n + keys_from (tuned || has_cat (whole run)) u (wholes runs))
-    (keys_whole run.plan run.clear u is.plan is.clear is.whole within)
+    (keys_whole run.plan run.clear u is.plan is.sendable is.whole within)
     ∙ ap (λ (n : ℕ). entitled_periods run.plan u run.clear + n)
     (whole_keys channel runs u (tuned || has_cat (whole run)) rest leaf))
 

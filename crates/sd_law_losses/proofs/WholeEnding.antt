@@ -21,7 +21,7 @@ use Rattle.sd_message.proofs.EmmSharing.{as_many, stands_at, index_is}
 use Rattle.sd_message.specs.EcmParts.{parts_of}
 use Rattle.sd_spec.specs.Plan.{Plan, IsPlan, sets_at, crypto_length, period_of}
 use Rattle.sd_spec.specs.Messages.{period_at}
-use Rattle.sd_spec.specs.Refused.{IsClear}
+use Rattle.sd_spec.specs.Refused.{IsSendable}
 use Rattle.sd_spec.specs.Sent.{Item, Cat, Entitles, Controls, tables_at, tables_before, sent, closing_of}
 use Rattle.sd_spec.specs.Sent.{is_cat_item}
 use Rattle.sd_spec.proofs.Items.{all_are_of_broadcast}
@@ -93,7 +93,7 @@ section_there plan q x within =
     index : (emm.index == x) ≡ true
     index = grind (arith, nat_tests, index_is (period_at plan q) x emm (stands_at (period_at plan q) x inside))
 
-module _ (plan : Plan) (clear : List (List ℕ)) (u : ℕ) (is : IsPlan plan) (all : IsClear plan.site clear)
+module _ (plan : Plan) (clear : List (List ℕ)) (u : ℕ) (is : IsPlan plan) (all : IsSendable plan.site clear)
     (whole : AreWholePackets clear) (leaf : u < 2 ^ plan.site.height) where
   abbrev s : Setting
   s = setting plan clear u

@@ -74,7 +74,7 @@ whole_told : (channel : Channel) (run : Arrival) (u : ℕ) (tuned : Bool) → Is
     ending_told run.plan u run.clear (kept_of_arrival tuned (whole run)) ≡ whole_ending_of u run
 whole_told channel run u tuned is leaf =
     ap (ending_told run.plan u run.clear) (whole_kept tuned run)
-    ∙ whole_ends run.plan run.clear u is.plan is.clear is.whole (within channel run u is leaf)
+    ∙ whole_ends run.plan run.clear u is.plan is.sendable is.whole (within channel run u is leaf)
 
 -- so the receiver is told of it
 all_told : (channel : Channel) (run : Arrival) (u : ℕ) (tuned : Bool) → IsRunOf channel run →

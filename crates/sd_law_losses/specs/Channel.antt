@@ -3,7 +3,7 @@ use Rattle.std.specs.Prelude.{◌≡◌, ◌≢◌, List, [], ◌∷◌, ◌++�
 use Rattle.sd_base.specs.Types.{Packets, Arrived, Pid, SystemId, Key, Height}
 use Rattle.sd_site.specs.SiteFields.{run_name_of}
 use Rattle.sd_spec.specs.Plan.{Plan, IsPlan}
-use Rattle.sd_spec.specs.Refused.{IsClear}
+use Rattle.sd_spec.specs.Refused.{IsSendable}
 use Rattle.sd_spec.specs.Sent.{broadcast}
 use Rattle.sd_law_broadcast.specs.Packets.{AreWholePackets}
 use Rattle.sd_law_losses.specs.Chosen.{chosen}
@@ -22,7 +22,7 @@ pub record Channel : Type 0 where
   pub emm : Pid
   pub ecm : Pid
 
--- the broadcast is of the channel, and a head end takes its clear packets
+-- the broadcast is of the channel, and each of its clear packets can be sent
 pub record IsRunOf (channel : Channel) (run : Arrival) : Type 0 where
   pub height : run.plan.site.height ≡ channel.height
   pub master : run.plan.site.master ≡ channel.master
@@ -30,7 +30,7 @@ pub record IsRunOf (channel : Channel) (run : Arrival) : Type 0 where
   pub emm : run.plan.site.emm ≡ channel.emm
   pub ecm : run.plan.site.ecm ≡ channel.ecm
   pub plan : IsPlan run.plan
-  pub clear : IsClear run.plan.site run.clear
+  pub sendable : IsSendable run.plan.site run.clear
   pub whole : AreWholePackets run.clear
 
 -- the messages of the two broadcasts have different names [this project, docs/FORMATS.md, Messages]

@@ -9,7 +9,7 @@ ghost use Rattle.sd_site.specs.SiteFields.{AreInRange, SiteFields};
 ghost use Rattle.sd_site.specs.CardFields.{card_of, CardFields};
 ghost use Rattle.sd_spec.specs.Plan.{Plan, IsPlan, closing_number, period_of, word_of};
 ghost use Rattle.sd_spec.specs.Kinds.{kind_of, is_scrambled};
-ghost use Rattle.sd_spec.specs.Refused.{IsClear, refusal_of};
+ghost use Rattle.sd_spec.specs.Refused.{IsSendable, unsent_at};
 ghost use Rattle.sd_spec.specs.Sent.{Item, sent, closing_of, broadcast, Cat, is_alike, packet_of};
 ghost use Rattle.sd_law_broadcast.specs.Packets.{AreWholePackets, IsWholePacket, AreLong};
 ghost use Rattle.sd_spec.specs.Offered.{out_from, break_from, is_before, is_mixed, says_same, part_fault};
@@ -83,11 +83,11 @@ pub fn gaps_are_told()
 #[tactic(auto, using(crate::proofs::Theorem::none_refused, crate::proofs::Theorem::confirmed_alone))]
 pub fn losses_are_confirmed()
     ensures none { (plan : Plan) (clear : Packets) (u : LeafNumber) (flags : Arrived) → IsPlan plan →
-        IsClear plan.site clear → AreWholePackets clear → u < 2 ^ plan.site.height →
+        IsSendable plan.site clear → AreWholePackets clear → u < 2 ^ plan.site.height →
         break_from (card_of plan.site.master plan.site.ca plan.site.height u) [] (chosen flags (broadcast plan clear))
         ≡ None }
     ensures out { (plan : Plan) (clear : Packets) (u : LeafNumber) (flags : Arrived) → IsPlan plan →
-        IsClear plan.site clear → AreWholePackets clear → u < 2 ^ plan.site.height →
+        IsSendable plan.site clear → AreWholePackets clear → u < 2 ^ plan.site.height →
         out_from (card_of plan.site.master plan.site.ca plan.site.height u) [] (chosen flags (broadcast plan clear))
         ≡ confirmed plan u clear (chosen flags (sent plan clear ++ closing_of plan clear)) }
 {}
@@ -98,7 +98,7 @@ pub fn losses_are_confirmed()
 #[tactic(auto, using(crate::proofs::Theorem::ends_as_told, crate::proofs::Revoking::revoked_truly))]
 pub fn losses_are_told()
     ensures ending { (plan : Plan) (clear : Packets) (u : LeafNumber) (flags : Arrived) → IsPlan plan →
-        IsClear plan.site clear → AreWholePackets clear → u < 2 ^ plan.site.height →
+        IsSendable plan.site clear → AreWholePackets clear → u < 2 ^ plan.site.height →
         ending_of (card_of plan.site.master plan.site.ca plan.site.height u)
         (reverse (chosen flags (broadcast plan clear)))
         ≡ ending_told plan u clear (chosen flags (sent plan clear ++ closing_of plan clear)) }
@@ -130,7 +130,7 @@ pub fn confirmed_packets_are_opened()
         u < 2 ^ plan.site.height → (parts : List Bool)
         × (confirmed plan u clear (chosen flags (sent plan clear ++ closing_of plan clear))
         ≡ chosen parts (opened_by plan u clear)) }
-    ensures whole { (plan : Plan) (clear : Packets) (u : LeafNumber) → IsPlan plan → IsClear plan.site clear →
+    ensures whole { (plan : Plan) (clear : Packets) (u : LeafNumber) → IsPlan plan → IsSendable plan.site clear →
         AreWholePackets clear → u < 2 ^ plan.site.height →
         confirmed plan u clear (sent plan clear ++ closing_of plan clear) ≡ opened_by plan u clear }
 {}
@@ -140,14 +140,14 @@ pub fn confirmed_packets_are_opened()
 /// leaf is.
 #[tactic(auto, using(crate::proofs::Theorem::whole_refused, crate::proofs::Theorem::whole_opened, crate::proofs::Theorem::whole_ended))]
 pub fn whole_broadcasts_are_opened()
-    ensures none { (plan : Plan) (clear : Packets) (u : LeafNumber) → IsPlan plan → IsClear plan.site clear →
+    ensures none { (plan : Plan) (clear : Packets) (u : LeafNumber) → IsPlan plan → IsSendable plan.site clear →
         AreWholePackets clear → u < 2 ^ plan.site.height →
         break_from (card_of plan.site.master plan.site.ca plan.site.height u) [] (broadcast plan clear) ≡ None }
-    ensures out { (plan : Plan) (clear : Packets) (u : LeafNumber) → IsPlan plan → IsClear plan.site clear →
+    ensures out { (plan : Plan) (clear : Packets) (u : LeafNumber) → IsPlan plan → IsSendable plan.site clear →
         AreWholePackets clear → u < 2 ^ plan.site.height →
         out_from (card_of plan.site.master plan.site.ca plan.site.height u) [] (broadcast plan clear)
         ≡ opened_by plan u clear }
-    ensures ending { (plan : Plan) (clear : Packets) (u : LeafNumber) → IsPlan plan → IsClear plan.site clear →
+    ensures ending { (plan : Plan) (clear : Packets) (u : LeafNumber) → IsPlan plan → IsSendable plan.site clear →
         AreWholePackets clear → u < 2 ^ plan.site.height →
         ending_of (card_of plan.site.master plan.site.ca plan.site.height u) (reverse (broadcast plan clear))
         ≡ whole_ending (first_revoked plan u clear) }
@@ -158,11 +158,11 @@ pub fn whole_broadcasts_are_opened()
 #[tactic(auto, using(crate::proofs::Theorem::keys_taken, crate::proofs::Theorem::whole_keys_taken))]
 pub fn keys_are_taken_once()
     ensures lost { (plan : Plan) (clear : Packets) (u : LeafNumber) (flags : Arrived) → IsPlan plan →
-        IsClear plan.site clear → AreWholePackets clear → u < 2 ^ plan.site.height →
+        IsSendable plan.site clear → AreWholePackets clear → u < 2 ^ plan.site.height →
         taken_keys (card_of plan.site.master plan.site.ca plan.site.height u) [] (chosen flags (broadcast plan clear))
         ≡ how_many (λ q. list_any (entitles plan.site.height u q)
         (after_cat (chosen flags (sent plan clear ++ closing_of plan clear)))) (period_of plan (length clear - 1) + 1) }
-    ensures whole { (plan : Plan) (clear : Packets) (u : LeafNumber) → IsPlan plan → IsClear plan.site clear →
+    ensures whole { (plan : Plan) (clear : Packets) (u : LeafNumber) → IsPlan plan → IsSendable plan.site clear →
         AreWholePackets clear → u < 2 ^ plan.site.height →
         taken_keys (card_of plan.site.master plan.site.ca plan.site.height u) [] (broadcast plan clear)
         ≡ how_many (λ q. is_on_air plan q && not (is_revoked_in plan u q)) (period_of plan (length clear - 1) + 1) }
@@ -223,14 +223,14 @@ pub fn cat_is_taken()
     ensures cat { (plan : Plan) (earlier : List Item) → IsPlan plan →
         cat_tuning plan.site.ca (packet_of plan.site earlier Cat) ≡ Some (tuning_to plan.site) }
     ensures other { (plan : Plan) (clear : Packets) (earlier : List Item) (item : Item) → IsPlan plan →
-        IsClear plan.site clear → AreLong clear → IsOfBroadcast plan clear item → is_alike Cat item ≡ false →
+        IsSendable plan.site clear → AreLong clear → IsOfBroadcast plan clear item → is_alike Cat item ≡ false →
         cat_tuning plan.site.ca (packet_of plan.site earlier item) ≡ None }
 {}
 
 /// After the CAT is taken, a receiver hears each thing as what was sent.
 pub fn items_are_heard()
     ensures { (plan : Plan) (clear : Packets) (earlier : List Item) (n : PacketNumber) (item : Item) → IsPlan plan →
-        IsClear plan.site clear → AreLong clear → IsOfBroadcast plan clear item →
+        IsSendable plan.site clear → AreLong clear → IsOfBroadcast plan clear item →
         hears plan.site.height (tuning_to plan.site) n (packet_of plan.site earlier item) ≡ heard_of n item }
 {}
 
@@ -238,10 +238,11 @@ pub fn items_are_heard()
 /// its control word at its own position.
 pub fn carried_packets_come_back()
     ensures clear { (site : SiteFields) (before : Packets) (packet : Packet) (segment : Segment) →
-        IsWholePacket packet → refusal_of site before packet ≡ None → segment.ca ≡ site.ca → segment.ecm ≡ site.ecm →
+        IsWholePacket packet → unsent_at site before (length before) packet ≡ None → segment.ca ≡ site.ca →
+        segment.ecm ≡ site.ecm →
         kind_of before packet ≢ Scrambled → unmarked segment (carried site before packet) ≡ packet }
     ensures scrambled { (site : SiteFields) (before : Packets) (packet : Packet) → IsWholePacket packet →
-        refusal_of site before packet ≡ None → kind_of before packet ≡ Scrambled →
+        unsent_at site before (length before) packet ≡ None → kind_of before packet ≡ Scrambled →
         descrambled (carried site before packet) (control_word_of site.master (word_of site (length before)))
         (place_after before packet) ≡ packet }
 {}

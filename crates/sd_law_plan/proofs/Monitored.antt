@@ -20,7 +20,7 @@ use Rattle.sd_message.specs.declared.ecm_part.EcmPart.{EcmPart}
 use Rattle.sd_message.proofs.EcmDeciding.{packed_reads as part_reads}
 use Rattle.sd_message.proofs.EcmSharing.{all_are_ecms}
 use Rattle.sd_spec.specs.Plan.{Plan, IsPlan}
-use Rattle.sd_spec.specs.Refused.{IsClear}
+use Rattle.sd_spec.specs.Refused.{IsSendable}
 use Rattle.sd_spec.specs.Items.{IsOfBroadcast}
 use Rattle.sd_spec.specs.Sent.{Item, Cat, Entitles, Controls, Carries, broadcast, closing_of, is_alike}
 use Rattle.sd_spec.specs.Sent.{packet_of}
@@ -54,7 +54,7 @@ ecm_line site k packet part pid apart reads =
     let same : (site.ecm == site.ecm) ≡ true = grind (arith, nat_tests) in
     rw (pid, apart, same, reads) refl
 
-module _ (plan : Plan) (clear : List (List ℕ)) (is : IsPlan plan) (all : IsClear plan.site clear)
+module _ (plan : Plan) (clear : List (List ℕ)) (is : IsPlan plan) (all : IsSendable plan.site clear)
     (long : AreLong clear) where
   -- the line of one thing
   one_line : (k : ℕ) (earlier : List Item) (item : Item) → IsSaid plan clear item →
@@ -96,7 +96,7 @@ module _ (plan : Plan) (clear : List (List ℕ)) (is : IsPlan plan) (all : IsCle
       ∙ ap (λ (rest : List (List ℕ)). sent_line plan.site k item ∷ rest)
       (lines_are (suc k) (earlier ++ item ∷ []) items (All-tail (IsOfBroadcast plan clear) item items each))
 
-pub broadcast_lines : (plan : Plan) (clear : List (List ℕ)) → IsPlan plan → IsClear plan.site clear → AreLong clear →
+pub broadcast_lines : (plan : Plan) (clear : List (List ℕ)) → IsPlan plan → IsSendable plan.site clear → AreLong clear →
     message_lines plan.site 0 (broadcast plan clear) ≡ sent_lines plan.site 0 (sent plan clear ++ closing_of plan clear)
 unfolding broadcast
 broadcast_lines plan clear is all long =

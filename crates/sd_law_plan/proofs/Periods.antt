@@ -22,7 +22,7 @@ use Rattle.sd_message.specs.declared.ecm_part.EcmPart.{EcmPart}
 use Rattle.sd_spec.specs.Plan.{Plan, closing_number, crypto_length, crypto_of, period_in, period_of, word_of}
 use Rattle.sd_spec.specs.Carried.{carried}
 use Rattle.sd_spec.specs.Messages.{message_at, period_at}
-use Rattle.sd_spec.specs.Refused.{IsClear}
+use Rattle.sd_spec.specs.Refused.{IsSendable}
 use Rattle.sd_spec.specs.Items.{IsOfBroadcast}
 use Rattle.sd_spec.specs.Sent.{Item, Cat, Entitles, Controls, Carries, added, closing_of, message_before}
 use Rattle.sd_spec.specs.Sent.{sent}
@@ -97,7 +97,7 @@ word_spoken site m t r some low high =
     ] in
     (d * b, omega (arith, within, some), omega (arith, at, low))
 
-pub words_left : (site : SiteFields) (clear : List (List ℕ)) → IsClear site clear → 0 < length clear →
+pub words_left : (site : SiteFields) (clear : List (List ℕ)) → IsSendable site clear → 0 < length clear →
     last_word_for site (length clear) ≤ site.last_word
 words_left site clear is some =
     let at = last_word_is site (length clear) in

@@ -2,7 +2,7 @@
 use Rattle.std.proofs.Common.{ℕ, ◌<◌, ◌≤◌, List, length}
 use Rattle.sd_spec.specs.Plan.{Plan, IsPlan}
 use Rattle.sd_spec.specs.Kinds.{moved_pids}
-use Rattle.sd_spec.specs.Refused.{IsClear}
+use Rattle.sd_spec.specs.Refused.{IsSendable}
 use Rattle.sd_law_broadcast.specs.Packets.{AreLong}
 use Rattle.sd_law_broadcast.proofs.Clear.{clear_pids}
 use Rattle.sd_law_broadcast.proofs.Covering.{period_named}
@@ -11,7 +11,7 @@ use Rattle.sd_law_plan.proofs.Periods.{packets_told, sections_told, told_is, tol
 use Rattle.sd_law_plan.proofs.Periods.{words_left}
 use Rattle.sd_law_plan.proofs.Within.{packets_planned}
 
-pub within_plan : (plan : Plan) (n : ℕ) (clear : List (List ℕ)) → IsPlan plan → IsClear plan.site clear →
+pub within_plan : (plan : Plan) (n : ℕ) (clear : List (List ℕ)) → IsPlan plan → IsSendable plan.site clear →
     AreLong clear → 0 < length clear → length (moved_pids clear) ≤ n → IsWithinPlan plan n clear
 within_plan plan n clear is all long some few =
     let r = is.site in
@@ -30,6 +30,6 @@ within_plan plan n clear is all long some few =
       room = words_left plan.site clear all some;
     }
 
-pub within_any : (plan : Plan) (clear : List (List ℕ)) → IsPlan plan → IsClear plan.site clear → AreLong clear →
+pub within_any : (plan : Plan) (clear : List (List ℕ)) → IsPlan plan → IsSendable plan.site clear → AreLong clear →
     0 < length clear → IsWithinPlan plan 256 clear
 within_any plan clear is all long some = within_plan plan 256 clear is all long some (clear_pids plan.site clear all)

@@ -5,7 +5,7 @@ ghost use Rattle.sd_base.specs.Types.{Packets, PacketNumber};
 ghost use Rattle.sd_site.specs.SiteFields.{SiteFields, AreInRange};
 ghost use Rattle.sd_spec.specs.Kinds.{moved_pids};
 ghost use Rattle.sd_spec.specs.Plan.{Plan, IsPlan, period_of, word_of};
-ghost use Rattle.sd_spec.specs.Refused.{IsClear, is_too_long};
+ghost use Rattle.sd_spec.specs.Refused.{IsSendable, is_too_long};
 ghost use Rattle.sd_law_broadcast.specs.Packets.{AreLong};
 ghost use Rattle.sd_run_books.specs.Air.{cryptos_for, last_period_for, last_word_for};
 ghost use Rattle.sd_law_plan.specs.Within.{IsWithinPlan};
@@ -15,9 +15,9 @@ ghost use Rattle.sd_law_plan.specs.Within.{IsWithinPlan};
 /// those that are printed, and each period's sections are sent as often as is printed. No clear stream has more than
 /// 256 PIDs with positions.
 pub fn broadcasts_are_within_plans()
-    ensures told { (plan : Plan) (n : ℕ) (clear : Packets) → IsPlan plan → IsClear plan.site clear →
+    ensures told { (plan : Plan) (n : ℕ) (clear : Packets) → IsPlan plan → IsSendable plan.site clear →
         AreLong clear → 0 < length clear → length (moved_pids clear) ≤ n → IsWithinPlan plan n clear }
-    ensures any { (plan : Plan) (clear : Packets) → IsPlan plan → IsClear plan.site clear → AreLong clear →
+    ensures any { (plan : Plan) (clear : Packets) → IsPlan plan → IsSendable plan.site clear → AreLong clear →
         0 < length clear → IsWithinPlan plan 256 clear }
 {}
 

@@ -12,7 +12,7 @@ use Rattle.sd_packet.specs.Header.{pid_of}
 use Rattle.sd_packet.specs.Positions.{is_moving, position_of}
 use Rattle.sd_site.specs.CardFields.{card_of}
 use Rattle.sd_spec.specs.Plan.{Plan, IsPlan, crypto_length, period_of}
-use Rattle.sd_spec.specs.Refused.{IsClear}
+use Rattle.sd_spec.specs.Refused.{IsSendable}
 use Rattle.sd_spec.specs.Sent.{Item, Cat, Entitles, Controls, Carries, broadcast}
 use Rattle.sd_spec.specs.Offered.{out_from}
 use Rattle.sd_law_broadcast.specs.Packets.{AreWholePackets}
@@ -131,7 +131,7 @@ same_gaps plan clear kept a b pid =
     (filter_agree (is_kept (Cat ∷ kept)) (is_kept kept) (λ j. refl)
     (range_with_len (a * plan.site.every) (upto plan clear b - a * plan.site.every)))
 
-module _ (plan : Plan) (clear : List (List ℕ)) (u : ℕ) (is : IsPlan plan) (all : IsClear plan.site clear)
+module _ (plan : Plan) (clear : List (List ℕ)) (u : ℕ) (is : IsPlan plan) (all : IsSendable plan.site clear)
     (whole : AreWholePackets clear) (leaf : u < 2 ^ plan.site.height) where
   abbrev s : Setting
   s = setting plan clear u

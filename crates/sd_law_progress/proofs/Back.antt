@@ -14,7 +14,7 @@ use Rattle.sd_packet.specs.Header.{pid_of}
 use Rattle.sd_message.specs.Period.{emms_of}
 use Rattle.sd_message.specs.EcmParts.{parts_of}
 use Rattle.sd_spec.specs.Plan.{Plan, IsPlan, crypto_length, period_of, closing_number}
-use Rattle.sd_spec.specs.Refused.{IsClear}
+use Rattle.sd_spec.specs.Refused.{IsSendable}
 use Rattle.sd_spec.specs.Messages.{period_at}
 use Rattle.sd_spec.specs.Sent.{Item, Cat, Entitles, Controls, sent, sent_from, closing_of}
 use Rattle.sd_spec.specs.Sent.{tables_at, tables_before, is_cat_item}
@@ -48,7 +48,7 @@ pub untold : (b c : Bool) → (b ≡ true → c ≡ true) → (c ≡ true → b 
 untold true c told known = told refl
 untold false c told known = false_from_ne_true c (λ is. absurd (both_ways false refl (known is)))
 
-module _ (plan : Plan) (clear : List (List ℕ)) (u : ℕ) (is : IsPlan plan) (all : IsClear plan.site clear)
+module _ (plan : Plan) (clear : List (List ℕ)) (u : ℕ) (is : IsPlan plan) (all : IsSendable plan.site clear)
     (whole : AreWholePackets clear) (leaf : u < 2 ^ plan.site.height) where
   abbrev s : Setting
   s = setting plan clear u

@@ -12,7 +12,7 @@ use Rattle.sd_packet.specs.Positions.{moved_by}
 use Rattle.sd_site.specs.CardFields.{card_of}
 use Rattle.sd_message.specs.EcmParts.{parts_of}
 use Rattle.sd_spec.specs.Plan.{Plan, IsPlan, period_of, since_of}
-use Rattle.sd_spec.specs.Refused.{IsClear}
+use Rattle.sd_spec.specs.Refused.{IsSendable}
 use Rattle.sd_spec.specs.Sent.{Item, Controls}
 use Rattle.sd_spec.proofs.Schedule.{since_is_below}
 use Rattle.sd_law_broadcast.specs.Packets.{AreWholePackets}
@@ -55,7 +55,7 @@ passes_by : (b c : Bool) → (b ≡ true → c ≡ true) → (not b || c) ≡ tr
 passes_by true c holds = holds refl
 passes_by false c holds = refl
 
-module _ (plan : Plan) (clear : List (List ℕ)) (u : ℕ) (is : IsPlan plan) (all : IsClear plan.site clear)
+module _ (plan : Plan) (clear : List (List ℕ)) (u : ℕ) (is : IsPlan plan) (all : IsSendable plan.site clear)
     (whole : AreWholePackets clear) (leaf : u < 2 ^ plan.site.height) where
   abbrev s : Setting
   s = setting plan clear u

@@ -13,7 +13,7 @@ use Rattle.sd_packet.specs.Positions.{is_positional}
 use Rattle.sd_site.specs.CardFields.{card_of}
 use Rattle.sd_message.specs.declared.ecm_part.EcmPart.{EcmPart}
 use Rattle.sd_spec.specs.Plan.{Plan, IsPlan, crypto_length, period_of, since_of}
-use Rattle.sd_spec.specs.Refused.{IsClear}
+use Rattle.sd_spec.specs.Refused.{IsSendable}
 use Rattle.sd_spec.specs.Sent.{Item, Cat, Controls, Carries, tables_before}
 use Rattle.sd_spec.proofs.Schedule.{period_begins}
 use Rattle.sd_law_broadcast.specs.Packets.{AreWholePackets}
@@ -71,7 +71,7 @@ since_within (suc (suc v)) cryptos b other some off =
     omega (arith, ap (since_of (suc (suc v)) cryptos) more, first)
 
 -- one thing is lost of a broadcast
-module _ (plan : Plan) (clear : List (List ℕ)) (u : ℕ) (is : IsPlan plan) (all : IsClear plan.site clear)
+module _ (plan : Plan) (clear : List (List ℕ)) (u : ℕ) (is : IsPlan plan) (all : IsSendable plan.site clear)
     (whole : AreWholePackets clear) (leaf : u < 2 ^ plan.site.height) (before : List Item) (x : Item)
     (after : List Item) (lost : IsSentBetween plan clear before x after) where
   abbrev pub s : Setting

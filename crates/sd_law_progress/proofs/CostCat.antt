@@ -15,7 +15,7 @@ use Rattle.sd_packet.specs.Header.{pid_of}
 use Rattle.sd_site.specs.SiteFields.{AreInRange}
 use Rattle.sd_site.specs.CardFields.{card_of}
 use Rattle.sd_spec.specs.Plan.{Plan, IsPlan, crypto_length, period_of, closing_number}
-use Rattle.sd_spec.specs.Refused.{IsClear}
+use Rattle.sd_spec.specs.Refused.{IsSendable}
 use Rattle.sd_spec.specs.Sent.{Item, Cat, Entitles, Controls, Carries, tables_before}
 use Rattle.sd_spec.proofs.Schedule.{period_begins, crypto_length_some, closing_needed}
 use Rattle.sd_law_broadcast.specs.Packets.{AreWholePackets}
@@ -133,7 +133,7 @@ carried_later s k n range within =
     by_between (some, same) = ap (list_any (is_carried j)) same ∙ any_second (is_carried j) some (rest_at s j) here
 
 -- the first CAT of a broadcast is lost
-module _ (plan : Plan) (clear : List (List ℕ)) (u : ℕ) (is : IsPlan plan) (all : IsClear plan.site clear)
+module _ (plan : Plan) (clear : List (List ℕ)) (u : ℕ) (is : IsPlan plan) (all : IsSendable plan.site clear)
     (whole : AreWholePackets clear) (leaf : u < 2 ^ plan.site.height) (after : List Item)
     (lost : IsSentBetween plan clear [] Cat after) where
   abbrev s : Setting

@@ -6,7 +6,7 @@ use Rattle.std.proofs.lemmas.List.{take_at, drop_at}
 use Rattle.sd_site.specs.CardFields.{card_of}
 use Rattle.sd_spec.specs.Plan.{Plan, IsPlan}
 use Rattle.sd_spec.specs.Offered.{out_from}
-use Rattle.sd_spec.specs.Refused.{IsClear}
+use Rattle.sd_spec.specs.Refused.{IsSendable}
 use Rattle.sd_spec.specs.Sent.{Item, packet_of, packets_from, broadcast}
 use Rattle.sd_spec.proofs.Bodies.{packets_many}
 use Rattle.sd_spec.proofs.Sending.{packets_in_turn}
@@ -19,7 +19,7 @@ use Rattle.sd_law_progress.proofs.CostLists.{all_but, chosen_but, chosen_beside}
 
 -- so a receiver writes of the packets but this one what is confirmed of the things but this one
 pub received_but : (plan : Plan) (clear : List (List ℕ)) (u : ℕ) (before : List Item) (x : Item) (after : List Item) →
-    IsPlan plan → IsClear plan.site clear → AreWholePackets clear → u < 2 ^ plan.site.height →
+    IsPlan plan → IsSendable plan.site clear → AreWholePackets clear → u < 2 ^ plan.site.height →
     IsSentBetween plan clear before x after →
     out_from (card_of plan.site.master plan.site.ca plan.site.height u) [] (without (length before)
     (broadcast plan clear)) ≡ confirmed plan u clear (before ++ after)

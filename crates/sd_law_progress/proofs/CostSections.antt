@@ -16,7 +16,7 @@ use Rattle.sd_message.specs.declared.emm.Emm.{Emm}
 use Rattle.sd_message.proofs.Pieces.{each_made}
 use Rattle.sd_spec.specs.Plan.{Plan, IsPlan, crypto_length, period_of}
 use Rattle.sd_spec.specs.Messages.{period_at}
-use Rattle.sd_spec.specs.Refused.{IsClear}
+use Rattle.sd_spec.specs.Refused.{IsSendable}
 use Rattle.sd_spec.specs.Sent.{Item, Cat, Entitles, Controls, Carries, sent, tables_before}
 use Rattle.sd_spec.specs.Items.{IsOfBroadcast, entitlement}
 use Rattle.sd_spec.proofs.Items.{all_are_of_broadcast}
@@ -97,7 +97,7 @@ same_again plan clear u q emm (Entitles other ∷ items) all of there some =
         ∙ or_true' (entitles plan.site.height u q (Entitles other))
 
 -- one section of a broadcast is lost
-module _ (plan : Plan) (clear : List (List ℕ)) (u : ℕ) (is : IsPlan plan) (all : IsClear plan.site clear)
+module _ (plan : Plan) (clear : List (List ℕ)) (u : ℕ) (is : IsPlan plan) (all : IsSendable plan.site clear)
     (whole : AreWholePackets clear) (leaf : u < 2 ^ plan.site.height) (before : List Item) (emm : Emm)
     (after : List Item) (lost : IsSentBetween plan clear before (Entitles emm) after) where
   abbrev s : Setting

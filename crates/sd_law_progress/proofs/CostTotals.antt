@@ -14,7 +14,7 @@ use Rattle.sd_message.specs.declared.emm.Emm.{Emm}
 use Rattle.sd_message.proofs.Pieces.{each_made}
 use Rattle.sd_spec.specs.Plan.{Plan, IsPlan, crypto_length, period_of, closing_number}
 use Rattle.sd_spec.specs.Messages.{message_at}
-use Rattle.sd_spec.specs.Refused.{IsClear}
+use Rattle.sd_spec.specs.Refused.{IsSendable}
 use Rattle.sd_spec.specs.Sent.{Item, Cat, Entitles, Controls, Carries, is_cat_item}
 use Rattle.sd_spec.specs.Items.{IsOfBroadcast, part, closing}
 use Rattle.sd_spec.proofs.Items.{all_are_of_broadcast}
@@ -57,7 +57,7 @@ parts_numbered plan clear u one is (closing m) =
     let says = part_says _ one m in (λ closes. says.0, λ goes_on. absurd (both_ways one.closing goes_on says.1))
 
 -- one thing is lost of a broadcast
-module _ (plan : Plan) (clear : List (List ℕ)) (u : ℕ) (is : IsPlan plan) (all : IsClear plan.site clear)
+module _ (plan : Plan) (clear : List (List ℕ)) (u : ℕ) (is : IsPlan plan) (all : IsSendable plan.site clear)
     (whole : AreWholePackets clear) (leaf : u < 2 ^ plan.site.height) where
   abbrev s : Setting
   s = setting plan clear u

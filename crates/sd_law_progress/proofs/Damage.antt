@@ -14,7 +14,7 @@ use Rattle.sd_site.specs.CardFields.{card_of}
 use Rattle.sd_message.specs.EcmParts.{parts_of}
 use Rattle.sd_message.specs.declared.ecm_part.EcmPart.{EcmPart}
 use Rattle.sd_spec.specs.Plan.{Plan, IsPlan, crypto_length, period_of, closing_number}
-use Rattle.sd_spec.specs.Refused.{IsClear}
+use Rattle.sd_spec.specs.Refused.{IsSendable}
 use Rattle.sd_spec.specs.Sent.{Item, Cat, Controls, broadcast, tables_at, tables_before, is_cat_item}
 use Rattle.sd_spec.specs.Offered.{out_from}
 use Rattle.sd_spec.proofs.Schedule.{closing_needed}
@@ -43,7 +43,7 @@ use Rattle.sd_law_progress.proofs.Back.{IsBack, ahead, from_message, behind, end
 use Rattle.sd_law_progress.proofs.Back.{back_told, whole_back}
 use Rattle.sd_law_progress.proofs.Returns.{none_ahead, confirmed_parts, confirmed_due}
 
-module _ (plan : Plan) (clear : List (List ℕ)) (u : ℕ) (is : IsPlan plan) (all : IsClear plan.site clear)
+module _ (plan : Plan) (clear : List (List ℕ)) (u : ℕ) (is : IsPlan plan) (all : IsSendable plan.site clear)
     (whole : AreWholePackets clear) (leaf : u < 2 ^ plan.site.height) where
   abbrev s : Setting
   s = setting plan clear u

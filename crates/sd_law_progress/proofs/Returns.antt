@@ -12,7 +12,7 @@ use Rattle.sd_base.proofs.Ranges.{range_parts, filter_range}
 use Rattle.sd_site.specs.CardFields.{card_of}
 use Rattle.sd_message.specs.declared.ecm_part.EcmPart.{EcmPart}
 use Rattle.sd_spec.specs.Plan.{Plan, IsPlan, crypto_length, period_of}
-use Rattle.sd_spec.specs.Refused.{IsClear}
+use Rattle.sd_spec.specs.Refused.{IsSendable}
 use Rattle.sd_spec.specs.Sent.{Item, Controls, sent, broadcast, tables_before, is_cat_item}
 use Rattle.sd_spec.specs.Offered.{out_from}
 use Rattle.sd_spec.specs.Items.{IsOfBroadcast}
@@ -71,7 +71,7 @@ confirmed_due plan clear u low high kept same =
     ap (packets_at clear) (filter_range (is_confirmed_at plan u clear (after_cat kept)) (is_due plan u) low
     (high - low) (λ j above below. same j above (omega (arith, above, below))))
 
-module _ (plan : Plan) (clear : List (List ℕ)) (u : ℕ) (is : IsPlan plan) (all : IsClear plan.site clear)
+module _ (plan : Plan) (clear : List (List ℕ)) (u : ℕ) (is : IsPlan plan) (all : IsSendable plan.site clear)
     (whole : AreWholePackets clear) (leaf : u < 2 ^ plan.site.height) where
   abbrev s : Setting
   s = setting plan clear u

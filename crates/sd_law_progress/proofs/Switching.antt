@@ -17,7 +17,7 @@ use Rattle.sd_site.specs.SiteFields.{SiteFields, AreInRange}
 use Rattle.sd_message.specs.Period.{emms_of}
 use Rattle.sd_message.specs.EcmParts.{parts_of}
 use Rattle.sd_spec.specs.Plan.{Plan, IsPlan, crypto_length, period_of, since_of, closing_number}
-use Rattle.sd_spec.specs.Refused.{IsClear}
+use Rattle.sd_spec.specs.Refused.{IsSendable}
 use Rattle.sd_spec.specs.Messages.{period_at}
 use Rattle.sd_spec.specs.Sent.{Item, Cat, Entitles, Controls, sent, sent_from, tables_at, tables_before, is_cat_item}
 use Rattle.sd_spec.proofs.Schedule.{crypto_length_some, closing_covers}
@@ -172,7 +172,7 @@ both_bounds site i range some = (omega (arith, low, grown, next_is), omega (arit
     high : ((q - 1) * site.cryptos) * site.every ≤ n * site.every
     high = mul-le-mul_right site.every below
 
-module _ (plan : Plan) (clear : List (List ℕ)) (u : ℕ) (is : IsPlan plan) (all : IsClear plan.site clear)
+module _ (plan : Plan) (clear : List (List ℕ)) (u : ℕ) (is : IsPlan plan) (all : IsSendable plan.site clear)
     (whole : AreWholePackets clear) (leaf : u < 2 ^ plan.site.height) where
   abbrev s : Setting
   s = setting plan clear u

@@ -6,7 +6,7 @@ use Rattle.sd_base.specs.Types.{Packets, Pid, LeafNumber, PacketNumber}
 use Rattle.sd_packet.specs.Positions.{is_positional, position_of}
 use Rattle.sd_site.specs.SiteFields.{SiteFields}
 use Rattle.sd_spec.specs.Plan.{Plan, IsPlan, crypto_length, period_of}
-use Rattle.sd_spec.specs.Refused.{IsClear}
+use Rattle.sd_spec.specs.Refused.{IsSendable}
 use Rattle.sd_spec.specs.Sent.{Item, Cat, Entitles, Controls, Carries, sent, closing_of, is_cat_item}
 use Rattle.sd_law_broadcast.specs.Packets.{AreWholePackets}
 use Rattle.sd_law_losses.specs.Kept.{after_cat, is_section_item}
@@ -48,7 +48,7 @@ IsSentBetween plan clear before item after = sent plan clear ++ closing_of plan 
 pub record IsLost (plan : Plan) (clear : Packets) (u : LeafNumber) (before : List Item) (item : Item)
     (after : List Item) : Type 0 where
   pub is_plan : IsPlan plan
-  pub is_clear : IsClear plan.site clear
+  pub is_sendable : IsSendable plan.site clear
   pub are_whole : AreWholePackets clear
   pub leaf : u < 2 ^ plan.site.height
   pub place : IsSentBetween plan clear before item after

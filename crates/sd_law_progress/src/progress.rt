@@ -5,7 +5,7 @@ ghost use Rattle.std.specs.List.{list_any};
 ghost use Rattle.sd_base.specs.Types.{Packets, Arrived, LeafNumber, MessageNumber, PacketNumber};
 ghost use Rattle.sd_site.specs.CardFields.{card_of};
 ghost use Rattle.sd_spec.specs.Plan.{Plan, IsPlan, crypto_length};
-ghost use Rattle.sd_spec.specs.Refused.{IsClear};
+ghost use Rattle.sd_spec.specs.Refused.{IsSendable};
 ghost use Rattle.sd_spec.specs.Sent.{sent, broadcast};
 ghost use Rattle.sd_spec.specs.Offered.{out_from};
 ghost use Rattle.sd_law_broadcast.specs.Packets.{AreWholePackets};
@@ -21,13 +21,13 @@ ghost use Rattle.sd_law_progress.specs.Progress.{due_in, confirmed_in, AreKeptBe
 /// leaf isn't revoked.
 pub fn arrived_packets_are_written()
     ensures confirmed { (plan : Plan) (clear : Packets) (u : LeafNumber) (flags : Arrived) → IsPlan plan →
-        IsClear plan.site clear → AreWholePackets clear → u < 2 ^ plan.site.height →
+        IsSendable plan.site clear → AreWholePackets clear → u < 2 ^ plan.site.height →
         AreMessagesKept plan clear (chosen flags (things plan clear)) →
         HaveNoGaps plan clear (chosen flags (things plan clear)) →
         confirmed plan u clear (chosen flags (things plan clear))
         ≡ kept_due plan u clear (chosen flags (things plan clear)) }
     ensures out { (plan : Plan) (clear : Packets) (u : LeafNumber) (flags : Arrived) → IsPlan plan →
-        IsClear plan.site clear → AreWholePackets clear → u < 2 ^ plan.site.height →
+        IsSendable plan.site clear → AreWholePackets clear → u < 2 ^ plan.site.height →
         AreMessagesKept plan clear (chosen flags (things plan clear)) →
         HaveNoGaps plan clear (chosen flags (things plan clear)) →
         out_from (card_of plan.site.master plan.site.ca plan.site.height u) [] (chosen flags (broadcast plan clear))
@@ -40,28 +40,28 @@ pub fn arrived_packets_are_written()
 /// behind the place: after as many clear packets as a crypto period has at most.
 pub fn the_picture_is_back()
     ensures message { (plan : Plan) (clear : Packets) (u : LeafNumber) (x : ℕ) (flags : Arrived) (n : MessageNumber)
-        (j : PacketNumber) → IsPlan plan → IsClear plan.site clear → AreWholePackets clear →
+        (j : PacketNumber) → IsPlan plan → IsSendable plan.site clear → AreWholePackets clear →
         u < 2 ^ plan.site.height → AreKeptFrom plan clear x flags →
         list_any (is_part_of n) (take x (things plan clear)) ≡ false →
         IsKnownBefore plan u n (chosen flags (things plan clear)) → n * plan.site.every ≤ j → j < length clear →
         is_confirmed_at plan u clear (after_cat (chosen flags (things plan clear))) j ≡ is_due plan u j }
     ensures known { (plan : Plan) (clear : Packets) (u : LeafNumber) (x : ℕ) (flags : Arrived) (j : PacketNumber) →
-        IsPlan plan → IsClear plan.site clear → AreWholePackets clear → u < 2 ^ plan.site.height →
+        IsPlan plan → IsSendable plan.site clear → AreWholePackets clear → u < 2 ^ plan.site.height →
         AreKeptFrom plan clear x flags → packets_before plan clear x + plan.site.every ≤ j → j < length clear →
         IsKnownBefore plan u (j / plan.site.every) (chosen flags (things plan clear)) →
         is_confirmed_at plan u clear (after_cat (chosen flags (things plan clear))) j ≡ is_due plan u j }
     ensures crypto { (plan : Plan) (clear : Packets) (u : LeafNumber) (x : ℕ) (flags : Arrived) (k j : PacketNumber) →
-        IsPlan plan → IsClear plan.site clear → AreWholePackets clear → u < 2 ^ plan.site.height →
+        IsPlan plan → IsSendable plan.site clear → AreWholePackets clear → u < 2 ^ plan.site.height →
         AreKeptFrom plan clear x flags → k % crypto_length plan.site ≡ 0 → x ≤ length (sent plan (take k clear)) →
         k ≤ j → j < length clear →
         is_confirmed_at plan u clear (after_cat (chosen flags (things plan clear))) j ≡ is_due plan u j }
     ensures soon { (plan : Plan) (clear : Packets) (u : LeafNumber) (x : ℕ) (flags : Arrived) (j : PacketNumber) →
-        IsPlan plan → IsClear plan.site clear → AreWholePackets clear → u < 2 ^ plan.site.height →
+        IsPlan plan → IsSendable plan.site clear → AreWholePackets clear → u < 2 ^ plan.site.height →
         AreKeptFrom plan clear x flags → packets_before plan clear x + crypto_length plan.site ≤ j →
         j < length clear →
         is_confirmed_at plan u clear (after_cat (chosen flags (things plan clear))) j ≡ is_due plan u j }
     ensures out { (plan : Plan) (clear : Packets) (u : LeafNumber) (x : ℕ) (flags : Arrived) (low : PacketNumber) →
-        IsPlan plan → IsClear plan.site clear → AreWholePackets clear → u < 2 ^ plan.site.height →
+        IsPlan plan → IsSendable plan.site clear → AreWholePackets clear → u < 2 ^ plan.site.height →
         AreKeptFrom plan clear x flags → packets_before plan clear x + crypto_length plan.site ≤ low →
         low ≤ length clear →
         out_from (card_of plan.site.master plan.site.ca plan.site.height u) [] (chosen flags (broadcast plan clear))
@@ -73,16 +73,16 @@ pub fn the_picture_is_back()
 /// before the place. So what is lost from there on costs at most one stretch before it.
 pub fn before_damage()
     ensures message { (plan : Plan) (clear : Packets) (u : LeafNumber) (x : ℕ) (flags : Arrived) (n : MessageNumber)
-        (j : PacketNumber) → IsPlan plan → IsClear plan.site clear → AreWholePackets clear →
+        (j : PacketNumber) → IsPlan plan → IsSendable plan.site clear → AreWholePackets clear →
         u < 2 ^ plan.site.height → AreKeptBefore plan clear x flags →
         has_arrived (take x (things plan clear)) n ≡ true → j < n * plan.site.every → j < length clear →
         is_confirmed_at plan u clear (after_cat (chosen flags (things plan clear))) j ≡ is_due plan u j }
     ensures packets { (plan : Plan) (clear : Packets) (u : LeafNumber) (x : ℕ) (flags : Arrived) (j : PacketNumber) →
-        IsPlan plan → IsClear plan.site clear → AreWholePackets clear → u < 2 ^ plan.site.height →
+        IsPlan plan → IsSendable plan.site clear → AreWholePackets clear → u < 2 ^ plan.site.height →
         AreKeptBefore plan clear x flags → j + plan.site.every < packets_before plan clear x →
         is_confirmed_at plan u clear (after_cat (chosen flags (things plan clear))) j ≡ is_due plan u j }
     ensures out { (plan : Plan) (clear : Packets) (u : LeafNumber) (x : ℕ) (flags : Arrived) (high : PacketNumber) →
-        IsPlan plan → IsClear plan.site clear → AreWholePackets clear → u < 2 ^ plan.site.height →
+        IsPlan plan → IsSendable plan.site clear → AreWholePackets clear → u < 2 ^ plan.site.height →
         AreKeptBefore plan clear x flags → high + plan.site.every ≤ packets_before plan clear x →
         out_from (card_of plan.site.master plan.site.ca plan.site.height u) [] (chosen flags (broadcast plan clear))
         ≡ due_in plan u clear 0 high

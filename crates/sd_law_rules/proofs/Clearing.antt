@@ -1,5 +1,5 @@
 -- Clear streams by what is asked of each packet alone, and of all together.
-use Rattle.std.proofs.Common.{◌≡◌, refl, ℕ, suc, ◌+◌, ◌-◌, ◌^◌, ◌<◌, ◌≤◌, ◌||◌, Bool, true, false, List, [], ◌∷◌}
+use Rattle.std.proofs.Common.{◌≡◌, refl, ℕ, suc, ◌+◌, ◌^◌, ◌<◌, ◌≤◌, ◌||◌, Bool, true, false, List, [], ◌∷◌}
 use Rattle.std.proofs.Common.{◌++◌, filter, length, arith, sym, ap, ◌∙◌, inl, inr, subst, nat_le, Option, None}
 use Rattle.std.proofs.Common.{length-append, append_assoc}
 use Rattle.std.specs.Prelude.{if◌then◌else◌}
@@ -13,36 +13,34 @@ use Rattle.sd_packet.specs.Positions.{is_moving, is_placed}
 use Rattle.sd_site.specs.SiteFields.{SiteFields}
 use Rattle.sd_spec.specs.Plan.{word_of}
 use Rattle.sd_spec.specs.Kinds.{pat_in_force, has_moved, moved_pids, positional_pids}
-use Rattle.sd_spec.specs.Refused.{is_reserved_pid, pat_wrong, is_full_own, is_one_too_many, refusal_of, refusal_from}
+use Rattle.sd_spec.specs.Refused.{is_reserved_pid, is_full_own, is_one_too_many, unsent_at, unsent_from}
 use Rattle.sd_spec.specs.declared.kind.Kind.{Kind}
 use Rattle.sd_spec.proofs.Following.{pat_next, moved_first}
 use Rattle.sd_law_broadcast.proofs.Clear.{accepted, none_then, put_in_length}
-use Rattle.sd_law_broadcast.proofs.Narrowing.{unrefused}
+use Rattle.sd_law_broadcast.proofs.Narrowing.{can_be_sent}
 use Rattle.sd_law_rules.proofs.Rows.{leaves, Row, packets_in, staying, stays, next_pat, pat_after, kind_with, kind_is}
 use Rattle.sd_law_rules.proofs.Rows.{no_pat, pat_same}
 
--- the packet breaks no rule, whatever the number of packets and PIDs before it
+-- the packet breaks no rule but that on PATs, whatever the number of packets and PIDs before it
 pub record IsLocal (site : SiteFields) (pat : Option (List ℕ)) (x : List ℕ) : Type 0 where
   pub clear : scrambling_of x ≡ 0
   pub untaken : is_reserved_pid site (pid_of x) ≡ false
-  pub pat_right : pat_wrong x ≡ None
   pub own : is_full_own site (kind_with pat x) x ≡ false
 
 abbrev pub AreLocal : SiteFields → Option (List ℕ) → List (List ℕ) → Type 0
 AreLocal site pat [] = Unit {0}
 AreLocal site pat (x ∷ xs) = IsLocal site pat x × AreLocal site (next_pat pat x) xs
 
-pub locals_of : (site : SiteFields) (before xs : List (List ℕ)) → refusal_from site before xs ≡ None →
+pub locals_of : (site : SiteFields) (before xs : List (List ℕ)) → unsent_from site before xs ≡ None →
     AreLocal site (pat_in_force before) xs
-unfolding refusal_from
+unfolding unsent_from
 locals_of site before [] h = tt
 locals_of site before (x ∷ xs) h =
-    let parts = both_none (refusal_of site before x) (refusal_from site (before ++ x ∷ []) xs) h in
+    let parts = both_none (unsent_at site before (length before) x) (unsent_from site (before ++ x ∷ []) xs) h in
     let is = accepted site before x parts.0 in (
       record {
         clear = is.clear;
         untaken = is.untaken;
-        pat_right = is.pat;
         own = ap (λ (k : Kind). is_full_own site k x) (sym (kind_is before x)) ∙ is.own;
       },
       subst (λ (pat : Option (List ℕ)). AreLocal site pat xs) (pat_next before x)
@@ -86,24 +84,23 @@ room before x xs few = elim (cases_Bool (is_placed x)) [
   ]
 ]
 
--- packets of which each breaks no rule are clear, if there aren't too many of them nor of their PIDs
-pub clear_of : (site : SiteFields) (before xs : List (List ℕ)) → AreLocal site (pat_in_force before) xs →
+-- packets of which each breaks no rule but that on PATs can be sent, if there aren't too many of them nor of their PIDs
+pub sendable_of : (site : SiteFields) (before xs : List (List ℕ)) → AreLocal site (pat_in_force before) xs →
     length (before ++ xs) < 2 ^ 32 → length (moved_pids (before ++ xs)) ≤ 256 →
-    ((k : ℕ) → k < length (before ++ xs) → word_of site k ≤ site.last_word) → refusal_from site before xs ≡ None
-unfolding refusal_from
-clear_of site before [] are short few words = refl
-clear_of site before (x ∷ xs) are short few words =
-    none_then (refusal_of site before x) (refusal_from site (before ++ x ∷ []) xs)
-    (unrefused site before x (record {
+    ((k : ℕ) → k < length (before ++ xs) → word_of site k ≤ site.last_word) → unsent_from site before xs ≡ None
+unfolding unsent_from
+sendable_of site before [] are short few words = refl
+sendable_of site before (x ∷ xs) are short few words =
+    none_then (unsent_at site before (length before) x) (unsent_from site (before ++ x ∷ []) xs)
+    (can_be_sent site before x (record {
       clear = are.0.clear;
       untaken = are.0.untaken;
-      pat = are.0.pat_right;
       own = ap (λ (k : Kind). is_full_own site k x) (kind_is before x) ∙ are.0.own;
       room = room before x xs few;
       short = λ e. absurd (omega (arith, e, short, long));
       word = words (length before) (omega (arith, long));
     }))
-    (clear_of site (before ++ x ∷ []) xs
+    (sendable_of site (before ++ x ∷ []) xs
     (subst (λ (pat : Option (List ℕ)). AreLocal site pat xs) (sym (pat_next before x)) are.1)
     (subst (λ (all : List (List ℕ)). length all < 2 ^ 32) same short)
     (subst (λ (all : List (List ℕ)). length (moved_pids all) ≤ 256) same few)

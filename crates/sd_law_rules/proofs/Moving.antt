@@ -1,14 +1,13 @@
 -- Where packets lead positions if some of them are left out.
 use Rattle.std.proofs.Common.{◌≡◌, refl, ℕ, ◌+◌, ◌*◌, ◌<◌, ◌≤◌, ◌==◌, Bool, true, false, List, [], ◌∷◌, length, arith}
 use Rattle.std.proofs.Common.{sym, ap, ◌∙◌, inl, inr}
-use Rattle.std.specs.Prelude.{if◌then◌else◌, ◌≢◌}
+use Rattle.std.specs.Prelude.{if◌then◌else◌, ◌≢◌, All}
 use Rattle.std.proofs.lemmas.List.Elements.{All-cons, All-head, All-tail}
 use Rattle.std.proofs.lemmas.Bool.{cases_Bool}
 use Rattle.std.proofs.lemmas.Bool.Decides.{nat_tests}
 use Rattle.sd_packet.specs.Header.{counter_of, pid_of}
 use Rattle.sd_packet.specs.Positions.{is_moving, moved, moved_by, advanced}
 use Rattle.sd_packet.proofs.Positions.{counter_below, moved_near}
-use Rattle.sd_law_broadcast.specs.Packets.{IsWholePacket, AreWholePackets}
 use Rattle.sd_law_rules.proofs.Rows.{leaves, Row, packets_in, kept_rows, stays, staying}
 
 stays_put : (q x : ℕ) (packet : List ℕ) → is_moving q packet ≡ false → moved q x packet ≡ x
@@ -92,12 +91,11 @@ staying_kept p (r ∷ rows) = elim (cases_Bool r.kept) [
   ]
 ]
 
-pub whole_stay : (p : ℕ) (rows : List Row) → AreWholePackets (packets_in rows) →
-    AreWholePackets (packets_in (staying p rows))
-whole_stay p [] all = all
-whole_stay p (r ∷ rows) all = elim (cases_Bool (stays p r)) [
-  | inl stay ↦ rw stay (All-cons IsWholePacket r.packet (packets_in (staying p rows))
-      (All-head IsWholePacket r.packet (packets_in rows) all)
-      (whole_stay p rows (All-tail IsWholePacket r.packet (packets_in rows) all)))
-  | inr goes ↦ rw goes (whole_stay p rows (All-tail IsWholePacket r.packet (packets_in rows) all))
+pub all_stay : (P : List ℕ → Type 0) (p : ℕ) (rows : List Row) → All P (packets_in rows) →
+    All P (packets_in (staying p rows))
+all_stay P p [] all = all
+all_stay P p (r ∷ rows) all = elim (cases_Bool (stays p r)) [
+  | inl stay ↦ rw stay (All-cons P r.packet (packets_in (staying p rows)) (All-head P r.packet (packets_in rows) all)
+      (all_stay P p rows (All-tail P r.packet (packets_in rows) all)))
+  | inr goes ↦ rw goes (all_stay P p rows (All-tail P r.packet (packets_in rows) all))
 ]

@@ -17,6 +17,7 @@ use Rattle.sd_message.specs.EcmParts.{Message}
 use Rattle.sd_message.specs.declared.ecm_part.Place.{Place}
 use Rattle.sd_spec.specs.Plan.{Plan, IsPlan}
 use Rattle.sd_spec.specs.Kinds.{has_moved}
+use Rattle.sd_spec.specs.Refused.{IsClear, IsSendable}
 use Rattle.sd_spec.specs.Carried.{carried}
 use Rattle.sd_spec.specs.Sent.{Item}
 use Rattle.sd_spec.specs.Confirmed.{tracked, position_in}
@@ -32,7 +33,7 @@ use Rattle.sd_law_losses.proofs.Lawful.{setting, laws_hold}
 use Rattle.sd_law_losses.proofs.Tracking.{kept_parts, kept_more, near_at, true_at, near_exact}
 use Rattle.sd_law_rules.specs.Rules.{Sketch, sketch_of, sketches_between, IsBetween, IsSound, told_of, place_in}
 use Rattle.sd_law_rules.specs.Rules.{tracked_by, is_confirmed_by, tracked_from, receivers_judge}
-use Rattle.sd_law_rules.proofs.Worlds.{within, placed, p_low, p_high}
+use Rattle.sd_law_rules.proofs.Worlds.{within, placed, p_low, p_high, as_sendable}
 
 -- headers lead as their packets
 by_headers : (pid position : ℕ) (packets : List (List ℕ)) →
@@ -58,12 +59,12 @@ told_at test start before (x ∷ xs) s ys =
     (append_assoc before (x ∷ []) xs)
 
 module _ (plan : Plan) (is : IsPlan plan) (clear : List (List ℕ)) (kept : List Item) (a j : ℕ)
-    (between : IsBetween plan clear kept a j) where
+    (between : IsBetween IsSendable plan clear kept a j) where
   abbrev s : Setting
   s = setting plan clear 0
 
   laws : AreLaws s
-  laws = laws_hold plan clear 0 is between.clear_is between.whole (pow_pos plan.site.height)
+  laws = laws_hold plan clear 0 is between.such between.whole (pow_pos plan.site.height)
 
   abbrev low : ℕ
   low = a * plan.site.every
@@ -209,8 +210,12 @@ some_told true x t told = cc
 some_told false x t told = absurd (cc told)
 
 -- so it is sound
-pub own_sound : (plan : Plan) → IsPlan plan → IsSound plan receivers_judge
+pub own_sound : (plan : Plan) → IsPlan plan → IsSound IsSendable plan receivers_judge
 own_sound plan is = λ clear kept a j t between told.
     some_told (is_traced plan clear kept a (a + 1) (pid_of (packet_at clear j)))
     (position_of (pid_of (packet_at clear j)) (take (j + 1) clear)) t
     (sym (own_tells plan is clear kept a j between) ∙ told)
+
+pub own_sound_if_clear : (plan : Plan) → IsPlan plan → IsSound IsClear plan receivers_judge
+own_sound_if_clear plan is = λ clear kept a j t between.
+    own_sound plan is clear kept a j t (as_sendable plan clear kept a j between)

@@ -5,7 +5,7 @@ use Rattle.std.specs.Prelude.{All}
 use Rattle.std.proofs.lemmas.List.{length-map}
 use Rattle.std.proofs.lemmas.Bool.{cases_Bool}
 use Rattle.std.proofs.lemmas.Bool.Decides.{nat_tests}
-use Rattle.std.proofs.lemmas.List.Elements.{All-nil, All-cons, All-head, All-tail}
+use Rattle.std.proofs.lemmas.List.Elements.{All-head, All-tail}
 use Rattle.sd_packet.specs.Packing.{IsSectionPacket}
 use Rattle.sd_packet.proofs.Packets.{packet_reads}
 use Rattle.sd_site.specs.SiteFields.{SiteFields, AreInRange}
@@ -16,6 +16,7 @@ use Rattle.sd_spec.specs.declared.kind.Kind.{Kind}
 use Rattle.sd_spec.specs.declared.kind.Kind.TheVariants.{Passed, Pmt, Scrambled}
 use Rattle.sd_spec.proofs.Following.{pat_next}
 use Rattle.sd_law_broadcast.specs.Packets.{IsWholePacket}
+use Rattle.sd_law_broadcast.proofs.Sendable.{IsRight}
 use Rattle.sd_law_rules.specs.Rules.{Sketch}
 use Rattle.sd_law_rules.proofs.Rows.{and_false, Row, packets_in, kept_rows, next_pat, pat_after, pat_same, kind_with}
 use Rattle.sd_law_rules.proofs.Rows.{views, shown}
@@ -26,6 +27,7 @@ use Rattle.sd_law_rules.proofs.Clearing.{IsLocal, AreLocal}
 pub record IsQuiet (site : SiteFields) (x : List ℕ) : Type 0 where
   pub local : (pat : Option (List ℕ)) → IsLocal site pat x
   pub no_pat : is_current_pat x ≡ false
+  pub right : IsRight x
   pub whole : IsWholePacket x
 
 full_by : (site : SiteFields) (x : List ℕ) → is_none (restore_fault site.ca site.ecm x) ≡ false → (kind : Kind) →
@@ -40,11 +42,11 @@ made_quiet site pid c low small some untaken = record {
   local = λ pat. record {
     clear = reads.scrambling;
     untaken = ap (is_reserved_pid site) reads.pid_is ∙ untaken;
-    pat_right = rw (reads.pid_is) (rw other refl);
     own = full_by site (made pid c) (made_no_pmt (ca_descriptor site.ca site.ecm) pid c low small)
         (kind_with pat (made pid c));
   };
   no_pat = made_no_pat pid c low small some;
+  right = rw (reads.pid_is) (rw other refl);
   whole = made_whole pid c low small;
 }
   where
@@ -79,11 +81,6 @@ quiet_pat site pat [] all = refl
 quiet_pat site pat (x ∷ xs) all =
     ap (λ (q : Option (List ℕ)). pat_after q xs) (pat_same pat x (All-head (IsQuiet site) x xs all).no_pat)
     ∙ quiet_pat site pat xs (All-tail (IsQuiet site) x xs all)
-
-pub quiet_whole : (site : SiteFields) (xs : List (List ℕ)) → All (IsQuiet site) xs → All IsWholePacket xs
-quiet_whole site [] all = All-nil IsWholePacket
-quiet_whole site (x ∷ xs) all = All-cons IsWholePacket x xs (All-head (IsQuiet site) x xs all).whole
-    (quiet_whole site xs (All-tail (IsQuiet site) x xs all))
 
 -- the rows of lost packets
 abbrev pub lost_rows : List (List ℕ) → List Row

@@ -16,7 +16,7 @@ use Rattle.sd_packet.proofs.Positions.{more_packets, unmoved_is_none}
 use Rattle.sd_message.specs.declared.ecm_part.Place.{Place}
 use Rattle.sd_spec.specs.Plan.{Plan, IsPlan, word_of, closing_number, since_of}
 use Rattle.sd_spec.specs.Kinds.{pat_in_force, has_moved, moved_pids, positional_pids}
-use Rattle.sd_spec.specs.Refused.{IsClear}
+use Rattle.sd_spec.specs.Refused.{IsSendable}
 use Rattle.sd_spec.specs.Sent.{Item, Cat, Entitles, Controls, Carries}
 use Rattle.sd_spec.specs.Messages.{message_at, places_after}
 use Rattle.sd_spec.proofs.Schedule.{closing_needed, since_is_below, same_word}
@@ -45,7 +45,7 @@ stretch_rows plan clear kept a = rows_in clear kept (a * plan.site.every) (many 
 
 -- a rule sees what these show
 pub sketches_are : (plan : Plan) (clear : List (List ℕ)) (kept : List Item) (a : ℕ) → IsPlan plan →
-    IsClear plan.site clear → AreWholePackets clear → a < closing_number plan.site (length clear) →
+    IsSendable plan.site clear → AreWholePackets clear → a < closing_number plan.site (length clear) →
     sketches_between plan clear kept a
     ≡ views (word_of plan.site (a * plan.site.every)) (pat_in_force (take (a * plan.site.every) clear))
     (stretch_rows plan clear kept a)
@@ -170,7 +170,7 @@ kept_by g j (Carries i x ∷ items) = by_test (i == j) refl (g i) refl (kept_by 
 
 -- a choice that leaves out none but clear packets
 pub all_arrive : (plan : Plan) (clear : List (List ℕ)) (g : ℕ → Bool) (a : ℕ) → IsPlan plan →
-    IsClear plan.site clear → AreWholePackets clear → a ≤ closing_number plan.site (length clear) →
+    IsSendable plan.site clear → AreWholePackets clear → a ≤ closing_number plan.site (length clear) →
     has_arrived (filter (keeps g) (things plan clear)) a ≡ true
 all_arrive plan clear g a is all whole within =
     same_arrived (filter (keeps g) (things plan clear)) (things plan clear) a (messages_stay g (things plan clear))

@@ -9,15 +9,16 @@ use Rattle.std.proofs.lemmas.Bool.{cases_lt, cases_eq}
 use Rattle.std.proofs.lemmas.Bool.Decides.{nat_tests}
 use Rattle.std.proofs.lemmas.List.{length-take-le, take-append-drop, take_at, get_or_append_left, map-append}
 use Rattle.std.proofs.lemmas.List.{length-map}
-use Rattle.std.proofs.lemmas.List.Elements.{All-append, filter-append}
+use Rattle.std.proofs.lemmas.List.Elements.{All-append, All-weaker, filter-append}
 use Rattle.std.proofs.Math.Seq.{take-add, get_or-append_seam}
 use Rattle.sd_base.proofs.Ranges.{range_parts}
 use Rattle.sd_packet.specs.Header.{pid_of}
 use Rattle.sd_packet.specs.Positions.{is_placed, moved_by, position_of}
 use Rattle.sd_packet.proofs.Positions.{more_packets, higher_start}
+use Rattle.sd_site.specs.SiteFields.{SiteFields}
 use Rattle.sd_spec.specs.Plan.{Plan, IsPlan, word_of, closing_number}
 use Rattle.sd_spec.specs.Kinds.{kind_of, is_scrambled, pat_in_force}
-use Rattle.sd_spec.specs.Refused.{IsClear, is_reserved_pid}
+use Rattle.sd_spec.specs.Refused.{IsClear, IsSendable, is_reserved_pid}
 use Rattle.sd_spec.specs.Sent.{Item}
 use Rattle.sd_spec.specs.Messages.{message_at}
 use Rattle.sd_spec.specs.declared.kind.Kind.{Kind}
@@ -28,6 +29,7 @@ use Rattle.sd_law_broadcast.specs.Numbered.{numbered}
 use Rattle.sd_law_broadcast.proofs.Carrying.{kind_placed}
 use Rattle.sd_law_broadcast.proofs.Clear.{accepted, each_clear, clear_short, clear_words, clear_pids}
 use Rattle.sd_law_broadcast.proofs.Numbers.{numbered_before}
+use Rattle.sd_law_broadcast.proofs.Sendable.{IsRight, clear_exactly, clear_sendable}
 use Rattle.sd_law_losses.specs.Kept.{is_kept, kept_in}
 use Rattle.sd_law_losses.specs.Confirmed.{packet_at, upto, tracked_position, is_traced}
 use Rattle.sd_law_losses.proofs.Tracking.{near_below}
@@ -39,11 +41,11 @@ use Rattle.sd_law_rules.proofs.Rows.{views_stay, pat_after, pat_stays, kind_is, 
 use Rattle.sd_law_rules.proofs.Telling.{like_joined, same_numbered, kept_packets, many, stretch_rows}
 use Rattle.sd_law_rules.proofs.Telling.{sketches_are, kept_many, row_packets, flag_at, rows_back, keeps, chosen_by}
 use Rattle.sd_law_rules.proofs.Telling.{all_arrive, all_are_kept, AreLike, same_pids}
-use Rattle.sd_law_rules.proofs.Quiet.{lost_long, IsQuiet, fill_quiet, quiet_locals, quiet_pat, quiet_whole, lost_rows}
+use Rattle.sd_law_rules.proofs.Quiet.{lost_long, IsQuiet, fill_quiet, quiet_locals, quiet_pat, lost_rows}
 use Rattle.sd_law_rules.proofs.Quiet.{lost_packets, none_kept, lost_views, views_then, pat_joined, pat_then}
-use Rattle.sd_law_rules.proofs.Moving.{whole_stay, staying_lead, others_lead, lost_lead, staying_few, staying_kept}
+use Rattle.sd_law_rules.proofs.Moving.{all_stay, staying_lead, others_lead, lost_lead, staying_few, staying_kept}
 use Rattle.sd_law_rules.proofs.Filling.{fill, fill_length, fill_leads, fill_rests}
-use Rattle.sd_law_rules.proofs.Clearing.{AreLocal, locals_of, locals_cut, locals_joined, locals_stay, clear_of}
+use Rattle.sd_law_rules.proofs.Clearing.{AreLocal, locals_of, locals_cut, locals_joined, locals_stay, sendable_of}
 
 not_passed : (kind : Kind) → is_scrambled kind ≡ true → (kind ≡ Passed → ⊥)
 not_passed Passed veiled same = absurd (cc veiled)
@@ -51,7 +53,7 @@ not_passed Pmt veiled same = absurd (cc veiled)
 not_passed Scrambled veiled same = absurd (cc same)
 
 module _ (plan : Plan) (is : IsPlan plan) (clear : List (List ℕ)) (kept : List Item) (a j : ℕ)
-    (between : IsBetween plan clear kept a j) where
+    (between : IsBetween IsSendable plan clear kept a j) where
   abbrev low : ℕ
   low = a * plan.site.every
 
@@ -112,7 +114,7 @@ module _ (plan : Plan) (is : IsPlan plan) (clear : List (List ℕ)) (kept : List
   p_high = grind (arith, nat_tests, placed)
 
   untaken : is_reserved_pid plan.site p ≡ false
-  untaken = (accepted plan.site (take j clear) x (each_clear plan.site clear j between.clear_is within)).untaken
+  untaken = (accepted plan.site (take j clear) x (each_clear plan.site clear j between.such within)).untaken
 
   -- where the kept packets lead the PID, and where all do
   abbrev tracked : ℕ
@@ -311,7 +313,7 @@ module _ (plan : Plan) (is : IsPlan plan) (clear : List (List ℕ)) (kept : List
   no_pat_yet = pat_in_force []
 
   old_locals : AreLocal plan.site no_pat_yet (pre ++ (packets_in rows ++ post))
-  old_locals = subst (AreLocal plan.site no_pat_yet) whole_is (locals_of plan.site [] clear between.clear_is)
+  old_locals = subst (AreLocal plan.site no_pat_yet) whole_is (locals_of plan.site [] clear between.such)
 
   pat_at_start : pat_after no_pat_yet pre ≡ pat
   pat_at_start = sym (pat_joined [] pre)
@@ -337,27 +339,35 @@ module _ (plan : Plan) (is : IsPlan plan) (clear : List (List ℕ)) (kept : List
       (locals_joined plan.site pat (packets_in (world c)) post (world_locals c rest.0)
       (subst (λ (q : Option (List ℕ)). AreLocal plan.site q post) (sym (world_pat c)) rest.1)))
 
-  -- so the other stream is a clear one too
-  new_clear : (c : ℕ) → IsFit c → IsClear plan.site (stream c)
-  new_clear c fits =
-      clear_of plan.site [] (stream c) (new_locals c)
-      (subst (λ (k : ℕ). k < 2 ^ 32) (sym (stream_long c fits)) (clear_short plan.site clear between.clear_is))
+  -- so the other stream can be sent too
+  pub new_sendable : (c : ℕ) → IsFit c → IsSendable plan.site (stream c)
+  new_sendable c fits =
+      sendable_of plan.site [] (stream c) (new_locals c)
+      (subst (λ (k : ℕ). k < 2 ^ 32) (sym (stream_long c fits)) (clear_short plan.site clear between.such))
       (subst (λ (ps : List ℕ). length ps ≤ 256) (sym (same_pids (stream c) clear (like_all c fits)))
-      (clear_pids plan.site clear between.clear_is))
-      (λ k below. clear_words plan.site clear k between.clear_is (omega (arith, below, stream_long c fits)))
+      (clear_pids plan.site clear between.such))
+      (λ k below. clear_words plan.site clear k between.such (omega (arith, below, stream_long c fits)))
+
+  -- what holds of the packets of the one, and of what is put in, holds of those of the other
+  new_all : (P : List ℕ → Type 0) → ((y : List ℕ) → IsQuiet plan.site y → P y) → All P clear → (c : ℕ) →
+      All P (stream c)
+  new_all P put old c =
+      let all = split_all P pre (packets_in rows ++ post) (subst (All P) whole_is old) in
+      let rest = split_all P (packets_in rows) post all.1 in
+      All-append P pre (packets_in (world c) ++ post) all.0
+      (All-append P (packets_in (world c)) post
+      (subst (All P) (sym (packets_are c))
+      (All-append P (front c) (packets_in (staying p rows) ++ back c)
+      (All-weaker (IsQuiet plan.site) P put (front c) (front_quiet c))
+      (All-append P (packets_in (staying p rows)) (back c) (all_stay P p rows rest.0)
+      (All-weaker (IsQuiet plan.site) P put (back c) (back_quiet c)))))
+      rest.1)
 
   new_whole : (c : ℕ) → AreWholePackets (stream c)
-  new_whole c =
-      let all = split_all IsWholePacket pre (packets_in rows ++ post) (subst AreWholePackets whole_is between.whole) in
-      let rest = split_all IsWholePacket (packets_in rows) post all.1 in
-      All-append IsWholePacket pre (packets_in (world c) ++ post) all.0
-      (All-append IsWholePacket (packets_in (world c)) post
-      (subst AreWholePackets (sym (packets_are c))
-      (All-append IsWholePacket (front c) (packets_in (staying p rows) ++ back c)
-      (quiet_whole plan.site (front c) (front_quiet c))
-      (All-append IsWholePacket (packets_in (staying p rows)) (back c) (whole_stay p rows rest.0)
-      (quiet_whole plan.site (back c) (back_quiet c)))))
-      rest.1)
+  new_whole = new_all IsWholePacket (λ y quiet. quiet.whole) between.whole
+
+  pub new_right : All IsRight clear → (c : ℕ) → All IsRight (stream c)
+  new_right = new_all IsRight (λ y quiet. quiet.right)
 
   -- what is kept of it
   abbrev flags : ℕ → ℕ → Bool
@@ -396,12 +406,12 @@ module _ (plan : Plan) (is : IsPlan plan) (clear : List (List ℕ)) (kept : List
   sketches_same : (c : ℕ) → IsFit c →
       sketches_between plan (stream c) (arrived_of c) a ≡ sketches_between plan clear kept a
   sketches_same c fits =
-      sketches_are plan (stream c) (arrived_of c) a is (new_clear c fits) (new_whole c) (below_too c fits)
+      sketches_are plan (stream c) (arrived_of c) a is (new_sendable c fits) (new_whole c) (below_too c fits)
       ∙ (ap (λ (xs : List (List ℕ)). views (word_of plan.site low) (pat_in_force xs)
       (stretch_rows plan (stream c) (arrived_of c) a)) (begins c)
       ∙ (ap (views (word_of plan.site low) pat) (rows_same c fits)
       ∙ (world_views (word_of plan.site low) c
-      ∙ sym (sketches_are plan clear kept a is between.clear_is between.whole between.below))))
+      ∙ sym (sketches_are plan clear kept a is between.such between.whole between.below))))
 
   -- the packet in it
   abbrev d : ℕ
@@ -563,15 +573,16 @@ module _ (plan : Plan) (is : IsPlan plan) (clear : List (List ℕ)) (kept : List
       rw (first_same c fits, next_same c fits, sketches_same c fits, index_same c fits) refl
 
   -- the other broadcast is one of those of which a sound rule is right
-  new_between : (c : ℕ) → IsFit c → IsBetween plan (stream c) (arrived_of c) a (place c)
-  new_between c fits = record {
-    clear_is = new_clear c fits;
+  new_between : (IsSuch : SiteFields → List (List ℕ) → Type 0) (c : ℕ) → IsFit c → IsSuch plan.site (stream c) →
+      IsBetween IsSuch plan (stream c) (arrived_of c) a (place c)
+  new_between IsSuch c fits such = record {
+    such = such;
     whole = new_whole c;
     part = (map (keeps (flags c)) (things plan (stream c)), sym (chosen_by (keeps (flags c)) (things plan (stream c))));
     below = below_too c fits;
-    first = all_arrive plan (stream c) (flags c) a is (new_clear c fits) (new_whole c)
+    first = all_arrive plan (stream c) (flags c) a is (new_sendable c fits) (new_whole c)
         (omega (arith, below_too c fits));
-    next = all_arrive plan (stream c) (flags c) (a + 1) is (new_clear c fits) (new_whole c)
+    next = all_arrive plan (stream c) (flags c) (a + 1) is (new_sendable c fits) (new_whole c)
         (omega (arith, below_too c fits));
     there = kept_here c fits;
     from = omega arith;
@@ -603,10 +614,10 @@ module _ (plan : Plan) (is : IsPlan plan) (clear : List (List ℕ)) (kept : List
           ∙ append_assoc pre (packets_in (ahead c)) (x ∷ []))
 
   -- so a sound rule tells that
-  told_there : (judge : Judge) (t c : ℕ) → IsSound plan judge → told_of judge plan clear kept a j ≡ Some t → IsFit c →
-      t ≡ near + 16 * c
-  told_there judge t c sound told fits =
-      sound (stream c) (arrived_of c) a (place c) t (new_between c fits) (told_same judge c fits ∙ told)
+  told_there : (IsSuch : SiteFields → List (List ℕ) → Type 0) (judge : Judge) (t c : ℕ) → IsSound IsSuch plan judge →
+      told_of judge plan clear kept a j ≡ Some t → IsFit c → IsSuch plan.site (stream c) → t ≡ near + 16 * c
+  told_there IsSuch judge t c sound told fits such =
+      sound (stream c) (arrived_of c) a (place c) t (new_between IsSuch c fits such) (told_same judge c fits ∙ told)
       ∙ new_position c
 
   -- the tracked position at the later message, and the true one
@@ -624,17 +635,52 @@ module _ (plan : Plan) (is : IsPlan plan) (clear : List (List ℕ)) (kept : List
   tracked_below = near_below clear kept low p (upto plan clear (a + 1)) (omega (arith, high_is)) (omega arith)
 
   -- a PID that isn't traced would have two positions
-  pub traced_where_told : (judge : Judge) (t : ℕ) → IsSound plan judge → told_of judge plan clear kept a j ≡ Some t →
-      is_traced plan clear kept a (a + 1) p ≡ true
+  traced_by : (IsSuch : SiteFields → List (List ℕ) → Type 0) →
+      ((c : ℕ) → IsFit c → IsSuch plan.site (stream c)) → (judge : Judge) (t : ℕ) → IsSound IsSuch plan judge →
+      told_of judge plan clear kept a j ≡ Some t → is_traced plan clear kept a (a + 1) p ≡ true
   unfolding is_traced
-  traced_where_told judge t sound told = elim (cases_lt (tracked + 15) ended) [
+  traced_by IsSuch such judge t sound told = elim (cases_lt (tracked + 15) ended) [
     | inr close ↦
         let below = tracked_below in
         let high : position_of p (take (upto plan clear (a + 1)) clear)
         ≤ tracked_position plan clear kept a (a + 1) p + 15 = omega (arith, close, tracked_is, ended_is) in
         grind (arith, nat_tests, below, high)
     | inl far ↦
-        let one = told_there judge t 0 sound told (omega (arith, far)) in
-        let two = told_there judge t 1 sound told (omega (arith, far)) in
+        let lower : IsFit 0 = omega (arith, far) in
+        let higher : IsFit 1 = omega (arith, far) in
+        let one = told_there IsSuch judge t 0 sound told lower (such 0 lower) in
+        let two = told_there IsSuch judge t 1 sound told higher (such 1 higher) in
         absurd (omega (arith, one, two))
   ]
+
+  pub traced_where_told : (judge : Judge) (t : ℕ) → IsSound IsSendable plan judge →
+      told_of judge plan clear kept a j ≡ Some t → is_traced plan clear kept a (a + 1) p ≡ true
+  traced_where_told = traced_by IsSendable new_sendable
+
+  -- for a rule that is right on clear streams alone, the other streams have to be clear
+  traced_if_clear : IsClear plan.site clear → (judge : Judge) (t : ℕ) → IsSound IsClear plan judge →
+      told_of judge plan clear kept a j ≡ Some t → is_traced plan clear kept a (a + 1) p ≡ true
+  traced_if_clear all =
+      traced_by IsClear (λ c fits. (clear_exactly plan.site (stream c)).1
+      (new_sendable c fits, new_right ((clear_exactly plan.site clear).0 all).1 c))
+
+pub as_sendable : (plan : Plan) (clear : List (List ℕ)) (kept : List Item) (a j : ℕ) →
+    IsBetween IsClear plan clear kept a j → IsBetween IsSendable plan clear kept a j
+as_sendable plan clear kept a j between = record {
+  such = clear_sendable plan.site clear between.such;
+  whole = between.whole;
+  part = between.part;
+  below = between.below;
+  first = between.first;
+  next = between.next;
+  there = between.there;
+  from = between.from;
+  to = between.to;
+  veiled = between.veiled;
+}
+
+pub traced_where_clear : (plan : Plan) → IsPlan plan → (clear : List (List ℕ)) (kept : List Item) (a j : ℕ) →
+    IsBetween IsClear plan clear kept a j → (judge : Judge) (t : ℕ) → IsSound IsClear plan judge →
+    told_of judge plan clear kept a j ≡ Some t → is_traced plan clear kept a (a + 1) (pid_of (packet_at clear j)) ≡ true
+traced_where_clear plan is clear kept a j between =
+    traced_if_clear plan is clear kept a j (as_sendable plan clear kept a j between) between.such

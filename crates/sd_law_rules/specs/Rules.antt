@@ -6,8 +6,8 @@ use Rattle.sd_base.specs.Types.{Packet, Packets, Arrived, Pid, Position, Message
 use Rattle.sd_packet.specs.Header.{pid_of, unit_start_of, counter_of, scrambling_of, adaptation_of, payload_start_of}
 use Rattle.sd_packet.specs.Positions.{first_position, advanced, position_of}
 use Rattle.sd_message.specs.EcmParts.{Message}
+use Rattle.sd_site.specs.SiteFields.{SiteFields}
 use Rattle.sd_spec.specs.Plan.{Plan, closing_number}
-use Rattle.sd_spec.specs.Refused.{IsClear}
 use Rattle.sd_spec.specs.Carried.{carried}
 use Rattle.sd_spec.specs.Sent.{Item}
 use Rattle.sd_spec.specs.Confirmed.{position_in}
@@ -53,11 +53,11 @@ told_of judge plan clear kept a j =
     get_or (judge (numbered plan clear a) (numbered plan clear (a + 1)) (sketches_between plan clear kept a))
     (length (kept_in kept (a * plan.site.every) j)) None
 
--- of a broadcast these things are kept, messages a and a + 1 have arrived, and clear packet j between them is kept, and
--- is scrambled
-pub record IsBetween (plan : Plan) (clear : Packets) (kept : List Item) (a : MessageNumber)
-    (j : PacketNumber) : Type 0 where
-  pub clear_is : IsClear plan.site clear
+-- of the broadcast of a clear stream that is such, as IsClear or IsSendable, these things are kept, messages a and
+-- a + 1 have arrived, and clear packet j between them is kept, and is scrambled
+pub record IsBetween (IsSuch : SiteFields → Packets → Type 0) (plan : Plan) (clear : Packets) (kept : List Item)
+    (a : MessageNumber) (j : PacketNumber) : Type 0 where
+  pub such : IsSuch plan.site clear
   pub whole : AreWholePackets clear
   pub part : (flags : Arrived) × (kept ≡ chosen flags (things plan clear))
   pub below : a < closing_number plan.site (length clear)
@@ -68,10 +68,11 @@ pub record IsBetween (plan : Plan) (clear : Packets) (kept : List Item) (a : Mes
   pub to : j < upto plan clear (a + 1)
   pub veiled : is_scrambled_at clear j ≡ true
 
--- the rule is right of every scrambled packet of every broadcast of the plan, whatever is lost. It may know the plan
-abbrev pub IsSound : Plan → Judge → Type 0
-IsSound plan judge = (clear : Packets) (kept : List Item) (a : MessageNumber) (j : PacketNumber) (p : Position) →
-    IsBetween plan clear kept a j → told_of judge plan clear kept a j ≡ Some p →
+-- the rule is right of every scrambled packet of every broadcast of the plan whose clear stream is such, whatever is
+-- lost. It may know the plan
+abbrev pub IsSound : (SiteFields → Packets → Type 0) → Plan → Judge → Type 0
+IsSound IsSuch plan judge = (clear : Packets) (kept : List Item) (a : MessageNumber) (j : PacketNumber) (p : Position) →
+    IsBetween IsSuch plan clear kept a j → told_of judge plan clear kept a j ≡ Some p →
     p ≡ position_of (pid_of (packet_at clear j)) (take (j + 1) clear)
 
 -- the position of a PID in a message; one that isn't in it has not moved from its first one

@@ -8,9 +8,10 @@ use Rattle.sd_site.proofs.Spellings.{written_is_good, good_parts}
 use Rattle.sd_site.proofs.Made.{made_is_card}
 use Rattle.sd_engine.specs.Taken.{Whole, taken_of, end_of}
 use Rattle.sd_spec.specs.Plan.{Plan, IsPlan}
-use Rattle.sd_spec.specs.Refused.{IsClear}
+use Rattle.sd_spec.specs.Refused.{IsClear, IsSendable}
 use Rattle.sd_spec.specs.Sent.{broadcast}
 use Rattle.sd_law_broadcast.specs.Packets.{AreWholePackets}
+use Rattle.sd_law_broadcast.proofs.Sendable.{clear_sendable}
 use Rattle.sd_spec.specs.Offered.{out_from, break_from}
 use Rattle.sd_spec.specs.Ending.{ending_of}
 use Rattle.sd_receive.specs.Receiving.{taken_keys}
@@ -91,6 +92,9 @@ module _ (plan : Plan) (u : ℕ) (clear : List (List ℕ)) (is : IsPlan plan) (a
   abbrev card : CardFields
   card = card_of plan.site.master plan.site.ca plan.site.height u
 
+  can : IsSendable plan.site clear
+  can = clear_sendable plan.site clear all
+
   leaf_is : card.leaf ≡ u
   unfolding card_of
   leaf_is = refl
@@ -103,15 +107,15 @@ module _ (plan : Plan) (u : ℕ) (clear : List (List ℕ)) (is : IsPlan plan) (a
       received_of card bytes ≡ concat (opened_by plan u clear)
   opened_bytes bytes packets =
       bytes_are card bytes ∙ ap (λ (ps : List (List ℕ)). concat (out_from card [] ps)) packets
-      ∙ ap concat (whole_opened plan clear u is all whole leaf)
+      ∙ ap concat (whole_opened plan clear u is can whole leaf)
 
   pub opened_status : (bytes : List ℕ) → taken_of bytes ≡ broadcast plan clear → end_of bytes ≡ Whole →
       received_status card bytes ≡ revoked_status u (first_revoked plan u clear)
   unfolding ended_status
   opened_status bytes packets end =
-      none_refused card bytes Whole (ap (break_from card []) packets ∙ whole_refused plan clear u is all whole leaf) end
+      none_refused card bytes Whole (ap (break_from card []) packets ∙ whole_refused plan clear u is can whole leaf) end
       ∙ ap (λ (ps : List (List ℕ)). ending_status card.leaf (ending_of card (reverse ps))) packets
-      ∙ ap (ending_status card.leaf) (whole_ended plan clear u is all whole leaf)
+      ∙ ap (ending_status card.leaf) (whole_ended plan clear u is can whole leaf)
       ∙ ap (λ (v : ℕ). ending_status v (whole_ending (first_revoked plan u clear))) leaf_is
       ∙ whole_status u (first_revoked plan u clear)
 
@@ -119,10 +123,10 @@ module _ (plan : Plan) (u : ℕ) (clear : List (List ℕ)) (is : IsPlan plan) (a
       received_steps card bytes ≤ plan.site.height * entitled_periods plan u clear
   opened_steps bytes packets =
       let most = unrefused_steps card bytes
-      (ap (break_from card []) packets ∙ whole_refused plan clear u is all whole leaf)
+      (ap (break_from card []) packets ∙ whole_refused plan clear u is can whole leaf)
       ∙ ap (λ (h : ℕ). h * taken_keys card [] (taken_of bytes)) height_is
       ∙ ap (λ (ps : List (List ℕ)). plan.site.height * taken_keys card [] ps) packets in
-      let keys = ap (λ (n : ℕ). plan.site.height * n) (keys_taken plan clear u is all whole leaf) in
+      let keys = ap (λ (n : ℕ). plan.site.height * n) (keys_taken plan clear u is can whole leaf) in
       omega (arith, most, keys)
 
 -- and over a card of a site and a broadcast of it

@@ -3,13 +3,13 @@ use Rattle.std.proofs.Common.{◌≡◌, ℕ, ◌^◌, ◌<◌, List, []}
 use Rattle.sd_site.specs.CardFields.{card_of}
 use Rattle.sd_spec.specs.Taken.{taken_keys}
 use Rattle.sd_spec.specs.Plan.{Plan, IsPlan}
-use Rattle.sd_spec.specs.Refused.{IsClear}
+use Rattle.sd_spec.specs.Refused.{IsSendable}
 use Rattle.sd_spec.specs.Sent.{broadcast}
 use Rattle.sd_law_broadcast.specs.Packets.{AreWholePackets}
 use Rattle.sd_law_losses.proofs.Theorem.{whole_keys_taken}
 use Rattle.sd_law_run.specs.Opened.{entitled_periods}
 
-pub keys_taken : (plan : Plan) (clear : List (List ℕ)) (u : ℕ) → IsPlan plan → IsClear plan.site clear →
+pub keys_taken : (plan : Plan) (clear : List (List ℕ)) (u : ℕ) → IsPlan plan → IsSendable plan.site clear →
     AreWholePackets clear →
     u < 2 ^ plan.site.height →
     taken_keys (card_of plan.site.master plan.site.ca plan.site.height u) [] (broadcast plan clear) ≡ entitled_periods

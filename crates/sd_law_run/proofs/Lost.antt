@@ -8,13 +8,14 @@ use Rattle.sd_site.proofs.Made.{made_is_card}
 use Rattle.sd_engine.specs.Driving.{most_packets}
 use Rattle.sd_engine.specs.Taken.{Whole, taken_of, end_of}
 use Rattle.sd_spec.specs.Plan.{Plan, IsPlan}
-use Rattle.sd_spec.specs.Refused.{IsClear}
+use Rattle.sd_spec.specs.Refused.{IsClear, IsSendable}
 use Rattle.sd_spec.specs.Sent.{sent, closing_of, broadcast}
 use Rattle.sd_law_broadcast.specs.Packets.{AreWholePackets}
 use Rattle.sd_law_broadcast.specs.Synced.{IsSynced, AreSynced}
 use Rattle.sd_law_broadcast.proofs.Joined.{taken_again, joined_whole}
 use Rattle.sd_law_broadcast.proofs.Synced.{broadcast_synced}
 use Rattle.sd_law_broadcast.proofs.Counted.{broadcast_short}
+use Rattle.sd_law_broadcast.proofs.Sendable.{clear_sendable}
 use Rattle.sd_spec.specs.declared.ending.Ending.{Ending}
 use Rattle.sd_spec.specs.declared.ending.Ending.TheVariants as end
 use Rattle.sd_spec.specs.Offered.{out_from, break_from}
@@ -88,6 +89,9 @@ module _ (plan : Plan) (u : ℕ) (clear : List (List ℕ)) (flags : List Bool) (
   abbrev bytes : List ℕ
   bytes = concat packets
 
+  can : IsSendable plan.site clear
+  can = clear_sendable plan.site clear all
+
   leaf_is : card.leaf ≡ u
   unfolding card_of
   leaf_is = refl
@@ -98,10 +102,10 @@ module _ (plan : Plan) (u : ℕ) (clear : List (List ℕ)) (flags : List Bool) (
 
   -- the packets of the stream are those that are kept
   rest_synced : AreSynced packets
-  rest_synced = chosen_all_of IsSynced flags (broadcast plan clear) (broadcast_synced plan clear is all whole synced)
+  rest_synced = chosen_all_of IsSynced flags (broadcast plan clear) (broadcast_synced plan clear is can whole synced)
 
   rest_short : length packets ≤ most_packets
-  rest_short = omega (arith, chosen_few flags (broadcast plan clear), broadcast_short plan is clear all)
+  rest_short = omega (arith, chosen_few flags (broadcast plan clear), broadcast_short plan is clear can)
 
   rest_taken : taken_of bytes ≡ packets
   rest_taken = taken_again packets rest_synced rest_short
@@ -114,28 +118,28 @@ module _ (plan : Plan) (u : ℕ) (clear : List (List ℕ)) (flags : List Bool) (
   rest_bytes =
       bytes_are card bytes
       ∙ (ap (λ (ps : List (List ℕ)). concat (out_from card [] ps)) rest_taken
-      ∙ ap concat (lost.confirmed_alone plan clear u flags is all whole leaf))
+      ∙ ap concat (lost.confirmed_alone plan clear u flags is can whole leaf))
 
   pub rest_status : received_status card bytes ≡ ending_status u
       (ending_told plan u clear (kept_items plan clear flags))
   unfolding ended_status kept_items
   rest_status =
       none_refused card bytes Whole
-      (ap (break_from card []) rest_taken ∙ lost.none_refused plan clear u flags is all whole leaf) rest_whole
+      (ap (break_from card []) rest_taken ∙ lost.none_refused plan clear u flags is can whole leaf) rest_whole
       ∙ (ap (λ (ps : List (List ℕ)). ending_status card.leaf (ending_of card (reverse ps))) rest_taken
-      ∙ (ap (ending_status card.leaf) (lost.ends_as_told plan clear u flags is all whole leaf)
+      ∙ (ap (ending_status card.leaf) (lost.ends_as_told plan clear u flags is can whole leaf)
       ∙ ap (λ (v : ℕ). ending_status v (ending_told plan u clear (chosen flags
       (sent plan clear ++ closing_of plan clear)))) leaf_is))
 
   rest_keys : taken_keys card [] packets ≡ kept_periods plan u clear (kept_items plan clear flags)
   unfolding kept_periods kept_items
-  rest_keys = lost.keys_taken plan clear u flags is all whole leaf
+  rest_keys = lost.keys_taken plan clear u flags is can whole leaf
 
   pub rest_steps : received_steps card bytes ≤ plan.site.height * kept_periods plan u clear
       (kept_items plan clear flags)
   rest_steps =
       let most = unrefused_steps card bytes
-      (ap (break_from card []) rest_taken ∙ lost.none_refused plan clear u flags is all whole leaf)
+      (ap (break_from card []) rest_taken ∙ lost.none_refused plan clear u flags is can whole leaf)
       ∙ (ap (λ (h : ℕ). h * taken_keys card [] (taken_of bytes)) height_is
       ∙ (ap (λ (ps : List (List ℕ)). plan.site.height * taken_keys card [] ps) rest_taken
       ∙ ap (λ (n : ℕ). plan.site.height * n) rest_keys)) in

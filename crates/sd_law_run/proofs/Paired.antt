@@ -10,6 +10,7 @@ use Rattle.sd_book.specs.declared.command.Command.{Command}
 use Rattle.sd_spec.specs.Plan.{Plan, IsPlan}
 use Rattle.sd_spec.specs.Refused.{IsClear}
 use Rattle.sd_law_broadcast.specs.Runs.{Run, IsRun}
+use Rattle.sd_law_broadcast.proofs.Sendable.{clear_sendable}
 use Rattle.sd_law_plan.proofs.Clashes.{EachIs, EachTwo, all_agree, all_words, one_set, one_tree}
 use Rattle.sd_command_base.specs.declared.status.Status.{Status}
 use Rattle.sd_command_base.specs.declared.status.Status.TheVariants.{Done}
@@ -90,11 +91,11 @@ good_met good none clear more is_clear more_clear =
     (record { plan = second_told good; clear = more }) (record {
       plan_fits = plan_taken good.fields good.commands good.good_site good.good_book;
       master_is = refl;
-      is_clear = is_clear;
+      is_sendable = clear_sendable good.fields clear is_clear;
     }) (record {
       plan_fits = plan_taken good.other_fields good.more_commands good.good_other good.good_more;
       master_is = sym (one_set (first_told good) (second_told good) none).1;
-      is_clear = more_clear;
+      is_sendable = clear_sendable good.other_fields more more_clear;
     }) none
 
 pub apart_done : (words : List (List ℕ)) (site book other more : FileArgument) (files : Files) (a b : Outside) →

@@ -12,7 +12,7 @@ use Rattle.sd_site.proofs.Made.{made_is_card}
 use Rattle.sd_ports.specs.Files.{Files}
 use Rattle.sd_engine.specs.Taken.{Whole, taken_of, end_of}
 use Rattle.sd_spec.specs.Plan.{Plan, IsPlan, period_of}
-use Rattle.sd_spec.specs.Refused.{IsClear}
+use Rattle.sd_spec.specs.Refused.{IsClear, IsSendable}
 use Rattle.sd_spec.specs.Sent.{broadcast}
 use Rattle.sd_law_broadcast.specs.Named.{sets_named, NamesPeriod}
 use Rattle.sd_law_broadcast.specs.Packets.{IsWholePacket, AreWholePackets, AreLong}
@@ -20,6 +20,7 @@ use Rattle.sd_law_broadcast.proofs.Covering.{period_named}
 use Rattle.sd_law_broadcast.specs.Synced.{AreSynced}
 use Rattle.sd_law_broadcast.proofs.Cut.{taken_synced, taken_whole}
 use Rattle.sd_law_broadcast.proofs.Taken.{broadcast_taken}
+use Rattle.sd_law_broadcast.proofs.Sendable.{clear_sendable}
 use Rattle.sd_law_losses.specs.Confirmed.{opened_by}
 use Rattle.sd_law_losses.specs.Endings.{first_revoked}
 use Rattle.sd_command_base.specs.declared.status.Status.{Status}
@@ -104,14 +105,17 @@ module _ (names : Names) (plan : Plan) (clear : List (List ℕ)) (at : Outside) 
     are_long =
         All-weaker IsWholePacket (λ (packet : List ℕ). length packet ≡ 188) (λ packet is. is.long) clear are_whole
 
+    are_sendable : IsSendable plan.site clear
+    are_sendable = clear_sendable plan.site clear given.clear.is_clear
+
     taken : (taken_of (stream_of plan clear) ≡ broadcast plan clear) × (end_of (stream_of plan clear) ≡ Whole)
-    taken = broadcast_taken plan clear is_plan given.clear.is_clear are_whole are_synced
+    taken = broadcast_taken plan clear is_plan are_sendable are_whole are_synced
 
     covers_named : (q : ℕ) → plan.site.first_period ≤ q → q ≤ period_of plan (length clear - 1) →
         NamesPeriod plan q (sets_named plan.site.height plan.site.emm q (taken_of (stream_of plan clear)))
     covers_named q from within =
         subst (λ (ps : List (List ℕ)). NamesPeriod plan q (sets_named plan.site.height plan.site.emm q ps))
-        (sym taken.0) (period_named plan clear q is_plan given.clear.is_clear are_long from within)
+        (sym taken.0) (period_named plan clear q is_plan are_sendable are_long from within)
 
     head_work : (files : Files) → at.place.files ≡ Some files →
         (head_meaning (word_at 1 names.site) (word_at 2 names.book) (word_at 3 names.clear) (word_at 4 names.stream)

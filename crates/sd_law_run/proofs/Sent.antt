@@ -27,6 +27,7 @@ use Rattle.sd_law_broadcast.proofs.Covering.{period_named}
 use Rattle.sd_law_broadcast.specs.Synced.{AreBytes}
 use Rattle.sd_law_broadcast.proofs.Cut.{taken_synced, taken_whole}
 use Rattle.sd_law_broadcast.proofs.Taken.{broadcast_taken}
+use Rattle.sd_law_broadcast.proofs.Sendable.{clear_sendable}
 use Rattle.sd_command_base.specs.declared.status.Status.{Status}
 use Rattle.sd_command_base.specs.declared.status.Status.TheVariants.{Done, OtherBook}
 use Rattle.sd_command_base.specs.Spec.{Spec, FileArgument, Readings, contents_of, and_then, all_of, judged, value}
@@ -168,10 +169,11 @@ pub file_names : (plan : Plan) (bytes : List ℕ) (q : ℕ) → IsPlan plan → 
 file_names plan bytes q is all bytes_are from within =
     let clear : List (List ℕ) = taken_of bytes in
     let whole = taken_whole bytes bytes_are in
-    let taken = broadcast_taken plan clear is all whole (taken_synced bytes) in
+    let can = clear_sendable plan.site clear all in
+    let taken = broadcast_taken plan clear is can whole (taken_synced bytes) in
     let long = All-weaker IsWholePacket (λ (packet : List ℕ). length packet ≡ 188) (λ packet w. w.long) clear whole in
     subst (λ (ps : List (List ℕ)). NamesPeriod plan q (sets_named plan.site.height plan.site.emm q ps)) (sym taken.0)
-    (period_named plan clear q is all long from within)
+    (period_named plan clear q is can long from within)
 
 module _ (words : List (List ℕ)) (site book clear out : FileArgument) (files : Files) (a b : Outside)
     (order : order_of words ≡ Ok (HeadOf site book clear out)) (known : a.place.files ≡ Some files) where

@@ -9,6 +9,7 @@ use Rattle.sd_site.specs.CardFields.{CardFields, card_of}
 use Rattle.sd_site.proofs.Made.{made_is_card}
 use Rattle.sd_engine.specs.Cut.{is_too_long, readable}
 use Rattle.sd_spec.specs.Plan.{Plan, IsPlan}
+use Rattle.sd_spec.specs.Refused.{IsSendable}
 use Rattle.sd_spec.specs.Sent.{broadcast}
 use Rattle.sd_spec.specs.Offered.{out_from}
 use Rattle.sd_spec.specs.Ending.{ending_of}
@@ -20,6 +21,7 @@ use Rattle.sd_law_broadcast.specs.Packets.{AreWholePackets}
 use Rattle.sd_law_broadcast.specs.Synced.{AreSynced}
 use Rattle.sd_law_broadcast.proofs.Counted.{broadcast_short}
 use Rattle.sd_law_broadcast.proofs.Synced.{broadcast_synced}
+use Rattle.sd_law_broadcast.proofs.Sendable.{clear_sendable}
 use Rattle.sd_law_losses.specs.Confirmed.{opened_by}
 use Rattle.sd_law_losses.specs.Endings.{first_revoked, whole_ending}
 use Rattle.sd_law_losses.proofs.OneRun.{AreOneRun}
@@ -64,14 +66,17 @@ module _ (names : Names) (plan : Plan) (clear : List (List ℕ)) (z : Outside) (
   is : IsPlan plan
   is = is_plan names plan clear z given
 
+  can : IsSendable plan.site clear
+  can = clear_sendable plan.site clear given.clear.is_clear
+
   whole : AreWholePackets clear
   whole = are_whole names plan clear z given
 
   all : counting card [] packets ≡ packets
-  all = steady_counts plan clear u is given.clear.is_clear whole leaf steady unmarked
+  all = steady_counts plan clear u is can whole leaf steady unmarked
 
   synced : AreSynced packets
-  synced = broadcast_synced plan clear is given.clear.is_clear whole (are_synced names plan clear z given)
+  synced = broadcast_synced plan clear is can whole (are_synced names plan clear z given)
 
   leaf_is : card.leaf ≡ u
   unfolding card_of
@@ -85,18 +90,18 @@ module _ (names : Names) (plan : Plan) (clear : List (List ℕ)) (z : Outside) (
   read : (readable stream ≡ packets) × (is_too_long stream ≡ false)
   read =
       all_readable stream packets (joined_cut packets synced)
-      (omega (arith, broadcast_short plan is clear given.clear.is_clear))
+      (omega (arith, broadcast_short plan is clear can))
       (λ n under. omega (arith, joined_skips n packets synced))
       (omega (arith, joined_skips (length packets) packets synced))
 
   opened : out_from card [] packets ≡ opened_by plan u clear
-  opened = whole_opened plan clear u is given.clear.is_clear whole leaf
+  opened = whole_opened plan clear u is can whole leaf
 
   ended : ending_of card (reverse packets) ≡ whole_ending (first_revoked plan u clear)
-  ended = whole_ended plan clear u is given.clear.is_clear whole leaf
+  ended = whole_ended plan clear u is can whole leaf
 
   one : AreOneRun card (onto packets [])
-  one = whole_one_run plan clear u is given.clear.is_clear whole leaf
+  one = whole_one_run plan clear u is can whole leaf
 
   bytes_are : watched_of card stream ≡ concat (opened_by plan u clear)
   unfolding watched_of
@@ -147,7 +152,7 @@ module _ (names : Names) (plan : Plan) (clear : List (List ℕ)) (z : Outside) (
   keys_are =
       let tried = ap (tried_keys card []) read.0 in
       let refused = ap (λ (t : Tally). t.refused) (none_told card [] packets all) in
-      let taken = ap (taken_keys card []) all ∙ keys_taken plan clear u is given.clear.is_clear whole leaf in
+      let taken = ap (taken_keys card []) all ∙ keys_taken plan clear u is can whole leaf in
       omega (arith, tried, tried_are card packets, few_refused card packets, refused, taken)
 
   pub whole_part : (a b : Outside) (answer : Status) → file_in a names.card ≡ Some (card_for plan.site u) →

@@ -14,7 +14,7 @@ use Rattle.sd_engine.proofs.Cutting.{cut_end, cut_packet, skipped_end, skipped_n
 use Rattle.sd_spec.specs.declared.report.Report.{Report}
 use Rattle.sd_spec.specs.declared.report.Tally.{Tally}
 use Rattle.sd_spec.specs.Plan.{Plan, IsPlan}
-use Rattle.sd_spec.specs.Refused.{IsClear}
+use Rattle.sd_spec.specs.Refused.{IsSendable}
 use Rattle.sd_spec.specs.Sent.{Item, broadcast, closing_of, sent}
 use Rattle.sd_message.specs.declared.stream_fault.StreamFault.{StreamFault}
 use Rattle.sd_spec.specs.Tuned.{tuning_of}
@@ -209,7 +209,7 @@ run_ends card packets one =
     ∙ ap (λ (ps : Packets). ending_of card ps) (sym round)
 
 -- a whole broadcast is of one run
-pub whole_one_run : (plan : Plan) (clear : Packets) (u : ℕ) → IsPlan plan → IsClear plan.site clear →
+pub whole_one_run : (plan : Plan) (clear : Packets) (u : ℕ) → IsPlan plan → IsSendable plan.site clear →
     AreWholePackets clear → u < 2 ^ plan.site.height →
     AreOneRun (card_of plan.site.master plan.site.ca plan.site.height u) (onto (broadcast plan clear) [])
 unfolding card_of

@@ -16,7 +16,7 @@ use Rattle.sd_keystream.proofs.Scramblings.{prefix_is}
 use Rattle.sd_site.specs.SiteFields.{SiteFields}
 use Rattle.sd_spec.specs.Plan.{Plan, word_of}
 use Rattle.sd_spec.specs.Kinds.{kind_of}
-use Rattle.sd_spec.specs.Refused.{IsClear}
+use Rattle.sd_spec.specs.Refused.{IsSendable}
 use Rattle.sd_spec.specs.Carried.{parity_of, place_after, pmt_carried, veiled, carried_as, carried}
 use Rattle.sd_spec.specs.declared.kind.Kind.{Kind}
 use Rattle.sd_spec.specs.declared.kind.Kind.TheVariants.{Passed, Pmt, Scrambled}
@@ -77,7 +77,7 @@ pub record IsOnAir (clear : List (List ℕ)) (k : ℕ) (packet : List ℕ) : Typ
   pub error : error_of packet ≡ error_of (packet_at clear k)
   pub counter : counter_of packet ≡ counter_of (packet_at clear k)
 
-pub on_air : (plan : Plan) (clear : List (List ℕ)) (u k : ℕ) → IsClear plan.site clear → AreWholePackets clear →
+pub on_air : (plan : Plan) (clear : List (List ℕ)) (u k : ℕ) → IsSendable plan.site clear → AreWholePackets clear →
     k < length clear → IsOnAir clear k (carried_at (setting plan clear u) k)
 unfolding carried_at
 on_air plan clear u k all whole within =

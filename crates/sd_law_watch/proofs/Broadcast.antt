@@ -17,7 +17,7 @@ use Rattle.sd_message.specs.Period.{emms_of}
 use Rattle.sd_message.specs.declared.emm.Emm.{Emm}
 use Rattle.sd_spec.specs.Plan.{Plan, IsPlan, closing_number, crypto_length}
 use Rattle.sd_spec.specs.Kinds.{kind_of, is_scrambled}
-use Rattle.sd_spec.specs.Refused.{IsClear}
+use Rattle.sd_spec.specs.Refused.{IsSendable}
 use Rattle.sd_spec.specs.Heard.{Heard, Other}
 use Rattle.sd_spec.specs.Stretches.{newest, is_closed}
 use Rattle.sd_spec.specs.Confirmed.{is_odd_under}
@@ -424,7 +424,7 @@ none_marked clear k none within =
     (λ is. is)
 
 -- all of the broadcast counts
-pub steady_counts : (plan : Plan) (clear : List (List ℕ)) (u : ℕ) → IsPlan plan → IsClear plan.site clear →
+pub steady_counts : (plan : Plan) (clear : List (List ℕ)) (u : ℕ) → IsPlan plan → IsSendable plan.site clear →
     AreWholePackets clear → u < 2 ^ plan.site.height → are_steady clear ≡ true → list_any is_marked clear ≡ false →
     counting (card_of plan.site.master plan.site.ca plan.site.height u) [] (broadcast plan clear)
     ≡ broadcast plan clear
@@ -437,7 +437,7 @@ steady_counts plan clear u is all whole leaf steady none =
       air = λ k within. on_air plan clear u k all whole within;
     }) steady)
 
-pub steady_out : (plan : Plan) (clear : List (List ℕ)) (u : ℕ) → IsPlan plan → IsClear plan.site clear →
+pub steady_out : (plan : Plan) (clear : List (List ℕ)) (u : ℕ) → IsPlan plan → IsSendable plan.site clear →
     AreWholePackets clear → u < 2 ^ plan.site.height → are_steady clear ≡ true → list_any is_marked clear ≡ false →
     out_from (card_of plan.site.master plan.site.ca plan.site.height u) []
     (counting (card_of plan.site.master plan.site.ca plan.site.height u) [] (broadcast plan clear))
@@ -447,7 +447,7 @@ steady_out plan clear u is all whole leaf steady none =
     (steady_counts plan clear u is all whole leaf steady none)
     ∙ whole_opened plan clear u is all whole leaf
 
-pub steady_ending : (plan : Plan) (clear : List (List ℕ)) (u : ℕ) → IsPlan plan → IsClear plan.site clear →
+pub steady_ending : (plan : Plan) (clear : List (List ℕ)) (u : ℕ) → IsPlan plan → IsSendable plan.site clear →
     AreWholePackets clear → u < 2 ^ plan.site.height → are_steady clear ≡ true → list_any is_marked clear ≡ false →
     ending_of (card_of plan.site.master plan.site.ca plan.site.height u)
     (reverse (counting (card_of plan.site.master plan.site.ca plan.site.height u) [] (broadcast plan clear)))

@@ -122,7 +122,7 @@ fewer_are_runs channel gs (run ∷ runs) (is, others, rest) = (
     emm = is.emm;
     ecm = is.ecm;
     plan = is.plan;
-    clear = is.clear;
+    sendable = is.sendable;
     whole = is.whole;
   },
   others_fewer run (record {

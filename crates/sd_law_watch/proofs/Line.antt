@@ -10,7 +10,7 @@ use Rattle.sd_message.specs.declared.stream_fault.StreamFault.{StreamFault}
 use Rattle.sd_spec.specs.declared.report.Report.{Report}
 use Rattle.sd_spec.specs.declared.report.Tally.{Tally}
 use Rattle.sd_spec.specs.Plan.{Plan, IsPlan}
-use Rattle.sd_spec.specs.Refused.{IsClear}
+use Rattle.sd_spec.specs.Refused.{IsSendable}
 use Rattle.sd_spec.specs.Sent.{Item, sent, closing_of, broadcast, is_cat_item}
 use Rattle.sd_spec.specs.Tuned.{tuning_of}
 use Rattle.sd_spec.specs.Offered.{heard, offered, tuned_offering, break_from}
@@ -107,7 +107,7 @@ one_run s laws able =
     (subst (λ (b : Bool). EndsBefore s b items (past_of s items)) (ap (list_any is_cat_item) begins.1)
     (stands_after s laws able items [] (sym (append-nil items)))).tuned.one
 
-fine_broadcast : (plan : Plan) (clear : List (List ℕ)) (u : ℕ) → IsPlan plan → IsClear plan.site clear →
+fine_broadcast : (plan : Plan) (clear : List (List ℕ)) (u : ℕ) → IsPlan plan → IsSendable plan.site clear →
     AreWholePackets clear → u < 2 ^ plan.site.height → are_steady clear ≡ true → list_any is_marked clear ≡ false →
     AllFine (card_of plan.site.master plan.site.ca plan.site.height u) [] (broadcast plan clear)
 fine_broadcast plan clear u is all whole leaf steady none =
@@ -118,7 +118,7 @@ fine_broadcast plan clear u is all whole leaf steady none =
     }) steady
 
 -- the tally of the broadcast
-pub steady_tally : (plan : Plan) (clear : List (List ℕ)) (u : ℕ) → IsPlan plan → IsClear plan.site clear →
+pub steady_tally : (plan : Plan) (clear : List (List ℕ)) (u : ℕ) → IsPlan plan → IsSendable plan.site clear →
     AreWholePackets clear → u < 2 ^ plan.site.height → are_steady clear ≡ true → list_any is_marked clear ≡ false →
     tally_from (card_of plan.site.master plan.site.ca plan.site.height u) 0 [] (broadcast plan clear)
     ≡ record { marked = 0; doubled = 0; odd = 0; refused = 0; first = None }
@@ -127,7 +127,7 @@ steady_tally plan clear u is all whole leaf steady none =
     (whole_refused plan clear u is all whole leaf) (fine_broadcast plan clear u is all whole leaf steady none)
 
 -- the one line
-pub steady_line : (plan : Plan) (clear : List (List ℕ)) (u : ℕ) → IsPlan plan → IsClear plan.site clear →
+pub steady_line : (plan : Plan) (clear : List (List ℕ)) (u : ℕ) → IsPlan plan → IsSendable plan.site clear →
     AreWholePackets clear → u < 2 ^ plan.site.height → are_steady clear ≡ true → list_any is_marked clear ≡ false →
     reports (card_of plan.site.master plan.site.ca plan.site.height u) (broadcast plan clear)
     ≡ report_of (card_of plan.site.master plan.site.ca plan.site.height u) (broadcast plan clear) ∷ []

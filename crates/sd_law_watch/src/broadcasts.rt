@@ -5,7 +5,7 @@ ghost use Rattle.std.specs.List.{list_any};
 ghost use Rattle.sd_base.specs.Types.{LeafNumber, Packets};
 ghost use Rattle.sd_site.specs.CardFields.{card_of};
 ghost use Rattle.sd_spec.specs.Plan.{Plan, IsPlan};
-ghost use Rattle.sd_spec.specs.Refused.{IsClear};
+ghost use Rattle.sd_spec.specs.Refused.{IsSendable};
 ghost use Rattle.sd_spec.specs.Sent.{broadcast};
 ghost use Rattle.sd_spec.specs.Offered.{out_from};
 ghost use Rattle.sd_spec.specs.Ending.{ending_of};
@@ -85,29 +85,29 @@ pub fn whole_runs_are_watched()
 /// packets are written that the leaf is entitled to, and it ends opened, or as revoked in the first period of the
 /// broadcast in which the leaf is. One report is made of it, which tells of no packet that doesn't count.
 pub fn steady_broadcasts_are_watched()
-    ensures counts { (plan : Plan) (clear : Packets) (u : LeafNumber) → IsPlan plan → IsClear plan.site clear →
+    ensures counts { (plan : Plan) (clear : Packets) (u : LeafNumber) → IsPlan plan → IsSendable plan.site clear →
         AreWholePackets clear → u < 2 ^ plan.site.height → are_steady clear ≡ true →
         list_any is_marked clear ≡ false →
         counting (card_of plan.site.master plan.site.ca plan.site.height u) [] (broadcast plan clear)
         ≡ broadcast plan clear }
-    ensures out { (plan : Plan) (clear : Packets) (u : LeafNumber) → IsPlan plan → IsClear plan.site clear →
+    ensures out { (plan : Plan) (clear : Packets) (u : LeafNumber) → IsPlan plan → IsSendable plan.site clear →
         AreWholePackets clear → u < 2 ^ plan.site.height → are_steady clear ≡ true →
         list_any is_marked clear ≡ false →
         out_from (card_of plan.site.master plan.site.ca plan.site.height u) []
         (counting (card_of plan.site.master plan.site.ca plan.site.height u) [] (broadcast plan clear))
         ≡ opened_by plan u clear }
-    ensures ending { (plan : Plan) (clear : Packets) (u : LeafNumber) → IsPlan plan → IsClear plan.site clear →
+    ensures ending { (plan : Plan) (clear : Packets) (u : LeafNumber) → IsPlan plan → IsSendable plan.site clear →
         AreWholePackets clear → u < 2 ^ plan.site.height → are_steady clear ≡ true →
         list_any is_marked clear ≡ false →
         ending_of (card_of plan.site.master plan.site.ca plan.site.height u)
         (reverse (counting (card_of plan.site.master plan.site.ca plan.site.height u) [] (broadcast plan clear)))
         ≡ whole_ending (first_revoked plan u clear) }
-    ensures tally { (plan : Plan) (clear : Packets) (u : LeafNumber) → IsPlan plan → IsClear plan.site clear →
+    ensures tally { (plan : Plan) (clear : Packets) (u : LeafNumber) → IsPlan plan → IsSendable plan.site clear →
         AreWholePackets clear → u < 2 ^ plan.site.height → are_steady clear ≡ true →
         list_any is_marked clear ≡ false →
         tally_from (card_of plan.site.master plan.site.ca plan.site.height u) 0 [] (broadcast plan clear)
         ≡ record { marked = 0; doubled = 0; odd = 0; refused = 0; first = None } }
-    ensures line { (plan : Plan) (clear : Packets) (u : LeafNumber) → IsPlan plan → IsClear plan.site clear →
+    ensures line { (plan : Plan) (clear : Packets) (u : LeafNumber) → IsPlan plan → IsSendable plan.site clear →
         AreWholePackets clear → u < 2 ^ plan.site.height → are_steady clear ≡ true →
         list_any is_marked clear ≡ false →
         reports (card_of plan.site.master plan.site.ca plan.site.height u) (broadcast plan clear)

@@ -14,7 +14,6 @@ ghost use Rattle.sd_spec.specs.Counting.{says_nothing_new as nothing_new};
 ghost use Rattle.sd_spec.specs.Heard.{Heard, Other, hears, heard_ecm};
 ghost use Rattle.sd_spec.specs.Offered.{heard as heard_in};
 ghost use Rattle.sd_spec.specs.Tuned.{tuning_of};
-ghost use Rattle.sd_packet.specs.Header.{scrambling_of};
 ghost use Rattle.sd_receive.specs.Again.{has_all_of};
 ghost use Rattle.sd_receive.specs.Gathered.{IsGathered};
 ghost use Rattle.sd_receive.specs.Listening.{IsListenerAfter};

@@ -10,12 +10,13 @@ use Rattle.sd_command_base.specs.Shown.{NumberArgument}
 use Rattle.sd_command_base.specs.Both.{both_meaning}
 use Rattle.sd_command_base.specs.Files.{site_in, book_in}
 use Rattle.sd_command_base.specs.Leaves.{leaves_in}
-use Rattle.sd_command_base.specs.Made.{making, making_new}
+use Rattle.sd_command_base.specs.Made.{making, making_new, unused, used_name}
 use Rattle.sd_run_books.specs.AccountsCommand.{accounts_in, making_then, report_line, accounts_meaning}
 use Rattle.sd_run_books.specs.Apart.{apart_meaning, plan_of_both, told_apart}
 use Rattle.sd_run_books.specs.Book.{longer_book, book_meaning}
 use Rattle.sd_run_books.specs.Card.{told_card, card_meaning}
 use Rattle.sd_run_books.specs.Cover.{covering, cover_meaning}
+use Rattle.sd_run_broadcasts.specs.Air.{air_meaning, air_plan_by, airing, mark_word}
 use Rattle.sd_run_broadcasts.specs.Head.{plan_meaning as head_plan, sent_of, sent_status, sending}
 use Rattle.sd_run_broadcasts.specs.Head.{sending_of, head_meaning}
 use Rattle.sd_run_books.specs.Layered.{layers_of_file, layering, layered_meaning}
@@ -25,7 +26,7 @@ use Rattle.sd_run_books.specs.Chain.{newest_of_file, told_name}
 use Rattle.sd_run_books.specs.Next.{next_made, next_meaning, origin_of_files}
 use Rattle.sd_run_books.specs.Twin.{twin_made, twin_meaning}
 use Rattle.sd_run_books.specs.Opens.{opening, opens_meaning}
-use Rattle.sd_run_books.specs.Air.{plan_meaning as air_meaning, planning, roomy_site_of_file}
+use Rattle.sd_run_books.specs.Air.{plan_meaning, planning, roomy_site_of_file}
 use Rattle.sd_run_broadcasts.specs.Receive.{received_status}
 use Rattle.sd_run_broadcasts.specs.Receive.{card_in, received_of, received_steps, receiving, stream_meaning}
 use Rattle.sd_run_broadcasts.specs.Receive.{receive_meaning}
@@ -46,10 +47,9 @@ use Rattle.sd_site.specs.Written.{none_fewer}
 use Rattle.sd_book.specs.Text.{text_of}
 use Rattle.sd_lsd.specs.Fields.{layer_card_of, layer_bytes}
 use Rattle.sd_command_line.specs.declared.command.Command.{Command}
-use Rattle.sd_command_line.specs.declared.command.Command.TheVariants.{Accounts, Book, Card, Cover, Field, Head}
-use Rattle.sd_command_line.specs.declared.command.Command.TheVariants.{Layered}
-use Rattle.sd_command_line.specs.declared.command.Command.TheVariants.{Lcard}
-use Rattle.sd_command_line.specs.declared.command.Command.TheVariants.{Apart, Messages, Next, Opens, Plan as Air}
+use Rattle.sd_command_line.specs.declared.command.Command.TheVariants.{Accounts, Air, Book, Card, Cover, Field}
+use Rattle.sd_command_line.specs.declared.command.Command.TheVariants.{Head, Layered, Lcard}
+use Rattle.sd_command_line.specs.declared.command.Command.TheVariants.{Apart, Messages, Next, Opens, Plan}
 use Rattle.sd_command_line.specs.declared.command.Command.TheVariants.{Receive}
 use Rattle.sd_command_line.specs.declared.command.Command.TheVariants.{Sample}
 use Rattle.sd_command_line.specs.declared.command.Command.TheVariants.{Show}
@@ -63,6 +63,7 @@ use Rattle.sd_command_base.proofs.Others.{IsOther}
 use Rattle.sd_run_books.proofs.CardOthers.{other_cover, other_card_order, other_layered, other_lcard}
 use Rattle.sd_run_books.proofs.CardOthers.{other_opens, other_show, other_trace}
 use Rattle.sd_run_streams.proofs.Others.{other_tables}
+use Rattle.sd_run_broadcasts.proofs.AirOthers.{other_air}
 use Rattle.sd_run_broadcasts.proofs.HeadOthers.{other_head}
 use Rattle.sd_run_broadcasts.proofs.ReceiveOthers.{other_receive}
 use Rattle.sd_run_broadcasts.proofs.WatchOthers.{other_watch}
@@ -75,16 +76,16 @@ use Rattle.sd_run_streams.proofs.Others.{other_messages}
 use Rattle.sd_run_books.proofs.Others.{other_plan}
 use Rattle.sd_run_broadcasts.proofs.Others.{other_trial}
 use Rattle.sd_run.proofs.Works.{AreOrderly, orderly_after, same_name, made_new, made_whole, turned, none_made}
-use Rattle.sd_run.proofs.Works.{sent_apart}
+use Rattle.sd_run.proofs.Works.{aired, sent_apart}
 use Rattle.sd_run.proofs.Works.{stream_apart, stream_received, text_quiet, watched}
 use Rattle.sd_run.proofs.Examples.{IsExample, words_in, onto_first, arguments_in}
 use Rattle.sd_base.specs.Number.{decimal_value}
 
 -- the commands that make a file
 accounts_orderly : (site accounts out : FileArgument) (given : Readings) →
-    AreOrderly (Some out.text) (accounts_meaning site accounts out given).result
+    AreOrderly (Some out.text) None (accounts_meaning site accounts out given).result
 accounts_orderly site accounts out given =
-    orderly_after (Some out.text) (accounts_in site accounts given)
+    orderly_after (Some out.text) None (accounts_in site accounts given)
     (λ found. value (making_then out (text_of found.book.commands) (report_line found)))
     (λ found. record {
       makes = λ made e. same_name (record {
@@ -92,197 +93,211 @@ accounts_orderly site accounts out given =
         name = out.text;
         bytes = text_of found.book.commands;
       }) made e;
+      marks = λ made e. absurd (cc);
       keeps = λ refusal. absurd refusal;
     })
 
 book_orderly : (site book commands out : FileArgument) (given : Readings) →
-    AreOrderly (Some out.text) (book_meaning site book commands out given).result
+    AreOrderly (Some out.text) None (book_meaning site book commands out given).result
 unfolding book_meaning
 book_orderly site book commands out given =
-    orderly_after (Some out.text) (both_meaning site book given)
+    orderly_after (Some out.text) None (both_meaning site book given)
     (λ both. book_in given both.site.height commands
     >>= λ added. judged (longer_book commands.number both.site.height both.commands added)
     >>= λ longer. value (making NoSteps out (text_of longer)))
-    (λ both. orderly_after (Some out.text) (book_in given both.site.height commands)
+    (λ both. orderly_after (Some out.text) None (book_in given both.site.height commands)
     (λ added. judged (longer_book commands.number both.site.height both.commands added)
     >>= λ longer. value (making NoSteps out (text_of longer)))
-    (λ added. orderly_after (Some out.text)
+    (λ added. orderly_after (Some out.text) None
     (judged (longer_book commands.number both.site.height both.commands added))
     (λ longer. value (making NoSteps out (text_of longer)))
     (λ longer. made_whole NoSteps out (text_of longer))))
 
 card_orderly : (site : FileArgument) (leaf : NumberArgument) (out : FileArgument) (given : Readings) →
-    AreOrderly (Some out.text) (card_meaning site leaf out given).result
+    AreOrderly (Some out.text) None (card_meaning site leaf out given).result
 card_orderly site leaf out given =
-    orderly_after (Some out.text) (site_in given site)
+    orderly_after (Some out.text) None (site_in given site)
     (λ fields. judged (told_card fields leaf) >>= λ bytes. value (making Uncounted out bytes))
-    (λ fields. orderly_after (Some out.text) (judged (told_card fields leaf))
+    (λ fields. orderly_after (Some out.text) None (judged (told_card fields leaf))
     (λ bytes. value (making Uncounted out bytes)) (λ bytes. made_whole Uncounted out bytes))
 
 sample_orderly : (number packets : ℕ) (out : FileArgument) (given : Readings) →
-    AreOrderly (Some out.text) (sample_meaning number packets out given).result
+    AreOrderly (Some out.text) None (sample_meaning number packets out given).result
 sample_orderly number packets out given = made_whole NoSteps out (sample_of number packets)
 
 lcard_orderly : (site : FileArgument) (leaf width : NumberArgument) (out : FileArgument) (given : Readings) →
-    AreOrderly (Some out.text) (lcard_meaning site leaf width out given).result
+    AreOrderly (Some out.text) None (lcard_meaning site leaf width out given).result
 lcard_orderly site leaf width out given =
     let bytes : SiteFields → ℕ → ℕ → List ℕ =
     λ fields u w. layer_bytes (layer_card_of fields.master fields.ca fields.height w u) in
-    orderly_after (Some out.text) (site_in given site) (λ fields. carding fields leaf width out)
-    (λ fields. orderly_after (Some out.text) (judged (told_leaf fields.height leaf))
+    orderly_after (Some out.text) None (site_in given site) (λ fields. carding fields leaf width out)
+    (λ fields. orderly_after (Some out.text) None (judged (told_leaf fields.height leaf))
     (λ u. judged (told_width fields.height width) >>= λ w. value (making Uncounted out (bytes fields u w)))
-    (λ u. orderly_after (Some out.text) (judged (told_width fields.height width))
+    (λ u. orderly_after (Some out.text) None (judged (told_width fields.height width))
     (λ w. value (making Uncounted out (bytes fields u w))) (λ w. made_whole Uncounted out (bytes fields u w))))
 
 head_orderly : (site book clear out : FileArgument) (given : Readings) →
-    AreOrderly (Some out.text) (head_meaning site book clear out given).result
+    AreOrderly (Some out.text) None (head_meaning site book clear out given).result
 unfolding head_meaning
 head_orderly site book clear out given =
-    orderly_after (Some out.text) (head_plan site book given) (sending_of clear out (given clear))
-    (λ plan. orderly_after (Some out.text) (all_of clear.number (given clear))
+    orderly_after (Some out.text) None (head_plan site book given) (sending_of clear out (given clear))
+    (λ plan. orderly_after (Some out.text) None (all_of clear.number (given clear))
     (λ bytes. value (sending plan out bytes))
     (λ bytes. turned Uncounted out (sent_of plan bytes) (sent_status plan bytes) (sent_apart plan bytes)))
 
+air_orderly : (site book clear out : FileArgument) (given : Readings) →
+    AreOrderly (Some out.text) (Some (used_name site.text)) (air_meaning site book clear out given).result
+unfolding air_meaning
+air_orderly site book clear out given =
+    let mark = Some (used_name site.text) in
+    orderly_after (Some out.text) mark (air_plan_by site.number book.number (given site) (given book))
+    (λ plan. all_of clear.number (given clear)
+    >>= λ bytes. unused (given (mark_word site)) >>= λ new. value (airing plan site out bytes))
+    (λ plan. orderly_after (Some out.text) mark (all_of clear.number (given clear))
+    (λ bytes. unused (given (mark_word site)) >>= λ new. value (airing plan site out bytes))
+    (λ bytes. orderly_after (Some out.text) mark (unused (given (mark_word site)))
+    (λ new. value (airing plan site out bytes)) (λ new. aired plan site out bytes)))
+
 receive_orderly : (card stream out : FileArgument) (given : Readings) →
-    AreOrderly (Some out.text) (receive_meaning card stream out given).result
+    AreOrderly (Some out.text) None (receive_meaning card stream out given).result
 unfolding receive_meaning
 receive_orderly card stream out given =
-    orderly_after (Some out.text) (card_in given card) (λ fields. stream_meaning fields stream out given)
-    (λ fields. orderly_after (Some out.text) (all_of stream.number (given stream))
+    orderly_after (Some out.text) None (card_in given card) (λ fields. stream_meaning fields stream out given)
+    (λ fields. orderly_after (Some out.text) None (all_of stream.number (given stream))
     (λ bytes. value (receiving fields out bytes))
     (λ bytes. turned (UpTo (received_steps fields bytes)) out (received_of fields bytes)
     (received_status fields bytes) (stream_received fields bytes)))
 
 watch_orderly : (card stream out : FileArgument) (given : Readings) →
-    AreOrderly (Some out.text) (watch_meaning card stream out given).result
+    AreOrderly (Some out.text) None (watch_meaning card stream out given).result
 unfolding watch_meaning
 watch_orderly card stream out given =
-    orderly_after (Some out.text) (card_in given card) (λ fields. watched_meaning fields stream out given)
-    (λ fields. orderly_after (Some out.text) (all_of stream.number (given stream))
+    orderly_after (Some out.text) None (card_in given card) (λ fields. watched_meaning fields stream out given)
+    (λ fields. orderly_after (Some out.text) None (all_of stream.number (given stream))
     (λ bytes. value (watching fields out bytes)) (λ bytes. watched fields out bytes))
 
 next_orderly : (site book : FileArgument) (words : NumberArgument) (out : FileArgument) (given : Readings) →
-    AreOrderly (Some out.text) (next_meaning site book words out given).result
+    AreOrderly (Some out.text) None (next_meaning site book words out given).result
 unfolding next_meaning
 next_orderly site book words out given =
     let origin = origin_of_files site.number book.number words (given site) (given book) in
-    orderly_after (Some out.text) (judged (told_name site out))
+    orderly_after (Some out.text) None (judged (told_name site out))
     (λ named. origin >>= λ found. making_new (next_made found words.value) out (given out))
-    (λ named. orderly_after (Some out.text) origin (λ found. making_new (next_made found words.value) out (given out))
+    (λ named. orderly_after (Some out.text) None origin (λ found. making_new (next_made found words.value) out (given out))
     (λ found. made_new (next_made found words.value) out (given out)))
 
 twin_orderly : (site : FileArgument) (words : NumberArgument) (out : FileArgument) (given : Readings) →
-    AreOrderly (Some out.text) (twin_meaning site words out given).result
+    AreOrderly (Some out.text) None (twin_meaning site words out given).result
 unfolding twin_meaning
 twin_orderly site words out given =
     let newest = newest_of_file none_fewer site.number most_word words (given site) in
-    orderly_after (Some out.text) (judged (told_name site out))
+    orderly_after (Some out.text) None (judged (told_name site out))
     (λ named. newest >>= λ found. making_new (twin_made found.0 found.1 words.value) out (given out))
-    (λ named. orderly_after (Some out.text) newest
+    (λ named. orderly_after (Some out.text) None newest
     (λ found. making_new (twin_made found.0 found.1 words.value) out (given out))
     (λ found. made_new (twin_made found.0 found.1 words.value) out (given out)))
 
 -- and those that make none
-cover_orderly : (site book : FileArgument) (given : Readings) → AreOrderly None (cover_meaning site book given).result
+cover_orderly : (site book : FileArgument) (given : Readings) → AreOrderly None None (cover_meaning site book given).result
 unfolding cover_meaning
 cover_orderly site book given =
-    orderly_after None (both_meaning site book given)
+    orderly_after None None (both_meaning site book given)
     (λ both. value (covering both.site.height both.commands))
-    (λ both. none_made (covering both.site.height both.commands) refl (λ refusal. absurd refusal))
+    (λ both. none_made (covering both.site.height both.commands) refl refl (λ refusal. absurd refusal))
 
-tables_orderly : (stream : FileArgument) (given : Readings) → AreOrderly None (tables_meaning stream given).result
+tables_orderly : (stream : FileArgument) (given : Readings) → AreOrderly None None (tables_meaning stream given).result
 unfolding tables_meaning
 tables_orderly stream given =
-    orderly_after None (all_of stream.number (given stream)) (λ bytes. value (inspecting bytes))
-    (λ bytes. none_made (inspecting bytes) refl (λ refusal. absurd (stream_apart (end_of bytes) refusal)))
+    orderly_after None None (all_of stream.number (given stream)) (λ bytes. value (inspecting bytes))
+    (λ bytes. none_made (inspecting bytes) refl refl (λ refusal. absurd (stream_apart (end_of bytes) refusal)))
 
 messages_orderly : (site stream : FileArgument) (given : Readings) →
-    AreOrderly None (messages_meaning site stream given).result
+    AreOrderly None None (messages_meaning site stream given).result
 unfolding messages_meaning
 messages_orderly site stream given =
-    orderly_after None (site_in given site) (λ fields. monitor_meaning fields stream given)
-    (λ fields. orderly_after None (all_of stream.number (given stream))
+    orderly_after None None (site_in given site) (λ fields. monitor_meaning fields stream given)
+    (λ fields. orderly_after None None (all_of stream.number (given stream))
     (λ bytes. value (monitoring fields bytes))
-    (λ bytes. none_made (monitoring fields bytes) refl
+    (λ bytes. none_made (monitoring fields bytes) refl refl
     (λ refusal. absurd (stream_apart (end_of bytes) refusal))))
 
-show_orderly : (card : FileArgument) (given : Readings) → AreOrderly None (show_meaning card given).result
+show_orderly : (card : FileArgument) (given : Readings) → AreOrderly None None (show_meaning card given).result
 show_orderly card given =
-    orderly_after None (line_of_file card.number (given card)) (λ line. value (work_of_text line))
-    (λ line. none_made (work_of_text line) refl (λ refusal. absurd refusal))
+    orderly_after None None (line_of_file card.number (given card)) (λ line. value (work_of_text line))
+    (λ line. none_made (work_of_text line) refl refl (λ refusal. absurd refusal))
 
 layered_orderly : (site book : FileArgument) (width : NumberArgument) (given : Readings) →
-    AreOrderly None (layered_meaning site book width given).result
+    AreOrderly None None (layered_meaning site book width given).result
 layered_orderly site book width given =
-    orderly_after None (layers_of_file site.number width (given site))
+    orderly_after None None (layers_of_file site.number width (given site))
     (λ layers. book_in given layers.height book
     >>= λ commands. value (layering layers.height layers.width commands))
-    (λ layers. orderly_after None (book_in given layers.height book)
+    (λ layers. orderly_after None None (book_in given layers.height book)
     (λ commands. value (layering layers.height layers.width commands))
-    (λ commands. none_made (layering layers.height layers.width commands) refl (λ refusal. absurd refusal)))
+    (λ commands. none_made (layering layers.height layers.width commands) refl refl (λ refusal. absurd refusal)))
 
 apart_orderly : (site book other more : FileArgument) (given : Readings) →
-    AreOrderly None (apart_meaning site book other more given).result
+    AreOrderly None None (apart_meaning site book other more given).result
 apart_orderly site book other more given =
-    orderly_after None (both_meaning site book given)
+    orderly_after None None (both_meaning site book given)
     (λ first. both_meaning other more given
     >>= λ second. judged (told_apart (plan_of_both first) (plan_of_both second)) >>= λ text. value (work_of_text text))
-    (λ first. orderly_after None (both_meaning other more given)
+    (λ first. orderly_after None None (both_meaning other more given)
     (λ second. judged (told_apart (plan_of_both first) (plan_of_both second)) >>= λ text. value (work_of_text text))
-    (λ second. orderly_after None (judged (told_apart (plan_of_both first) (plan_of_both second)))
-    (λ text. value (work_of_text text)) (λ text. none_made (work_of_text text) refl (λ refusal. absurd refusal))))
+    (λ second. orderly_after None None (judged (told_apart (plan_of_both first) (plan_of_both second)))
+    (λ text. value (work_of_text text)) (λ text. none_made (work_of_text text) refl refl (λ refusal. absurd refusal))))
 
-air_orderly : (site book : FileArgument) (packets : NumberArgument) (pids : ℕ) (given : Readings) →
-    AreOrderly None (air_meaning site book packets pids given).result
-air_orderly site book packets pids given =
-    orderly_after None (roomy_site_of_file site.number packets (given site))
+plan_orderly : (site book : FileArgument) (packets : NumberArgument) (pids : ℕ) (given : Readings) →
+    AreOrderly None None (plan_meaning site book packets pids given).result
+plan_orderly site book packets pids given =
+    orderly_after None None (roomy_site_of_file site.number packets (given site))
     (λ fields. book_in given fields.height book
     >>= λ commands. value (planning (record { site = fields; commands = commands }) packets.value pids))
-    (λ fields. orderly_after None (book_in given fields.height book)
+    (λ fields. orderly_after None None (book_in given fields.height book)
     (λ commands. value (planning (record { site = fields; commands = commands }) packets.value pids))
-    (λ commands. none_made (planning (record { site = fields; commands = commands }) packets.value pids) refl
+    (λ commands. none_made (planning (record { site = fields; commands = commands }) packets.value pids) refl refl
     (λ refusal. absurd refusal)))
 
 opens_orderly : (site book leaves : FileArgument) (given : Readings) →
-    AreOrderly None (opens_meaning site book leaves given).result
+    AreOrderly None None (opens_meaning site book leaves given).result
 unfolding opens_meaning
 opens_orderly site book leaves given =
-    orderly_after None (both_meaning site book given)
+    orderly_after None None (both_meaning site book given)
     (λ both. leaves_in given both.site.height leaves
     >>= λ found. value (opening both.site.height found both.commands))
-    (λ both. orderly_after None (leaves_in given both.site.height leaves)
+    (λ both. orderly_after None None (leaves_in given both.site.height leaves)
     (λ found. value (opening both.site.height found both.commands))
-    (λ found. none_made (opening both.site.height found both.commands) refl (λ refusal. absurd refusal)))
+    (λ found. none_made (opening both.site.height found both.commands) refl refl (λ refusal. absurd refusal)))
 
 trace_orderly : (site book leaves : FileArgument) (given : Readings) →
-    AreOrderly None (trace_meaning site book leaves given).result
+    AreOrderly None None (trace_meaning site book leaves given).result
 unfolding trace_meaning
 trace_orderly site book leaves given =
-    orderly_after None (both_meaning site book given)
+    orderly_after None None (both_meaning site book given)
     (λ both. leaves_in given both.site.height leaves
     >>= λ coalition. judged (traced both.site.height coalition both.commands) >>= λ text. value (work_of_text text))
-    (λ both. orderly_after None (leaves_in given both.site.height leaves)
+    (λ both. orderly_after None None (leaves_in given both.site.height leaves)
     (λ coalition. judged (traced both.site.height coalition both.commands) >>= λ text. value (work_of_text text))
-    (λ coalition. orderly_after None (judged (traced both.site.height coalition both.commands))
-    (λ text. value (work_of_text text)) (λ text. none_made (work_of_text text) refl (λ refusal. absurd refusal))))
+    (λ coalition. orderly_after None None (judged (traced both.site.height coalition both.commands))
+    (λ text. value (work_of_text text)) (λ text. none_made (work_of_text text) refl refl (λ refusal. absurd refusal))))
 
 trial_orderly : (site book clear : FileArgument) (given : Readings) →
-    AreOrderly None (trial_meaning site book clear given).result
+    AreOrderly None None (trial_meaning site book clear given).result
 unfolding trial_meaning
 trial_orderly site book clear given =
-    orderly_after None (trial_plan site book given)
+    orderly_after None None (trial_plan site book given)
     (λ plan. prefix_of_file clear.number most_clear_bytes (given clear) >>= λ prefix. value (trying plan prefix))
-    (λ plan. orderly_after None (prefix_of_file clear.number most_clear_bytes (given clear))
+    (λ plan. orderly_after None None (prefix_of_file clear.number most_clear_bytes (given clear))
     (λ prefix. value (trying plan prefix)) (λ prefix. text_quiet (trial_text plan prefix)))
 
 field_orderly : (site clear script : FileArgument) (given : Readings) →
-    AreOrderly None (field_meaning site clear script given).result
+    AreOrderly None None (field_meaning site clear script given).result
 unfolding field_meaning
 field_orderly site clear script given =
-    orderly_after None (inputs_meaning site clear given)
+    orderly_after None None (inputs_meaning site clear given)
     (λ inputs. script_of_file script.number inputs.site.height (given script)
     >>= λ events. value (printing (field_text inputs.site inputs.clear events)))
-    (λ inputs. orderly_after None (script_of_file script.number inputs.site.height (given script))
+    (λ inputs. orderly_after None None (script_of_file script.number inputs.site.height (given script))
     (λ events. value (printing (field_text inputs.site inputs.clear events)))
     (λ events. text_quiet (field_text inputs.site inputs.clear events)))
 
@@ -296,10 +311,16 @@ out_at at (operand ∷ operands) arguments =
 abbrev pub out_by : Command → List Argument → Option (List ℕ)
 out_by command arguments = out_at 1 (operands_of command) arguments
 
+-- the mark that an order makes: that of the site of `air`
+abbrev pub mark_by : Command → List Argument → Option (List ℕ)
+mark_by Air arguments = Some (used_name (file 1 arguments).text)
+mark_by command arguments = None
+
 pub command_orderly : (command : Command) (words : List Argument) (given : Readings) →
-    AreOrderly (out_by command words) (command_meaning command words given).result
+    AreOrderly (out_by command words) (mark_by command words) (command_meaning command words given).result
 unfolding operands_of
 command_orderly Accounts words given = accounts_orderly (file 1 words) (file 2 words) (file 3 words) given
+command_orderly Air words given = air_orderly (file 1 words) (file 2 words) (file 3 words) (file 4 words) given
 command_orderly Apart words given = apart_orderly (file 1 words) (file 2 words) (file 3 words) (file 4 words) given
 command_orderly Book words given = book_orderly (file 1 words) (file 2 words) (file 3 words) (file 4 words) given
 command_orderly Card words given = card_orderly (file 1 words) (number 2 words) (file 3 words) given
@@ -311,8 +332,8 @@ command_orderly Lcard words given = lcard_orderly (file 1 words) (number 2 words
 command_orderly Messages words given = messages_orderly (file 1 words) (file 2 words) given
 command_orderly Next words given = next_orderly (file 1 words) (file 2 words) (number 3 words) (file 4 words) given
 command_orderly Opens words given = opens_orderly (file 1 words) (file 2 words) (file 3 words) given
-command_orderly Air words given =
-    air_orderly (file 1 words) (file 2 words) (number 3 words) (number 4 words).value given
+command_orderly Plan words given =
+    plan_orderly (file 1 words) (file 2 words) (number 3 words) (number 4 words).value given
 command_orderly Receive words given = receive_orderly (file 1 words) (file 2 words) (file 3 words) given
 command_orderly Sample words given = sample_orderly (number 1 words).value (number 2 words).value (file 3 words) given
 command_orderly Show words given = show_orderly (file 1 words) given
@@ -326,6 +347,7 @@ command_orderly Watch words given = watch_orderly (file 1 words) (file 2 words) 
 pub other_command : (command : Command) (words : List Argument) (given : Readings) →
     IsOther (command_meaning command words given).result
 other_command Accounts words given = other_accounts (file 1 words) (file 2 words) (file 3 words) given
+other_command Air words given = other_air (file 1 words) (file 2 words) (file 3 words) (file 4 words) given
 other_command Apart words given = other_apart (file 1 words) (file 2 words) (file 3 words) (file 4 words) given
 other_command Book words given = other_book_order (file 1 words) (file 2 words) (file 3 words) (file 4 words) given
 other_command Card words given = other_card_order (file 1 words) (number 2 words) (file 3 words) given
@@ -337,7 +359,7 @@ other_command Lcard words given = other_lcard (file 1 words) (number 2 words) (n
 other_command Messages words given = other_messages (file 1 words) (file 2 words) given
 other_command Next words given = other_next (file 1 words) (file 2 words) (number 3 words) (file 4 words) given
 other_command Opens words given = other_opens (file 1 words) (file 2 words) (file 3 words) given
-other_command Air words given =
+other_command Plan words given =
     other_plan (file 1 words) (file 2 words) (number 3 words) (number 4 words).value given
 other_command Receive words given = other_receive (file 1 words) (file 2 words) (file 3 words) given
 other_command Sample words given = tt
@@ -352,6 +374,7 @@ other_command Watch words given = other_watch (file 1 words) (file 2 words) (fil
 pub example : (command : Command) → IsExample command
 unfolding example_of named_words command_named command_name operands_of decimal_value words_in onto_first arguments_in
 example Accounts = (refl, refl)
+example Air = (refl, refl)
 example Apart = (refl, refl)
 example Book = (refl, refl)
 example Card = (refl, refl)
@@ -363,7 +386,7 @@ example Lcard = (refl, refl)
 example Messages = (refl, refl)
 example Next = (refl, refl)
 example Opens = (refl, refl)
-example Air = (refl, refl)
+example Plan = (refl, refl)
 example Receive = (refl, refl)
 example Sample = (refl, refl)
 example Show = (refl, refl)
@@ -380,6 +403,13 @@ pub accounts_works : (words : List Argument) {one two three : FileArgument} {a b
     {status : Status} → one ≡ file 1 words → two ≡ file 2 words → three ≡ file 3 words →
     Implements (accounts_meaning one two three) a b status → Implements (command_meaning Accounts words) a b status
 accounts_works words at_one at_two at_three done = rw (at_one, at_two, at_three) at done
+
+-- `air`
+pub air_works : (words : List Argument) {one two three four : FileArgument} {a b : Outside}
+    {status : Status} → one ≡ file 1 words → two ≡ file 2 words → three ≡ file 3 words →
+    four ≡ file 4 words → Implements (air_meaning one two three four) a b status →
+    Implements (command_meaning Air words) a b status
+air_works words at_one at_two at_three at_four done = rw (at_one, at_two, at_three, at_four) at done
 
 -- `apart`
 pub apart_works : (words : List Argument) {one two three four : FileArgument} {a b : Outside}
@@ -451,8 +481,8 @@ opens_works words at_one at_two at_three done = rw (at_one, at_two, at_three) at
 -- `plan`
 pub plan_works : (words : List Argument) {one two : FileArgument} {three four : NumberArgument}
     {a b : Outside} {status : Status} → one ≡ file 1 words → two ≡ file 2 words →
-    three ≡ number 3 words → four ≡ number 4 words → Implements (air_meaning one two three four.value) a b status →
-    Implements (command_meaning Air words) a b status
+    three ≡ number 3 words → four ≡ number 4 words → Implements (plan_meaning one two three four.value) a b status →
+    Implements (command_meaning Plan words) a b status
 plan_works words at_one at_two at_three at_four done = rw (at_one, at_two, at_three, at_four) at done
 
 -- `receive`

@@ -3,9 +3,8 @@ use Rattle.std.specs.Prelude.{List, ℕ}
 use Rattle.sd_command_base.specs.Spec.{Spec, Readings, judged, ◌>>=◌}
 use Rattle.sd_command_base.specs.Work.{Work}
 use Rattle.sd_command_line.specs.declared.command.Command.{Command}
-use Rattle.sd_command_line.specs.declared.command.Command.TheVariants.{Accounts, Book, Card, Cover, Field, Head}
-use Rattle.sd_command_line.specs.declared.command.Command.TheVariants.{Layered}
-use Rattle.sd_command_line.specs.declared.command.Command.TheVariants.{Lcard}
+use Rattle.sd_command_line.specs.declared.command.Command.TheVariants.{Accounts, Air, Book, Card, Cover, Field}
+use Rattle.sd_command_line.specs.declared.command.Command.TheVariants.{Head, Layered, Lcard}
 use Rattle.sd_command_line.specs.declared.command.Command.TheVariants.{Apart, Messages, Next, Opens, Plan}
 use Rattle.sd_command_line.specs.declared.command.Command.TheVariants.{Receive, Sample}
 use Rattle.sd_command_line.specs.declared.command.Command.TheVariants.{Show}
@@ -16,6 +15,7 @@ use Rattle.sd_run_books.specs.Cover.{cover_meaning}
 use Rattle.sd_run_books.specs.Card.{card_meaning}
 use Rattle.sd_run_streams.specs.Sample.{sample_meaning}
 use Rattle.sd_run_streams.specs.Tables.{tables_meaning}
+use Rattle.sd_run_broadcasts.specs.Air.{air_meaning}
 use Rattle.sd_run_broadcasts.specs.Field.{field_meaning}
 use Rattle.sd_run_broadcasts.specs.Head.{head_meaning}
 use Rattle.sd_run_broadcasts.specs.Receive.{receive_meaning}
@@ -38,6 +38,7 @@ use Rattle.sd_command_line.specs.Help.{help_meaning, version_meaning}
 -- the work of a command with its arguments
 abbrev pub command_meaning : Command → List Argument → Readings → Spec Work
 command_meaning Accounts words given = accounts_meaning (file 1 words) (file 2 words) (file 3 words) given
+command_meaning Air words given = air_meaning (file 1 words) (file 2 words) (file 3 words) (file 4 words) given
 command_meaning Apart words given = apart_meaning (file 1 words) (file 2 words) (file 3 words) (file 4 words) given
 command_meaning Book words given = book_meaning (file 1 words) (file 2 words) (file 3 words) (file 4 words) given
 command_meaning Card words given = card_meaning (file 1 words) (number 2 words) (file 3 words) given

@@ -5,7 +5,8 @@ use Rattle.sd_command_base.specs.declared.status.Status.TheVariants.{PrintFault}
 use Rattle.sd_command_base.specs.declared.status.Status.TheVariants.{BadSite, BadBook, BadCard, BadClear, BadStream}
 use Rattle.sd_command_base.specs.declared.status.Status.TheVariants.{Limit}
 use Rattle.sd_command_base.specs.declared.status.Status.TheVariants.{NoMemory, Unheard, Unclosed, Gaps, NoCat}
-use Rattle.sd_command_base.specs.declared.status.Status.TheVariants.{BadWord, Clash, BadOut, OtherBook}
+use Rattle.sd_command_base.specs.declared.status.Status.TheVariants.{BadWord, Clash, BadOut, OtherBook, SiteUsed}
+use Rattle.sd_command_base.specs.declared.status.Status.TheVariants.{SiteUsedUp}
 
 -- Arguments or files are refused before a file is made or a text is printed. Each status has its row, so that a new one
 -- must be decided.
@@ -30,4 +31,6 @@ RefusesFirst NoCat = ⊥
 RefusesFirst (BadWord word) = Unit {0}
 RefusesFirst (Clash clash) = Unit {0}
 RefusesFirst (BadOut word cause) = Unit {0}
+RefusesFirst SiteUsed = Unit {0}
 RefusesFirst OtherBook = Unit {0}
+RefusesFirst (SiteUsedUp packet) = ⊥

@@ -88,17 +88,19 @@ fn answer_to<R: Files + Print + AllocGlobal, O: Write + Drop, E: Write + Copy + 
         error,
         to_error,
     };
-    let status = counted::<Brand, _, _>(alloc, &line, &mut depot, lines, Blank::new(1));
+    let status = counted::<Brand, _, _, _>(alloc, &line, &mut depot, lines, error, Blank::new(1));
     explain(alloc, &line, status, error);
     status
 }
 
-/// Runs the words with a counter over a new ledger, and writes what is printed.
-fn counted<L: Ledger, D: Depot, W: Write + Drop>(
+/// Runs the words with a counter over a new ledger, and writes what is printed, and to `error` what is said while a
+/// command runs.
+fn counted<L: Ledger, D: Depot, W: Write + Drop, E: Write + Drop>(
     alloc: Global,
     line: &CommandLine<'_>,
     depot: &mut D,
     lines: W,
+    error: E,
     blank: Blank,
 ) -> Status
     requires name { blank.name ≡ L.name }
@@ -110,8 +112,9 @@ fn counted<L: Ledger, D: Depot, W: Write + Drop>(
     ensures words { (status : Status) → order_of (words_of line.now) ≡ Err status → IsToldAs status result }
 {
     let mut print = StdPrint::new(lines);
+    let mut notes = StdPrint::new(error);
     let mut steps = Steps::<L>::new(blank);
-    run(alloc, line, depot, &mut print, &mut steps)
+    run(alloc, line, depot, &mut print, &mut notes, &mut steps)
 }
 
 /// Says to a user what is wrong with an argument. The status and its line are the answer, so it doesn't matter if this

@@ -18,12 +18,14 @@ use sd_ports::{Depot, Sink};
 use std::alloc::Global;
 use std::sync::ledger::Ledger;
 
-/// Runs the command that the arguments (`line`) say, and prints the line of the status that it returns.
-pub fn run<D: Depot, P: Sink, L: Ledger>(
+/// Runs the command that the arguments (`line`) say, and prints the line of the status that it returns. Lines that are
+/// said while a command runs go to `notes`, of which nothing is claimed.
+pub fn run<D: Depot, P: Sink, N: Sink, L: Ledger>(
     alloc: Global,
     line: &CommandLine<'_>,
     depot: &mut D,
     print: &mut P,
+    notes: &mut N,
     steps: &mut Steps<L>,
 ) -> Status
     // The work that the arguments and files ask for is done: text is printed, a file made, and the status returned.
@@ -45,7 +47,7 @@ pub fn run<D: Depot, P: Sink, L: Ledger>(
         HasNotRisen (D.faults depot.old) (D.faults depot.new) → HasNotRisen (P.faults print.old) (P.faults print.new) →
         IsMeant (meaning (words_of line.now) (contents_of files)).result result }
 {
-    match obey(alloc, line, depot, print, steps) {
+    match obey(alloc, line, depot, print, notes, steps) {
         Ok(()) => Status::Done,
         Err(Status::PrintFault) => Status::PrintFault,
         Err(status) => tell(alloc, print, status),
@@ -53,11 +55,12 @@ pub fn run<D: Depot, P: Sink, L: Ledger>(
 }
 
 /// Runs the command that the arguments say.
-fn obey<D: Depot, P: Sink, L: Ledger>(
+fn obey<D: Depot, P: Sink, N: Sink, L: Ledger>(
     alloc: Global,
     line: &CommandLine<'_>,
     depot: &mut D,
     print: &mut P,
+    notes: &mut N,
     steps: &mut Steps<L>,
 ) -> Result<(), Status>
     ensures value { Implements (meaning (words_of line.now))
@@ -66,17 +69,18 @@ fn obey<D: Depot, P: Sink, L: Ledger>(
     ensures words { (status : Status) → order_of (words_of line.now) ≡ Err status → IsErrOf result status }
 {
     match line.order() {
-        Ok(order) => follow(alloc, order, depot, print, steps),
+        Ok(order) => follow(alloc, order, depot, print, notes, steps),
         Err(status) => Err(*status),
     }
 }
 
 /// Runs a command, or prints help or the version.
-fn follow<D: Depot, P: Sink, L: Ledger>(
+fn follow<D: Depot, P: Sink, N: Sink, L: Ledger>(
     alloc: Global,
     order: &Order<'_>,
     depot: &mut D,
     print: &mut P,
+    notes: &mut N,
     steps: &mut Steps<L>,
 ) -> Result<(), Status>
     requires { IsSound (order_said order.now) }
@@ -86,7 +90,7 @@ fn follow<D: Depot, P: Sink, L: Ledger>(
 {
     match order {
         Order::Command { command, arguments } => {
-            work(alloc, *command, arguments, depot, print, steps)
+            work(alloc, *command, arguments, depot, print, notes, steps)
         }
         Order::Help { topic } => help(alloc, print, *topic),
         Order::Version => version(print),

@@ -14,18 +14,19 @@ use sd_ports::{Depot, Sink};
 use sd_run_books::{
     accounts, apart, book, card, cover, layered, lcard, next, opens, plan, show, trace, twin,
 };
-use sd_run_broadcasts::{field, head, receive, trial, watch};
+use sd_run_broadcasts::{air, field, head, receive, trial, watch};
 use sd_run_streams::{messages, sample, tables};
 use std::alloc::Global;
 use std::sync::ledger::Ledger;
 
 /// Runs a command with its arguments.
-pub(crate) fn work<D: Depot, P: Sink, L: Ledger>(
+pub(crate) fn work<D: Depot, P: Sink, N: Sink, L: Ledger>(
     alloc: Global,
     command: Command,
     row: &Arguments<'_>,
     depot: &mut D,
     print: &mut P,
+    notes: &mut N,
     steps: &mut Steps<L>,
 ) -> Result<(), Status>
     requires { AreOf 1 (operands_of command) (arguments_said 1 row.now.list.items) }
@@ -35,6 +36,7 @@ pub(crate) fn work<D: Depot, P: Sink, L: Ledger>(
 {
     match command {
         Command::Accounts => accounts_row(alloc, row, depot, print),
+        Command::Air => air_row(alloc, row, depot, print, notes, steps),
         Command::Apart => apart_row(alloc, row, depot, print),
         Command::Book => book_row(alloc, row, depot),
         Command::Card => card_row(alloc, row, depot, steps),
@@ -71,6 +73,33 @@ fn accounts_row<D: Depot, P: Sink>(
         (outside (depot_state D.Depot depot.new) (page_state P.Sink print.new) steps) (status_of result) }
 {
     accounts(alloc, depot, print, row.file(1), row.file(2), row.file(3))
+}
+
+/// `air` with the arguments of its row.
+#[tactic(auto, using(crate::proofs::Rows::air_works))]
+fn air_row<D: Depot, P: Sink, N: Sink, L: Ledger>(
+    alloc: Global,
+    row: &Arguments<'_>,
+    depot: &mut D,
+    print: &mut P,
+    notes: &mut N,
+    steps: &mut Steps<L>,
+) -> Result<(), Status>
+    ensures { Implements (command_meaning Command.Air (arguments_said 1 row.now.list.items))
+        (outside (depot_state D.Depot depot.old) (page_state P.Sink print.old) steps.old)
+        (outside (depot_state D.Depot depot.new) (page_state P.Sink print.new) steps.new) (status_of result) }
+{
+    air(
+        alloc,
+        depot,
+        print,
+        notes,
+        row.file(1),
+        row.file(2),
+        row.file(3),
+        row.file(4),
+        steps,
+    )
 }
 
 /// `apart` with the arguments of its row.

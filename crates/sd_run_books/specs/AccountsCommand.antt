@@ -71,6 +71,7 @@ report_line accounts = compact_text (report_data accounts) ++ 10 ∷ []
 -- makes a file of these bytes, and then prints a text
 abbrev pub making_then : FileArgument → List ℕ → List ℕ → Work
 making_then out bytes text = record {
+  mark = None;
   out = Some (record { word = out.number; name = out.text; bytes = bytes });
   pieces = text ∷ [];
   ends = Done;

@@ -128,6 +128,7 @@ air_text plan m pids =
 -- prints them
 abbrev pub planning : Plan → ℕ → ℕ → Work
 planning plan m pids = record {
+  mark = None;
   out = None;
   pieces = air_text plan m pids ∷ [];
   ends = Done;

@@ -14,10 +14,14 @@ pub mod Cutting
 pub mod Playing
 pub mod Telling
 pub mod FieldOthers
+pub mod Members
 pub mod WatchLines
+pub mod AirLines
+pub mod AirOthers
 pub mod WatchedMore
 pub mod Found
 pub mod Living
+pub mod Marking
 pub mod Watched
 pub mod WatchedFile
 pub mod WatchPacket

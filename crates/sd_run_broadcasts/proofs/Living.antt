@@ -17,13 +17,14 @@ use Rattle.sd_command_base.specs.declared.status.Status.TheVariants.{PrintFault}
 use Rattle.sd_command_base.specs.declared.status.Status.TheVariants.{BadSite, BadBook, BadCard, BadClear, BadStream}
 use Rattle.sd_command_base.specs.declared.status.Status.TheVariants.{Limit}
 use Rattle.sd_command_base.specs.declared.status.Status.TheVariants.{NoMemory, Unheard, Unclosed, Gaps, NoCat}
-use Rattle.sd_command_base.specs.declared.status.Status.TheVariants.{BadWord, Clash, BadOut, OtherBook}
+use Rattle.sd_command_base.specs.declared.status.Status.TheVariants.{BadWord, Clash, BadOut, OtherBook, SiteUsed}
+use Rattle.sd_command_base.specs.declared.status.Status.TheVariants.{SiteUsedUp}
 use Rattle.sd_command_base.specs.Outside.{DepotState, PageState, outside}
 use Rattle.sd_command_base.specs.Spec.{FileArgument, all_of, value, ◌>>=◌}
-use Rattle.sd_command_base.specs.Work.{StepBound, Work, TakesSteps}
+use Rattle.sd_command_base.specs.Work.{StepBound, Mark, Work, TakesSteps}
 use Rattle.sd_command_base.specs.Outcome.{IsEnding, IsRefusal, IsMadeShort, Progress, telling, Outcome, ended}
 use Rattle.sd_command_base.specs.Outcome.{unclosed, exhausted, failed, nowhere, cut_short, OutcomeWithin}
-use Rattle.sd_command_base.specs.Outcome.{status_of}
+use Rattle.sd_command_base.specs.Outcome.{status_of, IsUnmade, marked_by}
 use Rattle.sd_command_base.proofs.Firsts.{takes_none, stopped_comes, first_obeys, unmade as unmade_files}
 use Rattle.sd_command_base.proofs.Givens.{some_got as any_got}
 use Rattle.sd_command_base.proofs.Streams.{is_other}
@@ -57,7 +58,9 @@ ending_inside NoCat e = refl
 ending_inside (BadWord word) e = refl
 ending_inside (Clash clash) e = refl
 ending_inside (BadOut word cause) e = refl
+ending_inside SiteUsed e = refl
 ending_inside OtherBook e = refl
+ending_inside (SiteUsedUp packet) e = refl
 
 -- if OUT isn't closed, a refusal of a stream stands, and each other status at the end of work gives way
 by_break : (s : Status) → IsEnding s → ((unclosed_status s ≡ s) × (is_break s ≡ true) × IsRefusal s)
@@ -82,7 +85,9 @@ by_break NoCat e = inr (refl, refl)
 by_break (BadWord word) e = inr (refl, refl)
 by_break (Clash clash) e = inr (refl, refl)
 by_break (BadOut word cause) e = inr (refl, refl)
+by_break SiteUsed e = inr (refl, refl)
 by_break OtherBook e = inr (refl, refl)
+by_break (SiteUsedUp packet) e = inr (refl, refl)
 
 -- a status of the outside is never given up where OUT isn't closed
 pub gives_none : (s : Status) → is_outside s ≡ true → unclosed_status s ≡ s
@@ -106,7 +111,9 @@ gives_none NoCat e = cc
 gives_none (BadWord word) e = cc
 gives_none (Clash clash) e = cc
 gives_none (BadOut word cause) e = cc
+gives_none SiteUsed e = cc
 gives_none OtherBook e = cc
+gives_none (SiteUsedUp packet) e = cc
 
 -- where the outside stopped the work, nothing more is printed
 untold_only : (line : List ℕ) (s : Status) (b c : PageState) (status : Status) → is_outside s ≡ true →
@@ -333,10 +340,11 @@ pub not_lived : (work : List ℕ → Work) (bytes : List ℕ → List ℕ) (word
     (p q : DepotState) (page : PageState) (i : ℕ) (status : Status) →
     ((stream : List ℕ) → (work stream).out
     ≡ Some (record { word = out.number; name = out.text; bytes = bytes stream })) →
+    ((stream : List ℕ) → (work stream).mark ≡ None) →
     NotOpened word out p q status →
     NotTurned p.files word.text (λ got. all_of word.number got >>= λ stream. value (work stream))
     (outside p page i) (outside q page i) status
-not_lived work bytes word out p q page i status made (no_input is none asked calm rose) = record {
+not_lived work bytes word out p q page i status made unmarked (no_input is none asked calm rose) = record {
   got = None;
   is_got = none_got p.files word.text none;
   obeys = first_obeys (all_of word.number None) (λ stream. value (work stream)) p q page i status
@@ -348,18 +356,20 @@ not_lived work bytes word out p q page i status made (no_input is none asked cal
         miss = record { missing = λ w e. rose; there = λ other. absurd (other word.number is) };
       }));
 }
-not_lived work bytes word out p q page i status made (no_folder is none asked calm rose) = record {
+not_lived work bytes word out p q page i status made unmarked (no_folder is none asked calm rose) = record {
   got = Some [];
   is_got = untold_got p.files word.text [] none;
   obeys = record {
     comes = nowhere (work []) refl (record { word = out.number; name = out.text; bytes = bytes [] }) (made [])
-        is none (unmade_files 3 p q asked) refl (record { depot = calm; print = refl }) rose;
+        is none
+        (subst (λ (mark : Option Mark). IsUnmade (marked_by mark p) q) (sym (unmarked [])) (unmade_files 3 p q asked))
+        refl (record { depot = calm; print = refl }) rose;
     ports = asked.ports;
     calls = let c = asked.calls in rw (made []) (omega (arith, c));
     steps = takes_none (Ok (work [])) i;
   };
 }
-not_lived work bytes word out p q page i status made (stopped_first stopped) =
+not_lived work bytes word out p q page i status made unmarked (stopped_first stopped) =
     let g = any_got p.files word.text in record {
       got = g.0;
       is_got = g.1;
@@ -375,7 +385,7 @@ not_lived work bytes word out p q page i status made (stopped_first stopped) =
             misses = stopped.misses;
           }));
     }
-not_lived work bytes word out p q page i status made (stopped_then there stopped) =
+not_lived work bytes word out p q page i status made unmarked (stopped_then there stopped) =
     let g = there_got p.files word.text there in record {
       got = Some g.0;
       is_got = g.1;

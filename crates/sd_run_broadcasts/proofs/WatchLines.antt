@@ -1,14 +1,11 @@
--- The line of a report.
-use Rattle.std.proofs.Common.{◌≡◌, ◌+◌, ◌-◌, ◌∙◌, ℕ, List, [], ◌∷◌, ◌++◌, length, refl, sym, ap}
-use Rattle.std.proofs.Common.{subst, arith}
-use Rattle.std.proofs.Common.{append_assoc, length-append, Option, Some, None}
-use Rattle.std.specs.Prelude.{slice_index, codes, decimal}
-use Rattle.json.specs.Token.{Token, begin_object, end_object, key as key_token, number as number_token}
-use Rattle.json.specs.Print.{print}
+-- The line of a report on a stream.
+use Rattle.std.proofs.Common.{◌≡◌, ◌∙◌, ℕ, List, ◌∷◌, [], ◌++◌, refl, arith}
+use Rattle.std.proofs.Common.{append_assoc, Option, Some, None}
+use Rattle.std.specs.Prelude.{codes, decimal}
+use Rattle.json.specs.Token.{Token, begin_object, end_object}
 use Rattle.json.specs.Tree.{json_tokens, members_tokens}
-use Rattle.serde_json.specs.Data.{Data, Members, no_members}
-use Rattle.serde_json.specs.Written.{compact_text, members_outline, outline}
-use Rattle.serde_json.proofs.Texts.{print-outline}
+use Rattle.serde_json.specs.Data.{Members, no_members}
+use Rattle.serde_json.specs.Written.{members_outline, outline}
 use Rattle.sd_base.specs.Types.{RunName}
 use Rattle.sd_message.specs.StreamFaults.{stream_packet}
 use Rattle.sd_message.specs.declared.stream_fault.StreamFault.{StreamFault}
@@ -20,19 +17,11 @@ use Rattle.sd_command_base.specs.declared.stream_refusal.StreamRefusal.TheVarian
 use Rattle.sd_command_base.specs.Texts.{line_of, revoked_line, unheard_line, unclosed_line, gaps_line, stream_line}
 use Rattle.sd_command_base.specs.Texts.{stream_text}
 use Rattle.sd_run_broadcasts.specs.Receive.{ending_status}
-use Rattle.sd_run_broadcasts.specs.Watch.{first_text, num_member, report_data, run_member, text_member, text_of}
-use Rattle.sd_run_broadcasts.specs.WatchTokens.{text_tokens, run_tokens, EndsLine, HasFeed}
-
--- the tokens of a value are printed as its compact text
-pub printed : (value : Data) → print (json_tokens (outline value)) ≡ compact_text value
-printed value = print-outline value
-
--- a text that may be left out
-text_first : (name text : List ℕ) (more : Members) →
-    members_tokens (members_outline (text_member name text more))
-    ≡ text_tokens name text ++ members_tokens (members_outline more)
-text_first name [] more = refl
-text_first name (byte ∷ bytes) more = refl
+use Rattle.sd_run_broadcasts.specs.Members.{num_member, text_member, text_of}
+use Rattle.sd_run_broadcasts.specs.MemberTokens.{text_tokens, HasFeed}
+use Rattle.sd_run_broadcasts.specs.Watch.{first_text, report_data, run_member}
+use Rattle.sd_run_broadcasts.specs.WatchTokens.{run_tokens}
+use Rattle.sd_run_broadcasts.proofs.Members.{behind, fed, line_feed, num_tokens, text_first}
 
 -- a run's name that may be left out
 run_first : (run : Option RunName) (more : Members) →
@@ -40,32 +29,6 @@ run_first : (run : Option RunName) (more : Members) →
 run_first None more = refl
 run_first (Some None) more = refl
 run_first (Some (Some run)) more = refl
-
--- the last byte, where it is a line feed
-last_is : (front : List ℕ) → slice_index (front ++ 10 ∷ []) (length front) ≡ 10
-last_is [] = refl
-last_is (byte ∷ front) = last_is front
-
-feeds : (front line : List ℕ) → front ++ 10 ∷ [] ≡ line → EndsLine line
-feeds front line is = λ some.
-    let long : length line ≡ length front + 1 = ap length (sym is) ∙ length-append front (10 ∷ []) in
-    let at : length line - 1 ≡ length front = omega (arith, long) in
-    rw at (subst (λ (xs : List ℕ). slice_index xs (length front) ≡ 10) is (last_is front))
-
--- bytes that end with a line feed, and others in front of them
-record Fed (line : List ℕ) : Type 0 where
-  front : List ℕ
-  is : front ++ 10 ∷ [] ≡ line
-
-line_feed : Fed (codes "\n")
-line_feed = record { front = []; is = refl }
-
-behind : {line : List ℕ} (xs : List ℕ) → Fed line → Fed (xs ++ line)
-behind xs fed =
-    record { front = xs ++ fed.front; is = append_assoc xs fed.front (10 ∷ []) ∙ ap (λ (l : List ℕ). xs ++ l) fed.is }
-
-fed : {line : List ℕ} → Fed line → EndsLine line
-fed {line} h = feeds h.front line h.is
 
 -- the line of how a stream ended ends with a line feed
 pub ending_feed : (leaf : ℕ) (ending : Ending) → HasFeed (ending_status leaf ending)
@@ -98,10 +61,6 @@ later skipped report =
     (num_member (codes "skipped") skipped
     (num_member (codes "written") report.written
     no_members))))))
-
--- a number after others
-abbrev num_tokens : List ℕ → ℕ → List Token
-num_tokens name n = key_token name ∷ number_token (decimal n) ∷ []
 
 -- the tokens of a report, one member after another
 pub joined : (leaf skipped : ℕ) (report : Report) (a b c d e f g h i j k l : List Token) →

@@ -6,7 +6,11 @@ pub mod Field
 pub mod FieldPlayed
 pub mod FieldClear
 pub mod Live
+pub mod Members
+pub mod MemberTokens
 pub mod Watch
 pub mod WatchTokens
 pub mod Found
 pub mod Watched
+pub mod Marked
+pub mod Air

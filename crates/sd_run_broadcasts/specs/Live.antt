@@ -1,5 +1,5 @@
 -- Inner: work that prints while it makes OUT of a stream, and prints a last line once OUT is closed.
-use Rattle.std.specs.Prelude.{◌≡◌, ◌⊎◌, ℕ, Bool, true, false, List, take, Option, Some}
+use Rattle.std.specs.Prelude.{◌≡◌, ◌⊎◌, ℕ, Bool, true, false, List, take, Option, Some, None}
 use Rattle.std.specs.List.{concat}
 use Rattle.std.specs.Io.KnownBytes.{Appends}
 use Rattle.sd_base.specs.Count.{HasRisen}
@@ -15,6 +15,7 @@ use Rattle.sd_command_base.specs.Work.{StepBound, Work}
 -- makes OUT of these bytes and meanwhile prints these pieces, and ends so
 abbrev pub living : StepBound → FileArgument → List ℕ → List (List ℕ) → Status → Work
 living steps out bytes pieces ends = record {
+  mark = None;
   out = Some (record { word = out.number; name = out.text; bytes = bytes });
   pieces = pieces;
   ends = ends;

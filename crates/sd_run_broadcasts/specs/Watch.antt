@@ -2,7 +2,7 @@
 use Rattle.std.specs.Prelude.{ℕ, zero, ◌-◌, ◌*◌, ◌^◌, true, List, [], ◌∷◌, ◌++◌, length, take, map, reverse, min}
 use Rattle.std.specs.Prelude.{codes, if◌then◌else◌, Option, Some, None}
 use Rattle.std.specs.List.{concat}
-use Rattle.serde_json.specs.Data.{Data, Members, number, unsigned, string, object, member, no_members}
+use Rattle.serde_json.specs.Data.{Data, Members, object, no_members}
 use Rattle.serde_json.specs.Written.{compact_text}
 use Rattle.sd_base.specs.Types.{RunName}
 use Rattle.sd_engine.specs.Cut.{skipped_before, readable, is_too_long}
@@ -17,9 +17,9 @@ use Rattle.sd_command_base.specs.declared.status.Status.{Status}
 use Rattle.sd_command_base.specs.declared.status.Status.TheVariants.{BadStream}
 use Rattle.sd_command_base.specs.declared.stream_refusal.StreamRefusal.TheVariants.{TooLong, Packet}
 use Rattle.sd_command_base.specs.Spec.{Spec, FileArgument, Readings, all_of, value, ◌>>=◌}
-use Rattle.sd_command_base.specs.Texts.{line_of}
 use Rattle.sd_command_base.specs.Turned.{is_break}
 use Rattle.sd_command_base.specs.Work.{UpTo, Work}
+use Rattle.sd_run_broadcasts.specs.Members.{num_member, text_member, text_of}
 use Rattle.sd_run_broadcasts.specs.Receive.{card_in, ending_status}
 
 -- what is written of a stream of these bytes: what a card opens of the packets that count
@@ -39,19 +39,6 @@ watched_steps card bytes = card.height * tried_keys card [] (readable bytes)
 -- how many bytes before packet k, or before the end, are in no packet, up to 2^64 - 1
 abbrev pub skipped_at : List ℕ → ℕ → ℕ
 skipped_at bytes k = min (skipped_before k zero bytes) (2 ^ 64 - 1)
-
--- the text of a status: its line without the line feed
-unfoldable pub text_of : Status → List ℕ
-text_of status = take (length (line_of status) - 1) (line_of status)
-
--- a number before other members
-abbrev pub num_member : List ℕ → ℕ → Members → Members
-num_member key n more = member key (number (unsigned n)) more
-
--- a text before other members, unless it is empty
-abbrev pub text_member : List ℕ → List ℕ → Members → Members
-text_member key [] more = more
-text_member key (byte ∷ bytes) more = member key (string (byte ∷ bytes)) more
 
 -- why the first of the refused packets is refused, if one is
 abbrev pub first_text : Option StreamFault → List ℕ
@@ -96,6 +83,7 @@ watched_lines card bytes = lines_of card bytes (reports card (readable bytes))
 -- the work that makes OUT of what a card opens of a stream of these bytes, and meanwhile prints the lines
 abbrev pub watching : CardFields → FileArgument → List ℕ → Work
 watching card out bytes = record {
+  mark = None;
   out = Some (record { word = out.number; name = out.text; bytes = watched_of card bytes });
   pieces = watched_lines card bytes;
   ends = watched_status card bytes;

@@ -1,25 +1,10 @@
--- Inner: what is written of the members of a report that may be left out.
-use Rattle.std.specs.Prelude.{◌≡◌, ◌-◌, ◌<◌, ℕ, List, [], ◌∷◌, length, slice_index, codes, decimal, Option, Some, None}
-use Rattle.json.specs.Token.{Token, key, string, number}
+-- Inner: what is written of the name of a run, which may be left out.
+use Rattle.std.specs.Prelude.{ℕ, List, [], ◌∷◌, codes, decimal, Option, Some, None}
+use Rattle.json.specs.Token.{Token, key, number}
 use Rattle.sd_base.specs.Types.{RunName}
-use Rattle.sd_command_base.specs.declared.status.Status.{Status}
-use Rattle.sd_command_base.specs.Texts.{line_of}
-
--- a text by its name, unless it is empty
-abbrev pub text_tokens : List ℕ → List ℕ → List Token
-text_tokens name [] = []
-text_tokens name (byte ∷ bytes) = key name ∷ string (byte ∷ bytes) ∷ []
 
 -- the name of a run, if it has one
 abbrev pub run_tokens : Option RunName → List Token
 run_tokens None = []
 run_tokens (Some None) = []
 run_tokens (Some (Some run)) = key (codes "run") ∷ number (decimal run) ∷ []
-
--- these bytes end with a line feed, or are none
-abbrev pub EndsLine : List ℕ → Type 0
-EndsLine line = 0 < length line → slice_index line (length line - 1) ≡ 10
-
--- so does the line of the status
-abbrev pub HasFeed : Status → Type 0
-HasFeed status = EndsLine (line_of status)

@@ -1,21 +1,21 @@
-ghost use Rattle.std.specs.Prelude.{◌≡◌, ◌-◌, ◌++◌, ◌∷◌, [], IfOk, OnOk, length, take, decimal};
-ghost use Rattle.std.specs.Prelude.{codes};
-ghost use Rattle.json.specs.Token.{key as key_token, number as number_token};
+ghost use Rattle.std.specs.Prelude.{◌≡◌, ◌++◌, IfOk, OnOk, codes};
 ghost use Rattle.json.specs.Tree.{json_tokens};
 ghost use Rattle.serde_json.specs.Written.{outline};
-ghost use Rattle.sd_run_broadcasts.specs.Watch.{first_text, report_data, report_line as line_of_report, text_of};
-ghost use Rattle.sd_run_broadcasts.specs.WatchTokens.{EndsLine, HasFeed, run_tokens, text_tokens};
+ghost use Rattle.sd_run_broadcasts.specs.MemberTokens.{text_tokens};
+ghost use Rattle.sd_run_broadcasts.specs.Watch.{first_text, report_data, report_line as line_of_report};
+ghost use Rattle.sd_run_broadcasts.specs.WatchTokens.{run_tokens};
 
 use crate::ending::ending_status;
+use crate::member::{write_number, write_status};
 use json::Writer;
-use sd_command_base::{Status, StreamRefusal, status_line};
+use sd_command_base::{Status, StreamRefusal};
 use sd_message::StreamFault;
 use sd_spec::Report;
 use std::alloc::{AllocError, Global};
 
 /// The line of a report for the receiver of this leaf, before which `skipped` bytes were in no packet: compact JSON
 /// with the keys in ascending order, and a line feed [this project, docs/FORMATS.md, Receiver].
-#[tactic(auto, using(crate::proofs::WatchLines::printed), unfolding(crate::specs::Watch::report_line))]
+#[tactic(auto, using(crate::proofs::Members::printed), unfolding(crate::specs::Watch::report_line))]
 pub fn report_line(
     alloc: Global,
     leaf: u32,
@@ -57,16 +57,6 @@ fn write_report(
     out.end_object()
 }
 
-/// Writes a member that is a number.
-fn write_number(out: &mut Writer, name: &str, number: u64) -> Result<(), AllocError>
-    ensures tokens { OnOk result (out.new.tokens
-        ≡ out.old.tokens ++ key_token name.now ∷ number_token (decimal number) ∷ []) }
-    ensures before { out.new.before ≡ out.old.before }
-{
-    out.key(name)?;
-    out.u64(number)
-}
-
 /// Writes the name of a run, if it has one.
 fn write_run(out: &mut Writer, run: Option<Option<u32>>) -> Result<(), AllocError>
     ensures tokens { OnOk result (out.new.tokens ≡ out.old.tokens ++ run_tokens run) }
@@ -94,39 +84,4 @@ fn write_first(
         }
         None => Ok(()),
     }
-}
-
-/// Writes the line of a status, without its line feed, unless it has none.
-fn write_status(
-    alloc: Global,
-    out: &mut Writer,
-    name: &str,
-    status: Status,
-) -> Result<(), AllocError>
-    requires { HasFeed status }
-    ensures tokens { OnOk result (out.new.tokens ≡ out.old.tokens ++ text_tokens name.now (text_of status)) }
-    ensures before { out.new.before ≡ out.old.before }
-{
-    let line = status_line(alloc, status)?;
-    write_text(out, name, without_feed(line.as_str()))
-}
-
-/// Writes a text, unless it is empty.
-fn write_text(out: &mut Writer, name: &str, text: &str) -> Result<(), AllocError>
-    ensures tokens { OnOk result (out.new.tokens ≡ out.old.tokens ++ text_tokens name.now text.now) }
-    ensures before { out.new.before ≡ out.old.before }
-{
-    if text.is_empty() {
-        return Ok(());
-    }
-    out.key(name)?;
-    out.string(text)
-}
-
-/// The line without its line feed.
-fn without_feed(line: &str) -> &str
-    requires { EndsLine line.now }
-    ensures { result.now ≡ take (length line.now - 1) line.now }
-{
-    &line[..line.len().saturating_sub(1)]
 }

@@ -14,6 +14,7 @@ use Rattle.sd_command_base.specs.Streams.{stream_status}
 -- prints the lines of the messages on the site's PIDs in a stream of these bytes
 abbrev pub monitoring : SiteFields → List ℕ → Work
 monitoring site bytes = record {
+  mark = None;
   out = None;
   pieces = message_lines site 0 (taken_of bytes);
   ends = stream_status (end_of bytes);

@@ -28,6 +28,7 @@ packet_lines before (packet ∷ packets) =
 -- prints the lines of the tables in a stream of these bytes
 abbrev pub inspecting : List ℕ → Work
 inspecting bytes = record {
+  mark = None;
   out = None;
   pieces = packet_lines [] (taken_of bytes);
   ends = stream_status (end_of bytes);

@@ -84,7 +84,7 @@ fn devices_are_told_apart(rt: HostRuntime) {
         let may = [
             may_make(&[file], Kind::Regular, other),
             may_make(&[file], Kind::Block, other),
-            may_read(Output::Known(file), Kind::Regular, other),
+            may_read(Output::File(file), Kind::Regular, other),
         ];
         assert!(rt;
             (other == file) == *is_same && may == [!*is_same; 3],

@@ -1,4 +1,4 @@
-use Rattle.sd_law_broadcast.proofs.Clear.{prefix_clear, take_clear, next_clear, more_clear, each_clear, accepted}
+use Rattle.sd_law_broadcast.proofs.Clear.{prefix_clear, take_clear, next_clear, more_clear, each_numbered, accepted}
 use Rattle.sd_law_broadcast.proofs.laws.clear_streams_go_on.Goals as goal
 
 pub returns : goal.returns
@@ -7,6 +7,6 @@ returns c = record {
   first = take_clear;
   next = next_clear;
   more = more_clear;
-  each = each_clear;
+  each = each_numbered;
   rules = accepted;
 }

@@ -33,7 +33,7 @@ returns g c steps =
     let after = depot_state g.D.Depot c.read_both.new.depot in
     prints_follows (λ book. covering book.height book.commands) (cover_meaning site book) before after
     (page_state g.P.Sink c.args.print.now) (page_state g.P.Sink c.print_periods.new.print) steps c.in_ok-book.book
-    (status_of c.print_periods.result) refl tt
+    (status_of c.print_periods.result) refl refl tt
     (read_then (λ both. record { site = fields_of both.0; commands = both.1.commands })
     (λ book. covering book.height book.commands) (both_meaning site book)
     (λ both. covering both.site.height both.commands) before after _ c.in_ok-book.book

@@ -55,7 +55,7 @@ returns g c steps =
     prints_follows (λ book. layering d w book.commands) (layered_meaning site book width)
     (depot_state g.D.Depot c.args.depot.now) (depot_state g.D.Depot c.read_book.new.depot)
     (page_state g.P.Sink c.args.print.now) (page_state g.P.Sink c.print_periods.new.print) steps c.in_ok-book.book
-    (status_of c.print_periods.result) refl tt
+    (status_of c.print_periods.result) refl refl tt
     (reads_two shown_layers (λ book. book.commands) (λ book. layering d w book.commands)
     (layers_of_file site.number width) (λ layers got. book_of_file book.number layers.height got)
     (λ layers commands. layering layers.height layers.width commands) site book

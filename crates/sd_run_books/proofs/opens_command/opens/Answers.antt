@@ -68,6 +68,6 @@ returns g c steps =
     before steps (outside r now steps) (c.in_ok-site.site, c.in_ok-site.book) c.in_ok-leaves.leaves status
     c.requires.1 c.requires.2 c.in_ok-site.ensures.value c.in_ok-leaves.ensures.value
     (printed_obeys (value (opening both.site.height found both.commands)) (opening both.site.height found both.commands)
-    r r before now steps status refl refl tt
+    r r before now steps status refl refl refl tt
     (rests (leaves_of_file leaves.number both.site.height c.in_ok-leaves.ensures.value.got).calls
     (depot_state g.D.Depot c.read_both.new.depot) r c.in_ok-leaves.ensures.value.gives.1) prints)

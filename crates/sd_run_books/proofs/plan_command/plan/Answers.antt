@@ -62,7 +62,7 @@ returns-in_err-text g c steps =
     (λ book. planning (record { site = fields; commands = book.commands }) packets.value c.args.pids)
     (plan_meaning site book packets c.args.pids)
     (depot_state g.D.Depot c.args.depot.now) (depot_state g.D.Depot c.read_book.new.depot) now now steps
-    c.in_ok-book.book c.in_err-text.field-0.0 refl tt
+    c.in_ok-book.book c.in_err-text.field-0.0 refl refl tt
     (reads_two fields_of (λ book. book.commands)
     (λ book. planning (record { site = fields; commands = book.commands }) packets.value c.args.pids)
     (roomy_site_of_file site.number packets) (λ fields got. book_of_file book.number fields.height got)
@@ -86,7 +86,7 @@ returns g c steps =
     prints_follows (λ book. planning (record { site = fields; commands = book.commands }) packets.value c.args.pids)
     (plan_meaning site book packets c.args.pids)
     (depot_state g.D.Depot c.args.depot.now) (depot_state g.D.Depot c.read_book.new.depot) before now steps
-    c.in_ok-book.book (status_of c.print_text.result) refl tt
+    c.in_ok-book.book (status_of c.print_text.result) refl refl tt
     (reads_two fields_of (λ book. book.commands)
     (λ book. planning (record { site = fields; commands = book.commands }) packets.value c.args.pids)
     (roomy_site_of_file site.number packets) (λ fields got. book_of_file book.number fields.height got)

@@ -29,7 +29,7 @@ returns g c steps =
     let now = page_state g.P.Sink c.print_text.new.print in
     let printed = rw c.as_bytes.ensures.value at c.print_text.ensures.value in
     prints_follows (λ line. work_of_text (string_bytes line)) (show_meaning card) p q before now steps c.in_ok-line.line
-    (status_of c.print_text.result) refl tt
+    (status_of c.print_text.result) refl refl tt
     (looks_reads (λ line. string_bytes line) work_of_text (line_of_file card.number) card p q c.in_ok-line.line
     c.in_ok-line.ensures)
     (text_prints (string_bytes c.in_ok-line.line) before now (status_of c.print_text.result) printed)

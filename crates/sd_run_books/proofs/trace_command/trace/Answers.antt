@@ -97,7 +97,7 @@ returns g c steps =
     c.requires.1 c.requires.2 c.in_ok-site.ensures.value c.in_ok-leaves.ensures.value
     (judged_obeys (traced both.site.height coalition both.commands) text (λ text. value (work_of_text text))
     (outside r before steps) (outside r now steps) status is
-    (printed_obeys (value (work_of_text text)) (work_of_text text) r r before now steps status refl refl tt
+    (printed_obeys (value (work_of_text text)) (work_of_text text) r r before now steps status refl refl refl tt
     (rests (leaves_of_file leaves.number both.site.height c.in_ok-leaves.ensures.value.got).calls
     (depot_state g.D.Depot c.read_both.new.depot) r c.in_ok-leaves.ensures.value.gives.1)
     (text_prints text before now status printed)))

@@ -1,12 +1,50 @@
-use Rattle.std.proofs.Common.{◌∙◌, ℕ, [], refl, ap, subst, arith}
+use Rattle.std.proofs.Common.{◌≡◌, ℕ, Result, Ok, Err, [], inl, inr, refl, sym, ap, subst, arith, ◌∙◌}
 use Rattle.std.proofs.lemmas.Result.{err_from_is_err_and}
+use Rattle.sd_base.specs.Count.{IsCaused, HasRisen}
 use Rattle.sd_engine.specs.Seeking.{SeekOutcome}
+use Rattle.sd_engine.specs.declared.seeking.SeekFault.{SeekFault}
+use Rattle.sd_engine.specs.declared.seeking.SeekFault.TheVariants as seek
 use Rattle.sd_watch.specs.Watching.{card_of}
+use Rattle.sd_command_base.specs.declared.status.Status.{Status}
+use Rattle.sd_command_base.specs.declared.status.Status.TheVariants.{DepotFault}
 use Rattle.sd_command_base.specs.Outside.{page_state}
+use Rattle.sd_command_base.specs.Turned.{HasPortCause}
 use Rattle.sd_run_broadcasts.specs.Receive.{ending_status}
+use Rattle.sd_run_broadcasts.specs.Watched.{stop_status}
 use Rattle.sd_run_broadcasts.proofs.Watched.{all_watched, handed, most_watched, not_begun, outside_undone, packet_found}
 use Rattle.sd_run_broadcasts.proofs.Watched.{packet_passed, packet_stopped, seek_stopped}
 use Rattle.sd_run_broadcasts.proofs.watch_command.watch_all.Goals as goal
+
+-- a write of a packet is the only fault of a port, if none was seen before it
+write_cause : (from_before from_now out_before out_then out_now : ℕ) (status : Status) → from_now ≡ from_before →
+    out_then ≡ out_before → IsCaused out_then out_now (status ≡ DepotFault) →
+    HasPortCause from_before from_now out_before out_now status
+write_cause from_before from_now out_before out_then out_now status read written cause = record {
+  calm = λ other. (read, cause.calm other ∙ written);
+  failed = λ fails. inr (subst (λ (count : ℕ). HasRisen count out_now) written (cause.failed fails));
+}
+
+-- a search that stops is a device fault exactly if a port failed
+stop_cause : {T : Type 0} (from_before from_now out_before out_now : ℕ) (why : SeekFault) →
+    IsCaused from_before from_now (◌≡◌ {A = Result T SeekFault} (Err why) (Err seek.Read)) →
+    IsCaused out_before out_now (◌≡◌ {A = Result T SeekFault} (Err why) (Err seek.Write)) →
+    HasPortCause from_before from_now out_before out_now (stop_status why)
+stop_cause a b p q seek.Read read written = record {
+  calm = λ other. absurd (other refl);
+  failed = λ _. inl (read.failed refl);
+}
+stop_cause a b p q seek.Write read written = record {
+  calm = λ other. absurd (other refl);
+  failed = λ _. inr (written.failed refl);
+}
+stop_cause a b p q seek.TooLong read written = record {
+  calm = λ _. (read.calm (λ e. absurd (cc)), written.calm (λ e. absurd (cc)));
+  failed = λ e. absurd (cc);
+}
+
+-- a search that found something did not fail
+found_unfailed : {P T E : Type 0} (x : T) (fault : E) → ◌≡◌ {A = Result T E} (Ok x) (Err fault) → P
+found_unfailed x fault h = absurd (cc)
 
 pub loop-count-init : goal.loop-count-init
 loop-count-init g c = record {
@@ -100,3 +138,22 @@ returns-in-Err-seek-clause-value g c =
     (handed _ _ _ _ _ _ _ _ _ _ _ _ _ _ _ c.loop-count.invariant.way c.in-Err-seek.ensures.same)
     (omega (arith, c.loop-count-test.false, c.loop-count.auto.count-end)) c.in-Err-seek.ensures.fault
     c.stop-in-Err-seek.ensures.value c.stop-in-Err-seek.ensures.skipped
+
+pub returns-in_err-watch_packet-in-Ok-Some-default-clause-cause :
+    goal.returns-in_err-watch_packet-in-Ok-Some-default-clause-cause
+returns-in_err-watch_packet-in-Ok-Some-default-clause-cause g c =
+    let p = err_from_is_err_and c.from_residual.result c.from_residual.ensures.1 in
+    rw (p.1, p.2) (write_cause _ _ _ _ _ c.in_err-watch_packet-in-Ok-Some-default.field-0.0
+    (c.in-Ok-Some-default.ensures.cause.calm (λ e. found_unfailed _ _ e) ∙ c.loop-count.invariant.read)
+    (c.in-Ok-Some-default.ensures.written.calm (λ e. found_unfailed _ _ e) ∙ c.loop-count.invariant.written)
+    c.in_err-watch_packet-in-Ok-Some-default.ensures.cause)
+
+pub returns-in-Err-clause-cause : goal.returns-in-Err-clause-cause
+returns-in-Err-clause-cause g c =
+    rw (c.stop.ensures.value, sym c.loop-count.invariant.read, sym c.loop-count.invariant.written)
+    (stop_cause _ _ _ _ c.in-Err.fault c.in-Err.ensures.cause c.in-Err.ensures.written)
+
+pub returns-in-Err-seek-clause-cause : goal.returns-in-Err-seek-clause-cause
+returns-in-Err-seek-clause-cause g c =
+    rw (c.stop-in-Err-seek.ensures.value, sym c.loop-count.invariant.read, sym c.loop-count.invariant.written)
+    (stop_cause _ _ _ _ c.in-Err-seek.fault c.in-Err-seek.ensures.cause c.in-Err-seek.ensures.written)

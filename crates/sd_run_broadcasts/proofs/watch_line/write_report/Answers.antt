@@ -1,6 +1,6 @@
 use Rattle.std.proofs.Common.{◌≡◌, List, OnOk, sym, subst}
 use Rattle.json.specs.Token.{Token}
-use Rattle.sd_run_broadcasts.specs.WatchTokens.{HasFeed}
+use Rattle.sd_run_broadcasts.specs.MemberTokens.{HasFeed}
 use Rattle.sd_run_broadcasts.proofs.WatchLines.{ending_feed, joined}
 use Rattle.sd_run_broadcasts.proofs.watch_line.write_report.Goals as goal
 

@@ -36,7 +36,7 @@ returns g c steps =
     let seen = c.print_messages-printed.ensures.value in
     reading_follows (monitoring (fields_of c.args.site.now)) stream seen.bytes p q
     (page_state g.P.Sink c.args.print.now) (page_state g.P.Sink c.print_messages-printed.new.print)
-    steps status refl (stream_ends (end_of seen.bytes)) (opened_got p.files stream.text _ seen.bytes h.opened
+    steps status refl refl (stream_ends (end_of seen.bytes)) (opened_got p.files stream.text _ seen.bytes h.opened
     seen.is_left)
     (record {
       files = k.files ∙ h.files;

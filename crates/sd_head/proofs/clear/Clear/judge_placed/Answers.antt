@@ -10,7 +10,7 @@ judge_pmt-requires-clause-pmt c =
 
 pub returns-in-Some : goal.returns-in-Some
 returns-in-Some c =
-    scrambled_refused_by (fields_of c.args.site.now) c.args.self.now c.args.packet.now c.next_move-next.result
+    λ rule. scrambled_refused_by rule (fields_of c.args.site.now) c.args.self.now c.args.packet.now c.next_move-next.result
     c.in-Some.fault c.next_move-next.ensures
     (ap (λ (p : ℕ). get_or c.args.self.now.pmts.items p false) (sym c.next_move-next.ensures.pid)
     ∙ (sym c.is_pmt.ensures ∙ c.if-is_pmt.false))
@@ -18,7 +18,7 @@ returns-in-Some c =
 
 pub returns-in-None : goal.returns-in-None
 returns-in-None c =
-    scrambled_judged (fields_of c.args.site.now) c.args.self.now c.args.packet.now c.next_move-next.result
+    λ rule. scrambled_judged rule (fields_of c.args.site.now) c.args.self.now c.args.packet.now c.next_move-next.result
     c.requires.number c.next_move-next.ensures
     (ap (λ (p : ℕ). get_or c.args.self.now.pmts.items p false) (sym c.next_move-next.ensures.pid)
     ∙ (sym c.is_pmt.ensures ∙ c.if-is_pmt.false))

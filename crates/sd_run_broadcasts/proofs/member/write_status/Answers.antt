@@ -1,7 +1,7 @@
 use Rattle.std.proofs.Common.{◌≡◌, ◌-◌, ◌∙◌, ◌++◌, ℕ, List, OnOk, length, take, ap, subst}
-use Rattle.sd_run_broadcasts.specs.Watch.{text_of}
-use Rattle.sd_run_broadcasts.specs.WatchTokens.{text_tokens}
-use Rattle.sd_run_broadcasts.proofs.watch_line.write_status.Goals as goal
+use Rattle.sd_run_broadcasts.specs.Members.{text_of}
+use Rattle.sd_run_broadcasts.specs.MemberTokens.{text_tokens}
+use Rattle.sd_run_broadcasts.proofs.member.write_status.Goals as goal
 
 pub returns-clause-tokens : goal.returns-clause-tokens
 unfolding text_of

@@ -1,0 +1,133 @@
+-- A head end's answers as those of a stage.
+use Rattle.std.proofs.Common.{◌≡◌, ℕ, ◌≤◌, ◌+◌, true, List, [], length, inl, inr, refl, sym, ap, subst, ◌∙◌, arith}
+use Rattle.std.specs.Prelude.{Some, None, Result, Ok, Err, OnOk}
+use Rattle.sd_site.specs.SiteFields.{SiteFields, fields_of}
+use Rattle.sd_engine.specs.Stage.{SinkState, HasGrown, IsCutShort, IsAllowed}
+use Rattle.sd_engine.proofs.Chains.{took_none}
+use Rattle.sd_psi.specs.declared.clear_fault.ClearFault.{ClearFault}
+use Rattle.sd_spec.specs.Plan.{Plan}
+use Rattle.sd_spec.specs.Refused.{refusal_of}
+use Rattle.sd_head.specs.Follows.{IsJudgement}
+use Rattle.sd_head.specs.Schedule.{begins_with, IsDue}
+use Rattle.sd_head.specs.Staged.{plan_in, head_does, head_ends, head_refuses, head_sends, IsAfter, IsOfSent}
+use Rattle.sd_head.specs.Staged.{RefusesPacket}
+use Rattle.sd_head.specs.declared.fault.HeadFault.{HeadFault}
+use Rattle.sd_head.specs.declared.fault.HeadFault.TheVariants.{Clear, NoMemory}
+use Rattle.sd_head.specs.declared.head.Head.{Head}
+use Rattle.sd_head.specs.declared.judged.Judged.{Judged}
+use Rattle.sd_head.specs.declared.judged.PatRule.TheVariants.{Asked}
+use Rattle.sd_head.proofs.Stepping.{none_long}
+
+-- a sink grew by bytes of which one thing holds, and so another
+pub grown_says : {P Q : List ℕ → ℕ → Type 0} {a b : SinkState} {from to : ℕ} → HasGrown a b from to P →
+    ((bytes : List ℕ) (steps : ℕ) → P bytes steps → Q bytes steps) → HasGrown a b from to Q
+grown_says grown says = record {
+  bytes = grown.bytes;
+  steps = grown.steps;
+  says = says grown.bytes grown.steps grown.says;
+  taken = grown.taken;
+  room = grown.room;
+  counted = grown.counted;
+}
+
+-- a write failed within bytes of which one thing holds, and so another
+pub cut_says : {P Q : List ℕ → Type 0} {a b : SinkState} → IsCutShort a b P →
+    ((bytes : List ℕ) → P bytes → Q bytes) → IsCutShort a b Q
+cut_says cut says = record {
+  bytes = cut.bytes;
+  says = says cut.bytes cut.says;
+  prefix = cut.prefix;
+  short = cut.short;
+  taken = cut.taken;
+  room = cut.room;
+}
+
+-- nothing was written
+pub grown_nothing : (P : List ℕ → ℕ → Type 0) (a b : SinkState) (from to : ℕ) → b ≡ a → P [] to →
+    HasGrown a b from to P
+grown_nothing P a b from to same says = rw same (let none = took_none a in record {
+  bytes = [];
+  steps = to;
+  says = says;
+  taken = none.taken;
+  room = none.room;
+  counted = omega arith;
+})
+
+-- of a success one thing holds, and so another
+pub on_ok : {T E P Q : Type 0} (result : Result T E) → OnOk result P → (P → Q) → OnOk result Q
+on_ok (Ok value) holds f = f holds
+on_ok (Err fault) holds f = tt
+
+-- the site of the plan is the head end's
+pub site_is : (plan : Plan) (before : List (List ℕ)) (head : Head) → IsAfter plan before head →
+    fields_of head.site ≡ plan.site
+site_is plan before head after = ap (λ (p : Plan). p.site) after.keeps_to
+
+-- of a packet that is judged by all rules
+module _ (s : Head) (packet : List ℕ) where
+  due_clear : (fault : ClearFault) → IsJudgement Asked (fields_of s.site) s.clear packet (Err fault) →
+      (plan : Plan) (before : List (List ℕ)) → IsAfter plan before s → refusal_of plan.site before packet ≡ Some fault
+  unfolding refusal_of
+  due_clear fault told plan before after =
+      subst (λ (site : SiteFields). refusal_of site before packet ≡ Some fault) (site_is plan before s after)
+      (told.value before after.clear_is)
+
+  right_clear : (judged : Judged) → IsJudgement Asked (fields_of s.site) s.clear packet (Ok judged) →
+      (plan : Plan) (before : List (List ℕ)) → IsAfter plan before s → refusal_of plan.site before packet ≡ None
+  unfolding refusal_of
+  right_clear judged told plan before after =
+      subst (λ (site : SiteFields). refusal_of site before packet ≡ None) (site_is plan before s after)
+      (told.value before after.clear_is)
+
+  -- a refusal of it
+  pub refuses_clear : (result : Result Judged ClearFault) (found : ClearFault) (fault : HeadFault) →
+      IsJudgement Asked (fields_of s.site) s.clear packet result → result ≡ Err found → Clear found ≡ fault →
+      RefusesPacket s (Some packet) fault []
+  refuses_clear result found fault told is same = record {
+    nothing = refl;
+    cause = inr (λ plan before after. subst (IsDue plan before (Some packet)) same
+        (due_clear found (subst (IsJudgement Asked (fields_of s.site) s.clear packet) is told) plan before after));
+  }
+
+  -- want of memory for it
+  pub refuses_memory : (result : Result Judged ClearFault) (judged : Judged) (fault : HeadFault) →
+      IsJudgement Asked (fields_of s.site) s.clear packet result → result ≡ Ok judged →
+      begins_with (plan_in s) s.clear.count ≡ true → NoMemory ≡ fault → RefusesPacket s (Some packet) fault []
+  refuses_memory result judged fault told is begins same = record {
+    nothing = refl;
+    cause = inr (λ plan before after. subst (IsDue plan before (Some packet)) same (
+      right_clear judged (subst (IsJudgement Asked (fields_of s.site) s.clear packet) is told) plan before after,
+      subst (λ (p : Plan). begins_with p (length before) ≡ true) after.keeps_to
+          (subst (λ (n : ℕ). begins_with (plan_in s) n ≡ true) after.clear_is.number begins),
+    ));
+  }
+
+  -- what is sent of it
+  pub does_of : (result : Result Judged ClearFault) (judged : Judged) (t : Head) (bytes : List ℕ) (steps : ℕ) →
+      IsJudgement Asked (fields_of s.site) s.clear packet result → result ≡ Ok judged →
+      head_sends s packet t bytes steps → head_does s packet t bytes steps
+  does_of result judged t bytes steps told is sends = λ plan before after.
+      let there = sends plan before after in
+      (right_clear judged (subst (IsJudgement Asked (fields_of s.site) s.clear packet) is told) plan before after,
+      there.0, there.1)
+
+  pub allowed_of : (result : Result Judged ClearFault) (judged : Judged) (from to : ℕ) (bytes : List ℕ) →
+      IsJudgement Asked (fields_of s.site) s.clear packet result → result ≡ Ok judged →
+      IsOfSent (head_sends s packet) from to bytes →
+      IsAllowed (head_does s packet) (head_refuses s (Some packet)) from to bytes
+  allowed_of result judged from to bytes told is (steps, few, (t, sends)) =
+      (steps, few, inl (t, does_of result judged t bytes steps told is sends))
+
+-- the same of the end
+pub allowed_end : (s : Head) (from to : ℕ) (bytes : List ℕ) → IsOfSent (head_ends s) from to bytes →
+    IsAllowed (head_ends s) (head_refuses s None) from to bytes
+allowed_end s from to bytes (steps, few, (t, ends)) = (steps, few, inl (t, ends))
+
+pub refuses_end : (s : Head) (fault : HeadFault) → s.clear.count ≡ 0 → NoMemory ≡ fault →
+    RefusesPacket s None fault []
+refuses_end s fault none same = record {
+  nothing = refl;
+  cause = inr (λ plan before after. subst (IsDue plan before None) same
+      (none_long before (sym after.clear_is.number ∙ none)));
+}

@@ -1,0 +1,19 @@
+-- Inner: what a head end that goes on keeps after a packet that breaks a rule.
+use Rattle.std.specs.Prelude.{◌≡◌, Bool, true, false}
+use Rattle.sd_base.specs.Count.{with_added}
+use Rattle.sd_psi.specs.declared.clear_fault.ClearFault.{ClearFault}
+use Rattle.sd_head.specs.Left.{renumbered, with_refused}
+use Rattle.sd_head.specs.declared.live.Live.{Live}
+use Rattle.sd_head.specs.declared.live.Taken.{Taken}
+use Rattle.sd_head.specs.declared.live.Taken.TheVariants.{On, Full}
+
+-- the packet is counted
+pub record HasRefused (fault : ClearFault) (s t : Live) : Type 0 where
+  pub packets : t.packets ≡ with_added s.packets 1
+  pub left_out : t.left_out ≡ with_refused s.left_out (renumbered s.packets fault)
+  pub same : t.head ≡ s.head
+
+-- and that is told, unless the broadcast ends before it: then nothing changes
+abbrev pub LeavesOut : Bool → ClearFault → Live → Live → Taken → Type 0
+LeavesOut true fault s t taken = (taken ≡ Full) × (t ≡ s)
+LeavesOut false fault s t taken = (taken ≡ On) × HasRefused fault s t
