@@ -90,7 +90,9 @@ class Checks:
     def __init__(self):
         self.passed, self.wrong = 0, []
         self.pages = [Page(path) for path in self.all_pages()]
-        self.headings = {os.path.basename(page.path)[:-3]: [it for _, it in page.headings] for page in self.pages}
+        self.headings = {page.path: [it for _, it in page.headings] for page in self.pages}
+        # The pages by the words with which text names them; README is the one at the top.
+        self.named = {os.path.basename(path)[:-3]: path for path in reversed(self.headings)}
         self.crates = set(os.listdir(f"{TOP}/crates"))
         self.scripts = {os.path.basename(it) for folder in ("bench", "examples", "tools")
                         for it in glob.glob(f"{TOP}/{folder}/*")}
@@ -157,13 +159,13 @@ class Checks:
         path = os.path.normpath(os.path.join(os.path.dirname(page.path), path)) if path else page.path
         if not os.path.exists(f"{TOP}/{path}"):
             return False
-        return not anchor or anchor in {slug(it) for it in self.headings.get(os.path.basename(path)[:-3], [])}
+        return not anchor or anchor in {slug(it) for it in self.headings.get(path, [])}
 
     def sections(self, where, text):
         """The sections that are named behind their pages."""
         for named in SECTION.finditer(text):
-            headings, rest = self.headings.get(named[1]), text[named.end() :].replace("`", "")
-            if headings and not re.match(rf"(?:docs/)?(?:{'|'.join(self.headings)})\b", rest):
+            headings, rest = self.headings.get(self.named.get(named[1])), text[named.end() :].replace("`", "")
+            if headings and not re.match(rf"(?:docs/)?(?:{'|'.join(self.named)})\b", rest):
                 self.check(any(rest.startswith(it) for it in headings), where, f"{named[1]} has no section {rest[:40]}")
 
     def comments(self):
