@@ -6,6 +6,7 @@ names must be there, and so must each section that is named behind its page (`do
 comments of crates, tools and scripts. A file of a crate that is named without the crate must be in one that the same
 item names, or in any if it names none. In the index of docs/PROMISES.md what stands behind `Definitions:` and `Contracts:` are names, each behind
 its crate, and each must be defined in that crate's specs/ or src/; and each law of the repository must be named there.
+Each crate must be in the groups of docs/ARCHITECTURE.md.
 README has at most README_LINES lines, all pages together WORDS words, a line of text 120 columns, and a cell of a
 table in docs/ARCHITECTURE.md 300 characters. The picture of the crates must be that of tools/picture.py. It prints
 what is wrong. Its last line is `N passed, M failed`."""
@@ -22,6 +23,7 @@ import picture  # noqa: E402
 TOP = os.path.dirname(os.path.dirname(os.path.realpath(__file__)))
 README_LINES, WORDS, COLUMNS, CELL = 200, 32_000, 120, 300
 PROMISES, INDEX = "docs/PROMISES.md", "The index"
+ARCHITECTURE = "docs/ARCHITECTURE.md"
 # What a page writes in place of a name.
 BLANK = re.compile(r"NAME|FUNCTION|CRATE|\*+")
 PATH = re.compile(r"(?<![\w./-])((?:crates|docs|tools|examples|bench|\.ci)/[\w./@*-]*[\w*])")
@@ -197,6 +199,12 @@ class Checks:
         for crate, law in sorted(self.laws):
             self.check((crate, law) in named, PROMISES, f"the law {law} of {crate} is not in the index")
 
+    def groups(self):
+        """Each crate is in the groups of docs/ARCHITECTURE.md."""
+        text = read(ARCHITECTURE).partition("\n## The crates\n")[2].partition("\n## ")[0]
+        for crate in sorted(self.crates):
+            self.check(f"`{crate}`" in text, ARCHITECTURE, f"{crate} is not among the crates")
+
     def lengths(self):
         for page in self.pages:
             prose = {number for number, kind, _ in page.blocks if kind != "text"}
@@ -204,7 +212,7 @@ class Checks:
                 if len(line) > COLUMNS and number not in prose and not line.startswith("    "):
                     self.check(False, f"{page.path}:{number}", f"the line has more than {COLUMNS} columns")
             for number, kind, text in page.blocks:
-                if kind == "row" and page.path == "docs/ARCHITECTURE.md":
+                if kind == "row" and page.path == ARCHITECTURE:
                     longest = max(len(cell.strip()) for cell in text.strip("|").split("|"))
                     self.check(longest <= CELL, f"{page.path}:{number}", f"a cell has more than {CELL} characters")
         lines = len(self.pages[0].lines)
@@ -222,8 +230,9 @@ class Checks:
                     self.sections(f"{page.path}:{number}", text)
         self.comments()
         self.index()
+        self.groups()
         self.lengths()
-        self.check(not picture.differences(), "docs/ARCHITECTURE.md", "another picture: tools/picture.py --check")
+        self.check(not picture.differences(), ARCHITECTURE, "another picture: tools/picture.py --check")
 
 
 def main():
