@@ -4,12 +4,13 @@
 The pages are README.md, bench/README.md and docs/*.md but docs/TRUST.md. Each path, crate, script and link that one
 names must be there, and so must each section that is named behind its page (`docs/FORMATS.md, Site`), also in the
 comments of crates, tools and scripts. A file of a crate that is named without the crate must be in one that the same
-item names, or in any if it names none. In the index of docs/PROMISES.md what stands behind `Definitions:` and `Contracts:` are names, each behind
-its crate, and each must be defined in that crate's specs/ or src/; and each law of the repository must be named there.
-Each crate must be in the groups of docs/ARCHITECTURE.md.
-README has at most README_LINES lines, all pages together WORDS words, a line of text 120 columns, and a cell of a
-table in docs/ARCHITECTURE.md 300 characters. The picture of the crates must be that of tools/picture.py. It prints
-what is wrong. Its last line is `N passed, M failed`."""
+item names, or in any if it names none. In the index of docs/PROMISES.md what stands behind `Definitions:`, `Contracts:`
+and `Names:` are names, each behind its crate, and each must be defined in that crate's specs/ or src/. Each law of the
+repository must be named there, and each crate in the groups of docs/ARCHITECTURE.md. The picture of the crates must be
+that of tools/picture.py.
+
+README has at most README_LINES lines, all pages together WORDS words, a line of text COLUMNS columns, and a cell of a
+table in docs/ARCHITECTURE.md CELL characters. It prints what is wrong. Its last line is `N passed, M failed`."""
 
 import glob
 import os
@@ -39,7 +40,8 @@ LAW = re.compile(r"^pub fn (\w+)\(\)\s*\n(?:[ \t].*\n|\n)*?\{\}$", re.M)
 IN_SOURCE = re.compile(
     r"\bfn (\w+)|\b(?:struct|enum|trait|const|static|type|mod|macro_rules!) (\w+)|\bensures (\w+) *\{"
     r"|^\s+([A-Z]\w*)\s*[,({]|^\s+(?:pub )?(\w+):", re.M)
-IN_SPECS = re.compile(r"^(?:abbrev |unfoldable )*(?:pub )?(?:record |data )?([A-Za-z_]\w*)|^\s+(?:pub )?(\w+)\s*:", re.M)
+IN_SPECS = re.compile(
+    r"^(?:abbrev |unfoldable )*(?:pub )?(?:record |data )?([A-Za-z_]\w*)|^\s+(?:pub )?(\w+)\s*:", re.M)
 
 
 def read(path):

@@ -17,8 +17,8 @@ HEAD = "## All crates in a picture\n"
 BLOCK = re.compile(r"```mermaid\n.*?```\n", re.S)
 MOST_WORDS = 8
 # A label that is cut off doesn't end with one of these.
-SMALL = set("a after an and are as at be by come done driven each for from in is it its may of on one or over run that the "
-            "to what which".split())
+SMALL = set("a after an and are as at be by come done driven each for from in is it its may of on one or over run that "
+            "the to what which".split())
 # Where a label ends.
 STOP = re.compile(r"[:;.]|, (?=(?:and|by|each|for|in|of|that|what|which|with)\b)")
 
