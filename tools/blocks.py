@@ -111,7 +111,8 @@ def run(blocks, folder):
             shell.wait(MOST_SECONDS)
         except subprocess.TimeoutExpired:
             print(f"the blocks took more than {MOST_SECONDS} s and are ended")
-        end(shell)
+        finally:
+            end(shell)
         printed.seek(0)
         text = printed.read().decode("utf-8", "replace")
     for number, block in enumerate(blocks):
@@ -173,6 +174,7 @@ def find_program():
 
 
 def main(pages):
+    signal.signal(signal.SIGTERM, lambda number, frame: sys.exit(1))
     program = find_program()
     passed = failed = 0
     for page in pages:
