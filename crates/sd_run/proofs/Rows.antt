@@ -10,13 +10,13 @@ use Rattle.sd_command_base.specs.Shown.{NumberArgument}
 use Rattle.sd_command_base.specs.Both.{both_meaning}
 use Rattle.sd_command_base.specs.Files.{site_in, book_in}
 use Rattle.sd_command_base.specs.Leaves.{leaves_in}
-use Rattle.sd_command_base.specs.Made.{making, making_new, used_name}
+use Rattle.sd_command_base.specs.Made.{making, making_new, unused, used_name}
 use Rattle.sd_run_books.specs.AccountsCommand.{accounts_in, making_then, report_line, accounts_meaning}
 use Rattle.sd_run_books.specs.Apart.{apart_meaning, plan_of_both, told_apart}
 use Rattle.sd_run_books.specs.Book.{longer_book, book_meaning}
 use Rattle.sd_run_books.specs.Card.{told_card, card_meaning}
 use Rattle.sd_run_books.specs.Cover.{covering, cover_meaning}
-use Rattle.sd_run_broadcasts.specs.Air.{air_meaning}
+use Rattle.sd_run_broadcasts.specs.Air.{air_meaning, air_plan_by, airing, mark_word}
 use Rattle.sd_run_broadcasts.specs.Head.{plan_meaning as head_plan, sent_of, sent_status, sending}
 use Rattle.sd_run_broadcasts.specs.Head.{sending_of, head_meaning}
 use Rattle.sd_run_books.specs.Layered.{layers_of_file, layering, layered_meaning}
@@ -76,7 +76,7 @@ use Rattle.sd_run_streams.proofs.Others.{other_messages}
 use Rattle.sd_run_books.proofs.Others.{other_plan}
 use Rattle.sd_run_broadcasts.proofs.Others.{other_trial}
 use Rattle.sd_run.proofs.Works.{AreOrderly, orderly_after, same_name, made_new, made_whole, turned, none_made}
-use Rattle.sd_run.proofs.Works.{sent_apart}
+use Rattle.sd_run.proofs.Works.{aired, sent_apart}
 use Rattle.sd_run.proofs.Works.{stream_apart, stream_received, text_quiet, watched}
 use Rattle.sd_run.proofs.Examples.{IsExample, words_in, onto_first, arguments_in}
 use Rattle.sd_base.specs.Number.{decimal_value}
@@ -144,6 +144,19 @@ head_orderly site book clear out given =
     (λ plan. orderly_after (Some out.text) None (all_of clear.number (given clear))
     (λ bytes. value (sending plan out bytes))
     (λ bytes. turned Uncounted out (sent_of plan bytes) (sent_status plan bytes) (sent_apart plan bytes)))
+
+air_orderly : (site book clear out : FileArgument) (given : Readings) →
+    AreOrderly (Some out.text) (Some (used_name site.text)) (air_meaning site book clear out given).result
+unfolding air_meaning
+air_orderly site book clear out given =
+    let mark = Some (used_name site.text) in
+    orderly_after (Some out.text) mark (air_plan_by site.number book.number (given site) (given book))
+    (λ plan. all_of clear.number (given clear)
+    >>= λ bytes. unused (given (mark_word site)) >>= λ new. value (airing plan site out bytes))
+    (λ plan. orderly_after (Some out.text) mark (all_of clear.number (given clear))
+    (λ bytes. unused (given (mark_word site)) >>= λ new. value (airing plan site out bytes))
+    (λ bytes. orderly_after (Some out.text) mark (unused (given (mark_word site)))
+    (λ new. value (airing plan site out bytes)) (λ new. aired plan site out bytes)))
 
 receive_orderly : (card stream out : FileArgument) (given : Readings) →
     AreOrderly (Some out.text) None (receive_meaning card stream out given).result

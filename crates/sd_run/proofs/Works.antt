@@ -1,10 +1,11 @@
 -- The kinds of work: each makes OUT or no file, and refuses words or files before anything is made.
-use Rattle.std.proofs.Common.{◌≡◌, ℕ, Bool, true, false, if◌then◌else◌, List, [], reverse, Option, Some, None, Result, Ok}
+use Rattle.std.proofs.Common.{◌≡◌, ℕ, Bool, true, false, if◌then◌else◌, List, [], length, reverse, Option, Some, None, Result, Ok}
 use Rattle.std.proofs.Common.{Err, refl, sym, ap, ◌∙◌}
 use Rattle.std.specs.Option.{option_map}
 use Rattle.sd_engine.specs.Cut.{is_too_long, readable}
 use Rattle.sd_engine.specs.Taken.{StreamEnd, Whole, Breaks, RunsOn, taken_of, end_of}
 use Rattle.sd_site.specs.CardFields.{CardFields}
+use Rattle.sd_site.specs.SiteFields.{SiteFields}
 use Rattle.sd_spec.specs.Plan.{Plan}
 use Rattle.sd_spec.specs.Refused.{refusal_from}
 use Rattle.sd_psi.specs.declared.clear_fault.ClearFault.{ClearFault}
@@ -19,9 +20,10 @@ use Rattle.sd_command_base.specs.declared.status.Status.TheVariants.{BadStream}
 use Rattle.sd_command_base.specs.declared.stream_refusal.StreamRefusal.TheVariants.{TooLong}
 use Rattle.sd_command_base.specs.Spec.{Spec, FileArgument, and_then, ◌>>=◌}
 use Rattle.sd_command_base.specs.Work.{StepBound, Out, Mark, Work}
-use Rattle.sd_command_base.specs.Made.{NewFile, making, making_new, out_of}
+use Rattle.sd_command_base.specs.Made.{NewFile, making, making_new, out_of, used_name}
 use Rattle.sd_command_base.specs.Turned.{turning}
 use Rattle.sd_command_base.specs.Streams.{stream_status}
+use Rattle.sd_run_broadcasts.specs.Air.{airing, ended_status as ended_by, live_end, live_sent, live_status}
 use Rattle.sd_run_broadcasts.specs.Head.{status_where, sent_status}
 use Rattle.sd_run_broadcasts.specs.Receive.{ended_status, ending_status, status_at, unless_refused, received_status}
 use Rattle.sd_run_broadcasts.specs.Watch.{watched_of, watched_status, watching}
@@ -143,6 +145,24 @@ watched card out bytes = record {
   makes = λ made e. same_name (record { word = out.number; name = out.text; bytes = watched_of card bytes }) made e;
   marks = λ made e. absurd (cc);
   keeps = λ refusal. absurd (watched_apart card bytes refusal);
+}
+
+-- nor do those of a broadcast on air
+live_apart : (site : SiteFields) (bytes : List ℕ) → RefusesFirst (live_status site bytes) → ⊥
+unfolding live_status
+live_apart site bytes e = by_end (live_end site bytes) (is_too_long bytes) (length (readable bytes)) e
+  where
+    by_end : (end : Option ℕ) (longer : Bool) (count : ℕ) → RefusesFirst (ended_by end longer count) → ⊥
+    by_end (Some n) longer count e = e
+    by_end None true count e = e
+    by_end None false count e = e
+
+pub aired : (plan : Plan) (site out : FileArgument) (bytes : List ℕ) →
+    IsOrderly (Some out.text) (Some (used_name site.text)) (airing plan site out bytes)
+aired plan site out bytes = record {
+  makes = λ made e. same_name (record { word = out.number; name = out.text; bytes = live_sent plan bytes }) made e;
+  marks = λ made e. ap (option_map (λ (m : Mark). m.name)) e;
+  keeps = λ refusal. absurd (live_apart plan.site bytes refusal);
 }
 
 pub text_quiet : (text : Result (List ℕ) Status) → IsOrderly None None (printing text)

@@ -17,6 +17,7 @@ pub mod FieldOthers
 pub mod Members
 pub mod WatchLines
 pub mod AirLines
+pub mod AirOthers
 pub mod WatchedMore
 pub mod Found
 pub mod Living
