@@ -115,8 +115,8 @@ file_stays words files a b answer told answers name no_out no_mark =
   where
     not_mark : (work : Work) (mark : Mark) → (meaning words (contents_of files)).result ≡ Ok work →
         work.mark ≡ Some mark → name ≢ mark.name
-    not_mark work mark is marks e = no_mark (mark_is words (contents_of files) work mark is marks
-    ∙ ap (λ (n : List ℕ). Some n) (sym e))
+    not_mark work mark is marks e =
+        no_mark (mark_is words (contents_of files) work mark is marks ∙ ap (λ (n : List ℕ). Some n) (sym e))
 
     mark_apart : (mark : Option Mark) → ((m : Mark) → mark ≡ Some m → name ≢ m.name) →
         get (with_mark mark files) name ≡ get files name
@@ -127,12 +127,11 @@ file_stays words files a b answer told answers name no_out no_mark =
 unknown_stay : (a b : Outside) (name : List ℕ) → a.place.files ≡ None → b.place.files ≡ None →
     file_in b name ≡ file_in a name
 unknown_stay a b name before after =
-    let f : Option Files → Option (List ℕ) = option_and_then (λ (fs : Files). get fs name) in
-    ap f (after ∙ sym before)
+    ap (λ (o : Option Files). option_and_then (λ (fs : Files). get fs name) o) (after ∙ sym before)
 
 -- the mark alone leaves the other files
-mark_alone : (words : List (List ℕ)) (given : Readings) (a b : Outside) → (has : MadeMark (meaning words given).result
-    a.place b.place) → (known : Option Files) → a.place.files ≡ known → (name : List ℕ) → used_by words ≢ Some name →
+mark_alone : (words : List (List ℕ)) (given : Readings) (a b : Outside) →
+    (has : MadeMark (meaning words given).result a.place b.place) → (known : Option Files) → a.place.files ≡ known → (name : List ℕ) → used_by words ≢ Some name →
     file_in b name ≡ file_in a name
 mark_alone words given a b has None told name other =
     unknown_stay a b name told (has.left ∙ ap (λ (fs : Option Files). with_bytes fs has.mark.name []) told)

@@ -117,8 +117,7 @@ mark_left words files mark a b answer told answers used =
 -- where all files are as they were, OUT is
 unmade_leaves : (words : List Bytes) (a b : Outside) → b.place.files ≡ a.place.files → LeavesOut words a b
 unmade_leaves words a b same out named =
-    let f : Option Files → Option Bytes = option_and_then (λ (fs : Files). get fs out) in
-    ap f same
+    ap (λ (o : Option Files). option_and_then (λ (fs : Files). get fs out) o) same
 
 -- of two runs with one mark not both change their OUT
 pub sent_once : (first second : List Bytes) (mark : FileName) (files later : Files) (a b c d : Outside)

@@ -3,11 +3,12 @@ ghost use Rattle.std.specs.Prelude.{◌≡◌, ◌≢◌, ◌⊎◌, ◌<◌, �
 ghost use Rattle.std.specs.Prelude.{None, IsSome};
 ghost use Rattle.std.specs.FinMap.{get};
 ghost use Rattle.std.specs.List.{concat, list_any};
-ghost use Rattle.sd_base.specs.Types.{Bytes, FileName, Packets, LeafNumber};
+ghost use Rattle.sd_base.specs.Types.{Arrived, Bytes, FileName, Packets, LeafNumber};
 ghost use Rattle.sd_ports.specs.Files.{Files};
 ghost use Rattle.sd_spec.specs.Plan.{Plan};
 ghost use Rattle.sd_spec.specs.Sent.{broadcast};
 ghost use Rattle.sd_spec.specs.Counting.{is_marked};
+ghost use Rattle.sd_law_losses.specs.Chosen.{chosen};
 ghost use Rattle.sd_law_watch.specs.Steady.{are_steady};
 ghost use Rattle.sd_command_base.specs.Made.{used_name};
 ghost use Rattle.sd_command_base.specs.Outcome.{IsUnmade};
@@ -16,6 +17,7 @@ ghost use Rattle.sd_command_base.specs.Results.{RunResult};
 ghost use Rattle.sd_run.specs.Meaning.{meaning};
 ghost use Rattle.sd_law_run.specs.Aired.{AirResult, AreForAir, LeavesOut};
 ghost use Rattle.sd_law_run.specs.Headline.{Names, ReceiveResult, file_in, IsUndisturbed, card_for};
+ghost use Rattle.sd_law_run.specs.Lost.{kept_items, LossResult};
 ghost use Rattle.sd_law_run.specs.Outcome.{out_name, used_by};
 ghost use Rattle.sd_law_run.specs.Sendable.{AreSendable};
 ghost use Rattle.sd_law_run.specs.Watched.{WholeResult};
@@ -84,7 +86,22 @@ pub fn air<D: Depot, P: Sink, N: Sink, L: Ledger>(
         ReceiveResult names plan u clear
         (outside (depot_state D.Depot depot.old) (page_state P.Sink print.old) steps.old)
         (outside (depot_state D.Depot depot.new) (page_state P.Sink print.new) steps.new) result }
-    // So does `watch`, if the clear stream is steady and no packet of it is marked, and it prints one line.
+    // Over any choice of the packets of that broadcast it makes what the messages that arrived confirm.
+    ensures lost { (names : Names) (plan : Plan) (u : LeafNumber) (clear : Packets) (flags : Arrived) →
+        map string_bytes words.now ≡ codes "receive" ∷ names.card ∷ names.stream ∷ names.out ∷ [] →
+        names.out ≢ names.card → names.out ≢ names.stream →
+        AreSendable plan clear → u < 2 ^ plan.site.height →
+        file_in (outside (depot_state D.Depot depot.old) (page_state P.Sink print.old) steps.old) names.card
+        ≡ Some (card_for plan.site u) →
+        file_in (outside (depot_state D.Depot depot.old) (page_state P.Sink print.old) steps.old) names.stream
+        ≡ Some (concat (chosen flags (broadcast plan clear))) →
+        IsUndisturbed (outside (depot_state D.Depot depot.old) (page_state P.Sink print.old) steps.old)
+        (outside (depot_state D.Depot depot.new) (page_state P.Sink print.new) steps.new) result →
+        LossResult names plan u clear (kept_items plan clear flags)
+        (outside (depot_state D.Depot depot.old) (page_state P.Sink print.old) steps.old)
+        (outside (depot_state D.Depot depot.new) (page_state P.Sink print.new) steps.new) result }
+    // Over the whole broadcast, `watch` makes what the leaf is entitled to and prints one line, if the clear stream is
+    // steady and no packet of it is marked.
     ensures watched { (names : Names) (plan : Plan) (u : LeafNumber) (clear : Packets) →
         map string_bytes words.now ≡ codes "watch" ∷ names.card ∷ names.stream ∷ names.out ∷ [] →
         names.out ≢ names.card → names.out ≢ names.stream →

@@ -4,6 +4,7 @@ use Rattle.sd_command_base.specs.Outside.{depot_state, page_state, outside}
 use Rattle.sd_command_base.specs.Results.{RunResult}
 use Rattle.sd_run.specs.Meaning.{meaning}
 use Rattle.sd_law_run.proofs.Aired.{air_part}
+use Rattle.sd_law_run.proofs.Losing.{lost_part}
 use Rattle.sd_law_run.proofs.Ordered.{air_answers, receive_answers, watch_answers}
 use Rattle.sd_law_run.proofs.Parts.{receive_part}
 use Rattle.sd_law_run.proofs.Used.{changed_marked, mark_left, used_refused}
@@ -47,6 +48,15 @@ returns-clause-received g c names plan u clear words card stream sends within ca
     let told = rw c.read.ensures at c.run.ensures.value in
     let own = subst (λ (w : List (List ℕ)). RunResult (meaning w) a b c.run.result) words told in
     receive_part plan clear sends names u a b c.run.result within card_there stream_there
+    (receive_answers names a b c.run.result card stream own) well
+
+pub returns-clause-lost : goal.returns-clause-lost
+returns-clause-lost g c names plan u clear flags words card stream sends within card_there stream_there well =
+    let a = outside (depot_state g.D.Depot c.args.depot.now) (page_state g.P.Sink c.args.print.now) c.args.steps.now in
+    let b = outside (depot_state g.D.Depot c.run.new.depot) (page_state g.P.Sink c.run.new.print) c.run.new.steps in
+    let told = rw c.read.ensures at c.run.ensures.value in
+    let own = subst (λ (w : List (List ℕ)). RunResult (meaning w) a b c.run.result) words told in
+    lost_part names plan clear sends u flags a b c.run.result within card_there stream_there
     (receive_answers names a b c.run.result card stream own) well
 
 pub returns-clause-watched : goal.returns-clause-watched
