@@ -2,6 +2,7 @@
 use Rattle.std.proofs.Common.{◌≡◌, ◌⊎◌, ◌+◌, ◌-◌, ◌^◌, ◌<◌, ◌≤◌, ◌∙◌, ℕ, zero, suc, Bool, true, false, List, [], ◌∷◌}
 use Rattle.std.proofs.Common.{◌++◌, length, refl, sym, ap, subst, inl, inr, arith, append_assoc, append-nil}
 use Rattle.std.proofs.Common.{length-append, Option, Some, None, Result, Ok, Err}
+use Rattle.std.specs.Prelude.{is_some}
 use Rattle.std.specs.List.{concat}
 use Rattle.std.specs.Io.KnownBytes.{Appends, Consumes, IsAtEnd}
 use Rattle.std.proofs.KnownBytes.{Appends-nil, Appends-trans, Consumes-nil, Consumes-trans}
@@ -222,6 +223,7 @@ module _ (plan : Plan) (left held held' held2 : Option (List ℕ)) (past : Packe
 -- nothing was read yet
 pub not_begun : (plan : Plan) (left held : Option (List ℕ)) (live : Live) (waiting : List ℕ) → waiting ≡ [] →
     IsLive plan [] live → IsSending plan left left held held live waiting false 0 0
+unfolding bytes_from aired_from
 not_begun plan left held live waiting none keeps = record {
   bytes = [];
   packets = [];
@@ -348,6 +350,18 @@ module _ (plan : Plan) (left left' now held held' : Option (List ℕ)) (live : L
       ends_so plan left held held' held2 way.packets more_skipped true way.keeps.goes_on way.wrote
       (most_read packet most sought) result h
 
+  -- the last search, behind as many packets as are read
+  pub last_sent : (found : Option Packet) (used_up : Bool) (held2 : Option (List ℕ)) (result : Result Finished Status) →
+      used_up ≡ is_some found → count ≡ 2 ^ 48 →
+      SeekOutcome left' now waiting was next ended skipped more_skipped found →
+      Finishes plan way.packets more_skipped used_up held' held2 result → SendsLive plan left held held2 result
+  last_sent None used_up held2 result is most sought h =
+      all_sent held2 result (omega (arith, most)) sought
+      (subst (λ (b : Bool). Finishes plan way.packets more_skipped b held' held2 result) is h)
+  last_sent (Some packet) used_up held2 result is most sought h =
+      most_sent packet held2 result most sought
+      (subst (λ (b : Bool). Finishes plan way.packets more_skipped b held' held2 result) is h)
+
   -- a search that the outside stopped
   search_stopped : count ≤ 2 ^ 48 → was ≡ false → LosesPrefix left' now →
       SendsLive plan left held held' (Err DepotFault)
@@ -437,12 +451,14 @@ module _ (plan : Plan) (left now held held' held2 : Option (List ℕ)) (live lat
   under = let n = h.counted in omega (arith, n, low)
 
   -- a packet with which the broadcast goes on
-  pub packet_passed :
+  pub packet_passed : (on : Bool) → on ≡ true →
       ((past : Packets) → IsLive plan past live → length past < 2 ^ 48 →
-      SendsPacket plan past packet held' held2 live later (Ok true)) →
+      SendsPacket plan past packet held' held2 live later (Ok on)) →
       IsSending plan left now held held2 later waiting ended skipped (count + 1)
-  packet_passed sends =
-      let sent = sends h.packets h.keeps under in
+  packet_passed on is sends =
+      let sent : SendsPacket plan h.packets packet held' held2 live later (Ok true) =
+      subst (λ (b : Bool). SendsPacket plan h.packets packet held' held2 live later (Ok b)) is
+      (sends h.packets h.keeps under) in
       record {
         bytes = h.bytes;
         packets = h.packets ++ packet ∷ [];
@@ -555,13 +571,15 @@ module _ (plan : Plan) (left now held held' held2 : Option (List ℕ)) (live lat
     )
 
   -- the broadcast ends before the packet
-  pub full_sent : (held3 : Option (List ℕ)) (result : Result Finished Status) →
+  pub full_sent : (on : Bool) (held3 : Option (List ℕ)) (result : Result Finished Status) → on ≡ false →
       ((past : Packets) → IsLive plan past live → length past < 2 ^ 48 →
-      SendsPacket plan past packet held' held2 live later (Ok false)) →
+      SendsPacket plan past packet held' held2 live later (Ok on)) →
       ((past : Packets) → IsLive plan past later → Finishes plan past skipped true held2 held3 result) →
       SendsLive plan left held held3 result
-  full_sent held3 result sends f =
-      let sent = sends h.packets h.keeps under in
+  full_sent on held3 result is sends f =
+      let sent : SendsPacket plan h.packets packet held' held2 live later (Ok false) =
+      subst (λ (b : Bool). SendsPacket plan h.packets packet held' held2 live later (Ok b)) is
+      (sends h.packets h.keeps under) in
       record {
         bytes = behind.bytes;
         is_left = behind.is_left;

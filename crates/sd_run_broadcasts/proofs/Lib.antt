@@ -23,6 +23,7 @@ pub mod Found
 pub mod Living
 pub mod Marking
 pub mod Left
+pub mod AirFaults
 pub mod Airing
 pub mod Watched
 pub mod WatchedFile

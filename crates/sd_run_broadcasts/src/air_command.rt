@@ -79,7 +79,7 @@ fn air_stream<D: Depot, P: Sink, N: Sink, L: Ledger>(
     steps: &mut Steps<L>,
 ) -> Result<(), Status>
     requires on { IsOnAir live }
-    requires mark { mark.now ≡ name_of_mark site.entry.text.now }
+    requires mark { mark.now ≡ name_of_mark site.text.now }
     requires apart { site.number ≢ clear.number }
     ensures { (plan : Plan) → IsLive plan [] live →
         Implements (aired_meaning plan (shown_word site.entry) (shown_word clear.entry) (shown_word out.entry))

@@ -151,9 +151,10 @@ fn stop<K: Sink, L: Ledger>(
     requires { IsOnAir live.old }
     ensures value { (plan : Plan) (past : List (List ℕ)) → IsLive plan past live.old →
         Stops plan past fault (K.held sink.old) (K.held sink.new) result }
-    ensures calm { fault ≡ SeekFault.TooLong →
+    ensures cause { fault ≡ SeekFault.TooLong →
         IsCaused (K.faults sink.old) (K.faults sink.new) (status_in result ≡ Status.DepotFault) }
-    ensures same { (fault ≡ SeekFault.TooLong → ⊥) → K.faults sink.new ≡ K.faults sink.old }
+    ensures port { (fault ≡ SeekFault.TooLong → ⊥) →
+        (status_in result ≡ Status.DepotFault) × (K.faults sink.new ≡ K.faults sink.old) }
 {
     match fault {
         SeekFault::Read | SeekFault::Write => Err(Status::DepotFault),

@@ -1,8 +1,5 @@
-use Rattle.std.proofs.Common.{refl}
 use Rattle.std.proofs.lemmas.Result.{err_from_is_err_and}
-use Rattle.sd_command_base.specs.Outside.{depot_state}
 use Rattle.sd_command_base.specs.Shown.{shown_word}
-use Rattle.sd_run_broadcasts.proofs.Marking.{out_refused}
 use Rattle.sd_run_broadcasts.proofs.open_marked.create_marked.Goals as goal
 
 pub returns-in_err-make_mark-clause-fault : goal.returns-in_err-make_mark-clause-fault
