@@ -1,34 +1,20 @@
 -- What `air` leaves of any clear stream.
-use Rattle.std.proofs.Common.{◌≡◌, ◌≢◌, ℕ, ◌+◌, ◌<◌, Bool, true, false, cond, List, [], ◌∷◌, ◌++◌, length}
-use Rattle.std.proofs.Common.{Option, Some, None, Ok, refl, sym, ap, subst, ◌∙◌, arith, inl, inr, append-nil, get_or, le-ltb}
-use Rattle.std.proofs.Common.{take, drop}
-use Rattle.std.specs.Prelude.{All, slice_index, nat_lt, ◌&&◌, ◌^◌}
+use Rattle.std.proofs.Common.{◌≡◌, ◌≢◌, true, [], ◌++◌, Option, Some, None, Ok, refl, sym, ap, subst, ◌∙◌}
+use Rattle.std.proofs.Common.{append-nil, le-ltb}
 use Rattle.std.specs.FinMap.{get, insert}
 use Rattle.std.specs.Io.KnownBytes.{Appends}
-use Rattle.std.specs.List.{concat, list_any}
-use Rattle.std.proofs.lemmas.Bool.{cases_lt}
-use Rattle.std.proofs.lemmas.List.{get_or_past}
-use Rattle.std.proofs.lemmas.List.Elements.{All-nil, All-cons, All-head, All-tail, All-take, All-drop}
-use Rattle.sd_base.specs.Types.{Bytes, FileName, Packet, Packets}
+use Rattle.sd_base.specs.Types.{Bytes, FileName, Packets}
 use Rattle.sd_ports.specs.Files.{Files}
-use Rattle.sd_engine.specs.Cut.{cut, read_from, readable, skips_few}
-use Rattle.sd_engine.proofs.Cutting.{cut_end, cut_packet}
+use Rattle.sd_engine.specs.Cut.{readable}
 use Rattle.sd_site.specs.SiteFields.{SiteFields}
-use Rattle.sd_site.specs.Text.{book_line_of}
 use Rattle.sd_site.specs.Written.{newest_of, none_fewer}
 use Rattle.sd_site.specs.declared.book_line.BookLine.{BookLine}
 use Rattle.sd_site.proofs.Alone.{site_said}
-use Rattle.sd_spec.specs.Counting.{is_marked}
 use Rattle.sd_spec.specs.Plan.{Plan}
-use Rattle.sd_law_broadcast.specs.Packets.{IsWholePacket, AreWholePackets}
-use Rattle.sd_law_broadcast.specs.Synced.{AreBytes, AreSynced, IsSynced}
-use Rattle.sd_law_formats.proofs.Courses.{Course, end, packet, other, course_of, cut_one}
-use Rattle.sd_law_formats.proofs.Finds.{all_sound}
 use Rattle.sd_law_air.proofs.Sendable.{aired_sendable, aired_long, aired_synced, aired_unmarked}
-use Rattle.sd_law_air.specs.Sent.{AreUnmarked}
 use Rattle.sd_command_base.specs.declared.status.Status.{Status}
 use Rattle.sd_command_base.specs.declared.status.LimitKind.TheVariants.{SiteBytes}
-use Rattle.sd_command_base.specs.Files.{most_site_bytes, own_book_of_file}
+use Rattle.sd_command_base.specs.Files.{is_book, most_site_bytes, own_book_of_file}
 use Rattle.sd_command_base.specs.Made.{unused, used_name}
 use Rattle.sd_command_base.specs.Outside.{Outside}
 use Rattle.sd_command_base.specs.Results.{RunResult}
@@ -42,64 +28,12 @@ use Rattle.sd_law_run.specs.Aired.{AirResult, AreForAir, IsGoodAirSite}
 use Rattle.sd_law_run.specs.Good.{IsGoodSite, IsGoodBook}
 use Rattle.sd_law_run.specs.Headline.{Names, file_in, IsUndisturbed}
 use Rattle.sd_law_run.specs.Sendable.{AreSendable}
+use Rattle.sd_law_run.proofs.AirPackets.{none_marked, readable_synced, readable_whole}
 use Rattle.sd_law_run.proofs.Goodness.{file_read, own_good, site_fits, site_low}
 use Rattle.sd_law_run.proofs.Parts.{covers_named, is_told, made_in, of_told}
 use Rattle.sd_law_run.proofs.Plans.{good_plan}
 use Rattle.sd_law_run.proofs.Runs.{runs_work}
 use Rattle.sd_law_run.proofs.Shelf.{made_there, others_stay}
-
--- the packets that are found in bytes are of bytes
-cut_bytes : (bytes : Bytes) → Course bytes → AreBytes bytes → All AreBytes (cut bytes)
-cut_bytes bytes (end none) each = subst (All AreBytes) (sym (ap cut none ∙ cut_end)) (All-nil AreBytes)
-cut_bytes bytes (packet begins course) each =
-    subst (All AreBytes) (sym (cut_packet bytes begins))
-    (All-cons AreBytes (take 188 bytes) (cut (drop 188 bytes)) (All-take (λ byte. byte < 256) 188 bytes each)
-    (cut_bytes (drop 188 bytes) course (All-drop (λ byte. byte < 256) 188 bytes each)))
-cut_bytes bytes (other not some course) each =
-    subst (All AreBytes) (sym (cut_one bytes not some))
-    (cut_bytes (drop 1 bytes) course (All-drop (λ byte. byte < 256) 1 bytes each))
-
-byte_at : (packet : Bytes) → AreBytes packet → (i : ℕ) → slice_index packet i < 256
-byte_at packet each i = elim (cases_lt i (length packet)) [
-  | inl there ↦ each i 0 there
-  | inr past ↦ rw (get_or_past packet i 0 past) (omega arith)
-]
-
-cut_whole : (bytes : Bytes) → AreBytes bytes → AreWholePackets (cut bytes)
-cut_whole bytes each = λ k d within. record {
-  long = (all_sound bytes k d within).0;
-  bytes = byte_at (get_or (cut bytes) k d) (cut_bytes bytes (course_of bytes) each k d within);
-}
-
-cut_synced : (bytes : Bytes) → AreSynced (cut bytes)
-cut_synced bytes = λ k d within.
-    record { long = (all_sound bytes k d within).0; sync = (all_sound bytes k d within).1 }
-
--- what is true of all packets is true of those that are read
-read_all : (P : Packet → Type 0) (bytes : Bytes) (k : ℕ) (packets : Packets) → All P packets →
-    All P (read_from bytes k packets)
-unfolding read_from
-read_all P bytes k [] all = All-nil P
-read_all P bytes k (packet ∷ packets) all = by_test (nat_lt k (2 ^ 48) && skips_few bytes k)
-  where
-    by_test : (b : Bool) → All P (cond b (packet ∷ read_from bytes (k + 1) packets) [])
-    by_test true = All-cons P packet (read_from bytes (k + 1) packets) (All-head P packet packets all)
-        (read_all P bytes (k + 1) packets (All-tail P packet packets all))
-    by_test false = All-nil P
-
-readable_whole : (bytes : Bytes) → AreBytes bytes → AreWholePackets (readable bytes)
-readable_whole bytes each = read_all IsWholePacket bytes 0 (cut bytes) (cut_whole bytes each)
-
-readable_synced : (bytes : Bytes) → AreSynced (readable bytes)
-readable_synced bytes = read_all IsSynced bytes 0 (cut bytes) (cut_synced bytes)
-
--- no packet is marked
-none_marked : (packets : Packets) → AreUnmarked packets → list_any is_marked packets ≡ false
-none_marked [] all = refl
-none_marked (packet ∷ packets) all =
-    let first : is_marked packet ≡ false = All-head (λ p. is_marked p ≡ false) packet packets all in
-    let rest = none_marked packets (All-tail (λ p. is_marked p ≡ false) packet packets all) in
-    rw (first, rest) refl
 
 -- a good site for `air` is a good site
 plain_site : {got : Option Bytes} {site : SiteFields} {line : BookLine} → IsGoodAirSite got site line → IsGoodSite got site

@@ -40,5 +40,6 @@ pub mod LastLines
 pub mod Watched
 pub mod WholeTold
 pub mod WatchedWhole
+pub mod AirPackets
 pub mod Aired
 pub mod Used

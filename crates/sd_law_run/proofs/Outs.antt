@@ -189,11 +189,11 @@ none_printed (Some bytes) b e =
 
 nothing_made : (out : Option Out) (mark : Option Mark) (a b : Outside) → out ≡ None → mark ≡ None →
     IsMade out (marked_by mark a.place) b.place → IsUnmade a.place b.place
-nothing_made out mark a b none unmarked made = record {
+nothing_made out mark a b none bare made = record {
   files = made.files ∙ (ap (λ (o : Option Out). files_with o (files_marked mark a.place.files)) none
-      ∙ ap (λ (m : Option Mark). files_marked m a.place.files) unmarked);
+      ∙ ap (λ (m : Option Mark). files_marked m a.place.files) bare);
   made = made.made ∙ (ap (λ (o : Option Out). made_with o (made_marked mark a.place.made)) none
-      ∙ ap (λ (m : Option Mark). made_marked m a.place.made) unmarked);
+      ∙ ap (λ (m : Option Mark). made_marked m a.place.made) bare);
 }
 
 -- if there is no folder for OUT, nothing is made, or of `air` the mark alone

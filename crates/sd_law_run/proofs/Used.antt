@@ -32,7 +32,7 @@ none_meant words files mark work used there is =
     let (are, at) = used_words words mark used in
     let new = (air_work words are (contents_of files) work is).found.new in
     let none : get files mark ≡ None = ap (get files) at ∙ new in
-    let some : IsSome None = subst IsSome none there in
+    let some : IsSome {T = Bytes} None = subst IsSome none there in
     cc
 
 -- so nothing is made

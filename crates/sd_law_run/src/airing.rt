@@ -122,7 +122,6 @@ pub fn air<D: Depot, P: Sink, N: Sink, L: Ledger>(
 
 /// Of two runs of `air` with one SITE, one after the other, at most one changes its OUT. The second one may begin in a
 /// file system that other runs have changed, if the mark is as the first one left it.
-#[tactic(auto, using(crate::proofs::Used::sent_once))]
 pub fn a_site_is_sent_once()
     ensures { (first second : List Bytes) (mark : FileName) (files later : Files) (a b c d : Outside)
         (one two : Status) → used_by first ≡ Some mark → used_by second ≡ Some mark → a.place.files ≡ Some files →

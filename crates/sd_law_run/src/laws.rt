@@ -250,7 +250,6 @@ pub fn done_trials_had_good_files()
 /// files are as they were, and none was made. Or the mark of the work that the arguments and files mean, which only
 /// `air` has, was made new and empty. Or OUT of the work was made, with a prefix of its due contents, after the mark if
 /// there is one. All other files are as they were.
-#[tactic(auto, using(crate::proofs::Left::run_leaves))]
 pub fn no_file_changes_but_out()
     ensures { (words : List Bytes) (files : Files) (a b : Outside) (answer : Status) →
         a.place.files ≡ Some files → RunResult (meaning words) a b answer →
