@@ -90,6 +90,20 @@ PARTS = [
         ],
     ),
     (
+        "On air",
+        "What `air` does of any clear stream: which packets it sends, that it uses a site once, and what boxes make of it.",
+        [
+            "sd_law_run::air",
+            "sd_law_run::a_site_is_sent_once",
+            "sd_law_air::aired_streams_are_sendable",
+            "sd_law_air::clear_streams_are_aired_whole",
+            "sd_law_air::what_is_left_out_is_as_if_not_there",
+            "sd_law_air::the_end_comes_of_a_packet_that_would_be_sent",
+            "sd_law_air::what_was_read_decides",
+            "sd_law_air::each_packet_is_counted",
+        ],
+    ),
+    (
         "Any stream",
         "What a receiver writes of a stream that nobody vouches for.",
         ["sd_law_keys::written_packets_are_named"],

@@ -15,20 +15,17 @@ use Rattle.sd_law_broadcast.proofs.Words.{used_words}
 use Rattle.sd_command_base.specs.declared.status.Clash.{Clash as ClashKind}
 use Rattle.sd_command_base.specs.declared.status.Clash.TheVariants.{Books}
 use Rattle.sd_run_books.specs.Apart.{books_clash, clash_in, clash_of, differing_in, due_in_both, first_differing}
-use Rattle.sd_run_books.specs.Apart.{first_of, first_shared, last_due, shared_count, sites_clash}
+use Rattle.sd_run_books.specs.Apart.{first_of, first_shared, shared_count, sites_clash}
 use Rattle.sd_run_books.specs.Air.{cryptos_for, last_period_for, last_word_for}
+use Rattle.sd_law_plan.specs.Told.{IsDueIn}
 use Rattle.sd_law_plan.proofs.Found.{swapped_none}
 use Rattle.sd_law_plan.proofs.Ranges.{either_none, no_leaf, none_in, none_of}
 use Rattle.sd_law_plan.proofs.Sites.{later_shares_none, pairs_have_none, ranges_apart, shares_swapped, sites_apart}
 use Rattle.sd_law_plan.proofs.Told.{books_alike}
 
 -- a period that a run uses is between its first one and the last that it may use
-record IsDue (plan : Plan) (q : ℕ) : Type 0 where
-  low : plan.site.first_period ≤ q
-  high : q ≤ last_due plan
-
-used_is_due : (master : List ℕ) (run : Run) (q : ℕ) → IsRun master run → HasWords run.plan.site → UsesPeriod run q →
-    IsDue run.plan q
+pub used_is_due : (master : List ℕ) (run : Run) (q : ℕ) → IsRun master run → HasWords run.plan.site →
+    UsesPeriod run q → IsDueIn run.plan q
 used_is_due master run q is some (t, (n, below, word, period)) =
     let own = used_words master run t q is some (n, below, word, period) in
     let range = is.plan_fits.site in
@@ -36,7 +33,7 @@ used_is_due master run q is some (t, (n, below, word, period)) =
     let up = periods_in_rise run.plan n (run.plan.site.last_word - run.plan.site.first_word) range low in
     let first = period_in_first run.plan in
     let rise = periods_in_rise run.plan 0 n range (omega arith) in
-    record { low = omega (arith, first, rise, period); high = omega (arith, up, period) }
+    (omega (arith, first, rise, period), omega (arith, up, period))
 
 books_agree : (master : List ℕ) (a b : Run) → IsRun master a → IsRun master b → HasWords a.plan.site →
     HasWords b.plan.site → a.plan.site.height ≡ b.plan.site.height → books_clash a.plan b.plan ≡ None →
@@ -46,7 +43,7 @@ books_agree master a b is more some some_more heights h q used used_more =
     let one = used_is_due master a q is some used in
     let two = used_is_due master b q more some_more used_more in
     let none = none_in (clash_in a.plan b.plan) (first_shared a.plan b.plan) (shared_count a.plan b.plan) q h
-    (omega (arith, one.low, two.low)) (omega (arith, one.low, two.low, one.high, two.high)) in
+    (omega (arith, one.0, two.0)) (omega (arith, one.0, two.0, one.1, two.1)) in
     books_alike a.plan b.plan q heights (no_leaf q (differing_in a.plan b.plan q) none)
 
 pub two_apart : (master : List ℕ) (a b : Run) → IsRun master a → IsRun master b → clash_of a.plan b.plan ≡ None →

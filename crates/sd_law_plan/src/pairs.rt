@@ -1,16 +1,16 @@
 //! What it means that two sites with their books are taken or refused.
 
 ghost use Rattle.std.specs.Prelude.{◌≡◌, ◌<◌, ◌≤◌, ◌∷◌, ℕ, List, None, Some, length, slice_get};
-ghost use Rattle.sd_base.specs.Types.{Key};
+ghost use Rattle.sd_base.specs.Types.{Key, PeriodNumber};
 ghost use Rattle.sd_site.specs.SiteFields.{AreInRange};
 ghost use Rattle.sd_spec.specs.Plan.{Plan};
 ghost use Rattle.sd_law_broadcast.specs.Runs.{Run, IsRun, HasWords, ShareNoWord, HaveOwnWords};
-ghost use Rattle.sd_law_broadcast.specs.Runs.{AgreeOnPeriods, AllAgree};
+ghost use Rattle.sd_law_broadcast.specs.Runs.{UsesPeriod, AgreeOnPeriods, AllAgree};
 ghost use Rattle.sd_law_broadcast.specs.Known.{AreOneTree};
 ghost use Rattle.sd_command_base.specs.declared.status.Clash.{Clash};
 ghost use Rattle.sd_run_books.specs.Apart.{clash_of};
 ghost use Rattle.sd_run_books.specs.Air.{cryptos_for, last_period_for, last_word_for};
-ghost use Rattle.sd_law_plan.specs.Told.{IsSo};
+ghost use Rattle.sd_law_plan.specs.Told.{IsDueIn, IsSo};
 
 /// If two broadcasts don't clash, the premises of the laws on several broadcasts hold for them, whatever their streams
 /// are. If each two of a list don't, they hold for the list.
@@ -32,6 +32,9 @@ pub fn checked_broadcasts_are_apart()
     ensures tree { (run : Run) (runs : List Run) →
         ((i j : ℕ) (a b : Run) → slice_get (run ∷ runs) i ≡ Some a → slice_get (run ∷ runs) j ≡ Some b → i < j →
         clash_of a.plan b.plan ≡ None) → AreOneTree run.plan.site.height (run ∷ runs) }
+    // Each period that a broadcast uses, whatever its stream is, is one for which the books are compared.
+    ensures due { (master : Key) (run : Run) (q : PeriodNumber) → IsRun master run → HasWords run.plan.site →
+        UsesPeriod run q → IsDueIn run.plan q }
     // What is told where two clash is so.
     ensures told { (a b : Plan) (clash : Clash) → clash_of a b ≡ Some clash → IsSo a b clash }
     ensures back { (a b : Plan) → clash_of a b ≡ None → clash_of b a ≡ None }

@@ -8,10 +8,9 @@ use Rattle.sd_site.proofs.Spellings.{written_is_good, good_parts}
 use Rattle.sd_site.proofs.Made.{made_is_card}
 use Rattle.sd_engine.specs.Taken.{Whole, taken_of, end_of}
 use Rattle.sd_spec.specs.Plan.{Plan, IsPlan}
-use Rattle.sd_spec.specs.Refused.{IsClear, IsSendable}
+use Rattle.sd_spec.specs.Refused.{IsSendable}
 use Rattle.sd_spec.specs.Sent.{broadcast}
 use Rattle.sd_law_broadcast.specs.Packets.{AreWholePackets}
-use Rattle.sd_law_broadcast.proofs.Sendable.{clear_sendable}
 use Rattle.sd_spec.specs.Offered.{out_from, break_from}
 use Rattle.sd_spec.specs.Ending.{ending_of}
 use Rattle.sd_receive.specs.Receiving.{taken_keys}
@@ -87,13 +86,10 @@ unfolding line_of
 whole_line u None = refl
 whole_line u (Some q) = refl
 
-module _ (plan : Plan) (u : ℕ) (clear : List (List ℕ)) (is : IsPlan plan) (all : IsClear plan.site clear)
+module _ (plan : Plan) (u : ℕ) (clear : List (List ℕ)) (is : IsPlan plan) (can : IsSendable plan.site clear)
     (whole : AreWholePackets clear) (leaf : u < 2 ^ plan.site.height) where
   abbrev card : CardFields
   card = card_of plan.site.master plan.site.ca plan.site.height u
-
-  can : IsSendable plan.site clear
-  can = clear_sendable plan.site clear all
 
   leaf_is : card.leaf ≡ u
   unfolding card_of
@@ -132,10 +128,10 @@ module _ (plan : Plan) (u : ℕ) (clear : List (List ℕ)) (is : IsPlan plan) (a
 -- and over a card of a site and a broadcast of it
 pub broadcast_opened : (plan : Plan) (u : ℕ) (clear : List (List ℕ)) (words : List (List ℕ)) (given : Readings) →
     IsPlan plan →
-    IsClear plan.site clear → AreWholePackets clear → u < 2 ^ plan.site.height →
+    IsSendable plan.site clear → AreWholePackets clear → u < 2 ^ plan.site.height →
     (sent : IsBroadcastTo plan u clear words given) →
     (work : Work) × ((meaning words given).result ≡ Ok work) × IsOpened plan u clear sent.out work
-broadcast_opened plan u clear words given is all whole leaf sent =
+broadcast_opened plan u clear words given is can whole leaf sent =
     let fields = card_of plan.site.master plan.site.ca plan.site.height u in
     let site = is.site in
     let made = made_is_card plan.site.master plan.site.ca plan.site.height u is.ca site.height.0 site.height.1 leaf in (
@@ -144,11 +140,11 @@ broadcast_opened plan u clear words given is all whole leaf sent =
           ∙ received given sent.card sent.stream sent.out fields sent.bytes made sent.card_there sent.there,
       record {
         file = ap (λ (bytes : List ℕ). Some (record { word = sent.out.number; name = sent.out.text; bytes = bytes }))
-            (opened_bytes plan u clear is all whole leaf sent.bytes sent.packets);
+            (opened_bytes plan u clear is can whole leaf sent.bytes sent.packets);
         printed = refl;
-        ends = opened_status plan u clear is all whole leaf sent.bytes sent.packets sent.whole;
+        ends = opened_status plan u clear is can whole leaf sent.bytes sent.packets sent.whole;
         most = received_steps fields sent.bytes;
         counted = refl;
-        few = opened_steps plan u clear is all whole leaf sent.bytes sent.packets;
+        few = opened_steps plan u clear is can whole leaf sent.bytes sent.packets;
       },
     )

@@ -12,7 +12,7 @@ use Rattle.sd_command_base.specs.Results.{RunResult}
 use Rattle.sd_command_base.specs.Spec.{FileArgument, Readings, contents_of, judged}
 use Rattle.sd_command_base.specs.Spec.{◌>>=◌}
 use Rattle.sd_command_base.specs.Shown.{NumberArgument}
-use Rattle.sd_command_base.specs.Work.{Work, files_with}
+use Rattle.sd_command_base.specs.Work.{Work, files_marked, files_with}
 use Rattle.sd_command_base.specs.Made.{out_of}
 use Rattle.sd_command_line.specs.Words.{InputOf, NextOf, NumberOf, Order, OutOf, TwinOf, order_of}
 use Rattle.sd_run.specs.Meaning.{meaning, order_meaning}
@@ -41,14 +41,14 @@ meant_so words order given is =
 done_longer : (files : Files) (name : FileName) (root : Link) (calls : List Call) (i : ℕ) (call : Call)
     (out : FileArgument) (work : Work) (before now : Option Files) → IsFolder files name root calls →
     HasName name i → out.text ≡ name_at name i → IsCall root calls None i call out work →
-    before ≡ Some files → now ≡ files_with work.out before →
+    before ≡ Some files → now ≡ files_with work.out (files_marked work.mark before) →
     (after : Files) × (now ≡ Some after) × IsFolder after name root (calls ++ call ∷ [])
 done_longer files name root calls i call out work before now holds named at is told left =
     let text = text_of_link (made_by (link_at root calls (length calls)) call) in
     let next : HasName name (length calls + 1) = subst (HasName name) is.at named in
     let here : out.text ≡ name_at name (length calls + 1) = at ∙ ap (name_at name) is.at in
     let made : now ≡ Some (insert files out.text text) =
-    left ∙ (ap (λ (w : Work). files_with w.out before) is.makes
+    left ∙ (ap (λ (w : Work). files_with w.out (files_marked w.mark before)) is.makes
     ∙ (ap (λ (bytes : Bytes). files_with (Some (out_of out bytes)) before)
     (made_text (link_at root calls (length calls)) call)
     ∙ ap (files_with (Some (out_of out text))) told)) in (

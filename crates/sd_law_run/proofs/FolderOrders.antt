@@ -12,7 +12,7 @@ use Rattle.sd_command_line.specs.Commands.{command_named, operands_of}
 use Rattle.sd_command_line.specs.Words.{Argument, CommandOf, HelpOf, InputOf, NumberOf, Order, OutOf, VersionOf}
 use Rattle.sd_command_line.specs.Words.{arguments_from, before, command_in, counted, help_on, help_words, is_help}
 use Rattle.sd_command_line.specs.Words.{is_version, named_words, number, number_in, numbered, order_after, order_of}
-use Rattle.sd_command_line.specs.Words.{ordered, out_is_read, version_words}
+use Rattle.sd_command_line.specs.Words.{ordered, out_is_taken, version_words}
 use Rattle.sd_law_chain.proofs.Found.{one_value, unmet}
 
 -- a command makes sites or not
@@ -72,13 +72,13 @@ after_so : (found : Option Command) (command : Command) (texts : List Bytes) (ar
 after_so None command texts arguments e = absurd cc
 after_so (Some found) command texts arguments e =
     let operands = operands_of found in
-    let taken = unmet (not (length texts == length operands) || out_is_read operands texts)
+    let taken = unmet (not (length texts == length operands) || out_is_taken found operands texts)
     (ordered found (arguments_from 1 operands texts)) (CommandOf command arguments) Usage e in
     let same = ordered_so found command (arguments_from 1 operands texts) arguments taken.1 in (
       ap Some same,
       record {
         count = subst (λ (c : Command). length texts ≡ length (operands_of c)) same
-            (eqb-true _ _ (as_many (length texts == length operands) (out_is_read operands texts) taken.0));
+            (eqb-true _ _ (as_many (length texts == length operands) (out_is_taken found operands texts) taken.0));
         read = ordered_read command (arguments_from 1 (operands_of command) texts) arguments
             (subst (λ (c : Command).
             ordered c (arguments_from 1 (operands_of c) texts) ≡ Ok (CommandOf command arguments)) same taken.1);

@@ -15,7 +15,7 @@ use Rattle.sd_command_base.specs.declared.status.Status.TheVariants.{Done}
 use Rattle.sd_command_base.specs.Outside.{DepotState, Outside}
 use Rattle.sd_command_base.specs.Results.{RunResult}
 use Rattle.sd_command_base.specs.Spec.{FileArgument, Readings, contents_of, judged}
-use Rattle.sd_command_base.specs.Work.{Out, Work, files_with}
+use Rattle.sd_command_base.specs.Work.{Mark, Out, Work, files_marked, files_with}
 use Rattle.sd_command_line.specs.declared.command.Command.{Command}
 use Rattle.sd_command_line.specs.declared.command.Command.TheVariants.{Next, Twin}
 use Rattle.sd_command_line.specs.Words.{Argument, CommandOf, HelpOf, Order, VersionOf, file, number, order_of}
@@ -23,7 +23,7 @@ use Rattle.sd_run.specs.Meaning.{command_meaning, meaning, order_meaning}
 use Rattle.sd_law_chain.specs.Chain as chain
 use Rattle.sd_law_chain.specs.Chain.{Call, IsChain, IsTaken, Link, link_at, made_by}
 use Rattle.sd_law_chain.specs.Made.{file_made}
-use Rattle.sd_law_run.specs.Left.{HasOut}
+use Rattle.sd_law_run.specs.Left.{HasOut, with_mark}
 use Rattle.sd_law_run.specs.Outcome.{out_name}
 use Rattle.sd_site.specs.Written.{IsSayable, is_first, newest_of}
 use Rattle.sd_run_books.specs.Chain.{line_of}
@@ -33,7 +33,8 @@ use Rattle.sd_law_chain.proofs.Rising.{all_are_sayable, words_are_had}
 use Rattle.sd_law_run.specs.Folders.{AsksFor, FolderOutcome, kept, longer, torn, HasName, HoldsChain, IsFolder, IsTorn}
 use Rattle.sd_law_run.specs.Folders.{SparesNames}
 use Rattle.sd_law_run.specs.Folders.{name_at, number_in, text_of_link}
-use Rattle.sd_law_run.proofs.Left.{run_leaves}
+use Rattle.sd_law_run.proofs.AirOrders.{mark_is}
+use Rattle.sd_law_run.proofs.Left.{known_marked, run_leaves}
 use Rattle.sd_law_run.proofs.Outs.{done_leaves, out_is}
 use Rattle.sd_law_run.proofs.Shelf.{made_there}
 use Rattle.sd_law_run.proofs.FolderNames.{find_name}
@@ -153,10 +154,10 @@ made_of words files name root calls above i work made holds dead spares named at
         (sym (ap (λ (c : Command). (command_meaning c arguments (contents_of files)).result) e) ∙ meant) makes
     by_kind command arguments (is_other no_next no_twin) read meant =
         let found = (order_so words command arguments read).0 in
-        absurd (spares (λ makes_site. elim makes_site [
+        absurd ((spares i named).0 (λ makes_site. elim makes_site [
           | inl e ↦ no_next (same_Some command Next (sym found ∙ e))
           | inr e ↦ no_twin (same_Some command Twin (sym found ∙ e))
-        ]) i named named_out)
+        ]) named_out)
 
     by_order : (order : Order) → order_of words ≡ Ok order →
         (order_meaning order (contents_of files)).result ≡ Ok work → IsCallOf words files root calls above i made
@@ -187,24 +188,43 @@ done_whole words files a b answer told answers has is =
     let out = has.out in
     let done = done_leaves (meaning words) files a b answer told is answers in
     let work = one_value (meaning words (contents_of files)).result done.work has.work done.is_meant has.is_meant in
-    let whole : b.place.files ≡ Some (insert files out.name out.bytes) =
+    let marked = with_mark has.work.mark files in
+    let whole : b.place.files ≡ Some (insert marked out.name out.bytes) =
     done.made.files
-    ∙ (ap (λ (w : Work). files_with w.out a.place.files) work
-    ∙ (ap (λ (made : Option Out). files_with made a.place.files) has.makes
-    ∙ ap (files_with (Some out)) told)) in
-    let same : insert files out.name has.prefix ≡ insert files out.name out.bytes =
-    same_Some (insert files out.name has.prefix) (insert files out.name out.bytes) (sym has.left ∙ whole) in
+    ∙ (ap (λ (w : Work). files_with w.out (files_marked w.mark a.place.files)) work
+    ∙ (ap (λ (made : Option Out). files_with made (files_marked has.work.mark a.place.files)) has.makes
+    ∙ ap (files_with (Some out)) (ap (files_marked has.work.mark) told ∙ known_marked has.work.mark files))) in
+    let same : insert marked out.name has.prefix ≡ insert marked out.name out.bytes =
+    same_Some (insert marked out.name has.prefix) (insert marked out.name out.bytes) (sym has.left ∙ whole) in
     same_Some has.prefix out.bytes
-    (sym (made_there files out.name has.prefix)
-    ∙ (ap (λ (fs : Files). get fs out.name) same ∙ made_there files out.name out.bytes))
+    (sym (made_there marked out.name has.prefix)
+    ∙ (ap (λ (fs : Files). get fs out.name) same ∙ made_there marked out.name out.bytes))
+
+-- a mark that is spared leaves the chain
+mark_spared : (words : List Bytes) (files : Files) (name : FileName) (work : Work) (mark : Mark) →
+    SparesNames name words → (meaning words (contents_of files)).result ≡ Ok work → work.mark ≡ Some mark →
+    (i : ℕ) → HasName name i → mark.name ≢ name_at name i
+mark_spared words files name work mark spares is marks i named e =
+    (spares i named).1 (mark_is words (contents_of files) work mark is marks ∙ ap (λ (n : FileName). Some n) e)
+
+marked_holds : (words : List Bytes) (files : Files) (name : FileName) (root : Link) (calls : List Call)
+    (above : Option Bytes) (work : Work) → SparesNames name words → HoldsChain files name root calls above →
+    (meaning words (contents_of files)).result ≡ Ok work → (mark : Option Mark) → work.mark ≡ mark →
+    HoldsChain (with_mark mark files) name root calls above
+marked_holds words files name root calls above work spares holds is None marks = holds
+marked_holds words files name root calls above work spares holds is (Some mark) marks =
+    others_hold files name root calls above mark.name [] holds
+    (mark_spared words files name work mark spares is marks)
 
 -- the folder once a run has made a file
 pub folder_made : (words : List Bytes) (answer : Status) (files : Files) (name : FileName) (root : Link)
     (calls : List Call) (a b : DepotState) → IsFolder files name root calls → SparesNames name words →
     (has : HasOut files (meaning words (contents_of files)).result a b) →
     (answer ≡ Done → has.prefix ≡ has.out.bytes) →
-    FolderOutcome words answer files (insert files has.out.name has.prefix) name root calls
+    FolderOutcome words answer files (insert (with_mark has.work.mark files) has.out.name has.prefix) name root calls
 folder_made words answer files name root calls a b holds spares has whole_if =
+    let marked = with_mark has.work.mark files in
+    let still = marked_holds words files name root calls None has.work spares holds has.is_meant has.work.mark refl in
     elim (find_name name has.out.name (number_in name) holds.numbered) [
       | inl (i, named, at) ↦
           let made = made_of words files name root calls None i has.work has.out holds none_dead spares named at
@@ -212,15 +232,15 @@ folder_made words answer files name root calls a b holds spares has whole_if =
           let next : HasName name (length calls + 1) = subst (HasName name) made.at named in
           let text = text_of_link (made_by (link_at root calls (length calls)) made.call) in
           let here : has.out.name ≡ name_at name (length calls + 1) = at ∙ ap (name_at name) made.at in
-          let above : HoldsChain (insert files has.out.name has.prefix) name root calls (Some has.prefix) =
-          subst (λ (n : FileName). HoldsChain (insert files n has.prefix) name root calls (Some has.prefix)) (sym here)
-          (next_holds files name root calls None has.prefix holds next) in
+          let above : HoldsChain (insert marked has.out.name has.prefix) name root calls (Some has.prefix) =
+          subst (λ (n : FileName). HoldsChain (insert marked n has.prefix) name root calls (Some has.prefix)) (sym here)
+          (next_holds marked name root calls None has.prefix still next) in
           elim (whole_or_not has.prefix text) [
             | inl whole ↦
                 longer made.call made.asked
-                (longer_holds (insert files has.out.name has.prefix) name root calls made.call
+                (longer_holds (insert marked has.out.name has.prefix) name root calls made.call
                 (subst (λ (bytes : Bytes).
-                HoldsChain (insert files has.out.name has.prefix) name root calls (Some bytes)) whole above)
+                HoldsChain (insert marked has.out.name has.prefix) name root calls (Some bytes)) whole above)
                 next made.taken)
             | inr proper ↦ torn (λ done. proper (whole_if done ∙ made.bytes)) (
                 record {
@@ -234,7 +254,7 @@ folder_made words answer files name root calls a b holds spares has whole_if =
                 }
                 ) made.asked
           ]
-      | inr none ↦ kept (others_hold files name root calls None has.out.name has.prefix holds none)
+      | inr none ↦ kept (others_hold marked name root calls None has.out.name has.prefix still none)
     ]
 
 -- what a run leaves of a folder
@@ -245,8 +265,14 @@ pub folder_kept : (words : List Bytes) (files : Files) (name : FileName) (root :
 folder_kept words files name root calls a b answer told holds spares answers =
     elim (run_leaves words files a b answer told answers) [
       | inl before ↦ (files, before.left, kept holds)
-      | inr has ↦ (
-        insert files has.out.name has.prefix,
+      | inr (inl has) ↦ (
+        insert files has.mark.name [],
+        has.left,
+        kept (others_hold files name root calls None has.mark.name [] holds
+            (mark_spared words files name has.work has.mark spares has.is_meant has.marks)),
+      )
+      | inr (inr has) ↦ (
+        insert (with_mark has.work.mark files) has.out.name has.prefix,
         has.left,
         folder_made words answer files name root calls a.place b.place holds spares has
             (done_whole words files a b answer told answers has),
@@ -278,6 +304,19 @@ torn_dead files name root calls is text newest some read =
     torn_sites made.site (line_of made.book) is.torn newest both.0 both.1 is.prefix is.proper
     (ap (newest_of is_first) (same_Some is.torn text some) ∙ read)
 
+-- a torn site above a chain stays as long as the files hold it
+torn_stays : {files now : Files} {name : FileName} {root : Link} {calls : List Call} →
+    (is : IsTorn files name root calls) → HoldsChain now name root calls (Some is.torn) → IsTorn now name root calls
+torn_stays is holds = record {
+  torn = is.torn;
+  holds = holds;
+  named = is.named;
+  call = is.call;
+  taken = is.taken;
+  prefix = is.prefix;
+  proper = is.proper;
+}
+
 -- and a run changes nothing of its folder
 pub torn_kept : (words : List Bytes) (files : Files) (name : FileName) (root : Link) (calls : List Call)
     (a b : Outside) (answer : Status) → a.place.files ≡ Some files → IsTorn files name root calls →
@@ -286,23 +325,24 @@ pub torn_kept : (words : List Bytes) (files : Files) (name : FileName) (root : L
 torn_kept words files name root calls a b answer told is spares answers =
     elim (run_leaves words files a b answer told answers) [
       | inl before ↦ (files, before.left, is)
-      | inr has ↦ (
-        insert files has.out.name has.prefix,
+      | inr (inl has) ↦ (
+        insert files has.mark.name [],
+        has.left,
+        torn_stays is (others_hold files name root calls (Some is.torn) has.mark.name [] is.holds
+            (mark_spared words files name has.work has.mark spares has.is_meant has.marks)),
+      )
+      | inr (inr has) ↦ (
+        insert (with_mark has.work.mark files) has.out.name has.prefix,
         has.left,
         elim (find_name name has.out.name (number_in name) is.holds.numbered) [
           | inl (i, named, at) ↦
               let made = made_of words files name root calls (Some is.torn) i has.work has.out is.holds
               (torn_dead files name root calls is) spares named at has.is_meant has.makes in
               absurd (let e = made.none in cc)
-          | inr none ↦ record {
-            torn = is.torn;
-            holds = others_hold files name root calls (Some is.torn) has.out.name has.prefix is.holds none;
-            named = is.named;
-            call = is.call;
-            taken = is.taken;
-            prefix = is.prefix;
-            proper = is.proper;
-          }
+          | inr none ↦ torn_stays is (others_hold (with_mark has.work.mark files) name root calls (Some is.torn)
+              has.out.name has.prefix
+              (marked_holds words files name root calls (Some is.torn) has.work spares is.holds has.is_meant
+              has.work.mark refl) none)
         ],
       )
     ]

@@ -155,7 +155,7 @@ said_good given word fields good =
     (site_said good.bytes fields good.is_site)
 
 -- and its own book
-own_good : (given : Readings) (d : ℕ) (word : FileArgument) (line : Option BookLine) (commands : List Command) →
+pub own_good : (given : Readings) (d : ℕ) (word : FileArgument) (line : Option BookLine) (commands : List Command) →
     d ≤ 20 → (good : IsGoodBook (given word) d commands) → is_book line good.bytes ≡ true →
     (own_book_of_file word.number d line (given word)).result ≡ Ok commands
 unfolding own_book_of_file

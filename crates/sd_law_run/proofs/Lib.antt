@@ -17,6 +17,7 @@ pub mod Parts
 pub mod Losing
 pub mod Left
 pub mod Orderly
+pub mod AirOrders
 pub mod Outs
 pub mod Sent
 pub mod Trials
@@ -39,3 +40,6 @@ pub mod LastLines
 pub mod Watched
 pub mod WholeTold
 pub mod WatchedWhole
+pub mod AirPackets
+pub mod Aired
+pub mod Used

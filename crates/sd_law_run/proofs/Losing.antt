@@ -17,24 +17,25 @@ use Rattle.sd_command_base.specs.Outside.{Outside}
 use Rattle.sd_command_base.specs.Results.{RunResult}
 use Rattle.sd_command_base.specs.Shown.{word_at}
 use Rattle.sd_run_broadcasts.specs.Receive.{receiving, received_steps, receive_meaning}
-use Rattle.sd_law_run.specs.Headline.{Names, file_in, AreGiven, IsUndisturbed, card_for}
+use Rattle.sd_law_run.specs.Headline.{Names, file_in, IsUndisturbed, card_for}
+use Rattle.sd_law_run.specs.Sendable.{AreSendable}
 use Rattle.sd_law_run.specs.Lost.{kept_items, LossResult}
 use Rattle.sd_law_run.proofs.Broadcasts.{received}
 use Rattle.sd_law_run.proofs.Lost.{ended_line, rest_bytes, rest_status, rest_steps, rest_revoked, rest_part}
 use Rattle.sd_law_run.proofs.Runs.{runs_work}
-use Rattle.sd_law_run.proofs.Parts.{is_told, of_told, made_in, others_in, card_same, is_plan, are_whole, are_synced}
+use Rattle.sd_law_run.proofs.Parts.{is_told, of_told, made_in, others_in, card_same}
 
-pub lost_part : (names : Names) (plan : Plan) (clear : List (List ℕ)) (z : Outside)
-    (given : AreGiven z names plan clear) (u : ℕ) (flags : List Bool) (a b : Outside) (answer : Status) →
+pub lost_part : (names : Names) (plan : Plan) (clear : List (List ℕ)) (sends : AreSendable plan clear) (u : ℕ)
+    (flags : List Bool) (a b : Outside) (answer : Status) →
     u < 2 ^ plan.site.height → file_in a names.card ≡ Some (card_for plan.site u) →
     file_in a names.stream ≡ Some (concat (chosen flags (broadcast plan clear))) →
     RunResult (receive_meaning (word_at 1 names.card) (word_at 2 names.stream) (word_at 3 names.out)) a b answer →
     IsUndisturbed a b answer → LossResult names plan u clear (kept_items plan clear flags) a b answer
-lost_part names plan clear z given u flags a b answer leaf card_there stream_there answers well =
-    let is = is_plan names plan clear z given in
-    let all = given.clear.is_clear in
-    let whole = are_whole names plan clear z given in
-    let synced = are_synced names plan clear z given in
+lost_part names plan clear sends u flags a b answer leaf card_there stream_there answers well =
+    let is = sends.is_plan in
+    let can = sends.sendable in
+    let whole = sends.whole in
+    let synced = sends.synced in
     let t = is_told a.place.files names.card (card_for plan.site u) card_there in
     let site = is.site in
     let fields = card_of plan.site.master plan.site.ca plan.site.height u in
@@ -46,18 +47,18 @@ lost_part names plan clear z given u flags a b answer leaf card_there stream_the
     (sym (of_told a t.files names.stream t.told) ∙ stream_there) in
     let done = runs_work (receive_meaning (word_at 1 names.card) (word_at 2 names.stream) out)
     (receiving fields out stream) t.files a b answer work t.told answers well in
-    let bytes = rest_bytes plan u clear flags is all whole synced leaf in
+    let bytes = rest_bytes plan u clear flags is can whole synced leaf in
     let few : b.steps ≤ a.steps + received_steps fields stream = done.steps in
-    let most = rest_steps plan u clear flags is all whole synced leaf in
-    let part = rest_part plan u clear flags is all whole synced leaf in
-    let ends = done.ends ∙ rest_status plan u clear flags is all whole synced leaf in
+    let most = rest_steps plan u clear flags is can whole synced leaf in
+    let part = rest_part plan u clear flags is can whole synced leaf in
+    let ends = done.ends ∙ rest_status plan u clear flags is can whole synced leaf in
     let left = done.left ∙ ap (λ (bs : List ℕ). Some (insert t.files names.out bs)) bytes in
     record {
       written = made_in b t.files names.out (concat (confirmed plan u clear (kept_items plan clear flags))) left;
       parts = part.0;
       part = part.1;
       ends = ends;
-      revoked = λ q e. rest_revoked plan u clear flags is all whole synced leaf q (sym done.ends ∙ e);
+      revoked = λ q e. rest_revoked plan u clear flags is can whole synced leaf q (sym done.ends ∙ e);
       steps = omega (arith, few, most);
       others = others_in a b t.files names.out (concat (confirmed plan u clear (kept_items plan clear flags))) t.told
           left;

@@ -8,14 +8,13 @@ use Rattle.sd_site.proofs.Made.{made_is_card}
 use Rattle.sd_engine.specs.Driving.{most_packets}
 use Rattle.sd_engine.specs.Taken.{Whole, taken_of, end_of}
 use Rattle.sd_spec.specs.Plan.{Plan, IsPlan}
-use Rattle.sd_spec.specs.Refused.{IsClear, IsSendable}
+use Rattle.sd_spec.specs.Refused.{IsSendable}
 use Rattle.sd_spec.specs.Sent.{sent, closing_of, broadcast}
 use Rattle.sd_law_broadcast.specs.Packets.{AreWholePackets}
 use Rattle.sd_law_broadcast.specs.Synced.{IsSynced, AreSynced}
 use Rattle.sd_law_broadcast.proofs.Joined.{taken_again, joined_whole}
 use Rattle.sd_law_broadcast.proofs.Synced.{broadcast_synced}
 use Rattle.sd_law_broadcast.proofs.Counted.{broadcast_short}
-use Rattle.sd_law_broadcast.proofs.Sendable.{clear_sendable}
 use Rattle.sd_spec.specs.declared.ending.Ending.{Ending}
 use Rattle.sd_spec.specs.declared.ending.Ending.TheVariants as end
 use Rattle.sd_spec.specs.Offered.{out_from, break_from}
@@ -78,7 +77,7 @@ told_revoked u q (end.Unclosed n) e = absurd (cc)
 told_revoked u q (end.Gaps n) e = absurd (cc)
 
 module _ (plan : Plan) (u : ℕ) (clear : List (List ℕ)) (flags : List Bool) (is : IsPlan plan)
-    (all : IsClear plan.site clear) (whole : AreWholePackets clear) (synced : AreSynced clear)
+    (can : IsSendable plan.site clear) (whole : AreWholePackets clear) (synced : AreSynced clear)
     (leaf : u < 2 ^ plan.site.height) where
   abbrev card : CardFields
   card = card_of plan.site.master plan.site.ca plan.site.height u
@@ -88,9 +87,6 @@ module _ (plan : Plan) (u : ℕ) (clear : List (List ℕ)) (flags : List Bool) (
 
   abbrev bytes : List ℕ
   bytes = concat packets
-
-  can : IsSendable plan.site clear
-  can = clear_sendable plan.site clear all
 
   leaf_is : card.leaf ≡ u
   unfolding card_of
@@ -163,11 +159,11 @@ module _ (plan : Plan) (u : ℕ) (clear : List (List ℕ)) (flags : List Bool) (
 
 -- over a card of a site and any choice of the packets of a broadcast of it
 pub rest_confirmed : (plan : Plan) (u : ℕ) (clear : List (List ℕ)) (flags : List Bool) (words : List (List ℕ))
-    (given : Readings) → IsPlan plan → IsClear plan.site clear → AreWholePackets clear → AreSynced clear →
+    (given : Readings) → IsPlan plan → IsSendable plan.site clear → AreWholePackets clear → AreSynced clear →
     u < 2 ^ plan.site.height → (rest : IsRestTo plan u clear flags words given) →
     (work : Work) × ((meaning words given).result ≡ Ok work)
     × IsConfirmed plan u clear (kept_items plan clear flags) rest.out work
-rest_confirmed plan u clear flags words given is all whole synced leaf rest =
+rest_confirmed plan u clear flags words given is can whole synced leaf rest =
     let fields = card_of plan.site.master plan.site.ca plan.site.height u in
     let bytes = concat (chosen flags (broadcast plan clear)) in
     let site = is.site in
@@ -182,20 +178,20 @@ rest_confirmed plan u clear flags words given is all whole synced leaf rest =
       bytes = bytes;
       there = rest.there;
     } in
-    let part = rest_part plan u clear flags is all whole synced leaf in (
+    let part = rest_part plan u clear flags is can whole synced leaf in (
       receiving fields rest.out bytes,
       receive_good words given good,
       record {
         file = ap (λ (b : List ℕ). Some (record { word = rest.out.number; name = rest.out.text; bytes = b }))
-            (rest_bytes plan u clear flags is all whole synced leaf);
+            (rest_bytes plan u clear flags is can whole synced leaf);
         parts = part.0;
         part = part.1;
         printed = refl;
-        ends = rest_status plan u clear flags is all whole synced leaf;
-        unrefused = rest_unrefused plan u clear flags is all whole synced leaf;
-        revoked = rest_revoked plan u clear flags is all whole synced leaf;
+        ends = rest_status plan u clear flags is can whole synced leaf;
+        unrefused = rest_unrefused plan u clear flags is can whole synced leaf;
+        revoked = rest_revoked plan u clear flags is can whole synced leaf;
         most = received_steps fields bytes;
         counted = refl;
-        few = rest_steps plan u clear flags is all whole synced leaf;
+        few = rest_steps plan u clear flags is can whole synced leaf;
       },
     )

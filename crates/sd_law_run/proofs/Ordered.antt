@@ -1,4 +1,4 @@
--- The words of `head`, `card`, `receive` and `watch` mean what the commands do.
+-- The words of `air`, `head`, `card`, `receive` and `watch` mean what the commands do.
 use Rattle.std.proofs.Common.{◌≡◌, ◌≢◌, ℕ, ◌-◌, ◌^◌, ◌<◌, ◌≤◌, Bool, false, List, [], ◌∷◌}
 use Rattle.std.proofs.Common.{Option, Some, Result, Ok, Err, refl, sym, ap, subst, ◌∙◌, arith, le-ltb}
 use Rattle.std.specs.Prelude.{◌||◌, if◌then◌else◌}
@@ -14,14 +14,17 @@ use Rattle.sd_command_base.specs.Outcome.{OutcomeWithin, Implements}
 use Rattle.sd_command_base.specs.Results.{RunResult, with_page}
 use Rattle.sd_command_line.specs.declared.command.Command.TheVariants.{Card}
 use Rattle.sd_command_line.specs.Commands.{command_named, command_name, operands_of}
-use Rattle.sd_command_line.specs.Words.{InputOf, OutOf, Order, HeadOf, CardOf, ReceiveOf, at_most, before, number_in}
+use Rattle.sd_command_line.specs.Words.{AirOf, InputOf, OutOf, Order, HeadOf, CardOf, ReceiveOf, at_most, before, number_in}
 use Rattle.sd_command_line.specs.Words.{WatchOf, named_words, numbered, order_of, ordered}
+use Rattle.sd_command_base.specs.Made.{used_name}
 use Rattle.sd_command_base.specs.Shown.{word_at}
 use Rattle.sd_run_books.specs.Card.{card_meaning}
+use Rattle.sd_run_broadcasts.specs.Air.{air_meaning}
 use Rattle.sd_run_broadcasts.specs.Head.{head_meaning}
 use Rattle.sd_run_broadcasts.specs.Receive.{receive_meaning}
 use Rattle.sd_run_broadcasts.specs.Watch.{watch_meaning}
 use Rattle.sd_run.specs.Meaning.{order_meaning, meaning}
+use Rattle.sd_law_run.specs.Aired.{air_run}
 use Rattle.sd_law_run.specs.Good.{IsGoodSite}
 use Rattle.sd_law_run.specs.Headline.{Names, head_run, card_run, receive_run}
 use Rattle.sd_law_run.specs.Watched.{watch_run}
@@ -39,6 +42,10 @@ three_apart : (p q r : Bool) (order : Result Order Status) → p ≡ false → q
     (if p || (q || (r || false)) then Err Usage else order) ≡ order
 three_apart p q r order a b d = rw (a, b, d) refl
 
+four_apart : (m p q r : Bool) (order : Result Order Status) → m ≡ false → p ≡ false → q ≡ false → r ≡ false →
+    (if m || (p || (q || (r || false))) then Err Usage else order) ≡ order
+four_apart m p q r order a b d e = rw (a, b, d, e) refl
+
 -- a number within its bound is taken
 number_fits : (word most n : ℕ) (found : Option ℕ) → found ≡ Some n → n ≤ most → at_most word most found ≡ Ok n
 number_fits word most n found e low =
@@ -53,6 +60,19 @@ leaf_low got site u good leaf =
     omega (arith, most, leaf)
 
 -- the orders of the words
+air_order : (names : Names) → names.stream ≢ names.site → names.stream ≢ names.book → names.stream ≢ names.clear →
+    names.stream ≢ used_name names.site → order_of (air_run names)
+    ≡ Ok (AirOf (word_at 1 names.site) (word_at 2 names.book) (word_at 3 names.clear) (word_at 4 names.stream))
+unfolding named_words command_named command_name operands_of
+air_order names site book clear mark =
+    four_apart (bytes_eq names.stream (used_name names.site)) (bytes_eq names.site names.stream)
+    (bytes_eq names.book names.stream) (bytes_eq names.clear names.stream)
+    (Ok (AirOf (word_at 1 names.site) (word_at 2 names.book) (word_at 3 names.clear) (word_at 4 names.stream)))
+    (apart_texts names.stream (used_name names.site) mark)
+    (apart_texts names.site names.stream (λ e. site (sym e)))
+    (apart_texts names.book names.stream (λ e. book (sym e)))
+    (apart_texts names.clear names.stream (λ e. clear (sym e)))
+
 head_order : (names : Names) → names.stream ≢ names.site → names.stream ≢ names.book → names.stream ≢ names.clear →
     order_of (head_run names)
     ≡ Ok (HeadOf (word_at 1 names.site) (word_at 2 names.book) (word_at 3 names.clear) (word_at 4 names.stream))
@@ -158,3 +178,13 @@ watch_answers names a b answer card stream answers =
     order_answers (watch_run names)
     (WatchOf (word_at 1 names.card) (word_at 2 names.stream) (word_at 3 names.out)) a b answer
     (watch_order names card stream) answers
+
+pub air_answers : (names : Names) (a b : Outside) (answer : Status) → names.stream ≢ names.site →
+    names.stream ≢ names.book → names.stream ≢ names.clear → names.stream ≢ used_name names.site →
+    RunResult (meaning (air_run names)) a b answer →
+    RunResult (air_meaning (word_at 1 names.site) (word_at 2 names.book) (word_at 3 names.clear)
+    (word_at 4 names.stream)) a b answer
+air_answers names a b answer site book clear mark answers =
+    order_answers (air_run names)
+    (AirOf (word_at 1 names.site) (word_at 2 names.book) (word_at 3 names.clear) (word_at 4 names.stream)) a b answer
+    (air_order names site book clear mark) answers

@@ -1,6 +1,7 @@
--- The work that words mean makes OUT of the words or no file, and refuses before anything is made.
+-- The work that words mean makes OUT of the words or no file, before it the mark of the words or none, and refuses
+-- before anything is made.
 use Rattle.std.proofs.Common.{◌≡◌, ℕ, ◌-◌, Bool, true, false, List, [], ◌∷◌, Option, Some, None, Result, Ok, Err}
-use Rattle.std.proofs.Common.{refl, sym, ap, ◌∙◌}
+use Rattle.std.proofs.Common.{refl, sym, ap, subst, ◌∙◌}
 use Rattle.std.specs.Prelude.{if◌then◌else◌, ◌||◌}
 use Rattle.sd_command_base.specs.declared.status.Status.{Status}
 use Rattle.sd_command_base.specs.declared.status.Status.TheVariants.{Usage}
@@ -9,21 +10,25 @@ use Rattle.sd_command_base.specs.Work.{Work, work_of_text}
 use Rattle.sd_command_base.specs.Shown.{word_at}
 use Rattle.sd_command_line.specs.Pages.{help_text, version_text}
 use Rattle.sd_command_line.specs.declared.command.Command.{Command}
+use Rattle.sd_command_line.specs.declared.command.Command.TheVariants.{Air, Watch}
 use Rattle.sd_command_line.specs.declared.operand.Operand.{Operand}
 use Rattle.sd_command_line.specs.declared.operand.Kind.{Kind}
 use Rattle.sd_command_line.specs.declared.operand.Kind.TheVariants as kind
 use Rattle.sd_command_line.specs.Commands.{command_named, operands_of}
 use Rattle.sd_command_line.specs.Operands.{operand_kind}
-use Rattle.sd_command_line.specs.Words.{Argument, OutOf, Order, CommandOf, HelpOf, VersionOf, file, file_of, before}
+use Rattle.sd_command_line.specs.Words.{Argument, InputOf, OutOf, Order, CommandOf, HelpOf, VersionOf, file, file_of}
+use Rattle.sd_command_line.specs.Words.{before}
 use Rattle.sd_command_line.specs.Words.{out_text, or_output}
-use Rattle.sd_command_line.specs.Words.{argument_of, arguments_from, out_is_read, ordered, command_words, order_after}
+use Rattle.sd_command_line.specs.Words.{argument_of, arguments_from, out_is_taken, ordered, command_words, order_after}
 use Rattle.sd_command_line.specs.Words.{is_help}
 use Rattle.sd_command_line.specs.Words.{is_version, help_on, help_words, version_words, named_words, order_of}
 use Rattle.std.proofs.Common.{suc, length, slice_get, not, ◌==◌, ◌≤◌, ◌+◌, arith, eqb-true}
 use Rattle.sd_run.specs.Meaning.{order_meaning, meaning}
-use Rattle.sd_law_run.specs.Outcome.{out_in_row, out_name}
+use Rattle.sd_command_base.specs.Made.{used_name}
+use Rattle.sd_law_run.specs.Outcome.{mark_in_row, out_in_row, out_name, used_by}
+use Rattle.sd_law_chain.proofs.Found.{one_value}
 use Rattle.sd_run.proofs.Works.{AreOrderly, none_made}
-use Rattle.sd_run.proofs.Rows.{out_at, out_by, command_orderly}
+use Rattle.sd_run.proofs.Rows.{mark_by, out_at, out_by, command_orderly}
 
 -- the file that an order makes
 abbrev out_of : Order → Option (List ℕ)
@@ -31,14 +36,25 @@ out_of (CommandOf command arguments) = out_by command arguments
 out_of (HelpOf topic) = None
 out_of VersionOf = None
 
-order_orderly : (order : Order) (given : Readings) → AreOrderly (out_of order) (order_meaning order given).result
-order_orderly (CommandOf command arguments) given = command_orderly command arguments given
-order_orderly (HelpOf topic) given = none_made (work_of_text (help_text topic)) refl (λ refusal. absurd refusal)
-order_orderly VersionOf given = none_made (work_of_text version_text) refl (λ refusal. absurd refusal)
+-- and the mark
+abbrev mark_of : Order → Option (List ℕ)
+mark_of (CommandOf command arguments) = mark_by command arguments
+mark_of (HelpOf topic) = None
+mark_of VersionOf = None
 
--- an order that words are makes the file that stands at OUT's place among them
+order_orderly : (order : Order) (given : Readings) →
+    AreOrderly (out_of order) (mark_of order) (order_meaning order given).result
+order_orderly (CommandOf command arguments) given = command_orderly command arguments given
+order_orderly (HelpOf topic) given = none_made (work_of_text (help_text topic)) refl refl (λ refusal. absurd refusal)
+order_orderly VersionOf given = none_made (work_of_text version_text) refl refl (λ refusal. absurd refusal)
+
+-- an order that words are makes the file that stands at OUT's place among them, and the mark of their SITE
+record NamesFiles (words : List (List ℕ)) (order : Order) : Type 0 where
+  out : (name : List ℕ) → out_of order ≡ Some name → out_name words ≡ Some name
+  mark : (name : List ℕ) → mark_of order ≡ Some name → used_by words ≡ Some name
+
 abbrev NamesOut : List (List ℕ) → Result Order Status → Type 0
-NamesOut words (Ok order) = (name : List ℕ) → out_of order ≡ Some name → out_name words ≡ Some name
+NamesOut words (Ok order) = NamesFiles words order
 NamesOut words (Err status) = Unit {0}
 
 names_if : (t : Bool) (words : List (List ℕ)) (then_order else_order : Result Order Status) →
@@ -97,17 +113,59 @@ out_same (operand ∷ operands) (text ∷ texts) at arguments all low same e the
     (λ i. let next : at + 1 - 1 + i ≡ at - 1 + suc i = omega (arith, low) in
     ap (slice_get all) next ∙ (there (suc i) ∙ ap (λ (xs : List Argument). slice_get xs (suc i)) both.same)))
 
+-- a command makes a mark or none
+pub data Marking (command : Command) : Type 0 where
+  is_air : command ≡ Air → Marking command
+  none_marked : ((arguments : List Argument) → mark_by command arguments ≡ None) → Marking command
+
+pub marking_of : (command : Command) → Marking command
+marking_of Air = is_air refl
+marking_of Watch = none_marked (λ arguments. refl)
+marking_of command = none_marked (λ arguments. refl)
+
+-- the mark of `air` is that of its first argument
+air_marks : (texts : List (List ℕ)) (arguments : List Argument) → length texts ≡ length (operands_of Air) →
+    arguments_from 1 (operands_of Air) texts ≡ Ok arguments →
+    mark_in_row (Some Air) texts ≡ mark_by Air arguments
+unfolding operands_of
+air_marks [] arguments same e = absurd (omega (arith, same))
+air_marks (site ∷ []) arguments same e = absurd (omega (arith, same))
+air_marks (site ∷ book ∷ []) arguments same e = absurd (omega (arith, same))
+air_marks (site ∷ book ∷ clear ∷ []) arguments same e = absurd (omega (arith, same))
+air_marks (site ∷ book ∷ clear ∷ out ∷ []) arguments same e =
+    ap (λ (a : List Argument). Some (used_name (file 1 a).text))
+    (one_value (Ok (InputOf (word_at 1 site) ∷ InputOf (word_at 2 book) ∷ InputOf (word_at 3 clear)
+    ∷ OutOf (word_at 4 out) ∷ [])) _ arguments refl e)
+air_marks (site ∷ book ∷ clear ∷ out ∷ more ∷ texts) arguments same e = absurd (omega (arith, same))
+
+row_marks : (command : Command) (texts : List (List ℕ)) (arguments : List Argument) →
+    length texts ≡ length (operands_of command) → arguments_from 1 (operands_of command) texts ≡ Ok arguments →
+    (name : List ℕ) → mark_by command arguments ≡ Some name → mark_in_row (Some command) texts ≡ Some name
+row_marks command texts arguments same e name made = elim (marking_of command) [
+  | is_air is ↦
+      let count = subst (λ (c : Command). length texts ≡ length (operands_of c)) is same in
+      let read = subst (λ (c : Command). arguments_from 1 (operands_of c) texts ≡ Ok arguments) is e in
+      ap (λ (c : Command). mark_in_row (Some c) texts) is
+      ∙ (air_marks texts arguments count read
+      ∙ (ap (λ (c : Command). mark_by c arguments) (sym is) ∙ made))
+  | none_marked none ↦ absurd (let both = sym (none arguments) ∙ made in cc)
+]
+
 row_names : (command : Command) (name : List ℕ) (texts : List (List ℕ)) → command_named name ≡ Some command →
     NamesOut (name ∷ texts) (command_words command (operands_of command) texts)
 row_names command name texts found =
-    by_count (length texts == length (operands_of command)) (out_is_read (operands_of command) texts) refl
+    by_count (length texts == length (operands_of command)) (out_is_taken command (operands_of command) texts) refl
   where
     by_arguments : (r : Result (List Argument) Status) → length texts ≡ length (operands_of command) →
         arguments_from 1 (operands_of command) texts ≡ r → NamesOut (name ∷ texts) (ordered command r)
-    by_arguments (Ok arguments) same e = λ text made.
-        let all = out_same (operands_of command) texts 1 arguments arguments (omega arith) same e
-        (λ i. let here : 1 - 1 + i ≡ i = omega arith in ap (slice_get arguments) here) in
-        ap (λ (c : Option Command). out_in_row c texts) found ∙ (all ∙ made)
+    by_arguments (Ok arguments) same e = record {
+      out = λ text made.
+          let all = out_same (operands_of command) texts 1 arguments arguments (omega arith) same e
+          (λ i. let here : 1 - 1 + i ≡ i = omega arith in ap (slice_get arguments) here) in
+          ap (λ (c : Option Command). out_in_row c texts) found ∙ (all ∙ made);
+      mark = λ text made. ap (λ (c : Option Command). mark_in_row c texts) found
+          ∙ row_marks command texts arguments same e text made;
+    }
     by_arguments (Err status) same e = tt
 
     by_count : (same read : Bool) → (length texts == length (operands_of command)) ≡ same →
@@ -119,17 +177,25 @@ row_names command name texts found =
         by_arguments (arguments_from 1 (operands_of command) texts)
         (eqb-true (length texts) (length (operands_of command)) e) refl
 
+-- pages make no file
+none_named : (words : List (List ℕ)) (order : Order) → out_of order ≡ None → mark_of order ≡ None →
+    NamesFiles words order
+none_named words order none unmarked = record {
+  out = λ name e. absurd (let both = sym none ∙ e in cc);
+  mark = λ name e. absurd (let both = sym unmarked ∙ e in cc);
+}
+
 help_names : (name : List ℕ) (texts : List (List ℕ)) → NamesOut (name ∷ texts) (help_words texts)
-help_names name [] = λ text e. absurd (cc)
+help_names name [] = none_named (name ∷ []) (HelpOf None) refl refl
 help_names name (word ∷ next ∷ words) = tt
 help_names name (word ∷ []) = by_topic (command_named word)
   where
     by_topic : (topic : Option Command) → NamesOut (name ∷ word ∷ []) (help_on topic)
     by_topic None = tt
-    by_topic (Some topic) = λ text e. absurd (cc)
+    by_topic (Some topic) = none_named (name ∷ word ∷ []) (HelpOf (Some topic)) refl refl
 
 version_names : (name : List ℕ) (texts : List (List ℕ)) → NamesOut (name ∷ texts) (version_words texts)
-version_names name [] = λ text e. absurd (cc)
+version_names name [] = none_named (name ∷ []) VersionOf refl refl
 version_names name (word ∷ words) = tt
 
 order_names : (words : List (List ℕ)) → NamesOut words (order_of words)
@@ -145,19 +211,21 @@ order_names (name ∷ texts) =
     by_command None e = tt
     by_command (Some command) e = row_names command name texts e
 
--- the work that words mean makes the file that they name at OUT's place, or none
-widened : (out name : Option (List ℕ)) (meant : Result Work Status) →
-    ((text : List ℕ) → out ≡ Some text → name ≡ Some text) → AreOrderly out meant → AreOrderly name meant
-widened out name (Ok work) wider h =
-    record { makes = λ made e. wider made.name (h.makes made e); keeps = h.keeps }
-widened out name (Err status) wider h = tt
+-- the work that words mean makes the file that they name at OUT's place, and the mark of their SITE, or none
+widened : (words : List (List ℕ)) (order : Order) (meant : Result Work Status) → NamesFiles words order →
+    AreOrderly (out_of order) (mark_of order) meant → AreOrderly (out_name words) (used_by words) meant
+widened words order (Ok work) names h = record {
+  makes = λ made e. names.out made.name (h.makes made e);
+  marks = λ made e. names.mark made.name (h.marks made e);
+  keeps = h.keeps;
+}
+widened words order (Err status) names h = tt
 
 pub words_orderly : (words : List (List ℕ)) (given : Readings) →
-    AreOrderly (out_name words) (meaning words given).result
+    AreOrderly (out_name words) (used_by words) (meaning words given).result
 words_orderly words given = by_order (order_of words) (order_names words)
   where
     by_order : (r : Result Order Status) → NamesOut words r →
-        AreOrderly (out_name words) (judged r >>= λ order. order_meaning order given).result
-    by_order (Ok order) last =
-        widened (out_of order) (out_name words) (order_meaning order given).result last (order_orderly order given)
-    by_order (Err status) last = tt
+        AreOrderly (out_name words) (used_by words) (judged r >>= λ order. order_meaning order given).result
+    by_order (Ok order) names = widened words order (order_meaning order given).result names (order_orderly order given)
+    by_order (Err status) names = tt

@@ -12,7 +12,7 @@ use Rattle.sd_site.proofs.Made.{made_is_card}
 use Rattle.sd_ports.specs.Files.{Files}
 use Rattle.sd_engine.specs.Taken.{Whole, taken_of, end_of}
 use Rattle.sd_spec.specs.Plan.{Plan, IsPlan, period_of}
-use Rattle.sd_spec.specs.Refused.{IsClear, IsSendable}
+use Rattle.sd_spec.specs.Refused.{IsClear}
 use Rattle.sd_spec.specs.Sent.{broadcast}
 use Rattle.sd_law_broadcast.specs.Named.{sets_named, NamesPeriod}
 use Rattle.sd_law_broadcast.specs.Packets.{IsWholePacket, AreWholePackets, AreLong}
@@ -42,6 +42,7 @@ use Rattle.sd_run_broadcasts.specs.Receive.{receiving, received_steps, receive_m
 use Rattle.sd_law_run.specs.Good.{IsGoodSite, IsGoodBook}
 use Rattle.sd_law_run.specs.Headline.{Names, file_in, AreGiven, IsUndisturbed, card_for}
 use Rattle.sd_law_run.specs.Headline.{HeadResult, CardResult, ReceiveResult}
+use Rattle.sd_law_run.specs.Sendable.{AreSendable}
 use Rattle.sd_law_run.proofs.Goodness.{site_good, plan_good}
 use Rattle.sd_law_run.proofs.Broadcasts.{received, opened_bytes, opened_status, opened_steps, whole_line}
 use Rattle.sd_law_run.proofs.Shelf.{made_there, others_stay}
@@ -89,34 +90,67 @@ pub card_same : (site : SiteFields) (u : ℕ) → card_bytes (card_of site.maste
 unfolding card_bytes card_of
 card_same site u = refl
 
+-- a good site and a good book, and a clear stream, can be sent
+pub all_sendable : (names : Names) (plan : Plan) (clear : List (List ℕ)) (at : Outside) →
+    AreGiven at names plan clear → AreSendable plan clear
+all_sendable names plan clear at given = record {
+  is_plan = good_plan (λ word. file_in at word.text) (word_at 1 names.site) (word_at 2 names.book) plan given.site
+      given.book;
+  sendable = clear_sendable plan.site clear given.clear.is_clear;
+  whole = subst AreWholePackets given.clear.packets (taken_whole given.clear.bytes given.clear.are_bytes);
+  synced = subst AreSynced given.clear.packets (taken_synced given.clear.bytes);
+}
+
+-- clear packets that can be sent
+module _ (plan : Plan) (clear : List (List ℕ)) (sends : AreSendable plan clear) where
+  sends_long : AreLong clear
+  sends_long =
+      All-weaker IsWholePacket (λ (packet : List ℕ). length packet ≡ 188) (λ packet is. is.long) clear sends.whole
+
+  taken : (taken_of (stream_of plan clear) ≡ broadcast plan clear) × (end_of (stream_of plan clear) ≡ Whole)
+  taken = broadcast_taken plan clear sends.is_plan sends.sendable sends.whole sends.synced
+
+  pub covers_named : (q : ℕ) → plan.site.first_period ≤ q → q ≤ period_of plan (length clear - 1) →
+      NamesPeriod plan q (sets_named plan.site.height plan.site.emm q (taken_of (stream_of plan clear)))
+  covers_named q from within =
+      subst (λ (ps : List (List ℕ)). NamesPeriod plan q (sets_named plan.site.height plan.site.emm q ps))
+      (sym taken.0) (period_named plan clear q sends.is_plan sends.sendable sends_long from within)
+
+  pub receive_part : (names : Names) (u : ℕ) (a b : Outside) (answer : Status) → u < 2 ^ plan.site.height →
+      file_in a names.card ≡ Some (card_for plan.site u) → file_in a names.stream ≡ Some (stream_of plan clear) →
+      RunResult (receive_meaning (word_at 1 names.card) (word_at 2 names.stream) (word_at 3 names.out)) a b answer →
+      IsUndisturbed a b answer → ReceiveResult names plan u clear a b answer
+  receive_part names u a b answer leaf card_there stream_there answers well =
+      let t = is_told a.place.files names.card (card_for plan.site u) card_there in
+      let is_plan = sends.is_plan in
+      let site = is_plan.site in
+      let fields = card_of plan.site.master plan.site.ca plan.site.height u in
+      let stream = stream_of plan clear in
+      let out = word_at 3 names.out in
+      let made = made_is_card plan.site.master plan.site.ca plan.site.height u is_plan.ca site.height.0 site.height.1
+      leaf in
+      let work = received (contents_of t.files) (word_at 1 names.card) (word_at 2 names.stream) out fields stream made
+      (t.there ∙ ap (λ (bs : List ℕ). Some bs) (sym (card_same plan.site u)))
+      (sym (of_told a t.files names.stream t.told) ∙ stream_there) in
+      let done = runs_work (receive_meaning (word_at 1 names.card) (word_at 2 names.stream) out)
+      (receiving fields out stream) t.files a b answer work t.told answers well in
+      let bytes = opened_bytes plan u clear is_plan sends.sendable sends.whole leaf stream taken.0 in
+      let few : b.steps ≤ a.steps + received_steps fields stream = done.steps in
+      let most = opened_steps plan u clear is_plan sends.sendable sends.whole leaf stream taken.0 in
+      let left = done.left ∙ ap (λ (bs : List ℕ). Some (insert t.files names.out bs)) bytes in
+      let ends = done.ends
+      ∙ opened_status plan u clear is_plan sends.sendable sends.whole leaf stream taken.0 taken.1 in
+      record {
+        written = made_in b t.files names.out (concat (opened_by plan u clear)) left;
+        ends = ends;
+        steps = omega (arith, few, most);
+        others = others_in a b t.files names.out (concat (opened_by plan u clear)) t.told left;
+        told = subst (λ (l : List ℕ). Appends a.page.printed b.page.printed l)
+            (ap line_of ends ∙ whole_line u (first_revoked plan u clear)) done.printed;
+      }
+
 module _ (names : Names) (plan : Plan) (clear : List (List ℕ)) (at : Outside) (given : AreGiven at names plan clear)
   where
-    pub is_plan : IsPlan plan
-    is_plan = good_plan (λ word. file_in at word.text) (word_at 1 names.site) (word_at 2 names.book) plan given.site
-        given.book
-
-    pub are_whole : AreWholePackets clear
-    are_whole = subst AreWholePackets given.clear.packets (taken_whole given.clear.bytes given.clear.are_bytes)
-
-    pub are_synced : AreSynced clear
-    are_synced = subst AreSynced given.clear.packets (taken_synced given.clear.bytes)
-
-    are_long : AreLong clear
-    are_long =
-        All-weaker IsWholePacket (λ (packet : List ℕ). length packet ≡ 188) (λ packet is. is.long) clear are_whole
-
-    are_sendable : IsSendable plan.site clear
-    are_sendable = clear_sendable plan.site clear given.clear.is_clear
-
-    taken : (taken_of (stream_of plan clear) ≡ broadcast plan clear) × (end_of (stream_of plan clear) ≡ Whole)
-    taken = broadcast_taken plan clear is_plan are_sendable are_whole are_synced
-
-    covers_named : (q : ℕ) → plan.site.first_period ≤ q → q ≤ period_of plan (length clear - 1) →
-        NamesPeriod plan q (sets_named plan.site.height plan.site.emm q (taken_of (stream_of plan clear)))
-    covers_named q from within =
-        subst (λ (ps : List (List ℕ)). NamesPeriod plan q (sets_named plan.site.height plan.site.emm q ps))
-        (sym taken.0) (period_named plan clear q is_plan are_sendable are_long from within)
-
     head_work : (files : Files) → at.place.files ≡ Some files →
         (head_meaning (word_at 1 names.site) (word_at 2 names.book) (word_at 3 names.clear) (word_at 4 names.stream)
         (contents_of files)).result ≡ Ok (turning Uncounted (word_at 4 names.stream) (stream_of plan clear) Done)
@@ -159,41 +193,9 @@ module _ (names : Names) (plan : Plan) (clear : List (List ℕ)) (at : Outside) 
         record {
           done = done.ends;
           sent_is = made_in b t.files names.stream (stream_of plan clear) done.left;
-          periods = covers_named;
+          periods = covers_named plan clear (all_sendable names plan clear at given);
           others = others_in at b t.files names.stream (stream_of plan clear) t.told done.left;
           silent = none_said at.page b.page answer done.printed done.ends;
-        }
-
-    pub receive_part : (u : ℕ) (a b : Outside) (answer : Status) → u < 2 ^ plan.site.height →
-        file_in a names.card ≡ Some (card_for plan.site u) → file_in a names.stream ≡ Some (stream_of plan clear) →
-        RunResult (receive_meaning (word_at 1 names.card) (word_at 2 names.stream) (word_at 3 names.out)) a b answer →
-        IsUndisturbed a b answer → ReceiveResult names plan u clear a b answer
-    receive_part u a b answer leaf card_there stream_there answers well =
-        let t = is_told a.place.files names.card (card_for plan.site u) card_there in
-        let site = is_plan.site in
-        let fields = card_of plan.site.master plan.site.ca plan.site.height u in
-        let stream = stream_of plan clear in
-        let out = word_at 3 names.out in
-        let made = made_is_card plan.site.master plan.site.ca plan.site.height u is_plan.ca site.height.0 site.height.1
-        leaf in
-        let work = received (contents_of t.files) (word_at 1 names.card) (word_at 2 names.stream) out fields stream made
-        (t.there ∙ ap (λ (bs : List ℕ). Some bs) (sym (card_same plan.site u)))
-        (sym (of_told a t.files names.stream t.told) ∙ stream_there) in
-        let done = runs_work (receive_meaning (word_at 1 names.card) (word_at 2 names.stream) out)
-        (receiving fields out stream) t.files a b answer work t.told answers well in
-        let bytes = opened_bytes plan u clear is_plan given.clear.is_clear are_whole leaf stream taken.0 in
-        let few : b.steps ≤ a.steps + received_steps fields stream = done.steps in
-        let most = opened_steps plan u clear is_plan given.clear.is_clear are_whole leaf stream taken.0 in
-        let left = done.left ∙ ap (λ (bs : List ℕ). Some (insert t.files names.out bs)) bytes in
-        let ends = done.ends
-        ∙ opened_status plan u clear is_plan given.clear.is_clear are_whole leaf stream taken.0 taken.1 in
-        record {
-          written = made_in b t.files names.out (concat (opened_by plan u clear)) left;
-          ends = ends;
-          steps = omega (arith, few, most);
-          others = others_in a b t.files names.out (concat (opened_by plan u clear)) t.told left;
-          told = subst (λ (l : List ℕ). Appends a.page.printed b.page.printed l)
-              (ap line_of ends ∙ whole_line u (first_revoked plan u clear)) done.printed;
         }
 
 pub card_part : (names : Names) (site : SiteFields) (u : ℕ) (a b : Outside) (answer : Status) →

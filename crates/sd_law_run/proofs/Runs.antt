@@ -1,5 +1,5 @@
 -- What a run leaves where no device failed and memory was not out.
-use Rattle.std.proofs.Common.{◌≡◌, ◌≢◌, ℕ, ◌++◌, List, [], Some, Result, Ok, sym, ap, subst, ◌∙◌, inl, inr}
+use Rattle.std.proofs.Common.{◌≡◌, ◌≢◌, ℕ, ◌++◌, List, [], Option, Some, Result, Ok, sym, ap, subst, ◌∙◌, inl, inr}
 use Rattle.std.specs.List.{concat}
 use Rattle.std.specs.Io.KnownBytes.{Appends}
 use Rattle.std.proofs.KnownBytes.{Appends-trans}
@@ -11,9 +11,10 @@ use Rattle.sd_command_base.specs.declared.status.Status.TheVariants.{Done, Print
 use Rattle.sd_command_base.specs.Texts.{line_of}
 use Rattle.sd_command_base.specs.Outside.{PageState, Outside}
 use Rattle.sd_command_base.specs.Spec.{Spec, Readings, contents_of}
-use Rattle.sd_command_base.specs.Work.{Work, files_with, IsWithinSteps, TakesSteps}
+use Rattle.sd_command_base.specs.Work.{Work, files_marked, files_with, IsWithinSteps, TakesSteps}
 use Rattle.sd_command_base.specs.Outcome.{PrintsAll}
-use Rattle.sd_command_base.specs.Outcome.{Outcome, refused, ended, unclosed, exhausted, failed, nowhere, cut_off, cut_short}
+use Rattle.sd_command_base.specs.Outcome.{Outcome, refused, ended, unclosed, exhausted, failed, unmarked, nowhere}
+use Rattle.sd_command_base.specs.Outcome.{cut_off, cut_short}
 use Rattle.sd_command_base.specs.Results.{RunResult, PrintsStatusLine, with_page}
 use Rattle.sd_command_base.proofs.RunAnswers.{own_line, done_line, causes, told_given}
 use Rattle.sd_law_run.specs.Headline.{IsUndisturbed}
@@ -21,7 +22,7 @@ use Rattle.sd_law_run.specs.Headline.{IsUndisturbed}
 -- work that was done
 pub record IsWorked (work : Work) (files : Files) (a b : Outside) (answer : Status) : Type 0 where
   pub ends : answer ≡ work.ends
-  pub left : b.place.files ≡ files_with work.out (Some files)
+  pub left : b.place.files ≡ files_with work.out (files_marked work.mark (Some files))
   pub steps : IsWithinSteps work.steps a.steps b.steps
   pub printed : Appends a.page.printed b.page.printed (concat work.pieces ++ line_of answer)
 
@@ -32,13 +33,14 @@ same_work meant work other e f = let both = sym f ∙ e in cc
 ended_with : (meant : Result Work Status) (work : Work) (files : Files) (a b : Outside) (status : Status) →
     meant ≡ Ok work → a.place.files ≡ Some files → HasNotRisen a.place.faults b.place.faults → status ≢ PrintFault →
     status ≢ NoMemory → Outcome meant a b status → (status ≡ work.ends)
-    × (b.place.files ≡ files_with work.out (Some files)) × PrintsAll work a.page b.page
+    × (b.place.files ≡ files_with work.out (files_marked work.mark (Some files))) × PrintsAll work a.page b.page
 ended_with meant work files a b status is told depot print memory (refused e r h k c m) =
     absurd (let both = sym e ∙ is in cc)
 ended_with meant work files a b status is told depot print memory (ended other e s i h k c m) =
     let same : other ≡ work = same_work meant work other is e in (
       s ∙ ap (λ (w : Work). w.ends) same,
-      h.files ∙ ap (λ (w : Work). files_with w.out a.place.files) same ∙ ap (files_with work.out) told,
+      h.files ∙ ap (λ (w : Work). files_with w.out (files_marked w.mark a.place.files)) same
+          ∙ ap (λ (fs : Option Files). files_with work.out (files_marked work.mark fs)) told,
       subst (λ (w : Work). PrintsAll w a.page b.page) same k,
     )
 ended_with meant work files a b status is told depot print memory (unclosed other e s i j t out f h k r o c m) =
@@ -46,6 +48,8 @@ ended_with meant work files a b status is told depot print memory (unclosed othe
 ended_with meant work files a b status is told depot print memory (exhausted s h o c m) = absurd (memory s)
 ended_with meant work files a b status is told depot print memory (failed s h r o c m) =
     absurd (still_or_rose a.place.faults b.place.faults depot r)
+ended_with meant work files a b status is told depot print memory (unmarked other e mark marks s n h k c m) =
+    absurd (let both = sym told ∙ n in cc)
 ended_with meant work files a b status is told depot print memory (nowhere other e out f s n h k c m) =
     absurd (let both = sym told ∙ n in cc)
 ended_with meant work files a b status is told depot print memory (cut_off other e s h k r c m) = absurd (print s)

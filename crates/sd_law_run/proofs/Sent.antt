@@ -34,7 +34,7 @@ use Rattle.sd_command_base.specs.Spec.{Spec, FileArgument, Readings, contents_of
 use Rattle.sd_command_base.specs.Spec.{within}
 use Rattle.sd_command_base.specs.Spec.{◌>>=◌}
 use Rattle.sd_command_base.specs.Outside.{Outside}
-use Rattle.sd_command_base.specs.Work.{Work, files_with}
+use Rattle.sd_command_base.specs.Work.{Work, files_marked, files_with}
 use Rattle.sd_command_base.specs.Results.{RunResult}
 use Rattle.sd_command_base.specs.declared.status.LimitKind.TheVariants.{SiteBytes, BookBytes}
 use Rattle.sd_command_line.specs.Words.{Order, HeadOf, order_of}
@@ -180,7 +180,7 @@ module _ (words : List (List ℕ)) (site book clear out : FileArgument) (files :
   -- by the work that was done
   sent_work : (work : Work) → (head_meaning site book clear out (contents_of files)).result ≡ Ok work →
       work.ends ≡ Done →
-      b.place.files ≡ files_with work.out (Some files) → IsSent site book clear out files b
+      b.place.files ≡ files_with work.out (files_marked work.mark (Some files)) → IsSent site book clear out files b
   unfolding head_meaning
   sent_work work meant ends left =
       let given = contents_of files in
@@ -202,7 +202,7 @@ module _ (words : List (List ℕ)) (site book clear out : FileArgument) (files :
         is_clear = status.1;
         made =
             left
-            ∙ (ap (λ (w : Work). files_with w.out (Some files)) (sym same)
+            ∙ (ap (λ (w : Work). files_with w.out (files_marked w.mark (Some files))) (sym same)
             ∙ ap (λ (bs : List ℕ). Some (insert files out.text bs)) (sym sent.0));
         periods = λ are q from low. file_names plan.from bytes.from q is_plan status.1 are from low;
       }
@@ -214,4 +214,5 @@ module _ (words : List (List ℕ)) (site book clear out : FileArgument) (files :
       sent_work done.work
       (sym (ap (λ (r : Result Order Status). (judged r >>= λ o. order_meaning o (contents_of files)).result) order)
       ∙ done.is_meant)
-      done.ends (done.made.files ∙ ap (files_with done.work.out) known)
+      done.ends
+      (done.made.files ∙ ap (λ (fs : Option Files). files_with done.work.out (files_marked done.work.mark fs)) known)

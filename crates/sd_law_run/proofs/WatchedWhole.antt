@@ -21,7 +21,6 @@ use Rattle.sd_law_broadcast.specs.Packets.{AreWholePackets}
 use Rattle.sd_law_broadcast.specs.Synced.{AreSynced}
 use Rattle.sd_law_broadcast.proofs.Counted.{broadcast_short}
 use Rattle.sd_law_broadcast.proofs.Synced.{broadcast_synced}
-use Rattle.sd_law_broadcast.proofs.Sendable.{clear_sendable}
 use Rattle.sd_law_losses.specs.Confirmed.{opened_by}
 use Rattle.sd_law_losses.specs.Endings.{first_revoked, whole_ending}
 use Rattle.sd_law_losses.proofs.OneRun.{AreOneRun}
@@ -41,17 +40,18 @@ use Rattle.sd_run_broadcasts.specs.Receive.{ending_status}
 use Rattle.sd_run_broadcasts.specs.Watch.{lines_of, report_line, watch_meaning, watched_lines, watched_of}
 use Rattle.sd_run_broadcasts.specs.Watch.{watched_status}
 use Rattle.sd_run_broadcasts.proofs.Found.{all_readable}
-use Rattle.sd_law_run.specs.Headline.{Names, file_in, AreGiven, IsUndisturbed, card_for}
+use Rattle.sd_law_run.specs.Headline.{Names, file_in, IsUndisturbed, card_for}
 use Rattle.sd_law_run.specs.Opened.{entitled_periods, revoked_status}
+use Rattle.sd_law_run.specs.Sendable.{AreSendable}
 use Rattle.sd_law_run.specs.Watched.{WholeResult, all_count_tally}
 use Rattle.sd_law_run.proofs.Broadcasts.{whole_line, whole_status}
 use Rattle.sd_law_run.proofs.Keyed.{keys_taken}
-use Rattle.sd_law_run.proofs.Parts.{are_synced, are_whole, card_same, is_plan}
+use Rattle.sd_law_run.proofs.Parts.{card_same}
 use Rattle.sd_law_run.proofs.Reported.{packets_told}
 use Rattle.sd_law_run.proofs.Watched.{watch_part}
 use Rattle.sd_law_run.proofs.WholeTold.{joined_cut, joined_skips, none_told, one_report, run_ends, whole_one_run}
 
-module _ (names : Names) (plan : Plan) (clear : List (List ℕ)) (z : Outside) (given : AreGiven z names plan clear)
+module _ (plan : Plan) (clear : List (List ℕ)) (sends : AreSendable plan clear)
     (steady : are_steady clear ≡ true) (unmarked : list_any is_marked clear ≡ false) (u : ℕ)
     (leaf : u < 2 ^ plan.site.height) where
   abbrev card : CardFields
@@ -64,19 +64,19 @@ module _ (names : Names) (plan : Plan) (clear : List (List ℕ)) (z : Outside) (
   stream = concat packets
 
   is : IsPlan plan
-  is = is_plan names plan clear z given
+  is = sends.is_plan
 
   can : IsSendable plan.site clear
-  can = clear_sendable plan.site clear given.clear.is_clear
+  can = sends.sendable
 
   whole : AreWholePackets clear
-  whole = are_whole names plan clear z given
+  whole = sends.whole
 
   all : counting card [] packets ≡ packets
   all = steady_counts plan clear u is can whole leaf steady unmarked
 
   synced : AreSynced packets
-  synced = broadcast_synced plan clear is can whole (are_synced names plan clear z given)
+  synced = broadcast_synced plan clear is can whole sends.synced
 
   leaf_is : card.leaf ≡ u
   unfolding card_of
@@ -155,11 +155,11 @@ module _ (names : Names) (plan : Plan) (clear : List (List ℕ)) (z : Outside) (
       let taken = ap (taken_keys card []) all ∙ keys_taken plan clear u is can whole leaf in
       omega (arith, tried, tried_are card packets, few_refused card packets, refused, taken)
 
-  pub whole_part : (a b : Outside) (answer : Status) → file_in a names.card ≡ Some (card_for plan.site u) →
+  pub whole_part : (names : Names) (a b : Outside) (answer : Status) → file_in a names.card ≡ Some (card_for plan.site u) →
       file_in a names.stream ≡ Some stream →
       RunResult (watch_meaning (word_at 1 names.card) (word_at 2 names.stream) (word_at 3 names.out)) a b answer →
       IsUndisturbed a b answer → WholeResult names plan u clear a b answer
-  whole_part a b answer card_there stream_there answers well =
+  whole_part names a b answer card_there stream_there answers well =
       let site = is.site in
       let made = made_is_card plan.site.master plan.site.ca plan.site.height u is.ca site.height.0 site.height.1 leaf in
       let left = watch_part names card stream a b answer made

@@ -18,7 +18,7 @@ use Rattle.sd_command_line.specs.declared.command.Command.TheVariants as command
 use Rattle.sd_command_line.specs.Words.{Argument, CommandOf, command_in, file, number, order_of}
 use Rattle.sd_law_chain.specs.Chain.{Call, IsChain, IsTaken, Link, Next, Twin, link_at, made_by}
 use Rattle.sd_law_chain.specs.Made.{IsFileOf}
-use Rattle.sd_law_run.specs.Outcome.{out_name}
+use Rattle.sd_law_run.specs.Outcome.{out_name, used_by}
 
 -- the last number of a name, if it has one
 abbrev pub number_in : FileName → ℕ
@@ -69,9 +69,10 @@ pub record IsTorn (files : Files) (name : FileName) (root : Link) (calls : List 
 abbrev pub MakeSites : List Bytes → Type 0
 MakeSites words = (command_in words ≡ Some commands.Next) ⊎ (command_in words ≡ Some commands.Twin)
 
--- OUT has none of the names of a chain's sites, unless `next` or `twin` makes it
+-- neither OUT, unless `next` or `twin` makes it, nor the mark of `air` has one of the names of a chain's sites
 abbrev pub SparesNames : FileName → List Bytes → Type 0
-SparesNames name words = ¬ MakeSites words → (i : ℕ) → HasName name i → out_name words ≢ Some (name_at name i)
+SparesNames name words = (i : ℕ) → HasName name i → (¬ MakeSites words → out_name words ≢ Some (name_at name i))
+    × (used_by words ≢ Some (name_at name i))
 
 -- the arguments ask for this call of a chain, with the BOOK that these files have
 abbrev pub AsksFor : List Bytes → Files → Call → Type 0

@@ -1,6 +1,7 @@
 pub mod Good
 pub mod Opened
 pub mod Headline
+pub mod Sendable
 pub mod Sent
 pub mod Lost
 pub mod Tried
@@ -11,3 +12,4 @@ pub mod Outcome
 pub mod Helped
 pub mod Folders
 pub mod Watched
+pub mod Aired

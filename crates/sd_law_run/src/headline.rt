@@ -1,9 +1,8 @@
 //! The headline: the one call, and what its clauses say of `head`, `card` and `receive`.
-ghost use Rattle.std.specs.Prelude.{◌≡◌, ◌≢◌, ◌⊎◌, ◌<◌, ◌^◌, List, [], ◌∷◌, codes, Some, IsSome};
+ghost use Rattle.std.specs.Prelude.{◌≡◌, ◌≢◌, ◌⊎◌, ◌<◌, ◌^◌, List, [], ◌∷◌, codes, Some};
 ghost use Rattle.std.specs.Prelude.{Ok, map, string_bytes};
 ghost use Rattle.std.specs.FinMap.{get};
 ghost use Rattle.std.specs.Io.KnownBytes.{Appends};
-ghost use Rattle.sd_base.specs.Count.{with_added};
 ghost use Rattle.sd_command_base.specs.Outcome.{IsUnmade};
 ghost use Rattle.sd_command_base.specs.Texts.{line_of};
 ghost use Rattle.sd_ports.specs.Files.{Files};
@@ -27,7 +26,7 @@ ghost use Rattle.sd_run.specs.Meaning.{meaning};
 ghost use Rattle.sd_law_run.specs.Good.{IsGoodSite};
 ghost use Rattle.sd_law_run.specs.Lost.{kept_items, LossResult};
 ghost use Rattle.sd_run.specs.Refusals.{RefusesFirst};
-ghost use Rattle.sd_law_run.specs.Outcome.{IsDone, out_name};
+ghost use Rattle.sd_law_run.specs.Outcome.{FilesMade, IsDone, IsMarkedAlone, out_name, used_by};
 ghost use Rattle.sd_law_run.specs.Headline.{Names, head_run, card_run, receive_run, file_in, AreGiven, IsUndisturbed};
 ghost use Rattle.sd_law_run.specs.Headline.{card_for, HeadResult, CardResult, ReceiveResult};
 
@@ -48,11 +47,12 @@ use std::sync::ledger::Ledger;
 ///
 /// Each clause is of one run, which may begin anywhere: what it needs of another run is a file. So the three runs may
 /// be of three processes or machines, and of as many receivers as there are leaves.
-pub fn run<D: Depot, P: Sink, L: Ledger>(
+pub fn run<D: Depot, P: Sink, N: Sink, L: Ledger>(
     alloc: Global,
     words: &[String],
     depot: &mut D,
     print: &mut P,
+    notes: &mut N,
     steps: &mut Steps<L>,
 ) -> Status
     // Over a good site, book and clear stream `head` makes the broadcast, whose periods name their covers.
@@ -104,25 +104,28 @@ pub fn run<D: Depot, P: Sink, L: Ledger>(
         LossResult names plan u clear (kept_items plan clear flags)
         (outside (depot_state D.Depot depot.old) (page_state P.Sink print.old) steps.old)
         (outside (depot_state D.Depot depot.new) (page_state P.Sink print.new) steps.new) result }
-    // No file changes but OUT, which is the word at its place in the row of a command that makes a file.
+    // No file changes but OUT, which is the word at its place in the row of a command that makes a file, and of `air`
+    // the mark of its site.
     ensures files { (files : Files) (name : FileName) → D.files depot.old ≡ Some files →
-        out_name (map string_bytes words.now) ≢ Some name →
+        out_name (map string_bytes words.now) ≢ Some name → used_by (map string_bytes words.now) ≢ Some name →
         file_in (outside (depot_state D.Depot depot.new) (page_state P.Sink print.new) steps.new) name
         ≡ get files name }
-    // At most one file is made, and none by other commands.
-    ensures made { ((depot_state D.Depot depot.new).made ≡ (depot_state D.Depot depot.old).made)
-        ⊎ (((depot_state D.Depot depot.new).made ≡ with_added (depot_state D.Depot depot.old).made 1)
-        × IsSome (out_name (map string_bytes words.now))) }
+    // At most one file is made, and none by a command that makes none; of `air` the mark too.
+    ensures made { FilesMade (map string_bytes words.now)
+        (outside (depot_state D.Depot depot.old) (page_state P.Sink print.old) steps.old)
+        (outside (depot_state D.Depot depot.new) (page_state P.Sink print.new) steps.new) }
     // `Done` is answered only if the work that is meant was done.
     ensures done { (files : Files) → D.files depot.old ≡ Some files → result ≡ Status.Done →
         IsDone (meaning (map string_bytes words.now) (contents_of files)).result
         (outside (depot_state D.Depot depot.old) (page_state P.Sink print.old) steps.old)
         (outside (depot_state D.Depot depot.new) (page_state P.Sink print.new) steps.new) }
-    // A refusal of arguments or files has made no file and printed its line alone.
-    ensures refused { RefusesFirst result → IsUnmade (depot_state D.Depot depot.old) (depot_state D.Depot depot.new)
-        × Appends (page_state P.Sink print.old).printed (page_state P.Sink print.new).printed (line_of result) }
+    // A refusal of arguments or files has printed its line alone, and made no file; but of `air`, if there is no folder
+    // for OUT, the mark.
+    ensures refused { RefusesFirst result → (IsUnmade (depot_state D.Depot depot.old) (depot_state D.Depot depot.new)
+        ⊎ IsMarkedAlone (map string_bytes words.now) (depot_state D.Depot depot.old) (depot_state D.Depot depot.new)
+        result) × Appends (page_state P.Sink print.old).printed (page_state P.Sink print.new).printed (line_of result) }
 {
-    sd_run::run(alloc, &CommandLine::read(words), depot, print, steps)
+    sd_run::run(alloc, &CommandLine::read(words), depot, print, notes, steps)
 }
 
 /// What `run` gives for `head`, `card` and `receive` follows from the specification of each command: whatever meets the

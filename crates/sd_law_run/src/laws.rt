@@ -16,7 +16,7 @@ ghost use Rattle.sd_law_run.specs.Good.{IsGoodApart, IsGoodPlan};
 ghost use Rattle.sd_law_run.specs.Good.{IsGoodAccounts, IsGoodBooks, IsGoodLayered, IsGoodLcard, IsGoodOpens};
 ghost use Rattle.sd_law_run.specs.Good.{IsGoodTrace, IsGoodBook, IsGoodNext, IsGoodTwin, origin_told};
 ghost use Rattle.sd_book.specs.Limits.{IsWithinLimits};
-ghost use Rattle.sd_law_run.specs.Left.{HasOut, IsAsBefore};
+ghost use Rattle.sd_law_run.specs.Left.{HasMark, HasOut, IsAsBefore};
 ghost use Rattle.sd_engine.specs.Stream.{packets_of};
 ghost use Rattle.sd_law_field.specs.Fielded.{confirmed_lines};
 ghost use Rattle.sd_law_run.specs.Fielded.{IsGoodFieldRun};
@@ -53,7 +53,7 @@ ghost use Rattle.sd_spec.specs.Sent.{broadcast};
 ghost use Rattle.sd_run_broadcasts.specs.Head.{sending, sent_of, sent_status};
 ghost use Rattle.sd_run.specs.Meaning.{meaning};
 ghost use Rattle.sd_spec.specs.Plan.{Plan, IsPlan};
-ghost use Rattle.sd_spec.specs.Refused.{IsClear};
+ghost use Rattle.sd_spec.specs.Refused.{IsSendable};
 ghost use Rattle.sd_law_broadcast.specs.Packets.{AreWholePackets};
 ghost use Rattle.sd_law_broadcast.specs.Synced.{AreBytes};
 ghost use Rattle.sd_run_broadcasts.specs.Receive.{receiving};
@@ -246,14 +246,16 @@ pub fn done_trials_had_good_files()
         RunResult (trial_meaning site book clear) a b Status.Done → IsTried site book clear files a b }
 {}
 
-/// After a run in a file system whose contents the model knows, whatever its answer, one of two things holds. All
-/// files are as they were, and none was made. Or OUT of the work that the arguments and files mean was made, with a
-/// prefix of its due contents, and all others are as they were.
-#[tactic(auto, using(crate::proofs::Left::run_leaves))]
+/// After a run in a file system whose contents the model knows, whatever its answer, one of three things holds. All
+/// files are as they were, and none was made. Or the mark of the work that the arguments and files mean, which only
+/// `air` has, was made new and empty. Or OUT of the work was made, with a prefix of its due contents, after the mark if
+/// there is one. All other files are as they were.
 pub fn no_file_changes_but_out()
     ensures { (words : List Bytes) (files : Files) (a b : Outside) (answer : Status) →
         a.place.files ≡ Some files → RunResult (meaning words) a b answer →
-        IsAsBefore files a.place b.place ⊎ HasOut files (meaning words (contents_of files)).result a.place b.place }
+        IsAsBefore files a.place b.place
+        ⊎ (HasMark files (meaning words (contents_of files)).result a.place b.place
+        ⊎ HasOut files (meaning words (contents_of files)).result a.place b.place) }
 {}
 
 /// The sets of a period are disjoint and unite to exactly the leaves that aren't revoked in it. It is one set if none
@@ -271,14 +273,14 @@ pub fn streams_are_received()
         (meaning words (contents_of files)).result ≡ Ok (receiving good.fields good.out good.bytes) }
 {}
 
-/// Take any broadcast, of any site, book within the limits and clear stream. `receive` with the card of a leaf writes
+/// Take any broadcast, of any site, book within the limits and clear packets that can be sent. `receive` with the card of a leaf writes
 /// exactly the clear packets of the periods in which the leaf isn't revoked. It ends as done, or as revoked in the
 /// first of the broadcast's periods in which the leaf is. For each period in which the leaf isn't revoked it takes at
 /// most as many steps of the generator as the tree is high, and no others.
 #[tactic(auto, using(crate::proofs::Broadcasts::broadcast_opened))]
 pub fn broadcasts_are_opened_by_the_entitled()
     ensures { (plan : Plan) (u : LeafNumber) (clear : Packets) (words : List Bytes) (files : Files) → IsPlan plan →
-        IsClear plan.site clear → AreWholePackets clear → u < 2 ^ plan.site.height →
+        IsSendable plan.site clear → AreWholePackets clear → u < 2 ^ plan.site.height →
         (sent : IsBroadcastTo plan u clear words (contents_of files)) →
         (work : Work) × ((meaning words (contents_of files)).result ≡ Ok work) × IsOpened plan u clear sent.out work }
 {}

@@ -4,7 +4,7 @@ ghost use Rattle.std.specs.Prelude.{◌≡◌, ◌<◌, ◌^◌, List, Some, Ok}
 ghost use Rattle.std.specs.List.{concat};
 ghost use Rattle.sd_base.specs.Types.{Bytes, Packets, Arrived, LeafNumber};
 ghost use Rattle.sd_spec.specs.Plan.{Plan, IsPlan};
-ghost use Rattle.sd_spec.specs.Refused.{IsClear};
+ghost use Rattle.sd_spec.specs.Refused.{IsSendable};
 ghost use Rattle.sd_spec.specs.Sent.{broadcast};
 ghost use Rattle.sd_law_broadcast.specs.Packets.{AreWholePackets};
 ghost use Rattle.sd_law_broadcast.specs.Synced.{AreSynced};
@@ -22,7 +22,7 @@ ghost use Rattle.sd_law_run.specs.Lost.{kept_items, IsRestTo, IsConfirmed, LossR
 
 use sd_command_base::Status;
 
-/// Take any broadcast, of any site, book within the limits and clear stream, and any choice of its packets that arrive.
+/// Take any broadcast, of any site, book within the limits and clear packets that can be sent, and any choice of its packets that.
 /// `receive` with the card of a leaf writes exactly the clear packets that the messages which arrived confirm: a part
 /// of what the leaf is entitled to, in its order. It refuses no packet, and its ending depends on what arrived alone.
 /// If it ends as revoked in a period, the leaf is revoked in it. For each period of which a section that has the leaf
@@ -30,7 +30,7 @@ use sd_command_base::Status;
 pub fn losses_are_received()
     // By what is meant, whatever happens to the run.
     ensures meant { (plan : Plan) (u : LeafNumber) (clear : Packets) (flags : Arrived) (words : List Bytes)
-        (files : Files) → IsPlan plan → IsClear plan.site clear → AreWholePackets clear → AreSynced clear →
+        (files : Files) → IsPlan plan → IsSendable plan.site clear → AreWholePackets clear → AreSynced clear →
         u < 2 ^ plan.site.height → (rest : IsRestTo plan u clear flags words (contents_of files)) →
         (work : Work) × ((meaning words (contents_of files)).result ≡ Ok work)
         × IsConfirmed plan u clear (kept_items plan clear flags) rest.out work }

@@ -22,11 +22,12 @@ use std::sync::ledger::Ledger;
 ///
 /// No bytes of a stream end `watch` before the input does, but for more packets, or more bytes in no packet, than are
 /// read of a stream. Each line that it prints is the last one that it prints of the bytes before it.
-pub fn watch<D: Depot, P: Sink, L: Ledger>(
+pub fn watch<D: Depot, P: Sink, N: Sink, L: Ledger>(
     alloc: Global,
     words: &[String],
     depot: &mut D,
     print: &mut P,
+    notes: &mut N,
     steps: &mut Steps<L>,
 ) -> Status
     // Over a card and any stream it makes what the card opens of the packets that count, and prints the reports.
@@ -59,5 +60,5 @@ pub fn watch<D: Depot, P: Sink, L: Ledger>(
         (outside (depot_state D.Depot depot.old) (page_state P.Sink print.old) steps.old)
         (outside (depot_state D.Depot depot.new) (page_state P.Sink print.new) steps.new) result }
 {
-    sd_run::run(alloc, &CommandLine::read(words), depot, print, steps)
+    sd_run::run(alloc, &CommandLine::read(words), depot, print, notes, steps)
 }

@@ -3,10 +3,10 @@ use Rattle.std.specs.Prelude.{map, string_bytes}
 use Rattle.sd_command_base.specs.Outside.{depot_state, page_state, outside}
 use Rattle.sd_command_base.specs.Results.{RunResult}
 use Rattle.sd_run.specs.Meaning.{meaning}
-use Rattle.sd_law_run.proofs.Parts.{head_part, card_part, receive_part}
+use Rattle.sd_law_run.proofs.Parts.{all_sendable, head_part, card_part, receive_part}
 use Rattle.sd_law_run.proofs.Ordered.{head_answers, card_answers, receive_answers, leaf_low}
 use Rattle.sd_law_run.proofs.Losing.{lost_part}
-use Rattle.sd_law_run.proofs.Outs.{done_leaves, file_stays, one_made, refusal_leaves}
+use Rattle.sd_law_run.proofs.Outs.{done_leaves, file_stays, files_made, refusal_leaves}
 use Rattle.sd_law_run.proofs.headline.run.Goals as goal
 
 pub returns-clause-head : goal.returns-clause-head
@@ -32,7 +32,8 @@ returns-clause-receive g c names plan u clear z words card stream given within c
     let b = outside (depot_state g.D.Depot c.run.new.depot) (page_state g.P.Sink c.run.new.print) c.run.new.steps in
     let told = rw c.read.ensures at c.run.ensures.value in
     let own = subst (λ (w : List (List ℕ)). RunResult (meaning w) a b c.run.result) words told in
-    receive_part names plan clear z given u a b c.run.result within card_there stream_there
+    receive_part plan clear (all_sendable names plan clear z given) names u a b c.run.result within card_there
+    stream_there
     (receive_answers names a b c.run.result card stream own) well
 
 pub returns-clause-lost : goal.returns-clause-lost
@@ -41,7 +42,8 @@ returns-clause-lost g c names plan u clear z flags words card stream given withi
     let b = outside (depot_state g.D.Depot c.run.new.depot) (page_state g.P.Sink c.run.new.print) c.run.new.steps in
     let told = rw c.read.ensures at c.run.ensures.value in
     let own = subst (λ (w : List (List ℕ)). RunResult (meaning w) a b c.run.result) words told in
-    lost_part names plan clear z given u flags a b c.run.result within card_there stream_there
+    lost_part names plan clear (all_sendable names plan clear z given) u flags a b c.run.result within card_there
+    stream_there
     (receive_answers names a b c.run.result card stream own) well
 
 pub returns-clause-done : goal.returns-clause-done
@@ -52,15 +54,15 @@ returns-clause-done g c files told is =
     told is (rw c.read.ensures at c.run.ensures.value)
 
 pub returns-clause-files : goal.returns-clause-files
-returns-clause-files g c files name told other =
+returns-clause-files g c files name told no_out no_mark =
     file_stays (map string_bytes c.args.words.now) files
     (outside (depot_state g.D.Depot c.args.depot.now) (page_state g.P.Sink c.args.print.now) c.args.steps.now)
     (outside (depot_state g.D.Depot c.run.new.depot) (page_state g.P.Sink c.run.new.print) c.run.new.steps) c.run.result
-    told (rw c.read.ensures at c.run.ensures.value) name other
+    told (rw c.read.ensures at c.run.ensures.value) name no_out no_mark
 
 pub returns-clause-made : goal.returns-clause-made
 returns-clause-made g c =
-    one_made (map string_bytes c.args.words.now)
+    files_made (map string_bytes c.args.words.now)
     (outside (depot_state g.D.Depot c.args.depot.now) (page_state g.P.Sink c.args.print.now) c.args.steps.now)
     (outside (depot_state g.D.Depot c.run.new.depot) (page_state g.P.Sink c.run.new.print) c.run.new.steps) c.run.result
     (rw c.read.ensures at c.run.ensures.value)

@@ -4,6 +4,7 @@ use Rattle.sd_command_base.specs.Results.{RunResult}
 use Rattle.sd_run.specs.Meaning.{meaning}
 use Rattle.sd_law_run.proofs.Ordered.{watch_answers}
 use Rattle.sd_law_run.proofs.Watched.{watch_part}
+use Rattle.sd_law_run.proofs.Parts.{all_sendable}
 use Rattle.sd_law_run.proofs.WatchedWhole.{whole_part}
 use Rattle.sd_law_run.proofs.watching.watch.Goals as goal
 
@@ -23,5 +24,6 @@ returns-clause-watched g c names plan u clear z words out stream given steady un
     let b = outside (depot_state g.D.Depot c.run.new.depot) (page_state g.P.Sink c.run.new.print) c.run.new.steps in
     let told = rw c.read.ensures at c.run.ensures.value in
     let own = subst (λ (w : List (List ℕ)). RunResult (meaning w) a b c.run.result) words told in
-    whole_part names plan clear z given steady unmarked u within a b c.run.result card_there stream_there
+    whole_part plan clear (all_sendable names plan clear z given) steady unmarked u within names a b c.run.result
+    card_there stream_there
     (watch_answers names a b c.run.result out stream own) well
