@@ -79,10 +79,10 @@ air_order name site book clear out order named e = by_name (is_help name) (is_ve
     by_name false false h =
         let row = subst (λ (c : Option Command). order_after c texts ≡ Ok order) named h in
         let air = AirOf (word_at 1 site) (word_at 2 book) (word_at 3 clear) (word_at 4 out) in
-        let taken = unmet (bytes_eq out (used_name site) || out_is_read (operands_of Air) texts) (Ok air) order Usage row
-        in (
-          sym (one_value (Ok air) air order refl taken.1),
-          apart (bytes_eq out (used_name site)) (out_is_read (operands_of Air) texts) refl taken.0,
+        let not_taken =
+        unmet (bytes_eq out (used_name site) || out_is_read (operands_of Air) texts) (Ok air) order Usage row in (
+          sym (one_value (Ok air) air order refl not_taken.1),
+          apart (bytes_eq out (used_name site)) (out_is_read (operands_of Air) texts) refl not_taken.0,
         )
 
 -- what the work of `air` was made from

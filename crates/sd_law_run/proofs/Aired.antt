@@ -36,7 +36,8 @@ use Rattle.sd_law_run.proofs.Runs.{runs_work}
 use Rattle.sd_law_run.proofs.Shelf.{made_there, others_stay}
 
 -- a good site for `air` is a good site
-plain_site : {got : Option Bytes} {site : SiteFields} {line : BookLine} → IsGoodAirSite got site line → IsGoodSite got site
+plain_site : {got : Option Bytes} {site : SiteFields} {line : BookLine} → IsGoodAirSite got site line →
+    IsGoodSite got site
 plain_site good = record { bytes = good.bytes; there = good.there; is_site = good.is_site }
 
 -- it is read with its line 13

@@ -14,7 +14,8 @@ use Rattle.sd_command_base.specs.Outcome.{OutcomeWithin, Implements}
 use Rattle.sd_command_base.specs.Results.{RunResult, with_page}
 use Rattle.sd_command_line.specs.declared.command.Command.TheVariants.{Card}
 use Rattle.sd_command_line.specs.Commands.{command_named, command_name, operands_of}
-use Rattle.sd_command_line.specs.Words.{AirOf, InputOf, OutOf, Order, HeadOf, CardOf, ReceiveOf, at_most, before, number_in}
+use Rattle.sd_command_line.specs.Words.{AirOf, InputOf, OutOf, Order, HeadOf, CardOf, ReceiveOf, at_most, before}
+use Rattle.sd_command_line.specs.Words.{number_in}
 use Rattle.sd_command_line.specs.Words.{WatchOf, named_words, numbered, order_of, ordered}
 use Rattle.sd_command_base.specs.Made.{used_name}
 use Rattle.sd_command_base.specs.Shown.{word_at}

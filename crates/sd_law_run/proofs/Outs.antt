@@ -131,8 +131,8 @@ unknown_stay a b name before after =
 
 -- the mark alone leaves the other files
 mark_alone : (words : List (List ℕ)) (given : Readings) (a b : Outside) →
-    (has : MadeMark (meaning words given).result a.place b.place) → (known : Option Files) → a.place.files ≡ known → (name : List ℕ) → used_by words ≢ Some name →
-    file_in b name ≡ file_in a name
+    (has : MadeMark (meaning words given).result a.place b.place) → (known : Option Files) → a.place.files ≡ known →
+    (name : List ℕ) → used_by words ≢ Some name → file_in b name ≡ file_in a name
 mark_alone words given a b has None told name other =
     unknown_stay a b name told (has.left ∙ ap (λ (fs : Option Files). with_bytes fs has.mark.name []) told)
 mark_alone words given a b has (Some files) told name other =

@@ -155,7 +155,8 @@ module _ (plan : Plan) (clear : List (List ℕ)) (sends : AreSendable plan clear
       let taken = ap (taken_keys card []) all ∙ keys_taken plan clear u is can whole leaf in
       omega (arith, tried, tried_are card packets, few_refused card packets, refused, taken)
 
-  pub whole_part : (names : Names) (a b : Outside) (answer : Status) → file_in a names.card ≡ Some (card_for plan.site u) →
+  pub whole_part : (names : Names) (a b : Outside) (answer : Status) →
+      file_in a names.card ≡ Some (card_for plan.site u) →
       file_in a names.stream ≡ Some stream →
       RunResult (watch_meaning (word_at 1 names.card) (word_at 2 names.stream) (word_at 3 names.out)) a b answer →
       IsUndisturbed a b answer → WholeResult names plan u clear a b answer

@@ -28,8 +28,8 @@ use Rattle.sd_law_run.specs.Sendable.{AreSendable}
 abbrev pub air_run : Names → List Bytes
 air_run names = codes "air" ∷ names.site ∷ names.book ∷ names.clear ∷ names.stream ∷ []
 
--- a file is there and a site for `air`: it has all thirteen lines, of which the last says this of the book, its messages
--- are of version 3, and it has a control word
+-- a file is there and a site for `air`: it has all thirteen lines, of which the last says this of the book; its
+-- messages are of version 3; and it has a control word
 pub record IsGoodAirSite (got : Option Bytes) (site : SiteFields) (line : BookLine) : Type 0 where
   pub bytes : Bytes
   pub there : got ≡ Some bytes
@@ -39,8 +39,8 @@ pub record IsGoodAirSite (got : Option Bytes) (site : SiteFields) (line : BookLi
   pub version : site.messages ≡ 3
   pub word : site.first_word ≤ site.last_word
 
--- SITE and BOOK are a site for `air` and its own book, within their limits; CLEAR has these bytes, whatever they are; and
--- the site was not used
+-- SITE and BOOK are a site for `air` and its own book, within their limits; CLEAR has these bytes, whatever they are;
+-- and the site was not used
 pub record AreForAir (at : Outside) (names : Names) (plan : Plan) (bytes : Bytes) : Type 0 where
   pub line : BookLine
   pub site : IsGoodAirSite (file_in at names.site) plan.site line

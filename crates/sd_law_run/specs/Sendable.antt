@@ -6,7 +6,8 @@ use Rattle.sd_law_broadcast.specs.Packets.{AreWholePackets}
 use Rattle.sd_law_broadcast.specs.Synced.{AreSynced}
 
 -- the site and the book are within their limits, and each packet of the clear stream can be sent: they are whole, begin
--- with the sync byte, and none breaks a rule, whatever is wrong with it as a PAT [this project, docs/FORMATS.md, On air]
+-- with the sync byte, and none breaks a rule, whatever is wrong with it as a PAT
+-- [this project, docs/FORMATS.md, On air]
 pub record AreSendable (plan : Plan) (clear : Packets) : Type 0 where
   pub is_plan : IsPlan plan
   pub sendable : IsSendable plan.site clear

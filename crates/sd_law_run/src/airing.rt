@@ -1,6 +1,6 @@
 //! What the one call does for `air`: it sends what can be sent of any clear stream, and uses a site once.
-ghost use Rattle.std.specs.Prelude.{◌≡◌, ◌≢◌, ◌⊎◌, ◌<◌, ◌^◌, List, [], ◌∷◌, true, false, codes, map, string_bytes, Some};
-ghost use Rattle.std.specs.Prelude.{None, IsSome};
+ghost use Rattle.std.specs.Prelude.{◌≡◌, ◌≢◌, ◌⊎◌, ◌<◌, ◌^◌, List, [], ◌∷◌, true, false, codes, map, string_bytes};
+ghost use Rattle.std.specs.Prelude.{None, Some, IsSome};
 ghost use Rattle.std.specs.FinMap.{get};
 ghost use Rattle.std.specs.List.{concat, list_any};
 ghost use Rattle.sd_base.specs.Types.{Arrived, Bytes, FileName, Packets, LeafNumber};
@@ -32,7 +32,7 @@ use std::sync::ledger::Ledger;
 /// `sd_run::run` itself, and what follows for `air`.
 ///
 /// No bytes of CLEAR end `air` before the input does, but for a packet for which no number or control word is left.
-/// A site is used once: before OUT, `air` makes the mark of its site, a new empty file, and with a mark that is there it
+/// A site is used once: before OUT, `air` makes the mark of its site, a new empty file. With a mark that is there it
 /// makes nothing.
 pub fn air<D: Depot, P: Sink, N: Sink, L: Ledger>(
     alloc: Global,
@@ -72,7 +72,8 @@ pub fn air<D: Depot, P: Sink, N: Sink, L: Ledger>(
         ⊎ ((get files mark ≡ None)
         × (file_in (outside (depot_state D.Depot depot.new) (page_state P.Sink print.new) steps.new) mark
         ≡ Some [])) }
-    // Over the card of a leaf and a broadcast of packets that can be sent, `receive` makes what the leaf is entitled to.
+    // Over the card of a leaf and a broadcast of packets that can be sent, `receive` makes what the leaf is entitled
+    // to.
     ensures received { (names : Names) (plan : Plan) (u : LeafNumber) (clear : Packets) →
         map string_bytes words.now ≡ codes "receive" ∷ names.card ∷ names.stream ∷ names.out ∷ [] →
         names.out ≢ names.card → names.out ≢ names.stream →

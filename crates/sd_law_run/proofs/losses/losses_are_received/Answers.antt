@@ -10,4 +10,5 @@ returns-clause-meant c plan u clear flags words files is all whole synced leaf r
 
 pub returns-clause-receive : goal.returns-clause-receive
 returns-clause-receive c names plan u clear z a b flags answer given leaf card_there stream_there answers well =
-    lost_part names plan clear (all_sendable names plan clear z given) u flags a b answer leaf card_there stream_there answers well
+    lost_part names plan clear (all_sendable names plan clear z given) u flags a b answer leaf card_there stream_there
+    answers well
