@@ -92,9 +92,6 @@ module _ (plan : Plan) (site out : FileArgument) (a m r : DepotState) (from : Li
     (closed : Result (Unit {0}) Status)
     (h : IsDone plan site out a m r from left held held' f f' o o' sent closed)
     (page : PageState) (i j clear : ℕ) where
-  bytes : List ℕ
-  bytes = h.sends.bytes
-
   abbrev work : Work
   work = airing plan site out h.sends.bytes
 

@@ -12,7 +12,8 @@ use Rattle.sd_command_base.specs.Outside.{DepotState, PageState, Outside, outsid
 use Rattle.sd_command_base.specs.Work.{Work, all_calls}
 use Rattle.sd_command_base.specs.Spec.{Spec, FileArgument, Readings, IsGiven, IsGot, all_of, value, ◌>>=◌}
 use Rattle.sd_command_base.specs.Made.{out_of, unused, used_name}
-use Rattle.sd_command_base.specs.Outcome.{IsRefusal, Outcome, refused, exhausted, failed, nowhere, unmarked as unmarkable}
+use Rattle.sd_command_base.specs.Outcome.{IsRefusal, Outcome, refused, exhausted, failed, nowhere}
+use Rattle.sd_command_base.specs.Outcome.{unmarked as unmarkable}
 use Rattle.sd_command_base.specs.Outcome.{untouched, marking, StopsFirst, OutcomeWithin, Implements}
 use Rattle.sd_command_base.specs.Reads.{IsAsked, FilesOutcome}
 use Rattle.sd_command_base.proofs.Firsts.{first_obeys, takes_none, unmade}
@@ -23,7 +24,8 @@ use Rattle.sd_command_base.proofs.News.{free_got, there_got}
 use Rattle.sd_run_broadcasts.specs.Air.{air_meaning, air_plan_by, air_plan_meaning, aired_by, aired_meaning, airing}
 use Rattle.sd_run_broadcasts.specs.Air.{live_sent, mark_word}
 use Rattle.sd_run_broadcasts.specs.Marked.{mark_at, with_mark, Unmarked, used, no_mark, stopped_first, no_folder}
-use Rattle.sd_run_broadcasts.specs.Marked.{stopped_then, IsOpenedMarked, NotOpenedMarked, no_input, stopped_open, unmarked}
+use Rattle.sd_run_broadcasts.specs.Marked.{stopped_then, IsOpenedMarked, NotOpenedMarked, no_input, stopped_open}
+use Rattle.sd_run_broadcasts.specs.Marked.{unmarked}
 
 -- what is meant by what the files of the live stream and of the mark gave
 pub aired_follows : (plan : Plan) (site clear out : FileArgument) (a b : Outside) (status : Status)
@@ -146,8 +148,8 @@ module _ (plan : Plan) (site clear out : FileArgument) (a b : DepotState) (page 
       let more = some_got a.files (used_name site.text) in
       aired_follows plan site clear out (outside a page steps) (outside b page steps) status got.0 more.0 apart got.1
       more.1
-      (first_obeys (all_of clear.number got.0) (λ bytes. unused more.0 >>= λ new. value (airing plan site out bytes)) a b
-      page steps status (inr (record {
+      (first_obeys (all_of clear.number got.0) (λ bytes. unused more.0 >>= λ new. value (airing plan site out bytes)) a
+      b page steps status (inr (record {
         cause = stopped.cause;
         asked = record {
           files = stopped.asked.files;

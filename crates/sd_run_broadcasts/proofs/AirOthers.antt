@@ -19,7 +19,8 @@ other_told word (Err fault) = λ e. cc
 other_told word (Ok said) = by (not (said.0.messages == 3)) (nat_lt said.0.last_word said.0.first_word)
   where
     by : (other none : Bool) →
-        IsOther (if other then Err (BadSite word (Range 9)) else if none then Err (BadSite word (Range 11)) else Ok said)
+        IsOther (if other then Err (BadSite word (Range 9))
+        else if none then Err (BadSite word (Range 11)) else Ok said)
     by true none = λ e. cc
     by false true = λ e. cc
     by false false = tt

@@ -27,7 +27,8 @@ use Rattle.sd_command_base.specs.declared.status.Status.{Status}
 use Rattle.sd_command_base.specs.declared.status.Status.TheVariants.{DepotFault, SiteUsedUp}
 use Rattle.sd_run_broadcasts.specs.Air.{air_report, ended_status, live_clear, live_end, live_sent, live_status}
 use Rattle.sd_run_broadcasts.specs.Found.{HasFound, IsReadable}
-use Rattle.sd_run_broadcasts.specs.OnAir.{body_bytes, bytes_for, closing_bytes, finished_status, report_after, status_at}
+use Rattle.sd_run_broadcasts.specs.OnAir.{body_bytes, bytes_for, closing_bytes, finished_status, report_after}
+use Rattle.sd_run_broadcasts.specs.OnAir.{status_at}
 use Rattle.sd_run_broadcasts.specs.OnAir.{Finishes, IsSending, SendsBytes, SendsLive, SendsPacket, Stops}
 use Rattle.sd_run_broadcasts.specs.Watch.{skipped_at}
 use Rattle.sd_run_broadcasts.specs.declared.air_send.Finished.{Finished}
@@ -71,7 +72,8 @@ body_step plan past packet goes =
     before = aired plan.site past
 
     same : concat (body plan (before ++ [])) ≡ concat (body plan before) ++ []
-    same = ap (λ (ps : Packets). concat (body plan ps)) (append-nil before) ∙ sym (append-nil (concat (body plan before)))
+    same = ap (λ (ps : Packets). concat (body plan ps)) (append-nil before)
+        ∙ sym (append-nil (concat (body plan before)))
 
     by : (v : Verdict) → concat (body plan (before ++ following v (packet ∷ []) [] []))
         ≡ concat (body plan before) ++ following v (bytes_added plan before packet) [] []
@@ -335,8 +337,8 @@ module _ (plan : Plan) (left left' now held held' : Option (List ℕ)) (live : L
       SeekOutcome left' now waiting was next ended skipped more_skipped None →
       Finishes plan way.packets more_skipped false held' held2 result → SendsLive plan left held held2 result
   all_sent held2 result low sought h =
-      ends_so plan left held held' held2 way.packets more_skipped false way.keeps.goes_on way.wrote (all_read low sought)
-      result h
+      ends_so plan left held held' held2 way.packets more_skipped false way.keeps.goes_on way.wrote
+      (all_read low sought) result h
 
   -- there are more packets than are read
   pub most_sent : (packet : Packet) (held2 : Option (List ℕ)) (result : Result Finished Status) → count ≡ 2 ^ 48 →

@@ -15,7 +15,8 @@ prefix_of_all held mid held' first part whole wrote (bytes, short, more) all = (
   Appends-trans held mid held' first bytes wrote more,
 )
 
-pub short_of_all : (held held' : Option (List ℕ)) (first whole : List ℕ) → Appends held held' first → IsPrefix first whole →
+pub short_of_all : (held held' : Option (List ℕ)) (first whole : List ℕ) → Appends held held' first →
+    IsPrefix first whole →
     AppendsPrefix held held' whole
 short_of_all held held' first whole wrote all = (first, all, wrote)
 

@@ -34,7 +34,8 @@ pub data Unmarked (mark out : FileArgument) (calls : ℕ) (a b : DepotState) (st
   no_mark : status ≡ Missing mark.number → a.files ≡ None → IsAsked calls a b → b.faults ≡ a.faults →
       HasRisen a.misses b.misses → Unmarked mark out calls a b status
   -- the outside stopped it before the mark was made
-  stopped_first : MarkStopCause a b status → IsAsked calls a b → b.misses ≡ a.misses → Unmarked mark out calls a b status
+  stopped_first : MarkStopCause a b status → IsAsked calls a b → b.misses ≡ a.misses →
+      Unmarked mark out calls a b status
   -- the mark was made, and there is no folder for OUT, in a depot that doesn't tell its files
   no_folder : status ≡ Missing out.number → a.files ≡ None → IsAsked (calls + 2) (with_mark mark a) b →
       b.faults ≡ a.faults → HasRisen a.misses b.misses → Unmarked mark out calls a b status

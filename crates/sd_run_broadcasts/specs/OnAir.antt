@@ -118,7 +118,8 @@ abbrev pub ended_by : Result Finished Status → Result (Unit {0}) Status
 ended_by (Ok finished) = Ok tt
 ended_by (Err status) = Err status
 
--- The report was printed, and the command ends as the sending did; or memory was out for the report, or printing failed.
+-- The report was printed, and the command ends as the sending did; or memory was out for the report, or printing
+-- failed.
 abbrev pub TellsReport : Finished → PageState → PageState → Status → Type 0
 TellsReport finished a b status =
     ((status ≡ finished_status finished) × Appends a.printed b.printed (air_line finished.report)

@@ -20,8 +20,8 @@ use std::alloc::{AllocError, Global};
 use std::fmt::Write;
 use std::sync::ledger::Ledger;
 
-/// Does `air SITE BOOK CLEAR OUT`: a live stream that may be damaged is sent with a site that was not used before, and a
-/// report is printed at the end. While it runs, a report is written to `notes` as each period begins [this project,
+/// Does `air SITE BOOK CLEAR OUT`: a live stream that may be damaged is sent with a site that was not used before, and
+/// a report is printed at the end. While it runs, a report is written to `notes` as each period begins [this project,
 /// docs/FORMATS.md, On air].
 #[inline(never)]
 pub fn air<D: Depot, P: Sink, N: Sink, L: Ledger>(

@@ -133,7 +133,7 @@ fn finish<K: Sink, L: Ledger>(
         Finishes plan past skipped used_up (K.held sink.old) (K.held sink.new) result }
     ensures cause { IsCaused (K.faults sink.old) (K.faults sink.new) (status_in result ≡ Status.DepotFault) }
 {
-    // The closing message is the last that is known of: what is reported is asked before it.
+    // `close` may change what is reported, so that it is asked before.
     let report = report(live, skipped);
     match live.close(sink, steps) {
         Ok(()) => Ok(Finished { report, used_up }),

@@ -1,6 +1,6 @@
-//! The commands on a broadcast: `head` makes one, `air` makes one of a live stream, `receive` opens one, `watch` opens one that may be damaged, and
-//! `trial` does both over memory. `field` does both for every receiver of a site, while packets are lost and power is
-//! cut.
+//! The commands on a broadcast: `head` makes one, `air` makes one of a live stream, `receive` opens one, `watch` opens
+//! one that may be damaged, and `trial` does both over memory. `field` does both for every receiver of a site, while
+//! packets are lost and power is cut.
 #![tactic(auto)]
 
 mod air_command;

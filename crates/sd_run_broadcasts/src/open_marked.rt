@@ -1,6 +1,7 @@
 ghost use Rattle.std.specs.Prelude.{◌≡◌, IfErr, IfOk};
 ghost use Rattle.sd_command_base.specs.Outside.{depot_state};
-ghost use Rattle.sd_run_broadcasts.specs.Marked.{IsCreatedMarked, IsOpenedMarked, MarkOutcome, NotOpenedMarked, Unmarked};
+ghost use Rattle.sd_run_broadcasts.specs.Marked.{IsCreatedMarked, IsOpenedMarked, MarkOutcome, NotOpenedMarked};
+ghost use Rattle.sd_run_broadcasts.specs.Marked.{Unmarked};
 ghost use Rattle.sd_command_base.specs.Shown.{shown_word};
 
 use sd_command_base::{Status, Word, opening_fault, told};

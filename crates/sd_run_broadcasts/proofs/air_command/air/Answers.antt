@@ -64,5 +64,6 @@ returns g c =
     (outside (depot_state g.D.Depot c.air_stream.new.depot) (page_state g.P.Sink c.air_stream.new.print)
     c.air_stream.new.steps) (c.in_ok-fields.fields, c.in_ok-fields.commands) (status_of c.air_stream.result)
     c.requires.0 c.requires.1 c.requires.2 c.in_ok-fields.ensures.value
-    (c.air_stream.ensures (record { site = fields_of c.in_ok-fields.fields; commands = c.in_ok-fields.commands.commands })
+    (c.air_stream.ensures
+    (record { site = fields_of c.in_ok-fields.fields; commands = c.in_ok-fields.commands.commands })
     c.in_ok-live.ensures.value)

@@ -58,8 +58,8 @@ returns-in_err-close_both g c plan new =
     rw (result.1, result.2) (aired_follows plan site clear out (outside p page i) (outside r page j) status
     (Some sends.bytes) None c.requires.apart (opened_got p.files clear.text _ sends.bytes opened.opens sends.is_left)
     (free_got p.files (used_name site.text) opened.new)
-    (stopped_obeys plan site out p q r clear.text _ _ _ _ _ _ _ c.send_live-sent.result c.close_both.result done page i j
-    clear.number status c.in_err-close_both.was))
+    (stopped_obeys plan site out p q r clear.text _ _ _ _ _ _ _ c.send_live-sent.result c.close_both.result done page i
+    j clear.number status c.in_err-close_both.was))
 
 pub returns : goal.returns
 returns g c plan new =

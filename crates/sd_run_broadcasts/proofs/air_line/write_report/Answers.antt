@@ -9,7 +9,8 @@ returns-clause-tokens c =
     (joined c.args.report.now c.args.out.now.tokens _ _ _ _ _ _ _ _ _ _ _
     c.in_ok-begin_object.ensures.ok c.in_ok-write_first.ensures.tokens
     (rw c.from.ensures at c.in_ok-write_number.ensures.tokens) c.in_ok-write_number-2.ensures.tokens
-    c.in_ok-write_number-3.ensures.tokens c.in_ok-write_number-4.ensures.tokens (rw c.from-2.ensures at c.in_ok-write_number-5.ensures.tokens)
+    c.in_ok-write_number-3.ensures.tokens c.in_ok-write_number-4.ensures.tokens
+    (rw c.from-2.ensures at c.in_ok-write_number-5.ensures.tokens)
     c.in_ok-write_number-6.ensures.tokens c.in_ok-write_number-7.ensures.tokens c.in_ok-write_number-8.ensures.tokens
     (rw c.from-3.ensures at c.in_ok-write_number-9.ensures.tokens))
     c.end_object.ensures.ok

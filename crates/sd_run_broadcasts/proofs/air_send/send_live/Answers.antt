@@ -12,8 +12,8 @@ loop-count-init g c = record {
   begun = omega arith;
   within = omega arith;
   long = refl;
-  way = λ plan new. not_begun plan (g.S.Source.left c.args.source.now) (g.K.Sink.held c.args.sink.now) c.args.live.now []
-      refl new;
+  way = λ plan new. not_begun plan (g.S.Source.left c.args.source.now) (g.K.Sink.held c.args.sink.now) c.args.live.now
+      [] refl new;
   read = refl;
   written = refl;
 }

@@ -24,8 +24,8 @@ returns-in_err-inlet g c =
     let q = depot_state g.D.Depot c.open_both.new.depot in
     let i = c.args.steps.now in
     let status = c.in_err-inlet.field-0.0 in
-    let not = not_lived (watching card out) (watched_of card) stream out p q page i status (λ bytes. refl) (λ bytes. refl)
-    c.in_err-inlet.ensures.fault in
+    let not = not_lived (watching card out) (watched_of card) stream out p q page i status (λ bytes. refl)
+    (λ bytes. refl) c.in_err-inlet.ensures.fault in
     rw (result.1, result.2) (got_follows (λ got. all_of stream.number got >>=
     λ bytes. value (watching card out bytes)) stream not.got
     (outside p page i) (outside q page i) status not.is_got not.obeys)
