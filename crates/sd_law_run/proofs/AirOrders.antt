@@ -1,5 +1,5 @@
 -- The arguments of `air`, and what its work was made from.
-use Rattle.std.proofs.Common.{◌≡◌, ◌≢◌, ℕ, Bool, true, false, cond, List, [], ◌∷◌, Option, Some, None, Result, Ok, Err}
+use Rattle.std.proofs.Common.{◌≡◌, ◌≢◌, ℕ, Bool, true, false, cond, List, [], ◌∷◌, Option, Some, None, Ok}
 use Rattle.std.proofs.Common.{refl, sym, ap, subst, ◌∙◌}
 use Rattle.std.specs.Prelude.{◌||◌}
 use Rattle.std.specs.Str.{bytes_eq}
@@ -7,7 +7,6 @@ use Rattle.std.proofs.lemmas.Option.{same_Some}
 use Rattle.std.proofs.lemmas.Slice.Eq.{bytes_eq-Decides}
 use Rattle.sd_base.specs.Types.{Bytes, FileName}
 use Rattle.sd_spec.specs.Plan.{Plan}
-use Rattle.sd_command_base.specs.declared.status.Status.{Status}
 use Rattle.sd_command_base.specs.declared.status.Status.TheVariants.{Usage}
 use Rattle.sd_command_base.specs.Made.{unused, used_name}
 use Rattle.sd_command_base.specs.Shown.{word_at}

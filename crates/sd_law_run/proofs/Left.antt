@@ -1,7 +1,6 @@
 -- What a run leaves in the files.
-use Rattle.std.proofs.Common.{◌≡◌, ◌⊎◌, ℕ, List, [], Option, None, Some, Result, Ok, refl, sym, ap, subst, ◌∙◌}
+use Rattle.std.proofs.Common.{◌≡◌, ◌⊎◌, ℕ, List, [], Option, None, Some, Result, Ok, refl, ap, subst, ◌∙◌}
 use Rattle.std.proofs.Common.{inl, inr, append-nil}
-use Rattle.std.specs.FinMap.{get}
 use Rattle.sd_base.specs.Count.{with_added}
 use Rattle.sd_ports.specs.Files.{Files, with_bytes}
 use Rattle.sd_ports.specs.Bytes.{IsPrefix}

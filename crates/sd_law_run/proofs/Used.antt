@@ -1,5 +1,5 @@
 -- A site is used once.
-use Rattle.std.proofs.Common.{◌≡◌, ◌≢◌, ◌⊎◌, List, [], Option, Some, None, Result, Ok, refl, sym, ap, subst, ◌∙◌}
+use Rattle.std.proofs.Common.{◌≡◌, ◌≢◌, ◌⊎◌, List, [], Option, Some, None, Ok, refl, sym, ap, subst, ◌∙◌}
 use Rattle.std.proofs.Common.{inl, inr, IsSome}
 use Rattle.std.specs.FinMap.{get, insert}
 use Rattle.std.specs.Option.{option_and_then}
@@ -8,9 +8,8 @@ use Rattle.sd_base.specs.Types.{Bytes, FileName}
 use Rattle.sd_ports.specs.Files.{Files}
 use Rattle.sd_command_base.specs.declared.status.Status.{Status}
 use Rattle.sd_command_base.specs.declared.status.Status.TheVariants.{Done}
-use Rattle.sd_command_base.specs.Made.{used_name}
 use Rattle.sd_command_base.specs.Outcome.{IsUnmade}
-use Rattle.sd_command_base.specs.Outside.{DepotState, Outside}
+use Rattle.sd_command_base.specs.Outside.{Outside}
 use Rattle.sd_command_base.specs.Results.{RunResult}
 use Rattle.sd_command_base.specs.Spec.{contents_of}
 use Rattle.sd_command_base.specs.Work.{Mark, Work}
@@ -18,7 +17,7 @@ use Rattle.sd_run.specs.Meaning.{meaning}
 use Rattle.sd_law_run.specs.Aired.{LeavesOut}
 use Rattle.sd_law_run.specs.Headline.{file_in}
 use Rattle.sd_law_run.specs.Left.{HasMark, HasOut, with_mark}
-use Rattle.sd_law_run.specs.Outcome.{out_name, used_by}
+use Rattle.sd_law_run.specs.Outcome.{used_by}
 use Rattle.sd_law_run.proofs.AirOrders.{air_work, mark_is, out_apart, used_words}
 use Rattle.sd_law_run.proofs.Left.{run_leaves}
 use Rattle.sd_law_run.proofs.Outs.{done_leaves, out_is}
