@@ -275,8 +275,8 @@ pub fn streams_are_received()
 
 /// Take any broadcast, of any site, book within the limits and clear packets that can be sent. `receive` with the card
 /// of a leaf writes exactly the clear packets of the periods in which the leaf isn't revoked. It ends as done, or as
-/// revoked in the first of the broadcast's periods in which the leaf is. For each period in which the leaf isn't revoked
-/// it takes at most as many steps of the generator as the tree is high, and no others.
+/// revoked in the first of the broadcast's periods in which the leaf is. For each period in which the leaf isn't
+/// revoked it takes at most as many steps of the generator as the tree is high, and no others.
 #[tactic(auto, using(crate::proofs::Broadcasts::broadcast_opened))]
 pub fn broadcasts_are_opened_by_the_entitled()
     ensures { (plan : Plan) (u : LeafNumber) (clear : Packets) (words : List Bytes) (files : Files) → IsPlan plan →

@@ -25,9 +25,8 @@ use sd_command_base::Status;
 /// Take any broadcast, of any site, book within the limits and clear packets that can be sent, and any choice of its
 /// packets. `receive` with the card of a leaf writes exactly the clear packets that the messages which arrived confirm:
 /// a part of what the leaf is entitled to, in its order. It refuses no packet, and its ending depends on what arrived
-/// alone.
-/// If it ends as revoked in a period, the leaf is revoked in it. For each period of which a section that has the leaf
-/// arrived it takes at most as many steps of the generator as the tree is high, and no others.
+/// alone. If it ends as revoked in a period, the leaf is revoked in it. For each period of which a section that has the
+/// leaf arrived it takes at most as many steps of the generator as the tree is high, and no others.
 pub fn losses_are_received()
     // By what is meant, whatever happens to the run.
     ensures meant { (plan : Plan) (u : LeafNumber) (clear : Packets) (flags : Arrived) (words : List Bytes)
