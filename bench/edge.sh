@@ -315,7 +315,7 @@ for turn in 1 2 3; do
         if [ $ended = 2 ] && [ $turn != 3 ]; then
             missing="$missing $command"
         else
-            row "the example of help $command is done" is "$ended $(cat err)" "0 "
+            row "the example of help $command is done" is "$ended $(grep -v '^{"left"' err)" "0 "
         fi
     done
     commands=$missing
@@ -569,8 +569,8 @@ row "of version 2, or without a control word" is "$(cat got)" "6 site line 9 is 
 6 site line 11 is out of range"
 row "nothing was made" is "$(ls onair | grep -c used) $(ls A3 2>/dev/null)" "0 "
 sed '11s/.*/last-word 1/' $site >onair/one-word.txt
-sdca air onair/one-word.txt onair_book C got >lines 2>err
 first_packets 400 C >C400 && sdca head onair/one-word.txt onair_book C400 due
+sdca air onair/one-word.txt onair_book C got >lines 2>err
 row "the control words are used up: a report and exit 22" is "$status $(tail -n 1 lines)" "22 site is used up at packet 400"
 row "with the closing message" same got due
 { first_packets 10 C && without 0 10 X | head -c 188 && head -c 77 C && printf '\107\100\001\020' && head -c 184 /dev/zero &&
@@ -578,7 +578,7 @@ row "with the closing message" same got due
 sdca head $site onair_book C due
 sdca air $site onair_book wild_clear got >lines 2>err
 row "a packet of a broadcast, a torn one and a CAT are left out" is "$status $(cat lines)" \
-    "0 $(aired 602 600 2 77 1 2 '"first":"clear packet 10: pid 1 is taken",')"
+    "0 $(aired 602 600 2 77 1 2 '"first":"clear packet 10: already scrambled",')"
 row "and all else is sent" same got due
 rm $mark
 "$program" air $site onair_book /dev/stdin /dev/stdout <C 2>err | cat >got
@@ -598,8 +598,9 @@ wait
 row "of forty at once one sends" is "$(sort -n exits | uniq -c | awk '{ print $1, $2 }' | paste -sd ,)" "1 0,39 20"
 row "and one OUT has a byte" is "$(find . -name 'O.*' -size +0 | wc -l)" 1
 rm $mark
-row "air: before a read all that is known is sent: 200 and 201 packets" is \
-    "$(python3 "$live" fed C R 200 201 -- "$program" air $site onair_book /dev/stdin R)" "$((188 * 203)) $((188 * 203))"
+row "air: before a read all but the last packet is sent, which is known by the byte behind it" is \
+    "$(python3 "$live" fed C R 200 201 -- "$program" air $site onair_book /dev/stdin R 2>err | tail -n 1)" \
+    "$((188 * 202)) $((188 * 203))"
 row "air to the end" same R due
 rm $mark
 if strace -o trace true 2>err; then

@@ -134,7 +134,7 @@ ends_with command exit =
 -- an example of its arguments
 unfoldable pub example_of : Command → List ℕ
 example_of Accounts = codes "accounts examples/site.txt examples/accounts.txt book.txt"
-example_of Air = codes "air site-1.txt book.txt /dev/stdin /dev/stdout"
+example_of Air = codes "air site-1.txt examples/book.txt clear.ts on-air.ts"
 example_of Apart = codes "apart examples/site-1.txt examples/book.txt examples/site-2.txt examples/book.txt"
 example_of Book = codes "book examples/site.txt examples/book.txt examples/today.txt longer.txt"
 example_of Card = codes "card examples/site.txt 2 card-2"

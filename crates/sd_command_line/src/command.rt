@@ -245,7 +245,7 @@ impl Command {
     {
         match self {
             Command::Accounts => "accounts examples/site.txt examples/accounts.txt book.txt",
-            Command::Air => "air site-1.txt book.txt /dev/stdin /dev/stdout",
+            Command::Air => "air site-1.txt examples/book.txt clear.ts on-air.ts",
             Command::Apart =>
                 "apart examples/site-1.txt examples/book.txt examples/site-2.txt examples/book.txt",
             Command::Book =>

@@ -6,3 +6,5 @@ pub mod Gathered
 pub mod Sound
 pub mod Openings
 pub mod Naming
+pub mod Short
+pub mod Keyed

@@ -82,7 +82,7 @@ static PAGES: [(&[&str], &[(usize, &str)]); 5] = [
             ),
             (
                 24,
-                "  sdca air site-1.txt book.txt /dev/stdin /dev/stdout",
+                "  sdca air site-1.txt examples/book.txt clear.ts on-air.ts",
             ),
         ],
     ),
