@@ -14,6 +14,7 @@ use Rattle.sd_command_base.specs.declared.status.Status.TheVariants.{BadSite, Ba
 use Rattle.sd_command_base.specs.declared.status.Status.TheVariants.{Limit}
 use Rattle.sd_command_base.specs.declared.status.Status.TheVariants.{NoMemory, Unheard, Unclosed, Gaps, NoCat}
 use Rattle.sd_command_base.specs.declared.status.Status.TheVariants.{BadWord, Clash, BadOut, OtherBook}
+use Rattle.sd_command_base.specs.declared.status.Status.TheVariants.{SiteUsed, SiteUsedUp}
 use Rattle.sd_law_run.specs.Helped.{help_exit, in_column, IsOrdered}
 use Rattle.sd_run.proofs.Examples.{words_in, arguments_in, example_order}
 use Rattle.sd_run.proofs.Rows.{example}
@@ -46,7 +47,9 @@ exit_numbers files NoCat = refl
 exit_numbers files (BadWord word) = refl
 exit_numbers files (Clash clash) = refl
 exit_numbers files (BadOut word cause) = refl
+exit_numbers files SiteUsed = refl
 exit_numbers files OtherBook = refl
+exit_numbers files (SiteUsedUp packet) = refl
 
 -- the example of each command
 pub examples_are_ordered : (command : Command) → IsOrdered command

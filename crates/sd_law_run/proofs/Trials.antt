@@ -20,6 +20,7 @@ use Rattle.sd_command_base.specs.declared.status.Status.TheVariants.{BadSite, Ba
 use Rattle.sd_command_base.specs.declared.status.Status.TheVariants.{Limit}
 use Rattle.sd_command_base.specs.declared.status.Status.TheVariants.{NoMemory, Unheard, Unclosed, Gaps, NoCat}
 use Rattle.sd_command_base.specs.declared.status.Status.TheVariants.{BadWord, Clash, BadOut, OtherBook}
+use Rattle.sd_command_base.specs.declared.status.Status.TheVariants.{SiteUsed, SiteUsedUp}
 use Rattle.sd_command_base.specs.declared.status.LimitKind.TheVariants.{SiteBytes, BookBytes, TrialHeight}
 use Rattle.sd_command_base.specs.Spec.{FileArgument, Readings, contents_of, all_of, judged, value, within, ◌>>=◌}
 use Rattle.sd_command_base.specs.Outside.{Outside}
@@ -81,7 +82,9 @@ line_refused u wrote NoCat e = absurd (cc)
 line_refused u wrote (BadWord word) e = absurd (cc)
 line_refused u wrote (Clash clash) e = absurd (cc)
 line_refused u wrote (BadOut word cause) e = absurd (cc)
+line_refused u wrote SiteUsed e = absurd (cc)
 line_refused u wrote OtherBook e = absurd (cc)
+line_refused u wrote (SiteUsedUp packet) e = absurd (cc)
 
 receiver_refused : (site : SiteFields) (bytes : List ℕ) (u : ℕ) → receiver_line site bytes u ≡ Err Done → ⊥
 unfolding receiver_line

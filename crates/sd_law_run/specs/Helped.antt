@@ -14,6 +14,7 @@ use Rattle.sd_command_base.specs.declared.status.Status.TheVariants.{BadSite, Ba
 use Rattle.sd_command_base.specs.declared.status.Status.TheVariants.{Limit}
 use Rattle.sd_command_base.specs.declared.status.Status.TheVariants.{NoMemory, Unheard, Unclosed, Gaps, NoCat}
 use Rattle.sd_command_base.specs.declared.status.Status.TheVariants.{BadWord, Clash, BadOut, OtherBook}
+use Rattle.sd_command_base.specs.declared.status.Status.TheVariants.{SiteUsed, SiteUsedUp}
 use Rattle.sd_command_line.specs.Words.{Argument, CommandOf, order_of}
 
 -- the exit of a status, as help lists it [this project, docs/FORMATS.md, Exits]
@@ -38,7 +39,9 @@ help_exit NoCat = exit.NoCat
 help_exit (BadWord word) = exit.BadWord
 help_exit (Clash clash) = exit.Clash
 help_exit (BadOut word cause) = exit.BadOut
+help_exit SiteUsed = exit.SiteUsed
 help_exit OtherBook = exit.OtherBook
+help_exit (SiteUsedUp packet) = exit.SiteUsedUp
 
 -- a number at the right of a column of four
 abbrev pub in_column : ℕ → Bytes

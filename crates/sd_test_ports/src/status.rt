@@ -200,11 +200,7 @@ static LINES: [(Status, u8, &str); 44] = [
     ),
     (Status::SiteUsed, 20, "site is used\n"),
     (Status::OtherBook, 21, "book is not that of the site\n"),
-    (
-        Status::SiteUsedUp(12),
-        22,
-        "site is used up at packet 12\n",
-    ),
+    (Status::SiteUsedUp(12), 22, "site is used up at packet 12\n"),
 ];
 
 // Whether the status has this code, and is told by this line.
