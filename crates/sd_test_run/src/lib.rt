@@ -37,6 +37,8 @@ mod limits;
 #[cfg(test)]
 mod messages;
 #[cfg(test)]
+mod on_air;
+#[cfg(test)]
 mod parts;
 #[cfg(test)]
 mod receptions;
