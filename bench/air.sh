@@ -77,7 +77,7 @@ data = open(sys.argv[1], "rb").read()
 for at in range(0, len(data), 18800):
     sys.stdout.buffer.write(data[at : at + 18800])
     sys.stdout.buffer.flush()
-    time.sleep(0.004)
+    time.sleep(0.01)
 END
 chmod +x source
 mkfifo line
@@ -87,12 +87,15 @@ exec 7>line
 set --
 for run in $(seq $kills); do
     ./sdca sample "$run" 20000 "clear-$run"
-    { "$top/examples/air.sh" live 1000 /dev/stdout ./source "clear-$run" 2>"err-$run"; echo $? >"exit-$run"; } |
-        tee "sent-$run" >&7 &
+    {
+        code=0
+        "$top/examples/air.sh" live 1000 /dev/stdout ./source "clear-$run" 2>"err-$run" || code=$?
+        echo $code >"exit-$run"
+    } | tee "sent-$run" >&7 &
     sender=$!
     if [ "$run" != "$kills" ]; then
-        sleep "0.$(((run * 37 + 20) % 70 + 20))"
-        pkill -KILL -f "sdca air live/site-$run.txt " || :
+        sleep "1.$(((run * 37 + 20) % 70 + 20))"
+        pkill -KILL -f " air live/site-$run.txt " || :
     fi
     wait "$sender"
     set -- "$@" "clear-$run" "sent-$run"
@@ -102,6 +105,7 @@ status=0
 wait "$box" || status=$?
 echo "$kills head ends, of which $((kills - 1)) were killed: exits $(cat exit-* | sort | uniq -c | awk '{ print $2 " (" $1 ")" }' | paste -sd ' ')"
 tail -n 2 lines
+row "the others were killed" [ "$(cat exit-* | grep -vc '^0$')" = $((kills - 1)) ]
 row "the box stayed on to the end" [ $status = 14 ]
 row "the last one ended in order" [ "$(cat "exit-$kills")" = 0 ]
 row "the box wrote the last broadcast whole" sh -c 'tail -c "$(wc -c <"$1")" seen | cmp -s - "$1"' sh "clear-$kills"
