@@ -1,6 +1,6 @@
 #!/bin/sh
 # live.sh [FOLDER]: a live chain on this machine. ffmpeg, which is a Debian package, makes pictures as fast as they are
-# seen; `head` sends them; a bad line (relay.py) loses, doubles and damages a part of them; `watch` is a box that bears
+# seen; `air` sends them; a bad line (relay.py) loses, doubles and damages a part of them; `watch` is a box that bears
 # it; and ffmpeg counts the pictures that it can decode. On the way the head end is killed, and a new one goes on. The
 # files are made in FOLDER, or in a new one. It takes less than a minute. The program is proved and built first.
 # SDCA=PROGRAM names one that is built already. PORT is the port of the line, 5004 if not given.
@@ -59,12 +59,12 @@ say "A chain of sites, of which two are to go on air, and a card."
 
 say "25 seconds on air. After ten the head end is killed, and a new one goes on. What the box says:"
 {
-    picture 30 | tee clear-1.ts | "$program" head site-1.txt book.txt /dev/stdin /dev/stdout &
+    picture 30 | tee clear-1.ts | "$program" air site-1.txt book.txt /dev/stdin /dev/stdout &
     head_end=$!
     sleep 10
     kill -KILL "$head_end"
     wait "$head_end" 2>/dev/null || :
-    picture 15 | tee clear-2.ts | "$program" head site-2.txt book.txt /dev/stdin /dev/stdout
+    picture 15 | tee clear-2.ts | "$program" air site-2.txt book.txt /dev/stdin /dev/stdout
 } | python3 "$here/relay.py" "${PORT:-5004}" | "$program" watch card /dev/stdin seen.ts || echo "exit $?"
 
 say "What it wrote."
