@@ -609,6 +609,13 @@ if strace -o trace true 2>err; then
         "$(grep -E 'O_EXCL|fsync|"R"' trace | grep -v ENOENT | sed 's/.*\(O_EXCL\|fsync\|"R"\).*/\1/' | uniq | paste -sd ' ')" \
         'O_EXCL fsync "R"'
     rm $mark
+    # WORDS..: the most bytes that one of its writes has.
+    most_written() {
+        strace -f -o trace -e trace=write "$@" 2>err | cat >got
+        sed -n 's/.*write(.*) *= \([0-9]*\)$/\1/p' trace | sort -n | tail -n 1
+    }
+    row "a pipe gets 21 packets at once" is "$(most_written "$program" head S N C /dev/stdout)" $((188 * 21))
+    row "and a file 348" is "$(most_written "$program" head S N C R)" $((188 * 348))
 else
     left_out "when the mark is on the disk" "strace: $(cat err)"
 fi
