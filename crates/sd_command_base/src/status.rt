@@ -1,7 +1,7 @@
 ghost use Rattle.std.specs.Prelude.{◌≡◌};
 ghost use Rattle.sd_command_base.specs.Exits.{code_of};
 
-use crate::StreamRefusal;
+use crate::{BadLine, Excerpt, StreamRefusal};
 use sd_base::NoMemory;
 use sd_book::BookLimit;
 use sd_message::StreamFault;
@@ -24,10 +24,10 @@ pub enum Status {
     DepotFault,
     /// Exit 5: an I/O error while printing.
     PrintFault,
-    /// Exit 6: the site file that this argument names is refused.
-    BadSite { word: u8, fault: SiteFault },
-    /// Exit 7: this line of the file that this argument names is refused, the first such line. Lines count from 1.
-    BadBook { word: u8, line: u32 },
+    /// Exit 6: the site file that this argument names is refused. The text is that of the line that the fault names.
+    BadSite { word: u8, fault: SiteFault, text: Excerpt },
+    /// Exit 7: this line of the file that this argument names is refused, the first such line.
+    BadBook { word: u8, line: BadLine },
     /// Exit 8: the card's file that this argument names is refused.
     BadCard { word: u8, fault: CardFault },
     /// Exit 9: a packet of the clear stream is refused.
