@@ -21,10 +21,8 @@ fn name_of(cause: LineCause) -> &'static str {
         LineCause::Leaf(10) => "not of height 10",
         LineCause::Descends => "descends",
         LineCause::Unended => "unended",
-        LineCause::Leaf(_)
-        | LineCause::Held { .. }
-        | LineCause::Named(_)
-        | LineCause::Unknown => "another",
+        LineCause::Leaf(_) | LineCause::Held { .. } | LineCause::Named(_) | LineCause::Unknown =>
+            "another",
     }
 }
 
@@ -79,11 +77,23 @@ static LINES: [Row; 25] = [
     (Reading::Book, "Revoke 5\n", 1, "capital", "Revoke 5"),
     (Reading::Book, "revoke 5-9\n", 1, "form", "revoke 5-9"),
     (Reading::Book, "revoke 05\n", 1, "form", "revoke 05"),
-    (Reading::Book, "\u{feff}revoke 5\n", 1, "byte-order mark", ""),
+    (
+        Reading::Book,
+        "\u{feff}revoke 5\n",
+        1,
+        "byte-order mark",
+        "",
+    ),
     (Reading::Book, "revoke 5\n\nperiod\n", 2, "empty", ""),
     (Reading::Book, "period\nperiod\nrevoke", 3, "form", "revoke"),
     (Reading::Book, "subscribe all\n", 1, "form", "subscribe all"),
-    (Reading::Book, "period\nrevoke 1024\n", 2, "not of height 10", "revoke 1024"),
+    (
+        Reading::Book,
+        "period\nrevoke 1024\n",
+        2,
+        "not of height 10",
+        "revoke 1024",
+    ),
     (Reading::Book, "revoke \u{0}\n", 1, "not text", ""),
     (Reading::Book, "revoke \u{e9}\n", 1, "not text", ""),
     (
@@ -104,7 +114,13 @@ static LINES: [Row; 25] = [
     (Reading::Leaves, "5\n4\n", 2, "descends", "4"),
     (Reading::Leaves, "5\n5\n", 2, "descends", "5"),
     (Reading::Leaves, "5\n1024\n", 2, "not of height 10", "1024"),
-    (Reading::Leaves, "4294967296\n", 1, "not of height 10", "4294967296"),
+    (
+        Reading::Leaves,
+        "4294967296\n",
+        1,
+        "not of height 10",
+        "4294967296",
+    ),
     (Reading::Leaves, "5\n06\n", 2, "form", "06"),
     (Reading::Leaves, "5\n6 \n", 2, "space", "6 "),
 ];
