@@ -27,7 +27,7 @@ use Rattle.sd_spec.specs.Plan.{Plan}
 use Rattle.sd_spec.specs.Kinds.{kind_of}
 use Rattle.sd_spec.specs.Refused.{fault_where, form_where, is_reserved_pid, pat_wrong, is_full_own}
 use Rattle.sd_spec.specs.Refused.{is_one_too_many}
-use Rattle.sd_spec.specs.Refused.{end_refusal, is_too_long, refusal_of, refusal_from}
+use Rattle.sd_spec.specs.Refused.{end_refusal, is_too_long, refusal_of, refusal_from, whole_refusal}
 use Rattle.sd_spec.specs.Sent.{sent, closing_of, packets_from, body, broadcast, bytes_added, bytes_from}
 use Rattle.sd_spec.proofs.Bodies.{body_bytes, closed_bytes}
 use Rattle.sd_psi.specs.declared.clear_fault.ClearFault.{ClearFault}
@@ -274,13 +274,17 @@ sent_unrefused plan bytes end none is =
       sym (ap (λ (first : Option ClearFault). status_where (end_of bytes) first) own ∙ ap clear_status is),
     )
 
--- of one that is whole, and of one that isn't
+pub sent_whole : (plan : Plan) (bytes : List ℕ) → whole_refusal plan.site (taken_of bytes) ≡ None →
+    end_of bytes ≡ Whole →
+    (concat (broadcast plan (taken_of bytes)) ≡ sent_of plan bytes) × (Done ≡ sent_status plan bytes)
+unfolding stream_refusal
+sent_whole plan bytes none is = sent_unrefused plan bytes Whole none is
+
+-- by its packets and its end
 whole_unrefused : (plan : Plan) (bytes : List ℕ) → refusal_from plan.site [] (taken_of bytes) ≡ None →
     end_refusal plan.site (taken_of bytes) ≡ None → end_of bytes ≡ Whole →
     (concat (broadcast plan (taken_of bytes)) ≡ sent_of plan bytes) × (Done ≡ sent_status plan bytes)
-unfolding stream_refusal
-whole_unrefused plan bytes none end is =
-    sent_unrefused plan bytes Whole (whole_none plan.site (taken_of bytes) none end) is
+whole_unrefused plan bytes none end is = sent_whole plan bytes (whole_none plan.site (taken_of bytes) none end) is
 
 broken_unrefused : (plan : Plan) (bytes : List ℕ) (found : StreamBreak) →
     refusal_from plan.site [] (taken_of bytes) ≡ None → end_of bytes ≡ Breaks found →

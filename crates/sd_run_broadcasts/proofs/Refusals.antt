@@ -27,6 +27,11 @@ none_sent site clear Whole none = (none_whole site clear none).0
 none_sent site clear (Breaks found) none = none
 none_sent site clear RunsOn none = none
 
+pub ended_whole : (site : SiteFields) (clear : List (List ℕ)) (end : StreamEnd) → end ≡ Whole →
+    stream_refusal site clear end ≡ None → whole_refusal site clear ≡ None
+unfolding stream_refusal
+ended_whole site clear end is none = ap (stream_refusal site clear) (sym is) ∙ none
+
 -- the other way
 pub whole_none : (site : SiteFields) (clear : List (List ℕ)) → refusal_from site [] clear ≡ None →
     end_refusal site clear ≡ None → whole_refusal site clear ≡ None
