@@ -1,9 +1,10 @@
 ghost use Rattle.std.specs.Prelude.{◌≡◌, ◌≢◌, ◌↔◌, ◌<◌, None, Err, IfOk, IfSome, IsErrOf, IsTrue, []};
-ghost use Rattle.std.specs.Prelude.{option_map, string_bytes, vec_capacity, vec_len};
+ghost use Rattle.std.specs.Prelude.{List, ℕ, option_map, string_bytes, vec_capacity, vec_len};
 ghost use Rattle.sd_base.specs.Count.{IsCaused};
 ghost use Rattle.sd_ports.specs.Causes.{HasDepotCause};
 ghost use Rattle.sd_host.specs.Faults.{fault_of, faults_after, misses_after};
 ghost use Rattle.sd_host.specs.Kept.{IsOutput, IsThrough};
+ghost use Rattle.sd_host.specs.Told.{said_in};
 
 use crate::error::FileError;
 use crate::identity;
@@ -80,8 +81,8 @@ impl<'a, R: Files + Print> HostDepot<'a, R> {
     /// The file of which the machine told an error last, and the kind of error. There is none without an error, and
     /// none if there was no memory for the name.
     pub fn trouble(&self) -> Option<(&str, ErrorKind)>
-        ensures { option_map (λ told. (told.0.now, told.1)) result
-            ≡ option_map (λ error. (string_bytes error.name, error.kind)) self.now.trouble }
+        ensures { option_map {U = List ℕ × ErrorKind} (λ told. (told.0.now, told.1)) result
+            ≡ option_map said_in self.now.trouble }
     {
         match &self.trouble {
             Some(error) => Some((error.name.as_str(), error.kind)),
