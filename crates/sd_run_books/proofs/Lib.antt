@@ -31,6 +31,7 @@ pub mod ShownCards
 pub mod FollowingNames
 pub mod Merged
 pub mod ToldPeriods
+pub mod StatusLines
 pub mod WholeLines
 pub mod OwnBook
 pub mod Origins
