@@ -32,6 +32,8 @@ pub mod FollowingNames
 pub mod Merged
 pub mod ToldPeriods
 pub mod StatusLines
+pub mod StatusOthers
+pub mod Changes
 pub mod WholeLines
 pub mod OwnBook
 pub mod Origins
