@@ -71,7 +71,7 @@ with_line line (Ok fields) = Ok (fields, line)
 unfoldable pub site_and_line_of_file : ℕ → Option (List ℕ) → Spec (SiteFields × Option BookLine)
 site_and_line_of_file word got =
     within word most_site_bytes SiteBytes got
-    >>= λ bytes. judged (with_line (book_line_of bytes) (told_site word (site_of bytes)))
+    >>= λ bytes. judged (with_line (book_line_of bytes) (told_site word bytes (site_of bytes)))
 
 -- the site and its own book of what their files gave
 unfoldable pub plan_by : ℕ → ℕ → Option (List ℕ) → Option (List ℕ) → Spec Plan
