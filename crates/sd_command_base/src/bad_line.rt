@@ -14,7 +14,7 @@ use sd_base::{NumberFault, next_line, number_after};
 use sd_site::SiteFault;
 use sd_tree::Height;
 
-/// As many bytes of a refused line as are shown: no line that a book, a file of accounts or one of leaves has is longer.
+/// As many bytes of a refused line as are shown: no good line of a book, of accounts or of leaves is longer.
 pub const MOST_SHOWN: usize = 48;
 
 /// As many bytes of a refused line of a site as are shown: no secret of a site is so short.
@@ -90,6 +90,7 @@ pub struct BadLine {
 }
 
 /// The line of this number, which breaks this rule.
+#[tactic(auto, unfolding(crate::specs::BadLines::bad_line))]
 pub fn refused_line(cause: LineCause, k: u32, bytes: &[u8]) -> BadLine
     ensures { result ≡ line_refused cause k bytes.now }
 {
@@ -101,6 +102,7 @@ pub fn refused_line(cause: LineCause, k: u32, bytes: &[u8]) -> BadLine
 }
 
 /// The line of this number, which is none of the lines that such a file has.
+#[tactic(auto, unfolding(crate::specs::BadLines::malformed))]
 pub fn malformed(k: u32, bytes: &[u8]) -> BadLine
     ensures { result ≡ line_malformed k bytes.now }
 {
@@ -108,6 +110,7 @@ pub fn malformed(k: u32, bytes: &[u8]) -> BadLine
 }
 
 /// The line of this number, which isn't the next one of a file of leaves of a tree of this height.
+#[tactic(auto, unfolding(crate::specs::BadLines::bad_leaf))]
 pub fn bad_leaf(h: Height, k: u32, bytes: &[u8]) -> BadLine
     ensures { result ≡ leaf_refused h k bytes.now }
 {
@@ -115,6 +118,7 @@ pub fn bad_leaf(h: Height, k: u32, bytes: &[u8]) -> BadLine
 }
 
 /// The line that the fault of a site names, if it may be shown.
+#[tactic(auto, using(crate::proofs::BadLines::nothing_shown), unfolding(crate::specs::BadLines::site_excerpt))]
 pub fn site_excerpt(fault: SiteFault, bytes: &[u8]) -> Excerpt
     ensures { result ≡ shown_of_site fault bytes.now }
 {
@@ -127,26 +131,25 @@ pub fn site_excerpt(fault: SiteFault, bytes: &[u8]) -> Excerpt
 }
 
 /// The line, if it is a text of at most so many bytes; else an empty one.
+#[tactic(auto, using(crate::proofs::BadLines::zeros_behind), unfolding(crate::specs::BadLines::excerpt_of))]
 fn shown(most: usize, line: &[u8]) -> Excerpt
     requires { most ≤ 48 }
     ensures { result ≡ excerpt_of most line.now }
 {
-    if line.len() > most || !is_text(line) {
+    let mut bytes = [0; MOST_SHOWN];
+    if line.len() <= most && is_text(line) {
+        bytes[..line.len()].copy_from_slice(line);
         return Excerpt {
-            bytes: [0; MOST_SHOWN],
-            length: 0,
+            bytes,
+            length: line.len() as u8,
         };
     }
-    let mut bytes = [0; MOST_SHOWN];
-    bytes[..line.len()].copy_from_slice(line);
-    Excerpt {
-        bytes,
-        length: line.len() as u8,
-    }
+    Excerpt { bytes, length: 0 }
 }
 
 /// The line of this number, counted from 1; an empty one if there is none.
-fn line_numbered(k: u32, bytes: &[u8]) -> &[u8]
+#[tactic(auto, unfolding(crate::specs::BadLines::line_numbered))]
+pub fn line_numbered(k: u32, bytes: &[u8]) -> &[u8]
     ensures { result.now ≡ numbered k bytes.now }
 {
     let mut before = k.saturating_sub(1);
@@ -162,17 +165,25 @@ fn line_numbered(k: u32, bytes: &[u8]) -> &[u8]
 }
 
 /// The rule that this line of a file of leaves breaks.
+#[tactic(auto, using(crate::proofs::BadLines::not_above, crate::proofs::BadLines::not_there, crate::proofs::BadLines::too_large, crate::proofs::BadLines::no_number))]
 fn leaf_cause(h: Height, line: &[u8]) -> LineCause
     ensures { result ≡ cause_of_leaf h line.now }
 {
     match number_after(b"", line) {
-        Ok(number) if number < h.leaves() => LineCause::Descends,
-        Ok(_) | Err(NumberFault::TooLarge) => LineCause::Leaf(h.get()),
+        Ok(number) => {
+            if number < h.leaves() {
+                LineCause::Descends
+            } else {
+                LineCause::Leaf(h.get())
+            }
+        }
+        Err(NumberFault::TooLarge) => LineCause::Leaf(h.get()),
         Err(NumberFault::Malformed) => layout_of(line),
     }
 }
 
 /// The first rule of the layout of lines that this line breaks.
+#[tactic(auto, unfolding(crate::specs::BadLines::layout_of))]
 fn layout_of(line: &[u8]) -> LineCause
     ensures { result ≡ layout line.now }
 {
@@ -194,6 +205,7 @@ fn layout_of(line: &[u8]) -> LineCause
 }
 
 /// The first rule of the bytes within a line that this line breaks.
+#[tactic(auto, unfolding(crate::specs::BadLines::spelling_of))]
 fn spelling_of(line: &[u8]) -> LineCause
     ensures { result ≡ spelling line.now }
 {
@@ -227,6 +239,7 @@ fn is_capital(byte: u8) -> bool
 }
 
 /// Whether a space stands at an end of the line or beside another.
+#[tactic(auto, unfolding(crate::specs::BadLines::has_stray_space))]
 fn has_stray_space(line: &[u8]) -> bool
     ensures { result ≡ has_stray line.now }
 {

@@ -1,9 +1,12 @@
-ghost use Rattle.std.specs.Prelude.{◌≡◌, ◌≢◌, ◌↔◌, ◌<◌, None, Err, IfOk, IsErrOf, IsTrue, [], vec_capacity, vec_len};
+ghost use Rattle.std.specs.Prelude.{◌≡◌, ◌≢◌, ◌↔◌, ◌<◌, None, Err, IfOk, IfSome, IsErrOf, IsTrue, []};
+ghost use Rattle.std.specs.Prelude.{List, ℕ, option_map, string_bytes, vec_capacity, vec_len};
 ghost use Rattle.sd_base.specs.Count.{IsCaused};
 ghost use Rattle.sd_ports.specs.Causes.{HasDepotCause};
 ghost use Rattle.sd_host.specs.Faults.{fault_of, faults_after, misses_after};
 ghost use Rattle.sd_host.specs.Kept.{IsOutput, IsThrough};
+ghost use Rattle.sd_host.specs.Told.{said_in};
 
+use crate::error::FileError;
 use crate::identity;
 use crate::identity::{Identity, Kind, Output};
 use crate::inlet::HostInlet;
@@ -18,8 +21,11 @@ use std::io::ErrorKind;
 /// The files of the machine, by their paths.
 #[derive(Drop)]
 pub struct HostDepot<'a, R> {
+    alloc: Global,
     files: &'a R,
     private: bool,
+    // The last error, for the explanation: no count and no result depends on it.
+    trouble: Option<FileError>,
     output: Output,
     inputs: Vec<Identity>,
     faults: u64,
@@ -43,8 +49,10 @@ impl<'a, R: Files + Print> HostDepot<'a, R> {
         ensures calls { result.calls ≡ 0 }
     {
         HostDepot {
+            alloc,
             files,
             private,
+            trouble: None,
             output: identity::standard_output(files),
             inputs: Vec::new(alloc),
             faults: 0,
@@ -68,6 +76,18 @@ impl<'a, R: Files + Print> HostDepot<'a, R> {
         ensures { IsTrue result ↔ (self.now.output ≢ Output.Unknown) }
     {
         self.output != Output::Unknown
+    }
+
+    /// The file of which the machine told an error last, and the kind of error. There is none without an error, and
+    /// none if there was no memory for the name.
+    pub fn trouble(&self) -> Option<(&str, ErrorKind)>
+        ensures { option_map {U = List ℕ × ErrorKind} (λ told. (told.0.now, told.1)) result
+            ≡ option_map said_in self.now.trouble }
+    {
+        match &self.trouble {
+            Some(error) => Some((error.name.as_str(), error.kind)),
+            None => None,
+        }
     }
 
     /// Where a file of that name is written, which is the standard output or not.
@@ -94,8 +114,23 @@ impl<'a, R: Files + Print> HostDepot<'a, R> {
         }
     }
 
-    /// Counts why a file wasn't opened, and says it.
-    fn refuse<T>(&mut self, kind: ErrorKind) -> Result<T, DepotFault>
+    /// Writes what still waits, and brings a file that was made new to the disk. An error's kind is returned.
+    fn finish(
+        &self,
+        name: &str,
+        port: &mut HostOutlet<Target<'a, R>>,
+    ) -> Result<(), Option<ErrorKind>> {
+        match port.send() {
+            Ok(()) => match port.file().sync(self.files, name) {
+                Ok(()) => Ok(()),
+                Err(error) => Err(Some(error.kind())),
+            },
+            Err(_) => Err(port.kind()),
+        }
+    }
+
+    /// Counts why the file of that name wasn't opened, and says it.
+    fn refuse<T>(&mut self, name: &str, kind: ErrorKind) -> Result<T, DepotFault>
         ensures value { result ≡ Err (fault_of kind) }
         ensures misses { self.new.misses ≡ misses_after self.old.misses (fault_of kind) }
         ensures faults { self.new.faults ≡ faults_after self.old.faults (fault_of kind) }
@@ -104,6 +139,8 @@ impl<'a, R: Files + Print> HostDepot<'a, R> {
         ensures made { self.new.made ≡ self.old.made }
         ensures ports { self.new.opened ≡ self.old.opened }
         ensures calls { self.new.calls ≡ self.old.calls }
+        ensures trouble { IsErrOf result DepotFault.Failed → IfSome self.new.trouble
+            (λ error. (string_bytes error.name ≡ name.now) × (error.kind ≡ kind)) }
     {
         match kind {
             ErrorKind::NotFound | ErrorKind::NotADirectory => {
@@ -112,6 +149,7 @@ impl<'a, R: Files + Print> HostDepot<'a, R> {
             }
             ErrorKind::OutOfMemory => Err(DepotFault::NoMemory),
             _ => {
+                self.trouble = FileError::of(self.alloc, name, kind);
                 self.faults = self.faults.saturating_add(1);
                 self.stops = self.stops.saturating_add(1);
                 Err(DepotFault::Failed)
@@ -139,14 +177,14 @@ impl<'a, R: Files + Print> Depot for HostDepot<'a, R> {
 
     ghost calls = { λ d. d.calls };
 
-    fn open_in(&mut self, _alloc: Global, name: &str) -> Result<HostInlet<R::File>, DepotFault> {
+    fn open_in(&mut self, alloc: Global, name: &str) -> Result<HostInlet<R::File>, DepotFault> {
         self.calls = self.calls.saturating_add(1);
         match identity::open(self.files, &mut self.inputs, self.output, name) {
             Ok(file) => {
                 self.opened = self.opened.wrapping_add(1);
-                Ok(HostInlet::new(file))
+                Ok(HostInlet::new(file, String::from_str(alloc, name).ok()))
             }
-            Err(error) => self.refuse(error.kind()),
+            Err(error) => self.refuse(name, error.kind()),
         }
     }
 
@@ -164,7 +202,7 @@ impl<'a, R: Files + Print> Depot for HostDepot<'a, R> {
         };
         let target = match self.target(self.is_output(name), name) {
             Ok(target) => target,
-            Err(error) => return self.refuse(error.kind()),
+            Err(error) => return self.refuse(name, error.kind()),
         };
         self.made = self.made.saturating_add(1);
         self.opened = self.opened.wrapping_add(1);
@@ -188,7 +226,7 @@ impl<'a, R: Files + Print> Depot for HostDepot<'a, R> {
         let file = match identity::create_new(self.files, &mut inputs, self.private, name) {
             Ok(Some(file)) => file,
             Ok(None) => return Ok(None),
-            Err(error) => return self.refuse(error.kind()),
+            Err(error) => return self.refuse(name, error.kind()),
         };
         self.inputs = inputs;
         self.made = self.made.saturating_add(1);
@@ -202,6 +240,9 @@ impl<'a, R: Files + Print> Depot for HostDepot<'a, R> {
         let faults = port.faults();
         self.faults = self.faults.saturating_add(faults);
         self.stops = self.stops.saturating_add(faults);
+        if let Some(error) = port.into_error() {
+            self.trouble = Some(error);
+        }
     }
 
     /// Writes what still waits, and brings a file that was made new to the disk.
@@ -215,7 +256,13 @@ impl<'a, R: Files + Print> Depot for HostDepot<'a, R> {
         let faults = port.faults();
         self.faults = self.faults.saturating_add(faults);
         self.stops = self.stops.saturating_add(faults);
-        if port.send().is_ok() && port.file().sync(self.files, name).is_ok() {
+        let finished = self.finish(name, &mut port);
+        let kind = match finished {
+            Ok(()) => port.kind(),
+            Err(kind) => kind,
+        };
+        self.trouble = FileError::or_before(self.alloc, name, kind, self.trouble.take());
+        if finished.is_ok() {
             return Ok(());
         }
         self.faults = self.faults.saturating_add(1);

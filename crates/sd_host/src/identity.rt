@@ -18,6 +18,10 @@ const PRIVATE: u32 = 0o600;
 
 const SHARED: u32 = 0o666;
 
+/// The kind of error of a file that is one of the inputs, or the standard output, by another path. No error of the
+/// machine's own has it.
+pub const SAME_FILE: ErrorKind = ErrorKind::Other;
+
 /// The path of the current folder.
 const CURRENT: &str = ".";
 
@@ -170,7 +174,7 @@ pub fn add_input(
     ensures unchanged { OnErr result (inputs.new.items ≡ inputs.old.items) }
 {
     if !may_read(output, kind, file) {
-        return Err(Error::from(ErrorKind::InvalidInput));
+        return Err(Error::from(SAME_FILE));
     }
     if kind.is_kept() && inputs.push(file).is_err() {
         return Err(Error::from(ErrorKind::OutOfMemory));
@@ -268,7 +272,7 @@ pub fn spare_inputs(inputs: &[Identity], kind: Kind, file: Identity) -> io::Resu
     if may_make(inputs, kind, file) {
         Ok(())
     } else {
-        Err(Error::from(ErrorKind::InvalidInput))
+        Err(Error::from(SAME_FILE))
     }
 }
 

@@ -2,7 +2,9 @@ ghost use Rattle.std.specs.Prelude.{◌≡◌, ◌<◌, None, OnErr, length};
 ghost use Rattle.std.specs.Io.{ReadsAtMost};
 ghost use Rattle.std.specs.Io.KnownBytes.{ReadConsumes};
 ghost use Rattle.sd_base.specs.Count.{HasCause, with_added};
+ghost use Rattle.sd_host.specs.Told.{error_of};
 
+use crate::error::FileError;
 use sd_ports::{PortFault, Source};
 use std::io::{ErrorKind, Read};
 
@@ -11,14 +13,23 @@ use std::io::{ErrorKind, Read};
 pub struct HostInlet<F> {
     file: F,
     faults: u64,
+    // The file's name, if there was memory for it.
+    name: Option<String>,
+    // The kind of the last error.
+    kind: Option<ErrorKind>,
 }
 
 impl<F: Read + Drop> HostInlet<F> {
     /// A port to a file, with a count of 0.
-    pub(crate) fn new(file: F) -> HostInlet<F>
+    pub(crate) fn new(file: F, name: Option<String>) -> HostInlet<F>
         ensures faults { result.faults ≡ 0 }
     {
-        HostInlet { file, faults: 0 }
+        HostInlet {
+            file,
+            faults: 0,
+            name,
+            kind: None,
+        }
     }
 
     /// How many reads failed.
@@ -26,6 +37,16 @@ impl<F: Read + Drop> HostInlet<F> {
         ensures { result ≡ self.now.faults }
     {
         self.faults
+    }
+
+    /// What the machine said of the file, if a read failed and the name is known.
+    pub(crate) fn into_error(self) -> Option<FileError>
+        ensures { result ≡ error_of self.name self.kind }
+    {
+        match (self.name, self.kind) {
+            (Some(name), Some(kind)) => Some(FileError { name, kind }),
+            _ => None,
+        }
     }
 }
 
@@ -48,7 +69,10 @@ impl<F: Read + Drop> Source for HostInlet<F> {
             match self.file.read(buf) {
                 Ok(count) => return Ok(count),
                 Err(error) if error.kind() == ErrorKind::Interrupted => {}
-                Err(_) => break,
+                Err(error) => {
+                    self.kind = Some(error.kind());
+                    break;
+                }
             }
         }
         self.faults = self.faults.saturating_add(1);

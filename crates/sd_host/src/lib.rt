@@ -2,6 +2,7 @@
 #![tactic(auto)]
 
 mod depot;
+mod error;
 mod identity;
 mod inlet;
 mod outlet;
@@ -9,7 +10,7 @@ mod print;
 mod target;
 
 pub use depot::HostDepot;
-pub use identity::{Identity, Kind, Output, add_input, may_make, may_read, spare_inputs};
+pub use identity::{Identity, Kind, Output, SAME_FILE, add_input, may_make, may_read, spare_inputs};
 pub use inlet::HostInlet;
 pub use outlet::HostOutlet;
 pub use print::StdPrint;

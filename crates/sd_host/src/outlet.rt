@@ -8,7 +8,7 @@ ghost use Rattle.sd_host.specs.declared.outlet.TheConstants.{BUFFER};
 
 use crate::print::StdPrint;
 use sd_ports::{PortFault, Sink};
-use std::io::Write;
+use std::io::{ErrorKind, Write};
 
 /// How many bytes wait at most before they are written to a file: as many whole transport packets, of 188 bytes, as fit
 /// an empty pipe of 64 KiB. So each write of a stream of packets ends with a whole one.
@@ -51,6 +51,13 @@ impl<F: Write + Drop> HostOutlet<F> {
         ensures { result ≡ self.now.file.faults }
     {
         self.file.faults()
+    }
+
+    /// The kind of the last error, if a write failed.
+    pub(crate) fn kind(&self) -> Option<ErrorKind>
+        ensures { result ≡ self.now.file.kind }
+    {
+        self.file.kind()
     }
 
     /// Writes what waits. After a fault, what wasn't written waits still.

@@ -12,6 +12,8 @@ use std::io::{ErrorKind, Write};
 pub struct StdPrint<W> {
     writer: W,
     faults: u64,
+    // The kind of the last error.
+    kind: Option<ErrorKind>,
 }
 
 impl<W: Write + Drop> StdPrint<W> {
@@ -19,7 +21,11 @@ impl<W: Write + Drop> StdPrint<W> {
     pub fn new(writer: W) -> StdPrint<W>
         ensures faults { result.faults ≡ 0 }
     {
-        StdPrint { writer, faults: 0 }
+        StdPrint {
+            writer,
+            faults: 0,
+            kind: None,
+        }
     }
 
     /// The writer.
@@ -34,6 +40,13 @@ impl<W: Write + Drop> StdPrint<W> {
         ensures { result ≡ self.now.faults }
     {
         self.faults
+    }
+
+    /// The kind of the last error, if a write failed.
+    pub(crate) fn kind(&self) -> Option<ErrorKind>
+        ensures { result ≡ self.now.kind }
+    {
+        self.kind
     }
 }
 
@@ -62,10 +75,16 @@ impl<W: Write + Drop> Sink for StdPrint<W> {
     {
         for _turn in 0..u64::MAX {
             match self.writer.write(piece) {
-                Ok(0) => break,
+                Ok(0) => {
+                    self.kind = Some(ErrorKind::WriteZero);
+                    break;
+                }
                 Ok(count) => return Ok(count),
                 Err(error) if error.kind() == ErrorKind::Interrupted => {}
-                Err(_) => break,
+                Err(error) => {
+                    self.kind = Some(error.kind());
+                    break;
+                }
             }
         }
         self.faults = self.faults.saturating_add(1);

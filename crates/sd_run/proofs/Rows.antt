@@ -33,6 +33,7 @@ use Rattle.sd_run_broadcasts.specs.Receive.{receive_meaning}
 use Rattle.sd_run_streams.specs.Sample.{sample_meaning}
 use Rattle.sd_run_books.specs.Show.{line_of_file, show_meaning}
 use Rattle.sd_run_streams.specs.Tables.{inspecting, tables_meaning}
+use Rattle.sd_run_books.specs.Status.{status_meaning, status_text, tree_of_file}
 use Rattle.sd_run_books.specs.Trace.{traced, trace_meaning}
 use Rattle.sd_command_base.specs.Printed.{printing}
 use Rattle.sd_run_broadcasts.specs.Field.{field_meaning, field_text, inputs_meaning, script_of_file}
@@ -53,6 +54,7 @@ use Rattle.sd_command_line.specs.declared.command.Command.TheVariants.{Apart, Me
 use Rattle.sd_command_line.specs.declared.command.Command.TheVariants.{Receive}
 use Rattle.sd_command_line.specs.declared.command.Command.TheVariants.{Sample}
 use Rattle.sd_command_line.specs.declared.command.Command.TheVariants.{Show}
+use Rattle.sd_command_line.specs.declared.command.Command.TheVariants.{Status as StatusOf}
 use Rattle.sd_command_line.specs.declared.command.Command.TheVariants.{Tables, Trace, Trial, Twin, Watch}
 use Rattle.sd_command_line.specs.declared.operand.Operand.{Operand}
 use Rattle.sd_command_line.specs.Commands.{command_named, example_of, command_name, operands_of}
@@ -61,7 +63,7 @@ use Rattle.sd_command_line.specs.Words.{Argument, file, number, named_words, or_
 use Rattle.sd_run.specs.Meaning.{command_meaning}
 use Rattle.sd_command_base.proofs.Others.{IsOther}
 use Rattle.sd_run_books.proofs.CardOthers.{other_cover, other_card_order, other_layered, other_lcard}
-use Rattle.sd_run_books.proofs.CardOthers.{other_opens, other_show, other_trace}
+use Rattle.sd_run_books.proofs.CardOthers.{other_opens, other_show, other_status, other_trace}
 use Rattle.sd_run_streams.proofs.Others.{other_tables}
 use Rattle.sd_run_broadcasts.proofs.AirOthers.{other_air}
 use Rattle.sd_run_broadcasts.proofs.HeadOthers.{other_head}
@@ -236,6 +238,17 @@ layered_orderly site book width given =
     (λ commands. value (layering layers.height layers.width commands))
     (λ commands. none_made (layering layers.height layers.width commands) refl refl (λ refusal. absurd refusal)))
 
+status_orderly : (site book : FileArgument) (leaf : NumberArgument) (given : Readings) →
+    AreOrderly None None (status_meaning site book leaf given).result
+status_orderly site book leaf given =
+    orderly_after None None (tree_of_file site.number leaf (given site))
+    (λ fields. book_in given fields.height book
+    >>= λ commands. value (work_of_text (status_text fields commands leaf.value)))
+    (λ fields. orderly_after None None (book_in given fields.height book)
+    (λ commands. value (work_of_text (status_text fields commands leaf.value)))
+    (λ commands. none_made (work_of_text (status_text fields commands leaf.value)) refl refl
+    (λ refusal. absurd refusal)))
+
 apart_orderly : (site book other more : FileArgument) (given : Readings) →
     AreOrderly None None (apart_meaning site book other more given).result
 apart_orderly site book other more given =
@@ -337,6 +350,7 @@ command_orderly Plan words given =
 command_orderly Receive words given = receive_orderly (file 1 words) (file 2 words) (file 3 words) given
 command_orderly Sample words given = sample_orderly (number 1 words).value (number 2 words).value (file 3 words) given
 command_orderly Show words given = show_orderly (file 1 words) given
+command_orderly StatusOf words given = status_orderly (file 1 words) (file 2 words) (number 3 words) given
 command_orderly Tables words given = tables_orderly (file 1 words) given
 command_orderly Trace words given = trace_orderly (file 1 words) (file 2 words) (file 3 words) given
 command_orderly Trial words given = trial_orderly (file 1 words) (file 2 words) (file 3 words) given
@@ -364,6 +378,7 @@ other_command Plan words given =
 other_command Receive words given = other_receive (file 1 words) (file 2 words) (file 3 words) given
 other_command Sample words given = tt
 other_command Show words given = other_show (file 1 words) given
+other_command StatusOf words given = other_status (file 1 words) (file 2 words) (number 3 words) given
 other_command Tables words given = other_tables (file 1 words) given
 other_command Trace words given = other_trace (file 1 words) (file 2 words) (file 3 words) given
 other_command Trial words given = other_trial (file 1 words) (file 2 words) (file 3 words) given
@@ -390,6 +405,7 @@ example Plan = (refl, refl)
 example Receive = (refl, refl)
 example Sample = (refl, refl)
 example Show = (refl, refl)
+example StatusOf = (refl, refl)
 example Tables = (refl, refl)
 example Trace = (refl, refl)
 example Trial = (refl, refl)
@@ -503,6 +519,13 @@ pub show_works : (words : List Argument) {one : FileArgument} {a b : Outside}
     {status : Status} → one ≡ file 1 words → Implements (show_meaning one) a b status →
     Implements (command_meaning Show words) a b status
 show_works words at_one done = rw at_one at done
+
+-- `status`
+pub status_works : (words : List Argument) {one two : FileArgument} {three : NumberArgument}
+    {a b : Outside} {status : Status} → one ≡ file 1 words → two ≡ file 2 words →
+    three ≡ number 3 words → Implements (status_meaning one two three) a b status →
+    Implements (command_meaning StatusOf words) a b status
+status_works words at_one at_two at_three done = rw (at_one, at_two, at_three) at done
 
 -- `tables`
 pub tables_works : (words : List Argument) {one : FileArgument} {a b : Outside}

@@ -4,6 +4,7 @@ use Rattle.sd_command_base.specs.declared.status.Status.{Status}
 use Rattle.sd_command_base.specs.declared.status.Status.TheVariants.{Usage, NoMemory}
 use Rattle.sd_command_base.specs.Outside.{Outside}
 use Rattle.sd_command_base.specs.Results.{RunResult, IsToldAs}
+use Rattle.sd_command_line.specs.Spelled.{spelled}
 use Rattle.sd_run.specs.Meaning.{meaning}
 
 -- the status is one of `run` to these words, over files of which nothing is known
@@ -14,8 +15,8 @@ IsAnswerTo words status = (a b : Outside) × (a.place.files ≡ None) × RunResu
 abbrev pub IsUnread : Status → Type 0
 IsUnread status = (status ≡ Usage) ⊎ (status ≡ NoMemory)
 
--- the status is one of `run` to some words, or tells that the words can't be read
+-- the status is one of `run` to some words, as they are spelled out, or tells that the words can't be read
 abbrev pub IsAnswer : Status → Type 0
 IsAnswer status =
-    ((words : List (List ℕ)) × IsAnswerTo words status)
+    ((words : List (List ℕ)) × IsAnswerTo (spelled words) status)
     ⊎ ((unread : Status) × (IsUnread unread × IsToldAs unread status))

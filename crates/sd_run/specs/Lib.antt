@@ -1,3 +1,4 @@
 pub mod Answers
 pub mod Meaning
 pub mod Refusals
+pub mod Troubles

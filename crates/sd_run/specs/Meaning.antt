@@ -7,7 +7,7 @@ use Rattle.sd_command_line.specs.declared.command.Command.TheVariants.{Accounts,
 use Rattle.sd_command_line.specs.declared.command.Command.TheVariants.{Head, Layered, Lcard}
 use Rattle.sd_command_line.specs.declared.command.Command.TheVariants.{Apart, Messages, Next, Opens, Plan}
 use Rattle.sd_command_line.specs.declared.command.Command.TheVariants.{Receive, Sample}
-use Rattle.sd_command_line.specs.declared.command.Command.TheVariants.{Show}
+use Rattle.sd_command_line.specs.declared.command.Command.TheVariants.{Show, Status}
 use Rattle.sd_command_line.specs.declared.command.Command.TheVariants.{Tables}
 use Rattle.sd_command_line.specs.declared.command.Command.TheVariants.{Trace, Trial, Twin, Watch}
 use Rattle.sd_command_line.specs.Words.{Argument, Order, CommandOf, HelpOf, VersionOf, file, number, order_of}
@@ -29,6 +29,7 @@ use Rattle.sd_run_books.specs.Next.{next_meaning}
 use Rattle.sd_run_books.specs.Opens.{opens_meaning}
 use Rattle.sd_run_books.specs.Air.{plan_meaning}
 use Rattle.sd_run_books.specs.Show.{show_meaning}
+use Rattle.sd_run_books.specs.Status.{status_meaning}
 use Rattle.sd_run_books.specs.Trace.{trace_meaning}
 use Rattle.sd_run_books.specs.Twin.{twin_meaning}
 use Rattle.sd_run_broadcasts.specs.Trial.{trial_meaning}
@@ -55,6 +56,7 @@ command_meaning Plan words given =
 command_meaning Receive words given = receive_meaning (file 1 words) (file 2 words) (file 3 words) given
 command_meaning Sample words given = sample_meaning (number 1 words).value (number 2 words).value (file 3 words) given
 command_meaning Show words given = show_meaning (file 1 words) given
+command_meaning Status words given = status_meaning (file 1 words) (file 2 words) (number 3 words) given
 command_meaning Tables words given = tables_meaning (file 1 words) given
 command_meaning Trace words given = trace_meaning (file 1 words) (file 2 words) (file 3 words) given
 command_meaning Trial words given = trial_meaning (file 1 words) (file 2 words) (file 3 words) given

@@ -1,4 +1,4 @@
-ghost use Rattle.std.specs.Prelude.{◌≡◌, ◌<◌, ℕ, Err, IfErr, map, string_bytes};
+ghost use Rattle.std.specs.Prelude.{◌≡◌, ◌<◌, ℕ, List, Err, IfErr, IfOk, map, string_bytes};
 ghost use Rattle.std.specs.Process.{exit_status};
 ghost use Rattle.sd_command_base.specs.Exits.{code_of};
 ghost use Rattle.sd_command_base.specs.Outside.{outside, depot_state, PageState};
@@ -6,14 +6,15 @@ ghost use Rattle.sd_command_base.specs.Results.{RunResult, IsToldAs};
 ghost use Rattle.sd_command_line.specs.CommandLine.{words_of};
 ghost use Rattle.sd_command_line.specs.Words.{order_of};
 ghost use Rattle.sd_run.specs.Answers.{IsAnswer, IsAnswerTo, IsUnread};
+ghost use Rattle.sd_command_line.specs.Spelled.{spelled};
 ghost use Rattle.sd_run.specs.Meaning.{meaning};
 
-use crate::edge::{depot_for, names_output};
+use crate::edge::{depot_for, names_output, trouble_in};
 use crate::lines::Lines;
 use crate::run;
 use sd_base::Steps;
-use sd_command_base::Status;
-use sd_command_line::{CommandLine, explanation, tell};
+use sd_command_base::{Status, Trouble};
+use sd_command_line::{CommandLine, explanation, spell_out, tell};
 use sd_host::StdPrint;
 use sd_ports::{Depot, write_all};
 use std::alloc::Global;
@@ -57,12 +58,16 @@ fn answer<R: Env + Files + Print + AllocGlobal, O: Write + Drop, E: Write + Copy
     }
 }
 
-/// The words after the program's name. Words that aren't UTF-8 are a faulty command line.
+/// The words after the program's name, spelled out. Words that aren't UTF-8 are a faulty command line.
 fn words(rt: &(impl Env + AllocGlobal)) -> Result<Vec<String>, Status>
-    ensures { IfErr result IsUnread }
+    ensures spelled { IfOk result (λ words. (given : List (List ℕ)) × (map string_bytes words.items ≡ spelled given)) }
+    ensures unread { IfErr result IsUnread }
 {
     match env::args(rt) {
-        Ok(args) => Ok(args.skip(1).collect(rt.alloc())?),
+        Ok(args) => {
+            let words = args.skip(1).collect(rt.alloc())?;
+            Ok(spell_out(rt.alloc(), words)?)
+        }
         Err(error) if error.kind() == ErrorKind::OutOfMemory => Err(Status::NoMemory),
         Err(_) => Err(Status::Usage),
     }
@@ -89,7 +94,7 @@ fn answer_to<R: Files + Print + AllocGlobal, O: Write + Drop, E: Write + Copy + 
         to_error,
     };
     let status = counted::<Brand, _, _, _>(alloc, &line, &mut depot, lines, error, Blank::new(1));
-    explain(alloc, &line, status, error);
+    explain(alloc, &line, trouble_in(&depot), status, error);
     status
 }
 
@@ -119,8 +124,14 @@ fn counted<L: Ledger, D: Depot, W: Write + Drop, E: Write + Drop>(
 
 /// Says to a user what is wrong with an argument. The status and its line are the answer, so it doesn't matter if this
 /// can't be said.
-fn explain<E: Write + Drop>(alloc: Global, line: &CommandLine<'_>, status: Status, error: E) {
-    if let Ok(text) = explanation(alloc, line, status) {
+fn explain<E: Write + Drop>(
+    alloc: Global,
+    line: &CommandLine<'_>,
+    trouble: Option<(&str, Trouble)>,
+    status: Status,
+    error: E,
+) {
+    if let Ok(text) = explanation(alloc, line, trouble, status) {
         write_all(&mut StdPrint::new(error), text.as_bytes()).ok();
     }
 }

@@ -12,7 +12,7 @@ use sd_command_base::Status;
 use sd_command_line::{Arguments, Command};
 use sd_ports::{Depot, Sink};
 use sd_run_books::{
-    accounts, apart, book, card, cover, layered, lcard, next, opens, plan, show, trace, twin,
+    accounts, apart, book, card, cover, layered, lcard, next, opens, plan, show, status, trace, twin,
 };
 use sd_run_broadcasts::{air, field, head, receive, trial, watch};
 use sd_run_streams::{messages, sample, tables};
@@ -52,6 +52,7 @@ pub(crate) fn work<D: Depot, P: Sink, N: Sink, L: Ledger>(
         Command::Receive => receive_row(alloc, row, depot, steps),
         Command::Sample => sample_row(alloc, row, depot),
         Command::Show => show_row(alloc, row, depot, print),
+        Command::Status => status_row(alloc, row, depot, print),
         Command::Tables => tables_row(alloc, row, depot, print),
         Command::Trace => trace_row(alloc, row, depot, print),
         Command::Trial => trial_row(alloc, row, depot, print, steps),
@@ -378,6 +379,21 @@ fn show_row<D: Depot, P: Sink>(
         (outside (depot_state D.Depot depot.new) (page_state P.Sink print.new) steps) (status_of result) }
 {
     show(alloc, depot, print, row.file(1))
+}
+
+/// `status` with the arguments of its row.
+#[tactic(auto, using(crate::proofs::Rows::status_works))]
+fn status_row<D: Depot, P: Sink>(
+    alloc: Global,
+    row: &Arguments<'_>,
+    depot: &mut D,
+    print: &mut P,
+) -> Result<(), Status>
+    ensures { (steps : ℕ) → Implements (command_meaning Command.Status (arguments_said 1 row.now.list.items))
+        (outside (depot_state D.Depot depot.old) (page_state P.Sink print.old) steps)
+        (outside (depot_state D.Depot depot.new) (page_state P.Sink print.new) steps) (status_of result) }
+{
+    status(alloc, depot, print, row.file(1), row.file(2), row.number(3))
 }
 
 /// `tables` with the arguments of its row.

@@ -2,9 +2,10 @@ use crate::files::{
     Call, TEXT, gives, handed_on, host_call, machine_call, machine_gives, make_new, write,
 };
 use crate::machine::{Machine, Trouble};
-use sd_host::{HostDepot, StdPrint};
+use sd_host::{HostDepot, SAME_FILE, StdPrint};
 use sd_ports::{FileFault, New, PortFault, write_all};
 use std::fs::{Files, Permissions};
+use std::io::ErrorKind;
 use std::os::unix::fs::{MetadataExt, PermissionsExt, symlink};
 use std::{fs, io};
 
@@ -20,6 +21,10 @@ const FILE: &str = "sd_host_file";
 const BELOW: &str = "sd_host_file/x";
 
 const LOOPED: &str = "sd_host_loop";
+
+const LOOPED_TOO: &str = "sd_host_loop_too";
+
+const TOLD: &str = "sd_host_told";
 
 // A name that is too long for a file.
 static LONG_NAME: [u8; 300] = [b'x'; 300];
@@ -62,6 +67,44 @@ fn the_host_opens_files(rt: HostRuntime) -> io::Result<()> {
     assert!(rt; write(alloc, &mut depot, long, TEXT) == Err(FileFault::Failed));
     fs::remove_file(&rt, FILE)?;
     fs::remove_file(&rt, LOOPED)
+}
+
+// Names that can be neither read nor written, and what the machine says of them.
+static FAULTY: [(&str, ErrorKind); 2] = [
+    ("/dev", ErrorKind::IsADirectory),
+    (LOOPED_TOO, ErrorKind::FilesystemLoop),
+];
+
+#[test]
+fn the_last_error_is_told(rt: HostRuntime) -> io::Result<()> {
+    let alloc = rt.alloc();
+    let mut depot = HostDepot::new(alloc, &rt, false);
+    symlink(&rt, LOOPED_TOO, LOOPED_TOO)?;
+    assert!(rt; write(alloc, &mut depot, TOLD, TEXT) == Ok(()));
+    assert!(rt; gives(alloc, &mut depot, "no such file", 7, Err(FileFault::Missing)));
+    assert!(rt; depot.trouble().is_none());
+    for (name, kind) in &FAULTY {
+        assert!(rt; gives(alloc, &mut depot, name, 7, Err(FileFault::Failed)));
+        assert!(rt; tells(&depot, name, *kind), "read {name}");
+        assert!(rt; write(alloc, &mut depot, "/dev/full", TEXT).is_err());
+        assert!(rt; tells(&depot, "/dev/full", ErrorKind::StorageFull));
+        assert!(rt; write(alloc, &mut depot, name, TEXT).is_err());
+        assert!(rt; tells(&depot, name, *kind), "written {name}");
+    }
+    // A file that is one of the inputs, by another path.
+    assert!(rt; gives(alloc, &mut depot, TOLD, 7, Ok("abcdefg")));
+    assert!(rt; write(alloc, &mut depot, "./sd_host_told", TEXT).is_err());
+    assert!(rt; tells(&depot, "./sd_host_told", SAME_FILE));
+    fs::remove_file(&rt, TOLD)?;
+    fs::remove_file(&rt, LOOPED_TOO)
+}
+
+// Whether this is the last error of a depot.
+fn tells(depot: &HostDepot<'_, HostRuntime>, name: &str, kind: ErrorKind) -> bool {
+    match depot.trouble() {
+        Some((of, said)) => of == name && said == kind,
+        None => false,
+    }
 }
 
 static LONG: [u8; 70000] = [7; 70000];

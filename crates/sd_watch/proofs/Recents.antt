@@ -1,17 +1,19 @@
 -- The last scrambled packets.
 use Rattle.std.proofs.Common.{arith, ◌≡◌, ℕ, suc, ◌+◌, ◌-◌, ◌%◌, ◌==◌, ◌<◌, ◌≤◌, [], ◌∷◌, ◌++◌, refl, ap, sym, ◌∙◌}
-use Rattle.std.proofs.Common.{Bool, true, false, length, take, drop, length-drop, append-nil, append_assoc, inl, inr}
+use Rattle.std.proofs.Common.{Bool, true, false, List, zero, map, length, take, drop, length-drop, append-nil, append_assoc, inl, inr}
 use Rattle.std.proofs.Common.{length-append, drop-cons}
 use Rattle.std.specs.Prelude.{◌||◌, ◌≢◌, filter, reverse, bytes_eq, set}
 use Rattle.std.specs.List.{list_any}
 use Rattle.std.proofs.lemmas.Bool.{eq-eqb, ne_eqb, cases_lt}
 use Rattle.std.proofs.lemmas.List.{reverse-append, length-reverse, length-take, length-set, take-append-drop, take-take}
-use Rattle.std.proofs.lemmas.List.{drop_at, drop_all, take_all, drop-set-lt, take_more_set}
+use Rattle.std.proofs.lemmas.List.{map-append, map-set, drop_at, drop_all, take_all, drop-set-lt, take_more_set}
 use Rattle.std.proofs.lemmas.List.Folds.{list_any-append}
 use Rattle.std.proofs.lemmas.List.Sorted.{list_any-IsPermutation, IsPermutation-reverse}
+use Rattle.std.proofs.lemmas.Slice.Eq.{bytes_eq-Decides}
 use Rattle.sd_base.specs.Types.{Packet, Packets}
 use Rattle.sd_packet.specs.Header.{scrambling_of}
 use Rattle.sd_spec.specs.Counting.{is_scrambled_packet, is_copy}
+use Rattle.sd_watch.specs.Tags.{packet_tag}
 use Rattle.sd_watch.specs.Watching.{IsRecent}
 use Rattle.sd_watch.specs.declared.recent.Recent.{Recent}
 
@@ -25,6 +27,7 @@ none_kept recent none first = record {
   few = let long = ap (λ (ps : Packets). length ps) none in omega (arith, long);
   begins = λ less. first;
   last = rw (none, first) refl;
+  tagged = rw none refl;
 }
 
 -- the packets that come before the last of those that are reversed
@@ -68,8 +71,9 @@ kept_long past recent is =
 -- a scrambled packet more, while there are fewer than 15
 pub added : (past : Packets) (packet : Packet) (old new : Recent) → IsRecent past old → scrambling_of packet ≢ 0 →
     length old.packets.items < 15 → new.packets.items ≡ old.packets.items ++ packet ∷ [] → new.oldest ≡ old.oldest →
+    length old.tags ≡ 16 → new.tags ≡ set old.tags (length old.packets.items) (packet_tag packet) →
     IsRecent (packet ∷ past) new
-added past packet old new is scrambled less more same =
+added past packet old new is scrambled less more same wide tag =
     let ps : Packets = old.packets.items in
     let scr : Packets = filter is_scrambled_packet past in
     let first : old.oldest ≡ 0 = is.begins less in
@@ -91,6 +95,10 @@ added past packet old new is scrambled less more same =
           ∙ ap (λ (l : Packets). reverse l) (sym (take_all 14 scr short)))
           ∙ (sym (in_front scr packet)
           ∙ ap (λ (l : Packets). reverse (take 15 l)) (sym (scrambled_with past packet scrambled))))));
+      tagged = let size : length new.packets.items ≡ length ps + 1 = all ∙ long in
+          rw (size, tag, more) (take_more_set old.tags (length ps) (packet_tag packet) (omega (arith, wide, less))
+          ∙ (ap (λ (l : List ℕ). l ++ packet_tag packet ∷ []) is.tagged
+          ∙ sym (map-append packet_tag ps (packet ∷ []))));
     }
 
 -- the packets round, with one in place of the oldest
@@ -116,12 +124,19 @@ round_more ps k packet long low = elim (cases_lt k 14) [
       (sym (drop_all (k + 1) ps (omega (arith, long, last)))))))
 ]
 
+-- the first elements, with another one in a place
+take_set : (xs : List ℕ) (k n : ℕ) (x : ℕ) → take n (set xs k x) ≡ set (take n xs) k x
+take_set xs k zero x = refl
+take_set [] k (suc n) x = refl
+take_set (y ∷ xs) zero (suc n) x = refl
+take_set (y ∷ xs) (suc k) (suc n) x = ap (λ (l : List ℕ). y ∷ l) (take_set xs k n x)
+
 -- a scrambled packet more, in place of the oldest of 15
 pub replaced : (past : Packets) (packet : Packet) (old new : Recent) → IsRecent past old → scrambling_of packet ≢ 0 →
     15 ≤ length old.packets.items → old.oldest < 15 →
     new.packets.items ≡ set old.packets.items old.oldest packet → new.oldest ≡ (old.oldest + 1) % 15 →
-    IsRecent (packet ∷ past) new
-replaced past packet old new is scrambled more low put next =
+    new.tags ≡ set old.tags old.oldest (packet_tag packet) → IsRecent (packet ∷ past) new
+replaced past packet old new is scrambled more low put next tag =
     let ps : Packets = old.packets.items in
     let k : ℕ = old.oldest in
     let scr : Packets = filter is_scrambled_packet past in
@@ -145,6 +160,8 @@ replaced past packet old new is scrambled more low put next =
           ∙ (ap (λ (l : Packets). l ++ packet ∷ []) rest
           ∙ (sym (in_front scr packet)
           ∙ ap (λ (l : Packets). reverse (take 15 l)) (sym (scrambled_with past packet scrambled)))))));
+      tagged = rw (all ∙ size, tag, put) (take_set old.tags k (length ps) (packet_tag packet)
+          ∙ (ap (λ (l : List ℕ). set l k (packet_tag packet)) is.tagged ∙ sym (map-set packet_tag ps k packet)));
     }
 
 pub clear_more : (past : Packets) (packet : Packet) (recent : Recent) → IsRecent past recent →
@@ -156,6 +173,7 @@ clear_more past packet recent is clear =
       few = is.few;
       begins = is.begins;
       last = is.last ∙ ap (λ (ps : Packets). reverse (take 15 ps)) (sym without);
+      tagged = is.tagged;
     }
 
 -- a packet in the clear is no copy
@@ -185,3 +203,32 @@ copy_among past packet recent b is scrambled among =
     ∙ sym (list_any-append p (drop k ps) (take k ps)))) in
     among ∙ (round ∙ (ap (list_any p) is.last
     ∙ (sym (list_any-IsPermutation p kept (reverse kept) (IsPermutation-reverse kept)) ∙ rw test refl)))
+
+-- equal packets have equal tags
+same_tag : (a b : Packet) → bytes_eq a b ≡ true → (packet_tag b == packet_tag a) ≡ true
+same_tag a b same = eq-eqb (packet_tag b) (packet_tag a) (ap packet_tag (sym ((bytes_eq-Decides a b).0 same)))
+
+-- where no tag is that of the packet, the packet is none of those that have the tags
+untagged : (packet : Packet) (ps : Packets) (tags : List ℕ) → take (length ps) tags ≡ map packet_tag ps →
+    list_any (λ other. other == packet_tag packet) tags ≡ false → list_any (bytes_eq packet) ps ≡ false
+untagged packet [] tags are none = refl
+untagged packet (p ∷ ps) [] are none = absurd (let long = ap (λ (l : List ℕ). length l) are in omega (arith, long))
+untagged packet (p ∷ ps) (tag ∷ tags) are none =
+    let own : tag ≡ packet_tag p = cc in
+    let rest : take (length ps) tags ≡ map packet_tag ps = cc in
+    by_tests (bytes_eq packet p) (tag == packet_tag packet) refl refl own none (λ less. untagged packet ps tags rest less)
+  where
+    by_tests : (b t : Bool) → bytes_eq packet p ≡ b → (tag == packet_tag packet) ≡ t → tag ≡ packet_tag p →
+        (t || list_any (λ other. other == packet_tag packet) tags) ≡ false →
+        (list_any (λ other. other == packet_tag packet) tags ≡ false → list_any (bytes_eq packet) ps ≡ false) →
+        (b || list_any (bytes_eq packet) ps) ≡ false
+    by_tests b true same other own none less = absurd cc
+    by_tests true false same other own none less =
+        let equal = same_tag packet p same in absurd (grind (arith, equal, other, own))
+    by_tests false false same other own none less = less none
+
+-- where a tag is that of the packet, it is looked for among the packets
+pub tag_then_packet : (past : Packets) (packet : Packet) (recent : Recent) → IsRecent past recent →
+    list_any (λ other. other == packet_tag packet) recent.tags ≡ false →
+    false ≡ list_any (bytes_eq packet) recent.packets.items
+tag_then_packet past packet recent is none = sym (untagged packet recent.packets.items recent.tags is.tagged none)

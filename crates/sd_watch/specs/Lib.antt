@@ -1,4 +1,5 @@
 pub mod Numbered
 pub mod Tallied
+pub mod Tags
 pub mod Watching
 pub mod Taking

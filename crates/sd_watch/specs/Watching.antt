@@ -1,5 +1,5 @@
 -- Public meaning: what a watcher keeps, writes and tells of packets that may be damaged.
-use Rattle.std.specs.Prelude.{◌≡◌, ℕ, ◌+◌, ◌*◌, ◌^◌, ◌<◌, ◌≤◌, true, List, [], ◌∷◌, ◌++◌, length, reverse, take, drop}
+use Rattle.std.specs.Prelude.{◌≡◌, ℕ, ◌+◌, ◌*◌, ◌^◌, ◌<◌, ◌≤◌, true, List, [], ◌∷◌, ◌++◌, length, map, reverse, take, drop}
 use Rattle.std.specs.Prelude.{filter, if◌then◌else◌, Option, Some, None}
 use Rattle.std.specs.List.{concat}
 use Rattle.sd_base.specs.Types.{Packet, Packets}
@@ -10,15 +10,18 @@ use Rattle.sd_spec.specs.Offered.{offered}
 use Rattle.sd_spec.specs.Counting.{most_again, is_scrambled_packet, counts, counting, tried_keys}
 use Rattle.sd_spec.specs.Reports.{tally_from, report_of, turns_after}
 use Rattle.sd_receive.specs.Receiving.{card_in, IsAfter, IsFit}
+use Rattle.sd_watch.specs.Tags.{packet_tag}
 use Rattle.sd_watch.specs.declared.recent.Recent.{Recent}
 use Rattle.sd_watch.specs.declared.watcher.Watcher.{Watcher}
 
 -- The last 15 scrambled packets of these are kept, from the oldest one on and round to it. These have the newest first.
+-- Each one's tag is kept too.
 pub record IsRecent (past : Packets) (recent : Recent) : Type 0 where
   pub few : length recent.packets.items ≤ most_again
   pub begins : length recent.packets.items < most_again → recent.oldest ≡ 0
   pub last : drop recent.oldest recent.packets.items ++ take recent.oldest recent.packets.items
       ≡ reverse (take most_again (filter is_scrambled_packet past))
+  pub tagged : take (length recent.packets.items) recent.tags ≡ map packet_tag recent.packets.items
 
 -- what the watcher's card says
 abbrev pub card_of : Watcher → CardFields
