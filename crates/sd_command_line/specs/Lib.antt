@@ -8,3 +8,4 @@ pub mod Explained
 pub mod Reasons
 pub mod Help
 pub mod Pages
+pub mod Spelled

@@ -13,6 +13,7 @@ mod operand;
 mod order;
 mod page;
 mod reason;
+mod spelled;
 mod telling;
 
 pub use argument::{Argument, Arguments};
@@ -23,4 +24,5 @@ pub use explain::explanation;
 pub use help_command::{help, version};
 pub use operand::{Files, Kind, Operand};
 pub use order::Order;
+pub use spelled::spell_out;
 pub use telling::tell;
