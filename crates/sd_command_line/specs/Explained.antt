@@ -167,10 +167,6 @@ abbrev pub file_named : List (List ℕ) → List ℕ → Option (Operand × List
 file_named [] name = None
 file_named (command ∷ texts) name = file_after (command_named command) texts name
 
--- what the machine said of a file: its name, and what
-abbrev pub said_by : StrRef × Trouble → List ℕ × Trouble
-said_by said = (said.0.now, said.1)
-
 -- the line of an I/O error, if the machine said at which file it was and what
 unfoldable pub trouble_line : List (List ℕ) → Option (List ℕ × Trouble) → List ℕ
 trouble_line words None = []

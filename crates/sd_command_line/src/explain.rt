@@ -4,7 +4,7 @@ ghost use Rattle.sd_command_line.specs.Explained.{argument_line, argument_of, cl
 ghost use Rattle.sd_command_line.specs.Explained.{clear_word as word_of_clear, command_line, count_line, explained};
 ghost use Rattle.sd_command_line.specs.Explained.{file_line, file_named, file_of as file_there, help_line, number_line};
 ghost use Rattle.sd_command_line.specs.Explained.{of_argument, plain_line, shown, stream_word as word_of_stream};
-ghost use Rattle.sd_command_line.specs.Explained.{said_by, taken_reason, topic_line, trouble_line, usage_line, word_line};
+ghost use Rattle.sd_command_line.specs.Explained.{taken_reason, topic_line, trouble_line, usage_line, word_line};
 ghost use Rattle.sd_command_line.specs.Reasons.{clear_reason, line_reason, missing_reason, site_reason, stream_reason};
 ghost use Rattle.sd_command_line.specs.Words.{command_in};
 
@@ -36,7 +36,7 @@ pub fn explanation(
     status: Status,
 ) -> Result<String, AllocError>
     ensures { IfOk result (λ text. string_bytes text
-        ≡ explained (words_of line.now) (option_map said_by trouble) status) }
+        ≡ explained (words_of line.now) (option_map (λ said. (said.0.now, said.1)) trouble.entry) status) }
 {
     let command = line.command;
     match status {
@@ -121,7 +121,7 @@ fn at_file(
     line: &CommandLine<'_>,
     trouble: Option<(&str, Trouble)>,
 ) -> Result<String, AllocError>
-    ensures { IfOk result (λ text. string_bytes text ≡ trouble_line (words_of line.now) (option_map said_by trouble)) }
+    ensures { IfOk result (λ text. string_bytes text ≡ trouble_line (words_of line.now) (option_map (λ said. (said.0.now, said.1)) trouble.entry)) }
 {
     let Some((name, trouble)) = trouble else {
         return Ok(String::new(alloc));
