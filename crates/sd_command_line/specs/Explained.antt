@@ -182,7 +182,7 @@ trouble_line words (Some (name, trouble)) = file_line (trouble_reason trouble) n
 unfoldable pub explained : List (List ℕ) → Option (List ℕ × Trouble) → Status → List ℕ
 explained words trouble Usage = usage_line words
 explained words trouble (Missing word) = of_argument words word (λ operand. missing_reason operand)
-explained words trouble (Revoked leaf period) = of_argument words card_word (λ operand. revoked_reason)
+explained words trouble (Revoked leaf period) = of_argument words card_word (λ operand. revoked_reason leaf period)
 explained words trouble DepotFault = trouble_line words trouble
 explained words trouble (BadSite word fault text) =
     of_argument words word (λ operand. site_reason (command_in words) fault text)
@@ -194,7 +194,7 @@ explained words trouble (BadStream refusal) =
     of_argument words (stream_word (command_in words)) (λ operand. stream_reason refusal)
 explained words trouble (Limit kind) = plain_line (limit_reason kind)
 explained words trouble (Unheard leaf period) =
-    of_argument words (stream_word (command_in words)) (λ operand. unheard_reason)
+    of_argument words (stream_word (command_in words)) (λ operand. unheard_reason leaf period)
 explained words trouble (Unclosed number) =
     of_argument words (stream_word (command_in words)) (λ operand. unclosed_reason)
 explained words trouble (Gaps packets) = of_argument words (stream_word (command_in words)) (λ operand. gaps_reason)

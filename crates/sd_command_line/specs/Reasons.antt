@@ -133,7 +133,7 @@ site_reason command site.Short text =
 
 -- why a card is refused
 unfoldable pub card_reason : CardFault → List ℕ
-card_reason card.Magic = codes "it is no plain card; a layer card and any other file is none"
+card_reason card.Magic = codes "it is no card of the command card; a layer card is none either"
 card_reason card.Version = codes "it is a card of another version; make it again (sdca card)"
 card_reason card.Height = codes "its height is out of range; make it again (sdca card)"
 card_reason card.Leaf = codes "its leaf is not in a tree of its height; make it again (sdca card)"
@@ -214,7 +214,7 @@ clear_cause (clear.TooLong packet) =
 
 unfoldable pub clear_refusal : StreamRefusal ClearFault → List ℕ
 clear_refusal (refusal.Broken found) =
-    codes "no packet of 188 bytes begins there; packets of 192 or 204 bytes must be cut to 188 first"
+    codes "there is no whole packet of 188 bytes; packets of 192 or 204 bytes must be cut to 188 first"
 clear_refusal refusal.TooLong = codes "a stream has at most 281474976710656 packets"
 clear_refusal (refusal.Packet fault) = clear_cause fault
 
@@ -225,13 +225,13 @@ stream_cause (stream.WrongKey packet period found due) =
 stream_cause (stream.WrongWord packet word found due) =
     codes "card and broadcast are of two masters (see sdca show and sdca status), or the message was changed"
 stream_cause (stream.BadEmm packet fault) =
-    codes "the EMM is damaged, out of order or of another sender; off the air use watch"
+    codes "the EMM is damaged, out of order or of another sender; watch reads streams with damage"
 stream_cause (stream.BadEcm packet fault) =
-    codes "the ECM is damaged, out of order or of another sender; off the air use watch"
-stream_cause (stream.Parity packet) = codes "it is not of this broadcast; off the air use watch"
+    codes "the ECM is damaged, out of order or of another sender; watch reads streams with damage"
+stream_cause (stream.Parity packet) = codes "it is not of this broadcast; watch reads streams with damage"
 
 unfoldable pub stream_refused : StreamRefusal StreamFault → List ℕ
-stream_refused (refusal.Broken found) = codes "no packet of 188 bytes begins there; off the air use watch"
+stream_refused (refusal.Broken found) = codes "there is no whole packet of 188 bytes; watch reads streams with damage"
 stream_refused refusal.TooLong = codes "a stream has at most 281474976710656 packets"
 stream_refused (refusal.Packet fault) = stream_cause fault
 
@@ -264,11 +264,18 @@ limit_reason kind.FieldPackets = codes "field takes at most 16384 packets; use h
 limit_reason kind.FieldEvents = codes "field takes at most 524288 events"
 
 -- what a receiver did not get
-unfoldable pub revoked_reason : List ℕ
-revoked_reason = codes "its receiver is revoked there; OUT has what it was entitled to; subscribe takes it back"
+unfoldable pub revoked_reason : ℕ → ℕ → List ℕ
+revoked_reason u q =
+    codes "receiver "
+    ++ (decimal u
+    ++ (codes " is revoked in period "
+    ++ (decimal q ++ codes "; OUT has what it was entitled to; a later subscribe entitles it again")))
 
-unfoldable pub unheard_reason : List ℕ
-unheard_reason = codes "no set of that period with the receiver arrived; packets were lost, or it begins late"
+unfoldable pub unheard_reason : ℕ → ℕ → List ℕ
+unheard_reason u q =
+    codes "no set of period "
+    ++ (decimal q
+    ++ (codes " with receiver " ++ (decimal u ++ codes " arrived; packets were lost, or the stream begins late")))
 
 unfoldable pub unclosed_reason : List ℕ
 unclosed_reason = codes "it broke off before its closing message, or its end was lost"

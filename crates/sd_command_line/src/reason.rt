@@ -13,7 +13,9 @@ ghost use Rattle.sd_command_line.specs.Reasons.{unheard_reason, unknown_reason, 
 use crate::{Command, Operand};
 use sd_base::{NumberFault, number_after};
 use sd_book::BookLimit;
-use sd_command_base::{BadLine, Clash, Excerpt, LimitKind, LineCause, OutCause, StreamRefusal, Trouble, quoted};
+use sd_command_base::{
+    BadLine, Clash, Excerpt, LimitKind, LineCause, OutCause, StreamRefusal, Trouble, quoted,
+};
 use sd_engine::MOST_PACKETS;
 use sd_message::StreamFault;
 use sd_psi::ClearFault;
@@ -206,7 +208,7 @@ pub(crate) fn card(fault: CardFault) -> &'static str
     ensures { result.now ≡ card_reason fault }
 {
     match fault {
-        CardFault::Magic => "it is no plain card; a layer card and any other file is none",
+        CardFault::Magic => "it is no card of the command card; a layer card is none either",
         CardFault::Version => "it is a card of another version; make it again (sdca card)",
         CardFault::Height => "its height is out of range; make it again (sdca card)",
         CardFault::Leaf => "its leaf is not in a tree of its height; make it again (sdca card)",
@@ -241,7 +243,8 @@ fn cause(alloc: Global, cause: LineCause) -> Result<String, AllocError>
         LineCause::Named(line) => {
             return format!(in alloc; "its receiver has a name since line {line}");
         }
-        LineCause::ByteOrderMark => "it begins with a byte-order mark; save the file as plain ASCII",
+        LineCause::ByteOrderMark =>
+            "it begins with a byte-order mark; save the file as plain ASCII",
         LineCause::NotText => "it has a byte that is no printable ASCII; is it the right file?",
         LineCause::Long => "it has more than 48 bytes, and no line of such a file has",
         LineCause::Empty => "it is empty",
@@ -365,7 +368,7 @@ fn clear_refusal(refusal: StreamRefusal<ClearFault>) -> &'static str
 {
     match refusal {
         StreamRefusal::Broken(_) => {
-            "no packet of 188 bytes begins there; packets of 192 or 204 bytes must be cut to 188 first"
+            "there is no whole packet of 188 bytes; packets of 192 or 204 bytes must be cut to 188 first"
         }
         StreamRefusal::TooLong => "a stream has at most 281474976710656 packets",
         StreamRefusal::Packet(fault) => clear_cause(fault),
@@ -382,12 +385,12 @@ fn stream_cause(fault: StreamFault) -> &'static str
             "card and broadcast are of two masters (see sdca show and sdca status), or the message was changed"
         }
         StreamFault::BadEmm(..) => {
-            "the EMM is damaged, out of order or of another sender; off the air use watch"
+            "the EMM is damaged, out of order or of another sender; watch reads streams with damage"
         }
         StreamFault::BadEcm(..) => {
-            "the ECM is damaged, out of order or of another sender; off the air use watch"
+            "the ECM is damaged, out of order or of another sender; watch reads streams with damage"
         }
-        StreamFault::Parity(_) => "it is not of this broadcast; off the air use watch",
+        StreamFault::Parity(_) => "it is not of this broadcast; watch reads streams with damage",
     }
 }
 
@@ -398,7 +401,7 @@ fn stream_refused(refusal: StreamRefusal<StreamFault>) -> &'static str
 {
     match refusal {
         StreamRefusal::Broken(_) => {
-            "no packet of 188 bytes begins there; off the air use watch"
+            "there is no whole packet of 188 bytes; watch reads streams with damage"
         }
         StreamRefusal::TooLong => "a stream has at most 281474976710656 packets",
         StreamRefusal::Packet(fault) => stream_cause(fault),
@@ -475,20 +478,24 @@ pub(crate) fn limit(kind: LimitKind) -> &'static str
     }
 }
 
-/// Why a receiver is refused.
+/// Why receiver u opened nothing in period q: it is revoked.
 #[tactic(auto, unfolding(crate::specs::Reasons::revoked_reason))]
-pub(crate) fn revoked() -> &'static str
-    ensures { result.now ≡ revoked_reason }
+pub(crate) fn revoked(alloc: Global, u: u32, q: u32) -> Result<String, AllocError>
+    ensures { IfOk result (λ text. string_bytes text ≡ revoked_reason u q) }
 {
-    "its receiver is revoked there; OUT has what it was entitled to; subscribe takes it back"
+    format!(in alloc;
+        "receiver {u} is revoked in period {q}; OUT has what it was entitled to; a later subscribe entitles it again"
+    )
 }
 
-/// Why a receiver had no entitlement.
+/// Why receiver u opened nothing in period q: it did not hear its entitlement.
 #[tactic(auto, unfolding(crate::specs::Reasons::unheard_reason))]
-pub(crate) fn unheard() -> &'static str
-    ensures { result.now ≡ unheard_reason }
+pub(crate) fn unheard(alloc: Global, u: u32, q: u32) -> Result<String, AllocError>
+    ensures { IfOk result (λ text. string_bytes text ≡ unheard_reason u q) }
 {
-    "no set of that period with the receiver arrived; packets were lost, or it begins late"
+    format!(in alloc;
+        "no set of period {q} with receiver {u} arrived; packets were lost, or the stream begins late"
+    )
 }
 
 /// Why a broadcast isn't closed.
