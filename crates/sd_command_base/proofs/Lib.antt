@@ -16,4 +16,5 @@ pub mod Others
 pub mod CardFaults
 pub mod Printed
 pub mod Lines
+pub mod BadLines
 pub mod PrintedPeriods

@@ -13,6 +13,9 @@ use Rattle.sd_command_base.specs.declared.status.Status.{Status}
 use Rattle.sd_command_base.specs.declared.status.Status.TheVariants.{Usage, BadBook, Limit, OtherBook}
 use Rattle.sd_command_base.specs.declared.status.LimitKind.{LimitKind}
 use Rattle.sd_command_base.specs.declared.status.LimitKind.TheVariants.{SiteBytes, BookBytes}
+use Rattle.sd_command_base.specs.declared.bad_line.BadLine.{BadLine}
+use Rattle.sd_command_base.specs.declared.bad_line.LineCause.TheVariants.{Unended}
+use Rattle.sd_command_base.specs.BadLines.{bad_line}
 use Rattle.sd_command_base.specs.Spec.{Spec, FileArgument, and_then, all_of, judged, value, within, ◌>>=◌}
 use Rattle.sd_command_base.specs.Both.{both_by}
 use Rattle.sd_command_base.specs.Files.{told_site, told_book, told_low, site_of_file, book_of_file, low_site_of_file}
@@ -45,23 +48,24 @@ pub other_stream : (word : ℕ) (got : Option (List ℕ)) → IsOther (all_of wo
 other_stream word None = λ e. cc
 other_stream word (Some bytes) = tt
 
-other_site : (word : ℕ) (r : Result SiteFields SiteFault) → IsOther (told_site word r)
-other_site word (Ok site) = tt
-other_site word (Err fault) = λ e. cc
+other_site : (word : ℕ) (bytes : List ℕ) (r : Result SiteFields SiteFault) → IsOther (told_site word bytes r)
+other_site word bytes (Ok site) = tt
+other_site word bytes (Err fault) = λ e. cc
 
-pub other_book : (word : ℕ) (r : Result (List Command) BookFault) → IsOther (told_book word r)
-other_book word (Ok commands) = tt
-other_book word (Err (book.Line k)) = λ e. cc
-other_book word (Err (book.Leaf k)) = λ e. cc
-other_book word (Err (book.Limit limit)) = λ e. cc
-other_book word (Err book.NoMemory) = λ e. cc
+pub other_book : (word d : ℕ) (bytes : List ℕ) (r : Result (List Command) BookFault) →
+    IsOther (told_book word d bytes r)
+other_book word d bytes (Ok commands) = tt
+other_book word d bytes (Err (book.Line k)) = λ e. cc
+other_book word d bytes (Err (book.Leaf k)) = λ e. cc
+other_book word d bytes (Err (book.Limit limit)) = λ e. cc
+other_book word d bytes (Err book.NoMemory) = λ e. cc
 
 pub other_site_file : (word : ℕ) (got : Option (List ℕ)) → IsOther (site_of_file word got).result
 unfolding site_of_file
 other_site_file word got =
     other_after (within word most_site_bytes SiteBytes got).calls (within word most_site_bytes SiteBytes got).result
-    (λ bytes. judged (told_site word (site_of bytes))) (other_file word most_site_bytes SiteBytes got)
-    (λ bytes. other_site word (site_of bytes))
+    (λ bytes. judged (told_site word bytes (site_of bytes))) (other_file word most_site_bytes SiteBytes got)
+    (λ bytes. other_site word bytes (site_of bytes))
 
 other_height : (high : Bool) (kind : LimitKind) (site : SiteFields) → IsOther (cond high (Err (Limit kind)) (Ok site))
 other_height true kind site = λ e. cc
@@ -78,8 +82,8 @@ pub other_book_file : (word d : ℕ) (got : Option (List ℕ)) → IsOther (book
 unfolding book_of_file
 other_book_file word d got =
     other_after (within word most_book_bytes BookBytes got).calls (within word most_book_bytes BookBytes got).result
-    (λ bytes. judged (told_book word (book_of d bytes))) (other_file word most_book_bytes BookBytes got)
-    (λ bytes. other_book word (book_of d bytes))
+    (λ bytes. judged (told_book word d bytes (book_of d bytes))) (other_file word most_book_bytes BookBytes got)
+    (λ bytes. other_book word d bytes (book_of d bytes))
 
 pub other_both : (site book : ℕ) (site_got book_got : Option (List ℕ)) →
     IsOther (both_by site book site_got book_got).result
@@ -93,16 +97,16 @@ other_both site book site_got book_got =
     (λ commands. value (record { site = fields; commands = commands })) (other_book_file book fields.height book_got)
     (λ commands. tt))
 
-pub other_leaves : (word : ℕ) (r : Result (List ℕ) ℕ) → IsOther (told_leaves word r)
-other_leaves word (Ok leaves) = tt
-other_leaves word (Err k) = λ e. cc
+pub other_leaves : (word d : ℕ) (bytes : List ℕ) (r : Result (List ℕ) ℕ) → IsOther (told_leaves word d bytes r)
+other_leaves word d bytes (Ok leaves) = tt
+other_leaves word d bytes (Err k) = λ e. cc
 
 pub other_leaves_file : (word d : ℕ) (got : Option (List ℕ)) → IsOther (leaves_of_file word d got).result
 unfolding leaves_of_file
 other_leaves_file word d got =
     other_after (within word most_book_bytes BookBytes got).calls (within word most_book_bytes BookBytes got).result
-    (λ bytes. judged (told_leaves word (leaves_of_text d bytes))) (other_file word most_book_bytes BookBytes got)
-    (λ bytes. other_leaves word (leaves_of_text d bytes))
+    (λ bytes. judged (told_leaves word d bytes (leaves_of_text d bytes))) (other_file word most_book_bytes BookBytes got)
+    (λ bytes. other_leaves word d bytes (leaves_of_text d bytes))
 
 other_own : (own : Bool) (told : Result (List Command) Status) → IsOther told →
     IsOther (if own then told else Err OtherBook)
@@ -115,17 +119,18 @@ unfolding own_book_of_file
 other_own_book_file word d line got =
     other_after (within word most_book_bytes BookBytes got).calls (within word most_book_bytes BookBytes got).result
     (λ bytes. judged (told_own word d line bytes)) (other_file word most_book_bytes BookBytes got)
-    (λ bytes. other_own (is_book line bytes) (told_book word (book_of d bytes)) (other_book word (book_of d bytes)))
+    (λ bytes. other_own (is_book line bytes) (told_book word d bytes (book_of d bytes)) (other_book word d bytes (book_of d bytes)))
 
-other_ended : (ends : Bool) (word : ℕ) (bytes : List ℕ) (commands : List Command) →
+other_ended : (ends : Bool) (word : ℕ) (line : BadLine) (bytes : List ℕ) (commands : List Command) →
     IsOther {A = BookText} (if ends then Ok (record { bytes = bytes; commands = commands })
-    else Err (BadBook word (length commands)))
-other_ended true word bytes commands = tt
-other_ended false word bytes commands = λ e. cc
+    else Err (BadBook word line))
+other_ended true word line bytes commands = tt
+other_ended false word line bytes commands = λ e. cc
 
 other_whole : (word : ℕ) (bytes : List ℕ) (told : Result (List Command) Status) → IsOther told →
     IsOther (told_whole word bytes told)
-other_whole word bytes (Ok commands) h = other_ended (ends_lines bytes) word bytes commands
+other_whole word bytes (Ok commands) h =
+    other_ended (ends_lines bytes) word (bad_line Unended (length commands) bytes) bytes commands
 other_whole word bytes (Err status) h = h
 
 other_longer : (begins : Bool) (told : Result BookText Status) → IsOther told →
@@ -139,8 +144,8 @@ unfolding longer_book_of_file
 other_longer_book_file word d line got =
     other_after (within word most_book_bytes BookBytes got).calls (within word most_book_bytes BookBytes got).result
     (λ bytes. judged (told_longer word d line bytes)) (other_file word most_book_bytes BookBytes got)
-    (λ bytes. other_longer (begins_with_book line bytes) (told_whole word bytes (told_book word (book_of d bytes)))
-    (other_whole word bytes (told_book word (book_of d bytes)) (other_book word (book_of d bytes))))
+    (λ bytes. other_longer (begins_with_book line bytes) (told_whole word bytes (told_book word d bytes (book_of d bytes)))
+    (other_whole word bytes (told_book word d bytes (book_of d bytes)) (other_book word d bytes (book_of d bytes))))
 
 -- no file that must be new answers it
 pub other_new : (made : NewFile) (out : FileArgument) (got : Option (List ℕ)) → IsOther (making_new made out got).result

@@ -18,6 +18,8 @@ use Rattle.sd_command_base.specs.declared.status.Status.TheVariants.{BadSite, Ba
 use Rattle.sd_command_base.specs.declared.status.Status.TheVariants.{OtherBook}
 use Rattle.sd_command_base.specs.declared.status.LimitKind.{LimitKind}
 use Rattle.sd_command_base.specs.declared.status.LimitKind.TheVariants.{SiteBytes, BookBytes, Book}
+use Rattle.sd_command_base.specs.declared.bad_line.LineCause.TheVariants.{Leaf, Unended}
+use Rattle.sd_command_base.specs.BadLines.{bad_line, malformed, site_excerpt}
 use Rattle.sd_command_base.specs.Spec.{Spec, FileArgument, Readings, within, judged, ◌>>=◌}
 
 -- the bytes of the longest site file
@@ -32,14 +34,19 @@ most_book_bytes = most_book_size
 abbrev pub most_card_bytes : ℕ
 most_card_bytes = 8192
 
+-- the status where the bytes of this word's file are no site
+abbrev pub refused_site : ℕ → List ℕ → SiteFault → Status
+refused_site word bytes fault = BadSite word fault (site_excerpt fault bytes)
+
 -- the site that the bytes of this word's file say
-abbrev pub told_site : ℕ → Result SiteFields SiteFault → Result SiteFields Status
-told_site word (Ok site) = Ok site
-told_site word (Err fault) = Err (BadSite word fault)
+abbrev pub told_site : ℕ → List ℕ → Result SiteFields SiteFault → Result SiteFields Status
+told_site word bytes (Ok site) = Ok site
+told_site word bytes (Err fault) = Err (refused_site word bytes fault)
 
 -- the site of what the file of this word gave
 unfoldable pub site_of_file : ℕ → Option (List ℕ) → Spec SiteFields
-site_of_file word got = within word most_site_bytes SiteBytes got >>= λ bytes. judged (told_site word (site_of bytes))
+site_of_file word got =
+    within word most_site_bytes SiteBytes got >>= λ bytes. judged (told_site word bytes (site_of bytes))
 
 abbrev pub site_in : Readings → FileArgument → Spec SiteFields
 site_in given word = site_of_file word.number (given word)
@@ -52,11 +59,12 @@ told_low most kind site = if nat_lt most site.height then Err (Limit kind) else 
 unfoldable pub low_site_of_file : ℕ → ℕ → LimitKind → Option (List ℕ) → Spec SiteFields
 low_site_of_file word most kind got = site_of_file word got >>= λ site. judged (told_low most kind site)
 
-abbrev pub refused_book : ℕ → BookFault → Status
-refused_book word (book.Line k) = BadBook word k
-refused_book word (book.Leaf k) = BadBook word k
-refused_book word (book.Limit limit) = Limit (Book limit)
-refused_book word book.NoMemory = NoMemory
+-- the status where the bytes of this word's file are no book for a tree of height d
+abbrev pub refused_book : ℕ → ℕ → List ℕ → BookFault → Status
+refused_book word d bytes (book.Line k) = BadBook word (malformed k bytes)
+refused_book word d bytes (book.Leaf k) = BadBook word (bad_line (Leaf d) k bytes)
+refused_book word d bytes (book.Limit limit) = Limit (Book limit)
+refused_book word d bytes book.NoMemory = NoMemory
 
 -- the status where the bytes of this word's file are no card
 abbrev pub refused_card : ℕ → CardFault → Status
@@ -69,14 +77,14 @@ card_unless word None x = Ok x
 card_unless word (Some fault) x = Err (BadCard word fault)
 
 -- the commands that a file's bytes say
-abbrev pub told_book : ℕ → Result (List Command) BookFault → Result (List Command) Status
-told_book word (Ok commands) = Ok commands
-told_book word (Err fault) = Err (refused_book word fault)
+abbrev pub told_book : ℕ → ℕ → List ℕ → Result (List Command) BookFault → Result (List Command) Status
+told_book word d bytes (Ok commands) = Ok commands
+told_book word d bytes (Err fault) = Err (refused_book word d bytes fault)
 
 -- the book, for a tree of height d, of what the file of this word gave
 unfoldable pub book_of_file : ℕ → ℕ → Option (List ℕ) → Spec (List Command)
 book_of_file word d got =
-    within word most_book_bytes BookBytes got >>= λ bytes. judged (told_book word (book_of d bytes))
+    within word most_book_bytes BookBytes got >>= λ bytes. judged (told_book word d bytes (book_of d bytes))
 
 abbrev pub book_in : Readings → ℕ → FileArgument → Spec (List Command)
 book_in given d word = book_of_file word.number d (given word)
@@ -100,7 +108,7 @@ is_book (Some line) bytes = (length bytes == line.size) && bytes_eq (sha256 byte
 
 -- the commands of a book that must be that of the site's line 13
 abbrev pub told_own : ℕ → ℕ → Option BookLine → List ℕ → Result (List Command) Status
-told_own word d line bytes = if is_book line bytes then told_book word (book_of d bytes) else Err OtherBook
+told_own word d line bytes = if is_book line bytes then told_book word d bytes (book_of d bytes) else Err OtherBook
 
 -- the book, for a tree of height d, that the file of this word gave, if it is that of the site's line 13
 unfoldable pub own_book_of_file : ℕ → ℕ → Option BookLine → Option (List ℕ) → Spec (List Command)
@@ -117,12 +125,13 @@ abbrev pub told_whole : ℕ → List ℕ → Result (List Command) Status → Re
 told_whole word bytes (Err status) = Err status
 told_whole word bytes (Ok commands) =
     if ends_lines bytes then Ok (record { bytes = bytes; commands = commands })
-    else Err (BadBook word (length commands))
+    else Err (BadBook word (bad_line Unended (length commands) bytes))
 
 -- a book's file that must begin with the book of the site's line 13, and be whole lines
 abbrev pub told_longer : ℕ → ℕ → Option BookLine → List ℕ → Result BookText Status
 told_longer word d line bytes =
-    if begins_with_book line bytes then told_whole word bytes (told_book word (book_of d bytes)) else Err OtherBook
+    if begins_with_book line bytes then told_whole word bytes (told_book word d bytes (book_of d bytes))
+    else Err OtherBook
 
 -- the book's file, for a tree of height d, that the file of this word gave, if it begins with the book of the site's
 -- line 13 and is whole lines

@@ -1,4 +1,6 @@
 pub mod Exits
+pub mod Escaped
+pub mod BadLines
 pub mod Texts
 pub mod Lines
 pub mod Outside

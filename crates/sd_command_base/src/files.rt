@@ -6,13 +6,13 @@ ghost use Rattle.sd_command_base.specs.Spec.{within};
 ghost use Rattle.sd_command_base.specs.Outside.{depot_state};
 ghost use Rattle.sd_command_base.specs.Reads.{JudgedOutcome, SureOutcome, FileOutcome};
 ghost use Rattle.sd_command_base.specs.Files.{site_of_file, book_of_file, low_site_of_file, told_book, told_low};
-ghost use Rattle.sd_command_base.specs.Files.{most_card_bytes, refused_book, refused_card, told_site};
+ghost use Rattle.sd_command_base.specs.Files.{most_card_bytes, refused_site, refused_book, refused_card, told_site};
 
 use crate::word::Word;
-use crate::{LimitKind, Status};
+use crate::{LimitKind, LineCause, Status, malformed, refused_line, site_excerpt};
 use sd_book::{Book, BookFault};
 use sd_ports::{Depot, FileFault, read_file};
-use sd_site::{CardFault, MOST_BOOK_SIZE, Site};
+use sd_site::{CardFault, MOST_BOOK_SIZE, Site, SiteFault};
 use sd_tree::Height;
 use std::alloc::Global;
 
@@ -36,11 +36,22 @@ pub fn read_site<D: Depot>(alloc: Global, depot: &mut D, word: Word<'_>) -> Resu
 
 /// The site that the bytes of this word's file say.
 fn judge_site(word: u8, bytes: &[u8]) -> Result<Site, Status>
-    ensures { SureOutcome fields_of (told_site word (site_of bytes.now)) result }
+    ensures { SureOutcome fields_of (told_site word bytes.now (site_of bytes.now)) result }
 {
     match sd_site::read(bytes) {
         Ok(site) => Ok(site),
-        Err(fault) => Err(Status::BadSite { word, fault }),
+        Err(fault) => Err(site_fault(word, bytes, fault)),
+    }
+}
+
+/// What the program answers to a site that is refused, which this word's file of these bytes says.
+pub fn site_fault(word: u8, bytes: &[u8], fault: SiteFault) -> Status
+    ensures { result ≡ refused_site word bytes.now fault }
+{
+    Status::BadSite {
+        word,
+        fault,
+        text: site_excerpt(fault, bytes),
     }
 }
 
@@ -88,24 +99,26 @@ pub fn read_book<D: Depot>(
 
 /// The book that the bytes of this word's file say.
 pub(crate) fn judge_book(alloc: Global, word: u8, bytes: &[u8], h: Height) -> Result<Book, Status>
-    ensures value { JudgedOutcome (λ book. book.commands) (told_book word (book_of h bytes.now)) result }
+    ensures value { JudgedOutcome (λ book. book.commands) (told_book word h bytes.now (book_of h bytes.now)) result }
     ensures height { IfOk result (λ book. book.height ≡ h) }
 {
     match Book::read(alloc, bytes, h) {
         Ok(book) => Ok(book),
-        Err(fault) => Err(book_fault(word, fault)),
+        Err(fault) => Err(book_fault(word, h, bytes, fault)),
     }
 }
 
-/// What the program answers to a book that is refused, which this word's file says.
-pub fn book_fault(word: u8, fault: BookFault) -> Status
-    ensures { result ≡ refused_book word fault }
+/// What the program answers to a book for a tree of height h that is refused, which this word's file of these bytes says.
+pub fn book_fault(word: u8, h: Height, bytes: &[u8], fault: BookFault) -> Status
+    ensures { result ≡ refused_book word h bytes.now fault }
 {
-    match fault {
-        BookFault::Line(line) | BookFault::Leaf(line) => Status::BadBook { word, line },
-        BookFault::Limit(limit) => Status::Limit(LimitKind::Book(limit)),
-        BookFault::NoMemory => Status::NoMemory,
-    }
+    let line = match fault {
+        BookFault::Line(k) => malformed(k, bytes),
+        BookFault::Leaf(k) => refused_line(LineCause::Leaf(h.get()), k, bytes),
+        BookFault::Limit(limit) => return Status::Limit(LimitKind::Book(limit)),
+        BookFault::NoMemory => return Status::NoMemory,
+    };
+    Status::BadBook { word, line }
 }
 
 /// The bytes of the word's file, a card's.

@@ -4,6 +4,7 @@ ghost use Rattle.sd_command_base.specs.Outside.{depot_state};
 ghost use Rattle.sd_command_base.specs.Reads.{JudgedOutcome, FileOutcome};
 ghost use Rattle.sd_command_base.specs.Leaves.{leaves_of_file, told_leaves};
 
+use crate::bad_line::bad_leaf;
 use crate::files::{MOST_BOOK_BYTES, read_bytes};
 use crate::word::Word;
 use crate::{LeavesFault, LimitKind, Status};
@@ -28,12 +29,16 @@ pub fn read_leaves<D: Depot>(
 
 /// The leaves that the bytes of this word's file say.
 fn judge_leaves(alloc: Global, word: u8, bytes: &[u8], h: Height) -> Result<Vec<Leaf>, Status>
-    ensures value { JudgedOutcome (λ leaves. leaves.items) (told_leaves word (leaves_of_text h bytes.now)) result }
+    ensures value { JudgedOutcome (λ leaves. leaves.items) (told_leaves word h bytes.now (leaves_of_text h bytes.now))
+        result }
     ensures fits { IfOk result (λ leaves. All (λ u. u < 2 ^ h) leaves.items) }
 {
     match crate::read(alloc, bytes, h) {
         Ok(leaves) => Ok(leaves),
-        Err(LeavesFault::Line(line)) => Err(Status::BadBook { word, line }),
+        Err(LeavesFault::Line(k)) => Err(Status::BadBook {
+            word,
+            line: bad_leaf(h, k, bytes),
+        }),
         Err(LeavesFault::NoMemory) => Err(Status::NoMemory),
     }
 }

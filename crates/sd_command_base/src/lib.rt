@@ -2,7 +2,9 @@
 //! that are read and made, how it prints, and the lines of a book's periods.
 #![tactic(auto)]
 
+mod bad_line;
 mod both;
+mod escape;
 mod files;
 mod leaves;
 mod line;
@@ -18,13 +20,18 @@ mod sets;
 mod status;
 mod stream_refusal;
 mod text;
+mod trouble;
 mod turn;
 mod word;
 
+pub use bad_line::{
+    BadLine, Excerpt, LineCause, MOST_SHOWN, MOST_SITE_SHOWN, malformed, refused_line, site_excerpt,
+};
 pub use both::read_both;
+pub use escape::{escaped, quoted};
 pub use files::{
     MOST_BOOK_BYTES, MOST_SITE_BYTES, book_fault, card_fault, read_book, read_bytes,
-    read_card_bytes, read_low_site, read_site,
+    read_card_bytes, read_low_site, read_site, site_fault,
 };
 pub use leaves::read_leaves;
 pub use line::as_line;
@@ -39,5 +46,6 @@ pub use replay::replay_from;
 pub use sets::cover_sets;
 pub use status::{Clash, LimitKind, OutCause, Status};
 pub use stream_refusal::StreamRefusal;
+pub use trouble::Trouble;
 pub use turn::{close_both, open_both, opening_fault};
 pub use word::{Number, Word};

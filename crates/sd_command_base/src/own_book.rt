@@ -9,7 +9,7 @@ ghost use Rattle.sd_command_base.specs.Files.{own_book_of_file, longer_book_of_f
 
 use crate::files::{MOST_BOOK_BYTES, judge_book, read_bytes};
 use crate::word::Word;
-use crate::{LimitKind, Status};
+use crate::{LimitKind, LineCause, Status, refused_line};
 use sd_book::Book;
 use sd_ports::Depot;
 use sd_site::BookLine;
@@ -136,7 +136,7 @@ fn judge_end(word: u8, bytes: Vec<u8>, book: Book) -> Result<BookFile, Status>
     ensures height { IfOk result (λ file. file.book.height ≡ book.height) }
 {
     if !ends_lines(&bytes) {
-        let line = book.commands().len() as u32;
+        let line = refused_line(LineCause::Unended, book.commands().len() as u32, &bytes);
         return Err(Status::BadBook { word, line });
     }
     Ok(BookFile { bytes, book })

@@ -57,7 +57,7 @@ pub fn status_line(alloc: Global, status: Status) -> Result<Line, AllocError>
         Status::Revoked { leaf, period } => revoked_line(alloc, leaf, period),
         Status::DepotFault => Ok(Line::Fixed("device fault\n")),
         Status::BadSite { fault, .. } => site_line(alloc, fault),
-        Status::BadBook { word, line } => book_line(alloc, word, line),
+        Status::BadBook { word, line } => book_line(alloc, word, line.number),
         Status::BadCard { fault, .. } => card_line(alloc, fault),
         Status::BadClear(refusal) => clear_line(alloc, refusal),
         Status::BadStream(refusal) => stream_line(alloc, refusal),

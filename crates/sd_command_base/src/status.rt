@@ -1,7 +1,7 @@
 ghost use Rattle.std.specs.Prelude.{◌≡◌};
 ghost use Rattle.sd_command_base.specs.Exits.{code_of};
 
-use crate::StreamRefusal;
+use crate::{BadLine, Excerpt, StreamRefusal};
 use sd_base::NoMemory;
 use sd_book::BookLimit;
 use sd_message::StreamFault;
@@ -19,17 +19,30 @@ pub enum Status {
     /// Exit 2: the file that this argument names does not exist; for OUT, its folder does not exist.
     Missing(u8),
     /// Exit 3: the receiver is revoked in this period, the first such period of which it heard. The stream is closed.
-    Revoked { leaf: u32, period: u32 },
+    Revoked {
+        leaf: u32,
+        period: u32,
+    },
     /// Exit 4: an I/O error at a file.
     DepotFault,
     /// Exit 5: an I/O error while printing.
     PrintFault,
-    /// Exit 6: the site file that this argument names is refused.
-    BadSite { word: u8, fault: SiteFault },
-    /// Exit 7: this line of the file that this argument names is refused, the first such line. Lines count from 1.
-    BadBook { word: u8, line: u32 },
+    /// Exit 6: the site file that this argument names is refused. The text is that of the line that the fault names.
+    BadSite {
+        word: u8,
+        fault: SiteFault,
+        text: Excerpt,
+    },
+    /// Exit 7: this line of the file that this argument names is refused, the first such line.
+    BadBook {
+        word: u8,
+        line: BadLine,
+    },
     /// Exit 8: the card's file that this argument names is refused.
-    BadCard { word: u8, fault: CardFault },
+    BadCard {
+        word: u8,
+        fault: CardFault,
+    },
     /// Exit 9: a packet of the clear stream is refused.
     BadClear(StreamRefusal<ClearFault>),
     /// Exit 10: a packet of the stream is refused.
@@ -40,7 +53,10 @@ pub enum Status {
     NoMemory,
     /// Exit 13: the receiver did not hear its entitlement for this period. The stream is closed, some section of the
     /// period was never seen, and no section that was seen entitles the leaf.
-    Unheard { leaf: u32, period: u32 },
+    Unheard {
+        leaf: u32,
+        period: u32,
+    },
     /// Exit 14: the stream ends before its closing ECM is complete. This is the number of the next ECM awaited.
     Unclosed(u64),
     /// Exit 15: this number of clear packets is missing from OUT, of those that the closing ECM counts. The stream is
@@ -53,7 +69,10 @@ pub enum Status {
     /// Exit 18: two broadcasts must not share one set of cards.
     Clash(Clash),
     /// Exit 19: this argument must not be OUT. Nothing is made.
-    BadOut { word: u8, cause: OutCause },
+    BadOut {
+        word: u8,
+        cause: OutCause,
+    },
     /// Exit 20: a run of `air` used the site: the file with its name and `.used` is there. Nothing is made.
     SiteUsed,
     /// Exit 21: BOOK is not the book of the site's line 13, or does not begin with it.

@@ -13,7 +13,7 @@ returns-in_err-bytes-clause-value g c =
     let p = err_from_is_err_and c.from_residual.result c.from_residual.ensures.1 in
     let word = c.args.word.number in
     rw (p.1, p.2) (looks_first (λ bytes. bytes.items) (λ book. book.commands) (within word most_book_bytes BookBytes)
-    (λ bytes. judged (told_book word (book_of c.args.h bytes))) c.args.word.text.now
+    (λ bytes. judged (told_book word c.args.h bytes (book_of c.args.h bytes))) c.args.word.text.now
     (depot_state g.D.Depot c.args.depot.now) (depot_state g.D.Depot c.read_bytes.new.depot) c.in_err-bytes.field-0.0
     c.in_err-bytes.ensures)
 
@@ -23,6 +23,6 @@ returns-clause-value g c =
     let judges = rw c.deref.ensures.value at c.judge_book.ensures.value in
     let word = c.args.word.number in
     looks_judged (λ bytes. bytes.items) (λ book. book.commands) (within word most_book_bytes BookBytes)
-    (λ bytes. told_book word (book_of c.args.h bytes)) c.args.word.text.now
+    (λ bytes. told_book word c.args.h bytes (book_of c.args.h bytes)) c.args.word.text.now
     (depot_state g.D.Depot c.args.depot.now) (depot_state g.D.Depot c.read_bytes.new.depot) c.in_ok-bytes.bytes
     c.judge_book.result c.in_ok-bytes.ensures judges

@@ -13,7 +13,7 @@ unfolding site_of_file
 returns-in_err-bytes g c =
     let p = err_from_is_err_and c.from_residual.result c.from_residual.ensures.1 in
     rw (p.1, p.2) (looks_first (λ bytes. bytes.items) fields_of (within c.args.word.number most_site_bytes SiteBytes)
-    (λ bytes. judged (told_site c.args.word.number (site_of bytes))) c.args.word.text.now
+    (λ bytes. judged (told_site c.args.word.number bytes (site_of bytes))) c.args.word.text.now
     (depot_state g.D.Depot c.args.depot.now) (depot_state g.D.Depot c.read_bytes.new.depot) c.in_err-bytes.field-0.0
     c.in_err-bytes.ensures)
 
@@ -22,8 +22,8 @@ unfolding site_of_file
 returns g c =
     let judged_alone = rw c.deref.ensures.value at c.judge_site.ensures in
     looks_judged (λ bytes. bytes.items) fields_of (within c.args.word.number most_site_bytes SiteBytes)
-    (λ bytes. told_site c.args.word.number (site_of bytes)) c.args.word.text.now
+    (λ bytes. told_site c.args.word.number bytes (site_of bytes)) c.args.word.text.now
     (depot_state g.D.Depot c.args.depot.now) (depot_state g.D.Depot c.read_bytes.new.depot) c.in_ok-bytes.bytes
     c.judge_site.result c.in_ok-bytes.ensures
-    (alone_judges fields_of (told_site c.args.word.number (site_of c.in_ok-bytes.bytes.items)) c.judge_site.result
+    (alone_judges fields_of (told_site c.args.word.number c.in_ok-bytes.bytes.items (site_of c.in_ok-bytes.bytes.items)) c.judge_site.result
     judged_alone)
