@@ -11,6 +11,7 @@ pub mod NextLine
 pub mod Taking
 pub mod GoodAccounts
 pub mod ListedAccounts
+pub mod Decimals
 pub mod Made
 pub mod Longer
 pub mod Few
