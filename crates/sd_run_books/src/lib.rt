@@ -38,6 +38,7 @@ mod show_command;
 mod show_line;
 mod site_name;
 mod status_command;
+pub mod status_laws;
 mod status_lines;
 mod told;
 mod told_changes;
