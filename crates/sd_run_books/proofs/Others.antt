@@ -62,7 +62,7 @@ other_accounts site accounts out given =
 
 other_longer : (word d : ℕ) (commands added : List Command) → IsOther (longer_book word d commands added)
 unfolding longer_book
-other_longer word d commands added = other_book word (said d [] (map Some (commands ++ added)))
+other_longer word d commands added = other_book word d [] (said d [] (map Some (commands ++ added)))
 
 pub other_book_order : (site book commands out : FileArgument) (given : Readings) →
     IsOther (book_meaning site book commands out given).result
