@@ -1,5 +1,5 @@
 -- Lines that are refused.
-use Rattle.std.proofs.Common.{◌≡◌, ℕ, ◌-◌, ◌^◌, ◌<◌, ◌≤◌, true, false, List, [], ◌∷◌, ◌++◌, length, drop, ap, sym, refl}
+use Rattle.std.proofs.Common.{◌≡◌, ℕ, ◌-◌, ◌^◌, ◌<◌, ◌≤◌, true, false, List, [], ◌++◌, length, drop, ap, refl}
 use Rattle.std.proofs.Common.{◌∙◌, arith, pow_mono}
 use Rattle.std.specs.Prelude.{replicate, nat_lt, Bool, if◌then◌else◌, Option, Some, None, Ok, Err}
 use Rattle.std.proofs.lemmas.Bool.{lt-ltb, le-ltb}
@@ -21,19 +21,22 @@ unfolding excerpt_of
 nothing_shown = refl
 
 -- a number of the tree on a line of a file of leaves
-pub not_above : (d u : ℕ) (line : List ℕ) → fitting (decimal_after [] line) ≡ Ok u → u < 2 ^ d → leaf_cause d line ≡ Descends
+pub not_above : (d u : ℕ) (line : List ℕ) → fitting (decimal_after [] line) ≡ Ok u → u < 2 ^ d →
+    leaf_cause d line ≡ Descends
 unfolding rest_after leaf_cause
 not_above d u line e below =
     ap (number_cause d line) (fits_is (decimal_value line) u e) ∙ rw (lt-ltb u (2 ^ d) below) refl
 
 -- a larger number there
-pub not_there : (d u : ℕ) (line : List ℕ) → fitting (decimal_after [] line) ≡ Ok u → 2 ^ d ≤ u → leaf_cause d line ≡ Leaf d
+pub not_there : (d u : ℕ) (line : List ℕ) → fitting (decimal_after [] line) ≡ Ok u → 2 ^ d ≤ u →
+    leaf_cause d line ≡ Leaf d
 unfolding rest_after leaf_cause
 not_there d u line e high =
     ap (number_cause d line) (fits_is (decimal_value line) u e) ∙ rw (le-ltb u (2 ^ d) high) refl
 
 -- a number of more than 32 bits there
-pub too_large : (d : ℕ) (line : List ℕ) → d ≤ 20 → fitting (decimal_after [] line) ≡ Err TooLarge → leaf_cause d line ≡ Leaf d
+pub too_large : (d : ℕ) (line : List ℕ) → d ≤ 20 → fitting (decimal_after [] line) ≡ Err TooLarge →
+    leaf_cause d line ≡ Leaf d
 unfolding rest_after leaf_cause
 too_large d line low e = by (decimal_value line) e
   where
@@ -45,7 +48,8 @@ too_large d line low e = by (decimal_value line) e
         rw above refl
 
 -- no number there
-pub no_number : (d : ℕ) (line : List ℕ) → fitting (decimal_after [] line) ≡ Err Malformed → leaf_cause d line ≡ layout_of line
+pub no_number : (d : ℕ) (line : List ℕ) → fitting (decimal_after [] line) ≡ Err Malformed →
+    leaf_cause d line ≡ layout_of line
 unfolding rest_after leaf_cause
 no_number d line e = by (decimal_value line) e
   where
@@ -53,6 +57,7 @@ no_number d line e = by (decimal_value line) e
     by None e = refl
     by (Some n) e = some (nat_lt n (2 ^ 32)) e
       where
-        some : (b : Bool) → (if b then Ok n else Err TooLarge) ≡ Err Malformed → number_cause d line (Some n) ≡ layout_of line
+        some : (b : Bool) → (if b then Ok n else Err TooLarge) ≡ Err Malformed →
+            number_cause d line (Some n) ≡ layout_of line
         some true e = absurd cc
         some false e = absurd cc

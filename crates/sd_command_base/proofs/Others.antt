@@ -105,7 +105,8 @@ pub other_leaves_file : (word d : ℕ) (got : Option (List ℕ)) → IsOther (le
 unfolding leaves_of_file
 other_leaves_file word d got =
     other_after (within word most_book_bytes BookBytes got).calls (within word most_book_bytes BookBytes got).result
-    (λ bytes. judged (told_leaves word d bytes (leaves_of_text d bytes))) (other_file word most_book_bytes BookBytes got)
+    (λ bytes. judged (told_leaves word d bytes (leaves_of_text d bytes)))
+    (other_file word most_book_bytes BookBytes got)
     (λ bytes. other_leaves word d bytes (leaves_of_text d bytes))
 
 other_own : (own : Bool) (told : Result (List Command) Status) → IsOther told →
@@ -119,7 +120,8 @@ unfolding own_book_of_file
 other_own_book_file word d line got =
     other_after (within word most_book_bytes BookBytes got).calls (within word most_book_bytes BookBytes got).result
     (λ bytes. judged (told_own word d line bytes)) (other_file word most_book_bytes BookBytes got)
-    (λ bytes. other_own (is_book line bytes) (told_book word d bytes (book_of d bytes)) (other_book word d bytes (book_of d bytes)))
+    (λ bytes. other_own (is_book line bytes) (told_book word d bytes (book_of d bytes))
+    (other_book word d bytes (book_of d bytes)))
 
 other_ended : (ends : Bool) (word : ℕ) (line : BadLine) (bytes : List ℕ) (commands : List Command) →
     IsOther {A = BookText} (if ends then Ok (record { bytes = bytes; commands = commands })
@@ -144,7 +146,8 @@ unfolding longer_book_of_file
 other_longer_book_file word d line got =
     other_after (within word most_book_bytes BookBytes got).calls (within word most_book_bytes BookBytes got).result
     (λ bytes. judged (told_longer word d line bytes)) (other_file word most_book_bytes BookBytes got)
-    (λ bytes. other_longer (begins_with_book line bytes) (told_whole word bytes (told_book word d bytes (book_of d bytes)))
+    (λ bytes. other_longer (begins_with_book line bytes)
+    (told_whole word bytes (told_book word d bytes (book_of d bytes)))
     (other_whole word bytes (told_book word d bytes (book_of d bytes)) (other_book word d bytes (book_of d bytes))))
 
 -- no file that must be new answers it

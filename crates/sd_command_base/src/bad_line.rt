@@ -14,7 +14,7 @@ use sd_base::{NumberFault, next_line, number_after};
 use sd_site::SiteFault;
 use sd_tree::Height;
 
-/// As many bytes of a refused line as are shown: no line that a book, a file of accounts or one of leaves has is longer.
+/// As many bytes of a refused line as are shown: no good line of a book, of accounts or of leaves is longer.
 pub const MOST_SHOWN: usize = 48;
 
 /// As many bytes of a refused line of a site as are shown: no secret of a site is so short.
@@ -149,7 +149,7 @@ fn shown(most: usize, line: &[u8]) -> Excerpt
 
 /// The line of this number, counted from 1; an empty one if there is none.
 #[tactic(auto, unfolding(crate::specs::BadLines::line_numbered))]
-fn line_numbered(k: u32, bytes: &[u8]) -> &[u8]
+pub fn line_numbered(k: u32, bytes: &[u8]) -> &[u8]
     ensures { result.now ≡ numbered k bytes.now }
 {
     let mut before = k.saturating_sub(1);

@@ -108,7 +108,7 @@ pub(crate) fn judge_book(alloc: Global, word: u8, bytes: &[u8], h: Height) -> Re
     }
 }
 
-/// What the program answers to a book for a tree of height h that is refused, which this word's file of these bytes says.
+/// What the program answers to a book for a tree of this height that is refused, which this word's file says.
 pub fn book_fault(word: u8, h: Height, bytes: &[u8], fault: BookFault) -> Status
     ensures { result ≡ refused_book word h bytes.now fault }
 {

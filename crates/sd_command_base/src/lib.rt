@@ -25,7 +25,8 @@ mod turn;
 mod word;
 
 pub use bad_line::{
-    BadLine, Excerpt, LineCause, MOST_SHOWN, MOST_SITE_SHOWN, malformed, refused_line, site_excerpt,
+    BadLine, Excerpt, LineCause, MOST_SHOWN, MOST_SITE_SHOWN, line_numbered, malformed,
+    refused_line, site_excerpt,
 };
 pub use both::read_both;
 pub use escape::{escaped, quoted};

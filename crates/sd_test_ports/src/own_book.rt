@@ -98,7 +98,7 @@ type Said = Result<usize, (u8, u32)>;
 
 fn refused(status: Status) -> (u8, u32) {
     match status {
-        Status::BadBook { line, .. } => (status.code(), line),
+        Status::BadBook { line, .. } => (status.code(), line.number),
         _ => (status.code(), 0),
     }
 }

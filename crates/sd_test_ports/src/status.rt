@@ -1,5 +1,5 @@
 use sd_book::BookLimit;
-use sd_command_base::{Clash, LimitKind, OutCause, Status, StreamRefusal};
+use sd_command_base::{Clash, LimitKind, OutCause, Status, StreamRefusal, site_fault};
 use sd_command_line::tell;
 use sd_engine::{BreakCause, StreamBreak};
 use sd_message::{EcmFault, EmmFault, StreamFault};
@@ -9,36 +9,12 @@ use sd_site::{CardFault, SiteFault};
 use std::alloc::{AllocError, Global};
 
 // Statuses, their codes, and their lines.
-static LINES: [(Status, u8, &str); 44] = [
+static LINES: [(Status, u8, &str); 41] = [
     (Status::Done, 0, ""),
     (Status::Usage, 1, "usage\n"),
     (Status::Missing(3), 2, "missing file word 3\n"),
     (Status::DepotFault, 4, "device fault\n"),
     (Status::PrintFault, 5, ""),
-    (
-        Status::BadSite {
-            word: 1,
-            fault: SiteFault::Line(4),
-        },
-        6,
-        "site line 4 is malformed\n",
-    ),
-    (
-        Status::BadSite {
-            word: 3,
-            fault: SiteFault::SamePid,
-        },
-        6,
-        "site names one pid twice\n",
-    ),
-    (
-        Status::BadSite {
-            word: 1,
-            fault: SiteFault::Extra(10),
-        },
-        6,
-        "site has extra line 10\n",
-    ),
     (
         Status::Limit(LimitKind::BookBytes),
         11,
@@ -203,6 +179,15 @@ static LINES: [(Status, u8, &str); 44] = [
     (Status::SiteUsedUp(12), 22, "site is used up at packet 12\n"),
 ];
 
+// Faults of a site, and their lines.
+static SITES: [(SiteFault, &str); 5] = [
+    (SiteFault::Line(4), "site line 4 is malformed\n"),
+    (SiteFault::Range(5), "site line 5 is out of range\n"),
+    (SiteFault::SamePid, "site names one pid twice\n"),
+    (SiteFault::Extra(10), "site has extra line 10\n"),
+    (SiteFault::Short, "site is short\n"),
+];
+
 // Whether the status has this code, and is told by this line.
 fn is_told(alloc: Global, status: Status, code: u8, text: &str) -> Result<bool, AllocError> {
     let mut print = MemSink::new(alloc, 64, 64, Vec::new(alloc)).map_err(|_| AllocError)?;
@@ -214,6 +199,15 @@ fn is_told(alloc: Global, status: Status, code: u8, text: &str) -> Result<bool, 
 fn each_status_has_its_line(rt: HostRuntime) -> Result<(), AllocError> {
     for (status, code, text) in &LINES {
         assert!(rt; is_told(rt.alloc(), *status, *code, text)?, "{text}");
+    }
+    Ok(())
+}
+
+#[test]
+fn each_fault_of_a_site_has_its_line(rt: HostRuntime) -> Result<(), AllocError> {
+    for (fault, text) in &SITES {
+        let status = site_fault(1, b"a\nb\nc\nd\n", *fault);
+        assert!(rt; is_told(rt.alloc(), status, 6, text)?, "{text}");
     }
     Ok(())
 }

@@ -25,5 +25,6 @@ returns g c =
     (λ bytes. told_site c.args.word.number bytes (site_of bytes)) c.args.word.text.now
     (depot_state g.D.Depot c.args.depot.now) (depot_state g.D.Depot c.read_bytes.new.depot) c.in_ok-bytes.bytes
     c.judge_site.result c.in_ok-bytes.ensures
-    (alone_judges fields_of (told_site c.args.word.number c.in_ok-bytes.bytes.items (site_of c.in_ok-bytes.bytes.items)) c.judge_site.result
-    judged_alone)
+    (alone_judges fields_of
+    (told_site c.args.word.number c.in_ok-bytes.bytes.items (site_of c.in_ok-bytes.bytes.items))
+    c.judge_site.result judged_alone)
