@@ -1,11 +1,11 @@
 //! The rule that a refused line of accounts breaks.
 
-ghost use Rattle.std.specs.Prelude.{◌≡◌, ◌-◌, is_some, take};
+ghost use Rattle.std.specs.Prelude.{◌≡◌, ◌+◌, ◌-◌, ◌∷◌, List, Option, Some, IfSome, IsNone, is_some, take};
 ghost use Rattle.sd_base.specs.Number.{decimal_value};
 ghost use Rattle.sd_command_base.specs.BadLines.{line_numbered as numbered};
 ghost use Rattle.sd_run_books.specs.AccountsCause.{assigns_number as assigns, bad_entry as entry_refused};
 ghost use Rattle.sd_run_books.specs.AccountsCause.{clash_from, clash_of as clash, taken_entry as entry_taken};
-ghost use Rattle.sd_run_books.specs.Line.{entry_on, said_by};
+ghost use Rattle.sd_run_books.specs.Line.{Entry, Assigns, entry_on, said_by};
 
 use crate::account_line::{Line, line_in};
 use crate::account_name::{Name, is_name};
@@ -38,34 +38,57 @@ fn clash_of(h: Height, k: u32, bytes: &[u8]) -> LineCause
     ensures { result ≡ clash (entry_on h (numbered k bytes.now)) (take (k - 1) (said_by h bytes.now)) }
 {
     match line_in(line_numbered(k, bytes), h) {
-        Some(Line::Assign(name, leaf)) => clash_with(h, k, bytes, name, leaf),
+        Some(Line::Assign(name, leaf)) => clash_with(h, k, bytes, &name, leaf),
         Some(Line::Drop(_) | Line::Restore(_) | Line::Period) | None => LineCause::Form,
     }
 }
 
 /// The first line before line k that binds the name or the leaf.
-fn clash_with(h: Height, k: u32, bytes: &[u8], name: Name, leaf: Leaf) -> LineCause
-    ensures { result ≡ clash_from 1 name.bytes leaf (take (k - 1) (said_by h bytes.now)) }
+fn clash_with(h: Height, k: u32, bytes: &[u8], name: &Name, leaf: Leaf) -> LineCause
+    ensures { result ≡ clash_from 1 name.now.bytes leaf (take (k - 1) (said_by h bytes.now)) }
 {
     let mut rest = bytes;
     for line in 1..k {
         let Some((text, after)) = next_line(rest) else {
             return LineCause::Form;
         };
-        if let Some(Line::Assign(other, bound)) = line_in(text, h) {
-            if name.as_bytes() == other.as_bytes() {
-                return LineCause::Held {
-                    leaf: bound.get(),
-                    line,
-                };
-            }
-            if bound == leaf {
-                return LineCause::Named(line);
-            }
+        if let Some(cause) = clash_on(h, line, text, name, leaf) {
+            return cause;
         }
         rest = after;
     }
     LineCause::Form
+}
+
+/// Why a line of this number and text clashes with one that binds the name and the leaf, if it does.
+fn clash_on(h: Height, k: u32, text: &[u8], name: &Name, leaf: Leaf) -> Option<LineCause>
+    ensures some { IfSome result (λ cause. (said : List (Option Entry)) →
+        clash_from k name.now.bytes leaf (entry_on h text.now ∷ said) ≡ cause) }
+    ensures none { IsNone result → (said : List (Option Entry)) →
+        clash_from k name.now.bytes leaf (entry_on h text.now ∷ said)
+        ≡ clash_from (k + 1) name.now.bytes leaf said }
+{
+    match line_in(text, h) {
+        Some(Line::Assign(other, bound)) => bound_on(k, name, leaf, &other, bound),
+        Some(Line::Drop(_) | Line::Restore(_) | Line::Period) | None => None,
+    }
+}
+
+/// Why a line of this number that binds the other name and leaf clashes with one that binds these, if it does.
+fn bound_on(k: u32, name: &Name, leaf: Leaf, other: &Name, bound: Leaf) -> Option<LineCause>
+    ensures some { IfSome result (λ cause. (said : List (Option Entry)) →
+        clash_from k name.now.bytes leaf (Some (Assigns other.now.bytes bound) ∷ said) ≡ cause) }
+    ensures none { IsNone result → (said : List (Option Entry)) →
+        clash_from k name.now.bytes leaf (Some (Assigns other.now.bytes bound) ∷ said)
+        ≡ clash_from (k + 1) name.now.bytes leaf said }
+{
+    if name.as_bytes() == other.as_bytes() {
+        return Some(LineCause::Held {
+            leaf: bound.get(),
+            line: k,
+        });
+    }
+    (bound == leaf).then_some(LineCause::Named(k))
 }
 
 /// Whether the line assigns a number to a name.
