@@ -38,14 +38,14 @@ fn clash_of(h: Height, k: u32, bytes: &[u8]) -> LineCause
     ensures { result ≡ clash (entry_on h (numbered k bytes.now)) (take (k - 1) (said_by h bytes.now)) }
 {
     match line_in(line_numbered(k, bytes), h) {
-        Some(Line::Assign(name, leaf)) => clash_with(h, k, bytes, &name, leaf),
+        Some(Line::Assign(name, leaf)) => clash_with(h, k, bytes, name, leaf),
         Some(Line::Drop(_) | Line::Restore(_) | Line::Period) | None => LineCause::Form,
     }
 }
 
 /// The first line before line k that binds the name or the leaf.
-fn clash_with(h: Height, k: u32, bytes: &[u8], name: &Name, leaf: Leaf) -> LineCause
-    ensures { result ≡ clash_from 1 name.now.bytes leaf (take (k - 1) (said_by h bytes.now)) }
+fn clash_with(h: Height, k: u32, bytes: &[u8], name: Name, leaf: Leaf) -> LineCause
+    ensures { result ≡ clash_from 1 name.bytes leaf (take (k - 1) (said_by h bytes.now)) }
 {
     let mut rest = bytes;
     for line in 1..k {
@@ -61,26 +61,26 @@ fn clash_with(h: Height, k: u32, bytes: &[u8], name: &Name, leaf: Leaf) -> LineC
 }
 
 /// Why a line of this number and text clashes with one that binds the name and the leaf, if it does.
-fn clash_on(h: Height, k: u32, text: &[u8], name: &Name, leaf: Leaf) -> Option<LineCause>
+fn clash_on(h: Height, k: u32, text: &[u8], name: Name, leaf: Leaf) -> Option<LineCause>
     ensures some { IfSome result (λ cause. (said : List (Option Entry)) →
-        clash_from k name.now.bytes leaf (entry_on h text.now ∷ said) ≡ cause) }
+        clash_from k name.bytes leaf (entry_on h text.now ∷ said) ≡ cause) }
     ensures none { IsNone result → (said : List (Option Entry)) →
-        clash_from k name.now.bytes leaf (entry_on h text.now ∷ said)
-        ≡ clash_from (k + 1) name.now.bytes leaf said }
+        clash_from k name.bytes leaf (entry_on h text.now ∷ said)
+        ≡ clash_from (k + 1) name.bytes leaf said }
 {
     match line_in(text, h) {
-        Some(Line::Assign(other, bound)) => bound_on(k, name, leaf, &other, bound),
+        Some(Line::Assign(other, bound)) => bound_on(k, name, leaf, other, bound),
         Some(Line::Drop(_) | Line::Restore(_) | Line::Period) | None => None,
     }
 }
 
 /// Why a line of this number that binds the other name and leaf clashes with one that binds these, if it does.
-fn bound_on(k: u32, name: &Name, leaf: Leaf, other: &Name, bound: Leaf) -> Option<LineCause>
+fn bound_on(k: u32, name: Name, leaf: Leaf, other: Name, bound: Leaf) -> Option<LineCause>
     ensures some { IfSome result (λ cause. (said : List (Option Entry)) →
-        clash_from k name.now.bytes leaf (Some (Assigns other.now.bytes bound) ∷ said) ≡ cause) }
+        clash_from k name.bytes leaf (Some (Assigns other.bytes bound) ∷ said) ≡ cause) }
     ensures none { IsNone result → (said : List (Option Entry)) →
-        clash_from k name.now.bytes leaf (Some (Assigns other.now.bytes bound) ∷ said)
-        ≡ clash_from (k + 1) name.now.bytes leaf said }
+        clash_from k name.bytes leaf (Some (Assigns other.bytes bound) ∷ said)
+        ≡ clash_from (k + 1) name.bytes leaf said }
 {
     if name.as_bytes() == other.as_bytes() {
         return Some(LineCause::Held {
