@@ -10,10 +10,11 @@ use Rattle.sd_engine.proofs.Chains.{chain_writes}
 use Rattle.sd_site.specs.SiteFields.{SiteFields}
 use Rattle.sd_psi.specs.declared.clear_fault.ClearFault.{ClearFault}
 use Rattle.sd_spec.specs.Plan.{Plan}
-use Rattle.sd_spec.specs.Refused.{refusal_of, refusal_from, IsClear}
+use Rattle.sd_spec.specs.Refused.{refusal_of, refusal_from, whole_refusal, IsClear}
 use Rattle.sd_spec.specs.Sent.{body, broadcast, bytes_added, bytes_from}
 use Rattle.sd_spec.proofs.Bodies.{body_bytes, closed_bytes}
-use Rattle.sd_head.specs.Staged.{head_does, head_ends, head_refuses, IsAfter}
+use Rattle.sd_head.specs.Staged.{head_does, head_ends, head_refuses, IsAfter, RefusesPacket}
+use Rattle.sd_head.specs.Schedule.{IsDue}
 use Rattle.sd_head.specs.declared.fault.HeadFault.{HeadFault}
 use Rattle.sd_head.specs.declared.fault.HeadFault.TheVariants.{Clear}
 use Rattle.sd_head.specs.declared.head.Head.{Head}
@@ -79,7 +80,7 @@ pub whole_written : (plan : Plan) (packets : List (List ℕ)) (s t : Head) (byte
 whole_written plan packets s t bytes steps after (mid, first, last, m, k, chain, end, joined, counted) =
     let there = chained plan packets s mid first m after chain in
     joined ∙ (ap (λ (xs : List ℕ). xs ++ last) there.0
-    ∙ (ap (λ (xs : List ℕ). concat (body plan packets) ++ xs) (end plan packets there.1).0
+    ∙ (ap (λ (xs : List ℕ). concat (body plan packets) ++ xs) (end.1 plan packets there.1).0
     ∙ sym (closed_bytes plan packets)))
 
 pub whole_clear : (plan : Plan) (packets : List (List ℕ)) (s t : Head) (bytes : List ℕ) (steps : ℕ) →
@@ -87,6 +88,15 @@ pub whole_clear : (plan : Plan) (packets : List (List ℕ)) (s t : Head) (bytes 
     ChainToEnd head_does head_ends s packets t bytes steps → IsClear plan.site packets
 whole_clear plan packets s t bytes steps after (mid, first, last, m, k, chain, end, joined, counted) =
     all_clear plan packets s mid first m after chain
+
+-- and the end isn't refused
+pub whole_ended : (plan : Plan) (packets : List (List ℕ)) (s t : Head) (bytes : List ℕ) (steps : ℕ) →
+    IsAfter plan [] s →
+    ChainToEnd head_does head_ends s packets t bytes steps → whole_refusal plan.site packets ≡ None
+unfolding whole_refusal
+whole_ended plan packets s t bytes steps after (mid, first, last, m, k, chain, end, joined, counted) =
+    rw (all_clear plan packets s mid first m after chain)
+    (end.0 plan packets (all_after plan packets s mid first m after chain))
 
 pub refused_written : (plan : Plan) (packets : List (List ℕ)) (refused : Option (List ℕ)) (fault : HeadFault)
     (s t : Head)
@@ -126,6 +136,18 @@ first_after site start (first ∷ packets) rest packet fault h now =
     (subst (λ (b : List (List ℕ)). refusal_of site b packet ≡ Some fault)
     (sym (append_assoc start (first ∷ []) packets)) now))
 
+-- whether it keeps a refusal or one is due, after packets that were sent one is due
+due_after : (plan : Plan) (packets : List (List ℕ)) (refused : Option (List ℕ)) (fault : HeadFault) (mid : Head)
+    (bytes : List ℕ) → IsAfter plan packets mid → RefusesPacket mid refused fault bytes →
+    IsDue plan packets refused fault
+due_after plan packets refused fault mid bytes there refuses = elim refuses.cause [
+  | inl kept ↦ absurd (apart mid.refusal fault there.unrefused kept)
+  | inr due ↦ due plan packets there
+]
+  where
+    apart : (refusal : Option HeadFault) (fault : HeadFault) → refusal ≡ None → refusal ≡ Some fault → ⊥
+    apart refusal fault none some = absurd cc
+
 pub first_refused : (plan : Plan) (packets rest : List (List ℕ)) (packet : List ℕ) (fault : ClearFault) (s t : Head)
     (bytes : List ℕ)
     (steps : ℕ) → IsAfter plan [] s →
@@ -135,10 +157,15 @@ first_refused plan packets rest packet fault s t bytes steps after
     (mid, first, last, m, k, chain, refuses, joined, counted) =
     let there = all_after plan packets s mid first m after chain in
     let clear = all_clear plan packets s mid first m after chain in
-    first_after plan.site [] packets rest packet fault clear (elim refuses.cause [
-      | inl kept ↦ absurd (apart mid.refusal (Clear fault) there.unrefused kept)
-      | inr due ↦ due plan packets there
-    ])
-  where
-    apart : (refusal : Option HeadFault) (fault : HeadFault) → refusal ≡ None → refusal ≡ Some fault → ⊥
-    apart refusal fault none some = absurd cc
+    first_after plan.site [] packets rest packet fault clear
+    (due_after plan packets (Some packet) (Clear fault) mid _ there refuses)
+
+pub end_refused : (plan : Plan) (packets : List (List ℕ)) (fault : ClearFault) (s t : Head) (bytes : List ℕ)
+    (steps : ℕ) → IsAfter plan [] s →
+    Refused head_does head_refuses s packets None (Clear fault) t bytes steps →
+    whole_refusal plan.site packets ≡ Some fault
+unfolding whole_refusal
+end_refused plan packets fault s t bytes steps after
+    (mid, first, last, m, k, chain, refuses, joined, counted) =
+    rw (all_clear plan packets s mid first m after chain)
+    (due_after plan packets None (Clear fault) mid _ (all_after plan packets s mid first m after chain) refuses)

@@ -23,7 +23,7 @@ use Rattle.sd_head.specs.Left.{is_over, renumbered, with_marked, with_refused, w
 use Rattle.sd_head.specs.Leaving.{IsJudged, LeavesOut}
 use Rattle.sd_head.specs.Live.{live_breaks, live_ends, live_stops, live_takes, starts_period, verdict_after, IsLive}
 use Rattle.sd_head.specs.Live.{TakesPacket}
-use Rattle.sd_head.specs.Staged.{head_ends, head_sends, IsAfter, IsOfSent}
+use Rattle.sd_head.specs.Staged.{head_closes, head_sends, IsAfter, IsOfSent}
 use Rattle.sd_head.specs.declared.head.Head.{Head}
 use Rattle.sd_head.specs.declared.judged.Judged.{Judged}
 use Rattle.sd_head.specs.declared.live.Live.{Live}
@@ -273,11 +273,11 @@ sent_stops s packet judged from to bytes unmarked told (steps, few, (t, sends)) 
 )
 
 -- at the end
-pub ends_live : (s : Live) (t : Head) (bytes : List ℕ) (steps : ℕ) → head_ends s.head t bytes steps →
+pub ends_live : (s : Live) (t : Head) (bytes : List ℕ) (steps : ℕ) → head_closes s.head t bytes steps →
     live_ends s bytes steps
 ends_live s t bytes steps ends = λ plan past live. (ends plan (aired plan.site past) live.head_is).0
 
-pub breaks_live : (s : Live) (from to : ℕ) (bytes : List ℕ) → IsOfSent (head_ends s.head) from to bytes →
+pub breaks_live : (s : Live) (from to : ℕ) (bytes : List ℕ) → IsOfSent (head_closes s.head) from to bytes →
     live_breaks s from to bytes
 breaks_live s from to bytes (steps, few, (t, ends)) = (steps, few, ends_live s t bytes steps ends)
 

@@ -1,6 +1,6 @@
 -- The judgement of a packet.
-use Rattle.std.proofs.Common.{◌≡◌, ℕ, ◌-◌, ◌^◌, ◌<◌, ◌≤◌, ◌&&◌, Bool, true, false, List, length, get_or}
-use Rattle.std.proofs.Common.{nat_le, refl, sym, ap, ◌∙◌, arith}
+use Rattle.std.proofs.Common.{◌≡◌, ℕ, ◌-◌, ◌^◌, ◌<◌, ◌≤◌, ◌&&◌, ◌==◌, Bool, true, false, List, [], ◌∷◌, length, get_or}
+use Rattle.std.proofs.Common.{nat_le, ne_eqb, refl, sym, ap, ◌∙◌, arith}
 use Rattle.std.specs.Prelude.{Option, Some, None, Ok, Err}
 use Rattle.std.proofs.lemmas.Bool.Decides.{nat_tests}
 use Rattle.sd_packet.specs.Header.{pid_of, scrambling_of}
@@ -15,7 +15,7 @@ use Rattle.sd_spec.specs.Kinds.{kind_of}
 use Rattle.sd_spec.specs.Plan.{word_of}
 use Rattle.sd_spec.specs.Carried.{pmt_carried}
 use Rattle.sd_spec.specs.declared.kind.Kind.TheVariants as Kind
-use Rattle.sd_spec.specs.Refused.{fault_where, is_reserved_pid, pat_wrong, is_full_own, is_too_long}
+use Rattle.sd_spec.specs.Refused.{end_refusal, fault_where, is_reserved_pid, pat_wrong, is_full_own, is_too_long}
 use Rattle.sd_head.specs.After.{IsAfter}
 use Rattle.sd_head.specs.Follows.{fault_by, limit_fault, wrong_by, HasRoom, IsJudgement, IsMove, IsPatOf}
 use Rattle.sd_head.specs.declared.clear.Clear.{Clear}
@@ -206,3 +206,11 @@ passed_judged rule site clear packet pat small unplaced unscrambled free right i
       };
       word = left.1;
     }
+
+-- the end is judged by how many packets were taken
+pub end_counted : (site : SiteFields) (clear : Clear) (before : List (List ℕ)) → IsAfter before clear
+    → end_refusal site before ≡ fault_where ((clear.count == 0) && is_too_long site clear.count) (TooLong 0) None
+end_counted site clear [] after = rw after.number refl
+end_counted site clear (packet ∷ packets) after =
+    let more : (clear.count == 0) ≡ false = ne_eqb clear.count 0 (λ e. absurd (omega (arith, e, after.number))) in
+    rw more refl

@@ -1,17 +1,18 @@
 -- A head end's answers as those of a stage.
 use Rattle.std.proofs.Common.{◌≡◌, ℕ, true, List, [], length, inl, inr, refl, sym, ap, subst, ◌∙◌, arith}
-use Rattle.std.specs.Prelude.{Some, None, Result, Ok, Err, OnOk}
+use Rattle.std.specs.Prelude.{Option, Some, None, Result, Ok, Err, OnOk}
 use Rattle.sd_base.specs.Count.{IsCaused}
 use Rattle.sd_site.specs.SiteFields.{SiteFields, fields_of}
 use Rattle.sd_engine.specs.Stage.{SinkState, HasGrown, IsCutShort, IsAllowed}
 use Rattle.sd_engine.proofs.Chains.{took_none}
 use Rattle.sd_psi.specs.declared.clear_fault.ClearFault.{ClearFault}
 use Rattle.sd_spec.specs.Plan.{Plan}
-use Rattle.sd_spec.specs.Refused.{refusal_of}
+use Rattle.sd_spec.specs.Refused.{refusal_of, end_refusal}
 use Rattle.sd_head.specs.Follows.{IsJudgement}
 use Rattle.sd_head.specs.Schedule.{begins_with, IsDue}
-use Rattle.sd_head.specs.Staged.{plan_in, head_does, head_ends, head_refuses, head_sends, IsAfter, IsOfSent}
-use Rattle.sd_head.specs.Staged.{RefusesPacket}
+use Rattle.sd_head.specs.After.{IsAfter as IsKept}
+use Rattle.sd_head.specs.Staged.{plan_in, head_closes, head_does, head_ends, head_refuses, head_sends, IsAfter}
+use Rattle.sd_head.specs.Staged.{IsOfSent, RefusesPacket}
 use Rattle.sd_head.specs.declared.fault.HeadFault.{HeadFault}
 use Rattle.sd_head.specs.declared.fault.HeadFault.TheVariants.{Clear, NoMemory}
 use Rattle.sd_head.specs.declared.head.Head.{Head}
@@ -139,15 +140,41 @@ module _ (s : Head) (packet : List ℕ) where
   allowed_of result judged from to bytes told is (steps, few, (t, sends)) =
       (steps, few, inl (t, does_of result judged t bytes steps told is sends))
 
--- the same of the end
-pub allowed_end : (s : Head) (from to : ℕ) (bytes : List ℕ) → IsOfSent (head_ends s) from to bytes →
-    IsAllowed (head_ends s) (head_refuses s None) from to bytes
-allowed_end s from to bytes (steps, few, (t, ends)) = (steps, few, inl (t, ends))
+-- the same of the end, of which this is judged
+abbrev pub IsEndJudged : Head → Option ClearFault → Type 0
+IsEndJudged s found = (before : List (List ℕ)) → IsKept before s.clear → found ≡ end_refusal (fields_of s.site) before
 
-pub refuses_end : (s : Head) (fault : HeadFault) → s.clear.count ≡ 0 → NoMemory ≡ fault →
-    RefusesPacket s None fault []
-refuses_end s fault none same = record {
-  nothing = refl;
-  cause = inr (λ plan before after. subst (IsDue plan before None) same
-      (none_long before (sym after.clear_is.number ∙ none)));
-}
+-- what is no fault is none
+pub none_found : (judged : Option ClearFault) → ((fault : ClearFault) → judged ≡ Some fault → ⊥) → judged ≡ None
+none_found None apart = refl
+none_found (Some fault) apart = absurd (apart fault refl)
+
+module _ (s : Head) (judged : Option ClearFault) (told : IsEndJudged s judged) where
+  end_is : (found : Option ClearFault) → judged ≡ found → (plan : Plan) (before : List (List ℕ)) →
+      IsAfter plan before s → end_refusal plan.site before ≡ found
+  end_is found is plan before after =
+      subst (λ (site : SiteFields). end_refusal site before ≡ found) (site_is plan before s after)
+      (sym (told before after.clear_is) ∙ is)
+
+  pub ends_of : (t : Head) (bytes : List ℕ) (steps : ℕ) → judged ≡ None → head_closes s t bytes steps →
+      head_ends s t bytes steps
+  ends_of t bytes steps is closes = (end_is None is, closes)
+
+  pub allowed_end : (from to : ℕ) (bytes : List ℕ) → judged ≡ None → IsOfSent (head_closes s) from to bytes →
+      IsAllowed (head_ends s) (head_refuses s None) from to bytes
+  allowed_end from to bytes is (steps, few, (t, closes)) = (steps, few, inl (t, ends_of t bytes steps is closes))
+
+  pub refuses_end : (found : ClearFault) (fault : HeadFault) → judged ≡ Some found → Clear found ≡ fault →
+      RefusesPacket s None fault []
+  refuses_end found fault is same = record {
+    nothing = refl;
+    cause = inr (λ plan before after. subst (IsDue plan before None) same (end_is (Some found) is plan before after));
+  }
+
+  pub wants_end : (fault : HeadFault) → judged ≡ None → s.clear.count ≡ 0 → NoMemory ≡ fault →
+      RefusesPacket s None fault []
+  wants_end fault is none same = record {
+    nothing = refl;
+    cause = inr (λ plan before after. subst (IsDue plan before None) same
+        (end_is None is plan before after, none_long before (sym after.clear_is.number ∙ none)));
+  }

@@ -23,7 +23,7 @@ use Rattle.sd_head.specs.declared.entitling.Entitling.{Entitling}
 use Rattle.sd_head.specs.Messages.{head_of, message_due}
 use Rattle.sd_head.specs.Items.{HasSent, HasPlaced, HasCountersAfter, tables_bytes, message_bytes}
 use Rattle.sd_head.specs.Schedule.{IsAt}
-use Rattle.sd_head.specs.Staged.{plan_in, head_ends, head_sends, IsAfter, IsOn, IsReady, RefusesPacket}
+use Rattle.sd_head.specs.Staged.{plan_in, head_closes, head_sends, IsAfter, IsOn, IsReady, RefusesPacket}
 use Rattle.sd_head.specs.declared.fault.HeadFault.{HeadFault}
 use Rattle.sd_head.specs.declared.sender.Sender.{Sender}
 use Rattle.sd_head.specs.declared.head.Head.{Head}
@@ -198,7 +198,7 @@ pub record Ends (s : Head) (entitling : Entitling) (m : Sender) (due : Bool) (em
 
 pub ends : (s t : Head) (m : Sender) (due : Bool) (emms : List (List ℕ)) (head : EcmHead) (steps : ℕ) →
     Ends s t.entitling m due emms head →
-    head_ends s t (tables_bytes m due emms ++ message_bytes s.site.ecm m (Some head)) steps
+    head_closes s t (tables_bytes m due emms ++ message_bytes s.site.ecm m (Some head)) steps
 ends s t m due emms head steps comes = λ plan before after.
     subst (λ (q : Plan). IsAfter q before s → (tables_bytes m due emms ++ message_bytes s.site.ecm m (Some head)
     ≡ concat (packets_from q.site (sent q before) (closing_of q before)))

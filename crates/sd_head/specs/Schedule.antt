@@ -1,7 +1,7 @@
 -- Public meaning: when crypto periods and periods begin, and why a head end refuses.
 use Rattle.std.specs.Prelude.{◌≡◌, ℕ, zero, suc, ◌%◌, ◌==◌, ◌&&◌, Bool, true, List, [], length, Option, Some, None}
 use Rattle.sd_spec.specs.Plan.{Plan, crypto_length, crypto_of}
-use Rattle.sd_spec.specs.Refused.{refusal_of}
+use Rattle.sd_spec.specs.Refused.{refusal_of, end_refusal}
 use Rattle.sd_head.specs.declared.entitling.Entitling.{Entitling}
 use Rattle.sd_head.specs.Kept.{begins_period, IsNew, IsOf}
 use Rattle.sd_head.specs.declared.fault.HeadFault.{HeadFault}
@@ -21,5 +21,5 @@ abbrev pub IsDue : Plan → List (List ℕ) → Option (List ℕ) → HeadFault 
 IsDue plan before (Some packet) (Clear fault) = refusal_of plan.site before packet ≡ Some fault
 IsDue plan before (Some packet) NoMemory =
     (refusal_of plan.site before packet ≡ None) × (begins_with plan (length before) ≡ true)
-IsDue plan before None (Clear fault) = ⊥
-IsDue plan before None NoMemory = before ≡ []
+IsDue plan before None (Clear fault) = end_refusal plan.site before ≡ Some fault
+IsDue plan before None NoMemory = (end_refusal plan.site before ≡ None) × (before ≡ [])

@@ -3,7 +3,7 @@ use Rattle.std.specs.Prelude.{◌≡◌, ◌⊎◌, ℕ, ◌+◌, ◌-◌, ◌�
 use Rattle.std.specs.List.{concat}
 use Rattle.sd_spec.specs.Plan.{Plan, period_of}
 use Rattle.sd_book.specs.Commands.{revoked}
-use Rattle.sd_spec.specs.Refused.{refusal_of, IsSendable}
+use Rattle.sd_spec.specs.Refused.{refusal_of, end_refusal, IsSendable}
 use Rattle.sd_spec.specs.Sent.{sent, closing_of, bytes_added, packets_from}
 use Rattle.sd_head.specs.After.{IsAfter as IsKept}
 use Rattle.sd_head.specs.Kept.{plan_of}
@@ -38,11 +38,17 @@ head_does s packet t bytes steps =
     × (bytes ≡ bytes_added plan before packet) × IsAfter plan (before ++ packet ∷ []) t
 
 -- the end comes to the closing message, and the index has the leaves that are revoked in the last period
-abbrev pub head_ends : Head → Head → List ℕ → ℕ → Type 0
-head_ends s t bytes steps =
+abbrev pub head_closes : Head → Head → List ℕ → ℕ → Type 0
+head_closes s t bytes steps =
     (plan : Plan) (before : List (List ℕ)) → IsAfter plan before s →
     (bytes ≡ concat (packets_from plan.site (sent plan before) (closing_of plan before)))
     × (t.entitling.index.revoked ≡ revoked plan.site.height plan.commands (period_of plan (length before - 1)))
+
+-- the end, which isn't refused, comes to that
+abbrev pub head_ends : Head → Head → List ℕ → ℕ → Type 0
+head_ends s t bytes steps =
+    ((plan : Plan) (before : List (List ℕ)) → IsAfter plan before s → end_refusal plan.site before ≡ None)
+    × head_closes s t bytes steps
 
 -- A refusal writes nothing. It is the one that is kept, or it is due.
 pub record RefusesPacket (s : Head) (packet : Option (List ℕ)) (fault : HeadFault) (bytes : List ℕ) : Type 0 where

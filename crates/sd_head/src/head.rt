@@ -6,8 +6,8 @@ ghost use Rattle.sd_spec.specs.Plan.{Plan, period_of, word_of};
 ghost use Rattle.sd_head.specs.Follows.{IsJudgement};
 ghost use Rattle.sd_head.specs.Kept.{plan_of};
 ghost use Rattle.sd_head.specs.Schedule.{begins_with};
-ghost use Rattle.sd_head.specs.Staged.{head_does, head_ends, head_refuses, head_sends, plan_in, IsAfter, IsOfSent};
-ghost use Rattle.sd_head.specs.Staged.{IsOn, IsReady};
+ghost use Rattle.sd_head.specs.Staged.{head_closes, head_does, head_ends, head_refuses, head_sends, plan_in, IsAfter};
+ghost use Rattle.sd_head.specs.Staged.{IsOfSent, IsOn, IsReady};
 ghost use Rattle.sd_head.specs.declared.judged.PatRule.{PatRule as PatRules};
 
 use crate::fault::{HeadFault, LiveFault};
@@ -115,12 +115,12 @@ impl Head {
     ) -> Result<(), LiveFault>
         requires on { IsOn self.old }
         ensures value { OnOk result (HasGrown (vessel K.Sink out.old) (vessel K.Sink out.new) steps.old steps.new
-            (head_ends self.old self.new)) }
+            (head_closes self.old self.new)) }
         ensures unrefused { OnOk result (self.new.refusal ≡ None) }
         ensures memory { IsErrOf result LiveFault.NoMemory →
             (vessel K.Sink out.new ≡ vessel K.Sink out.old) × (self.old.clear.count ≡ 0) }
         ensures prefix { IsErrOf result LiveFault.Write → IsCutShort (vessel K.Sink out.old) (vessel K.Sink out.new)
-            (IsOfSent (head_ends self.old) steps.old steps.new) }
+            (IsOfSent (head_closes self.old) steps.old steps.new) }
         ensures cause { IsCaused (K.faults out.old) (K.faults out.new) (IsErrOf result LiveFault.Write) }
     {
         let count = self.clear.count();
@@ -236,6 +236,10 @@ impl<K: Sink, L: Ledger> Stage<K, L> for Head {
     fn close(&mut self, out: &mut K, steps: &mut Steps<L>) -> Result<(), StageFault<HeadFault>> {
         if let Some(fault) = self.refusal {
             return Err(StageFault::Refused(fault));
+        }
+        if let Some(fault) = self.clear.judge_end(&self.site) {
+            self.refusal = Some(HeadFault::Clear(fault));
+            return Err(StageFault::Refused(HeadFault::Clear(fault)));
         }
         match self.send_closing(out, steps) {
             Ok(()) => Ok(()),

@@ -9,8 +9,9 @@ ghost use Rattle.sd_spec.specs.Plan.{crypto_length};
 ghost use Rattle.sd_spec.specs.Carried.{pmt_carried};
 ghost use Rattle.sd_spec.specs.declared.kind.Kind.TheVariants as Kind;
 ghost use Rattle.sd_spec.specs.Refused.{is_reserved_pid as is_taken_pid, pat_wrong};
-ghost use Rattle.sd_spec.specs.Refused.{is_full_own, is_too_long};
+ghost use Rattle.sd_spec.specs.Refused.{end_refusal, is_full_own, is_too_long};
 ghost use Rattle.sd_head.specs.declared.judged.PatRule.{PatRule as PatRules};
+ghost use Rattle.sd_head.specs.After.{IsAfter};
 ghost use Rattle.sd_head.specs.Follows.{limit_fault, wrong_by, IsJudgement, IsMove, IsPatOf};
 
 use crate::clear::{Clear, FIRST_POSITION};
@@ -67,6 +68,18 @@ impl Clear {
         } else {
             self.judge_passed(site, packet, rule)
         }
+    }
+
+    /// Why the end is refused: no packet was taken, and no control word is left for the closing message.
+    #[tactic(auto, using(crate::proofs::Judging::end_counted))]
+    pub fn judge_end(&self, site: &Site) -> Option<ClearFault>
+        ensures { (before : List (List ℕ)) → IsAfter before self.now →
+            result ≡ end_refusal (fields_of site.now) before }
+    {
+        if self.count == 0 && self.is_at_end(site) {
+            return Some(ClearFault::TooLong(0));
+        }
+        None
     }
 
     // Judges a packet that has no position, is clear, and is on a PID that it may have.

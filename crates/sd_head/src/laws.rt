@@ -1,12 +1,12 @@
 //! What a head end writes of the packets of a stream, and what the positions of a message come to.
 
-ghost use Rattle.std.specs.Prelude.{◌≡◌, ◌++◌, ◌∷◌, [], ℕ, List, Option, Some, ◌^◌, ◌<◌, length};
+ghost use Rattle.std.specs.Prelude.{◌≡◌, ◌++◌, ◌∷◌, [], ℕ, List, Option, Some, None, ◌^◌, ◌<◌, length};
 ghost use Rattle.std.specs.List.{concat};
 ghost use Rattle.sd_engine.specs.Stage.{Chain};
 ghost use Rattle.sd_engine.specs.Driving.{ChainToEnd, ChainToRefusal};
 ghost use Rattle.sd_psi.specs.declared.clear_fault.ClearFault.{ClearFault as ClearFaults};
 ghost use Rattle.sd_spec.specs.Plan.{Plan};
-ghost use Rattle.sd_spec.specs.Refused.{refusal_from, IsClear};
+ghost use Rattle.sd_spec.specs.Refused.{refusal_from, whole_refusal, IsClear};
 ghost use Rattle.sd_spec.specs.Sent.{body, broadcast};
 ghost use Rattle.sd_head.specs.declared.fault.HeadFault.{HeadFault as Faults};
 ghost use Rattle.sd_head.specs.declared.fault.HeadFault.TheVariants.{Clear as ClearOf};
@@ -29,7 +29,8 @@ pub fn chains_write_bodies()
         Chain head_does s packets t bytes steps → IsAfter plan packets t }
 {}
 
-/// With the end after them it writes the whole broadcast of the packets, which are clear.
+/// With the end after them it writes the whole broadcast of the packets, which are clear. Where there are none, a
+/// control word is left.
 pub fn whole_streams_are_broadcast()
     ensures value { (plan : Plan) (packets : List (List ℕ)) (s t : Heads) (bytes : List ℕ) (steps : ℕ) →
         IsAfter plan [] s →
@@ -37,10 +38,13 @@ pub fn whole_streams_are_broadcast()
     ensures clear { (plan : Plan) (packets : List (List ℕ)) (s t : Heads) (bytes : List ℕ) (steps : ℕ) →
         IsAfter plan [] s →
         ChainToEnd head_does head_ends s packets t bytes steps → IsClear plan.site packets }
+    ensures end { (plan : Plan) (packets : List (List ℕ)) (s t : Heads) (bytes : List ℕ) (steps : ℕ) →
+        IsAfter plan [] s →
+        ChainToEnd head_does head_ends s packets t bytes steps → whole_refusal plan.site packets ≡ None }
 {}
 
 /// A refusal, of a packet or of the end, leaves the broadcast of the packets before it but for the closing message. A
-/// packet is refused by the first rule that the stream breaks, or where memory ran out.
+/// packet is refused by the first rule that the stream breaks, or where memory ran out, and so is the end.
 pub fn refusals_leave_bodies()
     ensures body { (plan : Plan) (packets : List (List ℕ)) (refused : Option (List ℕ)) (fault : Faults) (s t : Heads)
         (bytes : List ℕ) (steps : ℕ) → IsAfter plan [] s →
@@ -53,6 +57,10 @@ pub fn refusals_leave_bodies()
         (bytes : List ℕ) (steps : ℕ) → IsAfter plan [] s →
         ChainToRefusal head_does head_refuses s packets (Some packet) (ClearOf fault) t bytes steps →
         refusal_from plan.site [] (packets ++ packet ∷ rest) ≡ Some fault }
+    ensures end { (plan : Plan) (packets : List (List ℕ)) (fault : ClearFaults) (s t : Heads) (bytes : List ℕ)
+        (steps : ℕ) → IsAfter plan [] s →
+        ChainToRefusal head_does head_refuses s packets None (ClearOf fault) t bytes steps →
+        whole_refusal plan.site packets ≡ Some fault }
 {}
 
 /// The positions after packets are ones that a message may have, but for their count.

@@ -19,7 +19,7 @@ use Rattle.sd_spec.specs.Plan.{Plan, period_of, sets_at}
 use Rattle.sd_head.specs.declared.head.Head.{Head}
 use Rattle.sd_head.specs.declared.entitling.Entitling.{Entitling}
 use Rattle.sd_head.specs.Schedule.{IsAt}
-use Rattle.sd_head.specs.Staged.{IsAfter, head_ends}
+use Rattle.sd_head.specs.Staged.{IsAfter, head_closes}
 use Rattle.sd_law_field.specs.Changed.{changes_of}
 
 -- an index after the changes of commands has what it has after the commands
@@ -70,7 +70,7 @@ index_after plan before packet head after =
     (subst (λ (k : ℕ). IsAt plan k head.entitling) one after.entitled)
 
 pub index_at_end : (plan : Plan) (before : Packets) (head closed : Head) (bytes : List ℕ) (steps : ℕ) →
-    IsAfter plan before head → head_ends head closed bytes steps →
+    IsAfter plan before head → head_closes head closed bytes steps →
     cover_of plan.site.height closed.entitling.index.revoked ≡ sets_at plan (period_of plan (length before - 1))
 unfolding sets_at
 index_at_end plan before head closed bytes steps after ends = ap (cover_of plan.site.height) (ends plan before after).1

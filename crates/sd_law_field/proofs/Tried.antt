@@ -11,7 +11,7 @@ use Rattle.sd_base.proofs.Arithmetic.{packets_in}
 use Rattle.sd_site.specs.CardFields.{CardFields, card_of}
 use Rattle.sd_engine.specs.Taken.{StreamEnd, Whole, Breaks, RunsOn, taken_of, end_of}
 use Rattle.sd_spec.specs.Plan.{Plan, IsPlan, period_of}
-use Rattle.sd_spec.specs.Refused.{IsClear, IsSendable, refusal_from}
+use Rattle.sd_spec.specs.Refused.{IsClear, IsSendable, whole_refusal}
 use Rattle.sd_psi.specs.declared.clear_fault.ClearFault.{ClearFault}
 use Rattle.sd_spec.specs.Sent.{broadcast}
 use Rattle.sd_law_broadcast.specs.Packets.{AreWholePackets}
@@ -30,8 +30,9 @@ use Rattle.sd_command_base.specs.declared.status.Status.{Status}
 use Rattle.sd_command_base.specs.declared.status.Status.TheVariants.{Done}
 use Rattle.sd_command_base.specs.Spec.{FileArgument, Readings, and_then, value, ◌>>=◌}
 use Rattle.sd_ports.specs.Bytes.{Prefix}
-use Rattle.sd_run_broadcasts.specs.Head.{sent_of, sent_status, status_where}
-use Rattle.sd_run_broadcasts.proofs.HeadSending.{sent_unrefused}
+use Rattle.sd_run_broadcasts.specs.Head.{sent_of, sent_status, status_where, stream_refusal}
+use Rattle.sd_run_broadcasts.proofs.HeadSending.{sent_whole}
+use Rattle.sd_run_broadcasts.proofs.Refusals.{ended_whole, none_whole}
 use Rattle.sd_run_broadcasts.specs.Receive.{ending_status, ended_status, received_of, received_status}
 use Rattle.sd_run_broadcasts.proofs.Received.{none_refused, bytes_are}
 use Rattle.sd_run_broadcasts.specs.Trial.{clear_line, trial_lines, lines_to, receiver_line, sent_or, then_line}
@@ -132,16 +133,17 @@ all_told : (status : Status) (sent bytes : List ℕ) → Done ≡ status → byt
 all_told status sent bytes done is =
     ap (λ (s : Status). sent_or s false sent) (sym done) ∙ ap Ok (sym is)
 
-pub trial_opened : (plan : Plan) (bytes : List ℕ) → IsPlan plan → IsClear plan.site (taken_of bytes) → AreBytes bytes →
-    end_of bytes ≡ Whole → trial_text plan (record { bytes = bytes; more = false })
+pub trial_opened : (plan : Plan) (bytes : List ℕ) → IsPlan plan → whole_refusal plan.site (taken_of bytes) ≡ None →
+    AreBytes bytes → end_of bytes ≡ Whole → trial_text plan (record { bytes = bytes; more = false })
     ≡ Ok (opened_lines plan (taken_of bytes) (2 ^ plan.site.height))
 unfolding trial_text told_sent
-trial_opened plan bytes is all are end =
+trial_opened plan bytes is none are end =
     let clear : List (List ℕ) = taken_of bytes in
+    let all = (none_whole plan.site clear none).0 in
     let stream : List ℕ = concat (broadcast plan clear) in
     let whole = taken_whole bytes are in
     let synced = taken_synced bytes in
-    let sent = sent_unrefused plan bytes Whole all end in
+    let sent = sent_whole plan bytes none end in
     let size : length bytes / 188 ≡ length clear =
     ap (λ (xs : List ℕ). length xs / 188) (sym (taken_joined bytes end)) ∙ long_packets clear synced in
     let long : length stream / 188 ≡ length (broadcast plan clear) =
@@ -155,7 +157,7 @@ trial_opened plan bytes is all are end =
 -- a trial of good files, by its steps
 pub trial_good : (site book clear : FileArgument) (given : Readings) (plan : Plan) (bytes : List ℕ) → IsPlan plan →
     (plan_meaning site book given).result ≡ Ok plan → given clear ≡ Some bytes → length bytes ≤ most_clear_bytes →
-    AreBytes bytes → end_of bytes ≡ Whole → IsClear plan.site (taken_of bytes) →
+    AreBytes bytes → end_of bytes ≡ Whole → whole_refusal plan.site (taken_of bytes) ≡ None →
     (trial_meaning site book clear given).result
     ≡ Ok (printing (Ok (opened_lines plan (taken_of bytes) (2 ^ plan.site.height))))
 unfolding trial_meaning prefix_of_file
@@ -182,14 +184,18 @@ lines_sent plan n (Ok sent) text e = (sent, refl)
 lines_sent plan n (Err status) text e = absurd (cc)
 
 sent_right : (plan : Plan) (prefix : Prefix) (sent : List ℕ) → told_sent plan prefix ≡ Ok sent →
-    (end_of prefix.bytes ≡ Whole) × IsClear plan.site (taken_of prefix.bytes) × (prefix.more ≡ false)
+    (end_of prefix.bytes ≡ Whole) × (whole_refusal plan.site (taken_of prefix.bytes) ≡ None)
+    × (prefix.more ≡ false)
 unfolding told_sent sent_status
 sent_right plan prefix sent e =
-    done_sent (end_of prefix.bytes) (refusal_from plan.site [] (taken_of prefix.bytes)) prefix.more
-    (sent_of plan prefix.bytes) sent e
+    let clear = taken_of prefix.bytes in
+    let done = done_sent (end_of prefix.bytes) (stream_refusal plan.site clear (end_of prefix.bytes)) prefix.more
+    (sent_of plan prefix.bytes) sent e in
+    (done.0, ended_whole plan.site clear (end_of prefix.bytes) done.0 done.1, done.2)
 
 pub trial_right : (plan : Plan) (prefix : Prefix) (text : List ℕ) → trial_text plan prefix ≡ Ok text →
-    (end_of prefix.bytes ≡ Whole) × IsClear plan.site (taken_of prefix.bytes) × (prefix.more ≡ false)
+    (end_of prefix.bytes ≡ Whole) × (whole_refusal plan.site (taken_of prefix.bytes) ≡ None)
+    × (prefix.more ≡ false)
 unfolding trial_text
 trial_right plan prefix text e =
     let sent = lines_sent plan (length prefix.bytes) (told_sent plan prefix) text e in
@@ -201,7 +207,8 @@ one_text told a b e f = cc
 
 pub trial_done : (plan : Plan) (prefix : Prefix) (text : List ℕ) → IsPlan plan → AreBytes prefix.bytes →
     trial_text plan prefix ≡ Ok text →
-    (end_of prefix.bytes ≡ Whole) × IsClear plan.site (taken_of prefix.bytes) × (prefix.more ≡ false)
+    (end_of prefix.bytes ≡ Whole) × (whole_refusal plan.site (taken_of prefix.bytes) ≡ None)
+    × (prefix.more ≡ false)
     × (text ≡ opened_lines plan (taken_of prefix.bytes) (2 ^ plan.site.height))
 trial_done plan prefix text is are e =
     let right = trial_right plan prefix text e in (

@@ -43,7 +43,7 @@ use Rattle.sd_spec.specs.Sent.{broadcast}
 use Rattle.sd_run_broadcasts.specs.Head.{plan_by, plan_meaning, sending, sending_of, sent_of, sent_status, head_meaning}
 use Rattle.sd_run_broadcasts.specs.Head.{site_and_line_of_file, with_line}
 use Rattle.sd_law_run.specs.Good.{plan_told, IsGoodHead}
-use Rattle.sd_run_broadcasts.proofs.HeadSending.{sent_unrefused}
+use Rattle.sd_run_broadcasts.proofs.HeadSending.{sent_whole}
 use Rattle.sd_run.specs.Meaning.{order_meaning, meaning}
 
 pub file_read : (word most : ℕ) (kind : LimitKind) (bytes : List ℕ) → length bytes ≤ most →
@@ -190,7 +190,7 @@ pub head_good : (words : List (List ℕ)) (given : Readings) (good : IsGoodHead 
 unfolding head_meaning
 head_good words given good =
     let plan = plan_told good in
-    let sent = sent_unrefused plan good.bytes Whole good.is_clear good.whole in (
+    let sent = sent_whole plan good.bytes good.is_clear good.whole in (
       ordered words given (HeadOf good.site good.book good.clear good.out) good.order
           ∙ then_is (plan_meaning good.site good.book given) plan (sending_of good.clear good.out (given good.clear))
           (plan_good given good.site good.book good.fields good.commands good.good_site good.good_book

@@ -12,7 +12,7 @@ use Rattle.sd_site.proofs.Made.{made_is_card}
 use Rattle.sd_ports.specs.Files.{Files}
 use Rattle.sd_engine.specs.Taken.{Whole, taken_of, end_of}
 use Rattle.sd_spec.specs.Plan.{Plan, period_of}
-use Rattle.sd_spec.specs.Refused.{IsClear}
+use Rattle.sd_spec.specs.Refused.{whole_refusal}
 use Rattle.sd_spec.specs.Sent.{broadcast}
 use Rattle.sd_law_broadcast.specs.Named.{sets_named, NamesPeriod}
 use Rattle.sd_law_broadcast.specs.Packets.{IsWholePacket, AreWholePackets, AreLong}
@@ -37,7 +37,8 @@ use Rattle.sd_command_base.specs.Made.{making}
 use Rattle.sd_command_base.specs.Turned.{turning}
 use Rattle.sd_run_books.specs.Card.{told_card, card_meaning}
 use Rattle.sd_run_broadcasts.specs.Head.{plan_meaning, sending_of, sent_status, head_meaning}
-use Rattle.sd_run_broadcasts.proofs.HeadSending.{sent_unrefused}
+use Rattle.sd_run_broadcasts.proofs.HeadSending.{sent_whole}
+use Rattle.sd_run_broadcasts.proofs.Refusals.{none_whole}
 use Rattle.sd_run_broadcasts.specs.Receive.{receiving, received_steps, receive_meaning}
 use Rattle.sd_law_run.specs.Good.{IsGoodSite, IsGoodBook}
 use Rattle.sd_law_run.specs.Headline.{Names, file_in, AreGiven, IsUndisturbed, card_for}
@@ -96,7 +97,7 @@ pub all_sendable : (names : Names) (plan : Plan) (clear : List (List ℕ)) (at :
 all_sendable names plan clear at given = record {
   is_plan = good_plan (λ word. file_in at word.text) (word_at 1 names.site) (word_at 2 names.book) plan given.site
       given.book;
-  sendable = clear_sendable plan.site clear given.clear.is_clear;
+  sendable = clear_sendable plan.site clear (none_whole plan.site clear given.clear.is_clear).0;
   whole = subst AreWholePackets given.clear.packets (taken_whole given.clear.bytes given.clear.are_bytes);
   synced = subst AreSynced given.clear.packets (taken_synced given.clear.bytes);
 }
@@ -170,8 +171,9 @@ module _ (names : Names) (plan : Plan) (clear : List (List ℕ)) (at : Outside) 
           within = given.book.within;
         } in
         let there = sym (of_told at files names.clear told) ∙ given.clear.there in
-        let is_clear = subst (IsClear plan.site) (sym given.clear.packets) given.clear.is_clear in
-        let sent = sent_unrefused plan bytes Whole is_clear given.clear.whole in
+        let is_clear = subst (λ (ps : List (List ℕ)). whole_refusal plan.site ps ≡ None) (sym given.clear.packets)
+        given.clear.is_clear in
+        let sent = sent_whole plan bytes is_clear given.clear.whole in
         then_is (plan_meaning (word_at 1 names.site) (word_at 2 names.book) (contents_of files)) plan
         (sending_of (word_at 3 names.clear) out (get files names.clear))
         (plan_good (contents_of files) (word_at 1 names.site) (word_at 2 names.book) plan.site plan.commands site book

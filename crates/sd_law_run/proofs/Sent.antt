@@ -18,7 +18,7 @@ use Rattle.sd_book.specs.Text.{judged_line, judged as judged_lines, said_by, boo
 use Rattle.sd_book.proofs.Judged.{bind_ok, ended_ok, judged_none, judged_more, within_at_end}
 use Rattle.sd_engine.specs.Taken.{StreamEnd, Whole, Breaks, RunsOn, taken_of, end_of}
 use Rattle.sd_spec.specs.Plan.{Plan, IsPlan, period_of}
-use Rattle.sd_spec.specs.Refused.{IsClear, refusal_from}
+use Rattle.sd_spec.specs.Refused.{IsClear, whole_refusal}
 use Rattle.sd_spec.specs.Sent.{broadcast}
 use Rattle.sd_psi.specs.declared.clear_fault.ClearFault.{ClearFault}
 use Rattle.sd_law_broadcast.specs.Named.{sets_named, NamesPeriod}
@@ -40,13 +40,15 @@ use Rattle.sd_command_base.specs.declared.status.LimitKind.TheVariants.{SiteByte
 use Rattle.sd_command_line.specs.Words.{Order, HeadOf, order_of}
 use Rattle.sd_command_base.specs.Files.{is_book, most_site_bytes, most_book_bytes, own_book_of_file, told_book}
 use Rattle.sd_command_base.specs.Files.{told_own, told_site}
-use Rattle.sd_run_broadcasts.specs.Head.{status_where, sent_status, sending, sending_of, plan_by, plan_meaning}
+use Rattle.sd_run_broadcasts.specs.Head.{status_where, sent_status, sending, sending_of, stream_refusal}
+use Rattle.sd_run_broadcasts.specs.Head.{plan_by, plan_meaning}
 use Rattle.sd_run_broadcasts.specs.Head.{head_meaning, site_and_line_of_file, with_line}
 use Rattle.sd_run.specs.Meaning.{order_meaning, meaning}
 use Rattle.sd_law_run.specs.Sent.{IsSent}
 use Rattle.sd_law_formats.proofs.SayableSites.{ca_fits}
 use Rattle.sd_law_run.proofs.Outs.{done_leaves}
-use Rattle.sd_run_broadcasts.proofs.HeadSending.{sent_unrefused}
+use Rattle.sd_run_broadcasts.proofs.HeadSending.{sent_whole}
+use Rattle.sd_run_broadcasts.proofs.Refusals.{ended_whole, none_whole}
 
 -- what came before a step that came to a value
 pub record ThenOk {A B : Type 0} (first : Spec A) (next : A → Spec B) (y : B) : Type 0 where
@@ -148,7 +150,7 @@ pub all_read : (word : ℕ) (got : Option (List ℕ)) (bytes : List ℕ) → (al
 all_read word None bytes e = absurd (cc)
 all_read word (Some found) bytes e = let same : found ≡ bytes = cc in ap (λ (b : List ℕ). Some b) same
 
--- a stream that is sent to the end is whole, and no packet of it is refused
+-- a stream that is sent to the end is whole, and not refused
 status_right : (end : StreamEnd) (refusal : Option ClearFault) → status_where end refusal ≡ Done →
     (end ≡ Whole) × (refusal ≡ None)
 status_right Whole None e = (refl, refl)
@@ -157,9 +159,11 @@ status_right RunsOn None e = absurd (cc)
 status_right end (Some fault) e = absurd (cc)
 
 status_is : (plan : Plan) (bytes : List ℕ) → sent_status plan bytes ≡ Done →
-    status_where (end_of bytes) (refusal_from plan.site [] (taken_of bytes)) ≡ Done
+    (end_of bytes ≡ Whole) × (whole_refusal plan.site (taken_of bytes) ≡ None)
 unfolding sent_status
-status_is plan bytes e = e
+status_is plan bytes e =
+    let right = status_right (end_of bytes) (stream_refusal plan.site (taken_of bytes) (end_of bytes)) e in
+    (right.0, ended_whole plan.site (taken_of bytes) (end_of bytes) right.0 right.1)
 
 -- each period of a broadcast names its cover in the file that the broadcast is
 pub file_names : (plan : Plan) (bytes : List ℕ) (q : ℕ) → IsPlan plan → IsClear plan.site (taken_of bytes) →
@@ -188,10 +192,10 @@ module _ (words : List (List ℕ)) (site book clear out : FileArgument) (files :
       let bytes = then_ok (all_of clear.number (given clear)) (λ bytes. value (sending plan.from out bytes)) work
       plan.next_is in
       let same = value_is (sending plan.from out bytes.from) work bytes.next_is in
-      let status = status_right (end_of bytes.from) (refusal_from plan.from.site [] (taken_of bytes.from))
-      (status_is plan.from bytes.from (ap (λ (w : Work). w.ends) same ∙ ends)) in
+      let status = status_is plan.from bytes.from (ap (λ (w : Work). w.ends) same ∙ ends) in
+      let all = (none_whole plan.from.site (taken_of bytes.from) status.1).0 in
       let is_plan = plan_right site book given plan.from plan.first_is in
-      let sent = sent_unrefused plan.from bytes.from Whole status.1 status.0 in
+      let sent = sent_whole plan.from bytes.from status.1 status.0 in
       record {
         plan = plan.from;
         said = plan.first_is;
@@ -204,7 +208,7 @@ module _ (words : List (List ℕ)) (site book clear out : FileArgument) (files :
             left
             ∙ (ap (λ (w : Work). files_with w.out (files_marked w.mark (Some files))) (sym same)
             ∙ ap (λ (bs : List ℕ). Some (insert files out.text bs)) (sym sent.0));
-        periods = λ are q from low. file_names plan.from bytes.from q is_plan status.1 are from low;
+        periods = λ are q from low. file_names plan.from bytes.from q is_plan all are from low;
       }
 
   -- by the answer

@@ -10,7 +10,7 @@ use Rattle.sd_site.specs.Text.{site_of, IsSite}
 use Rattle.sd_book.specs.Text.{book_of}
 use Rattle.sd_engine.specs.Taken.{StreamEnd, Whole, Breaks, RunsOn, taken_of, end_of}
 use Rattle.sd_spec.specs.Plan.{Plan, IsPlan}
-use Rattle.sd_spec.specs.Refused.{IsClear, refusal_from}
+use Rattle.sd_spec.specs.Refused.{whole_refusal}
 use Rattle.sd_psi.specs.declared.clear_fault.ClearFault.{ClearFault}
 use Rattle.sd_law_broadcast.specs.Synced.{AreBytes}
 use Rattle.sd_command_base.specs.declared.status.Status.{Status}
@@ -29,7 +29,7 @@ use Rattle.sd_command_base.specs.Outcome.{PrintsAll}
 use Rattle.sd_command_base.specs.Results.{RunResult}
 use Rattle.sd_command_base.specs.Files.{most_site_bytes, most_book_bytes, told_site, told_book, site_of_file}
 use Rattle.sd_command_base.specs.Files.{book_of_file, low_site_of_file, told_low}
-use Rattle.sd_run_broadcasts.specs.Head.{sent_of, sent_status, status_where}
+use Rattle.sd_run_broadcasts.specs.Head.{sent_of, sent_status, status_where, stream_refusal}
 use Rattle.sd_run_broadcasts.specs.Trial.{most_height}
 use Rattle.sd_run_broadcasts.specs.Trial.{most_clear_bytes}
 use Rattle.sd_run_broadcasts.specs.Prefixes.{prefix_of_file}
@@ -58,7 +58,7 @@ sent_refused end (Some fault) more sent e = absurd (cc)
 told_refused : (plan : Plan) (prefix : Prefix) → told_sent plan prefix ≡ Err Done → ⊥
 unfolding told_sent sent_status
 told_refused plan prefix e =
-    sent_refused (end_of prefix.bytes) (refusal_from plan.site [] (taken_of prefix.bytes)) prefix.more
+    sent_refused (end_of prefix.bytes) (stream_refusal plan.site (taken_of prefix.bytes) (end_of prefix.bytes)) prefix.more
     (sent_of plan prefix.bytes) e
 
 line_refused : (u wrote : ℕ) (status : Status) → told_line u wrote status ≡ Err Done → ⊥
@@ -203,7 +203,7 @@ trial_tried site book clear files a b known answers =
       there = all_read clear.number (given clear) read.from read.first_is;
       short = all.1;
       whole = subst (λ (p : Prefix). end_of p.bytes ≡ Whole) whole_is right.0;
-      is_clear = subst (λ (p : Prefix). IsClear plan.from.site (taken_of p.bytes)) whole_is right.1;
+      is_clear = subst (λ (p : Prefix). whole_refusal plan.from.site (taken_of p.bytes) ≡ None) whole_is right.1;
       printed = lines_printed plan.from read.from text.0 done.work a b is.0
           (ap (trial_text plan.from) (sym whole_is) ∙ text.1) pieces done.printed;
     }

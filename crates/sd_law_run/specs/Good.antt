@@ -12,7 +12,7 @@ use Rattle.sd_book.specs.declared.command.Command.{Command}
 use Rattle.sd_site.specs.SiteFields.{SiteFields}
 use Rattle.sd_command_base.specs.Shown.{NumberArgument}
 use Rattle.sd_spec.specs.Plan.{Plan}
-use Rattle.sd_spec.specs.Refused.{IsClear, refusal_from}
+use Rattle.sd_spec.specs.Refused.{whole_refusal}
 use Rattle.sd_law_broadcast.specs.Synced.{AreBytes}
 use Rattle.sd_site.specs.Text.{IsSite, book_line_of}
 use Rattle.sd_site.specs.Written.{is_first, is_whole}
@@ -49,7 +49,7 @@ abbrev pub IsOwnBook : {got more : Option Bytes} {fields : SiteFields} {commands
     IsGoodSite got fields → IsGoodBook more fields.height commands → Type 0
 IsOwnBook site book = is_book (book_line_of site.bytes) book.bytes ≡ true
 
--- a file is there and a clear stream for a site: it ends whole, its packets are these, and none of them is refused
+-- a file is there and a clear stream for a site: it ends whole, its packets are these, and it is not refused
 pub record IsGoodClear (got : Option Bytes) (site : SiteFields) (clear : Packets) : Type 0 where
   pub bytes : Bytes
   pub there : got ≡ Some bytes
@@ -57,7 +57,7 @@ pub record IsGoodClear (got : Option Bytes) (site : SiteFields) (clear : Packets
   pub are_bytes : AreBytes bytes
   pub whole : end_of bytes ≡ Whole
   pub packets : taken_of bytes ≡ clear
-  pub is_clear : IsClear site clear
+  pub is_clear : whole_refusal site clear ≡ None
 
 -- the arguments are `cover SITE BOOK`, and the two files are there, in their grammars and within their limits
 pub record IsGoodCover (words : List Bytes) (given : Readings) : Type 0 where
@@ -114,8 +114,8 @@ pub record IsGoodShow (words : List Bytes) (given : Readings) : Type 0 where
   pub is_card : IsCard fields
   pub there : given card ≡ Some (card_bytes fields)
 
--- the arguments are `head SITE BOOK CLEAR OUT`, the files are there, a site, its own book and a stream of which no
--- packet is refused
+-- the arguments are `head SITE BOOK CLEAR OUT`, the files are there, a site, its own book and a stream that is not
+-- refused
 pub record IsGoodHead (words : List Bytes) (given : Readings) : Type 0 where
   pub site : FileArgument
   pub book : FileArgument
@@ -130,7 +130,7 @@ pub record IsGoodHead (words : List Bytes) (given : Readings) : Type 0 where
   pub bytes : Bytes
   pub there : given clear ≡ Some bytes
   pub whole : end_of bytes ≡ Whole
-  pub is_clear : refusal_from fields [] (taken_of bytes) ≡ None
+  pub is_clear : whole_refusal fields (taken_of bytes) ≡ None
 
 -- the plan that they say
 abbrev pub plan_told : {words : List Bytes} {given : Readings} → IsGoodHead words given → Plan

@@ -1,12 +1,12 @@
 -- Public meaning: what a run of `head` that is done leaves.
-use Rattle.std.specs.Prelude.{◌≡◌, ◌-◌, ◌≤◌, length, Some, Ok}
+use Rattle.std.specs.Prelude.{◌≡◌, ◌-◌, ◌≤◌, length, Some, None, Ok}
 use Rattle.std.specs.FinMap.{get, insert}
 use Rattle.std.specs.List.{concat}
 use Rattle.sd_base.specs.Types.{Bytes, PeriodNumber}
 use Rattle.sd_ports.specs.Files.{Files}
 use Rattle.sd_engine.specs.Taken.{Whole, taken_of, end_of}
 use Rattle.sd_spec.specs.Plan.{Plan, IsPlan, period_of}
-use Rattle.sd_spec.specs.Refused.{IsClear}
+use Rattle.sd_spec.specs.Refused.{whole_refusal}
 use Rattle.sd_spec.specs.Sent.{broadcast}
 use Rattle.sd_law_broadcast.specs.Named.{sets_named, NamesPeriod}
 use Rattle.sd_law_broadcast.specs.Synced.{AreBytes}
@@ -20,11 +20,11 @@ pub record IsSent (site book clear out : FileArgument) (files : Files) (b : Outs
   pub plan : Plan
   pub said : (plan_meaning site book (contents_of files)).result ≡ Ok plan
   pub is_plan : IsPlan plan
-  -- the clear stream, of which no packet is refused
+  -- the clear stream, which is not refused
   pub bytes : Bytes
   pub there : get files clear.text ≡ Some bytes
   pub whole : end_of bytes ≡ Whole
-  pub is_clear : IsClear plan.site (taken_of bytes)
+  pub is_clear : whole_refusal plan.site (taken_of bytes) ≡ None
   -- OUT is its broadcast's packets, and all other files are as they were
   pub made : b.place.files ≡ Some (insert files out.text (concat (broadcast plan (taken_of bytes))))
   -- each period of the broadcast names, in OUT, disjoint sets that unite to exactly its leaves that aren't revoked. It

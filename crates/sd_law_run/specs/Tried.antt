@@ -1,5 +1,5 @@
 -- Public meaning: arguments and files that mean a trial, and what a trial leaves.
-use Rattle.std.specs.Prelude.{◌≡◌, List, Some, Ok, ◌≤◌, ◌^◌, length}
+use Rattle.std.specs.Prelude.{◌≡◌, List, Some, None, Ok, ◌≤◌, ◌^◌, length}
 use Rattle.std.specs.FinMap.{get}
 use Rattle.std.specs.Io.KnownBytes.{Appends}
 use Rattle.sd_base.specs.Types.{Bytes}
@@ -8,7 +8,7 @@ use Rattle.sd_engine.specs.Taken.{Whole, taken_of, end_of}
 use Rattle.sd_site.specs.SiteFields.{SiteFields}
 use Rattle.sd_book.specs.declared.command.Command.{Command}
 use Rattle.sd_spec.specs.Plan.{Plan, IsPlan}
-use Rattle.sd_spec.specs.Refused.{IsClear}
+use Rattle.sd_spec.specs.Refused.{whole_refusal}
 use Rattle.sd_law_broadcast.specs.Synced.{AreBytes}
 use Rattle.sd_command_base.specs.Spec.{FileArgument, Readings, contents_of}
 use Rattle.sd_command_base.specs.Outside.{Outside}
@@ -36,7 +36,7 @@ pub record IsGoodTrial (words : List Bytes) (given : Readings) : Type 0 where
   pub short : length bytes ≤ most_clear_bytes
   pub are_bytes : AreBytes bytes
   pub whole : end_of bytes ≡ Whole
-  pub is_clear : IsClear fields (taken_of bytes)
+  pub is_clear : whole_refusal fields (taken_of bytes) ≡ None
 
 -- the plan that they say
 abbrev pub plan_tried : {words : List Bytes} {given : Readings} → IsGoodTrial words given → Plan
@@ -49,12 +49,12 @@ pub record IsTried (site book clear : FileArgument) (files : Files) (a b : Outsi
   pub said : (plan_meaning site book (contents_of files)).result ≡ Ok plan
   pub is_plan : IsPlan plan
   pub low : plan.site.height ≤ most_height
-  -- the clear stream, of which no packet is refused
+  -- the clear stream, which is not refused
   pub bytes : Bytes
   pub there : get files clear.text ≡ Some bytes
   pub short : length bytes ≤ most_clear_bytes
   pub whole : end_of bytes ≡ Whole
-  pub is_clear : IsClear plan.site (taken_of bytes)
+  pub is_clear : whole_refusal plan.site (taken_of bytes) ≡ None
   -- what each receiver writes of the broadcast
   pub printed : AreBytes bytes →
       Appends a.page.printed b.page.printed (opened_lines plan (taken_of bytes) (2 ^ plan.site.height))

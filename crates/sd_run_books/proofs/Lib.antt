@@ -31,6 +31,9 @@ pub mod ShownCards
 pub mod FollowingNames
 pub mod Merged
 pub mod ToldPeriods
+pub mod StatusLines
+pub mod StatusOthers
+pub mod Changes
 pub mod WholeLines
 pub mod OwnBook
 pub mod Origins

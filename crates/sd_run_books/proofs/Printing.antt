@@ -8,6 +8,7 @@ use Rattle.sd_command_base.specs.declared.status.Status.{Status}
 use Rattle.sd_command_base.specs.declared.status.Status.TheVariants.{NoMemory}
 use Rattle.sd_command_base.specs.Outside.{PageState}
 use Rattle.sd_command_base.specs.Prints.{PrintsWork, PrintsText}
+use Rattle.sd_command_base.specs.Work.{work_of_text}
 use Rattle.sd_run_books.specs.Air.{air_text, planning}
 
 pub one_text : (plan : Plan) (m pids : ℕ) (a b : PageState) (status : Status) →
@@ -29,3 +30,8 @@ one_text plan m pids a b status (inr cut) =
 pub no_text : (plan : Plan) (m pids : ℕ) (a : PageState) (status : Status) → status ≡ NoMemory →
     PrintsWork (planning plan m pids) a a status
 no_text plan m pids a status is = inr (inl (is, (0, Appends-nil a.printed), refl))
+
+-- memory was out for a text
+pub nothing_printed : (text : List ℕ) (a : PageState) (status : Status) → status ≡ NoMemory →
+    PrintsWork (work_of_text text) a a status
+nothing_printed text a status is = inr (inl (is, (0, Appends-nil a.printed), refl))

@@ -17,9 +17,12 @@ pub mod Opens
 pub mod Trace
 pub mod Card
 pub mod Lcard
+pub mod Fingerprint
 pub mod Show
 pub mod SiteNames
 pub mod Chain
 pub mod Told
 pub mod Next
+pub mod Same
+pub mod Status
 pub mod Twin

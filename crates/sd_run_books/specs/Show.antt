@@ -10,30 +10,33 @@ use Rattle.sd_command_base.specs.declared.status.LimitKind.TheVariants.{CardByte
 use Rattle.sd_command_base.specs.Spec.{Spec, FileArgument, Readings, within, judged, value, ◌>>=◌}
 use Rattle.sd_command_base.specs.Work.{Work, work_of_text}
 use Rattle.sd_command_base.specs.Files.{card_unless, most_card_bytes}
+use Rattle.sd_run_books.specs.Fingerprint.{fingerprint_in}
 
 -- the number of labels in a card at height d, the key of the whole set not among them [Naor, Naor, Lotspiech 2001, 3.2]
 abbrev pub labels_for : ℕ → ℕ
 labels_for d = d * (d + 1) / 2
 
--- What is shown of a card: the height, the leaf, the conditional access system and the check at the end of its file. No
--- key and no label is among them [this project, docs/FORMATS.md, Card].
-unfoldable pub shown_data : ℕ → ℕ → ℕ → List ℕ → Data
-shown_data height leaf ca check = object
+-- What is shown of a card: the height, the leaf, the conditional access system, the check at the end of its file and the
+-- fingerprint of its master. No key and no label is among them [this project, docs/FORMATS.md, Card].
+unfoldable pub shown_data : ℕ → ℕ → ℕ → List ℕ → List ℕ → Data
+shown_data height leaf ca check master = object
     (member (codes "card") (string (codes "plain"))
     (member (codes "check") (string (encode_lower check))
     (member (codes "height") (number (unsigned height))
     (member (codes "labels") (number (unsigned (labels_for height)))
     (member (codes "leaf") (number (unsigned leaf))
+    (member (codes "master") (string (encode_lower master))
     (member (codes "system") (number (unsigned ca))
-    no_members))))))
+    no_members)))))))
 
 -- its line: compact JSON with the keys in ascending order, and a line feed
-unfoldable pub shown_line : ℕ → ℕ → ℕ → List ℕ → List ℕ
-shown_line height leaf ca check = compact_text (shown_data height leaf ca check) ++ 10 ∷ []
+unfoldable pub shown_line : ℕ → ℕ → ℕ → List ℕ → List ℕ → List ℕ
+shown_line height leaf ca check master = compact_text (shown_data height leaf ca check master) ++ 10 ∷ []
 
 -- the line of a card's file [this project, docs/FORMATS.md, Card]
 abbrev pub card_line : List ℕ → List ℕ
-card_line bytes = shown_line (height_in bytes) (leaf_in bytes) (ca_in bytes) (check_in bytes)
+card_line bytes =
+    shown_line (height_in bytes) (leaf_in bytes) (ca_in bytes) (check_in bytes) (fingerprint_in bytes)
 
 -- the line of the card that the bytes of this word's file are
 unfoldable pub told_show : ℕ → List ℕ → Result (List ℕ) Status

@@ -7,9 +7,11 @@ use Rattle.sd_tree.specs.Limits.{most_revoked}
 use Rattle.sd_book.specs.declared.command.Command.{Command}
 use Rattle.sd_book.specs.Commands.{last_period, revoked}
 use Rattle.sd_cover.specs.declared.found.Found.{Found}
+use Rattle.sd_cover.specs.declared.found.TraceFault.{TraceFault}
+use Rattle.sd_cover.specs.declared.found.TraceFault.TheVariants as Fault
 use Rattle.sd_cover.specs.Trace.{not_among, trace_of}
 use Rattle.sd_command_base.specs.declared.status.Status.{Status}
-use Rattle.sd_command_base.specs.declared.status.Status.TheVariants.{Limit}
+use Rattle.sd_command_base.specs.declared.status.Status.TheVariants.{Limit, NoMemory}
 use Rattle.sd_command_base.specs.declared.status.LimitKind.TheVariants.{Traced}
 use Rattle.sd_command_base.specs.Spec.{Spec, FileArgument, Readings, value, judged, ◌>>=◌}
 use Rattle.sd_command_base.specs.Work.{Work, work_of_text}
@@ -33,6 +35,11 @@ silent_line = codes "silent trials 1\n"
 -- the lines of all that are found, and of the last probe
 unfoldable pub trace_text : List Found → List ℕ
 trace_text found = flat_map found_line found ++ silent_line
+
+-- the status of a search that didn't end: the limit or out of memory [this project, docs/FORMATS.md, Tracing]
+abbrev pub unended : TraceFault → Status
+unended Fault.TooMany = Limit Traced
+unended Fault.NoMemory = NoMemory
 
 -- What is printed of a coalition's trace in the last period of a book. More leaves that are revoked or of the coalition
 -- than may be revoked are over the limit [this project, docs/FORMATS.md, Tracing].

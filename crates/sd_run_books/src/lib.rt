@@ -1,6 +1,6 @@
 //! The commands on books and cards: `accounts` makes a book of the accounts of receivers by name, `book` makes one
 //! longer, `plan` and `apart` judge one before it is sent. `cover`, `layered`, `opens` and `trace` are on the cover of
-//! each period, `card`, `lcard` and `show` on cards. `next` and `twin` make the sites of a chain.
+//! each period, `status` on a receiver in it, `card`, `lcard` and `show` on cards. `next` and `twin` make the sites of a chain.
 #![tactic(auto)]
 
 mod account_fault;
@@ -36,6 +36,9 @@ mod report;
 mod show_command;
 mod show_line;
 mod site_name;
+mod status_command;
+pub mod status_laws;
+mod status_lines;
 mod told;
 mod told_changes;
 mod trace_command;
@@ -56,5 +59,6 @@ pub use next_command::next;
 pub use opens_command::opens;
 pub use plan_command::plan;
 pub use show_command::show;
+pub use status_command::status;
 pub use trace_command::trace;
 pub use twin_command::twin;

@@ -107,8 +107,8 @@ fn write_account(
     out.end_object()
 }
 
-/// Whether the leaf isn't among these, which ascend.
-fn is_active(revoked: &[Leaf], leaf: Leaf) -> bool
+/// Whether the leaf isn't among these that are revoked, which ascend.
+pub(crate) fn is_active(revoked: &[Leaf], leaf: Leaf) -> bool
     requires { IsStrictlyIncreasing revoked.now }
     ensures { result ≡ is_active revoked.now leaf }
 {

@@ -1,11 +1,11 @@
 //! `trace SITE BOOK LEAVES`: the leaves that a box with some cards still opens for in the last period of a book.
 
-ghost use Rattle.std.specs.Prelude.{◌≢◌, ◌^◌, ◌<◌, ℕ, All, string_bytes};
+ghost use Rattle.std.specs.Prelude.{◌≡◌, ◌≢◌, ◌^◌, ◌<◌, ℕ, All, string_bytes};
 ghost use Rattle.sd_command_base.specs.Outside.{outside, page_state, depot_state};
 ghost use Rattle.sd_command_base.specs.Outcome.{Implements, status_of};
 ghost use Rattle.sd_command_base.specs.Reads.{JudgedOutcome};
 ghost use Rattle.sd_command_base.specs.Shown.{shown_word};
-ghost use Rattle.sd_run_books.specs.Trace.{trace_meaning, traced};
+ghost use Rattle.sd_run_books.specs.Trace.{trace_meaning, traced, unended};
 
 use crate::trace_text::trace_text;
 use sd_book::Book;
@@ -47,7 +47,16 @@ fn found_text(alloc: Global, book: &Book, leaves: Vec<Leaf>) -> Result<String, S
     let mut target = CoalitionBox::new(h, leaves);
     match trace_all(alloc, h, &revoked, &mut target) {
         Ok(found) => Ok(trace_text(alloc, &found)?),
-        Err(TraceFault::TooMany) => Err(Status::Limit(LimitKind::Traced)),
-        Err(TraceFault::NoMemory) => Err(Status::NoMemory),
+        Err(fault) => Err(fault_status(fault)),
+    }
+}
+
+/// The status of a search that didn't end.
+fn fault_status(fault: TraceFault) -> Status
+    ensures { result ≡ unended fault }
+{
+    match fault {
+        TraceFault::TooMany => Status::Limit(LimitKind::Traced),
+        TraceFault::NoMemory => Status::NoMemory,
     }
 }

@@ -6,21 +6,21 @@ use Rattle.sd_site.specs.Written.{newest_of, none_fewer}
 use Rattle.sd_site.specs.declared.book_line.BookLine.{BookLine}
 use Rattle.sd_site.specs.declared.site_fault.SiteFault.{SiteFault}
 use Rattle.sd_site.specs.declared.site_fault.SiteFault.TheVariants.{Range}
-use Rattle.sd_command_base.specs.declared.status.Status.TheVariants.{BadSite}
 use Rattle.sd_command_base.specs.declared.status.LimitKind.TheVariants.{SiteBytes}
 use Rattle.sd_command_base.specs.Spec.{FileArgument, Readings, all_of, judged, value, within, ◌>>=◌}
-use Rattle.sd_command_base.specs.Files.{most_site_bytes, own_book_of_file}
+use Rattle.sd_command_base.specs.Files.{most_site_bytes, own_book_of_file, refused_site}
 use Rattle.sd_command_base.specs.Made.{unused}
 use Rattle.sd_command_base.proofs.Others.{IsOther, other_after, other_file, other_own_book_file, other_stream}
 use Rattle.sd_run_broadcasts.specs.Air.{told_air_site, air_site_of_file, air_plan_by, mark_word, airing, air_meaning}
 
-other_told : (word : ℕ) (r : Result (SiteFields × Option BookLine) SiteFault) → IsOther (told_air_site word r)
-other_told word (Err fault) = λ e. cc
-other_told word (Ok said) = by (not (said.0.messages == 3)) (nat_lt said.0.last_word said.0.first_word)
+other_told : (word : ℕ) (bytes : List ℕ) (r : Result (SiteFields × Option BookLine) SiteFault) →
+    IsOther (told_air_site word bytes r)
+other_told word bytes (Err fault) = λ e. cc
+other_told word bytes (Ok said) = by (not (said.0.messages == 3)) (nat_lt said.0.last_word said.0.first_word)
   where
     by : (other none : Bool) →
-        IsOther (if other then Err (BadSite word (Range 9))
-        else if none then Err (BadSite word (Range 11)) else Ok said)
+        IsOther (if other then Err (refused_site word bytes (Range 9))
+        else if none then Err (refused_site word bytes (Range 11)) else Ok said)
     by true none = λ e. cc
     by false true = λ e. cc
     by false false = tt
@@ -29,8 +29,9 @@ other_site : (word : ℕ) (got : Option (List ℕ)) → IsOther (air_site_of_fil
 unfolding air_site_of_file
 other_site word got =
     other_after (within word most_site_bytes SiteBytes got).calls (within word most_site_bytes SiteBytes got).result
-    (λ bytes. judged (told_air_site word (newest_of none_fewer bytes))) (other_file word most_site_bytes SiteBytes got)
-    (λ bytes. other_told word (newest_of none_fewer bytes))
+    (λ bytes. judged (told_air_site word bytes (newest_of none_fewer bytes)))
+    (other_file word most_site_bytes SiteBytes got)
+    (λ bytes. other_told word bytes (newest_of none_fewer bytes))
 
 other_plan : (site book : ℕ) (site_got book_got : Option (List ℕ)) →
     IsOther (air_plan_by site book site_got book_got).result

@@ -25,19 +25,19 @@ other_clear word got =
     (within word most_clear_bytes FieldPackets got).result (λ bytes. judged (told_clear bytes))
     (other_file word most_clear_bytes FieldPackets got) (λ bytes. other_unbroken (break_of bytes) (packets_of bytes))
 
-other_told : (word : ℕ) (r : Result (List Event) ScriptFault) → IsOther (told_script word r)
-other_told word (Ok events) = tt
-other_told word (Err (script.Line k)) = λ e. cc
-other_told word (Err (script.Leaf k)) = λ e. cc
-other_told word (Err script.Events) = λ e. cc
-other_told word (Err script.NoMemory) = λ e. cc
+other_told : (word d : ℕ) (bytes : List ℕ) (r : Result (List Event) ScriptFault) → IsOther (told_script word d bytes r)
+other_told word d bytes (Ok events) = tt
+other_told word d bytes (Err (script.Line k)) = λ e. cc
+other_told word d bytes (Err (script.Leaf k)) = λ e. cc
+other_told word d bytes (Err script.Events) = λ e. cc
+other_told word d bytes (Err script.NoMemory) = λ e. cc
 
 other_script : (word d : ℕ) (got : Option (List ℕ)) → IsOther (script_of_file word d got).result
 unfolding script_of_file
 other_script word d got =
     other_after (within word most_book_bytes BookBytes got).calls (within word most_book_bytes BookBytes got).result
-    (λ bytes. judged (told_script word (script_of d bytes))) (other_file word most_book_bytes BookBytes got)
-    (λ bytes. other_told word (script_of d bytes))
+    (λ bytes. judged (told_script word d bytes (script_of d bytes))) (other_file word most_book_bytes BookBytes got)
+    (λ bytes. other_told word d bytes (script_of d bytes))
 
 other_inputs : (site clear : ℕ) (site_got clear_got : Option (List ℕ)) →
     IsOther (inputs_by site clear site_got clear_got).result

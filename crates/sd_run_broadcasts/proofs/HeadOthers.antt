@@ -11,17 +11,17 @@ use Rattle.sd_command_base.proofs.Others.{IsOther, other_after, other_file, othe
 use Rattle.sd_run_broadcasts.specs.Head.{plan_by, sending, sending_of, head_meaning, site_and_line_of_file}
 use Rattle.sd_run_broadcasts.specs.Head.{with_line}
 
-other_said : (word : ℕ) (line : Option BookLine) (r : Result SiteFields SiteFault) →
-    IsOther (with_line line (told_site word r))
-other_said word line (Ok fields) = tt
-other_said word line (Err fault) = λ e. cc
+other_said : (word : ℕ) (bytes : List ℕ) (line : Option BookLine) (r : Result SiteFields SiteFault) →
+    IsOther (with_line line (told_site word bytes r))
+other_said word bytes line (Ok fields) = tt
+other_said word bytes line (Err fault) = λ e. cc
 
 other_site_and_line : (word : ℕ) (got : Option (List ℕ)) → IsOther (site_and_line_of_file word got).result
 unfolding site_and_line_of_file
 other_site_and_line word got =
     other_after (within word most_site_bytes SiteBytes got).calls (within word most_site_bytes SiteBytes got).result
-    (λ bytes. judged (with_line (book_line_of bytes) (told_site word (site_of bytes))))
-    (other_file word most_site_bytes SiteBytes got) (λ bytes. other_said word (book_line_of bytes) (site_of bytes))
+    (λ bytes. judged (with_line (book_line_of bytes) (told_site word bytes (site_of bytes))))
+    (other_file word most_site_bytes SiteBytes got) (λ bytes. other_said word bytes (book_line_of bytes) (site_of bytes))
 
 other_plan : (site book : ℕ) (site_got book_got : Option (List ℕ)) →
     IsOther (plan_by site book site_got book_got).result

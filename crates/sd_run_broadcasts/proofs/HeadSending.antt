@@ -20,13 +20,14 @@ use Rattle.sd_psi.specs.declared.fault.FormFault.TheVariants as Form
 use Rattle.sd_engine.specs.Stage.{Chain}
 use Rattle.sd_engine.specs.Driving.{DriveState, ChainToEnd, ChainToRefusal, IsAllowedAt, PassesPackets}
 use Rattle.sd_engine.specs.Taken.{StreamEnd, Whole, Breaks, RunsOn, taken_of, end_of, IsAt, DriveOutcomeOver}
+use Rattle.sd_engine.specs.declared.fault.StreamBreak.{StreamBreak}
 use Rattle.sd_engine.specs.declared.driver.DriveFault.{DriveFault}
 use Rattle.sd_engine.specs.declared.driver.DriveFault.TheVariants as drive
 use Rattle.sd_spec.specs.Plan.{Plan}
 use Rattle.sd_spec.specs.Kinds.{kind_of}
 use Rattle.sd_spec.specs.Refused.{fault_where, form_where, is_reserved_pid, pat_wrong, is_full_own}
 use Rattle.sd_spec.specs.Refused.{is_one_too_many}
-use Rattle.sd_spec.specs.Refused.{is_too_long, refusal_of, refusal_from}
+use Rattle.sd_spec.specs.Refused.{end_refusal, is_too_long, refusal_of, refusal_from, whole_refusal}
 use Rattle.sd_spec.specs.Sent.{sent, closing_of, packets_from, body, broadcast, bytes_added, bytes_from}
 use Rattle.sd_spec.proofs.Bodies.{body_bytes, closed_bytes}
 use Rattle.sd_psi.specs.declared.clear_fault.ClearFault.{ClearFault}
@@ -37,8 +38,8 @@ use Rattle.sd_command_base.specs.Turned.{Wrote, all_written, some_written}
 use Rattle.sd_psi.specs.ClearFaults.{clear_packet}
 use Rattle.sd_command_base.specs.declared.stream_refusal.StreamRefusal.TheVariants.{Packet}
 use Rattle.sd_run_broadcasts.specs.Head.{clear_status, status_where, sent_by, sent_where}
-use Rattle.sd_run_broadcasts.specs.Head.{sent_of}
-use Rattle.sd_run_broadcasts.specs.Head.{sent_status, stop_status, sent_told}
+use Rattle.sd_run_broadcasts.specs.Head.{sent_of, sent_status, sent_told, stop_status, stream_refusal}
+use Rattle.sd_run_broadcasts.proofs.Refusals.{end_names, none_first, refused_sent, whole_ended, whole_none}
 
 -- A refusal in its packet's turn.
 
@@ -79,11 +80,6 @@ names_own site before packet =
 
 named : (k : ℕ) (o : Option ClearFault) (fault : ClearFault) → Names k o → o ≡ Some fault → clear_packet fault ≡ k
 named k o fault h is = subst (Names k) is h
-
--- of a refusal and those after it
-none_first : (o rest : Option ClearFault) → option_map_or Some o rest ≡ None → (o ≡ None) × (rest ≡ None)
-none_first None rest h = (refl, h)
-none_first (Some fault) rest h = absurd (cc)
 
 -- packets that are not refused, and then others
 split : (site : SiteFields) (before xs ys : List (List ℕ)) → refusal_from site before xs ≡ None →
@@ -152,21 +148,44 @@ body_of_all plan clear Whole =
 body_of_all plan clear (Breaks found) = ([], append-nil (concat (body plan clear)))
 body_of_all plan clear RunsOn = ([], append-nil (concat (body plan clear)))
 
+-- the first packet that is refused is none of some first ones of which none is
+after_packets : (site : SiteFields) (clear : List (List ℕ)) (k : ℕ) (fault : ClearFault) → k ≤ length clear →
+    refusal_from site [] (take k clear) ≡ None → refusal_from site [] clear ≡ Some fault → k ≤ clear_packet fault
+after_packets site clear k fault within none is =
+    let rest : refusal_from site ([] ++ take k clear) (drop k clear) ≡ Some fault =
+    sym (split site [] (take k clear) (drop k clear) none)
+    ∙ ap (refusal_from site []) (take-append-drop k clear) ∙ is in
+    omega (arith, later site ([] ++ take k clear) (drop k clear) fault rest, length-take k clear, within)
+
+-- nor is the end
+after_whole : (site : SiteFields) (clear : List (List ℕ)) (k : ℕ) (fault : ClearFault) (o : Option ClearFault) →
+    k ≤ length clear → refusal_from site [] (take k clear) ≡ None → refusal_from site [] clear ≡ o →
+    option_map_or Some o (end_refusal site clear) ≡ Some fault → k ≤ clear_packet fault
+after_whole site clear k fault None within none is ends =
+    let last = end_names site clear fault ends in omega (arith, last.1, ap length last.0, within)
+after_whole site clear k fault (Some first) within none is ends =
+    after_packets site clear k fault within none (is ∙ ends)
+
+after_refusal : (site : SiteFields) (clear : List (List ℕ)) (end : StreamEnd) (k : ℕ) (fault : ClearFault) →
+    k ≤ length clear → refusal_from site [] (take k clear) ≡ None → stream_refusal site clear end ≡ Some fault →
+    k ≤ clear_packet fault
+unfolding stream_refusal whole_refusal
+after_refusal site clear Whole k fault within none is =
+    after_whole site clear k fault (refusal_from site [] clear) within none refl is
+after_refusal site clear (Breaks found) k fault within none is = after_packets site clear k fault within none is
+after_refusal site clear RunsOn k fault within none is = after_packets site clear k fault within none is
+
 -- what is sent of some first packets, of which none is refused, begins all that is sent
 sent_begins : (plan : Plan) (clear : List (List ℕ)) (end : StreamEnd) (k : ℕ) (first : Option ClearFault) →
     k ≤ length clear →
-    refusal_from plan.site [] (take k clear) ≡ None → refusal_from plan.site [] clear ≡ first →
+    refusal_from plan.site [] (take k clear) ≡ None → stream_refusal plan.site clear end ≡ first →
     IsPrefix (concat (body plan (take k clear))) (concat (sent_where plan clear end first))
 sent_begins plan clear end k None within none is =
     prefix_of_prefix (concat (body plan (take k clear))) (concat (body plan clear)) (concat (sent_by plan clear end))
     (body_taken plan k clear)
     (body_of_all plan clear end)
 sent_begins plan clear end k (Some fault) within none is =
-    let rest : refusal_from plan.site ([] ++ take k clear) (drop k clear) ≡ Some fault =
-    sym (split plan.site [] (take k clear) (drop k clear) none)
-    ∙ ap (refusal_from plan.site []) (take-append-drop k clear) ∙ is in
-    let high : k ≤ clear_packet fault =
-    omega (arith, later plan.site ([] ++ take k clear) (drop k clear) fault rest, length-take k clear, within) in
+    let high = after_refusal plan.site clear end k fault within none is in
     subst (λ (ps : List (List ℕ)). IsPrefix (concat (body plan ps))
     (concat (body plan (take (clear_packet fault) clear))))
     (take-take k (clear_packet fault) clear high) (body_taken plan k (take (clear_packet fault) clear))
@@ -176,17 +195,18 @@ begins : (plan : Plan) (bytes : List ℕ) (k : ℕ) → k ≤ length (taken_of b
     IsPrefix (concat (body plan (take k (taken_of bytes)))) (sent_of plan bytes)
 unfolding sent_of
 begins plan bytes k within none =
-    sent_begins plan (taken_of bytes) (end_of bytes) k (refusal_from plan.site [] (taken_of bytes)) within none refl
+    sent_begins plan (taken_of bytes) (end_of bytes) k (stream_refusal plan.site (taken_of bytes) (end_of bytes)) within
+    none refl
 
 -- What a head end is, as far as this goes.
 
--- a refusal is due at a packet, or it is that memory was out
+-- a refusal is due at a packet or at the end, or it is that memory was out
 abbrev pub IsDueAt : Plan → List (List ℕ) → Option (List ℕ) → Option ClearFault → Type 0
 IsDueAt plan before packet None = Unit {0}
-IsDueAt plan before None (Some fault) = ⊥
+IsDueAt plan before None (Some fault) = end_refusal plan.site before ≡ Some fault
 IsDueAt plan before (Some packet) (Some fault) = refusal_of plan.site before packet ≡ Some fault
 
--- it writes what each packet adds, and the closing message at the end, and refuses what is due
+-- it writes what each packet adds, and the closing message at an end that isn't refused, and refuses what is due
 pub record IsHeadEnd {S F : Type 0} (plan : Plan) (does : S → List ℕ → S → List ℕ → ℕ → Type 0) (ends : S → S → List ℕ →
     ℕ → Type 0)
     (refuses : S → Option (List ℕ) → F → S → List ℕ → ℕ → Type 0) (told : F → Option ClearFault)
@@ -197,7 +217,8 @@ pub record IsHeadEnd {S F : Type 0} (plan : Plan) (does : S → List ℕ → S �
       (refusal_of plan.site before packet ≡ None) × (bytes ≡ bytes_added plan before packet)
       × After (before ++ packet ∷ []) t
   pub last : (before : List (List ℕ)) (s t : S) (bytes : List ℕ) (n : ℕ) → After before s → ends s t bytes n →
-      bytes ≡ concat (packets_from plan.site (sent plan before) (closing_of plan before))
+      (end_refusal plan.site before ≡ None)
+      × (bytes ≡ concat (packets_from plan.site (sent plan before) (closing_of plan before)))
   pub refusal : (before : List (List ℕ)) (s : S) (packet : Option (List ℕ)) (fault : F) (t : S) (bytes : List ℕ)
       (n : ℕ) → After before s →
       refuses s packet fault t bytes n → (bytes ≡ []) × IsDueAt plan before packet (told fault)
@@ -240,20 +261,47 @@ went_on plan does ends refuses told After head before (packet ∷ packets) s t b
 
 -- What was written of a stream that was driven through it.
 
--- of a stream of which no packet is refused
-pub sent_unrefused : (plan : Plan) (bytes : List ℕ) (end : StreamEnd) → refusal_from plan.site [] (taken_of bytes)
-    ≡ None → end_of bytes ≡ end →
+-- of a stream that isn't refused
+pub sent_unrefused : (plan : Plan) (bytes : List ℕ) (end : StreamEnd) →
+    stream_refusal plan.site (taken_of bytes) end ≡ None → end_of bytes ≡ end →
     (concat (sent_by plan (taken_of bytes) end) ≡ sent_of plan bytes) × (clear_status end ≡ sent_status plan bytes)
 unfolding sent_of sent_status
-sent_unrefused plan bytes end none is = (
-  sym (ap (λ (first : Option ClearFault). concat (sent_where plan (taken_of bytes) (end_of bytes) first)) none
-      ∙ ap (λ (e : StreamEnd). concat (sent_by plan (taken_of bytes) e)) is),
-  sym (ap (λ (first : Option ClearFault). status_where (end_of bytes) first) none ∙ ap clear_status is),
-)
+sent_unrefused plan bytes end none is =
+    let own : stream_refusal plan.site (taken_of bytes) (end_of bytes) ≡ None =
+    ap (stream_refusal plan.site (taken_of bytes)) is ∙ none in (
+      sym (ap (λ (first : Option ClearFault). concat (sent_where plan (taken_of bytes) (end_of bytes) first)) own
+          ∙ ap (λ (e : StreamEnd). concat (sent_by plan (taken_of bytes) e)) is),
+      sym (ap (λ (first : Option ClearFault). status_where (end_of bytes) first) own ∙ ap clear_status is),
+    )
 
--- and of one of which a packet is
-sent_refused : (plan : Plan) (bytes : List ℕ) (fault : ClearFault) → refusal_from plan.site [] (taken_of bytes)
-    ≡ Some fault →
+pub sent_whole : (plan : Plan) (bytes : List ℕ) → whole_refusal plan.site (taken_of bytes) ≡ None →
+    end_of bytes ≡ Whole →
+    (concat (broadcast plan (taken_of bytes)) ≡ sent_of plan bytes) × (Done ≡ sent_status plan bytes)
+unfolding stream_refusal
+sent_whole plan bytes none is = sent_unrefused plan bytes Whole none is
+
+-- by its packets and its end
+whole_unrefused : (plan : Plan) (bytes : List ℕ) → refusal_from plan.site [] (taken_of bytes) ≡ None →
+    end_refusal plan.site (taken_of bytes) ≡ None → end_of bytes ≡ Whole →
+    (concat (broadcast plan (taken_of bytes)) ≡ sent_of plan bytes) × (Done ≡ sent_status plan bytes)
+whole_unrefused plan bytes none end is = sent_whole plan bytes (whole_none plan.site (taken_of bytes) none end) is
+
+broken_unrefused : (plan : Plan) (bytes : List ℕ) (found : StreamBreak) →
+    refusal_from plan.site [] (taken_of bytes) ≡ None → end_of bytes ≡ Breaks found →
+    (concat (body plan (taken_of bytes)) ≡ sent_of plan bytes)
+    × (clear_status (Breaks found) ≡ sent_status plan bytes)
+unfolding stream_refusal
+broken_unrefused plan bytes found none is = sent_unrefused plan bytes (Breaks found) none is
+
+long_unrefused : (plan : Plan) (bytes : List ℕ) → refusal_from plan.site [] (taken_of bytes) ≡ None →
+    end_of bytes ≡ RunsOn →
+    (concat (body plan (taken_of bytes)) ≡ sent_of plan bytes) × (clear_status RunsOn ≡ sent_status plan bytes)
+unfolding stream_refusal
+long_unrefused plan bytes none is = sent_unrefused plan bytes RunsOn none is
+
+-- and of one that is
+pub sent_refused : (plan : Plan) (bytes : List ℕ) (fault : ClearFault) →
+    stream_refusal plan.site (taken_of bytes) (end_of bytes) ≡ Some fault →
     (concat (body plan (take (clear_packet fault) (taken_of bytes))) ≡ sent_of plan bytes)
     × (BadClear (Packet fault) ≡ sent_status plan bytes)
 unfolding sent_of sent_status
@@ -261,6 +309,14 @@ sent_refused plan bytes fault is = (
   sym (ap (λ (first : Option ClearFault). concat (sent_where plan (taken_of bytes) (end_of bytes) first)) is),
   sym (ap (λ (first : Option ClearFault). status_where (end_of bytes) first) is),
 )
+
+-- at its end
+end_refused : (plan : Plan) (bytes : List ℕ) (fault : ClearFault) → refusal_from plan.site [] (taken_of bytes) ≡ None →
+    end_refusal plan.site (taken_of bytes) ≡ Some fault → end_of bytes ≡ Whole →
+    stream_refusal plan.site (taken_of bytes) (end_of bytes) ≡ Some fault
+unfolding stream_refusal
+end_refused plan bytes fault none end is =
+    ap (stream_refusal plan.site (taken_of bytes)) is ∙ whole_ended plan.site (taken_of bytes) fault none end
 
 -- the packet at a place, and those before and from it on
 here_is : (clear : List (List ℕ)) (count : ℕ) (packet : List ℕ) → slice_get clear count ≡ Some packet →
@@ -338,10 +394,11 @@ may_write plan does ends refuses told After head bytes count mid first more from
     (n, within, inl (t, last)) =
     let clear = taken_of bytes in
     let all = all_there clear count place.within at in
-    let sent = sent_unrefused plan bytes Whole (subst (λ (ps : List (List ℕ)). refusal_from plan.site [] ps ≡ None)
+    let closes = head.last (take count clear) mid t more n went.after last in
+    let sent = whole_unrefused plan bytes (subst (λ (ps : List (List ℕ)). refusal_from plan.site [] ps ≡ None)
     all.1 went.unrefused)
-    (place.end all.0) in
-    let closing = head.last (take count clear) mid t more n went.after last in (
+    (subst (λ (ps : List (List ℕ)). end_refusal plan.site ps ≡ None) all.1 closes.0) (place.end all.0) in
+    let closing = closes.1 in (
       [],
       append-nil (first ++ more)
           ∙ ap (λ (xs : List ℕ). xs ++ more) (went.wrote ∙ sym (body_bytes plan (take count clear)))
@@ -379,21 +436,31 @@ may_write plan does ends refuses told After head bytes count mid first more from
 -- what was written up to a refusal
 stopped_at : (plan : Plan) (bytes : List ℕ) (count : ℕ) (first : List ℕ) (before now : Option (List ℕ))
     (due : Option ClearFault)
-    (here : Option (List ℕ)) → count ≤ length (taken_of bytes) →
+    (here : Option (List ℕ)) → IsAt bytes count →
     first ≡ concat (body plan (take count (taken_of bytes))) →
     refusal_from plan.site [] (take count (taken_of bytes)) ≡ None → slice_get (taken_of bytes) count ≡ here →
     IsDueAt plan (take count (taken_of bytes)) here due → Appends before now first →
     Wrote (sent_of plan bytes) (sent_status plan bytes) before now (stop_status due)
-stopped_at plan bytes count first before now None here within wrote none at due taken =
+stopped_at plan bytes count first before now None here place wrote none at due taken =
     some_written (inl refl) (
       first,
-      subst (λ (xs : List ℕ). IsPrefix xs (sent_of plan bytes)) (sym wrote) (begins plan bytes count within none),
+      subst (λ (xs : List ℕ). IsPrefix xs (sent_of plan bytes)) (sym wrote) (begins plan bytes count place.within none),
       taken,
     )
-stopped_at plan bytes count first before now (Some fault) None within wrote none at due taken = absurd due
-stopped_at plan bytes count first before now (Some fault) (Some packet) within wrote none at due taken =
+stopped_at plan bytes count first before now (Some fault) None place wrote none at due taken =
+    let all = all_there (taken_of bytes) count place.within at in
+    let ends = subst (λ (ps : List (List ℕ)). end_refusal plan.site ps ≡ Some fault) all.1 due in
+    let last = end_names plan.site (taken_of bytes) fault ends in
+    let is = end_refused plan bytes fault
+    (subst (λ (ps : List (List ℕ)). refusal_from plan.site [] ps ≡ None) all.1 none) ends (place.end all.0) in
+    let sent = sent_refused plan bytes fault is in
+    let same : clear_packet fault ≡ count = last.1 ∙ sym (all.0 ∙ ap length last.0) in
+    all_written sent.1 tt
+    (subst (λ (xs : List ℕ). Appends before now xs)
+    (wrote ∙ ap (λ (k : ℕ). concat (body plan (take k (taken_of bytes)))) (sym same) ∙ sent.0) taken)
+stopped_at plan bytes count first before now (Some fault) (Some packet) place wrote none at due taken =
     let is = first_refused plan.site (taken_of bytes) count packet fault none at due in
-    let sent = sent_refused plan bytes fault is.0 in
+    let sent = sent_refused plan bytes fault (refused_sent plan.site (taken_of bytes) (end_of bytes) fault is.0) in
     all_written sent.1 tt
     (subst (λ (xs : List ℕ). Appends before now xs)
     (wrote ∙ ap (λ (k : ℕ). concat (body plan (take k (taken_of bytes)))) (sym is.1) ∙ sent.0) taken)
@@ -435,8 +502,9 @@ wrote_sent plan does ends refuses told After head bytes a b (Ok count) stands (w
     wrote_all xs (mid, first, last, m, k, chain, end, joined, number) taken =
         let clear = taken_of bytes in
         let went = went_on plan does ends refuses told After head [] clear a.stage mid first m stands chain in
-        let sent = sent_unrefused plan bytes Whole went.unrefused whole in
-        let closing = head.last clear mid b.stage last k went.after end in
+        let closes = head.last clear mid b.stage last k went.after end in
+        let sent = whole_unrefused plan bytes went.unrefused closes.0 whole in
+        let closing = closes.1 in
         all_written sent.1 tt
         (subst (λ (ys : List ℕ). Appends a.sink.held b.sink.held ys)
         (joined ∙ ap (λ (ys : List ℕ). ys ++ last) (went.wrote ∙ sym (body_bytes plan clear))
@@ -445,7 +513,7 @@ wrote_sent plan does ends refuses told After head bytes a b (Err (drive.Broken f
     let clear = taken_of bytes in
     let went = went_on plan does ends refuses told After head [] clear a.stage b.stage grew.bytes grew.steps stands
     grew.says in
-    let sent = sent_unrefused plan bytes (Breaks found) went.unrefused end in
+    let sent = broken_unrefused plan bytes found went.unrefused end in
     all_written sent.1 tt
     (subst (λ (xs : List ℕ). Appends a.sink.held b.sink.held xs) (went.wrote ∙ sym (body_bytes plan clear) ∙ sent.0)
     grew.taken)
@@ -453,7 +521,7 @@ wrote_sent plan does ends refuses told After head bytes a b (Err drive.TooLong) 
     let clear = taken_of bytes in
     let went = went_on plan does ends refuses told After head [] clear a.stage b.stage grew.bytes grew.steps stands
     grew.says in
-    let sent = sent_unrefused plan bytes RunsOn went.unrefused end in
+    let sent = long_unrefused plan bytes went.unrefused end in
     all_written sent.1 tt
     (subst (λ (xs : List ℕ). Appends a.sink.held b.sink.held xs) (went.wrote ∙ sym (body_bytes plan clear) ∙ sent.0)
     grew.taken)
@@ -485,6 +553,6 @@ wrote_sent plan does ends refuses told After head bytes a b (Err (drive.Refused 
         let here = slice_get (taken_of bytes) h.count in
         let went = went_on plan does ends refuses told After head [] before a.stage mid first m stands chain in
         let due = head.refusal before mid here fault b.stage last k went.after refuse in
-        stopped_at plan bytes h.count xs a.sink.held b.sink.held (told fault) here h.place.within
+        stopped_at plan bytes h.count xs a.sink.held b.sink.held (told fault) here h.place
         (nothing_joined first last xs due.0 joined ∙ went.wrote ∙ sym (body_bytes plan before)) went.unrefused refl
         due.1 taken

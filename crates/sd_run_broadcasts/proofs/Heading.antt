@@ -30,7 +30,7 @@ use Rattle.sd_run_broadcasts.specs.Head.{sent_told}
 use Rattle.sd_run_broadcasts.specs.Head.{SendsLeft, sent_of, sent_status}
 use Rattle.sd_run_broadcasts.proofs.HeadSending.{IsHeadEnd, IsDueAt, wrote_sent}
 
--- what is due of a head end is a refusal of a packet, or that memory was out
+-- what is due of a head end is a refusal of a packet or of the end, or that memory was out
 due_at : (plan : Plan) (before : List (List ℕ)) (packet : Option (List ℕ)) (fault : HeadFault) →
     IsDue plan before packet fault →
     IsDueAt plan before packet (refusal_in fault)
@@ -51,7 +51,7 @@ kept_or_due plan before s packet fault bytes a h = elim h.cause [
 is_head_end : (plan : Plan) → IsHeadEnd plan head_does head_ends head_refuses refusal_in (IsAfter plan)
 is_head_end plan = record {
   step = λ before s packet t bytes n a does. does plan before a;
-  last = λ before s t bytes n a ends. (ends plan before a).0;
+  last = λ before s t bytes n a ends. (ends.0 plan before a, (ends.1 plan before a).0);
   refusal = λ before s packet fault t bytes n a refuses. (
     refuses.nothing,
     kept_or_due plan before s packet fault bytes

@@ -2,6 +2,7 @@ pub mod Prefixes
 pub mod Sending
 pub mod Trying
 pub mod Others
+pub mod Refusals
 pub mod HeadSending
 pub mod Heading
 pub mod HeadOthers

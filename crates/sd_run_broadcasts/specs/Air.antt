@@ -17,32 +17,32 @@ use Rattle.sd_spec.specs.Plan.{Plan, period_of, word_of}
 use Rattle.sd_spec.specs.Sent.{broadcast}
 use Rattle.sd_spec.specs.declared.left_out.LeftOut.{LeftOut}
 use Rattle.sd_command_base.specs.declared.status.Status.{Status}
-use Rattle.sd_command_base.specs.declared.status.Status.TheVariants.{Done, BadClear, BadSite, SiteUsedUp}
+use Rattle.sd_command_base.specs.declared.status.Status.TheVariants.{Done, BadClear, SiteUsedUp}
 use Rattle.sd_command_base.specs.declared.status.LimitKind.TheVariants.{SiteBytes}
 use Rattle.sd_command_base.specs.declared.stream_refusal.StreamRefusal.TheVariants.{Packet}
 use Rattle.sd_command_base.specs.Spec.{Spec, FileArgument, Readings, all_of, judged, value, within, ◌>>=◌}
 use Rattle.sd_command_base.specs.Work.{Uncounted, Work}
-use Rattle.sd_command_base.specs.Files.{most_site_bytes, own_book_of_file}
+use Rattle.sd_command_base.specs.Files.{most_site_bytes, own_book_of_file, refused_site}
 use Rattle.sd_command_base.specs.Made.{unused, used_name}
 use Rattle.sd_run_broadcasts.specs.Marked.{mark_at}
 use Rattle.sd_run_broadcasts.specs.Members.{num_member, text_member, text_of}
 use Rattle.sd_run_broadcasts.specs.Watch.{skipped_at}
 use Rattle.sd_run_broadcasts.specs.declared.air_report.AirReport.{AirReport}
 
--- a site and what its line 13 says, if the site's messages are of version 3 and it has a control word
-abbrev pub told_air_site : ℕ → Result (SiteFields × Option BookLine) SiteFault →
+-- a site of these bytes and what its line 13 says, if the site's messages are of version 3 and it has a control word
+abbrev pub told_air_site : ℕ → List ℕ → Result (SiteFields × Option BookLine) SiteFault →
     Result (SiteFields × Option BookLine) Status
-told_air_site word (Err fault) = Err (BadSite word fault)
-told_air_site word (Ok said) =
-    if not (said.0.messages == 3) then Err (BadSite word (Range 9))
-    else if nat_lt said.0.last_word said.0.first_word then Err (BadSite word (Range 11))
+told_air_site word bytes (Err fault) = Err (refused_site word bytes fault)
+told_air_site word bytes (Ok said) =
+    if not (said.0.messages == 3) then Err (refused_site word bytes (Range 9))
+    else if nat_lt said.0.last_word said.0.first_word then Err (refused_site word bytes (Range 11))
     else Ok said
 
 -- the site for `air` of what the file of this word gave, which must have thirteen lines, and what its line 13 says
 -- [this project, docs/FORMATS.md, On air]
 unfoldable pub air_site_of_file : ℕ → Option (List ℕ) → Spec (SiteFields × Option BookLine)
 air_site_of_file word got =
-    within word most_site_bytes SiteBytes got >>= λ bytes. judged (told_air_site word (newest_of none_fewer bytes))
+    within word most_site_bytes SiteBytes got >>= λ bytes. judged (told_air_site word bytes (newest_of none_fewer bytes))
 
 -- the site for `air` and its own book of what their files gave
 unfoldable pub air_plan_by : ℕ → ℕ → Option (List ℕ) → Option (List ℕ) → Spec Plan

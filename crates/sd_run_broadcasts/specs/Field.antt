@@ -19,6 +19,8 @@ use Rattle.sd_field.specs.Fields.{FieldValue, plan_in, sends_of, taken, written_
 use Rattle.sd_field.specs.Script.{script_of}
 use Rattle.sd_command_base.specs.declared.status.Status.{Status}
 use Rattle.sd_command_base.specs.declared.status.Status.TheVariants.{BadBook, BadClear, Limit, NoMemory}
+use Rattle.sd_command_base.specs.declared.bad_line.LineCause.TheVariants.{Leaf}
+use Rattle.sd_command_base.specs.BadLines.{bad_line, malformed}
 use Rattle.sd_command_base.specs.declared.stream_refusal.StreamRefusal.TheVariants.{Broken, Packet}
 use Rattle.sd_command_base.specs.declared.status.LimitKind.TheVariants.{BookBytes, FieldHeight, FieldPackets}
 use Rattle.sd_command_base.specs.declared.status.LimitKind.TheVariants.{FieldEvents}
@@ -48,22 +50,22 @@ told_clear bytes = unbroken (break_of bytes) (packets_of bytes)
 unfoldable pub clear_of_file : ℕ → Option (List ℕ) → Spec (List (List ℕ))
 clear_of_file word got = within word most_clear_bytes FieldPackets got >>= λ bytes. judged (told_clear bytes)
 
--- the status of a script that is refused, in the file of argument `word`
-abbrev pub refused_script : ℕ → ScriptFault → Status
-refused_script word (script.Line k) = BadBook word k
-refused_script word (script.Leaf k) = BadBook word k
-refused_script word script.Events = Limit FieldEvents
-refused_script word script.NoMemory = NoMemory
+-- the status of a script of these bytes that is refused for a tree of height d, in the file of argument `word`
+abbrev pub refused_script : ℕ → ℕ → List ℕ → ScriptFault → Status
+refused_script word d bytes (script.Line k) = BadBook word (malformed k bytes)
+refused_script word d bytes (script.Leaf k) = BadBook word (bad_line (Leaf d) k bytes)
+refused_script word d bytes script.Events = Limit FieldEvents
+refused_script word d bytes script.NoMemory = NoMemory
 
 -- the events of a script in the file of argument `word`, or the status of its fault
-abbrev pub told_script : ℕ → Result (List Event) ScriptFault → Result (List Event) Status
-told_script word (Ok events) = Ok events
-told_script word (Err fault) = Err (refused_script word fault)
+abbrev pub told_script : ℕ → ℕ → List ℕ → Result (List Event) ScriptFault → Result (List Event) Status
+told_script word d bytes (Ok events) = Ok events
+told_script word d bytes (Err fault) = Err (refused_script word d bytes fault)
 
 -- the events of the script in the file of argument `word`, for a tree of height d
 unfoldable pub script_of_file : ℕ → ℕ → Option (List ℕ) → Spec (List Event)
 script_of_file word d got =
-    within word most_book_bytes BookBytes got >>= λ bytes. judged (told_script word (script_of d bytes))
+    within word most_book_bytes BookBytes got >>= λ bytes. judged (told_script word d bytes (script_of d bytes))
 
 -- a site and the packets of a clear stream
 pub record Inputs : Type 0 where

@@ -10,7 +10,7 @@ use Rattle.sd_site.specs.SiteFields.{SiteFields}
 use Rattle.sd_site.specs.Text.{book_line_of, site_of}
 use Rattle.sd_site.specs.declared.book_line.BookLine.{BookLine}
 use Rattle.sd_spec.specs.Plan.{Plan}
-use Rattle.sd_spec.specs.Refused.{refusal_from}
+use Rattle.sd_spec.specs.Refused.{refusal_from, whole_refusal}
 use Rattle.sd_spec.specs.Sent.{body, broadcast}
 use Rattle.sd_psi.specs.declared.clear_fault.ClearFault.{ClearFault}
 use Rattle.sd_psi.specs.ClearFaults.{clear_packet}
@@ -23,7 +23,14 @@ use Rattle.sd_command_base.specs.declared.status.LimitKind.TheVariants.{SiteByte
 use Rattle.sd_command_base.specs.Files.{most_site_bytes, own_book_of_file, told_site}
 use Rattle.sd_command_base.specs.Turned.{turning, Wrote}
 
--- the status that comes of the end of a clear stream of which no packet is refused
+-- why a clear stream that ends so is refused: the first refusal of a packet, or else, where it ends whole, that of the
+-- end
+unfoldable pub stream_refusal : SiteFields → List (List ℕ) → StreamEnd → Option ClearFault
+stream_refusal site clear Whole = whole_refusal site clear
+stream_refusal site clear (Breaks found) = refusal_from site [] clear
+stream_refusal site clear RunsOn = refusal_from site [] clear
+
+-- the status that comes of the end of a clear stream that is not refused
 abbrev pub clear_status : StreamEnd → Status
 clear_status Whole = Done
 clear_status (Breaks found) = BadClear (Broken found)
@@ -46,10 +53,10 @@ sent_where plan clear end (Some fault) = body plan (take (clear_packet fault) cl
 
 unfoldable pub sent_of : Plan → List ℕ → List ℕ
 sent_of plan bytes =
-    concat (sent_where plan (taken_of bytes) (end_of bytes) (refusal_from plan.site [] (taken_of bytes)))
+    concat (sent_where plan (taken_of bytes) (end_of bytes) (stream_refusal plan.site (taken_of bytes) (end_of bytes)))
 
 unfoldable pub sent_status : Plan → List ℕ → Status
-sent_status plan bytes = status_where (end_of bytes) (refusal_from plan.site [] (taken_of bytes))
+sent_status plan bytes = status_where (end_of bytes) (stream_refusal plan.site (taken_of bytes) (end_of bytes))
 
 -- makes OUT of what is sent for a clear stream of these bytes
 abbrev pub sending : Plan → FileArgument → List ℕ → Work
@@ -64,7 +71,7 @@ with_line line (Ok fields) = Ok (fields, line)
 unfoldable pub site_and_line_of_file : ℕ → Option (List ℕ) → Spec (SiteFields × Option BookLine)
 site_and_line_of_file word got =
     within word most_site_bytes SiteBytes got
-    >>= λ bytes. judged (with_line (book_line_of bytes) (told_site word (site_of bytes)))
+    >>= λ bytes. judged (with_line (book_line_of bytes) (told_site word bytes (site_of bytes)))
 
 -- the site and its own book of what their files gave
 unfoldable pub plan_by : ℕ → ℕ → Option (List ℕ) → Option (List ℕ) → Spec Plan

@@ -7,7 +7,7 @@ ghost use Rattle.sd_command_base.specs.Shown.{shown_word};
 ghost use Rattle.sd_run_broadcasts.specs.Air.{air_plan_meaning, air_site_of_file, told_air_site};
 
 use sd_book::Book;
-use sd_command_base::{LimitKind, MOST_SITE_BYTES, Status, Word, read_bytes, read_own};
+use sd_command_base::{LimitKind, MOST_SITE_BYTES, Status, Word, read_bytes, read_own, site_fault};
 use sd_ports::Depot;
 use sd_site::{BookLine, Site, SiteFault, read_newest};
 use std::alloc::Global;
@@ -50,23 +50,17 @@ fn read_air_site<D: Depot>(
 /// messages of version 3 and a control word.
 fn judge_air_site(word: u8, bytes: &[u8]) -> Result<(Site, Option<BookLine>), Status>
     ensures { SureOutcome (λ said. (fields_of said.0, said.1))
-        (told_air_site word (newest_of none_fewer bytes.now)) result }
+        (told_air_site word bytes.now (newest_of none_fewer bytes.now)) result }
 {
     let (site, line) = match read_newest(bytes, false) {
         Ok(said) => said,
-        Err(fault) => return Err(Status::BadSite { word, fault }),
+        Err(fault) => return Err(site_fault(word, bytes, fault)),
     };
     if site.messages != MESSAGES {
-        return Err(Status::BadSite {
-            word,
-            fault: SiteFault::Range(9),
-        });
+        return Err(site_fault(word, bytes, SiteFault::Range(9)));
     }
     if site.last_word < site.first_word {
-        return Err(Status::BadSite {
-            word,
-            fault: SiteFault::Range(11),
-        });
+        return Err(site_fault(word, bytes, SiteFault::Range(11)));
     }
     Ok((site, line))
 }

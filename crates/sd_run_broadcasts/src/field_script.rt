@@ -5,7 +5,8 @@ ghost use Rattle.sd_command_base.specs.Outside.{depot_state};
 ghost use Rattle.sd_command_base.specs.Reads.{JudgedOutcome, FileOutcome};
 ghost use Rattle.sd_run_broadcasts.specs.Field.{refused_script, script_of_file, told_script};
 
-use sd_command_base::{LimitKind, MOST_BOOK_BYTES, Status, Word, read_bytes};
+use sd_command_base::{LimitKind, LineCause, MOST_BOOK_BYTES, Status, Word};
+use sd_command_base::{malformed, read_bytes, refused_line};
 use sd_field::{ScriptFault, read_script};
 use sd_ports::Depot;
 use sd_spec::Event;
@@ -30,23 +31,25 @@ pub fn read_events<D: Depot>(
 
 /// The events of the script of these bytes, which are those of the file of argument `word`.
 fn judge_script(alloc: Global, word: u8, bytes: &[u8], h: Height) -> Result<Vec<Event>, Status>
-    ensures value { JudgedOutcome (λ events. events.items) (told_script word (script_of h bytes.now)) result }
+    ensures value { JudgedOutcome (λ events. events.items) (told_script word h bytes.now (script_of h bytes.now)) result }
     ensures few { IfOk result (λ events. length events.items ≤ 524288) }
     ensures leaves { IfOk result (λ events. All (λ event. is_of h event ≡ true) events.items) }
 {
     match read_script(alloc, bytes, h) {
         Ok(events) => Ok(events),
-        Err(fault) => Err(script_fault(word, fault)),
+        Err(fault) => Err(script_fault(word, h, bytes, fault)),
     }
 }
 
-/// The status of a script that is refused, which is in the file of argument `word`.
-fn script_fault(word: u8, fault: ScriptFault) -> Status
-    ensures { result ≡ refused_script word fault }
+/// The status of a script of these bytes that is refused, which is in the file of argument `word`.
+fn script_fault(word: u8, h: Height, bytes: &[u8], fault: ScriptFault) -> Status
+    ensures { result ≡ refused_script word h bytes.now fault }
 {
-    match fault {
-        ScriptFault::Line(line) | ScriptFault::Leaf(line) => Status::BadBook { word, line },
-        ScriptFault::Events => Status::Limit(LimitKind::FieldEvents),
-        ScriptFault::NoMemory => Status::NoMemory,
-    }
+    let line = match fault {
+        ScriptFault::Line(k) => malformed(k, bytes),
+        ScriptFault::Leaf(k) => refused_line(LineCause::Leaf(h.get()), k, bytes),
+        ScriptFault::Events => return Status::Limit(LimitKind::FieldEvents),
+        ScriptFault::NoMemory => return Status::NoMemory,
+    };
+    Status::BadBook { word, line }
 }

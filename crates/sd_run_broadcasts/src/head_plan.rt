@@ -8,7 +8,7 @@ ghost use Rattle.sd_command_base.specs.Shown.{shown_word};
 ghost use Rattle.sd_run_broadcasts.specs.Head.{plan_meaning, site_and_line_of_file, with_line};
 
 use sd_book::Book;
-use sd_command_base::{LimitKind, MOST_SITE_BYTES, Status, Word, read_bytes, read_own};
+use sd_command_base::{LimitKind, MOST_SITE_BYTES, Status, Word, read_bytes, read_own, site_fault};
 use sd_ports::Depot;
 use sd_site::{BookLine, Site, read_with_book};
 use std::alloc::Global;
@@ -47,10 +47,10 @@ fn read_with_line<D: Depot>(
 /// The site that the bytes of this word's file say, and what its line 13 says of its book.
 fn judge_with_line(word: u8, bytes: &[u8]) -> Result<(Site, Option<BookLine>), Status>
     ensures { SureOutcome (λ said. (fields_of said.0, said.1))
-        (with_line (book_line_of bytes.now) (told_site word (site_of bytes.now))) result }
+        (with_line (book_line_of bytes.now) (told_site word bytes.now (site_of bytes.now))) result }
 {
     match read_with_book(bytes) {
         Ok(said) => Ok(said),
-        Err(fault) => Err(Status::BadSite { word, fault }),
+        Err(fault) => Err(site_fault(word, bytes, fault)),
     }
 }

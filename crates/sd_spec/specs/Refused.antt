@@ -84,6 +84,16 @@ refusal_from site before (packet ∷ packets) =
 abbrev pub IsClear : SiteFields → Packets → Type 0
 IsClear site clear = refusal_from site [] clear ≡ None
 
+-- why the end is refused after these packets: of none of them, no control word is left for the closing message [this
+-- project, docs/FORMATS.md, Broadcast]
+abbrev pub end_refusal : SiteFields → Packets → Option ClearFault
+end_refusal site [] = fault_where (is_too_long site 0) (TooLong 0) None
+end_refusal site (packet ∷ packets) = None
+
+-- why a whole clear stream is refused: the first refusal of a packet, or else that of the end
+unfoldable pub whole_refusal : SiteFields → Packets → Option ClearFault
+whole_refusal site clear = option_map_or Some (refusal_from site [] clear) (end_refusal site clear)
+
 -- why the first of these packets that can't be sent after others can't be
 unfoldable pub unsent_from : SiteFields → Packets → Packets → Option ClearFault
 unsent_from site before [] = None

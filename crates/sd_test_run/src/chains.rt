@@ -63,9 +63,11 @@ site is short
 ";
 
 // What goes on air with it: a broadcast with the book of its site, none with another one, and nothing with the first
-// site.
+// site, not even a closing message.
 const SENT: &str = "
 $ head site-0.txt none clear air-0 | 9 | e3b0c44298fc1c14
+clear packet 0: too long
+$ head site-0.txt none none air-0 | 9 | e3b0c44298fc1c14
 clear packet 0: too long
 $ head site-1.txt none clear air-1 | 0 | 836421a30d2976d0
 $ head site-2.txt none more air-2 | 0 | 8d1a903ac91e0a91

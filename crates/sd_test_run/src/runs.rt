@@ -141,7 +141,10 @@ $ head site book clear-401 sent | 9 | e3b0c44298fc1c14
 clear packet 0: too long
 $ trial site book clear-401 | 9
 clear packet 0: too long
-$ head site book empty sent | 0 | 25ed92d58ccb55d8
+$ head site book empty sent | 9 | e3b0c44298fc1c14
+clear packet 0: too long
+$ trial site book empty | 9
+clear packet 0: too long
 $ card site 5 card-5 | 0 | 877aa1ba3df1a649
 $ cover site empty | 0
 period 0 revoked 0 sets 1

@@ -2,8 +2,11 @@ use Rattle.std.proofs.Common.{string_bytes}
 use Rattle.sd_site.specs.CardFields.{card_fields_of}
 use Rattle.sd_command_base.proofs.CardFaults.{card_refused}
 use Rattle.sd_run_books.specs.Show.{card_line, told_show}
-use Rattle.sd_run_books.proofs.ShownCards.{line_read}
+use Rattle.sd_run_books.proofs.ShownCards.{has_key, line_read}
 use Rattle.sd_run_books.proofs.show_command.judge_card.Goals as goal
+
+pub line_of-requires : goal.line_of-requires
+line_of-requires c = has_key c.args.bytes.now c.in-Ok.ensures.fault
 
 pub returns-in_ok-line_of-in-Ok : goal.returns-in_ok-line_of-in-Ok
 returns-in_ok-line_of-in-Ok c =

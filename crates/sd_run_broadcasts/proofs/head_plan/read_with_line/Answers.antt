@@ -14,7 +14,7 @@ unfolding site_and_line_of_file
 returns-in_err-bytes g c =
     let p = err_from_is_err_and c.from_residual.result c.from_residual.ensures.1 in
     rw (p.1, p.2) (looks_first (λ bytes. bytes.items) said_of (within c.args.word.number most_site_bytes SiteBytes)
-    (λ bytes. judged (with_line (book_line_of bytes) (told_site c.args.word.number (site_of bytes))))
+    (λ bytes. judged (with_line (book_line_of bytes) (told_site c.args.word.number bytes (site_of bytes))))
     c.args.word.text.now (depot_state g.D.Depot c.args.depot.now) (depot_state g.D.Depot c.read_bytes.new.depot)
     c.in_err-bytes.field-0.0 c.in_err-bytes.ensures)
 
@@ -23,8 +23,8 @@ unfolding site_and_line_of_file
 returns g c =
     let judged_alone = rw c.deref.ensures.value at c.judge_with_line.ensures in
     looks_judged (λ bytes. bytes.items) said_of (within c.args.word.number most_site_bytes SiteBytes)
-    (λ bytes. with_line (book_line_of bytes) (told_site c.args.word.number (site_of bytes))) c.args.word.text.now
+    (λ bytes. with_line (book_line_of bytes) (told_site c.args.word.number bytes (site_of bytes))) c.args.word.text.now
     (depot_state g.D.Depot c.args.depot.now) (depot_state g.D.Depot c.read_bytes.new.depot) c.in_ok-bytes.bytes
     c.judge_with_line.result c.in_ok-bytes.ensures
     (alone_judges said_of (with_line (book_line_of c.in_ok-bytes.bytes.items)
-    (told_site c.args.word.number (site_of c.in_ok-bytes.bytes.items))) c.judge_with_line.result judged_alone)
+    (told_site c.args.word.number c.in_ok-bytes.bytes.items (site_of c.in_ok-bytes.bytes.items))) c.judge_with_line.result judged_alone)
