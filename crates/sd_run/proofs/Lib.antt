@@ -1,4 +1,5 @@
 pub mod Examples
 pub mod Works
 pub mod Rows
+pub mod Notes
 pub mod Ordered
