@@ -4,7 +4,6 @@ pub mod CommandLine
 pub mod Commands
 pub mod Exits
 pub mod Operands
-pub mod Escaped
 pub mod Explained
 pub mod Reasons
 pub mod Help

@@ -5,7 +5,6 @@
 mod argument;
 mod command;
 mod command_line;
-mod escape;
 mod exit;
 mod explain;
 mod found;
