@@ -274,6 +274,9 @@ MessagesOf site stream = CommandOf commands.Messages (InputOf site ∷ InputOf s
 abbrev pub ShowOf : FileArgument → Order
 ShowOf card = CommandOf commands.Show (InputOf card ∷ [])
 
+abbrev pub StatusOf : FileArgument → FileArgument → NumberArgument → Order
+StatusOf site book leaf = CommandOf commands.Status (InputOf site ∷ InputOf book ∷ NumberOf leaf ∷ [])
+
 abbrev pub TablesOf : FileArgument → Order
 TablesOf stream = CommandOf commands.Tables (InputOf stream ∷ [])
 
