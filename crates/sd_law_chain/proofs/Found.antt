@@ -16,8 +16,6 @@ use Rattle.sd_command_base.specs.declared.status.Status.{Status}
 use Rattle.sd_command_base.specs.declared.status.LimitKind.{LimitKind}
 use Rattle.sd_command_base.specs.declared.status.LimitKind.TheVariants.{SiteBytes, BookBytes}
 use Rattle.sd_command_base.specs.declared.status.Status.TheVariants.{BadOut, BadWord, BadBook, Limit, OtherBook}
-use Rattle.sd_command_base.specs.declared.bad_line.LineCause.TheVariants.{Unended}
-use Rattle.sd_command_base.specs.BadLines.{bad_line}
 use Rattle.sd_command_base.specs.declared.status.OutCause.TheVariants.{Name}
 use Rattle.sd_site.specs.declared.site_fault.SiteFault.TheVariants.{Range}
 use Rattle.sd_book.specs.declared.fault.BookFault.{BookFault}
@@ -25,8 +23,10 @@ use Rattle.std.specs.Result.{result_unwrap_or}
 use Rattle.sd_command_base.specs.Spec.{Spec, FileArgument, Readings, and_then, judged, value, within, ◌>>=◌}
 use Rattle.sd_command_base.specs.Shown.{NumberArgument}
 use Rattle.sd_command_base.specs.Work.{Work}
-use Rattle.sd_command_base.specs.Files.{begins_with_book, ends_lines, longer_book_of_file, most_book_bytes}
-use Rattle.sd_command_base.specs.Files.{most_site_bytes, refused_site, told_book, told_longer, told_whole}
+use Rattle.sd_command_base.specs.Files.{begins_with_book, ends_lines, longer_book_of_file, most_book_bytes, most_site_bytes}
+use Rattle.sd_command_base.specs.Files.{refused_site, told_book, told_longer, told_whole}
+use Rattle.sd_command_base.specs.BadLines.{bad_line}
+use Rattle.sd_command_base.specs.declared.bad_line.LineCause.TheVariants.{Unended}
 use Rattle.sd_command_base.specs.Files.{BookText}
 use Rattle.sd_command_base.specs.Made.{NewFile, making_new, new_work, free}
 use Rattle.sd_run_books.specs.SiteNames.{follows}
@@ -162,8 +162,8 @@ longer_ok word height line got book e =
     let (bytes, read, told) = then_ok (within word most_book_bytes BookBytes got)
     (λ bytes. judged (told_longer word height line bytes)) book e in
     let file = within_ok word most_book_bytes BookBytes got bytes read in
-    let begins = met (begins_with_book line bytes)
-    (told_whole word bytes (told_book word height bytes (book_of height bytes))) book OtherBook told in
+    let begins = met (begins_with_book line bytes) (told_whole word bytes (told_book word height bytes (book_of height bytes)))
+    book OtherBook told in
     let whole = whole_ok word bytes (told_book word height bytes (book_of height bytes)) book begins.1 in
     let commands = book_ok word height bytes (book_of height bytes) book.commands whole.0 in
     record {

@@ -21,13 +21,13 @@ use Rattle.sd_book.specs.declared.command.Command.{Command}
 use Rattle.sd_book.specs.Text.{book_of}
 use Rattle.sd_command_base.specs.declared.status.Status.{Status}
 use Rattle.sd_command_base.specs.declared.status.Status.TheVariants.{BadBook, BadOut, BadWord, Limit, OtherBook}
-use Rattle.sd_command_base.specs.declared.bad_line.LineCause.TheVariants.{Unended}
-use Rattle.sd_command_base.specs.BadLines.{bad_line}
 use Rattle.sd_command_base.specs.declared.status.OutCause.TheVariants.{Name}
 use Rattle.sd_command_base.specs.declared.status.LimitKind.TheVariants.{BookBytes, SiteBytes}
 use Rattle.sd_site.specs.declared.site_fault.SiteFault.TheVariants.{Range, Short}
 use Rattle.sd_command_base.specs.Files.{BookText, begins_with_book, ends_lines, longer_book_of_file, most_book_bytes}
 use Rattle.sd_command_base.specs.Files.{most_site_bytes, refused_site, told_book, told_longer, told_whole}
+use Rattle.sd_command_base.specs.BadLines.{bad_line}
+use Rattle.sd_command_base.specs.declared.bad_line.LineCause.TheVariants.{Unended}
 use Rattle.sd_command_base.specs.Made.{NewFile, making_new, new_work}
 use Rattle.sd_command_base.specs.Shown.{NumberArgument}
 use Rattle.sd_command_base.specs.Spec.{FileArgument, Readings, Spec, and_then, judged, value, ◌>>=◌}
@@ -55,7 +55,7 @@ pub within_back : (most : ℕ) (status : Status) (bytes : List ℕ) → length b
 within_back most status bytes short =
     ap (λ (t : Bool). cond t (Err status) (Ok bytes)) (not_above most (length bytes) short)
 
-told_back : (word : ℕ) (bytes : List ℕ) (most : ℕ) (words : NumberArgument) (said : SiteFields × Option BookLine) →
+told_back : (word : ℕ) (bytes : Bytes) (most : ℕ) (words : NumberArgument) (said : SiteFields × Option BookLine) →
     said.0.first_period ≤ most → said.0.last_word + words.value ≤ most_word →
     told_newest word bytes most words (Ok said) ≡ Ok said
 told_back word bytes most words said low left =
@@ -87,8 +87,7 @@ longer_back word d line bytes commands size begins book ends =
     ok_then 2 (cond (nat_lt most_book_bytes (length bytes)) (Err (Limit BookBytes)) (Ok bytes))
     (λ read. judged (told_longer word d line read)) bytes
     (within_back most_book_bytes (Limit BookBytes) bytes size)
-    ∙ ap (λ (t : Bool). cond t (told_whole word bytes (told_book word d bytes (book_of d bytes))) (Err OtherBook))
-    begins
+    ∙ ap (λ (t : Bool). cond t (told_whole word bytes (told_book word d bytes (book_of d bytes))) (Err OtherBook)) begins
     ∙ ap (λ found. told_whole word bytes (told_book word d bytes found)) book
     ∙ ap (λ (t : Bool). cond t (Ok (record { bytes = bytes; commands = commands }))
     (Err (BadBook word (bad_line Unended (length commands) bytes)))) ends

@@ -1,5 +1,6 @@
 -- The lines of accounts with which a line clashes.
 use Rattle.std.proofs.Common.{◌≡◌, ℕ, suc, ◌+◌, ◌-◌, ◌<◌, ◌≤◌, arith, List, [], ◌∷◌, map, take, Option, refl, ap, ◌∙◌}
+use Rattle.std.proofs.Math.Seq.{take-nil}
 use Rattle.sd_base.specs.Lines.{lines_of}
 use Rattle.sd_run_books.specs.AccountsCause.{clash_from}
 use Rattle.sd_run_books.specs.Line.{Entry, entry_on, said_by}
@@ -25,10 +26,7 @@ pub nothing_left : (d k line u : ℕ) (name rest : List ℕ) → rest ≡ [] →
     clash_from line name u (take (k - line) (said_by d rest)) ≡ Form
 nothing_left d k line u name rest none =
     ap (λ (bytes : List ℕ). clash_from line name u (take (k - line) (said_by d bytes))) none
-    ∙ ap (clash_from line name u) (take_none (k - line))
-  where
-    take_none : (n : ℕ) → take n [] ≡ []
-    take_none n = search
+    ∙ ap (clash_from line name u) (take-nil (k - line))
 
 -- no line is to be looked at
 pub none_before : (d k line u : ℕ) (name rest : List ℕ) → k ≤ line →

@@ -6,6 +6,7 @@ ghost use Rattle.sd_command_base.specs.BadLines.{line_numbered as numbered};
 ghost use Rattle.sd_run_books.specs.AccountsCause.{assigns_number as assigns, bad_entry as entry_refused};
 ghost use Rattle.sd_run_books.specs.AccountsCause.{clash_from, clash_of as clash, taken_entry as entry_taken};
 ghost use Rattle.sd_run_books.specs.Line.{Entry, Assigns, entry_on, said_by};
+ghost use Rattle.sd_run_books.specs.Read.{entry_in};
 
 use crate::account_line::{Line, line_in};
 use crate::account_name::{Name, is_name};
@@ -34,18 +35,29 @@ pub(crate) fn taken_entry(h: Height, k: u32, bytes: &[u8]) -> BadLine
 }
 
 /// The line before line k with which it clashes.
+#[tactic(auto, unfolding(crate::specs::Line::entry_on))]
 fn clash_of(h: Height, k: u32, bytes: &[u8]) -> LineCause
     ensures { result ≡ clash (entry_on h (numbered k bytes.now)) (take (k - 1) (said_by h bytes.now)) }
 {
     match line_in(line_numbered(k, bytes), h) {
-        Some(Line::Assign(name, leaf)) => clash_with(h, k, bytes, &name, leaf),
-        Some(Line::Drop(_) | Line::Restore(_) | Line::Period) | None => LineCause::Form,
+        Some(line) => clash_before(h, k, bytes, line),
+        None => LineCause::Form,
+    }
+}
+
+/// The line before line k with which one clashes that says this.
+fn clash_before(h: Height, k: u32, bytes: &[u8], line: Line) -> LineCause
+    ensures { result ≡ clash (Some (entry_in line)) (take (k - 1) (said_by h bytes.now)) }
+{
+    match line {
+        Line::Assign(name, leaf) => clash_with(h, k, bytes, name, leaf),
+        Line::Drop(_) | Line::Restore(_) | Line::Period => LineCause::Form,
     }
 }
 
 /// The first line before line k that binds the name or the leaf.
-fn clash_with(h: Height, k: u32, bytes: &[u8], name: &Name, leaf: Leaf) -> LineCause
-    ensures { result ≡ clash_from 1 name.now.bytes leaf (take (k - 1) (said_by h bytes.now)) }
+fn clash_with(h: Height, k: u32, bytes: &[u8], name: Name, leaf: Leaf) -> LineCause
+    ensures { result ≡ clash_from 1 name.bytes leaf (take (k - 1) (said_by h bytes.now)) }
 {
     let mut rest = bytes;
     for line in 1..k {
@@ -61,26 +73,40 @@ fn clash_with(h: Height, k: u32, bytes: &[u8], name: &Name, leaf: Leaf) -> LineC
 }
 
 /// Why a line of this number and text clashes with one that binds the name and the leaf, if it does.
-fn clash_on(h: Height, k: u32, text: &[u8], name: &Name, leaf: Leaf) -> Option<LineCause>
+fn clash_on(h: Height, k: u32, text: &[u8], name: Name, leaf: Leaf) -> Option<LineCause>
     ensures some { IfSome result (λ cause. (said : List (Option Entry)) →
-        clash_from k name.now.bytes leaf (entry_on h text.now ∷ said) ≡ cause) }
+        clash_from k name.bytes leaf (entry_on h text.now ∷ said) ≡ cause) }
     ensures none { IsNone result → (said : List (Option Entry)) →
-        clash_from k name.now.bytes leaf (entry_on h text.now ∷ said)
-        ≡ clash_from (k + 1) name.now.bytes leaf said }
+        clash_from k name.bytes leaf (entry_on h text.now ∷ said)
+        ≡ clash_from (k + 1) name.bytes leaf said }
 {
     match line_in(text, h) {
-        Some(Line::Assign(other, bound)) => bound_on(k, name, leaf, &other, bound),
-        Some(Line::Drop(_) | Line::Restore(_) | Line::Period) | None => None,
+        Some(line) => clash_line(k, line, name, leaf),
+        None => None,
+    }
+}
+
+/// Why a line of this number that says this clashes with one that binds the name and the leaf, if it does.
+fn clash_line(k: u32, line: Line, name: Name, leaf: Leaf) -> Option<LineCause>
+    ensures some { IfSome result (λ cause. (said : List (Option Entry)) →
+        clash_from k name.bytes leaf (Some (entry_in line) ∷ said) ≡ cause) }
+    ensures none { IsNone result → (said : List (Option Entry)) →
+        clash_from k name.bytes leaf (Some (entry_in line) ∷ said)
+        ≡ clash_from (k + 1) name.bytes leaf said }
+{
+    match line {
+        Line::Assign(other, bound) => bound_on(k, name, leaf, other, bound),
+        Line::Drop(_) | Line::Restore(_) | Line::Period => None,
     }
 }
 
 /// Why a line of this number that binds the other name and leaf clashes with one that binds these, if it does.
-fn bound_on(k: u32, name: &Name, leaf: Leaf, other: &Name, bound: Leaf) -> Option<LineCause>
+fn bound_on(k: u32, name: Name, leaf: Leaf, other: Name, bound: Leaf) -> Option<LineCause>
     ensures some { IfSome result (λ cause. (said : List (Option Entry)) →
-        clash_from k name.now.bytes leaf (Some (Assigns other.now.bytes bound) ∷ said) ≡ cause) }
+        clash_from k name.bytes leaf (Some (Assigns other.bytes bound) ∷ said) ≡ cause) }
     ensures none { IsNone result → (said : List (Option Entry)) →
-        clash_from k name.now.bytes leaf (Some (Assigns other.now.bytes bound) ∷ said)
-        ≡ clash_from (k + 1) name.now.bytes leaf said }
+        clash_from k name.bytes leaf (Some (Assigns other.bytes bound) ∷ said)
+        ≡ clash_from (k + 1) name.bytes leaf said }
 {
     if name.as_bytes() == other.as_bytes() {
         return Some(LineCause::Held {
