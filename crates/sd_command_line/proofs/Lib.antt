@@ -7,3 +7,4 @@ pub mod Others
 pub mod Printing
 pub mod Finding
 mod Marks
+pub mod Spelling

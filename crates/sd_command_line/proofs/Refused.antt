@@ -13,7 +13,7 @@ use Rattle.sd_command_line.specs.Commands.{command_named, operands_of}
 use Rattle.sd_command_line.specs.Operands.{operand_kind}
 use Rattle.sd_command_line.specs.Words.{Argument, Order, argument_of, arguments_from, at_most, before, counted}
 use Rattle.sd_command_line.specs.Words.{help_on, help_words, is_help, is_version, named_words, number_in, numbered}
-use Rattle.sd_command_line.specs.Words.{order_after, order_of, ordered, out_is_taken, version_words}
+use Rattle.sd_command_line.specs.Words.{asks_help, order_after, order_of, ordered, out_is_taken, version_words}
 use Rattle.sd_command_line.specs.Orders.{RefusesWords, shown}
 
 abbrev IsWords : {A : Type 0} → Result A Status → Type 0
@@ -96,10 +96,13 @@ words_refused : (words : List (List ℕ)) → IsWords (order_of words)
 unfolding named_words
 words_refused [] = usage
 words_refused (name ∷ texts) =
-    either (is_help name) (help_words texts)
-    (if is_version name then version_words texts else order_after (command_named name) texts) (help_refused texts)
-    (either (is_version name) (version_words texts) (order_after (command_named name) texts) (version_refused texts)
-    (command_refused (command_named name) texts))
+    let after =
+    if asks_help texts then help_on (command_named name) else order_after (command_named name) texts in
+    either (is_help name) (help_words texts) (if is_version name then version_words texts else after)
+    (help_refused texts)
+    (either (is_version name) (version_words texts) after (version_refused texts)
+    (either (asks_help texts) (help_on (command_named name)) (order_after (command_named name) texts)
+    (topic_refused (command_named name)) (command_refused (command_named name) texts)))
 
 said_refused : (read : Result declared.Order Status) → IsWords (shown read) → IsWords read
 said_refused (Ok order) h = tt

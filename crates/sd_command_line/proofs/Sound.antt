@@ -15,7 +15,7 @@ use Rattle.sd_command_base.specs.declared.status.Status.TheVariants.{Usage, BadW
 use Rattle.sd_command_line.specs.declared.order.Order as declared
 use Rattle.sd_command_line.specs.Words.{Argument, Order, argument_of, arguments_from, at_most, before, counted}
 use Rattle.sd_command_line.specs.Words.{help_on, help_words, is_help, is_version, named_words, number_in, numbered}
-use Rattle.sd_command_line.specs.Words.{ordered}
+use Rattle.sd_command_line.specs.Words.{asks_help, ordered}
 use Rattle.sd_command_line.specs.Words.{order_after, order_of, out_is_taken, version_words}
 use Rattle.sd_command_line.specs.Orders.{AreOf, IsOf, IsSound, order_said, shown}
 
@@ -108,10 +108,12 @@ version_sound (word ∷ words) = tt
 named_sound : (name : List ℕ) (texts : List (List ℕ)) → IfOk (named_words name texts) IsSound
 unfolding named_words
 named_sound name texts =
-    either (is_help name) (help_words texts)
-    (if is_version name then version_words texts else order_after (command_named name) texts) (help_sound texts)
-    (either (is_version name) (version_words texts) (order_after (command_named name) texts) (version_sound texts)
-    (named_command_sound (command_named name) texts))
+    let after =
+    if asks_help texts then help_on (command_named name) else order_after (command_named name) texts in
+    either (is_help name) (help_words texts) (if is_version name then version_words texts else after) (help_sound texts)
+    (either (is_version name) (version_words texts) after (version_sound texts)
+    (either (asks_help texts) (help_on (command_named name)) (order_after (command_named name) texts)
+    (topic_sound (command_named name)) (named_command_sound (command_named name) texts)))
 
 said_sound : (read : Result declared.Order Status) → IfOk (shown read) IsSound →
     IfOk read (λ order. IsSound (order_said order))

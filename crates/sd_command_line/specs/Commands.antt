@@ -8,7 +8,7 @@ use Rattle.sd_command_line.specs.declared.command.Command.TheVariants.{Layered}
 use Rattle.sd_command_line.specs.declared.command.Command.TheVariants.{Lcard}
 use Rattle.sd_command_line.specs.declared.command.Command.TheVariants.{Apart, Messages, Next, Opens, Plan}
 use Rattle.sd_command_line.specs.declared.command.Command.TheVariants.{Receive, Sample}
-use Rattle.sd_command_line.specs.declared.command.Command.TheVariants.{Show}
+use Rattle.sd_command_line.specs.declared.command.Command.TheVariants.{Show, Status}
 use Rattle.sd_command_line.specs.declared.command.Command.TheVariants.{Tables}
 use Rattle.sd_command_line.specs.declared.command.Command.TheVariants.{Trace, Trial, Twin, Watch}
 use Rattle.sd_command_line.specs.declared.operand.Operand.{Operand}
@@ -37,6 +37,7 @@ command_name Plan = codes "plan"
 command_name Receive = codes "receive"
 command_name Sample = codes "sample"
 command_name Show = codes "show"
+command_name Status = codes "status"
 command_name Tables = codes "tables"
 command_name Trace = codes "trace"
 command_name Trial = codes "trial"
@@ -47,7 +48,7 @@ command_name Watch = codes "watch"
 abbrev pub commands : List Command
 commands =
     Accounts ∷ Air ∷ Apart ∷ Book ∷ Card ∷ Cover ∷ Field ∷ Head ∷ Layered ∷ Lcard ∷ Messages ∷ Next ∷ Opens ∷ Plan
-    ∷ Receive ∷ Sample ∷ Show ∷ Tables ∷ Trace ∷ Trial ∷ Twin ∷ Watch ∷ []
+    ∷ Receive ∷ Sample ∷ Show ∷ Status ∷ Tables ∷ Trace ∷ Trial ∷ Twin ∷ Watch ∷ []
 
 -- the first of them that has this name
 abbrev pub first_named : List ℕ → List Command → Option Command
@@ -77,6 +78,7 @@ operands_of Plan = word.Site ∷ word.Book ∷ word.Clears ∷ word.Pids ∷ []
 operands_of Receive = word.Card ∷ word.Stream ∷ word.Out ∷ []
 operands_of Sample = word.Number ∷ word.Packets ∷ word.Out ∷ []
 operands_of Show = word.Card ∷ []
+operands_of Status = word.Site ∷ word.Book ∷ word.Leaf ∷ []
 operands_of Tables = word.Stream ∷ []
 operands_of Trace = word.Site ∷ word.Book ∷ word.Leaves ∷ []
 operands_of Trial = word.Site ∷ word.Book ∷ word.Clear ∷ []
@@ -106,6 +108,7 @@ work_of Plan = codes "prints the size of a broadcast on air, before it is made"
 work_of Receive = codes "writes the clear packets that a card opens, of one broadcast or of several in a row"
 work_of Sample = codes "makes a clear stream for tests"
 work_of Show = codes "prints the fields of a card's file, without its keys"
+work_of Status = codes "prints whether a receiver is entitled, and when that changes"
 work_of Tables = codes "prints the tables of a stream, one line of JSON each"
 work_of Trace = codes "prints the receivers whose cards a decoder holds, found by queries"
 work_of Trial = codes "prints what each receiver writes from a broadcast"
@@ -150,6 +153,7 @@ example_of Plan = codes "plan examples/site.txt examples/book.txt 600 3"
 example_of Receive = codes "receive card-2 broadcast.ts opened.ts"
 example_of Sample = codes "sample 7 600 clear.ts"
 example_of Show = codes "show card-2"
+example_of Status = codes "status examples/site.txt examples/book.txt 2"
 example_of Tables = codes "tables broadcast.ts"
 example_of Trace = codes "trace examples/site.txt examples/book.txt examples/pair.txt"
 example_of Trial = codes "trial examples/site.txt examples/book.txt clear.ts"

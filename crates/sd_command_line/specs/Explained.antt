@@ -1,19 +1,27 @@
 -- Public meaning: what a refusal is to a user, on the standard error [this project, docs/FORMATS.md, Explanations].
 use Rattle.std.specs.Prelude.{ℕ, List, [], ◌∷◌, ◌++◌, codes, length, slice_get, Option, Some, None, zero, suc}
-use Rattle.std.specs.Prelude.{if◌then◌else◌, ◌==◌, ◌||◌}
+use Rattle.std.specs.Prelude.{if◌then◌else◌, bytes_eq, ◌==◌, ◌||◌, ◌&&◌}
 use Rattle.sd_command_line.specs.declared.command.Command.{Command}
 use Rattle.sd_command_line.specs.declared.operand.Operand.{Operand}
 use Rattle.sd_command_line.specs.Commands.{command_named, operands_of}
-use Rattle.sd_command_line.specs.Escaped.{escaped}
-use Rattle.sd_command_line.specs.Operands.{operand_name}
+use Rattle.sd_command_base.specs.Escaped.{escaped}
+use Rattle.sd_command_base.specs.declared.trouble.Trouble.{Trouble}
+use Rattle.sd_command_base.specs.declared.status.Clash.{Clash as ClashKind}
+use Rattle.sd_command_base.specs.declared.status.Clash.TheVariants.{Heights, Masters, NoWords, SharedWord, Books}
+use Rattle.sd_command_line.specs.declared.command.Command.TheVariants.{Field, Tables}
+use Rattle.sd_command_line.specs.Operands.{is_file, operand_kind, operand_name}
 use Rattle.sd_command_base.specs.declared.status.Status.{Status}
 use Rattle.sd_command_base.specs.declared.status.Status.TheVariants.{Usage, Missing, BadSite, BadBook, BadCard}
 use Rattle.sd_command_base.specs.declared.status.Status.TheVariants.{BadWord, BadOut, OtherBook, SiteUsed}
+use Rattle.sd_command_base.specs.declared.status.Status.TheVariants.{DepotFault, Revoked, BadClear, BadStream, Limit}
+use Rattle.sd_command_base.specs.declared.status.Status.TheVariants.{Unheard, Unclosed, Gaps, NoCat, Clash, SiteUsedUp}
 use Rattle.sd_command_line.specs.declared.found.Argument.{Argument}
 use Rattle.sd_command_line.specs.Words.{command_in, is_help, is_version, out_is_mark}
-use Rattle.sd_command_line.specs.Reasons.{card_reason, line_reason, mark_reason, miscounted_reason}
-use Rattle.sd_command_line.specs.Reasons.{missing_reason, no_page_reason, out_reason, output_reason, own_book_reason}
-use Rattle.sd_command_line.specs.Reasons.{range_reason, site_reason, unknown_reason, used_reason}
+use Rattle.sd_command_line.specs.Reasons.{card_reason, clash_reason, clear_reason, gaps_reason, limit_reason}
+use Rattle.sd_command_line.specs.Reasons.{line_reason, mark_reason, miscounted_reason, missing_reason, no_cat_reason}
+use Rattle.sd_command_line.specs.Reasons.{no_page_reason, out_reason, output_reason, own_book_reason, range_reason}
+use Rattle.sd_command_line.specs.Reasons.{revoked_reason, site_reason, stream_reason, trouble_reason, unclosed_reason}
+use Rattle.sd_command_line.specs.Reasons.{unheard_reason, unknown_reason, used_reason, used_up_reason}
 
 -- what an argument is, and its text
 abbrev pub shown : Argument → Operand × List ℕ
@@ -107,15 +115,90 @@ site_word = 1
 abbrev pub book_word : ℕ
 book_word = 2
 
--- the line that explains a status to a user, or no text if the status is about no argument
-unfoldable pub explained : List (List ℕ) → Status → List ℕ
-explained words Usage = usage_line words
-explained words (Missing word) = of_argument words word (λ operand. missing_reason operand)
-explained words (BadSite word fault) = of_argument words word (λ operand. site_reason fault)
-explained words (BadBook word line) = of_argument words word (λ operand. line_reason operand line)
-explained words (BadCard word fault) = of_argument words word (λ operand. card_reason fault)
-explained words (BadWord word) = of_argument words word (λ operand. range_reason operand)
-explained words (BadOut word cause) = of_argument words word (λ operand. out_reason cause)
-explained words SiteUsed = of_argument words site_word (λ operand. used_reason)
-explained words OtherBook = of_argument words book_word (λ operand. own_book_reason (command_in words))
-explained words status = []
+-- CLEAR is this argument of the commands that have it [this project, docs/FORMATS.md, Commands]
+abbrev pub clear_word : Option Command → ℕ
+clear_word (Some Field) = 2
+clear_word command = 3
+
+-- STREAM is this argument of the commands that have it [this project, docs/FORMATS.md, Commands]
+abbrev pub stream_word : Option Command → ℕ
+stream_word (Some Tables) = 1
+stream_word command = 2
+
+-- CARD is argument 1 of `receive` and `watch`
+abbrev pub card_word : ℕ
+card_word = 1
+
+-- the argument of `apart` that a clash is about: a site, or the second book
+abbrev pub clash_word : ClashKind → ℕ
+clash_word Heights = 3
+clash_word Masters = 3
+clash_word (NoWords site) = if site == 1 then 1 else 3
+clash_word (SharedWord word) = 3
+clash_word (Books leaf period) = 4
+
+-- the line of a number that is refused
+abbrev pub number_line : Option (Operand × List ℕ) → List ℕ
+number_line None = []
+number_line (Some argument) = argument_line (range_reason argument.0 argument.1) argument
+
+-- a line about no argument
+unfoldable pub plain_line : List ℕ → List ℕ
+plain_line reason = codes "sdca: " ++ (reason ++ codes "\n")
+
+-- the first file among arguments that has this text
+abbrev pub file_of : List ℕ → List Operand → List (List ℕ) → Option (Operand × List ℕ)
+file_of name [] texts = None
+file_of name (operand ∷ operands) [] = None
+file_of name (operand ∷ operands) (text ∷ texts) =
+    if is_file (operand_kind operand) && bytes_eq text name then Some (operand, text) else file_of name operands texts
+
+-- the line of a file that is an argument, or that is none
+abbrev pub file_line : List ℕ → List ℕ → Option (Operand × List ℕ) → List ℕ
+file_line reason name None = plain_line (escaped name ++ (codes ": " ++ reason))
+file_line reason name (Some argument) = argument_line reason argument
+
+abbrev pub file_after : Option Command → List (List ℕ) → List ℕ → Option (Operand × List ℕ)
+file_after None texts name = None
+file_after (Some command) texts name = file_of name (operands_of command) texts
+
+-- the file of this name among the arguments of words
+abbrev pub file_named : List (List ℕ) → List ℕ → Option (Operand × List ℕ)
+file_named [] name = None
+file_named (command ∷ texts) name = file_after (command_named command) texts name
+
+-- the line of an I/O error, if the machine said at which file it was and what
+unfoldable pub trouble_line : List (List ℕ) → Option (List ℕ × Trouble) → List ℕ
+trouble_line words None = []
+trouble_line words (Some (name, trouble)) = file_line (trouble_reason trouble) name (file_named words name)
+
+-- the line that explains a status to a user, with what the machine said of a file at its last error; no text where the
+-- work is done, where printing failed, or where memory ran out
+unfoldable pub explained : List (List ℕ) → Option (List ℕ × Trouble) → Status → List ℕ
+explained words trouble Usage = usage_line words
+explained words trouble (Missing word) = of_argument words word (λ operand. missing_reason operand)
+explained words trouble (Revoked leaf period) = of_argument words card_word (λ operand. revoked_reason)
+explained words trouble DepotFault = trouble_line words trouble
+explained words trouble (BadSite word fault text) =
+    of_argument words word (λ operand. site_reason (command_in words) fault text)
+explained words trouble (BadBook word line) = of_argument words word (λ operand. line_reason operand line)
+explained words trouble (BadCard word fault) = of_argument words word (λ operand. card_reason fault)
+explained words trouble (BadClear refusal) =
+    of_argument words (clear_word (command_in words)) (λ operand. clear_reason refusal)
+explained words trouble (BadStream refusal) =
+    of_argument words (stream_word (command_in words)) (λ operand. stream_reason refusal)
+explained words trouble (Limit kind) = plain_line (limit_reason kind)
+explained words trouble (Unheard leaf period) =
+    of_argument words (stream_word (command_in words)) (λ operand. unheard_reason)
+explained words trouble (Unclosed number) =
+    of_argument words (stream_word (command_in words)) (λ operand. unclosed_reason)
+explained words trouble (Gaps packets) = of_argument words (stream_word (command_in words)) (λ operand. gaps_reason)
+explained words trouble NoCat = of_argument words (stream_word (command_in words)) (λ operand. no_cat_reason)
+explained words trouble (BadWord word) = number_line (argument_of words word)
+explained words trouble (Clash clash) = of_argument words (clash_word clash) (λ operand. clash_reason clash)
+explained words trouble (BadOut word cause) = of_argument words word (λ operand. out_reason cause)
+explained words trouble SiteUsed = of_argument words site_word (λ operand. used_reason)
+explained words trouble OtherBook =
+    of_argument words book_word (λ operand. own_book_reason (command_in words))
+explained words trouble (SiteUsedUp packet) = of_argument words site_word (λ operand. used_up_reason)
+explained words trouble status = []

@@ -4,8 +4,8 @@ pub mod CommandLine
 pub mod Commands
 pub mod Exits
 pub mod Operands
-pub mod Escaped
 pub mod Explained
 pub mod Reasons
 pub mod Help
 pub mod Pages
+pub mod Spelled

@@ -169,10 +169,18 @@ abbrev pub version_words : List (List ℕ) → Result Order Status
 version_words [] = Ok VersionOf
 version_words (word ∷ words) = Err Usage
 
+-- the words after a name ask for help on it: there is one, `--help` or `-h`
+abbrev pub asks_help : List (List ℕ) → Bool
+asks_help [] = false
+asks_help (word ∷ []) = bytes_eq word (codes "--help") || bytes_eq word (codes "-h")
+asks_help (word ∷ more ∷ words) = false
+
+-- `COMMAND --help` and `COMMAND -h` are `help COMMAND`: a file of such a name is `./--help`
 unfoldable pub named_words : List ℕ → List (List ℕ) → Result Order Status
 named_words name texts =
     if is_help name then help_words texts
     else if is_version name then version_words texts
+    else if asks_help texts then help_on (command_named name)
     else order_after (command_named name) texts
 
 -- The first word is the name of a command, whose row says what the others are.

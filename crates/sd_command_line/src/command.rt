@@ -42,6 +42,8 @@ pub enum Command {
     Sample,
     /// `show CARD`: prints the fields of a card's file, without its keys.
     Show,
+    /// `status SITE BOOK LEAF`: prints whether a receiver is entitled, and when that changes.
+    Status,
     /// `tables STREAM`: prints the PSI tables of a stream as JSON.
     Tables,
     /// `trace SITE BOOK LEAVES`: finds the cards in a decoder by queries.
@@ -55,7 +57,7 @@ pub enum Command {
 }
 
 /// All commands, by their names.
-pub const COMMANDS: [Command; 22] = [
+pub const COMMANDS: [Command; 23] = [
     Command::Accounts,
     Command::Air,
     Command::Apart,
@@ -73,6 +75,7 @@ pub const COMMANDS: [Command; 22] = [
     Command::Receive,
     Command::Sample,
     Command::Show,
+    Command::Status,
     Command::Tables,
     Command::Trace,
     Command::Trial,
@@ -112,6 +115,7 @@ impl Command {
             Command::Receive => "receive",
             Command::Sample => "sample",
             Command::Show => "show",
+            Command::Status => "status",
             Command::Tables => "tables",
             Command::Trace => "trace",
             Command::Trial => "trial",
@@ -154,6 +158,7 @@ impl Command {
             Command::Receive => &[Operand::Card, Operand::Stream, Operand::Out],
             Command::Sample => &[Operand::Number, Operand::Packets, Operand::Out],
             Command::Show => &[Operand::Card],
+            Command::Status => &[Operand::Site, Operand::Book, Operand::Leaf],
             Command::Tables => &[Operand::Stream],
             Command::Trace => &[Operand::Site, Operand::Book, Operand::Leaves],
             Command::Trial => &[Operand::Site, Operand::Book, Operand::Clear],
@@ -205,6 +210,7 @@ impl Command {
                 "writes the clear packets that a card opens, of one broadcast or of several in a row",
             Command::Sample => "makes a clear stream for tests",
             Command::Show => "prints the fields of a card's file, without its keys",
+            Command::Status => "prints whether a receiver is entitled, and when that changes",
             Command::Tables => "prints the tables of a stream, one line of JSON each",
             Command::Trace => "prints the receivers whose cards a decoder holds, found by queries",
             Command::Trial => "prints what each receiver writes from a broadcast",
@@ -263,6 +269,7 @@ impl Command {
             Command::Receive => "receive card-2 broadcast.ts opened.ts",
             Command::Sample => "sample 7 600 clear.ts",
             Command::Show => "show card-2",
+            Command::Status => "status examples/site.txt examples/book.txt 2",
             Command::Tables => "tables broadcast.ts",
             Command::Trace => "trace examples/site.txt examples/book.txt examples/pair.txt",
             Command::Trial => "trial examples/site.txt examples/book.txt clear.ts",

@@ -1,46 +1,138 @@
-ghost use Rattle.std.specs.Prelude.{◌≡◌, map, string_bytes, IfOk};
+ghost use Rattle.std.specs.Prelude.{◌≡◌, map, option_map, string_bytes, IfOk};
 ghost use Rattle.sd_command_line.specs.CommandLine.{words_of};
-ghost use Rattle.sd_command_line.specs.Explained.{argument_line, command_line, count_line, explained, help_line};
-ghost use Rattle.sd_command_line.specs.Explained.{book_word, of_argument, shown, site_word, taken_reason, topic_line};
-ghost use Rattle.sd_command_line.specs.Explained.{usage_line, word_line};
-ghost use Rattle.sd_command_line.specs.Reasons.{card_reason, line_reason, missing_reason, out_reason};
-ghost use Rattle.sd_command_line.specs.Reasons.{own_book_reason, range_reason, site_reason, used_reason};
+ghost use Rattle.sd_command_line.specs.Explained.{argument_line, argument_of, clash_word as word_of_clash};
+ghost use Rattle.sd_command_line.specs.Explained.{clear_word as word_of_clear, command_line, count_line, explained};
+ghost use Rattle.sd_command_line.specs.Explained.{file_line, file_named, file_of as file_there, help_line, number_line};
+ghost use Rattle.sd_command_line.specs.Explained.{of_argument, plain_line, shown, stream_word as word_of_stream};
+ghost use Rattle.sd_command_line.specs.Explained.{taken_reason, topic_line, trouble_line, usage_line, word_line};
+ghost use Rattle.sd_command_line.specs.Reasons.{clear_reason, line_reason, missing_reason, site_reason, stream_reason};
 ghost use Rattle.sd_command_line.specs.Words.{command_in};
 
-use crate::escape::escaped;
-use crate::found::{Argument, find_argument};
+use crate::found::{Argument, find_argument, find_file};
 use crate::order::{is_help, is_version, out_is_mark};
 use crate::{Command, CommandLine, reason};
-use sd_command_base::{OutCause, Status};
-use sd_site::{CardFault, SiteFault};
+use sd_command_base::{BadLine, Clash, Excerpt, Status, StreamRefusal, Trouble, escaped};
+use sd_message::StreamFault;
+use sd_psi::ClearFault;
+use sd_site::SiteFault;
 use std::alloc::{AllocError, Global};
 
-/// SITE is this argument of the command that asks whether it was used.
+/// SITE is this argument of the commands that ask whether it was used, and whether it has numbers left.
 const SITE_WORD: u8 = 1;
 
 /// BOOK is this argument of each command that asks whether it is the site's.
 const BOOK_WORD: u8 = 2;
 
-/// The line that explains a status to a user, or no text if the status is about no argument.
+/// CARD is this argument of the commands that receive.
+const CARD_WORD: u8 = 1;
+
+/// The line that explains a status to a user, with what the machine said of a file at its last error. No text where the
+/// work is done, where printing failed, or where memory ran out.
 #[tactic(auto, unfolding(crate::specs::Explained::explained))]
 pub fn explanation(
     alloc: Global,
     line: &CommandLine<'_>,
+    trouble: Option<(&str, Trouble)>,
     status: Status,
 ) -> Result<String, AllocError>
-    ensures { IfOk result (λ text. string_bytes text ≡ explained (words_of line.now) status) }
+    ensures { IfOk result (λ text. string_bytes text
+        ≡ explained (words_of line.now) (option_map (λ said. (said.0.now, said.1)) trouble.entry) status) }
 {
+    let command = line.command;
     match status {
         Status::Usage => usage(alloc, line),
         Status::Missing(word) => missing(alloc, line, word),
-        Status::BadSite { word, fault } => site(alloc, line, word, fault),
-        Status::BadBook { word, line: number } => book(alloc, line, word, number),
-        Status::BadCard { word, fault } => card(alloc, line, word, fault),
+        Status::Revoked { .. } => simple(alloc, line, CARD_WORD, reason::revoked()),
+        Status::DepotFault => at_file(alloc, line, trouble),
+        Status::BadSite { word, fault, text } => site(alloc, line, word, fault, &text),
+        Status::BadBook { word, line: bad } => book(alloc, line, word, &bad),
+        Status::BadCard { word, fault } => simple(alloc, line, word, reason::card(fault)),
+        Status::BadClear(refusal) => clear(alloc, line, refusal),
+        Status::BadStream(refusal) => stream(alloc, line, refusal),
+        Status::Limit(kind) => plain(alloc, reason::limit(kind)),
+        Status::Unheard { .. } => simple(alloc, line, stream_word(command), reason::unheard()),
+        Status::Unclosed(_) => simple(alloc, line, stream_word(command), reason::unclosed()),
+        Status::Gaps(_) => simple(alloc, line, stream_word(command), reason::gaps()),
+        Status::NoCat => simple(alloc, line, stream_word(command), reason::no_cat()),
         Status::BadWord(word) => range(alloc, line, word),
-        Status::BadOut { word, cause } => out(alloc, line, word, cause),
-        Status::SiteUsed => used(alloc, line),
-        Status::OtherBook => own_book(alloc, line),
-        _ => Ok(String::new(alloc)),
+        Status::Clash(clash) => simple(alloc, line, clash_word(clash), reason::clash(clash)),
+        Status::BadOut { word, cause } => simple(alloc, line, word, reason::out(cause)),
+        Status::SiteUsed => simple(alloc, line, SITE_WORD, reason::used()),
+        Status::OtherBook => simple(alloc, line, BOOK_WORD, reason::own_book(command)),
+        Status::SiteUsedUp(_) => simple(alloc, line, SITE_WORD, reason::used_up()),
+        Status::Done | Status::PrintFault | Status::NoMemory => Ok(String::new(alloc)),
+    }
+}
+
+/// CLEAR is this argument of a command that has it.
+fn clear_word(command: Option<Command>) -> u8
+    ensures { result ≡ word_of_clear command }
+{
+    match command {
+        Some(Command::Field) => 2,
+        _ => 3,
+    }
+}
+
+/// STREAM is this argument of a command that has it.
+fn stream_word(command: Option<Command>) -> u8
+    ensures { result ≡ word_of_stream command }
+{
+    match command {
+        Some(Command::Tables) => 1,
+        _ => 2,
+    }
+}
+
+/// The argument of `apart` that a clash is about.
+fn clash_word(clash: Clash) -> u8
+    ensures { result ≡ word_of_clash clash }
+{
+    match clash {
+        Clash::NoWords(1) => 1,
+        Clash::Books { .. } => 4,
+        _ => 3,
+    }
+}
+
+/// The line of the argument of this number, if it is there.
+fn simple(alloc: Global, line: &CommandLine<'_>, word: u8, reason: &str) -> Result<String, AllocError>
+    ensures { IfOk result (λ text. string_bytes text
+        ≡ of_argument (words_of line.now) word (λ operand. reason.now)) }
+{
+    match find_argument(line, word) {
+        Some(argument) => about(alloc, argument, reason),
+        None => Ok(String::new(alloc)),
+    }
+}
+
+/// A line about no argument.
+#[tactic(auto, unfolding(crate::specs::Explained::plain_line))]
+fn plain(alloc: Global, reason: &str) -> Result<String, AllocError>
+    ensures { IfOk result (λ text. string_bytes text ≡ plain_line reason.now) }
+{
+    format!(in alloc; "sdca: {reason}\n")
+}
+
+/// The line of an I/O error, if the machine said at which file it was and what.
+#[tactic(auto, unfolding(crate::specs::Explained::trouble_line))]
+fn at_file(
+    alloc: Global,
+    line: &CommandLine<'_>,
+    trouble: Option<(&str, Trouble)>,
+) -> Result<String, AllocError>
+    ensures { IfOk result (λ text. string_bytes text ≡ trouble_line (words_of line.now) (option_map (λ said. (said.0.now, said.1)) trouble.entry)) }
+{
+    let Some((name, trouble)) = trouble else {
+        return Ok(String::new(alloc));
+    };
+    let reason = reason::trouble(trouble);
+    match find_file(line, name) {
+        Some(argument) => about(alloc, argument, reason),
+        None => {
+            let name = escaped(alloc, name)?;
+            format!(in alloc; "sdca: {name}: {reason}\n")
+        }
     }
 }
 
@@ -172,13 +264,14 @@ fn site(
     line: &CommandLine<'_>,
     word: u8,
     fault: SiteFault,
+    text: &Excerpt,
 ) -> Result<String, AllocError>
-    ensures { IfOk result (λ text. string_bytes text ≡
-        of_argument (words_of line.now) word (λ operand. site_reason fault)) }
+    ensures { IfOk result (λ out. string_bytes out ≡
+        of_argument (words_of line.now) word (λ operand. site_reason (command_in (words_of line.now)) fault text.now)) }
 {
     match find_argument(line, word) {
         Some(argument) => {
-            let reason = reason::site(alloc, fault)?;
+            let reason = reason::site(alloc, line.command, fault, text)?;
             about(alloc, argument, reason.as_str())
         }
         None => Ok(String::new(alloc)),
@@ -186,83 +279,61 @@ fn site(
 }
 
 /// The line of a file of which a line is refused.
-fn book(alloc: Global, line: &CommandLine<'_>, word: u8, number: u32) -> Result<String, AllocError>
+fn book(
+    alloc: Global,
+    line: &CommandLine<'_>,
+    word: u8,
+    bad: &BadLine,
+) -> Result<String, AllocError>
     ensures { IfOk result (λ text. string_bytes text ≡
-        of_argument (words_of line.now) word (λ operand. line_reason operand number)) }
+        of_argument (words_of line.now) word (λ operand. line_reason operand bad.now)) }
 {
     match find_argument(line, word) {
         Some(argument) => {
-            let reason = reason::line(alloc, argument.operand, number)?;
+            let reason = reason::line(alloc, argument.operand, bad)?;
             about(alloc, argument, reason.as_str())
         }
         None => Ok(String::new(alloc)),
     }
 }
 
-/// The line of a card that is refused.
-fn card(
+/// The line of a clear stream that is refused.
+fn clear(
     alloc: Global,
     line: &CommandLine<'_>,
-    word: u8,
-    fault: CardFault,
+    refusal: StreamRefusal<ClearFault>,
 ) -> Result<String, AllocError>
     ensures { IfOk result (λ text. string_bytes text ≡
-        of_argument (words_of line.now) word (λ operand. card_reason fault)) }
+        of_argument (words_of line.now) (word_of_clear (command_in (words_of line.now)))
+        (λ operand. clear_reason refusal)) }
 {
-    match find_argument(line, word) {
-        Some(argument) => about(alloc, argument, reason::card(fault)),
-        None => Ok(String::new(alloc)),
-    }
+    let reason = reason::clear(alloc, refusal)?;
+    simple(alloc, line, clear_word(line.command), reason.as_str())
+}
+
+/// The line of a broadcast that is refused.
+fn stream(
+    alloc: Global,
+    line: &CommandLine<'_>,
+    refusal: StreamRefusal<StreamFault>,
+) -> Result<String, AllocError>
+    ensures { IfOk result (λ text. string_bytes text ≡
+        of_argument (words_of line.now) (word_of_stream (command_in (words_of line.now)))
+        (λ operand. stream_reason refusal)) }
+{
+    let reason = reason::stream(alloc, refusal)?;
+    simple(alloc, line, stream_word(line.command), reason.as_str())
 }
 
 /// The line of a number that is refused.
 fn range(alloc: Global, line: &CommandLine<'_>, word: u8) -> Result<String, AllocError>
-    ensures { IfOk result (λ text. string_bytes text ≡
-        of_argument (words_of line.now) word (λ operand. range_reason operand)) }
+    ensures { IfOk result (λ text. string_bytes text ≡ number_line (argument_of (words_of line.now) word)) }
 {
     match find_argument(line, word) {
         Some(argument) => {
-            let reason = reason::range(alloc, argument.operand)?;
+            let reason = reason::range(alloc, argument.operand, argument.text)?;
             about(alloc, argument, reason.as_str())
         }
-        None => Ok(String::new(alloc)),
-    }
-}
-
-/// The line of a file that must not be made.
-fn out(
-    alloc: Global,
-    line: &CommandLine<'_>,
-    word: u8,
-    cause: OutCause,
-) -> Result<String, AllocError>
-    ensures { IfOk result (λ text. string_bytes text ≡
-        of_argument (words_of line.now) word (λ operand. out_reason cause)) }
-{
-    match find_argument(line, word) {
-        Some(argument) => about(alloc, argument, reason::out(cause)),
-        None => Ok(String::new(alloc)),
-    }
-}
-
-/// The line of a site that was used.
-fn used(alloc: Global, line: &CommandLine<'_>) -> Result<String, AllocError>
-    ensures { IfOk result (λ text. string_bytes text ≡
-        of_argument (words_of line.now) site_word (λ operand. used_reason)) }
-{
-    match find_argument(line, SITE_WORD) {
-        Some(argument) => about(alloc, argument, reason::used()),
-        None => Ok(String::new(alloc)),
-    }
-}
-
-/// The line of a book that is not the site's.
-fn own_book(alloc: Global, line: &CommandLine<'_>) -> Result<String, AllocError>
-    ensures { IfOk result (λ text. string_bytes text ≡
-        of_argument (words_of line.now) book_word (λ operand. own_book_reason (command_in (words_of line.now)))) }
-{
-    match find_argument(line, BOOK_WORD) {
-        Some(argument) => about(alloc, argument, reason::own_book(line.command)),
         None => Ok(String::new(alloc)),
     }
 }

@@ -1,7 +1,8 @@
 ghost use Rattle.std.specs.Prelude.{◌≡◌, map, option_map, slice_get, string_bytes, Some};
 ghost use Rattle.sd_command_line.specs.CommandLine.{words_of};
 ghost use Rattle.sd_command_line.specs.Commands.{operands_of};
-ghost use Rattle.sd_command_line.specs.Explained.{argument_at as argument_there, argument_of, shown};
+ghost use Rattle.sd_command_line.specs.Explained.{argument_at as argument_there, argument_of, file_named};
+ghost use Rattle.sd_command_line.specs.Explained.{file_of as file_there, shown};
 
 use crate::{Command, CommandLine, Operand};
 
@@ -50,4 +51,29 @@ fn text_at(texts: &[String], place: usize) -> Option<&str>
         Some(text) => Some(text.as_str()),
         None => None,
     }
+}
+
+/// The first file among the arguments that has this text.
+pub(crate) fn find_file<'a>(line: &CommandLine<'a>, name: &str) -> Option<Argument<'a>>
+    ensures { option_map shown result ≡ file_named (words_of line.now) name.now }
+{
+    let [_, texts @ ..] = line.words else {
+        return None;
+    };
+    file_among(line.command?, texts, name)
+}
+
+/// The first file among these texts, which are those behind a command's name, that has this text.
+fn file_among<'a>(command: Command, texts: &'a [String], name: &str) -> Option<Argument<'a>>
+    ensures { option_map shown result ≡ file_there name.now (operands_of command) (map string_bytes texts.now) }
+{
+    for (operand, text) in command.operands().iter().zip(texts) {
+        if operand.kind().is_file() && text.as_str() == name {
+            return Some(Argument {
+                operand: *operand,
+                text: text.as_str(),
+            });
+        }
+    }
+    None
 }

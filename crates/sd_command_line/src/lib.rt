@@ -5,7 +5,6 @@
 mod argument;
 mod command;
 mod command_line;
-mod escape;
 mod exit;
 mod explain;
 mod found;
@@ -14,6 +13,7 @@ mod operand;
 mod order;
 mod page;
 mod reason;
+mod spelled;
 mod telling;
 
 pub use argument::{Argument, Arguments};
@@ -24,4 +24,5 @@ pub use explain::explanation;
 pub use help_command::{help, version};
 pub use operand::{Files, Kind, Operand};
 pub use order::Order;
+pub use spelled::spell_out;
 pub use telling::tell;

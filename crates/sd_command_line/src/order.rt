@@ -4,7 +4,8 @@ ghost use Rattle.sd_command_base.specs.Made.{used_name};
 ghost use Rattle.sd_command_line.specs.Commands.{command_named, operands_of};
 ghost use Rattle.sd_command_line.specs.Words.{command_in, command_words, help_words, input_texts, named_words};
 ghost use Rattle.sd_command_line.specs.Words.{order_of, HoldsSecretsBy};
-ghost use Rattle.sd_command_line.specs.Words.{is_help as names_help, is_version as names_version};
+ghost use Rattle.sd_command_line.specs.Words.{asks_help as ask_for_help, is_help as names_help};
+ghost use Rattle.sd_command_line.specs.Words.{is_version as names_version};
 ghost use Rattle.sd_command_line.specs.Words.{out_is_mark as names_mark, out_is_read, out_text, version_words, with_input};
 ghost use Rattle.sd_command_line.specs.Orders.{order_said, shown};
 
@@ -56,8 +57,21 @@ fn read_named<'a>(
         return read_version(texts);
     }
     match command {
+        Some(command) if asks_help(texts) => Ok(Order::Help {
+            topic: Some(command),
+        }),
         Some(command) => read_command(command, texts),
         None => Err(Status::Usage),
+    }
+}
+
+/// Whether the words after a name ask for help on it.
+fn asks_help(texts: &[String]) -> bool
+    ensures { result ≡ ask_for_help (map string_bytes texts.now) }
+{
+    match texts {
+        [word] => matches!(word.as_str(), "--help" | "-h"),
+        _ => false,
     }
 }
 

@@ -12,7 +12,7 @@ use Rattle.sd_command_line.specs.Commands.{command_named, operands_of}
 use Rattle.sd_command_line.specs.Words.{Argument, CommandOf, HelpOf, InputOf, NumberOf, Order, OutOf, VersionOf}
 use Rattle.sd_command_line.specs.Words.{arguments_from, before, command_in, counted, help_on, help_words, is_help}
 use Rattle.sd_command_line.specs.Words.{is_version, named_words, number, number_in, numbered, order_after, order_of}
-use Rattle.sd_command_line.specs.Words.{ordered, out_is_taken, version_words}
+use Rattle.sd_command_line.specs.Words.{asks_help, ordered, out_is_taken, version_words}
 use Rattle.sd_law_chain.proofs.Found.{one_value, unmet}
 
 -- a command makes sites or not
@@ -101,15 +101,18 @@ pub order_so : (words : List Bytes) (command : Command) (arguments : List Argume
     (command_in words ≡ Some command) × ((texts : List Bytes) × IsRead command texts arguments)
 unfolding named_words
 order_so [] command arguments e = absurd cc
-order_so (name ∷ texts) command arguments e = by_name (is_help name) (is_version name) e
+order_so (name ∷ texts) command arguments e = by_name (is_help name) (is_version name) (asks_help texts) e
   where
-    by_name : (help version : Bool) →
-        cond help (help_words texts) (cond version (version_words texts) (order_after (command_named name) texts))
+    by_name : (help version asks : Bool) →
+        cond help (help_words texts)
+        (cond version (version_words texts)
+        (cond asks (help_on (command_named name)) (order_after (command_named name) texts)))
         ≡ Ok (CommandOf command arguments) →
         (command_named name ≡ Some command) × ((texts : List Bytes) × IsRead command texts arguments)
-    by_name true version h = absurd (help_so texts command arguments h)
-    by_name false true h = absurd (version_so texts command arguments h)
-    by_name false false h =
+    by_name true version asks h = absurd (help_so texts command arguments h)
+    by_name false true asks h = absurd (version_so texts command arguments h)
+    by_name false false true h = absurd (no_help (command_named name) command arguments h)
+    by_name false false false h =
         let read = after_so (command_named name) command texts arguments h in
         (read.0, (texts, read.1))
 

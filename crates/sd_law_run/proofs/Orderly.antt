@@ -20,7 +20,7 @@ use Rattle.sd_command_line.specs.Words.{Argument, InputOf, OutOf, Order, Command
 use Rattle.sd_command_line.specs.Words.{before}
 use Rattle.sd_command_line.specs.Words.{out_text, or_output}
 use Rattle.sd_command_line.specs.Words.{argument_of, arguments_from, out_is_taken, ordered, command_words, order_after}
-use Rattle.sd_command_line.specs.Words.{is_help}
+use Rattle.sd_command_line.specs.Words.{asks_help, is_help}
 use Rattle.sd_command_line.specs.Words.{is_version, help_on, help_words, version_words, named_words, order_of}
 use Rattle.std.proofs.Common.{suc, length, slice_get, not, ◌==◌, ◌≤◌, ◌+◌, arith, eqb-true}
 use Rattle.sd_run.specs.Meaning.{order_meaning, meaning}
@@ -185,14 +185,14 @@ none_named words order none unmarked = record {
   mark = λ name e. absurd (let both = sym unmarked ∙ e in cc);
 }
 
+topic_names : (words : List (List ℕ)) (topic : Option Command) → NamesOut words (help_on topic)
+topic_names words None = tt
+topic_names words (Some topic) = none_named words (HelpOf (Some topic)) refl refl
+
 help_names : (name : List ℕ) (texts : List (List ℕ)) → NamesOut (name ∷ texts) (help_words texts)
 help_names name [] = none_named (name ∷ []) (HelpOf None) refl refl
 help_names name (word ∷ next ∷ words) = tt
-help_names name (word ∷ []) = by_topic (command_named word)
-  where
-    by_topic : (topic : Option Command) → NamesOut (name ∷ word ∷ []) (help_on topic)
-    by_topic None = tt
-    by_topic (Some topic) = none_named (name ∷ word ∷ []) (HelpOf (Some topic)) refl refl
+help_names name (word ∷ []) = topic_names (name ∷ word ∷ []) (command_named word)
 
 version_names : (name : List ℕ) (texts : List (List ℕ)) → NamesOut (name ∷ texts) (version_words texts)
 version_names name [] = none_named (name ∷ []) VersionOf refl refl
@@ -204,7 +204,8 @@ order_names [] = tt
 order_names (name ∷ texts) =
     names_if (is_help name) (name ∷ texts) (help_words texts) _ (help_names name texts)
     (names_if (is_version name) (name ∷ texts) (version_words texts) _ (version_names name texts)
-    (by_command (command_named name) refl))
+    (names_if (asks_help texts) (name ∷ texts) (help_on (command_named name)) _
+    (topic_names (name ∷ texts) (command_named name)) (by_command (command_named name) refl)))
   where
     by_command : (found : Option Command) → command_named name ≡ found →
         NamesOut (name ∷ texts) (order_after found texts)
