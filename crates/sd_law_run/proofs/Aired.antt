@@ -48,7 +48,7 @@ unfolding air_site_of_file newest_of
 air_site_good given word fields line good =
     ap (λ (got : Option Bytes). (air_site_of_file word.number got).result) good.there
     ∙ then_is (within word.number most_site_bytes SiteBytes (Some good.bytes)) good.bytes
-    (λ bytes. judged (told_air_site word.number (newest_of none_fewer bytes)))
+    (λ bytes. judged (told_air_site word.number bytes (newest_of none_fewer bytes)))
     (file_read word.number most_site_bytes SiteBytes good.bytes (site_fits good.bytes fields good.is_site))
     ∙ rw (
       site_said good.bytes fields good.is_site,
