@@ -1,5 +1,5 @@
 -- Public meaning: why an argument is refused, as a user reads it [this project, docs/FORMATS.md, Explanations].
-use Rattle.std.specs.Prelude.{ℕ, ◌-◌, ◌^◌, ◌==◌, if◌then◌else◌, List, ◌++◌, codes, length, take}
+use Rattle.std.specs.Prelude.{ℕ, ◌-◌, ◌^◌, ◌==◌, ◌&&◌, nat_le, if◌then◌else◌, List, ◌++◌, codes, length, take}
 use Rattle.std.specs.Prelude.{Option, Some, None}
 use Rattle.std.specs.Fmt.{decimal}
 use Rattle.sd_base.specs.Number.{decimal_value}
@@ -86,6 +86,10 @@ line_found k text wrong =
     ++ (if length (take text.length text.bytes) == 0 then codes " " ++ wrong
     else codes " is \"" ++ (quoted text ++ codes "\"")))
 
+-- a line, and what it must be
+unfoldable pub must_be : List ℕ → List ℕ → List ℕ
+must_be found form = found ++ (codes "; it must be " ++ form)
+
 -- what line k of a site is to be [this project, docs/FORMATS.md, Site]
 unfoldable pub site_form : ℕ → List ℕ
 site_form k =
@@ -118,9 +122,9 @@ range_form command k = site_form k
 -- why a site is refused by a command
 unfoldable pub site_reason : Option Command → SiteFault → Excerpt → List ℕ
 site_reason command (site.Line k) text =
-    line_found k text (codes "is malformed") ++ (codes "; it must be " ++ site_form k)
+    must_be (line_found k text (codes "is malformed")) (site_form k)
 site_reason command (site.Range k) text =
-    line_found k text (codes "is out of range") ++ (codes "; it must be " ++ range_form command k)
+    must_be (line_found k text (codes "is out of range")) (range_form command k)
 site_reason command site.SamePid text = codes "lines 4 and 5 have one PID; EMMs and ECMs need one each"
 site_reason command (site.Extra k) text =
     line_found k text (codes "is there") ++ codes ", which is one too many; a site has at most 13"
@@ -141,6 +145,13 @@ card_reason card.NoMemory = codes "memory ran out"
 unfoldable pub rule_of : Operand → List ℕ
 rule_of operand = operand_name operand ++ (codes " is " ++ meaning_of operand)
 
+-- the receivers of a tree of height d, if there is one
+unfoldable pub leaf_text : ℕ → List ℕ
+leaf_text d =
+    if nat_le 1 d && nat_le d 20 then
+    codes "receivers of height " ++ (decimal d ++ (codes " are 0 to " ++ decimal (2 ^ d - 1)))
+    else codes "its receiver is not in the tree"
+
 -- the rule that a line breaks, for a reader
 unfoldable pub cause_text : LineCause → List ℕ
 cause_text cause.ByteOrderMark = codes "it begins with a byte-order mark; save the file as plain ASCII"
@@ -154,8 +165,7 @@ cause_text cause.Space = codes "it has a space too many; one stands between word
 cause_text cause.Capital = codes "it has a capital letter; commands and names have none"
 cause_text cause.Form =
     codes "it is none of its lines; numbers are plain decimals, without sign, range or leading zero"
-cause_text (cause.Leaf d) =
-    codes "receivers of height " ++ (decimal d ++ (codes " are 0 to " ++ decimal (2 ^ d - 1)))
+cause_text (cause.Leaf d) = leaf_text d
 cause_text cause.Descends = codes "its receiver is not above that of the line before"
 cause_text cause.Unended = codes "its line feed is missing, so it may be cut off"
 cause_text (cause.Held leaf line) =
@@ -182,7 +192,7 @@ unfoldable pub trouble_reason : Trouble → List ℕ
 trouble_reason trouble.NoSpace = codes "no space is left on the device; what is there is a part of it"
 trouble_reason trouble.Denied = codes "permission denied"
 trouble_reason trouble.Folder = codes "it is a folder"
-trouble_reason trouble.Input = codes "it is one of the inputs, by another path"
+trouble_reason trouble.Input = codes "it is an input and the output, by two names"
 trouble_reason trouble.Gone = codes "its reader is gone"
 trouble_reason trouble.ReadOnly = codes "its file system is read-only"
 trouble_reason trouble.TooLarge = codes "it would be larger than is allowed (ulimit -f)"

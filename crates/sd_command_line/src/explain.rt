@@ -121,7 +121,8 @@ fn at_file(
     line: &CommandLine<'_>,
     trouble: Option<(&str, Trouble)>,
 ) -> Result<String, AllocError>
-    ensures { IfOk result (λ text. string_bytes text ≡ trouble_line (words_of line.now) (option_map (λ said. (said.0.now, said.1)) trouble.entry)) }
+    ensures { IfOk result (λ text. string_bytes text
+        ≡ trouble_line (words_of line.now) (option_map (λ said. (said.0.now, said.1)) trouble.entry)) }
 {
     let Some((name, trouble)) = trouble else {
         return Ok(String::new(alloc));
@@ -131,7 +132,8 @@ fn at_file(
         Some(argument) => about(alloc, argument, reason),
         None => {
             let name = escaped(alloc, name)?;
-            format!(in alloc; "sdca: {name}: {reason}\n")
+            let reason = format!(in alloc; "{name}: {reason}")?;
+            plain(alloc, reason.as_str())
         }
     }
 }

@@ -1,6 +1,8 @@
 ghost use Rattle.std.specs.Prelude.{◌≡◌, IfOk, string_bytes};
 ghost use Rattle.sd_command_line.specs.Reasons.{at_packet, book_limit_reason, card_reason, cause_text, clash_reason};
 ghost use Rattle.sd_command_line.specs.Reasons.{clear_cause, clear_reason, clear_refusal, gaps_reason, limit_reason};
+ghost use Rattle.sd_base.specs.Number.{decimal_value};
+ghost use Rattle.sd_command_line.specs.Reasons.{must_be as found_and_due, number_fault as wrong_number, leaf_text};
 ghost use Rattle.sd_command_line.specs.Reasons.{line_found, line_reason, mark_reason, miscounted_reason};
 ghost use Rattle.sd_command_line.specs.Reasons.{missing_reason, no_cat_reason, no_page_reason, out_reason};
 ghost use Rattle.sd_command_line.specs.Reasons.{output_reason, own_book_reason, range_form, range_reason};
@@ -16,6 +18,7 @@ use sd_engine::MOST_PACKETS;
 use sd_message::StreamFault;
 use sd_psi::ClearFault;
 use sd_site::{CardFault, SiteFault};
+use sd_tree::Height;
 use std::alloc::{AllocError, Global};
 
 /// Why a file isn't there.
@@ -113,6 +116,14 @@ fn line_found(alloc: Global, k: u32, text: &Excerpt, wrong: &str) -> Result<Stri
     format!(in alloc; "line {k} is \"{text}\"")
 }
 
+/// A line, and what it must be.
+#[tactic(auto, unfolding(crate::specs::Reasons::must_be))]
+fn must_be(alloc: Global, found: &str, form: &str) -> Result<String, AllocError>
+    ensures { IfOk result (λ text. string_bytes text ≡ found_and_due found.now form.now) }
+{
+    format!(in alloc; "{found}; it must be {form}")
+}
+
 /// What line k of a site is to be.
 #[tactic(auto, unfolding(crate::specs::Reasons::site_form))]
 fn site_form(k: u32) -> &'static str
@@ -168,13 +179,11 @@ pub(crate) fn site(
     match fault {
         SiteFault::Line(k) => {
             let found = line_found(alloc, k, text, "is malformed")?;
-            let form = site_form(k);
-            format!(in alloc; "{found}; it must be {form}")
+            must_be(alloc, found.as_str(), site_form(k))
         }
         SiteFault::Range(k) => {
             let found = line_found(alloc, k, text, "is out of range")?;
-            let form = range_form(command, k);
-            format!(in alloc; "{found}; it must be {form}")
+            must_be(alloc, found.as_str(), range_form(command, k))
         }
         SiteFault::SamePid => String::from_str(
             alloc,
@@ -252,12 +261,17 @@ fn cause(alloc: Global, cause: LineCause) -> Result<String, AllocError>
 }
 
 /// The receivers of a tree of this height.
-#[tactic(auto, unfolding(crate::specs::Reasons::cause_text))]
+#[tactic(auto, unfolding(crate::specs::Reasons::leaf_text))]
 fn leaf(alloc: Global, d: u8) -> Result<String, AllocError>
-    ensures { IfOk result (λ text. string_bytes text ≡ cause_text (LineCause.Leaf d)) }
+    ensures { IfOk result (λ text. string_bytes text ≡ leaf_text d) }
 {
-    let last = 2u32.pow(u32::from(d)) - 1;
-    format!(in alloc; "receivers of height {d} are 0 to {last}")
+    match Height::new(d) {
+        Some(height) => {
+            let last = height.leaves() - 1;
+            format!(in alloc; "receivers of height {d} are 0 to {last}")
+        }
+        None => String::from_str(alloc, "its receiver is not in the tree"),
+    }
 }
 
 /// Why a line of a file is refused.
@@ -276,10 +290,19 @@ pub(crate) fn line(alloc: Global, operand: Operand, line: &BadLine) -> Result<St
 pub(crate) fn range(alloc: Global, operand: Operand, text: &str) -> Result<String, AllocError>
     ensures { IfOk result (λ reason. string_bytes reason ≡ range_reason operand text.now) }
 {
+    let fault = number_fault(text);
     let rule = rule(alloc, operand)?;
+    format!(in alloc; "{fault}{rule}")
+}
+
+/// What is wrong with a number of this text.
+fn number_fault(text: &str) -> &'static str
+    ensures { result.now ≡ wrong_number (decimal_value text.now) }
+{
     match number_after(b"", text.as_bytes()) {
-        Err(NumberFault::Malformed) => format!(in alloc; "not a decimal number; {rule}"),
-        Ok(_) | Err(NumberFault::TooLarge) => format!(in alloc; "out of its range; {rule}"),
+        Err(NumberFault::Malformed) => "not a decimal number; ",
+        Err(NumberFault::TooLarge) => "out of its range; ",
+        Ok(_) => "out of its range; ",
     }
 }
 
@@ -292,7 +315,7 @@ pub(crate) fn trouble(trouble: Trouble) -> &'static str
         Trouble::NoSpace => "no space is left on the device; what is there is a part of it",
         Trouble::Denied => "permission denied",
         Trouble::Folder => "it is a folder",
-        Trouble::Input => "it is one of the inputs, by another path",
+        Trouble::Input => "it is an input and the output, by two names",
         Trouble::Gone => "its reader is gone",
         Trouble::ReadOnly => "its file system is read-only",
         Trouble::TooLarge => "it would be larger than is allowed (ulimit -f)",
