@@ -96,7 +96,12 @@ fn clash_word(clash: Clash) -> u8
 }
 
 /// The line of the argument of this number, if it is there.
-fn simple(alloc: Global, line: &CommandLine<'_>, word: u8, reason: &str) -> Result<String, AllocError>
+fn simple(
+    alloc: Global,
+    line: &CommandLine<'_>,
+    word: u8,
+    reason: &str,
+) -> Result<String, AllocError>
     ensures { IfOk result (λ text. string_bytes text
         ≡ of_argument (words_of line.now) word (λ operand. reason.now)) }
 {

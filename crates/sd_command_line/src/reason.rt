@@ -13,7 +13,9 @@ ghost use Rattle.sd_command_line.specs.Reasons.{unheard_reason, unknown_reason, 
 use crate::{Command, Operand};
 use sd_base::{NumberFault, number_after};
 use sd_book::BookLimit;
-use sd_command_base::{BadLine, Clash, Excerpt, LimitKind, LineCause, OutCause, StreamRefusal, Trouble, quoted};
+use sd_command_base::{
+    BadLine, Clash, Excerpt, LimitKind, LineCause, OutCause, StreamRefusal, Trouble, quoted,
+};
 use sd_engine::MOST_PACKETS;
 use sd_message::StreamFault;
 use sd_psi::ClearFault;
@@ -241,7 +243,8 @@ fn cause(alloc: Global, cause: LineCause) -> Result<String, AllocError>
         LineCause::Named(line) => {
             return format!(in alloc; "its receiver has a name since line {line}");
         }
-        LineCause::ByteOrderMark => "it begins with a byte-order mark; save the file as plain ASCII",
+        LineCause::ByteOrderMark =>
+            "it begins with a byte-order mark; save the file as plain ASCII",
         LineCause::NotText => "it has a byte that is no printable ASCII; is it the right file?",
         LineCause::Long => "it has more than 48 bytes, and no line of such a file has",
         LineCause::Empty => "it is empty",
@@ -397,9 +400,7 @@ fn stream_refused(refusal: StreamRefusal<StreamFault>) -> &'static str
     ensures { result.now ≡ stream_refused refusal }
 {
     match refusal {
-        StreamRefusal::Broken(_) => {
-            "no packet of 188 bytes begins there; off the air use watch"
-        }
+        StreamRefusal::Broken(_) => { "no packet of 188 bytes begins there; off the air use watch" }
         StreamRefusal::TooLong => "a stream has at most 281474976710656 packets",
         StreamRefusal::Packet(fault) => stream_cause(fault),
     }

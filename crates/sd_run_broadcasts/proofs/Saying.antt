@@ -42,8 +42,8 @@ all_of a b bytes p = (bytes, ([], append-nil bytes), p)
 -- reports, and then more
 more_reports : (plan : Plan) (first last : List ℕ) → AreReports plan first → AreReports plan last →
     AreReports plan (first ++ last)
-more_reports plan first .([]) f no_report = subst (AreReports plan) (sym (append-nil first)) f
-more_reports plan first .(bytes ++ piece) f (one_more bytes reports past skipped piece is) =
+more_reports plan first last f no_report = subst (AreReports plan) (sym (append-nil first)) f
+more_reports plan first last f (one_more bytes reports past skipped piece is) =
     subst (AreReports plan) (append_assoc first bytes piece)
     (one_more (first ++ bytes) (more_reports plan first bytes f reports) past skipped piece is)
 
@@ -85,11 +85,11 @@ head_silent site files a =
     }
 
 -- the bytes of a good result, and its site
-bytes_in : List ℕ → Result (List ℕ) Status → List ℕ
+abbrev bytes_in : List ℕ → Result (List ℕ) Status → List ℕ
 bytes_in other (Ok bytes) = bytes
 bytes_in other (Err status) = other
 
-site_in : SiteFields → Result (SiteFields × Option BookLine) Status → SiteFields
+abbrev site_in : SiteFields → Result (SiteFields × Option BookLine) Status → SiteFields
 site_in other (Ok said) = said.0
 site_in other (Err status) = other
 

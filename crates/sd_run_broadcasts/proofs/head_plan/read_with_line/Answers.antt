@@ -39,15 +39,14 @@ returns-in_err-site-clause-value g c =
 pub returns-clause-value : goal.returns-clause-value
 unfolding site_and_line_of_file
 returns-clause-value g c =
-    let said = (c.in_ok-site.site, c.in_ok-site.line, c.has_first_word.result) in
     let judged_alone = rw c.deref.ensures.value at c.in_ok-site.ensures in
     looks_judged (λ bytes. bytes.items) said_with (within c.args.word.number most_site_bytes SiteBytes)
     (λ bytes. with_line (book_line_of bytes) (told_site c.args.word.number bytes (site_of bytes))) c.args.word.text.now
     (depot_state g.D.Depot c.args.depot.now) (depot_state g.D.Depot c.read_bytes.new.depot) c.in_ok-bytes.bytes
-    (Ok said) c.in_ok-bytes.ensures
+    (Ok (c.in_ok-site.site, c.in_ok-site.line, c.has_first_word.result)) c.in_ok-bytes.ensures
     (alone_judges said_with (with_line (book_line_of c.in_ok-bytes.bytes.items)
-    (told_site c.args.word.number c.in_ok-bytes.bytes.items (site_of c.in_ok-bytes.bytes.items))) (Ok said)
-    judged_alone)
+    (told_site c.args.word.number c.in_ok-bytes.bytes.items (site_of c.in_ok-bytes.bytes.items)))
+    (Ok (c.in_ok-site.site, c.in_ok-site.line, c.has_first_word.result)) judged_alone)
 
 pub returns-clause-word : goal.returns-clause-word
 returns-clause-word g c =
