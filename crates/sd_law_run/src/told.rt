@@ -1,6 +1,6 @@
 //! What `status` and `show` tell: a card and a site are compared without a secret.
 
-ghost use Rattle.std.specs.Prelude.{◌≡◌, ◌<◌, ◌≤◌, ◌^◌, List, [], Some, IsSome, Ok};
+ghost use Rattle.std.specs.Prelude.{◌≡◌, ◌<◌, ◌≤◌, ◌^◌, List, Some, Ok};
 ghost use Rattle.std.specs.FinMap.{get};
 ghost use Rattle.sd_base.specs.Types.{Bytes, LeafNumber};
 ghost use Rattle.sd_ports.specs.Files.{Files};
