@@ -18,6 +18,8 @@ sdca() {
 is() { [ "$1" = "$2" ]; }
 same() { cmp -s "$1" "$2"; }
 mode() { stat -c %a "$1"; }
+# FILE..: their lines without those for a reader, which begin with `sdca: `.
+lines_of() { cat "$@" | grep -v '^sdca: '; }
 
 # COUNT FILE: the bytes of its first COUNT packets.
 first_packets() { head -c $((188 * $1)) "$2"; }
@@ -31,8 +33,8 @@ printf 'period\nrevoke 5\n' >B
 printf 'assign ann 5\nperiod\ndrop ann\n' >A
 : >N
 sdca sample 7 600 C
-sdca head S B C X
-sdca head S N C XN
+sdca head S B C X 2>err
+sdca head S N C XN 2>err
 sdca card S 0 K0
 sdca card S 5 K5
 sdca accounts S A BA >report
@@ -41,17 +43,17 @@ sums() { cksum S B A N C X K0 K5; }
 before=$(sums)
 
 # --- OUT is the standard output: a pipe
-"$program" head S B /dev/stdin /dev/stdout <C | "$program" receive K0 /dev/stdin /dev/stdout >got 2>err
+"$program" head S B /dev/stdin /dev/stdout <C 2>warned | "$program" receive K0 /dev/stdin /dev/stdout >got 2>err
 row "head into receive into a file, by /dev/stdout" same got C
 row "nothing is said" is "$(cat err)" ""
 "$program" head S B torn /dev/stdout 2>err | cat >got
-sdca head S B torn X9 >lines
+sdca head S B torn X9 >lines 2>warned
 row "a refusal's line doesn't go into a pipe that is OUT" same got X9
-row "it goes to the standard error" is "$(cat err)" "clear packet 299: torn"
+row "it goes to the standard error" is "$(lines_of err)" "clear packet 299: torn"
 "$program" receive K5 X /dev/fd/1 2>err | cat >got
 head -c 75200 C >due
 row "a receiver that is revoked, /dev/fd/1" same got due
-row "its line" is "$(cat err)" "receiver 5 is revoked in period 1"
+row "its line" is "$(lines_of err)" "receiver 5 is revoked in period 1"
 "$program" accounts S A /dev/stdout 2>err | cat >got
 row "accounts: the book alone goes into the pipe" same got BA
 row "accounts: the report goes to the standard error" same err report
@@ -70,7 +72,7 @@ row "accounts into a socket: the book alone" same got BA
 row "accounts into a socket: the report goes to the standard error" same err report
 
 python3 "$live" full "$program" head S N C /dev/stdout 2>err
-row "a full pipe in which no write waits: a device fault" is "$? $(cat err)" "4 device fault"
+row "a full pipe in which no write waits: a device fault" is "$? $(lines_of err)" "4 device fault"
 
 # --- OUT is the standard output: a regular file
 sdca card S 5 /dev/stdout >got 2>err
@@ -97,7 +99,7 @@ row ">>: what stood there is kept" same got due
 row "between two others that write to the same file" same got due
 sdca head S B torn /dev/stdout >got 2>err
 row "a refusal in the stream, into a file" same got X9
-row "its line" is "$(cat err)" "clear packet 299: torn"
+row "its line" is "$(lines_of err)" "clear packet 299: torn"
 
 # --- an input is the standard output's file
 cp X grow
@@ -108,7 +110,7 @@ cp S site
 sdca card site 8 K8 >>site 2>err
 row "a command whose site is the standard output: refused" is "$status" 4
 row "its site is as it was" same site S
-row "the line is on the standard error" is "$(cat err)" "device fault"
+row "the line is on the standard error" is "$(lines_of err)" "device fault"
 
 # --- a word that names no file may be the name of the standard output's file
 sdca card S 9 K9 >9 2>err
@@ -155,7 +157,7 @@ row "cover with lines to /dev/null: none on the standard error" is "$status $(ca
 sdca receive K5 X /dev/null >lines 2>err
 row "OUT is /dev/null: lines go to the standard output" is "$status $(cat lines)" "3 receiver 5 is revoked in period 1"
 row "/dev/null is a device still" test -c /dev/null
-sdca card S 5 /dev/full >lines
+sdca card S 5 /dev/full >lines 2>err
 row "/dev/full: a device fault" is "$status $(cat lines)" "4 device fault"
 sdca cover S B >/dev/full 2>err
 row "lines to /dev/full: exit 5" is "$status" 5
@@ -173,7 +175,7 @@ sdca card S 5 K
 row "a card is the owner's alone" is "$(mode K)" 600
 sdca lcard S 5 2 L
 row "so is a layer card" is "$(mode L)" 600
-sdca head S B C O
+sdca head S B C O 2>err
 row "a broadcast is as the umask says" is "$(mode O)" 644
 sdca receive K0 X R
 row "so are clear packets" is "$(mode R)" 644
@@ -184,7 +186,7 @@ sdca card S 5 K
 row "a file that was there keeps its mode" is "$(mode K)" 640
 rm -f O K L
 sdca card S 5 K
-(umask 077 && exec "$program" head S B C O)
+(umask 077 && exec "$program" head S B C O 2>err)
 row "umask 077" is "$(mode O)" 600
 (umask 0 && "$program" card S 5 K9 && exec "$program" lcard S 5 2 L9)
 row "umask 0: cards are the owner's alone still" is "$(mode K9) $(mode L9)" "600 600"
@@ -282,6 +284,17 @@ for words in "cover shut B" "card S 5 shut"; do
         continue
     fi
     row "$words: shut may not be opened" is "$(cat lines)" "device fault"
+    row "$words: what the machine says" test -n "$(grep 'shut: permission denied$' err)"
+done
+for pair in "cover loop B:SITE loop: its path is a loop of links, or too long" \
+    "cover folder B:SITE folder: it is a folder" \
+    "cover S folder:BOOK folder: it is a folder" "card S 5 folder:OUT folder: it is a folder" \
+    "card S 5 ./S:OUT ./S: it is one of the inputs, by another path" \
+    "card S 5 /dev/full:OUT /dev/full: no space is left on the device; what is there is a part of it"; do
+    # shellcheck disable=SC2086 # the words of a command
+    sdca ${pair%%:*} >lines 2>err
+    row "${pair%%:*}: what the machine says" is "$status $(cat lines err)" "4 device fault
+sdca: ${pair#*:}"
 done
 sdca cover S B >&- 2>err
 row "a closed standard output: exit 5" is "$status" 5
@@ -290,8 +303,10 @@ row "a closed standard output: OUT is whole" same K K5
 
 # --- what a refusal is to a user
 for pair in "cover S no:sdca: BOOK no: no such file" "card S 5 no/x:sdca: OUT no/x: no such folder" \
-    "card S 9 K:sdca: LEAF 9: not a decimal number in its range; LEAF is the receiver's number, from 0 to \
-2^height - 1" "cover B B:sdca: SITE B: line 1 is malformed" "receive S X K:sdca: CARD S: it is no card" \
+    "card S 9 K:sdca: LEAF 9: out of its range; LEAF is the receiver's number, from 0 to 2^height - 1" \
+    "card S x K:sdca: LEAF x: not a decimal number; LEAF is the receiver's number, from 0 to 2^height - 1" \
+    "cover B B:sdca: SITE B: line 1 is \"period\"; it must be height N, N from 1 to 20" \
+    "receive S X K:sdca: CARD S: it is no plain card; a layer card and any other file is none" \
     "cover S:sdca: cover: wrong number of arguments; see sdca help cover" \
     "card S 5 S:sdca: OUT S: it is one of the inputs" "frob:sdca: frob: unknown command; see sdca help" \
     "help frob:sdca: frob: unknown command; see sdca help"; do
@@ -315,7 +330,7 @@ for turn in 1 2 3; do
         if [ $ended = 2 ] && [ $turn != 3 ]; then
             missing="$missing $command"
         else
-            row "the example of help $command is done" is "$ended $(grep -v '^{"left"' err)" "0 "
+            row "the example of help $command is done" is "$ended $(lines_of err | grep -v '^{"left"')" "0 "
         fi
     done
     commands=$missing
@@ -328,8 +343,53 @@ done
     exec "$program" sample 7 600 big
 ) >lines 2>err
 row "a limit on file sizes, its signal ignored: exit 4" is "$?" 4
+row "what the machine says" is "$(cat err)" "sdca: OUT big: it would be larger than is allowed (ulimit -f)"
 head -c "$(wc -c <big)" C >due
 row "OUT is a prefix" same big due
+(
+    trap '' PIPE
+    "$program" head S N C /dev/stdout 2>err
+    echo "$?" >exits
+) | true
+row "the reader of OUT is gone, its signal ignored: exit 4" is "$(cat exits) $(lines_of err)" "4 device fault"
+row "what the machine says" is "$(tail -n 1 err)" "sdca: OUT /dev/stdout: its reader is gone"
+
+# --- `-` is the standard input or the standard output. An older program fails these rows
+"$program" head S B - - <C 2>warned | "$program" receive K0 - - >got 2>err
+row "head into receive into a file, by -" same got C
+row "nothing is said" is "$(cat err)" ""
+sdca card - 5 K <S
+row "a site by -" same K K5
+sdca accounts S A - >got 2>err
+row "accounts to -: the book alone" same got BA
+row "accounts to -: the report goes to the standard error" same err report
+cp S ./-
+rm -f K
+sdca card ./- 5 K <N
+row "./- is a file that is read" same K K5
+sdca card S 5 ./- >lines
+row "and a file that is made" same ./- K5
+rm ./-
+sdca card S - K >lines 2>err
+row "no number is -" is "$status $(cat lines)" "17 word 2 is out of range"
+sdca next shown/site-0.txt N 1000 - >lines 2>err
+row "no new site is -" is "$status $(cat lines)" "19 file word 4 does not follow file word 1"
+
+# --- help of a command, and the state of a receiver. An older program fails these rows
+for command in receive show; do
+    sdca help "$command" >due
+    for word in --help -h; do
+        sdca "$command" "$word" >got
+        row "$command $word is help $command" same got due
+    done
+done
+sdca status S B 5 >lines
+row "status of a receiver that is revoked in period 1" is "$status $(sed 1d lines)" "0 period 0 receiver 5 entitled
+period 1 receiver 5 revoked"
+row "its first line is the fingerprint that show prints for a card of the site" is "$(head -n 1 lines)" \
+    "master $("$program" show K0 | sed -n 's/.*"master":"\([0-9a-f]*\)".*/\1/p')"
+sed 's/^master 00/master 01/' S | "$program" status - B 5 >got
+row "another master has another one" test "$(head -n 1 got)" != "$(head -n 1 lines)"
 
 # --- chains of sites. An older program fails these rows
 mkdir chain
@@ -442,7 +502,7 @@ fi
 
 # --- a pipe that stays open: OUT has all that the packets known so far decide. An older program fails these rows
 row "head of 200 and 201 packets: 203 and 205 of the broadcast" is \
-    "$(python3 "$live" fed C O 200 201 -- "$program" head S N /dev/stdin O)" "$((188 * 203)) $((188 * 205))"
+    "$(python3 "$live" fed C O 200 201 -- "$program" head S N /dev/stdin O 2>err)" "$((188 * 203)) $((188 * 205))"
 row "head to the end" same O XN
 row "receive: nothing before ECM 1, then each stretch at the ECM behind it" is \
     "$(python3 "$live" fed XN R 203 204 407 608 -- "$program" receive K0 /dev/stdin R)" \
@@ -476,7 +536,7 @@ sdca receive K0 seam got >lines 2>err
 row "receive ends there" is "$status $(cat lines)" "10 stream packet 301: no sync"
 sdca watch K0 seam /dev/stdout >got 2>err
 row "OUT is the standard output: no line is among the packets" same got due
-row "the lines are on the standard error" is "$(wc -l <err) $(head -n 1 err)" "3 $turned"
+row "the lines are on the standard error" is "$(lines_of err | wc -l) $(head -n 1 err)" "3 $turned"
 sdca watch K0 seam got >/dev/full 2>err
 row "a line can't be printed: exit 5" is "$status" 5
 row "OUT has what was written before it" is "$(wc -c <got)" $((188 * 200))
@@ -628,11 +688,15 @@ if blind true 2>err; then
     row "accounts: OUT is the standard output and can't be known: the report doesn't lie over it" same unseen BA
     row "accounts: the report goes to the standard error" same err report
     blind "$program" receive K5 X R >lines 2>err
-    row "receive: its line goes to the standard error" is "$(cat lines err)" "receiver 5 is revoked in period 1"
+    row "receive: its line goes to the standard error" is "$(lines_of lines err)" "receiver 5 is revoked in period 1"
     row "receive: nothing is on the standard output" is "$(cat lines)" ""
     sdca cover S B >due
     blind "$program" cover S B >got 2>err
     row "no OUT: lines go to the standard output" same got due
+    # shellcheck disable=SC2016 # they are expanded there
+    unshare -rm sh -c 'mount -t tmpfs -o ro none folder && exec "$@"' sh "$program" card S 5 folder/K >lines 2>err
+    row "a file system that is read-only" is "$(cat lines err)" "device fault
+sdca: OUT folder/K: its file system is read-only"
 else
     left_out "a standard output that can't be looked at" "unshare -rm: $(cat err)"
 fi

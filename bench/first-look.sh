@@ -42,11 +42,14 @@ cover '' book.txt
 cover folder book.txt
 cover site.txt
 cover site.txt book.txt more
+status site.txt three-periods.txt 2
 
 no-such-command site.txt
 help
 help head
 help no-such-command
+cover --help
+cover -h
 accounts site.txt accounts.txt made
 accounts site.txt book.txt made
 accounts site.txt accounts.txt accounts.txt

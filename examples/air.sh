@@ -21,6 +21,7 @@ shift 3
 
 # Each start takes WORDS control words of the master, so whatever is sure to fail has to fail before.
 [ -e "$folder/site-0.txt" ] || fail 2 "there is no site-0.txt in $folder"
+[ "$out" != - ] || out=/dev/stdout
 [ -p "$out" ] || [ "$out" = /dev/stdout ] || : >>"$out" || fail 4 "$out can't be written"
 own=$(mktemp -d) || fail 4 "no folder can be made in ${TMPDIR:-/tmp}"
 mkfifo "$own/clear" || fail 4 "no pipe can be made in $own"

@@ -1,5 +1,6 @@
 #!/usr/bin/env python3
-"""exits.py: the texts of the exits, and the arguments of the commands, are the same in all places that have them.
+"""exits.py [--write]: the texts of the exits, and the arguments of the commands, are the same in all places that have
+them.
 
 The meaning of each exit has three places: help (sd_command_line, specs/Exits), the last column of the table in
 docs/FORMATS.md, and the manual page docs/sdca.1. A cell of the table begins with the text that help prints of a
@@ -8,11 +9,16 @@ help prints of other commands instead is quoted in docs/FORMATS.md. The printed 
 what it cites (sd_command_base, specs/Texts; EmmFaults and EcmFaults of sd_message), and the second column of the table.
 Each printed text is in the table, and the table has no other text. The arguments of a command have two places: the
 table of commands (sd_command_line, specs/Commands), and the comments of `Command` in src/command.rt, which the
-launcher reads. It prints what differs, and exits with 1 if something does."""
+launcher reads. The second lines, which explain exits on the standard error, are a table in docs/TROUBLESHOOTING.md:
+--write makes it of the definitions (tools/second_lines.py). It prints what differs, and exits with 1 if something
+does."""
 
 import os
 import re
 import sys
+
+sys.dont_write_bytecode = True
+import second_lines  # noqa: E402
 
 TOP = os.path.dirname(os.path.dirname(os.path.realpath(__file__)))
 HELP = "crates/sd_command_line/specs/Exits.antt"
@@ -26,6 +32,9 @@ LINES = [
 ]
 TABLE = "docs/FORMATS.md"
 MANUAL = "docs/sdca.1"
+# The page with the second lines, and the marks between which they are.
+READERS = "docs/TROUBLESHOOTING.md"
+MADE = re.compile(r"(?<=<!-- made by tools/exits.py --write -->\n).*?(?=<!-- end -->\n)", re.S)
 # What the table writes for a number, a digest or a text of another row.
 VARIABLE = re.compile(r"\b(?:[A-Z]|FORM|CAUSE|FOUND|DUE)\b")
 
@@ -115,9 +124,28 @@ def printed(table):
             yield f"{TABLE}: no line is printed with the text: {text}"
 
 
+def explained():
+    """What differs between the second lines and their table."""
+    found = MADE.search(read(READERS))
+    there, due = found[0].splitlines() if found else [], second_lines.markdown().splitlines()
+    yield from (f"{READERS}: another row is due (tools/exits.py --write): {row}" for row in due if row not in there)
+    yield from (f"{READERS}: no exit has this second line: {row}" for row in there if row not in due)
+    if sorted(there) == sorted(due) and there != due:
+        yield f"{READERS}: the rows have another order (tools/exits.py --write)"
+
+
+def write():
+    """Put the table of second lines into its page."""
+    page = MADE.sub(lambda found: second_lines.markdown(), read(READERS))
+    with open(f"{TOP}/{READERS}", "w", encoding="utf-8") as file:
+        file.write(page)
+
+
 def main():
+    if sys.argv[1:] == ["--write"]:
+        write()
     table = rows()
-    differing = [*meanings(table), *of_other_commands(), *printed(table), *arguments()]
+    differing = [*meanings(table), *of_other_commands(), *printed(table), *arguments(), *explained()]
     exits = len(of_help("Both"))
     print("\n".join(differing) or f"exits.py: the texts of {exits} exits and the arguments of commands agree")
     return 1 if differing else 0

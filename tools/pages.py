@@ -9,8 +9,9 @@ and `Names:` are names, each behind its crate, and each must be defined in that 
 repository must be named there, and each crate in the groups of docs/ARCHITECTURE.md. The picture of the crates must be
 that of tools/picture.py.
 
-README has at most README_LINES lines, all pages together WORDS words, a line of text COLUMNS columns, and a cell of a
-table in docs/ARCHITECTURE.md CELL characters. It prints what is wrong. Its last line is `N passed, M failed`."""
+README has at most README_LINES lines, all pages together WORDS words (but for what a tool made, between two marks), a
+line of text COLUMNS columns, and a cell of a table in docs/ARCHITECTURE.md CELL characters. It prints what is wrong.
+Its last line is `N passed, M failed`."""
 
 import glob
 import os
@@ -36,6 +37,7 @@ LINK = re.compile(r"(?<!!)\[[^\]]*\]\(([^)\s]+)\)")
 SECTION = re.compile(r"\b(?:docs/)?([A-Z]{4,})(?:\.md)?, (?=[A-Z])")
 TOP_FILE = re.compile(r"(?<![\w./])\./(sdca|install|quick-tests)\b")
 LABEL = re.compile(r"\b(Definitions|Contracts|Names): ")
+MADE = re.compile(r"<!-- made by .*? -->.*?<!-- end -->", re.S)
 LAW = re.compile(r"^pub fn (\w+)\(\)\s*\n(?:[ \t].*\n|\n)*?\{\}$", re.M)
 IN_SOURCE = re.compile(
     r"\bfn (\w+)|\b(?:struct|enum|trait|const|static|type|mod|macro_rules!) (\w+)|\bensures (\w+) *\{"
@@ -219,7 +221,7 @@ class Checks:
                     self.check(longest <= CELL, f"{page.path}:{number}", f"a cell has more than {CELL} characters")
         lines = len(self.pages[0].lines)
         self.check(lines <= README_LINES, "README.md", f"it has {lines} lines, more than {README_LINES}")
-        words = {page.path: len(page.text.split()) for page in self.pages}
+        words = {page.path: len(MADE.sub("", page.text).split()) for page in self.pages}
         said = ", ".join(f"{path} {count}" for path, count in words.items())
         total = sum(words.values())
         self.check(total <= WORDS, "the pages", f"they have {total} words, more than {WORDS}: {said}")

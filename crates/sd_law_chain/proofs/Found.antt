@@ -15,7 +15,7 @@ use Rattle.sd_book.specs.Text.{book_of}
 use Rattle.sd_command_base.specs.declared.status.Status.{Status}
 use Rattle.sd_command_base.specs.declared.status.LimitKind.{LimitKind}
 use Rattle.sd_command_base.specs.declared.status.LimitKind.TheVariants.{SiteBytes, BookBytes}
-use Rattle.sd_command_base.specs.declared.status.Status.TheVariants.{BadOut, BadSite, BadWord, BadBook, Limit, OtherBook}
+use Rattle.sd_command_base.specs.declared.status.Status.TheVariants.{BadOut, BadWord, BadBook, Limit, OtherBook}
 use Rattle.sd_command_base.specs.declared.status.OutCause.TheVariants.{Name}
 use Rattle.sd_site.specs.declared.site_fault.SiteFault.TheVariants.{Range}
 use Rattle.sd_book.specs.declared.fault.BookFault.{BookFault}
@@ -24,7 +24,9 @@ use Rattle.sd_command_base.specs.Spec.{Spec, FileArgument, Readings, and_then, j
 use Rattle.sd_command_base.specs.Shown.{NumberArgument}
 use Rattle.sd_command_base.specs.Work.{Work}
 use Rattle.sd_command_base.specs.Files.{begins_with_book, ends_lines, longer_book_of_file, most_book_bytes, most_site_bytes}
-use Rattle.sd_command_base.specs.Files.{told_book, told_longer, told_whole}
+use Rattle.sd_command_base.specs.Files.{refused_site, told_book, told_longer, told_whole}
+use Rattle.sd_command_base.specs.BadLines.{bad_line}
+use Rattle.sd_command_base.specs.declared.bad_line.LineCause.TheVariants.{Unended}
 use Rattle.sd_command_base.specs.Files.{BookText}
 use Rattle.sd_command_base.specs.Made.{NewFile, making_new, new_work, free}
 use Rattle.sd_run_books.specs.SiteNames.{follows}
@@ -100,12 +102,13 @@ pub record IsNewest (fewer : List ℕ → SiteFields → Bool) (most words : ℕ
   pub period : newest.0.first_period ≤ most
   pub room : newest.0.last_word + words ≤ most_word
 
-told_ok : (word most : ℕ) (words : NumberArgument) (said : Result (SiteFields × Option BookLine) SiteFault)
-    (newest : SiteFields × Option BookLine) → told_newest word most words said ≡ Ok newest →
+told_ok : (word : ℕ) (bytes : Bytes) (most : ℕ) (words : NumberArgument)
+    (said : Result (SiteFields × Option BookLine) SiteFault) (newest : SiteFields × Option BookLine) →
+    told_newest word bytes most words said ≡ Ok newest →
     (said ≡ Ok newest) × (newest.0.first_period ≤ most) × (newest.0.last_word + words.value ≤ most_word)
-told_ok word most words (Err fault) newest e = absurd cc
-told_ok word most words (Ok found) newest e =
-    let low = unmet (nat_lt most found.0.first_period) _ newest (BadSite word (Range 12)) e in
+told_ok word bytes most words (Err fault) newest e = absurd cc
+told_ok word bytes most words (Ok found) newest e =
+    let low = unmet (nat_lt most found.0.first_period) _ newest (refused_site word bytes (Range 12)) e in
     let room = test_ok (has_room words.value found.0) found newest (BadWord words.word) low.1 in
     let period : found.0.first_period ≤ most = grind (arith, nat_tests, low.0) in (
       ap Ok room.1,
@@ -120,8 +123,8 @@ newest_ok : (fewer : List ℕ → SiteFields → Bool) (word most : ℕ) (words 
 unfolding newest_of_file
 newest_ok fewer word most words got newest e =
     let (text, read, told) = then_ok (within word most_site_bytes SiteBytes got)
-    (λ bytes. judged (told_newest word most words (newest_of fewer bytes))) newest e in
-    let parts = told_ok word most words (newest_of fewer text) newest told in
+    (λ bytes. judged (told_newest word bytes most words (newest_of fewer bytes))) newest e in
+    let parts = told_ok word text most words (newest_of fewer text) newest told in
     record {
       text = text;
       there = (within_ok word most_site_bytes SiteBytes got text read).0;
@@ -138,10 +141,10 @@ pub record IsLonger (height : ℕ) (line : Option BookLine) (got : Option Bytes)
   pub ends : ends_lines book.bytes ≡ true
   pub is_book : book_of height book.bytes ≡ Ok book.commands
 
-pub book_ok : (word : ℕ) (said : Result (List Command) BookFault) (commands : List Command) →
-    told_book word said ≡ Ok commands → said ≡ Ok commands
-book_ok word (Ok found) commands e = ap Ok (one_value (Ok found) found commands refl e)
-book_ok word (Err fault) commands e = absurd cc
+pub book_ok : (word d : ℕ) (bytes : Bytes) (said : Result (List Command) BookFault) (commands : List Command) →
+    told_book word d bytes said ≡ Ok commands → said ≡ Ok commands
+book_ok word d bytes (Ok found) commands e = ap Ok (one_value (Ok found) found commands refl e)
+book_ok word d bytes (Err fault) commands e = absurd cc
 
 whole_ok : (word : ℕ) (bytes : Bytes) (said : Result (List Command) Status) (book : BookText) →
     told_whole word bytes said ≡ Ok book →
@@ -149,7 +152,7 @@ whole_ok : (word : ℕ) (bytes : Bytes) (said : Result (List Command) Status) (b
 whole_ok word bytes (Err status) book e = absurd cc
 whole_ok word bytes (Ok commands) book e =
     let parts = test_ok (ends_lines bytes) (record { bytes = bytes; commands = commands }) book
-    (BadBook word (length commands)) e in
+    (BadBook word (bad_line Unended (length commands) bytes)) e in
     (ap (λ (b : BookText). Ok b.commands) parts.1, ap (λ (b : BookText). b.bytes) (sym parts.1), parts.0)
 
 longer_ok : (word height : ℕ) (line : Option BookLine) (got : Option Bytes) (book : BookText) →
@@ -159,10 +162,10 @@ longer_ok word height line got book e =
     let (bytes, read, told) = then_ok (within word most_book_bytes BookBytes got)
     (λ bytes. judged (told_longer word height line bytes)) book e in
     let file = within_ok word most_book_bytes BookBytes got bytes read in
-    let begins = met (begins_with_book line bytes) (told_whole word bytes (told_book word (book_of height bytes))) book
-    OtherBook told in
-    let whole = whole_ok word bytes (told_book word (book_of height bytes)) book begins.1 in
-    let commands = book_ok word (book_of height bytes) book.commands whole.0 in
+    let begins = met (begins_with_book line bytes) (told_whole word bytes (told_book word height bytes (book_of height bytes)))
+    book OtherBook told in
+    let whole = whole_ok word bytes (told_book word height bytes (book_of height bytes)) book begins.1 in
+    let commands = book_ok word height bytes (book_of height bytes) book.commands whole.0 in
     record {
       there = rw whole.1 file.0;
       size = rw whole.1 file.1;

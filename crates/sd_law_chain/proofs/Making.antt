@@ -20,12 +20,14 @@ use Rattle.sd_site.specs.declared.site_fault.SiteFault.{SiteFault}
 use Rattle.sd_book.specs.declared.command.Command.{Command}
 use Rattle.sd_book.specs.Text.{book_of}
 use Rattle.sd_command_base.specs.declared.status.Status.{Status}
-use Rattle.sd_command_base.specs.declared.status.Status.TheVariants.{BadBook, BadOut, BadSite, BadWord, Limit, OtherBook}
+use Rattle.sd_command_base.specs.declared.status.Status.TheVariants.{BadBook, BadOut, BadWord, Limit, OtherBook}
 use Rattle.sd_command_base.specs.declared.status.OutCause.TheVariants.{Name}
 use Rattle.sd_command_base.specs.declared.status.LimitKind.TheVariants.{BookBytes, SiteBytes}
 use Rattle.sd_site.specs.declared.site_fault.SiteFault.TheVariants.{Range, Short}
 use Rattle.sd_command_base.specs.Files.{BookText, begins_with_book, ends_lines, longer_book_of_file, most_book_bytes}
-use Rattle.sd_command_base.specs.Files.{most_site_bytes, told_book, told_longer, told_whole}
+use Rattle.sd_command_base.specs.Files.{most_site_bytes, refused_site, told_book, told_longer, told_whole}
+use Rattle.sd_command_base.specs.BadLines.{bad_line}
+use Rattle.sd_command_base.specs.declared.bad_line.LineCause.TheVariants.{Unended}
 use Rattle.sd_command_base.specs.Made.{NewFile, making_new, new_work}
 use Rattle.sd_command_base.specs.Shown.{NumberArgument}
 use Rattle.sd_command_base.specs.Spec.{FileArgument, Readings, Spec, and_then, judged, value, ◌>>=◌}
@@ -53,12 +55,12 @@ pub within_back : (most : ℕ) (status : Status) (bytes : List ℕ) → length b
 within_back most status bytes short =
     ap (λ (t : Bool). cond t (Err status) (Ok bytes)) (not_above most (length bytes) short)
 
-told_back : (word most : ℕ) (words : NumberArgument) (said : SiteFields × Option BookLine) →
+told_back : (word : ℕ) (bytes : Bytes) (most : ℕ) (words : NumberArgument) (said : SiteFields × Option BookLine) →
     said.0.first_period ≤ most → said.0.last_word + words.value ≤ most_word →
-    told_newest word most words (Ok said) ≡ Ok said
-told_back word most words said low left =
+    told_newest word bytes most words (Ok said) ≡ Ok said
+told_back word bytes most words said low left =
     let room : has_room words.value said.0 ≡ true = grind (arith, nat_tests, left) in
-    ap (λ (t : Bool). cond t (Err (BadSite word (Range 12))) (cond (has_room words.value said.0) (Ok said)
+    ap (λ (t : Bool). cond t (Err (refused_site word bytes (Range 12))) (cond (has_room words.value said.0) (Ok said)
     (Err (BadWord words.word)))) (not_above most said.0.first_period low)
     ∙ ap (λ (t : Bool). cond t (Ok said) (Err (BadWord words.word))) room
 
@@ -70,10 +72,10 @@ newest_back : (fewer : List ℕ → SiteFields → Bool) (word most : ℕ) (word
 unfolding newest_of_file
 newest_back fewer word most words bytes said short says low left =
     ok_then 2 (cond (nat_lt most_site_bytes (length bytes)) (Err (Limit SiteBytes)) (Ok bytes))
-    (λ text. judged (told_newest word most words (newest_of fewer text))) bytes
+    (λ text. judged (told_newest word text most words (newest_of fewer text))) bytes
     (within_back most_site_bytes (Limit SiteBytes) bytes short)
-    ∙ ap (told_newest word most words) says
-    ∙ told_back word most words said low left
+    ∙ ap (told_newest word bytes most words) says
+    ∙ told_back word bytes most words said low left
 
 -- what the file of BOOK gives
 longer_back : (word d : ℕ) (line : Option BookLine) (bytes : Bytes) (commands : List Command) →
@@ -85,10 +87,10 @@ longer_back word d line bytes commands size begins book ends =
     ok_then 2 (cond (nat_lt most_book_bytes (length bytes)) (Err (Limit BookBytes)) (Ok bytes))
     (λ read. judged (told_longer word d line read)) bytes
     (within_back most_book_bytes (Limit BookBytes) bytes size)
-    ∙ ap (λ (t : Bool). cond t (told_whole word bytes (told_book word (book_of d bytes))) (Err OtherBook)) begins
-    ∙ ap (λ found. told_whole word bytes (told_book word found)) book
+    ∙ ap (λ (t : Bool). cond t (told_whole word bytes (told_book word d bytes (book_of d bytes))) (Err OtherBook)) begins
+    ∙ ap (λ found. told_whole word bytes (told_book word d bytes found)) book
     ∙ ap (λ (t : Bool). cond t (Ok (record { bytes = bytes; commands = commands }))
-    (Err (BadBook word (length commands)))) ends
+    (Err (BadBook word (bad_line Unended (length commands) bytes)))) ends
 
 -- what `next` asks of the first bytes of BOOK
 abbrev IsOwn : Bytes → Bytes → Type 0

@@ -46,8 +46,8 @@ own_ok link word bytes commands h =
     let own : told_own word link.site.height line bytes ≡ Ok commands =
     ap (told_own word link.site.height line) (sym same) ∙ told in
     let parts = met ((length bytes == length link.book) && bytes_eq (sha256 bytes) (sha256 link.book))
-    (told_book word (book_of link.site.height bytes)) commands OtherBook own in
-    let book = book_ok word (book_of link.site.height bytes) commands parts.1 in
+    (told_book word link.site.height bytes (book_of link.site.height bytes)) commands OtherBook own in
+    let book = book_ok word link.site.height bytes (book_of link.site.height bytes) commands parts.1 in
     let said = commands_are link.site.height bytes commands book in (
       subst (λ (b : Bytes). length b ≤ most_book_bytes) same size,
       same_like link.book bytes parts.0,
@@ -64,9 +64,9 @@ own_back link word bytes commands size like book same =
     ok_then 2 (cond (nat_lt most_book_bytes (length bytes)) (Err (Limit BookBytes)) (Ok bytes))
     (λ read. judged (told_own word link.site.height (Some (line_of link.book)) read)) bytes
     (within_back most_book_bytes (Limit BookBytes) bytes size)
-    ∙ ap (λ (t : Bool). cond t (told_book word (book_of link.site.height bytes)) (Err OtherBook))
+    ∙ ap (λ (t : Bool). cond t (told_book word link.site.height bytes (book_of link.site.height bytes)) (Err OtherBook))
     (like_same link.book bytes like)
-    ∙ ap (told_book word) book
+    ∙ ap (told_book word link.site.height bytes) book
     ∙ ap Ok (sym same)
 
 pub own_exactly : (link : Link) (word : ℕ) (bytes : Bytes) (commands : List Command) →

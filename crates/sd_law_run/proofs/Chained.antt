@@ -43,7 +43,7 @@ unfolding newest_of_file newest_of
 newest_good fewer given word most words fields good whole low left =
     ap (λ (got : Option (List ℕ)). (newest_of_file fewer word.number most words got).result) good.there
     ∙ then_is (within word.number most_site_bytes SiteBytes (Some good.bytes)) good.bytes
-    (λ bytes. judged (told_newest word.number most words (newest_of fewer bytes)))
+    (λ bytes. judged (told_newest word.number bytes most words (newest_of fewer bytes)))
     (file_read word.number most_site_bytes SiteBytes good.bytes (site_fits good.bytes fields good.is_site))
     ∙ rw (
       site_said good.bytes fields good.is_site,

@@ -21,6 +21,9 @@ use Rattle.sd_book.specs.Text.{book_of}
 use Rattle.sd_command_base.specs.declared.status.Status.{Status}
 use Rattle.sd_command_base.specs.declared.status.Status.TheVariants.{BadBook, BadOut, BadSite, BadWord, Limit}
 use Rattle.sd_command_base.specs.declared.status.Status.TheVariants.{OtherBook}
+use Rattle.sd_command_base.specs.declared.bad_line.Excerpt.{Excerpt}
+use Rattle.sd_command_base.specs.declared.bad_line.LineCause.TheVariants.{Unended}
+use Rattle.sd_command_base.specs.BadLines.{bad_line}
 use Rattle.sd_command_base.specs.declared.status.LimitKind.{LimitKind}
 use Rattle.sd_command_base.specs.declared.status.LimitKind.TheVariants.{BookBytes, SiteBytes}
 use Rattle.sd_command_base.specs.declared.status.OutCause.TheVariants.{Name}
@@ -28,7 +31,7 @@ use Rattle.sd_command_base.specs.Spec.{FileArgument, Readings, Spec, and_then, c
 use Rattle.sd_command_base.specs.Spec.{◌>>=◌}
 use Rattle.sd_command_base.specs.Shown.{NumberArgument}
 use Rattle.sd_command_base.specs.Files.{begins_with_book, ends_lines, longer_book_of_file, most_book_bytes}
-use Rattle.sd_command_base.specs.Files.{most_site_bytes, refused_book, told_book, told_longer, told_whole}
+use Rattle.sd_command_base.specs.Files.{most_site_bytes, refused_book, refused_site, told_book, told_longer, told_whole}
 use Rattle.sd_command_base.specs.Made.{NewFile, making_new}
 use Rattle.sd_command_line.specs.Words.{NextOf, order_of}
 use Rattle.sd_run.specs.Meaning.{meaning}
@@ -51,7 +54,7 @@ use Rattle.sd_law_chain.proofs.Found.{within_ok}
 
 -- a status says nothing of the file of SITE, but that line 12 is out of range
 abbrev IsClean : Status → Type 0
-IsClean status = (word : ℕ) (fault : SiteFault) → status ≡ BadSite word fault → fault ≡ Range 12
+IsClean status = (word : ℕ) (fault : SiteFault) (text : Excerpt) → status ≡ BadSite word fault text → fault ≡ Range 12
 
 -- so it is of a result
 abbrev IsCleared : {A : Type 0} → Result A Status → Type 0
@@ -81,23 +84,24 @@ if_cleared false status r clean rest = clean
 
 -- of a file within a limit
 within_cleared : (word most : ℕ) (kind : LimitKind) (got : Option Bytes) → IsCleared (within word most kind got).result
-within_cleared word most kind None = λ w f e. absurd cc
+within_cleared word most kind None = λ w f t e. absurd cc
 within_cleared word most kind (Some bytes) =
-    unless_cleared (nat_lt most (length bytes)) (Limit kind) (Ok bytes) (λ w f e. absurd cc) tt
+    unless_cleared (nat_lt most (length bytes)) (Limit kind) (Ok bytes) (λ w f t e. absurd cc) tt
 
 -- of a book
-refused_clean : (word : ℕ) (fault : BookFault) → IsClean (refused_book word fault)
-refused_clean word (book.Line k) = λ w f e. absurd cc
-refused_clean word (book.Leaf k) = λ w f e. absurd cc
-refused_clean word (book.Limit limit) = λ w f e. absurd cc
-refused_clean word book.NoMemory = λ w f e. absurd cc
+refused_clean : (word d : ℕ) (bytes : Bytes) (fault : BookFault) → IsClean (refused_book word d bytes fault)
+refused_clean word d bytes (book.Line k) = λ w f t e. absurd cc
+refused_clean word d bytes (book.Leaf k) = λ w f t e. absurd cc
+refused_clean word d bytes (book.Limit limit) = λ w f t e. absurd cc
+refused_clean word d bytes book.NoMemory = λ w f t e. absurd cc
 
-whole_cleared : (word : ℕ) (bytes : Bytes) (said : Result (List Command) BookFault) →
-    IsCleared (told_whole word bytes (told_book word said))
-whole_cleared word bytes (Err fault) = refused_clean word fault
-whole_cleared word bytes (Ok commands) =
-    if_cleared (ends_lines bytes) (BadBook word (length commands)) (Ok (record { bytes = bytes; commands = commands }))
-    (λ w f e. absurd cc) tt
+whole_cleared : (word d : ℕ) (bytes : Bytes) (said : Result (List Command) BookFault) →
+    IsCleared (told_whole word bytes (told_book word d bytes said))
+whole_cleared word d bytes (Err fault) = refused_clean word d bytes fault
+whole_cleared word d bytes (Ok commands) =
+    if_cleared (ends_lines bytes) (BadBook word (bad_line Unended (length commands) bytes))
+    (Ok (record { bytes = bytes; commands = commands }))
+    (λ w f t e. absurd cc) tt
 
 longer_cleared : (word height : ℕ) (line : Option BookLine) (got : Option Bytes) →
     IsCleared (longer_book_of_file word height line got).result
@@ -106,34 +110,35 @@ longer_cleared word height line got =
     then_cleared (within word most_book_bytes BookBytes got) (λ bytes. judged (told_longer word height line bytes))
     (within_cleared word most_book_bytes BookBytes got)
     (λ bytes read. if_cleared (begins_with_book line bytes) OtherBook
-    (told_whole word bytes (told_book word (book_of height bytes))) (λ w f e. absurd cc)
-    (whole_cleared word bytes (book_of height bytes)))
+    (told_whole word bytes (told_book word height bytes (book_of height bytes))) (λ w f t e. absurd cc)
+    (whole_cleared word height bytes (book_of height bytes)))
 
 -- of a name and of a new file
 name_cleared : (site out : FileArgument) → IsCleared (told_name site out)
 name_cleared site out =
-    if_cleared (follows site.text out.text) (BadOut out.number Name) (Ok tt) (λ w f e. absurd cc) tt
+    if_cleared (follows site.text out.text) (BadOut out.number Name) (Ok tt) (λ w f t e. absurd cc) tt
 
 new_cleared : (made : NewFile) (out : FileArgument) (got : Option Bytes) → IsCleared (making_new made out got).result
 new_cleared made out None = tt
-new_cleared made out (Some bytes) = λ w f e. absurd cc
+new_cleared made out (Some bytes) = λ w f t e. absurd cc
 
 -- of a site that is good
-told_cleared : (word most : ℕ) (words : NumberArgument) (said : Result (SiteFields × Option BookLine) SiteFault)
-    (newest : SiteFields × Option BookLine) → said ≡ Ok newest → IsCleared (told_newest word most words said)
-told_cleared word most words (Err fault) newest e = absurd cc
-told_cleared word most words (Ok found) newest e =
-    unless_cleared (nat_lt most found.0.first_period) (BadSite word (Range 12)) _ (λ w f same. cc)
-    (if_cleared (has_room words.value found.0) (BadWord words.word) (Ok found) (λ w f same. absurd cc) tt)
+told_cleared : (word : ℕ) (bytes : Bytes) (most : ℕ) (words : NumberArgument)
+    (said : Result (SiteFields × Option BookLine) SiteFault) (newest : SiteFields × Option BookLine) → said ≡ Ok newest →
+    IsCleared (told_newest word bytes most words said)
+told_cleared word bytes most words (Err fault) newest e = absurd cc
+told_cleared word bytes most words (Ok found) newest e =
+    unless_cleared (nat_lt most found.0.first_period) (refused_site word bytes (Range 12)) _ (λ w f t same. cc)
+    (if_cleared (has_room words.value found.0) (BadWord words.word) (Ok found) (λ w f t same. absurd cc) tt)
 
 newest_cleared : (word most : ℕ) (words : NumberArgument) (text : Bytes) (newest : SiteFields × Option BookLine) →
     newest_of is_first text ≡ Ok newest → IsCleared (newest_of_file is_first word most words (Some text)).result
 unfolding newest_of_file
 newest_cleared word most words text newest says =
     then_cleared (within word most_site_bytes SiteBytes (Some text))
-    (λ bytes. judged (told_newest word most words (newest_of is_first bytes)))
+    (λ bytes. judged (told_newest word bytes most words (newest_of is_first bytes)))
     (within_cleared word most_site_bytes SiteBytes (Some text))
-    (λ bytes read. told_cleared word most words (newest_of is_first bytes) newest
+    (λ bytes read. told_cleared word bytes most words (newest_of is_first bytes) newest
     (ap (newest_of is_first)
     (sym (same_Some text bytes (within_ok word most_site_bytes SiteBytes (Some text) bytes read).0))
     ∙ says))
@@ -154,10 +159,10 @@ next_cleared site book words out given text newest there says =
     (longer_cleared book.number found.0.height found.1 (given book)) (λ longer is_longer. tt)))
     (λ origin is_origin. new_cleared (next_made origin words.value) out (given out)))
 
-cleared_is : {A : Type 0} (r : Result A Status) (word : ℕ) (fault : SiteFault) → IsCleared r →
-    r ≡ Err (BadSite word fault) → fault ≡ Range 12
-cleared_is (Ok x) word fault clear e = absurd cc
-cleared_is (Err status) word fault clear e = clear word fault cc
+cleared_is : {A : Type 0} (r : Result A Status) (word : ℕ) (fault : SiteFault) (text : Excerpt) → IsCleared r →
+    r ≡ Err (BadSite word fault text) → fault ≡ Range 12
+cleared_is (Ok x) word fault text clear e = absurd cc
+cleared_is (Err status) word fault text clear e = clear word fault text cc
 
 -- the sites of a chain are read
 site_there : (files : Files) (name : FileName) (root : Link) (calls : List Call) (above : Option Bytes) (i : ℕ) →
@@ -183,13 +188,13 @@ site_there files name root calls above (suc k) holds low =
 -- `next` from a site of a chain has no fault of its file, but that line 12 is out of range
 pub chain_cleared : (words : List Bytes) (files : Files) (name : FileName) (root : Link) (calls : List Call)
     (above : Option Bytes) (i : ℕ) (site book : FileArgument) (count : NumberArgument) (out : FileArgument) (word : ℕ)
-    (fault : SiteFault) → HoldsChain files name root calls above → i ≤ length calls →
+    (fault : SiteFault) (shown : Excerpt) → HoldsChain files name root calls above → i ≤ length calls →
     order_of words ≡ Ok (NextOf site book count out) → site.text ≡ name_at name i →
-    (meaning words (contents_of files)).result ≡ Err (BadSite word fault) → fault ≡ Range 12
-chain_cleared words files name root calls above i site book count out word fault holds low order at refused =
+    (meaning words (contents_of files)).result ≡ Err (BadSite word fault shown) → fault ≡ Range 12
+chain_cleared words files name root calls above i site book count out word fault shown holds low order at refused =
     let (text, there, (newest, says)) = site_there files name root calls above i holds low in
     let clear = next_cleared site book count out (contents_of files) text newest (ap (get files) at ∙ there) says in
-    cleared_is (next_meaning site book count out (contents_of files)).result word fault clear
+    cleared_is (next_meaning site book count out (contents_of files)).result word fault shown clear
     (sym (meant_so words (NextOf site book count out) (contents_of files) order) ∙ refused)
 
 -- a torn site is refused
@@ -214,19 +219,19 @@ then_refused {A} {B} first next status e = ap (λ (r : Result A Status). (and_th
 -- a site that is no good is refused
 site_refused : (word most : ℕ) (words : NumberArgument) (text : Bytes) (fault : SiteFault) → length text ≤ 4096 →
     newest_of is_first text ≡ Err fault →
-    (newest_of_file is_first word most words (Some text)).result ≡ Err (BadSite word fault)
+    (newest_of_file is_first word most words (Some text)).result ≡ Err (refused_site word text fault)
 unfolding newest_of_file
 site_refused word most words text fault short bad =
     then_value (within word most_site_bytes SiteBytes (Some text))
-    (λ bytes. judged (told_newest word most words (newest_of is_first bytes))) text
+    (λ bytes. judged (told_newest word bytes most words (newest_of is_first bytes))) text
     (ap (λ (b : Bool). cond b (Err (Limit SiteBytes)) (Ok text)) (le-ltb _ _ short))
-    ∙ ap (told_newest word most words) bad
+    ∙ ap (told_newest word text most words) bad
 
 -- by `next`
 next_refused : (site book : FileArgument) (words : NumberArgument) (out : FileArgument) (given : Readings)
     (text : Bytes) (fault : SiteFault) → given site ≡ Some text → length text ≤ 4096 →
     follows site.text out.text ≡ true → newest_of is_first text ≡ Err fault →
-    (next_meaning site book words out given).result ≡ Err (BadSite site.number fault)
+    (next_meaning site book words out given).result ≡ Err (refused_site site.number text fault)
 unfolding next_meaning origin_of_files
 next_refused site book words out given text fault there short follow bad =
     let read = ap (λ (got : Option Bytes).
@@ -235,16 +240,16 @@ next_refused site book words out given text fault there short follow bad =
     then_value (judged (told_name site out)) _ tt
     (ap (λ (b : Bool). cond b (Ok tt) (Err (BadOut out.number Name))) follow)
     ∙ then_refused (origin_of_files site.number book.number words (given site) (given book)) _
-    (BadSite site.number fault)
+    (refused_site site.number text fault)
     (then_refused (newest_of_file is_first site.number (most_word - 1) words (given site)) _
-    (BadSite site.number fault) read)
+    (refused_site site.number text fault) read)
 
 pub torn_refused : (words : List Bytes) (files : Files) (name : FileName) (root : Link) (calls : List Call)
-    (site book : FileArgument) (count : NumberArgument) (out : FileArgument) → IsTorn files name root calls →
-    order_of words ≡ Ok (NextOf site book count out) → site.text ≡ name_at name (length calls + 1) →
-    follows site.text out.text ≡ true →
+    (site book : FileArgument) (count : NumberArgument) (out : FileArgument) →
+    (is : IsTorn files name root calls) → order_of words ≡ Ok (NextOf site book count out) →
+    site.text ≡ name_at name (length calls + 1) → follows site.text out.text ≡ true →
     (fault : SiteFault) × (fault ≢ Range 12)
-    × ((meaning words (contents_of files)).result ≡ Err (BadSite site.number fault))
+    × ((meaning words (contents_of files)).result ≡ Err (refused_site site.number is.torn fault))
 torn_refused words files name root calls site book count out is order at follow =
     let made = made_by (link_at root calls (length calls)) is.call in
     let sayable = (made_sayable root calls is.call is.holds.is_chain is.taken).0 in

@@ -68,9 +68,9 @@ unfolding site_of_file
 site_good given word fields good =
     ap (λ (got : Option (List ℕ)). (site_of_file word.number got).result) good.there
     ∙ then_is (within word.number most_site_bytes SiteBytes (Some good.bytes)) good.bytes
-    (λ bytes. judged (told_site word.number (site_of bytes)))
+    (λ bytes. judged (told_site word.number bytes (site_of bytes)))
     (file_read word.number most_site_bytes SiteBytes good.bytes (site_fits good.bytes fields good.is_site))
-    ∙ ap (told_site word.number) (site_said good.bytes fields good.is_site)
+    ∙ ap (told_site word.number good.bytes) (site_said good.bytes fields good.is_site)
 
 pub book_good : (given : Readings) (d : ℕ) (word : FileArgument) (commands : List Command) → d ≤ 20 →
     IsGoodBook (given word) d commands → (book_in given d word).result ≡ Ok commands
@@ -78,10 +78,10 @@ unfolding book_of_file
 book_good given d word commands low good =
     ap (λ (got : Option (List ℕ)). (book_of_file word.number d got).result) good.there
     ∙ then_is (within word.number most_book_bytes BookBytes (Some good.bytes)) good.bytes
-    (λ bytes. judged (told_book word.number (book_of d bytes)))
+    (λ bytes. judged (told_book word.number d bytes (book_of d bytes)))
     (file_read word.number most_book_bytes BookBytes good.bytes
     (book_fits d good.bytes commands low good.is_book good.within))
-    ∙ ap (told_book word.number) (book_again d good.bytes commands good.is_book good.within)
+    ∙ ap (told_book word.number d good.bytes) (book_again d good.bytes commands good.is_book good.within)
 
 -- a site and its book are read
 pub both_good : (given : Readings) (site book : FileArgument) (fields : SiteFields) (commands : List Command) →
@@ -149,9 +149,9 @@ unfolding site_and_line_of_file
 said_good given word fields good =
     ap (λ (got : Option (List ℕ)). (site_and_line_of_file word.number got).result) good.there
     ∙ then_is (within word.number most_site_bytes SiteBytes (Some good.bytes)) good.bytes
-    (λ bytes. judged (with_line (book_line_of bytes) (told_site word.number (site_of bytes))))
+    (λ bytes. judged (with_line (book_line_of bytes) (told_site word.number bytes (site_of bytes))))
     (file_read word.number most_site_bytes SiteBytes good.bytes (site_fits good.bytes fields good.is_site))
-    ∙ ap (λ r. with_line (book_line_of good.bytes) (told_site word.number r))
+    ∙ ap (λ r. with_line (book_line_of good.bytes) (told_site word.number good.bytes r))
     (site_said good.bytes fields good.is_site)
 
 -- and its own book
@@ -165,8 +165,8 @@ own_good given d word line commands low good own =
     (λ bytes. judged (told_own word.number d line bytes))
     (file_read word.number most_book_bytes BookBytes good.bytes
     (book_fits d good.bytes commands low good.is_book good.within))
-    ∙ ap (λ b. cond b (told_book word.number (book_of d good.bytes)) (Err OtherBook)) own
-    ∙ ap (told_book word.number) (book_again d good.bytes commands good.is_book good.within)
+    ∙ ap (λ b. cond b (told_book word.number d good.bytes (book_of d good.bytes)) (Err OtherBook)) own
+    ∙ ap (told_book word.number d good.bytes) (book_again d good.bytes commands good.is_book good.within)
 
 pub plan_good : (given : Readings) (site book : FileArgument) (fields : SiteFields) (commands : List Command) →
     (good_site : IsGoodSite (given site) fields) →

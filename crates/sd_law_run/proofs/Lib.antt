@@ -43,3 +43,5 @@ pub mod WatchedWhole
 pub mod AirPackets
 pub mod Aired
 pub mod Used
+pub mod Fingerprints
+pub mod Told

@@ -24,9 +24,9 @@ unfolding leaves_of_file
 leaves_good given d word leaves good =
     ap (λ (got : Option (List ℕ)). (leaves_of_file word.number d got).result) good.there
     ∙ then_is (within word.number most_book_bytes BookBytes (Some good.bytes)) good.bytes
-    (λ bytes. judged (told_leaves word.number (leaves_of_text d bytes)))
+    (λ bytes. judged (told_leaves word.number d bytes (leaves_of_text d bytes)))
     (file_read word.number most_book_bytes BookBytes good.bytes good.short)
-    ∙ ap (told_leaves word.number) good.are_leaves
+    ∙ ap (told_leaves word.number d good.bytes) good.are_leaves
 
 -- the sets of each period are printed, with which of them are open
 pub opens_good : (words : List (List ℕ)) (given : Readings) (good : IsGoodOpens words given) →

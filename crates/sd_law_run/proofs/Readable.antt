@@ -41,7 +41,7 @@ pub site_taken : (given : Readings) (word : FileArgument) (fields : SiteFields) 
 unfolding site_of_file
 site_taken given word fields e =
     let read = then_ok (within word.number most_site_bytes SiteBytes (given word))
-    (λ bytes. judged (told_site word.number (site_of bytes))) fields e in
+    (λ bytes. judged (told_site word.number bytes (site_of bytes))) fields e in
     let is = file_taken word.number most_site_bytes SiteBytes (given word) read.from read.first_is in
     record {
       bytes = read.from;
@@ -51,10 +51,10 @@ site_taken given word fields e =
 
 -- the lines of a book that is told are its commands
 told_spells : (word d : ℕ) (bytes : List ℕ) (commands : List Command) →
-    told_book word (book_of d bytes) ≡ Ok commands → SpellsBook (lines_of bytes) commands
+    told_book word d bytes (book_of d bytes) ≡ Ok commands → SpellsBook (lines_of bytes) commands
 told_spells word d bytes commands e = by_answer (book_of d bytes) refl e
   where
-    by_answer : (r : Result (List Command) BookFault) → book_of d bytes ≡ r → told_book word r ≡ Ok commands →
+    by_answer : (r : Result (List Command) BookFault) → book_of d bytes ≡ r → told_book word d bytes r ≡ Ok commands →
         SpellsBook (lines_of bytes) commands
     by_answer (Ok found) f e =
         let same : found ≡ commands = cc in
@@ -66,7 +66,7 @@ pub book_taken : (given : Readings) (d : ℕ) (word : FileArgument) (commands : 
 unfolding book_of_file
 book_taken given d word commands e =
     let read = then_ok (within word.number most_book_bytes BookBytes (given word))
-    (λ bytes. judged (told_book word.number (book_of d bytes))) commands e in
+    (λ bytes. judged (told_book word.number d bytes (book_of d bytes))) commands e in
     let is = file_taken word.number most_book_bytes BookBytes (given word) read.from read.first_is in
     record {
       bytes = read.from;

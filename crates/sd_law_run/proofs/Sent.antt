@@ -70,11 +70,12 @@ pub value_is : {A : Type 0} (x y : A) → (value x).result ≡ Ok y → x ≡ y
 value_is x y e = cc
 
 -- the site that a file says is in its ranges
-pub site_right : (word : ℕ) (bytes : List ℕ) (site : SiteFields) → told_site word (site_of bytes) ≡ Ok site →
+pub site_right : (word : ℕ) (bytes : List ℕ) (site : SiteFields) → told_site word bytes (site_of bytes) ≡ Ok site →
     IsSite bytes site
 site_right word bytes site e = by_answer (site_of bytes) refl e
   where
-    by_answer : (r : Result SiteFields SiteFault) → site_of bytes ≡ r → told_site word r ≡ Ok site → IsSite bytes site
+    by_answer : (r : Result SiteFields SiteFault) → site_of bytes ≡ r → told_site word bytes r ≡ Ok site →
+        IsSite bytes site
     by_answer (Ok found) f e =
         let same : found ≡ site = cc in said_is_site bytes site (f ∙ ap (λ (s : SiteFields). Ok s) same)
     by_answer (Err fault) f e = absurd (cc)
@@ -90,12 +91,12 @@ lines_within d before (said ∷ rest) commands all e =
     lines_within d (before ++ one.0 ∷ []) rest commands (judged_more d before said one.0 all one.1) one.2
 
 pub book_right : (word d : ℕ) (bytes : List ℕ) (commands : List Command) →
-    told_book word (book_of d bytes) ≡ Ok commands → IsWithinLimits d commands
+    told_book word d bytes (book_of d bytes) ≡ Ok commands → IsWithinLimits d commands
 unfolding book_of
 book_right word d bytes commands e = by_answer (judged_lines d [] (said_by bytes)) refl e
   where
     by_answer : (r : Result (List Command) BookFault) → judged_lines d [] (said_by bytes) ≡ r →
-        told_book word r ≡ Ok commands → IsWithinLimits d commands
+        told_book word d bytes r ≡ Ok commands → IsWithinLimits d commands
     by_answer (Ok found) f e =
         let same : found ≡ commands = cc in
         lines_within d [] (said_by bytes) commands (judged_none d) (f ∙ ap (λ (c : List Command). Ok c) same)
@@ -127,16 +128,16 @@ plan_right site book given plan e =
     let commands = then_ok (own_book_of_file book.number fields.height line (given book))
     (λ commands. value (record { site = fields; commands = commands })) plan said.next_is in
     let site_read = then_ok (within site.number most_site_bytes SiteBytes (given site))
-    (λ bytes. judged (with_line (book_line_of bytes) (told_site site.number (site_of bytes)))) said.from
+    (λ bytes. judged (with_line (book_line_of bytes) (told_site site.number bytes (site_of bytes)))) said.from
     said.first_is in
     let book_read = then_ok (within book.number most_book_bytes BookBytes (given book))
     (λ bytes. judged (told_own book.number fields.height line bytes)) commands.from commands.first_is in
     let is_site = site_right site.number site_read.from fields
-    (line_right (book_line_of site_read.from) (told_site site.number (site_of site_read.from)) said.from
+    (line_right (book_line_of site_read.from) (told_site site.number site_read.from (site_of site_read.from)) said.from
     site_read.next_is) in
     let is_within = book_right book.number fields.height book_read.from commands.from
-    (own_right (is_book line book_read.from) (told_book book.number (book_of fields.height book_read.from))
-    commands.from book_read.next_is) in
+    (own_right (is_book line book_read.from)
+    (told_book book.number fields.height book_read.from (book_of fields.height book_read.from)) commands.from book_read.next_is) in
     let made : Plan = record { site = fields; commands = commands.from } in
     subst IsPlan (value_is made plan commands.next_is) (record {
       site = is_site.ranges;

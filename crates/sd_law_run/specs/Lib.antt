@@ -13,3 +13,4 @@ pub mod Helped
 pub mod Folders
 pub mod Watched
 pub mod Aired
+pub mod Told

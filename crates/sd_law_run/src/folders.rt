@@ -12,6 +12,8 @@ ghost use Rattle.sd_site.specs.declared.site_fault.SiteFault.{SiteFault};
 ghost use Rattle.sd_site.specs.declared.site_fault.SiteFault.TheVariants.{Range};
 ghost use Rattle.sd_command_base.specs.declared.status.Status.{Status};
 ghost use Rattle.sd_command_base.specs.declared.status.Status.TheVariants.{BadSite, Done};
+ghost use Rattle.sd_command_base.specs.declared.bad_line.Excerpt.{Excerpt};
+ghost use Rattle.sd_command_base.specs.Files.{refused_site};
 ghost use Rattle.sd_command_base.specs.Outside.{Outside};
 ghost use Rattle.sd_command_base.specs.Results.{RunResult};
 ghost use Rattle.sd_command_base.specs.Spec.{FileArgument, contents_of};
@@ -58,16 +60,16 @@ pub fn folders_keep_the_chain()
 #[tactic(auto, using(crate::proofs::FolderRefusals::torn_removed))]
 pub fn torn_sites_are_told()
     ensures refused { (words : List Bytes) (files : Files) (name : FileName) (root : Link) (calls : List Call)
-        (site book : FileArgument) (count : NumberArgument) (out : FileArgument) → IsTorn files name root calls →
+        (site book : FileArgument) (count : NumberArgument) (out : FileArgument) → (is : IsTorn files name root calls) →
         order_of words ≡ Ok (NextOf site book count out) → site.text ≡ name_at name (length calls + 1) →
         follows site.text out.text ≡ true →
         (fault : SiteFault) × (fault ≢ Range 12)
-        × ((meaning words (contents_of files)).result ≡ Err (BadSite site.number fault)) }
+        × ((meaning words (contents_of files)).result ≡ Err (refused_site site.number is.torn fault)) }
     ensures good { (words : List Bytes) (files : Files) (name : FileName) (root : Link) (calls : List Call)
         (above : Option Bytes) (i : ℕ) (site book : FileArgument) (count : NumberArgument) (out : FileArgument)
-        (word : ℕ) (fault : SiteFault) → HoldsChain files name root calls above → i ≤ length calls →
+        (word : ℕ) (fault : SiteFault) (text : Excerpt) → HoldsChain files name root calls above → i ≤ length calls →
         order_of words ≡ Ok (NextOf site book count out) → site.text ≡ name_at name i →
-        (meaning words (contents_of files)).result ≡ Err (BadSite word fault) → fault ≡ Range 12 }
+        (meaning words (contents_of files)).result ≡ Err (BadSite word fault text) → fault ≡ Range 12 }
     ensures removed { (files : Files) (name : FileName) (root : Link) (calls : List Call) →
         IsTorn files name root calls → IsFolder (remove files (name_at name (length calls + 1))) name root calls }
 {}

@@ -42,6 +42,7 @@ ghost use Rattle.sd_site.specs.Chain.{twin_site};
 ghost use Rattle.sd_site.specs.Written.{site_text};
 ghost use Rattle.sd_run_books.specs.Next.{next_made};
 ghost use Rattle.sd_run_streams.specs.Messages.{monitoring};
+ghost use Rattle.sd_run_books.specs.Fingerprint.{fingerprint_in, fingerprint_of};
 ghost use Rattle.sd_run_books.specs.Show.{shown_line, told_show};
 ghost use Rattle.sd_site.specs.Files.{check_in};
 ghost use Rattle.sd_law_run.specs.Good.{IsGoodMessages, IsGoodShow};
@@ -99,20 +100,22 @@ pub fn good_messages_are_printed()
         × ((monitoring good.fields good.bytes).ends ≡ Status.Done) }
 {}
 
-/// `show CARD` over a card prints its line: its height, leaf and system, and the check at the end of its file.
+/// `show CARD` over a card prints its line: its height, leaf and system, the check at the end of its file, and the
+/// fingerprint that its first secret gives.
 #[tactic(auto, using(crate::proofs::Monitors::show_good))]
 pub fn good_cards_are_shown()
     ensures { (words : List Bytes) (files : Files) (good : IsGoodShow words (contents_of files)) →
         (meaning words (contents_of files)).result ≡ Ok (work_of_text (shown_line good.fields.height good.fields.leaf
-        good.fields.ca (check_in (card_bytes good.fields)))) }
+        good.fields.ca (check_in (card_bytes good.fields)) (fingerprint_in (card_bytes good.fields)))) }
 {}
 
-/// The line of the card of a leaf names the leaf, the tree's height and the system that the card was made for.
+/// The line of the card of a leaf names the leaf, the tree's height and the system that the card was made for, and has
+/// the fingerprint of the master that it was made of.
 #[tactic(auto, using(crate::proofs::Monitors::made_shown))]
 pub fn made_cards_are_shown()
     ensures { (word : ℕ) (master : Key) (ca : SystemId) (d : Height) (u : LeafNumber) → ca < 2 ^ 16 → 1 ≤ d → d ≤ 20 →
         u < 2 ^ d → told_show word (card_bytes (card_of master ca d u))
-        ≡ Ok (shown_line d u ca (check_in (card_bytes (card_of master ca d u)))) }
+        ≡ Ok (shown_line d u ca (check_in (card_bytes (card_of master ca d u))) (fingerprint_of master)) }
 {}
 
 /// `head SITE BOOK CLEAR OUT` over a site, a book and a clear stream makes its broadcast, and is done.

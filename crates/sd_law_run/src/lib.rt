@@ -8,4 +8,5 @@ pub mod headline;
 pub mod helped;
 pub mod laws;
 pub mod losses;
+pub mod told;
 pub mod watching;

@@ -1,4 +1,5 @@
 pub mod Answers
 pub mod Meaning
+pub mod Notes
 pub mod Refusals
 pub mod Troubles

@@ -45,6 +45,7 @@ fn exit_of(status: Status) -> ExitCode
 }
 
 /// Runs the process's words, if they can be read.
+#[tactic(auto, using(crate::proofs::Answering::answered))]
 fn answer<R: Env + Files + Print + AllocGlobal, O: Write + Drop, E: Write + Copy + Drop>(
     rt: &R,
     output: O,

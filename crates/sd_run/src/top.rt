@@ -7,7 +7,9 @@ ghost use Rattle.sd_command_base.specs.Outcome.{Implements, status_of};
 ghost use Rattle.sd_command_base.specs.Results.{RunResult, HasAnswerCause, IsMeant, IsToldAs};
 ghost use Rattle.sd_command_line.specs.CommandLine.{words_of};
 ghost use Rattle.sd_command_line.specs.Words.{order_of};
+ghost use Rattle.sd_run_broadcasts.specs.Said.{IsSaid};
 ghost use Rattle.sd_run.specs.Meaning.{meaning, order_meaning};
+ghost use Rattle.sd_run.specs.Notes.{order_says, says};
 ghost use Rattle.sd_command_line.specs.Orders.{order_said, IsSound};
 
 use crate::work::work;
@@ -18,8 +20,8 @@ use sd_ports::{Depot, Sink};
 use std::alloc::Global;
 use std::sync::ledger::Ledger;
 
-/// Runs the command that the arguments (`line`) say, and prints the line of the status that it returns. Lines that are
-/// said while a command runs go to `notes`, of which nothing is claimed.
+/// Runs the command that the arguments (`line`) say, and prints the line of the status that it returns. What is said
+/// while a command runs goes to `notes`.
 pub fn run<D: Depot, P: Sink, N: Sink, L: Ledger>(
     alloc: Global,
     line: &CommandLine<'_>,
@@ -32,6 +34,8 @@ pub fn run<D: Depot, P: Sink, N: Sink, L: Ledger>(
     ensures value { RunResult (meaning (words_of line.now))
         (outside (depot_state D.Depot depot.old) (page_state P.Sink print.old) steps.old)
         (outside (depot_state D.Depot depot.new) (page_state P.Sink print.new) steps.new) result }
+    // Nothing is said while a command runs but the warning of `head` and the reports of `air`.
+    ensures notes { IsSaid (says (words_of line.now)) (D.files depot.old) (N.held notes.old) (N.held notes.new) }
     // Each port that was opened is closed.
     ensures ports { (depot_state D.Depot depot.new).opened ≡ (depot_state D.Depot depot.old).opened }
     // Each answer on the outside has its cause.
@@ -66,6 +70,7 @@ fn obey<D: Depot, P: Sink, N: Sink, L: Ledger>(
     ensures value { Implements (meaning (words_of line.now))
         (outside (depot_state D.Depot depot.old) (page_state P.Sink print.old) steps.old)
         (outside (depot_state D.Depot depot.new) (page_state P.Sink print.new) steps.new) (status_of result) }
+    ensures notes { IsSaid (says (words_of line.now)) (D.files depot.old) (N.held notes.old) (N.held notes.new) }
     ensures words { (status : Status) → order_of (words_of line.now) ≡ Err status → IsErrOf result status }
 {
     match line.order() {
@@ -84,9 +89,11 @@ fn follow<D: Depot, P: Sink, N: Sink, L: Ledger>(
     steps: &mut Steps<L>,
 ) -> Result<(), Status>
     requires { IsSound (order_said order.now) }
-    ensures { Implements (order_meaning (order_said order.now))
+    ensures value { Implements (order_meaning (order_said order.now))
         (outside (depot_state D.Depot depot.old) (page_state P.Sink print.old) steps.old)
         (outside (depot_state D.Depot depot.new) (page_state P.Sink print.new) steps.new) (status_of result) }
+    ensures notes { IsSaid (order_says (order_said order.now)) (D.files depot.old) (N.held notes.old)
+        (N.held notes.new) }
 {
     match order {
         Order::Command { command, arguments } => {

@@ -5,14 +5,17 @@ ghost use Rattle.sd_command_base.specs.Outside.{outside, page_state, depot_state
 ghost use Rattle.sd_command_base.specs.Outcome.{Implements, status_of};
 ghost use Rattle.sd_command_line.specs.Commands.{operands_of};
 ghost use Rattle.sd_command_line.specs.Orders.{arguments_said, AreOf};
+ghost use Rattle.sd_run_broadcasts.specs.Said.{IsSaid};
 ghost use Rattle.sd_run.specs.Meaning.{command_meaning};
+ghost use Rattle.sd_run.specs.Notes.{says_of};
 
 use sd_base::Steps;
 use sd_command_base::Status;
 use sd_command_line::{Arguments, Command};
 use sd_ports::{Depot, Sink};
 use sd_run_books::{
-    accounts, apart, book, card, cover, layered, lcard, next, opens, plan, show, status, trace, twin,
+    accounts, apart, book, card, cover, layered, lcard, next, opens, plan, show, status, trace,
+    twin,
 };
 use sd_run_broadcasts::{air, field, head, receive, trial, watch};
 use sd_run_streams::{messages, sample, tables};
@@ -20,6 +23,7 @@ use std::alloc::Global;
 use std::sync::ledger::Ledger;
 
 /// Runs a command with its arguments.
+#[tactic(auto, using(crate::proofs::Notes::nothing_said))]
 pub(crate) fn work<D: Depot, P: Sink, N: Sink, L: Ledger>(
     alloc: Global,
     command: Command,
@@ -30,9 +34,11 @@ pub(crate) fn work<D: Depot, P: Sink, N: Sink, L: Ledger>(
     steps: &mut Steps<L>,
 ) -> Result<(), Status>
     requires { AreOf 1 (operands_of command) (arguments_said 1 row.now.list.items) }
-    ensures { Implements (command_meaning command (arguments_said 1 row.now.list.items))
+    ensures value { Implements (command_meaning command (arguments_said 1 row.now.list.items))
         (outside (depot_state D.Depot depot.old) (page_state P.Sink print.old) steps.old)
         (outside (depot_state D.Depot depot.new) (page_state P.Sink print.new) steps.new) (status_of result) }
+    ensures notes { IsSaid (says_of command (arguments_said 1 row.now.list.items)) (D.files depot.old)
+        (N.held notes.old) (N.held notes.new) }
 {
     match command {
         Command::Accounts => accounts_row(alloc, row, depot, print),
@@ -42,7 +48,7 @@ pub(crate) fn work<D: Depot, P: Sink, N: Sink, L: Ledger>(
         Command::Card => card_row(alloc, row, depot, steps),
         Command::Cover => cover_row(alloc, row, depot, print),
         Command::Field => field_row(alloc, row, depot, print, steps),
-        Command::Head => head_row(alloc, row, depot, steps),
+        Command::Head => head_row(alloc, row, depot, notes, steps),
         Command::Layered => layered_row(alloc, row, depot, print),
         Command::Lcard => lcard_row(alloc, row, depot, steps),
         Command::Messages => messages_row(alloc, row, depot, print),
@@ -77,7 +83,7 @@ fn accounts_row<D: Depot, P: Sink>(
 }
 
 /// `air` with the arguments of its row.
-#[tactic(auto, using(crate::proofs::Rows::air_works))]
+#[tactic(auto, using(crate::proofs::Rows::air_works, crate::proofs::Notes::air_says))]
 fn air_row<D: Depot, P: Sink, N: Sink, L: Ledger>(
     alloc: Global,
     row: &Arguments<'_>,
@@ -86,9 +92,11 @@ fn air_row<D: Depot, P: Sink, N: Sink, L: Ledger>(
     notes: &mut N,
     steps: &mut Steps<L>,
 ) -> Result<(), Status>
-    ensures { Implements (command_meaning Command.Air (arguments_said 1 row.now.list.items))
+    ensures value { Implements (command_meaning Command.Air (arguments_said 1 row.now.list.items))
         (outside (depot_state D.Depot depot.old) (page_state P.Sink print.old) steps.old)
         (outside (depot_state D.Depot depot.new) (page_state P.Sink print.new) steps.new) (status_of result) }
+    ensures notes { IsSaid (says_of Command.Air (arguments_said 1 row.now.list.items)) (D.files depot.old)
+        (N.held notes.old) (N.held notes.new) }
 {
     air(
         alloc,
@@ -198,20 +206,25 @@ fn field_row<D: Depot, P: Sink, L: Ledger>(
 }
 
 /// `head` with the arguments of its row.
-#[tactic(auto, using(crate::proofs::Rows::head_works))]
-fn head_row<D: Depot, L: Ledger>(
+#[tactic(auto, using(crate::proofs::Rows::head_works, crate::proofs::Notes::head_says))]
+fn head_row<D: Depot, N: Sink, L: Ledger>(
     alloc: Global,
     row: &Arguments<'_>,
     depot: &mut D,
+    notes: &mut N,
     steps: &mut Steps<L>,
 ) -> Result<(), Status>
-    ensures { (page : PageState) → Implements (command_meaning Command.Head (arguments_said 1 row.now.list.items))
+    ensures value { (page : PageState) →
+        Implements (command_meaning Command.Head (arguments_said 1 row.now.list.items))
         (outside (depot_state D.Depot depot.old) page steps.old)
         (outside (depot_state D.Depot depot.new) page steps.new) (status_of result) }
+    ensures notes { IsSaid (says_of Command.Head (arguments_said 1 row.now.list.items)) (D.files depot.old)
+        (N.held notes.old) (N.held notes.new) }
 {
     head(
         alloc,
         depot,
+        notes,
         row.file(1),
         row.file(2),
         row.file(3),

@@ -27,6 +27,7 @@ use Rattle.sd_command_base.specs.Made.{making}
 use Rattle.sd_run_books.specs.Card.{told_card, card_meaning}
 use Rattle.sd_run_books.specs.Lcard.{told_leaf, told_width, carding, lcard_meaning}
 use Rattle.sd_run_books.specs.Show.{card_line, line_of_file, show_meaning, told_show}
+use Rattle.sd_run_books.specs.Status.{status_meaning, status_text, told_tree, tree_of_file}
 
 -- what a word says, or its refusal
 other_word : {A : Type 0} (b : Bool) (x : A) (word : ℕ) → IsOther (cond b (Ok x) (Err (BadWord word)))
@@ -144,3 +145,20 @@ pub other_show : (card : FileArgument) (given : Readings) → IsOther (show_mean
 other_show card given =
     other_after (line_of_file card.number (given card)).calls (line_of_file card.number (given card)).result
     (λ line. value (work_of_text line)) (other_line_file card.number (given card)) (λ line. tt)
+
+other_tree : (word : ℕ) (leaf : NumberArgument) (got : Option (List ℕ)) → IsOther (tree_of_file word leaf got).result
+other_tree word leaf got =
+    other_after (site_of_file word got).calls (site_of_file word got).result (λ site. judged (told_tree leaf site))
+    (other_site_file word got) (λ site. other_word (nat_lt leaf.value (2 ^ site.height)) site leaf.word)
+
+pub other_status : (site book : FileArgument) (leaf : NumberArgument) (given : Readings) →
+    IsOther (status_meaning site book leaf given).result
+other_status site book leaf given =
+    other_after (tree_of_file site.number leaf (given site)).calls (tree_of_file site.number leaf (given site)).result
+    (λ fields. book_of_file book.number fields.height (given book)
+    >>= λ commands. value (work_of_text (status_text fields commands leaf.value)))
+    (other_tree site.number leaf (given site))
+    (λ fields. other_after (book_of_file book.number fields.height (given book)).calls
+    (book_of_file book.number fields.height (given book)).result
+    (λ commands. value (work_of_text (status_text fields commands leaf.value)))
+    (other_book_file book.number fields.height (given book)) (λ commands. tt))

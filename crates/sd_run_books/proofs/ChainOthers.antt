@@ -7,12 +7,12 @@ use Rattle.sd_site.specs.Chain.{has_room, most_word}
 use Rattle.sd_site.specs.declared.book_line.BookLine.{BookLine}
 use Rattle.sd_site.specs.declared.site_fault.SiteFault.{SiteFault}
 use Rattle.sd_site.specs.declared.site_fault.SiteFault.TheVariants.{Range}
-use Rattle.sd_command_base.specs.declared.status.Status.TheVariants.{BadOut, BadSite, BadWord}
+use Rattle.sd_command_base.specs.declared.status.Status.TheVariants.{BadOut, BadWord}
 use Rattle.sd_command_base.specs.declared.status.OutCause.TheVariants.{Name}
 use Rattle.sd_command_base.specs.declared.status.LimitKind.TheVariants.{SiteBytes}
 use Rattle.sd_command_base.specs.Spec.{FileArgument, Readings, judged, value, within, ◌>>=◌}
 use Rattle.sd_command_base.specs.Shown.{NumberArgument}
-use Rattle.sd_command_base.specs.Files.{most_site_bytes}
+use Rattle.sd_command_base.specs.Files.{most_site_bytes, refused_site}
 use Rattle.sd_command_base.specs.Made.{making_new}
 use Rattle.sd_command_base.proofs.Others.{IsOther, other_after, other_file, other_longer_book_file, other_new}
 use Rattle.sd_run_books.specs.SiteNames.{follows}
@@ -28,13 +28,13 @@ other_name false word = λ e. cc
 other_told_name : (site out : FileArgument) → IsOther (told_name site out)
 other_told_name site out = other_name (follows site.text out.text) out.number
 
-other_newest_of : (word most : ℕ) (words : NumberArgument) (r : Result (SiteFields × Option BookLine) SiteFault) →
-    IsOther (told_newest word most words r)
-other_newest_of word most words (Err fault) = λ e. cc
-other_newest_of word most words (Ok newest) =
+other_newest_of : (word : ℕ) (bytes : List ℕ) (most : ℕ) (words : NumberArgument)
+    (r : Result (SiteFields × Option BookLine) SiteFault) → IsOther (told_newest word bytes most words r)
+other_newest_of word bytes most words (Err fault) = λ e. cc
+other_newest_of word bytes most words (Ok newest) =
     by (nat_lt most newest.0.first_period) (has_room words.value newest.0)
   where
-    by : (past room : Bool) → IsOther {A = SiteFields × Option BookLine} (if past then Err (BadSite word (Range 12))
+    by : (past room : Bool) → IsOther {A = SiteFields × Option BookLine} (if past then Err (refused_site word bytes (Range 12))
         else if room then Ok newest else Err (BadWord words.word))
     by true room = λ e. cc
     by false true = tt
@@ -45,9 +45,9 @@ other_newest : (fewer : List ℕ → SiteFields → Bool) (word most : ℕ) (wor
 unfolding newest_of_file
 other_newest fewer word most words got =
     other_after (within word most_site_bytes SiteBytes got).calls (within word most_site_bytes SiteBytes got).result
-    (λ bytes. judged (told_newest word most words (newest_of fewer bytes)))
+    (λ bytes. judged (told_newest word bytes most words (newest_of fewer bytes)))
     (other_file word most_site_bytes SiteBytes got)
-    (λ bytes. other_newest_of word most words (newest_of fewer bytes))
+    (λ bytes. other_newest_of word bytes most words (newest_of fewer bytes))
 
 other_origin : (site book : ℕ) (words : NumberArgument) (site_got book_got : Option (List ℕ)) →
     IsOther (origin_of_files site book words site_got book_got).result

@@ -20,9 +20,9 @@ file_good : (word d : ℕ) (bytes : List ℕ) (commands : List Command) → leng
 unfolding accounts_of_file
 file_good word d bytes commands short book =
     then_is (within word most_book_bytes BookBytes (Some bytes)) bytes
-    (λ bytes. judged (told_accounts word (accounts_value d bytes) (book_of d bytes)))
+    (λ bytes. judged (told_accounts word d bytes (book_of d bytes)))
     (ap (λ (b : Bool). cond b (Err (Limit BookBytes)) (Ok bytes)) (le-ltb most_book_bytes (length bytes) short))
-    ∙ ap (told_accounts word (accounts_value d bytes)) book
+    ∙ ap (told_accounts word d bytes) book
 
 -- the site and the accounts
 both_good : (site accounts : FileArgument) (given : Readings) (fields : SiteFields) (found : AccountsValue) →

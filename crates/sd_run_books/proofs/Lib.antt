@@ -11,6 +11,8 @@ pub mod NextLine
 pub mod Taking
 pub mod GoodAccounts
 pub mod ListedAccounts
+pub mod Decimals
+pub mod Clashing
 pub mod Made
 pub mod Longer
 pub mod Few
@@ -32,7 +34,6 @@ pub mod FollowingNames
 pub mod Merged
 pub mod ToldPeriods
 pub mod StatusLines
-pub mod StatusOthers
 pub mod Changes
 pub mod WholeLines
 pub mod OwnBook

@@ -21,7 +21,7 @@ use Rattle.sd_run_books.specs.Line.{Entry, Assigns, Drops, Restores, Ends, said_
 use Rattle.sd_run_books.specs.declared.account_fault.AccountFault.{AccountFault}
 use Rattle.sd_run_books.specs.declared.account_fault.AccountFault.TheVariants.{Line, Unknown, Taken, Limit, NoMemory}
 use Rattle.sd_command_base.specs.Reads.{JudgedOutcome}
-use Rattle.sd_run_books.specs.AccountsCommand.{account_on, bound_by, accounts_value, refused_accounts, told_accounts}
+use Rattle.sd_run_books.specs.AccountsCommand.{account_on, bound_by, refused_accounts, told_accounts}
 
 -- a name below those of some accounts
 above : (name : List ℕ) (xs : List Account) →
@@ -78,9 +78,9 @@ one_list said xs is =
 -- the accounts were read
 pub are_told : (word d : ℕ) (bytes : List ℕ) (found : AccountsValue) → found.book.height ≡ d →
     book_of d bytes ≡ Ok found.book.commands → IsListOf (said_by d bytes) found.accounts →
-    told_accounts word (accounts_value d bytes) (book_of d bytes) ≡ Ok found
+    told_accounts word d bytes (book_of d bytes) ≡ Ok found
 are_told word d bytes found height book listed =
-    ap (told_accounts word (accounts_value d bytes)) book
+    ap (told_accounts word d bytes) book
     ∙ ap (λ (n : ℕ). Ok (record {
       book = record { height = n; commands = found.book.commands };
       accounts = bound_by (said_by d bytes);
@@ -92,10 +92,10 @@ are_told word d bytes found height book listed =
 pub are_refused : (word d : ℕ) (bytes : List ℕ) (fault : AccountFault) →
     (fault ≡ NoMemory) ⊎ (book_of d bytes ≡ Err fault) →
     JudgedOutcome {X = AccountsValue} (λ accounts. accounts)
-    (told_accounts word (accounts_value d bytes) (book_of d bytes)) (Err (refused_accounts word fault))
-are_refused word d bytes fault (inl e) = inr (ap (refused_accounts word) e)
-are_refused word d bytes (Line k) (inr e) = inl (ap (told_accounts word (accounts_value d bytes)) e, tt, tt)
-are_refused word d bytes (Unknown k) (inr e) = inl (ap (told_accounts word (accounts_value d bytes)) e, tt, tt)
-are_refused word d bytes (Taken k) (inr e) = inl (ap (told_accounts word (accounts_value d bytes)) e, tt, tt)
-are_refused word d bytes (Limit limit) (inr e) = inl (ap (told_accounts word (accounts_value d bytes)) e, tt, tt)
+    (told_accounts word d bytes (book_of d bytes)) (Err (refused_accounts word d bytes fault))
+are_refused word d bytes fault (inl e) = inr (ap (refused_accounts word d bytes) e)
+are_refused word d bytes (Line k) (inr e) = inl (ap (told_accounts word d bytes) e, tt, tt)
+are_refused word d bytes (Unknown k) (inr e) = inl (ap (told_accounts word d bytes) e, tt, tt)
+are_refused word d bytes (Taken k) (inr e) = inl (ap (told_accounts word d bytes) e, tt, tt)
+are_refused word d bytes (Limit limit) (inr e) = inl (ap (told_accounts word d bytes) e, tt, tt)
 are_refused word d bytes NoMemory (inr e) = inr refl

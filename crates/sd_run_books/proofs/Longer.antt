@@ -1,5 +1,5 @@
 -- What a longer book is, or why it is refused.
-use Rattle.std.proofs.Common.{◌≡◌, ◌⊎◌, ℕ, List, ◌++◌, map, Option, Some, Ok, Err}
+use Rattle.std.proofs.Common.{◌≡◌, ◌⊎◌, ℕ, List, [], ◌++◌, map, Option, Some, Ok, Err}
 use Rattle.std.proofs.Common.{refl, sym, ap, subst, ◌∙◌, inl, inr}
 use Rattle.sd_book.specs.declared.command.Command.{Command}
 use Rattle.sd_book.specs.declared.fault.BookFault.{BookFault}
@@ -28,20 +28,20 @@ pub longer_fits : (word d : ℕ) (commands added all : List Command) → all ≡
 unfolding longer_book
 longer_fits word d commands added all same within =
     subst (λ (cs : List Command). longer_book word d commands added ≡ Ok cs) (sym same)
-    (ap (told_book word) (said_again d (commands ++ added)
+    (ap (told_book word d []) (said_again d (commands ++ added)
     (subst (λ (cs : List Command). IsWithinLimits d cs) same within)))
 
 -- a limit that is broken refuses it
 pub longer_refused : (word d : ℕ) (commands added : List Command) (fault : BookFault) →
     (fault ≡ book.NoMemory) ⊎ IsFirstLimit d (commands ++ added) fault →
-    ((longer_book word d commands added ≡ Err (refused_book word fault)) × IsRefusal (refused_book word fault)
-    × IsEnding (refused_book word fault)) ⊎ (refused_book word fault ≡ NoMemory)
+    ((longer_book word d commands added ≡ Err (refused_book word d [] fault)) × IsRefusal (refused_book word d [] fault)
+    × IsEnding (refused_book word d [] fault)) ⊎ (refused_book word d [] fault ≡ NoMemory)
 unfolding longer_book
-longer_refused word d commands added fault (inl none) = inr (ap (refused_book word) none)
+longer_refused word d commands added fault (inl none) = inr (ap (refused_book word d []) none)
 longer_refused word d commands added fault (inr first) = inl (
-  ap (told_book word) (cause_judged d (map Some (commands ++ added)) fault first.cause),
-  subst (λ (f : BookFault). IsRefusal (refused_book word f)) (sym first.limit.1) tt,
-  subst (λ (f : BookFault). IsEnding (refused_book word f)) (sym first.limit.1) tt,
+  ap (told_book word d []) (cause_judged d (map Some (commands ++ added)) fault first.cause),
+  subst (λ (f : BookFault). IsRefusal (refused_book word d [] f)) (sym first.limit.1) tt,
+  subst (λ (f : BookFault). IsEnding (refused_book word d [] f)) (sym first.limit.1) tt,
 )
 
 -- what is meant by what the third file gave, once the first two were read

@@ -26,22 +26,22 @@ use Rattle.sd_run_books.specs.Book.{longer_book, book_meaning}
 use Rattle.sd_run_books.specs.Air.{last_word_for, plan_meaning, planning, roomy_site_of_file, told_room}
 use Rattle.sd_run_books.specs.Apart.{apart_meaning, apart_text, clash_of, plan_of_both, told_apart, told_clash}
 
-other_told_accounts : (word : ℕ) (accounts : List Command → AccountsValue) (r : Result (List Command) AccountFault) →
-    IsOther (told_accounts word accounts r)
-other_told_accounts word accounts (Ok commands) = tt
-other_told_accounts word accounts (Err (Line k)) = λ e. cc
-other_told_accounts word accounts (Err (Unknown k)) = λ e. cc
-other_told_accounts word accounts (Err (Taken k)) = λ e. cc
-other_told_accounts word accounts (Err (Limit limit)) = λ e. cc
-other_told_accounts word accounts (Err NoMemory) = λ e. cc
+other_told_accounts : (word d : ℕ) (bytes : List ℕ) (r : Result (List Command) AccountFault) →
+    IsOther (told_accounts word d bytes r)
+other_told_accounts word d bytes (Ok commands) = tt
+other_told_accounts word d bytes (Err (Line k)) = λ e. cc
+other_told_accounts word d bytes (Err (Unknown k)) = λ e. cc
+other_told_accounts word d bytes (Err (Taken k)) = λ e. cc
+other_told_accounts word d bytes (Err (Limit limit)) = λ e. cc
+other_told_accounts word d bytes (Err NoMemory) = λ e. cc
 
 other_accounts_file : (word d : ℕ) (got : Option (List ℕ)) → IsOther (accounts_of_file word d got).result
 unfolding accounts_of_file
 other_accounts_file word d got =
     other_after (within word most_book_bytes BookBytes got).calls (within word most_book_bytes BookBytes got).result
-    (λ bytes. judged (told_accounts word (accounts_value d bytes) (book_of d bytes)))
+    (λ bytes. judged (told_accounts word d bytes (book_of d bytes)))
     (other_file word most_book_bytes BookBytes got)
-    (λ bytes. other_told_accounts word (accounts_value d bytes) (book_of d bytes))
+    (λ bytes. other_told_accounts word d bytes (book_of d bytes))
 
 other_accounts_in : (site accounts : FileArgument) (given : Readings) → IsOther (accounts_in site accounts given).result
 unfolding accounts_in
@@ -62,7 +62,7 @@ other_accounts site accounts out given =
 
 other_longer : (word d : ℕ) (commands added : List Command) → IsOther (longer_book word d commands added)
 unfolding longer_book
-other_longer word d commands added = other_book word (said d [] (map Some (commands ++ added)))
+other_longer word d commands added = other_book word d [] (said d [] (map Some (commands ++ added)))
 
 pub other_book_order : (site book commands out : FileArgument) (given : Readings) →
     IsOther (book_meaning site book commands out given).result

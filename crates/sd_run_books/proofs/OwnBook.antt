@@ -22,6 +22,8 @@ use Rattle.sd_command_base.specs.declared.status.Status.TheVariants.{BadBook, Li
 use Rattle.sd_command_base.specs.declared.status.LimitKind.TheVariants.{BookBytes}
 use Rattle.sd_command_base.specs.Spec.{and_then, judged}
 use Rattle.sd_command_base.specs.Files.{BookText, begins_with_book, ends_lines, longer_book_of_file, most_book_bytes}
+use Rattle.sd_command_base.specs.declared.bad_line.LineCause.TheVariants.{Unended}
+use Rattle.sd_command_base.specs.BadLines.{bad_line}
 use Rattle.sd_command_base.specs.Files.{told_book, told_longer, told_whole}
 use Rattle.sd_run_books.specs.Chain.{own_commands}
 use Rattle.sd_run_books.proofs.WholeLines.{lines_joined, feeds_are_lines}
@@ -126,28 +128,29 @@ whole_says word bytes (Ok commands) text e = by (ends_lines bytes) e
     told commands = Ok commands
 
     by : (ends : Bool) → (if ends then Ok (record { bytes = bytes; commands = commands })
-        else Err (BadBook word (length commands))) ≡ Ok text →
+        else Err (BadBook word (bad_line Unended (length commands) bytes))) ≡ Ok text →
         (text.bytes ≡ bytes) × (told commands ≡ told text.commands)
     by true e = let same : record { bytes = bytes; commands = commands } ≡ text = cc in
         (sym (ap (λ (t : BookText). t.bytes) same), ap (λ (t : BookText). told t.commands) same)
     by false e = absurd cc
 
 -- what a book's file says was judged
-book_told : (word : ℕ) (r : Result (List Command) BookFault) (commands : List Command) →
-    told_book word r ≡ Ok commands → r ≡ Ok commands
-book_told word (Ok found) commands e = let same : found ≡ commands = cc in ap Ok same
-book_told word (Err fault) commands e = absurd cc
+book_told : (word d : ℕ) (bytes : List ℕ) (r : Result (List Command) BookFault) (commands : List Command) →
+    told_book word d bytes r ≡ Ok commands → r ≡ Ok commands
+book_told word d bytes (Ok found) commands e = let same : found ≡ commands = cc in ap Ok same
+book_told word d bytes (Err fault) commands e = absurd cc
 
 longer_says : (word d : ℕ) (line : Option BookLine) (bytes : List ℕ) (text : BookText) →
     length bytes ≤ most_book_bytes → told_longer word d line bytes ≡ Ok text → IsLonger d line text
 longer_says word d line bytes text size e = by (begins_with_book line bytes) refl e
   where
     by : (begins : Bool) → begins_with_book line bytes ≡ begins →
-        (if begins then told_whole word bytes (told_book word (book_of d bytes)) else Err OtherBook) ≡ Ok text →
+        (if begins then told_whole word bytes (told_book word d bytes (book_of d bytes)) else Err OtherBook) ≡ Ok text
+        →
         IsLonger d line text
     by true begins e =
-        let says = whole_says word bytes (told_book word (book_of d bytes)) text e in
-        let told = book_told word (book_of d bytes) text.commands says.1 in
+        let says = whole_says word bytes (told_book word d bytes (book_of d bytes)) text e in
+        let told = book_told word d bytes (book_of d bytes) text.commands says.1 in
         record {
           size = rw says.0 size;
           begins = ap (begins_with_book line) says.0 ∙ begins;

@@ -9,6 +9,7 @@ use Rattle.sd_book.specs.declared.command.Command.{Command}
 use Rattle.sd_book.specs.Text.{text_of}
 use Rattle.sd_run_books.specs.Line.{Entry, Assigns, Drops, Restores, Ends, said_by}
 use Rattle.sd_run_books.specs.Accounts.{Account, AccountsValue}
+use Rattle.sd_run_books.specs.AccountsCause.{bad_entry, taken_entry, unknown_entry}
 use Rattle.sd_run_books.specs.Judged.{book_of}
 use Rattle.sd_run_books.specs.Report.{report_data}
 use Rattle.sd_run_books.specs.declared.account_fault.AccountFault.{AccountFault}
@@ -37,25 +38,24 @@ abbrev pub accounts_value : ℕ → List ℕ → List Command → AccountsValue
 accounts_value d bytes commands =
     record { book = record { height = d; commands = commands }; accounts = bound_by (said_by d bytes) }
 
--- what is answered to accounts that are refused, which this word's file says
-abbrev pub refused_accounts : ℕ → AccountFault → Status
-refused_accounts word (account.Line k) = BadBook word k
-refused_accounts word (account.Unknown k) = BadBook word k
-refused_accounts word (account.Taken k) = BadBook word k
-refused_accounts word (account.Limit limit) = Limit (Book limit)
-refused_accounts word account.NoMemory = NoMemory
+-- what is answered to accounts for a tree of height d that are refused, which this word's file of these bytes says
+abbrev pub refused_accounts : ℕ → ℕ → List ℕ → AccountFault → Status
+refused_accounts word d bytes (account.Line k) = BadBook word (bad_entry d k bytes)
+refused_accounts word d bytes (account.Unknown k) = BadBook word (unknown_entry k bytes)
+refused_accounts word d bytes (account.Taken k) = BadBook word (taken_entry d k bytes)
+refused_accounts word d bytes (account.Limit limit) = Limit (Book limit)
+refused_accounts word d bytes account.NoMemory = NoMemory
 
--- the accounts of commands that a file's bytes say
-abbrev pub told_accounts : ℕ → (List Command → AccountsValue) → Result (List Command) AccountFault →
-    Result AccountsValue Status
-told_accounts word accounts (Ok commands) = Ok (accounts commands)
-told_accounts word accounts (Err fault) = Err (refused_accounts word fault)
+-- the accounts for a tree of height d that a file's bytes say
+abbrev pub told_accounts : ℕ → ℕ → List ℕ → Result (List Command) AccountFault → Result AccountsValue Status
+told_accounts word d bytes (Ok commands) = Ok (accounts_value d bytes commands)
+told_accounts word d bytes (Err fault) = Err (refused_accounts word d bytes fault)
 
 -- the accounts, for a tree of height d, of what the file of this word gave
 unfoldable pub accounts_of_file : ℕ → ℕ → Option (List ℕ) → Spec AccountsValue
 accounts_of_file word d got =
     within word most_book_bytes BookBytes got
-    >>= λ bytes. judged (told_accounts word (accounts_value d bytes) (book_of d bytes))
+    >>= λ bytes. judged (told_accounts word d bytes (book_of d bytes))
 
 -- the accounts that the two files say
 unfoldable pub accounts_in : FileArgument → FileArgument → Readings → Spec AccountsValue

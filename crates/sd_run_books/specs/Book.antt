@@ -10,9 +10,9 @@ use Rattle.sd_command_base.specs.Both.{both_meaning}
 use Rattle.sd_command_base.specs.Made.{making}
 
 -- the commands of a book with others after them, or the first limit that so long a book breaks; the others are those of
--- this word's file
+-- this word's file. Each is a command of the tree, so no line is refused
 unfoldable pub longer_book : ℕ → ℕ → List Command → List Command → Result (List Command) Status
-longer_book word d commands added = told_book word (said d [] (map Some (commands ++ added)))
+longer_book word d commands added = told_book word d [] (said d [] (map Some (commands ++ added)))
 
 -- makes OUT the file of the book with the commands of COMMANDS, which is a book by itself, after its own
 unfoldable pub book_meaning : FileArgument → FileArgument → FileArgument → FileArgument → Readings → Spec Work

@@ -12,12 +12,12 @@ use Rattle.sd_site.specs.declared.site_fault.SiteFault.TheVariants.{Range}
 use Rattle.sd_book.specs.declared.command.Command.{Command}
 use Rattle.sd_book.specs.Text.{said_by}
 use Rattle.sd_command_base.specs.declared.status.Status.{Status}
-use Rattle.sd_command_base.specs.declared.status.Status.TheVariants.{BadSite, BadWord, BadOut}
+use Rattle.sd_command_base.specs.declared.status.Status.TheVariants.{BadWord, BadOut}
 use Rattle.sd_command_base.specs.declared.status.OutCause.TheVariants.{Name}
 use Rattle.sd_command_base.specs.declared.status.LimitKind.TheVariants.{SiteBytes}
 use Rattle.sd_command_base.specs.Spec.{Spec, FileArgument, within, judged, ◌>>=◌}
 use Rattle.sd_command_base.specs.Shown.{NumberArgument}
-use Rattle.sd_command_base.specs.Files.{most_site_bytes}
+use Rattle.sd_command_base.specs.Files.{most_site_bytes, refused_site}
 use Rattle.sd_run_books.specs.SiteNames.{follows}
 
 -- what line 13 says of a book with these bytes: how many they are, and their SHA-256 [FIPS 180-4]
@@ -37,12 +37,12 @@ own_commands (Some line) bytes = commands_said (take line.size bytes)
 abbrev pub told_name : FileArgument → FileArgument → Result (Unit {0}) Status
 told_name site out = if follows site.text out.text then Ok tt else Err (BadOut out.number Name)
 
--- a site and its book's line, if the site's line 12 is at most this and so many control words are left
-abbrev pub told_newest : ℕ → ℕ → NumberArgument → Result (SiteFields × Option BookLine) SiteFault →
+-- a site of these bytes and its book's line, if the site's line 12 is at most this and so many control words are left
+abbrev pub told_newest : ℕ → List ℕ → ℕ → NumberArgument → Result (SiteFields × Option BookLine) SiteFault →
     Result (SiteFields × Option BookLine) Status
-told_newest word most words (Err fault) = Err (BadSite word fault)
-told_newest word most words (Ok newest) =
-    if nat_lt most newest.0.first_period then Err (BadSite word (Range 12))
+told_newest word bytes most words (Err fault) = Err (refused_site word bytes fault)
+told_newest word bytes most words (Ok newest) =
+    if nat_lt most newest.0.first_period then Err (refused_site word bytes (Range 12))
     else if has_room words.value newest.0 then Ok newest
     else Err (BadWord words.word)
 
@@ -51,4 +51,4 @@ unfoldable pub newest_of_file : (List ℕ → SiteFields → Bool) → ℕ → �
     Spec (SiteFields × Option BookLine)
 newest_of_file fewer word most words got =
     within word most_site_bytes SiteBytes got
-    >>= λ bytes. judged (told_newest word most words (newest_of fewer bytes))
+    >>= λ bytes. judged (told_newest word bytes most words (newest_of fewer bytes))

@@ -7,6 +7,7 @@ pub mod Kept
 pub mod Line
 pub mod Read
 pub mod Report
+pub mod AccountsCause
 pub mod AccountsCommand
 pub mod Book
 pub mod Air

@@ -22,8 +22,9 @@ pub(crate) fn name_in(text: &[u8]) -> Option<Name>
     Name::from(str::from_utf8(text).ok()?).ok()
 }
 
+/// Whether the text is a name.
 #[tactic(auto, unfolding(crate::specs::Line::is_name))]
-fn is_name(text: &[u8]) -> bool
+pub(crate) fn is_name(text: &[u8]) -> bool
     ensures { result ≡ is_name text.now }
 {
     !text.is_empty() && text.len() <= LONGEST_NAME && has_name_bytes(text)

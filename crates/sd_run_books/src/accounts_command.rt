@@ -8,12 +8,14 @@ ghost use Rattle.sd_command_base.specs.Outside.{outside, page_state, depot_state
 ghost use Rattle.sd_command_base.specs.Reads.{JudgedOutcome, FileOutcome, FilesOutcome};
 ghost use Rattle.sd_command_base.specs.Outcome.{Implements, OutcomeWithin, status_of};
 ghost use Rattle.sd_command_base.specs.Shown.{shown_word};
-ghost use Rattle.sd_run_books.specs.AccountsCommand.{accounts_in, accounts_meaning, accounts_of_file, accounts_value};
+ghost use Rattle.sd_run_books.specs.AccountsCommand.{accounts_in, accounts_meaning, accounts_of_file};
 ghost use Rattle.sd_run_books.specs.AccountsCommand.{making_then, refused_accounts, report_line, told_accounts};
 
+use crate::account_cause::{bad_entry, taken_entry};
 use crate::{AccountFault, Accounts};
 use sd_command_base::{
-    LimitKind, MOST_BOOK_BYTES, Status, Word, print_text, read_bytes, read_site, told,
+    LimitKind, LineCause, MOST_BOOK_BYTES, Status, Word, print_text, read_bytes, read_site,
+    refused_line, told,
 };
 use sd_ports::{Depot, Sink, write_file};
 use sd_tree::Height;
@@ -90,25 +92,26 @@ fn read_accounts<D: Depot>(
 #[tactic(auto, using(crate::proofs::ListedAccounts::are_told, crate::proofs::ListedAccounts::are_refused))]
 fn judge_accounts(alloc: Global, word: u8, bytes: &[u8], h: Height) -> Result<Accounts, Status>
     ensures { JudgedOutcome (λ accounts. accounts)
-        (told_accounts word (accounts_value h bytes.now) (book_of h bytes.now)) result }
+        (told_accounts word h bytes.now (book_of h bytes.now)) result }
 {
     match Accounts::read(alloc, bytes, h) {
         Ok(accounts) => Ok(accounts),
-        Err(fault) => Err(refused(word, fault)),
+        Err(fault) => Err(refused(word, h, bytes, fault)),
     }
 }
 
-/// What is answered to accounts that are refused, which this word's file says.
-fn refused(word: u8, fault: AccountFault) -> Status
-    ensures { result ≡ refused_accounts word fault }
+/// What is answered to accounts that are refused, which this word's file of these bytes says.
+fn refused(word: u8, h: Height, bytes: &[u8], fault: AccountFault) -> Status
+    ensures { result ≡ refused_accounts word h bytes.now fault }
 {
-    match fault {
-        AccountFault::Line(line) | AccountFault::Unknown(line) | AccountFault::Taken(line) => {
-            Status::BadBook { word, line }
-        }
-        AccountFault::Limit(limit) => Status::Limit(LimitKind::Book(limit)),
-        AccountFault::NoMemory => Status::NoMemory,
-    }
+    let line = match fault {
+        AccountFault::Line(k) => bad_entry(h, k, bytes),
+        AccountFault::Unknown(k) => refused_line(LineCause::Unknown, k, bytes),
+        AccountFault::Taken(k) => taken_entry(h, k, bytes),
+        AccountFault::Limit(limit) => return Status::Limit(LimitKind::Book(limit)),
+        AccountFault::NoMemory => return Status::NoMemory,
+    };
+    Status::BadBook { word, line }
 }
 
 /// The report as a line.

@@ -43,6 +43,7 @@ fn longer(word: u8, mut book: Book, added: &Book) -> Result<Book, Status>
     ensures { JudgedOutcome (λ whole. whole.commands)
         (longer_book word book.height book.commands added.now.commands) result }
 {
+    let h = book.height();
     let more = added.commands();
     match book.apply(more) {
         Ok(()) => {
@@ -50,6 +51,7 @@ fn longer(word: u8, mut book: Book, added: &Book) -> Result<Book, Status>
             let _ = book.commands();
             Ok(book)
         }
-        Err(fault) => Err(book_fault(word, fault)),
+        // A limit, which names no line.
+        Err(fault) => Err(book_fault(word, h, b"", fault)),
     }
 }

@@ -3,6 +3,7 @@
 //! each period, `status` on a receiver in it, `card`, `lcard` and `show` on cards. `next` and `twin` make the sites of a chain.
 #![tactic(auto)]
 
+mod account_cause;
 mod account_fault;
 pub mod account_laws;
 mod account_line;

@@ -10,7 +10,9 @@ ghost use Rattle.sd_command_base.specs.Shown.{shown_word, shown_number};
 ghost use Rattle.sd_run_books.specs.Chain.{newest_of_file, told_name, told_newest};
 
 use crate::site_name::follows;
-use sd_command_base::{LimitKind, MOST_SITE_BYTES, Number, OutCause, Status, Word, read_bytes};
+use sd_command_base::{
+    LimitKind, MOST_SITE_BYTES, Number, OutCause, Status, Word, read_bytes, site_fault,
+};
 use sd_ports::Depot;
 use sd_site::{BookLine, MOST_WORD, Site, SiteFault, read_newest};
 use std::alloc::Global;
@@ -59,20 +61,17 @@ fn judge_newest(
     words: Number,
 ) -> Result<(Site, Option<BookLine>), Status>
     ensures value { SureOutcome (λ newest. (fields_of newest.0, newest.1))
-        (told_newest word most (shown_number words) (newest_of (fewer_taken first) bytes.now)) result }
+        (told_newest word bytes.now most (shown_number words) (newest_of (fewer_taken first) bytes.now)) result }
     ensures period { IfOk result (λ newest. newest.0.first_period ≤ most) }
     ensures room { IfOk result (λ newest. newest.0.last_word + words.value ≤ most_word) }
     ensures book { first ≡ false → IfOk result (λ newest. IsSome newest.1) }
 {
     let (site, line) = match read_newest(bytes, first) {
         Ok(newest) => newest,
-        Err(fault) => return Err(Status::BadSite { word, fault }),
+        Err(fault) => return Err(site_fault(word, bytes, fault)),
     };
     if site.first_period > most {
-        return Err(Status::BadSite {
-            word,
-            fault: SiteFault::Range(12),
-        });
+        return Err(site_fault(word, bytes, SiteFault::Range(12)));
     }
     if words.value > MOST_WORD - site.last_word {
         return Err(Status::BadWord(words.word));

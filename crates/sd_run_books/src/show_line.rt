@@ -20,18 +20,18 @@ pub(crate) fn line_of(alloc: Global, card: &Card, bytes: &[u8]) -> Result<String
     ensures { IfOk result (λ text. string_bytes text
         ≡ shown_line card.now.height card.now.leaf card.now.ca (check_of_file bytes.now) (fingerprint_in bytes.now)) }
 {
-    let value = value_of(alloc, card, check_in(bytes), &check_value(&whole_key(bytes)))?;
+    let value = value_of(
+        alloc,
+        card,
+        check_in(bytes),
+        &check_value(&whole_key(bytes)),
+    )?;
     as_line(value.to_string(alloc)?)
 }
 
 // What is shown of a card whose file ends with this check, and of the fingerprint of its master.
 #[tactic(auto, unfolding(crate::specs::Show::shown_data))]
-fn value_of(
-    alloc: Global,
-    card: &Card,
-    check: &[u8],
-    master: &[u8],
-) -> Result<Value, AllocError>
+fn value_of(alloc: Global, card: &Card, check: &[u8], master: &[u8]) -> Result<Value, AllocError>
     ensures { IfOk result (λ value. view value
         ≡ shown_data card.now.height card.now.leaf card.now.ca check.now master.now) }
 {

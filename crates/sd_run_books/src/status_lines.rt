@@ -67,7 +67,12 @@ fn push_change(
     if before == Some(entitled) {
         return Ok(());
     }
-    push_line(text, u64::from(site.first_period) + u64::from(turn), leaf, entitled)
+    push_line(
+        text,
+        u64::from(site.first_period) + u64::from(turn),
+        leaf,
+        entitled,
+    )
 }
 
 /// Puts the line of a period after the text.

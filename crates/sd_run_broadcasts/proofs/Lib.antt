@@ -7,6 +7,7 @@ pub mod HeadSending
 pub mod Heading
 pub mod HeadOthers
 pub mod Said
+pub mod Saying
 pub mod Cards
 pub mod Received
 pub mod ReceiveOthers

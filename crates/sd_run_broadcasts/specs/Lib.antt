@@ -15,3 +15,4 @@ pub mod Watched
 pub mod Marked
 pub mod Air
 pub mod OnAir
+pub mod Said

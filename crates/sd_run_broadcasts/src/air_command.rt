@@ -7,6 +7,7 @@ ghost use Rattle.sd_command_base.specs.Outcome.{Implements, status_of};
 ghost use Rattle.sd_command_base.specs.Shown.{shown_word};
 ghost use Rattle.sd_run_broadcasts.specs.Air.{air_meaning, aired_meaning};
 ghost use Rattle.sd_run_broadcasts.specs.OnAir.{ended_by, TellsReport};
+ghost use Rattle.sd_run_broadcasts.specs.Said.{AirSays, IsSaid, NotesOn};
 
 use crate::air_line::air_line;
 use crate::air_plan::read_air_plan;
@@ -36,10 +37,12 @@ pub fn air<D: Depot, P: Sink, N: Sink, L: Ledger>(
     steps: &mut Steps<L>,
 ) -> Result<(), Status>
     requires { (site.number ≢ book.number) × (site.number ≢ clear.number) × (book.number ≢ clear.number) }
-    ensures { Implements (air_meaning (shown_word site.entry) (shown_word book.entry) (shown_word clear.entry)
+    ensures value { Implements (air_meaning (shown_word site.entry) (shown_word book.entry) (shown_word clear.entry)
         (shown_word out.entry))
         (outside (depot_state D.Depot depot.old) (page_state P.Sink print.old) steps.old)
         (outside (depot_state D.Depot depot.new) (page_state P.Sink print.new) steps.new) (status_of result) }
+    ensures notes { IsSaid (AirSays (shown_word site.entry) (shown_word book.entry)) (D.Depot.files depot.old)
+        (N.held notes.old) (N.held notes.new) }
 {
     let mark = used_name(alloc, site.text)?;
     let (fields, commands) = read_air_plan(alloc, depot, site, book)?;
@@ -81,10 +84,11 @@ fn air_stream<D: Depot, P: Sink, N: Sink, L: Ledger>(
     requires on { IsOnAir live }
     requires mark { mark.now ≡ name_of_mark site.text.now }
     requires apart { site.number ≢ clear.number }
-    ensures { (plan : Plan) → IsLive plan [] live →
+    ensures value { (plan : Plan) → IsLive plan [] live →
         Implements (aired_meaning plan (shown_word site.entry) (shown_word clear.entry) (shown_word out.entry))
         (outside (depot_state D.Depot depot.old) (page_state P.Sink print.old) steps.old)
         (outside (depot_state D.Depot depot.new) (page_state P.Sink print.new) steps.new) (status_of result) }
+    ensures notes { (plan : Plan) → IsLive plan [] live → NotesOn plan (N.held notes.old) (N.held notes.new) }
 {
     let mark = Word::at(site.number, mark);
     let (mut inlet, mut outlet) = open_marked(alloc, depot, clear, mark, out)?;

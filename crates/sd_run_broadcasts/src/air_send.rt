@@ -6,6 +6,9 @@ ghost use Rattle.sd_command_base.specs.Outcome.{status_of};
 ghost use Rattle.sd_command_base.specs.Turned.{HasPortCause};
 ghost use Rattle.sd_run_broadcasts.specs.OnAir.{fault_status, finished_status, report_after, status_in};
 ghost use Rattle.sd_run_broadcasts.specs.OnAir.{Finishes, SendsLive, SendsPacket, Stops};
+ghost use Rattle.sd_run_broadcasts.specs.Air.{air_line as line_of_report};
+ghost use Rattle.sd_run_broadcasts.specs.Said.{NotesOn};
+ghost use Rattle.sd_ports.specs.Bytes.{AppendsPrefix};
 
 use crate::air_line::air_line;
 use crate::air_report::AirReport;
@@ -56,6 +59,7 @@ pub fn send_live<S: Source, K: Sink, N: Sink, L: Ledger>(
         SendsLive plan (S.left source.old) (K.held sink.old) (K.held sink.new) result }
     ensures cause { HasPortCause (S.faults source.old) (S.faults source.new) (K.faults sink.old) (K.faults sink.new)
         (status_in result) }
+    ensures notes { (plan : Plan) → IsLive plan [] live.old → NotesOn plan (N.held notes.old) (N.held notes.new) }
 {
     let mut piece = [0u8; ROOM];
     let mut ahead = Ahead {
@@ -98,6 +102,8 @@ fn send_packet<K: Sink, N: Sink, L: Ledger>(
         SendsPacket plan past packet.now (K.held sink.old) (K.held sink.new) live.old live.new result }
     ensures on { OnOk result (IsOnAir live.new) }
     ensures cause { IsCaused (K.faults sink.old) (K.faults sink.new) (status_in result ≡ Status.DepotFault) }
+    ensures notes { (plan : Plan) (past : List (List ℕ)) → IsLive plan past live.old → length past < 2 ^ 48 →
+        NotesOn plan (N.held notes.old) (N.held notes.new) }
 {
     match live.take(packet, sink, steps) {
         Ok(Taken::On) => Ok(true),
@@ -163,8 +169,18 @@ fn stop<K: Sink, L: Ledger>(
 }
 
 /// Writes to `notes` what is reported if the broadcast ends here. It doesn't matter if this fails.
-fn note<N: Sink>(alloc: Global, notes: &mut N, live: &Live, skipped: u64) {
-    if let Ok(line) = air_line(alloc, &report(live, skipped)) {
+fn note<N: Sink>(alloc: Global, notes: &mut N, live: &Live, skipped: u64)
+    ensures { (plan : Plan) (past : List (List ℕ)) → IsLive plan past live.now →
+        NotesOn plan (N.held notes.old) (N.held notes.new) }
+{
+    write_noted(alloc, notes, &report(live, skipped));
+}
+
+/// Writes the line of a report to `notes`. It doesn't matter if this fails.
+fn write_noted<N: Sink>(alloc: Global, notes: &mut N, report: &AirReport)
+    ensures { AppendsPrefix (N.held notes.old) (N.held notes.new) (line_of_report report.now) }
+{
+    if let Ok(line) = air_line(alloc, report) {
         let _ = write_all(notes, &line);
     }
 }

@@ -3,10 +3,12 @@ ghost use Rattle.sd_head.specs.Staged.{plan_in, IsAfter};
 ghost use Rattle.sd_command_base.specs.Outside.{PageState, outside, depot_state};
 ghost use Rattle.sd_command_base.specs.Outcome.{Implements, status_of};
 ghost use Rattle.sd_run_broadcasts.specs.Head.{head_meaning, refusal_in, sent_told, SendsLeft};
+ghost use Rattle.sd_run_broadcasts.specs.Said.{HeadSays, IsSaid};
 ghost use Rattle.sd_command_base.specs.Turned.{HasPortCause};
 ghost use Rattle.sd_command_base.specs.Shown.{shown_word};
 
 use crate::head_plan::read_plan;
+use crate::warning::warn;
 use sd_base::Steps;
 use sd_command_base::{Status, StreamRefusal, Word, close_both, open_both};
 use sd_engine::{DriveFault, drive};
@@ -15,11 +17,13 @@ use sd_ports::{Depot, Sink, Source};
 use std::alloc::Global;
 use std::sync::ledger::Ledger;
 
-/// Does `head SITE BOOK CLEAR OUT`: the clear stream is read and what is sent for it is written in turn.
+/// Does `head SITE BOOK CLEAR OUT`: the clear stream is read and what is sent for it is written in turn. Before that a
+/// warning about the site is written to `notes`, if there is one.
 #[inline(never)]
-pub fn head<D: Depot, L: Ledger>(
+pub fn head<D: Depot, N: Sink, L: Ledger>(
     alloc: Global,
     depot: &mut D,
+    notes: &mut N,
     site: Word<'_>,
     book: Word<'_>,
     clear: Word<'_>,
@@ -27,15 +31,20 @@ pub fn head<D: Depot, L: Ledger>(
     steps: &mut Steps<L>,
 ) -> Result<(), Status>
     requires { (site.number ≢ book.number) × (site.number ≢ clear.number) × (book.number ≢ clear.number) }
-    ensures { (page : PageState) →
+    ensures value { (page : PageState) →
         Implements (head_meaning (shown_word site.entry) (shown_word book.entry) (shown_word clear.entry)
         (shown_word out.entry))
         (outside (depot_state D.Depot depot.old) page steps.old)
         (outside (depot_state D.Depot depot.new) page steps.new)
         (status_of result) }
+    ensures notes { IsSaid (HeadSays (shown_word site.entry)) (D.Depot.files depot.old) (N.held notes.old)
+        (N.held notes.new) }
 {
-    let (site, book) = read_plan(alloc, depot, site, book)?;
+    let name = site.text;
+    let (site, book, has_word) = read_plan(alloc, depot, site, book)?;
+    let messages = site.messages;
     let mut head = Head::new(alloc, site, book)?;
+    warn(alloc, notes, name, has_word, messages);
     let (mut inlet, mut outlet) = open_both(alloc, depot, clear, out)?;
     let sent = send(&mut inlet, &mut outlet, &mut head, steps);
     close_both(depot, inlet, outlet, out, sent)

@@ -26,6 +26,7 @@ mod trial_lines;
 mod trial_plan;
 mod trial_prefix;
 mod trial_send;
+mod warning;
 mod watch_command;
 mod watch_line;
 

@@ -208,6 +208,7 @@ const COMMANDS: &str = "
 $ cover S B | S B | | | 8f49d544add51b1c
 $ layered S B 2 | S B | | | 49da13b5f9be295e
 $ plan S B 600 3 | S B | | | 8a5646abe1cff276
+$ status S B 0 | S B | | | 937c59ce4ec2feb3
 $ accounts S A O | S A | | 6004a0e63339f065 | 20a39407d36daa17
 $ book S R M O | S R M | | 1be60745ace5d12f |
 $ card S 0 O | S | | a4b19001906beb19 |
@@ -220,7 +221,7 @@ $ receive K X O | K X | streams | 3e68d36a18df2132 |
 $ watch K X O | K X | streams | 3e68d36a18df2132 | 11abc475179b3ba6
 $ tables X | X | | | d29b54c31bc48ee2
 $ messages S X | S X | | | 0fb3c1549838f547
-$ show K | K | | | 733f52ad790b39c9
+$ show K | K | | | ec388e8d1fa19a31
 $ opens S P L | S P L | | | de5663d6a325561e
 $ trace S R L | S R L | | | 93d74fcfdebfd23e
 $ trial S R C | S R C | | | 668c63a3ea9d5a9b

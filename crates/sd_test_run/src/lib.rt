@@ -59,4 +59,6 @@ mod shows;
 #[cfg(test)]
 mod single;
 #[cfg(test)]
+mod statuses;
+#[cfg(test)]
 mod sums;

@@ -318,7 +318,7 @@ fn messages_are_printed(rt: HostRuntime) -> Result<(), AllocError> {
 
 /// What `show` prints of a card.
 const SHOWN: &str =
-    "{\"card\":\"plain\",\"check\":\"058ed3587196e436f13871ca96cfc690\",\"height\":1,\"labels\":1,\"leaf\":0,\"system\":38646}\n";
+    "{\"card\":\"plain\",\"check\":\"058ed3587196e436f13871ca96cfc690\",\"height\":1,\"labels\":1,\"leaf\":0,\"master\":\"a6c3b68cad52c81fce161d9b179c30d4\",\"system\":38646}\n";
 
 /// The card.
 fn shown_card(alloc: Global) -> Result<Vec<u8>, AllocError> {

@@ -2,6 +2,7 @@ use Rattle.sd_command_base.specs.Outside.{depot_state, page_state, outside}
 use Rattle.sd_command_base.specs.Outcome.{status_of}
 use Rattle.sd_command_line.specs.CommandLine.{words_of}
 use Rattle.sd_command_line.specs.Orders.{order_said}
+use Rattle.sd_run.proofs.Notes.{order_said_so, refused_quietly}
 use Rattle.sd_run.proofs.Ordered.{order_follows, words_follow}
 use Rattle.sd_run.proofs.top.obey.Goals as goal
 
@@ -19,4 +20,15 @@ returns-in-Ok-clause-value g c =
     order_follows (words_of c.args.line.now) (order_said c.in-Ok.order)
     (outside (depot_state g.D.Depot c.args.depot.now) (page_state g.P.Sink c.args.print.now) c.args.steps.now)
     (outside (depot_state g.D.Depot c.follow.new.depot) (page_state g.P.Sink c.follow.new.print) c.follow.new.steps)
-    (status_of c.follow.result) read c.follow.ensures
+    (status_of c.follow.result) read c.follow.ensures.value
+
+pub returns-in-Err-clause-notes : goal.returns-in-Err-clause-notes
+returns-in-Err-clause-notes g c =
+    let read = rw c.in-Err.is at c.order.ensures.value in
+    refused_quietly (words_of c.args.line.now) c.in-Err.status (g.D.Depot.files c.args.depot.now)
+    (g.N.Sink.held c.args.notes.now) read
+
+pub returns-in-Ok-clause-notes : goal.returns-in-Ok-clause-notes
+returns-in-Ok-clause-notes g c =
+    let read = rw c.in-Ok.is at c.order.ensures.value in
+    order_said_so (words_of c.args.line.now) (order_said c.in-Ok.order) read c.follow.ensures.notes

@@ -19,6 +19,7 @@ returns-in-Ok g c =
     let answers = lineless_answers (meaning words) a b Done done_line c.in-Ok.ensures.value in
     record {
       value = answers;
+      notes = c.in-Ok.ensures.notes;
       ports = c.in-Ok.ensures.value.obeyed.ports;
       cause = causes (meaning words) a b Done answers;
       words = λ status refused. absurd (let none = c.in-Ok.ensures.words status refused in cc);
@@ -38,6 +39,7 @@ returns-in-Err-PrintFault g c =
     let answers = lineless_answers (meaning words) a b PrintFault cut_line obeyed in
     record {
       value = answers;
+      notes = c.in-Err-PrintFault.ensures.notes;
       ports = obeyed.obeyed.ports;
       cause = causes (meaning words) a b PrintFault answers;
       words = λ status refused. inr (inl refl);
@@ -56,6 +58,7 @@ returns-in-Err g c =
     record { status = c.in-Err.status; page = left; obeyed = c.in-Err.ensures.value; told = c.tell.ensures } in
     record {
       value = answers;
+      notes = c.in-Err.ensures.notes;
       ports = c.in-Err.ensures.value.obeyed.ports;
       cause = causes (meaning words) a b c.tell.result answers;
       words = λ status refused.

@@ -14,7 +14,7 @@ returns-in_err-bytes g c =
     let p = err_from_is_err_and c.from_residual.result c.from_residual.ensures.1 in
     let word = c.args.word.number in
     rw (p.1, p.2) (looks_first (λ bytes. bytes.items) (λ accounts. accounts) (within word most_book_bytes BookBytes)
-    (λ bytes. judged (told_accounts word (accounts_value c.args.h bytes) (book_of c.args.h bytes)))
+    (λ bytes. judged (told_accounts word c.args.h bytes (book_of c.args.h bytes)))
     c.args.word.text.now (depot_state g.D.Depot c.args.depot.now) (depot_state g.D.Depot c.read_bytes.new.depot)
     c.in_err-bytes.field-0.0 c.in_err-bytes.ensures)
 
@@ -24,6 +24,6 @@ returns g c =
     let judges = rw c.deref.ensures.value at c.judge_accounts.ensures in
     let word = c.args.word.number in
     looks_judged (λ bytes. bytes.items) (λ accounts. accounts) (within word most_book_bytes BookBytes)
-    (λ bytes. told_accounts word (accounts_value c.args.h bytes) (book_of c.args.h bytes)) c.args.word.text.now
+    (λ bytes. told_accounts word c.args.h bytes (book_of c.args.h bytes)) c.args.word.text.now
     (depot_state g.D.Depot c.args.depot.now) (depot_state g.D.Depot c.read_bytes.new.depot) c.in_ok-bytes.bytes
     c.judge_accounts.result c.in_ok-bytes.ensures judges

@@ -18,7 +18,7 @@ returns-in_err-bytes-clause-value g c =
     let word = c.args.word.number in
     rw (p.1, p.2) (looks_first (λ bytes. bytes.items) (λ newest. (fields_of newest.0, newest.1))
     (within word most_site_bytes SiteBytes)
-    (λ bytes. judged (told_newest word c.args.most (shown_number c.args.words)
+    (λ bytes. judged (told_newest word bytes c.args.most (shown_number c.args.words)
     (newest_of (fewer_taken c.args.first) bytes))) c.args.word.text.now
     (depot_state g.D.Depot c.args.depot.now) (depot_state g.D.Depot c.read_bytes.new.depot) c.in_err-bytes.field-0.0
     c.in_err-bytes.ensures)
@@ -27,7 +27,7 @@ pub returns-clause-value : goal.returns-clause-value
 unfolding newest_of_file
 returns-clause-value g c =
     let word = c.args.word.number in
-    let told : List ℕ → _ = λ bytes. told_newest word c.args.most (shown_number c.args.words)
+    let told : List ℕ → _ = λ bytes. told_newest word bytes c.args.most (shown_number c.args.words)
     (newest_of (fewer_taken c.args.first) bytes) in
     let judged_alone = rw c.deref.ensures.value at c.judge_newest.ensures.value in
     looks_judged (λ bytes. bytes.items) (λ newest. (fields_of newest.0, newest.1))

@@ -10,11 +10,12 @@ use Rattle.sd_command_base.proofs.Givens.{any_given}
 use Rattle.sd_command_base.proofs.Thirds.{wanting_obeys}
 use Rattle.sd_run_broadcasts.specs.Air.{air_meaning, aired_meaning}
 use Rattle.sd_run_broadcasts.proofs.AirFollows.{no_plan, plan_aired}
+use Rattle.sd_run_broadcasts.proofs.Saying.{air_said, air_silent}
 use Rattle.sd_run_broadcasts.proofs.air_command.air.Goals as goal
 
 -- memory was out for the name of the mark
-pub returns-in_err-mark : goal.returns-in_err-mark
-returns-in_err-mark g c =
+pub returns-in_err-mark-clause-value : goal.returns-in_err-mark-clause-value
+returns-in_err-mark-clause-value g c =
     let p = err_from_is_err_and c.from_residual.result c.from_residual.ensures.1 in
     let at = depot_state g.D.Depot c.args.depot.now in
     let any = any_given at.files in
@@ -26,8 +27,8 @@ returns-in_err-mark g c =
     })
 
 -- the site or the book was not read as it is to be
-pub returns-in_err-fields : goal.returns-in_err-fields
-returns-in_err-fields g c =
+pub returns-in_err-fields-clause-value : goal.returns-in_err-fields-clause-value
+returns-in_err-fields-clause-value g c =
     let p = err_from_is_err_and c.from_residual-in_err-fields.result c.from_residual-in_err-fields.ensures.1 in
     rw (p.1, p.2) (no_plan (λ plan. record { site = fields_of plan.0; commands = plan.1.commands })
     (shown_word c.args.site) (shown_word c.args.book) (shown_word c.args.clear) (shown_word c.args.out)
@@ -35,8 +36,8 @@ returns-in_err-fields g c =
     (page_state g.P.Sink c.args.print.now) c.args.steps.now c.in_err-fields.field-0.0 c.in_err-fields.ensures.value)
 
 -- memory was out for the head end
-pub returns-in_err-live : goal.returns-in_err-live
-returns-in_err-live g c =
+pub returns-in_err-live-clause-value : goal.returns-in_err-live-clause-value
+returns-in_err-live-clause-value g c =
     let p = err_from_is_err_and c.from_residual-in_err-live.result c.from_residual-in_err-live.ensures.1 in
     let site = shown_word c.args.site in
     let clear = shown_word c.args.clear in
@@ -55,8 +56,8 @@ returns-in_err-live g c =
       obeyed = wanting_obeys (aired_meaning plan site clear out any.given) q page c.args.steps.now NoMemory refl;
     }))
 
-pub returns : goal.returns
-returns g c =
+pub returns-clause-value : goal.returns-clause-value
+returns-clause-value g c =
     plan_aired (λ plan. record { site = fields_of plan.0; commands = plan.1.commands }) (shown_word c.args.site)
     (shown_word c.args.book) (shown_word c.args.clear) (shown_word c.args.out)
     (depot_state g.D.Depot c.args.depot.now) (depot_state g.D.Depot c.read_air_plan.new.depot)
@@ -64,6 +65,24 @@ returns g c =
     (outside (depot_state g.D.Depot c.air_stream.new.depot) (page_state g.P.Sink c.air_stream.new.print)
     c.air_stream.new.steps) (c.in_ok-fields.fields, c.in_ok-fields.commands) (status_of c.air_stream.result)
     c.requires.0 c.requires.1 c.requires.2 c.in_ok-fields.ensures.value
-    (c.air_stream.ensures
+    (c.air_stream.ensures.value
+    (record { site = fields_of c.in_ok-fields.fields; commands = c.in_ok-fields.commands.commands })
+    c.in_ok-live.ensures.value)
+
+pub returns-in_err-mark-clause-notes : goal.returns-in_err-mark-clause-notes
+returns-in_err-mark-clause-notes g c = air_silent (shown_word c.args.site) (shown_word c.args.book) _ _
+
+pub returns-in_err-fields-clause-notes : goal.returns-in_err-fields-clause-notes
+returns-in_err-fields-clause-notes g c = air_silent (shown_word c.args.site) (shown_word c.args.book) _ _
+
+pub returns-in_err-live-clause-notes : goal.returns-in_err-live-clause-notes
+returns-in_err-live-clause-notes g c = air_silent (shown_word c.args.site) (shown_word c.args.book) _ _
+
+pub returns-clause-notes : goal.returns-clause-notes
+returns-clause-notes g c =
+    air_said (λ plan. record { site = fields_of plan.0; commands = plan.1.commands }) (shown_word c.args.site)
+    (shown_word c.args.book) (depot_state g.D.Depot c.args.depot.now) (depot_state g.D.Depot c.read_air_plan.new.depot)
+    (c.in_ok-fields.fields, c.in_ok-fields.commands) _ _ c.in_ok-fields.ensures.value
+    (c.air_stream.ensures.notes
     (record { site = fields_of c.in_ok-fields.fields; commands = c.in_ok-fields.commands.commands })
     c.in_ok-live.ensures.value)

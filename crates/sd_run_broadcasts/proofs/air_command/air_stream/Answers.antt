@@ -12,10 +12,11 @@ use Rattle.sd_run_broadcasts.specs.Air.{mark_word}
 use Rattle.sd_run_broadcasts.specs.Marked.{NotOpenedMarked}
 use Rattle.sd_run_broadcasts.proofs.AirDone.{stopped_obeys, told_obeys, IsDone}
 use Rattle.sd_run_broadcasts.proofs.AirFollows.{aired_follows, not_opened, opened_as, same_word}
+use Rattle.sd_run_broadcasts.proofs.Saying.{none_noted}
 use Rattle.sd_run_broadcasts.proofs.air_command.air_stream.Goals as goal
 
-pub returns-in_err-inlet : goal.returns-in_err-inlet
-returns-in_err-inlet g c plan new =
+pub returns-in_err-inlet-clause-value : goal.returns-in_err-inlet-clause-value
+returns-in_err-inlet-clause-value g c plan new =
     let result = err_from_is_err_and c.from_residual.result c.from_residual.ensures.1 in
     let site = shown_word c.args.site in
     let clear = shown_word c.args.clear in
@@ -31,8 +32,8 @@ returns-in_err-inlet g c plan new =
 pub close_both-requires : goal.close_both-requires
 close_both-requires g c = there_after _ _ c.args.out.text.now [] c.in_ok-inlet.ensures.ok.files
 
-pub returns-in_err-close_both : goal.returns-in_err-close_both
-returns-in_err-close_both g c plan new =
+pub returns-in_err-close_both-clause-value : goal.returns-in_err-close_both-clause-value
+returns-in_err-close_both-clause-value g c plan new =
     let result = err_from_is_err_and c.from_residual-in_err-close_both.result
     c.from_residual-in_err-close_both.ensures.1 in
     let site = shown_word c.args.site in
@@ -61,8 +62,8 @@ returns-in_err-close_both g c plan new =
     (stopped_obeys plan site out p q r clear.text _ _ _ _ _ _ _ c.send_live-sent.result c.close_both.result done page i
     j clear.number status c.in_err-close_both.was))
 
-pub returns : goal.returns
-returns g c plan new =
+pub returns-clause-value : goal.returns-clause-value
+returns-clause-value g c plan new =
     let site = shown_word c.args.site in
     let clear = shown_word c.args.clear in
     let out = shown_word c.args.out in
@@ -89,3 +90,12 @@ returns g c plan new =
     (free_got p.files (used_name site.text) opened.new)
     (told_obeys plan site out p q r clear.text _ _ _ _ _ _ _ c.send_live-sent.result c.close_both.result done page i j
     clear.number c.in_ok-finished.finished c.in_ok-finished.was now status c.in_ok-close_both.was c.tell.ensures)
+
+pub returns-in_err-inlet-clause-notes : goal.returns-in_err-inlet-clause-notes
+returns-in_err-inlet-clause-notes g c plan new = none_noted plan _
+
+pub returns-in_err-close_both-clause-notes : goal.returns-in_err-close_both-clause-notes
+returns-in_err-close_both-clause-notes g c plan new = c.send_live-sent.ensures.notes plan new
+
+pub returns-clause-notes : goal.returns-clause-notes
+returns-clause-notes g c plan new = c.send_live-sent.ensures.notes plan new

@@ -4,6 +4,7 @@ use Rattle.sd_engine.specs.Seeking.{SeekOutcome}
 use Rattle.sd_run_broadcasts.proofs.AirFaults.{stop_cause}
 use Rattle.sd_run_broadcasts.proofs.Airing.{all_sent, full_sent, handed, last_sent, not_begun, packet_found}
 use Rattle.sd_run_broadcasts.proofs.Airing.{packet_passed, packet_stopped, seek_stopped}
+use Rattle.sd_run_broadcasts.proofs.Saying.{more_noted, none_noted}
 use Rattle.sd_run_broadcasts.proofs.air_send.send_live.Goals as goal
 
 pub loop-count-init : goal.loop-count-init
@@ -14,6 +15,7 @@ loop-count-init g c = record {
   long = refl;
   way = λ plan new. not_begun plan (g.S.Source.left c.args.source.now) (g.K.Sink.held c.args.sink.now) c.args.live.now
       [] refl new;
+  noted = λ plan new. none_noted plan _;
   read = refl;
   written = refl;
 }
@@ -35,6 +37,10 @@ loop-count-preserved g c = record {
       (subst (SeekOutcome _ _ _ _ _ _ _ _) c.in-Ok-Some-default.field-0-0-is c.in-Ok-Some-default.ensures.value))
       c.loop-count-test.true _ c.if-not-branch.false
       (c.in_ok-send_packet-in-Ok-Some-default.ensures.value plan);
+  noted = λ plan new. more_noted plan _ _ _ (c.loop-count.invariant.noted plan new)
+      (let way = c.loop-count.invariant.way plan new in
+      c.in_ok-send_packet-in-Ok-Some-default.ensures.notes plan way.packets way.keeps
+      (omega (arith, way.counted, c.loop-count-test.true)));
   read = c.in-Ok-Some-default.ensures.cause.calm (λ e. absurd (cc)) ∙ c.loop-count.invariant.read;
   written = c.in_ok-send_packet-in-Ok-Some-default.ensures.cause.calm (λ e. cc)
       ∙ (c.in-Ok-Some-default.ensures.written.calm (λ e. absurd (cc)) ∙ c.loop-count.invariant.written);
@@ -97,3 +103,30 @@ returns-in-Err-seek-clause-cause g c =
     rw (sym c.loop-count.invariant.read, sym c.loop-count.invariant.written)
     (stop_cause _ _ _ _ _ c.in-Err-seek.fault _ c.in-Err-seek.ensures.cause c.in-Err-seek.ensures.written
     c.stop-in-Err-seek.ensures.cause c.stop-in-Err-seek.ensures.port)
+
+pub returns-in_err-send_packet-in-Ok-Some-default-clause-notes :
+    goal.returns-in_err-send_packet-in-Ok-Some-default-clause-notes
+returns-in_err-send_packet-in-Ok-Some-default-clause-notes g c plan new =
+    more_noted plan _ _ _ (c.loop-count.invariant.noted plan new)
+    (let way = c.loop-count.invariant.way plan new in
+    c.in_err-send_packet-in-Ok-Some-default.ensures.notes plan way.packets way.keeps
+    (omega (arith, way.counted, c.loop-count-test.true)))
+
+pub returns-then-not-branch-clause-notes : goal.returns-then-not-branch-clause-notes
+returns-then-not-branch-clause-notes g c plan new =
+    more_noted plan _ _ _ (c.loop-count.invariant.noted plan new)
+    (let way = c.loop-count.invariant.way plan new in
+    c.in_ok-send_packet-in-Ok-Some-default.ensures.notes plan way.packets way.keeps
+    (omega (arith, way.counted, c.loop-count-test.true)))
+
+pub returns-in-Ok-None-default-clause-notes : goal.returns-in-Ok-None-default-clause-notes
+returns-in-Ok-None-default-clause-notes g c plan new = c.loop-count.invariant.noted plan new
+
+pub returns-in-Err-clause-notes : goal.returns-in-Err-clause-notes
+returns-in-Err-clause-notes g c plan new = c.loop-count.invariant.noted plan new
+
+pub returns-in-Ok-clause-notes : goal.returns-in-Ok-clause-notes
+returns-in-Ok-clause-notes g c plan new = c.loop-count.invariant.noted plan new
+
+pub returns-in-Err-seek-clause-notes : goal.returns-in-Err-seek-clause-notes
+returns-in-Err-seek-clause-notes g c plan new = c.loop-count.invariant.noted plan new

@@ -14,6 +14,7 @@ use Rattle.sd_command_base.specs.Shown.{shown_word}
 use Rattle.sd_command_base.proofs.Looked.{opened_got}
 use Rattle.sd_command_base.proofs.Turning.{turned_obeys, not_turned}
 use Rattle.sd_run_broadcasts.proofs.Heading.{by_plan, plan_follows, no_plan}
+use Rattle.sd_run_broadcasts.proofs.Saying.{head_said, head_silent}
 use Rattle.sd_run_broadcasts.proofs.head_command.head.Goals as goal
 use Rattle.sd_command_base.proofs.Thirds.{wanting_obeys}
 
@@ -30,8 +31,8 @@ send-sent-requires g c =
     subst (λ (plan : Plan). IsAfter plan [] c.in_ok-head.head) (sym made.keeps_to) made
 
 -- neither file was read as it is to be
-pub returns-in_err-site : goal.returns-in_err-site
-returns-in_err-site g c page =
+pub returns-in_err-site-clause-value : goal.returns-in_err-site-clause-value
+returns-in_err-site-clause-value g c page =
     let p = err_from_is_err_and c.from_residual.result c.from_residual.ensures.1 in
     rw (p.1, p.2) (no_plan (λ plan. record { site = fields_of plan.0; commands = plan.1.commands })
     (shown_word c.args.site)
@@ -41,8 +42,8 @@ returns-in_err-site g c page =
     c.in_err-site.ensures.value)
 
 -- memory was out for the head end
-pub returns-in_err-head : goal.returns-in_err-head
-returns-in_err-head g c page =
+pub returns-in_err-head-clause-value : goal.returns-in_err-head-clause-value
+returns-in_err-head-clause-value g c page =
     let p = err_from_is_err_and c.from_residual-in_err-head.result c.from_residual-in_err-head.ensures.1 in
     let clear = shown_word c.args.clear in
     let out = shown_word c.args.out in
@@ -53,13 +54,13 @@ returns-in_err-head g c page =
     (shown_word c.args.site)
     (shown_word c.args.book) clear out got.0 (depot_state g.D.Depot c.args.depot.now) q page c.args.steps.now
     (outside q page c.args.steps.now)
-    (c.in_ok-site.site, c.in_ok-site.book) NoMemory c.requires.1 c.requires.2
+    (c.in_ok-site.site, c.in_ok-site.book, c.in_ok-site.has_word) NoMemory c.requires.1 c.requires.2
     c.in_ok-site.ensures.value got.1
     (wanting_obeys (sending_of clear out got.0 plan) q page c.args.steps.now NoMemory refl))
 
 -- the stream was not opened, or OUT not made
-pub returns-in_err-inlet : goal.returns-in_err-inlet
-returns-in_err-inlet g c page =
+pub returns-in_err-inlet-clause-value : goal.returns-in_err-inlet-clause-value
+returns-in_err-inlet-clause-value g c page =
     let p = err_from_is_err_and c.from_residual-in_err-inlet.result c.from_residual-in_err-inlet.ensures.1 in
     let clear = shown_word c.args.clear in
     let out = shown_word c.args.out in
@@ -74,7 +75,7 @@ returns-in_err-inlet g c page =
     (shown_word c.args.site)
     (shown_word c.args.book) clear out none.got (depot_state g.D.Depot c.args.depot.now) q page c.args.steps.now
     (outside r page c.args.steps.now)
-    (c.in_ok-site.site, c.in_ok-site.book) status c.requires.1 c.requires.2
+    (c.in_ok-site.site, c.in_ok-site.book, c.in_ok-site.has_word) status c.requires.1 c.requires.2
     c.in_ok-site.ensures.value none.is_got
     none.obeys)
 
@@ -83,8 +84,8 @@ close_both-requires g c =
     there_after (g.D.Depot.files c.read_plan.new.depot) (g.D.Depot.files c.open_both.new.depot) c.args.out.text.now []
     c.in_ok-inlet.ensures.ok.files
 
-pub returns : goal.returns
-returns g c page =
+pub returns-clause-value : goal.returns-clause-value
+returns-clause-value g c page =
     let clear = shown_word c.args.clear in
     let out = shown_word c.args.out in
     let q = depot_state g.D.Depot c.read_plan.new.depot in
@@ -96,7 +97,7 @@ returns g c page =
     plan_follows (λ plan. record { site = fields_of plan.0; commands = plan.1.commands }) (shown_word c.args.site)
     (shown_word c.args.book) clear out (Some sent.bytes) (depot_state g.D.Depot c.args.depot.now) q page
     c.args.steps.now
-    (outside r page c.send-sent.new.steps) (c.in_ok-site.site, c.in_ok-site.book) (status_of c.close_both.result)
+    (outside r page c.send-sent.new.steps) (c.in_ok-site.site, c.in_ok-site.book, c.in_ok-site.has_word) (status_of c.close_both.result)
     c.requires.1 c.requires.2
     c.in_ok-site.ensures.value
     (opened_got q.files clear.text _ sent.bytes opened.opens sent.is_left)
@@ -105,3 +106,16 @@ returns g c page =
     c.send-sent.new.steps _ _ _ _ _ _ _ c.send-sent.result c.close_both.result opened c.send-sent.ensures.cause
     (by_plan _ plan sent.bytes _ _ (status_of c.send-sent.result) c.in_ok-head.ensures.value.keeps_to sent.wrote)
     c.close_both.ensures tt)
+
+pub returns-in_err-site-clause-notes : goal.returns-in_err-site-clause-notes
+returns-in_err-site-clause-notes g c = head_silent (shown_word c.args.site) _ _
+
+pub returns-in_err-head-clause-notes : goal.returns-in_err-head-clause-notes
+returns-in_err-head-clause-notes g c = head_silent (shown_word c.args.site) _ _
+
+pub returns-in_err-inlet-clause-notes : goal.returns-in_err-inlet-clause-notes
+returns-in_err-inlet-clause-notes g c =
+    head_said (shown_word c.args.site) _ _ _ _ _ c.in_ok-site.ensures.word c.warn.ensures
+
+pub returns-clause-notes : goal.returns-clause-notes
+returns-clause-notes g c = head_said (shown_word c.args.site) _ _ _ _ _ c.in_ok-site.ensures.word c.warn.ensures
