@@ -1,6 +1,6 @@
 -- Public meaning: what a refusal is to a user, on the standard error [this project, docs/FORMATS.md, Explanations].
 use Rattle.std.specs.Prelude.{ℕ, List, [], ◌∷◌, ◌++◌, codes, length, slice_get, Option, Some, None, zero, suc}
-use Rattle.std.specs.Prelude.{if◌then◌else◌, bytes_eq, ◌==◌, ◌||◌, ◌&&◌}
+use Rattle.std.specs.Prelude.{Bool, if◌then◌else◌, bytes_eq, ◌==◌, ◌||◌, ◌&&◌}
 use Rattle.sd_command_line.specs.declared.command.Command.{Command}
 use Rattle.sd_command_line.specs.declared.operand.Operand.{Operand}
 use Rattle.sd_command_line.specs.Commands.{command_named, operands_of}
@@ -146,12 +146,16 @@ number_line (Some argument) = argument_line (range_reason argument.0 argument.1)
 unfoldable pub plain_line : List ℕ → List ℕ
 plain_line reason = codes "sdca: " ++ (reason ++ codes "\n")
 
+-- the argument is a file and has this text
+abbrev pub names_file : Operand → List ℕ → List ℕ → Bool
+names_file operand text name = is_file (operand_kind operand) && bytes_eq text name
+
 -- the first file among arguments that has this text
 abbrev pub file_of : List ℕ → List Operand → List (List ℕ) → Option (Operand × List ℕ)
 file_of name [] texts = None
 file_of name (operand ∷ operands) [] = None
 file_of name (operand ∷ operands) (text ∷ texts) =
-    if is_file (operand_kind operand) && bytes_eq text name then Some (operand, text) else file_of name operands texts
+    if names_file operand text name then Some (operand, text) else file_of name operands texts
 
 -- the line of a file that is an argument, or that is none
 abbrev pub file_line : List ℕ → List ℕ → Option (Operand × List ℕ) → List ℕ
@@ -160,7 +164,8 @@ file_line reason name (Some argument) = argument_line reason argument
 
 abbrev pub file_after : Option Command → List (List ℕ) → List ℕ → Option (Operand × List ℕ)
 file_after None texts name = None
-file_after (Some command) texts name = file_of name (operands_of command) texts
+file_after (Some command) texts name =
+    if length texts == length (operands_of command) then file_of name (operands_of command) texts else None
 
 -- the file of this name among the arguments of words
 abbrev pub file_named : List (List ℕ) → List ℕ → Option (Operand × List ℕ)
@@ -177,7 +182,7 @@ trouble_line words (Some (name, trouble)) = file_line (trouble_reason trouble) n
 unfoldable pub explained : List (List ℕ) → Option (List ℕ × Trouble) → Status → List ℕ
 explained words trouble Usage = usage_line words
 explained words trouble (Missing word) = of_argument words word (λ operand. missing_reason operand)
-explained words trouble (Revoked leaf period) = of_argument words card_word (λ operand. revoked_reason)
+explained words trouble (Revoked leaf period) = of_argument words card_word (λ operand. revoked_reason leaf period)
 explained words trouble DepotFault = trouble_line words trouble
 explained words trouble (BadSite word fault text) =
     of_argument words word (λ operand. site_reason (command_in words) fault text)
@@ -189,7 +194,7 @@ explained words trouble (BadStream refusal) =
     of_argument words (stream_word (command_in words)) (λ operand. stream_reason refusal)
 explained words trouble (Limit kind) = plain_line (limit_reason kind)
 explained words trouble (Unheard leaf period) =
-    of_argument words (stream_word (command_in words)) (λ operand. unheard_reason)
+    of_argument words (stream_word (command_in words)) (λ operand. unheard_reason leaf period)
 explained words trouble (Unclosed number) =
     of_argument words (stream_word (command_in words)) (λ operand. unclosed_reason)
 explained words trouble (Gaps packets) = of_argument words (stream_word (command_in words)) (λ operand. gaps_reason)

@@ -1,5 +1,5 @@
 -- Public meaning: why an argument is refused, as a user reads it [this project, docs/FORMATS.md, Explanations].
-use Rattle.std.specs.Prelude.{ℕ, ◌-◌, ◌^◌, ◌==◌, if◌then◌else◌, List, ◌++◌, codes, length, take}
+use Rattle.std.specs.Prelude.{ℕ, ◌-◌, ◌^◌, ◌==◌, ◌&&◌, nat_le, if◌then◌else◌, List, ◌++◌, codes, length, take}
 use Rattle.std.specs.Prelude.{Option, Some, None}
 use Rattle.std.specs.Fmt.{decimal}
 use Rattle.sd_base.specs.Number.{decimal_value}
@@ -86,6 +86,10 @@ line_found k text wrong =
     ++ (if length (take text.length text.bytes) == 0 then codes " " ++ wrong
     else codes " is \"" ++ (quoted text ++ codes "\"")))
 
+-- a line, and what it must be
+unfoldable pub must_be : List ℕ → List ℕ → List ℕ
+must_be found form = found ++ (codes "; it must be " ++ form)
+
 -- what line k of a site is to be [this project, docs/FORMATS.md, Site]
 unfoldable pub site_form : ℕ → List ℕ
 site_form k =
@@ -118,9 +122,9 @@ range_form command k = site_form k
 -- why a site is refused by a command
 unfoldable pub site_reason : Option Command → SiteFault → Excerpt → List ℕ
 site_reason command (site.Line k) text =
-    line_found k text (codes "is malformed") ++ (codes "; it must be " ++ site_form k)
+    must_be (line_found k text (codes "is malformed")) (site_form k)
 site_reason command (site.Range k) text =
-    line_found k text (codes "is out of range") ++ (codes "; it must be " ++ range_form command k)
+    must_be (line_found k text (codes "is out of range")) (range_form command k)
 site_reason command site.SamePid text = codes "lines 4 and 5 have one PID; EMMs and ECMs need one each"
 site_reason command (site.Extra k) text =
     line_found k text (codes "is there") ++ codes ", which is one too many; a site has at most 13"
@@ -129,7 +133,7 @@ site_reason command site.Short text =
 
 -- why a card is refused
 unfoldable pub card_reason : CardFault → List ℕ
-card_reason card.Magic = codes "it is no plain card; a layer card and any other file is none"
+card_reason card.Magic = codes "it is no card of the command card; a layer card is none either"
 card_reason card.Version = codes "it is a card of another version; make it again (sdca card)"
 card_reason card.Height = codes "its height is out of range; make it again (sdca card)"
 card_reason card.Leaf = codes "its leaf is not in a tree of its height; make it again (sdca card)"
@@ -140,6 +144,13 @@ card_reason card.NoMemory = codes "memory ran out"
 -- what the argument is to be
 unfoldable pub rule_of : Operand → List ℕ
 rule_of operand = operand_name operand ++ (codes " is " ++ meaning_of operand)
+
+-- the receivers of a tree of height d, if there is one
+unfoldable pub leaf_text : ℕ → List ℕ
+leaf_text d =
+    if nat_le 1 d && nat_le d 20 then
+    codes "receivers of height " ++ (decimal d ++ (codes " are 0 to " ++ decimal (2 ^ d - 1)))
+    else codes "its receiver is not in the tree"
 
 -- the rule that a line breaks, for a reader
 unfoldable pub cause_text : LineCause → List ℕ
@@ -154,8 +165,7 @@ cause_text cause.Space = codes "it has a space too many; one stands between word
 cause_text cause.Capital = codes "it has a capital letter; commands and names have none"
 cause_text cause.Form =
     codes "it is none of its lines; numbers are plain decimals, without sign, range or leading zero"
-cause_text (cause.Leaf d) =
-    codes "receivers of height " ++ (decimal d ++ (codes " are 0 to " ++ decimal (2 ^ d - 1)))
+cause_text (cause.Leaf d) = leaf_text d
 cause_text cause.Descends = codes "its receiver is not above that of the line before"
 cause_text cause.Unended = codes "its line feed is missing, so it may be cut off"
 cause_text (cause.Held leaf line) =
@@ -182,7 +192,7 @@ unfoldable pub trouble_reason : Trouble → List ℕ
 trouble_reason trouble.NoSpace = codes "no space is left on the device; what is there is a part of it"
 trouble_reason trouble.Denied = codes "permission denied"
 trouble_reason trouble.Folder = codes "it is a folder"
-trouble_reason trouble.Input = codes "it is one of the inputs, by another path"
+trouble_reason trouble.Input = codes "it is an input and the output, by two names"
 trouble_reason trouble.Gone = codes "its reader is gone"
 trouble_reason trouble.ReadOnly = codes "its file system is read-only"
 trouble_reason trouble.TooLarge = codes "it would be larger than is allowed (ulimit -f)"
@@ -204,7 +214,7 @@ clear_cause (clear.TooLong packet) =
 
 unfoldable pub clear_refusal : StreamRefusal ClearFault → List ℕ
 clear_refusal (refusal.Broken found) =
-    codes "no packet of 188 bytes begins there; packets of 192 or 204 bytes must be cut to 188 first"
+    codes "there is no whole packet of 188 bytes; packets of 192 or 204 bytes must be cut to 188 first"
 clear_refusal refusal.TooLong = codes "a stream has at most 281474976710656 packets"
 clear_refusal (refusal.Packet fault) = clear_cause fault
 
@@ -215,13 +225,13 @@ stream_cause (stream.WrongKey packet period found due) =
 stream_cause (stream.WrongWord packet word found due) =
     codes "card and broadcast are of two masters (see sdca show and sdca status), or the message was changed"
 stream_cause (stream.BadEmm packet fault) =
-    codes "the EMM is damaged, out of order or of another sender; off the air use watch"
+    codes "the EMM is damaged, out of order or of another sender; watch reads streams with damage"
 stream_cause (stream.BadEcm packet fault) =
-    codes "the ECM is damaged, out of order or of another sender; off the air use watch"
-stream_cause (stream.Parity packet) = codes "it is not of this broadcast; off the air use watch"
+    codes "the ECM is damaged, out of order or of another sender; watch reads streams with damage"
+stream_cause (stream.Parity packet) = codes "it is not of this broadcast; watch reads streams with damage"
 
 unfoldable pub stream_refused : StreamRefusal StreamFault → List ℕ
-stream_refused (refusal.Broken found) = codes "no packet of 188 bytes begins there; off the air use watch"
+stream_refused (refusal.Broken found) = codes "there is no whole packet of 188 bytes; watch reads streams with damage"
 stream_refused refusal.TooLong = codes "a stream has at most 281474976710656 packets"
 stream_refused (refusal.Packet fault) = stream_cause fault
 
@@ -254,11 +264,18 @@ limit_reason kind.FieldPackets = codes "field takes at most 16384 packets; use h
 limit_reason kind.FieldEvents = codes "field takes at most 524288 events"
 
 -- what a receiver did not get
-unfoldable pub revoked_reason : List ℕ
-revoked_reason = codes "its receiver is revoked there; OUT has what it was entitled to; subscribe takes it back"
+unfoldable pub revoked_reason : ℕ → ℕ → List ℕ
+revoked_reason u q =
+    codes "receiver "
+    ++ (decimal u
+    ++ (codes " is revoked in period "
+    ++ (decimal q ++ codes "; OUT has what it was entitled to; a later subscribe entitles it again")))
 
-unfoldable pub unheard_reason : List ℕ
-unheard_reason = codes "no set of that period with the receiver arrived; packets were lost, or it begins late"
+unfoldable pub unheard_reason : ℕ → ℕ → List ℕ
+unheard_reason u q =
+    codes "no set of period "
+    ++ (decimal q
+    ++ (codes " with receiver " ++ (decimal u ++ codes " arrived; packets were lost, or the stream begins late")))
 
 unfoldable pub unclosed_reason : List ℕ
 unclosed_reason = codes "it broke off before its closing message, or its end was lost"

@@ -169,10 +169,13 @@ abbrev pub version_words : List (List ℕ) → Result Order Status
 version_words [] = Ok VersionOf
 version_words (word ∷ words) = Err Usage
 
+abbrev pub is_help_option : List ℕ → Bool
+is_help_option word = bytes_eq word (codes "--help") || bytes_eq word (codes "-h")
+
 -- the words after a name ask for help on it: there is one, `--help` or `-h`
 abbrev pub asks_help : List (List ℕ) → Bool
 asks_help [] = false
-asks_help (word ∷ []) = bytes_eq word (codes "--help") || bytes_eq word (codes "-h")
+asks_help (word ∷ []) = is_help_option word
 asks_help (word ∷ more ∷ words) = false
 
 -- `COMMAND --help` and `COMMAND -h` are `help COMMAND`: a file of such a name is `./--help`

@@ -1,11 +1,12 @@
 ghost use Rattle.std.specs.Prelude.{◌≡◌, map, option_map, string_bytes, IfOk};
 ghost use Rattle.sd_command_line.specs.CommandLine.{words_of};
-ghost use Rattle.sd_command_line.specs.Explained.{argument_line, argument_of, clash_word as word_of_clash};
+ghost use Rattle.sd_command_line.specs.Explained.{argument_line, argument_of, card_word, clash_word as word_of_clash};
 ghost use Rattle.sd_command_line.specs.Explained.{clear_word as word_of_clear, command_line, count_line, explained};
 ghost use Rattle.sd_command_line.specs.Explained.{file_line, file_named, file_of as file_there, help_line, number_line};
 ghost use Rattle.sd_command_line.specs.Explained.{of_argument, plain_line, shown, stream_word as word_of_stream};
 ghost use Rattle.sd_command_line.specs.Explained.{taken_reason, topic_line, trouble_line, usage_line, word_line};
-ghost use Rattle.sd_command_line.specs.Reasons.{clear_reason, line_reason, missing_reason, site_reason, stream_reason};
+ghost use Rattle.sd_command_line.specs.Reasons.{clear_reason, line_reason, missing_reason, revoked_reason, site_reason};
+ghost use Rattle.sd_command_line.specs.Reasons.{stream_reason, unheard_reason};
 ghost use Rattle.sd_command_line.specs.Words.{command_in};
 
 use crate::found::{Argument, find_argument, find_file};
@@ -42,7 +43,7 @@ pub fn explanation(
     match status {
         Status::Usage => usage(alloc, line),
         Status::Missing(word) => missing(alloc, line, word),
-        Status::Revoked { .. } => simple(alloc, line, CARD_WORD, reason::revoked()),
+        Status::Revoked { leaf, period } => revoked(alloc, line, leaf, period),
         Status::DepotFault => at_file(alloc, line, trouble),
         Status::BadSite { word, fault, text } => site(alloc, line, word, fault, &text),
         Status::BadBook { word, line: bad } => book(alloc, line, word, &bad),
@@ -50,7 +51,7 @@ pub fn explanation(
         Status::BadClear(refusal) => clear(alloc, line, refusal),
         Status::BadStream(refusal) => stream(alloc, line, refusal),
         Status::Limit(kind) => plain(alloc, reason::limit(kind)),
-        Status::Unheard { .. } => simple(alloc, line, stream_word(command), reason::unheard()),
+        Status::Unheard { leaf, period } => unheard(alloc, line, leaf, period),
         Status::Unclosed(_) => simple(alloc, line, stream_word(command), reason::unclosed()),
         Status::Gaps(_) => simple(alloc, line, stream_word(command), reason::gaps()),
         Status::NoCat => simple(alloc, line, stream_word(command), reason::no_cat()),
@@ -96,7 +97,12 @@ fn clash_word(clash: Clash) -> u8
 }
 
 /// The line of the argument of this number, if it is there.
-fn simple(alloc: Global, line: &CommandLine<'_>, word: u8, reason: &str) -> Result<String, AllocError>
+fn simple(
+    alloc: Global,
+    line: &CommandLine<'_>,
+    word: u8,
+    reason: &str,
+) -> Result<String, AllocError>
     ensures { IfOk result (λ text. string_bytes text
         ≡ of_argument (words_of line.now) word (λ operand. reason.now)) }
 {
@@ -104,6 +110,25 @@ fn simple(alloc: Global, line: &CommandLine<'_>, word: u8, reason: &str) -> Resu
         Some(argument) => about(alloc, argument, reason),
         None => Ok(String::new(alloc)),
     }
+}
+
+/// The line of the card of receiver u, which is revoked in period q.
+fn revoked(alloc: Global, line: &CommandLine<'_>, u: u32, q: u32) -> Result<String, AllocError>
+    ensures { IfOk result (λ text. string_bytes text
+        ≡ of_argument (words_of line.now) card_word (λ operand. revoked_reason u q)) }
+{
+    let reason = reason::revoked(alloc, u, q)?;
+    simple(alloc, line, CARD_WORD, reason.as_str())
+}
+
+/// The line of a stream of which receiver u did not hear its entitlement for period q.
+fn unheard(alloc: Global, line: &CommandLine<'_>, u: u32, q: u32) -> Result<String, AllocError>
+    ensures { IfOk result (λ text. string_bytes text
+        ≡ of_argument (words_of line.now) (word_of_stream (command_in (words_of line.now)))
+        (λ operand. unheard_reason u q)) }
+{
+    let reason = reason::unheard(alloc, u, q)?;
+    simple(alloc, line, stream_word(line.command), reason.as_str())
 }
 
 /// A line about no argument.
@@ -121,7 +146,8 @@ fn at_file(
     line: &CommandLine<'_>,
     trouble: Option<(&str, Trouble)>,
 ) -> Result<String, AllocError>
-    ensures { IfOk result (λ text. string_bytes text ≡ trouble_line (words_of line.now) (option_map (λ said. (said.0.now, said.1)) trouble.entry)) }
+    ensures { IfOk result (λ text. string_bytes text
+        ≡ trouble_line (words_of line.now) (option_map (λ said. (said.0.now, said.1)) trouble.entry)) }
 {
     let Some((name, trouble)) = trouble else {
         return Ok(String::new(alloc));
@@ -131,7 +157,8 @@ fn at_file(
         Some(argument) => about(alloc, argument, reason),
         None => {
             let name = escaped(alloc, name)?;
-            format!(in alloc; "sdca: {name}: {reason}\n")
+            let reason = format!(in alloc; "{name}: {reason}")?;
+            plain(alloc, reason.as_str())
         }
     }
 }

@@ -1,8 +1,8 @@
-ghost use Rattle.std.specs.Prelude.{◌≡◌, map, option_map, slice_get, string_bytes, Some};
+ghost use Rattle.std.specs.Prelude.{◌≡◌, length, map, option_map, slice_get, string_bytes, Some};
 ghost use Rattle.sd_command_line.specs.CommandLine.{words_of};
 ghost use Rattle.sd_command_line.specs.Commands.{operands_of};
 ghost use Rattle.sd_command_line.specs.Explained.{argument_at as argument_there, argument_of, file_named};
-ghost use Rattle.sd_command_line.specs.Explained.{file_of as file_there, shown};
+ghost use Rattle.sd_command_line.specs.Explained.{file_of as file_there, names_file as names_this, shown};
 
 use crate::{Command, CommandLine, Operand};
 
@@ -53,27 +53,36 @@ fn text_at(texts: &[String], place: usize) -> Option<&str>
     }
 }
 
-/// The first file among the arguments that has this text.
+/// The first file among the arguments that has this text, if the first word is a command that takes as many.
 pub(crate) fn find_file<'a>(line: &CommandLine<'a>, name: &str) -> Option<Argument<'a>>
     ensures { option_map shown result ≡ file_named (words_of line.now) name.now }
 {
-    let [_, texts @ ..] = line.words else {
-        return None;
-    };
-    file_among(line.command?, texts, name)
+    match (line.command, line.words) {
+        (Some(command), [_, texts @ ..]) if texts.len() == command.operands().len() => {
+            file_among(command.operands(), texts, name)
+        }
+        _ => None,
+    }
 }
 
-/// The first file among these texts, which are those behind a command's name, that has this text.
-fn file_among<'a>(command: Command, texts: &'a [String], name: &str) -> Option<Argument<'a>>
-    ensures { option_map shown result ≡ file_there name.now (operands_of command) (map string_bytes texts.now) }
+/// The first file among these arguments that has this text.
+fn file_among<'a>(operands: &[Operand], texts: &'a [String], name: &str) -> Option<Argument<'a>>
+    requires { length operands.now ≡ length texts.now }
+    ensures { option_map shown result ≡ file_there name.now operands.now (map string_bytes texts.now) }
 {
-    for (operand, text) in command.operands().iter().zip(texts) {
-        if operand.kind().is_file() && text.as_str() == name {
-            return Some(Argument {
-                operand: *operand,
-                text: text.as_str(),
-            });
+    for index in 0..operands.len() {
+        let operand = operands[index];
+        let text = texts[index].as_str();
+        if names_file(operand, text, name) {
+            return Some(Argument { operand, text });
         }
     }
     None
+}
+
+/// Whether the argument is a file and has this text.
+fn names_file(operand: Operand, text: &str, name: &str) -> bool
+    ensures { result ≡ names_this operand text.now name.now }
+{
+    operand.kind().is_file() && text == name
 }

@@ -5,6 +5,7 @@ ghost use Rattle.sd_command_line.specs.Commands.{command_named, operands_of};
 ghost use Rattle.sd_command_line.specs.Words.{command_in, command_words, help_words, input_texts, named_words};
 ghost use Rattle.sd_command_line.specs.Words.{order_of, HoldsSecretsBy};
 ghost use Rattle.sd_command_line.specs.Words.{asks_help as ask_for_help, is_help as names_help};
+ghost use Rattle.sd_command_line.specs.Words.{is_help_option as names_help_option};
 ghost use Rattle.sd_command_line.specs.Words.{is_version as names_version};
 ghost use Rattle.sd_command_line.specs.Words.{out_is_mark as names_mark, out_is_read, out_text, version_words, with_input};
 ghost use Rattle.sd_command_line.specs.Orders.{order_said, shown};
@@ -70,9 +71,15 @@ fn asks_help(texts: &[String]) -> bool
     ensures { result ≡ ask_for_help (map string_bytes texts.now) }
 {
     match texts {
-        [word] => matches!(word.as_str(), "--help" | "-h"),
+        [word] => is_help_option(word.as_str()),
         _ => false,
     }
+}
+
+fn is_help_option(word: &str) -> bool
+    ensures { result ≡ names_help_option word.now }
+{
+    matches!(word, "--help" | "-h")
 }
 
 /// Whether a first word asks for help.

@@ -1,6 +1,8 @@
 ghost use Rattle.std.specs.Prelude.{◌≡◌, IfOk, string_bytes};
 ghost use Rattle.sd_command_line.specs.Reasons.{at_packet, book_limit_reason, card_reason, cause_text, clash_reason};
 ghost use Rattle.sd_command_line.specs.Reasons.{clear_cause, clear_reason, clear_refusal, gaps_reason, limit_reason};
+ghost use Rattle.sd_base.specs.Number.{decimal_value};
+ghost use Rattle.sd_command_line.specs.Reasons.{must_be as found_and_due, number_fault as wrong_number, leaf_text};
 ghost use Rattle.sd_command_line.specs.Reasons.{line_found, line_reason, mark_reason, miscounted_reason};
 ghost use Rattle.sd_command_line.specs.Reasons.{missing_reason, no_cat_reason, no_page_reason, out_reason};
 ghost use Rattle.sd_command_line.specs.Reasons.{output_reason, own_book_reason, range_form, range_reason};
@@ -11,11 +13,14 @@ ghost use Rattle.sd_command_line.specs.Reasons.{unheard_reason, unknown_reason, 
 use crate::{Command, Operand};
 use sd_base::{NumberFault, number_after};
 use sd_book::BookLimit;
-use sd_command_base::{BadLine, Clash, Excerpt, LimitKind, LineCause, OutCause, StreamRefusal, Trouble, quoted};
+use sd_command_base::{
+    BadLine, Clash, Excerpt, LimitKind, LineCause, OutCause, StreamRefusal, Trouble, quoted,
+};
 use sd_engine::MOST_PACKETS;
 use sd_message::StreamFault;
 use sd_psi::ClearFault;
 use sd_site::{CardFault, SiteFault};
+use sd_tree::Height;
 use std::alloc::{AllocError, Global};
 
 /// Why a file isn't there.
@@ -113,6 +118,14 @@ fn line_found(alloc: Global, k: u32, text: &Excerpt, wrong: &str) -> Result<Stri
     format!(in alloc; "line {k} is \"{text}\"")
 }
 
+/// A line, and what it must be.
+#[tactic(auto, unfolding(crate::specs::Reasons::must_be))]
+fn must_be(alloc: Global, found: &str, form: &str) -> Result<String, AllocError>
+    ensures { IfOk result (λ text. string_bytes text ≡ found_and_due found.now form.now) }
+{
+    format!(in alloc; "{found}; it must be {form}")
+}
+
 /// What line k of a site is to be.
 #[tactic(auto, unfolding(crate::specs::Reasons::site_form))]
 fn site_form(k: u32) -> &'static str
@@ -168,13 +181,11 @@ pub(crate) fn site(
     match fault {
         SiteFault::Line(k) => {
             let found = line_found(alloc, k, text, "is malformed")?;
-            let form = site_form(k);
-            format!(in alloc; "{found}; it must be {form}")
+            must_be(alloc, found.as_str(), site_form(k))
         }
         SiteFault::Range(k) => {
             let found = line_found(alloc, k, text, "is out of range")?;
-            let form = range_form(command, k);
-            format!(in alloc; "{found}; it must be {form}")
+            must_be(alloc, found.as_str(), range_form(command, k))
         }
         SiteFault::SamePid => String::from_str(
             alloc,
@@ -197,7 +208,7 @@ pub(crate) fn card(fault: CardFault) -> &'static str
     ensures { result.now ≡ card_reason fault }
 {
     match fault {
-        CardFault::Magic => "it is no plain card; a layer card and any other file is none",
+        CardFault::Magic => "it is no card of the command card; a layer card is none either",
         CardFault::Version => "it is a card of another version; make it again (sdca card)",
         CardFault::Height => "its height is out of range; make it again (sdca card)",
         CardFault::Leaf => "its leaf is not in a tree of its height; make it again (sdca card)",
@@ -232,7 +243,8 @@ fn cause(alloc: Global, cause: LineCause) -> Result<String, AllocError>
         LineCause::Named(line) => {
             return format!(in alloc; "its receiver has a name since line {line}");
         }
-        LineCause::ByteOrderMark => "it begins with a byte-order mark; save the file as plain ASCII",
+        LineCause::ByteOrderMark =>
+            "it begins with a byte-order mark; save the file as plain ASCII",
         LineCause::NotText => "it has a byte that is no printable ASCII; is it the right file?",
         LineCause::Long => "it has more than 48 bytes, and no line of such a file has",
         LineCause::Empty => "it is empty",
@@ -252,12 +264,17 @@ fn cause(alloc: Global, cause: LineCause) -> Result<String, AllocError>
 }
 
 /// The receivers of a tree of this height.
-#[tactic(auto, unfolding(crate::specs::Reasons::cause_text))]
+#[tactic(auto, unfolding(crate::specs::Reasons::leaf_text))]
 fn leaf(alloc: Global, d: u8) -> Result<String, AllocError>
-    ensures { IfOk result (λ text. string_bytes text ≡ cause_text (LineCause.Leaf d)) }
+    ensures { IfOk result (λ text. string_bytes text ≡ leaf_text d) }
 {
-    let last = 2u32.pow(u32::from(d)) - 1;
-    format!(in alloc; "receivers of height {d} are 0 to {last}")
+    match Height::new(d) {
+        Some(height) => {
+            let last = height.leaves() - 1;
+            format!(in alloc; "receivers of height {d} are 0 to {last}")
+        }
+        None => String::from_str(alloc, "its receiver is not in the tree"),
+    }
 }
 
 /// Why a line of a file is refused.
@@ -276,10 +293,19 @@ pub(crate) fn line(alloc: Global, operand: Operand, line: &BadLine) -> Result<St
 pub(crate) fn range(alloc: Global, operand: Operand, text: &str) -> Result<String, AllocError>
     ensures { IfOk result (λ reason. string_bytes reason ≡ range_reason operand text.now) }
 {
+    let fault = number_fault(text);
     let rule = rule(alloc, operand)?;
+    format!(in alloc; "{fault}{rule}")
+}
+
+/// What is wrong with a number of this text.
+fn number_fault(text: &str) -> &'static str
+    ensures { result.now ≡ wrong_number (decimal_value text.now) }
+{
     match number_after(b"", text.as_bytes()) {
-        Err(NumberFault::Malformed) => format!(in alloc; "not a decimal number; {rule}"),
-        Ok(_) | Err(NumberFault::TooLarge) => format!(in alloc; "out of its range; {rule}"),
+        Err(NumberFault::Malformed) => "not a decimal number; ",
+        Err(NumberFault::TooLarge) => "out of its range; ",
+        Ok(_) => "out of its range; ",
     }
 }
 
@@ -292,7 +318,7 @@ pub(crate) fn trouble(trouble: Trouble) -> &'static str
         Trouble::NoSpace => "no space is left on the device; what is there is a part of it",
         Trouble::Denied => "permission denied",
         Trouble::Folder => "it is a folder",
-        Trouble::Input => "it is one of the inputs, by another path",
+        Trouble::Input => "it is an input and the output, by two names",
         Trouble::Gone => "its reader is gone",
         Trouble::ReadOnly => "its file system is read-only",
         Trouble::TooLarge => "it would be larger than is allowed (ulimit -f)",
@@ -342,7 +368,7 @@ fn clear_refusal(refusal: StreamRefusal<ClearFault>) -> &'static str
 {
     match refusal {
         StreamRefusal::Broken(_) => {
-            "no packet of 188 bytes begins there; packets of 192 or 204 bytes must be cut to 188 first"
+            "there is no whole packet of 188 bytes; packets of 192 or 204 bytes must be cut to 188 first"
         }
         StreamRefusal::TooLong => "a stream has at most 281474976710656 packets",
         StreamRefusal::Packet(fault) => clear_cause(fault),
@@ -359,12 +385,12 @@ fn stream_cause(fault: StreamFault) -> &'static str
             "card and broadcast are of two masters (see sdca show and sdca status), or the message was changed"
         }
         StreamFault::BadEmm(..) => {
-            "the EMM is damaged, out of order or of another sender; off the air use watch"
+            "the EMM is damaged, out of order or of another sender; watch reads streams with damage"
         }
         StreamFault::BadEcm(..) => {
-            "the ECM is damaged, out of order or of another sender; off the air use watch"
+            "the ECM is damaged, out of order or of another sender; watch reads streams with damage"
         }
-        StreamFault::Parity(_) => "it is not of this broadcast; off the air use watch",
+        StreamFault::Parity(_) => "it is not of this broadcast; watch reads streams with damage",
     }
 }
 
@@ -375,7 +401,7 @@ fn stream_refused(refusal: StreamRefusal<StreamFault>) -> &'static str
 {
     match refusal {
         StreamRefusal::Broken(_) => {
-            "no packet of 188 bytes begins there; off the air use watch"
+            "there is no whole packet of 188 bytes; watch reads streams with damage"
         }
         StreamRefusal::TooLong => "a stream has at most 281474976710656 packets",
         StreamRefusal::Packet(fault) => stream_cause(fault),
@@ -452,20 +478,24 @@ pub(crate) fn limit(kind: LimitKind) -> &'static str
     }
 }
 
-/// Why a receiver is refused.
+/// Why receiver u opened nothing in period q: it is revoked.
 #[tactic(auto, unfolding(crate::specs::Reasons::revoked_reason))]
-pub(crate) fn revoked() -> &'static str
-    ensures { result.now ≡ revoked_reason }
+pub(crate) fn revoked(alloc: Global, u: u32, q: u32) -> Result<String, AllocError>
+    ensures { IfOk result (λ text. string_bytes text ≡ revoked_reason u q) }
 {
-    "its receiver is revoked there; OUT has what it was entitled to; subscribe takes it back"
+    format!(in alloc;
+        "receiver {u} is revoked in period {q}; OUT has what it was entitled to; a later subscribe entitles it again"
+    )
 }
 
-/// Why a receiver had no entitlement.
+/// Why receiver u opened nothing in period q: it did not hear its entitlement.
 #[tactic(auto, unfolding(crate::specs::Reasons::unheard_reason))]
-pub(crate) fn unheard() -> &'static str
-    ensures { result.now ≡ unheard_reason }
+pub(crate) fn unheard(alloc: Global, u: u32, q: u32) -> Result<String, AllocError>
+    ensures { IfOk result (λ text. string_bytes text ≡ unheard_reason u q) }
 {
-    "no set of that period with the receiver arrived; packets were lost, or it begins late"
+    format!(in alloc;
+        "no set of period {q} with receiver {u} arrived; packets were lost, or the stream begins late"
+    )
 }
 
 /// Why a broadcast isn't closed.

@@ -36,11 +36,7 @@ fn operands_in(words: &[String]) -> &'static [Operand]
 }
 
 /// Spells out the texts of arguments.
-fn spell_texts(
-    alloc: Global,
-    operands: &[Operand],
-    texts: &mut [String],
-) -> Result<(), AllocError>
+fn spell_texts(alloc: Global, operands: &[Operand], texts: &mut [String]) -> Result<(), AllocError>
     requires { length operands.now ≤ length texts.old }
     ensures { OnOk result (map string_bytes texts.new ≡ spelled_texts operands.now (map string_bytes texts.old)) }
 {

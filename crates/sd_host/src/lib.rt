@@ -10,7 +10,9 @@ mod print;
 mod target;
 
 pub use depot::HostDepot;
-pub use identity::{Identity, Kind, Output, SAME_FILE, add_input, may_make, may_read, spare_inputs};
+pub use identity::{
+    Identity, Kind, Output, SAME_FILE, add_input, may_make, may_read, spare_inputs,
+};
 pub use inlet::HostInlet;
 pub use outlet::HostOutlet;
 pub use print::StdPrint;

@@ -1,5 +1,5 @@
 -- What `air` leaves of any clear stream.
-use Rattle.std.proofs.Common.{◌≡◌, ◌≢◌, true, [], ◌++◌, Option, Some, None, Ok, refl, sym, ap, subst, ◌∙◌}
+use Rattle.std.proofs.Common.{◌≡◌, ◌≢◌, true, [], ◌++◌, Option, Some, None, Ok, Err, refl, sym, ap, subst, ◌∙◌}
 use Rattle.std.proofs.Common.{append-nil, le-ltb}
 use Rattle.std.specs.FinMap.{get, insert}
 use Rattle.std.specs.Io.KnownBytes.{Appends}
@@ -13,6 +13,7 @@ use Rattle.sd_site.proofs.Alone.{site_said}
 use Rattle.sd_spec.specs.Plan.{Plan}
 use Rattle.sd_law_air.proofs.Sendable.{aired_sendable, aired_long, aired_synced, aired_unmarked}
 use Rattle.sd_command_base.specs.declared.status.Status.{Status}
+use Rattle.sd_command_base.specs.declared.status.Status.TheVariants.{SiteUsed}
 use Rattle.sd_command_base.specs.declared.status.LimitKind.TheVariants.{SiteBytes}
 use Rattle.sd_command_base.specs.Files.{is_book, most_site_bytes, own_book_of_file}
 use Rattle.sd_command_base.specs.Made.{unused, used_name}
@@ -24,7 +25,7 @@ use Rattle.sd_command_base.specs.Texts.{line_of}
 use Rattle.sd_command_base.proofs.Follow.{then_is}
 use Rattle.sd_run_broadcasts.specs.Air.{air_line, air_meaning, air_plan_by, air_report, air_site_of_file, airing}
 use Rattle.sd_run_broadcasts.specs.Air.{live_clear, live_sent, mark_word, told_air_site}
-use Rattle.sd_law_run.specs.Aired.{AirResult, AreForAir, IsGoodAirSite}
+use Rattle.sd_law_run.specs.Aired.{AirResult, AreForAir, AreForUsedAir, IsGoodAirSite}
 use Rattle.sd_law_run.specs.Good.{IsGoodSite, IsGoodBook}
 use Rattle.sd_law_run.specs.Headline.{Names, file_in, IsUndisturbed}
 use Rattle.sd_law_run.specs.Sendable.{AreSendable}
@@ -32,7 +33,7 @@ use Rattle.sd_law_run.proofs.AirPackets.{none_marked, readable_synced, readable_
 use Rattle.sd_law_run.proofs.Goodness.{file_read, own_good, site_fits, site_low}
 use Rattle.sd_law_run.proofs.Parts.{covers_named, is_told, made_in, of_told}
 use Rattle.sd_law_run.proofs.Plans.{good_plan}
-use Rattle.sd_law_run.proofs.Runs.{runs_work}
+use Rattle.sd_law_run.proofs.Runs.{runs_refused, runs_work}
 use Rattle.sd_law_run.proofs.Shelf.{made_there, others_stay}
 
 -- a good site for `air` is a good site
@@ -48,7 +49,7 @@ unfolding air_site_of_file newest_of
 air_site_good given word fields line good =
     ap (λ (got : Option Bytes). (air_site_of_file word.number got).result) good.there
     ∙ then_is (within word.number most_site_bytes SiteBytes (Some good.bytes)) good.bytes
-    (λ bytes. judged (told_air_site word.number (newest_of none_fewer bytes)))
+    (λ bytes. judged (told_air_site word.number bytes (newest_of none_fewer bytes)))
     (file_read word.number most_site_bytes SiteBytes good.bytes (site_fits good.bytes fields good.is_site))
     ∙ rw (
       site_said good.bytes fields good.is_site,
@@ -58,13 +59,14 @@ air_site_good given word fields line good =
       le-ltb fields.last_word fields.first_word good.word,
     ) refl
 
--- with the plan, the stream and no mark there is work
-air_good : (given : Readings) (site book clear out : FileArgument) (plan : Plan) (line : BookLine) (bytes : Bytes) →
+-- with the plan and the stream, the mark decides
+air_judged : (given : Readings) (site book clear out : FileArgument) (plan : Plan) (line : BookLine) (bytes : Bytes) →
     IsGoodAirSite (given site) plan.site line → (good : IsGoodBook (given book) plan.site.height plan.commands) →
-    is_book (Some line) good.bytes ≡ true → given clear ≡ Some bytes → given (mark_word site) ≡ None →
-    (air_meaning site book clear out given).result ≡ Ok (airing plan site out bytes)
+    is_book (Some line) good.bytes ≡ true → given clear ≡ Some bytes →
+    (air_meaning site book clear out given).result
+    ≡ (unused (given (mark_word site)) >>= λ new. value (airing plan site out bytes)).result
 unfolding air_meaning air_plan_by
-air_good given site book clear out plan line bytes good_site good_book own there new =
+air_judged given site book clear out plan line bytes good_site good_book own there =
     then_is (air_plan_by site.number book.number (given site) (given book)) plan
     (λ plan. all_of clear.number (given clear)
     >>= λ bytes. unused (given (mark_word site)) >>= λ new. value (airing plan site out bytes))
@@ -76,9 +78,27 @@ air_good given site book clear out plan line bytes good_site good_book own there
     (λ commands. value (record { site = plan.site; commands = commands }))
     (own_good given plan.site.height book (Some line) plan.commands
     (site_low (given site) plan.site (plain_site good_site)) good_book own))
-    ∙ (ap (λ (got : Option Bytes). (all_of clear.number got
+    ∙ ap (λ (got : Option Bytes). (all_of clear.number got
     >>= λ bytes. unused (given (mark_word site)) >>= λ new. value (airing plan site out bytes)).result) there
-    ∙ ap (λ (got : Option Bytes). (unused got >>= λ new. value (airing plan site out bytes)).result) new)
+
+-- with no mark there is work
+air_good : (given : Readings) (site book clear out : FileArgument) (plan : Plan) (line : BookLine) (bytes : Bytes) →
+    IsGoodAirSite (given site) plan.site line → (good : IsGoodBook (given book) plan.site.height plan.commands) →
+    is_book (Some line) good.bytes ≡ true → given clear ≡ Some bytes → given (mark_word site) ≡ None →
+    (air_meaning site book clear out given).result ≡ Ok (airing plan site out bytes)
+air_good given site book clear out plan line bytes good_site good_book own there new =
+    air_judged given site book clear out plan line bytes good_site good_book own there
+    ∙ ap (λ (got : Option Bytes). (unused got >>= λ new. value (airing plan site out bytes)).result) new
+
+-- and with one the site is used
+air_used : (given : Readings) (site book clear out : FileArgument) (plan : Plan) (line : BookLine)
+    (bytes mark : Bytes) →
+    IsGoodAirSite (given site) plan.site line → (good : IsGoodBook (given book) plan.site.height plan.commands) →
+    is_book (Some line) good.bytes ≡ true → given clear ≡ Some bytes → given (mark_word site) ≡ Some mark →
+    (air_meaning site book clear out given).result ≡ Err SiteUsed
+air_used given site book clear out plan line bytes mark good_site good_book own there used =
+    air_judged given site book clear out plan line bytes good_site good_book own there
+    ∙ ap (λ (got : Option Bytes). (unused got >>= λ new. value (airing plan site out bytes)).result) used
 
 -- so there is over the files
 module _ (names : Names) (plan : Plan) (bytes : Bytes) (a : Outside) (for_air : AreForAir a names plan bytes) where
@@ -148,3 +168,33 @@ module _ (names : Names) (plan : Plan) (bytes : Bytes) (a : Outside) (for_air : 
             ∙ (others_stay marked names.stream sent name no_out
             ∙ (others_stay t.files mark [] name no_mark ∙ sym (of_told a t.files name t.told)));
       }
+
+-- a used site is told
+pub used_part : (names : Names) (plan : Plan) (a b : Outside) (answer : Status) → AreForUsedAir a names plan →
+    RunResult (air_meaning (word_at 1 names.site) (word_at 2 names.book) (word_at 3 names.clear)
+    (word_at 4 names.stream)) a b answer → IsUndisturbed a b answer → answer ≡ SiteUsed
+used_part names plan a b answer for_air answers well =
+    let site = for_air.site in
+    let book = for_air.book in
+    let t = is_told a.place.files names.site site.bytes site.there in
+    let good_site : IsGoodAirSite (get t.files names.site) plan.site for_air.line = record {
+      bytes = site.bytes;
+      there = t.there;
+      is_site = site.is_site;
+      whole = site.whole;
+      said = site.said;
+      version = site.version;
+      word = site.word;
+    } in
+    let good_book : IsGoodBook (get t.files names.book) plan.site.height plan.commands = record {
+      bytes = book.bytes;
+      there = sym (of_told a t.files names.book t.told) ∙ book.there;
+      is_book = book.is_book;
+      within = book.within;
+    } in
+    runs_refused (air_meaning (word_at 1 names.site) (word_at 2 names.book) (word_at 3 names.clear)
+    (word_at 4 names.stream)) SiteUsed t.files a b answer
+    (air_used (contents_of t.files) (word_at 1 names.site) (word_at 2 names.book) (word_at 3 names.clear)
+    (word_at 4 names.stream) plan for_air.line for_air.bytes for_air.mark good_site good_book for_air.own
+    (sym (of_told a t.files names.clear t.told) ∙ for_air.there)
+    (sym (of_told a t.files (used_name names.site) t.told) ∙ for_air.used)) t.told answers well

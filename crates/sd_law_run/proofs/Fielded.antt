@@ -147,9 +147,9 @@ unfolding script_of_file
 script_good given word d text events there short says =
     ap (λ (got : Option (List ℕ)). (script_of_file word.number d got).result) there
     ∙ then_is (within word.number most_book_bytes BookBytes (Some text)) text
-    (λ all. judged (told_script word.number (script_of d all)))
+    (λ all. judged (told_script word.number d all (script_of d all)))
     (file_read word.number most_book_bytes BookBytes text short)
-    ∙ ap (told_script word.number) says
+    ∙ ap (told_script word.number d text) says
 
 inputs_good : (given : Readings) (site clear : FileArgument) (fields : SiteFields) (packets : List (List ℕ)) →
     (low_site_of_file site.number most_height FieldHeight (given site)).result ≡ Ok fields →

@@ -99,7 +99,8 @@ whole_cleared : (word d : ℕ) (bytes : Bytes) (said : Result (List Command) Boo
     IsCleared (told_whole word bytes (told_book word d bytes said))
 whole_cleared word d bytes (Err fault) = refused_clean word d bytes fault
 whole_cleared word d bytes (Ok commands) =
-    if_cleared (ends_lines bytes) (BadBook word (bad_line Unended (length commands) bytes)) (Ok (record { bytes = bytes; commands = commands }))
+    if_cleared (ends_lines bytes) (BadBook word (bad_line Unended (length commands) bytes))
+    (Ok (record { bytes = bytes; commands = commands }))
     (λ w f t e. absurd cc) tt
 
 longer_cleared : (word height : ℕ) (line : Option BookLine) (got : Option Bytes) →
@@ -122,8 +123,9 @@ new_cleared made out None = tt
 new_cleared made out (Some bytes) = λ w f t e. absurd cc
 
 -- of a site that is good
-told_cleared : (word : ℕ) (bytes : Bytes) (most : ℕ) (words : NumberArgument) (said : Result (SiteFields × Option BookLine) SiteFault)
-    (newest : SiteFields × Option BookLine) → said ≡ Ok newest → IsCleared (told_newest word bytes most words said)
+told_cleared : (word : ℕ) (bytes : Bytes) (most : ℕ) (words : NumberArgument)
+    (said : Result (SiteFields × Option BookLine) SiteFault) (newest : SiteFields × Option BookLine) → said ≡ Ok newest →
+    IsCleared (told_newest word bytes most words said)
 told_cleared word bytes most words (Err fault) newest e = absurd cc
 told_cleared word bytes most words (Ok found) newest e =
     unless_cleared (nat_lt most found.0.first_period) (refused_site word bytes (Range 12)) _ (λ w f t same. cc)
@@ -244,8 +246,8 @@ next_refused site book words out given text fault there short follow bad =
 
 pub torn_refused : (words : List Bytes) (files : Files) (name : FileName) (root : Link) (calls : List Call)
     (site book : FileArgument) (count : NumberArgument) (out : FileArgument) →
-    (is : IsTorn files name root calls) → order_of words ≡ Ok (NextOf site book count out) → site.text ≡ name_at name (length calls + 1) →
-    follows site.text out.text ≡ true →
+    (is : IsTorn files name root calls) → order_of words ≡ Ok (NextOf site book count out) →
+    site.text ≡ name_at name (length calls + 1) → follows site.text out.text ≡ true →
     (fault : SiteFault) × (fault ≢ Range 12)
     × ((meaning words (contents_of files)).result ≡ Err (refused_site site.number is.torn fault))
 torn_refused words files name root calls site book count out is order at follow =

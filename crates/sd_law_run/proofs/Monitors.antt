@@ -45,8 +45,8 @@ card_told word card is =
     let short = card_length card is in
     then_is (within word most_card_bytes CardBytes (Some bytes)) bytes (λ bytes. judged (told_show word bytes))
     (file_read word most_card_bytes CardBytes bytes (omega (arith, short)))
-    ∙ line_read word bytes (shown_line card.height card.leaf card.ca (check_in bytes) (fingerprint_in bytes)) card is refl
-    (written_is_good card is) refl
+    ∙ line_read word bytes (shown_line card.height card.leaf card.ca (check_in bytes) (fingerprint_in bytes)) card is
+    refl (written_is_good card is) refl
 
 pub show_good : (words : List (List ℕ)) (given : Readings) (good : IsGoodShow words given) →
     (meaning words given).result
@@ -71,6 +71,6 @@ unfolding card_of
 made_shown word master ca d u system some low leaf =
     let card = card_of master ca d u in
     let is = made_is_card master ca d u system some low leaf in
-    line_read word (card_bytes card) (shown_line d u ca (check_in (card_bytes card)) (fingerprint_of master)) card is refl
-    (written_is_good card is)
+    line_read word (card_bytes card) (shown_line d u ca (check_in (card_bytes card)) (fingerprint_of master)) card is
+    refl (written_is_good card is)
     (ap (λ (m : List ℕ). shown_line d u ca (check_in (card_bytes card)) m) (sym (made_fingerprint master ca d u)))

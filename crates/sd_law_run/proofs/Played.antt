@@ -99,21 +99,21 @@ record IsScript (got : Option (List ℕ)) (d : ℕ) (events : List Event) : Type
   is : IsRead got 33554432 text
   says : script_of d text ≡ Ok events
 
-script_told : (word : ℕ) (r : Result (List Event) ScriptFault) (events : List Event) →
-    told_script word r ≡ Ok events → r ≡ Ok events
-script_told word (Ok found) events e = cc
-script_told word (Err fault) events e = absurd (cc)
+script_told : (word d : ℕ) (bytes : List ℕ) (r : Result (List Event) ScriptFault) (events : List Event) →
+    told_script word d bytes r ≡ Ok events → r ≡ Ok events
+script_told word d bytes (Ok found) events e = cc
+script_told word d bytes (Err fault) events e = absurd (cc)
 
 script_taken : (given : Readings) (word : FileArgument) (d : ℕ) (events : List Event) →
     (script_of_file word.number d (given word)).result ≡ Ok events → IsScript (given word) d events
 unfolding script_of_file
 script_taken given word d events e =
     let read = then_ok (within word.number most_book_bytes BookBytes (given word))
-    (λ bytes. judged (told_script word.number (script_of d bytes))) events e in
+    (λ bytes. judged (told_script word.number d bytes (script_of d bytes))) events e in
     record {
       text = read.from;
       is = file_taken word.number most_book_bytes BookBytes (given word) read.from read.first_is;
-      says = script_told word.number (script_of d read.from) events read.next_is;
+      says = script_told word.number d read.from (script_of d read.from) events read.next_is;
     }
 
 -- a site and a clear stream

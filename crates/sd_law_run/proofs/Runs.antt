@@ -1,5 +1,6 @@
 -- What a run leaves where no device failed and memory was not out.
-use Rattle.std.proofs.Common.{◌≡◌, ◌≢◌, ℕ, ◌++◌, List, [], Option, Some, Result, Ok, sym, ap, subst, ◌∙◌, inl, inr}
+use Rattle.std.proofs.Common.{◌≡◌, ◌≢◌, ℕ, ◌++◌, List, [], Option, Some, Result, Ok, Err, sym, ap, subst, ◌∙◌, inl}
+use Rattle.std.proofs.Common.{inr}
 use Rattle.std.specs.List.{concat}
 use Rattle.std.specs.Io.KnownBytes.{Appends}
 use Rattle.std.proofs.KnownBytes.{Appends-trans}
@@ -56,6 +57,26 @@ ended_with meant work files a b status is told depot print memory (cut_off other
 ended_with meant work files a b status is told depot print memory (cut_short other e live s out f h k r m) =
     absurd (print s)
 
+-- what is refused is answered so
+ended_refused : (meant : Result Work Status) (due : Status) (files : Files) (a b : Outside) (status : Status) →
+    meant ≡ Err due → a.place.files ≡ Some files → HasNotRisen a.place.faults b.place.faults → status ≢ PrintFault →
+    status ≢ NoMemory → Outcome meant a b status → status ≡ due
+ended_refused meant due files a b status is told depot print memory (refused e r h k c m) = let both = sym e ∙ is in cc
+ended_refused meant due files a b status is told depot print memory (ended other e s i h k c m) =
+    absurd (let both = sym e ∙ is in cc)
+ended_refused meant due files a b status is told depot print memory (unclosed other e s i j t out f h k r o c m) =
+    absurd (let both = sym e ∙ is in cc)
+ended_refused meant due files a b status is told depot print memory (exhausted s h o c m) = absurd (memory s)
+ended_refused meant due files a b status is told depot print memory (failed s h r o c m) =
+    absurd (still_or_rose a.place.faults b.place.faults depot r)
+ended_refused meant due files a b status is told depot print memory (unmarked other e mark marks s n h k c m) =
+    absurd (let both = sym e ∙ is in cc)
+ended_refused meant due files a b status is told depot print memory (nowhere other e out f s n h k c m) =
+    absurd (let both = sym e ∙ is in cc)
+ended_refused meant due files a b status is told depot print memory (cut_off other e s h k r c m) = absurd (print s)
+ended_refused meant due files a b status is told depot print memory (cut_short other e live s out f h k r m) =
+    absurd (print s)
+
 steps_of : (meant : Result Work Status) (work : Work) (before now : ℕ) → meant ≡ Ok work →
     TakesSteps meant before now → IsWithinSteps work.steps before now
 steps_of meant work before now is h = subst (λ (r : Result Work Status). TakesSteps r before now) is h
@@ -98,3 +119,20 @@ runs_work meant work files a b answer due told answers well =
       printed = Appends-trans a.page.printed answers.page.printed b.page.printed (concat work.pieces) (line_of answer)
           done.2 (line_said answers.page b.page answers.status answer answers.told print);
     }
+
+-- a run answers what is refused
+pub runs_refused : (meant : Readings → Spec Work) (due : Status) (files : Files) (a b : Outside) (answer : Status) →
+    (meant (contents_of files)).result ≡ Err due → a.place.files ≡ Some files → RunResult meant a b answer →
+    IsUndisturbed a b answer → answer ≡ due
+runs_refused meant due files a b answer refuses told answers well =
+    let print : answer ≢ PrintFault =
+    λ e. absurd (still_or_rose a.page.faults b.page.faults well.print ((causes meant a b answer answers).print e)) in
+    let own : answers.status ≡ answer =
+    own_line answers.page b.page answers.status answer answers.told well.memory print in
+    let given : answers.obeyed.given ≡ contents_of files =
+    told_given a.place.files files answers.obeyed.given told answers.obeyed.is_given in
+    let is : (meant answers.obeyed.given).result ≡ Err due =
+    ap (λ (g : Readings). (meant g).result) given ∙ refuses in
+    sym own
+    ∙ ended_refused (meant answers.obeyed.given).result due files a (with_page b answers.page) answers.status is told
+    well.depot (λ e. print (sym own ∙ e)) (λ e. well.memory (sym own ∙ e)) answers.obeyed.obeyed.comes

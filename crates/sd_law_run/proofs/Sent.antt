@@ -74,7 +74,8 @@ pub site_right : (word : ℕ) (bytes : List ℕ) (site : SiteFields) → told_si
     IsSite bytes site
 site_right word bytes site e = by_answer (site_of bytes) refl e
   where
-    by_answer : (r : Result SiteFields SiteFault) → site_of bytes ≡ r → told_site word bytes r ≡ Ok site → IsSite bytes site
+    by_answer : (r : Result SiteFields SiteFault) → site_of bytes ≡ r → told_site word bytes r ≡ Ok site →
+        IsSite bytes site
     by_answer (Ok found) f e =
         let same : found ≡ site = cc in said_is_site bytes site (f ∙ ap (λ (s : SiteFields). Ok s) same)
     by_answer (Err fault) f e = absurd (cc)
@@ -135,8 +136,8 @@ plan_right site book given plan e =
     (line_right (book_line_of site_read.from) (told_site site.number site_read.from (site_of site_read.from)) said.from
     site_read.next_is) in
     let is_within = book_right book.number fields.height book_read.from commands.from
-    (own_right (is_book line book_read.from) (told_book book.number fields.height book_read.from (book_of fields.height book_read.from))
-    commands.from book_read.next_is) in
+    (own_right (is_book line book_read.from)
+    (told_book book.number fields.height book_read.from (book_of fields.height book_read.from)) commands.from book_read.next_is) in
     let made : Plan = record { site = fields; commands = commands.from } in
     subst IsPlan (value_is made plan commands.next_is) (record {
       site = is_site.ranges;

@@ -1,6 +1,6 @@
 -- What `status` prints of good files, and `show` of a leaf's card.
-use Rattle.std.proofs.Common.{◌≡◌, ℕ, ◌+◌, ◌-◌, ◌<◌, ◌≤◌, ◌^◌, ◌==◌, arith, Bool, true, false, not, cond, List, [], ◌∷◌, ◌++◌}
-use Rattle.std.proofs.Common.{append-nil, Some, Ok, Err, refl, sym, ap, subst, ◌∙◌, lt-ltb, inl, inr, ◌⊎◌}
+use Rattle.std.proofs.Common.{◌≡◌, ℕ, ◌+◌, ◌-◌, ◌<◌, ◌≤◌, ◌^◌, ◌==◌, arith, Bool, true, false, not, cond, List, []}
+use Rattle.std.proofs.Common.{◌∷◌, ◌++◌, append-nil, Some, Ok, Err, refl, sym, ap, subst, ◌∙◌, lt-ltb, inl, inr, ◌⊎◌}
 use Rattle.std.specs.Prelude.{Contains, ◌||◌}
 use Rattle.std.specs.FinMap.{get}
 use Rattle.std.specs.List.{concat}
@@ -70,7 +70,8 @@ not_same false false e = refl
 
 -- what is printed of work that only prints, and ends well
 text_alone : (a b : PageState) (text : List ℕ) (answer : Status) →
-    Appends a.printed b.printed (concat (text ∷ []) ++ line_of answer) → answer ≡ Done → Appends a.printed b.printed text
+    Appends a.printed b.printed (concat (text ∷ []) ++ line_of answer) → answer ≡ Done →
+    Appends a.printed b.printed text
 text_alone a b text answer said is =
     subst (λ (l : List ℕ). Appends a.printed b.printed l)
     (ap (λ (s : Status). concat (text ∷ []) ++ line_of s) is

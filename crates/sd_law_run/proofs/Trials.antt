@@ -147,7 +147,8 @@ low_plan site book given plan e =
     let site_read = then_ok (within site.number most_site_bytes SiteBytes (given site))
     (λ bytes. judged (told_site site.number bytes (site_of bytes))) any.from any.first_is in
     let book_read = then_ok (within book.number most_book_bytes BookBytes (given book))
-    (λ bytes. judged (told_book book.number fields.from.height bytes (book_of fields.from.height bytes))) commands.from commands.first_is in
+    (λ bytes. judged (told_book book.number fields.from.height bytes (book_of fields.from.height bytes)))
+    commands.from commands.first_is in
     let is_site = subst (IsSite site_read.from) low.0
     (site_right site.number site_read.from any.from site_read.next_is) in
     let is_within = book_right book.number fields.from.height book_read.from commands.from book_read.next_is in

@@ -51,6 +51,17 @@ pub record AreForAir (at : Outside) (names : Names) (plan : Plan) (bytes : Bytes
   pub are_bytes : AreBytes bytes
   pub unused : file_in at (used_name names.site) ≡ None
 
+-- the same, but the site was used
+pub record AreForUsedAir (at : Outside) (names : Names) (plan : Plan) : Type 0 where
+  pub line : BookLine
+  pub site : IsGoodAirSite (file_in at names.site) plan.site line
+  pub book : IsGoodBook (file_in at names.book) plan.site.height plan.commands
+  pub own : is_book (Some line) book.bytes ≡ true
+  pub bytes : Bytes
+  pub there : file_in at names.clear ≡ Some bytes
+  pub mark : Bytes
+  pub used : file_in at (used_name names.site) ≡ Some mark
+
 -- The result of `air SITE BOOK CLEAR STREAM`
 pub record AirResult (names : Names) (plan : Plan) (bytes : Bytes) (a b : Outside) (answer : Status) : Type 0 where
   -- the answer is `Done`, or that the site is used up

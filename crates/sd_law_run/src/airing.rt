@@ -15,7 +15,7 @@ ghost use Rattle.sd_command_base.specs.Outcome.{IsUnmade};
 ghost use Rattle.sd_command_base.specs.Outside.{Outside, outside, page_state, depot_state};
 ghost use Rattle.sd_command_base.specs.Results.{RunResult};
 ghost use Rattle.sd_run.specs.Meaning.{meaning};
-ghost use Rattle.sd_law_run.specs.Aired.{AirResult, AreForAir, LeavesOut};
+ghost use Rattle.sd_law_run.specs.Aired.{AirResult, AreForAir, AreForUsedAir, LeavesOut};
 ghost use Rattle.sd_law_run.specs.Headline.{Names, ReceiveResult, file_in, IsUndisturbed, card_for};
 ghost use Rattle.sd_law_run.specs.Lost.{kept_items, LossResult};
 ghost use Rattle.sd_law_run.specs.Outcome.{out_name, used_by};
@@ -58,6 +58,15 @@ pub fn air<D: Depot, P: Sink, N: Sink, L: Ledger>(
     ensures once { (files : Files) (mark : FileName) → D.files depot.old ≡ Some files →
         used_by (map string_bytes words.now) ≡ Some mark → IsSome (get files mark) →
         IsUnmade (depot_state D.Depot depot.old) (depot_state D.Depot depot.new) × (result ≢ Status.Done) }
+    // If all else is as it is to be for `air`, the answer is that the site is used.
+    ensures used { (names : Names) (plan : Plan) →
+        map string_bytes words.now ≡ codes "air" ∷ names.site ∷ names.book ∷ names.clear ∷ names.stream ∷ [] →
+        names.stream ≢ names.site → names.stream ≢ names.book → names.stream ≢ names.clear →
+        names.stream ≢ used_name names.site →
+        AreForUsedAir (outside (depot_state D.Depot depot.old) (page_state P.Sink print.old) steps.old) names plan →
+        IsUndisturbed (outside (depot_state D.Depot depot.old) (page_state P.Sink print.old) steps.old)
+        (outside (depot_state D.Depot depot.new) (page_state P.Sink print.new) steps.new) result →
+        result ≡ Status.SiteUsed }
     // If OUT has changed, the mark is there, and empty.
     ensures marked_first { (files : Files) (mark out : FileName) → D.files depot.old ≡ Some files →
         used_by (map string_bytes words.now) ≡ Some mark → out_name (map string_bytes words.now) ≡ Some out →

@@ -31,8 +31,8 @@ pub fn good_statuses_are_printed()
 pub fn cards_are_compared_with_sites()
     // First the line of the fingerprint. Then a line for each period from which on the leaf is revoked, or isn't: the
     // periods ascend, and between two of them nothing changes.
-    ensures status { (words : List Bytes) (files : Files) (good : IsGoodStatus words (contents_of files)) (a b : Outside)
-        (answer : Status) → a.place.files ≡ Some files → RunResult (meaning words) a b answer →
+    ensures status { (words : List Bytes) (files : Files) (good : IsGoodStatus words (contents_of files))
+        (a b : Outside) (answer : Status) → a.place.files ≡ Some files → RunResult (meaning words) a b answer →
         IsUndisturbed a b answer → StatusResult (plan_asked good) good.leaf.value a b answer }
     // The card's line, with the same fingerprint.
     ensures show { (words : List Bytes) (card : FileArgument) (site : SiteFields) (u : LeafNumber) (files : Files)

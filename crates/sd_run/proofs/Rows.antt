@@ -63,8 +63,7 @@ use Rattle.sd_command_line.specs.Words.{Argument, file, number, named_words, or_
 use Rattle.sd_run.specs.Meaning.{command_meaning}
 use Rattle.sd_command_base.proofs.Others.{IsOther}
 use Rattle.sd_run_books.proofs.CardOthers.{other_cover, other_card_order, other_layered, other_lcard}
-use Rattle.sd_run_books.proofs.CardOthers.{other_opens, other_show, other_trace}
-use Rattle.sd_run_books.proofs.StatusOthers.{other_status}
+use Rattle.sd_run_books.proofs.CardOthers.{other_opens, other_show, other_status, other_trace}
 use Rattle.sd_run_streams.proofs.Others.{other_tables}
 use Rattle.sd_run_broadcasts.proofs.AirOthers.{other_air}
 use Rattle.sd_run_broadcasts.proofs.HeadOthers.{other_head}

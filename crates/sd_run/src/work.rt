@@ -14,7 +14,8 @@ use sd_command_base::Status;
 use sd_command_line::{Arguments, Command};
 use sd_ports::{Depot, Sink};
 use sd_run_books::{
-    accounts, apart, book, card, cover, layered, lcard, next, opens, plan, show, status, trace, twin,
+    accounts, apart, book, card, cover, layered, lcard, next, opens, plan, show, status, trace,
+    twin,
 };
 use sd_run_broadcasts::{air, field, head, receive, trial, watch};
 use sd_run_streams::{messages, sample, tables};

@@ -5,8 +5,9 @@ ghost use Rattle.sd_command_base.specs.Outside.{depot_state};
 ghost use Rattle.sd_command_base.specs.Reads.{JudgedOutcome, FileOutcome};
 ghost use Rattle.sd_run_broadcasts.specs.Field.{refused_script, script_of_file, told_script};
 
-use sd_command_base::{LimitKind, LineCause, MOST_BOOK_BYTES, Status, Word};
-use sd_command_base::{malformed, read_bytes, refused_line};
+use sd_command_base::{
+    LimitKind, LineCause, MOST_BOOK_BYTES, Status, Word, malformed, read_bytes, refused_line,
+};
 use sd_field::{ScriptFault, read_script};
 use sd_ports::Depot;
 use sd_spec::Event;

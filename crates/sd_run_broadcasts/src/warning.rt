@@ -23,12 +23,7 @@ pub(crate) fn warn<N: Sink>(alloc: Global, notes: &mut N, name: &str, has_word: 
 
 /// The warning, or no text.
 #[tactic(auto, unfolding(crate::specs::Said::warning_by))]
-fn warning(
-    alloc: Global,
-    name: &str,
-    has_word: bool,
-    messages: u8,
-) -> Result<String, AllocError>
+fn warning(alloc: Global, name: &str, has_word: bool, messages: u8) -> Result<String, AllocError>
     ensures { IfOk result (λ line. string_bytes line ≡ warning_by name.now has_word messages) }
 {
     if !has_word {
@@ -46,7 +41,8 @@ fn no_first_word(alloc: Global, name: &str) -> Result<String, AllocError>
 {
     let name = escaped(alloc, name)?;
     format!(in alloc;
-        "sdca: SITE {name}: it has no line first-word; a second run with it would use the same control words again\n")
+        "sdca: SITE {name}: it has no line first-word; a second run with it would use the same control words again\n"
+    )
 }
 
 /// That the messages are of this version, before the newest.
@@ -55,5 +51,6 @@ fn old_messages(alloc: Global, name: &str, version: u8) -> Result<String, AllocE
 {
     let name = escaped(alloc, name)?;
     format!(in alloc;
-        "sdca: SITE {name}: its messages are of version {version}; a receiver that stays on loses the next broadcast\n")
+        "sdca: SITE {name}: its messages are of version {version}; a receiver that stays on loses the next broadcast\n"
+    )
 }

@@ -81,7 +81,15 @@ fn the_last_error_is_told(rt: HostRuntime) -> io::Result<()> {
     let mut depot = HostDepot::new(alloc, &rt, false);
     symlink(&rt, LOOPED_TOO, LOOPED_TOO)?;
     assert!(rt; write(alloc, &mut depot, TOLD, TEXT) == Ok(()));
-    assert!(rt; gives(alloc, &mut depot, "no such file", 7, Err(FileFault::Missing)));
+    assert!(rt;
+        gives(
+            alloc,
+            &mut depot,
+            "no such file",
+            7,
+            Err(FileFault::Missing)
+        )
+    );
     assert!(rt; depot.trouble().is_none());
     for (name, kind) in &FAULTY {
         assert!(rt; gives(alloc, &mut depot, name, 7, Err(FileFault::Failed)));

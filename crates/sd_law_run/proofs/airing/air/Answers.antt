@@ -3,7 +3,7 @@ use Rattle.std.specs.Prelude.{map, string_bytes}
 use Rattle.sd_command_base.specs.Outside.{depot_state, page_state, outside}
 use Rattle.sd_command_base.specs.Results.{RunResult}
 use Rattle.sd_run.specs.Meaning.{meaning}
-use Rattle.sd_law_run.proofs.Aired.{air_part}
+use Rattle.sd_law_run.proofs.Aired.{air_part, used_part}
 use Rattle.sd_law_run.proofs.Losing.{lost_part}
 use Rattle.sd_law_run.proofs.Ordered.{air_answers, receive_answers, watch_answers}
 use Rattle.sd_law_run.proofs.Parts.{receive_part}
@@ -26,6 +26,14 @@ returns-clause-once g c files mark told used there =
     (outside (depot_state g.D.Depot c.args.depot.now) (page_state g.P.Sink c.args.print.now) c.args.steps.now)
     (outside (depot_state g.D.Depot c.run.new.depot) (page_state g.P.Sink c.run.new.print) c.run.new.steps) c.run.result
     told (rw c.read.ensures at c.run.ensures.value) used there
+
+pub returns-clause-used : goal.returns-clause-used
+returns-clause-used g c names plan words site book clear mark given well =
+    let a = outside (depot_state g.D.Depot c.args.depot.now) (page_state g.P.Sink c.args.print.now) c.args.steps.now in
+    let b = outside (depot_state g.D.Depot c.run.new.depot) (page_state g.P.Sink c.run.new.print) c.run.new.steps in
+    let told = rw c.read.ensures at c.run.ensures.value in
+    let own = subst (λ (w : List (List ℕ)). RunResult (meaning w) a b c.run.result) words told in
+    used_part names plan a b c.run.result given (air_answers names a b c.run.result site book clear mark own) well
 
 pub returns-clause-marked_first : goal.returns-clause-marked_first
 returns-clause-marked_first g c files mark out told used named changed =
