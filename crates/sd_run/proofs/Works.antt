@@ -7,7 +7,6 @@ use Rattle.sd_engine.specs.Taken.{StreamEnd, Whole, Breaks, RunsOn, taken_of, en
 use Rattle.sd_site.specs.CardFields.{CardFields}
 use Rattle.sd_site.specs.SiteFields.{SiteFields}
 use Rattle.sd_spec.specs.Plan.{Plan}
-use Rattle.sd_spec.specs.Refused.{refusal_from}
 use Rattle.sd_psi.specs.declared.clear_fault.ClearFault.{ClearFault}
 use Rattle.sd_spec.specs.Counting.{counting}
 use Rattle.sd_spec.specs.Ending.{ending_of}
@@ -24,7 +23,7 @@ use Rattle.sd_command_base.specs.Made.{NewFile, making, making_new, out_of, used
 use Rattle.sd_command_base.specs.Turned.{turning}
 use Rattle.sd_command_base.specs.Streams.{stream_status}
 use Rattle.sd_run_broadcasts.specs.Air.{airing, ended_status as ended_by, live_end, live_sent, live_status}
-use Rattle.sd_run_broadcasts.specs.Head.{status_where, sent_status}
+use Rattle.sd_run_broadcasts.specs.Head.{status_where, sent_status, stream_refusal}
 use Rattle.sd_run_broadcasts.specs.Receive.{ended_status, ending_status, status_at, unless_refused, received_status}
 use Rattle.sd_run_broadcasts.specs.Watch.{watched_of, watched_status, watching}
 use Rattle.sd_command_base.specs.Printed.{printing}
@@ -97,7 +96,7 @@ clear_apart end (Some fault) e = e
 
 pub sent_apart : (plan : Plan) (bytes : List ℕ) → RefusesFirst (sent_status plan bytes) → ⊥
 unfolding sent_status
-sent_apart plan bytes e = clear_apart (end_of bytes) (refusal_from plan.site [] (taken_of bytes)) e
+sent_apart plan bytes e = clear_apart (end_of bytes) (stream_refusal plan.site (taken_of bytes) (end_of bytes)) e
 
 pub stream_apart : (end : StreamEnd) → RefusesFirst (stream_status end) → ⊥
 stream_apart Whole e = e
