@@ -44,4 +44,4 @@ pub mod AirPackets
 pub mod Aired
 pub mod Used
 pub mod Fingerprints
-pub mod Told
+pub mod Statuses

@@ -19,7 +19,7 @@ use sd_command_base::Status;
 
 /// `status SITE BOOK LEAF` over a good site, a good book and a leaf of its tree prints the fingerprint of the master
 /// and the lines of the leaf.
-#[tactic(auto, using(crate::proofs::Told::status_good))]
+#[tactic(auto, using(crate::proofs::Statuses::status_good))]
 pub fn good_statuses_are_printed()
     ensures { (words : List Bytes) (files : Files) (good : IsGoodStatus words (contents_of files)) →
         (meaning words (contents_of files)).result

@@ -1,4 +1,4 @@
-use Rattle.sd_law_run.proofs.Told.{show_part, status_part}
+use Rattle.sd_law_run.proofs.Statuses.{show_part, status_part}
 use Rattle.sd_law_run.proofs.told.cards_are_compared_with_sites.Goals as goal
 
 pub returns-clause-status : goal.returns-clause-status
