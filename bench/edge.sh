@@ -101,6 +101,23 @@ sdca head S B torn /dev/stdout >got 2>err
 row "a refusal in the stream, into a file" same got X9
 row "its line" is "$(lines_of err)" "clear packet 299: torn"
 
+# --- what head warns of
+twice="it has no line first-word; a second run with it would use the same control words again"
+older="its messages are of version 1; a receiver that stays on loses the next broadcast"
+{ cat S && printf '%s\n' 'messages 1' 'first-word 0'; } >S10
+{ cat S && printf '%s\n' 'messages 3' 'first-word 0' 'last-word 4294967295' 'first-period 0'; } >S12
+sdca head S B C X8 2>err
+row "head: a site of eight lines" is "$status $(cat err)" "0 sdca: SITE S: $twice"
+sdca head S10 B C X8 2>err
+row "head: messages of version 1" is "$status $(cat err)" "0 sdca: SITE S10: $older"
+sdca head S12 B C X8 2>err
+row "head: a site of twelve lines" is "$status $(cat err)" "0 "
+{ "$program" head S B C /dev/stdout 2>&1 || :; } >got
+row "the warning comes before OUT's first byte" is "$(head -n 1 got)" "sdca: SITE S: $twice"
+row "and OUT is whole behind it" is "$(tail -n +2 got | cksum)" "$(cksum <X)"
+sdca trial S B C >got 2>err
+row "trial doesn't warn" is "$(cat err)" ""
+
 # --- an input is the standard output's file
 cp X grow
 sdca tables grow >>grow 2>err

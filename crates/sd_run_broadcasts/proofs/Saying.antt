@@ -20,7 +20,7 @@ use Rattle.sd_command_base.specs.declared.status.Status.{Status}
 use Rattle.sd_command_base.specs.declared.status.Status.TheVariants.{Limit}
 use Rattle.sd_command_base.specs.declared.status.LimitKind.{LimitKind}
 use Rattle.sd_command_base.specs.Files.{told_site}
-use Rattle.sd_command_base.specs.Spec.{FileArgument, Readings, IsGot, within}
+use Rattle.sd_command_base.specs.Spec.{FileArgument, IsGot, within}
 use Rattle.sd_command_base.proofs.Givens.{any_given, one_given}
 use Rattle.sd_command_base.specs.Outside.{DepotState}
 use Rattle.sd_command_base.specs.Reads.{FileOutcome, FilesOutcome}
@@ -29,7 +29,6 @@ use Rattle.sd_run_broadcasts.specs.Head.{with_line}
 use Rattle.sd_run_broadcasts.specs.OnAir.{report_after}
 use Rattle.sd_run_broadcasts.specs.Said.{AirSays, AreReports, no_report, one_more, AreReportsOf, HasSite, HeadSays}
 use Rattle.sd_run_broadcasts.specs.Said.{IsSaid, NotesOn, has_first_word, warning_by, warning_for, warning_in}
-use Rattle.sd_run_broadcasts.specs.declared.air_report.AirReport.{AirReport}
 
 -- nothing is a prefix of these bytes
 pub none_of : (a : Option (List ℕ)) (bytes : List ℕ) → AppendsPrefix a a bytes

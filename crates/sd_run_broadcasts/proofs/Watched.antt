@@ -13,8 +13,7 @@ use Rattle.std.proofs.Math.Seq.{take-append_seam}
 use Rattle.sd_base.specs.Count.{HasRisen}
 use Rattle.sd_base.specs.Types.{Packet, Packets}
 use Rattle.sd_base.proofs.Bools.{tested}
-use Rattle.sd_ports.specs.Bytes.{IsPrefix, AppendsPrefix, LosesPrefix}
-use Rattle.sd_ports.proofs.Starts.{prefix_of_prefix, after_first}
+use Rattle.sd_ports.specs.Bytes.{IsPrefix, LosesPrefix}
 use Rattle.sd_engine.specs.Cut.{cut, skipped_before, read_from, readable}
 use Rattle.sd_engine.specs.Seeking.{MayCome, SeekOutcome, SeekStop, SkipsTooMany}
 use Rattle.sd_engine.specs.Stage.{SinkState}

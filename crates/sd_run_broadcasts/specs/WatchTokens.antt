@@ -1,5 +1,5 @@
 -- Inner: what is written of the name of a run, which may be left out.
-use Rattle.std.specs.Prelude.{ℕ, List, [], ◌∷◌, codes, decimal, Option, Some, None}
+use Rattle.std.specs.Prelude.{List, [], ◌∷◌, codes, decimal, Option, Some, None}
 use Rattle.json.specs.Token.{Token, key, number}
 use Rattle.sd_base.specs.Types.{RunName}
 

@@ -99,7 +99,7 @@ fn begin_failing(
     Ok(Vec::new(alloc))
 }
 
-fn list_of(alloc: Global, words: &[&str]) -> Result<Vec<String>, AllocError> {
+pub(crate) fn list_of(alloc: Global, words: &[&str]) -> Result<Vec<String>, AllocError> {
     let mut list = Vec::new(alloc);
     for word in words {
         list.push(String::from_str(alloc, word)?)?;
@@ -143,14 +143,26 @@ pub(crate) fn uncounted<D: Depot, P: Sink>(
     depot: &mut D,
     print: &mut P,
 ) -> Status {
-    counted::<D, P, Brand>(alloc, words, depot, print, Blank::new(1))
+    noted(alloc, words, depot, print, &mut Unread)
 }
 
-fn counted<D: Depot, P: Sink, L: Ledger>(
+/// The same, where what is said meanwhile goes to `notes`.
+pub(crate) fn noted<D: Depot, P: Sink, N: Sink>(
     alloc: Global,
     words: &[String],
     depot: &mut D,
     print: &mut P,
+    notes: &mut N,
+) -> Status {
+    counted::<D, P, N, Brand>(alloc, words, depot, print, notes, Blank::new(1))
+}
+
+fn counted<D: Depot, P: Sink, N: Sink, L: Ledger>(
+    alloc: Global,
+    words: &[String],
+    depot: &mut D,
+    print: &mut P,
+    notes: &mut N,
     blank: Blank,
 ) -> Status
     requires name { blank.name ≡ L.name }
@@ -163,7 +175,7 @@ fn counted<D: Depot, P: Sink, L: Ledger>(
         &CommandLine::read(words),
         depot,
         print,
-        &mut Unread,
+        notes,
         &mut steps,
     )
 }

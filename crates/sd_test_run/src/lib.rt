@@ -62,3 +62,5 @@ mod single;
 mod statuses;
 #[cfg(test)]
 mod sums;
+#[cfg(test)]
+mod warnings;
