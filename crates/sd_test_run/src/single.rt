@@ -36,7 +36,7 @@ proved in logic dac8208d650f15bf (rattle-kit-13f)
 ";
 
 /// The lines of `help` that stand at its ends and beside the longest words.
-const LISTED: [(usize, &str); 7] = [
+const LISTED: [(usize, &str); 8] = [
     (
         0,
         "sdca: conditional access for transport streams, by Subset Difference",
@@ -58,11 +58,15 @@ const LISTED: [(usize, &str); 7] = [
         "  next SITE BOOK WORDS OUT     makes the site of the next broadcast: new control words, a new period",
     ),
     (
-        22,
-        "  twin SITE WORDS OUT          makes the site of a broadcast at the same time: new control words, the same periods",
+        19,
+        "  status SITE BOOK LEAF        prints whether a receiver is entitled, and when that changes",
     ),
     (
         23,
+        "  twin SITE WORDS OUT          makes the site of a broadcast at the same time: new control words, the same periods",
+    ),
+    (
+        24,
         "  watch CARD STREAM OUT        makes OUT, what the card opens of a stream that may be damaged",
     ),
 ];
