@@ -306,7 +306,7 @@ done
 for pair in "cover loop B:SITE loop: its path is a loop of links, or too long" \
     "cover folder B:SITE folder: it is a folder" \
     "cover S folder:BOOK folder: it is a folder" "card S 5 folder:OUT folder: it is a folder" \
-    "card S 5 ./S:OUT ./S: it is one of the inputs, by another path" \
+    "card S 5 ./S:OUT ./S: it is an input and the output, by two names" \
     "card S 5 /dev/full:OUT /dev/full: no space is left on the device; what is there is a part of it"; do
     # shellcheck disable=SC2086 # the words of a command
     sdca ${pair%%:*} >lines 2>err
@@ -323,7 +323,7 @@ for pair in "cover S no:sdca: BOOK no: no such file" "card S 5 no/x:sdca: OUT no
     "card S 9 K:sdca: LEAF 9: out of its range; LEAF is the receiver's number, from 0 to 2^height - 1" \
     "card S x K:sdca: LEAF x: not a decimal number; LEAF is the receiver's number, from 0 to 2^height - 1" \
     "cover B B:sdca: SITE B: line 1 is \"period\"; it must be height N, N from 1 to 20" \
-    "receive S X K:sdca: CARD S: it is no plain card; a layer card and any other file is none" \
+    "receive S X K:sdca: CARD S: it is no card of the command card; a layer card is none either" \
     "cover S:sdca: cover: wrong number of arguments; see sdca help cover" \
     "card S 5 S:sdca: OUT S: it is one of the inputs" "frob:sdca: frob: unknown command; see sdca help" \
     "help frob:sdca: frob: unknown command; see sdca help"; do
@@ -366,9 +366,9 @@ row "OUT is a prefix" same big due
 (
     trap '' PIPE
     "$program" head S N C /dev/stdout 2>err
-    echo "$?" >exits
+    echo "$?" >closed
 ) | true
-row "the reader of OUT is gone, its signal ignored: exit 4" is "$(cat exits) $(lines_of err)" "4 device fault"
+row "the reader of OUT is gone, its signal ignored: exit 4" is "$(cat closed) $(lines_of err)" "4 device fault"
 row "what the machine says" is "$(tail -n 1 err)" "sdca: OUT /dev/stdout: its reader is gone"
 
 # --- `-` is the standard input or the standard output. An older program fails these rows
