@@ -1,4 +1,4 @@
-use Rattle.sd_test_run.proofs.leaving.uncounted.Given as goal
+use Rattle.sd_test_run.proofs.leaving.noted.Given as goal
 
 -- the ledger is the blank one
 abbrev pub ghosts-counted : goal.ghosts-counted
