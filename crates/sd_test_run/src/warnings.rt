@@ -11,7 +11,10 @@ static SITES: [(&str, &str); 6] = [
     ("eight", site!()),
     ("nine", site!("messages 3\n")),
     ("first", site!("messages 1\nfirst-word 0\n")),
-    ("second", site!("messages 2\nfirst-word 7\nlast-word 4294967295\n")),
+    (
+        "second",
+        site!("messages 2\nfirst-word 7\nlast-word 4294967295\n"),
+    ),
     ("third", site!("messages 3\nfirst-word 7\n")),
     (
         "twelve",
@@ -75,7 +78,12 @@ fn head_warns_of_a_site_once_and_of_a_whole_one_never(rt: HostRuntime) -> Result
     let alloc = rt.alloc();
     let mut depot = begun(alloc)?;
     for (name, due) in WARNINGS {
-        let (status, notes) = said(alloc, &mut depot, &["head", name, "book", "clear", "sent"], 4096)?;
+        let (status, notes) = said(
+            alloc,
+            &mut depot,
+            &["head", name, "book", "clear", "sent"],
+            4096,
+        )?;
         assert_eq!(rt; status.code(), 0, "{name}");
         assert_eq!(rt; notes.as_slice(), due.as_bytes(), "{name}");
     }
@@ -92,7 +100,12 @@ fn a_warning_comes_before_the_first_byte_of_out(rt: HostRuntime) -> Result<(), A
     let alloc = rt.alloc();
     let mut depot = begun(alloc)?;
     depot.fail_port(String::from_str(alloc, "sent")?, 0);
-    let (status, notes) = said(alloc, &mut depot, &["head", "eight", "book", "clear", "sent"], 4096)?;
+    let (status, notes) = said(
+        alloc,
+        &mut depot,
+        &["head", "eight", "book", "clear", "sent"],
+        4096,
+    )?;
     assert_eq!(rt; status.code(), 4);
     assert_eq!(rt; depot.get("sent"), Some(&[][..]));
     assert_eq!(rt; notes.as_slice(), WARNINGS[0].1.as_bytes());
@@ -103,8 +116,18 @@ fn a_warning_comes_before_the_first_byte_of_out(rt: HostRuntime) -> Result<(), A
 fn nothing_is_warned_of_what_is_refused(rt: HostRuntime) -> Result<(), AllocError> {
     let alloc = rt.alloc();
     let mut depot = begun(alloc)?;
-    for (site, book) in [("site", "book"), ("gone", "book"), ("eight", "bad"), ("eight", "gone")] {
-        let (_, notes) = said(alloc, &mut depot, &["head", site, book, "clear", "sent"], 4096)?;
+    for (site, book) in [
+        ("site", "book"),
+        ("gone", "book"),
+        ("eight", "bad"),
+        ("eight", "gone"),
+    ] {
+        let (_, notes) = said(
+            alloc,
+            &mut depot,
+            &["head", site, book, "clear", "sent"],
+            4096,
+        )?;
         assert_eq!(rt; notes.len(), 0, "{site} {book}");
     }
     Ok(())
@@ -114,8 +137,18 @@ fn nothing_is_warned_of_what_is_refused(rt: HostRuntime) -> Result<(), AllocErro
 fn a_warning_that_cannot_be_written_changes_nothing(rt: HostRuntime) -> Result<(), AllocError> {
     let alloc = rt.alloc();
     let mut depot = begun(alloc)?;
-    said(alloc, &mut depot, &["head", "eight", "book", "clear", "sent"], 4096)?;
-    let (status, notes) = said(alloc, &mut depot, &["head", "eight", "book", "clear", "again"], 20)?;
+    said(
+        alloc,
+        &mut depot,
+        &["head", "eight", "book", "clear", "sent"],
+        4096,
+    )?;
+    let (status, notes) = said(
+        alloc,
+        &mut depot,
+        &["head", "eight", "book", "clear", "again"],
+        20,
+    )?;
     assert_eq!(rt; status.code(), 0);
     assert!(rt; notes.len() < 27);
     assert!(rt; depot.get("sent").is_some());
