@@ -102,18 +102,18 @@ row "a refusal in the stream, into a file" same got X9
 row "its line" is "$(lines_of err)" "clear packet 299: torn"
 
 # --- what head warns of
-twice="it has no line first-word; a second run with it would use the same control words again"
-older="its messages are of version 1; a receiver that stays on loses the next broadcast"
+twice="it has no line first-word; sent twice, it repeats its control words; make sites by next"
+older="its messages are of version 1; a box that stays on loses the next broadcast; take messages 3"
 { cat S && printf '%s\n' 'messages 1' 'first-word 0'; } >S10
 { cat S && printf '%s\n' 'messages 3' 'first-word 0' 'last-word 4294967295' 'first-period 0'; } >S12
 sdca head S B C X8 2>err
-row "head: a site of eight lines" is "$status $(cat err)" "0 sdca: SITE S: $twice"
+row "head: a site of eight lines" is "$status $(cat err)" "0 sdca: warning: SITE S: $twice"
 sdca head S10 B C X8 2>err
-row "head: messages of version 1" is "$status $(cat err)" "0 sdca: SITE S10: $older"
+row "head: messages of version 1" is "$status $(cat err)" "0 sdca: warning: SITE S10: $older"
 sdca head S12 B C X8 2>err
 row "head: a site of twelve lines" is "$status $(cat err)" "0 "
 { "$program" head S B C /dev/stdout 2>&1 || :; } >got
-row "the warning comes before OUT's first byte" is "$(head -n 1 got)" "sdca: SITE S: $twice"
+row "the warning comes before OUT's first byte" is "$(head -n 1 got)" "sdca: warning: SITE S: $twice"
 row "and OUT is whole behind it" is "$(tail -n +2 got | cksum)" "$(cksum <X)"
 sdca trial S B C >got 2>err
 row "trial doesn't warn" is "$(cat err)" ""
@@ -323,7 +323,7 @@ for pair in "cover S no:sdca: BOOK no: no such file" "card S 5 no/x:sdca: OUT no
     "card S 9 K:sdca: LEAF 9: out of its range; LEAF is the receiver's number, from 0 to 2^height - 1" \
     "card S x K:sdca: LEAF x: not a decimal number; LEAF is the receiver's number, from 0 to 2^height - 1" \
     "cover B B:sdca: SITE B: line 1 is \"period\"; it must be height N, N from 1 to 20" \
-    "receive S X K:sdca: CARD S: it is no card of the command card; a layer card is none either" \
+    "receive S X K:sdca: CARD S: it is no card of the command card; a card of lcard (a layer card) can't receive" \
     "cover S:sdca: cover: wrong number of arguments; see sdca help cover" \
     "card S 5 S:sdca: OUT S: it is one of the inputs" "frob:sdca: frob: unknown command; see sdca help" \
     "help frob:sdca: frob: unknown command; see sdca help"; do
@@ -692,7 +692,7 @@ if strace -o trace true 2>err; then
         sed -n 's/.*write(.*) *= \([0-9]*\)$/\1/p' trace | sort -n | tail -n 1
     }
     row "a pipe gets 21 packets at once" is "$(most_written "$program" head S N C /dev/stdout)" $((188 * 21))
-    row "and a file 348" is "$(most_written "$program" head S N C R)" $((188 * 348))
+    row "and a file all of a read" is "$(most_written "$program" head S N C R)" $((188 * 356))
 else
     left_out "when the mark is on the disk" "strace: $(cat err)"
 fi

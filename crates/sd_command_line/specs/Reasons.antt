@@ -101,7 +101,7 @@ site_form k =
     else if k == 6 then codes "ecm-every N, N from 1 to 4096"
     else if k == 7 then codes "crypto-ecms N, N from 1 to 256"
     else if k == 8 then codes "period-cryptos N, N from 1 to 65535"
-    else if k == 9 then codes "messages N, N from 1 to 3"
+    else if k == 9 then codes "messages N, N from 1 to 3 (new sites have 3)"
     else if k == 10 then codes "first-word N, N from 0 to 4294967295"
     else if k == 11 then codes "last-word N, N from 0 to 4294967295"
     else if k == 12 then codes "first-period N, N from 0 to 4294967295"
@@ -119,21 +119,32 @@ range_form (Some Twin) k =
     if k == 12 then codes "first-period N, and a number above N must be left; the chain ends here" else site_form k
 range_form command k = site_form k
 
+-- why a site of too few lines is refused by a command
+unfoldable pub short_reason : Option Command → List ℕ
+short_reason (Some Air) =
+    codes "lines are missing; air takes a site of 13 lines, each with its line feed, as next and twin make it"
+short_reason (Some Next) =
+    codes "lines are missing; next takes a site of 13 lines, or of 12 without a control word, each with its line feed"
+short_reason (Some Twin) =
+    codes "lines are missing; twin takes a site of 13 lines, each with its line feed, as next makes it"
+short_reason command =
+    codes "lines are missing; a site has lines 1 to 8, height to period-cryptos, and one of next or twin has 13"
+
 -- why a site is refused by a command
 unfoldable pub site_reason : Option Command → SiteFault → Excerpt → List ℕ
 site_reason command (site.Line k) text =
     must_be (line_found k text (codes "is malformed")) (site_form k)
+    ++ codes "; a site's lines have one order, and none before the last is left out"
 site_reason command (site.Range k) text =
     must_be (line_found k text (codes "is out of range")) (range_form command k)
 site_reason command site.SamePid text = codes "lines 4 and 5 have one PID; EMMs and ECMs need one each"
 site_reason command (site.Extra k) text =
     line_found k text (codes "is there") ++ codes ", which is one too many; a site has at most 13"
-site_reason command site.Short text =
-    codes "lines are missing; a site has at least 8, and one that next or twin made has 13"
+site_reason command site.Short text = short_reason command
 
 -- why a card is refused
 unfoldable pub card_reason : CardFault → List ℕ
-card_reason card.Magic = codes "it is no card of the command card; a layer card is none either"
+card_reason card.Magic = codes "it is no card of the command card; a card of lcard (a layer card) can't receive"
 card_reason card.Version = codes "it is a card of another version; make it again (sdca card)"
 card_reason card.Height = codes "its height is out of range; make it again (sdca card)"
 card_reason card.Leaf = codes "its leaf is not in a tree of its height; make it again (sdca card)"
@@ -169,8 +180,10 @@ cause_text (cause.Leaf d) = leaf_text d
 cause_text cause.Descends = codes "its receiver is not above that of the line before"
 cause_text cause.Unended = codes "its line feed is missing, so it may be cut off"
 cause_text (cause.Held leaf line) =
-    codes "its name has receiver " ++ (decimal leaf ++ (codes " since line " ++ decimal line))
-cause_text (cause.Named line) = codes "its receiver has a name since line " ++ decimal line
+    codes "its name has receiver "
+    ++ (decimal leaf ++ (codes " since line " ++ (decimal line ++ codes ", for good; drop frees no name")))
+cause_text (cause.Named line) =
+    codes "its receiver has a name since line " ++ (decimal line ++ codes ", for good; drop frees no receiver")
 cause_text cause.Unknown = codes "no line before it assigns its name"
 
 -- why a line of a file is refused, and what lines such a file has
@@ -291,7 +304,8 @@ unfoldable pub clash_reason : Clash → List ℕ
 clash_reason clash.Heights = codes "its height is another one; take sites of one chain (next, twin)"
 clash_reason clash.Masters = codes "its master is another one (see sdca status); take sites of one chain (next, twin)"
 clash_reason (clash.NoWords site) = codes "it has no control word; make the next site (sdca next)"
-clash_reason (clash.SharedWord word) = codes "it has a control word of the other site; take sites of one chain (next, twin)"
+clash_reason (clash.SharedWord word) =
+    codes "it has a control word of the other site; give two different sites of one chain (next, twin)"
 clash_reason (clash.Books leaf period) = codes "it disagrees with the other book there; use one book for both"
 
 -- why a broadcast ended before its stream

@@ -6,7 +6,8 @@ ghost use Rattle.sd_command_line.specs.Reasons.{must_be as found_and_due, number
 ghost use Rattle.sd_command_line.specs.Reasons.{line_found, line_reason, mark_reason, miscounted_reason};
 ghost use Rattle.sd_command_line.specs.Reasons.{missing_reason, no_cat_reason, no_page_reason, out_reason};
 ghost use Rattle.sd_command_line.specs.Reasons.{output_reason, own_book_reason, range_form, range_reason};
-ghost use Rattle.sd_command_line.specs.Reasons.{revoked_reason, rule_of, site_form, site_reason, stream_cause};
+ghost use Rattle.sd_command_line.specs.Reasons.{revoked_reason, rule_of, short_reason, site_form, site_reason};
+ghost use Rattle.sd_command_line.specs.Reasons.{stream_cause};
 ghost use Rattle.sd_command_line.specs.Reasons.{stream_reason, stream_refused, trouble_reason, unclosed_reason};
 ghost use Rattle.sd_command_line.specs.Reasons.{unheard_reason, unknown_reason, used_reason, used_up_reason};
 
@@ -140,7 +141,7 @@ fn site_form(k: u32) -> &'static str
         6 => "ecm-every N, N from 1 to 4096",
         7 => "crypto-ecms N, N from 1 to 256",
         8 => "period-cryptos N, N from 1 to 65535",
-        9 => "messages N, N from 1 to 3",
+        9 => "messages N, N from 1 to 3 (new sites have 3)",
         10 => "first-word N, N from 0 to 4294967295",
         11 => "last-word N, N from 0 to 4294967295",
         12 => "first-period N, N from 0 to 4294967295",
@@ -168,6 +169,27 @@ fn range_form(command: Option<Command>, k: u32) -> &'static str
     }
 }
 
+/// Why a site of too few lines is refused by a command.
+#[tactic(auto, unfolding(crate::specs::Reasons::short_reason))]
+fn short(command: Option<Command>) -> &'static str
+    ensures { result.now ≡ short_reason command }
+{
+    match command {
+        Some(Command::Air) => {
+            "lines are missing; air takes a site of 13 lines, each with its line feed, as next and twin make it"
+        }
+        Some(Command::Next) => {
+            "lines are missing; next takes a site of 13 lines, or of 12 without a control word, each with its line feed"
+        }
+        Some(Command::Twin) => {
+            "lines are missing; twin takes a site of 13 lines, each with its line feed, as next makes it"
+        }
+        _ => {
+            "lines are missing; a site has lines 1 to 8, height to period-cryptos, and one of next or twin has 13"
+        }
+    }
+}
+
 /// Why a site is refused by a command.
 #[tactic(auto, unfolding(crate::specs::Reasons::site_reason))]
 pub(crate) fn site(
@@ -181,7 +203,8 @@ pub(crate) fn site(
     match fault {
         SiteFault::Line(k) => {
             let found = line_found(alloc, k, text, "is malformed")?;
-            must_be(alloc, found.as_str(), site_form(k))
+            let due = must_be(alloc, found.as_str(), site_form(k))?;
+            format!(in alloc; "{due}; a site's lines have one order, and none before the last is left out")
         }
         SiteFault::Range(k) => {
             let found = line_found(alloc, k, text, "is out of range")?;
@@ -195,10 +218,7 @@ pub(crate) fn site(
             let found = line_found(alloc, k, text, "is there")?;
             format!(in alloc; "{found}, which is one too many; a site has at most 13")
         }
-        SiteFault::Short => String::from_str(
-            alloc,
-            "lines are missing; a site has at least 8, and one that next or twin made has 13",
-        ),
+        SiteFault::Short => String::from_str(alloc, short(command)),
     }
 }
 
@@ -208,7 +228,9 @@ pub(crate) fn card(fault: CardFault) -> &'static str
     ensures { result.now ≡ card_reason fault }
 {
     match fault {
-        CardFault::Magic => "it is no card of the command card; a layer card is none either",
+        CardFault::Magic => {
+            "it is no card of the command card; a card of lcard (a layer card) can't receive"
+        }
         CardFault::Version => "it is a card of another version; make it again (sdca card)",
         CardFault::Height => "its height is out of range; make it again (sdca card)",
         CardFault::Leaf => "its leaf is not in a tree of its height; make it again (sdca card)",
@@ -238,10 +260,10 @@ fn cause(alloc: Global, cause: LineCause) -> Result<String, AllocError>
     let text = match cause {
         LineCause::Leaf(d) => return leaf(alloc, d),
         LineCause::Held { leaf, line } => {
-            return format!(in alloc; "its name has receiver {leaf} since line {line}");
+            return format!(in alloc; "its name has receiver {leaf} since line {line}, for good; drop frees no name");
         }
         LineCause::Named(line) => {
-            return format!(in alloc; "its receiver has a name since line {line}");
+            return format!(in alloc; "its receiver has a name since line {line}, for good; drop frees no receiver");
         }
         LineCause::ByteOrderMark =>
             "it begins with a byte-order mark; save the file as plain ASCII",
@@ -534,7 +556,7 @@ pub(crate) fn clash(clash: Clash) -> &'static str
         }
         Clash::NoWords(_) => "it has no control word; make the next site (sdca next)",
         Clash::SharedWord(_) => {
-            "it has a control word of the other site; take sites of one chain (next, twin)"
+            "it has a control word of the other site; give two different sites of one chain (next, twin)"
         }
         Clash::Books { .. } => "it disagrees with the other book there; use one book for both",
     }

@@ -20,14 +20,14 @@ use Rattle.sd_run_broadcasts.specs.OnAir.{report_after}
 
 -- a line about the site of this name
 abbrev pub warned : List ℕ → List ℕ → List ℕ
-warned name text = codes "sdca: SITE " ++ (escaped name ++ text)
+warned name text = codes "sdca: warning: SITE " ++ (escaped name ++ text)
 
 abbrev pub no_first_word : List ℕ
-no_first_word = codes ": it has no line first-word; a second run with it would use the same control words again\n"
+no_first_word = codes ": it has no line first-word; sent twice, it repeats its control words; make sites by next\n"
 
 abbrev pub old_messages : ℕ → List ℕ
 old_messages version = codes ": its messages are of version " ++ (decimal version
-    ++ codes "; a receiver that stays on loses the next broadcast\n")
+    ++ codes "; a box that stays on loses the next broadcast; take messages 3\n")
 
 -- the warning of a site of this name that has a line `first-word`, or hasn't, and messages of this version
 unfoldable pub warning_by : List ℕ → Bool → ℕ → List ℕ

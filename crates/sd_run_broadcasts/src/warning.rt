@@ -41,7 +41,7 @@ fn no_first_word(alloc: Global, name: &str) -> Result<String, AllocError>
 {
     let name = escaped(alloc, name)?;
     format!(in alloc;
-        "sdca: SITE {name}: it has no line first-word; a second run with it would use the same control words again\n"
+        "sdca: warning: SITE {name}: it has no line first-word; sent twice, it repeats its control words; make sites by next\n"
     )
 }
 
@@ -51,6 +51,6 @@ fn old_messages(alloc: Global, name: &str, version: u8) -> Result<String, AllocE
 {
     let name = escaped(alloc, name)?;
     format!(in alloc;
-        "sdca: SITE {name}: its messages are of version {version}; a receiver that stays on loses the next broadcast\n"
+        "sdca: warning: SITE {name}: its messages are of version {version}; a box that stays on loses the next broadcast; take messages 3\n"
     )
 }

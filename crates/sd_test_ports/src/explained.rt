@@ -33,7 +33,7 @@ static EXPLAINED: [(&str, Status, &str); 52] = [
             word: 1,
             fault: CardFault::Magic,
         },
-        "sdca: CARD K: it is no card of the command card; a layer card is none either\n",
+        "sdca: CARD K: it is no card of the command card; a card of lcard (a layer card) can't receive\n",
     ),
     (
         "show K",
@@ -292,7 +292,7 @@ static SITES: [(&str, u8, SiteFault, &[u8], &str); 9] = [
         3,
         SiteFault::Line(2),
         b"height 3\nfirst-word 5000\n",
-        "sdca: SITE T: line 2 is \"first-word 5000\"; it must be master and 64 hexadecimal digits\n",
+        "sdca: SITE T: line 2 is \"first-word 5000\"; it must be master and 64 hexadecimal digits; a site's lines have one order, and none before the last is left out\n",
     ),
     // A line that may hold the master isn't shown.
     (
@@ -300,7 +300,7 @@ static SITES: [(&str, u8, SiteFault, &[u8], &str); 9] = [
         3,
         SiteFault::Line(2),
         b"height 3\nmaster 000102030405060708\n",
-        "sdca: SITE T: line 2 is malformed; it must be master and 64 hexadecimal digits\n",
+        "sdca: SITE T: line 2 is malformed; it must be master and 64 hexadecimal digits; a site's lines have one order, and none before the last is left out\n",
     ),
     (
         "apart S B T B",
@@ -349,7 +349,7 @@ static SITES: [(&str, u8, SiteFault, &[u8], &str); 9] = [
         3,
         SiteFault::Short,
         b"",
-        "sdca: SITE T: lines are missing; a site has at least 8, and one that next or twin made has 13\n",
+        "sdca: SITE T: lines are missing; a site has lines 1 to 8, height to period-cryptos, and one of next or twin has 13\n",
     ),
 ];
 
@@ -419,9 +419,9 @@ static CAUSES: [(LineCause, &str); 6] = [
     ),
     (
         LineCause::Held { leaf: 5, line: 1 },
-        "its name has receiver 5 since line 1",
+        "its name has receiver 5 since line 1, for good; drop frees no name",
     ),
-    (LineCause::Named(1), "its receiver has a name since line 1"),
+    (LineCause::Named(1), "its receiver has a name since line 1, for good; drop frees no receiver"),
     (LineCause::Unknown, "no line before it assigns its name"),
 ];
 

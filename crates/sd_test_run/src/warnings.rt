@@ -26,19 +26,19 @@ static SITES: [(&str, &str); 6] = [
 static WARNINGS: [(&str, &str); 6] = [
     (
         "eight",
-        "sdca: SITE eight: it has no line first-word; a second run with it would use the same control words again\n",
+        "sdca: warning: SITE eight: it has no line first-word; sent twice, it repeats its control words; make sites by next\n",
     ),
     (
         "nine",
-        "sdca: SITE nine: it has no line first-word; a second run with it would use the same control words again\n",
+        "sdca: warning: SITE nine: it has no line first-word; sent twice, it repeats its control words; make sites by next\n",
     ),
     (
         "first",
-        "sdca: SITE first: its messages are of version 1; a receiver that stays on loses the next broadcast\n",
+        "sdca: warning: SITE first: its messages are of version 1; a box that stays on loses the next broadcast; take messages 3\n",
     ),
     (
         "second",
-        "sdca: SITE second: its messages are of version 2; a receiver that stays on loses the next broadcast\n",
+        "sdca: warning: SITE second: its messages are of version 2; a box that stays on loses the next broadcast; take messages 3\n",
     ),
     ("third", ""),
     ("twelve", ""),
