@@ -1,5 +1,5 @@
 #!/bin/sh
-# Measures `card` at height 20 beside bench/cards.c, which makes the same cards with OpenSSL's SHA-256, in one run. To
+# Measures `card` at height 20 beside trials/cards.c, which makes the same cards with OpenSSL's SHA-256, in one run. To
 # be run by hand, from any folder: `bench/cards.sh`, or `SDCA=PROGRAM bench/cards.sh` with a program that is built
 # already.
 #

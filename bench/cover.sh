@@ -1,5 +1,5 @@
 #!/bin/sh
-# Measures `cover` in one run beside awk, which replays books of plain lines, and beside bench/cover.c, which prints
+# Measures `cover` in one run beside awk, which replays books of plain lines, and beside trials/cover.c, which prints
 # the same covers. To be run by hand, from any folder: `bench/cover.sh`, or `SDCA=PROGRAM bench/cover.sh` with a
 # program that is built already.
 #

@@ -1,5 +1,5 @@
 #!/bin/sh
-# Measures `head` beside bench/head.c, which makes the same broadcasts with OpenSSL's ChaCha20 and SHA-256, in one
+# Measures `head` beside trials/head.c, which makes the same broadcasts with OpenSSL's ChaCha20 and SHA-256, in one
 # run. To be run by hand, from any folder: `bench/head.sh`, or `SDCA=PROGRAM [OLD=PROGRAM] bench/head.sh` with programs
 # that are built already. An older program named by OLD takes its turn too.
 #

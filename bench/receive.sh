@@ -1,5 +1,5 @@
 #!/bin/sh
-# Measures `receive` beside bench/receive.c, which opens the same broadcasts with OpenSSL's ChaCha20 and SHA-256, in
+# Measures `receive` beside trials/receive.c, which opens the same broadcasts with OpenSSL's ChaCha20 and SHA-256, in
 # one run. To be run by hand, from any folder: `bench/receive.sh`, or `SDCA=PROGRAM [OLD=PROGRAM] bench/receive.sh`
 # with programs that are built already. An older program named by OLD takes its turn too.
 #

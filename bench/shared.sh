@@ -1,6 +1,7 @@
-# What the scripts of this folder share; they read it. It goes to a folder that is removed at the end, with `site` of
-# height 20 and `sdca`: the program itself, so that the launcher's look at the sources isn't timed. SDCA=PROGRAM names
-# one that is built already, and OLD=PROGRAM an older one, which a script that says so measures beside it.
+# What the scripts of this folder and of trials/ share; they read it. It goes to a folder that is removed at the end,
+# with `site` of height 20 and `sdca`: the program itself, so that the launcher's look at the sources isn't timed.
+# SDCA=PROGRAM names one that is built already, and OLD=PROGRAM an older one, which a script that says so measures
+# beside it.
 top=$(CDPATH='' cd "$(dirname "$0")/.." && pwd -P)
 work=$(mktemp -d)
 trap 'rm -rf "$work"' EXIT
@@ -58,11 +59,13 @@ if [ -n "$old" ]; then
 fi
 sed 's/^height .*/height 20/' "$top/examples/site.txt" >site
 
-# NAME LIBRARIES..: the program of bench/NAME.c.
+# NAME LIBRARIES..: the program of trials/NAME.c or bench/NAME.c.
 compile() {
     name=$1
     shift
-    cc -O2 -o "$name" "$top/bench/$name.c" "$@"
+    for folder in trials bench; do
+        [ ! -e "$top/$folder/$name.c" ] || cc -O2 -o "$name" "$top/$folder/$name.c" "$@"
+    done
 }
 
 # COUNT: `book` revokes so many of the 1,048,576 leaves, drawn at random, in ascending order.

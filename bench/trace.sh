@@ -1,5 +1,5 @@
 #!/bin/sh
-# Measures the tracing of coalitions beside bench/trace.c, which does the same in C (`cc -O2`).
+# Measures the tracing of coalitions beside trials/trace.c, which does the same in C (`cc -O2`).
 # To be run by hand, from any folder: `bench/trace.sh`. The first run proves and builds sd_bench.
 #
 # The tree has height 20, 1,000 random leaves are revoked, and the coalition has 10, 100 and 1,000 random leaves; the

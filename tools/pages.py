@@ -1,9 +1,9 @@
 #!/usr/bin/env python3
 """pages.py: what the hand-written pages name is there, and the pages are short.
 
-The pages are README.md, bench/README.md and docs/*.md but docs/TRUST.md. Each path, crate, script and link that one
-names must be there, and so must each section that is named behind its page (`docs/FORMATS.md, Site`), also in the
-comments of crates, tools and scripts. A file of a crate that is named without the crate must be in one that the same
+The pages are README.md, those of bench/ and trials/, and docs/*.md but docs/TRUST.md. Each path, crate, script and
+link that one names must be there, and so must each section that is named behind its page (`docs/FORMATS.md, Site`),
+also in the comments of crates, tools and scripts. A file of a crate that is named without the crate must be in one that the same
 item names, or in any if it names none. In the index of docs/PROMISES.md what stands behind `Definitions:`, `Contracts:`
 and `Names:` are names, each behind its crate, and each must be defined in that crate's specs/ or src/. Each law of the
 repository must be named there, and each crate in the groups of docs/ARCHITECTURE.md. The picture of the crates must be
@@ -28,7 +28,7 @@ PROMISES, INDEX = "docs/PROMISES.md", "The index"
 ARCHITECTURE = "docs/ARCHITECTURE.md"
 # What a page writes in place of a name.
 BLANK = re.compile(r"NAME|FUNCTION|CRATE|\*+")
-PATH = re.compile(r"(?<![\w./-])((?:crates|docs|tools|examples|bench|\.ci)/[\w./@*-]*[\w*])")
+PATH = re.compile(r"(?<![\w./-])((?:crates|docs|tools|examples|bench|trials|\.ci)/[\w./@*-]*[\w*])")
 OF_CRATE = re.compile(r"(?<![\w./-])(sd\w*/[\w./*-]*[\w*])")
 CRATE = re.compile(r"(?<![\w./-])(sd_\w*)(\*?)(?![\w/])")
 SCRIPT = re.compile(r"(?<![\w./@*-])([\w-]+\.(?:sh|py))\b")
@@ -100,7 +100,7 @@ class Checks:
         # The pages by the words with which text names them; README is the one at the top.
         self.named = {os.path.basename(path)[:-3]: path for path in reversed(self.headings)}
         self.crates = set(os.listdir(f"{TOP}/crates"))
-        self.scripts = {os.path.basename(it) for folder in ("bench", "examples", "tools")
+        self.scripts = {os.path.basename(it) for folder in ("bench", "examples", "tools", "trials")
                         for it in glob.glob(f"{TOP}/{folder}/*")}
         self.names, self.laws = defaultdict(set), set()
         self.read_crates()
@@ -108,7 +108,8 @@ class Checks:
     @staticmethod
     def all_pages():
         docs = sorted(f"docs/{it}" for it in os.listdir(f"{TOP}/docs") if it.endswith(".md") and it != "TRUST.md")
-        return ["README.md", *docs, *(["bench/README.md"] if os.path.exists(f"{TOP}/bench/README.md") else [])]
+        folders = [it for it in ("bench/README.md", "trials/README.md") if os.path.exists(f"{TOP}/{it}")]
+        return ["README.md", *docs, *folders]
 
     def read_crates(self):
         """The names that each crate defines, and the laws."""
@@ -177,7 +178,8 @@ class Checks:
     def comments(self):
         """The sections that comments of crates, tools and scripts name."""
         for path in [it for pattern in ("crates/*/src/**/*.rt", "crates/*/specs/**/*.antt", "crates/*/proofs/**/*.antt",
-                                        "bench/*.sh", "bench/*.py", "examples/*.sh", "tools/*.py")
+                                        "bench/*.sh", "bench/*.py", "trials/*.sh", "trials/*.py", "examples/*.sh",
+                                        "tools/*.py")
                      for it in glob.glob(f"{TOP}/{pattern}", recursive=True)]:
             name = path[len(TOP) + 1 :]
             text = re.sub(r"\n\s*(?://+!?|--|#)?\s*", " ", read(name))

@@ -2,11 +2,11 @@
 # Shows that a command which the launcher runs before its proof does what the built program does: in a fresh clone, each
 # case below has the same exit status, standard output, files and standard error, but for the launcher's first line. The
 # comments by which the launcher knows the arguments say what `help` prints. A case takes a minute of a processor. To be
-# run by hand, from any folder: `bench/first-look.sh`, or `SDCA=PROGRAM bench/first-look.sh` with a program that is
+# run by hand, from any folder: `trials/first-look.sh`, or `SDCA=PROGRAM trials/first-look.sh` with a program that is
 # built already. FIRST and LAST, if set, are the numbers of the first and the last case to run. The last line is
 # `N passed, M failed`.
 set -eu
-. "$(dirname "$0")/shared.sh"
+. "$(dirname "$0")/../bench/shared.sh"
 
 lanes=$(getconf _NPROCESSORS_ONLN)
 first=${FIRST:-1}

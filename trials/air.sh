@@ -1,6 +1,6 @@
 #!/bin/sh
-# Tries and measures the head end that stays on the air. To be run by hand, from any folder: `bench/air.sh [SECONDS]`, or
-# `SDCA=PROGRAM bench/air.sh [SECONDS]` with a program that is built already. It needs Python 3, and takes some minutes.
+# Tries and measures the head end that stays on the air. To be run by hand, from any folder: `trials/air.sh [SECONDS]`, or
+# `SDCA=PROGRAM trials/air.sh [SECONDS]` with a program that is built already. It needs Python 3, and takes some minutes.
 #
 # First `air` and `head` take turns with a million clean packets: the processor time of `air` is to be at most 1.1 of
 # that of `head`. Then `air` gets SECONDS (an hour, if not given) of a clear stream of 40 Mbit/s with one damage a second,
@@ -9,7 +9,7 @@
 # no keystream is used twice in all that was sent. The last line is `N passed, M failed`.
 set -eu
 seconds=${1:-3600}
-. "$(dirname "$0")/shared.sh"
+. "$(dirname "$0")/../bench/shared.sh"
 compile always -Wall
 rounds=5
 kills=12

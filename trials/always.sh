@@ -1,7 +1,7 @@
 #!/bin/sh
 # Gives `watch` a day of a stream of 40 Mbit/s with one damage a second, as fast as it goes: wrong bits, marked packets,
 # gaps, garbage and doubled packets in ten broadcasts that follow one another, again and again. To be run by hand, from
-# any folder: `bench/always.sh [SECONDS]`, or `SDCA=PROGRAM bench/always.sh [SECONDS]` with a program that is built
+# any folder: `trials/always.sh [SECONDS]`, or `SDCA=PROGRAM trials/always.sh [SECONDS]` with a program that is built
 # already. SECONDS is the length of the stream, a day if not given, which takes some 20 minutes on two processors.
 #
 # It shows that the box goes on to the end: the last line's packets and skipped bytes are all the bytes that came; that
@@ -9,7 +9,7 @@
 # seconds. The last line is `N passed, M failed`.
 set -eu
 seconds=${1:-86400}
-. "$(dirname "$0")/shared.sh"
+. "$(dirname "$0")/../bench/shared.sh"
 compile always -Wall
 
 : >book

@@ -1,8 +1,8 @@
 #!/bin/sh
 # Runs every command at its limits, in ample memory: all of them must be done. A line for each run has its seconds and
 # what it was; the last line is `N done, M failed`. It takes some minutes and 2 GB of memory and of disk. To be run by
-# hand, from any folder: `bench/limits.sh`, or `SDCA=PROGRAM bench/limits.sh` with a program that is built already.
-. "$(dirname "$0")/shared.sh"
+# hand, from any folder: `trials/limits.sh`, or `SDCA=PROGRAM trials/limits.sh` with a program that is built already.
+. "$(dirname "$0")/../bench/shared.sh"
 
 finished=0
 failed=0

@@ -2,10 +2,10 @@
 # Shows that OUT never destroys an input: each command with an OUT that is the file of one that it reads, by another
 # path, a hard and a symbolic link, ends with a device fault and leaves all files as they were. Another regular file is
 # cut off and replaced; a named pipe, /dev/stdout and /dev/null are written as they are. It is a part of the gate, and
-# can be run by hand, from any folder: `bench/alias.sh`, or `SDCA=PROGRAM bench/alias.sh` with a program that is built
+# can be run by hand, from any folder: `trials/alias.sh`, or `SDCA=PROGRAM trials/alias.sh` with a program that is built
 # already. It takes a second. A row that holds prints nothing. The last line is `N passed, M failed`.
 set -u
-. "$(dirname "$0")/shared.sh"
+. "$(dirname "$0")/../bench/shared.sh"
 
 leaf=5
 printf 'revoke 5\n' >book

@@ -1,13 +1,13 @@
 #!/bin/sh
 # Shows how the program behaves at the machine's edge: OUT as the standard output, the modes of cards and sites, names
 # that lead to one file, kinds of files and of faults, exits of streams, what a refusal is to a user, chains of sites,
-# and pipes that stay open. It is a part of the gate, and can be run by hand, from any folder: `bench/edge.sh`, or
-# `SDCA=PROGRAM bench/edge.sh` with a program that is built already. It takes some 4 seconds, and needs Python 3, but no
+# and pipes that stay open. It is a part of the gate, and can be run by hand, from any folder: `trials/edge.sh`, or
+# `SDCA=PROGRAM trials/edge.sh` with a program that is built already. It takes some 4 seconds, and needs Python 3, but no
 # root. A row that holds prints nothing. A row that can't be tried here, as without strace, says so and isn't counted.
 # The last line is `N passed, M failed`.
-[ $# -eq 0 ] || { echo "edge.sh takes no argument: SDCA=PROGRAM bench/edge.sh" >&2; exit 2; }
-. "$(dirname "$0")/shared.sh"
-live=$top/bench/live.py
+[ $# -eq 0 ] || { echo "edge.sh takes no argument: SDCA=PROGRAM trials/edge.sh" >&2; exit 2; }
+. "$(dirname "$0")/../bench/shared.sh"
+live=$top/trials/live.py
 umask 022
 
 # WORDS..: runs the program; its exit is in $status.

@@ -1,8 +1,8 @@
 #!/bin/sh
 # Shows that `trace` takes a cover for each leaf that it finds: at height 6, with an empty book and the leaves 0 to
 # 63, the 64th request for memory is refused, and the trace ends with exit 12. With ample memory it prints 64 leaves.
-# It proves nothing, and catches a trace that comes to its lines without asking a box. To be run by hand, from any
-# folder. `rt try` builds the program, unproved.
+# It proves nothing, and catches a trace that comes to its lines without asking a box. It is a part of the gate, and can
+# be run by hand, from any folder. `rt try` builds the program, unproved. The last line is `1 passed, 0 failed`.
 set -eu
 top=$(CDPATH='' cd "$(dirname "$0")/.." && pwd -P)
 work=$(mktemp -d)
@@ -30,3 +30,4 @@ status=0
 traced --fail-alloc 64 || status=$?
 [ $status = $no_memory ] && grep -q '^no memory$' "$work/lines" || fail "the exit status is $status and not $no_memory"
 echo "64 leaves are found, and the 64th request for memory is one of theirs"
+echo "1 passed, 0 failed"

@@ -1,4 +1,4 @@
-"""live.py: what bench/live.sh and bench/edge.sh ask of a program whose input or output is a pipe or a socket.
+"""live.py: what trials/live.sh and trials/edge.sh ask of a program whose input or output is a pipe or a socket.
 
 live.py fed INPUT OUT PACKETS.. -- WORDS..  runs the program with a pipe as its standard input, which gets the first
     PACKETS packets of INPUT, for each of the ascending numbers, and stays open. Each time that the program waits for
@@ -6,7 +6,7 @@ live.py fed INPUT OUT PACKETS.. -- WORDS..  runs the program with a pipe as its 
     is the program's.
 live.py socket WORDS..  runs the program with a socket as its standard output, and prints what comes from there.
 live.py full WORDS..  runs the program with a standard output that is a pipe in which no write waits. Nobody reads it.
-live.py table PROGRAM..  prints the table of bench/live.sh, in a folder with its files, with a column for each program.
+live.py table PROGRAM..  prints the table of trials/live.sh, in a folder with its files, with a column for each program.
     The exit is 0 if the first program's numbers are as they are due."""
 
 import bisect
@@ -27,7 +27,7 @@ from concurrent.futures import ThreadPoolExecutor
 PACKET = 188
 # A program that takes longer to read what a pipe has is stuck.
 MOST_SECONDS = 120
-# The site of bench/live.sh: clear packets from one ECM to the next, and from one CAT to the next.
+# The site of trials/live.sh: clear packets from one ECM to the next, and from one CAT to the next.
 ECM_EVERY, CAT_EVERY = 200, 400
 LIVE_BITS, RADIO_BITS = 200_000, 64_000
 LIVE_SECONDS = 12

@@ -3,13 +3,13 @@
 # commands with known results it makes each request for memory, and each of the first reads, writes, opens and closes,
 # fail in turn (with EIO, ENOSPC and EINTR, and cut short); fills the file system; and feeds it 2,000 changed streams.
 # Each run is to end with its own answer and OUT, or with exit 4, 5 or 12 and a prefix of OUT; no other file may change.
-# To be run by hand, from any folder: bench/faults.sh [FOLDER], FOLDER having clear streams NAME.ts, in place of one of
+# To be run by hand, from any folder: trials/faults.sh [FOLDER], FOLDER having clear streams NAME.ts, in place of one of
 # `sample`. SDCA=PROGRAM names a program that is built already. It needs strace, and root for a small file system. The
 # last line is `N passed, M failed`.
 set -eu
 
 folder=${1:+$(CDPATH='' cd "$1" && pwd -P)}
-. "$(dirname "$0")/shared.sh"
+. "$(dirname "$0")/../bench/shared.sh"
 work=$(pwd -P)
 first=6
 changed=2000
@@ -23,7 +23,7 @@ calls="openat statx read write ftruncate close"
 strace -V >version || fail "strace is not there"
 
 compile faults
-cc -O2 -shared -fPIC -o refuse.so "$top/bench/refuse.c"
+cc -O2 -shared -fPIC -o refuse.so "$top/trials/refuse.c"
 passed=0
 failed=0
 

@@ -1,11 +1,11 @@
 #!/bin/sh
 # Shows that ten edits of one line at the machine's edge, each of which changes what a user sees, don't pass the gate.
 # Of each it says `refused by the prover: CRATE`, `refused by SCRIPT: ROW`, or `NOT SEEN`. To be run by hand, from any
-# folder: `bench/edge_edits.sh [NUMBER..]`, the numbers being those of the edits to try, all if none is given. It builds
+# folder: `trials/edge_edits.sh [NUMBER..]`, the numbers being those of the edits to try, all if none is given. It builds
 # the program first, if no build is up to date. Then it takes some minutes for each edit: it applies the edit to a clone
 # of the last commit, where tools/build.py proves only the crates that changed and those above, and builds the program.
 # The last line is `N passed, M failed`.
-. "$(dirname "$0")/shared.sh"
+. "$(dirname "$0")/../bench/shared.sh"
 most_seconds=1800
 clone=$work/clone
 kept=crates/sdca/out/rlib
@@ -14,7 +14,7 @@ git clone -q "$top" "$clone" || fail "the repository can't be cloned"
 # Runs edge.sh and alias.sh of the clone with this program. The rows that fail, each with its script, are in `rows`.
 try_rows() {
     for script in edge alias; do
-        SDCA=$1 timeout $most_seconds "$clone/bench/$script.sh" >said 2>&1
+        SDCA=$1 timeout $most_seconds "$clone/trials/$script.sh" >said 2>&1
         sed -n "s/^FAILED/$script.sh/p" said
         tail -n 1 said | grep -q '^[0-9]* passed, [0-9]* failed$' || echo "$script.sh: it doesn't end"
     done >rows
