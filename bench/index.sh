@@ -1,6 +1,6 @@
 #!/bin/sh
 # Measures the index of the revoked leaves at height 20, in one run, beside a cover from scratch for each period and
-# beside a C program with a hash table (trials/index.c), which takes the same random commands and whose answers are
+# beside a C program with a hash table (bench/index.c), which takes the same random commands and whose answers are
 # compared. To be run by hand, from any folder. It needs the program of the lower crates' work alone, so SDCA may name
 # any program.
 #

@@ -204,7 +204,9 @@ pub(crate) fn site(
         SiteFault::Line(k) => {
             let found = line_found(alloc, k, text, "is malformed")?;
             let due = must_be(alloc, found.as_str(), site_form(k))?;
-            format!(in alloc; "{due}; a site's lines have one order, and none before the last is left out")
+            format!(in alloc;
+                "{due}; a site's lines have one order, and none before the last is left out"
+            )
         }
         SiteFault::Range(k) => {
             let found = line_found(alloc, k, text, "is out of range")?;
@@ -260,10 +262,14 @@ fn cause(alloc: Global, cause: LineCause) -> Result<String, AllocError>
     let text = match cause {
         LineCause::Leaf(d) => return leaf(alloc, d),
         LineCause::Held { leaf, line } => {
-            return format!(in alloc; "its name has receiver {leaf} since line {line}, for good; drop frees no name");
+            return format!(in alloc;
+                "its name has receiver {leaf} since line {line}, for good; drop frees no name"
+            );
         }
         LineCause::Named(line) => {
-            return format!(in alloc; "its receiver has a name since line {line}, for good; drop frees no receiver");
+            return format!(in alloc;
+                "its receiver has a name since line {line}, for good; drop frees no receiver"
+            );
         }
         LineCause::ByteOrderMark =>
             "it begins with a byte-order mark; save the file as plain ASCII",

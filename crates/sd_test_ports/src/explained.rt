@@ -421,7 +421,10 @@ static CAUSES: [(LineCause, &str); 6] = [
         LineCause::Held { leaf: 5, line: 1 },
         "its name has receiver 5 since line 1, for good; drop frees no name",
     ),
-    (LineCause::Named(1), "its receiver has a name since line 1, for good; drop frees no receiver"),
+    (
+        LineCause::Named(1),
+        "its receiver has a name since line 1, for good; drop frees no receiver",
+    ),
     (LineCause::Unknown, "no line before it assigns its name"),
 ];
 
