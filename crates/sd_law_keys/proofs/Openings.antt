@@ -115,7 +115,7 @@ pub judged_is : (s : Segment) (before : List (List ℕ)) (held : ℕ × List ℕ
 unfolding judged
 judged_is s before held out packets is here =
     judged_by s before held out packets (scrambling_of held.1 == 0) (is_foreign s held.1) (is_confirmed s (pid_of
-        held.1))
+    held.1))
     refl refl refl is here
 
 -- a packet in the clear is written as it came, or restored

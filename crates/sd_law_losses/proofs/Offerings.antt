@@ -61,7 +61,7 @@ judged_later : (k : ℕ) (segment : Segment) (before : List (List ℕ)) (held : 
 unfolding judged
 judged_later k segment before held =
     judged_by_tests k held.0 (scrambling_of held.1 == 0) (is_foreign segment held.1) (is_confirmed segment (pid_of
-        held.1))
+    held.1))
     (unmarked segment held.1 ∷ [])
     (descrambled held.1 segment.word (tracked segment.first (pid_of held.1) (before ++ held.1 ∷ [])) ∷ [])
 

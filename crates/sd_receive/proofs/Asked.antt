@@ -116,10 +116,10 @@ pub faulty_not_again : (past : List Heard) (fault : EcmFault) (read : Result (Op
 unfolding is_part_again
 faulty_not_again past fault read is = rw is refl
 
--- a packet in the clear isn't odd
-scrambled_no : (closed odd : Bool) → false ≡ (not closed && (false && odd))
-scrambled_no true odd = refl
-scrambled_no false odd = refl
+-- a packet in the clear isn't stray
+scrambled_no : (closed foreign : Bool) → false ≡ (not closed && (false && foreign))
+scrambled_no true foreign = refl
+scrambled_no false foreign = refl
 
 pub clear_unstray : (past : List Heard) (n : ℕ) (packet : List ℕ) → scrambling_of packet ≡ 0 →
     false ≡ is_stray past (Other n packet)
@@ -129,7 +129,7 @@ clear_unstray past n packet clear =
     rw test (scrambled_no (is_closed past)
     (option_map_or (λ message. is_foreign_under message.word packet) (newest past).message false))
 
--- without a message nothing is odd
+-- without a message nothing is stray
 wordless : (closed scrambled : Bool) → false ≡ (not closed && (scrambled && false))
 wordless true true = refl
 wordless true false = refl
@@ -146,7 +146,7 @@ wordless_unstray card past state n packet follows none =
     ∙ ap (λ (m : Option Message). not (is_closed past) && (not (scrambling_of packet == 0)
     && option_map_or (λ message. is_foreign_under message.word packet) m false)) (sym message)
 
--- of a closed run nothing is odd
+-- of a closed run nothing is stray
 shut : (closed rest : Bool) → closed ≡ true → not closed ≡ (not closed && rest)
 shut true rest is = refl
 shut false rest is = absurd cc
@@ -161,11 +161,11 @@ closed_unstray card past state n packet follows is =
 
 -- with a message its control word tells
 pub stray_under : (card : CardFields) (past : List Heard) (state : Session) (head : EcmHead) (n : ℕ)
-    (packet : List ℕ) (odd : Bool) → IsListenerAfter card past state → state.assembler.last ≡ Some head →
-    scrambling_of packet ≢ 0 → state.closed ≡ false → odd ≡ is_foreign_under head.word packet →
-    odd ≡ is_stray past (Other n packet)
+    (packet : List ℕ) (foreign : Bool) → IsListenerAfter card past state → state.assembler.last ≡ Some head →
+    scrambling_of packet ≢ 0 → state.closed ≡ false → foreign ≡ is_foreign_under head.word packet →
+    foreign ≡ is_stray past (Other n packet)
 unfolding is_stray
-stray_under card past state head n packet odd follows some scrambled unclosed is =
+stray_under card past state head n packet foreign follows some scrambled unclosed is =
     let message : (newest past).message ≡ Some (message_of head state.assembler.places.items) =
     follows.assembler.last.says
     ∙ ap (option_map (λ kept. message_of kept state.assembler.places.items)) some in
@@ -180,7 +180,7 @@ stray_at : (card : CardFields) (past : List (List ℕ)) (packet : List ℕ) (tun
 unfolding is_stray_at
 stray_at card past packet tuning is = rw is refl
 
--- before a CAT was taken nothing is odd
+-- before a CAT was taken nothing is stray
 pub untuned_unstray : (past : List (List ℕ)) (receiver : Receiver) (packet : List ℕ) → IsAfter past receiver →
     receiver.tuning ≡ None → false ≡ is_stray_at (card_in receiver) past packet
 unfolding is_stray_at
@@ -196,7 +196,7 @@ stray_heard past receiver packet tuning thing b after some is judged =
     judged ∙ (ap (is_stray (heard (card_in receiver) past)) (sym is)
     ∙ sym (stray_at (card_in receiver) past packet tuning (sym after.tuning ∙ some)))
 
--- no message is odd
+-- no message is stray
 pub dropped_unstray : (past : List Heard) → false ≡ is_stray past Dropped
 unfolding is_stray
 dropped_unstray past = refl

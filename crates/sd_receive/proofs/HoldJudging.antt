@@ -72,7 +72,7 @@ judged_clear s before n p clear = rw (eq-eqb (scrambling_of p) 0 clear) refl
 pub judged_foreign : (s : Segment) (before : List (List ℕ)) (n : ℕ) (p : List ℕ) → (scrambling_of p == 0) ≡ false →
     is_foreign s p ≡ true → judged s before (n, p) ≡ Err n
 unfolding judged
-judged_foreign s before n p dark odd = rw dark (rw odd refl)
+judged_foreign s before n p dark foreign = rw dark (rw foreign refl)
 
 pub judged_far : (s : Segment) (before : List (List ℕ)) (n : ℕ) (p : List ℕ) → (scrambling_of p == 0) ≡ false →
     is_foreign s p ≡ false → is_confirmed s (pid_of p) ≡ false → judged s before (n, p) ≡ Ok []

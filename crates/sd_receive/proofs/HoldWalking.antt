@@ -180,8 +180,8 @@ pub written_refused : (c : Release) (k m : ℕ) (d : HeldPacket) (u v : SinkStat
     judged (segment_in c) (before_in c k) (held_pair (get_or c.tracks.now.held.items k d)) ≡ Err m →
     WriteOutcome (written_from (segment_in c) [] (holding_in c).held) u v (Err (Fault.Parity m))
 unfolding joined
-written_refused c k m d u v n within is odd =
-    let all = all_by c k (Err m) d within is.calm odd in
+written_refused c k m d u v n within is foreign =
+    let all = all_by c k (Err m) d within is.calm foreign in
     let same : written_from (segment_in c) [] (holding_in c).held ≡ record {
       packets =
           (first_wrote c k).packets;

@@ -123,7 +123,7 @@ renewed card past part head s t key done keys collects is buffer closed =
           ∙ sym (held_begun card past (Controls part) message done.assembler.complete));
     }
 
--- the same listener with another count of what was written
+-- the same session with another count of what was written
 unfoldable pub counting : Session → ℕ → Session
 counting t n = record {
   closed = t.closed;

@@ -356,13 +356,13 @@ steps_known past s packet kept begins from to after found =
     (sym (run_heard past s packet kept begins after found.begins_is)) (found.few (heard card past) after.follows) in
     omega (arith, steps, known.few)
 
--- nothing odd is held before anything was heard
+-- no stray packet is held before anything was heard
 calm_none : (strict : Bool) → IsCalm strict []
 unfolding holds_stray newest
 calm_none true = tt
 calm_none false = refl
 
--- nothing odd is held of the run at hand either
+-- no stray packet is held of the run at hand either
 calm_run : (strict : Bool) (past : List Heard) (begins : Bool) → IsCalm strict past →
     IsCalm strict (heard_of_run begins past)
 calm_run strict past true calm = calm_none strict

@@ -1,4 +1,4 @@
--- What is written where no packet that is buffered is odd.
+-- What is written where no packet that is buffered is stray.
 use Rattle.std.proofs.Common.{◌≡◌, inl, inr, ℕ, List, [], ◌∷◌, refl, ap, ◌∙◌, subst, true, false, Bool}
 use Rattle.std.specs.Prelude.{◌&&◌, ◌==◌, ◌++◌, Option, Some, None, Result, Ok, Err, nat_le, nat_lt, length}
 use Rattle.std.specs.Prelude.{map, not, if◌then◌else◌}
@@ -34,16 +34,17 @@ use Rattle.sd_receive.proofs.Listening.{took_nothing, comes_weaker}
 use Rattle.sd_receive.proofs.Messages.{key_ahead}
 use Rattle.sd_receive.proofs.Offering.{part_completes}
 
--- a packet that isn't odd is judged right
-right_then : (clear odd confirmed : Bool) (a b : List (List ℕ)) (n : ℕ) (rest : Wrote) →
-    (not clear && odd) ≡ false → rest.refused ≡ None →
-    (then_wrote (if clear then Ok a else if odd then Err n else if confirmed then Ok b else Ok []) rest).refused ≡ None
-right_then true odd confirmed a b n rest calm none = none
+-- a packet that isn't stray is judged right
+right_then : (clear foreign confirmed : Bool) (a b : List (List ℕ)) (n : ℕ) (rest : Wrote) →
+    (not clear && foreign) ≡ false → rest.refused ≡ None →
+    (then_wrote (if clear then Ok a else if foreign then Err n else if confirmed then Ok b else Ok []) rest).refused
+    ≡ None
+right_then true foreign confirmed a b n rest calm none = none
 right_then false true confirmed a b n rest calm none = absurd (true≢false calm)
 right_then false false true a b n rest calm none = none
 right_then false false false a b n rest calm none = none
 
--- none of some packets is refused of which none is odd
+-- none of some packets is refused of which none is stray
 none_refused : (segment : Segment) (before : List (List ℕ)) (held : List (ℕ × List ℕ)) →
     list_any (λ h. is_scrambled_packet h.1 && is_foreign_under segment.first.word h.1) held ≡ false →
     (written_from segment before held).refused ≡ None
@@ -66,12 +67,12 @@ either_calm false a b p q = q
 abbrev nothing : Wrote
 nothing = record { packets = []; refused = None }
 
--- what is held after message a, which no odd packet is
-abbrev holds_odd : Stretch → Message → Bool
-holds_odd stretch a = list_any (λ h. is_scrambled_packet h.1 && is_foreign_under a.word h.1) (held_in stretch)
+-- what is held after message a, which no stray packet is
+abbrev holds_foreign : Stretch → Message → Bool
+holds_foreign stretch a = list_any (λ h. is_scrambled_packet h.1 && is_foreign_under a.word h.1) (held_in stretch)
 
 segment_calm : (card : CardFields) (tuning : Tuning) (stretch : Stretch) (a b : Message) (key : Option (List ℕ)) →
-    holds_odd stretch a ≡ false → (segment_wrote card tuning stretch a b key).refused ≡ None
+    holds_foreign stretch a ≡ false → (segment_wrote card tuning stretch a b key).refused ≡ None
 segment_calm card tuning stretch a b None calm = refl
 segment_calm card tuning stretch a b (Some key) calm =
     let segment : Segment = record {
@@ -86,7 +87,7 @@ segment_calm card tuning stretch a b (Some key) calm =
     (none_refused segment [] (held_in stretch) calm)
 
 stretch_calm : (card : CardFields) (tuning : Tuning) (stretch : Stretch) (message : Option Message) (b : Message) →
-    option_map_or (holds_odd stretch) message false ≡ false →
+    option_map_or (holds_foreign stretch) message false ≡ false →
     (stretch_wrote card tuning stretch message b).refused ≡ None
 stretch_calm card tuning stretch None b calm = refl
 stretch_calm card tuning stretch (Some a) b calm =

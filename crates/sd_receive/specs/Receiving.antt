@@ -103,13 +103,13 @@ abbrev pub Refusing : Receiver → List ℕ → StreamFault → List ℕ → ℕ
 Refusing s packet fault bytes steps =
     (past : List (List ℕ)) → IsAfter past s → IsCountable past → RefusesPacket true past s packet fault bytes steps
 
--- a packet is taken, whatever packets led to the receiver's state, if nothing odd is buffered after them
+-- a packet is taken, whatever packets led to the receiver's state, if no stray packet is buffered after them
 abbrev pub Opening : Receiver → List ℕ → Receiver → List ℕ → ℕ → Type 0
 Opening s packet t bytes steps = (past : List (List ℕ)) → IsAfter past s → IsCountable past →
     holds_stray (heard (card_in s) past) ≡ false → TakesPacket past s packet t bytes steps
 
--- a packet is refused and nothing of it is written, whatever packets led to the receiver's state, if nothing odd is
--- buffered after them
+-- a packet is refused and nothing of it is written, whatever packets led to the receiver's state, if no stray
+-- packet is buffered after them
 abbrev pub Leaving : Receiver → List ℕ → StreamFault → List ℕ → ℕ → Type 0
 Leaving s packet fault bytes steps = (past : List (List ℕ)) → IsAfter past s → IsCountable past →
     holds_stray (heard (card_in s) past) ≡ false → RefusesPacket false past s packet fault bytes steps

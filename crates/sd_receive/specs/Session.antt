@@ -51,7 +51,7 @@ pub record PassesOffering (offering : Offering) (before after : ℕ) (bytes : Li
   pub counted : CountsMore before after (length offering.wrote)
 
 -- what was heard is as a strict receiver takes it, which is anything, or as one does that writes nothing of a packet
--- that it refuses: nothing odd is buffered
+-- that it refuses: no stray packet is buffered
 abbrev pub IsCalm : Bool → List Heard → Type 0
 IsCalm true past = Unit {0}
 IsCalm false past = holds_stray past ≡ false

@@ -52,7 +52,7 @@ pub fn others_leave_it()
         tells_nothing tr heard ≡ true → IsEntitled card tr state → IsEntitled card (heard ∷ tr) state }
 {}
 
-/// What a segment writes of the packets buffered after a message is what that message and the next one confirm.
+/// What a buffer writes of the packets held back after a message is what that message and the next one confirm.
 pub fn held_packets_are_confirmed()
     ensures { (a b : Message) (word : List ℕ) (ca ecm : ℕ) (held : List (ℕ × List ℕ)) →
         wrote_of (Some (after_message a word held)) ca ecm b.places ≡ written_from (record {

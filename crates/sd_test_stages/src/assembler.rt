@@ -76,7 +76,10 @@ fn is_forgotten(assembler: &mut EcmAssembler) -> bool {
     assembler.settle();
     // Anew after the message, and between its parts.
     assembler.reset();
-    if assembler.last().is_some() || !assembler.places().is_empty() || !come(assembler, &[(FIRST, 0)]) {
+    if assembler.last().is_some()
+        || !assembler.places().is_empty()
+        || !come(assembler, &[(FIRST, 0)])
+    {
         return false;
     }
     assembler.reset();

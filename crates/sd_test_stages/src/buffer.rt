@@ -3,7 +3,7 @@ ghost use Rattle.std.specs.Prelude.{◌<◌, ◌^◌};
 use sd_message::Place;
 use sd_packet::{Packet, pack_section};
 use sd_ports::MemSink;
-use sd_receive::{PacketBuffer, BufferFault};
+use sd_receive::{BufferFault, PacketBuffer};
 use std::alloc::{AllocError, Global};
 
 // A PID, a system, and the PID of its control messages.

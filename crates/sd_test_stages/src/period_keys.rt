@@ -109,11 +109,7 @@ fn heard<L: Ledger>(
             }
         }
     }
-    Some(Ok((
-        keys.key_of(keys.period()),
-        keys.revoked(),
-        keys.unkeyed(),
-    )))
+    Some(Ok((keys.key_of(keys.period()), keys.revoked(), keys.unkeyed())))
 }
 
 fn counted<L: Ledger>(

@@ -25,8 +25,8 @@ use std::marker::Model;
 pub const MOST_HELD: usize = 4096;
 
 /// The packets that a receiver buffers after a control message [this project, docs/FORMATS.md, Receiver]. An open
-/// segment has the control word and the positions of the message, and buffers at most 4,096 packets. One that is shut
-/// buffers nothing.
+/// buffer has the control word and the positions of the message, and holds at most 4,096 packets. A closed one holds
+/// nothing.
 #[derive(Drop)]
 pub struct PacketBuffer {
     word: Option<ControlWord>,
@@ -56,15 +56,15 @@ impl Model for PacketBuffer {
 }
 
 impl PacketBuffer {
-    /// A segment that is shut. All memory that it needs is allocated here.
+    /// A closed buffer. All memory that it needs is allocated here.
     pub fn new(alloc: Global) -> Result<PacketBuffer, NoMemory>
-        ensures { IfOk result (λ segment. segment ≡ None) }
+        ensures { IfOk result (λ buffer. buffer ≡ None) }
     {
         let tracks = TrackedPackets::new(alloc)?;
         Ok(PacketBuffer { word: None, tracks })
     }
 
-    /// Opens the segment after a control message: `number` and `word` are the number and the bytes of its control word,
+    /// Opens the buffer after a control message: `number` and `word` are the number and the bytes of its control word,
     /// `places` its PIDs and positions. What was buffered before is dropped.
     pub fn open(&mut self, number: u32, word: [u8; 32], places: &[Place])
         requires { ArePlaces places.now }
@@ -77,7 +77,7 @@ impl PacketBuffer {
         });
     }
 
-    /// Shuts the segment. What was buffered is dropped.
+    /// Closes the buffer. What was buffered is dropped.
     pub fn reset(&mut self)
         ensures { self.new ≡ None }
     {
@@ -85,8 +85,8 @@ impl PacketBuffer {
         self.word = None;
     }
 
-    /// Buffers a packet, which has this number in the stream, if the segment is open. If 4,096 are buffered already,
-    /// all are dropped and the segment is shut.
+    /// Buffers a packet, which has this number in the stream, if the buffer is open. If 4,096 are buffered already,
+    /// all are dropped and the buffer is closed.
     pub fn hold(&mut self, number: u64, packet: &Packet)
         ensures { self.new ≡ held_more self.old number packet.now }
     {
@@ -102,7 +102,7 @@ impl PacketBuffer {
 
     /// Writes what the next control message confirms of the buffered packets, in order, up to the first that is
     /// refused. `ca` is the conditional access system, `ecm` the PID of control messages, and `places` are the PIDs and
-    /// positions in the next message. It returns the number of packets written: 0 if the segment is shut.
+    /// positions in the next message. It returns the number of packets written: 0 if the buffer is closed.
     pub fn write<K: Sink>(
         &self,
         ca: u16,

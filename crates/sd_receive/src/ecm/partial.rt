@@ -34,7 +34,7 @@ impl PartialEcm {
     /// Before any part. Room for all positions of a message is allocated here.
     #[tactic(auto, using(crate::proofs::Gathering::none_gathered))]
     pub fn new(alloc: Global) -> Result<PartialEcm, NoMemory>
-        ensures { IfOk result (λ run. IsGathered [] run.part run.places.items) }
+        ensures { IfOk result (λ partial. IsGathered [] partial.part partial.places.items) }
     {
         match Vec::with_capacity(alloc, MOST_PLACES) {
             Ok(places) => Ok(PartialEcm { part: None, places }),
@@ -52,7 +52,7 @@ impl PartialEcm {
         self.places.clear();
     }
 
-    /// Takes the parts of another run instead of its own. Nothing is allocated.
+    /// Takes the parts of another message instead of its own. Nothing is allocated.
     pub fn copy(&mut self, other: &PartialEcm)
         ensures part { self.new.part ≡ other.now.part }
         ensures places { self.new.places.items ≡ other.now.places.items }

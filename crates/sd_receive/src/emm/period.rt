@@ -96,7 +96,8 @@ impl PeriodKeys {
     // Whether a complete control message was of the current period, its key isn't known, and all its sections were
     // seen.
     fn shuts_out(&self) -> bool
-        ensures { result ≡ ((self.now.told && is_none self.now.key) && all_marked self.now.header self.now.marks.items) }
+        ensures { result ≡
+            ((self.now.told && is_none self.now.key) && all_marked self.now.header self.now.marks.items) }
     {
         self.lacks_key() && are_all_marked(&self.marks, self.header)
     }

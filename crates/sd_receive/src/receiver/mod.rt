@@ -147,8 +147,8 @@ impl Receiver {
         }
     }
 
-    /// Whether the packet is a part of the control message that is being collected, and says nothing new: it agrees with
-    /// the parts that arrived, isn't behind the newest of them, and has no position that isn't among theirs [this
+    /// Whether the packet is a part of the control message whose parts are collected, and says nothing new: it agrees
+    /// with the parts that arrived, isn't behind the newest of them, and has no position that isn't among theirs [this
     /// project, docs/FORMATS.md, Receiver].
     #[inline(always)]
     #[tactic(auto, using(crate::proofs::Asked::untuned_unsaid, crate::proofs::Asked::again_heard, crate::proofs::Asked::dropped_unsaid, crate::proofs::Asked::emm_unsaid, crate::proofs::Asked::other_unsaid))]

@@ -114,7 +114,8 @@ impl Session {
     }
 
     // Takes packet `number` of the stream, which was read as `heard` and of which this key was judged. The run must not
-    // be closed. Of a packet that is refused something may be written if the receiver is strict. For a packet that is no message the caller knows what was heard, so nothing is left of the choice.
+    // be closed. Of a packet that is refused something may be written if the receiver is strict. For a packet that is
+    // no message the caller knows what was heard, so nothing is left of the choice.
     #[inline(always)]
     pub fn take<K: Sink>(
         &mut self,
@@ -178,7 +179,8 @@ impl Session {
         ensures value { PacketOutcome (TakesHeard true (card_fields_of card.now) tuning number (Controls part.now)
             None self.old)
             (RefusesHeard strict (card_fields_of card.now) tuning number (Controls part.now) self.old)
-            (CutsHeard strict (card_fields_of card.now) tuning number (Controls part.now) None self.old) (vessel K.Sink out.old) (vessel K.Sink out.new) self.new result }
+            (CutsHeard strict (card_fields_of card.now) tuning number (Controls part.now) None self.old)
+            (vessel K.Sink out.old) (vessel K.Sink out.new) self.new result }
         ensures stands { (fault : StreamFault) → result ≡ Err (StageFault.Refused fault) →
             IsStill (card_fields_of card.now) self.old self.new }
         ensures cause { IsCaused (K.faults out.old) (K.faults out.new) (IsErrOf result StageFault.Write) }

@@ -24,9 +24,9 @@ returns-then-is_foreign c = λ before own.
     let dark : (scrambling_of held.packet == 0) ≡ false =
     ne_eqb (scrambling_of held.packet) 0
     (λ e. c.if-scrambling-eq0.false (c.scrambling.ensures.value ∙ (ap scrambling_of c.requires.same ∙ e))) in
-    let odd : is_foreign segment held.packet ≡ true =
+    let foreign : is_foreign segment held.packet ≡ true =
     ap (is_foreign segment) (sym c.requires.same) ∙ (sym c.is_foreign.ensures ∙ c.if-is_foreign.true) in
-    (refl, judged_foreign segment before held.number held.packet dark odd)
+    (refl, judged_foreign segment before held.number held.packet dark foreign)
 
 pub returns-then-not-has : goal.returns-then-not-has
 returns-then-not-has c = λ before own.
