@@ -14,7 +14,7 @@ use Rattle.sd_packet.specs.Positions.{is_placed, moved_by}
 use Rattle.sd_keystream.specs.Scrambling.{descrambled}
 use Rattle.sd_spec.specs.Confirmed.{Segment, position_in, position_or_first, tracked, is_near_to, is_confirmed}
 use Rattle.sd_spec.specs.Confirmed.{unmarked}
-use Rattle.sd_spec.specs.Confirmed.{is_odd, judged, Wrote, then_wrote, written_from}
+use Rattle.sd_spec.specs.Confirmed.{is_foreign, judged, Wrote, then_wrote, written_from}
 use Rattle.sd_law_contained.proofs.Pids.{descrambled_pid, unmarked_pid, moved_by_on}
 
 -- the packets of one PID, and the segment with these alone
@@ -33,7 +33,7 @@ segment_on pid segment = record {
 
 -- a packet at which the segment is refused
 abbrev pub is_wrong : Segment → List ℕ → Bool
-is_wrong segment packet = not (scrambling_of packet == 0) && is_odd segment packet
+is_wrong segment packet = not (scrambling_of packet == 0) && is_foreign segment packet
 
 -- what is written of a packet, by three tests
 abbrev pub one_of : Bool → Bool → Bool → List ℕ → List ℕ → List (List ℕ)
@@ -47,7 +47,7 @@ opened_in segment before packet =
 -- what is written of a packet after these, if it isn't refused
 abbrev pub one_written : Segment → List (List ℕ) → List ℕ → List (List ℕ)
 one_written segment before packet =
-    one_of (scrambling_of packet == 0) (is_odd segment packet) (is_confirmed segment (pid_of packet))
+    one_of (scrambling_of packet == 0) (is_foreign segment packet) (is_confirmed segment (pid_of packet))
     (unmarked segment packet) (opened_in segment before packet)
 
 -- and of several
@@ -80,7 +80,7 @@ pub none_wrong : (segment : Segment) (before : List (List ℕ)) (held : List (�
 unfolding written_from judged
 none_wrong segment before [] is = refl
 none_wrong segment before (one ∷ held) is =
-    let parts = first_right one.0 (scrambling_of one.1 == 0) (is_odd segment one.1)
+    let parts = first_right one.0 (scrambling_of one.1 == 0) (is_foreign segment one.1)
     (is_confirmed segment (pid_of one.1)) (unmarked segment one.1) (opened_in segment before one.1)
     (written_from segment (before ++ one.1 ∷ []) held) is in
     let rest = none_wrong segment (before ++ one.1 ∷ []) held parts.1 in
@@ -108,10 +108,10 @@ unfolding written_from judged
 all_told segment before [] right = refl
 all_told segment before (one ∷ held) right =
     let parts = neither (is_wrong segment one.1) (list_any (is_wrong segment) (packets_in held)) right in
-    let judging : Result (List (List ℕ)) ℕ = judged_as one.0 (scrambling_of one.1 == 0) (is_odd segment one.1)
+    let judging : Result (List (List ℕ)) ℕ = judged_as one.0 (scrambling_of one.1 == 0) (is_foreign segment one.1)
     (is_confirmed segment (pid_of one.1)) (unmarked segment one.1) (opened_in segment before one.1) in
     ap (then_wrote judging) (all_told segment (before ++ one.1 ∷ []) held parts.1)
-    ∙ first_told one.0 (scrambling_of one.1 == 0) (is_odd segment one.1) (is_confirmed segment (pid_of one.1))
+    ∙ first_told one.0 (scrambling_of one.1 == 0) (is_foreign segment one.1) (is_confirmed segment (pid_of one.1))
     (unmarked segment one.1) (opened_in segment before one.1)
     (all_written segment (before ++ one.1 ∷ []) (packets_in held)) parts.0
 
@@ -169,9 +169,9 @@ one_same : (pid : ℕ) (segment : Segment) (before : List (List ℕ)) (packet : 
 unfolding unmarked
 one_same pid segment before packet here =
     let same : pid ≡ pid_of packet = grind (arith, nat_tests, here) in
-    ap (λ (sure : Bool). one_of (scrambling_of packet == 0) (is_odd segment packet) sure (unmarked segment packet)
+    ap (λ (sure : Bool). one_of (scrambling_of packet == 0) (is_foreign segment packet) sure (unmarked segment packet)
     (opened_in (segment_on pid segment) (those_on pid before) packet)) (confirmed_at (pid_of packet) pid segment same)
-    ∙ ap (λ (position : ℕ). one_of (scrambling_of packet == 0) (is_odd segment packet)
+    ∙ ap (λ (position : ℕ). one_of (scrambling_of packet == 0) (is_foreign segment packet)
     (is_confirmed segment (pid_of packet)) (unmarked segment packet) (descrambled packet segment.word position))
     (tracked_at (pid_of packet) pid segment before packet same here)
 
@@ -198,7 +198,7 @@ written_on : (pid : ℕ) (segment : Segment) (before : List (List ℕ)) (packet 
     those_on pid (one_written segment before packet)
     ≡ (if here then one_written segment before packet else [])
 written_on pid segment before packet here is =
-    one_on pid here (scrambling_of packet == 0) (is_odd segment packet) (is_confirmed segment (pid_of packet))
+    one_on pid here (scrambling_of packet == 0) (is_foreign segment packet) (is_confirmed segment (pid_of packet))
     (unmarked segment packet) (opened_in segment before packet)
     (ap (λ (q : ℕ). q == pid) (unmarked_pid segment packet) ∙ is)
     (λ right. ap (λ (q : ℕ). q == pid) (descrambled_pid packet segment.word

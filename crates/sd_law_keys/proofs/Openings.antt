@@ -15,7 +15,7 @@ use Rattle.sd_psi.specs.Rewriting.{restored, restore_fault}
 use Rattle.sd_keystream.specs.Scrambling.{descrambled}
 use Rattle.sd_psi.specs.declared.our_cat.Tuning.{Tuning}
 use Rattle.sd_site.specs.CardFields.{CardFields}
-use Rattle.sd_spec.specs.Confirmed.{Segment, Wrote, is_confirmed, is_odd, judged, position_in, position_or_first}
+use Rattle.sd_spec.specs.Confirmed.{Segment, Wrote, is_confirmed, is_foreign, judged, position_in, position_or_first}
 use Rattle.sd_spec.specs.Confirmed.{then_wrote, tracked, unmarked, written_from}
 use Rattle.sd_law_keys.specs.Written.{IsFramed, IsPlain, as_it_came, as_it_was}
 
@@ -77,13 +77,13 @@ written_is_from s before (held ∷ more) out here =
 
 -- a packet that is written under the segment's control word
 pub record IsDescrambled (s : Segment) (before : List (List ℕ)) (held out : List ℕ) : Type 0 where
-  pub even : is_odd s held ≡ false
+  pub even : is_foreign s held ≡ false
   pub confirmed : is_confirmed s (pid_of held) ≡ true
   pub opened : out ≡ descrambled held s.word (tracked s.first (pid_of held) (before ++ held ∷ []))
 
 -- what is written of one packet is it in the clear, or descrambled
 judged_by : (s : Segment) (before : List (List ℕ)) (held : ℕ × List ℕ) (out : List ℕ) (packets : List (List ℕ))
-    (plain odd sure : Bool) → (scrambling_of held.1 == 0) ≡ plain → is_odd s held.1 ≡ odd
+    (plain odd sure : Bool) → (scrambling_of held.1 == 0) ≡ plain → is_foreign s held.1 ≡ odd
     → is_confirmed s (pid_of held.1) ≡ sure
     → (if plain then Ok (unmarked s held.1 ∷ []) else if odd then Err held.0
     else if sure then Ok (descrambled held.1 s.word (tracked s.first (pid_of held.1) (before ++ held.1 ∷ [])) ∷ [])
@@ -114,7 +114,8 @@ pub judged_is : (s : Segment) (before : List (List ℕ)) (held : ℕ × List ℕ
     → ((scrambling_of held.1 ≡ 0) × (out ≡ unmarked s held.1)) ⊎ IsDescrambled s before held.1 out
 unfolding judged
 judged_is s before held out packets is here =
-    judged_by s before held out packets (scrambling_of held.1 == 0) (is_odd s held.1) (is_confirmed s (pid_of held.1))
+    judged_by s before held out packets (scrambling_of held.1 == 0) (is_foreign s held.1) (is_confirmed s (pid_of
+    held.1))
     refl refl refl is here
 
 -- a packet in the clear is written as it came, or restored
@@ -142,13 +143,13 @@ plain_is card tuning s held out ca ecm is =
     ca is))
 
 -- a packet that isn't odd has the parity of the word
-pub parity_is : (s : Segment) (held : List ℕ) → is_odd s held ≡ false → scrambling_of held ≡ 2 + s.first.word % 2
+pub parity_is : (s : Segment) (held : List ℕ) → is_foreign s held ≡ false → scrambling_of held ≡ 2 + s.first.word % 2
 parity_is s held even =
     let tests = or_parts (not (is_placed held)) (not (scrambling_of held == 2 + s.first.word % 2)) even in
     let same = not-false (scrambling_of held == 2 + s.first.word % 2) tests.1 in
     grind (arith, nat_tests, same)
 
-pub placed_is : (s : Segment) (held : List ℕ) → is_odd s held ≡ false → is_placed held ≡ true
+pub placed_is : (s : Segment) (held : List ℕ) → is_foreign s held ≡ false → is_placed held ≡ true
 placed_is s held even =
     let tests = or_parts (not (is_placed held)) (not (scrambling_of held == 2 + s.first.word % 2)) even in
     not-false (is_placed held) tests.0

@@ -31,7 +31,7 @@ use Rattle.sd_message.proofs.EcmDeciding.{read_form}
 use Rattle.sd_spec.specs.Heard.{Heard, Dropped, Controls, Other, heard_emm, heard_ecm, hears}
 use Rattle.sd_spec.specs.Stretches.{Stretch, counted, exceeds, message_told, newest, run_of, run_to, run_with}
 use Rattle.sd_spec.specs.Offered.{part_fault, is_after}
-use Rattle.sd_receive.specs.Gathered.{IsPart, IsRun, places_of}
+use Rattle.sd_receive.specs.PartialEcm.{IsPart, IsRun, places_of}
 use Rattle.sd_receive.proofs.Gathering.{as_many, grows, is_mixed_with, none_gathered}
 use Rattle.sd_law_keys.specs.Written.{IsHeardIn}
 

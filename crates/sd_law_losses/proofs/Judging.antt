@@ -19,7 +19,7 @@ use Rattle.sd_spec.specs.Kinds.{kind_of, has_moved, is_scrambled}
 use Rattle.sd_spec.specs.Carried.{place_after}
 use Rattle.sd_spec.specs.Sent.{Item}
 use Rattle.sd_spec.proofs.Schedule.{same_word}
-use Rattle.sd_spec.specs.Confirmed.{Segment, tracked, is_confirmed, judged, is_odd, position_in}
+use Rattle.sd_spec.specs.Confirmed.{Segment, tracked, is_confirmed, judged, is_foreign, position_in}
 use Rattle.sd_law_losses.specs.Kept.{is_kept, kept_in}
 use Rattle.sd_law_losses.specs.Confirmed.{packet_at, tracked_position, is_traced}
 use Rattle.sd_law_losses.proofs.Places.{told_position}
@@ -135,7 +135,7 @@ judged_open s segment j n before is ca ecm = rw is.clear (ap (λ (p : List ℕ).
 
 -- and a scrambled one, under these tests
 judged_by : (segment : Segment) (before : List (List ℕ)) (n : ℕ) (packet : List ℕ) (lets : Bool) →
-    (scrambling_of packet == 0) ≡ false → is_odd segment packet ≡ false →
+    (scrambling_of packet == 0) ≡ false → is_foreign segment packet ≡ false →
     is_confirmed segment (pid_of packet) ≡ lets → judged segment before (n, packet)
     ≡ (if lets then Ok (descrambled packet segment.word (tracked segment.first (pid_of packet)
     (before ++ packet ∷ [])) ∷ [])
@@ -145,7 +145,7 @@ judged_by segment before n packet lets veiled good same = rw veiled (rw good (rw
 
 not_odd : (s : Setting) (laws : AreLaws s) (kept : List Item) (a b j : ℕ) → IsPair s a b →
     since_of s.plan.site.messages s.plan.site.cryptos b ≤ a → start_of s a ≤ j → j < end_of s b → IsVeiled s j →
-    is_odd (segment_at s kept a b) (carried_at s j) ≡ false
+    is_foreign (segment_at s kept a b) (carried_at s j) ≡ false
 not_odd s laws kept a b j pair since from below is =
     rw is.placed (ap (λ (t : ℕ). not (scrambling_of (carried_at s j) == 2 + t % 2))
     (one_word s laws a b j pair since from below)

@@ -24,7 +24,7 @@ use Rattle.sd_spec.specs.Heard.{Heard, Dropped, Entitles, Controls, BadEmm, BadE
 use Rattle.sd_spec.specs.Stretches.{Stretch, newest, run_to, completes, is_closed, current, seen, held_in}
 use Rattle.sd_spec.specs.Runs.{of_run}
 use Rattle.sd_spec.specs.Keys.{key_from, key_in, key_at}
-use Rattle.sd_spec.specs.Confirmed.{Segment, Wrote, unmarked, is_odd, is_confirmed, tracked, judged}
+use Rattle.sd_spec.specs.Confirmed.{Segment, Wrote, unmarked, is_foreign, is_confirmed, tracked, judged}
 use Rattle.sd_spec.specs.Confirmed.{then_wrote}
 use Rattle.sd_spec.specs.Confirmed.{written_from}
 use Rattle.sd_spec.specs.Offered.{most_held, heard_more, Offering, no_offering, refuses, is_mixed}
@@ -60,7 +60,8 @@ judged_later : (k : ℕ) (segment : Segment) (before : List (List ℕ)) (held : 
     judged segment before (packet_later k held) ≡ refused_later k (judged segment before held)
 unfolding judged
 judged_later k segment before held =
-    judged_by_tests k held.0 (scrambling_of held.1 == 0) (is_odd segment held.1) (is_confirmed segment (pid_of held.1))
+    judged_by_tests k held.0 (scrambling_of held.1 == 0) (is_foreign segment held.1) (is_confirmed segment (pid_of
+    held.1))
     (unmarked segment held.1 ∷ [])
     (descrambled held.1 segment.word (tracked segment.first (pid_of held.1) (before ++ held.1 ∷ [])) ∷ [])
 

@@ -15,7 +15,7 @@ use Rattle.sd_spec.specs.Heard.{Heard, Dropped, Entitles, Controls, BadEmm, BadE
 use Rattle.sd_spec.specs.Stretches.{Stretch, newest, completes, is_closed, others, run_to, current}
 use Rattle.sd_spec.specs.Runs.{name_in, run_name_heard, are_two, is_turn, of_run}
 use Rattle.sd_spec.specs.Keys.{key_at}
-use Rattle.sd_spec.specs.Confirmed.{is_odd_under}
+use Rattle.sd_spec.specs.Confirmed.{is_foreign_under}
 use Rattle.sd_spec.specs.Offered.{heard_more}
 use Rattle.sd_spec.specs.Offered.{is_back, is_before}
 use Rattle.sd_spec.specs.Counting.{is_scrambled_packet, is_stray}
@@ -289,11 +289,11 @@ stray_parts : (past : List Heard) (n m : ℕ) (packet : List ℕ) → is_stray p
 unfolding is_stray
 stray_parts past n m packet stray =
     let both = and_parts (not (is_closed past)) (is_scrambled_packet packet
-    && option_map_or (λ message. is_odd_under message.word packet) (newest past).message false) stray in
+    && option_map_or (λ message. is_foreign_under message.word packet) (newest past).message false) stray in
     (not-true (is_closed past) both.0, by_message (newest past).message both.1)
   where
     by_message : (message : Option Message) →
-        (is_scrambled_packet packet && option_map_or (λ message. is_odd_under message.word packet) message false)
+        (is_scrambled_packet packet && option_map_or (λ message. is_foreign_under message.word packet) message false)
         ≡ true → option_map_or (λ message. is_odd_held message.word (m, packet)) message false ≡ true
     by_message None is = absurd (false≢true (sym (no_and (is_scrambled_packet packet)) ∙ is))
       where

@@ -20,7 +20,7 @@ use Rattle.sd_spec.specs.Kinds.{kind_of, is_scrambled}
 use Rattle.sd_spec.specs.Refused.{IsSendable}
 use Rattle.sd_spec.specs.Heard.{Heard, Other}
 use Rattle.sd_spec.specs.Stretches.{newest, is_closed}
-use Rattle.sd_spec.specs.Confirmed.{is_odd_under}
+use Rattle.sd_spec.specs.Confirmed.{is_foreign_under}
 use Rattle.sd_spec.specs.Offered.{heard, out_from}
 use Rattle.sd_spec.specs.Ending.{ending_of}
 use Rattle.sd_spec.specs.Sent.{Item, Entitles, Controls, packets_from, sent, closing_of, broadcast}
@@ -105,7 +105,7 @@ carried_marked : (s : Setting) (k : ℕ) → IsOnAir s.clear k (carried_at s k) 
 carried_marked s k air unmarked = ap (λ (e : ℕ). e == 1) air.error ∙ unmarked
 
 not_odd : (s : Setting) (laws : AreLaws s) (k : ℕ) → k < length s.clear → IsVeiled s k →
-    is_odd_under (told_by s (k / s.plan.site.every)).word (carried_at s k) ≡ false
+    is_foreign_under (told_by s (k / s.plan.site.every)).word (carried_at s k) ≡ false
 not_odd s laws k within is =
     rw is.placed (ap (λ (t : ℕ). not (scrambling_of (carried_at s k) == 2 + t % 2)) (word_before s laws k within)
     ∙ ap not is.parity)
@@ -121,7 +121,7 @@ veiled_even : (s : Setting) (laws : AreLaws s) (k n : ℕ) (past : List Heard) �
 unfolding is_stray
 veiled_even s laws k n past within is told =
     ap (λ (m : Option Message). not (is_closed past) && (is_scrambled_packet (carried_at s k)
-    && option_map_or (λ message. is_odd_under message.word (carried_at s k)) m false)) told
+    && option_map_or (λ message. is_foreign_under message.word (carried_at s k)) m false)) told
     ∙ (ap (λ (b : Bool). not (is_closed past) && (is_scrambled_packet (carried_at s k) && b))
     (not_odd s laws k within is)
     ∙ both_false (not (is_closed past)) (is_scrambled_packet (carried_at s k)))

@@ -10,7 +10,7 @@ use Rattle.sd_psi.specs.declared.our_cat.Tuning.{Tuning}
 use Rattle.sd_site.specs.CardFields.{CardFields}
 use Rattle.sd_message.specs.EcmParts.{Message}
 use Rattle.sd_spec.specs.Stretches.{Stretch, others, held_in}
-use Rattle.sd_spec.specs.Confirmed.{Segment, Wrote, judged, is_odd, is_confirmed, unmarked, tracked, written_from}
+use Rattle.sd_spec.specs.Confirmed.{Segment, Wrote, judged, is_foreign, is_confirmed, unmarked, tracked, written_from}
 use Rattle.sd_spec.specs.Confirmed.{then_wrote}
 use Rattle.sd_spec.specs.Offered.{segment_wrote, most_held}
 
@@ -33,7 +33,7 @@ first_same : (segment : Segment) (before : List (List ℕ)) (n m : ℕ) (packet 
     ≡ (then_wrote (judged segment before (m, packet)) b).packets
 unfolding judged
 first_same segment before n m packet a b same =
-    by_tests (scrambling_of packet == 0) (is_odd segment packet) (is_confirmed segment (pid_of packet))
+    by_tests (scrambling_of packet == 0) (is_foreign segment packet) (is_confirmed segment (pid_of packet))
     (unmarked segment packet ∷ [])
     (descrambled packet segment.word (tracked segment.first (pid_of packet) (before ++ packet ∷ [])) ∷ [])
   where

@@ -25,7 +25,7 @@ use Rattle.sd_spec.specs.Heard.{Heard, Dropped, Entitles, Controls, BadEmm, BadE
 use Rattle.sd_spec.specs.Stretches.{Stretch, newest, completes, is_closed, others, held_in, run_to, current, seen}
 use Rattle.sd_spec.specs.Runs.{is_turn, of_run}
 use Rattle.sd_spec.specs.Keys.{key_from, key_at}
-use Rattle.sd_spec.specs.Confirmed.{Segment, judged, is_odd_under, is_confirmed, written_from, then_wrote}
+use Rattle.sd_spec.specs.Confirmed.{Segment, judged, is_foreign_under, is_confirmed, written_from, then_wrote}
 use Rattle.sd_spec.specs.Confirmed.{unmarked, tracked}
 use Rattle.sd_keystream.specs.Scrambling.{descrambled}
 use Rattle.sd_spec.specs.Offered.{heard, heard_with, heard_more, Offering, offered, tuned_offering, run_offering}
@@ -39,7 +39,7 @@ use Rattle.sd_law_watch.proofs.Counted.{counts_even}
 
 -- a held packet is odd under a control word
 abbrev pub is_odd_held : ℕ → ℕ × List ℕ → Bool
-is_odd_held word held = is_scrambled_packet held.1 && is_odd_under word held.1
+is_odd_held word held = is_scrambled_packet held.1 && is_foreign_under word held.1
 
 -- a stretch holds an odd packet
 abbrev pub has_odd : Stretch → Bool
@@ -85,9 +85,9 @@ even_held past (BadEcm fault) message opened is even = refl
 even_held past (Other n packet) message opened is even =
     or_false (is_odd_held message.word (n, packet))
     ∙ (ap (λ (m : Option Message). is_scrambled_packet packet
-    && option_map_or (λ (a : Message). is_odd_under a.word packet) m false) (sym is)
+    && option_map_or (λ (a : Message). is_foreign_under a.word packet) m false) (sym is)
     ∙ (ap (λ (closed : Bool). not closed && (is_scrambled_packet packet
-    && option_map_or (λ (a : Message). is_odd_under a.word packet) (newest past).message false)) (sym opened)
+    && option_map_or (λ (a : Message). is_foreign_under a.word packet) (newest past).message false)) (sym opened)
     ∙ even))
 
 -- one thing more that isn't odd
@@ -200,7 +200,7 @@ judged_even : (segment : Segment) (before : List (List ℕ)) (held : ℕ × List
     (written : List (List ℕ)) × (judged segment before held ≡ Ok written)
 unfolding judged
 judged_even segment before held even =
-    by_tests (scrambling_of held.1 == 0) (is_odd_under segment.first.word held.1)
+    by_tests (scrambling_of held.1 == 0) (is_foreign_under segment.first.word held.1)
     (is_confirmed segment (pid_of held.1)) (unmarked segment held.1 ∷ [])
     (descrambled held.1 segment.word (tracked segment.first (pid_of held.1) (before ++ held.1 ∷ [])) ∷ []) even
   where

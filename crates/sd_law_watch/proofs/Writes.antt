@@ -23,7 +23,7 @@ use Rattle.sd_spec.specs.Heard.{Heard, Entitles, Controls, BadEmm, BadEcm}
 use Rattle.sd_spec.specs.Stretches.{Stretch, newest, completes, is_closed, others, run_to, current, seen}
 use Rattle.sd_spec.specs.Runs.{of_run}
 use Rattle.sd_spec.specs.Keys.{key_at, key_from}
-use Rattle.sd_spec.specs.Confirmed.{Segment, Wrote, judged, is_odd_under, written_from, then_wrote}
+use Rattle.sd_spec.specs.Confirmed.{Segment, Wrote, judged, is_foreign_under, written_from, then_wrote}
 use Rattle.sd_spec.specs.Offered.{Offering, run_offering, heard_offering, part_offering, part_fault, is_mixed}
 use Rattle.sd_spec.specs.Offered.{message_offering, stretch_wrote, segment_wrote, wrote_or, word_fault, is_back}
 use Rattle.sd_spec.specs.Offered.{emm_offering, key_offering, key_if_none, no_offering, refuses, most_held}
@@ -39,7 +39,7 @@ odd_first : (segment : Segment) (before : List (List ℕ)) (n : ℕ) (packet : L
     (then_wrote (judged segment before (n, packet)) rest).refused ≡ Some n
 unfolding judged
 odd_first segment before n packet rest odd =
-    let parts = and_parts (is_scrambled_packet packet) (is_odd_under segment.first.word packet) odd in
+    let parts = and_parts (is_scrambled_packet packet) (is_foreign_under segment.first.word packet) odd in
     rw (not-true (scrambling_of packet == 0) parts.0) (rw (parts.1) refl)
 
 odd_alone : (segment : Segment) (n : ℕ) (packet : List ℕ) → is_odd_held segment.first.word (n, packet) ≡ true →

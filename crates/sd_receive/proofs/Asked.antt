@@ -17,18 +17,18 @@ use Rattle.sd_message.specs.declared.ecm_part.Place.{Place}
 use Rattle.sd_message.specs.declared.ecm_message.EcmHead.{EcmHead}
 use Rattle.sd_message.specs.declared.ecm_fault.EcmFault.{EcmFault}
 use Rattle.sd_psi.specs.declared.our_cat.Tuning.{Tuning}
-use Rattle.sd_spec.specs.Confirmed.{is_odd_under}
+use Rattle.sd_spec.specs.Confirmed.{is_foreign_under}
 use Rattle.sd_spec.specs.Counting.{is_equal_place, is_part_again, is_stray, is_stray_at, says_nothing_new}
 use Rattle.sd_spec.specs.Heard.{Heard, Dropped, Other, hears, heard_emm, heard_ecm}
 use Rattle.sd_spec.specs.Offered.{heard, same_header}
 use Rattle.sd_spec.specs.Stretches.{newest, is_closed}
 use Rattle.sd_spec.specs.Tuned.{tuning_of}
 use Rattle.sd_receive.specs.Again.{has_all_of}
-use Rattle.sd_receive.specs.Collected.{parts_collected}
-use Rattle.sd_receive.specs.Gathered.{IsGathered, places_of}
-use Rattle.sd_receive.specs.Listening.{IsListenerAfter}
+use Rattle.sd_receive.specs.EcmAssembler.{parts_collected}
+use Rattle.sd_receive.specs.PartialEcm.{IsGathered, places_of}
+use Rattle.sd_receive.specs.Session.{IsListenerAfter}
 use Rattle.sd_receive.specs.Receiving.{IsAfter, card_in}
-use Rattle.sd_receive.specs.declared.listener.Listener.{Listener}
+use Rattle.sd_receive.specs.declared.session.Session.{Session}
 use Rattle.sd_receive.specs.declared.receiver.Receiver.{Receiver}
 use Rattle.sd_receive.proofs.Alike.{headers_told}
 use Rattle.sd_receive.proofs.Gathering.{one_more}
@@ -98,12 +98,12 @@ says_as_all part last (first ∷ run) kept all gathered is same =
     (listed_places part))) (sym e))
 
 -- what is collected after what was heard
-pub again_is : (card : CardFields) (past : List Heard) (state : Listener) (part : EcmPart) (b : Bool) →
+pub again_is : (card : CardFields) (past : List Heard) (state : Session) (part : EcmPart) (b : Bool) →
     IsListenerAfter card past state →
-    ((run : List EcmPart) → IsGathered run state.collect.run.part state.collect.run.places.items →
+    ((run : List EcmPart) → IsGathered run state.assembler.partial.part state.assembler.partial.places.items →
     b ≡ says_nothing_new part run) → b ≡ is_part_again past (heard_ecm (Ok (Some part)))
 unfolding is_part_again parts_collected
-again_is card past state part b follows is = is (parts_collected past) follows.collect.run
+again_is card past state part b follows is = is (parts_collected past) follows.assembler.run
 
 -- no part comes again in a packet that has none
 pub dropped_not_again : (past : List Heard) (read : Result (Option EcmPart) EcmFault) → read ≡ Ok None →
@@ -116,10 +116,10 @@ pub faulty_not_again : (past : List Heard) (fault : EcmFault) (read : Result (Op
 unfolding is_part_again
 faulty_not_again past fault read is = rw is refl
 
--- a packet in the clear isn't odd
-scrambled_no : (closed odd : Bool) → false ≡ (not closed && (false && odd))
-scrambled_no true odd = refl
-scrambled_no false odd = refl
+-- a packet in the clear isn't stray
+scrambled_no : (closed foreign : Bool) → false ≡ (not closed && (false && foreign))
+scrambled_no true foreign = refl
+scrambled_no false foreign = refl
 
 pub clear_unstray : (past : List Heard) (n : ℕ) (packet : List ℕ) → scrambling_of packet ≡ 0 →
     false ≡ is_stray past (Other n packet)
@@ -127,48 +127,48 @@ unfolding is_stray
 clear_unstray past n packet clear =
     let test : (scrambling_of packet == 0) ≡ true = eq-eqb (scrambling_of packet) 0 clear in
     rw test (scrambled_no (is_closed past)
-    (option_map_or (λ message. is_odd_under message.word packet) (newest past).message false))
+    (option_map_or (λ message. is_foreign_under message.word packet) (newest past).message false))
 
--- without a message nothing is odd
+-- without a message nothing is stray
 wordless : (closed scrambled : Bool) → false ≡ (not closed && (scrambled && false))
 wordless true true = refl
 wordless true false = refl
 wordless false true = refl
 wordless false false = refl
 
-pub wordless_unstray : (card : CardFields) (past : List Heard) (state : Listener) (n : ℕ) (packet : List ℕ) →
-    IsListenerAfter card past state → state.collect.last ≡ None → false ≡ is_stray past (Other n packet)
+pub wordless_unstray : (card : CardFields) (past : List Heard) (state : Session) (n : ℕ) (packet : List ℕ) →
+    IsListenerAfter card past state → state.assembler.last ≡ None → false ≡ is_stray past (Other n packet)
 unfolding is_stray
 wordless_unstray card past state n packet follows none =
-    let message : (newest past).message ≡ None = follows.collect.last.says
-    ∙ ap (option_map (λ kept. message_of kept state.collect.places.items)) none in
+    let message : (newest past).message ≡ None = follows.assembler.last.says
+    ∙ ap (option_map (λ kept. message_of kept state.assembler.places.items)) none in
     wordless (is_closed past) (not (scrambling_of packet == 0))
     ∙ ap (λ (m : Option Message). not (is_closed past) && (not (scrambling_of packet == 0)
-    && option_map_or (λ message. is_odd_under message.word packet) m false)) (sym message)
+    && option_map_or (λ message. is_foreign_under message.word packet) m false)) (sym message)
 
--- of a closed run nothing is odd
+-- of a closed run nothing is stray
 shut : (closed rest : Bool) → closed ≡ true → not closed ≡ (not closed && rest)
 shut true rest is = refl
 shut false rest is = absurd cc
 
-pub closed_unstray : (card : CardFields) (past : List Heard) (state : Listener) (n : ℕ) (packet : List ℕ) →
+pub closed_unstray : (card : CardFields) (past : List Heard) (state : Session) (n : ℕ) (packet : List ℕ) →
     IsListenerAfter card past state → state.closed ≡ true → not state.closed ≡ is_stray past (Other n packet)
 unfolding is_stray
 closed_unstray card past state n packet follows is =
     let rest : Bool = not (scrambling_of packet == 0)
-    && option_map_or (λ message. is_odd_under message.word packet) (newest past).message false in
+    && option_map_or (λ message. is_foreign_under message.word packet) (newest past).message false in
     shut state.closed rest is ∙ ap (λ (closed : Bool). not closed && rest) follows.closed
 
 -- with a message its control word tells
-pub stray_under : (card : CardFields) (past : List Heard) (state : Listener) (head : EcmHead) (n : ℕ)
-    (packet : List ℕ) (odd : Bool) → IsListenerAfter card past state → state.collect.last ≡ Some head →
-    scrambling_of packet ≢ 0 → state.closed ≡ false → odd ≡ is_odd_under head.word packet →
-    odd ≡ is_stray past (Other n packet)
+pub stray_under : (card : CardFields) (past : List Heard) (state : Session) (head : EcmHead) (n : ℕ)
+    (packet : List ℕ) (foreign : Bool) → IsListenerAfter card past state → state.assembler.last ≡ Some head →
+    scrambling_of packet ≢ 0 → state.closed ≡ false → foreign ≡ is_foreign_under head.word packet →
+    foreign ≡ is_stray past (Other n packet)
 unfolding is_stray
-stray_under card past state head n packet odd follows some scrambled unclosed is =
-    let message : (newest past).message ≡ Some (message_of head state.collect.places.items) =
-    follows.collect.last.says
-    ∙ ap (option_map (λ kept. message_of kept state.collect.places.items)) some in
+stray_under card past state head n packet foreign follows some scrambled unclosed is =
+    let message : (newest past).message ≡ Some (message_of head state.assembler.places.items) =
+    follows.assembler.last.says
+    ∙ ap (option_map (λ kept. message_of kept state.assembler.places.items)) some in
     let test : (scrambling_of packet == 0) ≡ false = ne_eqb (scrambling_of packet) 0 scrambled in
     let closed : is_closed past ≡ false = sym follows.closed ∙ unclosed in
     rw (closed, test, message) is
@@ -180,7 +180,7 @@ stray_at : (card : CardFields) (past : List (List ℕ)) (packet : List ℕ) (tun
 unfolding is_stray_at
 stray_at card past packet tuning is = rw is refl
 
--- before a CAT was taken nothing is odd
+-- before a CAT was taken nothing is stray
 pub untuned_unstray : (past : List (List ℕ)) (receiver : Receiver) (packet : List ℕ) → IsAfter past receiver →
     receiver.tuning ≡ None → false ≡ is_stray_at (card_in receiver) past packet
 unfolding is_stray_at
@@ -196,7 +196,7 @@ stray_heard past receiver packet tuning thing b after some is judged =
     judged ∙ (ap (is_stray (heard (card_in receiver) past)) (sym is)
     ∙ sym (stray_at (card_in receiver) past packet tuning (sym after.tuning ∙ some)))
 
--- no message is odd
+-- no message is stray
 pub dropped_unstray : (past : List Heard) → false ≡ is_stray past Dropped
 unfolding is_stray
 dropped_unstray past = refl

@@ -15,17 +15,18 @@ use Rattle.sd_spec.specs.Stretches.{completes}
 use Rattle.sd_spec.specs.Offered.{part_fault, is_back}
 use Rattle.sd_message.specs.EcmForm.{ArePlaces}
 use Rattle.sd_spec.proofs.Hearing.{no_fault_in_none, newest_waits, newest_completes}
-use Rattle.sd_receive.specs.Gathered.{places_of, newest_of, next_run, IsGathered}
-use Rattle.sd_receive.specs.Collected.{parts_collected, IsMessageKept, IsCollected, fault_of, IsWaiting, IsComplete}
-use Rattle.sd_receive.specs.declared.collect.Collect.{Collect}
-use Rattle.sd_receive.specs.declared.run.Run.{Run}
+use Rattle.sd_receive.specs.PartialEcm.{places_of, newest_of, next_run, IsGathered}
+use Rattle.sd_receive.specs.EcmAssembler.{parts_collected, IsMessageKept, IsCollected, fault_of, IsWaiting, IsComplete}
+use Rattle.sd_receive.specs.declared.ecm.EcmAssembler.{EcmAssembler}
+use Rattle.sd_receive.specs.declared.ecm.partial.PartialEcm.{PartialEcm}
 use Rattle.sd_receive.proofs.Gathering.{no_places, none_newest}
 
 -- nothing was heard
 pub none_kept : IsMessageKept None None []
 none_kept = record { says = refl; good = no_places }
 
-pub none_collected : (state : Collect) → IsGathered [] state.run.part state.run.places.items → state.last ≡ None →
+pub none_collected : (state : EcmAssembler) → IsGathered [] state.partial.part state.partial.places.items → state.last ≡
+    None →
     state.places.items ≡ [] → IsCollected [] state
 unfolding parts_collected run_of counted newest
 none_collected state run last places = record {
@@ -78,7 +79,7 @@ no_fault : (past : List Heard) (part : EcmPart) → part_fault (run_to (newest p
 unfolding fault_of
 no_fault past part good none = rw (good, none) refl
 
-pub uncounted_part : (past : List Heard) (part : EcmPart) (state : Collect) → IsCollected past state →
+pub uncounted_part : (past : List Heard) (part : EcmPart) (state : EcmAssembler) → IsCollected past state →
     exceeds (newest past).message part ≡ false → IsWaiting past part state
 uncounted_part past part state collects past_it =
     let none = uncounted_run past part past_it in
@@ -87,7 +88,7 @@ uncounted_part past part state collects past_it =
       fault = no_fault past part (ap part_fault none ∙ no_fault_in_none) incomplete;
       incomplete = incomplete;
       after = record {
-        run = subst (λ (run : List EcmPart). IsGathered run state.run.part state.run.places.items)
+        run = subst (λ (run : List EcmPart). IsGathered run state.partial.part state.partial.places.items)
             (sym (uncounted_waits past part past_it)) collects.run;
         last = subst (λ (message : Option Message). IsMessageKept message state.last state.places.items)
             (sym (same_message past (Controls part) incomplete)) collects.last;
@@ -95,9 +96,10 @@ uncounted_part past part state collects past_it =
     }
 
 -- a part that counts and completes nothing
-pub waiting_part : (past : List Heard) (part : EcmPart) (state : Collect) → exceeds (newest past).message part ≡ true →
+pub waiting_part : (past : List Heard) (part : EcmPart) (state : EcmAssembler) → exceeds (newest past).message part ≡
+    true →
     part_fault (next_run (parts_collected past) part) ≡ None →
-    IsGathered (next_run (parts_collected past) part) state.run.part state.run.places.items →
+    IsGathered (next_run (parts_collected past) part) state.partial.part state.partial.places.items →
     IsMessageKept (newest past).message state.last state.places.items → completes past (Controls part) ≡ None →
     IsWaiting past part state
 waiting_part past part state counts good gathered kept incomplete =
@@ -106,7 +108,7 @@ waiting_part past part state counts good gathered kept incomplete =
       fault = no_fault past part (ap part_fault is ∙ good) incomplete;
       incomplete = incomplete;
       after = record {
-        run = subst (λ (run : List EcmPart). IsGathered run state.run.part state.run.places.items)
+        run = subst (λ (run : List EcmPart). IsGathered run state.partial.part state.partial.places.items)
             (sym (run_waits past part counts incomplete ∙ is)) gathered;
         last = subst (λ (message : Option Message). IsMessageKept message state.last state.places.items)
             (sym (same_message past (Controls part) incomplete)) kept;
@@ -119,17 +121,18 @@ pub not_last : (past : List Heard) (part : EcmPart) → (part.part == part.last_
 not_last past part other = rw other refl
 
 -- a last part that counts and goes on with no part: what was collected is dropped
-pub dropping_part : (past : List Heard) (part : EcmPart) (state : Collect) (kept : Option EcmPart) (all : List Place) →
+pub dropping_part : (past : List Heard) (part : EcmPart) (state : EcmAssembler) (kept : Option EcmPart) (all : List
+    Place) →
     exceeds (newest past).message part ≡ true →
     (part_fault (next_run (parts_collected past) part) ≡ None)
     × IsGathered (next_run (parts_collected past) part) kept all → kept ≡ None →
-    IsGathered [] state.run.part state.run.places.items →
+    IsGathered [] state.partial.part state.partial.places.items →
     IsMessageKept (newest past).message state.last state.places.items → IsWaiting past part state
 dropping_part past part state kept all counts good none empty last =
     let next : next_run (parts_collected past) part ≡ [] =
     none_newest (next_run (parts_collected past) part) (sym good.1.part ∙ none) in
     waiting_part past part state counts good.0
-    (subst (λ (run : List EcmPart). IsGathered run state.run.part state.run.places.items) (sym next) empty) last
+    (subst (λ (run : List EcmPart). IsGathered run state.partial.part state.partial.places.items) (sym next) empty) last
     (untold past part (run_is_next past part counts ∙ next))
 
 -- a part that is refused by itself
@@ -209,17 +212,17 @@ complete_part past part message counts good done forth =
     rw (ap part_fault (run_is_next past part counts) ∙ good, done, forth) refl
 
 -- what is kept once the message is settled
-pub settled : (past : List Heard) (part : EcmPart) (head : EcmHead) (old new : Collect) →
+pub settled : (past : List Heard) (part : EcmPart) (head : EcmHead) (old new : EcmAssembler) →
     IsComplete past part head old →
-    IsGathered [] new.run.part new.run.places.items → new.last ≡ Some (ecm_head_of part) →
+    IsGathered [] new.partial.part new.partial.places.items → new.last ≡ Some (ecm_head_of part) →
     new.places.items ≡ old.coming.places.items →
     IsCollected (Controls part ∷ past) new
 unfolding parts_collected run_of counted
 settled past part head old new complete empty last places =
     let after = newest_completes past (Controls part) (message_of head old.coming.places.items) complete.complete in
     record {
-      run = subst (λ (st : Stretch). IsGathered (run_of (counted st.message st.after)) new.run.part
-          new.run.places.items) (sym after) empty;
+      run = subst (λ (st : Stretch). IsGathered (run_of (counted st.message st.after)) new.partial.part
+          new.partial.places.items) (sym after) empty;
       last = subst (λ (st : Stretch). IsMessageKept st.message new.last new.places.items) (sym after)
           (subst (λ (l : List Place). IsMessageKept (Some (message_of head old.coming.places.items)) new.last l)
           (sym places)
@@ -230,29 +233,29 @@ settled past part head old new complete empty last places =
     }
 
 -- what is heard that is no part leaves all as it is
-pub passed : (past : List Heard) (heard : Heard) (state : Collect) → completes past heard ≡ None →
+pub passed : (past : List Heard) (heard : Heard) (state : EcmAssembler) → completes past heard ≡ None →
     counted (newest past).message (heard ∷ (newest past).after) ≡ counted (newest past).message (newest past).after →
     IsCollected past state → IsCollected (heard ∷ past) state
 unfolding parts_collected
 passed past heard state incomplete same collects =
     let after = newest_waits past heard incomplete in
     record {
-      run = subst (λ (run : List EcmPart). IsGathered run state.run.part state.run.places.items)
+      run = subst (λ (run : List EcmPart). IsGathered run state.partial.part state.partial.places.items)
           (sym (ap (λ (st : Stretch). run_of (counted st.message st.after)) after ∙ ap run_of same)) collects.run;
       last = subst (λ (message : Option Message). IsMessageKept message state.last state.places.items)
           (sym (same_message past heard incomplete)) collects.last;
     }
 
-pub dropped : (past : List Heard) (state : Collect) → IsCollected past state → IsCollected (Dropped ∷ past) state
+pub dropped : (past : List Heard) (state : EcmAssembler) → IsCollected past state → IsCollected (Dropped ∷ past) state
 unfolding counted
 dropped past state collects = passed past Dropped state refl refl collects
 
-pub entitles : (past : List Heard) (emm : Emm) (state : Collect) → IsCollected past state →
+pub entitles : (past : List Heard) (emm : Emm) (state : EcmAssembler) → IsCollected past state →
     IsCollected (Entitles emm ∷ past) state
 unfolding counted
 entitles past emm state collects = passed past (Entitles emm) state refl refl collects
 
-pub other : (past : List Heard) (n : ℕ) (packet : List ℕ) (state : Collect) → IsCollected past state →
+pub other : (past : List Heard) (n : ℕ) (packet : List ℕ) (state : EcmAssembler) → IsCollected past state →
     IsCollected (Other n packet ∷ past) state
 unfolding counted
 other past n packet state collects = passed past (Other n packet) state refl refl collects
@@ -278,9 +281,9 @@ pub good_places : (run : List EcmPart) (kept : Option EcmPart) (all : List Place
 good_places run kept all gathered = subst ArePlaces (sym gathered.places) gathered.good.places
 
 -- the parts that were copied are those that are collected
-pub copied : (past : List Heard) (state : Collect) (copy : Run) → IsCollected past state →
-    copy.part ≡ state.run.part → copy.places.items ≡ state.run.places.items →
+pub copied : (past : List Heard) (state : EcmAssembler) (copy : PartialEcm) → IsCollected past state →
+    copy.part ≡ state.partial.part → copy.places.items ≡ state.partial.places.items →
     IsGathered (parts_collected past) copy.part copy.places.items
 copied past state copy collects part places =
     subst (λ (kept : Option EcmPart). IsGathered (parts_collected past) kept copy.places.items) (sym part)
-    (subst (λ (all : List Place). IsGathered (parts_collected past) state.run.part all) (sym places) collects.run)
+    (subst (λ (all : List Place). IsGathered (parts_collected past) state.partial.part all) (sym places) collects.run)

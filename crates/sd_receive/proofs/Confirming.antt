@@ -6,10 +6,10 @@ use Rattle.std.proofs.lemmas.Bool.{cases_Bool, cases_lt, le-leb, lt-leb, eqb-tru
 use Rattle.std.proofs.lemmas.List.{drop_more}
 use Rattle.sd_message.specs.declared.ecm_part.Place.{Place}
 use Rattle.sd_spec.specs.Confirmed.{position_in}
-use Rattle.sd_receive.specs.Pids.{has_pid}
+use Rattle.sd_receive.specs.PidSet.{has_pid}
 use Rattle.sd_spec.specs.Confirmed.{is_near_to}
 use Rattle.sd_receive.specs.Writing.{AreNear}
-use Rattle.sd_receive.specs.declared.pids.Pids.{Pids}
+use Rattle.sd_receive.specs.declared.buffer.pid_set.PidSet.{PidSet}
 
 -- a position that isn't below is near by its distance
 pub near_by : (t p : ℕ) → t ≤ p → nat_le (p - t) 15 ≡ is_near_to t p
@@ -24,7 +24,7 @@ pub below : (t p : ℕ) → p < t → false ≡ is_near_to t p
 below t p low = rw (lt-leb t p low) refl
 
 -- without places no PID is near
-pub none_near : (tracked : List ℕ) (pids : Pids) → ((pid : ℕ) → pid < 8192 → has_pid pids pid ≡ false) →
+pub none_near : (tracked : List ℕ) (pids : PidSet) → ((pid : ℕ) → pid < 8192 → has_pid pids pid ≡ false) →
     AreNear tracked [] pids
 unfolding position_in
 none_near tracked pids none = record { at = λ pid small. none pid small }
@@ -41,7 +41,7 @@ unfolding position_in
 found_later place places pid other = rw other refl
 
 -- a place before others
-near_more : (tracked : List ℕ) (place : Place) (places : List Place) (old new : Pids) →
+near_more : (tracked : List ℕ) (place : Place) (places : List Place) (old new : PidSet) →
     has_pid new place.pid ≡ is_near_to (get_or tracked place.pid 0) place.position →
     ((other : ℕ) → other < 8192 → other ≢ place.pid → has_pid new other ≡ has_pid old other) →
     AreNear tracked places old → AreNear tracked (place ∷ places) new
@@ -55,7 +55,7 @@ near_more tracked place places old new own others before = record {
 }
 
 -- one whose PID is none changes nothing
-near_still : (tracked : List ℕ) (place : Place) (places : List Place) (pids : Pids) → 8192 ≤ place.pid →
+near_still : (tracked : List ℕ) (place : Place) (places : List Place) (pids : PidSet) → 8192 ≤ place.pid →
     AreNear tracked places pids → AreNear tracked (place ∷ places) pids
 near_still tracked place places pids far before = record {
   at = λ pid small. elim (cases_Bool (place.pid == pid)) [
@@ -65,7 +65,7 @@ near_still tracked place places pids far before = record {
 }
 
 -- the place before the last ones
-pub one_nearer : (tracked : List ℕ) (places : List Place) (i : ℕ) (d : Place) (old new : Pids) → 0 < i →
+pub one_nearer : (tracked : List ℕ) (places : List Place) (i : ℕ) (d : Place) (old new : PidSet) → 0 < i →
     i ≤ length places → has_pid new (get_or places (i - 1) d).pid
     ≡ is_near_to (get_or tracked (get_or places (i - 1) d).pid 0) (get_or places (i - 1) d).position →
     ((other : ℕ) → other < 8192 → other ≢ (get_or places (i - 1) d).pid → has_pid new other ≡ has_pid old other) →
@@ -76,7 +76,7 @@ one_nearer tracked places i d old new some within own others before =
     (near_more tracked (get_or places (i - 1) d) (drop (i - 1 + 1) places) old new own others
     (subst (λ (j : ℕ). AreNear tracked (drop j places) old) next before))
 
-pub none_nearer : (tracked : List ℕ) (places : List Place) (i : ℕ) (d : Place) (pids : Pids) → 0 < i →
+pub none_nearer : (tracked : List ℕ) (places : List Place) (i : ℕ) (d : Place) (pids : PidSet) → 0 < i →
     i ≤ length places → 8192 ≤ (get_or places (i - 1) d).pid → AreNear tracked (drop i places) pids →
     AreNear tracked (drop (i - 1) places) pids
 none_nearer tracked places i d pids some within far before =

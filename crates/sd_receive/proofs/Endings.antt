@@ -15,11 +15,11 @@ use Rattle.sd_spec.specs.Heard.{Heard}
 use Rattle.sd_spec.specs.Offered.{heard}
 use Rattle.sd_spec.specs.Ending.{periods_told, is_unkeyed, ending_with, run_ending, joined, run_wrote}
 use Rattle.sd_spec.specs.Ending.{ended_before, ending_of}
-use Rattle.sd_receive.specs.Collected.{IsMessageKept}
-use Rattle.sd_receive.specs.Entitled.{is_told_revoked}
-use Rattle.sd_receive.specs.Listening.{IsListenerAfter}
+use Rattle.sd_receive.specs.EcmAssembler.{IsMessageKept}
+use Rattle.sd_receive.specs.PeriodKeys.{is_told_revoked}
+use Rattle.sd_receive.specs.Session.{IsListenerAfter}
 use Rattle.sd_receive.specs.Receiving.{card_in, IsAfter}
-use Rattle.sd_receive.specs.declared.listener.Listener.{Listener}
+use Rattle.sd_receive.specs.declared.session.Session.{Session}
 use Rattle.sd_receive.specs.declared.receiver.Receiver.{Receiver}
 
 tuned_or_not : (r : Receiver) (past : List (List ℕ)) → IsAfter past r →
@@ -57,27 +57,27 @@ clear_kept message None places kept = ap (λ (o : Option Message). option_map_or
 clear_kept message (Some head) places kept = ap (λ (o : Option Message). option_map_or (λ (m : Message). m.clear) o 0)
     kept.says
 
-pub unclosed : (card : CardFields) (past : List Heard) (total : ℕ) (l : Listener) → IsListenerAfter card past l →
+pub unclosed : (card : CardFields) (past : List Heard) (total : ℕ) (l : Session) → IsListenerAfter card past l →
     l.closed ≡ false →
-    Unclosed (option_map_or (λ head. head.number + 1) l.collect.last 0) ≡ run_ending card past total
+    Unclosed (option_map_or (λ head. head.number + 1) l.assembler.last 0) ≡ run_ending card past total
 unfolding run_ending
 unclosed card past total l follows open_yet =
     let there : is_closed past ≡ false = sym follows.closed ∙ open_yet in
-    rw there (ap Unclosed (sym (number_kept (newest past).message l.collect.last l.collect.places.items
-    follows.collect.last)))
+    rw there (ap Unclosed (sym (number_kept (newest past).message l.assembler.last l.assembler.places.items
+    follows.assembler.last)))
 
 -- the ending of a run that was closed
-pub closed : (card : CardFields) (past : List Heard) (total : ℕ) (l : Listener) → IsListenerAfter card past l →
+pub closed : (card : CardFields) (past : List Heard) (total : ℕ) (l : Session) → IsListenerAfter card past l →
     l.closed ≡ true →
     ending_with (find (is_told_revoked card past) (periods_told past)) (find (is_unkeyed card past) (periods_told past))
-    (option_map_or (λ head. head.clear) l.collect.last 0 - total)
+    (option_map_or (λ head. head.clear) l.assembler.last 0 - total)
     ≡ run_ending card past total
 unfolding run_ending
 closed card past total l follows yes_closed =
     let there : is_closed past ≡ true = sym follows.closed ∙ yes_closed in
     rw there (ap (λ (n : ℕ). ending_with (find (is_told_revoked card past) (periods_told past))
     (find (is_unkeyed card past) (periods_told past)) (n - total))
-    (sym (clear_kept (newest past).message l.collect.last l.collect.places.items follows.collect.last)))
+    (sym (clear_kept (newest past).message l.assembler.last l.assembler.places.items follows.assembler.last)))
 
 pub revoked_ending : (first second : Option ℕ) (gaps q : ℕ) → first ≡ Some q → Revoked q ≡ ending_with first second gaps
 revoked_ending first second gaps q is = rw is refl

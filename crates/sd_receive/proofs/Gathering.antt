@@ -18,8 +18,8 @@ use Rattle.sd_message.specs.declared.ecm_fault.EcmFault.TheVariants.{Count, Orde
 use Rattle.sd_message.proofs.Versions.{few_positions, some_positions}
 use Rattle.sd_spec.specs.Stretches.{run_with}
 use Rattle.sd_spec.specs.Offered.{same_header, is_after, part_fault}
-use Rattle.sd_receive.specs.Gathered.{places_of, newest_of, next_run, IsPart, IsNext, AreAlike, IsRun}
-use Rattle.sd_receive.specs.Gathered.{IsGathered}
+use Rattle.sd_receive.specs.PartialEcm.{places_of, newest_of, next_run, IsPart, IsNext, AreAlike, IsRun}
+use Rattle.sd_receive.specs.PartialEcm.{IsGathered}
 use Rattle.sd_receive.proofs.Pairs.{pairs_append, after_all}
 use Rattle.sd_receive.proofs.Alike.{headers_told, all_same}
 

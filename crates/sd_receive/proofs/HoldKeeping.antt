@@ -15,8 +15,8 @@ use Rattle.sd_spec.specs.Offered.{most_held}
 use Rattle.sd_message.specs.declared.ecm_part.Place.{Place}
 use Rattle.sd_message.specs.EcmVersions.{most_places}
 use Rattle.sd_receive.specs.Tracking.{packets_in, led_to, HasFirstPositions, IsTracked, IsKept}
-use Rattle.sd_receive.specs.declared.tracks.Tracks.{Tracks}
-use Rattle.sd_receive.specs.declared.held.Held.{Held}
+use Rattle.sd_receive.specs.declared.buffer.tracked.TrackedPackets.{TrackedPackets}
+use Rattle.sd_receive.specs.declared.buffer.tracked.HeldPacket.{HeldPacket}
 use Rattle.sd_receive.proofs.Tables.{none_started, tracked_more, own_more, led_within}
 
 -- a table of first positions
@@ -27,20 +27,21 @@ all_first = record {
 }
 
 -- nothing is held
-pub kept_none : (u : Tracks) → u.places.items ≡ [] → u.held.items ≡ [] → most_held ≤ vec_capacity u.held →
+pub kept_none : (u : TrackedPackets) → u.places.items ≡ [] → u.held.items ≡ [] → most_held ≤ vec_capacity u.held →
     most_places ≤ vec_capacity u.places → HasFirstPositions u.table.items → IsKept u
 kept_none u places held room space clear = record {
-  few = omega (arith, ap (λ (hs : List Held). length hs) held);
+  few = omega (arith, ap (λ (hs : List HeldPacket). length hs) held);
   room = room;
   space = space;
   known = rw places (All-nil (λ (p : Place). p.pid < 8192));
   short = rw places (All-nil (λ (p : Place). p.position < 2 ^ 48));
-  own = λ k d small. absurd (omega (arith, small, ap (λ (hs : List Held). length hs) held));
+  own = λ k d small. absurd (omega (arith, small, ap (λ (hs : List HeldPacket). length hs) held));
   tracked = rw places (rw held (none_started u.table.items clear));
 }
 
 -- where nothing is held and no place is kept the table is one of first positions
-pub clear_again : (t : Tracks) → IsKept t → t.places.items ≡ [] → t.held.items ≡ [] → HasFirstPositions t.table.items
+pub clear_again : (t : TrackedPackets) → IsKept t → t.places.items ≡ [] → t.held.items ≡ [] → HasFirstPositions
+    t.table.items
 unfolding led_to position_in moved_by
 clear_again t is places held =
     let tracked : IsTracked [] [] t.table.items = rw places at (rw held at is.tracked) in
@@ -51,9 +52,10 @@ pub pid_within : (packet : List ℕ) → pid_of packet < 8192
 pid_within packet = field_below packet 11 13
 
 -- the position of a packet's PID is far from its greatest
-pub position_within : (t : Tracks) (packet : List ℕ) → IsKept t → get_or t.table.items (pid_of packet) 0 < 2 ^ 63
+pub position_within : (t : TrackedPackets) (packet : List ℕ) → IsKept t → get_or t.table.items (pid_of packet) 0 < 2 ^
+    63
 position_within t packet is =
-    let count = length-map t.held.items (λ (h : Held). h.packet) in
+    let count = length-map t.held.items (λ (h : HeldPacket). h.packet) in
     omega (
       arith,
       is.tracked.at (pid_of packet) (pid_within packet),
@@ -61,7 +63,7 @@ position_within t packet is =
     )
 
 -- one packet more is held
-pub kept_more : (t : Tracks) (held : Vec Held) (table : Vec ℕ) (one : Held) → IsKept t →
+pub kept_more : (t : TrackedPackets) (held : Vec HeldPacket) (table : Vec ℕ) (one : HeldPacket) → IsKept t →
     length t.held.items < most_held →
     held.items ≡ t.held.items ++ one ∷ [] → most_held ≤ vec_capacity held →
     one.position ≡ moved (pid_of one.packet) (get_or t.table.items (pid_of one.packet) 0) one.packet →
@@ -72,12 +74,12 @@ kept_more t held table one is few same room position written =
     let pid = pid_of one.packet in
     let at = moved pid (get_or t.table.items pid 0) one.packet in
     let packets : packets_in held.items ≡ packets_in t.held.items ++ one.packet ∷ [] =
-    ap packets_in same ∙ map-append (λ (h : Held). h.packet) t.held.items (one ∷ []) in
+    ap packets_in same ∙ map-append (λ (h : HeldPacket). h.packet) t.held.items (one ∷ []) in
     let led : one.position ≡ led_to t.places.items (packets_in t.held.items ++ one.packet ∷ []) pid =
     position ∙ (ap (λ (x : ℕ). moved pid x one.packet) (is.tracked.at pid (pid_within one.packet))
     ∙ sym (one_more pid (position_or_first t.places.items pid) (packets_in t.held.items) one.packet)) in
     record {
-      few = omega (arith, ap (λ (hs : List Held). length hs) same, length_push t.held.items one, few);
+      few = omega (arith, ap (λ (hs : List HeldPacket). length hs) same, length_push t.held.items one, few);
       room = room;
       space = is.space;
       known = is.known;

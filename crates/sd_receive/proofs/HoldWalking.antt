@@ -12,10 +12,10 @@ use Rattle.sd_engine.proofs.Chains.{took_none, took_more}
 use Rattle.sd_message.specs.EcmParts.{Message}
 use Rattle.sd_spec.specs.Confirmed.{Segment, Wrote, then_wrote, judged, written_from, tracked, is_confirmed}
 use Rattle.sd_spec.specs.Confirmed.{unmarked}
-use Rattle.sd_receive.specs.declared.segment_fault.SegmentFault.TheVariants as Fault
-use Rattle.sd_receive.specs.declared.confirm.Confirming.{Confirming}
-use Rattle.sd_receive.specs.declared.held.Held.{Held}
-use Rattle.sd_receive.specs.Holding.{held_pair, after_message}
+use Rattle.sd_receive.specs.declared.buffer.BufferFault.TheVariants as Fault
+use Rattle.sd_receive.specs.declared.buffer.release.Release.{Release}
+use Rattle.sd_receive.specs.declared.buffer.tracked.HeldPacket.{HeldPacket}
+use Rattle.sd_receive.specs.PacketBuffer.{held_pair, after_message}
 use Rattle.sd_receive.specs.Tracking.{packets_in, HaveOwn, IsKept}
 use Rattle.sd_receive.specs.Writing.{HasStopped, WriteOutcome, holding_in, segment_in, segment_of, bare}
 use Rattle.sd_receive.specs.Writing.{first_wrote}
@@ -58,10 +58,10 @@ in_turn s before (x ∷ xs) ys calm =
     ∙ then_joined (judged s before x) rest (written_from s (before ++ (x.1 ∷ map (λ (e : ℕ × List ℕ). e.1) xs)) ys) calm
 
 -- the packets before one
-pub before_in : Confirming → ℕ → List (List ℕ)
+pub before_in : Release → ℕ → List (List ℕ)
 before_in c k = map (λ (e : ℕ × List ℕ). e.1) (take k (holding_in c).held)
 
-entry_at : (c : Confirming) (k : ℕ) (d : Held) → k < length c.tracks.now.held.items →
+entry_at : (c : Release) (k : ℕ) (d : HeldPacket) → k < length c.tracks.now.held.items →
     take (k + 1) (holding_in c).held ≡ take k (holding_in c).held ++ held_pair (get_or c.tracks.now.held.items k d) ∷ []
 entry_at c k d within =
     let held = c.tracks.now.held.items in
@@ -70,19 +70,19 @@ entry_at c k d within =
     ∙ (map-append held_pair (take k held) (get_or held k d ∷ [])
     ∙ ap (λ (es : List (ℕ × List ℕ)). es ++ held_pair (get_or held k d) ∷ []) (sym (take-map held_pair k held))))
 
-mapped_at : (held : List Held) (k : ℕ) (d : Held) → k < length held →
+mapped_at : (held : List HeldPacket) (k : ℕ) (d : HeldPacket) → k < length held →
     get_or (map held_pair held) k (held_pair (get_or held k d)) ≡ held_pair (get_or held k d)
 mapped_at [] k d within = absurd (omega (arith, within))
 mapped_at (h ∷ hs) zero d within = refl
 mapped_at (h ∷ hs) (suc k) d within = mapped_at hs k d (omega (arith, within))
 
-entry_found : (c : Confirming) (k : ℕ) (d : Held) → k < length c.tracks.now.held.items →
+entry_found : (c : Release) (k : ℕ) (d : HeldPacket) → k < length c.tracks.now.held.items →
     get_or (holding_in c).held k (held_pair (get_or c.tracks.now.held.items k d)) ≡ held_pair
     (get_or c.tracks.now.held.items k d)
 entry_found c k d within = mapped_at c.tracks.now.held.items k d within
 
 -- one packet more
-first_more : (c : Confirming) (k : ℕ) (d : Held) → k < length c.tracks.now.held.items →
+first_more : (c : Release) (k : ℕ) (d : HeldPacket) → k < length c.tracks.now.held.items →
     (first_wrote c k).refused ≡ None →
     first_wrote c (k + 1) ≡ joined (first_wrote c k)
     (then_wrote (judged (segment_in c) (before_in c k) (held_pair (get_or c.tracks.now.held.items k d)))
@@ -93,7 +93,7 @@ first_more c k d within calm =
     ∙ in_turn (segment_in c) [] (take k (holding_in c).held) (held_pair (get_or c.tracks.now.held.items k d) ∷ []) calm
 
 -- all of them
-all_first : (c : Confirming) (k : ℕ) → (first_wrote c k).refused ≡ None →
+all_first : (c : Release) (k : ℕ) → (first_wrote c k).refused ≡ None →
     written_from (segment_in c) [] (holding_in c).held ≡ joined (first_wrote c k)
     (written_from (segment_in c) (before_in c k) (drop k (holding_in c).held))
 unfolding first_wrote before_in
@@ -101,11 +101,11 @@ all_first c k calm =
     ap (λ (es : List (ℕ × List ℕ)). written_from (segment_in c) [] es) (sym (take-append-drop k (holding_in c).held))
     ∙ in_turn (segment_in c) [] (take k (holding_in c).held) (drop k (holding_in c).held) calm
 
-pub written_none : (c : Confirming) (u : SinkState) → IsWritten c 0 u u 0
+pub written_none : (c : Release) (u : SinkState) → IsWritten c 0 u u 0
 unfolding first_wrote written_from
 written_none c u = record { calm = refl; counted = refl; took = took_none u }
 
-step_by : (c : Confirming) (k : ℕ) (ps : List (List ℕ)) (d : Held) → k < length c.tracks.now.held.items →
+step_by : (c : Release) (k : ℕ) (ps : List (List ℕ)) (d : HeldPacket) → k < length c.tracks.now.held.items →
     (first_wrote c k).refused ≡ None →
     judged (segment_in c) (before_in c k) (held_pair (get_or c.tracks.now.held.items k d)) ≡ Ok ps →
     first_wrote c (k + 1) ≡ record { packets = (first_wrote c k).packets ++ ps; refused = None }
@@ -117,7 +117,8 @@ step_by c k ps d within calm is =
     ∙ ap (λ (xs : List (List ℕ)). record { packets = (first_wrote c k).packets ++ xs; refused = None }) (append-nil ps))
 
 -- a packet of which nothing is written
-pub written_still : (c : Confirming) (k : ℕ) (d : Held) (u v : SinkState) (n : ℕ) → k < length c.tracks.now.held.items →
+pub written_still : (c : Release) (k : ℕ) (d : HeldPacket) (u v : SinkState) (n : ℕ) → k < length
+    c.tracks.now.held.items →
     IsWritten c k u v n →
     judged (segment_in c) (before_in c k) (held_pair (get_or c.tracks.now.held.items k d)) ≡ Ok [] →
     IsWritten c (k + 1) u v n
@@ -132,7 +133,7 @@ written_still c k d u v n within is far =
     }
 
 -- a packet that is written
-pub written_more : (c : Confirming) (k : ℕ) (d : Held) (p : List ℕ) (u v w : SinkState) (n : ℕ) →
+pub written_more : (c : Release) (k : ℕ) (d : HeldPacket) (p : List ℕ) (u v w : SinkState) (n : ℕ) →
     k < length c.tracks.now.held.items → IsWritten c k u v n →
     judged (segment_in c) (before_in c k) (held_pair (get_or c.tracks.now.held.items k d)) ≡ Ok (p ∷ []) →
     TookBytes v w p →
@@ -153,7 +154,7 @@ written_more c k d p u v w n within is close took =
     }
 
 -- all, where the next comes to this
-all_by : (c : Confirming) (k : ℕ) (r : Result (List (List ℕ)) ℕ) (d : Held) → k < length c.tracks.now.held.items →
+all_by : (c : Release) (k : ℕ) (r : Result (List (List ℕ)) ℕ) (d : HeldPacket) → k < length c.tracks.now.held.items →
     (first_wrote c k).refused ≡ None →
     judged (segment_in c) (before_in c k) (held_pair (get_or c.tracks.now.held.items k d)) ≡ r →
     (rest : Wrote) × (written_from (segment_in c) [] (holding_in c).held ≡ joined (first_wrote c k) (then_wrote r rest))
@@ -174,13 +175,13 @@ all_by c k r d within calm is =
     )
 
 -- a packet that is refused ends all
-pub written_refused : (c : Confirming) (k m : ℕ) (d : Held) (u v : SinkState) (n : ℕ) →
+pub written_refused : (c : Release) (k m : ℕ) (d : HeldPacket) (u v : SinkState) (n : ℕ) →
     k < length c.tracks.now.held.items → IsWritten c k u v n →
     judged (segment_in c) (before_in c k) (held_pair (get_or c.tracks.now.held.items k d)) ≡ Err m →
     WriteOutcome (written_from (segment_in c) [] (holding_in c).held) u v (Err (Fault.Parity m))
 unfolding joined
-written_refused c k m d u v n within is odd =
-    let all = all_by c k (Err m) d within is.calm odd in
+written_refused c k m d u v n within is foreign =
+    let all = all_by c k (Err m) d within is.calm foreign in
     let same : written_from (segment_in c) [] (holding_in c).held ≡ record {
       packets =
           (first_wrote c k).packets;
@@ -191,7 +192,7 @@ written_refused c k m d u v n within is odd =
     rw same (refl, is.took)
 
 -- and so does a write that fails
-pub written_short : (c : Confirming) (k : ℕ) (d : Held) (p : List ℕ) (u v w : SinkState) (n : ℕ) →
+pub written_short : (c : Release) (k : ℕ) (d : HeldPacket) (p : List ℕ) (u v w : SinkState) (n : ℕ) →
     k < length c.tracks.now.held.items → IsWritten c k u v n →
     judged (segment_in c) (before_in c k) (held_pair (get_or c.tracks.now.held.items k d)) ≡ Ok (p ∷ []) →
     HasStopped v w p →
@@ -205,7 +206,7 @@ written_short c k d p u v w n within is close stopped =
     rw all.1 (rw bytes (cut_after u v w (concat (first_wrote c k).packets) p (concat all.0.packets) is.took stopped))
 
 -- at the end all is written
-pub written_all : (c : Confirming) (k : ℕ) (u v : SinkState) (n : ℕ) → length c.tracks.now.held.items ≤ k →
+pub written_all : (c : Release) (k : ℕ) (u v : SinkState) (n : ℕ) → length c.tracks.now.held.items ≤ k →
     IsWritten c k u v n →
     WriteOutcome (written_from (segment_in c) [] (holding_in c).held) u v (Ok n)
 unfolding first_wrote
@@ -220,7 +221,7 @@ written_all c k u v n end is =
     rw all at done
 
 -- a held packet has the position to which it led its PID after those before it
-pub own_at : (c : Confirming) (k : ℕ) (d : Held) → k < length c.tracks.now.held.items →
+pub own_at : (c : Release) (k : ℕ) (d : HeldPacket) → k < length c.tracks.now.held.items →
     HaveOwn c.tracks.now.places.items c.tracks.now.held.items →
     IsOwn c (before_in c k) (get_or c.tracks.now.held.items k d)
 unfolding before_in
@@ -229,21 +230,21 @@ own_at c k d within own =
     let first : map (λ (e : ℕ × List ℕ). e.1) (take k (holding_in c).held) ≡ take k (packets_in held) =
     sym (take-map (λ (e : ℕ × List ℕ). e.1) k (holding_in c).held) ∙ ap (take k) (packets_are held) in
     let more : take (k + 1) (packets_in held) ≡ take k (packets_in held) ++ (get_or held k d).packet ∷ [] =
-    take-map (λ (h : Held). h.packet) (k + 1) held
+    take-map (λ (h : HeldPacket). h.packet) (k + 1) held
     ∙ (ap packets_in (take_more held k d within)
-    ∙ (map-append (λ (h : Held). h.packet) (take k held) (get_or held k d ∷ [])
+    ∙ (map-append (λ (h : HeldPacket). h.packet) (take k held) (get_or held k d ∷ [])
     ∙ ap (λ (ps : List (List ℕ)). ps ++ (get_or held k d).packet ∷ [])
-    (sym (take-map (λ (h : Held). h.packet) k held)))) in
+    (sym (take-map (λ (h : HeldPacket). h.packet) k held)))) in
     record { position = rw first (rw (sym more) (own k d within)) }
 
 -- so a packet at this place has
-pub own_here : (c : Confirming) (k : ℕ) (h : Held) → k < length c.tracks.now.held.items →
+pub own_here : (c : Release) (k : ℕ) (h : HeldPacket) → k < length c.tracks.now.held.items →
     HaveOwn c.tracks.now.places.items c.tracks.now.held.items →
     h ≡ get_or c.tracks.now.held.items k h → IsOwn c (before_in c k) h
-own_here c k h within own is = subst (λ (x : Held). IsOwn c (before_in c k) x) (sym is) (own_at c k h within own)
+own_here c k h within own is = subst (λ (x : HeldPacket). IsOwn c (before_in c k) x) (sym is) (own_at c k h within own)
 
 -- which is no further than all packets lead
-pub own_within : (c : Confirming) (k : ℕ) (h : Held) → k < length c.tracks.now.held.items → IsKept c.tracks.now →
+pub own_within : (c : Release) (k : ℕ) (h : HeldPacket) → k < length c.tracks.now.held.items → IsKept c.tracks.now →
     h ≡ get_or c.tracks.now.held.items k h → h.position ≤ get_or c.tracks.now.table.items (pid_of h.packet) 0
 own_within c k h within kept is =
     let x = get_or c.tracks.now.held.items k h in
@@ -254,14 +255,14 @@ own_within c k h within kept is =
       led_further c.tracks.now.places.items (packets_in c.tracks.now.held.items) (k + 1) (pid_of x.packet),
       kept.tracked.at (pid_of x.packet) (pid_within x.packet),
     ) in
-    subst (λ (y : Held). y.position ≤ get_or c.tracks.now.table.items (pid_of y.packet) 0) (sym is) low
+    subst (λ (y : HeldPacket). y.position ≤ get_or c.tracks.now.table.items (pid_of y.packet) 0) (sym is) low
 
 -- what a packet at this place comes to
-pub at_place : (c : Confirming) (k : ℕ) (h : Held) (r : Result (List (List ℕ)) ℕ) →
+pub at_place : (c : Release) (k : ℕ) (h : HeldPacket) (r : Result (List (List ℕ)) ℕ) →
     h ≡ get_or c.tracks.now.held.items k h →
     judged (segment_in c) (before_in c k) (h.number, h.packet) ≡ r →
     judged (segment_in c) (before_in c k) (held_pair (get_or c.tracks.now.held.items k h)) ≡ r
-at_place c k h r is j = subst (λ (x : Held). judged (segment_in c) (before_in c k) (held_pair x) ≡ r) is j
+at_place c k h r is j = subst (λ (x : HeldPacket). judged (segment_in c) (before_in c k) (held_pair x) ≡ r) is j
 
 -- one packet comes to the same between two messages that say no more than is asked of them
 alike : (a b : Message) (word : List ℕ) (ca ecm : ℕ) (packets before : List (List ℕ)) (e : ℕ × List ℕ) →

@@ -15,10 +15,10 @@ use Rattle.sd_spec.specs.Keys.{key_at}
 use Rattle.sd_spec.specs.Confirmed.{Wrote}
 use Rattle.sd_spec.specs.Offered.{segment_wrote, stretch_wrote}
 use Rattle.sd_spec.proofs.Hearing.{newest_waits, newest_completes}
-use Rattle.sd_receive.specs.Holding.{after_message, held_more}
+use Rattle.sd_receive.specs.PacketBuffer.{after_message, held_more}
 use Rattle.sd_receive.specs.Writing.{wrote_of}
 use Rattle.sd_receive.proofs.HoldWalking.{between_messages}
-use Rattle.sd_receive.specs.Held.{word_under, held_under, held_after, holding_after, pair_wrote, unwritten}
+use Rattle.sd_receive.specs.Buffered.{word_under, held_under, held_after, holding_after, pair_wrote, unwritten}
 use Rattle.sd_receive.proofs.Stretching.{holds_more, holds_same}
 
 -- nothing was heard

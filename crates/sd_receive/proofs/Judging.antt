@@ -22,11 +22,11 @@ use Rattle.sd_message.specs.declared.stream_fault.StreamFault.{StreamFault}
 use Rattle.sd_message.specs.declared.stream_fault.StreamFault.TheVariants as Fault
 use Rattle.sd_message.specs.declared.emm_fault.EmmFault.TheVariants as Emms
 use Rattle.sd_spec.specs.Ending.{periods_told, is_unkeyed, is_all_seen, are_all}
-use Rattle.sd_receive.specs.declared.says.Says.{Says}
-use Rattle.sd_receive.specs.declared.entitled.Entitled.{Entitled}
-use Rattle.sd_receive.specs.Entitled.{says_in, said, SayAlike, is_said_otherwise, key_kept, has_index, all_marked}
+use Rattle.sd_receive.specs.declared.emm.header.PeriodHeader.{PeriodHeader}
+use Rattle.sd_receive.specs.declared.emm.PeriodKeys.{PeriodKeys}
+use Rattle.sd_receive.specs.PeriodKeys.{says_in, said, SayAlike, is_said_otherwise, key_kept, has_index, all_marked}
 use Rattle.sd_spec.specs.Taken.{takes_key}
-use Rattle.sd_receive.specs.Entitled.{cleared, is_told_revoked, told_below, IsEntitled, IsJudged, HasFault}
+use Rattle.sd_receive.specs.PeriodKeys.{cleared, is_told_revoked, told_below, IsEntitled, IsJudged, HasFault}
 use Rattle.sd_receive.proofs.Periods.{closes, ahead_none}
 
 -- all marks up to a place are set where all tests up to it hold
@@ -41,24 +41,26 @@ all_tests P a (suc n) (mark ∷ marks) long same =
     (λ x h. same (suc x) (omega (arith, h)) ∙ ap P (omega arith)) in
     rw (first, rest) refl
 
-all_by : (sections : List Emm) (says : Option Says) (marks : List Bool) → length marks ≡ 65536 → says ≡ said sections →
-    SayAlike says sections → ((x : ℕ) → x < 2 ^ 16 → get_or marks x false ≡ has_index x sections) →
-    all_marked says marks ≡ are_all sections
-all_by [] says marks long is alike same = rw is refl
-all_by (emm ∷ sections) says marks long is alike same =
+all_by : (sections : List Emm) (header : Option PeriodHeader) (marks : List Bool) → length marks ≡ 65536 → header ≡ said
+    sections →
+    SayAlike header sections → ((x : ℕ) → x < 2 ^ 16 → get_or marks x false ≡ has_index x sections) →
+    all_marked header marks ≡ are_all sections
+all_by [] header marks long is alike same = rw is refl
+all_by (emm ∷ sections) header marks long is alike same =
     let short : emm.sections < 2 ^ 16 = (alike 0 emm (omega arith)).1.1 in
     rw is (all_tests (λ x. has_index x (emm ∷ sections)) 0 emm.sections marks (omega (arith, short, long))
     (λ x h. same x (omega (arith, h, short)) ∙ ap (λ (y : ℕ). has_index y (emm ∷ sections)) (omega arith)))
 
-some_same : (a b : Says) → Some a ≡ Some b → a ≡ b
-some_same a b is = ap (λ (o : Option Says). option_map_or (λ (s : Says). s) o a) is
+some_same : (a b : PeriodHeader) → Some a ≡ Some b → a ≡ b
+some_same a b is = ap (λ (o : Option PeriodHeader). option_map_or (λ (s : PeriodHeader). s) o a) is
 
 same_count : (a b : Emm) → Some (says_in a) ≡ Some (says_in b) → a.sections ≡ b.sections
-same_count a b is = ap (λ (s : Says). s.sections) (some_same (says_in a) (says_in b) is)
+same_count a b is = ap (λ (s : PeriodHeader). s.sections) (some_same (says_in a) (says_in b) is)
 
 same_test : (a b emm : Emm) → Some (says_in a) ≡ Some (says_in b) → not (says_same b emm) ≡ not (says_same a emm)
 same_test a b emm is =
-    ap (λ (s : Says). not ((s.sets == emm.sets) && ((s.sections == emm.sections) && bytes_eq s.check emm.check)))
+    ap (λ (s : PeriodHeader). not ((s.sets == emm.sets) && ((s.sections == emm.sections) && bytes_eq s.check
+    emm.check)))
     (sym (some_same (says_in a) (says_in b) is))
 
 within_cleared : (n x : ℕ) (marks : List Bool) → x < n → get_or (replicate n false ++ drop n marks) x false ≡ false
@@ -83,18 +85,20 @@ or_all : (b : Bool) (P : Emm → Bool) (sections : List Emm) → All (λ other. 
 or_all true P sections same = refl
 or_all false P sections same = list_any_none P sections same
 
-otherwise_is : (says : Option Says) (sections : List Emm) (emm : Emm) → says ≡ said sections → SayAlike says sections →
-    is_said_otherwise says emm ≡ is_mixed sections emm
-otherwise_is says [] emm is alike = rw is refl
-otherwise_is says (first ∷ sections) emm is alike =
+otherwise_is : (header : Option PeriodHeader) (sections : List Emm) (emm : Emm) → header ≡ said sections → SayAlike
+    header sections →
+    is_said_otherwise header emm ≡ is_mixed sections emm
+otherwise_is header [] emm is alike = rw is refl
+otherwise_is header (first ∷ sections) emm is alike =
     rw is (sym (or_all (not (says_same first emm)) (λ (other : Emm). not (says_same other emm)) sections
     (λ k d h. same_test first (get_or sections k d) emm (sym is ∙ (alike (suc k) d (omega (arith, h))).0))))
 
 -- where the marks are cleared none is set
-cleared_by : (sections : List Emm) (says : Option Says) (marks : List Bool) (x : ℕ) → says ≡ said sections →
-    SayAlike says sections → get_or marks x false ≡ has_index x sections → get_or (cleared says marks) x false ≡ false
-cleared_by [] says marks x is alike same = rw is same
-cleared_by (emm ∷ sections) says marks x is alike same =
+cleared_by : (sections : List Emm) (header : Option PeriodHeader) (marks : List Bool) (x : ℕ) → header ≡ said sections →
+    SayAlike header sections → get_or marks x false ≡ has_index x sections → get_or (cleared header marks) x false ≡
+    false
+cleared_by [] header marks x is alike same = rw is same
+cleared_by (emm ∷ sections) header marks x is alike same =
     rw is (⊎_elim
     (λ (h : x < emm.sections). within_cleared emm.sections x marks h)
     (λ (h : emm.sections ≤ x). past_cleared emm.sections x marks h ∙ (same
@@ -106,11 +110,11 @@ cleared_by (emm ∷ sections) says marks x is alike same =
     (λ (e : (get_or (emm ∷ sections) k d).index ≡ x). absurd (omega (arith, e, h, other.1.0, count))))))
     (cases_lt x emm.sections))
 
-module _ (card : CardFields) (tr : List Heard) (state : Entitled) (is : IsEntitled card tr state) where
+module _ (card : CardFields) (tr : List Heard) (state : PeriodKeys) (is : IsEntitled card tr state) where
   -- all marks are set where all sections were seen
-  pub all_seen : length state.marks.items ≡ 65536 → all_marked state.says state.marks.items
+  pub all_seen : length state.marks.items ≡ 65536 → all_marked state.header state.marks.items
       ≡ is_all_seen tr (current tr)
-  all_seen long = all_by (seen (current tr) tr) state.says state.marks.items long is.says is.alike is.marks
+  all_seen long = all_by (seen (current tr) tr) state.header state.marks.items long is.header is.alike is.marks
 
   -- the first period without a key, and the first that is revoked, of all that were told of
   first_of_all : (P : ℕ → Bool) (test : Bool) (first : Option ℕ) → test ≡ P (current tr) →
@@ -126,12 +130,13 @@ module _ (card : CardFields) (tr : List Heard) (state : Entitled) (is : IsEntitl
 
   pub revoked_of_all : length state.marks.items ≡ 65536 →
       option_or state.revoked
-      (if (state.told && is_none state.key) && all_marked state.says state.marks.items then Some state.period else None)
+      (if (state.told && is_none state.key) && all_marked state.header state.marks.items then Some state.period else
+      None)
       ≡ find (is_told_revoked card tr) (periods_told tr)
   revoked_of_all long =
       ap (λ (b : Bool). option_or state.revoked (if b then Some state.period else None))
-      (and_assoc state.told (is_none state.key) (all_marked state.says state.marks.items))
-      ∙ first_of_all (is_told_revoked card tr) (is_none state.key && all_marked state.says state.marks.items)
+      (and_assoc state.told (is_none state.key) (all_marked state.header state.marks.items))
+      ∙ first_of_all (is_told_revoked card tr) (is_none state.key && all_marked state.header state.marks.items)
       state.revoked (rw (is.key, all_seen long) refl) is.revoked
 
   none_ahead : (q : ℕ) → current tr < q → key_at card tr q ≡ None
@@ -150,7 +155,7 @@ module _ (card : CardFields) (tr : List Heard) (state : Entitled) (is : IsEntitl
       (cases_lt (current tr) q)
 
   pub differs_is : (emm : Emm) → current tr ≤ emm.period →
-      (if state.period == emm.period then is_said_otherwise state.says emm else false)
+      (if state.period == emm.period then is_said_otherwise state.header emm else false)
       ≡ is_mixed (seen emm.period tr) emm
   differs_is emm h = ⊎_elim
       (λ (g : current tr < emm.period).
@@ -161,18 +166,18 @@ module _ (card : CardFields) (tr : List Heard) (state : Entitled) (is : IsEntitl
       (λ (g : emm.period ≤ current tr).
       let same : emm.period ≡ current tr = omega (arith, g, h) in
       let here : state.period ≡ emm.period = omega (arith, is.period, same) in
-      rw (eq-eqb state.period emm.period here) (otherwise_is state.says (seen (current tr) tr) emm is.says is.alike
+      rw (eq-eqb state.period emm.period here) (otherwise_is state.header (seen (current tr) tr) emm is.header is.alike
       ∙ ap (λ (q : ℕ). is_mixed (seen q tr) emm) (sym same)))
       (cases_lt (current tr) emm.period)
 
   -- the marks of the period's sections are all there are; so many marks are written back
-  pub all_cleared : (n : ℕ) (marks : List Bool) → marks ≡ cleared state.says state.marks.items → length marks ≡ n →
+  pub all_cleared : (n : ℕ) (marks : List Bool) → marks ≡ cleared state.header state.marks.items → length marks ≡ n →
       (x : ℕ) → x < 2 ^ 16 → get_or (take n (marks ++ drop (length marks) state.marks.items)) x false ≡ false
   all_cleared n marks written long x h =
       ap (λ (l : List Bool). get_or l x false)
       (take-append-le n marks (drop (length marks) state.marks.items) (omega (arith, long))
       ∙ (take_all n marks (omega (arith, long)) ∙ written))
-      ∙ cleared_by (seen (current tr) tr) state.says state.marks.items x is.says is.alike (is.marks x h)
+      ∙ cleared_by (seen (current tr) tr) state.header state.marks.items x is.header is.alike (is.marks x h)
 
 -- what a section comes to
 module _ (card : CardFields) (n : ℕ) (tr : List Heard) (emm : Emm) where
@@ -195,27 +200,27 @@ module _ (card : CardFields) (n : ℕ) (tr : List Heard) (emm : Emm) where
   unfolding takes_key
   takes_is h = rw (le-leb (current tr) emm.period h) refl
 
-module _ (card : CardFields) (n : ℕ) (tr : List Heard) (emm : Emm) (state : Entitled) (is : IsEntitled card tr state)
+module _ (card : CardFields) (n : ℕ) (tr : List Heard) (emm : Emm) (state : PeriodKeys) (is : IsEntitled card tr state)
     (h : current tr ≤ emm.period) where
   -- a section that says the same comes to what its key does
-  pub offers_kept : (if state.period == emm.period then is_said_otherwise state.says emm else false) ≡ false →
+  pub offers_kept : (if state.period == emm.period then is_said_otherwise state.header emm else false) ≡ false →
       key_if_none n emm (key_kept state emm.period) (key_from card emm) ≡ emm_offering card n tr emm
   offers_kept same =
       ap (λ (o : Option (List ℕ)). key_if_none n emm o (key_from card emm)) (kept_is card tr state is emm.period h)
       ∙ offering_is card n tr emm h (sym (differs_is card tr state is emm h) ∙ same)
 
-  pub good_offering : (if state.period == emm.period then is_said_otherwise state.says emm else false) ≡ false →
+  pub good_offering : (if state.period == emm.period then is_said_otherwise state.header emm else false) ≡ false →
       (key_if_none n emm (key_kept state emm.period) (key_from card emm)).fault ≡ None →
       (emm_offering card n tr emm).fault ≡ None
   good_offering same good = ap (λ (o : Offering). o.fault) (sym (offers_kept same)) ∙ good
 
-  pub bad_offering : (if state.period == emm.period then is_said_otherwise state.says emm else false) ≡ false →
+  pub bad_offering : (if state.period == emm.period then is_said_otherwise state.header emm else false) ≡ false →
       (fault : StreamFault) →
       (key_if_none n emm (key_kept state emm.period) (key_from card emm)).fault ≡ Some fault →
       (emm_offering card n tr emm).fault ≡ Some fault
   bad_offering same fault bad = ap (λ (o : Offering). o.fault) (sym (offers_kept same)) ∙ bad
 
-module _ (card : CardFields) (tr : List Heard) (emm : Emm) (state : Entitled) (is : IsEntitled card tr state)
+module _ (card : CardFields) (tr : List Heard) (emm : Emm) (state : PeriodKeys) (is : IsEntitled card tr state)
     (h : current tr ≤ emm.period) where
   -- steps are taken where it takes a key alone
   pub steps_within : (before after most : ℕ) →
@@ -247,7 +252,7 @@ known_offers n emm (Some key) found is = refl
 known_offers n emm None found is = absurd (false≢true is)
 
 -- the key that is kept of a period is known if the period is the current one
-pub known_period : (state : Entitled) (q : ℕ) → is_some (key_kept state q) ≡ true →
+pub known_period : (state : PeriodKeys) (q : ℕ) → is_some (key_kept state q) ≡ true →
     (state.period ≡ q) × (key_kept state q ≡ state.key)
 known_period state q known =
     let other : (¬ state.period ≡ q) → ⊥ =
@@ -293,9 +298,9 @@ some_key : (key : Option (List ℕ)) → is_some key ≡ true → key ≡ None �
 some_key None some none = false≢true some
 some_key (Some key) some none = cc
 
-module _ (card : CardFields) (n : ℕ) (tr : List Heard) (emm : Emm) (state : Entitled) (is : IsEntitled card tr state)
+module _ (card : CardFields) (n : ℕ) (tr : List Heard) (emm : Emm) (state : PeriodKeys) (is : IsEntitled card tr state)
     (h : current tr ≤ emm.period)
-    (same : (if state.period == emm.period then is_said_otherwise state.says emm else false) ≡ false) where
+    (same : (if state.period == emm.period then is_said_otherwise state.header emm else false) ≡ false) where
   -- so is one that says the same of a period whose key is known
   pub judged_known : (key : Option (List ℕ)) → is_some (key_kept state emm.period) ≡ true → IsJudged card n tr emm key
   judged_known key known = record {
@@ -326,10 +331,10 @@ module _ (card : CardFields) (n : ℕ) (tr : List Heard) (emm : Emm) (state : En
       (ap (λ (o : Option (List ℕ)). (key_if_none n emm o (key_from card emm)).fault) none ∙ bad)
 
 -- the key that a section gives, if that isn't wrong, is judged
-pub judged_key : (card : CardFields) (n : ℕ) (emm : Emm) (state : Entitled)
+pub judged_key : (card : CardFields) (n : ℕ) (emm : Emm) (state : PeriodKeys)
     (key : Option (List ℕ)) (result : Result (Unit {0}) StreamFault) →
     ((tr : List Heard) → IsEntitled card tr state → current tr ≤ emm.period) →
-    (if state.period == emm.period then is_said_otherwise state.says emm else false) ≡ false →
+    (if state.period == emm.period then is_said_otherwise state.header emm else false) ≡ false →
     key_kept state emm.period ≡ None → OnOk result (key ≡ key_from card emm) →
     HasFault result (key_offering n emm (key_from card emm)).fault →
     OnOk result ((tr : List Heard) → IsEntitled card tr state → IsJudged card n tr emm key)

@@ -22,10 +22,10 @@ use Rattle.sd_spec.specs.Stretches.{completes, messages, current, seen}
 use Rattle.sd_spec.specs.Keys.{key_in, key_at, key_from, first_key}
 use Rattle.sd_spec.specs.Offered.{says_same, is_mixed}
 use Rattle.sd_spec.specs.Ending.{periods_told, is_unkeyed, are_all}
-use Rattle.sd_receive.specs.declared.says.Says.{Says}
-use Rattle.sd_receive.specs.declared.entitled.Entitled.{Entitled}
-use Rattle.sd_receive.specs.Entitled.{says_in, said, SayAlike, has_index, is_told_revoked, told_below, is_in_turn}
-use Rattle.sd_receive.specs.Entitled.{IsStateAt, IsEntitled, tells_nothing}
+use Rattle.sd_receive.specs.declared.emm.header.PeriodHeader.{PeriodHeader}
+use Rattle.sd_receive.specs.declared.emm.PeriodKeys.{PeriodKeys}
+use Rattle.sd_receive.specs.PeriodKeys.{says_in, said, SayAlike, has_index, is_told_revoked, told_below, is_in_turn}
+use Rattle.sd_receive.specs.PeriodKeys.{IsStateAt, IsEntitled, tells_nothing}
 use Rattle.sd_receive.proofs.Periods.{past_stands, other_period, ahead_none, one_told, none_told, same_below}
 use Rattle.sd_receive.proofs.Periods.{told_before, not_told}
 
@@ -60,11 +60,11 @@ none_has P xs k d none h =
     (λ (is : P (get_or xs k d) ≡ false). is) (cases_Bool (P (get_or xs k d)))
 
 -- a section that isn't mixed says what those before it say
-alike_more : (says : Option Says) (sections : List Emm) (emm : Emm) → SayAlike says sections →
+alike_more : (header : Option PeriodHeader) (sections : List Emm) (emm : Emm) → SayAlike header sections →
     is_mixed sections emm ≡ false →
     emm.index < emm.sections → emm.sections < 2 ^ 16 → SayAlike (Some (says_in emm)) (emm ∷ sections)
-alike_more says sections emm alike same inside short zero d h = (refl, (inside, short))
-alike_more says sections emm alike same inside short (suc k) d h =
+alike_more header sections emm alike same inside short zero d h = (refl, (inside, short))
+alike_more header sections emm alike same inside short (suc k) d h =
     let other : Emm = get_or sections k d in
     let there : k < length sections = omega (arith, h) in
     let says_so : says_same other emm ≡ true = not-false (says_same other emm)
@@ -115,7 +115,7 @@ unfolding is_in_turn
 turn_kept heard tr none turn = rw (none, turn) refl
 
 -- what completes no message and leaves the sections up to the current period leaves what is kept
-stays : (card : CardFields) (heard : Heard) (tr : List Heard) (state : Entitled) → completes tr heard ≡ None →
+stays : (card : CardFields) (heard : Heard) (tr : List Heard) (state : PeriodKeys) → completes tr heard ≡ None →
     current (heard ∷ tr) ≡ current tr → ((p : ℕ) → p ≤ current tr → seen p (heard ∷ tr) ≡ seen p tr) →
     IsEntitled card tr state → IsEntitled card (heard ∷ tr) state
 stays card heard tr state none same sections is =
@@ -125,8 +125,8 @@ stays card heard tr state none same sections is =
     let past : (p : ℕ) → p < q → seen p (heard ∷ tr) ≡ seen p tr = λ p h. sections p (omega (arith, h)) in
     subst (λ (n : ℕ). IsStateAt card (heard ∷ tr) n state) (sym same) (record {
       period = is.period;
-      says = is.says ∙ ap said (sym here);
-      alike = subst (SayAlike state.says) (sym here) is.alike;
+      header = is.header ∙ ap said (sym here);
+      alike = subst (SayAlike state.header) (sym here) is.alike;
       marks = λ x h. is.marks x h ∙ ap (has_index x) (sym here);
       told = is.told ∙ ap (list_any (λ p. p == q)) (sym (none_told heard tr none));
       key = is.key ∙ ap (key_in card) (sym here);
@@ -140,7 +140,7 @@ untold : (part : EcmPart) (tr : List Heard) → completes tr (Controls part) ≡
 unfolding current
 untold part tr none = rw none (omega arith)
 
-pub nothing_told : (card : CardFields) (heard : Heard) (tr : List Heard) (state : Entitled) →
+pub nothing_told : (card : CardFields) (heard : Heard) (tr : List Heard) (state : PeriodKeys) →
     tells_nothing tr heard ≡ true →
     IsEntitled card tr state → IsEntitled card (heard ∷ tr) state
 unfolding seen current
@@ -170,20 +170,20 @@ past_seen : (emm : Emm) (tr : List Heard) (p : ℕ) → emm.period < current tr 
 past_seen emm tr p h = past_by emm tr p (emm.period == p) refl h
 
 -- a section of a past period leaves what is kept
-pub past_section : (card : CardFields) (emm : Emm) (tr : List Heard) (state : Entitled) → emm.period < current tr →
+pub past_section : (card : CardFields) (emm : Emm) (tr : List Heard) (state : PeriodKeys) → emm.period < current tr →
     IsEntitled card tr state → IsEntitled card (Entitles emm ∷ tr) state
 past_section card emm tr state h is =
     stays card (Entitles emm) tr state refl (past_at emm tr h) (λ p g. past_seen emm tr p h) is
 
 -- a section that counts is kept
-pub counted : (card : CardFields) (emm : Emm) (tr : List Heard) (s t : Entitled) → IsStateAt card tr emm.period s →
+pub counted : (card : CardFields) (emm : Emm) (tr : List Heard) (s t : PeriodKeys) → IsStateAt card tr emm.period s →
     current tr ≤ emm.period → is_mixed (seen emm.period tr) emm ≡ false → emm.index < emm.sections →
     emm.sections < 2 ^ 16 → length s.marks.items ≡ 65536 →
-    t.period ≡ s.period → t.says ≡ Some (says_in emm) → t.marks.items ≡ slice_set s.marks.items emm.index true →
+    t.period ≡ s.period → t.header ≡ Some (says_in emm) → t.marks.items ≡ slice_set s.marks.items emm.index true →
     t.told ≡ s.told → t.key ≡ first_key (key_at card tr emm.period) (key_from card emm) → t.revoked ≡ s.revoked →
     t.unkeyed ≡ s.unkeyed → IsEntitled card (Entitles emm ∷ tr) t
 unfolding key_in
-counted card emm tr s t is h same inside short long period says marks told key revoked unkeyed =
+counted card emm tr s t is h same inside short long period header marks told key revoked unkeyed =
     let q : ℕ = emm.period in
     let one : Heard = Entitles emm in
     let here : seen q (one ∷ tr) ≡ emm ∷ seen q tr = seen_more q emm tr refl h in
@@ -192,9 +192,10 @@ counted card emm tr s t is h same inside short long period says marks told key r
     λ p g. other_period p emm tr (ne_eqb q p (λ (e : q ≡ p). absurd (omega (arith, e, g)))) in
     subst (λ (n : ℕ). IsStateAt card (one ∷ tr) n t) (sym (now_at emm tr h)) (record {
       period = period ∙ is.period;
-      says = says ∙ ap said (sym here);
-      alike = subst (SayAlike t.says) (sym here) (subst (λ (w : Option Says). SayAlike w (emm ∷ seen q tr)) (sym says)
-          (alike_more s.says (seen q tr) emm is.alike same inside short));
+      header = header ∙ ap said (sym here);
+      alike = subst (SayAlike t.header) (sym here) (subst (λ (w : Option PeriodHeader). SayAlike w (emm ∷ seen q tr))
+          (sym header)
+          (alike_more s.header (seen q tr) emm is.alike same inside short));
       marks = λ x g. ap (λ (l : List Bool). get_or l x false) marks
           ∙ (marked s.marks.items (seen q tr) emm x (omega (arith, long, g)) (is.marks x g)
           ∙ ap (has_index x) (sym here));
@@ -235,19 +236,19 @@ unfolding is_in_turn
 turn_told heard tr message done h turn = rw (done, le-leb (current tr) message.period h, turn) refl
 
 -- a complete message of the period is kept
-pub message_told : (card : CardFields) (part : EcmPart) (message : Message) (tr : List Heard) (s t : Entitled) →
+pub message_told : (card : CardFields) (part : EcmPart) (message : Message) (tr : List Heard) (s t : PeriodKeys) →
     completes tr (Controls part) ≡ Some message → IsStateAt card tr message.period s → current tr ≤ message.period →
-    t.period ≡ s.period → t.says ≡ s.says → t.marks.items ≡ s.marks.items → t.told ≡ true → t.key ≡ s.key →
+    t.period ≡ s.period → t.header ≡ s.header → t.marks.items ≡ s.marks.items → t.told ≡ true → t.key ≡ s.key →
     t.revoked ≡ s.revoked → t.unkeyed ≡ s.unkeyed → IsEntitled card (Controls part ∷ tr) t
 unfolding seen
-message_told card part message tr s t done is h period says marks told key revoked unkeyed =
+message_told card part message tr s t done is h period header marks told key revoked unkeyed =
     let q : ℕ = message.period in
     let one : Heard = Controls part in
     let below : told_below q (one ∷ tr) ≡ told_below q tr = told_at one tr message done in
     subst (λ (n : ℕ). IsStateAt card (one ∷ tr) n t) (sym (now_told part tr message done h)) (record {
       period = period ∙ is.period;
-      says = says ∙ is.says;
-      alike = subst (λ (w : Option Says). SayAlike w (seen q tr)) (sym says) is.alike;
+      header = header ∙ is.header;
+      alike = subst (λ (w : Option PeriodHeader). SayAlike w (seen q tr)) (sym header) is.alike;
       marks = λ x g. ap (λ (l : List Bool). get_or l x false) marks ∙ is.marks x g;
       told = told ∙ sym (has_told one tr message done);
       key = key ∙ is.key;
@@ -258,19 +259,19 @@ message_told card part message tr s t done is h period says marks told key revok
 
 -- a later period begins: nothing of it was seen or told, and what the one before it came to is told of all periods
 -- so far
-pub moved : (card : CardFields) (q : ℕ) (tr : List Heard) (s t : Entitled) → IsEntitled card tr s → current tr < q →
-    t.period ≡ q → t.says ≡ None → ((x : ℕ) → x < 2 ^ 16 → get_or t.marks.items x false ≡ false) → t.told ≡ false →
+pub moved : (card : CardFields) (q : ℕ) (tr : List Heard) (s t : PeriodKeys) → IsEntitled card tr s → current tr < q →
+    t.period ≡ q → t.header ≡ None → ((x : ℕ) → x < 2 ^ 16 → get_or t.marks.items x false ≡ false) → t.told ≡ false →
     t.key ≡ None →
     t.revoked ≡ find (is_told_revoked card tr) (periods_told tr) →
     t.unkeyed ≡ find (is_unkeyed card tr) (periods_told tr) →
     IsStateAt card tr q t
 unfolding key_in
-moved card q tr s t is h period says marks told key revoked unkeyed =
+moved card q tr s t is h period header marks told key revoked unkeyed =
     let here : seen q tr ≡ [] = ahead_none q tr h in
     record {
       period = period;
-      says = says ∙ ap said (sym here);
-      alike = subst (SayAlike t.says) (sym here) (λ k d g. absurd (omega (arith, g)));
+      header = header ∙ ap said (sym here);
+      alike = subst (SayAlike t.header) (sym here) (λ k d g. absurd (omega (arith, g)));
       marks = λ x g. marks x g ∙ ap (has_index x) (sym here);
       told = told ∙ sym (not_told q tr h);
       key = key ∙ ap (key_in card) (sym here);
@@ -285,13 +286,13 @@ pub none_marked : (n : ℕ) (marks : List Bool) → marks ≡ replicate n false 
 none_marked n marks is x g = ap (λ (l : List Bool). get_or l x false) is ∙ unmarked n x
 
 -- before anything was heard nothing is kept
-pub first : (card : CardFields) (t : Entitled) → t.period ≡ 0 → t.says ≡ None →
+pub first : (card : CardFields) (t : PeriodKeys) → t.period ≡ 0 → t.header ≡ None →
     ((x : ℕ) → x < 2 ^ 16 → get_or t.marks.items x false ≡ false) → t.told ≡ false →
     t.key ≡ None → t.revoked ≡ None → t.unkeyed ≡ None → IsEntitled card [] t
 unfolding current seen key_in periods_told messages told_below is_in_turn
-first card t period says marks told key revoked unkeyed = record {
+first card t period header marks told key revoked unkeyed = record {
   period = period;
-  says = says;
+  header = header;
   alike = λ k d g. absurd (omega (arith, g));
   marks = marks;
   told = told;

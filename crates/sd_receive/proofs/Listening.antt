@@ -27,18 +27,18 @@ use Rattle.sd_spec.specs.Taken.{takes_key}
 use Rattle.sd_spec.specs.Offered.{Offering, no_offering, refuses, key_offering, key_if_none, is_mixed}
 use Rattle.sd_spec.specs.Offered.{emm_offering}
 use Rattle.sd_spec.specs.Offered.{heard_offering}
-use Rattle.sd_receive.specs.Entitled.{IsEntitled, IsJudged, HasFault}
-use Rattle.sd_receive.specs.declared.entitled.Entitled.{Entitled}
+use Rattle.sd_receive.specs.PeriodKeys.{IsEntitled, IsJudged, HasFault}
+use Rattle.sd_receive.specs.declared.emm.PeriodKeys.{PeriodKeys}
 use Rattle.sd_receive.proofs.Keeping.{nothing_told}
 use Rattle.sd_receive.proofs.Judging.{steps_of}
-use Rattle.sd_receive.specs.Collected.{IsCollected, IsWaiting, IsComplete, fault_of}
-use Rattle.sd_receive.specs.declared.collect.Collect.{Collect}
+use Rattle.sd_receive.specs.EcmAssembler.{IsCollected, IsWaiting, IsComplete, fault_of}
+use Rattle.sd_receive.specs.declared.ecm.EcmAssembler.{EcmAssembler}
 use Rattle.sd_receive.proofs.Collecting as Collecting
-use Rattle.sd_receive.specs.Holding.{Holding, held_more}
-use Rattle.sd_receive.specs.Listening.{IsListenerAfter, IsListenerAtMessage, CountsMore, PassesOffering}
-use Rattle.sd_receive.specs.Listening.{StopsAtOffering, TakesHeard, RefusesHeard, TookSome}
-use Rattle.sd_receive.specs.Listening.{IsStill, Judgement, PacketOutcome}
-use Rattle.sd_receive.specs.declared.listener.Listener.{Listener}
+use Rattle.sd_receive.specs.PacketBuffer.{Holding, held_more}
+use Rattle.sd_receive.specs.Session.{IsListenerAfter, IsListenerAtMessage, CountsMore, PassesOffering}
+use Rattle.sd_receive.specs.Session.{StopsAtOffering, TakesHeard, RefusesHeard, TookSome}
+use Rattle.sd_receive.specs.Session.{IsStill, Judgement, PacketOutcome}
+use Rattle.sd_receive.specs.declared.session.Session.{Session}
 use Rattle.sd_receive.proofs.Stretching.{stays_open}
 use Rattle.sd_receive.proofs.Holding.{nothing_held, held_same, held_other}
 use Rattle.sd_receive.proofs.Offering.{part_waits, part_refused}
@@ -71,38 +71,38 @@ pub took_nothing : (u : SinkState) (Says : List ℕ → Type 0) → Says [] → 
 took_nothing u Says says = record { bytes = []; says = says; took = took_none u }
 
 -- nothing is changed
-pub still : (card : CardFields) (s : Listener) → IsStill card s s
+pub still : (card : CardFields) (s : Session) → IsStill card s s
 still card s = record { follows = λ past follows. follows; written = refl }
 
 -- a packet that is dropped
-pub dropped_heard : (card : CardFields) (tuning : Tuning) (n : ℕ) (s : Listener) →
+pub dropped_heard : (card : CardFields) (tuning : Tuning) (n : ℕ) (s : Session) →
     (key : Option (List ℕ)) → TakesHeard true card tuning n Dropped key s s []
 dropped_heard card tuning n s key = λ past follows unclosed judged calm. (
   passes_none (heard_offering card tuning n past Dropped) s.written refl refl,
   record {
     closed = follows.closed ∙ (unclosed ∙ sym (stays_open past Dropped unclosed refl));
-    entitled = nothing_told card Dropped past s.entitled refl follows.entitled;
-    collect = Collecting.dropped past s.collect follows.collect;
-    segment = follows.segment ∙ sym (held_same card past Dropped refl refl);
+    keys = nothing_told card Dropped past s.keys refl follows.keys;
+    assembler = Collecting.dropped past s.assembler follows.assembler;
+    buffer = follows.buffer ∙ sym (held_same card past Dropped refl refl);
   },
 )
 
 -- any other packet
-pub other_heard : (card : CardFields) (tuning : Tuning) (n : ℕ) (packet : List ℕ) (s t : Listener) →
+pub other_heard : (card : CardFields) (tuning : Tuning) (n : ℕ) (packet : List ℕ) (s t : Session) →
     t.closed ≡ s.closed →
-    t.entitled ≡ s.entitled → t.collect ≡ s.collect → t.written ≡ s.written → t.segment ≡ held_more s.segment n packet →
+    t.keys ≡ s.keys → t.assembler ≡ s.assembler → t.written ≡ s.written → t.buffer ≡ held_more s.buffer n packet →
     (key : Option (List ℕ)) → TakesHeard true card tuning n (Other n packet) key s t []
-other_heard card tuning n packet s t closed entitled collect written segment key =
+other_heard card tuning n packet s t closed keys assembler written buffer key =
     λ past follows unclosed judged calm. (
       subst (λ (k : ℕ). PassesOffering (heard_offering card tuning n past (Other n packet)) s.written k []) (sym written)
           (passes_none (heard_offering card tuning n past (Other n packet)) s.written refl refl),
       record {
         closed = closed ∙ (follows.closed ∙ (unclosed ∙ sym (stays_open past (Other n packet) unclosed refl)));
-        entitled = subst (λ (e : Entitled). IsEntitled card (Other n packet ∷ past) e) (sym entitled)
-            (nothing_told card (Other n packet) past s.entitled refl follows.entitled);
-        collect = subst (λ (c : Collect). IsCollected (Other n packet ∷ past) c) (sym collect)
-            (Collecting.other past n packet s.collect follows.collect);
-        segment = segment ∙ (ap (λ (h : Option Holding). held_more h n packet) follows.segment ∙
+        keys = subst (λ (e : PeriodKeys). IsEntitled card (Other n packet ∷ past) e) (sym keys)
+            (nothing_told card (Other n packet) past s.keys refl follows.keys);
+        assembler = subst (λ (c : EcmAssembler). IsCollected (Other n packet ∷ past) c) (sym assembler)
+            (Collecting.other past n packet s.assembler follows.assembler);
+        buffer = buffer ∙ (ap (λ (h : Option Holding). held_more h n packet) follows.buffer ∙
             sym (held_other card past n packet));
       },
     )
@@ -141,7 +141,7 @@ refusal_is offering why wrote fault =
     ∙ ap (λ (f : Option StreamFault). record { wrote = []; fault = f }) fault
 
 -- what was found of a section after what was heard
-pub section_judged : (card : CardFields) (n : ℕ) (past : List Heard) (emm : Emm) (state : Entitled)
+pub section_judged : (card : CardFields) (n : ℕ) (past : List Heard) (emm : Emm) (state : PeriodKeys)
     (key : Option (List ℕ)) (result : Result (Unit {0}) StreamFault) → IsEntitled card past state →
     OnOk result ((tr : List Heard) → IsEntitled card tr state → IsJudged card n tr emm key) →
     ((tr : List Heard) → IsEntitled card tr state → HasFault result (emm_offering card n tr emm).fault) →
@@ -185,22 +185,22 @@ first_steps card emm before after most within same =
     (steps_of (key_from card emm) before after most within same)
 
 -- a section that is taken
-pub section_taken : (card : CardFields) (tuning : Tuning) (n : ℕ) (emm : Emm) (s t : Listener) → t.closed ≡ s.closed →
-    t.segment ≡ s.segment → t.collect ≡ s.collect → t.written ≡ s.written →
-    (key : Option (List ℕ)) → ((past : List Heard) → IsEntitled card past s.entitled →
-    IsJudged card n past emm key → IsEntitled card (Entitles emm ∷ past) t.entitled) →
+pub section_taken : (card : CardFields) (tuning : Tuning) (n : ℕ) (emm : Emm) (s t : Session) → t.closed ≡ s.closed →
+    t.buffer ≡ s.buffer → t.assembler ≡ s.assembler → t.written ≡ s.written →
+    (key : Option (List ℕ)) → ((past : List Heard) → IsEntitled card past s.keys →
+    IsJudged card n past emm key → IsEntitled card (Entitles emm ∷ past) t.keys) →
     TakesHeard true card tuning n (Entitles emm) key s t []
-section_taken card tuning n emm s t closed segment collect written key entitled =
+section_taken card tuning n emm s t closed buffer assembler written key keys =
     λ past follows unclosed judged calm. (
       subst (λ (k : ℕ). PassesOffering (heard_offering card tuning n past (Entitles emm)) s.written k []) (sym written)
           (passes_none (emm_offering card n past emm) s.written judged.fault
           (section_writes_none card n past emm)),
       record {
         closed = closed ∙ (follows.closed ∙ (unclosed ∙ sym (stays_open past (Entitles emm) unclosed refl)));
-        entitled = entitled past follows.entitled judged;
-        collect = subst (λ (c : Collect). IsCollected (Entitles emm ∷ past) c) (sym collect)
-            (Collecting.entitles past emm s.collect follows.collect);
-        segment = segment ∙ (follows.segment ∙ sym (held_same card past (Entitles emm) refl refl));
+        keys = keys past follows.keys judged;
+        assembler = subst (λ (c : EcmAssembler). IsCollected (Entitles emm ∷ past) c) (sym assembler)
+            (Collecting.entitles past emm s.assembler follows.assembler);
+        buffer = buffer ∙ (follows.buffer ∙ sym (held_same card past (Entitles emm) refl refl));
       },
     )
 
@@ -208,14 +208,14 @@ section_taken card tuning n emm s t closed segment collect written key entitled 
 none_is : {A : Type 0} (o : Option A) → o ≡ None → is_none o ≡ true
 none_is o none = ap is_none none
 
-pub part_waiting : (card : CardFields) (tuning : Tuning) (n : ℕ) (part : EcmPart) (s t : Listener) →
+pub part_waiting : (card : CardFields) (tuning : Tuning) (n : ℕ) (part : EcmPart) (s t : Session) →
     t.closed ≡ s.closed →
-    t.entitled ≡ s.entitled → t.segment ≡ s.segment → t.written ≡ s.written →
-    ((past : List Heard) → IsCollected past s.collect → current past ≡ s.entitled.period →
-    IsWaiting past part t.collect) →
+    t.keys ≡ s.keys → t.buffer ≡ s.buffer → t.written ≡ s.written →
+    ((past : List Heard) → IsCollected past s.assembler → current past ≡ s.keys.period →
+    IsWaiting past part t.assembler) →
     TakesHeard true card tuning n (Controls part) None s t []
-part_waiting card tuning n part s t closed entitled segment written waits = λ past follows unclosed judged calm.
-    let waiting = waits past follows.collect (sym follows.entitled.period) in
+part_waiting card tuning n part s t closed keys buffer written waits = λ past follows unclosed judged calm.
+    let waiting = waits past follows.assembler (sym follows.keys.period) in
     let offers = part_waits card tuning n past part waiting.fault waiting.incomplete in (
       subst (λ (k : ℕ). PassesOffering (heard_offering card tuning n past (Controls part)) s.written k []) (sym written)
           (passes_none (heard_offering card tuning n past (Controls part)) s.written
@@ -224,40 +224,40 @@ part_waiting card tuning n part s t closed entitled segment written waits = λ p
       record {
         closed = closed ∙ (follows.closed ∙ (unclosed ∙ sym (stays_open past (Controls part) unclosed
             waiting.incomplete)));
-        entitled = subst (λ (e : Entitled). IsEntitled card (Controls part ∷ past) e) (sym entitled)
-            (nothing_told card (Controls part) past s.entitled
-            (none_is (completes past (Controls part)) waiting.incomplete) follows.entitled);
-        collect = waiting.after;
-        segment = segment ∙ (follows.segment ∙ sym (held_same card past (Controls part) waiting.incomplete refl));
+        keys = subst (λ (e : PeriodKeys). IsEntitled card (Controls part ∷ past) e) (sym keys)
+            (nothing_told card (Controls part) past s.keys
+            (none_is (completes past (Controls part)) waiting.incomplete) follows.keys);
+        assembler = waiting.after;
+        buffer = buffer ∙ (follows.buffer ∙ sym (held_same card past (Controls part) waiting.incomplete refl));
       },
     )
 
-pub part_bad : (strict : Bool) (card : CardFields) (tuning : Tuning) (n : ℕ) (part : EcmPart) (s : Listener)
+pub part_bad : (strict : Bool) (card : CardFields) (tuning : Tuning) (n : ℕ) (part : EcmPart) (s : Session)
     (fault : EcmFault) →
-    ((past : List Heard) → IsCollected past s.collect → current past ≡ s.entitled.period →
+    ((past : List Heard) → IsCollected past s.assembler → current past ≡ s.keys.period →
     fault_of past part ≡ Some fault) →
     RefusesHeard strict card tuning n (Controls part) s (Fault.BadEcm n fault) []
 part_bad strict card tuning n part s fault bad = λ past follows unclosed calm.
-    let offers = part_refused card tuning n past part fault (bad past follows.collect (sym follows.entitled.period)) in
+    let offers = part_refused card tuning n past part fault (bad past follows.assembler (sym follows.keys.period)) in
     stops_none strict (heard_offering card tuning n past (Controls part)) (Fault.BadEcm n fault)
     (ap (λ (o : Offering). o.fault) offers)
     (ap (λ (o : Offering). o.wrote) offers)
 
 -- faulty sections and parts
-pub bad_section : (strict : Bool) (card : CardFields) (tuning : Tuning) (n : ℕ) (fault : EmmFault) (s : Listener) →
+pub bad_section : (strict : Bool) (card : CardFields) (tuning : Tuning) (n : ℕ) (fault : EmmFault) (s : Session) →
     RefusesHeard strict card tuning n (BadEmm fault) s (Fault.BadEmm n fault) []
 bad_section strict card tuning n fault s = λ past follows unclosed calm.
     stops_none strict (refuses (Fault.BadEmm n fault)) (Fault.BadEmm n fault) refl refl
 
-pub bad_part : (strict : Bool) (card : CardFields) (tuning : Tuning) (n : ℕ) (fault : EcmFault) (s : Listener) →
+pub bad_part : (strict : Bool) (card : CardFields) (tuning : Tuning) (n : ℕ) (fault : EcmFault) (s : Session) →
     RefusesHeard strict card tuning n (BadEcm fault) s (Fault.BadEcm n fault) []
 bad_part strict card tuning n fault s = λ past follows unclosed calm.
     stops_none strict (refuses (Fault.BadEcm n fault)) (Fault.BadEcm n fault) refl refl
 
 -- what more is said of what comes
-pub comes_weaker : (T S : Listener → List ℕ → Type 0) (R Q : StreamFault → List ℕ → Type 0) (C D : List ℕ → Type 0)
-    (u v : SinkState) (t : Listener)
-    (result : Result (Unit {0}) (StageFault StreamFault)) → ((x : Listener) (bytes : List ℕ) → T x bytes → S x bytes) →
+pub comes_weaker : (T S : Session → List ℕ → Type 0) (R Q : StreamFault → List ℕ → Type 0) (C D : List ℕ → Type 0)
+    (u v : SinkState) (t : Session)
+    (result : Result (Unit {0}) (StageFault StreamFault)) → ((x : Session) (bytes : List ℕ) → T x bytes → S x bytes) →
     ((fault : StreamFault) (bytes : List ℕ) → R fault bytes → Q fault bytes) →
     ((bytes : List ℕ) → C bytes → D bytes) → PacketOutcome T R C u v t result → PacketOutcome S Q D u v t result
 comes_weaker T S R Q C D u v t (Ok done) takes refuses cuts comes =
@@ -274,39 +274,39 @@ comes_weaker T S R Q C D u v t (Err Write) takes refuses cuts comes = record {
 }
 
 -- what is kept of control messages is of what was heard still
-pub part_left : (card : CardFields) (past : List Heard) (s t : Listener) → t.closed ≡ s.closed →
-    t.entitled ≡ s.entitled → t.segment ≡ s.segment → IsCollected past t.collect → IsListenerAfter card past s →
+pub part_left : (card : CardFields) (past : List Heard) (s t : Session) → t.closed ≡ s.closed →
+    t.keys ≡ s.keys → t.buffer ≡ s.buffer → IsCollected past t.assembler → IsListenerAfter card past s →
     IsListenerAfter card past t
-part_left card past s t closed entitled segment collects follows = record {
+part_left card past s t closed keys buffer collects follows = record {
   closed = closed ∙ follows.closed;
-  entitled = subst (λ (e : Entitled). IsEntitled card past e) (sym entitled) follows.entitled;
-  collect = collects;
-  segment = segment ∙ follows.segment;
+  keys = subst (λ (e : PeriodKeys). IsEntitled card past e) (sym keys) follows.keys;
+  assembler = collects;
+  buffer = buffer ∙ follows.buffer;
 }
 
 -- a part that completes a message is taken as the message is
-pub message_heard : (card : CardFields) (tuning : Tuning) (n : ℕ) (part : EcmPart) (head : EcmHead) (s t : Listener) →
-    t.closed ≡ s.closed → t.entitled ≡ s.entitled → t.segment ≡ s.segment →
-    ((past : List Heard) → IsCollected past s.collect → current past ≡ s.entitled.period →
-    IsComplete past part head t.collect) →
+pub message_heard : (card : CardFields) (tuning : Tuning) (n : ℕ) (part : EcmPart) (head : EcmHead) (s t : Session) →
+    t.closed ≡ s.closed → t.keys ≡ s.keys → t.buffer ≡ s.buffer →
+    ((past : List Heard) → IsCollected past s.assembler → current past ≡ s.keys.period →
+    IsComplete past part head t.assembler) →
     (past : List Heard) → IsListenerAfter card past s → is_closed past ≡ false →
     IsListenerAtMessage card past part head t
-message_heard card tuning n part head s t closed entitled segment complete = λ past follows unclosed.
-    let done = complete past follows.collect (sym follows.entitled.period) in
+message_heard card tuning n part head s t closed keys buffer complete = λ past follows unclosed.
+    let done = complete past follows.assembler (sym follows.keys.period) in
     record {
       unclosed = unclosed;
-      follows = part_left card past s t closed entitled segment done.before follows;
-      collect = done;
+      follows = part_left card past s t closed keys buffer done.before follows;
+      assembler = done;
     }
 
 -- nothing was heard
-pub follows_none : (card : CardFields) (t : Listener) → t.closed ≡ false → IsEntitled card [] t.entitled →
-    IsCollected [] t.collect →
-    t.segment ≡ None → IsListenerAfter card [] t
+pub follows_none : (card : CardFields) (t : Session) → t.closed ≡ false → IsEntitled card [] t.keys →
+    IsCollected [] t.assembler →
+    t.buffer ≡ None → IsListenerAfter card [] t
 unfolding is_closed
-follows_none card t closed entitled collect segment = record {
+follows_none card t closed keys assembler buffer = record {
   closed = closed;
-  entitled = entitled;
-  collect = collect;
-  segment = segment ∙ sym (nothing_held card);
+  keys = keys;
+  assembler = assembler;
+  buffer = buffer ∙ sym (nothing_held card);
 }

@@ -19,52 +19,53 @@ use Rattle.sd_spec.specs.Stretches.{newest}
 use Rattle.sd_spec.specs.Keys.{key_at}
 use Rattle.sd_spec.specs.Confirmed.{Wrote}
 use Rattle.sd_spec.specs.Offered.{Offering, word_fault, wrote_or, heard_offering}
-use Rattle.sd_receive.specs.Entitled.{IsEntitled, key_kept}
-use Rattle.sd_receive.specs.Collected.{IsCollected}
-use Rattle.sd_receive.specs.Holding.{Holding, after_message}
-use Rattle.sd_receive.specs.Held.{word_under, holding_after, pair_wrote}
-use Rattle.sd_receive.specs.Listening.{IsListenerAfter, IsListenerAtMessage, capped, CountsMore, PassesOffering}
-use Rattle.sd_receive.specs.Listening.{TookSome, StopsAtOffering, TakesMessage}
-use Rattle.sd_receive.specs.Listening.{RefusesMessage, CutsMessage}
-use Rattle.sd_receive.specs.declared.listener.Listener.{Listener}
+use Rattle.sd_receive.specs.PeriodKeys.{IsEntitled, key_kept}
+use Rattle.sd_receive.specs.EcmAssembler.{IsCollected}
+use Rattle.sd_receive.specs.PacketBuffer.{Holding, after_message}
+use Rattle.sd_receive.specs.Buffered.{word_under, holding_after, pair_wrote}
+use Rattle.sd_receive.specs.Session.{IsListenerAfter, IsListenerAtMessage, capped, CountsMore, PassesOffering}
+use Rattle.sd_receive.specs.Session.{TookSome, StopsAtOffering, TakesMessage}
+use Rattle.sd_receive.specs.Session.{RefusesMessage, CutsMessage}
+use Rattle.sd_receive.specs.declared.session.Session.{Session}
 use Rattle.sd_receive.proofs.Stretching.{closes}
 use Rattle.sd_receive.proofs.Judging.{kept_is}
 use Rattle.sd_receive.proofs.Holding.{held_begun, wrote_is}
 use Rattle.sd_receive.proofs.Offering.{part_completes, not_past}
 
 -- the message is of no past period
-pub in_turn : (card : CardFields) (past : List Heard) (part : EcmPart) (head : EcmHead) (state : Listener) →
-    IsListenerAtMessage card past part head state → state.entitled.period ≤ head.period
+pub in_turn : (card : CardFields) (past : List Heard) (part : EcmPart) (head : EcmHead) (state : Session) →
+    IsListenerAtMessage card past part head state → state.keys.period ≤ head.period
 in_turn card past part head state done =
-    let now = not_past past part (message_of head state.collect.coming.places.items) done.collect.fault
-    done.collect.complete in
-    omega (arith, now, done.follows.entitled.period)
+    let now = not_past past part (message_of head state.assembler.coming.places.items) done.assembler.fault
+    done.assembler.complete in
+    omega (arith, now, done.follows.keys.period)
 
 -- the key that is known is that of the message's period
-pub key_ahead : (card : CardFields) (past : List Heard) (part : EcmPart) (head : EcmHead) (state : Listener) →
-    IsListenerAtMessage card past part head state → key_kept state.entitled head.period ≡ key_at card past head.period
+pub key_ahead : (card : CardFields) (past : List Heard) (part : EcmPart) (head : EcmHead) (state : Session) →
+    IsListenerAtMessage card past part head state → key_kept state.keys head.period ≡ key_at card past head.period
 key_ahead card past part head state done =
-    kept_is card past state.entitled done.follows.entitled head.period
-    (not_past past part (message_of head state.collect.coming.places.items) done.collect.fault done.collect.complete)
+    kept_is card past state.keys done.follows.keys head.period
+    (not_past past part (message_of head state.assembler.coming.places.items) done.assembler.fault
+    done.assembler.complete)
 
 -- what the part offers, by what is kept
 pub offering_is : (card : CardFields) (tuning : Tuning) (n : ℕ) (past : List Heard) (part : EcmPart) (head : EcmHead)
-    (state : Listener) →
+    (state : Session) →
     IsListenerAtMessage card past part head state → heard_offering card tuning n past (Controls part)
-    ≡ wrote_or (pair_wrote state.collect.last state.segment head.since card.ca tuning.ecm
-    state.collect.coming.places.items)
-    (word_fault n (message_of head state.collect.coming.places.items) (key_at card past head.period))
+    ≡ wrote_or (pair_wrote state.assembler.last state.buffer head.since card.ca tuning.ecm
+    state.assembler.coming.places.items)
+    (word_fault n (message_of head state.assembler.coming.places.items) (key_at card past head.period))
 unfolding holding_after
 offering_is card tuning n past part head state done =
-    let message = message_of head state.collect.coming.places.items in
+    let message = message_of head state.assembler.coming.places.items in
     let fault = word_fault n message (key_at card past head.period) in
-    part_completes card tuning n past part message done.collect.fault done.collect.complete
+    part_completes card tuning n past part message done.assembler.fault done.assembler.complete
     ∙ ap (λ (w : Wrote). wrote_or w fault)
-    (wrote_is card tuning (newest past) state.collect.last state.collect.places.items message
-    done.follows.collect.last.says
-    ∙ ap (λ (held : Option Holding). pair_wrote state.collect.last held head.since card.ca tuning.ecm
-    state.collect.coming.places.items)
-    (sym done.follows.segment))
+    (wrote_is card tuning (newest past) state.assembler.last state.assembler.places.items message
+    done.follows.assembler.last.says
+    ∙ ap (λ (held : Option Holding). pair_wrote state.assembler.last held head.since card.ca tuning.ecm
+    state.assembler.coming.places.items)
+    (sym done.follows.buffer))
 
 -- what the message offers where a held packet is refused, where its word is, and where nothing is
 pub refuses_parity : (offering : Offering) (wrote : Wrote) (fault : Option StreamFault) (k : ℕ) (bytes : List ℕ) →
@@ -102,64 +103,65 @@ pub added_counts : (before more total : ℕ) → before ≡ capped total → wit
 added_counts before more total h = omega (arith, h)
 
 -- what is kept after the message
-pub renewed : (card : CardFields) (past : List Heard) (part : EcmPart) (head : EcmHead) (s t : Listener)
+pub renewed : (card : CardFields) (past : List Heard) (part : EcmPart) (head : EcmHead) (s t : Session)
     (key : Option (List ℕ)) →
-    IsListenerAtMessage card past part head s → IsEntitled card (Controls part ∷ past) t.entitled →
-    IsCollected (Controls part ∷ past) t.collect →
+    IsListenerAtMessage card past part head s → IsEntitled card (Controls part ∷ past) t.keys →
+    IsCollected (Controls part ∷ past) t.assembler →
     key ≡ key_at card past head.period →
-    t.segment ≡ option_map (λ w. after_message (message_of head s.collect.coming.places.items) w [])
-    (word_under (message_of head s.collect.coming.places.items) key) →
+    t.buffer ≡ option_map (λ w. after_message (message_of head s.assembler.coming.places.items) w [])
+    (word_under (message_of head s.assembler.coming.places.items) key) →
     t.closed ≡ head.closing → IsListenerAfter card (Controls part ∷ past) t
-renewed card past part head s t key done entitled collects is segment closed =
-    let message = message_of head s.collect.coming.places.items in
+renewed card past part head s t key done keys collects is buffer closed =
+    let message = message_of head s.assembler.coming.places.items in
     record {
-      closed = closed ∙ sym (closes past (Controls part) message done.unclosed done.collect.complete);
-      entitled = entitled;
-      collect = collects;
-      segment = segment
+      closed = closed ∙ sym (closes past (Controls part) message done.unclosed done.assembler.complete);
+      keys = keys;
+      assembler = collects;
+      buffer = buffer
           ∙ (ap (λ (k : Option (List ℕ)). option_map (λ (w : List ℕ). after_message message w [])
           (word_under message k)) is
-          ∙ sym (held_begun card past (Controls part) message done.collect.complete));
+          ∙ sym (held_begun card past (Controls part) message done.assembler.complete));
     }
 
--- the same listener with another count of what was written
-unfoldable pub counting : Listener → ℕ → Listener
+-- the same session with another count of what was written
+unfoldable pub counting : Session → ℕ → Session
 counting t n = record {
   closed = t.closed;
-  entitled = t.entitled;
-  collect = t.collect;
-  segment = t.segment;
+  keys = t.keys;
+  assembler = t.assembler;
+  buffer = t.buffer;
   written =
       n;
 }
 
-counting_is : (t : Listener) (n : ℕ) → (counting t n).written ≡ n
+counting_is : (t : Session) (n : ℕ) → (counting t n).written ≡ n
 unfolding counting
 counting_is t n = refl
 
-counted_follows : (card : CardFields) (past : List Heard) (t : Listener) (n : ℕ) → IsListenerAfter card past t →
+counted_follows : (card : CardFields) (past : List Heard) (t : Session) (n : ℕ) → IsListenerAfter card past t →
     IsListenerAfter card past (counting t n)
 unfolding counting
 counted_follows card past t n follows = record {
   closed = follows.closed;
-  entitled = follows.entitled;
-  collect = follows.collect;
-  segment = follows.segment;
+  keys = follows.keys;
+  assembler = follows.assembler;
+  buffer = follows.buffer;
 }
 
 -- what the word's test told of the message, and what is kept then
-abbrev pub Begins : CardFields → ℕ → EcmHead → Listener → Listener → Result (Unit {0}) StreamFault → Type 0
+abbrev pub Begins : CardFields → ℕ → EcmHead → Session → Session → Result (Unit {0}) StreamFault → Type 0
 Begins card n head s t result = (past : List Heard) (part : EcmPart) → IsListenerAtMessage card past part head s →
     MatchResult result
-    (λ _. (word_fault n (message_of head s.collect.coming.places.items) (key_at card past head.period) ≡ None)
+    (λ _. (word_fault n (message_of head s.assembler.coming.places.items) (key_at card past head.period) ≡ None)
     × IsListenerAfter card (Controls part ∷ past) t)
-    (λ fault. word_fault n (message_of head s.collect.coming.places.items) (key_at card past head.period) ≡ Some fault)
+    (λ fault. word_fault n (message_of head s.assembler.coming.places.items) (key_at card past head.period) ≡ Some
+    fault)
 
 -- all bytes that the message may write are of what it comes to
-allowed : (card : CardFields) (tuning : Tuning) (n : ℕ) (head : EcmHead) (s t : Listener) (wrote : Wrote)
+allowed : (card : CardFields) (tuning : Tuning) (n : ℕ) (head : EcmHead) (s t : Session) (wrote : Wrote)
     (refused : Option ℕ)
     (result : Result (Unit {0}) StreamFault) (bytes : List ℕ) →
-    wrote ≡ pair_wrote s.collect.last s.segment head.since card.ca tuning.ecm s.collect.coming.places.items →
+    wrote ≡ pair_wrote s.assembler.last s.buffer head.since card.ca tuning.ecm s.assembler.coming.places.items →
     wrote.refused ≡ refused →
     Begins card n head s t result → bytes ≡ concat wrote.packets →
     CutsMessage true card tuning n head s bytes
@@ -169,9 +171,9 @@ allowed card tuning n head s t wrote (Some k) result bytes is told begins writte
       Fault.Parity k,
       λ past part done calm.
           refuses_parity (heard_offering card tuning n past (Controls part)) wrote
-          (word_fault n (message_of head s.collect.coming.places.items) (key_at card past head.period)) k bytes
+          (word_fault n (message_of head s.assembler.coming.places.items) (key_at card past head.period)) k bytes
           (offering_is card tuning n past part head s done
-          ∙ ap (λ (w : Wrote). wrote_or w (word_fault n (message_of head s.collect.coming.places.items)
+          ∙ ap (λ (w : Wrote). wrote_or w (word_fault n (message_of head s.assembler.coming.places.items)
           (key_at card past head.period))) (sym is))
           told written,
     )
@@ -181,9 +183,9 @@ allowed card tuning n head s t wrote None (Err fault) bytes is told begins writt
       fault,
       λ past part done calm.
           refuses_word (heard_offering card tuning n past (Controls part)) wrote
-          (word_fault n (message_of head s.collect.coming.places.items) (key_at card past head.period)) fault bytes
+          (word_fault n (message_of head s.assembler.coming.places.items) (key_at card past head.period)) fault bytes
           (offering_is card tuning n past part head s done
-          ∙ ap (λ (w : Wrote). wrote_or w (word_fault n (message_of head s.collect.coming.places.items)
+          ∙ ap (λ (w : Wrote). wrote_or w (word_fault n (message_of head s.assembler.coming.places.items)
           (key_at card past head.period))) (sym is))
           told (begins past part done) written,
     )
@@ -192,10 +194,10 @@ allowed card tuning n head s t wrote None (Ok done) bytes is told begins written
       counting t (with_added s.written (length wrote.packets)),
       λ past part completes calm. (
         passes_all (heard_offering card tuning n past (Controls part)) wrote
-            (word_fault n (message_of head s.collect.coming.places.items) (key_at card past head.period)) s.written
+            (word_fault n (message_of head s.assembler.coming.places.items) (key_at card past head.period)) s.written
             (counting t (with_added s.written (length wrote.packets))).written bytes
             (offering_is card tuning n past part head s completes
-            ∙ ap (λ (w : Wrote). wrote_or w (word_fault n (message_of head s.collect.coming.places.items)
+            ∙ ap (λ (w : Wrote). wrote_or w (word_fault n (message_of head s.assembler.coming.places.items)
             (key_at card past head.period))) (sym is))
             told (begins past part completes).0 written
             (λ total h. counting_is t (with_added s.written (length wrote.packets)) ∙
@@ -206,9 +208,9 @@ allowed card tuning n head s t wrote None (Ok done) bytes is told begins written
     )
 
 -- a write that failed amid them
-pub cut_message : (card : CardFields) (tuning : Tuning) (n : ℕ) (head : EcmHead) (s t : Listener) (wrote : Wrote)
+pub cut_message : (card : CardFields) (tuning : Tuning) (n : ℕ) (head : EcmHead) (s t : Session) (wrote : Wrote)
     (result : Result (Unit {0}) StreamFault) (u v : SinkState) →
-    wrote ≡ pair_wrote s.collect.last s.segment head.since card.ca tuning.ecm s.collect.coming.places.items →
+    wrote ≡ pair_wrote s.assembler.last s.buffer head.since card.ca tuning.ecm s.assembler.coming.places.items →
     Begins card n head s t result → IsCutShort u v (λ bytes. bytes ≡ concat wrote.packets) →
     IsCutShort u v (CutsMessage true card tuning n head s)
 cut_message card tuning n head s t wrote result u v is begins cut = record {
@@ -221,46 +223,46 @@ cut_message card tuning n head s t wrote result u v is begins cut = record {
 }
 
 -- what the message comes to where a held packet is refused, where its word is, and where nothing is
-pub parity_message : (card : CardFields) (tuning : Tuning) (n : ℕ) (head : EcmHead) (s : Listener) (wrote : Wrote)
+pub parity_message : (card : CardFields) (tuning : Tuning) (n : ℕ) (head : EcmHead) (s : Session) (wrote : Wrote)
     (k : ℕ) (u v : SinkState) →
-    wrote ≡ pair_wrote s.collect.last s.segment head.since card.ca tuning.ecm s.collect.coming.places.items →
+    wrote ≡ pair_wrote s.assembler.last s.buffer head.since card.ca tuning.ecm s.assembler.coming.places.items →
     (wrote.refused ≡ Some k) × TookBytes u v (concat wrote.packets) →
     TookSome u v (RefusesMessage true card tuning n head s (Fault.Parity k))
 parity_message card tuning n head s wrote k u v is told = record {
   bytes = concat wrote.packets;
   says = λ past part done calm.
       refuses_parity (heard_offering card tuning n past (Controls part)) wrote
-      (word_fault n (message_of head s.collect.coming.places.items) (key_at card past head.period)) k
+      (word_fault n (message_of head s.assembler.coming.places.items) (key_at card past head.period)) k
       (concat wrote.packets)
       (offering_is card tuning n past part head s done
-      ∙ ap (λ (w : Wrote). wrote_or w (word_fault n (message_of head s.collect.coming.places.items)
+      ∙ ap (λ (w : Wrote). wrote_or w (word_fault n (message_of head s.assembler.coming.places.items)
       (key_at card past head.period))) (sym is))
       told.0 refl;
   took = told.1;
 }
 
-pub word_message : (card : CardFields) (tuning : Tuning) (n : ℕ) (head : EcmHead) (s t : Listener) (wrote : Wrote)
+pub word_message : (card : CardFields) (tuning : Tuning) (n : ℕ) (head : EcmHead) (s t : Session) (wrote : Wrote)
     (fault : StreamFault)
     (count : ℕ) (u v : SinkState) →
-    wrote ≡ pair_wrote s.collect.last s.segment head.since card.ca tuning.ecm s.collect.coming.places.items →
+    wrote ≡ pair_wrote s.assembler.last s.buffer head.since card.ca tuning.ecm s.assembler.coming.places.items →
     (wrote.refused ≡ None) × (count ≡ length wrote.packets) × TookBytes u v (concat wrote.packets) →
     Begins card n head s t (Err fault) → TookSome u v (RefusesMessage true card tuning n head s fault)
 word_message card tuning n head s t wrote fault count u v is told begins = record {
   bytes = concat wrote.packets;
   says = λ past part done calm.
       refuses_word (heard_offering card tuning n past (Controls part)) wrote
-      (word_fault n (message_of head s.collect.coming.places.items) (key_at card past head.period)) fault
+      (word_fault n (message_of head s.assembler.coming.places.items) (key_at card past head.period)) fault
       (concat wrote.packets)
       (offering_is card tuning n past part head s done
-      ∙ ap (λ (w : Wrote). wrote_or w (word_fault n (message_of head s.collect.coming.places.items)
+      ∙ ap (λ (w : Wrote). wrote_or w (word_fault n (message_of head s.assembler.coming.places.items)
       (key_at card past head.period))) (sym is))
       told.0 (begins past part done) refl;
   took = told.2;
 }
 
-pub taken_message : (card : CardFields) (tuning : Tuning) (n : ℕ) (head : EcmHead) (s t x : Listener) (wrote : Wrote)
+pub taken_message : (card : CardFields) (tuning : Tuning) (n : ℕ) (head : EcmHead) (s t x : Session) (wrote : Wrote)
     (count : ℕ) (u v : SinkState) →
-    wrote ≡ pair_wrote s.collect.last s.segment head.since card.ca tuning.ecm s.collect.coming.places.items →
+    wrote ≡ pair_wrote s.assembler.last s.buffer head.since card.ca tuning.ecm s.assembler.coming.places.items →
     (wrote.refused ≡ None) × (count ≡ length wrote.packets) × TookBytes u v (concat wrote.packets) →
     Begins card n head s t (Ok tt) → x ≡ counting t (with_added s.written count) →
     TookSome u v (TakesMessage true card tuning n head s x)
@@ -268,15 +270,15 @@ taken_message card tuning n head s t x wrote count u v is told begins same = rec
   bytes = concat wrote.packets;
   says = λ past part done calm. (
     passes_all (heard_offering card tuning n past (Controls part)) wrote
-        (word_fault n (message_of head s.collect.coming.places.items) (key_at card past head.period)) s.written
+        (word_fault n (message_of head s.assembler.coming.places.items) (key_at card past head.period)) s.written
         x.written (concat wrote.packets)
         (offering_is card tuning n past part head s done
-        ∙ ap (λ (w : Wrote). wrote_or w (word_fault n (message_of head s.collect.coming.places.items)
+        ∙ ap (λ (w : Wrote). wrote_or w (word_fault n (message_of head s.assembler.coming.places.items)
         (key_at card past head.period))) (sym is))
         told.0 (begins past part done).0 refl
-        (λ total h. ap (λ (l : Listener). l.written) same ∙ (counting_is t (with_added s.written count)
+        (λ total h. ap (λ (l : Session). l.written) same ∙ (counting_is t (with_added s.written count)
         ∙ (ap (λ (k : ℕ). with_added s.written k) told.1 ∙ added_counts s.written (length wrote.packets) total h))),
-    subst (λ (l : Listener). IsListenerAfter card (Controls part ∷ past) l) (sym same)
+    subst (λ (l : Session). IsListenerAfter card (Controls part ∷ past) l) (sym same)
         (counted_follows card (Controls part ∷ past) t (with_added s.written count) (begins past part done).1),
   );
   took = told.2;

@@ -16,7 +16,7 @@ use Rattle.sd_spec.specs.Keys.{key_at}
 use Rattle.sd_spec.specs.Offered.{Offering, no_offering, refuses, part_fault, is_before, is_back}
 use Rattle.sd_spec.specs.Offered.{part_offering}
 use Rattle.sd_spec.specs.Offered.{message_offering, stretch_wrote, word_fault, wrote_or, heard_offering}
-use Rattle.sd_receive.specs.Collected.{back_fault, fault_of}
+use Rattle.sd_receive.specs.EcmAssembler.{back_fault, fault_of}
 
 -- a message that goes back
 back_of : (back : Bool) (fault : EcmFault) (n : ℕ) (next : Offering) → (if back then Some Back else None) ≡ Some fault →

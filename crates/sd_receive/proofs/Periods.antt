@@ -13,7 +13,7 @@ use Rattle.sd_message.specs.EcmParts.{Message}
 use Rattle.sd_spec.specs.Heard.{Heard, Dropped, Entitles, Controls, BadEmm, BadEcm, Other}
 use Rattle.sd_spec.specs.Stretches.{completes, messages, current, seen}
 use Rattle.sd_spec.specs.Ending.{periods_told}
-use Rattle.sd_receive.specs.Entitled.{told_below, is_in_turn}
+use Rattle.sd_receive.specs.PeriodKeys.{told_below, is_in_turn}
 
 -- the sections seen of a past period stay
 pub past_stands : (q : ℕ) (heard : Heard) (tr : List Heard) → q < current tr → seen q (heard ∷ tr) ≡ seen q tr

@@ -7,7 +7,7 @@ use Rattle.std.proofs.lemmas.Bool.{cases_eq}
 use Rattle.std.proofs.lemmas.List.{get_or-replicate, get_or-set_same, get_or-set_other}
 use Rattle.std.proofs.lemmas.Nat.Bits.{bit_at-zero, bit_at_set_same, bit_at_set_other, bit_at_clear_same}
 use Rattle.std.proofs.lemmas.Nat.Bits.{bit_at_clear_other}
-use Rattle.sd_receive.specs.Pids.{has_bit}
+use Rattle.sd_receive.specs.PidSet.{has_bit}
 
 -- no bit is set
 pub has_none : (pid : ℕ) → pid < 8192 → has_bit (replicate 128 0) pid ≡ false

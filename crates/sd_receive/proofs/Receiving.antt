@@ -40,20 +40,20 @@ use Rattle.sd_spec.specs.Offered.{part_offering, part_fault, message_offering, i
 use Rattle.sd_spec.proofs.Hearing.{no_fault_in_none}
 use Rattle.sd_spec.specs.Ending.{run_ending, joined, turns_at, run_wrote, ended_before}
 use Rattle.sd_spec.proofs.Runs.{same_run, new_run, never_turns, ended_on, ended_now}
-use Rattle.sd_receive.specs.Ears.{heard_as, IsFormed}
-use Rattle.sd_receive.specs.declared.ears.Heard.{Heard as Kept}
-use Rattle.sd_receive.specs.declared.ears.Heard.TheVariants as Kinds
-use Rattle.sd_receive.specs.Gathered.{places_of}
+use Rattle.sd_receive.specs.Filter.{heard_as, IsFormed}
+use Rattle.sd_receive.specs.declared.filter.kind.PacketKind.{PacketKind as Kept}
+use Rattle.sd_receive.specs.declared.filter.kind.PacketKind.TheVariants as Kinds
+use Rattle.sd_receive.specs.PartialEcm.{places_of}
 use Rattle.sd_receive.proofs.Gathering.{few_listed, none_wrong}
-use Rattle.sd_receive.specs.Listening.{IsListenerAfter, capped, heard_of_run, IsJudgedAs, Judgement, TakesHeard}
-use Rattle.sd_receive.specs.Listening.{RefusesHeard, IsCalm, IsStill, PacketOutcome}
+use Rattle.sd_receive.specs.Session.{IsListenerAfter, capped, heard_of_run, IsJudgedAs, Judgement, TakesHeard}
+use Rattle.sd_receive.specs.Session.{RefusesHeard, IsCalm, IsStill, PacketOutcome}
 use Rattle.sd_receive.specs.Receiving.{card_in, IsAfter, TurnsBy, takes_key_of, takes_key_at, steps_at}
 use Rattle.sd_receive.specs.Receiving.{IsCountable, TakesPacket, RefusesPacket, TakesBy, RefusesBy, CutsBy, ended_at}
 use Rattle.sd_receive.specs.Receiving.{receiver_does, Refusing, IsFit}
-use Rattle.sd_receive.specs.declared.ended.EndedRuns.{EndedRuns}
+use Rattle.sd_receive.specs.declared.receiver.ended.EndedRuns.{EndedRuns}
 use Rattle.sd_spec.specs.Reports.{run_end}
 use Rattle.sd_spec.specs.Counting.{holds_stray}
-use Rattle.sd_receive.specs.declared.listener.Listener.{Listener}
+use Rattle.sd_receive.specs.declared.session.Session.{Session}
 use Rattle.sd_receive.specs.declared.receiver.Receiver.{Receiver}
 use Rattle.sd_receive.proofs.Turns.{out_more, break_more, not_tuned, was_closed, was_heard, turns_is}
 use Rattle.sd_receive.proofs.Turns.{name_now, wrote_before, wrote_now}
@@ -66,20 +66,20 @@ counted s count tuning = record {
   tuning = tuning;
   name = s.name;
   ended = s.ended;
-  listener = s.listener;
+  session = s.session;
   refusal = s.refusal;
 }
 
 -- the receiver after one packet more, with another name of the run at hand, of which this is kept, after runs that
 -- ended so
-abbrev pub listening : Receiver → ℕ → Option (Option ℕ) → EndedRuns → Listener → Receiver
-listening s count name ended listener = record {
+abbrev pub listening : Receiver → ℕ → Option (Option ℕ) → EndedRuns → Session → Receiver
+listening s count name ended session = record {
   card = s.card;
   count = count;
   tuning = s.tuning;
   name = name;
   ended = ended;
-  listener = listener;
+  session = session;
   refusal = s.refusal;
 }
 
@@ -138,7 +138,7 @@ idle past s packet tuning count after offers same stays is tuned_is =
         tuning = tuned_is;
         name = after.name ∙ ap name_in (sym same);
         so_far = after.so_far ∙ sym (ended_on card past packet stays);
-        follows = subst (λ (h : List Heard). IsListenerAfter card h s.listener) (sym same) after.follows;
+        follows = subst (λ (h : List Heard). IsListenerAfter card h s.session) (sym same) after.follows;
         written = after.written ∙ ap capped (sym wrote);
         total = let out = out_with card past packet after.unbroken in
             let none = ap (λ (o : Offering). length o.wrote) offers in
@@ -177,7 +177,7 @@ thing_of s kept packet = hears s.card.height kept s.count packet
 
 -- what is kept of the run that is at hand with a packet, before it
 record Stands (past : List (List ℕ)) (s : Receiver) (packet : List ℕ) (thing : Heard) (ended : EndedRuns)
-    (u : Listener) : Type 0 where
+    (u : Session) : Type 0 where
   follows : IsListenerAfter (card_in s) (of_run (heard (card_in s) past) thing) u
   written : u.written ≡ capped (wrote_before (card_in s) past packet)
   so_far_is : ended.so_far ≡ ended_before (card_in s) (packet ∷ past)
@@ -206,9 +206,9 @@ ends_so : (card : CardFields) (past : List (List ℕ)) (tuning : Tuning) → tun
     run_ending card (heard card past) (run_wrote card past) ≡ run_end card past
 ends_so card past tuning is = sym (rw is refl)
 
-stands : (past : List (List ℕ)) (s : Receiver) (packet : List ℕ) (kept : Tuning) (ended : EndedRuns) (u : Listener) →
+stands : (past : List (List ℕ)) (s : Receiver) (packet : List ℕ) (kept : Tuning) (ended : EndedRuns) (u : Session) →
     IsAfter past s → s.tuning ≡ Some kept →
-    TurnsBy (are_two s.name (run_name_heard (thing_of s kept packet))) s.name s.ended s.listener u ended →
+    TurnsBy (are_two s.name (run_name_heard (thing_of s kept packet))) s.name s.ended s.session u ended →
     Stands past s packet (thing_of s kept packet) ended u
 stands past s packet kept ended u after some turned =
     let card = card_in s in
@@ -239,10 +239,10 @@ stands past s packet kept ended u after some turned =
     let is = turned.0 one in
     let stays = ends ∙ one in
     record {
-      follows = subst (λ (l : Listener). IsListenerAfter card (of_run (heard card past) thing) l) (sym is.0)
-          (subst (λ (h : List Heard). IsListenerAfter card h s.listener)
+      follows = subst (λ (l : Session). IsListenerAfter card (of_run (heard card past) thing) l) (sym is.0)
+          (subst (λ (h : List Heard). IsListenerAfter card h s.session)
           (sym (same_run (heard card past) thing (ends_too ∙ one))) after.follows);
-      written = ap (λ (l : Listener). l.written) is.0 ∙ (after.written ∙ sym (rw stays refl));
+      written = ap (λ (l : Session). l.written) is.0 ∙ (after.written ∙ sym (rw stays refl));
       so_far_is = ap (λ (e : EndedRuns). e.so_far) is.1 ∙ (after.so_far ∙ sym (ended_on card past packet stays));
       last_is = ap (λ (e : EndedRuns). e.last) is.1 ∙ sym (rw stays refl);
       total = λ more. let all : wrote_before card past packet ≡ run_wrote card past = rw stays refl in
@@ -257,7 +257,7 @@ none_closed = refl
 
 -- a packet after the closing message of its run
 pub idle_closed : (s : Receiver) (packet : List ℕ) (kept : Tuning) (count : ℕ) → s.tuning ≡ Some kept →
-    are_two s.name (run_name_heard (thing_of s kept packet)) ≡ false → s.listener.closed ≡ true →
+    are_two s.name (run_name_heard (thing_of s kept packet)) ≡ false → s.session.closed ≡ true →
     count ≡ capped (s.count + 1) → receiver_does s packet (counted s count s.tuning) [] 0
 idle_closed s packet kept count some one closed added = λ past after countable.
     let card = card_in s in
@@ -288,8 +288,8 @@ heard_steps card past packet tuning is unclosed = rw (is, unclosed) refl
 pub record Found (s : Receiver) (packet : List ℕ) (kept : Tuning) (begins : Bool) (from to : ℕ) : Type 0 where
   pub tuned : s.tuning ≡ Some kept
   pub begins_is : begins ≡ are_two s.name (run_name_heard (thing_of s kept packet))
-  pub goes_on : (s.listener.closed && not begins) ≡ false
-  pub few : (past : List Heard) → IsListenerAfter (card_in s) past s.listener →
+  pub goes_on : (s.session.closed && not begins) ≡ false
+  pub few : (past : List Heard) → IsListenerAfter (card_in s) past s.session →
       to ≤ from + (if takes_key_of (card_in s) (heard_of_run begins past) (thing_of s kept packet) then s.card.height
       else 0)
 
@@ -314,7 +314,7 @@ run_open : (past : List (List ℕ)) (s : Receiver) (packet : List ℕ) (kept : T
     is_closed (of_run (heard (card_in s) past) (thing_of s kept packet)) ≡ false
 run_open past s packet kept begins from to after found =
     ap is_closed (run_heard past s packet kept begins after found.begins_is)
-    ∙ open_of s.listener.closed begins (heard (card_in s) past) after.follows.closed found.goes_on
+    ∙ open_of s.session.closed begins (heard (card_in s) past) after.follows.closed found.goes_on
 
 -- what is known of a packet that is heard before the closing message of its run
 record Hears (past : List (List ℕ)) (s : Receiver) (packet : List ℕ) (kept : Tuning) : Type 0 where
@@ -356,13 +356,13 @@ steps_known past s packet kept begins from to after found =
     (sym (run_heard past s packet kept begins after found.begins_is)) (found.few (heard card past) after.follows) in
     omega (arith, steps, known.few)
 
--- nothing odd is held before anything was heard
+-- no stray packet is held before anything was heard
 calm_none : (strict : Bool) → IsCalm strict []
 unfolding holds_stray newest
 calm_none true = tt
 calm_none false = refl
 
--- nothing odd is held of the run at hand either
+-- no stray packet is held of the run at hand either
 calm_run : (strict : Bool) (past : List Heard) (begins : Bool) → IsCalm strict past →
     IsCalm strict (heard_of_run begins past)
 calm_run strict past true calm = calm_none strict
@@ -370,9 +370,9 @@ calm_run strict past false calm = calm
 
 -- a packet that is heard and taken
 heard_opens : (strict : Bool) (s : Receiver) (packet : List ℕ) (kept : Tuning) (begins : Bool) (key : Option (List ℕ))
-    (count : ℕ) (name : Option (Option ℕ)) (ended : EndedRuns) (u t : Listener) (bytes : List ℕ) (from to : ℕ) →
-    Found s packet kept begins from to → TurnsBy begins s.name s.ended s.listener u ended →
-    ((past : List Heard) → IsListenerAfter (card_in s) past s.listener →
+    (count : ℕ) (name : Option (Option ℕ)) (ended : EndedRuns) (u t : Session) (bytes : List ℕ) (from to : ℕ) →
+    Found s packet kept begins from to → TurnsBy begins s.name s.ended s.session u ended →
+    ((past : List Heard) → IsListenerAfter (card_in s) past s.session →
     IsJudgedAs (card_in s) s.count (heard_of_run begins past) (thing_of s kept packet) key) →
     count ≡ capped (s.count + 1) →
     name ≡ option_or (run_name_heard (thing_of s kept packet)) s.name →
@@ -385,7 +385,7 @@ heard_opens strict s packet kept begins key count name ended u t bytes from to f
     let thing = thing_of s kept packet in
     let run_is = run_heard past s packet kept begins after found.begins_is in
     let stood = stands past s packet kept ended u after found.tuned
-    (subst (λ (b : Bool). TurnsBy b s.name s.ended s.listener u ended) found.begins_is turned) in
+    (subst (λ (b : Bool). TurnsBy b s.name s.ended s.session u ended) found.begins_is turned) in
     let open_yet = run_open past s packet kept begins from to after found in
     let known = was_known past s packet kept after found.tuned open_yet in
     let taken = takes (of_run (heard card past) thing) stood.follows open_yet
@@ -423,9 +423,9 @@ heard_opens strict s packet kept begins key count name ended u t bytes from to f
 
 pub heard_does : (strict : Bool) (s : Receiver) (packet : List ℕ) (kept : Tuning) (begins : Bool)
     (key : Option (List ℕ)) (count : ℕ)
-    (name : Option (Option ℕ)) (ended : EndedRuns) (u t : Listener) (bytes : List ℕ) (from to : ℕ) →
-    Found s packet kept begins from to → TurnsBy begins s.name s.ended s.listener u ended →
-    ((past : List Heard) → IsListenerAfter (card_in s) past s.listener →
+    (name : Option (Option ℕ)) (ended : EndedRuns) (u t : Session) (bytes : List ℕ) (from to : ℕ) →
+    Found s packet kept begins from to → TurnsBy begins s.name s.ended s.session u ended →
+    ((past : List Heard) → IsListenerAfter (card_in s) past s.session →
     IsJudgedAs (card_in s) s.count (heard_of_run begins past) (thing_of s kept packet) key) →
     count ≡ capped (s.count + 1) →
     name ≡ option_or (run_name_heard (thing_of s kept packet)) s.name →
@@ -451,8 +451,8 @@ refuses_by true s packet why bytes steps refuses = λ past after countable. refu
 refuses_by false s packet why bytes steps refuses = refuses
 
 pub heard_refuses : (strict : Bool) (s : Receiver) (packet : List ℕ) (kept : Tuning) (begins : Bool)
-    (ended : EndedRuns) (u : Listener) (why : StreamFault) (bytes : List ℕ) (from to : ℕ) →
-    Found s packet kept begins from to → TurnsBy begins s.name s.ended s.listener u ended →
+    (ended : EndedRuns) (u : Session) (why : StreamFault) (bytes : List ℕ) (from to : ℕ) →
+    Found s packet kept begins from to → TurnsBy begins s.name s.ended s.session u ended →
     RefusesHeard strict (card_in s) kept s.count (thing_of s kept packet) u why bytes →
     RefusesBy strict s packet why bytes (to - from)
 heard_refuses strict s packet kept begins ended u why bytes from to found turned refuses =
@@ -461,7 +461,7 @@ heard_refuses strict s packet kept begins ended u why bytes from to found turned
     let thing = thing_of s kept packet in
     let run_is = run_heard past s packet kept begins after found.begins_is in
     let stood = stands past s packet kept ended u after found.tuned
-    (subst (λ (b : Bool). TurnsBy b s.name s.ended s.listener u ended) found.begins_is turned) in
+    (subst (λ (b : Bool). TurnsBy b s.name s.ended s.session u ended) found.begins_is turned) in
     let open_yet = run_open past s packet kept begins from to after found in
     let known = was_known past s packet kept after found.tuned open_yet in
     let stopped = refuses (of_run (heard card past) thing) stood.follows open_yet
@@ -475,7 +475,7 @@ heard_refuses strict s packet kept begins ended u why bytes from to found turned
 
 pub judged_refuses : (strict : Bool) (s : Receiver) (packet : List ℕ) (kept : Tuning) (begins : Bool)
     (key : Option (List ℕ)) (why : StreamFault) (from to : ℕ) → Found s packet kept begins from to →
-    ((past : List Heard) → IsListenerAfter (card_in s) past s.listener →
+    ((past : List Heard) → IsListenerAfter (card_in s) past s.session →
     Judgement (card_in s) s.count (heard_of_run begins past) (thing_of s kept packet) key (Err why)) →
     RefusesBy strict s packet why [] (to - from)
 judged_refuses strict s packet kept begins key why from to found judged =
@@ -500,33 +500,33 @@ judged_refuses strict s packet kept begins key why from to found judged =
 
 -- what is kept of the run at hand with a packet is of what was heard of it
 pub turned_follows : (card : CardFields) (begins : Bool) (name : Option (Option ℕ)) (before ended : EndedRuns)
-    (l u : Listener) → TurnsBy begins name before l u ended → (past : List Heard) → IsListenerAfter card past l →
+    (l u : Session) → TurnsBy begins name before l u ended → (past : List Heard) → IsListenerAfter card past l →
     IsListenerAfter card (heard_of_run begins past) u
 turned_follows card true name before ended l u turned past follows = (turned.1 refl).follows card past follows
 turned_follows card false name before ended l u turned past follows =
-    subst (λ (m : Listener). IsListenerAfter card past m) (sym (turned.0 refl).0) follows
+    subst (λ (m : Session). IsListenerAfter card past m) (sym (turned.0 refl).0) follows
 
 pub turned_open : (card : CardFields) (begins : Bool) (name : Option (Option ℕ)) (before ended : EndedRuns)
-    (l u : Listener) → TurnsBy begins name before l u ended → (past : List Heard) × IsListenerAfter card past l →
+    (l u : Session) → TurnsBy begins name before l u ended → (past : List Heard) × IsListenerAfter card past l →
     (l.closed && not begins) ≡ false → u.closed ≡ false
 turned_open card begins name before ended l u turned (past, follows) goes_on =
     (turned_follows card begins name before ended l u turned past follows).closed
     ∙ open_of l.closed begins past follows.closed goes_on
 
 -- a refused packet leaves what is kept, if it begins no run
-stands_still : (s : Receiver) (ended : EndedRuns) (u t : Listener) → TurnsBy false s.name s.ended s.listener u ended →
+stands_still : (s : Receiver) (ended : EndedRuns) (u t : Session) → TurnsBy false s.name s.ended s.session u ended →
     IsStill (card_in s) u t → (past : List (List ℕ)) → IsAfter past s →
     IsAfter past (listening s s.count s.name ended t)
 stands_still s ended u t turned still past after =
     let is = turned.0 refl in
-    let wrote : t.written ≡ s.listener.written = still.written ∙ ap (λ (l : Listener). l.written) is.0 in
+    let wrote : t.written ≡ s.session.written = still.written ∙ ap (λ (l : Session). l.written) is.0 in
     record {
       count = after.count;
       tuning = after.tuning;
       name = after.name;
       so_far = ap (λ (e : EndedRuns). e.so_far) is.1 ∙ after.so_far;
       follows = still.follows (heard (card_in s) past)
-          (subst (λ (l : Listener). IsListenerAfter (card_in s) (heard (card_in s) past) l) (sym is.0) after.follows);
+          (subst (λ (l : Session). IsListenerAfter (card_in s) (heard (card_in s) past) l) (sym is.0) after.follows);
       written = wrote ∙ after.written;
       total = ap (λ (e : EndedRuns). capped (e.written + t.written)) is.1
           ∙ (ap (λ (n : ℕ). capped (s.ended.written + n)) wrote ∙ after.total);
@@ -541,8 +541,8 @@ of_taken (Ok done) taken says = says
 of_taken (Err fault) taken says = absurd (taken fault refl)
 
 -- what is said of all that a packet comes to, by its answer
-pub grew_of : (T : Listener → List ℕ → Type 0) (R : StreamFault → List ℕ → Type 0) (C : List ℕ → Type 0)
-    (u v : SinkState) (t : Listener)
+pub grew_of : (T : Session → List ℕ → Type 0) (R : StreamFault → List ℕ → Type 0) (C : List ℕ → Type 0)
+    (u v : SinkState) (t : Session)
     (result : Result (Unit {0}) (StageFault StreamFault)) (from to : ℕ) (Says : List ℕ → ℕ → Type 0) →
     PacketOutcome T R C u v t result →
     ((bytes : List ℕ) → T t bytes → Says bytes (to - from)) → OnOk result (HasGrown u v from to Says)
@@ -556,8 +556,8 @@ grew_of T R C u v t (Ok done) from to Says comes says = record {
 }
 grew_of T R C u v t (Err fault) from to Says comes says = tt
 
-pub refused_of : (T : Listener → List ℕ → Type 0) (R : StreamFault → List ℕ → Type 0) (C : List ℕ → Type 0)
-    (u v : SinkState) (t : Listener)
+pub refused_of : (T : Session → List ℕ → Type 0) (R : StreamFault → List ℕ → Type 0) (C : List ℕ → Type 0)
+    (u v : SinkState) (t : Session)
     (result : Result (Unit {0}) (StageFault StreamFault)) (from to : ℕ) (fault : StreamFault)
     (Says : List ℕ → ℕ → Type 0) →
     result ≡ Err (Refused fault) → PacketOutcome T R C u v t result →
@@ -573,8 +573,8 @@ refused_of T R C u v t result from to fault Says is comes says =
       counted = omega arith;
     }
 
-pub cut_of : (strict : Bool) (T : Listener → List ℕ → Type 0) (R : StreamFault → List ℕ → Type 0) (u v : SinkState)
-    (t : Listener) (result : Result (Unit {0}) (StageFault StreamFault)) (from to : ℕ) (s : Receiver) (packet : List ℕ)
+pub cut_of : (strict : Bool) (T : Session → List ℕ → Type 0) (R : StreamFault → List ℕ → Type 0) (u v : SinkState)
+    (t : Session) (result : Result (Unit {0}) (StageFault StreamFault)) (from to : ℕ) (s : Receiver) (packet : List ℕ)
     (C : List ℕ → Type 0) → IsErrOf result Write → PacketOutcome T R C u v t result →
     ((bytes : List ℕ) → C bytes → CutsBy strict s packet from to bytes) →
     IsCutShort u v (CutsBy strict s packet from to)
@@ -591,10 +591,10 @@ cut_of strict T R u v t (Err Write) from to s packet C is comes cuts = record {
 
 -- the bytes of which a write may fail, whichever receiver it is
 pub cuts_by : (strict : Bool) (s : Receiver) (packet : List ℕ) (from to : ℕ) (bytes : List ℕ)
-    (Takes : Listener → Type 0) (Refuses : StreamFault → Type 0) →
-    ((x : Listener) → Takes x → (y : Receiver) × TakesBy strict s packet y bytes (to - from)) →
+    (Takes : Session → Type 0) (Refuses : StreamFault → Type 0) →
+    ((x : Session) → Takes x → (y : Receiver) × TakesBy strict s packet y bytes (to - from)) →
     ((fault : StreamFault) → Refuses fault → RefusesBy strict s packet fault bytes (to - from)) →
-    ((x : Listener) × Takes x) ⊎ ((strict ≡ true) × (fault : StreamFault) × Refuses fault) →
+    ((x : Session) × Takes x) ⊎ ((strict ≡ true) × (fault : StreamFault) × Refuses fault) →
     CutsBy strict s packet from to bytes
 cuts_by true s packet from to bytes Takes Refuses takes refuses (inl h) =
     (to - from, omega arith, inl (takes h.0 h.1))
@@ -605,7 +605,7 @@ cuts_by false s packet from to bytes Takes Refuses takes refuses (inl h) =
 cuts_by false s packet from to bytes Takes Refuses takes refuses (inr h) = absurd (true≢false (sym h.0))
 
 -- it may be offered a packet still, where this one isn't refused
-pub fit_after : (s : Receiver) (count : ℕ) (name : Option (Option ℕ)) (ended : EndedRuns) (u t : Listener)
+pub fit_after : (s : Receiver) (count : ℕ) (name : Option (Option ℕ)) (ended : EndedRuns) (u t : Session)
     (tuning : Tuning) (n : ℕ) (thing : Heard) (key : Option (List ℕ)) (R : StreamFault → List ℕ → Type 0)
     (C : List ℕ → Type 0) (v w : SinkState) (result : Result (Unit {0}) (StageFault StreamFault)) →
     (past : List Heard) × IsListenerAfter (card_in s) past u × IsJudgedAs (card_in s) n past thing key →
@@ -622,15 +622,15 @@ fit_after s count name ended u t tuning n thing key R C v w (Err fault) live unc
 -- what is found of a thing is found of the one that is heard now
 pub found_of : (s : Receiver) (packet : List ℕ) (kept : Tuning) (thing : Heard) (name : Option (Option ℕ))
     (begins : Bool) (from to : ℕ) → s.tuning ≡ Some kept → thing ≡ thing_of s kept packet →
-    name ≡ run_name_heard thing → begins ≡ are_two s.name name → (s.listener.closed && not begins) ≡ false →
-    ((past : List Heard) → IsListenerAfter (card_in s) past s.listener →
+    name ≡ run_name_heard thing → begins ≡ are_two s.name name → (s.session.closed && not begins) ≡ false →
+    ((past : List Heard) → IsListenerAfter (card_in s) past s.session →
     to ≤ from + (if takes_key_of (card_in s) (heard_of_run begins past) thing then s.card.height else 0)) →
     Found s packet kept begins from to
 found_of s packet kept thing name begins from to tuned is named begins_is goes_on few = record {
   tuned = tuned;
   begins_is = begins_is ∙ ap (are_two s.name) (named ∙ ap run_name_heard is);
   goes_on = goes_on;
-  few = subst (λ (h : Heard). (past : List Heard) → IsListenerAfter (card_in s) past s.listener →
+  few = subst (λ (h : Heard). (past : List Heard) → IsListenerAfter (card_in s) past s.session →
       to ≤ from + (if takes_key_of (card_in s) (heard_of_run begins past) h then s.card.height else 0)) is few;
 }
 
@@ -683,17 +683,17 @@ first_passes card tuning n k h packet Kinds.Other name key form two judged = abs
 
 -- a packet that is refused when it is taken begins no run
 pub begins_none : (strict : Bool) (s : Receiver) (packet : List ℕ) (kept : Tuning) (h : Kept) (begins : Bool)
-    (key : Option (List ℕ)) (ended : EndedRuns) (u t : Listener) (C : List ℕ → Type 0) (v w : SinkState)
+    (key : Option (List ℕ)) (ended : EndedRuns) (u t : Session) (C : List ℕ → Type 0) (v w : SinkState)
     (result : Result (Unit {0}) (StageFault StreamFault))
     (fault : StreamFault) → IsFormed s.card.height h →
     begins ≡ are_two s.name (run_name_heard (heard_as s.count packet h)) →
-    TurnsBy begins s.name s.ended s.listener u ended →
-    ((past : List Heard) → IsListenerAfter (card_in s) past s.listener →
+    TurnsBy begins s.name s.ended s.session u ended →
+    ((past : List Heard) → IsListenerAfter (card_in s) past s.session →
     IsJudgedAs (card_in s) s.count (heard_of_run begins past) (heard_as s.count packet h) key) →
     result ≡ Err (Refused fault) →
     PacketOutcome (TakesHeard true (card_in s) kept s.count (heard_as s.count packet h) key u)
     (RefusesHeard strict (card_in s) kept s.count (heard_as s.count packet h) u) C v w t result →
-    (past : List Heard) → IsListenerAfter (card_in s) past s.listener → begins ≡ false
+    (past : List Heard) → IsListenerAfter (card_in s) past s.session → begins ≡ false
 begins_none strict s packet kept h false key ended u t C v w result fault form is turned judged bad comes past
     follows = refl
 begins_none strict s packet kept h true key ended u t C v w result fault form is turned judged bad comes past
@@ -709,11 +709,11 @@ begins_none strict s packet kept h true key ended u t C v w result fault form is
     absurd (let both = sym passes ∙ stops.fault in cc)
 
 -- after it the receiver is after the same packets as before it
-pub stands_after : (begins : Bool) (s : Receiver) (ended : EndedRuns) (u t : Listener) → begins ≡ false →
-    TurnsBy begins s.name s.ended s.listener u ended → IsStill (card_in s) u t →
+pub stands_after : (begins : Bool) (s : Receiver) (ended : EndedRuns) (u t : Session) → begins ≡ false →
+    TurnsBy begins s.name s.ended s.session u ended → IsStill (card_in s) u t →
     (past : List (List ℕ)) → IsAfter past s → IsAfter past (listening s s.count s.name ended t)
 stands_after begins s ended u t none turned still past after =
-    stands_still s ended u t (subst (λ (b : Bool). TurnsBy b s.name s.ended s.listener u ended) none turned) still past
+    stands_still s ended u t (subst (λ (b : Bool). TurnsBy b s.name s.ended s.session u ended) none turned) still past
     after
 
 -- a run that is over is closed, and isn't left
@@ -761,19 +761,19 @@ ecm_fits ca packet (Some kept) is =
     (find (is_for ca) (descriptors_of (body_of (section_in packet)))) kept is
 
 -- before the first packet
-pub first_after : (card : Card) (listener : Listener) → listener.written ≡ 0 →
-    ((fields : CardFields) → IsListenerAfter fields [] listener) →
+pub first_after : (card : Card) (session : Session) → session.written ≡ 0 →
+    ((fields : CardFields) → IsListenerAfter fields [] session) →
     IsAfter [] (record {
       card = card;
       count = 0;
       tuning = None;
       name = None;
       ended = record { so_far = Opened; written = 0; last = None };
-      listener = listener;
+      session = session;
       refusal = None;
     })
 unfolding tuning_of heard break_from name_in ended_before run_wrote out_from
-first_after card listener none follows = record {
+first_after card session none follows = record {
   count = refl;
   tuning = refl;
   name = refl;

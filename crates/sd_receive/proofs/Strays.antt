@@ -1,4 +1,4 @@
--- What is written where no packet that is buffered is odd.
+-- What is written where no packet that is buffered is stray.
 use Rattle.std.proofs.Common.{◌≡◌, inl, inr, ℕ, List, [], ◌∷◌, refl, ap, ◌∙◌, subst, true, false, Bool}
 use Rattle.std.specs.Prelude.{◌&&◌, ◌==◌, ◌++◌, Option, Some, None, Result, Ok, Err, nat_le, nat_lt, length}
 use Rattle.std.specs.Prelude.{map, not, if◌then◌else◌}
@@ -20,39 +20,40 @@ use Rattle.sd_engine.specs.declared.stage.StageFault.{StageFault}
 use Rattle.sd_spec.specs.Heard.{Heard, Controls}
 use Rattle.sd_spec.specs.Stretches.{Stretch, newest, held_in}
 use Rattle.sd_spec.specs.Keys.{key_at}
-use Rattle.sd_spec.specs.Confirmed.{Segment, Wrote, written_from, judged, then_wrote, tracked, is_confirmed, is_odd}
-use Rattle.sd_spec.specs.Confirmed.{unmarked, is_odd_under}
+use Rattle.sd_spec.specs.Confirmed.{Segment, Wrote, written_from, judged, then_wrote, tracked, is_confirmed, is_foreign}
+use Rattle.sd_spec.specs.Confirmed.{unmarked, is_foreign_under}
 use Rattle.sd_spec.specs.Counting.{holds_stray, is_scrambled_packet}
 use Rattle.sd_spec.specs.Offered.{Offering, most_held, segment_wrote, stretch_wrote, word_fault}
 use Rattle.sd_spec.specs.Offered.{heard_offering}
-use Rattle.sd_receive.specs.Entitled.{key_kept}
-use Rattle.sd_receive.specs.Listening.{IsListenerAtMessage, IsWordOf, TakesMessage, RefusesMessage, CutsMessage}
-use Rattle.sd_receive.specs.Listening.{fault_first}
-use Rattle.sd_receive.specs.Listening.{TookSome, PacketOutcome}
-use Rattle.sd_receive.specs.declared.listener.Listener.{Listener}
+use Rattle.sd_receive.specs.PeriodKeys.{key_kept}
+use Rattle.sd_receive.specs.Session.{IsListenerAtMessage, IsWordOf, TakesMessage, RefusesMessage, CutsMessage}
+use Rattle.sd_receive.specs.Session.{fault_first}
+use Rattle.sd_receive.specs.Session.{TookSome, PacketOutcome}
+use Rattle.sd_receive.specs.declared.session.Session.{Session}
 use Rattle.sd_receive.proofs.Listening.{took_nothing, comes_weaker}
 use Rattle.sd_receive.proofs.Messages.{key_ahead}
 use Rattle.sd_receive.proofs.Offering.{part_completes}
 
--- a packet that isn't odd is judged right
-right_then : (clear odd confirmed : Bool) (a b : List (List ℕ)) (n : ℕ) (rest : Wrote) →
-    (not clear && odd) ≡ false → rest.refused ≡ None →
-    (then_wrote (if clear then Ok a else if odd then Err n else if confirmed then Ok b else Ok []) rest).refused ≡ None
-right_then true odd confirmed a b n rest calm none = none
+-- a packet that isn't stray is judged right
+right_then : (clear foreign confirmed : Bool) (a b : List (List ℕ)) (n : ℕ) (rest : Wrote) →
+    (not clear && foreign) ≡ false → rest.refused ≡ None →
+    (then_wrote (if clear then Ok a else if foreign then Err n else if confirmed then Ok b else Ok []) rest).refused
+    ≡ None
+right_then true foreign confirmed a b n rest calm none = none
 right_then false true confirmed a b n rest calm none = absurd (true≢false calm)
 right_then false false true a b n rest calm none = none
 right_then false false false a b n rest calm none = none
 
--- none of some packets is refused of which none is odd
+-- none of some packets is refused of which none is stray
 none_refused : (segment : Segment) (before : List (List ℕ)) (held : List (ℕ × List ℕ)) →
-    list_any (λ h. is_scrambled_packet h.1 && is_odd_under segment.first.word h.1) held ≡ false →
+    list_any (λ h. is_scrambled_packet h.1 && is_foreign_under segment.first.word h.1) held ≡ false →
     (written_from segment before held).refused ≡ None
 unfolding written_from judged
 none_refused segment before [] calm = refl
 none_refused segment before (h ∷ more) calm =
-    let parts = or_parts (is_scrambled_packet h.1 && is_odd_under segment.first.word h.1)
-    (list_any (λ h. is_scrambled_packet h.1 && is_odd_under segment.first.word h.1) more) calm in
-    right_then (scrambling_of h.1 == 0) (is_odd segment h.1) (is_confirmed segment (pid_of h.1))
+    let parts = or_parts (is_scrambled_packet h.1 && is_foreign_under segment.first.word h.1)
+    (list_any (λ h. is_scrambled_packet h.1 && is_foreign_under segment.first.word h.1) more) calm in
+    right_then (scrambling_of h.1 == 0) (is_foreign segment h.1) (is_confirmed segment (pid_of h.1))
     (unmarked segment h.1 ∷ [])
     (descrambled h.1 segment.word (tracked segment.first (pid_of h.1) (before ++ h.1 ∷ [])) ∷ []) h.0
     (written_from segment (before ++ h.1 ∷ []) more) parts.0
@@ -66,12 +67,12 @@ either_calm false a b p q = q
 abbrev nothing : Wrote
 nothing = record { packets = []; refused = None }
 
--- what is held after message a, which no odd packet is
-abbrev holds_odd : Stretch → Message → Bool
-holds_odd stretch a = list_any (λ h. is_scrambled_packet h.1 && is_odd_under a.word h.1) (held_in stretch)
+-- what is held after message a, which no stray packet is
+abbrev holds_foreign : Stretch → Message → Bool
+holds_foreign stretch a = list_any (λ h. is_scrambled_packet h.1 && is_foreign_under a.word h.1) (held_in stretch)
 
 segment_calm : (card : CardFields) (tuning : Tuning) (stretch : Stretch) (a b : Message) (key : Option (List ℕ)) →
-    holds_odd stretch a ≡ false → (segment_wrote card tuning stretch a b key).refused ≡ None
+    holds_foreign stretch a ≡ false → (segment_wrote card tuning stretch a b key).refused ≡ None
 segment_calm card tuning stretch a b None calm = refl
 segment_calm card tuning stretch a b (Some key) calm =
     let segment : Segment = record {
@@ -86,7 +87,7 @@ segment_calm card tuning stretch a b (Some key) calm =
     (none_refused segment [] (held_in stretch) calm)
 
 stretch_calm : (card : CardFields) (tuning : Tuning) (stretch : Stretch) (message : Option Message) (b : Message) →
-    option_map_or (holds_odd stretch) message false ≡ false →
+    option_map_or (holds_foreign stretch) message false ≡ false →
     (stretch_wrote card tuning stretch message b).refused ≡ None
 stretch_calm card tuning stretch None b calm = refl
 stretch_calm card tuning stretch (Some a) b calm =
@@ -95,22 +96,22 @@ stretch_calm card tuning stretch (Some a) b calm =
 
 -- so a message is refused for its control word alone
 pub word_alone : (card : CardFields) (tuning : Tuning) (n : ℕ) (past : List Heard) (part : EcmPart) (head : EcmHead)
-    (s : Listener) → IsListenerAtMessage card past part head s → holds_stray past ≡ false →
+    (s : Session) → IsListenerAtMessage card past part head s → holds_stray past ≡ false →
     (heard_offering card tuning n past (Controls part)).fault
-    ≡ word_fault n (message_of head s.collect.coming.places.items) (key_at card past head.period)
+    ≡ word_fault n (message_of head s.assembler.coming.places.items) (key_at card past head.period)
 unfolding holds_stray
 word_alone card tuning n past part head s done calm =
-    let message = message_of head s.collect.coming.places.items in
+    let message = message_of head s.assembler.coming.places.items in
     let bad = word_fault n message (key_at card past head.period) in
-    ap (λ (o : Offering). o.fault) (part_completes card tuning n past part message done.collect.fault
-    done.collect.complete)
+    ap (λ (o : Offering). o.fault) (part_completes card tuning n past part message done.assembler.fault
+    done.assembler.complete)
     ∙ ap (λ (r : Option ℕ). option_map_or (λ m. Some (Fault.Parity m)) r bad)
     (stretch_calm card tuning (newest past) (newest past).message message calm)
 
 -- a message whose word is wrong is refused before anything is written
-pub word_first : (strict : Bool) (card : CardFields) (tuning : Tuning) (n : ℕ) (head : EcmHead) (s : Listener)
+pub word_first : (strict : Bool) (card : CardFields) (tuning : Tuning) (n : ℕ) (head : EcmHead) (s : Session)
     (found : Result (Option (List ℕ)) StreamFault) (fault : StreamFault) (u : SinkState) →
-    fault_first strict found ≡ Some fault → IsWordOf n head (key_kept s.entitled head.period) found →
+    fault_first strict found ≡ Some fault → IsWordOf n head (key_kept s.keys head.period) found →
     TookSome u u (RefusesMessage strict card tuning n head s fault)
 word_first true card tuning n head s found fault u first told = absurd cc
 word_first false card tuning n head s (Ok word) fault u first told = absurd cc
@@ -118,7 +119,7 @@ word_first false card tuning n head s (Err why) fault u first told =
     took_nothing u (RefusesMessage false card tuning n head s fault) (λ past part done calm. record {
       fault = word_alone card tuning n past part head s done calm
           ∙ (subst (λ (k : Option (List ℕ)).
-          word_fault n (message_of head s.collect.coming.places.items) k ≡ Some why)
+          word_fault n (message_of head s.assembler.coming.places.items) k ≡ Some why)
           (key_ahead card past part head s done) told ∙ first);
       bytes_are = refl;
     })
@@ -127,9 +128,9 @@ no_fault : (fault : Option StreamFault) (why : StreamFault) → fault ≡ None �
 no_fault fault why none some = cc
 
 -- one whose word is right isn't refused
-word_right : (card : CardFields) (tuning : Tuning) (n : ℕ) (head : EcmHead) (s t : Listener)
+word_right : (card : CardFields) (tuning : Tuning) (n : ℕ) (head : EcmHead) (s t : Session)
     (word : Option (List ℕ)) (u v : SinkState) (result : Result (Unit {0}) (StageFault StreamFault)) →
-    IsWordOf n head (key_kept s.entitled head.period) (Ok word) →
+    IsWordOf n head (key_kept s.keys head.period) (Ok word) →
     PacketOutcome (TakesMessage true card tuning n head s) (RefusesMessage true card tuning n head s)
     (CutsMessage true card tuning n head s) u v t result →
     PacketOutcome (TakesMessage true card tuning n head s) (RefusesMessage false card tuning n head s)
@@ -138,7 +139,7 @@ word_right card tuning n head s t word u v result right comes =
     let good : (past : List Heard) (part : EcmPart) → IsListenerAtMessage card past part head s →
     holds_stray past ≡ false → (heard_offering card tuning n past (Controls part)).fault ≡ None =
     λ past part done calm. word_alone card tuning n past part head s done calm
-    ∙ subst (λ (k : Option (List ℕ)). word_fault n (message_of head s.collect.coming.places.items) k ≡ None)
+    ∙ subst (λ (k : Option (List ℕ)). word_fault n (message_of head s.assembler.coming.places.items) k ≡ None)
     (key_ahead card past part head s done) right.1 in
     comes_weaker (TakesMessage true card tuning n head s) (TakesMessage true card tuning n head s)
     (RefusesMessage true card tuning n head s) (RefusesMessage false card tuning n head s)
@@ -159,10 +160,10 @@ word_right card tuning n head s t word u v result right comes =
     comes
 
 -- a message that isn't refused first comes to what it does for a strict receiver
-pub word_not_first : (strict : Bool) (card : CardFields) (tuning : Tuning) (n : ℕ) (head : EcmHead) (s t : Listener)
+pub word_not_first : (strict : Bool) (card : CardFields) (tuning : Tuning) (n : ℕ) (head : EcmHead) (s t : Session)
     (found : Result (Option (List ℕ)) StreamFault) (u v : SinkState)
     (result : Result (Unit {0}) (StageFault StreamFault)) → fault_first strict found ≡ None →
-    IsWordOf n head (key_kept s.entitled head.period) found →
+    IsWordOf n head (key_kept s.keys head.period) found →
     PacketOutcome (TakesMessage true card tuning n head s) (RefusesMessage true card tuning n head s)
     (CutsMessage true card tuning n head s) u v t result →
     PacketOutcome (TakesMessage true card tuning n head s) (RefusesMessage strict card tuning n head s)

@@ -16,7 +16,7 @@ use Rattle.sd_packet.proofs.Positions.{one_more, none_moves, more_packets, moved
 use Rattle.sd_message.specs.EcmForm.{AreShort, AreAscending}
 use Rattle.sd_message.specs.declared.ecm_part.Place.{Place}
 use Rattle.sd_spec.specs.Confirmed.{position_or_first, position_in}
-use Rattle.sd_receive.specs.declared.held.Held.{Held}
+use Rattle.sd_receive.specs.declared.buffer.tracked.HeldPacket.{HeldPacket}
 use Rattle.sd_receive.specs.Tracking.{pids_in, packets_in, led_to, IsTracked, IsClearBut, AreKnown}
 use Rattle.sd_receive.specs.Tracking.{HaveOwn}
 use Rattle.sd_receive.proofs.Places.{none_found, none_before, same_found, other_found, start_short}
@@ -81,7 +81,7 @@ place_cleared places i d pids table within known is =
     (rw (drop_more places i d within) at is)
 
 -- one packet less to clear
-pub packet_cleared : (held : List Held) (i : ℕ) (d : Held) (pid : ℕ) (table : List ℕ) → i < length held →
+pub packet_cleared : (held : List HeldPacket) (i : ℕ) (d : HeldPacket) (pid : ℕ) (table : List ℕ) → i < length held →
     pid ≡ pid_of (get_or held i d).packet → pid < 8192 →
     IsClearBut (map (λ (p : List ℕ). pid_of p) (packets_in (drop i held))) table →
     IsClearBut (map (λ (p : List ℕ). pid_of p) (packets_in (drop (i + 1) held))) (set table pid first_position)
@@ -153,14 +153,14 @@ led_further places packets k pid =
     omega (arith, same, moved_by_near pid (moved_by pid (position_or_first places pid) (take k packets)) (drop k packets))
 
 -- one held packet more, with the position to which it leads its PID
-pub own_more : (places : List Place) (held : List Held) (one : Held) → HaveOwn places held →
+pub own_more : (places : List Place) (held : List HeldPacket) (one : HeldPacket) → HaveOwn places held →
     one.position ≡ led_to places (packets_in held ++ one.packet ∷ []) (pid_of one.packet) →
     HaveOwn places (held ++ one ∷ [])
 own_more places held one own is k d within =
     let packets = packets_in held in
     let all : packets_in (held ++ one ∷ []) ≡ packets ++ one.packet ∷ [] =
-    map-append (λ (h : Held). h.packet) held (one ∷ []) in
-    let long : length packets ≡ length held = length-map held (λ (h : Held). h.packet) in
+    map-append (λ (h : HeldPacket). h.packet) held (one ∷ []) in
+    let long : length packets ≡ length held = length-map held (λ (h : HeldPacket). h.packet) in
     elim (cases_lt k (length held)) [
       | inl before ↦
           let this : get_or (held ++ one ∷ []) k d ≡ get_or held k d = get_or_append_left held (one ∷ []) d k before in

@@ -15,10 +15,10 @@ use Rattle.sd_spec.specs.Offered.{heard, offered, out_from, break_from}
 pub use Rattle.sd_spec.specs.Taken.{takes_key_of}
 unfoldable pub use Rattle.sd_spec.specs.Taken.{takes_key_at, taken_keys}
 use Rattle.sd_engine.specs.Stage.{IsAllowed}
-use Rattle.sd_receive.specs.Listening.{IsListenerAfter, capped}
-use Rattle.sd_receive.specs.declared.ended.Ended.{Ended}
-use Rattle.sd_receive.specs.declared.ended.EndedRuns.{EndedRuns}
-use Rattle.sd_receive.specs.declared.listener.Listener.{Listener}
+use Rattle.sd_receive.specs.Session.{IsListenerAfter, capped}
+use Rattle.sd_receive.specs.declared.receiver.ended.EndedRun.{EndedRun}
+use Rattle.sd_receive.specs.declared.receiver.ended.EndedRuns.{EndedRuns}
+use Rattle.sd_receive.specs.declared.session.Session.{Session}
 use Rattle.sd_receive.specs.declared.receiver.Receiver.{Receiver}
 
 -- what the receiver's card says
@@ -32,16 +32,16 @@ pub record IsAfter (past : List (List ℕ)) (receiver : Receiver) : Type 0 where
   pub tuning : receiver.tuning ≡ tuning_of receiver.card.ca past
   pub name : receiver.name ≡ name_in (heard (card_in receiver) past)
   pub so_far : receiver.ended.so_far ≡ ended_before (card_in receiver) past
-  pub follows : IsListenerAfter (card_in receiver) (heard (card_in receiver) past) receiver.listener
-  pub written : receiver.listener.written ≡ capped (run_wrote (card_in receiver) past)
-  pub total : capped (receiver.ended.written + receiver.listener.written)
+  pub follows : IsListenerAfter (card_in receiver) (heard (card_in receiver) past) receiver.session
+  pub written : receiver.session.written ≡ capped (run_wrote (card_in receiver) past)
+  pub total : capped (receiver.ended.written + receiver.session.written)
       ≡ capped (length (out_from (card_in receiver) [] (reverse past)))
   pub unbroken : break_from (card_in receiver) [] (reverse past) ≡ None
   pub unrefused : receiver.refusal ≡ None
 
 -- the current run, of this name, was ended after runs that ended so: all that was heard of it was forgotten but its
 -- name, how it ended and how many packets were written of it
-pub record HasTurned (name : Option RunName) (before : EndedRuns) (s t : Listener) (ended : EndedRuns) : Type 0 where
+pub record HasTurned (name : Option RunName) (before : EndedRuns) (s t : Session) (ended : EndedRuns) : Type 0 where
   pub follows : (card : CardFields) (past : List Heard) → IsListenerAfter card past s → IsListenerAfter card [] t
   pub written : t.written ≡ 0
   pub total : ended.written ≡ capped (before.written + s.written)
@@ -51,12 +51,12 @@ pub record HasTurned (name : Option RunName) (before : EndedRuns) (s t : Listene
       s.written ≡ capped total → ended.last ≡ Some (record { run = name; ending = run_ending card past total })
 
 -- the current run is ended if another begins
-abbrev pub TurnsBy : Bool → Option RunName → EndedRuns → Listener → Listener → EndedRuns → Type 0
+abbrev pub TurnsBy : Bool → Option RunName → EndedRuns → Session → Session → EndedRuns → Type 0
 TurnsBy begins name before s t ended =
     (begins ≡ false → (t ≡ s) × (ended ≡ before)) × (begins ≡ true → HasTurned name before s t ended)
 
 -- the run that ended last, if it wasn't taken yet, with a packet more: the current one if the packet begins another
-abbrev pub ended_at : CardFields → List (List ℕ) → List ℕ → Option Ended → Option Ended
+abbrev pub ended_at : CardFields → List (List ℕ) → List ℕ → Option EndedRun → Option EndedRun
 ended_at card past packet before =
     if turns_at card past packet then Some (record { run = name_in (heard card past); ending = run_end card past })
     else before
@@ -103,13 +103,13 @@ abbrev pub Refusing : Receiver → List ℕ → StreamFault → List ℕ → ℕ
 Refusing s packet fault bytes steps =
     (past : List (List ℕ)) → IsAfter past s → IsCountable past → RefusesPacket true past s packet fault bytes steps
 
--- a packet is taken, whatever packets led to the receiver's state, if nothing odd is buffered after them
+-- a packet is taken, whatever packets led to the receiver's state, if no stray packet is buffered after them
 abbrev pub Opening : Receiver → List ℕ → Receiver → List ℕ → ℕ → Type 0
 Opening s packet t bytes steps = (past : List (List ℕ)) → IsAfter past s → IsCountable past →
     holds_stray (heard (card_in s) past) ≡ false → TakesPacket past s packet t bytes steps
 
--- a packet is refused and nothing of it is written, whatever packets led to the receiver's state, if nothing odd is
--- buffered after them
+-- a packet is refused and nothing of it is written, whatever packets led to the receiver's state, if no stray
+-- packet is buffered after them
 abbrev pub Leaving : Receiver → List ℕ → StreamFault → List ℕ → ℕ → Type 0
 Leaving s packet fault bytes steps = (past : List (List ℕ)) → IsAfter past s → IsCountable past →
     holds_stray (heard (card_in s) past) ≡ false → RefusesPacket false past s packet fault bytes steps
@@ -141,7 +141,7 @@ receiver_refuses s (Some packet) fault t bytes steps = Refusing s packet fault b
 -- the PID of control messages has 13 bits, and what is kept is of something that was heard
 pub record IsFit (receiver : Receiver) : Type 0 where
   pub ecm : IfSome receiver.tuning (λ tuning. tuning.ecm < 8192)
-  pub follows : (past : List Heard) × IsListenerAfter (card_in receiver) past receiver.listener
+  pub follows : (past : List Heard) × IsListenerAfter (card_in receiver) past receiver.session
 
 -- a receiver may be offered a packet
 abbrev pub IsLive : Receiver → Type 0

@@ -9,17 +9,17 @@ use Rattle.sd_message.specs.declared.ecm_part.Place.{Place}
 use Rattle.sd_message.specs.EcmVersions.{most_places}
 use Rattle.sd_spec.specs.Confirmed.{position_or_first}
 use Rattle.sd_spec.specs.Offered.{most_held}
-use Rattle.sd_receive.specs.declared.held.Held.{Held}
-use Rattle.sd_receive.specs.declared.tracks.Tracks.{Tracks}
-use Rattle.sd_receive.specs.declared.tracks.TheConstants.{PIDS}
+use Rattle.sd_receive.specs.declared.buffer.tracked.HeldPacket.{HeldPacket}
+use Rattle.sd_receive.specs.declared.buffer.tracked.TrackedPackets.{TrackedPackets}
+use Rattle.sd_receive.specs.declared.buffer.tracked.TheConstants.{PIDS}
 
 -- the PIDs of places
 abbrev pub pids_in : List Place → List ℕ
 pids_in places = map (λ (p : Place). p.pid) places
 
 -- the buffered packets, without their numbers and positions
-abbrev pub packets_in : List Held → List (List ℕ)
-packets_in held = map (λ (h : Held). h.packet) held
+abbrev pub packets_in : List HeldPacket → List (List ℕ)
+packets_in held = map (λ (h : HeldPacket). h.packet) held
 
 -- the position of a PID after these packets, from its place on [this project, docs/FORMATS.md, Receiver]
 unfoldable pub led_to : List Place → List (List ℕ) → ℕ → ℕ
@@ -44,13 +44,13 @@ abbrev pub AreKnown : List Place → Type 0
 AreKnown places = All (λ place. place.pid < PIDS) places
 
 -- each buffered packet has the position to which it led its PID
-abbrev pub HaveOwn : List Place → List Held → Type 0
+abbrev pub HaveOwn : List Place → List HeldPacket → Type 0
 HaveOwn places held =
-    (k : ℕ) (d : Held) → k < length held
+    (k : ℕ) (d : HeldPacket) → k < length held
     → (get_or held k d).position ≡ led_to places (take (k + 1) (packets_in held)) (pid_of (get_or held k d).packet)
 
 -- what is kept: places and packets within their room, and the positions to which the packets lead
-pub record IsKept (tracks : Tracks) : Type 0 where
+pub record IsKept (tracks : TrackedPackets) : Type 0 where
   pub few : length tracks.held.items ≤ most_held
   pub room : most_held ≤ vec_capacity tracks.held
   pub space : most_places ≤ vec_capacity tracks.places

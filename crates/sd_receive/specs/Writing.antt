@@ -10,15 +10,15 @@ use Rattle.sd_message.specs.EcmForm.{AreShort}
 use Rattle.sd_message.specs.EcmParts.{Message}
 use Rattle.sd_message.specs.declared.ecm_part.Place.{Place}
 use Rattle.sd_spec.specs.Confirmed.{Segment, Wrote, written_from, position_in, is_near_to, is_confirmed}
-use Rattle.sd_receive.specs.Holding.{Holding, held_pair}
+use Rattle.sd_receive.specs.PacketBuffer.{Holding, held_pair}
 use Rattle.sd_receive.specs.Tracking.{led_to, IsKept}
-use Rattle.sd_receive.specs.Pids.{has_pid}
-use Rattle.sd_receive.specs.declared.pids.Pids.{Pids}
-use Rattle.sd_receive.specs.declared.tracks.TheConstants.{PIDS}
-use Rattle.sd_receive.specs.declared.held.Held.{Held}
-use Rattle.sd_receive.specs.declared.confirm.Confirming.{Confirming}
-use Rattle.sd_receive.specs.declared.segment_fault.SegmentFault.{SegmentFault}
-use Rattle.sd_receive.specs.declared.segment_fault.SegmentFault.TheVariants as Fault
+use Rattle.sd_receive.specs.PidSet.{has_pid}
+use Rattle.sd_receive.specs.declared.buffer.pid_set.PidSet.{PidSet}
+use Rattle.sd_receive.specs.declared.buffer.tracked.TheConstants.{PIDS}
+use Rattle.sd_receive.specs.declared.buffer.tracked.HeldPacket.{HeldPacket}
+use Rattle.sd_receive.specs.declared.buffer.release.Release.{Release}
+use Rattle.sd_receive.specs.declared.buffer.BufferFault.{BufferFault}
+use Rattle.sd_receive.specs.declared.buffer.BufferFault.TheVariants as Fault
 
 -- a message with this control word's number and these places, and nothing else
 abbrev pub bare : ℕ → List Place → Message
@@ -58,14 +58,14 @@ pub record HasStopped (old new : SinkState) (bytes : List ℕ) : Type 0 where
   pub room : IsTooShort old.room (length bytes)
 
 -- a sink took what is written, up to the packet that is refused or the write that failed, with this answer
-abbrev pub WriteOutcome : Wrote → SinkState → SinkState → Result ℕ SegmentFault → Type 0
+abbrev pub WriteOutcome : Wrote → SinkState → SinkState → Result ℕ BufferFault → Type 0
 WriteOutcome wrote old new (Ok n) = (wrote.refused ≡ None) × (n ≡ length wrote.packets) ×
     TookBytes old new (concat wrote.packets)
 WriteOutcome wrote old new (Err (Fault.Parity k)) = (wrote.refused ≡ Some k) × TookBytes old new (concat wrote.packets)
 WriteOutcome wrote old new (Err Fault.Write) = IsCutShort old new (λ bytes. bytes ≡ concat wrote.packets)
 
 -- what is buffered, as contracts see it
-abbrev pub holding_in : Confirming → Holding
+abbrev pub holding_in : Release → Holding
 holding_in c = record {
   number = c.word.now.number;
   word = c.word.now.bytes;
@@ -74,34 +74,34 @@ holding_in c = record {
 }
 
 -- the segment between the two messages
-unfoldable pub segment_in : Confirming → Segment
+unfoldable pub segment_in : Release → Segment
 segment_in c = segment_of (holding_in c) c.ca c.ecm c.last.now
 
 -- what is written of the first k packets of the segment
-unfoldable pub first_wrote : Confirming → ℕ → Wrote
+unfoldable pub first_wrote : Release → ℕ → Wrote
 first_wrote c k = written_from (segment_in c) [] (take k (holding_in c).held)
 
 -- a sink took what is written of the first k packets, which is this number of packets, and none is refused
-pub record IsWritten (c : Confirming) (k : ℕ) (old new : SinkState) (count : ℕ) : Type 0 where
+pub record IsWritten (c : Release) (k : ℕ) (old new : SinkState) (count : ℕ) : Type 0 where
   pub calm : (first_wrote c k).refused ≡ None
   pub counted : count ≡ length (first_wrote c k).packets
   pub took : TookBytes old new (concat (first_wrote c k).packets)
 
 -- the PID of control messages has 13 bits, and the positions of the next one 48
-pub record IsReady (c : Confirming) : Type 0 where
+pub record IsReady (c : Release) : Type 0 where
   pub ecm : c.ecm < 8192
   pub short : AreShort c.last.now
   pub kept : IsKept c.tracks.now
 
 -- a buffered packet after others has the position to which it led its PID
-pub record IsOwn (c : Confirming) (before : List (List ℕ)) (held : Held) : Type 0 where
+pub record IsOwn (c : Release) (before : List (List ℕ)) (held : HeldPacket) : Type 0 where
   pub position : held.position ≡ led_to c.tracks.now.places.items (before ++ held.packet ∷ []) (pid_of held.packet)
 
 -- the PIDs with a position among these places that is near to the one in this table by PID
-pub record AreNear (tracked : List ℕ) (places : List Place) (pids : Pids) : Type 0 where
+pub record AreNear (tracked : List ℕ) (places : List Place) (pids : PidSet) : Type 0 where
   pub at : (pid : ℕ) → pid < PIDS → has_pid pids pid
       ≡ option_map_or (is_near_to (get_or tracked pid 0)) (position_in places pid) false
 
 -- the PIDs that are confirmed
-pub record AreConfirmed (c : Confirming) (pids : Pids) : Type 0 where
+pub record AreConfirmed (c : Release) (pids : PidSet) : Type 0 where
   pub at : (pid : ℕ) → pid < PIDS → has_pid pids pid ≡ is_confirmed (segment_in c) pid

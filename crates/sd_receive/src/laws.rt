@@ -1,15 +1,19 @@
 //! What a receiver does with packets that are offered one after the other, and which packets change nothing it keeps.
 
-ghost use Rattle.std.specs.Prelude.{◌≡◌, ℕ, ◌+◌, ◌-◌, ◌^◌, ◌<◌, ◌≤◌, ◌++◌, ◌∷◌, [], List, length, true};
+ghost use Rattle.std.specs.Prelude.{◌≡◌, ℕ, ◌+◌, ◌-◌, ◌^◌, ◌<◌, ◌≤◌, ◌++◌, ◌∷◌, [], List, length, true, map, Some};
 ghost use Rattle.sd_engine.specs.Stage.{Chain};
 ghost use Rattle.sd_message.specs.declared.stream_fault.StreamFault.{StreamFault};
-ghost use Rattle.sd_receive.specs.Receiving.{card_in, IsAfter, receiver_does, Refusing, OutcomeOf, BreakAt};
-ghost use Rattle.sd_receive.specs.declared.receiver.Receiver.{Receiver};
 ghost use Rattle.sd_site.specs.CardFields.{CardFields};
 ghost use Rattle.sd_spec.specs.Heard.{Heard};
 ghost use Rattle.sd_spec.specs.Stretches.{current, seen};
-ghost use Rattle.sd_receive.specs.Entitled.{IsEntitled, tells_nothing};
-ghost use Rattle.sd_receive.specs.declared.entitled.Entitled.{Entitled};
+ghost use Rattle.sd_message.specs.EcmParts.{Message};
+ghost use Rattle.sd_spec.specs.Confirmed.{written_from};
+ghost use Rattle.sd_receive.specs.Receiving.{card_in, IsAfter, receiver_does, Refusing, OutcomeOf, BreakAt};
+ghost use Rattle.sd_receive.specs.declared.receiver.Receiver.{Receiver};
+ghost use Rattle.sd_receive.specs.PeriodKeys.{IsEntitled, tells_nothing};
+ghost use Rattle.sd_receive.specs.declared.emm.PeriodKeys.{PeriodKeys};
+ghost use Rattle.sd_receive.specs.PacketBuffer.{after_message};
+ghost use Rattle.sd_receive.specs.Writing.{wrote_of};
 
 /// If none of the packets is refused, a receiver writes what the specification says of them, and its state is the one
 /// after them. The steps of the generator that it takes are at most the height of the tree times the number of packets
@@ -44,6 +48,19 @@ pub fn nothing_ahead()
 
 /// A packet that is no section and completes no message changes nothing that is kept.
 pub fn others_leave_it()
-    ensures { (card : CardFields) (heard : Heard) (tr : List Heard) (state : Entitled) →
+    ensures { (card : CardFields) (heard : Heard) (tr : List Heard) (state : PeriodKeys) →
         tells_nothing tr heard ≡ true → IsEntitled card tr state → IsEntitled card (heard ∷ tr) state }
+{}
+
+/// What a buffer writes of the packets held back after a message is what that message and the next one confirm.
+pub fn held_packets_are_confirmed()
+    ensures { (a b : Message) (word : List ℕ) (ca ecm : ℕ) (held : List (ℕ × List ℕ)) →
+        wrote_of (Some (after_message a word held)) ca ecm b.places ≡ written_from (record {
+          first = a;
+          last = b;
+          word = word;
+          ca = ca;
+          ecm = ecm;
+          packets = map (λ h. h.1) held;
+        }) [] held }
 {}

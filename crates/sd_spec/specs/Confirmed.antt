@@ -49,19 +49,19 @@ unmarked segment packet =
     if is_placed packet && is_none (restore_fault segment.ca segment.ecm packet) then restored packet else packet
 
 -- the packet can't be one under the control word of this number
-abbrev pub is_odd_under : ℕ → Packet → Bool
-is_odd_under word packet = not (is_placed packet) || not (scrambling_of packet == 2 + word % 2)
+abbrev pub is_foreign_under : ℕ → Packet → Bool
+is_foreign_under word packet = not (is_placed packet) || not (scrambling_of packet == 2 + word % 2)
 
 -- the packet can't be one under the control word
-abbrev pub is_odd : Segment → Packet → Bool
-is_odd segment packet = is_odd_under segment.first.word packet
+abbrev pub is_foreign : Segment → Packet → Bool
+is_foreign segment packet = is_foreign_under segment.first.word packet
 
 -- what is written of a buffered packet after those before it, one packet or none; or its number, if it is refused [this
 -- project, docs/FORMATS.md, Receiver]
 unfoldable pub judged : Segment → Packets → PacketNumber × Packet → Result Packets PacketNumber
 judged segment before held =
     if scrambling_of held.1 == 0 then Ok (unmarked segment held.1 ∷ [])
-    else if is_odd segment held.1 then Err held.0
+    else if is_foreign segment held.1 then Err held.0
     else if is_confirmed segment (pid_of held.1)
     then Ok (descrambled held.1 segment.word (tracked segment.first (pid_of held.1) (before ++ held.1 ∷ [])) ∷ [])
     else Ok []

@@ -12,7 +12,7 @@ use Rattle.sd_message.specs.declared.ecm_part.Place.{Place}
 use Rattle.sd_spec.specs.Tuned.{tuning_of}
 use Rattle.sd_spec.specs.Heard.{Heard, Dropped, Entitles, Controls, BadEmm, BadEcm, Other, hears}
 use Rattle.sd_spec.specs.Stretches.{counted, run_of, newest, is_closed, held_in}
-use Rattle.sd_spec.specs.Confirmed.{is_odd_under}
+use Rattle.sd_spec.specs.Confirmed.{is_foreign_under}
 use Rattle.sd_spec.specs.Offered.{heard, offered, same_header}
 use Rattle.sd_spec.specs.Taken.{takes_key_at}
 
@@ -63,7 +63,7 @@ is_doubled card past packet = is_copy past packet
 -- [this project, docs/FORMATS.md, Receiver]
 unfoldable pub is_stray : List Heard → Heard → Bool
 is_stray past (Other n packet) = not (is_closed past) && (is_scrambled_packet packet
-    && option_map_or (λ message. is_odd_under message.word packet) (newest past).message false)
+    && option_map_or (λ message. is_foreign_under message.word packet) (newest past).message false)
 is_stray past Dropped = false
 is_stray past (Entitles emm) = false
 is_stray past (Controls part) = false
@@ -73,7 +73,7 @@ is_stray past (BadEcm fault) = false
 -- a packet that is buffered after the newest message can't be under that message's control word
 unfoldable pub holds_stray : List Heard → Bool
 holds_stray past = option_map_or
-    (λ message. list_any (λ held. is_scrambled_packet held.1 && is_odd_under message.word held.1)
+    (λ message. list_any (λ held. is_scrambled_packet held.1 && is_foreign_under message.word held.1)
     (held_in (newest past))) (newest past).message false
 
 -- the packet is odd, after these that counted

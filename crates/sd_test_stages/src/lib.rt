@@ -2,19 +2,19 @@
 #![tactic(auto)]
 
 #[cfg(test)]
-mod clear;
+mod assembler;
 #[cfg(test)]
-mod collect;
+mod buffer;
+#[cfg(test)]
+mod clear;
 #[cfg(test)]
 mod ending;
 #[cfg(test)]
-mod entitled;
-#[cfg(test)]
 mod entitling;
 #[cfg(test)]
-mod head;
+mod filter;
 #[cfg(test)]
-mod hearing;
+mod head;
 #[cfg(test)]
 mod live;
 #[cfg(test)]
@@ -22,10 +22,10 @@ mod made;
 #[cfg(test)]
 mod packets;
 #[cfg(test)]
+mod period_keys;
+#[cfg(test)]
 mod receive;
 #[cfg(test)]
 mod sections;
-#[cfg(test)]
-mod segment;
 #[cfg(test)]
 mod watch;

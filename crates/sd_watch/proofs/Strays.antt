@@ -13,7 +13,7 @@ use Rattle.sd_spec.specs.Tuned.{tuning_of}
 use Rattle.sd_spec.specs.Heard.{Heard, Dropped, Entitles, Controls, BadEmm, BadEcm, Other, hears}
 use Rattle.sd_spec.specs.Stretches.{newest, completed, stretched, others, is_closed}
 use Rattle.sd_spec.specs.Runs.{is_turn, of_run}
-use Rattle.sd_spec.specs.Confirmed.{is_odd_under}
+use Rattle.sd_spec.specs.Confirmed.{is_foreign_under}
 use Rattle.sd_spec.specs.Offered.{heard, heard_more, heard_with, offered}
 use Rattle.sd_spec.specs.Counting.{is_marked, is_doubled, is_scrambled_packet, is_stray, is_stray_at, holds_stray}
 use Rattle.sd_spec.specs.Counting.{counts, counting}
@@ -21,7 +21,7 @@ use Rattle.sd_watch.proofs.Counted.{past_with, counted_past}
 
 -- a packet with its number is scrambled, and can't be under the control word of this message
 abbrev is_bad : Message → PacketNumber × Packet → Bool
-is_bad message held = is_scrambled_packet held.1 && is_odd_under message.word held.1
+is_bad message held = is_scrambled_packet held.1 && is_foreign_under message.word held.1
 
 -- one of the packets that are buffered can't be under the message's control word, if there is a message
 abbrev has_bad : Option Message → List Heard → Bool
@@ -35,7 +35,7 @@ no_more true b none good = absurd cc
 -- one more that isn't odd
 more_good : (message : Option Message) (after : List Heard) (n : PacketNumber) (packet : Packet) →
     has_bad message after ≡ false →
-    (is_scrambled_packet packet && option_map_or (λ m. is_odd_under m.word packet) message false) ≡ false →
+    (is_scrambled_packet packet && option_map_or (λ m. is_foreign_under m.word packet) message false) ≡ false →
     has_bad message (Other n packet ∷ after) ≡ false
 unfolding others
 more_good None after n packet none good = refl
@@ -63,7 +63,7 @@ more_heard past (BadEcm fault) None is unclosed none good = none
 more_heard past (Other n packet) None is unclosed none good =
     more_good (newest past).message (newest past).after n packet none
     (open_good (is_scrambled_packet packet
-    && option_map_or (λ m. is_odd_under m.word packet) (newest past).message false) (is_closed past) unclosed good)
+    && option_map_or (λ m. is_foreign_under m.word packet) (newest past).message false) (is_closed past) unclosed good)
 
 pub holds_more : (past : List Heard) (thing : Heard) → is_closed past ≡ false → holds_stray past ≡ false →
     is_stray past thing ≡ false → holds_stray (thing ∷ past) ≡ false

@@ -7,7 +7,7 @@ use Rattle.sd_engine.specs.Stage.{SinkState, HasGrown, IsCutShort}
 use Rattle.sd_spec.specs.declared.report.Report.{Report}
 use Rattle.sd_spec.specs.declared.report.Tally.{Tally}
 use Rattle.sd_spec.specs.Offered.{out_from}
-use Rattle.sd_receive.specs.Listening.{capped}
+use Rattle.sd_receive.specs.Session.{capped}
 use Rattle.sd_receive.specs.Receiving.{IsAfter, IsFit, receiver_does, Leaving, CutsBy, ended_at}
 use Rattle.sd_receive.specs.declared.receiver.Receiver.{Receiver}
 use Rattle.sd_watch.specs.Numbered.{renumbered}

@@ -22,7 +22,7 @@ use Rattle.sd_spec.specs.Ending.{turns_at}
 use Rattle.sd_spec.specs.Taken.{takes_key_at}
 use Rattle.sd_spec.specs.Counting.{is_marked, is_doubled, is_stray_at, counts, counting, tried_keys}
 use Rattle.sd_spec.specs.Reports.{run_end, tally_from, report_of, turns_after}
-use Rattle.sd_receive.specs.Listening.{capped}
+use Rattle.sd_receive.specs.Session.{capped}
 use Rattle.sd_receive.specs.Receiving.{steps_at}
 use Rattle.sd_receive.specs.declared.receiver.Receiver.{Receiver}
 use Rattle.sd_watch.specs.Numbered.{renumbered}

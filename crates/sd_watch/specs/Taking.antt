@@ -9,9 +9,9 @@ use Rattle.sd_spec.specs.declared.report.Report.{Report}
 use Rattle.sd_spec.specs.declared.report.Tally.{Tally}
 use Rattle.sd_spec.specs.Offered.{heard, offered, out_from}
 use Rattle.sd_spec.specs.Counting.{is_marked, is_doubled, is_stray_at, holds_stray}
-use Rattle.sd_receive.specs.Listening.{capped}
+use Rattle.sd_receive.specs.Session.{capped}
 use Rattle.sd_receive.specs.Receiving.{ended_at, steps_at}
-use Rattle.sd_receive.specs.declared.ended.Ended.{Ended}
+use Rattle.sd_receive.specs.declared.receiver.ended.EndedRun.{EndedRun}
 use Rattle.sd_watch.specs.Numbered.{renumbered}
 use Rattle.sd_watch.specs.Tallied.{tally_refuse}
 use Rattle.sd_watch.specs.Watching.{card_of, IsKept}
@@ -29,7 +29,7 @@ uncounted_at card past packet =
     else None
 
 -- the report before a packet, if that ends a run
-abbrev pub report_on : Tally → ℕ → ℕ → Ended → Report
+abbrev pub report_on : Tally → ℕ → ℕ → EndedRun → Report
 report_on tally packets written ended =
     record { tally = tally; packets = packets; written = written; run = ended.run; ending = ended.ending }
 

@@ -20,7 +20,7 @@ use sd_engine::StageFault;
 use sd_message::StreamFault;
 use sd_packet::Packet;
 use sd_ports::{PortFault, Sink};
-use sd_receive::{Ended, Receiver};
+use sd_receive::{EndedRun, Receiver};
 use sd_site::Card;
 use sd_spec::{Ending, Report, Tally};
 use sd_tree::Leaf;
@@ -194,11 +194,11 @@ impl Watcher {
 
     // The report before a packet, if that ended a run.
     #[inline(always)]
-    fn report_on(&self, written: u64, ended: Option<Ended>) -> Option<Report>
+    fn report_on(&self, written: u64, ended: Option<EndedRun>) -> Option<Report>
         ensures { result ≡ option_map (report_on self.now.tally self.now.packets written) ended }
     {
         match ended {
-            Some(Ended { run, ending }) => Some(Report {
+            Some(EndedRun { run, ending }) => Some(Report {
                 tally: self.tally,
                 packets: self.packets,
                 written,

@@ -7,7 +7,6 @@ use Rattle.sd_receive.specs.Receiving.{card_in}
 use Rattle.sd_receive.proofs.Asked.{stray_heard, dropped_unstray, emm_unstray, ecm_unstray}
 use Rattle.sd_receive.proofs.receiver.Receiver.is_stray.Goals as goal
 
--- src/again.rt:34:5
 pub returns-in-Other : goal.returns-in-Other
 returns-in-Other c past after =
     let card = card_in c.args.self.now in
@@ -15,7 +14,6 @@ returns-in-Other c past after =
     c.is_stray.result after c.in-Some.is (c.channel_of.ensures.other c.in-Other.is card.height (length past))
     (c.is_stray.ensures card (heard_in card past) (length past) after.follows)
 
--- src/again.rt:34:5
 pub returns-in-Cat : goal.returns-in-Cat
 returns-in-Cat c past after =
     let card = card_in c.args.self.now in

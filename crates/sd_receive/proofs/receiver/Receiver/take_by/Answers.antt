@@ -1,7 +1,7 @@
 use Rattle.std.proofs.Common.{◌≡◌, ◌+◌, ◌∙◌, ap, arith, ℕ}
 use Rattle.sd_engine.specs.Stage.{vessel}
 use Rattle.sd_psi.specs.OurCat.{cat_tuning}
-use Rattle.sd_receive.specs.Listening.{capped}
+use Rattle.sd_receive.specs.Session.{capped}
 use Rattle.sd_receive.specs.Receiving.{receiver_does}
 use Rattle.sd_engine.specs.declared.stage.StageFault.TheVariants.{Write, Refused}
 use Rattle.sd_engine.proofs.Answering.{ok_is_no_err, success_is_calm}

@@ -8,11 +8,11 @@ use Rattle.sd_message.specs.declared.stream_fault.StreamFault.{StreamFault}
 use Rattle.sd_spec.specs.Heard.{Heard}
 use Rattle.sd_spec.specs.Offered.{heard}
 use Rattle.sd_spec.specs.Runs.{are_two, run_name_heard}
-use Rattle.sd_receive.specs.Ears.{heard_as}
-use Rattle.sd_receive.specs.Listening.{IsListenerAfter, capped, heard_of_run, IsJudgedAs, Judgement, TakesHeard}
-use Rattle.sd_receive.specs.Listening.{RefusesHeard, CutsHeard, PacketOutcome}
+use Rattle.sd_receive.specs.Filter.{heard_as}
+use Rattle.sd_receive.specs.Session.{IsListenerAfter, capped, heard_of_run, IsJudgedAs, Judgement, TakesHeard}
+use Rattle.sd_receive.specs.Session.{RefusesHeard, CutsHeard, PacketOutcome}
 use Rattle.sd_receive.specs.Receiving.{card_in, receiver_does, RefusesBy}
-use Rattle.sd_receive.specs.declared.ended.EndedRuns.{EndedRuns}
+use Rattle.sd_receive.specs.declared.receiver.ended.EndedRuns.{EndedRuns}
 use Rattle.sd_receive.proofs.Receiving.{counted, listening, thing_of, found_of, idle_closed, over_parts, heard_does}
 use Rattle.sd_receive.proofs.Receiving.{heard_refuses, judged_refuses, turned_follows, turned_open, begins_none, stands_after}
 use Rattle.sd_receive.proofs.Receiving.{fit_after, of_taken, grew_of, refused_of, cut_of, cuts_by, grew_none, grew_by_steps}
@@ -25,7 +25,7 @@ returns-then-is_over-clause-value g c =
     let strict = c.args.strict in
     let packet = c.args.packet.now in
     let is = c.requires.heard s.count in
-    let over = over_parts s.listener.closed c.differ-begins.result (sym c.is_over.ensures ∙ c.if-is_over.true) in
+    let over = over_parts s.session.closed c.differ-begins.result (sym c.is_over.ensures ∙ c.if-is_over.true) in
     let same = ap (λ (n : Option (Option ℕ)). are_two s.name n)
     (c.name_of-name.ensures s.count packet ∙ ap run_name_heard is) in
     let added : c.saturating_add-self.result ≡ capped (s.count + 1) = omega arith in
@@ -59,7 +59,7 @@ returns-in-Err-clause-fault g c = λ fault same.
 pub take-requires-clause-open : goal.take-requires-clause-open
 take-requires-clause-open g c =
     turned_open (card_in c.args.self.now) c.differ-begins.result c.args.self.now.name c.args.self.now.ended c.turn.new.self
-    c.args.self.now.listener c.turn.new.listener c.turn.ensures c.requires.fit.follows
+    c.args.self.now.session c.turn.new.session c.turn.ensures c.requires.fit.follows
     (sym c.is_over.ensures ∙ c.if-is_over.false)
 
 -- it is refused when it is taken, or a write failed
@@ -79,9 +79,9 @@ returns-in-Err-take-clause-fault g c = λ fault why.
     (λ past follows. c.judge.ensures.steps packet past follows) in
     let card = card_in s in
     let key = c.judge.new.key in
-    let u = c.turn.new.listener in
+    let u = c.turn.new.session in
     let t = c.take.new.self in
-    let judged = subst (λ (h : Heard). (past : List Heard) → IsListenerAfter card past s.listener →
+    let judged = subst (λ (h : Heard). (past : List Heard) → IsListenerAfter card past s.session →
     IsJudgedAs card s.count (heard_of_run begins past) h key) is
     (λ past follows. c.in-Ok.ensures.value packet past follows) in
     let comes = subst (λ (h : Heard). PacketOutcome (TakesHeard true card kept s.count h key u)
@@ -100,13 +100,13 @@ returns-in-Err-take-clause-stands g c = λ fault why past after.
     let s = c.args.self.now in
     let packet = c.args.packet.now in
     let none = begins_none c.args.strict s packet c.args.tuning c.args.heard c.differ-begins.result c.judge.new.key
-    c.turn.new.self c.turn.new.listener c.take.new.self (CutsHeard c.args.strict (card_in s) c.args.tuning s.count
-    (heard_as s.count packet c.args.heard) c.judge.new.key c.turn.new.listener) (vessel g.K.Sink c.args.out.now)
+    c.turn.new.self c.turn.new.session c.take.new.self (CutsHeard c.args.strict (card_in s) c.args.tuning s.count
+    (heard_as s.count packet c.args.heard) c.judge.new.key c.turn.new.session) (vessel g.K.Sink c.args.out.now)
     (vessel g.K.Sink c.take.new.out) c.take.result fault c.requires.form
     (c.differ-begins.ensures ∙ ap (λ (n : Option (Option ℕ)). are_two s.name n) (c.name_of-name.ensures s.count packet))
     c.turn.ensures (λ past follows. c.in-Ok.ensures.value packet past follows) (c.in-Err-take.is ∙ why)
     c.take.ensures.value (heard (card_in s) past) after.follows in
-    stands_after c.differ-begins.result s c.turn.new.self c.turn.new.listener c.take.new.self none c.turn.ensures
+    stands_after c.differ-begins.result s c.turn.new.self c.turn.new.session c.take.new.self none c.turn.ensures
     (c.take.ensures.stands fault (c.in-Err-take.is ∙ why)) past after
 
 pub returns-in-Err-take-clause-same : goal.returns-in-Err-take-clause-same
@@ -115,8 +115,8 @@ returns-in-Err-take-clause-same g c = λ fault why.
     let packet = c.args.packet.now in
     let l = c.requires.fit.follows in
     let none = begins_none c.args.strict s packet c.args.tuning c.args.heard c.differ-begins.result c.judge.new.key
-    c.turn.new.self c.turn.new.listener c.take.new.self (CutsHeard c.args.strict (card_in s) c.args.tuning s.count
-    (heard_as s.count packet c.args.heard) c.judge.new.key c.turn.new.listener) (vessel g.K.Sink c.args.out.now)
+    c.turn.new.self c.turn.new.session c.take.new.self (CutsHeard c.args.strict (card_in s) c.args.tuning s.count
+    (heard_as s.count packet c.args.heard) c.judge.new.key c.turn.new.session) (vessel g.K.Sink c.args.out.now)
     (vessel g.K.Sink c.take.new.out) c.take.result fault c.requires.form
     (c.differ-begins.ensures ∙ ap (λ (n : Option (Option ℕ)). are_two s.name n) (c.name_of-name.ensures s.count packet))
     c.turn.ensures (λ past follows. c.in-Ok.ensures.value packet past follows) (c.in-Err-take.is ∙ why)
@@ -133,7 +133,7 @@ returns-in-Err-take-clause-fit g c = λ fault why.
       follows = (
         heard_of_run begins l.0,
         (c.take.ensures.stands fault (c.in-Err-take.is ∙ why)).follows (heard_of_run begins l.0)
-            (turned_follows (card_in s) begins s.name s.ended c.turn.new.self s.listener c.turn.new.listener
+            (turned_follows (card_in s) begins s.name s.ended c.turn.new.self s.session c.turn.new.session
             c.turn.ensures l.0 l.1),
       );
     }
@@ -154,9 +154,9 @@ returns-in-Err-take-clause-prefix g c = λ failed.
     (λ past follows. c.judge.ensures.steps packet past follows) in
     let card = card_in s in
     let key = c.judge.new.key in
-    let u = c.turn.new.listener in
+    let u = c.turn.new.session in
     let t = c.take.new.self in
-    let judged = subst (λ (h : Heard). (past : List Heard) → IsListenerAfter card past s.listener →
+    let judged = subst (λ (h : Heard). (past : List Heard) → IsListenerAfter card past s.session →
     IsJudgedAs card s.count (heard_of_run begins past) h key) is
     (λ past follows. c.in-Ok.ensures.value packet past follows) in
     let comes = subst (λ (h : Heard). PacketOutcome (TakesHeard true card kept s.count h key u)
@@ -197,9 +197,9 @@ returns-clause-value g c =
     (λ past follows. c.judge.ensures.steps packet past follows) in
     let card = card_in s in
     let key = c.judge.new.key in
-    let u = c.turn.new.listener in
+    let u = c.turn.new.session in
     let t = c.take.new.self in
-    let judged = subst (λ (h : Heard). (past : List Heard) → IsListenerAfter card past s.listener →
+    let judged = subst (λ (h : Heard). (past : List Heard) → IsListenerAfter card past s.session →
     IsJudgedAs card s.count (heard_of_run begins past) h key) is
     (λ past follows. c.in-Ok.ensures.value packet past follows) in
     let comes = subst (λ (h : Heard). PacketOutcome (TakesHeard true card kept s.count h key u)
@@ -234,9 +234,9 @@ returns-clause-ok g c =
     (λ past follows. c.judge.ensures.steps packet past follows) in
     let card = card_in s in
     let key = c.judge.new.key in
-    let u = c.turn.new.listener in
+    let u = c.turn.new.session in
     let t = c.take.new.self in
-    let judged = subst (λ (h : Heard). (past : List Heard) → IsListenerAfter card past s.listener →
+    let judged = subst (λ (h : Heard). (past : List Heard) → IsListenerAfter card past s.session →
     IsJudgedAs card s.count (heard_of_run begins past) h key) is
     (λ past follows. c.in-Ok.ensures.value packet past follows) in
     let comes = subst (λ (h : Heard). PacketOutcome (TakesHeard true card kept s.count h key u)
@@ -248,8 +248,8 @@ returns-clause-ok g c =
     (thing_of s kept packet) key (RefusesHeard strict card kept s.count (thing_of s kept packet) u)
     (CutsHeard strict card kept s.count (thing_of s kept packet) key u) (vessel g.K.Sink c.args.out.now) (vessel g.K.Sink c.take.new.out) c.take.result (
       heard_of_run begins l.0,
-      turned_follows card begins s.name s.ended c.turn.new.self s.listener u c.turn.ensures l.0 l.1,
+      turned_follows card begins s.name s.ended c.turn.new.self s.session u c.turn.ensures l.0 l.1,
       judged l.0 l.1,
     )
-    (turned_open card begins s.name s.ended c.turn.new.self s.listener u c.turn.ensures l found.goes_on)
+    (turned_open card begins s.name s.ended c.turn.new.self s.session u c.turn.ensures l found.goes_on)
     c.requires.fit.ecm comes)

@@ -1,5 +1,0 @@
-use Rattle.sd_receive.proofs.HoldWalking.{between_messages}
-use Rattle.sd_receive.proofs.hold_laws.held_packets_are_confirmed.Goals as goal
-
-pub returns : goal.returns
-returns c = λ a b word ca ecm held. between_messages a b word ca ecm held

@@ -1,9 +1,0 @@
-use Rattle.std.proofs.Common.{refl}
-use Rattle.sd_receive.proofs.Listening.{follows_none}
-use Rattle.sd_receive.proofs.listener.Listener.new.Goals as goal
-
-pub returns : goal.returns
-returns c = (
-  refl,
-  λ card. follows_none card _ refl (c.in_ok-entitled.ensures card) c.in_ok-collect.ensures c.in_ok-segment.ensures,
-)
