@@ -1,7 +1,7 @@
 -- What is wrong with a section of entitlements, by what was read of it.
 use Rattle.std.proofs.Common.{◌≡◌, ℕ, ◌-◌, List, length, take, drop, refl, sym, ap, ◌∙◌, subst}
 use Rattle.std.specs.Prelude.{Bool, replicate, ◌↔◌}
-use Rattle.std.proofs.lemmas.List.{take_at, drop_at}
+use Rattle.std.proofs.lemmas.List.{take_at, take_rest, drop_at}
 use Rattle.sd_tree.specs.SetNames.{AreAscending}
 use Rattle.sd_message.specs.EmmSpelled.{listed_entries, names_in}
 use Rattle.sd_message.specs.EmmForm.{no_entry, AreSets, IsEmm}
@@ -99,36 +99,52 @@ same_listed named index body head count entries is counted read =
     ap (λ (n : ℕ). take n entries) counted ∙ ap listed_entries
     (is_whole named index body head count entries is counted read)
 
+-- the head was read and its count is good, and so were the entries, which are sets
+pub record AreRead (h : ℕ) (named : Bool) (index : ℕ) (body : List ℕ) (head : Emm) (count : ℕ) (entries : List Entry)
+    : Type 0 where
+  pub is : IsPrefix named index body head
+  pub has : HasCount (length body) head
+  pub counted : count ≡ head.count
+  pub sets : AreSets h head.sets (entries_in count (drop (emm_head_length named) body))
+  pub read : entries ≡ padded_entries (entries_in count (drop (emm_head_length named) body))
+
+-- so it is where they were read of what stands after the head
+pub are_read : (h : ℕ) (named : Bool) (index : ℕ) (body : List ℕ) (head : Emm) (count at : ℕ) (entries : List Entry) →
+    IsPrefix named index body head → HasCount (length body) head → count ≡ head.count → at ≡ emm_head_length named →
+    AreSets h head.sets (entries_in count (take (length body - at) (drop at body))) →
+    entries ≡ padded_entries (entries_in count (take (length body - at) (drop at body))) →
+    AreRead h named index body head count entries
+are_read h named index body head count at entries is has counted starts sets read =
+    let after = take_rest body at ∙ ap (λ (n : ℕ). drop n body) starts in record {
+      is = is;
+      has = has;
+      counted = counted;
+      sets = subst (λ (l : List ℕ). AreSets h head.sets (entries_in count l)) after sets;
+      read = read ∙ ap (λ (l : List ℕ). padded_entries (entries_in count l)) after;
+    }
+
 -- the entries don't ascend
 pub order_breaks : (h : ℕ) (named : Bool) (index : ℕ) (body : List ℕ) (head : Emm) (count : ℕ) (entries : List Entry) →
-    IsPrefix named index body head →
-    HasCount (length body) head → count ≡ head.count →
-    AreSets h head.sets (entries_in count (drop (emm_head_length named) body)) →
-    entries ≡ padded_entries (entries_in count (drop (emm_head_length named) body)) →
-    ¬ AreAscending (names_in (take count entries)) →
+    AreRead h named index body head count entries → ¬ AreAscending (names_in (take count entries)) →
     BreaksIn h (length body) (emm_in named index body) Order
-order_breaks h named index body head count entries is has counted sets read unless = (
-  has_count named index body head is has,
+order_breaks h named index body head count entries are unless = (
+  has_count named index body head are.is are.has,
   (
-    (same_sets h named index body head count is counted).0 sets,
+    (same_sets h named index body head count are.is are.counted).0 are.sets,
     λ up. unless (subst (λ (es : List Entry). AreAscending (names_in es))
-        (sym (same_listed named index body head count entries is counted read)) up),
+        (sym (same_listed named index body head count entries are.is are.counted are.read)) up),
   ),
 )
 
 -- nothing is wrong
 pub is_good : (h : ℕ) (named : Bool) (index : ℕ) (body : List ℕ) (head : Emm) (count : ℕ) (entries : List Entry) →
-    IsPrefix named index body head →
-    HasCount (length body) head → count ≡ head.count →
-    AreSets h head.sets (entries_in count (drop (emm_head_length named) body)) →
-    entries ≡ padded_entries (entries_in count (drop (emm_head_length named) body)) →
-    AreAscending (names_in (take count entries)) →
+    AreRead h named index body head count entries → AreAscending (names_in (take count entries)) →
     IsGoodIn h (length body) (emm_in named index body)
-is_good h named index body head count entries is has counted sets read up = record {
-  has_count = has_count named index body head is has;
-  are_sets = (same_sets h named index body head count is counted).0 sets;
+is_good h named index body head count entries are up = record {
+  has_count = has_count named index body head are.is are.has;
+  are_sets = (same_sets h named index body head count are.is are.counted).0 are.sets;
   ascending = subst (λ (es : List Entry). AreAscending (names_in es))
-      (same_listed named index body head count entries is counted read) up;
+      (same_listed named index body head count entries are.is are.counted are.read) up;
 }
 
 -- what follows the entries is as it is to be

@@ -88,22 +88,7 @@ ecm_in version number last_number body = record {
 
 -- the same with other positions
 abbrev pub with_places : EcmPart → List Place → EcmPart
-with_places part places = record {
-  version = part.version;
-  number = part.number;
-  period = part.period;
-  word = part.word;
-  clear = part.clear;
-  since = part.since;
-  run = part.run;
-  closing = part.closing;
-  part = part.part;
-  last_part = part.last_part;
-  wrapped = part.wrapped;
-  check = part.check;
-  count = part.count;
-  positions = places;
-}
+with_places part places = record part { positions = places }
 
 -- what a section says
 abbrev pub ecm_of : List ℕ → EcmPart

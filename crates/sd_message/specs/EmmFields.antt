@@ -90,16 +90,7 @@ emm_of section = emm_in (is_named (table_id_of section)) (extension_of section) 
 
 -- the same with other entries
 abbrev pub with_entries : Emm → List Entry → Emm
-with_entries emm entries = record {
-  period = emm.period;
-  sets = emm.sets;
-  sections = emm.sections;
-  index = emm.index;
-  check = emm.check;
-  run = emm.run;
-  count = emm.count;
-  entries = entries;
-}
+with_entries emm entries = record emm { entries = entries }
 
 -- the numbers come to one another and to the length of the body: section_length is 36, or 40 where the broadcast is
 -- named, and 40 for each entry [this project, docs/FORMATS.md, Messages]

@@ -8,6 +8,7 @@ use sd_tree::compare_names;
 use std::cmp::Ordering;
 
 /// Whether each entry's set stands after all before it.
+#[tactic(auto, using(crate::proofs::EmmAscending::first_ascends, crate::proofs::EmmAscending::next_entry, crate::proofs::EmmAscending::not_after, crate::proofs::EmmAscending::all_ascend))]
 pub fn are_ascending(entries: &[Entry]) -> bool
     ensures { IsTrue result ↔ AreAscending (names_in entries.now) }
 {

@@ -3,12 +3,13 @@ use Rattle.std.specs.Prelude.{Result, Ok, Err, Option, Some}
 use Rattle.std.proofs.lemmas.Bool.{false≢true}
 use Rattle.sd_message.specs.Framed.{section_of}
 use Rattle.sd_message.specs.EcmFields.{BreaksFirst}
+use Rattle.sd_message.specs.EcmJudged.{ecm_read}
 use Rattle.sd_message.specs.declared.ecm_part.EcmPart.{EcmPart}
 use Rattle.sd_message.specs.declared.ecm_fault.EcmFault.{EcmFault}
-use Rattle.sd_message.proofs.EcmReading.{IsParted, spelled_is_packet, read_is_right, breaks_first, never_first}
-use Rattle.sd_message.proofs.EcmReading.{first_once}
-use Rattle.sd_message.proofs.EcmDeciding.{other_reads, broken_at, good_at, spelled_reads}
+use Rattle.sd_message.proofs.EcmReading.{IsParted, spelled_is_packet, read_is_right, breaks_first}
+use Rattle.sd_message.proofs.EcmDeciding.{other_reads, broken_reads, good_at, spelled_reads}
 use Rattle.sd_message.proofs.ecm_read.read_ecm.Goals as goal
+use Rattle.sd_message.proofs.ecm_read.read_ecm.Goals.{After-body}
 
 -- a part that is good and one that is broken differ, and one is broken by one fault
 err_good : (read : Result (Option EcmPart) EcmFault) (fault : EcmFault) (part : EcmPart) → read ≡ Err fault →
@@ -27,6 +28,28 @@ one_fault read found fault is other = cc
 is_broken : (c : goal.After-from_residual) → c.from_residual.result ≡ Err c.in_err-part.field-0.0
 is_broken c = search rules
 
+-- the section is taken apart into these
+are_parted : (c : After-body) → IsParted c.in-Some.section.bytes.now c.body.result.now c.table_id.result
+    c.number.result c.last_number.result
+are_parted c = record {
+  is_table = c.table_id.ensures;
+  is_number = c.number.ensures;
+  is_last = c.last_number.ensures;
+  is_body = c.body.ensures;
+}
+
+-- it breaks a rule, and that one first
+breaks : (c : goal.After-from_residual) → BreaksFirst (section_of c.args.packet.now) c.in_err-part.field-0.0
+breaks c =
+    breaks_first _ _ _ _ _ _ _ c.in-Some.ensures.value
+    (are_parted (goal.at.returns-in_err-part-clause-value c).After-body) c.in_err-part.ensures.fault
+
+-- it breaks none, and is read
+is_good : (c : goal.In_ok-part) → ecm_read c.args.packet.now ≡ Ok (Some c.in_ok-part.part)
+is_good c =
+    good_at _ _ _ _ _ _ _ (c.in-Some.ensures.some.0 refl) c.in-Some.ensures.value
+    (are_parted (goal.at.returns-clause-value c).After-body) c.in_ok-part.ensures.value c.in_ok-part.ensures.good
+
 pub returns-in_default-clause-value : goal.returns-in_default-clause-value
 returns-in_default-clause-value c = sym
     (other_reads c.args.packet.now (λ is. false≢true (c.in_default.ensures.some.1 is)))
@@ -37,106 +60,46 @@ returns-in_default-clause-complete c = λ part fits form spells.
 
 pub returns-in_err-part-clause-value : goal.returns-in_err-part-clause-value
 returns-in_err-part-clause-value c =
-    let are : IsParted c.in-Some.section.bytes.now c.body.result.now c.table_id.result c.number.result
-    c.last_number.result = record {
-      is_table = c.table_id.ensures;
-      is_number = c.number.ensures;
-      is_last = c.last_number.ensures;
-      is_body = c.body.ensures;
-    } in
-    is_broken c ∙ sym (broken_at c.args.packet.now c.in-Some.section.bytes.now c.body.result.now c.table_id.result
-    c.number.result c.last_number.result _ (c.in-Some.ensures.some.0 refl)
-    c.in-Some.ensures.value are c.in_err-part.ensures.fault)
+    is_broken c
+    ∙ sym (broken_reads c.args.packet.now _ (c.in-Some.ensures.some.0 refl)
+    (breaks c))
 
 pub returns-in_err-part-clause-complete : goal.returns-in_err-part-clause-complete
 returns-in_err-part-clause-complete c = λ part fits form spells.
-    let are : IsParted c.in-Some.section.bytes.now c.body.result.now c.table_id.result c.number.result
-    c.last_number.result = record {
-      is_table = c.table_id.ensures;
-      is_number = c.number.ensures;
-      is_last = c.last_number.ensures;
-      is_body = c.body.ensures;
-    } in
-    let bad = broken_at c.args.packet.now c.in-Some.section.bytes.now c.body.result.now c.table_id.result
-    c.number.result c.last_number.result _ (c.in-Some.ensures.some.0 refl)
-    c.in-Some.ensures.value are c.in_err-part.ensures.fault in
-    absurd (err_good _ _ part bad (spelled_reads part c.args.packet.now fits form spells))
+    absurd (err_good _ _ part (broken_reads c.args.packet.now _ (c.in-Some.ensures.some.0 refl)
+    (breaks c))
+    (spelled_reads part c.args.packet.now fits form spells))
 
 pub returns-clause-value : goal.returns-clause-value
-returns-clause-value c =
-    let are : IsParted c.in-Some.section.bytes.now c.body.result.now c.table_id.result c.number.result
-    c.last_number.result = record {
-      is_table = c.table_id.ensures;
-      is_number = c.number.ensures;
-      is_last = c.last_number.ensures;
-      is_body = c.body.ensures;
-    } in
-    sym (good_at c.args.packet.now c.in-Some.section.bytes.now c.body.result.now c.table_id.result c.number.result
-    c.last_number.result c.in_ok-part.part (c.in-Some.ensures.some.0 refl)
-    c.in-Some.ensures.value are c.in_ok-part.ensures.value c.in_ok-part.ensures.good)
+returns-clause-value c = sym (is_good c)
 
 pub returns-clause-sound : goal.returns-clause-sound
 returns-clause-sound c =
-    let are : IsParted c.in-Some.section.bytes.now c.body.result.now c.table_id.result c.number.result
-    c.last_number.result = record {
-      is_table = c.table_id.ensures;
-      is_number = c.number.ensures;
-      is_last = c.last_number.ensures;
-      is_body = c.body.ensures;
-    } in
     read_is_right c.args.packet.now c.in-Some.section.bytes.now c.body.result.now c.table_id.result c.number.result
-    c.last_number.result c.in_ok-part.part are c.in_ok-part.ensures.value
-    c.in_ok-part.ensures.bytes c.in_ok-part.ensures.good c.in-Some.ensures.is c.in-Some.ensures.begins
-    c.in-Some.ensures.spelled
+    c.last_number.result c.in_ok-part.part (are_parted (goal.at.returns-clause-sound c).After-body)
+    c.in_ok-part.ensures.value c.in_ok-part.ensures.bytes c.in_ok-part.ensures.good c.in-Some.ensures.is
+    c.in-Some.ensures.begins c.in-Some.ensures.spelled
 
 pub returns-clause-complete : goal.returns-clause-complete
 returns-clause-complete c = λ part fits form spells.
-    let are : IsParted c.in-Some.section.bytes.now c.body.result.now c.table_id.result c.number.result
-    c.last_number.result = record {
-      is_table = c.table_id.ensures;
-      is_number = c.number.ensures;
-      is_last = c.last_number.ensures;
-      is_body = c.body.ensures;
-    } in
-    sym (good_at c.args.packet.now c.in-Some.section.bytes.now c.body.result.now c.table_id.result c.number.result
-    c.last_number.result c.in_ok-part.part (c.in-Some.ensures.some.0 refl)
-    c.in-Some.ensures.value are c.in_ok-part.ensures.value c.in_ok-part.ensures.good)
-    ∙ spelled_reads part c.args.packet.now fits form spells
+    sym (is_good c) ∙ spelled_reads part c.args.packet.now fits form spells
 
 pub returns-in_err-part-clause-fault : goal.returns-in_err-part-clause-fault
 returns-in_err-part-clause-fault c = λ fault.
-    let are : IsParted c.in-Some.section.bytes.now c.body.result.now c.table_id.result c.number.result
-    c.last_number.result = record {
-      is_table = c.table_id.ensures;
-      is_number = c.number.ensures;
-      is_last = c.last_number.ensures;
-      is_body = c.body.ensures;
-    } in
-    let first = breaks_first c.args.packet.now c.in-Some.section.bytes.now c.body.result.now c.table_id.result
-    c.number.result c.last_number.result _ c.in-Some.ensures.value are
-    c.in_err-part.ensures.fault in (
-      λ is. let same : c.in_err-part.field-0.0 ≡ fault = one_fault c.from_residual.result _ _ (is_broken c) is in (
-        c.in-Some.ensures.some.0 refl,
-        subst (λ (f : EcmFault). BreaksFirst (section_of c.args.packet.now) f) same
-            first,
+    let first = breaks c in
+    let is_ecm = c.in-Some.ensures.some.0 refl in (
+      λ is. (
+        is_ecm,
+        subst (λ (f : EcmFault). BreaksFirst (section_of c.args.packet.now) f)
+            (one_fault c.from_residual.result _ _ (is_broken c) is) first,
       ),
       λ broken. is_broken c ∙
-          ap (λ (f : EcmFault). Err f) (first_once c.args.packet.now c.in-Some.section.bytes.now c.body.result.now
-          c.table_id.result c.number.result c.last_number.result _ fault
-          c.in-Some.ensures.value are c.in_err-part.ensures.fault broken.1),
+          ap (λ (f : EcmFault). Err f) (one_fault _ _ _ (broken_reads c.args.packet.now _ is_ecm first)
+          (broken_reads c.args.packet.now fault is_ecm broken.1)),
     )
 
 pub returns-clause-fault : goal.returns-clause-fault
-returns-clause-fault c = λ fault.
-    let are : IsParted c.in-Some.section.bytes.now c.body.result.now c.table_id.result c.number.result
-    c.last_number.result = record {
-      is_table = c.table_id.ensures;
-      is_number = c.number.ensures;
-      is_last = c.last_number.ensures;
-      is_body = c.body.ensures;
-    } in (
-      λ wrong. absurd (good_err c.in_ok-part.part fault wrong),
-      λ broken. absurd (never_first c.args.packet.now c.in-Some.section.bytes.now c.body.result.now c.table_id.result
-          c.number.result c.last_number.result fault
-          c.in-Some.ensures.value are c.in_ok-part.ensures.good broken.1),
-    )
+returns-clause-fault c = λ fault. (
+  λ wrong. absurd (good_err c.in_ok-part.part fault wrong),
+  λ broken. absurd (err_good _ fault _ (broken_reads c.args.packet.now fault broken.0 broken.1) (is_good c)),
+)

@@ -2,8 +2,8 @@ use Rattle.std.proofs.Common.{List, ℕ, length, drop, length-drop, arith, sym, 
 use Rattle.std.proofs.lemmas.Bool.{false≢true}
 use Rattle.std.proofs.lemmas.List.{take_rest}
 use Rattle.sd_message.specs.EmmForm.{AreSets}
-use Rattle.sd_message.specs.EmmFields.{emm_head_length, entries_in, padded_entries}
-use Rattle.sd_message.proofs.EmmJudging.{node_breaks, order_breaks, is_good, is_whole}
+use Rattle.sd_message.specs.EmmFields.{emm_head_length, entries_in}
+use Rattle.sd_message.proofs.EmmJudging.{AreRead, are_read, node_breaks, order_breaks, is_good, is_whole}
 use Rattle.sd_message.proofs.EmmSpelling.{named_read}
 use Rattle.sd_message.proofs.emm_read.read_body.Goals as goal
 
@@ -34,36 +34,23 @@ returns-then-not-read_entries-clause-fault c =
 
 pub returns-then-not-are_ascending-clause-fault : goal.returns-then-not-are_ascending-clause-fault
 returns-then-not-are_ascending-clause-fault c =
-    let after = take_rest c.args.body.now c.head_length.result
-    ∙ ap (λ (n : ℕ). drop n c.args.body.now) c.head_length.ensures.value in
-    order_breaks c.args.h c.args.named c.args.index c.args.body.now c.read_head-emm.result c.from-count.result
-    c.read_entries.new.entries c.read_head-emm.ensures
-    (c.is_counted.ensures.0 c.if-not-is_counted.false) c.from-count.ensures
-    (subst (λ (l : List ℕ). AreSets c.args.h c.read_head-emm.result.sets (entries_in c.from-count.result l)) after
-    (c.read_entries.ensures.sets.0 c.if-not-read_entries.false))
-    (c.read_entries.ensures.value c.if-not-read_entries.false
-    ∙ ap (λ (l : List ℕ). padded_entries (entries_in c.from-count.result l)) after)
+    order_breaks _ _ _ _ _ _ _
+    (are_read _ _ _ _ _ _ _ _ c.read_head-emm.ensures (c.is_counted.ensures.0 c.if-not-is_counted.false)
+    c.from-count.ensures c.head_length.ensures.value (c.read_entries.ensures.sets.0 c.if-not-read_entries.false)
+    (c.read_entries.ensures.value c.if-not-read_entries.false))
     (λ up. false≢true (c.if-not-are_ascending.ensures.1 up))
 
+-- what was read where all is well
+all_read : (c : goal.Else-not-are_ascending) → AreRead c.args.h c.args.named c.args.index c.args.body.now
+    c.read_head-emm.result c.from-count.result c.read_entries.new.entries
+all_read c =
+    are_read _ _ _ _ _ _ _ _ c.read_head-emm.ensures (c.is_counted.ensures.0 c.if-not-is_counted.false)
+    c.from-count.ensures c.head_length.ensures.value (c.read_entries.ensures.sets.0 c.if-not-read_entries.false)
+    (c.read_entries.ensures.value c.if-not-read_entries.false)
+
 pub returns-clause-value : goal.returns-clause-value
-returns-clause-value c =
-    is_whole c.args.named c.args.index c.args.body.now c.read_head-emm.result c.from-count.result
-    c.read_entries.new.entries c.read_head-emm.ensures
-    c.from-count.ensures
-    (c.read_entries.ensures.value c.if-not-read_entries.false
-    ∙ ap (λ (l : List ℕ). padded_entries (entries_in c.from-count.result l))
-    (take_rest c.args.body.now c.head_length.result
-    ∙ ap (λ (n : ℕ). drop n c.args.body.now) c.head_length.ensures.value))
+returns-clause-value c = is_whole _ _ _ _ _ _ (all_read c).is (all_read c).counted (all_read c).read
 
 pub returns-clause-good : goal.returns-clause-good
 returns-clause-good c =
-    let after = take_rest c.args.body.now c.head_length.result
-    ∙ ap (λ (n : ℕ). drop n c.args.body.now) c.head_length.ensures.value in
-    is_good c.args.h c.args.named c.args.index c.args.body.now c.read_head-emm.result c.from-count.result
-    c.read_entries.new.entries c.read_head-emm.ensures
-    (c.is_counted.ensures.0 c.if-not-is_counted.false) c.from-count.ensures
-    (subst (λ (l : List ℕ). AreSets c.args.h c.read_head-emm.result.sets (entries_in c.from-count.result l)) after
-    (c.read_entries.ensures.sets.0 c.if-not-read_entries.false))
-    (c.read_entries.ensures.value c.if-not-read_entries.false
-    ∙ ap (λ (l : List ℕ). padded_entries (entries_in c.from-count.result l)) after)
-    (c.are_ascending.ensures.0 c.if-not-are_ascending.false)
+    is_good _ _ _ _ _ _ _ (all_read c) (c.are_ascending.ensures.0 c.if-not-are_ascending.false)
