@@ -34,6 +34,7 @@ pub fn aired_streams_are_sendable()
 
 /// If each packet of a stream can be sent and none is marked, all of them are sent, and the broadcast ends with the
 /// stream. If no packet of it is refused, nothing is counted as left out.
+#[tactic(auto, using(crate::proofs::Whole::aired_whole, crate::proofs::Whole::unended, crate::proofs::Whole::none_left_out))]
 pub fn clear_streams_are_aired_whole()
     ensures whole { (site : SiteFields) (clear : Packets) → IsSendable site clear → AreUnmarked clear →
         aired site clear ≡ clear }
@@ -71,6 +72,7 @@ pub fn the_end_comes_of_a_packet_that_would_be_sent()
 
 /// What was read decides what is sent of it. The packets that are sent of the first packets of a stream are the first
 /// ones that are sent of it, and the broadcast of the stream begins with their broadcast without its closing message.
+#[tactic(auto, using(crate::proofs::Reading::aired_grows, crate::proofs::Reading::body_grows, crate::proofs::Reading::bytes_grow))]
 pub fn what_was_read_decides()
     ensures packets { (site : SiteFields) (some more : Packets) →
         (rest : Packets) × (aired site (some ++ more) ≡ aired site some ++ rest) }
