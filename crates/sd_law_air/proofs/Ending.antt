@@ -14,7 +14,7 @@ use Rattle.sd_law_broadcast.proofs.Clear.{clear_short, clear_words}
 use Rattle.sd_law_broadcast.proofs.Using.{words_suffice}
 use Rattle.sd_law_air.specs.Ended.{EndsBefore}
 use Rattle.sd_law_air.proofs.Fates.{fate_of, marked, refused, sent, ends}
-use Rattle.sd_law_air.proofs.Reading.{aired_then, ended_on}
+use Rattle.sd_law_air.proofs.Reading.{aired_then, goes_on}
 use Rattle.sd_law_air.proofs.Sendable.{aired_sendable}
 
 -- the packet before which it ends, after others, from packet n on
@@ -122,7 +122,7 @@ pub ended_before : (site : SiteFields) (packets : Packets) (k : ℕ) → EndsBef
 ended_before site packets k it =
     let at : ended_from site [] 0 (it.earlier ++ it.packet ∷ it.later)
     ≡ ended_from site (aired site it.earlier) (0 + length it.earlier) (it.packet ∷ it.later) =
-    ended_on site [] 0 it.earlier (it.packet ∷ it.later) it.on_air in
+    (goes_on site [] 0 it.earlier (it.packet ∷ it.later) it.on_air).1 in
     let place = it.place in
     let same : 0 + length it.earlier ≡ k = omega (arith, place) in
     subst (λ (them : Packets). ended_from site [] 0 them ≡ Some k) it.parts

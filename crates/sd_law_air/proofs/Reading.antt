@@ -11,45 +11,32 @@ use Rattle.sd_spec.specs.Aired.{aired, aired_from, ended_from}
 use Rattle.sd_spec.proofs.Sending.{packets_in_turn, sent_in_turn}
 use Rattle.sd_law_air.proofs.Fates.{fate_of, marked, refused, sent, ends}
 
--- if the broadcast doesn't end before the end of some packets, it goes on after them
-pub aired_on : (site : SiteFields) (before : Packets) (n : ℕ) (some more : Packets) →
+-- if the broadcast doesn't end before the end of some packets, it goes on after them, and ends where it does then
+pub goes_on : (site : SiteFields) (before : Packets) (n : ℕ) (some more : Packets) →
     ended_from site before n some ≡ None →
-    aired_from site before n (some ++ more)
-    ≡ aired_from site before n some ++ aired_from site (before ++ aired_from site before n some) (n + length some) more
+    (aired_from site before n (some ++ more)
+    ≡ aired_from site before n some ++ aired_from site (before ++ aired_from site before n some) (n + length some) more)
+    × (ended_from site before n (some ++ more)
+    ≡ ended_from site (before ++ aired_from site before n some) (n + length some) more)
 unfolding aired_from ended_from
-aired_on site before n [] more on = let same : n + 0 ≡ n = omega arith in rw (append-nil before, same) refl
-aired_on site before n (packet ∷ some) more on =
+goes_on site before n [] more on =
+    let same : n + 0 ≡ n = omega arith in (rw (append-nil before, same) refl, rw (append-nil before, same) refl)
+goes_on site before n (packet ∷ some) more on =
     let long : n + length (packet ∷ some) ≡ n + 1 + length some = omega arith in
     elim (fate_of site before packet) [
-      | marked bad is ↦ let rest = rw (is n) at on in rw (is n, long) (aired_on site before (n + 1) some more rest)
+      | marked bad is ↦ let rest = rw (is n) at on in rw (is n, long) (goes_on site before (n + 1) some more rest)
       | refused good fault why is ↦ let rest = rw (is n) at on in
-          rw (is n, long) (aired_on site before (n + 1) some more rest)
+          rw (is n, long) (goes_on site before (n + 1) some more rest)
       | sent good short none is ↦ let rest = rw (is n) at on in
-          rw (is n, long) (ap (λ (them : Packets). packet ∷ them)
-          (aired_on site (before ++ packet ∷ []) (n + 1) some more rest
-          ∙ ap (λ (them : Packets). aired_from site (before ++ packet ∷ []) (n + 1) some
-          ++ aired_from site them (n + 1 + length some) more)
-          (append_assoc before (packet ∷ []) (aired_from site (before ++ packet ∷ []) (n + 1) some))))
-      | ends good long why is ↦ let no = rw (is n) at on in absurd (cc)
-    ]
-
--- and ends where it does then
-pub ended_on : (site : SiteFields) (before : Packets) (n : ℕ) (some more : Packets) →
-    ended_from site before n some ≡ None →
-    ended_from site before n (some ++ more)
-    ≡ ended_from site (before ++ aired_from site before n some) (n + length some) more
-unfolding aired_from ended_from
-ended_on site before n [] more on = let same : n + 0 ≡ n = omega arith in rw (append-nil before, same) refl
-ended_on site before n (packet ∷ some) more on =
-    let long : n + length (packet ∷ some) ≡ n + 1 + length some = omega arith in
-    elim (fate_of site before packet) [
-      | marked bad is ↦ let rest = rw (is n) at on in rw (is n, long) (ended_on site before (n + 1) some more rest)
-      | refused good fault why is ↦ let rest = rw (is n) at on in
-          rw (is n, long) (ended_on site before (n + 1) some more rest)
-      | sent good short none is ↦ let rest = rw (is n) at on in
-          rw (is n, long) (ended_on site (before ++ packet ∷ []) (n + 1) some more rest
-          ∙ ap (λ (them : Packets). ended_from site them (n + 1 + length some) more)
-          (append_assoc before (packet ∷ []) (aired_from site (before ++ packet ∷ []) (n + 1) some)))
+          let after = before ++ packet ∷ [] in
+          let both = goes_on site after (n + 1) some more rest in
+          let joined = append_assoc before (packet ∷ []) (aired_from site after (n + 1) some) in
+          rw (is n, long) (
+            ap (λ (them : Packets). packet ∷ them) (both.0
+                ∙ ap (λ (them : Packets). aired_from site after (n + 1) some
+                ++ aired_from site them (n + 1 + length some) more) joined),
+            both.1 ∙ ap (λ (them : Packets). ended_from site them (n + 1 + length some) more) joined,
+          )
       | ends good long why is ↦ let no = rw (is n) at on in absurd (cc)
     ]
 
@@ -75,7 +62,7 @@ aired_grows site some more = by_end (ended_from site [] 0 some) refl
   where
     by_end : (end : Option ℕ) → ended_from site [] 0 some ≡ end →
         (rest : Packets) × (aired site (some ++ more) ≡ aired site some ++ rest)
-    by_end None on = (aired_from site (aired site some) (0 + length some) more, aired_on site [] 0 some more on)
+    by_end None on = (aired_from site (aired site some) (0 + length some) more, (goes_on site [] 0 some more on).0)
     by_end (Some k) over = ([], aired_then site [] 0 k some more over ∙ sym (append-nil (aired site some)))
 
 -- so the body of their broadcast is the first part of the body

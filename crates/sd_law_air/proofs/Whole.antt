@@ -24,37 +24,27 @@ sent_one site before n packet clean none = by_fate (fate_of site before packet)
     by_fate (sent good short none is) = is n
     by_fate (ends good long why is) = let same = why (length before) in absurd (cc)
 
+-- so a clear stream is sent whole, and the broadcast doesn't end before its end
 whole_from : (site : SiteFields) (before : Packets) (n : ℕ) (packets : Packets) →
-    unsent_from site before packets ≡ None → AreUnmarked packets → aired_from site before n packets ≡ packets
-unfolding aired_from unsent_from
-whole_from site before n [] h clean = refl
+    unsent_from site before packets ≡ None → AreUnmarked packets →
+    (aired_from site before n packets ≡ packets) × (ended_from site before n packets ≡ None)
+unfolding aired_from ended_from unsent_from
+whole_from site before n [] h clean = (refl, refl)
 whole_from site before n (packet ∷ packets) h clean =
     let parts = both_none (unsent_at site before (length before) packet)
     (unsent_from site (before ++ packet ∷ []) packets) h in
     let P = λ (p : Packet). is_marked p ≡ false in
+    let rest = whole_from site (before ++ packet ∷ []) (n + 1) packets parts.1 (All-tail P packet packets clean) in
     rw (sent_one site before n packet (All-head P packet packets clean) parts.0)
-    (ap (λ (rest : Packets). packet ∷ rest)
-    (whole_from site (before ++ packet ∷ []) (n + 1) packets parts.1 (All-tail P packet packets clean)))
+    (ap (λ (them : Packets). packet ∷ them) rest.0, rest.1)
 
 pub aired_whole : (site : SiteFields) (clear : Packets) → IsSendable site clear → AreUnmarked clear →
     aired site clear ≡ clear
-aired_whole site clear h clean = whole_from site [] 0 clear h clean
-
--- and the broadcast doesn't end before its end
-unended_from : (site : SiteFields) (before : Packets) (n : ℕ) (packets : Packets) →
-    unsent_from site before packets ≡ None → AreUnmarked packets → ended_from site before n packets ≡ None
-unfolding ended_from unsent_from
-unended_from site before n [] h clean = refl
-unended_from site before n (packet ∷ packets) h clean =
-    let parts = both_none (unsent_at site before (length before) packet)
-    (unsent_from site (before ++ packet ∷ []) packets) h in
-    let P = λ (p : Packet). is_marked p ≡ false in
-    rw (sent_one site before n packet (All-head P packet packets clean) parts.0)
-    (unended_from site (before ++ packet ∷ []) (n + 1) packets parts.1 (All-tail P packet packets clean))
+aired_whole site clear h clean = (whole_from site [] 0 clear h clean).0
 
 pub unended : (site : SiteFields) (clear : Packets) → IsSendable site clear → AreUnmarked clear →
     ended_from site [] 0 clear ≡ None
-unended site clear h clean = unended_from site [] 0 clear h clean
+unended site clear h clean = (whole_from site [] 0 clear h clean).1
 
 -- and of a clear stream nothing is left out
 none_left_from : (site : SiteFields) (before : Packets) (n : ℕ) (packets : Packets) →

@@ -21,6 +21,7 @@ ghost use Rattle.sd_law_air.specs.Counted.{IsFirstRefused, is_no_pat};
 
 /// Whatever comes, each packet that is sent can be sent after those before it, and none is marked. They are packets of
 /// the stream in its order, so they are whole and begin with the sync byte if all of the stream do.
+#[tactic(auto, using(crate::proofs::Sendable::aired_sendable, crate::proofs::Sendable::aired_unmarked, crate::proofs::Sendable::aired_chosen))]
 pub fn aired_streams_are_sendable()
     ensures sendable { (site : SiteFields) (packets : Packets) → IsSendable site (aired site packets) }
     ensures unmarked { (site : SiteFields) (packets : Packets) → AreUnmarked (aired site packets) }
@@ -33,6 +34,7 @@ pub fn aired_streams_are_sendable()
 
 /// If each packet of a stream can be sent and none is marked, all of them are sent, and the broadcast ends with the
 /// stream. If no packet of it is refused, nothing is counted as left out.
+#[tactic(auto, using(crate::proofs::Whole::aired_whole, crate::proofs::Whole::unended, crate::proofs::Whole::none_left_out))]
 pub fn clear_streams_are_aired_whole()
     ensures whole { (site : SiteFields) (clear : Packets) → IsSendable site clear → AreUnmarked clear →
         aired site clear ≡ clear }
@@ -53,6 +55,7 @@ pub fn what_is_left_out_is_as_if_not_there()
 /// A broadcast ends before the end of its stream exactly at the first packet that would be sent if a number and a
 /// control word were left for it. Behind it nothing is sent. What is sent has fewer than 2^32 packets, and no more than
 /// the crypto periods of the site's control words have.
+#[tactic(auto, using(crate::proofs::Ending::used_up, crate::proofs::Ending::none_behind, crate::proofs::Ending::aired_few, crate::proofs::Ending::aired_words, crate::proofs::Ending::aired_most))]
 pub fn the_end_comes_of_a_packet_that_would_be_sent()
     ensures ends { (site : SiteFields) (packets : Packets) (k : PacketNumber) →
         (ended_from site [] 0 packets ≡ Some k) ↔ EndsBefore site packets k }
@@ -69,6 +72,7 @@ pub fn the_end_comes_of_a_packet_that_would_be_sent()
 
 /// What was read decides what is sent of it. The packets that are sent of the first packets of a stream are the first
 /// ones that are sent of it, and the broadcast of the stream begins with their broadcast without its closing message.
+#[tactic(auto, using(crate::proofs::Reading::aired_grows, crate::proofs::Reading::body_grows, crate::proofs::Reading::bytes_grow))]
 pub fn what_was_read_decides()
     ensures packets { (site : SiteFields) (some more : Packets) →
         (rest : Packets) × (aired site (some ++ more) ≡ aired site some ++ rest) }
@@ -82,6 +86,7 @@ pub fn what_was_read_decides()
 /// Each packet up to the end of the broadcast is marked, refused or sent, and counted so. If a packet is refused, the rule
 /// that the first one breaks is told, with its number among all packets, and else none is. Of the packets that are sent
 /// those are counted that are no PAT, though they are on PID 0 with a payload.
+#[tactic(auto, using(crate::proofs::Counts::counted, crate::proofs::Counts::counted_upto, crate::proofs::Counts::marked_counted, crate::proofs::Counts::first_told, crate::proofs::Refusing::first_refused, crate::proofs::Counts::pats_counted))]
 pub fn each_packet_is_counted()
     ensures all { (site : SiteFields) (packets : Packets) → ended_from site [] 0 packets ≡ None →
         (left_from site [] 0 packets).marked + (left_from site [] 0 packets).refused + length (aired site packets)

@@ -21,6 +21,7 @@ ghost use Rattle.sd_law_broadcast.specs.Pads.{pads_in, pads_of};
 /// Each wrapped key and each scrambled payload of a broadcast is the text of its pad XORed with the keystream of the
 /// pad's key and number. Any other packet is carried as it was, or as a PMT that has the project's CA_descriptor. The
 /// pads of a broadcast are those of the things that it sends.
+#[tactic(auto, using(crate::proofs::Texts::entries_lie, crate::proofs::Texts::parts_lie, crate::proofs::Texts::payloads_lie, crate::proofs::Texts::others_stay))]
 pub fn texts_lie_under_their_keystreams()
     ensures entries { (run : Run) (emm : Emm) (entry : Entry) → IsOfBroadcast run.plan run.clear (Entitles emm) →
         Contains (listed_entries emm) entry →

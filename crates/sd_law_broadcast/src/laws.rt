@@ -91,6 +91,7 @@ pub fn clear_streams_are_sendable()
 
 /// If each packet of a clear stream can be sent, so can its first packets, and the stream goes on as long as the next
 /// packet can be sent. Such a packet breaks no rule but that on PATs.
+#[tactic(auto, using(crate::proofs::Clear::prefix_clear, crate::proofs::Clear::take_clear, crate::proofs::Clear::next_clear, crate::proofs::Clear::more_clear, crate::proofs::Clear::each_numbered))]
 pub fn clear_streams_go_on()
     ensures prefix { (site : SiteFields) (xs ys : Packets) → IsSendable site (xs ++ ys) → IsSendable site xs }
     ensures first { (site : SiteFields) (clear : Packets) (k : PacketNumber) → IsSendable site clear → IsSendable site
@@ -154,6 +155,7 @@ pub fn periods_are_reached()
 
 /// The control messages of a broadcast by their numbers: the one before each e-th packet, and the closing one; each
 /// part that is sent is of one of them. Each tells from which number on its control word holds.
+#[tactic(auto, using(crate::proofs::Numbers::message_numbered, crate::proofs::Numbers::numbered_before, crate::proofs::Numbers::numbered_closing, crate::proofs::Numbers::numbered_number, crate::proofs::Numbers::numbered_since, crate::proofs::Numbers::numbered_fits, crate::proofs::Numbers::parts_numbered))]
 pub fn messages_are_numbered()
     ensures at { (plan : Plan) (clear : Packets) (k : PacketNumber) → AreInRange plan.site → k < length clear →
         k % plan.site.every ≡ 0 →

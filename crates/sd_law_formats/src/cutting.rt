@@ -27,6 +27,7 @@ pub fn packets_are_found()
 /// Each packet that is found has 188 bytes, of which the first is the sync byte, and its place is behind the packets
 /// before it and the bytes that are in none. Together these are all bytes. The bytes before its place are cut into the
 /// packets before it, and as many of them are in none.
+#[tactic(auto, using(crate::proofs::Finds::at_place, crate::proofs::Finds::all_counted, crate::proofs::Finds::before_place, crate::proofs::Finds::skipped_at_place))]
 pub fn packets_have_places()
     ensures sound { (bytes : List ℕ) → All (λ p. (length p ≡ 188) × (slice_index p 0 ≡ 0x47)) (cut bytes) }
     ensures at { (k : ℕ) (bytes : List ℕ) → k < length (cut bytes) →

@@ -31,6 +31,7 @@ pub fn written_sites_are_read()
 /// No next site is made from a torn site file: one that is a proper prefix of what was written for a site with control
 /// words. It isn't whole, and isn't a first site either. It is refused, and not since line 12 is out of range. No twin
 /// is made from a torn site file, whatever the site.
+#[tactic(auto, using(crate::proofs::TornSites::torn_not_whole, crate::proofs::TornSites::torn_no_twin, crate::proofs::TornSites::torn_sites, crate::proofs::TornLines::torn_in_range))]
 pub fn torn_sites_are_short()
     ensures whole { (site : SiteFields) (book : BookLine) (torn : List ℕ) → IsSayable site book →
         IsPrefix torn (site_text site book) → torn ≢ site_text site book → is_whole 13 torn ≡ true → ⊥ }

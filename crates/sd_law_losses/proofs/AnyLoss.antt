@@ -1,22 +1,19 @@
 -- Whatever is lost of a broadcast, a receiver refuses nothing and writes exactly what is confirmed.
-use Rattle.std.proofs.Common.{◌≡◌, refl, ℕ, zero, suc, ◌+◌, ◌-◌, ◌%◌, ◌<◌, ◌==◌, Bool, true, false}
+use Rattle.std.proofs.Common.{◌≡◌, refl, ℕ, suc, ◌+◌, ◌-◌, ◌%◌, ◌<◌, ◌==◌, Bool, true, false}
 use Rattle.std.proofs.Common.{List, [], ◌∷◌, ◌++◌, map, filter, length, take, drop, Option, Some, None, is_none}
 use Rattle.std.proofs.Common.{if◌then◌else◌}
-use Rattle.std.proofs.Common.{arith, sym, ap, ◌∙◌, inl, inr, ◌⊎◌, subst, append_assoc, append-nil}
+use Rattle.std.proofs.Common.{arith, sym, ap, ◌∙◌, subst, append_assoc, append-nil}
 use Rattle.std.specs.Prelude.{All}
 use Rattle.std.specs.List.{list_any, range_with_len}
 use Rattle.std.specs.Option.{option_map_or}
-use Rattle.std.proofs.lemmas.List.Elements.{All-nil, All-tail, All-contains_itself}
+use Rattle.std.proofs.lemmas.List.Elements.{All-nil, All-contains_itself}
 use Rattle.sd_base.proofs.Lists.{all_first}
 use Rattle.sd_site.specs.SiteFields.{run_name_of as site_name}
-use Rattle.std.proofs.lemmas.List.Folds.{list_any-append}
-use Rattle.std.proofs.lemmas.Bool.{cases_Bool}
-use Rattle.std.proofs.lemmas.Bool.Decides.{nat_tests}
 use Rattle.sd_message.specs.Period.{emms_of}
 use Rattle.sd_message.specs.EcmParts.{parts_of}
 use Rattle.sd_spec.specs.Plan.{crypto_length, period_of, closing_number}
 use Rattle.sd_spec.specs.Messages.{period_at}
-use Rattle.sd_spec.specs.Sent.{Item, Cat, Controls, tables_at, sent, closing_of, packet_of, packets_from}
+use Rattle.sd_spec.specs.Sent.{Item, Cat, Controls, sent, closing_of, packet_of, packets_from}
 use Rattle.sd_spec.specs.Sent.{broadcast}
 use Rattle.sd_spec.specs.Items.{IsOfBroadcast}
 use Rattle.sd_spec.proofs.Items.{all_are_of_broadcast}
@@ -36,7 +33,7 @@ use Rattle.sd_law_losses.proofs.Arriving.{is_of}
 use Rattle.sd_law_losses.proofs.Setting.{Setting, AreLaws, tuning_at, final, told_by}
 use Rattle.sd_law_losses.proofs.Facts.{AreHeard, Passes}
 use Rattle.sd_law_losses.proofs.Hearing.{AreHearable, heard_from, heard_append, is_cat_item, IsTuned}
-use Rattle.sd_law_losses.proofs.Remaining.{rest_at, rest_none, closing_items}
+use Rattle.sd_law_losses.proofs.Remaining.{rest_at}
 use Rattle.sd_law_losses.proofs.Later.{chosen_append, chosen_fails, numbers_later, packets_later}
 use Rattle.sd_law_losses.proofs.Confirming.{confirms, confirmed_in}
 use Rattle.sd_law_losses.proofs.Groups.{Goes, goes_after, sections_pass, tail_goes}
@@ -47,9 +44,10 @@ use Rattle.sd_law_losses.proofs.Tuned.{IsWrittenFrom, group_written, tuned_writt
 use Rattle.sd_law_losses.proofs.OneRun.{IsOfRun}
 use Rattle.sd_law_losses.proofs.Untuned.{IsSkipped, packets_skipped, offered_none, untuned_heard, untuned_one_run}
 use Rattle.sd_law_losses.proofs.Untuned.{after_none}
-use Rattle.sd_law_losses.proofs.Untuned.{after_no_cat, no_part_cat, no_section_cat}
-use Rattle.sd_law_losses.proofs.Untuned.{sections_at, tail_at, no_tail_cat, due_rest, other_rest, kept_start}
+use Rattle.sd_law_losses.proofs.Untuned.{after_no_cat}
+use Rattle.sd_law_losses.proofs.Untuned.{sections_at, tail_at, due_rest, kept_start}
 use Rattle.sd_law_losses.proofs.Untuned.{heard_start}
+use Rattle.sd_law_losses.proofs.Steps.{Steps, gone_through, here_at, items_of_none}
 
 -- what is written of what is left, where no CAT was taken
 abbrev pub IsWrittenBefore : Setting → List Item → List Item → List Bool → List (List ℕ) → Type 0
@@ -207,8 +205,6 @@ after_cat_goes s laws k i fs later within is =
         (kept_start k (closing_number s.plan.site k)) (heard_start s k q (closing_number s.plan.site k))
 
 -- what stands before packet k, without the CAT
-abbrev pub here_at : Setting → ℕ → List Item
-here_at s k = sections_at s (period_of s.plan k) ++ tail_at s k
 
 -- what arrives of it, and of what comes after it
 abbrev pub came_here : Setting → ℕ → List Bool → List Item
@@ -271,10 +267,6 @@ cat_here s laws able n k fs earlier past count due all tuned none =
         (heard s.card past)
         (heard_from (length past) (chosen (take (length group) fs) group))
     goes = here_goes s laws n k fs past count none
-
--- the sections and the closing parts after the CAT of a broadcast without a packet
-abbrev pub items_of_none : Setting → List Item
-items_of_none s = sections_at s (period_of s.plan 0) ++ map Controls (parts_of (told_by s (final s)))
 
 pub sections_alone : (s : Setting) (laws : AreLaws s) (i : ℕ) (fs : List Bool) →
     Passes s (length s.clear) (period_of s.plan 0) (final s) None
@@ -342,124 +334,16 @@ sections_end s laws able fs earlier past empty all tuned none =
     (confirmed_in s (chosen fs (items_of_none s)) 0 (length s.clear))) (sym none) (sections_heard s laws
     (length past) fs empty).1)
 
--- the end of a broadcast, where no CAT was taken
-end_untuned : (s : Setting) (laws : AreLaws s) (able : AreHearable s) (fs : List Bool) (earlier : List Item)
-    (past : List (List ℕ)) (some : Bool) → (length s.clear == 0) ≡ some → tuning_of s.card.ca past ≡ None →
-    All (IsOfBroadcast s.plan s.clear) ((if some then tables_at s.plan 0 else []) ++ map Controls (parts_of
-    (told_by s (final s)))) →
-    IsWrittenBefore s earlier ((if some then tables_at s.plan 0 else []) ++ map Controls (parts_of (told_by s
-    (final s)))) fs past
-unfolding tables_at chosen
-end_untuned s laws able fs earlier past false is none all =
-    without_cat s laws able (map Controls (parts_of (told_by s (final s)))) earlier fs past all none
-    (chosen_fails is_cat_item fs (map Controls (parts_of (told_by s (final s)))) (no_part_cat (parts_of (told_by s
-    (final s)))))
-end_untuned s laws able [] earlier past true is none all =
-    without_cat s laws able (tables_at s.plan 0 ++ map Controls (parts_of (told_by s
-    (final s)))) earlier [] past all none refl
-end_untuned s laws able (false ∷ fs) earlier past true is none all =
-    without_cat s laws able (tables_at s.plan 0 ++ map Controls (parts_of (told_by s (final s)))) earlier
-    (false ∷ fs) past all none
-    (chosen_fails is_cat_item fs (sections_at s (period_of s.plan 0) ++ map Controls (parts_of (told_by s
-    (final s)))) no_cat)
-  where
-    no_cat : list_any is_cat_item (sections_at s (period_of s.plan 0) ++ map Controls (parts_of (told_by s
-        (final s)))) ≡ false
-    no_cat = list_any-append is_cat_item (sections_at s (period_of s.plan 0))
-        (map Controls (parts_of (told_by s (final s))))
-        ∙ rw (no_section_cat (emms_of (period_at s.plan (period_of s.plan 0)))) (no_part_cat (parts_of (told_by s
-        (final s))))
-end_untuned s laws able (true ∷ fs) earlier past true is none all =
-    cat_taken s able (sections_at s (period_of s.plan 0) ++ map Controls (parts_of (told_by s
-    (final s)))) earlier fs past none
-    (λ tuned heard_none. sections_end s laws able fs (earlier ++ Cat ∷ []) (packet_of s.plan.site earlier Cat ∷ past)
-    (grind (arith, nat_tests, is))
-    (All-tail (IsOfBroadcast s.plan s.clear) Cat (sections_at s (period_of s.plan 0) ++ map Controls (parts_of
-    (told_by s (final s)))) all)
-    tuned heard_none)
-
--- a group with the tables, of which the CAT may be kept
-due_untuned : (s : Setting) (laws : AreLaws s) (able : AreHearable s) (n k : ℕ) (fs : List Bool) (earlier : List Item)
-    (past : List (List ℕ)) → k + suc n ≡ length s.clear → (k % crypto_length s.plan.site == 0) ≡ true →
-    All (IsOfBroadcast s.plan s.clear) (Cat ∷ ((sections_at s (period_of s.plan k) ++ tail_at s k) ++ rest_at s
-    (k + 1))) →
-    tuning_of s.card.ca past ≡ None →
-    ((fs : List Bool) (earlier : List Item) (past : List (List ℕ)) → tuning_of s.card.ca past ≡ None →
-    IsWrittenBefore s earlier (rest_at s (k + 1)) fs past) →
-    IsWrittenBefore s earlier (Cat ∷ ((sections_at s (period_of s.plan k) ++ tail_at s k) ++ rest_at s (k + 1))) fs past
-unfolding chosen
-due_untuned s laws able n k (true ∷ fs) earlier past count due all none more =
-    cat_taken s able ((sections_at s (period_of s.plan k) ++ tail_at s k) ++ rest_at s (k + 1)) earlier fs past none
-    (λ tuned heard_none. cat_here s laws able n k fs (earlier ++ Cat ∷ [])
-    (packet_of s.plan.site earlier Cat ∷ past) count due
-    (All-tail (IsOfBroadcast s.plan s.clear) Cat ((sections_at s (period_of s.plan k) ++ tail_at s k) ++ rest_at s
-    (k + 1)) all)
-    tuned heard_none)
-due_untuned s laws able n k [] earlier past count due all none more =
-    skipped_first s able (Cat ∷ (sections_at s (period_of s.plan k) ++ tail_at s k)) (rest_at s
-    (k + 1)) earlier [] past all none refl
-    (λ still. more (drop (length (Cat ∷ (sections_at s (period_of s.plan k) ++ tail_at s k))) [])
-    (earlier ++ (Cat ∷ (sections_at s (period_of s.plan k) ++ tail_at s k)))
-    (onto (chosen (take (length (Cat ∷ (sections_at s (period_of s.plan k) ++ tail_at s k))) [])
-    (packets_from s.plan.site earlier (Cat ∷ (sections_at s (period_of s.plan k) ++ tail_at s k)))) past) still)
-due_untuned s laws able n k (false ∷ fs) earlier past count due all none more =
-    skipped_first s able (Cat ∷ (sections_at s (period_of s.plan k) ++ tail_at s k)) (rest_at s (k + 1)) earlier
-    (false ∷ fs) past all none
-    (chosen_fails is_cat_item (take (length (sections_at s (period_of s.plan k) ++ tail_at s k)) fs)
-    (sections_at s (period_of s.plan k) ++ tail_at s k) no_cat)
-    (λ still. more (drop (length (Cat ∷ (sections_at s (period_of s.plan k) ++ tail_at s k))) (false ∷ fs))
-    (earlier ++ (Cat ∷ (sections_at s (period_of s.plan k) ++ tail_at s k)))
-    (onto (chosen (take (length (Cat ∷ (sections_at s (period_of s.plan k) ++ tail_at s k))) (false ∷ fs))
-    (packets_from s.plan.site earlier (Cat ∷ (sections_at s (period_of s.plan k) ++ tail_at s k)))) past) still)
-  where
-    no_cat : list_any is_cat_item (sections_at s (period_of s.plan k) ++ tail_at s k) ≡ false
-    no_cat = list_any-append is_cat_item (sections_at s (period_of s.plan k)) (tail_at s k)
-        ∙ rw (no_section_cat (emms_of (period_at s.plan (period_of s.plan k)))) (no_tail_cat s k)
-
--- from packet k on, where no CAT was taken
-untuned_written : (s : Setting) (laws : AreLaws s) (able : AreHearable s) (n k : ℕ) (fs : List Bool)
-    (earlier : List Item)
-    (past : List (List ℕ)) → k + n ≡ length s.clear → All (IsOfBroadcast s.plan s.clear) (rest_at s k) →
-    tuning_of s.card.ca past ≡ None → IsWrittenBefore s earlier (rest_at s k) fs past
-untuned_written s laws able zero k fs earlier past count all none =
-    subst (λ (items : List Item). IsWrittenBefore s earlier items fs past) (sym ends)
-    (end_untuned s laws able fs earlier past (length s.clear == 0) refl none (subst (All
-    (IsOfBroadcast s.plan s.clear)) ends all))
-  where
-    ends : rest_at s k ≡ (if length s.clear == 0 then tables_at s.plan 0 else []) ++ map Controls (parts_of
-        (told_by s (final s)))
-    ends = ap (rest_at s) (omega (arith, count)) ∙ (rest_none s ∙ closing_items s)
-untuned_written s laws able (suc n) k fs earlier past count all none =
-    by_test (cases_Bool (k % crypto_length s.plan.site == 0))
-    (λ all_later fs earlier past still. untuned_written s laws able n (k + 1) fs earlier past (omega
-    (arith, count)) all_later still)
-  where
-    within : k < length s.clear
-    within = omega (arith, count)
-
-    by_test : ((k % crypto_length s.plan.site == 0) ≡ true) ⊎ ((k % crypto_length s.plan.site == 0) ≡ false) →
-        (All (IsOfBroadcast s.plan s.clear) (rest_at s (k + 1)) → (fs : List Bool) (earlier : List Item) (past : List
-        (List ℕ)) →
-        tuning_of s.card.ca past ≡ None → IsWrittenBefore s earlier (rest_at s (k + 1)) fs past) →
-        IsWrittenBefore s earlier (rest_at s k) fs past
-    by_test (inl due) more =
-        let parts = due_rest s k laws.range within due in
-        let all_parts = subst (All (IsOfBroadcast s.plan s.clear)) parts all in
-        subst (λ (items : List Item). IsWrittenBefore s earlier items fs past) (sym parts)
-        (due_untuned s laws able n k fs earlier past count due all_parts none
-        (more (all_second (IsOfBroadcast s.plan s.clear) (sections_at s (period_of s.plan k) ++ tail_at s k)
-        (rest_at s (k + 1))
-        (All-tail (IsOfBroadcast s.plan s.clear) Cat ((sections_at s (period_of s.plan k) ++ tail_at s k) ++ rest_at s
-        (k + 1)) all_parts))))
-    by_test (inr not_due) more =
-        let parts = other_rest s k laws.range within not_due in
-        let all_parts = subst (All (IsOfBroadcast s.plan s.clear)) parts all in
-        subst (λ (items : List Item). IsWrittenBefore s earlier items fs past) (sym parts)
-        (skipped_first s able (tail_at s k) (rest_at s (k + 1)) earlier fs past all_parts none
-        (chosen_fails is_cat_item (take (length (tail_at s k)) fs) (tail_at s k) (no_tail_cat s k))
-        (λ still. more (all_second (IsOfBroadcast s.plan s.clear) (tail_at s k) (rest_at s (k + 1)) all_parts)
-        (drop (length (tail_at s k)) fs) (earlier ++ tail_at s k)
-        (onto (chosen (take (length (tail_at s k)) fs) (packets_from s.plan.site earlier (tail_at s k))) past) still))
+-- what is written, step by step
+before_cat : (s : Setting) (laws : AreLaws s) (able : AreHearable s) → Steps s (IsWrittenBefore s)
+before_cat s laws able = record {
+  without = without_cat s laws able;
+  skipped = skipped_first s able;
+  ended = λ fs earlier past empty all none. cat_taken s able (items_of_none s) earlier fs past none
+      (sections_end s laws able fs (earlier ++ Cat ∷ []) (packet_of s.plan.site earlier Cat ∷ past) empty all);
+  taken = λ n k fs earlier past count due all none. cat_taken s able (here_at s k ++ rest_at s (k + 1)) earlier fs past
+      none (cat_here s laws able n k fs (earlier ++ Cat ∷ []) (packet_of s.plan.site earlier Cat ∷ past) count due all);
+}
 
 -- Whatever is lost of a broadcast, a receiver refuses nothing and writes exactly what is confirmed.
 pub losses_are_confirmed : (s : Setting) → AreLaws s → AreHearable s → (fs : List Bool) →
@@ -470,8 +354,8 @@ losses_are_confirmed s laws able fs =
     subst (λ (n : ℕ). AreWritten s [] (chosen fs (broadcast s.plan s.clear))
     (packets_at s.clear (filter (confirms s (after_cat (chosen fs (sent s.plan s.clear ++ closing_of s.plan
     s.clear)))) (range_with_len 0 n))))
-    all (untuned_written s laws able (length s.clear) 0 fs [] [] (omega arith)
-    (all_are_of_broadcast s.plan s.clear) refl)
+    all (gone_through s laws (IsWrittenBefore s) (before_cat s laws able) (length s.clear) 0 (omega arith)
+    (all_are_of_broadcast s.plan s.clear) fs [] [] refl)
   where
     all : length s.clear - 0 ≡ length s.clear
     all = omega arith

@@ -1,19 +1,13 @@
 -- How a broadcast of which packets were lost ends for a receiver.
-use Rattle.std.proofs.Common.{◌≡◌, refl, ℕ, zero, suc, ◌+◌, ◌-◌, ◌%◌, ◌<◌, ◌==◌, ◌||◌, Bool, true, false}
-use Rattle.std.proofs.Common.{List, [], ◌∷◌, ◌++◌, map, length, take, drop, Option, None, if◌then◌else◌}
-use Rattle.std.proofs.Common.{arith, sym, ap, ◌∙◌, inl, inr, ◌⊎◌, subst, append_assoc}
+use Rattle.std.proofs.Common.{◌≡◌, refl, ℕ, zero, suc, ◌+◌, ◌-◌, ◌<◌, ◌||◌, Bool, true, false}
+use Rattle.std.proofs.Common.{List, [], ◌∷◌, ◌++◌, length, take, drop, Option, None}
+use Rattle.std.proofs.Common.{arith, sym, ap, ◌∙◌, subst, append_assoc}
 use Rattle.std.specs.Prelude.{All}
 use Rattle.std.specs.List.{list_any}
-use Rattle.std.proofs.lemmas.List.Elements.{All-tail}
 use Rattle.std.proofs.lemmas.List.Folds.{list_any-append}
-use Rattle.std.proofs.lemmas.Bool.{cases_Bool}
-use Rattle.std.proofs.lemmas.Bool.Decides.{nat_tests}
 use Rattle.sd_base.proofs.Lists.{all_first}
-use Rattle.sd_message.specs.Period.{emms_of}
-use Rattle.sd_message.specs.EcmParts.{parts_of}
-use Rattle.sd_spec.specs.Plan.{crypto_length, period_of, closing_number}
-use Rattle.sd_spec.specs.Messages.{period_at}
-use Rattle.sd_spec.specs.Sent.{Item, Cat, Controls, tables_at, sent, closing_of, packet_of, packets_from}
+use Rattle.sd_spec.specs.Plan.{period_of, closing_number}
+use Rattle.sd_spec.specs.Sent.{Item, Cat, sent, closing_of, packet_of, packets_from}
 use Rattle.sd_spec.specs.Sent.{broadcast}
 use Rattle.sd_spec.specs.Items.{IsOfBroadcast}
 use Rattle.sd_spec.proofs.Items.{all_are_of_broadcast}
@@ -24,18 +18,19 @@ use Rattle.sd_spec.specs.Offered.{heard}
 use Rattle.sd_law_losses.specs.Chosen.{chosen}
 use Rattle.sd_law_losses.specs.Kept.{after_cat}
 use Rattle.sd_law_losses.proofs.Writing.{onto, onto_append, open_upto, Writes, IsOpenUpto}
-use Rattle.sd_law_losses.proofs.Setting.{Setting, AreLaws, tuning_at, final, told_by}
+use Rattle.sd_law_losses.proofs.Setting.{Setting, AreLaws, tuning_at}
 use Rattle.sd_law_losses.proofs.Facts.{AreKept, AreHeard}
 use Rattle.sd_law_losses.proofs.Hearing.{AreHearable, is_cat_item, heard_from, ComesTo, packets_come, IsTuned}
-use Rattle.sd_law_losses.proofs.Remaining.{group_at, rest_at, rest_more, rest_none, closing_items}
-use Rattle.sd_law_losses.proofs.Later.{chosen_append, chosen_fails}
+use Rattle.sd_law_losses.proofs.Remaining.{group_at, rest_at, rest_more, rest_none}
+use Rattle.sd_law_losses.proofs.Later.{chosen_append}
 use Rattle.sd_law_losses.proofs.Groups.{Goes}
 use Rattle.sd_law_losses.proofs.Confirming.{confirmed_in}
 use Rattle.sd_law_losses.proofs.Losses.{all_second, packets_chosen}
-use Rattle.sd_law_losses.proofs.Untuned.{IsSkipped, packets_skipped, after_none, no_part_cat, no_section_cat}
-use Rattle.sd_law_losses.proofs.Untuned.{sections_at, tail_at, no_tail_cat, due_rest, other_rest}
+use Rattle.sd_law_losses.proofs.Untuned.{IsSkipped, packets_skipped, after_none}
+use Rattle.sd_law_losses.proofs.Untuned.{sections_at, tail_at}
 use Rattle.sd_law_losses.proofs.Tuned.{tuned_goes}
-use Rattle.sd_law_losses.proofs.AnyLoss.{here_at, here_goes, taken_tuning, taken_heard, items_of_none, sections_alone}
+use Rattle.sd_law_losses.proofs.Steps.{Steps, gone_through, here_at, items_of_none}
+use Rattle.sd_law_losses.proofs.AnyLoss.{here_goes, taken_tuning, taken_heard, sections_alone}
 use Rattle.sd_law_losses.proofs.AnyLoss.{sections_heard}
 use Rattle.sd_law_losses.proofs.Ended.{HasEnded, StandsEnded, all_stand, end_stands, sections_then_end}
 
@@ -260,117 +255,16 @@ sections_ends s laws able fs earlier past empty all tuned none =
     (sections_at s (period_of s.plan 0)) [] [] (periods_rise s.plan 0 (length s.clear - 1) laws.range (omega arith))
     (sections_alone s laws (length past) fs)))
 
--- the end of a broadcast, where no CAT was taken
-end_untuned : (s : Setting) (laws : AreLaws s) (able : AreHearable s) (fs : List Bool) (earlier : List Item)
-    (past : List (List ℕ)) (some : Bool) → (length s.clear == 0) ≡ some → tuning_of s.card.ca past ≡ None →
-    All (IsOfBroadcast s.plan s.clear) ((if some then tables_at s.plan 0 else []) ++ map Controls (parts_of
-    (told_by s (final s)))) →
-    EndsUntuned s earlier ((if some then tables_at s.plan 0 else []) ++ map Controls (parts_of (told_by s
-    (final s)))) fs past
-unfolding tables_at chosen
-end_untuned s laws able fs earlier past false is none all =
-    without_cat s able (map Controls (parts_of (told_by s (final s)))) earlier fs past all none
-    (chosen_fails is_cat_item fs (map Controls (parts_of (told_by s (final s)))) (no_part_cat (parts_of (told_by s
-    (final s)))))
-end_untuned s laws able [] earlier past true is none all =
-    without_cat s able (tables_at s.plan 0 ++ map Controls (parts_of (told_by s
-    (final s)))) earlier [] past all none refl
-end_untuned s laws able (false ∷ fs) earlier past true is none all =
-    without_cat s able (tables_at s.plan 0 ++ map Controls (parts_of (told_by s (final s)))) earlier
-    (false ∷ fs) past all none
-    (chosen_fails is_cat_item fs (items_of_none s) no_cat)
-  where
-    no_cat : list_any is_cat_item (items_of_none s) ≡ false
-    no_cat = list_any-append is_cat_item (sections_at s (period_of s.plan 0))
-        (map Controls (parts_of (told_by s (final s))))
-        ∙ rw (no_section_cat (emms_of (period_at s.plan (period_of s.plan 0)))) (no_part_cat (parts_of (told_by s
-        (final s))))
-end_untuned s laws able (true ∷ fs) earlier past true is none all =
-    cat_taken s able (items_of_none s) earlier fs past none
-    (λ tuned heard_none. sections_ends s laws able fs (earlier ++ Cat ∷ []) (packet_of s.plan.site earlier Cat ∷ past)
-    (grind (arith, nat_tests, is)) (All-tail (IsOfBroadcast s.plan s.clear) Cat (items_of_none s) all) tuned heard_none)
-
--- a group with the tables, of which the CAT may be kept
-due_untuned : (s : Setting) (laws : AreLaws s) (able : AreHearable s) (n k : ℕ) (fs : List Bool) (earlier : List Item)
-    (past : List (List ℕ)) → k + suc n ≡ length s.clear →
-    All (IsOfBroadcast s.plan s.clear) (Cat ∷ ((sections_at s (period_of s.plan k) ++ tail_at s k) ++ rest_at s
-    (k + 1))) →
-    tuning_of s.card.ca past ≡ None →
-    ((fs : List Bool) (earlier : List Item) (past : List (List ℕ)) → tuning_of s.card.ca past ≡ None →
-    EndsUntuned s earlier (rest_at s (k + 1)) fs past) →
-    EndsUntuned s earlier (Cat ∷ ((sections_at s (period_of s.plan k) ++ tail_at s k) ++ rest_at s (k + 1))) fs past
-unfolding chosen
-due_untuned s laws able n k (true ∷ fs) earlier past count all none more =
-    cat_taken s able ((sections_at s (period_of s.plan k) ++ tail_at s k) ++ rest_at s (k + 1)) earlier fs past none
-    (λ tuned heard_none. cat_here s laws able n k fs (earlier ++ Cat ∷ [])
-    (packet_of s.plan.site earlier Cat ∷ past) count
-    (All-tail (IsOfBroadcast s.plan s.clear) Cat ((sections_at s (period_of s.plan k) ++ tail_at s k) ++ rest_at s
-    (k + 1)) all)
-    tuned heard_none)
-due_untuned s laws able n k [] earlier past count all none more =
-    skipped_first s able (Cat ∷ (sections_at s (period_of s.plan k) ++ tail_at s k)) (rest_at s
-    (k + 1)) earlier [] past all none refl
-    (λ still. more (drop (length (Cat ∷ (sections_at s (period_of s.plan k) ++ tail_at s k))) [])
-    (earlier ++ (Cat ∷ (sections_at s (period_of s.plan k) ++ tail_at s k)))
-    (onto (chosen (take (length (Cat ∷ (sections_at s (period_of s.plan k) ++ tail_at s k))) [])
-    (packets_from s.plan.site earlier (Cat ∷ (sections_at s (period_of s.plan k) ++ tail_at s k)))) past) still)
-due_untuned s laws able n k (false ∷ fs) earlier past count all none more =
-    skipped_first s able (Cat ∷ (sections_at s (period_of s.plan k) ++ tail_at s k)) (rest_at s (k + 1)) earlier
-    (false ∷ fs) past all none
-    (chosen_fails is_cat_item (take (length (sections_at s (period_of s.plan k) ++ tail_at s k)) fs)
-    (sections_at s (period_of s.plan k) ++ tail_at s k) no_cat)
-    (λ still. more (drop (length (Cat ∷ (sections_at s (period_of s.plan k) ++ tail_at s k))) (false ∷ fs))
-    (earlier ++ (Cat ∷ (sections_at s (period_of s.plan k) ++ tail_at s k)))
-    (onto (chosen (take (length (Cat ∷ (sections_at s (period_of s.plan k) ++ tail_at s k))) (false ∷ fs))
-    (packets_from s.plan.site earlier (Cat ∷ (sections_at s (period_of s.plan k) ++ tail_at s k)))) past) still)
-  where
-    no_cat : list_any is_cat_item (sections_at s (period_of s.plan k) ++ tail_at s k) ≡ false
-    no_cat = list_any-append is_cat_item (sections_at s (period_of s.plan k)) (tail_at s k)
-        ∙ rw (no_section_cat (emms_of (period_at s.plan (period_of s.plan k)))) (no_tail_cat s k)
-
--- from packet k on, where no CAT was taken
-untuned_ends : (s : Setting) (laws : AreLaws s) (able : AreHearable s) (n k : ℕ) (fs : List Bool) (earlier : List Item)
-    (past : List (List ℕ)) → k + n ≡ length s.clear → All (IsOfBroadcast s.plan s.clear) (rest_at s k) →
-    tuning_of s.card.ca past ≡ None → EndsUntuned s earlier (rest_at s k) fs past
-untuned_ends s laws able zero k fs earlier past count all none =
-    subst (λ (items : List Item). EndsUntuned s earlier items fs past) (sym ends)
-    (end_untuned s laws able fs earlier past (length s.clear == 0) refl none (subst (All
-    (IsOfBroadcast s.plan s.clear)) ends all))
-  where
-    ends : rest_at s k ≡ (if length s.clear == 0 then tables_at s.plan 0 else []) ++ map Controls (parts_of
-        (told_by s (final s)))
-    ends = ap (rest_at s) (omega (arith, count)) ∙ (rest_none s ∙ closing_items s)
-untuned_ends s laws able (suc n) k fs earlier past count all none =
-    by_test (cases_Bool (k % crypto_length s.plan.site == 0))
-    (λ all_later fs earlier past still. untuned_ends s laws able n (k + 1) fs earlier past (omega
-    (arith, count)) all_later still)
-  where
-    within : k < length s.clear
-    within = omega (arith, count)
-
-    by_test : ((k % crypto_length s.plan.site == 0) ≡ true) ⊎ ((k % crypto_length s.plan.site == 0) ≡ false) →
-        (All (IsOfBroadcast s.plan s.clear) (rest_at s (k + 1)) → (fs : List Bool) (earlier : List Item) (past : List
-        (List ℕ)) →
-        tuning_of s.card.ca past ≡ None → EndsUntuned s earlier (rest_at s (k + 1)) fs past) →
-        EndsUntuned s earlier (rest_at s k) fs past
-    by_test (inl due) more =
-        let parts = due_rest s k laws.range within due in
-        let all_parts = subst (All (IsOfBroadcast s.plan s.clear)) parts all in
-        subst (λ (items : List Item). EndsUntuned s earlier items fs past) (sym parts)
-        (due_untuned s laws able n k fs earlier past count all_parts none
-        (more (all_second (IsOfBroadcast s.plan s.clear) (sections_at s (period_of s.plan k) ++ tail_at s k)
-        (rest_at s (k + 1))
-        (All-tail (IsOfBroadcast s.plan s.clear) Cat ((sections_at s (period_of s.plan k) ++ tail_at s k) ++ rest_at s
-        (k + 1)) all_parts))))
-    by_test (inr not_due) more =
-        let parts = other_rest s k laws.range within not_due in
-        let all_parts = subst (All (IsOfBroadcast s.plan s.clear)) parts all in
-        subst (λ (items : List Item). EndsUntuned s earlier items fs past) (sym parts)
-        (skipped_first s able (tail_at s k) (rest_at s (k + 1)) earlier fs past all_parts none
-        (chosen_fails is_cat_item (take (length (tail_at s k)) fs) (tail_at s k) (no_tail_cat s k))
-        (λ still. more (all_second (IsOfBroadcast s.plan s.clear) (tail_at s k) (rest_at s (k + 1)) all_parts)
-        (drop (length (tail_at s k)) fs) (earlier ++ tail_at s k)
-        (onto (chosen (take (length (tail_at s k)) fs) (packets_from s.plan.site earlier (tail_at s k))) past) still))
+-- how it ends, step by step
+before_cat : (s : Setting) (laws : AreLaws s) (able : AreHearable s) → Steps s (EndsUntuned s)
+before_cat s laws able = record {
+  without = without_cat s able;
+  skipped = skipped_first s able;
+  ended = λ fs earlier past empty all none. cat_taken s able (items_of_none s) earlier fs past none
+      (sections_ends s laws able fs (earlier ++ Cat ∷ []) (packet_of s.plan.site earlier Cat ∷ past) empty all);
+  taken = λ n k fs earlier past count due all none. cat_taken s able (here_at s k ++ rest_at s (k + 1)) earlier fs past
+      none (cat_here s laws able n k fs (earlier ++ Cat ∷ []) (packet_of s.plan.site earlier Cat ∷ past) count all);
+}
 
 -- Where a receiver stands after a broadcast, whatever is lost of it.
 pub losses_stand : (s : Setting) → AreLaws s → AreHearable s → (fs : List Bool) →
@@ -378,4 +272,5 @@ pub losses_stand : (s : Setting) → AreLaws s → AreHearable s → (fs : List 
     (chosen fs (sent s.plan s.clear ++ closing_of s.plan s.clear)) (onto (chosen fs (broadcast s.plan s.clear)) [])
 unfolding broadcast tuning_of
 losses_stand s laws able fs =
-    untuned_ends s laws able (length s.clear) 0 fs [] [] (omega arith) (all_are_of_broadcast s.plan s.clear) refl
+    gone_through s laws (EndsUntuned s) (before_cat s laws able) (length s.clear) 0 (omega arith)
+    (all_are_of_broadcast s.plan s.clear) fs [] [] refl

@@ -1,5 +1,5 @@
 -- How the things that are sent are heard.
-use Rattle.std.proofs.Common.{◌≡◌, ℕ, ◌%◌, ◌^◌, ◌<◌, ◌==◌, true, false, length}
+use Rattle.std.proofs.Common.{◌≡◌, ℕ, ◌%◌, ◌^◌, ◌<◌, ◌≤◌, ◌==◌, true, false, length}
 use Rattle.std.proofs.Common.{List, Some, None}
 use Rattle.std.proofs.Common.{refl, eq-eqb, ◌∙◌, arith}
 use Rattle.std.specs.Prelude.{count_by, Ok}
@@ -61,6 +61,12 @@ other_pid : (ca : ℕ) (packet : List ℕ) → (pid_of packet == 1) ≡ false �
 unfolding cat_tuning
 other_pid ca packet other = rw other refl
 
+-- a section isn't packed on the CAT's PID but on its own
+apart_from_cat : (section : List ℕ) (pid n : ℕ) → 2 ≤ pid → pid < 8192 →
+    (pid_of (packed section pid (n % 16)) == 1) ≡ false
+apart_from_cat section pid n low high =
+    let same = packed_pid section pid n high in grind (arith, nat_tests, same, low)
+
 module _ (plan : Plan) (clear : List (List ℕ)) (is : IsPlan plan) (all : IsSendable plan.site clear)
     (long : AreLong clear) where
   -- no other thing is on the CAT's PID
@@ -68,17 +74,11 @@ module _ (plan : Plan) (clear : List (List ℕ)) (is : IsPlan plan) (all : IsSen
       (pid_of (packet_of plan.site earlier item) == 1) ≡ false
   not_one earlier Cat said other = absurd (cc)
   not_one earlier (SendsEmm emm) said other =
-      let low = is.site.emm.0 in
-      let high = is.site.emm.1 in
-      let pid = packed_pid (emm_section emm) plan.site.emm (count_by (is_alike (SendsEmm emm)) earlier)
-      (omega (arith, high)) in
-      grind (arith, nat_tests, pid, low)
+      apart_from_cat (emm_section emm) plan.site.emm (count_by (is_alike (SendsEmm emm)) earlier)
+      (omega (arith, is.site.emm.0)) (omega (arith, is.site.emm.1))
   not_one earlier (SendsEcm one) said other =
-      let low = is.site.ecm.0 in
-      let high = is.site.ecm.1 in
-      let pid = packed_pid (ecm_section one) plan.site.ecm (count_by (is_alike (SendsEcm one)) earlier)
-      (omega (arith, high)) in
-      grind (arith, nat_tests, pid, low)
+      apart_from_cat (ecm_section one) plan.site.ecm (count_by (is_alike (SendsEcm one)) earlier)
+      (omega (arith, is.site.ecm.0)) (omega (arith, is.site.ecm.1))
   not_one earlier (Carries n packet) (k, within, same) other =
       let taken = carried_pid plan clear is all long k packet within same in
       grind (arith, nat_tests, taken)

@@ -44,36 +44,59 @@ moved_by_one clear j high below within placed =
     (ap (is_moving (pid_of (packet_at clear j))) (get_or-take high clear j [] below) ∙ own_moves
     (packet_at clear j) placed)
 
--- the receiver confirms a PID exactly where its kept packets do
-pub confirmed_is : (s : Setting) (laws : AreLaws s) (kept : List Item) (a b j : ℕ) (word : List ℕ) → IsPair s a b →
-    j < end_of s b → is_placed (packet_at s.clear j) ≡ true →
-    is_confirmed (segment_of s kept a b word) (pid_of (packet_at s.clear j))
-    ≡ is_traced s.plan s.clear kept a b (pid_of (packet_at s.clear j))
-unfolding is_confirmed is_traced tracked_position
-confirmed_is s laws kept a b j word pair below placed =
-    ap (λ (told : Option ℕ). option_map_or (λ position. nat_le (tracked (told_by s a) pid held) position
-    && nat_le position (tracked (told_by s a) pid held + 15)) told false)
-    told_there
-    ∙ ap (λ (x : ℕ). nat_le x (true_at s.clear pid (end_of s b)) && nat_le (true_at s.clear pid (end_of s b)) (x + 15))
-    (tracked_is s laws kept a pid (end_of s b) (omega (arith, pair.below, pair.within)) (placed_low p placed)
-    (placed_high p placed) bounds.0 bounds.1)
-  where
-    p : List ℕ
-    p = packet_at s.clear j
+-- a packet behind message a and before message b, and its PID
+module _ (s : Setting) (laws : AreLaws s) (kept : List Item) (a b j : ℕ) (pair : IsPair s a b)
+    (below : j < end_of s b) where
+  abbrev p : List ℕ
+  p = packet_at s.clear j
 
-    pid : ℕ
-    pid = pid_of p
+  abbrev pid : ℕ
+  pid = pid_of p
 
-    bounds : (start_of s a ≤ end_of s b) × (end_of s b ≤ length s.clear)
-    bounds = starts_within s a b laws.range pair
+  bounds : (start_of s a ≤ end_of s b) × (end_of s b ≤ length s.clear)
+  bounds = starts_within s a b laws.range pair
 
-    held : List (List ℕ)
-    held = map (carried_at s) (kept_in kept (start_of s a) (end_of s b))
+  -- the receiver confirms a PID exactly where its kept packets do
+  pub confirmed_is : (word : List ℕ) → is_placed p ≡ true →
+      is_confirmed (segment_of s kept a b word) pid ≡ is_traced s.plan s.clear kept a b pid
+  unfolding is_confirmed is_traced tracked_position
+  confirmed_is word placed =
+      ap (λ (told : Option ℕ). option_map_or (λ position. nat_le (tracked (told_by s a) pid held) position
+      && nat_le position (tracked (told_by s a) pid held + 15)) told false)
+      told_there
+      ∙ ap (λ (x : ℕ). nat_le x (true_at s.clear pid (end_of s b))
+      && nat_le (true_at s.clear pid (end_of s b)) (x + 15))
+      (tracked_is s laws kept a pid (end_of s b) (omega (arith, pair.below, pair.within)) (placed_low p placed)
+      (placed_high p placed) bounds.0 bounds.1)
+    where
+      held : List (List ℕ)
+      held = map (carried_at s) (kept_in kept (start_of s a) (end_of s b))
 
-    told_there : position_in (told_by s b).places pid ≡ Some (true_at s.clear pid (end_of s b))
-    told_there = ap (λ (places : List Place). position_in places pid) (places_are s b laws.range pair.within)
-        ∙ (told_position (take (end_of s b) s.clear) pid (placed_low p placed) (placed_high p placed)
-        ∙ rw (moved_by_one s.clear j (end_of s b) below bounds.1 placed) refl)
+      told_there : position_in (told_by s b).places pid ≡ Some (true_at s.clear pid (end_of s b))
+      told_there = ap (λ (places : List Place). position_in places pid) (places_are s b laws.range pair.within)
+          ∙ (told_position (take (end_of s b) s.clear) pid (placed_low p placed) (placed_high p placed)
+          ∙ rw (moved_by_one s.clear j (end_of s b) below bounds.1 placed) refl)
+
+  -- the tracked position of a kept scrambled packet is its own where its PID is traced
+  exact_place : start_of s a ≤ j → is_kept kept j ≡ true → IsVeiled s j →
+      is_traced s.plan s.clear kept a b pid ≡ true →
+      tracked (told_by s a) (pid_of (carried_at s j))
+      (map (carried_at s) (kept_in kept (start_of s a) j) ++ carried_at s j ∷ []) ≡ place_after (take j s.clear) p
+  unfolding is_traced tracked_position
+  exact_place from is veiled near =
+      ap (λ (x : ℕ). tracked (told_by s a) x (map (carried_at s) (kept_in kept
+      (start_of s a) j) ++ carried_at s j ∷ [])) veiled.pid
+      ∙ (ap (tracked (told_by s a) pid) (sym (map-append (carried_at s) (kept_in kept (start_of s a) j) (j ∷ []))
+      ∙ ap (map (carried_at s)) (sym (kept_more kept (start_of s a) j from is)))
+      ∙ (tracked_is s laws kept a pid (j + 1) (omega (arith, pair.below, pair.within))
+      (placed_low p veiled.clear_placed) (placed_high p veiled.clear_placed) (omega (arith, from))
+      (omega (arith, below, bounds.1))
+      ∙ (near_exact s.clear kept (start_of s a) pid j (end_of s b) from below bounds.1 is
+      (own_moves p veiled.clear_placed) close
+      ∙ next_position pid j s.clear (omega (arith, below, bounds.1)))))
+    where
+      close : true_at s.clear pid (end_of s b) ≤ near_at s.clear kept (start_of s a) pid (end_of s b) + 15
+      close = grind (arith, nat_tests, near)
 
 -- clear packet j is written where the segment is
 abbrev pub is_let : Setting → List Item → ℕ → ℕ → ℕ → Bool
@@ -90,37 +113,6 @@ pub one_word : (s : Setting) (laws : AreLaws s) (a b j : ℕ) → IsPair s a b �
 one_word s laws a b j pair since from below =
     word_is s a (omega (arith, pair.below, pair.within))
     ∙ sym (same_word s.plan.site s.plan.site.messages a b j laws.range since pair.below from (omega (arith, below)))
-
--- the tracked position of a kept scrambled packet is its own where its PID is traced
-exact_place : (s : Setting) (laws : AreLaws s) (kept : List Item) (a b j : ℕ) → IsPair s a b → start_of s a ≤ j →
-    j < end_of s b → is_kept kept j ≡ true → IsVeiled s j →
-    is_traced s.plan s.clear kept a b (pid_of (packet_at s.clear j)) ≡ true →
-    tracked (told_by s a) (pid_of (carried_at s j))
-    (map (carried_at s) (kept_in kept (start_of s a) j) ++ carried_at s j ∷ []) ≡ place_after (take j s.clear)
-    (packet_at s.clear j)
-unfolding is_traced tracked_position
-exact_place s laws kept a b j pair from below is veiled near =
-    ap (λ (x : ℕ). tracked (told_by s a) x (map (carried_at s) (kept_in kept
-    (start_of s a) j) ++ carried_at s j ∷ [])) veiled.pid
-    ∙ (ap (tracked (told_by s a) pid) (sym (map-append (carried_at s) (kept_in kept (start_of s a) j) (j ∷ []))
-    ∙ ap (map (carried_at s)) (sym (kept_more kept (start_of s a) j from is)))
-    ∙ (tracked_is s laws kept a pid (j + 1) (omega (arith, pair.below, pair.within)) (placed_low p veiled.clear_placed)
-    (placed_high p veiled.clear_placed) (omega (arith, from)) (omega (arith, below, bounds.1))
-    ∙ (near_exact s.clear kept (start_of s a) pid j (end_of s b) from below bounds.1 is
-    (own_moves p veiled.clear_placed) close
-    ∙ next_position pid j s.clear (omega (arith, below, bounds.1)))))
-  where
-    p : List ℕ
-    p = packet_at s.clear j
-
-    pid : ℕ
-    pid = pid_of p
-
-    bounds : (start_of s a ≤ end_of s b) × (end_of s b ≤ length s.clear)
-    bounds = starts_within s a b laws.range pair
-
-    close : true_at s.clear pid (end_of s b) ≤ near_at s.clear kept (start_of s a) pid (end_of s b) + 15
-    close = grind (arith, nat_tests, near)
 
 -- a segment under the control word of its first message
 abbrev pub segment_at : Setting → List Item → ℕ → ℕ → Segment
@@ -175,20 +167,20 @@ judged_is s laws kept a b j n pair since from below is =
         judged_by (segment_at s kept a b) held n (carried_at s j) true v.veiled
         (not_odd s laws kept a b j pair since from below v)
         (ap (is_confirmed (segment_at s kept a b)) v.pid
-        ∙ (confirmed_is s laws kept a b j (control_word_of s.plan.site.master
-        (told_by s a).word) pair below v.clear_placed ∙ near))
+        ∙ (confirmed_is s laws kept a b j pair below (control_word_of s.plan.site.master
+        (told_by s a).word) v.clear_placed ∙ near))
         ∙ ap (λ (q : List ℕ). Ok (q ∷ []))
         (ap (λ (t : ℕ). descrambled (carried_at s j) (control_word_of s.plan.site.master t)
         (tracked (told_by s a) (pid_of (carried_at s j)) (held ++ carried_at s j ∷ [])))
         (one_word s laws a b j pair since from below)
         ∙ (ap (descrambled (carried_at s j) (control_word_of s.plan.site.master (word_of s.plan.site j)))
-        (exact_place s laws kept a b j pair from below is v near) ∙ v.again))
+        (exact_place s laws kept a b j pair below from is v near) ∙ v.again))
     by_trace v false far =
         judged_by (segment_at s kept a b) held n (carried_at s j) false v.veiled
         (not_odd s laws kept a b j pair since from below v)
         (ap (is_confirmed (segment_at s kept a b)) v.pid
-        ∙ (confirmed_is s laws kept a b j (control_word_of s.plan.site.master
-        (told_by s a).word) pair below v.clear_placed ∙ far))
+        ∙ (confirmed_is s laws kept a b j pair below (control_word_of s.plan.site.master
+        (told_by s a).word) v.clear_placed ∙ far))
 
     by_kind : (is_scrambled (kind_of (take j s.clear) p) ≡ true) ⊎ (is_scrambled (kind_of (take j s.clear) p) ≡ false) →
         judged (segment_at s kept a b) held (n, carried_at s j) ≡ Ok (let_by s kept a b j)

@@ -97,24 +97,29 @@ tables_before_fail s p cat sections k = by_test (k % crypto_length s.plan.site =
     by_test true = tables_fail s p cat sections k
     by_test false = refl
 
--- the parts before packet k are of no earlier message
-parts_later : (s : Setting) (laws : AreLaws s) (k b : ℕ) → k < length s.clear → b < closing_number s.plan.site k →
+-- the parts before packet k are of no message but its own
+pub parts_of_one : (s : Setting) (laws : AreLaws s) (k b : ℕ) → k < length s.clear →
+    ((k % s.plan.site.every == 0) ≡ true → ((told_by s (k / s.plan.site.every)).number == b) ≡ false) →
     list_any (is_of b) (parts_before s k) ≡ false
-parts_later s laws k b within below = by_test (cases_Bool (k % s.plan.site.every == 0))
+parts_of_one s laws k b within other = by_test (cases_Bool (k % s.plan.site.every == 0))
   where
     by_test : ((k % s.plan.site.every == 0) ≡ true) ⊎ ((k % s.plan.site.every == 0) ≡ false) →
         list_any (is_of b) (parts_before s k) ≡ false
     by_test (inl due) = rw due
         (no_other_part (told_by s (k / s.plan.site.every)) b (parts_of (told_by s (k / s.plan.site.every))) []
-        (laws.parts (k / s.plan.site.every) (omega (arith, number_within s k laws.range within)))
-        (grind (
-          arith,
-          nat_tests,
-          number_is s (k / s.plan.site.every),
-          (due_number s.plan.site k laws.range due).0,
-          below,
-        )))
+        (laws.parts (k / s.plan.site.every) (omega (arith, number_within s k laws.range within))) (other due))
     by_test (inr not_due) = rw not_due refl
+
+-- so they are of no earlier message
+parts_later : (s : Setting) (laws : AreLaws s) (k b : ℕ) → k < length s.clear → b < closing_number s.plan.site k →
+    list_any (is_of b) (parts_before s k) ≡ false
+parts_later s laws k b within below = parts_of_one s laws k b within (λ due. grind (
+  arith,
+  nat_tests,
+  number_is s (k / s.plan.site.every),
+  (due_number s.plan.site k laws.range due).0,
+  below,
+))
 
 pub parts_carry_none : (s : Setting) (k j : ℕ) → list_any (is_carried j) (parts_before s k) ≡ false
 parts_carry_none s k j = by_test (k % s.plan.site.every == 0)

@@ -29,6 +29,7 @@ pub mod Writings
 pub mod Losses
 pub mod Tuned
 pub mod Untuned
+pub mod Steps
 pub mod AnyLoss
 pub mod Lawful
 pub mod Theorem

@@ -177,15 +177,21 @@ tail_is card tuning u run cat tail good =
       taken = sym (cat_taken card cat packets) ∙ (ap (taken_keys card []) same ∙ good.taken (true ∷ fs));
     }
 
+-- a run before which one came is over
+abbrev IsRunOver : CardFields → Tuning → ℕ → Arrival → (Option ℕ → Type 0) → Option Ending → List (List ℕ) →
+    List (List ℕ) → List (List ℕ) → Type 0
+IsRunOver card tuning u run Next told past packets next =
+    IsOver card tuning Next true
+    (told_more told (is_told true run) (ending_told run.plan u run.clear (kept_of_arrival true run)))
+    (kept_periods run.plan u run.clear (kept_of_arrival true run))
+    (confirmed run.plan u run.clear (kept_of_arrival true run)) past packets next
+
 -- what arrives of it behind that CAT
 tuned_tail_over : (card : CardFields) (tuning : Tuning) (u : ℕ) (run : Arrival) (cat : List ℕ)
     (tail past next : List (List ℕ)) (Fresh Next : Option ℕ → Type 0) (told : Option Ending) →
     IsGood card tuning u run cat tail → IsPassed (is_told true run) (site_name run.plan.site) Fresh Next →
     StandsBetween card tuning Fresh true told past →
-    IsOver card tuning Next true
-    (told_more told (is_told true run) (ending_told run.plan u run.clear (kept_of_arrival true run)))
-    (kept_periods run.plan u run.clear (kept_of_arrival true run))
-    (confirmed run.plan u run.clear (kept_of_arrival true run)) past (chosen (drop 1 run.flags) tail) next
+    IsRunOver card tuning u run Next told past (chosen (drop 1 run.flags) tail) next
 tuned_tail_over card tuning u run cat tail past next Fresh Next told good passed stands =
     let name : Option ℕ = site_name run.plan.site in
     let fs : List Bool = drop 1 run.flags in
@@ -258,19 +264,14 @@ tuned_over : (card : CardFields) (tuning : Tuning) (u : ℕ) (run : Arrival) (ca
     (tail past next : List (List ℕ)) (Fresh Next : Option ℕ → Type 0) (told : Option Ending) →
     IsGood card tuning u run cat tail → IsPassed (is_told true run) (site_name run.plan.site) Fresh Next →
     StandsBetween card tuning Fresh true told past →
-    IsOver card tuning Next true
+    IsRunOver card tuning u run Next told past (chosen run.flags (broadcast run.plan run.clear)) next
+tuned_over card tuning u run cat tail past next Fresh Next told good passed stands =
+    subst (λ (all : List (List ℕ)). IsRunOver card tuning u run Next told past (chosen run.flags all) next)
+    (sym good.sent_is)
+    (cat_or_not card tuning Fresh Next told
     (told_more told (is_told true run) (ending_told run.plan u run.clear (kept_of_arrival true run)))
     (kept_periods run.plan u run.clear (kept_of_arrival true run))
-    (confirmed run.plan u run.clear (kept_of_arrival true run)) past (chosen run.flags (broadcast run.plan run.clear))
-    next
-tuned_over card tuning u run cat tail past next Fresh Next told good passed stands =
-    let after : Option Ending =
-    told_more told (is_told true run) (ending_told run.plan u run.clear (kept_of_arrival true run)) in
-    let keys : ℕ = kept_periods run.plan u run.clear (kept_of_arrival true run) in
-    let wrote : List (List ℕ) = confirmed run.plan u run.clear (kept_of_arrival true run) in
-    subst (λ (all : List (List ℕ)). IsOver card tuning Next true after keys wrote past (chosen run.flags all) next)
-    (sym good.sent_is)
-    (cat_or_not card tuning Fresh Next told after keys wrote tail past next cat run.flags good.quiet stands
+    (confirmed run.plan u run.clear (kept_of_arrival true run)) tail past next cat run.flags good.quiet stands
     (λ before there.
     tuned_tail_over card tuning u run cat tail before next Fresh Next told good passed there))
 

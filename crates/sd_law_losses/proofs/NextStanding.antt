@@ -63,22 +63,27 @@ none_takes : (card : CardFields) (k : ℕ) (past alone : List (List ℕ)) (packe
 none_takes card k past alone packet both =
     untuned_takes card past packet both.here.tuned ∙ sym (untuned_takes card alone packet both.there.tuned)
 
+-- so it changes nothing, if the receivers stand somewhere behind it
+steps_untuned : (card : CardFields) (tuning : Tuning) (k : ℕ) (name : Option ℕ) (Fresh : Option ℕ → Type 0)
+    (told : Option Ending) (at : Progress) (past alone : List (List ℕ)) (packet : List ℕ) →
+    AreUntuned card k past alone → StandsAt card tuning k name Fresh told at (packet ∷ past) (packet ∷ alone) →
+    StepsTo card tuning k name Fresh told at past alone packet
+steps_untuned card tuning k name Fresh told at past alone packet both stands =
+    (none_offered card k past alone packet both, none_takes card k past alone packet both, stands)
+
 untuned_other : (card : CardFields) (tuning : Tuning) (k : ℕ) (name : Option ℕ) (Fresh : Option ℕ → Type 0)
     (told : Option Ending) (past alone : List (List ℕ)) (packet : List ℕ) → cat_tuning card.ca packet ≡ None →
     StandsAt card tuning k name Fresh told Untuned past alone →
     StepsTo card tuning k name Fresh told Untuned past alone packet
-untuned_other card tuning k name Fresh told past alone packet other (both, none) = (
-  none_offered card k past alone packet both,
-  none_takes card k past alone packet both,
-  (
-    record {
-      here = untuned_more card past packet both.here other;
-      there = untuned_more card alone packet both.there other;
-      count = omega (arith, both.count);
-    },
-    none,
-  ),
-)
+untuned_other card tuning k name Fresh told past alone packet other (both, none) =
+    steps_untuned card tuning k name Fresh told Untuned past alone packet both (
+      record {
+        here = untuned_more card past packet both.here other;
+        there = untuned_more card alone packet both.there other;
+        count = omega (arith, both.count);
+      },
+      none,
+    )
 
 none_ended : (card : CardFields) (Fresh : Option ℕ → Type 0) (past : List (List ℕ)) (packet : List ℕ) →
     IsUntuned card past → HaveEnded card Fresh None (packet ∷ past)
@@ -90,22 +95,19 @@ untuned_cat : (card : CardFields) (tuning : Tuning) (k : ℕ) (name : Option ℕ
     (told : Option Ending) (past alone : List (List ℕ)) (packet : List ℕ) → IsCatOf card tuning packet →
     StandsAt card tuning k name Fresh told Untuned past alone →
     StepsTo card tuning k name Fresh told Waiting past alone packet
-untuned_cat card tuning k name Fresh told past alone packet is (both, none) = (
-  none_offered card k past alone packet both,
-  none_takes card k past alone packet both,
-  (
-    record {
-      tuned = tuned_next card past packet (Some tuning) both.here is.0;
-      alone_tuned = tuned_next card alone packet (Some tuning) both.there is.0;
-      count = omega (arith, both.count);
-      alone_quiet = no_heard card alone packet both.there;
-      last = inl (no_heard card past packet both.here);
-    },
-    subst (λ (t : Option Ending). HaveEnded card Fresh t (packet ∷ past)) (sym none)
-        (none_ended card Fresh past packet both.here),
-    none_ended card Fresh alone packet both.there,
-  ),
-)
+untuned_cat card tuning k name Fresh told past alone packet is (both, none) =
+    steps_untuned card tuning k name Fresh told Waiting past alone packet both (
+      record {
+        tuned = tuned_next card past packet (Some tuning) both.here is.0;
+        alone_tuned = tuned_next card alone packet (Some tuning) both.there is.0;
+        count = omega (arith, both.count);
+        alone_quiet = no_heard card alone packet both.there;
+        last = inl (no_heard card past packet both.here);
+      },
+      subst (λ (t : Option Ending). HaveEnded card Fresh t (packet ∷ past)) (sym none)
+          (none_ended card Fresh past packet both.here),
+      none_ended card Fresh alone packet both.there,
+    )
 
 -- behind it, before the first message
 waiting_quiet : (card : CardFields) (tuning : Tuning) (k : ℕ) (name : Option ℕ) (Fresh : Option ℕ → Type 0)

@@ -1,9 +1,9 @@
 -- Where the things of a whole broadcast stand.
 use Rattle.std.proofs.Common.{◌≡◌, refl, ℕ, zero, suc, ◌+◌, ◌/◌, ◌%◌, ◌<◌, ◌≤◌, ◌==◌, ◌||◌, Bool, true, false}
 use Rattle.std.proofs.Common.{List, [], ◌∷◌, ◌++◌, map, length, if◌then◌else◌}
-use Rattle.std.proofs.Common.{arith, sym, ap, ◌∙◌, inl, inr, ◌⊎◌, append_assoc, append-nil}
+use Rattle.std.proofs.Common.{arith, sym, ap, ◌∙◌, inl, inr, append_assoc, append-nil}
 use Rattle.std.specs.List.{list_any, list_all, range_with_len}
-use Rattle.std.proofs.lemmas.Bool.{cases_Bool, cases_eq}
+use Rattle.std.proofs.lemmas.Bool.{cases_eq}
 use Rattle.std.proofs.lemmas.Bool.Decides.{nat_tests}
 use Rattle.std.proofs.lemmas.List.Folds.{list_any-append}
 use Rattle.std.proofs.Math.Nat.{mul-mod_left, mul-div_cancel}
@@ -22,8 +22,8 @@ use Rattle.sd_law_losses.proofs.Setting.{Setting, AreLaws, final, told_by}
 use Rattle.sd_law_losses.proofs.Pairs.{start_of, number_is}
 use Rattle.sd_law_losses.proofs.Carrying.{carrying}
 use Rattle.sd_law_losses.proofs.Remaining.{parts_before, group_at, rest_at, rest_more, rest_none, closing_items}
-use Rattle.sd_law_losses.proofs.Remaining.{number_rises, number_within, due_number}
-use Rattle.sd_law_losses.proofs.Later.{tables_before_fail, no_section_part, no_other_part}
+use Rattle.sd_law_losses.proofs.Remaining.{number_rises, due_number}
+use Rattle.sd_law_losses.proofs.Later.{tables_before_fail, no_section_part, parts_of_one}
 
 -- what is sent before packet k
 pub pre_at : Setting → ℕ → List Item
@@ -94,21 +94,16 @@ pre_numbers s laws (suc k) b within above =
     (any_or (is_of b) (tables_before s.plan k) (parts_before s k ++ carrying s k ∷ []) false false
     (tables_before_fail s (is_of b) refl (no_section_part b) k)
     (any_or (is_of b) (parts_before s k) (carrying s k ∷ []) false false
-    (earlier_parts (cases_Bool (k % s.plan.site.every == 0)) bound) refl))
+    (earlier_parts bound) refl))
   where
-    earlier_parts : ((k % s.plan.site.every == 0) ≡ true) ⊎ ((k % s.plan.site.every == 0) ≡ false) →
-        closing_number s.plan.site (k + 1) ≤ b → list_any (is_of b) (parts_before s k) ≡ false
-    earlier_parts (inl due) bound = rw due
-        (no_other_part (told_by s (k / s.plan.site.every)) b (parts_of (told_by s (k / s.plan.site.every))) []
-        (laws.parts (k / s.plan.site.every) (omega (arith, number_within s k laws.range (omega (arith, within)))))
-        (grind (
-          arith,
-          nat_tests,
-          number_is s (k / s.plan.site.every),
-          (due_number s.plan.site k laws.range due).1,
-          bound,
-        )))
-    earlier_parts (inr not_due) bound = rw not_due refl
+    earlier_parts : closing_number s.plan.site (k + 1) ≤ b → list_any (is_of b) (parts_before s k) ≡ false
+    earlier_parts bound = parts_of_one s laws k b (omega (arith, within)) (λ due. grind (
+      arith,
+      nat_tests,
+      number_is s (k / s.plan.site.every),
+      (due_number s.plan.site k laws.range due).1,
+      bound,
+    ))
 
 -- the message before packet k, and what stands before and after its parts
 pub message_stands : (s : Setting) (a : ℕ) → AreInRange s.plan.site → a < final s →

@@ -23,27 +23,31 @@ use Rattle.std.specs.List.{list_any}
 use Rattle.sd_law_losses.proofs.Endings.{losses_end, losses_take}
 use Rattle.sd_law_losses.proofs.WholeEnding.{whole_ends, keys_whole}
 use Rattle.sd_law_losses.proofs.AllOpened.{chosen_true, all_are_opened}
+use Rattle.sd_law_losses.proofs.Losses.{AreWritten}
 use Rattle.sd_law_losses.proofs.AnyLoss.{losses_are_confirmed}
 use Rattle.sd_law_losses.proofs.Lawful.{setting, laws_hold, can_be_heard}
 
--- what is written
+-- what is written, and that nothing is refused
+alone : (plan : Plan) (clear : List (List ℕ)) (u : ℕ) (flags : List Bool) → IsPlan plan →
+    IsSendable plan.site clear → AreWholePackets clear → u < 2 ^ plan.site.height →
+    AreWritten (setting plan clear u) [] (chosen flags (broadcast plan clear))
+    (confirmed plan (setting plan clear u).card.leaf clear (chosen flags (sent plan clear ++ closing_of plan clear)))
+alone plan clear u flags is all whole leaf =
+    losses_are_confirmed (setting plan clear u) (laws_hold plan clear u is all whole leaf)
+    (can_be_heard plan clear u is all whole) flags
+
 pub confirmed_alone : (plan : Plan) (clear : List (List ℕ)) (u : ℕ) (flags : List Bool) → IsPlan plan →
     IsSendable plan.site clear → AreWholePackets clear → u < 2 ^ plan.site.height →
     out_from (card_of plan.site.master plan.site.ca plan.site.height u) [] (chosen flags (broadcast plan clear))
     ≡ confirmed plan u clear (chosen flags (sent plan clear ++ closing_of plan clear))
 unfolding card_of
-confirmed_alone plan clear u flags is all whole leaf =
-    (losses_are_confirmed (setting plan clear u) (laws_hold plan clear u is all whole leaf)
-    (can_be_heard plan clear u is all whole) flags).out
+confirmed_alone plan clear u flags is all whole leaf = (alone plan clear u flags is all whole leaf).out
 
--- and nothing is refused
 pub none_refused : (plan : Plan) (clear : List (List ℕ)) (u : ℕ) (flags : List Bool) → IsPlan plan →
     IsSendable plan.site clear → AreWholePackets clear → u < 2 ^ plan.site.height →
     break_from (card_of plan.site.master plan.site.ca plan.site.height u) [] (chosen flags
     (broadcast plan clear)) ≡ None
-none_refused plan clear u flags is all whole leaf =
-    (losses_are_confirmed (setting plan clear u) (laws_hold plan clear u is all whole leaf)
-    (can_be_heard plan clear u is all whole) flags).none
+none_refused plan clear u flags is all whole leaf = (alone plan clear u flags is all whole leaf).none
 
 -- and how it ends
 pub ends_as_told : (plan : Plan) (clear : List (List ℕ)) (u : ℕ) (flags : List Bool) → IsPlan plan →

@@ -1,5 +1,5 @@
 -- Where nothing but clear packets is lost and no PID has a wide gap, what is kept of what is due is confirmed.
-use Rattle.std.proofs.Common.{◌≡◌, refl, ℕ, ◌+◌, ◌-◌, ◌*◌, ◌/◌, ◌%◌, ◌<◌, ◌≤◌, ◌^◌, ◌==◌, ◌&&◌, ◌||◌, Bool, true}
+use Rattle.std.proofs.Common.{◌≡◌, refl, ℕ, ◌+◌, ◌-◌, ◌*◌, ◌/◌, ◌%◌, ◌<◌, ◌≤◌, ◌==◌, ◌&&◌, ◌||◌, Bool, true}
 use Rattle.std.proofs.Common.{false, List, [], ◌∷◌, ◌++◌, map, filter, length, take, arith, sym, ap, ◌∙◌, inl, inr, ◌⊎◌}
 use Rattle.std.proofs.Common.{subst}
 use Rattle.std.specs.List.{list_any, range_with_len}
@@ -11,11 +11,9 @@ use Rattle.sd_base.proofs.Ranges.{filter_range}
 use Rattle.sd_packet.specs.Header.{pid_of}
 use Rattle.sd_packet.specs.Positions.{is_moving, position_of}
 use Rattle.sd_site.specs.CardFields.{card_of}
-use Rattle.sd_spec.specs.Plan.{Plan, IsPlan, crypto_length, period_of}
-use Rattle.sd_spec.specs.Refused.{IsSendable}
+use Rattle.sd_spec.specs.Plan.{Plan, crypto_length, period_of}
 use Rattle.sd_spec.specs.Sent.{Item, Cat, Entitles, Controls, Carries, broadcast}
 use Rattle.sd_spec.specs.Offered.{out_from}
-use Rattle.sd_law_broadcast.specs.Packets.{AreWholePackets}
 use Rattle.sd_law_losses.specs.Chosen.{chosen}
 use Rattle.sd_law_losses.specs.Kept.{is_kept, kept_in, is_part, has_parts, has_arrived, is_last_part}
 use Rattle.sd_law_losses.specs.Kept.{is_entitled_before, after_cat}
@@ -30,6 +28,7 @@ use Rattle.sd_law_losses.proofs.Gapless.{traced_by_gaps}
 use Rattle.sd_law_losses.proofs.Theorem.{confirmed_alone}
 use Rattle.sd_law_losses.proofs.Lawful.{setting}
 use Rattle.sd_law_progress.specs.Progress.{things, is_due, messages_in, AreMessagesKept, HaveNoGaps, kept_due}
+use Rattle.sd_law_progress.proofs.Given.{IsSentTo}
 use Rattle.sd_law_progress.proofs.Between.{between_arrived}
 use Rattle.sd_law_progress.proofs.Back.{IsBack, back_at, back_arrived, next_arrived, back_told, whole_back}
 
@@ -131,8 +130,7 @@ same_gaps plan clear kept a b pid =
     (filter_agree (is_kept (Cat ∷ kept)) (is_kept kept) (λ j. refl)
     (range_with_len (a * plan.site.every) (upto plan clear b - a * plan.site.every)))
 
-module _ (plan : Plan) (clear : List (List ℕ)) (u : ℕ) (is : IsPlan plan) (all : IsSendable plan.site clear)
-    (whole : AreWholePackets clear) (leaf : u < 2 ^ plan.site.height) where
+module _ (plan : Plan) (clear : List (List ℕ)) (u : ℕ) (is : IsSentTo plan clear u) where
   abbrev s : Setting
   s = setting plan clear u
 
@@ -144,13 +142,13 @@ module _ (plan : Plan) (clear : List (List ℕ)) (u : ℕ) (is : IsPlan plan) (a
   kept_confirmed kept others j others_are same gaps within = by_kept (cases_Bool (is_kept kept j))
     where
       some : 0 < plan.site.every
-      some = omega (arith, is.site.every.0)
+      some = omega (arith, is.plan.site.every.0)
 
       a : ℕ
       a = j / plan.site.every
 
       below : a < final s
-      below = number_within s j is.site within
+      below = number_within s j is.plan.site within
 
       low : start_of s a ≤ j
       low = (le-div_iff_mul-le some).0 (omega arith)
@@ -158,23 +156,23 @@ module _ (plan : Plan) (clear : List (List ℕ)) (u : ℕ) (is : IsPlan plan) (a
       high : j < (a + 1) * plan.site.every
       high = (div-lt_iff_lt-mul some).0 (omega arith)
 
-      there : (front : List Item) × IsBack plan clear u is all whole leaf a front others
+      there : (front : List Item) × IsBack plan clear u is a front others
       there =
-          let first = whole_back plan clear u is all whole leaf (omega (arith, within)) in
-          back_at plan clear u is all whole leaf 0 a first.0 others (omega arith) below
-          (subst (λ (items : List Item). IsBack plan clear u is all whole leaf 0 first.0 items) (sym others_are)
+          let first = whole_back plan clear u is (omega (arith, within)) in
+          back_at plan clear u is 0 a first.0 others (omega arith) below
+          (subst (λ (items : List Item). IsBack plan clear u is 0 first.0 items) (sym others_are)
           first.1)
 
       by_kept : (is_kept kept j ≡ true) ⊎ (is_kept kept j ≡ false) →
           is_confirmed_at plan u clear kept j ≡ (is_kept kept j && is_due plan u j)
       by_kept (inr lost) = rw lost refl
       by_kept (inl is_there) =
-          between_arrived plan clear u is all whole leaf kept a j below low (omega (arith, high, within))
-          (same_arrived kept others a same ∙ back_arrived plan clear u is all whole leaf a there.0 others there.1)
-          (same_arrived kept others (a + 1) same ∙ next_arrived plan clear u is all whole leaf a there.0 others there.1)
+          between_arrived plan clear u is kept a j below low (omega (arith, high, within))
+          (same_arrived kept others a same ∙ back_arrived plan clear u is a there.0 others there.1)
+          (same_arrived kept others (a + 1) same ∙ next_arrived plan clear u is a there.0 others there.1)
           (same_entitled plan.site.height u (period_of plan (start_of s a)) a kept others same
-          ∙ back_told plan clear u is all whole leaf a there.0 others there.1)
-          (λ veiled. traced_by_gaps s kept a (a + 1) (pid_of (packet_at clear j)) is.site
+          ∙ back_told plan clear u is a there.0 others there.1)
+          (λ veiled. traced_by_gaps s kept a (a + 1) (pid_of (packet_at clear j)) is.plan.site
           (record { below = omega arith; within = omega (arith, below) })
           ∙ gaps a j low (omega (arith, high, within)) is_there veiled)
 
@@ -218,7 +216,7 @@ module _ (plan : Plan) (clear : List (List ℕ)) (u : ℕ) (is : IsPlan plan) (a
           others = (sections_at s (period_of plan 0) ++ tail_at s 0) ++ rest_at s 1
 
           stand : things plan clear ≡ Cat ∷ others
-          stand = due_rest s 0 is.site (omega (arith, some)) first
+          stand = due_rest s 0 is.plan.site (omega (arith, some)) first
             where
               first : (0 % crypto_length plan.site == 0) ≡ true
               first = let none : 0 % crypto_length plan.site ≡ 0 = omega arith in grind (arith, nat_tests, none)
@@ -237,4 +235,4 @@ module _ (plan : Plan) (clear : List (List ℕ)) (u : ℕ) (is : IsPlan plan) (a
       out_from (card_of plan.site.master plan.site.ca plan.site.height u) [] (chosen flags (broadcast plan clear))
       ≡ kept_due plan u clear (chosen flags (things plan clear))
   kept_are_written flags are gaps =
-      confirmed_alone plan clear u flags is all whole leaf ∙ kept_are_confirmed flags are gaps
+      confirmed_alone plan clear u flags is.plan is.sendable is.whole is.leaf ∙ kept_are_confirmed flags are gaps

@@ -1,5 +1,5 @@
 -- From a message on from which nothing is lost, all that is due is confirmed.
-use Rattle.std.proofs.Common.{◌≡◌, refl, ℕ, ◌+◌, ◌-◌, ◌*◌, ◌/◌, ◌%◌, ◌<◌, ◌≤◌, ◌==◌, ◌^◌, ◌&&◌, Bool, true, false, not}
+use Rattle.std.proofs.Common.{◌≡◌, refl, ℕ, ◌+◌, ◌-◌, ◌*◌, ◌/◌, ◌%◌, ◌<◌, ◌≤◌, ◌==◌, ◌&&◌, Bool, true, false, not}
 use Rattle.std.proofs.Common.{List, [], ◌∷◌, ◌++◌, map, length, take, drop, arith, sym, ap, ◌∙◌, inl, inr, ◌⊎◌}
 use Rattle.std.proofs.Common.{append_assoc}
 use Rattle.std.proofs.Common.{append-nil, subst}
@@ -13,8 +13,7 @@ use Rattle.std.proofs.Math.Nat.{mul-mod_left, mul-div_cancel, div-lt_iff_lt-mul,
 use Rattle.sd_packet.specs.Header.{pid_of}
 use Rattle.sd_message.specs.Period.{emms_of}
 use Rattle.sd_message.specs.EcmParts.{parts_of}
-use Rattle.sd_spec.specs.Plan.{Plan, IsPlan, crypto_length, period_of, closing_number}
-use Rattle.sd_spec.specs.Refused.{IsSendable}
+use Rattle.sd_spec.specs.Plan.{Plan, crypto_length, period_of, closing_number}
 use Rattle.sd_spec.specs.Messages.{period_at}
 use Rattle.sd_spec.specs.Sent.{Item, Cat, Entitles, Controls, sent, sent_from, closing_of}
 use Rattle.sd_spec.specs.Sent.{tables_at, tables_before, is_cat_item}
@@ -22,7 +21,6 @@ use Rattle.sd_spec.proofs.Sending.{sent_in_turn}
 use Rattle.sd_spec.specs.Items.{IsOfBroadcast}
 use Rattle.sd_spec.proofs.Items.{all_are_of_broadcast}
 use Rattle.sd_spec.proofs.Schedule.{period_begins, periods_rise, closing_needed}
-use Rattle.sd_law_broadcast.specs.Packets.{AreWholePackets}
 use Rattle.sd_law_losses.specs.Kept.{is_kept, is_carried, has_arrived, entitles, is_entitled_before, after_cat}
 use Rattle.sd_law_losses.specs.Confirmed.{packet_at, is_confirmed_at, is_revoked_in}
 use Rattle.sd_law_losses.proofs.Arriving.{is_of}
@@ -37,8 +35,9 @@ use Rattle.sd_law_losses.proofs.Opened.{after_all}
 use Rattle.sd_law_losses.proofs.AllOpened.{sections_entitle, begin_is_due}
 use Rattle.sd_law_losses.proofs.Standing.{pre_at, sent_split, any_first, any_second, pre_numbers, message_stands}
 use Rattle.sd_law_losses.proofs.Lists.{split_all}
-use Rattle.sd_law_losses.proofs.Lawful.{setting, laws_hold}
+use Rattle.sd_law_losses.proofs.Lawful.{setting}
 use Rattle.sd_law_progress.specs.Progress.{is_due}
+use Rattle.sd_law_progress.proofs.Given.{IsSentTo, laws_of}
 use Rattle.sd_law_progress.proofs.Splits.{mid_at, rest_later, mid_any, fails_both, fails_joined, any_after, after_some}
 use Rattle.sd_law_progress.proofs.Splits.{after_fails}
 use Rattle.sd_law_progress.proofs.Between.{arrives, knows, traced_whole, between_arrived}
@@ -48,13 +47,12 @@ pub untold : (b c : Bool) → (b ≡ true → c ≡ true) → (c ≡ true → b 
 untold true c told known = told refl
 untold false c told known = false_from_ne_true c (λ is. absurd (both_ways false refl (known is)))
 
-module _ (plan : Plan) (clear : List (List ℕ)) (u : ℕ) (is : IsPlan plan) (all : IsSendable plan.site clear)
-    (whole : AreWholePackets clear) (leaf : u < 2 ^ plan.site.height) where
+module _ (plan : Plan) (clear : List (List ℕ)) (u : ℕ) (is : IsSentTo plan clear u) where
   abbrev s : Setting
   s = setting plan clear u
 
   laws : AreLaws s
-  laws = laws_hold plan clear u is all whole leaf
+  laws = laws_of plan clear u is
 
   -- what stands behind message n's parts, and what stands from them on
   abbrev pub behind : ℕ → List Item
@@ -76,7 +74,7 @@ module _ (plan : Plan) (clear : List (List ℕ)) (u : ℕ) (is : IsPlan plan) (a
       from_message n ≡ stretch_from n d ++ rest_at s (start_of s n + 1 + d)
   from_parts n d within =
       ap (λ (xs : List Item). map Controls (parts_of (told_by s n)) ++ ((carrying s (start_of s n) ∷ []) ++ xs))
-      (rest_later s (start_of s n + 1) d is.site within)
+      (rest_later s (start_of s n + 1) d is.plan.site within)
       ∙ sym (append_assoc (map Controls (parts_of (told_by s n)))
       ((carrying s (start_of s n) ∷ []) ++ mid_at s (start_of s n + 1) d) (rest_at s (start_of s n + 1 + d)))
 
@@ -88,20 +86,20 @@ module _ (plan : Plan) (clear : List (List ℕ)) (u : ℕ) (is : IsPlan plan) (a
       (rest_at s (start_of s n + 1 + d))
       (append_assoc (ahead n) (stretch_from n d) (rest_at s (start_of s n + 1 + d))
       ∙ (ap (λ (xs : List Item). ahead n ++ xs) (sym (from_parts n d within))
-      ∙ (sym (message_stands s n is.site below)
-      ∙ sent_split s (start_of s n + 1 + d) is.site within)))
+      ∙ (sym (message_stands s n is.plan.site below)
+      ∙ sent_split s (start_of s n + 1 + d) is.plan.site within)))
 
   -- the tables stand before the message
   pub rest_is : (n : ℕ) → n < final s → rest_at s (start_of s n) ≡ tables_before plan (start_of s n) ++ from_message n
   rest_is n below =
       append_cancel_left (pre_at s (start_of s n)) (rest_at s (start_of s n))
       (tables_before plan (start_of s n) ++ from_message n)
-      (sym (sent_split s (start_of s n) is.site (omega (
+      (sym (sent_split s (start_of s n) is.plan.site (omega (
         arith,
-        closing_needed plan.site (length clear) n is.site
+        closing_needed plan.site (length clear) n is.plan.site
             below,
       )))
-      ∙ (message_stands s n is.site below
+      ∙ (message_stands s n is.plan.site below
       ∙ append_assoc (pre_at s (start_of s n)) (tables_before plan (start_of s n)) (from_message n)))
 
   -- and before the closing one nothing but the tables where there is no packet
@@ -126,7 +124,7 @@ module _ (plan : Plan) (clear : List (List ℕ)) (u : ℕ) (is : IsPlan plan) (a
       let order : (n + 1) * plan.site.every ≤ m * plan.site.every = mul-le-mul_right plan.site.every (omega
       (arith, later)) in
       let grown : (n + 1) * plan.site.every ≡ n * plan.site.every + plan.site.every = grind arith in
-      omega (arith, order, grown, is.site.every.0)
+      omega (arith, order, grown, is.plan.site.every.0)
 
   -- what stands between the parts of the two messages
   abbrev between : ℕ → ℕ → List Item
@@ -135,13 +133,15 @@ module _ (plan : Plan) (clear : List (List ℕ)) (u : ℕ) (is : IsPlan plan) (a
   from_later : (n m : ℕ) → n < m → m < final s → from_message n ≡ between n m ++ from_message m
   from_later n m later below =
       let at : start_of s n + 1 + gap n m ≡ start_of s m = start_later n m later in
-      from_parts n (gap n m) (omega (arith, at, closing_needed plan.site (length clear) m is.site below))
+      from_parts n (gap n m) (omega (arith, at, closing_needed plan.site (length clear) m is.plan.site below))
       ∙ (ap (λ (k : ℕ). stretch_from n (gap n m) ++ rest_at s k) at
       ∙ (ap (λ (xs : List Item). stretch_from n (gap n m) ++ xs) (rest_is m below)
       ∙ sym (append_assoc (stretch_from n (gap n m)) (tables_before plan (start_of s m)) (from_message m))))
 
   pub number_at : (m : ℕ) → closing_number plan.site (start_of s m) ≡ m
-  number_at m = (due_number plan.site (start_of s m) is.site due).0 ∙ mul-div_cancel m (omega (arith, is.site.every.0))
+  number_at m =
+      (due_number plan.site (start_of s m) is.plan.site due).0
+      ∙ mul-div_cancel m (omega (arith, is.plan.site.every.0))
     where
       due : (start_of s m % plan.site.every == 0) ≡ true
       due = grind (arith, nat_tests, mul-mod_left m plan.site.every)
@@ -150,7 +150,7 @@ module _ (plan : Plan) (clear : List (List ℕ)) (u : ℕ) (is : IsPlan plan) (a
   none_between : (n m b : ℕ) → n < m → m < final s → m ≤ b → list_any (is_of b) (between n m) ≡ false
   none_between n m b later below above =
       let at : start_of s n + 1 + gap n m ≡ start_of s m = start_later n m later in
-      let inside = closing_needed plan.site (length clear) m is.site below in
+      let inside = closing_needed plan.site (length clear) m is.plan.site below in
       fails_joined (is_of b) (stretch_from n (gap n m)) (tables_before plan (start_of s m))
       (fails_both (is_of b) (ahead n) (stretch_from n (gap n m))
       (ap (list_any (is_of b)) (pre_is n (gap n m) (omega (arith, later, below)) (omega (arith, at, inside))
@@ -163,7 +163,7 @@ module _ (plan : Plan) (clear : List (List ℕ)) (u : ℕ) (is : IsPlan plan) (a
       (split_all (IsOfBroadcast plan clear) (between n m) (from_message m)
       (subst (All (IsOfBroadcast plan clear)) (from_later n m later below)
       (split_all (IsOfBroadcast plan clear) (ahead n) (from_message n)
-      (subst (All (IsOfBroadcast plan clear)) (message_stands s n is.site (omega (arith, later, below)))
+      (subst (All (IsOfBroadcast plan clear)) (message_stands s n is.plan.site (omega (arith, later, below)))
       (all_are_of_broadcast plan clear))).1)).0
 
   -- the tables before the first packet of a crypto period entitle to its period
@@ -176,8 +176,8 @@ module _ (plan : Plan) (clear : List (List ℕ)) (u : ℕ) (is : IsPlan plan) (a
       (if b then tables_at plan (k - k % crypto_length plan.site) else [])) (begin_is_due plan k)
       ∙ (ap (λ (q : ℕ). list_any (entitles plan.site.height u (period_of plan k)) (map Entitles (emms_of
       (period_at plan q))))
-      (period_begins plan k is.site)
-      ∙ sections_entitle plan (period_of plan k) u is leaf)
+      (period_begins plan k is.plan.site)
+      ∙ sections_entitle plan (period_of plan k) u is.plan is.leaf)
 
   -- so where the key is had at message n it is had at a later one
   told_later : (n m : ℕ) (front : List Item) → n < m → m < final s →
@@ -217,9 +217,9 @@ module _ (plan : Plan) (clear : List (List ℕ)) (u : ℕ) (is : IsPlan plan) (a
         where
           period : period_of plan (start_of s m) ≡ period_of plan (start_of s n)
           period =
-              let first = period_begins plan (start_of s m) is.site in
-              let up = periods_rise plan begins (start_of s n) is.site before in
-              let down = periods_rise plan (start_of s n) (start_of s m) is.site (omega (arith, at)) in
+              let first = period_begins plan (start_of s m) is.plan.site in
+              let up = periods_rise plan begins (start_of s n) is.plan.site before in
+              let down = periods_rise plan (start_of s n) (start_of s m) is.plan.site (omega (arith, at)) in
               omega (arith, first, up, down)
 
   -- one message on
@@ -249,7 +249,7 @@ module _ (plan : Plan) (clear : List (List ℕ)) (u : ℕ) (is : IsPlan plan) (a
   -- the message has arrived
   pub back_arrived : (n : ℕ) (front kept : List Item) → IsBack n front kept → has_arrived kept n ≡ true
   back_arrived n front kept back =
-      arrives plan clear u is all whole leaf kept front (behind n) n (omega (arith, back.within)) back.same
+      arrives plan clear u is kept front (behind n) n (omega (arith, back.within)) back.same
 
   -- and so has the next one
   pub next_arrived : (n : ℕ) (front kept : List Item) → IsBack n front kept → has_arrived kept (n + 1) ≡ true
@@ -260,14 +260,14 @@ module _ (plan : Plan) (clear : List (List ℕ)) (u : ℕ) (is : IsPlan plan) (a
           back_arrived (n + 1) (front ++ between n (n + 1)) kept
           (back_later n (n + 1) front kept (omega arith) below back)
       by_last (inr last) =
-          arrives plan clear u is all whole leaf kept (front ++ (stretch_from n d ++ ends)) [] (n + 1)
+          arrives plan clear u is kept (front ++ (stretch_from n d ++ ends)) [] (n + 1)
           (omega (arith, back.within))
           (back.same ∙ (ap (λ (xs : List Item). front ++ xs) closing
           ∙ sym (append_assoc front (stretch_from n d ++ ends)
           (map Controls (parts_of (told_by s (n + 1))) ++ []))))
         where
           inside : start_of s n < length clear
-          inside = closing_needed plan.site (length clear) n is.site back.within
+          inside = closing_needed plan.site (length clear) n is.plan.site back.within
 
           d : ℕ
           d = length clear - (start_of s n + 1)
@@ -292,11 +292,11 @@ module _ (plan : Plan) (clear : List (List ℕ)) (u : ℕ) (is : IsPlan plan) (a
   pub back_told : (n : ℕ) (front kept : List Item) → IsBack n front kept →
       is_entitled_before plan.site.height u (period_of plan (start_of s n)) n kept ≡ is_due plan u (start_of s n)
   back_told n front kept back =
-      knows plan clear u is all whole leaf kept front (behind n) n (period_of plan (start_of s n))
+      knows plan clear u is kept front (behind n) n (period_of plan (start_of s n))
       (omega (arith, back.within)) back.same (back.none n (omega arith))
       ∙ untold (is_due plan u (start_of s n))
       (list_any (entitles plan.site.height u (period_of plan (start_of s n))) front) back.told
-      (λ there. ap not (entitled_ones plan clear (period_of plan (start_of s n)) u front is leaf back.of there))
+      (λ there. ap not (entitled_ones plan clear (period_of plan (start_of s n)) u front is.plan is.leaf back.of there))
 
   -- each packet from the message on is kept
   back_kept : (n j : ℕ) (front kept : List Item) → IsBack n front kept → start_of s n ≤ j → j < length clear →
@@ -316,10 +316,10 @@ module _ (plan : Plan) (clear : List (List ℕ)) (u : ℕ) (is : IsPlan plan) (a
           ∙ rw (itself (start_of s n)) refl)
       by_first (inr later) = any_second (is_carried j) (carrying s (start_of s n) ∷ []) (rest_at s
           (start_of s n + 1))
-          (ap (list_any (is_carried j)) (rest_later s (start_of s n + 1) d is.site (omega (arith, at, below))
+          (ap (list_any (is_carried j)) (rest_later s (start_of s n + 1) d is.plan.site (omega (arith, at, below))
           ∙ ap (λ (k : ℕ). mid_at s (start_of s n + 1) d ++ rest_at s k) at)
           ∙ any_second (is_carried j) (mid_at s (start_of s n + 1) d) (rest_at s j)
-          (ap (list_any (is_carried j)) (rest_more s j is.site below)
+          (ap (list_any (is_carried j)) (rest_more s j is.plan.site below)
           ∙ any_first (is_carried j) (group_at s j) (rest_at s (j + 1))
           (any_second (is_carried j) (tables_before plan j) (parts_before s j ++ carrying s j ∷ [])
           (any_second (is_carried j) (parts_before s j) (carrying s j ∷ []) (rw (itself j) refl)))))
@@ -334,9 +334,9 @@ module _ (plan : Plan) (clear : List (List ℕ)) (u : ℕ) (is : IsPlan plan) (a
   stretch_back : (n j : ℕ) (front kept : List Item) → IsBack n front kept → start_of s n ≤ j → j < end_of s (n + 1) →
       is_confirmed_at plan u clear kept j ≡ is_due plan u j
   stretch_back n j front kept back from to =
-      between_arrived plan clear u is all whole leaf kept n j back.within from to
+      between_arrived plan clear u is kept n j back.within from to
       (back_arrived n front kept back) (next_arrived n front kept back) (back_told n front kept back)
-      (λ veiled. traced_whole plan clear u is all whole leaf kept n (pid_of (packet_at clear j))
+      (λ veiled. traced_whole plan clear u is kept n (pid_of (packet_at clear j))
       (omega (arith, from, to)) (λ i above below. back_kept n i front kept back above (omega (arith, below))))
       ∙ ap (λ (b : Bool). b && is_due plan u j) (back_kept n j front kept back from (omega (arith, to)))
 
@@ -346,7 +346,7 @@ module _ (plan : Plan) (clear : List (List ℕ)) (u : ℕ) (is : IsPlan plan) (a
   all_back n j front kept back from below = by_number (cases_lt n a)
     where
       some : 0 < plan.site.every
-      some = omega (arith, is.site.every.0)
+      some = omega (arith, is.plan.site.every.0)
 
       a : ℕ
       a = j / plan.site.every
@@ -363,7 +363,7 @@ module _ (plan : Plan) (clear : List (List ℕ)) (u : ℕ) (is : IsPlan plan) (a
       by_number : (n < a) ⊎ (a ≤ n) → is_confirmed_at plan u clear kept j ≡ is_due plan u j
       by_number (inl later) =
           stretch_back a j (front ++ between n a) kept
-          (back_later n a front kept later (number_within s j is.site below) back) low (omega (arith, high, below))
+          (back_later n a front kept later (number_within s j is.plan.site below) back) low (omega (arith, high, below))
       by_number (inr here) =
           let same : a ≡ n = omega (arith, above, here) in
           stretch_back n j front kept back from (omega (arith, rw same at high, below))
@@ -397,7 +397,7 @@ module _ (plan : Plan) (clear : List (List ℕ)) (u : ℕ) (is : IsPlan plan) (a
       (λ b above. fails_joined (is_of b) front tables (none b above)
       (tables_before_fail s (is_of b) refl (no_section_part b) (start_of s n)))
       (λ due. ap (λ (xs : List Item). list_any p (after_cat (front ++ xs))) stand
-      ∙ any_after p front sections (sections_entitle plan (period_of plan (start_of s n)) u is leaf ∙ due))
+      ∙ any_after p front sections (sections_entitle plan (period_of plan (start_of s n)) u is.plan is.leaf ∙ due))
     where
       p : Item → Bool
       p = entitles plan.site.height u (period_of plan (start_of s n))
@@ -414,7 +414,7 @@ module _ (plan : Plan) (clear : List (List ℕ)) (u : ℕ) (is : IsPlan plan) (a
       tables_of : All (IsOfBroadcast plan clear) tables
       tables_of = (split_all (IsOfBroadcast plan clear) tables (from_message n)
           (split_all (IsOfBroadcast plan clear) (pre_at s (start_of s n)) (tables ++ from_message n)
-          (subst (All (IsOfBroadcast plan clear)) (message_stands s n is.site below
+          (subst (All (IsOfBroadcast plan clear)) (message_stands s n is.plan.site below
           ∙ append_assoc (pre_at s (start_of s n)) tables (from_message n))
           (all_are_of_broadcast plan clear))).1).0
 
@@ -433,7 +433,7 @@ module _ (plan : Plan) (clear : List (List ℕ)) (u : ℕ) (is : IsPlan plan) (a
       none = omega arith
 
       first : 0 < final s
-      first = omega (arith, number_within s 0 is.site some)
+      first = omega (arith, number_within s 0 is.plan.site some)
 
       begins : (start_of s 0 % crypto_length plan.site == 0) ≡ true
       begins =
@@ -441,16 +441,16 @@ module _ (plan : Plan) (clear : List (List ℕ)) (u : ℕ) (is : IsPlan plan) (a
           rw none (grind (arith, nat_tests, rest))
 
       same : rest_at s 0 ≡ pre_at s (start_of s 0) ++ (tables_before plan (start_of s 0) ++ from_message 0)
-      same = message_stands s 0 is.site first
+      same = message_stands s 0 is.plan.site first
           ∙ append_assoc (pre_at s (start_of s 0)) (tables_before plan (start_of s 0)) (from_message 0)
 
   -- what is sent from packet j on, cut at a later message
   pub rest_from : (j n : ℕ) → j ≤ start_of s n → n < final s →
       rest_at s j ≡ (mid_at s j (start_of s n - j) ++ tables_before plan (start_of s n)) ++ from_message n
   rest_from j n from below =
-      let inside = closing_needed plan.site (length clear) n is.site below in
+      let inside = closing_needed plan.site (length clear) n is.plan.site below in
       let at : j + (start_of s n - j) ≡ start_of s n = omega (arith, from) in
-      rest_later s j (start_of s n - j) is.site (omega (arith, at, inside))
+      rest_later s j (start_of s n - j) is.plan.site (omega (arith, at, inside))
       ∙ (ap (λ (k : ℕ). mid_at s j (start_of s n - j) ++ rest_at s k) at
       ∙ (ap (λ (xs : List Item). mid_at s j (start_of s n - j) ++ xs) (rest_is n below)
       ∙ sym (append_assoc (mid_at s j (start_of s n - j)) (tables_before plan (start_of s n)) (from_message n))))
@@ -459,7 +459,7 @@ module _ (plan : Plan) (clear : List (List ℕ)) (u : ℕ) (is : IsPlan plan) (a
   pub none_from : (j n b : ℕ) → j ≤ start_of s n → n < final s → n ≤ b →
       list_any (is_of b) (mid_at s j (start_of s n - j) ++ tables_before plan (start_of s n)) ≡ false
   none_from j n b from below above =
-      let inside = closing_needed plan.site (length clear) n is.site below in
+      let inside = closing_needed plan.site (length clear) n is.plan.site below in
       let at : j + (start_of s n - j) ≡ start_of s n = omega (arith, from) in
       let mid : List Item = mid_at s j (start_of s n - j) in
       let parts : pre_at s j ++ mid ≡ pre_at s (start_of s n) =
@@ -467,9 +467,9 @@ module _ (plan : Plan) (clear : List (List ℕ)) (u : ℕ) (is : IsPlan plan) (a
       (append_assoc (pre_at s j) mid (rest_at s (start_of s n))
       ∙ (ap (λ (k : ℕ). pre_at s j ++ (mid ++ rest_at s k)) (sym at)
       ∙ (ap (λ (xs : List Item). pre_at s j ++ xs)
-      (sym (rest_later s j (start_of s n - j) is.site (omega (arith, at, inside))))
-      ∙ (sym (sent_split s j is.site (omega (arith, from, inside)))
-      ∙ sent_split s (start_of s n) is.site (omega (arith, inside)))))) in
+      (sym (rest_later s j (start_of s n - j) is.plan.site (omega (arith, at, inside))))
+      ∙ (sym (sent_split s j is.plan.site (omega (arith, from, inside)))
+      ∙ sent_split s (start_of s n) is.plan.site (omega (arith, inside)))))) in
       fails_joined (is_of b) mid (tables_before plan (start_of s n))
       (fails_both (is_of b) (pre_at s j) mid (ap (list_any (is_of b)) parts
       ∙ pre_numbers s laws (start_of s n) b (omega (arith, inside)) (omega (arith, above, number_at n)))).1
@@ -479,12 +479,12 @@ module _ (plan : Plan) (clear : List (List ℕ)) (u : ℕ) (is : IsPlan plan) (a
   pub of_from : (j n : ℕ) → j ≤ start_of s n → n < final s →
       All (IsOfBroadcast plan clear) (mid_at s j (start_of s n - j) ++ tables_before plan (start_of s n))
   of_from j n from below =
-      let inside = closing_needed plan.site (length clear) n is.site below in
+      let inside = closing_needed plan.site (length clear) n is.plan.site below in
       (split_all (IsOfBroadcast plan clear) (mid_at s j (start_of s n - j) ++ tables_before plan (start_of s n))
       (from_message n)
       (subst (All (IsOfBroadcast plan clear)) (rest_from j n from below)
       (split_all (IsOfBroadcast plan clear) (pre_at s j) (rest_at s j)
-      (subst (All (IsOfBroadcast plan clear)) (sent_split s j is.site (omega (arith, from, inside)))
+      (subst (All (IsOfBroadcast plan clear)) (sent_split s j is.plan.site (omega (arith, from, inside)))
       (all_are_of_broadcast plan clear))).1)).0
 
   -- what is sent up to and with the first i clear packets
@@ -495,4 +495,4 @@ module _ (plan : Plan) (clear : List (List ℕ)) (u : ℕ) (is : IsPlan plan) (a
       (closing_of plan clear))
       ∙ (ap (λ (items : List Item). items ++ closing_of plan clear) (sym (sent_in_turn plan [] (take i clear)
       (drop i clear)) ∙ ap (sent plan) (take-append-drop i clear))
-      ∙ sent_split s i is.site within))
+      ∙ sent_split s i is.plan.site within))

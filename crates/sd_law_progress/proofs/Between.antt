@@ -1,5 +1,5 @@
 -- What is confirmed between two neighbouring messages that have arrived.
-use Rattle.std.proofs.Common.{◌≡◌, refl, ℕ, zero, suc, ◌+◌, ◌-◌, ◌*◌, ◌/◌, ◌<◌, ◌≤◌, ◌^◌, ◌&&◌, ◌||◌, Bool, true}
+use Rattle.std.proofs.Common.{◌≡◌, refl, ℕ, zero, suc, ◌+◌, ◌-◌, ◌*◌, ◌/◌, ◌<◌, ◌≤◌, ◌&&◌, ◌||◌, Bool, true}
 use Rattle.std.proofs.Common.{false, not}
 use Rattle.std.proofs.Common.{nat_le, List, [], ◌∷◌, ◌++◌, map, filter, length, drop, arith, sym, ap, ◌∙◌}
 use Rattle.std.specs.Prelude.{if◌then◌else◌}
@@ -11,11 +11,9 @@ use Rattle.sd_packet.specs.Header.{pid_of}
 use Rattle.sd_packet.specs.Positions.{moved_by}
 use Rattle.sd_site.specs.CardFields.{card_of}
 use Rattle.sd_message.specs.EcmParts.{parts_of}
-use Rattle.sd_spec.specs.Plan.{Plan, IsPlan, period_of, since_of}
-use Rattle.sd_spec.specs.Refused.{IsSendable}
+use Rattle.sd_spec.specs.Plan.{Plan, period_of, since_of}
 use Rattle.sd_spec.specs.Sent.{Item, Controls}
 use Rattle.sd_spec.proofs.Schedule.{since_is_below}
-use Rattle.sd_law_broadcast.specs.Packets.{AreWholePackets}
 use Rattle.sd_law_losses.specs.Chosen.{chosen}
 use Rattle.sd_law_losses.specs.Kept.{is_kept, kept_in, has_arrived, entitles, is_last_part, is_entitled_before}
 use Rattle.sd_law_losses.specs.Confirmed.{packet_at, packets_at, is_open, is_traced, tracked_position, is_confirmed_at}
@@ -29,8 +27,9 @@ use Rattle.sd_law_losses.proofs.Confirming.{neighbours}
 use Rattle.sd_law_losses.proofs.AllOpened.{chosen_true}
 use Rattle.sd_law_losses.proofs.Opened.{one_period}
 use Rattle.sd_law_losses.proofs.Standing.{whole_arrived}
-use Rattle.sd_law_losses.proofs.Lawful.{setting, laws_hold}
+use Rattle.sd_law_losses.proofs.Lawful.{setting}
 use Rattle.sd_law_progress.specs.Progress.{is_due, is_scrambled_at}
+use Rattle.sd_law_progress.proofs.Given.{IsSentTo, laws_of}
 
 filter_short : (f : ℕ → Bool) (low n : ℕ) → length (filter f (range_with_len low n)) ≤ n
 filter_short f low zero = omega arith
@@ -55,13 +54,12 @@ passes_by : (b c : Bool) → (b ≡ true → c ≡ true) → (not b || c) ≡ tr
 passes_by true c holds = holds refl
 passes_by false c holds = refl
 
-module _ (plan : Plan) (clear : List (List ℕ)) (u : ℕ) (is : IsPlan plan) (all : IsSendable plan.site clear)
-    (whole : AreWholePackets clear) (leaf : u < 2 ^ plan.site.height) where
+module _ (plan : Plan) (clear : List (List ℕ)) (u : ℕ) (is : IsSentTo plan clear u) where
   abbrev s : Setting
   s = setting plan clear u
 
   laws : AreLaws s
-  laws = laws_hold plan clear u is all whole leaf
+  laws = laws_of plan clear u is
 
   -- a message all parts of which stand among kept things has arrived
   pub arrives : (kept front later : List Item) (a : ℕ) → a ≤ final s →
@@ -126,7 +124,7 @@ module _ (plan : Plan) (clear : List (List ℕ)) (u : ℕ) (is : IsPlan plan) (a
       grown = grind arith
 
       short : length (kept_in kept (start_of s a) (end_of s (a + 1))) ≤ 4096
-      short = omega (arith, few_kept kept (start_of s a) (end_of s (a + 1)), grown, is.site.every.1)
+      short = omega (arith, few_kept kept (start_of s a) (end_of s (a + 1)), grown, is.plan.site.every.1)
 
       small : nat_le (length (kept_in kept (start_of s a) (end_of s (a + 1)))) 4096 ≡ true
       small = grind (arith, nat_tests, short)
@@ -139,7 +137,7 @@ module _ (plan : Plan) (clear : List (List ℕ)) (u : ℕ) (is : IsPlan plan) (a
       is_confirmed_at plan u clear kept j ≡ (is_kept kept j && is_due plan u j)
   unfolding card_of
   between_arrived kept a j below from to is_a is_b told traced =
-      sym (neighbours s kept a (a + 1) j is.site (record { below = omega arith; within = omega (arith, below) })
+      sym (neighbours s kept a (a + 1) j is.plan.site (record { below = omega arith; within = omega (arith, below) })
       is_a is_b (λ b above under. absurd (omega (arith, above, under))) from to)
       ∙ ap (λ (t : Bool). is_kept kept j && t)
       (ap (λ (t : Bool). opens s kept a (a + 1) && t) passes
@@ -148,7 +146,7 @@ module _ (plan : Plan) (clear : List (List ℕ)) (u : ℕ) (is : IsPlan plan) (a
       ∙ ap (λ (q : ℕ). not (is_revoked_in plan u q)) (sym period))))
     where
       some : 0 < plan.site.every
-      some = omega (arith, is.site.every.0)
+      some = omega (arith, is.plan.site.every.0)
 
       passes : (not (is_scrambled_at clear j)
           || is_traced plan clear kept a (a + 1) (pid_of (packet_at clear j))) ≡ true
@@ -159,6 +157,6 @@ module _ (plan : Plan) (clear : List (List ℕ)) (u : ℕ) (is : IsPlan plan) (a
       number = div-eq_of_lt-le plan.site.every from (omega (arith, to))
 
       period : period_of plan j ≡ period_of plan (start_of s a)
-      period = one_period plan a (a + 1) j is.site
+      period = one_period plan a (a + 1) j is.plan.site
           (omega (arith, since_is_below plan.site.messages plan.site.cryptos (a + 1) (omega arith)))
           (omega (arith, number)) (omega (arith, number))

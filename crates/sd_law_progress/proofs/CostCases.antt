@@ -1,5 +1,5 @@
 -- What is confirmed where a CAT, a clear packet or a part of a control message is lost.
-use Rattle.std.proofs.Common.{◌≡◌, refl, ℕ, zero, suc, ◌+◌, ◌-◌, ◌*◌, ◌/◌, ◌%◌, ◌<◌, ◌≤◌, ◌==◌, ◌^◌}
+use Rattle.std.proofs.Common.{◌≡◌, refl, ℕ, zero, suc, ◌+◌, ◌-◌, ◌*◌, ◌/◌, ◌%◌, ◌<◌, ◌≤◌, ◌==◌}
 use Rattle.std.proofs.Common.{true, false}
 use Rattle.std.proofs.Common.{List, [], ◌∷◌, ◌++◌, length, arith, sym, ap, ◌∙◌, inl, inr, ◌⊎◌}
 use Rattle.std.specs.List.{list_any}
@@ -12,11 +12,9 @@ use Rattle.sd_packet.specs.Header.{pid_of}
 use Rattle.sd_packet.specs.Positions.{is_positional}
 use Rattle.sd_site.specs.CardFields.{card_of}
 use Rattle.sd_message.specs.declared.ecm_part.EcmPart.{EcmPart}
-use Rattle.sd_spec.specs.Plan.{Plan, IsPlan, crypto_length, period_of, since_of}
-use Rattle.sd_spec.specs.Refused.{IsSendable}
+use Rattle.sd_spec.specs.Plan.{Plan, crypto_length, period_of, since_of}
 use Rattle.sd_spec.specs.Sent.{Item, Cat, Controls, Carries, tables_before}
 use Rattle.sd_spec.proofs.Schedule.{period_begins}
-use Rattle.sd_law_broadcast.specs.Packets.{AreWholePackets}
 use Rattle.sd_law_losses.specs.Kept.{is_kept, is_carried, has_arrived, arrived, kept_in, entitles, is_last_part}
 use Rattle.sd_law_losses.specs.Kept.{after_cat}
 use Rattle.sd_law_losses.specs.Kept.{is_entitled_before}
@@ -25,7 +23,7 @@ use Rattle.sd_law_losses.specs.Confirmed.{is_confirmed_at}
 use Rattle.sd_law_losses.proofs.AllOpened.{begin_is_due}
 use Rattle.sd_law_losses.proofs.Arriving.{is_of}
 use Rattle.sd_law_losses.proofs.Confirming.{confirms}
-use Rattle.sd_law_losses.proofs.Lawful.{setting, laws_hold}
+use Rattle.sd_law_losses.proofs.Lawful.{setting}
 use Rattle.sd_law_losses.specs.Chosen.{chosen}
 use Rattle.sd_law_losses.proofs.Opened.{one_period}
 use Rattle.sd_law_losses.proofs.Pairs.{start_of, end_of, IsPair}
@@ -34,6 +32,7 @@ use Rattle.sd_law_losses.proofs.Setting.{Setting, AreLaws, final}
 use Rattle.sd_law_losses.proofs.Standing.{any_second, packet_stands, all_arrived, pre_at}
 use Rattle.sd_law_losses.proofs.Untuned.{due_rest}
 use Rattle.sd_law_progress.specs.Cost.{IsSentBetween, RiseNarrowly}
+use Rattle.sd_law_progress.proofs.Given.{IsSentTo, laws_of}
 use Rattle.sd_law_progress.proofs.CostLists.{any_without, all_but, chosen_but}
 use Rattle.sd_law_progress.proofs.CostPairs.{all_traced, one_lost_traced, pair_confirms}
 use Rattle.sd_law_progress.proofs.CostStanding.{arrived_has_last, last_sent}
@@ -71,21 +70,20 @@ since_within (suc (suc v)) cryptos b other some off =
     omega (arith, ap (since_of (suc (suc v)) cryptos) more, first)
 
 -- one thing is lost of a broadcast
-module _ (plan : Plan) (clear : List (List ℕ)) (u : ℕ) (is : IsPlan plan) (all : IsSendable plan.site clear)
-    (whole : AreWholePackets clear) (leaf : u < 2 ^ plan.site.height) (before : List Item) (x : Item)
-    (after : List Item) (lost : IsSentBetween plan clear before x after) where
+module _ (plan : Plan) (clear : List (List ℕ)) (u : ℕ) (is : IsSentTo plan clear u)
+    (before : List Item) (x : Item) (after : List Item) (lost : IsSentBetween plan clear before x after) where
   abbrev pub s : Setting
   s = setting plan clear u
 
   pub laws : AreLaws s
-  laws = laws_hold plan clear u is all whole leaf
+  laws = laws_of plan clear u is
 
   abbrev pub kept : List Item
   kept = before ++ after
 
   -- the first thing is the CAT
   pub first_is : 0 < length clear → ((before ≡ []) × (x ≡ Cat)) ⊎ ((rest : List Item) × (before ≡ Cat ∷ rest))
-  first_is some = by_first before (sym lost ∙ due_rest s 0 is.site some first)
+  first_is some = by_first before (sym lost ∙ due_rest s 0 is.plan.site some first)
     where
       first : (0 % crypto_length plan.site == 0) ≡ true
       first = let none : 0 % crypto_length plan.site ≡ 0 = omega arith in grind (arith, nat_tests, none)
@@ -107,7 +105,7 @@ module _ (plan : Plan) (clear : List (List ℕ)) (u : ℕ) (is : IsPlan plan) (a
   -- what is not lost is kept, and arrives
   pub kept_still : (j : ℕ) → j < length clear → is_carried j x ≡ false → is_kept kept j ≡ true
   kept_still j within other = any_without (is_carried j) before after x other
-      ∙ (ap (list_any (is_carried j)) (sym lost) ∙ packet_stands s j is.site within)
+      ∙ (ap (list_any (is_carried j)) (sym lost) ∙ packet_stands s j is.plan.site within)
 
   pub arrived_still : (a : ℕ) → a ≤ final s → is_of a x ≡ false → has_arrived kept a ≡ true
   arrived_still a within other = arrived_without before after x a other
@@ -134,12 +132,12 @@ module _ (plan : Plan) (clear : List (List ℕ)) (u : ℕ) (is : IsPlan plan) (a
       begins = start_of s a - start_of s a % crypto_length plan.site
 
       same : period_of plan begins ≡ q
-      same = period_begins plan (start_of s a) is.site
+      same = period_begins plan (start_of s a) is.plan.site
 
       some : list_any (entitles plan.site.height u q) (up_to_tables s begins) ≡ true
       some = any_second (entitles plan.site.height u q) (pre_at s begins) (tables_before plan begins)
           (ap (λ (n : ℕ). list_any (entitles plan.site.height u n) (tables_before plan begins)) (sym same)
-          ∙ tables_entitle plan begins u is leaf (begin_is_due plan (start_of s a))
+          ∙ tables_entitle plan begins u is.plan is.leaf (begin_is_due plan (start_of s a))
           (ap (is_revoked_in plan u) same ∙ free))
 
   -- a clear packet that is due, and neither message beside it lost
@@ -152,26 +150,26 @@ module _ (plan : Plan) (clear : List (List ℕ)) (u : ℕ) (is : IsPlan plan) (a
       is_traced plan clear kept (j / plan.site.every) (j / plan.site.every + 1) pid ≡ true) → confirms s kept j ≡ true
   unfolding card_of
   still_confirms j within here next other entitled traced =
-      next_confirms s kept j is.site within (arrived_still (j / plan.site.every) (omega (arith, below)) here)
+      next_confirms s kept j is.plan.site within (arrived_still (j / plan.site.every) (omega (arith, below)) here)
       (arrived_still (j / plan.site.every + 1) (omega (arith, below)) next) entitled (kept_still j within other)
       (λ scrambled. traced (pid_of (packet_at clear j))
       (and_parts (is_positional (pid_of (packet_at clear j))) _ (laws.veiled j within scrambled).clear_placed).0)
     where
       below : j / plan.site.every < final s
-      below = number_within s j is.site within
+      below = number_within s j is.plan.site within
 
   -- if no packet is lost all are traced
   pub traced_still : ((i : ℕ) → is_carried i x ≡ false) → (a b pid : ℕ) → IsPair s a b →
       is_traced plan clear kept a b pid ≡ true
-  traced_still none a b pid pair = all_traced s kept a b pid is.site pair
+  traced_still none a b pid pair = all_traced s kept a b pid is.plan.site pair
       (λ i from to. kept_still i (omega (arith, to)) (none i))
 
   free_before : (j : ℕ) → is_revoked_in plan u (period_of plan j) ≡ false →
       is_revoked_in plan u (period_of plan (start_of s (j / plan.site.every))) ≡ false
-  free_before j free = ap (is_revoked_in plan u) (sym (period_before s j is.site)) ∙ free
+  free_before j free = ap (is_revoked_in plan u) (sym (period_before s j is.plan.site)) ∙ free
 
   pub next_pair : (j : ℕ) → j < length clear → IsPair s (j / plan.site.every) (j / plan.site.every + 1)
-  next_pair j within = record { below = omega arith; within = omega (arith, number_within s j is.site within) }
+  next_pair j within = record { below = omega arith; within = omega (arith, number_within s j is.plan.site within) }
 
   -- a thing that is no packet and no section: packets are lost beside a message of which it is a part, and no others
   pub beside_parts : ((i : ℕ) → is_carried i x ≡ false) → ((q : ℕ) → entitles plan.site.height u q x ≡ false) →
@@ -179,8 +177,8 @@ module _ (plan : Plan) (clear : List (List ℕ)) (u : ℕ) (is : IsPlan plan) (a
       is_of (j / plan.site.every) x ≡ false → is_of (j / plan.site.every + 1) x ≡ false → confirms s kept j ≡ true
   beside_parts none fails j within free here next =
       still_confirms j within here next (none j)
-      (entitled_at (j / plan.site.every) (number_within s j is.site within) (free_before j free)
-      (last_still (j / plan.site.every) (number_within s j is.site within) here)
+      (entitled_at (j / plan.site.every) (number_within s j is.plan.site within) (free_before j free)
+      (last_still (j / plan.site.every) (number_within s j is.plan.site within) here)
       (fails (period_of plan (start_of s (j / plan.site.every)))))
       (λ pid placed. traced_still none (j / plan.site.every) (j / plan.site.every + 1) pid (next_pair j within))
 
@@ -196,8 +194,8 @@ module _ (plan : Plan) (clear : List (List ℕ)) (u : ℕ) (is : IsPlan plan) (a
       j < length clear → is_revoked_in plan u (period_of plan j) ≡ false → (j ≡ i → ⊥) → confirms s kept j ≡ true
   packet_costs narrow i packet carries j within free other =
       still_confirms j within (no_part (j / plan.site.every)) (no_part (j / plan.site.every + 1)) (not_this j other)
-      (entitled_at (j / plan.site.every) (number_within s j is.site within) (free_before j free)
-      (last_still (j / plan.site.every) (number_within s j is.site within) (no_part (j / plan.site.every)))
+      (entitled_at (j / plan.site.every) (number_within s j is.plan.site within) (free_before j free)
+      (last_still (j / plan.site.every) (number_within s j is.plan.site within) (no_part (j / plan.site.every)))
       (ap (entitles plan.site.height u (period_of plan (start_of s
       (j / plan.site.every)))) carries))
       (λ pid placed. by_place pid placed (cases_Bool (is_kept kept i)) (cases_lt i (start_of s (j / plan.site.every)))
@@ -217,22 +215,22 @@ module _ (plan : Plan) (clear : List (List ℕ)) (u : ℕ) (is : IsPlan plan) (a
           (i < end_of s (j / plan.site.every + 1)) ⊎ (end_of s (j / plan.site.every + 1) ≤ i) →
           is_traced plan clear kept (j / plan.site.every) (j / plan.site.every + 1) pid ≡ true
       by_place pid placed (inl there) from to =
-          all_traced s kept (j / plan.site.every) (j / plan.site.every + 1) pid is.site pair
+          all_traced s kept (j / plan.site.every) (j / plan.site.every + 1) pid is.plan.site pair
           (λ k above below. by_same k below (cases_eq k i))
         where
           by_same : (k : ℕ) → k < end_of s (j / plan.site.every + 1) → (k ≡ i) ⊎ (k ≡ i → ⊥) → is_kept kept k ≡ true
           by_same k below (inl same) = ap (is_kept kept) same ∙ there
           by_same k below (inr differ) = kept_still k (omega (arith, below)) (not_this k differ)
       by_place pid placed (inr gone) (inl early) to =
-          all_traced s kept (j / plan.site.every) (j / plan.site.every + 1) pid is.site pair
+          all_traced s kept (j / plan.site.every) (j / plan.site.every + 1) pid is.plan.site pair
           (λ k above below. kept_still k (omega (arith, below)) (not_this k (λ same. absurd (omega
           (arith, same, early, above)))))
       by_place pid placed (inr gone) (inr from) (inl to) =
-          one_lost_traced s kept (j / plan.site.every) (j / plan.site.every + 1) pid i is.site pair from to gone
+          one_lost_traced s kept (j / plan.site.every) (j / plan.site.every + 1) pid i is.plan.site pair from to gone
           (λ k above below differ. kept_still k (omega (arith, below)) (not_this k differ))
           (narrow.one pid i placed) (λ k after same. narrow.two pid i k placed after same)
       by_place pid placed (inr gone) (inr from) (inr late) =
-          all_traced s kept (j / plan.site.every) (j / plan.site.every + 1) pid is.site pair
+          all_traced s kept (j / plan.site.every) (j / plan.site.every + 1) pid is.plan.site pair
           (λ k above below. kept_still k (omega (arith, below)) (not_this k (λ same. absurd (omega
           (arith, same, late, below)))))
 
@@ -262,7 +260,7 @@ module _ (plan : Plan) (clear : List (List ℕ)) (u : ℕ) (is : IsPlan plan) (a
       a = b - 1
 
       some : 0 < plan.site.every
-      some = omega (arith, is.site.every.0)
+      some = omega (arith, is.plan.site.every.0)
 
       later : a + 1 ≡ b
       later = omega (
@@ -283,7 +281,8 @@ module _ (plan : Plan) (clear : List (List ℕ)) (u : ℕ) (is : IsPlan plan) (a
       -- all messages arrive
       all_there : has_arrived kept b ≡ true → confirms s kept j ≡ true
       all_there there =
-          next_confirms s kept j is.site within (arrives (j / plan.site.every) (omega (arith, inside)) (cases_eq _ b))
+          next_confirms s kept j is.plan.site within
+          (arrives (j / plan.site.every) (omega (arith, inside)) (cases_eq _ b))
           (arrives (j / plan.site.every + 1) (omega (arith, inside)) (cases_eq _ b))
           (entitled_at (j / plan.site.every) inside (free_before j free) (told (cases_eq (j / plan.site.every) b))
           (no_section (period_of plan (start_of s (j / plan.site.every)))))
@@ -291,7 +290,7 @@ module _ (plan : Plan) (clear : List (List ℕ)) (u : ℕ) (is : IsPlan plan) (a
           (λ scrambled. traced_still no_packet (j / plan.site.every) (j / plan.site.every + 1) _ (next_pair j within))
         where
           inside : j / plan.site.every < final s
-          inside = number_within s j is.site within
+          inside = number_within s j is.plan.site within
 
           arrives : (n : ℕ) → n ≤ final s → (n ≡ b) ⊎ (n ≡ b → ⊥) → has_arrived kept n ≡ true
           arrives n reach (inl same) = ap (has_arrived kept) same ∙ there
@@ -313,7 +312,7 @@ module _ (plan : Plan) (clear : List (List ℕ)) (u : ℕ) (is : IsPlan plan) (a
       beside : has_arrived kept b ≡ false → a ≤ j / plan.site.every → j / plan.site.every < b + 1 →
           confirms s kept j ≡ true
       beside gone from to =
-          pair_confirms s kept a (b + 1) j is.site pair
+          pair_confirms s kept a (b + 1) j is.plan.site pair
           (arrived_still a (omega (arith, below)) (apart a (λ same. absurd (omega (arith, same, later)))))
           (arrived_still (b + 1) (omega (arith, below)) (apart (b + 1) (λ same. absurd (omega (arith, same)))))
           (λ c above under. ap (has_arrived kept) (omega (arith, above, under, later)) ∙ gone)
@@ -330,7 +329,7 @@ module _ (plan : Plan) (clear : List (List ℕ)) (u : ℕ) (is : IsPlan plan) (a
           pair = record { below = omega arith; within = omega (arith, below) }
 
           since : since_of plan.site.messages plan.site.cryptos (b + 1) ≤ a
-          since = since_within plan.site.messages plan.site.cryptos b version (omega (arith, is.site.messages.0))
+          since = since_within plan.site.messages plan.site.cryptos b version (omega (arith, is.plan.site.messages.0))
               within_crypto
 
           grown : (b + 1) * plan.site.every ≡ a * plan.site.every + 2 * plan.site.every
@@ -340,7 +339,7 @@ module _ (plan : Plan) (clear : List (List ℕ)) (u : ℕ) (is : IsPlan plan) (a
               by_two n e = grind arith
 
           period : period_of plan j ≡ period_of plan (start_of s a)
-          period = one_period plan a (b + 1) j is.site since from to
+          period = one_period plan a (b + 1) j is.plan.site since from to
 
       by_beside : has_arrived kept b ≡ false → (j / plan.site.every ≡ b) ⊎ (j / plan.site.every ≡ b → ⊥) →
           (j / plan.site.every + 1 ≡ b) ⊎ (j / plan.site.every + 1 ≡ b → ⊥) → confirms s kept j ≡ true

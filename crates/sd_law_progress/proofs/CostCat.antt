@@ -1,5 +1,5 @@
 -- What is confirmed where the first CAT is lost.
-use Rattle.std.proofs.Common.{◌≡◌, refl, ℕ, zero, suc, ◌+◌, ◌-◌, ◌*◌, ◌/◌, ◌%◌, ◌<◌, ◌≤◌, ◌==◌, ◌^◌, ◌&&◌, Bool}
+use Rattle.std.proofs.Common.{◌≡◌, refl, ℕ, zero, suc, ◌+◌, ◌-◌, ◌*◌, ◌/◌, ◌%◌, ◌<◌, ◌≤◌, ◌==◌, ◌&&◌, Bool}
 use Rattle.std.proofs.Common.{true, false, append_assoc}
 use Rattle.std.proofs.Common.{List, [], ◌∷◌, ◌++◌, length, arith, sym, ap, ◌∙◌}
 use Rattle.std.specs.List.{list_any}
@@ -14,18 +14,16 @@ use Rattle.sd_base.proofs.Bools.{or_true}
 use Rattle.sd_packet.specs.Header.{pid_of}
 use Rattle.sd_site.specs.SiteFields.{AreInRange}
 use Rattle.sd_site.specs.CardFields.{card_of}
-use Rattle.sd_spec.specs.Plan.{Plan, IsPlan, crypto_length, period_of, closing_number}
-use Rattle.sd_spec.specs.Refused.{IsSendable}
+use Rattle.sd_spec.specs.Plan.{Plan, crypto_length, period_of, closing_number}
 use Rattle.sd_spec.specs.Sent.{Item, Cat, Entitles, Controls, Carries, tables_before}
 use Rattle.sd_spec.proofs.Schedule.{period_begins, crypto_length_some, closing_needed}
-use Rattle.sd_law_broadcast.specs.Packets.{AreWholePackets}
 use Rattle.sd_law_losses.specs.Kept.{after_cat, is_kept, is_carried, has_arrived, entitles, is_last_part}
 use Rattle.sd_law_losses.specs.Kept.{is_entitled_before}
 use Rattle.sd_law_losses.specs.Confirmed.{packet_at, is_confirmed_at, is_revoked_in}
 use Rattle.sd_law_losses.proofs.AllOpened.{begin_is_due}
 use Rattle.sd_law_losses.proofs.Arriving.{is_of}
 use Rattle.sd_law_losses.proofs.Carrying.{carrying}
-use Rattle.sd_law_losses.proofs.Lawful.{setting, laws_hold}
+use Rattle.sd_law_losses.proofs.Lawful.{setting}
 use Rattle.sd_law_losses.proofs.Pairs.{start_of}
 use Rattle.sd_law_losses.proofs.Remaining.{rest_at, group_at, parts_before, rest_more, number_within, due_number}
 use Rattle.sd_law_losses.proofs.Setting.{Setting, AreLaws, final}
@@ -35,6 +33,7 @@ use Rattle.sd_law_losses.proofs.Standing.{packet_stands}
 use Rattle.sd_law_losses.proofs.Tests.{none_weaker}
 use Rattle.sd_law_losses.proofs.Untuned.{due_rest, sections_at, tail_at}
 use Rattle.sd_law_progress.specs.Cost.{IsSentBetween}
+use Rattle.sd_law_progress.proofs.Given.{IsSentTo, laws_of}
 use Rattle.sd_law_progress.proofs.CostPairs.{all_traced}
 use Rattle.sd_law_progress.proofs.CostStanding.{arrived_without, last_is_of, entitled_by, tables_entitle, up_to_tables}
 use Rattle.sd_law_progress.proofs.CostStanding.{after_tables, tables_split, no_part_yet, last_sent, next_confirms}
@@ -133,14 +132,13 @@ carried_later s k n range within =
     by_between (some, same) = ap (list_any (is_carried j)) same ∙ any_second (is_carried j) some (rest_at s j) here
 
 -- the first CAT of a broadcast is lost
-module _ (plan : Plan) (clear : List (List ℕ)) (u : ℕ) (is : IsPlan plan) (all : IsSendable plan.site clear)
-    (whole : AreWholePackets clear) (leaf : u < 2 ^ plan.site.height) (after : List Item)
-    (lost : IsSentBetween plan clear [] Cat after) where
+module _ (plan : Plan) (clear : List (List ℕ)) (u : ℕ) (is : IsSentTo plan clear u)
+    (after : List Item) (lost : IsSentBetween plan clear [] Cat after) where
   abbrev s : Setting
   s = setting plan clear u
 
   laws : AreLaws s
-  laws = laws_hold plan clear u is all whole leaf
+  laws = laws_of plan clear u is
 
   abbrev k : ℕ
   k = crypto_length plan.site
@@ -156,20 +154,20 @@ module _ (plan : Plan) (clear : List (List ℕ)) (u : ℕ) (is : IsPlan plan) (a
     rest = (sections_at s (period_of plan k) ++ tail_at s k) ++ rest_at s (k + 1)
 
     stands : rest_at s k ≡ Cat ∷ rest
-    stands = due_rest s k is.site long due
+    stands = due_rest s k is.plan.site long due
 
     kept_is : IsRest (pre_at s k) rest (after_cat after)
     kept_is = by_first (pre_at s k) refl
       where
         no_packet : list_any (is_carried 0) (rest_at s k) ≡ false
         no_packet = packets_later s laws (length clear - k) k 0 (omega (arith, long))
-            (crypto_length_some plan.site is.site)
+            (crypto_length_some plan.site is.plan.site)
 
         packet : list_any (is_carried 0) (rest_at s 0) ≡ true
-        packet = packet_stands s 0 is.site (omega (arith, long))
+        packet = packet_stands s 0 is.plan.site (omega (arith, long))
 
         all_sent : rest_at s 0 ≡ pre_at s k ++ rest_at s k
-        all_sent = sent_split s k is.site (omega (arith, long))
+        all_sent = sent_split s k is.plan.site (omega (arith, long))
 
         by_first : (xs : List Item) → pre_at s k ≡ xs → IsRest xs rest (after_cat after)
         by_first [] none = absurd (both_ways (list_any (is_carried 0) (rest_at s k)) no_packet
@@ -202,13 +200,13 @@ module _ (plan : Plan) (clear : List (List ℕ)) (u : ℕ) (is : IsPlan plan) (a
         ∙ any_second (is_carried j) some rest
         (ap (list_any (is_carried j)) (sym stands)
         ∙ (ap (λ (i : ℕ). list_any (is_carried i) (rest_at s k)) (sym same)
-        ∙ carried_later s k (j - k) is.site (omega (arith, same, within))))
+        ∙ carried_later s k (j - k) is.plan.site (omega (arith, same, within))))
 
     -- the number of the message before its first packet
     first_number : closing_number plan.site k ≡ plan.site.cryptos
-    first_number = (due_number plan.site k is.site begins).0
+    first_number = (due_number plan.site k is.plan.site begins).0
         ∙ (ap (λ (n : ℕ). n / plan.site.every) turned
-        ∙ mul-div_cancel plan.site.cryptos (omega (arith, is.site.every.0)))
+        ∙ mul-div_cancel plan.site.cryptos (omega (arith, is.plan.site.every.0)))
       where
         turned : k ≡ plan.site.cryptos * plan.site.every
         turned = grind arith
@@ -230,7 +228,7 @@ module _ (plan : Plan) (clear : List (List ℕ)) (u : ℕ) (is : IsPlan plan) (a
         ∙ (arrived_without [] rest Cat b refl
         ∙ (ap (λ (xs : List Item). has_arrived xs b) (sym stands)
         ∙ (sym (arrived_behind (pre_at s k) (rest_at s k) b (none_early b above))
-        ∙ (ap (λ (xs : List Item). has_arrived xs b) (sym (sent_split s k is.site (omega (arith, long))))
+        ∙ (ap (λ (xs : List Item). has_arrived xs b) (sym (sent_split s k is.plan.site (omega (arith, long))))
         ∙ all_arrived s laws b within)))))
 
     -- and are entitled to
@@ -243,13 +241,13 @@ module _ (plan : Plan) (clear : List (List ℕ)) (u : ℕ) (is : IsPlan plan) (a
         ∙ entitled_behind plan.site.height u q a some rest
         (none_weaker (is_last_part a) (is_of a) some (last_is_of a) (kept_is.2 (is_of a) refl (none_early a above)))
         (ap (is_entitled_before plan.site.height u q a) (sym stands)
-        ∙ by_between (sent_between s k n is.site (omega (arith, there, inside))))
+        ∙ by_between (sent_between s k n is.plan.site (omega (arith, there, inside))))
       where
         q : ℕ
         q = period_of plan (start_of s a)
 
         inside : start_of s a < length clear
-        inside = closing_needed plan.site (length clear) a is.site below
+        inside = closing_needed plan.site (length clear) a is.plan.site below
 
         begins : ℕ
         begins = start_of s a - start_of s a % k
@@ -265,7 +263,7 @@ module _ (plan : Plan) (clear : List (List ℕ)) (u : ℕ) (is : IsPlan plan) (a
         from : k ≤ begins
         from =
             let some_number : 1 ≤ start_of s a / k =
-            (le-div_iff_mul-le (crypto_length_some plan.site is.site)).1 (omega (arith, late)) in
+            (le-div_iff_mul-le (crypto_length_some plan.site is.plan.site)).1 (omega (arith, late)) in
             omega (arith, whole_number, mul-le-mul_right k some_number)
 
         n : ℕ
@@ -275,11 +273,11 @@ module _ (plan : Plan) (clear : List (List ℕ)) (u : ℕ) (is : IsPlan plan) (a
         there = omega (arith, from)
 
         period : period_of plan begins ≡ q
-        period = period_begins plan (start_of s a) is.site
+        period = period_begins plan (start_of s a) is.plan.site
 
         tables : list_any (entitles plan.site.height u q) (tables_before plan begins) ≡ true
         tables = ap (λ (p : ℕ). list_any (entitles plan.site.height u p) (tables_before plan begins)) (sym period)
-            ∙ tables_entitle plan begins u is leaf (begin_is_due plan (start_of s a))
+            ∙ tables_entitle plan begins u is.plan is.leaf (begin_is_due plan (start_of s a))
             (ap (is_revoked_in plan u) period ∙ free)
 
         none_yet : list_any (is_of a) (up_to_tables s begins) ≡ false
@@ -292,7 +290,7 @@ module _ (plan : Plan) (clear : List (List ℕ)) (u : ℕ) (is : IsPlan plan) (a
 
         ends : list_any (is_last_part a) (after_tables s begins) ≡ true
         ends = any_later (is_last_part a) (up_to_tables s begins) (after_tables s begins)
-            (ap (list_any (is_last_part a)) (sym (tables_split s begins is.site (omega (arith, inside))))
+            (ap (list_any (is_last_part a)) (sym (tables_split s begins is.plan.site (omega (arith, inside))))
             ∙ last_sent s laws a below)
             (none_weaker (is_last_part a) (is_of a) (up_to_tables s begins) (last_is_of a) none_yet)
 
@@ -302,13 +300,13 @@ module _ (plan : Plan) (clear : List (List ℕ)) (u : ℕ) (is : IsPlan plan) (a
             ∙ entitled_by plan.site.height u q a (between ++ tables_before plan begins) (after_tables s begins)
             (none_weaker (is_last_part a) (is_of a) (between ++ tables_before plan begins) (last_is_of a)
             (list_any-append (is_of a) between (tables_before plan begins)
-            ∙ rw (between_fails s k n between (is_of a) is.site (omega (arith, there, inside)) same
+            ∙ rw (between_fails s k n between (is_of a) is.plan.site (omega (arith, there, inside)) same
             (ap (λ (m : ℕ). list_any (is_of a) (pre_at s m)) there ∙ none_parts.0)) none_parts.1))
             (any_second (entitles plan.site.height u q) between (tables_before plan begins) tables) ends
           where
             split : rest_at s k ≡ (between ++ tables_before plan begins) ++ after_tables s begins
             split = same ∙ (ap (λ (m : ℕ). between ++ rest_at s m) there
-                ∙ (ap (λ (xs : List Item). between ++ xs) (rest_more s begins is.site (omega (arith, inside))
+                ∙ (ap (λ (xs : List Item). between ++ xs) (rest_more s begins is.plan.site (omega (arith, inside))
                 ∙ append_assoc (tables_before plan begins) (tail_at s begins) (rest_at s (begins + 1)))
                 ∙ sym (append_assoc between (tables_before plan begins) (after_tables s begins))))
 
@@ -317,12 +315,12 @@ module _ (plan : Plan) (clear : List (List ℕ)) (u : ℕ) (is : IsPlan plan) (a
       is_confirmed_at plan u clear (after_cat after) j ≡ true
   unfolding card_of
   first_cat_costs j within free from =
-      next_confirms s (after_cat after) j is.site within
+      next_confirms s (after_cat after) j is.plan.site within
       (arrived_later long a late (omega (arith, inside))) (arrived_later long (a + 1) (omega (arith, late)) (omega
       (arith, inside)))
-      (entitled_later long a late inside (ap (is_revoked_in plan u) (sym (period_before s j is.site)) ∙ free))
+      (entitled_later long a late inside (ap (is_revoked_in plan u) (sym (period_before s j is.plan.site)) ∙ free))
       (kept_later long j from within)
-      (λ scrambled. all_traced s (after_cat after) a (a + 1) (pid_of (packet_at clear j)) is.site
+      (λ scrambled. all_traced s (after_cat after) a (a + 1) (pid_of (packet_at clear j)) is.plan.site
       (record { below = omega arith; within = omega (arith, inside) })
       (λ i above below. kept_later long i (omega (arith, above, start)) (omega (arith, below))))
     where
@@ -333,13 +331,13 @@ module _ (plan : Plan) (clear : List (List ℕ)) (u : ℕ) (is : IsPlan plan) (a
       a = j / plan.site.every
 
       inside : a < final s
-      inside = number_within s j is.site within
+      inside = number_within s j is.plan.site within
 
       turned : k ≡ plan.site.cryptos * plan.site.every
       turned = grind arith
 
       late : plan.site.cryptos ≤ a
-      late = (le-div_iff_mul-le (omega (arith, is.site.every.0))).1 (omega (arith, turned, from))
+      late = (le-div_iff_mul-le (omega (arith, is.plan.site.every.0))).1 (omega (arith, turned, from))
 
       start : k ≤ start_of s a
       start = omega (arith, turned, mul-le-mul_right plan.site.every late)

@@ -1,5 +1,5 @@
 -- What is confirmed where a section of entitlements is lost.
-use Rattle.std.proofs.Common.{◌≡◌, refl, ℕ, ◌+◌, ◌-◌, ◌*◌, ◌/◌, ◌%◌, ◌<◌, ◌≤◌, ◌==◌, ◌^◌, ◌&&◌, ◌||◌, Bool}
+use Rattle.std.proofs.Common.{◌≡◌, refl, ℕ, ◌+◌, ◌-◌, ◌*◌, ◌/◌, ◌%◌, ◌<◌, ◌≤◌, ◌==◌, ◌&&◌, ◌||◌, Bool}
 use Rattle.std.proofs.Common.{true, false, subst}
 use Rattle.std.proofs.Common.{List, [], ◌∷◌, ◌++◌, length, arith, sym, ap, ◌∙◌, inl, inr, ◌⊎◌, length-append}
 use Rattle.std.specs.Prelude.{All, Contains}
@@ -14,26 +14,25 @@ use Rattle.sd_message.specs.Period.{Period, emms_of, emm_at}
 use Rattle.sd_message.specs.EmmForm.{sections_for}
 use Rattle.sd_message.specs.declared.emm.Emm.{Emm}
 use Rattle.sd_message.proofs.Pieces.{each_made}
-use Rattle.sd_spec.specs.Plan.{Plan, IsPlan, crypto_length, period_of}
+use Rattle.sd_spec.specs.Plan.{Plan, crypto_length, period_of}
 use Rattle.sd_spec.specs.Messages.{period_at}
-use Rattle.sd_spec.specs.Refused.{IsSendable}
 use Rattle.sd_spec.specs.Sent.{Item, Cat, Entitles, Controls, Carries, sent, tables_before}
 use Rattle.sd_spec.specs.Items.{IsOfBroadcast, entitlement}
 use Rattle.sd_spec.proofs.Items.{all_are_of_broadcast}
 use Rattle.sd_spec.proofs.Periods.{section_number}
 use Rattle.sd_spec.proofs.Schedule.{period_begins, crypto_length_some}
-use Rattle.sd_law_broadcast.specs.Packets.{AreWholePackets}
 use Rattle.sd_law_losses.specs.Kept.{entitles, is_section_item, is_entitled_before}
 use Rattle.sd_law_losses.specs.Confirmed.{is_revoked_in}
 use Rattle.sd_law_losses.proofs.AllOpened.{begin_is_due}
 use Rattle.sd_law_losses.proofs.Confirming.{confirms}
-use Rattle.sd_law_losses.proofs.Lawful.{setting, laws_hold}
+use Rattle.sd_law_losses.proofs.Lawful.{setting}
 use Rattle.sd_law_losses.proofs.Lists.{split_all}
 use Rattle.sd_law_losses.proofs.Pairs.{start_of}
 use Rattle.sd_law_losses.proofs.Remaining.{number_within}
 use Rattle.sd_law_losses.proofs.Setting.{Setting, AreLaws, final}
 use Rattle.sd_law_losses.proofs.Standing.{any_first, any_second, pre_at}
 use Rattle.sd_law_progress.specs.Cost.{IsSentBetween}
+use Rattle.sd_law_progress.proofs.Given.{IsSentTo, laws_of}
 use Rattle.sd_law_progress.proofs.CostLists.{any_without, first_or_second, IsFirst, IsSecond}
 use Rattle.sd_law_progress.proofs.CostStanding.{entitled_still, tables_entitle, up_to_tables, sent_rises, tables_rise}
 use Rattle.sd_law_progress.proofs.CostStanding.{IsSentWith, sent_with, period_before}
@@ -97,14 +96,14 @@ same_again plan clear u q emm (Entitles other ∷ items) all of there some =
         ∙ or_true' (entitles plan.site.height u q (Entitles other))
 
 -- one section of a broadcast is lost
-module _ (plan : Plan) (clear : List (List ℕ)) (u : ℕ) (is : IsPlan plan) (all : IsSendable plan.site clear)
-    (whole : AreWholePackets clear) (leaf : u < 2 ^ plan.site.height) (before : List Item) (emm : Emm)
-    (after : List Item) (lost : IsSentBetween plan clear before (Entitles emm) after) where
+module _ (plan : Plan) (clear : List (List ℕ)) (u : ℕ) (is : IsSentTo plan clear u)
+    (before : List Item) (emm : Emm) (after : List Item)
+    (lost : IsSentBetween plan clear before (Entitles emm) after) where
   abbrev s : Setting
   s = setting plan clear u
 
   laws : AreLaws s
-  laws = laws_hold plan clear u is all whole leaf
+  laws = laws_of plan clear u is
 
   abbrev kept : List Item
   kept = before ++ after
@@ -116,7 +115,7 @@ module _ (plan : Plan) (clear : List (List ℕ)) (u : ℕ) (is : IsPlan plan) (a
   -- it stands at or before the message before the packet
   begins_early : (j : ℕ) → begins j ≤ start_of s (j / plan.site.every)
   begins_early j =
-      let some : 0 < plan.site.every = omega (arith, is.site.every.0) in
+      let some : 0 < plan.site.every = omega (arith, is.plan.site.every.0) in
       let cut : begins j ≡ j / crypto_length plan.site * crypto_length plan.site =
       omega (arith, div-add-mod' j (crypto_length plan.site)) in
       let again : j / crypto_length plan.site * crypto_length plan.site
@@ -137,28 +136,29 @@ module _ (plan : Plan) (clear : List (List ℕ)) (u : ℕ) (is : IsPlan plan) (a
       confirms s kept j ≡ true
   unfolding card_of
   confirms_still j within free still =
-      Cases.still_confirms plan clear u is all whole leaf before (Entitles emm) after lost j within refl refl refl
+      Cases.still_confirms plan clear u is before (Entitles emm) after lost j within refl refl refl
       (ap (λ (q : ℕ). is_entitled_before plan.site.height u q (j / plan.site.every) kept)
-      (sym (period_before s j is.site) ∙ sym same)
+      (sym (period_before s j is.plan.site) ∙ sym same)
       ∙ entitled_still s laws before after (Entitles emm) (begins j) (j / plan.site.every)
       (period_of plan (begins j)) lost inside (begins_early j)
-      (Cases.last_still plan clear u is all whole leaf before (Entitles emm) after lost (j / plan.site.every) inside
+      (Cases.last_still plan clear u is before (Entitles emm) after lost (j / plan.site.every) inside
       refl)
       (any_second (entitles plan.site.height u (period_of plan (begins j))) (pre_at s (begins j))
       (tables_before plan (begins j)) some)
       (λ rest front. still rest front some))
-      (λ pid placed. Cases.traced_still plan clear u is all whole leaf before (Entitles emm) after lost (λ i. refl)
+      (λ pid placed. Cases.traced_still plan clear u is before (Entitles emm) after lost (λ i. refl)
       (j / plan.site.every) (j / plan.site.every + 1) pid
-      (Cases.next_pair plan clear u is all whole leaf before (Entitles emm) after lost j within))
+      (Cases.next_pair plan clear u is before (Entitles emm) after lost j within))
     where
       inside : j / plan.site.every < final s
-      inside = number_within s j is.site within
+      inside = number_within s j is.plan.site within
 
       same : period_of plan (begins j) ≡ period_of plan j
-      same = period_begins plan j is.site
+      same = period_begins plan j is.plan.site
 
       some : list_any (entitles plan.site.height u (period_of plan (begins j))) (tables_before plan (begins j)) ≡ true
-      some = tables_entitle plan (begins j) u is leaf (begin_is_due plan j) (ap (is_revoked_in plan u) same ∙ free)
+      some = tables_entitle plan (begins j) u is.plan is.leaf (begin_is_due plan j)
+          (ap (is_revoked_in plan u) same ∙ free)
 
   -- a section that was sent before costs nothing
   pub again_costs : list_any (is_section_item emm.period emm.index) before ≡ true → (j : ℕ) → j < length clear →
@@ -208,7 +208,7 @@ module _ (plan : Plan) (clear : List (List ℕ)) (u : ℕ) (is : IsPlan plan) (a
             arith,
             ap length front,
             length-append before (Entitles emm ∷ rest),
-            tables_rise s (begins j) is.site (omega (arith, within)),
+            tables_rise s (begins j) is.plan.site (omega (arith, within)),
           )))
 
   -- where it is sent with packet k, it costs at most that packet's crypto period
@@ -223,7 +223,7 @@ module _ (plan : Plan) (clear : List (List ℕ)) (u : ℕ) (is : IsPlan plan) (a
       c = crypto_length plan.site
 
       some : 0 < c
-      some = crypto_length_some plan.site is.site
+      some = crypto_length_some plan.site is.plan.site
 
       begins_with : begins j ≡ j / c * c
       begins_with = omega (arith, div-add-mod' j c)
@@ -248,7 +248,7 @@ module _ (plan : Plan) (clear : List (List ℕ)) (u : ℕ) (is : IsPlan plan) (a
             high,
             with,
             ap (λ (m : ℕ). length (pre_at s m)) same,
-            sent_rises s (begins j + 1) n is.site (omega (arith, same, with)),
+            sent_rises s (begins j + 1) n is.plan.site (omega (arith, same, with)),
           )
       by_order low high (inr at) (inl late) = not_earlier (begins j - (k + 1)) (omega (arith, late))
         where
@@ -258,7 +258,7 @@ module _ (plan : Plan) (clear : List (List ℕ)) (u : ℕ) (is : IsPlan plan) (a
             low,
             with,
             ap (λ (m : ℕ). length (pre_at s m)) same,
-            sent_rises s (k + 1) n is.site (omega (arith, same, within)),
+            sent_rises s (k + 1) n is.plan.site (omega (arith, same, within)),
           )
       by_order low high (inr at) (inr before_it) = other apart (omega (arith, at, before_it))
 
@@ -274,7 +274,7 @@ module _ (plan : Plan) (clear : List (List ℕ)) (u : ℕ) (is : IsPlan plan) (a
         high,
         last,
         ap (λ (m : ℕ). length (pre_at s m)) same,
-        sent_rises s (begins j + 1) n is.site (omega (arith, same)),
+        sent_rises s (begins j + 1) n is.plan.site (omega (arith, same)),
       )
 
   -- so it costs a crypto period at most
@@ -289,6 +289,6 @@ module _ (plan : Plan) (clear : List (List ℕ)) (u : ℕ) (is : IsPlan plan) (a
           (j < n * crypto_length plan.site) ⊎ (n * crypto_length plan.site + crypto_length plan.site ≤ j) →
           confirms s kept j ≡ true)
       by_order (inl sent) =
-          let place = sent_with s (length before) (length clear) is.site (omega arith) sent in
+          let place = sent_with s (length before) (length clear) is.plan.site (omega arith) sent in
           (place.0 / crypto_length plan.site, first_costs place.0 place.1)
       by_order (inr last) = (0, λ j within free apart. last_costs last j within free)

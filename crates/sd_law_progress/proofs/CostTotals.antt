@@ -1,5 +1,5 @@
 -- What the loss of one thing costs.
-use Rattle.std.proofs.Common.{◌≡◌, refl, ℕ, ◌+◌, ◌-◌, ◌*◌, ◌/◌, ◌%◌, ◌<◌, ◌≤◌, ◌==◌, ◌^◌, ◌||◌, Bool}
+use Rattle.std.proofs.Common.{◌≡◌, refl, ℕ, ◌+◌, ◌-◌, ◌*◌, ◌/◌, ◌%◌, ◌<◌, ◌≤◌, ◌==◌, ◌||◌, Bool}
 use Rattle.std.proofs.Common.{true, false, if◌then◌else◌, subst}
 use Rattle.std.proofs.Common.{List, [], ◌∷◌, ◌++◌, length, arith, sym, ap, ◌∙◌, inl, inr, ◌⊎◌}
 use Rattle.std.specs.Prelude.{All, Contains}
@@ -14,11 +14,9 @@ use Rattle.sd_message.specs.declared.emm.Emm.{Emm}
 use Rattle.sd_message.proofs.Pieces.{each_made}
 use Rattle.sd_spec.specs.Plan.{Plan, IsPlan, crypto_length, period_of, closing_number}
 use Rattle.sd_spec.specs.Messages.{message_at}
-use Rattle.sd_spec.specs.Refused.{IsSendable}
 use Rattle.sd_spec.specs.Sent.{Item, Cat, Entitles, Controls, Carries, is_cat_item}
 use Rattle.sd_spec.specs.Items.{IsOfBroadcast, part, closing}
 use Rattle.sd_spec.proofs.Items.{all_are_of_broadcast}
-use Rattle.sd_law_broadcast.specs.Packets.{AreWholePackets}
 use Rattle.sd_law_losses.specs.Kept.{after_cat, is_section_item}
 use Rattle.sd_law_losses.specs.Confirmed.{is_confirmed_at, is_revoked_in}
 use Rattle.sd_law_losses.proofs.Confirming.{confirms}
@@ -27,6 +25,7 @@ use Rattle.sd_law_losses.proofs.Lists.{split_all}
 use Rattle.sd_law_losses.proofs.Remaining.{number_within}
 use Rattle.sd_law_losses.proofs.Setting.{Setting}
 use Rattle.sd_law_progress.specs.Cost.{AreConfirmedBut, AreConfirmedOutside, IsSentBetween, RiseNarrowly, cost}
+use Rattle.sd_law_progress.proofs.Given.{IsSentTo}
 use Rattle.sd_law_progress.proofs.CostCases as Cases
 use Rattle.sd_law_progress.proofs.CostCat as First
 use Rattle.sd_law_progress.proofs.CostSections as Sections
@@ -57,8 +56,7 @@ parts_numbered plan clear u one is (closing m) =
     let says = part_says _ one m in (λ closes. says.0, λ goes_on. absurd (both_ways one.closing goes_on says.1))
 
 -- one thing is lost of a broadcast
-module _ (plan : Plan) (clear : List (List ℕ)) (u : ℕ) (is : IsPlan plan) (all : IsSendable plan.site clear)
-    (whole : AreWholePackets clear) (leaf : u < 2 ^ plan.site.height) where
+module _ (plan : Plan) (clear : List (List ℕ)) (u : ℕ) (is : IsSentTo plan clear u) where
   abbrev s : Setting
   s = setting plan clear u
 
@@ -67,13 +65,13 @@ module _ (plan : Plan) (clear : List (List ℕ)) (u : ℕ) (is : IsPlan plan) (a
       (x ≡ Cat → before ≡ [] → ⊥) → (j : ℕ) → j < length clear → confirms s (before ++ after) j ≡ true →
       is_confirmed_at plan u clear (after_cat (before ++ after)) j ≡ true
   still_told before x after lost other j within told =
-      by_first (Cases.first_is plan clear u is all whole leaf before x after lost (omega (arith, within)))
+      by_first (Cases.first_is plan clear u is before x after lost (omega (arith, within)))
     where
       by_first : ((before ≡ []) × (x ≡ Cat)) ⊎ ((rest : List Item) × (before ≡ Cat ∷ rest)) →
           is_confirmed_at plan u clear (after_cat (before ++ after)) j ≡ true
       by_first (inl (none, is_cat)) = absurd (other is_cat none)
       by_first (inr (rest, first)) =
-          Cases.confirms_after_cat plan clear u is all whole leaf before x after lost rest first j told
+          Cases.confirms_after_cat plan clear u is before x after lost rest first j told
 
   -- a clear packet costs itself
   pub packet_told : (before : List Item) (i : ℕ) (packet : List ℕ) (after : List Item) →
@@ -82,7 +80,7 @@ module _ (plan : Plan) (clear : List (List ℕ)) (u : ℕ) (is : IsPlan plan) (a
       is_confirmed_at plan u clear (after_cat (before ++ after)) j ≡ true
   packet_told before i packet after lost narrow j within free other =
       still_told before (Carries i packet) after lost (λ is_cat. absurd (cc is_cat)) j within
-      (Cases.packet_costs plan clear u is all whole leaf before (Carries i packet) after lost narrow i packet refl j
+      (Cases.packet_costs plan clear u is before (Carries i packet) after lost narrow i packet refl j
       within free other)
 
   -- a later CAT costs nothing
@@ -93,7 +91,7 @@ module _ (plan : Plan) (clear : List (List ℕ)) (u : ℕ) (is : IsPlan plan) (a
   cat_told before after lost there j within free =
       still_told before Cat after lost
       (λ is_cat none. absurd (cc (ap (list_any is_cat_item) (sym none) ∙ there))) j within
-      (Cases.no_cat_costs plan clear u is all whole leaf before Cat after lost refl j within free)
+      (Cases.no_cat_costs plan clear u is before Cat after lost refl j within free)
 
   -- the first one costs the first crypto period
   pub first_cat_told : (before after : List Item) → IsSentBetween plan clear before Cat after →
@@ -101,13 +99,13 @@ module _ (plan : Plan) (clear : List (List ℕ)) (u : ℕ) (is : IsPlan plan) (a
       is_revoked_in plan u (period_of plan j) ≡ false → crypto_length plan.site ≤ j →
       is_confirmed_at plan u clear (after_cat (before ++ after)) j ≡ true
   first_cat_told before after lost none j within free from =
-      by_first (Cases.first_is plan clear u is all whole leaf before Cat after lost (omega (arith, within)))
+      by_first (Cases.first_is plan clear u is before Cat after lost (omega (arith, within)))
     where
       by_first : ((before ≡ []) × (Cat ≡ Cat)) ⊎ ((rest : List Item) × (before ≡ Cat ∷ rest)) →
           is_confirmed_at plan u clear (after_cat (before ++ after)) j ≡ true
       by_first (inl (nothing, same)) =
           ap (λ (xs : List Item). is_confirmed_at plan u clear (after_cat (xs ++ after)) j) nothing
-          ∙ First.first_cat_costs plan clear u is all whole leaf after
+          ∙ First.first_cat_costs plan clear u is after
           (lost ∙ ap (λ (xs : List Item). xs ++ Cat ∷ after) nothing) j within free from
       by_first (inr (rest, first)) = absurd (cc (ap (list_any is_cat_item) (sym first) ∙ none))
 
@@ -119,14 +117,14 @@ module _ (plan : Plan) (clear : List (List ℕ)) (u : ℕ) (is : IsPlan plan) (a
       is_confirmed_at plan u clear (after_cat (before ++ after)) j ≡ true
   section_told before emm after lost there j within free =
       still_told before (Entitles emm) after lost (λ is_cat. absurd (cc is_cat)) j within
-      (Sections.again_costs plan clear u is all whole leaf before emm after lost there j within free)
+      (Sections.again_costs plan clear u is before emm after lost there j within free)
 
   -- any other costs a crypto period at most
   pub first_section_told : (before : List Item) (emm : Emm) (after : List Item) →
       IsSentBetween plan clear before (Entitles emm) after → (n : ℕ)
       × AreConfirmedOutside plan u clear (before ++ after) (n * crypto_length plan.site) (crypto_length plan.site)
   first_section_told before emm after lost =
-      let costs = Sections.section_costs plan clear u is all whole leaf before emm after lost in (
+      let costs = Sections.section_costs plan clear u is before emm after lost in (
         costs.0,
         λ j within free apart. still_told before (Entitles emm) after lost (λ is_cat. absurd (cc is_cat)) j within
             (costs.1 j within free apart),
@@ -140,7 +138,7 @@ module _ (plan : Plan) (clear : List (List ℕ)) (u : ℕ) (is : IsPlan plan) (a
       is_confirmed_at plan u clear (after_cat (before ++ after)) j ≡ true
   part_told before one after lost j within free here next =
       still_told before (Controls one) after lost (λ is_cat. absurd (cc is_cat)) j within
-      (Cases.part_costs plan clear u is all whole leaf before (Controls one) after lost one refl j within free here
+      (Cases.part_costs plan clear u is before (Controls one) after lost one refl j within free here
       next)
 
   of_broadcast : (before : List Item) (x : Item) (after : List Item) → IsSentBetween plan clear before x after →
@@ -158,8 +156,9 @@ module _ (plan : Plan) (clear : List (List ℕ)) (u : ℕ) (is : IsPlan plan) (a
   unfolding IsNumbered
   within_told before one after lost short goes_on off version j within free =
       still_told before (Controls one) after lost (λ is_cat. absurd (cc is_cat)) j within
-      (Cases.no_part_costs plan clear u is all whole leaf before (Controls one) after lost one refl
-      ((parts_numbered plan clear u one is (of_broadcast before (Controls one) after lost)).1 goes_on) short off version
+      (Cases.no_part_costs plan clear u is before (Controls one) after lost one refl
+      ((parts_numbered plan clear u one is.plan (of_broadcast before (Controls one) after lost)).1 goes_on) short off
+      version
       j within free)
 
   -- the packets beside a message
@@ -168,7 +167,7 @@ module _ (plan : Plan) (clear : List (List ℕ)) (u : ℕ) (is : IsPlan plan) (a
   beside b j near far = by_far far
     where
       some : 0 < plan.site.every
-      some = omega (arith, is.site.every.0)
+      some = omega (arith, is.plan.site.every.0)
 
       low : j / plan.site.every * plan.site.every ≤ j
       low = (le-div_iff_mul-le some).0 (omega arith)
@@ -212,7 +211,7 @@ module _ (plan : Plan) (clear : List (List ℕ)) (u : ℕ) (is : IsPlan plan) (a
     where
       far : (j < 0) ⊎ (0 + plan.site.every ≤ j) → 1 ≤ j / plan.site.every
       far (inl early) = absurd (omega (arith, early))
-      far (inr late) = (le-div_iff_mul-le (omega (arith, is.site.every.0))).1 (omega (arith, late))
+      far (inr late) = (le-div_iff_mul-le (omega (arith, is.plan.site.every.0))).1 (omega (arith, late))
 
   -- and one of the last message
   pub last_stretch : (before : List Item) (one : EcmPart) (after : List Item) →
@@ -221,13 +220,14 @@ module _ (plan : Plan) (clear : List (List ℕ)) (u : ℕ) (is : IsPlan plan) (a
   unfolding IsNumbered
   last_stretch before one after lost closes j within free apart =
       part_told before one after lost j within free
-      (λ here. absurd (omega (arith, here, last, number_within s j is.site within))) (λ next. absurd (far next apart))
+      (λ here. absurd (omega (arith, here, last, number_within s j is.plan.site within)))
+      (λ next. absurd (far next apart))
     where
       some : 0 < plan.site.every
-      some = omega (arith, is.site.every.0)
+      some = omega (arith, is.plan.site.every.0)
 
       last : one.number ≡ closing_number plan.site (length clear)
-      last = (parts_numbered plan clear u one is (of_broadcast before (Controls one) after lost)).0 closes
+      last = (parts_numbered plan clear u one is.plan (of_broadcast before (Controls one) after lost)).0 closes
 
       low : j / plan.site.every * plan.site.every ≤ j
       low = (le-div_iff_mul-le some).0 (omega arith)

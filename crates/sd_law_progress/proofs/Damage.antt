@@ -1,5 +1,5 @@
 -- Where nothing is lost before a place, all that is due is confirmed up to the last message before it.
-use Rattle.std.proofs.Common.{◌≡◌, refl, ℕ, ◌+◌, ◌-◌, ◌*◌, ◌/◌, ◌%◌, ◌<◌, ◌≤◌, ◌==◌, ◌^◌, ◌&&◌, Bool, true, false}
+use Rattle.std.proofs.Common.{◌≡◌, refl, ℕ, ◌+◌, ◌-◌, ◌*◌, ◌/◌, ◌%◌, ◌<◌, ◌≤◌, ◌==◌, ◌&&◌, Bool, true, false}
 use Rattle.std.proofs.Common.{List, [], ◌∷◌, ◌++◌, map, length, take, drop, arith, sym, ap, ◌∙◌, inl, inr, ◌⊎◌}
 use Rattle.std.proofs.Common.{append_assoc, append-nil, subst}
 use Rattle.std.specs.Prelude.{if◌then◌else◌, count_by}
@@ -13,12 +13,10 @@ use Rattle.sd_packet.specs.Header.{pid_of}
 use Rattle.sd_site.specs.CardFields.{card_of}
 use Rattle.sd_message.specs.EcmParts.{parts_of}
 use Rattle.sd_message.specs.declared.ecm_part.EcmPart.{EcmPart}
-use Rattle.sd_spec.specs.Plan.{Plan, IsPlan, crypto_length, period_of, closing_number}
-use Rattle.sd_spec.specs.Refused.{IsSendable}
+use Rattle.sd_spec.specs.Plan.{Plan, crypto_length, period_of, closing_number}
 use Rattle.sd_spec.specs.Sent.{Item, Cat, Controls, broadcast, tables_at, tables_before, is_cat_item}
 use Rattle.sd_spec.specs.Offered.{out_from}
 use Rattle.sd_spec.proofs.Schedule.{closing_needed}
-use Rattle.sd_law_broadcast.specs.Packets.{AreWholePackets}
 use Rattle.sd_law_losses.specs.Chosen.{chosen}
 use Rattle.sd_law_losses.specs.Kept.{is_kept, is_carried, has_arrived, entitles, after_cat}
 use Rattle.sd_law_losses.specs.Confirmed.{packet_at, is_confirmed_at}
@@ -32,9 +30,10 @@ use Rattle.sd_law_losses.proofs.Untuned.{sections_at, tail_at, due_rest}
 use Rattle.sd_law_losses.proofs.Standing.{pre_at, pre_any, sent_split, any_first, any_second, pre_numbers}
 use Rattle.sd_law_losses.proofs.Standing.{message_stands}
 use Rattle.sd_law_losses.proofs.Theorem.{confirmed_alone}
-use Rattle.sd_law_losses.proofs.Lawful.{setting, laws_hold}
+use Rattle.sd_law_losses.proofs.Lawful.{setting}
 use Rattle.sd_law_progress.specs.Progress.{things, is_due, is_packet, AreKeptBefore, packets_before, due_in}
 use Rattle.sd_law_progress.specs.Progress.{confirmed_in}
+use Rattle.sd_law_progress.proofs.Given.{IsSentTo, laws_of}
 use Rattle.sd_law_progress.proofs.Splits.{mid_at, fails_both, fails_joined, after_some, after_fails}
 use Rattle.sd_law_progress.proofs.Choices.{chosen_before, firsts, firsts_chosen, firsts_not_all, kept_after}
 use Rattle.sd_law_progress.proofs.Counts.{counts_joined, no_part, no_table, count_pre, place_past, fewer_before}
@@ -43,19 +42,18 @@ use Rattle.sd_law_progress.proofs.Back.{IsBack, ahead, from_message, behind, end
 use Rattle.sd_law_progress.proofs.Back.{back_told, whole_back}
 use Rattle.sd_law_progress.proofs.Returns.{none_ahead, confirmed_parts, confirmed_due}
 
-module _ (plan : Plan) (clear : List (List ℕ)) (u : ℕ) (is : IsPlan plan) (all : IsSendable plan.site clear)
-    (whole : AreWholePackets clear) (leaf : u < 2 ^ plan.site.height) where
+module _ (plan : Plan) (clear : List (List ℕ)) (u : ℕ) (is : IsSentTo plan clear u) where
   abbrev s : Setting
   s = setting plan clear u
 
   laws : AreLaws s
-  laws = laws_hold plan clear u is all whole leaf
+  laws = laws_of plan clear u is
 
   abbrev pub parts_at : ℕ → List Item
   parts_at n = map Controls (parts_of (told_by s n))
 
   abbrev ahead_of : ℕ → List Item
-  ahead_of n = ahead plan clear u is all whole leaf n
+  ahead_of n = ahead plan clear u is n
 
   -- what stands before message n's parts and behind them
   pub record IsPlaced (n : ℕ) : Type 0 where
@@ -66,7 +64,7 @@ module _ (plan : Plan) (clear : List (List ℕ)) (u : ℕ) (is : IsPlan plan) (a
     pub none : list_any (is_of n) (pre_at s (end_of s n) ++ middle) ≡ false
     pub count : count_by is_packet middle ≡ 0
 
-  count_ends : count_by is_packet (ends plan clear u is all whole leaf) ≡ 0
+  count_ends : count_by is_packet (ends plan clear u is) ≡ 0
   count_ends = by_test (length clear == 0)
     where
       by_test : (b : Bool) → count_by is_packet (if b then tables_at plan 0 else []) ≡ 0
@@ -77,7 +75,7 @@ module _ (plan : Plan) (clear : List (List ℕ)) (u : ℕ) (is : IsPlan plan) (a
           first = let none : 0 % crypto_length plan.site ≡ 0 = omega arith in grind (arith, nat_tests, none)
       by_test false = refl
 
-  none_ends : (n : ℕ) → list_any (is_of n) (ends plan clear u is all whole leaf) ≡ false
+  none_ends : (n : ℕ) → list_any (is_of n) (ends plan clear u is) ≡ false
   none_ends n = by_test (length clear == 0)
     where
       by_test : (b : Bool) → list_any (is_of n) (if b then tables_at plan 0 else []) ≡ false
@@ -89,44 +87,44 @@ module _ (plan : Plan) (clear : List (List ℕ)) (u : ℕ) (is : IsPlan plan) (a
       by_test false = refl
 
   -- all of the broadcast before the closing message, and its parts
-  closing_stands : things plan clear ≡ (pre_at s (length clear) ++ ends plan clear u is all whole leaf)
+  closing_stands : things plan clear ≡ (pre_at s (length clear) ++ ends plan clear u is)
       ++ parts_at (final s)
   closing_stands =
-      sent_split s (length clear) is.site (omega arith)
+      sent_split s (length clear) is.plan.site (omega arith)
       ∙ (ap (λ (xs : List Item). pre_at s (length clear) ++ xs) (rest_none s ∙ closing_items s)
-      ∙ sym (append_assoc (pre_at s (length clear)) (ends plan clear u is all whole leaf) (parts_at (final s))))
+      ∙ sym (append_assoc (pre_at s (length clear)) (ends plan clear u is) (parts_at (final s))))
 
   pub placed : (n : ℕ) → n ≤ final s → IsPlaced n
   placed n within = by_last (cases_lt n (final s))
     where
       by_last : (n < final s) ⊎ (final s ≤ n) → IsPlaced n
       by_last (inl below) =
-          let at : end_of s n ≡ start_of s n = end_is s n is.site below in record {
+          let at : end_of s n ≡ start_of s n = end_is s n is.plan.site below in record {
             middle = tables_before plan (start_of s n);
-            later = behind plan clear u is all whole leaf n;
+            later = behind plan clear u is n;
             within = within;
-            same = message_stands s n is.site below
+            same = message_stands s n is.plan.site below
                 ∙ ap (λ (k : ℕ). (pre_at s k ++ tables_before plan (start_of s n)) ++ (parts_at n
-                ++ behind plan clear u is all whole leaf n)) (sym at);
+                ++ behind plan clear u is n)) (sym at);
             none = fails_joined (is_of n) (pre_at s (end_of s n)) (tables_before plan (start_of s n))
                 (ap (λ (k : ℕ). list_any (is_of n) (pre_at s k)) at
-                ∙ none_ahead plan clear u is all whole leaf n n below (omega arith))
+                ∙ none_ahead plan clear u is n n below (omega arith))
                 (tables_before_fail s (is_of n) refl (no_section_part n) (start_of s n));
             count = no_table plan (start_of s n);
           }
       by_last (inr last) =
           let here : n ≡ final s = omega (arith, within, last) in
-          let at : end_of s n ≡ length clear = end_is_all s n is.site here in record {
-            middle = ends plan clear u is all whole leaf;
+          let at : end_of s n ≡ length clear = end_is_all s n is.plan.site here in record {
+            middle = ends plan clear u is;
             later = [];
             within = within;
             same = closing_stands
-                ∙ (ap (λ (a : ℕ). (pre_at s (length clear) ++ ends plan clear u is all whole leaf) ++ parts_at a) (sym
+                ∙ (ap (λ (a : ℕ). (pre_at s (length clear) ++ ends plan clear u is) ++ parts_at a) (sym
                 here)
-                ∙ (ap (λ (xs : List Item). (pre_at s (length clear) ++ ends plan clear u is all whole leaf) ++ xs)
+                ∙ (ap (λ (xs : List Item). (pre_at s (length clear) ++ ends plan clear u is) ++ xs)
                 (sym (append-nil (parts_at n)))
-                ∙ ap (λ (k : ℕ). (pre_at s k ++ ends plan clear u is all whole leaf) ++ (parts_at n ++ [])) (sym at)));
-            none = fails_joined (is_of n) (pre_at s (end_of s n)) (ends plan clear u is all whole leaf)
+                ∙ ap (λ (k : ℕ). (pre_at s k ++ ends plan clear u is) ++ (parts_at n ++ [])) (sym at)));
+            none = fails_joined (is_of n) (pre_at s (end_of s n)) (ends plan clear u is)
                 (pre_numbers s laws (end_of s n) n (omega arith)
                 (omega (arith, ap (closing_number plan.site) at, here)))
                 (none_ends n);
@@ -213,13 +211,13 @@ module _ (plan : Plan) (clear : List (List ℕ)) (u : ℕ) (is : IsPlan plan) (a
       (arith, before)) in
       let grown : (a + 1) * plan.site.every ≡ a * plan.site.every + plan.site.every = grind arith in
       let inside : start_of s a < length clear =
-      closing_needed plan.site (length clear) a is.site (omega (arith, before, place.within)) in
-      let at : start_of s a + 1 + d ≡ end_of s n = omega (arith, order, grown, is.site.every.0, inside) in
+      closing_needed plan.site (length clear) a is.plan.site (omega (arith, before, place.within)) in
+      let at : start_of s a + 1 + d ≡ end_of s n = omega (arith, order, grown, is.plan.site.every.0, inside) in
       let mid : List Item = (carrying s (start_of s a) ∷ []) ++ mid_at s (start_of s a + 1) d in (
         mid ++ place.middle,
         ap (λ (k : ℕ). pre_at s k ++ place.middle) (sym at)
             ∙ (ap (λ (xs : List Item). xs ++ place.middle)
-            (sym (pre_is plan clear u is all whole leaf a d (omega (arith, before, place.within)) (omega (arith, at))))
+            (sym (pre_is plan clear u is a d (omega (arith, before, place.within)) (omega (arith, at))))
             ∙ (append_assoc (ahead_of a) (parts_at a ++ mid) place.middle
             ∙ ap (λ (xs : List Item). ahead_of a ++ xs) (append_assoc (parts_at a) mid place.middle))),
       )
@@ -247,23 +245,23 @@ module _ (plan : Plan) (clear : List (List ℕ)) (u : ℕ) (is : IsPlan plan) (a
       list_any (entitles plan.site.height u (period_of plan (start_of s a))) (after_cat (ahead_of a))
       ≡ is_due plan u (start_of s a)
   ahead_told a below =
-      sym (knows plan clear u is all whole leaf (after_cat (rest_at s 0)) (after_cat (ahead_of a))
-      (behind plan clear u is all whole leaf a) a (period_of plan (start_of s a)) (omega (arith, below))
-      (ap after_cat (message_stands s a is.site below)
-      ∙ after_some (ahead_of a) (from_message plan clear u is all whole leaf a) (cat_ahead a))
+      sym (knows plan clear u is (after_cat (rest_at s 0)) (after_cat (ahead_of a))
+      (behind plan clear u is a) a (period_of plan (start_of s a)) (omega (arith, below))
+      (ap after_cat (message_stands s a is.plan.site below)
+      ∙ after_some (ahead_of a) (from_message plan clear u is a) (cat_ahead a))
       (none_after a below))
-      ∙ back_told plan clear u is all whole leaf a there.0 (after_cat (rest_at s 0)) there.1
+      ∙ back_told plan clear u is a there.0 (after_cat (rest_at s 0)) there.1
     where
-      there : (front : List Item) × IsBack plan clear u is all whole leaf a front (after_cat (rest_at s 0))
+      there : (front : List Item) × IsBack plan clear u is a front (after_cat (rest_at s 0))
       there =
-          let inside = closing_needed plan.site (length clear) a is.site below in
-          let first = whole_back plan clear u is all whole leaf (omega (arith, inside)) in
-          back_at plan clear u is all whole leaf 0 a first.0 (after_cat (rest_at s 0)) (omega arith) below first.1
+          let inside = closing_needed plan.site (length clear) a is.plan.site below in
+          let first = whole_back plan clear u is (omega (arith, inside)) in
+          back_at plan clear u is 0 a first.0 (after_cat (rest_at s 0)) (omega arith) below first.1
 
       none_after : (a : ℕ) → a < final s → list_any (is_of a) (after_cat (ahead_of a)) ≡ false
       none_after a below = after_fails (is_of a) (ahead_of a)
           (fails_joined (is_of a) (pre_at s (start_of s a)) (tables_before plan (start_of s a))
-          (none_ahead plan clear u is all whole leaf a a below (omega arith))
+          (none_ahead plan clear u is a a below (omega arith))
           (tables_before_fail s (is_of a) refl (no_section_part a) (start_of s a)))
 
   module _ (n : ℕ) (place : IsPlaced n) (kept rest : List Item)
@@ -292,12 +290,12 @@ module _ (plan : Plan) (clear : List (List ℕ)) (u : ℕ) (is : IsPlan plan) (a
         by_last : (b < n) ⊎ (n ≤ b) → has_arrived (after_cat kept) b ≡ true
         by_last (inl earlier) =
             let (later, same) = cut_at b earlier in
-            arrives plan clear u is all whole leaf (after_cat kept) (after_cat (ahead_of b)) later b
+            arrives plan clear u is (after_cat kept) (after_cat (ahead_of b)) later b
             (omega (arith, upto, place.within)) same
         by_last (inr last) =
             let here : n ≡ b = omega (arith, last, upto) in
             subst (λ (i : ℕ). has_arrived (after_cat kept) i ≡ true) here
-            (arrives plan clear u is all whole leaf (after_cat kept) (after_cat (front_at n place)) rest n place.within
+            (arrives plan clear u is (after_cat kept) (after_cat (front_at n place)) rest n place.within
             (ap after_cat kept_is ∙ after_some (front_at n place) (parts_at n ++ rest) (cat_front a before)))
 
     -- and each packet before it is kept
@@ -319,7 +317,7 @@ module _ (plan : Plan) (clear : List (List ℕ)) (u : ℕ) (is : IsPlan plan) (a
         others = (sections_at s (period_of plan 0) ++ tail_at s 0) ++ rest_at s 1
 
         stand : things plan clear ≡ Cat ∷ others
-        stand = due_rest s 0 is.site (omega (arith, before)) first
+        stand = due_rest s 0 is.plan.site (omega (arith, before)) first
           where
             first : (0 % crypto_length plan.site == 0) ≡ true
             first = let none : 0 % crypto_length plan.site ≡ 0 = omega arith in grind (arith, nat_tests, none)
@@ -328,16 +326,16 @@ module _ (plan : Plan) (clear : List (List ℕ)) (u : ℕ) (is : IsPlan plan) (a
     pub before_due : (j : ℕ) → j < n * plan.site.every → j < length clear →
         is_confirmed_at plan u clear (after_cat kept) j ≡ is_due plan u j
     before_due j before within =
-        between_arrived plan clear u is all whole leaf (after_cat kept) a j below low (omega (arith, high, within))
+        between_arrived plan clear u is (after_cat kept) a j below low (omega (arith, high, within))
         (all_arrived a a earlier (omega (arith, earlier))) (all_arrived a (a + 1) earlier (omega (arith, earlier)))
-        (knows plan clear u is all whole leaf (after_cat kept) (after_cat (ahead_of a)) cut.0 a
+        (knows plan clear u is (after_cat kept) (after_cat (ahead_of a)) cut.0 a
         (period_of plan (start_of s a)) (omega (arith, below)) cut.1
         (after_fails (is_of a) (ahead_of a)
         (fails_joined (is_of a) (pre_at s (start_of s a)) (tables_before plan (start_of s a))
-        (none_ahead plan clear u is all whole leaf a a below (omega arith))
+        (none_ahead plan clear u is a a below (omega arith))
         (tables_before_fail s (is_of a) refl (no_section_part a) (start_of s a))))
         ∙ ahead_told a below)
-        (λ veiled. traced_whole plan clear u is all whole leaf (after_cat kept) a (pid_of (packet_at clear j))
+        (λ veiled. traced_whole plan clear u is (after_cat kept) a (pid_of (packet_at clear j))
         (omega (arith, low, high, within))
         (λ i above under. all_there i (omega (arith, under, next)) (omega (arith, earlier))))
         ∙ ap (λ (b : Bool). b && is_due plan u j) (all_there j (omega (arith, before, within)) (omega (arith, earlier)))
@@ -346,7 +344,7 @@ module _ (plan : Plan) (clear : List (List ℕ)) (u : ℕ) (is : IsPlan plan) (a
         a = j / plan.site.every
 
         below : a < final s
-        below = number_within s j is.site within
+        below = number_within s j is.plan.site within
 
         low : start_of s a ≤ j
         low = div-mul-le_self j plan.site.every
@@ -355,10 +353,10 @@ module _ (plan : Plan) (clear : List (List ℕ)) (u : ℕ) (is : IsPlan plan) (a
         grown = grind arith
 
         high : j < (a + 1) * plan.site.every
-        high = omega (arith, grown, lt-div-mul-add {a = j} {b = plan.site.every} (omega (arith, is.site.every.0)))
+        high = omega (arith, grown, lt-div-mul-add {a = j} {b = plan.site.every} (omega (arith, is.plan.site.every.0)))
 
         earlier : a < n
-        earlier = (div-lt_iff_lt-mul (omega (arith, is.site.every.0))).1 before
+        earlier = (div-lt_iff_lt-mul (omega (arith, is.plan.site.every.0))).1 before
 
         next : (a + 1) * plan.site.every ≤ n * plan.site.every
         next = mul-le-mul_right plan.site.every (omega (arith, earlier))
@@ -370,8 +368,8 @@ module _ (plan : Plan) (clear : List (List ℕ)) (u : ℕ) (is : IsPlan plan) (a
   none_behind : (n : ℕ) → final s < n → list_any (is_of n) (things plan clear) ≡ false
   none_behind n past =
       ap (list_any (is_of n)) closing_stands
-      ∙ fails_joined (is_of n) (pre_at s (length clear) ++ ends plan clear u is all whole leaf) (parts_at (final s))
-      (fails_joined (is_of n) (pre_at s (length clear)) (ends plan clear u is all whole leaf)
+      ∙ fails_joined (is_of n) (pre_at s (length clear) ++ ends plan clear u is) (parts_at (final s))
+      (fails_joined (is_of n) (pre_at s (length clear)) (ends plan clear u is)
       (pre_numbers s laws (length clear) n (omega arith) (omega (arith, past))) (none_ends n))
       (no_other_part (told_by s (final s)) n (parts_of (told_by s (final s))) [] (laws.parts (final s) (omega arith))
       (grind (arith, nat_tests, number_is s (final s), past)))
@@ -400,9 +398,9 @@ module _ (plan : Plan) (clear : List (List ℕ)) (u : ℕ) (is : IsPlan plan) (a
   count_things = omega (
     arith,
     ap (count_by is_packet) closing_stands,
-    counts_joined (pre_at s (length clear) ++ ends plan clear u is all whole leaf) (parts_at (final s)),
-    counts_joined (pre_at s (length clear)) (ends plan clear u is all whole leaf),
-    count_pre s (length clear) is.site (omega arith),
+    counts_joined (pre_at s (length clear) ++ ends plan clear u is) (parts_at (final s)),
+    counts_joined (pre_at s (length clear)) (ends plan clear u is),
+    count_pre s (length clear) is.plan.site (omega arith),
     count_ends,
     no_part (parts_of (told_by s (final s))),
   )
@@ -413,7 +411,7 @@ module _ (plan : Plan) (clear : List (List ℕ)) (u : ℕ) (is : IsPlan plan) (a
     arith,
     counts_joined (front_at n place) (parts_at n),
     counts_joined (pre_at s (end_of s n)) place.middle,
-    count_pre s (end_of s n) is.site (omega arith),
+    count_pre s (end_of s n) is.plan.site (omega arith),
     place.count,
     no_part (parts_of (told_by s n)),
   )
@@ -428,7 +426,7 @@ module _ (plan : Plan) (clear : List (List ℕ)) (u : ℕ) (is : IsPlan plan) (a
       (place.same ∙ sym (append_assoc (front_at n place) (parts_at n) place.later))
       (omega (arith, count_front n place, grown, div-mul-le_self j plan.site.every, before))) in
       before_due n place (chosen flags (things plan clear)) rest same j
-      (omega (arith, grown, lt-div-mul-add {a = j} {b = plan.site.every} (omega (arith, is.site.every.0)))) within
+      (omega (arith, grown, lt-div-mul-add {a = j} {b = plan.site.every} (omega (arith, is.plan.site.every.0)))) within
     where
       within : j < length clear
       within = omega (arith, before, fewer_before x (things plan clear), count_things)
@@ -440,7 +438,7 @@ module _ (plan : Plan) (clear : List (List ℕ)) (u : ℕ) (is : IsPlan plan) (a
       grown = grind arith
 
       place : IsPlaced n
-      place = placed n (omega (arith, number_within s j is.site within))
+      place = placed n (omega (arith, number_within s j is.plan.site within))
 
   -- and what is written begins with all that is due
   pub before_written : (x : ℕ) (flags : List Bool) (high : ℕ) → AreKeptBefore plan clear x flags →
@@ -448,7 +446,7 @@ module _ (plan : Plan) (clear : List (List ℕ)) (u : ℕ) (is : IsPlan plan) (a
       out_from (card_of plan.site.master plan.site.ca plan.site.height u) [] (chosen flags (broadcast plan clear))
       ≡ due_in plan u clear 0 high ++ confirmed_in plan u clear (chosen flags (things plan clear)) high (length clear)
   before_written x flags high are before =
-      confirmed_alone plan clear u flags is all whole leaf
+      confirmed_alone plan clear u flags is.plan is.sendable is.whole is.leaf
       ∙ (confirmed_parts plan clear u high (chosen flags (things plan clear))
       (omega (arith, before, fewer_before x (things plan clear), count_things))
       ∙ ap (λ (packets : List (List ℕ)). packets ++ confirmed_in plan u clear (chosen flags (things plan clear)) high

@@ -1,3 +1,4 @@
+pub mod Given
 pub mod Splits
 pub mod Between
 pub mod Back

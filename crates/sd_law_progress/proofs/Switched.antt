@@ -10,6 +10,7 @@ use Rattle.sd_law_losses.specs.Many.{kept_of_arrival, has_cat, confirmed_from}
 use Rattle.sd_law_losses.proofs.Finishing.{runs_out}
 use Rattle.sd_law_progress.specs.Progress.{due_in}
 use Rattle.sd_law_progress.specs.Switches.{cut_off, joined_behind, last_message_at, next_crypto_at}
+use Rattle.sd_law_progress.proofs.Given.{sent_to}
 use Rattle.sd_law_progress.proofs.Switching.{cut_confirmed, cut_has_cat, joined_confirmed}
 
 pub switch_confirmed : (channel : Channel) (a b : Plan) (before after : List (List ℕ)) (i j u : ℕ) →
@@ -20,13 +21,13 @@ pub switch_confirmed : (channel : Channel) (a b : Plan) (before after : List (Li
 switch_confirmed channel a b before after i j u (is_a, apart, (is_b, none, rest)) leaf some within inside =
     ap (λ (packets : List (List ℕ)). packets ++ confirmed_from (has_cat (cut_off a before i)) u
     (joined_behind b after j ∷ []))
-    (cut_confirmed a before u is_a.plan is_a.sendable is_a.whole leaf_a i some within)
+    (cut_confirmed a before u (sent_to is_a.plan is_a.sendable is_a.whole leaf_a) i some within)
     ∙ (ap (λ (tuned : Bool). due_in a u before 0 (last_message_at a.site i) ++ confirmed_from tuned u
     (joined_behind b after j ∷ []))
-    (cut_has_cat a before u is_a.plan is_a.sendable is_a.whole leaf_a i some within)
+    (cut_has_cat a before u (sent_to is_a.plan is_a.sendable is_a.whole leaf_a) i some within)
     ∙ ap (λ (packets : List (List ℕ)). due_in a u before 0 (last_message_at a.site i) ++ packets)
     (append-nil (confirmed b u after (kept_of_arrival true (joined_behind b after j)))
-    ∙ joined_confirmed b after u is_b.plan is_b.sendable is_b.whole leaf_b j inside))
+    ∙ joined_confirmed b after u (sent_to is_b.plan is_b.sendable is_b.whole leaf_b) j inside))
   where
     leaf_a : u < 2 ^ a.site.height
     leaf_a = subst (λ (h : ℕ). u < 2 ^ h) (sym is_a.height) leaf

@@ -1,5 +1,5 @@
 -- What is confirmed of a broadcast that is cut off, and of one that is joined while it runs.
-use Rattle.std.proofs.Common.{◌≡◌, refl, ℕ, zero, suc, ◌+◌, ◌-◌, ◌*◌, ◌/◌, ◌%◌, ◌<◌, ◌≤◌, ◌==◌, ◌^◌, ◌&&◌, Bool}
+use Rattle.std.proofs.Common.{◌≡◌, refl, ℕ, zero, suc, ◌+◌, ◌-◌, ◌*◌, ◌/◌, ◌%◌, ◌<◌, ◌≤◌, ◌==◌, ◌&&◌, Bool}
 use Rattle.std.proofs.Common.{true, false, nat_le, List, [], ◌∷◌, ◌++◌, map, filter, length, take, drop, replicate}
 use Rattle.std.proofs.Common.{arith}
 use Rattle.std.proofs.Common.{sym, ap, ◌∙◌, inl, inr, ◌⊎◌, append_assoc, append-nil, Option, Some, None}
@@ -16,13 +16,11 @@ use Rattle.sd_base.proofs.Bools.{and_false}
 use Rattle.sd_site.specs.SiteFields.{SiteFields, AreInRange}
 use Rattle.sd_message.specs.Period.{emms_of}
 use Rattle.sd_message.specs.EcmParts.{parts_of}
-use Rattle.sd_spec.specs.Plan.{Plan, IsPlan, crypto_length, period_of, since_of, closing_number}
-use Rattle.sd_spec.specs.Refused.{IsSendable}
+use Rattle.sd_spec.specs.Plan.{Plan, crypto_length, period_of, since_of, closing_number}
 use Rattle.sd_spec.specs.Messages.{period_at}
 use Rattle.sd_spec.specs.Sent.{Item, Cat, Entitles, Controls, sent, sent_from, tables_at, tables_before, is_cat_item}
 use Rattle.sd_spec.proofs.Schedule.{crypto_length_some, closing_covers}
 use Rattle.std.proofs.lemmas.Nat.{div-add-mod'}
-use Rattle.sd_law_broadcast.specs.Packets.{AreWholePackets}
 use Rattle.sd_law_losses.specs.Chosen.{chosen}
 use Rattle.sd_law_losses.specs.Kept.{is_kept, has_arrived, arrived, greatest_at_most, least_above, entitles}
 use Rattle.sd_law_losses.specs.Kept.{is_entitled_before, after_cat}
@@ -41,9 +39,10 @@ use Rattle.sd_law_losses.proofs.Later.{numbers_later}
 use Rattle.sd_law_losses.proofs.AllOpened.{sections_entitle, all_are_opened}
 use Rattle.sd_law_losses.proofs.Standing.{pre_at, pre_any, sent_split, any_first, any_second, pre_numbers}
 use Rattle.sd_law_losses.proofs.Runs.{begins_by}
-use Rattle.sd_law_losses.proofs.Lawful.{setting, laws_hold}
+use Rattle.sd_law_losses.proofs.Lawful.{setting}
 use Rattle.sd_law_progress.specs.Progress.{things, is_due, is_packet, due_in, confirmed_in}
 use Rattle.sd_law_progress.specs.Switches.{place_behind, last_message_at, next_crypto_at}
+use Rattle.sd_law_progress.proofs.Given.{IsSentTo, laws_of}
 use Rattle.sd_law_progress.proofs.Splits.{mid_at, fails_joined, after_fails}
 use Rattle.sd_law_progress.proofs.Counts.{count_pre, place_past}
 use Rattle.sd_law_progress.proofs.Between.{arrives, knows}
@@ -172,27 +171,36 @@ both_bounds site i range some = (omega (arith, low, grown, next_is), omega (arit
     high : ((q - 1) * site.cryptos) * site.every ≤ n * site.every
     high = mul-le-mul_right site.every below
 
-module _ (plan : Plan) (clear : List (List ℕ)) (u : ℕ) (is : IsPlan plan) (all : IsSendable plan.site clear)
-    (whole : AreWholePackets clear) (leaf : u < 2 ^ plan.site.height) where
+module _ (plan : Plan) (clear : List (List ℕ)) (u : ℕ) (is : IsSentTo plan clear u) where
   abbrev s : Setting
   s = setting plan clear u
 
   laws : AreLaws s
-  laws = laws_hold plan clear u is all whole leaf
+  laws = laws_of plan clear u is
+
+  -- the last message up to packet j's that has arrived, and the first one behind it
+  abbrev last_arrived : List Item → ℕ → Option ℕ
+  last_arrived kept j =
+      greatest_at_most (j / plan.site.every) (filter (has_arrived kept) (range_with_len 0 (final s + 1)))
+
+  abbrev next_arrived : List Item → ℕ → Option ℕ
+  next_arrived kept j = least_above (j / plan.site.every) (filter (has_arrived kept) (range_with_len 0 (final s + 1)))
+
+  -- a packet that isn't written between them isn't confirmed
+  unwritten : (kept : List Item) (j : ℕ) →
+      between (last_arrived kept j) (next_arrived kept j) (is_written_between plan u clear kept j) ≡ false →
+      is_confirmed_at plan u clear kept j ≡ false
+  unfolding is_confirmed_at arrived
+  unwritten kept j = and_right (is_kept kept j)
+      (between (last_arrived kept j) (next_arrived kept j) (is_written_between plan u clear kept j))
 
   -- where no later message has arrived nothing is confirmed
   none_later : (kept : List Item) (j : ℕ) → ((b : ℕ) → j / plan.site.every < b → has_arrived kept b ≡ false) →
       is_confirmed_at plan u clear kept j ≡ false
-  unfolding is_confirmed_at arrived
   none_later kept j none =
-      and_right (is_kept kept j) (between (greatest_at_most (j / plan.site.every) (filter (has_arrived kept)
-      (range_with_len 0 (final s + 1))))
-      (least_above (j / plan.site.every) (filter (has_arrived kept) (range_with_len 0 (final s + 1))))
-      (is_written_between plan u clear kept j))
-      (ap (λ (l : Option ℕ). between (greatest_at_most (j / plan.site.every) (filter (has_arrived kept)
-      (range_with_len 0 (final s + 1)))) l (is_written_between plan u clear kept j))
+      unwritten kept j (ap (λ (l : Option ℕ). between (last_arrived kept j) l (is_written_between plan u clear kept j))
       (least_none (has_arrived kept) (j / plan.site.every) 0 (final s + 1) (λ b above below. none b above))
-      ∙ no_next (greatest_at_most (j / plan.site.every) (filter (has_arrived kept) (range_with_len 0 (final s + 1)))))
+      ∙ no_next (last_arrived kept j))
     where
       no_next : (g : Option ℕ) → between g None (is_written_between plan u clear kept j) ≡ false
       no_next None = refl
@@ -201,14 +209,8 @@ module _ (plan : Plan) (clear : List (List ℕ)) (u : ℕ) (is : IsPlan plan) (a
   -- nor where no earlier one has
   none_earlier : (kept : List Item) (j : ℕ) → ((b : ℕ) → b ≤ j / plan.site.every → has_arrived kept b ≡ false) →
       is_confirmed_at plan u clear kept j ≡ false
-  unfolding is_confirmed_at arrived
   none_earlier kept j none =
-      and_right (is_kept kept j) (between (greatest_at_most (j / plan.site.every) (filter (has_arrived kept)
-      (range_with_len 0 (final s + 1))))
-      (least_above (j / plan.site.every) (filter (has_arrived kept) (range_with_len 0 (final s + 1))))
-      (is_written_between plan u clear kept j))
-      (ap (λ (g : Option ℕ). between g (least_above (j / plan.site.every) (filter (has_arrived kept) (range_with_len 0
-      (final s + 1)))) (is_written_between plan u clear kept j))
+      unwritten kept j (ap (λ (g : Option ℕ). between g (next_arrived kept j) (is_written_between plan u clear kept j))
       (greatest_none (has_arrived kept) (j / plan.site.every) 0 (final s + 1) (λ b above below. none b below)))
 
   -- nor where the key isn't had
@@ -239,7 +241,7 @@ module _ (plan : Plan) (clear : List (List ℕ)) (u : ℕ) (is : IsPlan plan) (a
       (ap (λ (g : Option ℕ). between g (least_above (j / plan.site.every) (filter (has_arrived kept) (range_with_len 0
       (final s + 1)))) (is_written_between plan u clear kept j))
       (greatest_is (has_arrived kept) (j / plan.site.every) 0 (final s + 1) (j / plan.site.every) (omega arith)
-      (omega (arith, number_within s j is.site within)) (omega arith) there
+      (omega (arith, number_within s j is.plan.site within)) (omega arith) there
       (λ c above below. absurd (omega (arith, above, below))))
       ∙ none_between kept (j / plan.site.every) j
       (least_above (j / plan.site.every) (filter (has_arrived kept) (range_with_len 0 (final s + 1)))) told)
@@ -263,7 +265,7 @@ module _ (plan : Plan) (clear : List (List ℕ)) (u : ℕ) (is : IsPlan plan) (a
       n = (i - 1) / plan.site.every
 
       bounds : (at < i) × (i ≤ at + plan.site.every)
-      bounds = last_bounds plan.site i is.site some
+      bounds = last_bounds plan.site i is.plan.site some
 
       x : ℕ
       x = place_behind plan clear i
@@ -276,39 +278,39 @@ module _ (plan : Plan) (clear : List (List ℕ)) (u : ℕ) (is : IsPlan plan) (a
 
       taken : take x (things plan clear) ≡ pre_at s i
       taken =
-          ap (take x) (sent_split s i is.site within
-          ∙ ap (λ (items : List Item). items ++ rest_at s i) (sym (sent_is plan clear u is all whole leaf i within)))
-          ∙ (take_at (sent plan (take i clear)) (rest_at s i) x refl ∙ sent_is plan clear u is all whole leaf i within)
+          ap (take x) (sent_split s i is.plan.site within
+          ∙ ap (λ (items : List Item). items ++ rest_at s i) (sym (sent_is plan clear u is i within)))
+          ∙ (take_at (sent plan (take i clear)) (rest_at s i) x refl ∙ sent_is plan clear u is i within)
 
       kept_is : kept ≡ pre_at s i
       kept_is = chosen_first x (things plan clear) ∙ taken
 
-      place : IsPlaced plan clear u is all whole leaf n
-      place = placed plan clear u is all whole leaf n (omega (
+      place : IsPlaced plan clear u is n
+      place = placed plan clear u is n (omega (
         arith,
-        number_within s (i - 1) is.site (omega
+        number_within s (i - 1) is.plan.site (omega
             (arith, some, within)),
       ))
 
-      reached : length (front_at plan clear u is all whole leaf n place ++ parts_at plan clear u is all whole leaf n)
+      reached : length (front_at plan clear u is n place ++ parts_at plan clear u is n)
           ≤ x
       reached = place_past x (things plan clear)
-          (front_at plan clear u is all whole leaf n place ++ parts_at plan clear u is all whole leaf n) place.later
-          (place.same ∙ sym (append_assoc (front_at plan clear u is all whole leaf n place)
-          (parts_at plan clear u is all whole leaf n) place.later))
+          (front_at plan clear u is n place ++ parts_at plan clear u is n) place.later
+          (place.same ∙ sym (append_assoc (front_at plan clear u is n place)
+          (parts_at plan clear u is n) place.later))
           (omega (
             arith,
-            count_front plan clear u is all whole leaf n place,
+            count_front plan clear u is n place,
             bounds,
             ap (count_by is_packet) taken,
-            count_pre s i is.site within,
+            count_pre s i is.plan.site within,
           ))
 
       before : (j : ℕ) → j < at → is_confirmed_at plan u clear (after_cat kept) j ≡ is_due plan u j
       before j below =
-          let (rest, same) = kept_to plan clear u is all whole leaf n x flags place
+          let (rest, same) = kept_to plan clear u is n x flags place
           (λ k from under. get_or-replicate x k true false (omega (arith, under))) reached in
-          before_due plan clear u is all whole leaf n place kept rest same j below
+          before_due plan clear u is n place kept rest same j below
           (omega (arith, below, bounds, within))
 
       after : (j : ℕ) → at ≤ j → is_confirmed_at plan u clear (after_cat kept) j ≡ false
@@ -318,7 +320,7 @@ module _ (plan : Plan) (clear : List (List ℕ)) (u : ℕ) (is : IsPlan plan) (a
           ∙ pre_numbers s laws i b within (omega (arith, number, later, reached_at)))))
         where
           some_every : 0 < plan.site.every
-          some_every = omega (arith, is.site.every.0)
+          some_every = omega (arith, is.plan.site.every.0)
 
           reached_at : n ≤ j / plan.site.every
           reached_at = (le-div_iff_mul-le some_every).1 above
@@ -337,10 +339,10 @@ module _ (plan : Plan) (clear : List (List ℕ)) (u : ℕ) (is : IsPlan plan) (a
   unfolding tables_at
   cut_has_cat i some within =
       ap (list_any is_cat_item) (chosen_first (place_behind plan clear i) (things plan clear)
-      ∙ (ap (take (place_behind plan clear i)) (sent_split s i is.site within
-      ∙ ap (λ (items : List Item). items ++ rest_at s i) (sym (sent_is plan clear u is all whole leaf i within)))
+      ∙ (ap (take (place_behind plan clear i)) (sent_split s i is.plan.site within
+      ∙ ap (λ (items : List Item). items ++ rest_at s i) (sym (sent_is plan clear u is i within)))
       ∙ (take_at (sent plan (take i clear)) (rest_at s i) (place_behind plan clear i) refl
-      ∙ sent_is plan clear u is all whole leaf i within)))
+      ∙ sent_is plan clear u is i within)))
       ∙ pre_any s is_cat_item 0 i some (any_first is_cat_item (tables_before plan 0) (parts_before s 0
       ++ carrying s 0 ∷ []) tables)
     where
@@ -355,7 +357,7 @@ module _ (plan : Plan) (clear : List (List ℕ)) (u : ℕ) (is : IsPlan plan) (a
   no_tables j k from below = by_test (cases_eq (k % crypto_length plan.site) 0)
     where
       some : 0 < crypto_length plan.site
-      some = crypto_length_some plan.site is.site
+      some = crypto_length_some plan.site is.plan.site
 
       by_test : (k % crypto_length plan.site ≡ 0) ⊎ (k % crypto_length plan.site ≡ 0 → ⊥) →
           (k % crypto_length plan.site == 0) ≡ false
@@ -399,7 +401,7 @@ module _ (plan : Plan) (clear : List (List ℕ)) (u : ℕ) (is : IsPlan plan) (a
       a = i / plan.site.every
 
       some : 0 < plan.site.every
-      some = omega (arith, is.site.every.0)
+      some = omega (arith, is.plan.site.every.0)
 
       by_number : (a < closing_number plan.site j) ⊎ (closing_number plan.site j ≤ a) →
           is_confirmed_at plan u clear (rest_at s j) i ≡ false
@@ -408,9 +410,9 @@ module _ (plan : Plan) (clear : List (List ℕ)) (u : ℕ) (is : IsPlan plan) (a
           (numbers_later s laws (length clear - j) j b (omega (arith, inside)) (omega (arith, below, early))))
       by_number (inr late) =
           none_known (rest_at s j) i within
-          (arrives plan clear u is all whole leaf (rest_at s j) front (behind plan clear u is all whole leaf a) a
+          (arrives plan clear u is (rest_at s j) front (behind plan clear u is a) a
           (omega (arith, below)) same)
-          (knows plan clear u is all whole leaf (rest_at s j) front (behind plan clear u is all whole leaf a) a
+          (knows plan clear u is (rest_at s j) front (behind plan clear u is a) a
           (period_of plan (start_of s a)) (omega (arith, below)) same none_front
           ∙ fails_joined (entitles plan.site.height u (period_of plan (start_of s a))) (mid_at s j d)
           (tables_before plan (start_of s a))
@@ -420,14 +422,14 @@ module _ (plan : Plan) (clear : List (List ℕ)) (u : ℕ) (is : IsPlan plan) (a
           (arith, low, before)))))
         where
           below : a < final s
-          below = number_within s i is.site within
+          below = number_within s i is.plan.site within
 
           low : start_of s a ≤ i
           low = div-mul-le_self i plan.site.every
 
           from : j ≤ start_of s a
           from =
-              let covers : j ≤ closing_number plan.site j * plan.site.every = closing_covers plan.site j is.site in
+              let covers : j ≤ closing_number plan.site j * plan.site.every = closing_covers plan.site j is.plan.site in
               let up : closing_number plan.site j * plan.site.every ≤ a * plan.site.every =
               mul-le-mul_right plan.site.every late in
               omega (arith, covers, up)
@@ -441,30 +443,31 @@ module _ (plan : Plan) (clear : List (List ℕ)) (u : ℕ) (is : IsPlan plan) (a
           front : List Item
           front = mid_at s j d ++ tables_before plan (start_of s a)
 
-          same : rest_at s j ≡ front ++ from_message plan clear u is all whole leaf a
-          same = rest_from plan clear u is all whole leaf j a from below
+          same : rest_at s j ≡ front ++ from_message plan clear u is a
+          same = rest_from plan clear u is j a from below
 
           none_front : list_any (is_of a) front ≡ false
-          none_front = none_from plan clear u is all whole leaf j a a from below (omega arith)
+          none_front = none_from plan clear u is j a a from below (omega arith)
 
   -- and from there on all that is due is
   joined_due : (j i : ℕ) → j ≤ length clear → next_crypto_at plan.site j ≤ i → i < length clear →
       is_confirmed_at plan u clear (rest_at s j) i ≡ is_due plan u i
   unfolding tables_at
   joined_due j i inside above within =
-      all_back plan clear u is all whole leaf n i front (rest_at s j)
+      all_back plan clear u is n i front (rest_at s j)
       (record {
         within = below;
-        same = rest_from plan clear u is all whole leaf j n from below;
-        of = of_from plan clear u is all whole leaf j n from below;
-        none = λ b over. none_from plan clear u is all whole leaf j n b from below over;
+        same = rest_from plan clear u is j n from below;
+        of = of_from plan clear u is j n from below;
+        none = λ b over. none_from plan clear u is j n b from below over;
         told = λ due. any_second p (mid_at s j d) (tables_before plan (start_of s n))
             (ap (list_any p) stand
-            ∙ any_second p (Cat ∷ []) sections (sections_entitle plan (period_of plan (start_of s n)) u is leaf ∙ due));
+            ∙ any_second p (Cat ∷ []) sections (sections_entitle plan (period_of plan (start_of s n)) u is.plan is.leaf
+            ∙ due));
       }) (omega (arith, start, above)) within
     where
       bounds : (j ≤ next_crypto_at plan.site j) × (next_crypto_at plan.site j < j + crypto_length plan.site)
-      bounds = next_bounds plan.site j is.site
+      bounds = next_bounds plan.site j is.plan.site
 
       n : ℕ
       n = (j + crypto_length plan.site - 1) / crypto_length plan.site * plan.site.cryptos
@@ -479,9 +482,9 @@ module _ (plan : Plan) (clear : List (List ℕ)) (u : ℕ) (is : IsPlan plan) (a
 
       below : n < final s
       below =
-          let some_every : 0 < plan.site.every = omega (arith, is.site.every.0) in
+          let some_every : 0 < plan.site.every = omega (arith, is.plan.site.every.0) in
           let number : n ≤ i / plan.site.every = (le-div_iff_mul-le some_every).1 (omega (arith, start, above)) in
-          omega (arith, number, number_within s i is.site within)
+          omega (arith, number, number_within s i is.plan.site within)
 
       d : ℕ
       d = start_of s n - j
@@ -544,9 +547,9 @@ module _ (plan : Plan) (clear : List (List ℕ)) (u : ℕ) (is : IsPlan plan) (a
   some_things j some within = omega (
     arith,
     some,
-    ap length (sent_is plan clear u is all whole leaf j within),
+    ap length (sent_is plan clear u is j within),
     count_by-le-length is_packet (pre_at s j),
-    count_pre s j is.site within,
+    count_pre s j is.plan.site within,
   )
 
   -- where the first j clear packets and all before them are lost, and the first CAT counts
@@ -564,8 +567,8 @@ module _ (plan : Plan) (clear : List (List ℕ)) (u : ℕ) (is : IsPlan plan) (a
       ∙ (take_all (length (things plan clear)) (drop place rest)
       (omega (arith, length-drop place rest, ap length begins))
       ∙ (ap (drop (suc place)) (sym begins
-      ∙ (sent_split s j is.site within
-      ∙ ap (λ (items : List Item). items ++ rest_at s j) (sym (sent_is plan clear u is all whole leaf j within))))
+      ∙ (sent_split s j is.plan.site within
+      ∙ ap (λ (items : List Item). items ++ rest_at s j) (sym (sent_is plan clear u is j within))))
       ∙ drop_at (sent plan (take j clear)) (rest_at s j) (suc place) is_place))))
 
   -- the whole broadcast
@@ -585,7 +588,7 @@ module _ (plan : Plan) (clear : List (List ℕ)) (u : ℕ) (is : IsPlan plan) (a
   unfolding due_in opened_by
   whole_confirmed =
       let all_of : length clear ≡ length clear - 0 = omega arith in
-      all_are_opened plan clear u is all whole leaf
+      all_are_opened plan clear u is.plan is.sendable is.whole is.leaf
       ∙ ap (λ (n : ℕ). packets_at clear (filter (is_due plan u) (range_with_len 0 n))) all_of
 
   -- of a broadcast that is joined all that is due is confirmed from the next crypto period on, and no more
@@ -598,7 +601,7 @@ module _ (plan : Plan) (clear : List (List ℕ)) (u : ℕ) (is : IsPlan plan) (a
       let begins = begins_by plan clear in
       ap (confirmed plan u clear) (whole_kept begins.0 begins.1)
       ∙ (whole_confirmed
-      ∙ ap (λ (k : ℕ). due_in plan u clear k (length clear)) (sym (next_first plan.site is.site)))
+      ∙ ap (λ (k : ℕ). due_in plan u clear k (length clear)) (sym (next_first plan.site is.plan.site)))
   joined_confirmed (suc j) within =
       let begins = begins_by plan clear in
       let late = late_kept (suc j) within begins.0 begins.1 (place_behind plan clear (suc j)) refl (some_things (suc j)

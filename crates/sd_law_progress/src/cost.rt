@@ -19,6 +19,7 @@ ghost use Rattle.sd_law_progress.specs.Cost.{RiseNarrowly, cost, without};
 /// due to the leaf, and no others. If also `ecm-every` is at most 2,048 and positions rise narrowly, as they do if no
 /// packet raises its PID's position by more than 8, the receiver writes all that are due except some of a number of
 /// consecutive packets: the cost of the thing that the lost packet carried.
+#[tactic(auto, using(crate::proofs::CostLaws::received_told, crate::proofs::CostLaws::stretch_told, crate::proofs::CostLaws::count_told, crate::proofs::CostLaws::eight_are_narrow))]
 pub fn one_packet_costs()
     ensures received { (plan : Plan) (clear : Packets) (u : LeafNumber) (before : List Item) (item : Item)
         (after : List Item) → IsLost plan clear u before item after →
@@ -46,6 +47,7 @@ pub fn lost_packets_cost_themselves()
 
 /// The first CAT costs the first crypto period, and a section that was not sent before costs at most one crypto period.
 /// A later CAT costs nothing, nor does a section that was sent before.
+#[tactic(auto, using(crate::proofs::CostLaws::cat_told, crate::proofs::CostLaws::cat_again_told, crate::proofs::CostLaws::section_again_told))]
 pub fn lost_tables_cost_a_crypto_period()
     ensures cat { (plan : Plan) (clear : Packets) (u : LeafNumber) (before after : List Item) →
         IsLost plan clear u before Cat after → list_any is_cat_item before ≡ false →
@@ -65,6 +67,7 @@ pub fn lost_tables_cost_a_crypto_period()
 /// A lost part of a control message costs at most the packets between the messages before and after that message. Of
 /// message 0 and of the closing message that is half as many. In versions 2 and 3 a message that is not the first of
 /// its crypto period, nor the closing one, costs nothing, if `ecm-every` is at most 2,048.
+#[tactic(auto, using(crate::proofs::CostLaws::part_told, crate::proofs::CostLaws::first_told, crate::proofs::CostLaws::closing_told, crate::proofs::CostLaws::within_told))]
 pub fn lost_messages_cost_what_is_beside_them()
     ensures part { (plan : Plan) (clear : Packets) (u : LeafNumber) (before : List Item) (part : EcmPart)
         (after : List Item) → IsLost plan clear u before (Controls part) after →

@@ -19,6 +19,7 @@ ghost use Rattle.sd_law_progress.specs.Progress.{due_in, confirmed_in, AreKeptBe
 /// If nothing but clear packets is lost, and no PID of scrambled packets loses 16 positions in a row between two
 /// neighbouring messages, the receiver of a leaf writes exactly those packets that are kept of the periods in which the
 /// leaf isn't revoked.
+#[tactic(auto, using(crate::proofs::Given::sent_to, crate::proofs::Arrivals::kept_are_confirmed, crate::proofs::Arrivals::kept_are_written))]
 pub fn arrived_packets_are_written()
     ensures confirmed { (plan : Plan) (clear : Packets) (u : LeafNumber) (flags : Arrived) → IsPlan plan →
         IsSendable plan.site clear → AreWholePackets clear → u < 2 ^ plan.site.height →
@@ -38,6 +39,7 @@ pub fn arrived_packets_are_written()
 /// that stands behind the place, if the receiver knows its PIDs and the key of its period, or the leaf is revoked in
 /// that period: after one stretch at most. It is so in any case from the first crypto period on whose tables stand
 /// behind the place: after as many clear packets as a crypto period has at most.
+#[tactic(auto, using(crate::proofs::Given::sent_to, crate::proofs::Returns::message_back, crate::proofs::Returns::known_back, crate::proofs::Returns::soon_back))]
 pub fn the_picture_is_back()
     ensures message { (plan : Plan) (clear : Packets) (u : LeafNumber) (x : ℕ) (flags : Arrived) (n : MessageNumber)
         (j : PacketNumber) → IsPlan plan → IsSendable plan.site clear → AreWholePackets clear →
@@ -71,6 +73,7 @@ pub fn the_picture_is_back()
 
 /// If nothing is lost before some place of a broadcast, all that is due is written up to the last message that is whole
 /// before the place. So what is lost from there on costs at most one stretch before it.
+#[tactic(auto, using(crate::proofs::Given::sent_to, crate::proofs::Damage::message_before, crate::proofs::Damage::packets_back, crate::proofs::Damage::before_written))]
 pub fn before_damage()
     ensures message { (plan : Plan) (clear : Packets) (u : LeafNumber) (x : ℕ) (flags : Arrived) (n : MessageNumber)
         (j : PacketNumber) → IsPlan plan → IsSendable plan.site clear → AreWholePackets clear →

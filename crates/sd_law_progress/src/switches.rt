@@ -16,6 +16,7 @@ ghost use Rattle.sd_law_progress.specs.Switches.{cut_off, joined_behind, last_me
 /// second from the next crypto period on. So the switch costs up to a stretch of the first, and less than a crypto
 /// period of the second; where both carry one stream and go on at the same packet, a stretch at least and a crypto
 /// period at most.
+#[tactic(auto, using(crate::proofs::Switched::switch_confirmed, crate::proofs::Switched::switch_written, crate::proofs::Switching::last_bounds, crate::proofs::Switching::next_bounds, crate::proofs::Switching::both_bounds))]
 pub fn a_switch_costs()
     ensures confirmed { (channel : Channel) (a b : Plan) (before after : Packets) (i j : ℕ) (u : LeafNumber) →
         AreRunsOf channel (cut_off a before i ∷ (joined_behind b after j ∷ [])) → u < 2 ^ channel.height → 0 < i →

@@ -125,21 +125,27 @@ pub record SameOf (card : CardFields) (past counted packets : List (List ℕ)) :
 like_is : (a b c x y z : List Heard) → x ≡ a → y ≡ b → z ≡ c → Like a b c → Like x y z
 like_is a b c x y z x_is y_is z_is like = rw x_is (rw y_is (rw z_is like))
 
+-- a test of what was heard and of what is heard next, under the tuning
+tested_by : (test : List Heard → Heard → Bool) (card : CardFields) (tuning : Tuning) (past : List (List ℕ))
+    (packet : List ℕ) → tuning_of card.ca past ≡ Some tuning →
+    option_map_or (λ tuning. test (heard card past) (hears card.height tuning (length past) packet))
+    (tuning_of card.ca past) false
+    ≡ test (heard card past) (hears card.height tuning (length past) packet)
+tested_by test card tuning past packet tuned =
+    ap (λ (t : Option Tuning). option_map_or (λ tuning. test (heard card past) (hears card.height tuning
+    (length past) packet)) t false) tuned
+
 turns_by : (card : CardFields) (tuning : Tuning) (past : List (List ℕ)) (packet : List ℕ) →
     tuning_of card.ca past ≡ Some tuning →
     turns_at card past packet ≡ is_turn (heard card past) (hears card.height tuning (length past) packet)
 unfolding turns_at
-turns_by card tuning past packet tuned =
-    ap (λ (t : Option Tuning). option_map_or (λ tuning. is_turn (heard card past) (hears card.height tuning
-    (length past) packet)) t false) tuned
+turns_by = tested_by is_turn
 
 stray_by : (card : CardFields) (tuning : Tuning) (past : List (List ℕ)) (packet : List ℕ) →
     tuning_of card.ca past ≡ Some tuning →
     is_stray_at card past packet ≡ is_stray (heard card past) (hears card.height tuning (length past) packet)
 unfolding is_stray_at
-stray_by card tuning past packet tuned =
-    ap (λ (t : Option Tuning). option_map_or (λ tuning. is_stray (heard card past) (hears card.height tuning
-    (length past) packet)) t false) tuned
+stray_by = tested_by is_stray
 
 run_by : (card : CardFields) (tuning : Tuning) (past : List (List ℕ)) (packet : List ℕ) →
     tuning_of card.ca past ≡ Some tuning →

@@ -64,47 +64,32 @@ written_same segment before (x ∷ xs) (y ∷ ys) same =
     ∙ ap (λ (packet : List ℕ). (then_wrote (judged segment before (y.0, packet))
     (written_from segment (before ++ packet ∷ []) ys)).packets) first
 
+-- a segment between two messages, if the key is known
+abbrev pub keyed_segment : CardFields → Tuning → Message → Message → List ℕ → List (List ℕ) → Segment
+keyed_segment card tuning a b key packets = record {
+  first = a;
+  last = b;
+  word = under key a.word a.wrapped;
+  ca = card.ca;
+  ecm = tuning.ecm;
+  packets = packets;
+}
+
+-- what is written of held packets, if they aren't too many
+abbrev pub wrote_unless : Bool → Segment → List (ℕ × List ℕ) → Wrote
+wrote_unless many segment held =
+    if many then (record { packets = []; refused = None }) else written_from segment [] held
+
 -- what is written if the key is known
 abbrev pub keyed_wrote : CardFields → Tuning → Message → Message → List ℕ → List (List ℕ) → List (ℕ × List ℕ) → ℕ →
     Wrote
 keyed_wrote card tuning a b key packets held many =
-    if nat_lt most_held many then record { packets = []; refused = None }
-    else written_from (record {
-      first = a;
-      last = b;
-      word = under key a.word a.wrapped;
-      ca = card.ca;
-      ecm = tuning.ecm;
-      packets = packets;
-    }) [] held
+    wrote_unless (nat_lt most_held many) (keyed_segment card tuning a b key packets) held
 
-many_same : (card : CardFields) (tuning : Tuning) (a b : Message) (key : List ℕ) (packets : List (List ℕ))
-    (xs ys : List (ℕ × List ℕ)) (many : Bool) → packets_of xs ≡ packets_of ys →
-    (if many then (record { packets = []; refused = None }) else written_from (record {
-      first = a;
-      last = b;
-      word = under key a.word a.wrapped;
-      ca = card.ca;
-      ecm = tuning.ecm;
-      packets = packets;
-    }) [] xs).packets ≡ (if many then (record { packets = []; refused = None }) else written_from (record {
-      first = a;
-      last = b;
-      word = under key a.word a.wrapped;
-      ca = card.ca;
-      ecm = tuning.ecm;
-      packets = packets;
-    }) [] ys).packets
-many_same card tuning a b key packets xs ys true same = refl
-many_same card tuning a b key packets xs ys false same =
-    written_same (record {
-      first = a;
-      last = b;
-      word = under key a.word a.wrapped;
-      ca = card.ca;
-      ecm = tuning.ecm;
-      packets = packets;
-    }) [] xs ys same
+many_same : (segment : Segment) (xs ys : List (ℕ × List ℕ)) (many : Bool) → packets_of xs ≡ packets_of ys →
+    (wrote_unless many segment xs).packets ≡ (wrote_unless many segment ys).packets
+many_same segment xs ys true same = refl
+many_same segment xs ys false same = written_same segment [] xs ys same
 
 -- the same packets are held in two stretches
 pub segment_same : (card : CardFields) (tuning : Tuning) (one two : Stretch) (a b : Message) (key : List ℕ) →
@@ -119,5 +104,5 @@ segment_same card tuning one two a b key same =
     ap (λ (many : ℕ). (keyed_wrote card tuning a b key (packets_of (held_in one)) (held_in one) many).packets) long
     ∙ (ap (λ (packets : List (List ℕ)).
     (keyed_wrote card tuning a b key packets (held_in one) (length (held_in two))).packets) held
-    ∙ many_same card tuning a b key (packets_of (held_in two)) (held_in one) (held_in two)
+    ∙ many_same (keyed_segment card tuning a b key (packets_of (held_in two))) (held_in one) (held_in two)
     (nat_lt most_held (length (held_in two))) held)

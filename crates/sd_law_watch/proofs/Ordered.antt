@@ -51,26 +51,27 @@ all_upto a x b y (BadEmm fault ∷ past) up all = all_upto a x b y past up all
 all_upto a x b y (BadEcm fault ∷ past) up all = all_upto a x b y past up all
 all_upto a x b y (Other n packet ∷ past) up all = all_upto a x b y past up all
 
+-- a thing that keeps to the bound, onto others that do
+onto_all : (a x : ℕ) (thing : Heard) (past these : List Heard) → AreBefore a x (thing ∷ past) → AreBefore a x these →
+    AreBefore a x (thing ∷ these)
+onto_all a x Dropped past these all some = some
+onto_all a x (Entitles emm) past these all some = some
+onto_all a x (Controls part) past these all some = (all.0, some)
+onto_all a x (BadEmm fault) past these all some = some
+onto_all a x (BadEcm fault) past these all some = some
+onto_all a x (Other n packet) past these all some = some
+
 -- one thing more
 pub all_more : (a x : ℕ) (past : List Heard) (thing : Heard) → AreBefore a x (thing ∷ []) → AreBefore a x past →
     AreBefore a x (heard_more past thing)
 unfolding of_run
 all_more a x past thing one all = by_tests (is_closed (of_run past thing)) (is_turn past thing)
   where
-    joined : (thing : Heard) (run : List Heard) → AreBefore a x (thing ∷ []) → AreBefore a x run →
-        AreBefore a x (thing ∷ run)
-    joined Dropped run one all = all
-    joined (Entitles emm) run one all = all
-    joined (Controls part) run one all = (one.0, all)
-    joined (BadEmm fault) run one all = all
-    joined (BadEcm fault) run one all = all
-    joined (Other n packet) run one all = all
-
     by_tests : (closed turn : Bool) →
         AreBefore a x (if closed then past else thing ∷ (if turn then [] else past))
     by_tests true turn = all
     by_tests false true = one
-    by_tests false false = joined thing past one all
+    by_tests false false = onto_all a x thing [] past one all
 
 -- the parts that count are among them
 abbrev pub AllParts : ℕ → ℕ → List EcmPart → Type 0
@@ -105,20 +106,11 @@ after_before a x (thing ∷ past) all =
     rest (BadEcm fault) all = all
     rest (Other n packet) all = all
 
-    onto_these : (thing : Heard) (these : List Heard) → AreBefore a x (thing ∷ past) → AreBefore a x these →
-        AreBefore a x (thing ∷ these)
-    onto_these Dropped these all some = some
-    onto_these (Entitles emm) these all some = some
-    onto_these (Controls part) these all some = (all.0, some)
-    onto_these (BadEmm fault) these all some = some
-    onto_these (BadEcm fault) these all some = some
-    onto_these (Other n packet) these all some = some
-
     by_message : (message : Option Message) → completes past thing ≡ message → AreBefore a x (newest past).after →
         AreBefore a x (newest (thing ∷ past)).after
     by_message None waits before =
         subst (λ (s : Stretch). AreBefore a x s.after) (sym (newest_waits past thing waits))
-        (onto_these thing (newest past).after all before)
+        (onto_all a x thing past (newest past).after all before)
     by_message (Some message) done before =
         subst (λ (s : Stretch). AreBefore a x s.after) (sym (newest_completes past thing message done)) tt
 

@@ -123,35 +123,31 @@ steady_upto s past scrambled a x b y up steady = record {
   parts = all_upto a x b y (heard s.card past) up steady.parts;
 }
 
-again_by : (s : Setting) (past : List (List ℕ)) (packet : List ℕ) (thing : Heard) → Tunes s past →
-    hears s.card.height (tuning_at s) (length past) packet ≡ thing → is_part_again (heard s.card past) thing ≡ false →
-    option_map_or (λ tuning. is_part_again (heard s.card past) (hears s.card.height tuning (length past) packet))
+-- a test of what was heard and of what is heard next fails before a tuning, and if it fails under it
+fails_by : (test : List Heard → Heard → Bool) (s : Setting) (past : List (List ℕ)) (packet : List ℕ) (thing : Heard) →
+    Tunes s past → hears s.card.height (tuning_at s) (length past) packet ≡ thing →
+    test (heard s.card past) thing ≡ false →
+    option_map_or (λ tuning. test (heard s.card past) (hears s.card.height tuning (length past) packet))
     (tuning_of s.card.ca past) false ≡ false
-again_by s past packet thing (inl tuned) is none =
-    ap (λ (t : Option Tuning). option_map_or (λ tuning. is_part_again (heard s.card past)
+fails_by test s past packet thing (inl tuned) is none =
+    ap (λ (t : Option Tuning). option_map_or (λ tuning. test (heard s.card past)
     (hears s.card.height tuning (length past) packet)) t false) tuned
-    ∙ (ap (is_part_again (heard s.card past)) is ∙ none)
-again_by s past packet thing (inr untuned) is none =
-    ap (λ (t : Option Tuning). option_map_or (λ tuning. is_part_again (heard s.card past)
+    ∙ (ap (test (heard s.card past)) is ∙ none)
+fails_by test s past packet thing (inr untuned) is none =
+    ap (λ (t : Option Tuning). option_map_or (λ tuning. test (heard s.card past)
     (hears s.card.height tuning (length past) packet)) t false) untuned.0
 
 pub once_by : (s : Setting) (past : List (List ℕ)) (packet : List ℕ) (thing : Heard) → Tunes s past →
     hears s.card.height (tuning_at s) (length past) packet ≡ thing → is_copy past packet ≡ false →
     is_part_again (heard s.card past) thing ≡ false → is_doubled s.card past packet ≡ false
 unfolding is_doubled
-once_by s past packet thing tunes is copy none = rw copy (again_by s past packet thing tunes is none)
+once_by s past packet thing tunes is copy none = rw copy (fails_by is_part_again s past packet thing tunes is none)
 
 pub even_by : (s : Setting) (past : List (List ℕ)) (packet : List ℕ) (thing : Heard) → Tunes s past →
     hears s.card.height (tuning_at s) (length past) packet ≡ thing → is_stray (heard s.card past) thing ≡ false →
     is_stray_at s.card past packet ≡ false
 unfolding is_stray_at
-even_by s past packet thing (inl tuned) is none =
-    ap (λ (t : Option Tuning). option_map_or (λ tuning. is_stray (heard s.card past)
-    (hears s.card.height tuning (length past) packet)) t false) tuned
-    ∙ (ap (is_stray (heard s.card past)) is ∙ none)
-even_by s past packet thing (inr untuned) is none =
-    ap (λ (t : Option Tuning). option_map_or (λ tuning. is_stray (heard s.card past)
-    (hears s.card.height tuning (length past) packet)) t false) untuned.0
+even_by = fails_by is_stray
 
 -- one thing more
 pub parts_on : (s : Setting) (able : AreHearable s) (past : List (List ℕ)) (earlier : List Item) (item : Item)

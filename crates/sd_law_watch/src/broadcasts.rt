@@ -27,6 +27,7 @@ ghost use Rattle.sd_law_watch.specs.Steady.{are_steady};
 /// what arrives of fewer packets of them. So only clear packets that the leaf is entitled to are written, in order, and
 /// what is written is what the messages that count confirm. If no packet is marked or doubled, exactly as much is
 /// written as if all counted, with the same ending. None of the packets is refused.
+#[tactic(auto, using(crate::proofs::Losses::counts_as_fewer, crate::proofs::Losses::true_packets, crate::proofs::Losses::written_as_ever, crate::proofs::Losses::ends_as_ever, crate::proofs::Losses::none_is_refused))]
 pub fn losses_of_runs_are_watched()
     ensures lost { (channel : Channel) (runs : List Arrival) (u : LeafNumber) → AreRunsOf channel runs →
         u < 2 ^ channel.height →
@@ -84,6 +85,7 @@ pub fn whole_runs_are_watched()
 /// Of a whole broadcast of a steady clear stream of which no packet is marked, all packets count. So exactly the clear
 /// packets are written that the leaf is entitled to, and it ends opened, or as revoked in the first period of the
 /// broadcast in which the leaf is. One report is made of it, which tells of no packet that doesn't count.
+#[tactic(auto, using(crate::proofs::Broadcast::steady_counts, crate::proofs::Broadcast::steady_out, crate::proofs::Broadcast::steady_ending, crate::proofs::Line::steady_tally, crate::proofs::Line::steady_line))]
 pub fn steady_broadcasts_are_watched()
     ensures counts { (plan : Plan) (clear : Packets) (u : LeafNumber) → IsPlan plan → IsSendable plan.site clear →
         AreWholePackets clear → u < 2 ^ plan.site.height → are_steady clear ≡ true →

@@ -35,6 +35,7 @@ pub fn undamaged_streams_count()
 /// Odd packets cost nothing. If a receiver refuses nothing of a stream, whatever else of it is lost, and nothing of it
 /// is marked or doubled, what counts is written as the whole stream is, with the same ending. Also if some of it is
 /// marked or doubled, nothing is refused, and keys are tried only of sections that count.
+#[tactic(auto, using(crate::proofs::Going::same_out, crate::proofs::Going::same_ending, crate::proofs::Unrefused::none_refused, crate::proofs::Unrefused::tried_as_taken))]
 pub fn odd_packets_cost_nothing()
     ensures out { (card : CardFields) (packets : Packets) →
         ((flags : Arrived) → break_from card [] (chosen flags packets) ≡ None) →
