@@ -4,8 +4,8 @@ ghost use Rattle.std.specs.Prelude.{◌≡◌, ◌^◌, ◌<◌, All, IsTrue};
 ghost use Rattle.std.specs.List.Sorted.{IsStrictlyIncreasing};
 
 use sd_base::Steps;
-use sd_cover::{CoverIndex, cover};
-use sd_tree::{Height, Leaf, SetName};
+use sd_cover_tracing::{CoverIndex, cover};
+use sd_tree_keys::{Height, Leaf, SetName};
 use std::alloc::{AllocError, Global};
 use std::marker::Brand;
 use std::sync::ledger::{Blank, Ledger};

@@ -1,13 +1,13 @@
 //! A period's entitlements, written, read and searched.
 
 ghost use Rattle.std.specs.Prelude.{◌≡◌, ◌^◌, ◌<◌, ◌≤◌, IfOk, length, vec_len};
-ghost use Rattle.sd_tree.specs.SetNames.{AreAscending};
+ghost use Rattle.sd_tree_keys.specs.SetNames.{AreAscending};
 ghost use Rattle.sd_message.specs.EmmSpelled.{listed_entries, names_in};
 ghost use Rattle.sd_message.specs.EmmForm.{AreSets, IsEmm};
 
 use sd_message::{Emm, Entry, are_ascending, read_emm, section_count, write_emm};
 use sd_packet::Packet;
-use sd_tree::{Height, Leaf, SetName, contains};
+use sd_tree_keys::{Height, Leaf, SetName, contains};
 use std::alloc::{AllocError, Global};
 
 /// How many sets the period has.

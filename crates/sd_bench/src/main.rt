@@ -10,7 +10,7 @@ mod traces;
 
 use sd_base::fields;
 use sd_engine::sample;
-use sd_keystream::{Parity, scramble};
+use sd_cipher::{Parity, scramble};
 use sd_packet::{Packet, is_positional};
 use sd_ports::MemSink;
 use std::alloc::{AllocError, Global};

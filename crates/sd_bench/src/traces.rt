@@ -3,8 +3,8 @@
 ghost use Rattle.std.specs.Prelude.{◌≤◌, length};
 
 use crate::covers::{Draws, are_ascending, are_of_height};
-use sd_cover::{CoalitionBox, Found, TraceFault, trace_all};
-use sd_tree::{Height, Leaf, MOST_REVOKED};
+use sd_cover_tracing::{CoalitionBox, Found, TraceFault, trace_all};
+use sd_tree_keys::{Height, Leaf, MOST_REVOKED};
 use std::alloc::{AllocError, Global};
 
 /// The height of the tree.

@@ -6,7 +6,7 @@ use Rattle.std.specs.Prelude.{◌⊎◌, IfOk, IfErr, MatchResult}
 use Rattle.std.proofs.lemmas.Grind.{common_steps}
 use Rattle.std.proofs.lemmas.List.{append-nil, map-append, drop_more, take_more, take_all, take-append-drop}
 use Rattle.sd_base.specs.Lines.{lines_of}
-use Rattle.sd_tree.specs.Limits.{most_revoked}
+use Rattle.sd_tree_keys.specs.Limits.{most_revoked}
 use Rattle.sd_book.specs.declared.command.Command.{Command}
 use Rattle.sd_book.specs.declared.command.Command.TheVariants.{Subscribe, Revoke, Period}
 use Rattle.sd_book.specs.declared.fault.BookFault.{BookFault}

@@ -6,7 +6,7 @@ use Rattle.std.specs.List.{range_with_len, filter, list_any}
 use Rattle.std.proofs.lemmas.Bool.{cases_lt}
 use Rattle.std.proofs.lemmas.Grind.{common_steps}
 use Rattle.sd_base.proofs.Ranges.{filter_range}
-use Rattle.sd_tree.specs.Leaves.{leaves, with_leaf, without_leaf}
+use Rattle.sd_tree_keys.specs.Leaves.{leaves, with_leaf, without_leaf}
 use Rattle.sd_book.specs.declared.command.Command.{Command}
 use Rattle.sd_book.specs.declared.command.Command.TheVariants.{Subscribe, Revoke, Period}
 use Rattle.sd_book.specs.Commands.{is_revoked, revoked, revoked_after, last_period, commands_until, commands_in}

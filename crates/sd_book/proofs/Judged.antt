@@ -12,7 +12,7 @@ use Rattle.sd_book.specs.declared.command.Command.TheVariants.{Subscribe, Revoke
 use Rattle.sd_book.specs.declared.fault.BookFault.{BookFault}
 use Rattle.sd_book.specs.declared.fault.BookFault.TheVariants.{Limit}
 use Rattle.sd_book.specs.declared.fault.BookLimit.TheVariants.{Lines, Periods, Revoked}
-use Rattle.sd_tree.specs.Limits.{most_revoked}
+use Rattle.sd_tree_keys.specs.Limits.{most_revoked}
 use Rattle.sd_book.specs.Commands.{is_within, is_period, last_period, revoked, revoked_after}
 use Rattle.sd_book.specs.Limits.{IsWithinLimits, IsDraft, most_commands, most_periods}
 use Rattle.sd_book.specs.Text.{SpellsBook, ◌>>=◌, in_tree, ended, period_fits, command_fits, judged_line, judged}

@@ -3,8 +3,8 @@ use Rattle.std.specs.List.{All}
 use Rattle.std.specs.List.Sorted.{IsStrictlyIncreasing}
 use Rattle.std.proofs.lemmas.List.Elements.{All-filter}
 use Rattle.std.proofs.lemmas.List.Kept.{IsStrictlyIncreasing-filter}
-use Rattle.sd_tree.specs.Leaves.{leaves}
-use Rattle.sd_tree.proofs.Members.{leaves_below, leaves_ascending}
+use Rattle.sd_tree_keys.specs.Leaves.{leaves}
+use Rattle.sd_tree_keys.proofs.Members.{leaves_below, leaves_ascending}
 use Rattle.sd_book.specs.declared.command.Command.{Command}
 use Rattle.sd_book.specs.Commands.{revoked, is_revoked, commands_until}
 

@@ -10,12 +10,12 @@ use Rattle.std.proofs.Math.Seq.{drop-cons}
 use Rattle.std.specs.Int.{from_bool}
 use Rattle.std.specs.List.{range_with_len, count_by, filter, find}
 use Rattle.std.specs.Option.{option_map_or}
-use Rattle.sd_tree.specs.Leaves.{leaves}
+use Rattle.sd_tree_keys.specs.Leaves.{leaves}
 use Rattle.sd_book.specs.declared.command.Command.{Command}
 use Rattle.sd_book.specs.declared.command.Command.TheVariants.{Subscribe, Revoke, Period}
 use Rattle.sd_book.specs.Commands.{is_on, is_revoke, is_revoked, is_period, last_on, last_period, revoked_after}
 use Rattle.sd_book.specs.Tally.{IsTally, marked_from}
-use Rattle.sd_tree.specs.Limits.{most_revoked}
+use Rattle.sd_tree_keys.specs.Limits.{most_revoked}
 use Rattle.sd_book.specs.declared.fault.BookFault.TheVariants.{Limit}
 use Rattle.sd_book.specs.declared.fault.BookLimit.TheVariants.{Revoked}
 use Rattle.sd_book.specs.Text.{ended}

@@ -2,7 +2,7 @@
 use Rattle.std.specs.Prelude.{ℕ, zero, suc, ◌==◌, ◌^◌, Bool, true, false, nat_lt, List, [], ◌∷◌, reverse, filter, find}
 use Rattle.std.specs.Prelude.{count_by, if◌then◌else◌, Option}
 use Rattle.std.specs.Option.{option_map_or}
-use Rattle.sd_tree.specs.Leaves.{leaves, unrevoked, with_leaf, without_leaf}
+use Rattle.sd_tree_keys.specs.Leaves.{leaves, unrevoked, with_leaf, without_leaf}
 use Rattle.sd_book.specs.declared.command.Command.{Command}
 use Rattle.sd_book.specs.declared.command.Command.TheVariants.{Subscribe, Revoke, Period}
 

@@ -1,6 +1,6 @@
 -- Public meaning: when each fault comes [this project, docs/FORMATS.md, Book].
 use Rattle.std.specs.Prelude.{◌≡◌, ◌⊎◌, ℕ, ◌+◌, ◌<◌, List, [], ◌∷◌, ◌++◌, false, length, map, Option, Some, None}
-use Rattle.sd_tree.specs.Limits.{most_revoked}
+use Rattle.sd_tree_keys.specs.Limits.{most_revoked}
 use Rattle.sd_book.specs.declared.command.Command.{Command}
 use Rattle.sd_book.specs.declared.command.Command.TheVariants.{Period}
 use Rattle.sd_book.specs.declared.fault.BookFault.{BookFault}

@@ -1,6 +1,6 @@
 -- Public meaning: the limits of a book [this project, docs/FORMATS.md, Book].
 use Rattle.std.specs.Prelude.{◌≡◌, ℕ, ◌<◌, ◌≤◌, true, List, length, All}
-use Rattle.sd_tree.specs.Limits.{most_revoked}
+use Rattle.sd_tree_keys.specs.Limits.{most_revoked}
 use Rattle.sd_book.specs.declared.command.Command.{Command}
 use Rattle.sd_book.specs.Commands.{is_within, last_period, revoked}
 

@@ -1,6 +1,6 @@
 -- Public meaning: what a tally of commands keeps: a mark for each leaf, and two numbers.
 use Rattle.std.specs.Prelude.{◌≡◌, ℕ, ◌+◌, Bool, List, [], ◌∷◌, map, length, if◌then◌else◌}
-use Rattle.sd_tree.specs.Leaves.{leaves}
+use Rattle.sd_tree_keys.specs.Leaves.{leaves}
 use Rattle.sd_book.specs.declared.command.Command.{Command}
 use Rattle.sd_book.specs.Commands.{is_revoked, revoked_after, last_period}
 

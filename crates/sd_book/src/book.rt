@@ -4,7 +4,7 @@ ghost use Rattle.std.specs.List.Sorted.{IsStrictlyIncreasing};
 ghost use Rattle.sd_base.specs.Lines.{lines_of};
 ghost use Rattle.sd_book.specs.declared.command.Command.{Command as Commands};
 ghost use Rattle.sd_book.specs.Commands.{is_within, last_period as last_of, revoked as revoked_in};
-ghost use Rattle.sd_tree.specs.declared.leaf.TheConstants.{MOST_REVOKED};
+ghost use Rattle.sd_tree_keys.specs.declared.leaf.TheConstants.{MOST_REVOKED};
 ghost use Rattle.sd_book.specs.declared.limits.TheConstants.{MOST_PERIODS};
 ghost use Rattle.sd_book.specs.Limits.{IsWithinLimits};
 ghost use Rattle.sd_book.specs.Faults.{IsCauseOf, IsFirstLimit};
@@ -19,7 +19,7 @@ use crate::replay::Periods;
 use crate::tally::revoked_after;
 use crate::writing::text_of;
 use sd_base::NoMemory;
-use sd_tree::{Height, Leaf};
+use sd_tree_keys::{Height, Leaf};
 use std::alloc::Global;
 use std::marker::Model;
 

@@ -1,4 +1,4 @@
-use sd_tree::Leaf;
+use sd_tree_keys::Leaf;
 
 /// A line of a book.
 #[derive(Clone, Copy, PartialEq, Eq)]

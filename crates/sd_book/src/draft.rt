@@ -12,7 +12,7 @@ use crate::fault::{BookFault, BookLimit};
 use crate::limits::MOST_COMMANDS;
 use crate::tally::Tally;
 use sd_base::NoMemory;
-use sd_tree::Height;
+use sd_tree_keys::Height;
 use std::alloc::Global;
 use std::marker::Model;
 

@@ -10,7 +10,7 @@ pub enum BookLimit {
     Lines,
     /// It has at most [`MOST_PERIODS`](crate::MOST_PERIODS) Period commands.
     Periods,
-    /// At most [`MOST_REVOKED`](sd_tree::MOST_REVOKED) leaves are revoked at the end of this period.
+    /// At most [`MOST_REVOKED`](sd_tree_keys::MOST_REVOKED) leaves are revoked at the end of this period.
     Revoked(u32),
 }
 

@@ -5,7 +5,7 @@ ghost use Rattle.sd_book.specs.Text.{command_of};
 
 use crate::command::Command;
 use sd_base::{NumberFault, number_after};
-use sd_tree::{Height, Leaf};
+use sd_tree_keys::{Height, Leaf};
 
 /// Why a line is no command for a tree.
 #[derive(Clone, Copy)]

@@ -11,7 +11,7 @@ use crate::fault::{BookFault, BookLimit};
 use crate::limits::MOST_COMMANDS;
 use crate::line::{LineFault, command_on};
 use sd_base::next_line;
-use sd_tree::Height;
+use sd_tree_keys::Height;
 use std::alloc::Global;
 
 /// The draft with the commands of a book's text.

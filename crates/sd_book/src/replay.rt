@@ -1,7 +1,7 @@
 ghost use Rattle.std.specs.Prelude.{◌≡◌, ◌≤◌, ◌<◌, ◌^◌, ◌+◌, ◌++◌, ◌∷◌, [], ◌↔◌, ℕ, true, List, All, length, is_some};
 ghost use Rattle.std.specs.Prelude.{if◌then◌else◌, take as take_of, IfOk, IfSome, OnOk, OnErr, IsNone};
 ghost use Rattle.std.specs.List.Sorted.{IsStrictlyIncreasing};
-ghost use Rattle.sd_tree.specs.declared.leaf.TheConstants.{MOST_REVOKED};
+ghost use Rattle.sd_tree_keys.specs.declared.leaf.TheConstants.{MOST_REVOKED};
 ghost use Rattle.sd_book.specs.declared.command.Command.{Command as Commands};
 ghost use Rattle.sd_book.specs.Commands.{is_within, last_period, revoked as revoked_in, revoked_after};
 ghost use Rattle.sd_book.specs.Limits.{IsWithinLimits};
@@ -11,7 +11,7 @@ ghost use Rattle.sd_book.specs.Replay.{IsReplay};
 use crate::command::Command;
 use crate::place::Place;
 use sd_base::NoMemory;
-use sd_tree::{Height, Leaf};
+use sd_tree_keys::{Height, Leaf};
 use std::alloc::Global;
 use std::collections::BTreeSet;
 use std::marker::Model;

@@ -9,7 +9,7 @@ ghost use Rattle.sd_book.specs.Text.{ended};
 use crate::command::Command;
 use crate::fault::{BookFault, BookLimit};
 use crate::limits::MOST_PERIODS;
-use sd_tree::{Height, Leaf, MOST_REVOKED};
+use sd_tree_keys::{Height, Leaf, MOST_REVOKED};
 use std::alloc::{AllocError, Global};
 
 /// What some commands come to: the leaves that are revoked after them, and the period that they end in.

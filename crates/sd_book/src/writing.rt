@@ -3,7 +3,7 @@ ghost use Rattle.std.specs.Fmt.{decimal};
 ghost use Rattle.sd_book.specs.Text.{command_line, text_of};
 
 use crate::command::Command;
-use sd_tree::Leaf;
+use sd_tree_keys::Leaf;
 use std::alloc::{AllocError, Global};
 use std::fmt::Write;
 

@@ -1,8 +1,8 @@
 -- A card's file that is refused.
 use Rattle.std.proofs.Common.{◌≡◌, ◌⊎◌, ℕ, List, Option, Some, None, Err, refl, sym, ap, subst, inl, inr}
-use Rattle.sd_site.specs.declared.card_fault.CardFault.{CardFault}
-use Rattle.sd_site.specs.declared.card_fault.CardFault.TheVariants as fault
-use Rattle.sd_site.specs.CardFaults.{fault_in, IsFaultOf}
+use Rattle.sd_site_cards.specs.declared.card_fault.CardFault.{CardFault}
+use Rattle.sd_site_cards.specs.declared.card_fault.CardFault.TheVariants as fault
+use Rattle.sd_site_cards.specs.CardFaults.{fault_in, IsFaultOf}
 use Rattle.sd_command_base.specs.declared.status.Status.{Status}
 use Rattle.sd_command_base.specs.declared.status.Status.TheVariants.{BadCard, NoMemory}
 use Rattle.sd_command_base.specs.Outcome.{IsRefusal, IsEnding}

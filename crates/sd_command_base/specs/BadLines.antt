@@ -5,8 +5,8 @@ use Rattle.std.specs.Prelude.{length, take, get_or, replicate, bytes_eq, if◌th
 use Rattle.std.specs.List.{list_all, list_any}
 use Rattle.sd_base.specs.Lines.{lines_of}
 use Rattle.sd_base.specs.Number.{decimal_value}
-use Rattle.sd_site.specs.declared.site_fault.SiteFault.{SiteFault}
-use Rattle.sd_site.specs.declared.site_fault.SiteFault.TheVariants as site
+use Rattle.sd_site_cards.specs.declared.site_fault.SiteFault.{SiteFault}
+use Rattle.sd_site_cards.specs.declared.site_fault.SiteFault.TheVariants as site
 use Rattle.sd_command_base.specs.declared.bad_line.Excerpt.{Excerpt}
 use Rattle.sd_command_base.specs.declared.bad_line.LineCause.{LineCause}
 use Rattle.sd_command_base.specs.declared.bad_line.LineCause.TheVariants.{ByteOrderMark, NotText, Long, Empty, Return}

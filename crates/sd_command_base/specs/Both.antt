@@ -1,7 +1,7 @@
 -- Public meaning: the site and the book of its tree, which several commands read first [this project,
 -- docs/FORMATS.md, Site and Book].
 use Rattle.std.specs.Prelude.{ℕ, List, Option}
-use Rattle.sd_site.specs.SiteFields.{SiteFields}
+use Rattle.sd_site_cards.specs.SiteFields.{SiteFields}
 use Rattle.sd_book.specs.declared.command.Command.{Command}
 use Rattle.sd_command_base.specs.Spec.{Spec, FileArgument, Readings, value, ◌>>=◌}
 use Rattle.sd_command_base.specs.Files.{site_of_file, book_of_file}

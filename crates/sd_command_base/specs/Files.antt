@@ -2,17 +2,17 @@
 use Rattle.std.specs.Prelude.{ℕ, ◌-◌, nat_lt, nat_le, ◌==◌, ◌&&◌, ◌||◌, if◌then◌else◌, Bool, true, bytes_eq, List}
 use Rattle.std.specs.Prelude.{length, take, get_or, Option, Some, None, Result, Ok, Err}
 use Rattle.sha2.specs.Sha256.{sha256}
-use Rattle.sd_site.specs.declared.book_line.BookLine.{BookLine}
-use Rattle.sd_site.specs.SiteFields.{SiteFields}
-use Rattle.sd_site.specs.Forms.{most_book_size}
-use Rattle.sd_site.specs.Text.{site_of}
-use Rattle.sd_site.specs.declared.site_fault.SiteFault.{SiteFault}
+use Rattle.sd_site_cards.specs.declared.book_line.BookLine.{BookLine}
+use Rattle.sd_site_cards.specs.SiteFields.{SiteFields}
+use Rattle.sd_site_cards.specs.Forms.{most_book_size}
+use Rattle.sd_site_cards.specs.Text.{site_of}
+use Rattle.sd_site_cards.specs.declared.site_fault.SiteFault.{SiteFault}
 use Rattle.sd_book.specs.declared.command.Command.{Command}
 use Rattle.sd_book.specs.declared.fault.BookFault.{BookFault}
 use Rattle.sd_book.specs.declared.fault.BookFault.TheVariants as book
 use Rattle.sd_book.specs.Text.{book_of}
-use Rattle.sd_site.specs.declared.card_fault.CardFault.{CardFault}
-use Rattle.sd_site.specs.declared.card_fault.CardFault.TheVariants as card
+use Rattle.sd_site_cards.specs.declared.card_fault.CardFault.{CardFault}
+use Rattle.sd_site_cards.specs.declared.card_fault.CardFault.TheVariants as card
 use Rattle.sd_command_base.specs.declared.status.Status.{Status}
 use Rattle.sd_command_base.specs.declared.status.Status.TheVariants.{BadSite, BadBook, BadCard, Limit, NoMemory}
 use Rattle.sd_command_base.specs.declared.status.Status.TheVariants.{OtherBook}

@@ -6,17 +6,17 @@ use Rattle.hex.specs.Hex.{encode_lower}
 use Rattle.sd_engine.specs.declared.fault.BreakCause.{BreakCause}
 use Rattle.sd_engine.specs.declared.fault.BreakCause.TheVariants as breaks
 use Rattle.sd_engine.specs.Driving.{most_packets}
-use Rattle.sd_psi.specs.declared.clear_fault.ClearFault.{ClearFault}
-use Rattle.sd_psi.specs.declared.clear_fault.ClearFault.TheVariants as clear
-use Rattle.sd_psi.specs.ClearFaults.{clear_packet}
+use Rattle.sd_message.specs.declared.clear_fault.ClearFault.{ClearFault}
+use Rattle.sd_message.specs.declared.clear_fault.ClearFault.TheVariants as clear
+use Rattle.sd_message.specs.ClearFaults.{clear_packet}
 use Rattle.sd_psi.specs.declared.fault.FormFault.{FormFault}
 use Rattle.sd_psi.specs.declared.fault.FormFault.TheVariants as form
-use Rattle.sd_site.specs.declared.site_fault.SiteFault.{SiteFault}
-use Rattle.sd_site.specs.declared.site_fault.SiteFault.TheVariants as site
+use Rattle.sd_site_cards.specs.declared.site_fault.SiteFault.{SiteFault}
+use Rattle.sd_site_cards.specs.declared.site_fault.SiteFault.TheVariants as site
 use Rattle.sd_book.specs.declared.fault.BookLimit.{BookLimit}
 use Rattle.sd_book.specs.declared.fault.BookLimit.TheVariants as limit
-use Rattle.sd_site.specs.declared.card_fault.CardFault.{CardFault}
-use Rattle.sd_site.specs.declared.card_fault.CardFault.TheVariants as card
+use Rattle.sd_site_cards.specs.declared.card_fault.CardFault.{CardFault}
+use Rattle.sd_site_cards.specs.declared.card_fault.CardFault.TheVariants as card
 use Rattle.sd_message.specs.declared.stream_fault.StreamFault.{StreamFault}
 use Rattle.sd_message.specs.declared.stream_fault.StreamFault.TheVariants as stream
 use Rattle.sd_message.specs.StreamFaults.{stream_packet}

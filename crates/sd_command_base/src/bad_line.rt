@@ -11,8 +11,8 @@ ghost use Rattle.sd_command_base.specs.BadLines.{leaf_cause as cause_of_leaf, ba
 ghost use Rattle.sd_command_base.specs.BadLines.{site_excerpt as shown_of_site};
 
 use sd_base::{NumberFault, next_line, number_after};
-use sd_site::SiteFault;
-use sd_tree::Height;
+use sd_site_cards::SiteFault;
+use sd_tree_keys::Height;
 
 /// As many bytes of a refused line as are shown: no good line of a book, of accounts or of leaves is longer.
 pub const MOST_SHOWN: usize = 48;

@@ -1,5 +1,5 @@
 ghost use Rattle.std.specs.Prelude.{◌≡◌, ◌≢◌, IfOk};
-ghost use Rattle.sd_site.specs.SiteFields.{fields_of};
+ghost use Rattle.sd_site_cards.specs.SiteFields.{fields_of};
 ghost use Rattle.sd_command_base.specs.Outside.{depot_state};
 ghost use Rattle.sd_command_base.specs.Reads.{FilesOutcome};
 ghost use Rattle.sd_command_base.specs.Both.{both_meaning};
@@ -10,7 +10,7 @@ use crate::files::{read_book, read_site};
 use crate::word::Word;
 use sd_book::Book;
 use sd_ports::Depot;
-use sd_site::Site;
+use sd_site_cards::Site;
 use std::alloc::Global;
 
 /// The site of the one word's file, and the book of the other's for its tree.

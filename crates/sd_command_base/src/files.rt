@@ -1,7 +1,7 @@
 ghost use Rattle.std.specs.Prelude.{◌≡◌, ◌≤◌, IfOk};
 ghost use Rattle.sd_book.specs.Text.{book_of};
-ghost use Rattle.sd_site.specs.SiteFields.{fields_of};
-ghost use Rattle.sd_site.specs.Text.{site_of};
+ghost use Rattle.sd_site_cards.specs.SiteFields.{fields_of};
+ghost use Rattle.sd_site_cards.specs.Text.{site_of};
 ghost use Rattle.sd_command_base.specs.Spec.{within};
 ghost use Rattle.sd_command_base.specs.Outside.{depot_state};
 ghost use Rattle.sd_command_base.specs.Reads.{JudgedOutcome, SureOutcome, FileOutcome};
@@ -12,8 +12,8 @@ use crate::word::Word;
 use crate::{LimitKind, LineCause, Status, malformed, refused_line, site_excerpt};
 use sd_book::{Book, BookFault};
 use sd_ports::{Depot, FileFault, read_file};
-use sd_site::{CardFault, MOST_BOOK_SIZE, Site, SiteFault};
-use sd_tree::Height;
+use sd_site_cards::{CardFault, MOST_BOOK_SIZE, Site, SiteFault};
+use sd_tree_keys::Height;
 use std::alloc::Global;
 
 /// As many bytes as a site file may have.
@@ -38,7 +38,7 @@ pub fn read_site<D: Depot>(alloc: Global, depot: &mut D, word: Word<'_>) -> Resu
 fn judge_site(word: u8, bytes: &[u8]) -> Result<Site, Status>
     ensures { SureOutcome fields_of (told_site word bytes.now (site_of bytes.now)) result }
 {
-    match sd_site::read(bytes) {
+    match sd_site_cards::read(bytes) {
         Ok(site) => Ok(site),
         Err(fault) => Err(site_fault(word, bytes, fault)),
     }

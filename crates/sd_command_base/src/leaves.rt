@@ -9,7 +9,7 @@ use crate::files::{MOST_BOOK_BYTES, read_bytes};
 use crate::word::Word;
 use crate::{LeavesFault, LimitKind, Status};
 use sd_ports::Depot;
-use sd_tree::{Height, Leaf};
+use sd_tree_keys::{Height, Leaf};
 use std::alloc::Global;
 
 /// The leaves of the word's file.

@@ -1,11 +1,11 @@
 ghost use Rattle.std.specs.Prelude.{◌≡◌, ◌^◌, ◌<◌, ◌≤◌, ℕ, List, All, length, IfOk};
 ghost use Rattle.std.specs.List.Sorted.{IsStrictlyIncreasing};
-ghost use Rattle.sd_tree.specs.declared.leaf.TheConstants.{MOST_REVOKED};
-ghost use Rattle.sd_tree.specs.declared.set.SetName.{SetName as Name};
-ghost use Rattle.sd_tree.specs.SetNames.{IsOfHeight};
+ghost use Rattle.sd_tree_keys.specs.declared.leaf.TheConstants.{MOST_REVOKED};
+ghost use Rattle.sd_tree_keys.specs.declared.set.SetName.{SetName as Name};
+ghost use Rattle.sd_tree_keys.specs.SetNames.{IsOfHeight};
 
 use sd_base::NoMemory;
-use sd_tree::{Height, Leaf, SetName};
+use sd_tree_keys::{Height, Leaf, SetName};
 use std::alloc::Global;
 
 /// The list that is printed of each period of a book: some sets, and a text after the name of each.
@@ -19,7 +19,7 @@ pub trait Listing {
     /// What stands after a set's name, up to the end of its line, in a tree of this height.
     ghost ends: { Self → ℕ → Name → List ℕ };
 
-    /// The sets, for at most [`sd_tree::MOST_REVOKED`] revoked leaves.
+    /// The sets, for at most [`sd_tree_keys::MOST_REVOKED`] revoked leaves.
     fn listed(&self, alloc: Global, h: Height, revoked: &[Leaf]) -> Result<Vec<SetName>, NoMemory>
         requires fits { fits self.now h }
         requires leaves { All (λ u. u < 2 ^ h) revoked.now }

@@ -12,8 +12,8 @@ use crate::word::Word;
 use crate::{LimitKind, LineCause, Status, refused_line};
 use sd_book::Book;
 use sd_ports::Depot;
-use sd_site::BookLine;
-use sd_tree::Height;
+use sd_site_cards::BookLine;
+use sd_tree_keys::Height;
 use sha2::{Digest, Sha256};
 use std::alloc::Global;
 

@@ -18,9 +18,9 @@ ghost use Rattle.sd_command_base.specs.Results.{TakesMemory};
 use crate::{Clash, LimitKind, OutCause, Status, StreamRefusal};
 use sd_book::BookLimit;
 use sd_engine::{BreakCause, MOST_PACKETS};
-use sd_message::StreamFault;
-use sd_psi::{ClearFault, FormFault};
-use sd_site::{CardFault, SiteFault};
+use sd_message::{ClearFault, StreamFault};
+use sd_psi::FormFault;
+use sd_site_cards::{CardFault, SiteFault};
 use std::alloc::{AllocError, Global};
 
 /// A line that is printed: a fixed text, or one with numbers in it.

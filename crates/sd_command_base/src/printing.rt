@@ -1,6 +1,6 @@
 ghost use Rattle.std.specs.Prelude.{◌≡◌, ◌≢◌, ◌^◌, ◌<◌, ◌≤◌, All, length, IfErr, IfOk, string_bytes};
 ghost use Rattle.std.specs.List.Sorted.{IsStrictlyIncreasing};
-ghost use Rattle.sd_tree.specs.declared.leaf.TheConstants.{MOST_REVOKED};
+ghost use Rattle.sd_tree_keys.specs.declared.leaf.TheConstants.{MOST_REVOKED};
 ghost use Rattle.sd_command_base.specs.Outside.{page_state};
 ghost use Rattle.sd_command_base.specs.Outcome.{status_of};
 ghost use Rattle.sd_command_base.specs.Prints.{PrintsWork, PrintsPiece};
@@ -11,7 +11,7 @@ use crate::text::period_text;
 use crate::{Status, print_text};
 use sd_book::Book;
 use sd_ports::Sink;
-use sd_tree::{Height, Leaf};
+use sd_tree_keys::{Height, Leaf};
 use std::alloc::Global;
 
 /// Prints what is listed of each period of the book, one period after the other.

@@ -6,7 +6,7 @@ ghost use Rattle.sd_base.specs.Number.{decimal_value};
 ghost use Rattle.sd_command_base.specs.Text.{leaves_of_text, leaf_after};
 
 use sd_base::{next_line, number_after};
-use sd_tree::{HIGHEST, Height, Leaf};
+use sd_tree_keys::{HIGHEST, Height, Leaf};
 use std::alloc::Global;
 
 /// Why a text is no file of leaves.

@@ -4,9 +4,8 @@ ghost use Rattle.sd_command_base.specs.Exits.{code_of};
 use crate::{BadLine, Excerpt, StreamRefusal};
 use sd_base::NoMemory;
 use sd_book::BookLimit;
-use sd_message::StreamFault;
-use sd_psi::ClearFault;
-use sd_site::{CardFault, SiteFault};
+use sd_message::{ClearFault, StreamFault};
+use sd_site_cards::{CardFault, SiteFault};
 use std::alloc::AllocError;
 
 /// The outcome of a run of the program (docs/FORMATS.md, Exits). Arguments are numbered from 0, the command.

@@ -1,9 +1,9 @@
 ghost use Rattle.std.specs.Prelude.{◌≡◌, ◌++◌, All, IfOk, OnOk, string_bytes};
-ghost use Rattle.sd_tree.specs.SetNames.{IsOfHeight};
+ghost use Rattle.sd_tree_keys.specs.SetNames.{IsOfHeight};
 ghost use Rattle.sd_command_base.specs.Periods.{set_line, period_text as text_of};
 
 use crate::listing::Listing;
-use sd_tree::{Height, SetName};
+use sd_tree_keys::{Height, SetName};
 use std::alloc::{AllocError, Global};
 use std::fmt::Write;
 

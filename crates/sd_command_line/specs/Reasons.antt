@@ -3,18 +3,18 @@ use Rattle.std.specs.Prelude.{ℕ, ◌-◌, ◌^◌, ◌==◌, ◌&&◌, nat_le,
 use Rattle.std.specs.Prelude.{Option, Some, None}
 use Rattle.std.specs.Fmt.{decimal}
 use Rattle.sd_base.specs.Number.{decimal_value}
-use Rattle.sd_psi.specs.declared.clear_fault.ClearFault.{ClearFault}
-use Rattle.sd_psi.specs.declared.clear_fault.ClearFault.TheVariants as clear
-use Rattle.sd_psi.specs.ClearFaults.{clear_packet}
+use Rattle.sd_message.specs.declared.clear_fault.ClearFault.{ClearFault}
+use Rattle.sd_message.specs.declared.clear_fault.ClearFault.TheVariants as clear
+use Rattle.sd_message.specs.ClearFaults.{clear_packet}
 use Rattle.sd_message.specs.declared.stream_fault.StreamFault.{StreamFault}
 use Rattle.sd_message.specs.declared.stream_fault.StreamFault.TheVariants as stream
 use Rattle.sd_message.specs.StreamFaults.{stream_packet}
 use Rattle.sd_book.specs.declared.fault.BookLimit.{BookLimit}
 use Rattle.sd_book.specs.declared.fault.BookLimit.TheVariants as limit
-use Rattle.sd_site.specs.declared.site_fault.SiteFault.{SiteFault}
-use Rattle.sd_site.specs.declared.site_fault.SiteFault.TheVariants as site
-use Rattle.sd_site.specs.declared.card_fault.CardFault.{CardFault}
-use Rattle.sd_site.specs.declared.card_fault.CardFault.TheVariants as card
+use Rattle.sd_site_cards.specs.declared.site_fault.SiteFault.{SiteFault}
+use Rattle.sd_site_cards.specs.declared.site_fault.SiteFault.TheVariants as site
+use Rattle.sd_site_cards.specs.declared.card_fault.CardFault.{CardFault}
+use Rattle.sd_site_cards.specs.declared.card_fault.CardFault.TheVariants as card
 use Rattle.sd_command_base.specs.declared.bad_line.Excerpt.{Excerpt}
 use Rattle.sd_command_base.specs.declared.bad_line.LineCause.{LineCause}
 use Rattle.sd_command_base.specs.declared.bad_line.LineCause.TheVariants as cause

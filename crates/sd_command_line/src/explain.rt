@@ -13,9 +13,8 @@ use crate::found::{Argument, find_argument, find_file};
 use crate::order::{is_help, is_version, out_is_mark};
 use crate::{Command, CommandLine, reason};
 use sd_command_base::{BadLine, Clash, Excerpt, Status, StreamRefusal, Trouble, escaped};
-use sd_message::StreamFault;
-use sd_psi::ClearFault;
-use sd_site::SiteFault;
+use sd_message::{ClearFault, StreamFault};
+use sd_site_cards::SiteFault;
 use std::alloc::{AllocError, Global};
 
 /// SITE is this argument of the commands that ask whether it was used, and whether it has numbers left.

@@ -18,10 +18,9 @@ use sd_command_base::{
     BadLine, Clash, Excerpt, LimitKind, LineCause, OutCause, StreamRefusal, Trouble, quoted,
 };
 use sd_engine::MOST_PACKETS;
-use sd_message::StreamFault;
-use sd_psi::ClearFault;
-use sd_site::{CardFault, SiteFault};
-use sd_tree::Height;
+use sd_message::{ClearFault, StreamFault};
+use sd_site_cards::{CardFault, SiteFault};
+use sd_tree_keys::Height;
 use std::alloc::{AllocError, Global};
 
 /// Why a file isn't there.

@@ -21,7 +21,7 @@ use Rattle.sd_spec.specs.Book.{sends}
 use Rattle.sd_spec.specs.Watch.{Watch, at_places, count_sent, present, stream, watch, watched, written}
 use Rattle.sd_spec.proofs.Watching.{all_offered, cursor_within, move_of, offers, passes, waits}
 use Rattle.sd_spec.proofs.Offers.{others_wait, present_stays, written_stays}
-use Rattle.sd_site.specs.CardFields.{CardFields}
+use Rattle.sd_site_cards.specs.CardFields.{CardFields}
 use Rattle.sd_spec.specs.Offered.{out_from}
 use Rattle.sd_field.specs.Heard.{IsHeard}
 use Rattle.sd_field.specs.Seats.{IsNew, IsSeated, wrote_before}
@@ -36,7 +36,7 @@ use Rattle.sd_field.specs.declared.fault.FieldFault.{FieldFault}
 use Rattle.sd_field.specs.declared.fault.FieldFault.TheVariants.{Clear, NoMemory}
 use Rattle.sd_field.specs.declared.station.Station.{Station}
 use Rattle.sd_book.specs.Value.{BookValue}
-use Rattle.sd_psi.specs.declared.clear_fault.ClearFault.{ClearFault}
+use Rattle.sd_message.specs.declared.clear_fault.ClearFault.{ClearFault}
 use Rattle.sd_spec.specs.Sent.{body}
 use Rattle.sd_head.specs.Schedule.{begins_with}
 use Rattle.sd_head.specs.Kept.{HasBegun}

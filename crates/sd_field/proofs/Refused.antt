@@ -7,9 +7,9 @@ use Rattle.std.proofs.lemmas.Bool.{cases_lt}
 use Rattle.std.proofs.lemmas.List.{reverse-append}
 use Rattle.std.proofs.lemmas.Option.{slice_get-get_or}
 use Rattle.sd_base.proofs.Lists.{both_none}
-use Rattle.sd_site.specs.SiteFields.{SiteFields}
+use Rattle.sd_site_cards.specs.SiteFields.{SiteFields}
 use Rattle.sd_spec.specs.Refused.{IsClear, refusal_from, refusal_of}
-use Rattle.sd_psi.specs.declared.clear_fault.ClearFault.{ClearFault}
+use Rattle.sd_message.specs.declared.clear_fault.ClearFault.{ClearFault}
 use Rattle.sd_spec.specs.declared.event.Event.{Event}
 use Rattle.sd_spec.specs.declared.event.Event.TheVariants.{Lose, Off, Offer, On, Revoke, Send, Subscribe}
 use Rattle.sd_spec.specs.Book.{sends}

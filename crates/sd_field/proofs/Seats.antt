@@ -8,9 +8,9 @@ use Rattle.std.specs.List.{concat, flat_map}
 use Rattle.std.proofs.lemmas.Bool.Decides.{nat_tests}
 use Rattle.std.proofs.lemmas.List.Folds.{concat-append}
 use Rattle.std.proofs.lemmas.Option.{get_or_from_slice_get, slice_get_within}
-use Rattle.sd_site.specs.declared.site.Site.{Site}
-use Rattle.sd_site.specs.declared.card.Card.{Card}
-use Rattle.sd_site.specs.CardFields.{CardFields, card_of, card_fields_of}
+use Rattle.sd_site_cards.specs.declared.site.Site.{Site}
+use Rattle.sd_site_cards.specs.declared.card.Card.{Card}
+use Rattle.sd_site_cards.specs.CardFields.{CardFields, card_of, card_fields_of}
 use Rattle.sd_spec.specs.Plan.{Plan}
 use Rattle.sd_ports.specs.Memory.{Store}
 use Rattle.sd_spec.specs.Offered.{out_from, break_from}

@@ -4,10 +4,10 @@ use Rattle.std.specs.Prelude.{◌≡◌, ◌⊎◌, ◌↔◌, ℕ, suc, ◌*◌
 use Rattle.std.specs.Prelude.{All, length, reverse, take, get_or, slice_get, if◌then◌else◌}
 use Rattle.std.specs.Prelude.{Option, Some, None, IsSome, option_and_then}
 use Rattle.std.specs.List.{concat}
-use Rattle.sd_site.specs.SiteFields.{SiteFields}
-use Rattle.sd_site.specs.CardFields.{CardFields, card_of}
+use Rattle.sd_site_cards.specs.SiteFields.{SiteFields}
+use Rattle.sd_site_cards.specs.CardFields.{CardFields, card_of}
 use Rattle.sd_book.specs.Value.{BookValue}
-use Rattle.sd_psi.specs.declared.clear_fault.ClearFault.{ClearFault}
+use Rattle.sd_message.specs.declared.clear_fault.ClearFault.{ClearFault}
 use Rattle.sd_spec.specs.Plan.{Plan, IsPlan}
 use Rattle.sd_spec.specs.Refused.{refusal_of, IsClear}
 use Rattle.sd_spec.specs.Sent.{body}

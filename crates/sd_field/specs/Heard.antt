@@ -1,7 +1,7 @@
 -- Public meaning: what one receiver of a field keeps and wrote.
 use Rattle.std.specs.Prelude.{◌≡◌, ℕ, ◌-◌, ◌≤◌, List, [], ◌++◌, length, None, Some}
 use Rattle.std.specs.List.{concat}
-use Rattle.sd_site.specs.CardFields.{CardFields}
+use Rattle.sd_site_cards.specs.CardFields.{CardFields}
 use Rattle.sd_ports.specs.Memory.{Store, room_in}
 use Rattle.sd_engine.specs.Stage.{Chain}
 use Rattle.sd_message.specs.declared.stream_fault.StreamFault.{StreamFault}

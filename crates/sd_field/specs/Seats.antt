@@ -2,8 +2,8 @@
 -- written.
 use Rattle.std.specs.Prelude.{◌≡◌, ◌↔◌, ℕ, true, List, [], map, reverse, slice_get, IsSome, Some}
 use Rattle.std.specs.List.{concat, flat_map}
-use Rattle.sd_site.specs.declared.site.Site.{Site}
-use Rattle.sd_site.specs.CardFields.{CardFields, card_of}
+use Rattle.sd_site_cards.specs.declared.site.Site.{Site}
+use Rattle.sd_site_cards.specs.CardFields.{CardFields, card_of}
 use Rattle.sd_spec.specs.Plan.{Plan}
 use Rattle.sd_spec.specs.Offered.{out_from}
 use Rattle.sd_receive.specs.declared.receiver.Receiver.{Receiver}

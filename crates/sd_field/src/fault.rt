@@ -2,7 +2,7 @@ ghost use Rattle.std.specs.Prelude.{◌≡◌};
 ghost use Rattle.sd_field.specs.declared.fault.ScriptFault.TheVariants.{NoMemory};
 ghost use Rattle.sd_field.specs.declared.fault.FieldFault.TheVariants as FieldFault;
 
-use sd_psi::ClearFault;
+use sd_message::ClearFault;
 use std::alloc::AllocFailed;
 
 /// Why bytes are no script. Lines are numbered from 1 and judged in order, and the first bad line decides [this

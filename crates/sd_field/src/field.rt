@@ -2,8 +2,8 @@ ghost use Rattle.std.specs.Prelude.{◌≡◌, ◌↔◌, ◌<◌, ◌≤◌, �
 ghost use Rattle.std.specs.Prelude.{Err};
 ghost use Rattle.std.specs.Prelude.{IfOk, IfErr, IfSome, IsErr, IsSome, OnOk};
 ghost use Rattle.std.specs.List.{concat};
-ghost use Rattle.sd_site.specs.SiteFields.{fields_of};
-ghost use Rattle.sd_psi.specs.declared.clear_fault.ClearFault.{ClearFault as Fault};
+ghost use Rattle.sd_site_cards.specs.SiteFields.{fields_of};
+ghost use Rattle.sd_message.specs.declared.clear_fault.ClearFault.{ClearFault as Fault};
 ghost use Rattle.sd_spec.specs.Plan.{IsPlan};
 ghost use Rattle.sd_spec.specs.Refused.{IsClear};
 ghost use Rattle.sd_spec.specs.Sent.{body};
@@ -21,9 +21,9 @@ use crate::station::Station;
 use sd_base::{NoMemory, Steps};
 use sd_book::Book;
 use sd_packet::{Packet, SIZE};
-use sd_site::Site;
+use sd_site_cards::Site;
 use sd_spec::Event;
-use sd_tree::Leaf;
+use sd_tree_keys::Leaf;
 use std::alloc::Global;
 use std::marker::Model;
 use std::sync::ledger::Ledger;
@@ -63,7 +63,7 @@ impl Drop for Field {
 }
 
 impl Model for Field {
-    ghost use Rattle.sd_site.specs.SiteFields.{fields_of};
+    ghost use Rattle.sd_site_cards.specs.SiteFields.{fields_of};
     ghost use Rattle.sd_field.specs.Fields.{FieldValue, IsField};
 
     ghost Value = { FieldValue };

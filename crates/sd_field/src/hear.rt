@@ -1,6 +1,6 @@
 ghost use Rattle.std.specs.Prelude.{◌<◌, ◌++◌, ◌∷◌, [], ℕ, List, length, OnOk, IsErr};
 ghost use Rattle.std.specs.List.{concat};
-ghost use Rattle.sd_site.specs.CardFields.{CardFields};
+ghost use Rattle.sd_site_cards.specs.CardFields.{CardFields};
 ghost use Rattle.sd_spec.specs.Offered.{out_from};
 ghost use Rattle.sd_receive.specs.Receiving.{IsCountable, IsLive};
 ghost use Rattle.sd_field.specs.Heard.{HasRoom, IsHeard};

@@ -1,5 +1,5 @@
 ghost use Rattle.std.specs.Prelude.{◌≡◌, ◌<◌, ◌≤◌, ◌^◌, ◌++◌, ◌∷◌, [], true, All, IfOk, OnOk, length, reverse, ℕ};
-ghost use Rattle.sd_site.specs.SiteFields.{fields_of};
+ghost use Rattle.sd_site_cards.specs.SiteFields.{fields_of};
 ghost use Rattle.sd_book.specs.Commands.{is_within, last_period};
 ghost use Rattle.sd_book.specs.Limits.{IsDraft, IsWithinLimits};
 ghost use Rattle.sd_spec.specs.declared.event.Event.TheVariants.{Send};
@@ -10,7 +10,7 @@ ghost use Rattle.sd_field.specs.Laid.{IsLaid};
 
 use sd_base::NoMemory;
 use sd_book::{Book, BookFault, Command, Draft, MOST_PERIODS};
-use sd_site::Site;
+use sd_site_cards::Site;
 use sd_spec::Event;
 use std::alloc::Global;
 

@@ -1,8 +1,8 @@
 //! Laws on where a field stops.
 
 ghost use Rattle.std.specs.Prelude.{◌≡◌, ◌↔◌, ◌<◌, ℕ, [], List, None, Some, get_or, length, take};
-ghost use Rattle.sd_site.specs.SiteFields.{SiteFields};
-ghost use Rattle.sd_psi.specs.declared.clear_fault.ClearFault.{ClearFault};
+ghost use Rattle.sd_site_cards.specs.SiteFields.{SiteFields};
+ghost use Rattle.sd_message.specs.declared.clear_fault.ClearFault.{ClearFault};
 ghost use Rattle.sd_spec.specs.Refused.{IsClear, refusal_from, refusal_of};
 ghost use Rattle.sd_field.specs.Fields.{FieldValue, after_next, done_to, next_refusal, taken};
 

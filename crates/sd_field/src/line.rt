@@ -7,7 +7,7 @@ ghost use Rattle.sd_field.specs.Script.{spoken};
 
 use sd_base::{NumberFault, cut_at_space, number_after};
 use sd_spec::Event;
-use sd_tree::{Height, Leaf};
+use sd_tree_keys::{Height, Leaf};
 
 /// The most events that one line of a script says [this project, docs/FORMATS.md, Field].
 const MOST_TIMES: u32 = 65_536;

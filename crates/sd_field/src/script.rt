@@ -7,7 +7,7 @@ use crate::fault::ScriptFault;
 use crate::line::{LineFault, run_on};
 use sd_base::next_line;
 use sd_spec::Event;
-use sd_tree::Height;
+use sd_tree_keys::Height;
 use std::alloc::Global;
 
 /// The most events of a script [this project, docs/FORMATS.md, Field].

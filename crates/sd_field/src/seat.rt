@@ -1,7 +1,7 @@
 ghost use Rattle.std.specs.Prelude.{◌≡◌, ◌↔◌, ◌-◌, ◌^◌, ◌<◌, ◌≤◌, ◌++◌, ◌∷◌, [], ℕ, List, get_or, length, slice_get};
 ghost use Rattle.std.specs.Prelude.{IfOk, IfSome, IsSome, IsErr, OnOk, false, is_some};
 ghost use Rattle.std.specs.List.{concat};
-ghost use Rattle.sd_site.specs.CardFields.{CardFields, card_of};
+ghost use Rattle.sd_site_cards.specs.CardFields.{CardFields, card_of};
 ghost use Rattle.sd_engine.specs.Stream.{packets_of};
 ghost use Rattle.sd_spec.specs.Plan.{Plan};
 ghost use Rattle.sd_receive.specs.Receiving.{IsAfter, IsCountable, IsLive, card_in};
@@ -15,8 +15,8 @@ use sd_base::{NoMemory, Steps};
 use sd_packet::{Packet, SIZE};
 use sd_ports::MemSink;
 use sd_receive::Receiver;
-use sd_site::{Card, Site};
-use sd_tree::Leaf;
+use sd_site_cards::{Card, Site};
+use sd_tree_keys::Leaf;
 use std::alloc::Global;
 use std::sync::ledger::Ledger;
 

@@ -1,7 +1,7 @@
 ghost use Rattle.std.specs.Prelude.{◌≡◌, ◌⊎◌, ◌<◌, ◌++◌, ◌∷◌, [], ℕ, List, None, Some, Err, IfOk, IsErr, OnOk, length};
 ghost use Rattle.std.specs.Prelude.{true};
 ghost use Rattle.std.specs.List.{concat};
-ghost use Rattle.sd_psi.specs.declared.clear_fault.ClearFault.{ClearFault as Fault};
+ghost use Rattle.sd_message.specs.declared.clear_fault.ClearFault.{ClearFault as Fault};
 ghost use Rattle.sd_spec.specs.Plan.{Plan};
 ghost use Rattle.sd_spec.specs.Refused.{refusal_of};
 ghost use Rattle.sd_spec.specs.Sent.{body};
@@ -18,7 +18,7 @@ use sd_engine::{Stage, StageFault};
 use sd_head::{Head, HeadFault};
 use sd_packet::Packet;
 use sd_ports::MemSink;
-use sd_site::Site;
+use sd_site_cards::Site;
 use std::alloc::Global;
 use std::sync::ledger::Ledger;
 

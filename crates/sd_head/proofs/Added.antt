@@ -4,13 +4,13 @@ use Rattle.std.proofs.Common.{refl, sym, ap, subst, ◌∙◌, arith, append_ass
 use Rattle.std.specs.Prelude.{map, Option, Some, IsSome, if◌then◌else◌}
 use Rattle.std.specs.List.{concat}
 use Rattle.std.proofs.lemmas.Bool.{ne_eqb}
-use Rattle.sd_tree.specs.Keys.{control_word_of}
+use Rattle.sd_tree_keys.specs.Keys.{control_word_of}
 use Rattle.sd_message.specs.Period.{emms_of}
 use Rattle.sd_message.specs.declared.emm.Emm.{Emm}
 use Rattle.sd_message.specs.EcmParts.{Message, message_of, parts_of}
 use Rattle.sd_message.specs.declared.ecm_message.EcmHead.{EcmHead}
 use Rattle.sd_message.specs.declared.ecm_part.Place.{Place}
-use Rattle.sd_site.specs.SiteFields.{SiteFields}
+use Rattle.sd_site_cards.specs.SiteFields.{SiteFields}
 use Rattle.sd_spec.specs.Plan.{Plan, crypto_length, crypto_of, word_in, word_of, period_in, period_of}
 use Rattle.sd_spec.specs.Plan.{closing_number}
 use Rattle.sd_spec.specs.Carried.{carried}

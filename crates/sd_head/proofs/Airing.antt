@@ -4,8 +4,8 @@ use Rattle.std.proofs.Common.{refl, sym, ap, ◌∙◌, arith, append_assoc, app
 use Rattle.std.specs.Prelude.{is_none, if◌then◌else◌, Some, None}
 use Rattle.std.specs.Option.{option_or}
 use Rattle.sd_base.specs.Types.{Packet, Packets, PacketNumber}
-use Rattle.sd_site.specs.SiteFields.{SiteFields}
-use Rattle.sd_psi.specs.declared.clear_fault.ClearFault.{ClearFault}
+use Rattle.sd_site_cards.specs.SiteFields.{SiteFields}
+use Rattle.sd_message.specs.declared.clear_fault.ClearFault.{ClearFault}
 use Rattle.sd_spec.specs.Refused.{pat_wrong}
 use Rattle.sd_spec.specs.Aired.{Verdict, Marked, Refused, Sent, Ends, verdict_of, following, aired_from, ended_from}
 use Rattle.sd_spec.specs.Aired.{one_marked, one_refused, one_sent, left_by, none_left, left_from}

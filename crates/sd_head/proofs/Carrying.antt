@@ -4,12 +4,12 @@ use Rattle.std.specs.Prelude.{Option, Some, None, is_none}
 use Rattle.sd_packet.specs.Header.{pid_of, counter_of}
 use Rattle.sd_packet.specs.Positions.{advanced, is_placed}
 use Rattle.sd_packet.proofs.Positions.{own_moves, positional_small}
-use Rattle.sd_tree.specs.Keys.{control_word_of}
-use Rattle.sd_site.specs.SiteFields.{SiteFields}
+use Rattle.sd_tree_keys.specs.Keys.{control_word_of}
+use Rattle.sd_site_cards.specs.SiteFields.{SiteFields}
 use Rattle.sd_psi.specs.declared.fault.FormFault.{FormFault}
 use Rattle.sd_psi.specs.Rewriting.{rewrite_fault, restore_fault, rewritten}
-use Rattle.sd_keystream.specs.Scrambling.{scrambled}
-use Rattle.sd_keystream.specs.declared.payload.Parity.{Parity}
+use Rattle.sd_cipher.specs.Scrambling.{scrambled}
+use Rattle.sd_cipher.specs.declared.payload.Parity.{Parity}
 use Rattle.sd_spec.specs.Plan.{word_of}
 use Rattle.sd_spec.specs.Refused.{is_full_own}
 use Rattle.sd_spec.specs.Kinds.{kind_of}

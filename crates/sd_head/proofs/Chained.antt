@@ -7,8 +7,8 @@ use Rattle.std.specs.Option.{option_map_or}
 use Rattle.sd_engine.specs.Stage.{Chain, all_from}
 use Rattle.sd_engine.specs.Driving.{ChainToEnd, ChainToRefusal as Refused}
 use Rattle.sd_engine.proofs.Chains.{chain_writes}
-use Rattle.sd_site.specs.SiteFields.{SiteFields}
-use Rattle.sd_psi.specs.declared.clear_fault.ClearFault.{ClearFault}
+use Rattle.sd_site_cards.specs.SiteFields.{SiteFields}
+use Rattle.sd_message.specs.declared.clear_fault.ClearFault.{ClearFault}
 use Rattle.sd_spec.specs.Plan.{Plan}
 use Rattle.sd_spec.specs.Refused.{refusal_of, refusal_from, whole_refusal, IsClear}
 use Rattle.sd_spec.specs.Sent.{body, broadcast, bytes_added, bytes_from}

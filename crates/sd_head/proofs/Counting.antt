@@ -9,7 +9,7 @@ use Rattle.std.proofs.lemmas.List.Folds.{concat-append}
 use Rattle.sd_packet.specs.Packing.{packed}
 use Rattle.sd_packet.proofs.Packets.{packet_counted}
 use Rattle.sd_psi.specs.OurCat.{cat_section}
-use Rattle.sd_site.specs.SiteFields.{SiteFields}
+use Rattle.sd_site_cards.specs.SiteFields.{SiteFields}
 use Rattle.sd_message.specs.EmmSpelled.{emm_section}
 use Rattle.sd_message.specs.declared.emm.Emm.{Emm}
 use Rattle.sd_message.specs.EcmSpelled.{ecm_section}

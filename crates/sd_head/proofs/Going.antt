@@ -6,11 +6,11 @@ use Rattle.std.specs.Option.{option_or}
 use Rattle.sd_base.specs.Types.{Packet, Packets, PacketNumber, Pid}
 use Rattle.sd_base.specs.Count.{with_added}
 use Rattle.sd_packet.specs.Header.{pid_of, scrambling_of}
-use Rattle.sd_site.specs.SiteFields.{SiteFields}
+use Rattle.sd_site_cards.specs.SiteFields.{SiteFields}
 use Rattle.sd_psi.specs.declared.fault.FormFault.TheVariants as Form
-use Rattle.sd_psi.specs.declared.clear_fault.ClearFault.{ClearFault}
-use Rattle.sd_psi.specs.declared.clear_fault.ClearFault.TheVariants.{AlreadyScrambled, PidTaken, PatForm, PmtForm}
-use Rattle.sd_psi.specs.declared.clear_fault.ClearFault.TheVariants.{TooManyPids, TooLong}
+use Rattle.sd_message.specs.declared.clear_fault.ClearFault.{ClearFault}
+use Rattle.sd_message.specs.declared.clear_fault.ClearFault.TheVariants.{AlreadyScrambled, PidTaken, PatForm, PmtForm}
+use Rattle.sd_message.specs.declared.clear_fault.ClearFault.TheVariants.{TooManyPids, TooLong}
 use Rattle.sd_spec.specs.Counting.{is_marked}
 use Rattle.sd_spec.specs.Kinds.{kind_of}
 use Rattle.sd_spec.specs.Plan.{Plan, period_of}

@@ -5,12 +5,12 @@ use Rattle.std.specs.Prelude.{Option, Some, None, Ok, Err}
 use Rattle.std.proofs.lemmas.Bool.Decides.{nat_tests}
 use Rattle.sd_packet.specs.Header.{pid_of, scrambling_of}
 use Rattle.sd_packet.specs.Positions.{is_placed}
-use Rattle.sd_site.specs.SiteFields.{SiteFields}
+use Rattle.sd_site_cards.specs.SiteFields.{SiteFields}
 use Rattle.sd_psi.specs.declared.pat.Pat.{Pat}
 use Rattle.sd_psi.specs.declared.fault.FormFault.{FormFault}
 use Rattle.sd_psi.specs.declared.fault.FormFault.TheVariants as Form
-use Rattle.sd_psi.specs.declared.clear_fault.ClearFault.{ClearFault}
-use Rattle.sd_psi.specs.declared.clear_fault.ClearFault.TheVariants.{PatForm, PmtForm, TooManyPids, TooLong}
+use Rattle.sd_message.specs.declared.clear_fault.ClearFault.{ClearFault}
+use Rattle.sd_message.specs.declared.clear_fault.ClearFault.TheVariants.{PatForm, PmtForm, TooManyPids, TooLong}
 use Rattle.sd_spec.specs.Kinds.{kind_of}
 use Rattle.sd_spec.specs.Plan.{word_of}
 use Rattle.sd_spec.specs.Carried.{pmt_carried}

@@ -2,7 +2,7 @@
 use Rattle.std.proofs.Common.{◌≡◌, ℕ, zero, suc, ◌-◌, ◌*◌, ◌/◌, List, refl, subst, arith}
 use Rattle.std.proofs.Common.{ap}
 use Rattle.std.proofs.Math.Nat.{zero-div}
-use Rattle.sd_site.specs.SiteFields.{SiteFields}
+use Rattle.sd_site_cards.specs.SiteFields.{SiteFields}
 use Rattle.sd_spec.specs.Plan.{Plan, crypto_of, period_in, period_of, word_of}
 use Rattle.sd_head.specs.Crypto.{crypto_in}
 use Rattle.sd_head.specs.Kept.{IsOf}

@@ -2,10 +2,10 @@
 use Rattle.std.proofs.Common.{◌≡◌, ℕ, ◌+◌, List, [], ◌∷◌, ◌++◌, ap, sym, ◌∙◌, take}
 use Rattle.std.specs.Prelude.{map}
 use Rattle.std.proofs.lemmas.List.{map-append}
-use Rattle.sd_tree.specs.declared.set.SetName.{SetName}
-use Rattle.sd_site.specs.SiteFields.{SiteFields}
-use Rattle.sd_tree.specs.Keys.{key_of, period_key_of}
-use Rattle.sd_keystream.specs.Wrapping.{wrapped as under}
+use Rattle.sd_tree_keys.specs.declared.set.SetName.{SetName}
+use Rattle.sd_site_cards.specs.SiteFields.{SiteFields}
+use Rattle.sd_tree_keys.specs.Keys.{key_of, period_key_of}
+use Rattle.sd_cipher.specs.Wrapping.{wrapped as under}
 use Rattle.sd_message.specs.declared.emm.Entry.{Entry}
 use Rattle.sd_spec.specs.Messages.{entry_of}
 

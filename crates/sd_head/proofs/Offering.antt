@@ -2,10 +2,10 @@
 use Rattle.std.proofs.Common.{◌≡◌, ℕ, true, List, [], length, inl, inr, refl, sym, ap, subst, ◌∙◌, arith}
 use Rattle.std.specs.Prelude.{Option, Some, None, Result, Ok, Err, OnOk}
 use Rattle.sd_base.specs.Count.{IsCaused}
-use Rattle.sd_site.specs.SiteFields.{SiteFields, fields_of}
+use Rattle.sd_site_cards.specs.SiteFields.{SiteFields, fields_of}
 use Rattle.sd_engine.specs.Stage.{SinkState, HasGrown, IsCutShort, IsAllowed}
 use Rattle.sd_engine.proofs.Chains.{took_none}
-use Rattle.sd_psi.specs.declared.clear_fault.ClearFault.{ClearFault}
+use Rattle.sd_message.specs.declared.clear_fault.ClearFault.{ClearFault}
 use Rattle.sd_spec.specs.Plan.{Plan}
 use Rattle.sd_spec.specs.Refused.{refusal_of, end_refusal}
 use Rattle.sd_head.specs.Follows.{IsJudgement}

@@ -9,9 +9,9 @@ use Rattle.sd_message.specs.Period.{Period, emms_of}
 use Rattle.sd_message.specs.declared.emm.Emm.{Emm}
 use Rattle.sd_message.specs.declared.emm.Entry.{Entry}
 use Rattle.sd_message.proofs.EmmSharing.{as_many}
-use Rattle.sd_tree.specs.declared.set.SetName.{SetName}
-use Rattle.sd_tree.specs.Keys.{period_key_of, check_value_of}
-use Rattle.sd_site.specs.SiteFields.{SiteFields, run_name_of}
+use Rattle.sd_tree_keys.specs.declared.set.SetName.{SetName}
+use Rattle.sd_tree_keys.specs.Keys.{period_key_of, check_value_of}
+use Rattle.sd_site_cards.specs.SiteFields.{SiteFields, run_name_of}
 use Rattle.sd_spec.specs.Messages.{entry_of}
 use Rattle.sd_head.specs.Packets.{period_packets, period_of_sets, period_of_entries}
 

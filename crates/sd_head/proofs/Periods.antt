@@ -5,19 +5,19 @@ use Rattle.std.proofs.lemmas.Bool.{cases_lt}
 use Rattle.std.proofs.lemmas.Grind.{common_steps}
 use Rattle.std.proofs.lemmas.List.{with_items_is}
 use Rattle.std.specs.Prelude.{List, [], ◌∷◌, map, length, Result, Ok, Err, OnErr}
-use Rattle.sd_tree.specs.declared.set.SetName.{SetName}
+use Rattle.sd_tree_keys.specs.declared.set.SetName.{SetName}
 use Rattle.sd_book.specs.Commands.{last_period, revoked}
 use Rattle.sd_book.proofs.Cuts.{revoked_past}
 use Rattle.sd_book.specs.declared.command.Command.{Command}
 use Rattle.sd_book.specs.Place.{PlaceValue, IsPlaceIn}
 use Rattle.sd_book.specs.Value.{BookValue}
-use Rattle.sd_cover.specs.Cover.{cover_of}
+use Rattle.sd_cover_tracing.specs.Cover.{cover_of}
 use Rattle.sd_packet.specs.Packing.{packed}
 use Rattle.sd_packet.proofs.Packets.{packet_counted}
 use Rattle.sd_message.specs.EmmSpelled.{emm_section}
 use Rattle.sd_message.specs.Period.{Period, emms_of}
 use Rattle.sd_message.specs.declared.emm.Emm.{Emm}
-use Rattle.sd_cover.specs.Index.{IndexValue}
+use Rattle.sd_cover_tracing.specs.Index.{IndexValue}
 use Rattle.sd_spec.specs.Messages.{period_at}
 use Rattle.sd_head.specs.Crypto.{crypto_in}
 use Rattle.sd_head.specs.Packets.{period_packets, period_of_sets}

@@ -7,7 +7,7 @@ use Rattle.std.specs.List.{filter, list_any}
 use Rattle.std.proofs.lemmas.Bool.{cases_Bool}
 use Rattle.std.proofs.lemmas.List.{take_more}
 use Rattle.std.proofs.lemmas.Grind.{common_steps}
-use Rattle.sd_tree.specs.Leaves.{leaves, with_leaf, without_leaf}
+use Rattle.sd_tree_keys.specs.Leaves.{leaves, with_leaf, without_leaf}
 use Rattle.sd_book.specs.declared.command.Command.{Command}
 use Rattle.sd_book.specs.declared.command.Command.TheVariants.{Subscribe, Revoke}
 use Rattle.sd_book.specs.Commands.{is_revoked, revoked, revoked_after, after_commands, commands_in, commands_until}
@@ -15,7 +15,7 @@ use Rattle.sd_book.specs.Commands.{last_period}
 use Rattle.sd_book.proofs.Followed.{one_follows, first_follows, next_follows, all_follow}
 use Rattle.sd_book.proofs.Replays.{none_revoked}
 use Rattle.sd_head.specs.Kept.{revoked_before}
-use Rattle.sd_cover.proofs.Ranges.{filter_same, passes, found}
+use Rattle.sd_cover_tracing.proofs.Ranges.{filter_same, passes, found}
 
 -- false doesn't hold
 pub false_untrue : IsTrue false → ⊥

@@ -4,18 +4,18 @@ use Rattle.std.proofs.Common.{refl, sym, subst, inl, inr, arith}
 use Rattle.std.proofs.lemmas.List.{length-map}
 use Rattle.std.specs.Prelude.{All, map}
 use Rattle.std.proofs.lemmas.List.Elements.{All-contains, All-from_get_or, Contains-get_or}
-use Rattle.sd_tree.specs.Node.{IsAbove}
-use Rattle.sd_tree.specs.SetNames.{AreAscending}
-use Rattle.sd_tree.specs.declared.set.SetName.{SetName}
-use Rattle.sd_tree.specs.declared.set.SetName.TheVariants.{Whole, Diff}
-use Rattle.sd_tree.specs.Limits.{most_revoked, highest}
+use Rattle.sd_tree_keys.specs.Node.{IsAbove}
+use Rattle.sd_tree_keys.specs.SetNames.{AreAscending}
+use Rattle.sd_tree_keys.specs.declared.set.SetName.{SetName}
+use Rattle.sd_tree_keys.specs.declared.set.SetName.TheVariants.{Whole, Diff}
+use Rattle.sd_tree_keys.specs.Limits.{most_revoked, highest}
 use Rattle.sd_message.specs.declared.emm.Entry.{Entry}
-use Rattle.sd_site.specs.SiteFields.{SiteFields}
-use Rattle.sd_cover.specs.Chains.{IsChainCover}
-use Rattle.sd_cover.proofs.Ends.{linked_start}
-use Rattle.sd_cover.proofs.Covers.{cover_small}
-use Rattle.sd_cover.proofs.Lists.{member_cases, no_member}
-use Rattle.sd_cover.proofs.Heights.{linked_above}
+use Rattle.sd_site_cards.specs.SiteFields.{SiteFields}
+use Rattle.sd_cover_tracing.specs.Chains.{IsChainCover}
+use Rattle.sd_cover_tracing.proofs.Ends.{linked_start}
+use Rattle.sd_cover_tracing.proofs.Covers.{cover_small}
+use Rattle.sd_cover_tracing.proofs.Lists.{member_cases, no_member}
+use Rattle.sd_cover_tracing.proofs.Heights.{linked_above}
 use Rattle.sd_message.specs.EmmSpelled.{names_in}
 use Rattle.sd_message.specs.declared.emm_format.TheConstants.{MOST_SETS}
 use Rattle.sd_spec.specs.Messages.{entry_of}

@@ -4,9 +4,9 @@ use Rattle.std.proofs.Common.{inl, refl, sym, ap, subst, ◌∙◌, arith, appen
 use Rattle.std.specs.Prelude.{map, Option, Some, None, IsSome, Err}
 use Rattle.std.specs.List.{concat}
 use Rattle.std.specs.Option.{option_map_or}
-use Rattle.sd_tree.specs.Keys.{control_word_of}
-use Rattle.sd_site.specs.declared.site.Site.{Site}
-use Rattle.sd_site.specs.SiteFields.{SiteFields, fields_of}
+use Rattle.sd_tree_keys.specs.Keys.{control_word_of}
+use Rattle.sd_site_cards.specs.declared.site.Site.{Site}
+use Rattle.sd_site_cards.specs.SiteFields.{SiteFields, fields_of}
 use Rattle.sd_engine.specs.declared.stage.StageFault.TheVariants.{Refused}
 use Rattle.sd_engine.proofs.Answering.{Answer, same_refusal}
 use Rattle.sd_message.specs.declared.ecm_message.EcmHead.{EcmHead}
@@ -15,7 +15,7 @@ use Rattle.sd_spec.specs.Plan.{closing_number}
 use Rattle.sd_spec.specs.Carried.{carried}
 use Rattle.sd_spec.specs.Messages.{places_after}
 use Rattle.sd_spec.specs.Refused.{unsent_at, unsent_from, IsSendable}
-use Rattle.sd_psi.specs.declared.clear_fault.ClearFault.{ClearFault}
+use Rattle.sd_message.specs.declared.clear_fault.ClearFault.{ClearFault}
 use Rattle.sd_spec.specs.Sent.{Item, sent, sent_from, bytes_added, closing_of, packets_from, message_before}
 use Rattle.sd_head.specs.After.{IsAfter as IsKept}
 use Rattle.sd_head.specs.Kept.{plan_of, uncounted, AreAlike, IsOf}

@@ -2,8 +2,8 @@
 use Rattle.std.proofs.Common.{◌≡◌, ℕ, zero, suc, ◌-◌, ◌*◌, ◌/◌, ◌<◌, refl, ap, ◌∙◌, arith, subst}
 use Rattle.std.proofs.Common.{◌≤◌, ◌^◌, ◌%◌, ◌==◌, Bool, true, false, List, length, inl, inr}
 use Rattle.std.specs.Prelude.{Option, Some, None, if◌then◌else◌}
-use Rattle.sd_site.specs.Forms.{IsWithin, messages_line}
-use Rattle.sd_site.specs.SiteFields.{SiteFields}
+use Rattle.sd_site_cards.specs.Forms.{IsWithin, messages_line}
+use Rattle.sd_site_cards.specs.SiteFields.{SiteFields}
 use Rattle.sd_message.specs.declared.ecm_message.EcmHead.{EcmHead}
 use Rattle.sd_message.specs.declared.ecm_part.Place.{Place}
 use Rattle.sd_head.proofs.Placing.{positioned, ascending, short}

@@ -1,10 +1,10 @@
 -- Public meaning: a crypto period, and the sets that have a key.
 use Rattle.std.specs.Prelude.{ℕ, ◌≤◌, List}
-use Rattle.sd_tree.specs.Node.{IsAbove}
-use Rattle.sd_tree.specs.declared.set.SetName.{SetName}
-use Rattle.sd_tree.specs.declared.set.SetName.TheVariants.{Whole, Diff}
-use Rattle.sd_tree.specs.Keys.{period_key_of, control_word_of, check_value_of}
-use Rattle.sd_keystream.specs.Wrapping.{wrapped as under}
+use Rattle.sd_tree_keys.specs.Node.{IsAbove}
+use Rattle.sd_tree_keys.specs.declared.set.SetName.{SetName}
+use Rattle.sd_tree_keys.specs.declared.set.SetName.TheVariants.{Whole, Diff}
+use Rattle.sd_tree_keys.specs.Keys.{period_key_of, control_word_of, check_value_of}
+use Rattle.sd_cipher.specs.Wrapping.{wrapped as under}
 use Rattle.sd_head.specs.declared.crypto.CryptoPeriod.{CryptoPeriod}
 
 -- the crypto period of control word t and period q, with the word under the period's key [this project,

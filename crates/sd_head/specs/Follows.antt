@@ -3,10 +3,10 @@ use Rattle.std.specs.Prelude.{◌≡◌, ℕ, ◌-◌, ◌^◌, ◌<◌, ◌≤�
 use Rattle.std.specs.Prelude.{slice_index, Option, Some, None, IfSome, Result, IfOk, OnOk, MatchResult}
 use Rattle.sd_packet.specs.Header.{pid_of, counter_of, scrambling_of}
 use Rattle.sd_packet.specs.Positions.{is_placed, advanced, first_position}
-use Rattle.sd_site.specs.SiteFields.{SiteFields}
+use Rattle.sd_site_cards.specs.SiteFields.{SiteFields}
 use Rattle.sd_psi.specs.declared.pat.Pat.{Pat}
-use Rattle.sd_psi.specs.declared.clear_fault.ClearFault.{ClearFault}
-use Rattle.sd_psi.specs.declared.clear_fault.ClearFault.TheVariants.{TooManyPids, TooLong}
+use Rattle.sd_message.specs.declared.clear_fault.ClearFault.{ClearFault}
+use Rattle.sd_message.specs.declared.clear_fault.ClearFault.TheVariants.{TooManyPids, TooLong}
 use Rattle.sd_psi.specs.Forms.{section_in}
 use Rattle.sd_message.specs.EcmVersions.{most_places}
 use Rattle.sd_spec.specs.Kinds.{is_current_pat}

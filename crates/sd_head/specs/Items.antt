@@ -4,7 +4,7 @@ use Rattle.std.specs.Prelude.{Option, Some, None}
 use Rattle.std.specs.List.{concat}
 use Rattle.sd_packet.specs.Packing.{packed}
 use Rattle.sd_psi.specs.OurCat.{cat_section}
-use Rattle.sd_site.specs.SiteFields.{SiteFields}
+use Rattle.sd_site_cards.specs.SiteFields.{SiteFields}
 use Rattle.sd_message.specs.EcmVersions.{IsVersion, IsNamed, IsSince, most_places}
 use Rattle.sd_message.specs.EcmForm.{ArePositioned, AreAscending, AreShort}
 use Rattle.sd_message.specs.EcmParts.{message_of, parts_of}

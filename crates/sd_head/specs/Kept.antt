@@ -1,8 +1,8 @@
 -- Public meaning: what is kept of the period and the crypto period at work.
 use Rattle.std.specs.Prelude.{◌≡◌, ℕ, zero, suc, ◌+◌, ◌-◌, ◌==◌, ◌||◌, not, Bool, min, List, []}
 use Rattle.std.specs.Prelude.{map, slice_set}
-use Rattle.sd_site.specs.declared.site.Site.{Site}
-use Rattle.sd_site.specs.SiteFields.{fields_of}
+use Rattle.sd_site_cards.specs.declared.site.Site.{Site}
+use Rattle.sd_site_cards.specs.SiteFields.{fields_of}
 use Rattle.sd_book.specs.Value.{BookValue}
 use Rattle.sd_book.specs.declared.command.Command.{Command}
 use Rattle.sd_book.specs.Commands.{last_period, revoked}

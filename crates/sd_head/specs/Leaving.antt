@@ -2,8 +2,8 @@
 use Rattle.std.specs.Prelude.{◌≡◌, Bool, true, false, Result}
 use Rattle.sd_base.specs.Types.{Packet}
 use Rattle.sd_base.specs.Count.{with_added}
-use Rattle.sd_site.specs.SiteFields.{fields_of}
-use Rattle.sd_psi.specs.declared.clear_fault.ClearFault.{ClearFault}
+use Rattle.sd_site_cards.specs.SiteFields.{fields_of}
+use Rattle.sd_message.specs.declared.clear_fault.ClearFault.{ClearFault}
 use Rattle.sd_head.specs.Follows.{IsJudgement}
 use Rattle.sd_head.specs.declared.judged.Judged.{Judged}
 use Rattle.sd_head.specs.declared.judged.PatRule.TheVariants.{Skipped}

@@ -3,9 +3,9 @@ use Rattle.std.specs.Prelude.{Bool, true, false, is_none, if◌then◌else◌, S
 use Rattle.std.specs.Option.{option_or}
 use Rattle.sd_base.specs.Types.{Packet, PacketNumber}
 use Rattle.sd_base.specs.Count.{with_added}
-use Rattle.sd_psi.specs.declared.clear_fault.ClearFault.{ClearFault}
-use Rattle.sd_psi.specs.declared.clear_fault.ClearFault.TheVariants.{AlreadyScrambled, PidTaken, PatForm, PmtForm}
-use Rattle.sd_psi.specs.declared.clear_fault.ClearFault.TheVariants.{TooManyPids, TooLong}
+use Rattle.sd_message.specs.declared.clear_fault.ClearFault.{ClearFault}
+use Rattle.sd_message.specs.declared.clear_fault.ClearFault.TheVariants.{AlreadyScrambled, PidTaken, PatForm, PmtForm}
+use Rattle.sd_message.specs.declared.clear_fault.ClearFault.TheVariants.{TooManyPids, TooLong}
 use Rattle.sd_spec.specs.Refused.{pat_wrong}
 use Rattle.sd_spec.specs.declared.left_out.LeftOut.{LeftOut}
 

@@ -1,9 +1,9 @@
 -- Public meaning: the packets of a period's entitlements.
 use Rattle.std.specs.Prelude.{ℕ, List, map, Option}
-use Rattle.sd_tree.specs.declared.set.SetName.{SetName}
+use Rattle.sd_tree_keys.specs.declared.set.SetName.{SetName}
 use Rattle.sd_packet.specs.Packing.{packed}
-use Rattle.sd_tree.specs.Keys.{period_key_of, check_value_of}
-use Rattle.sd_site.specs.SiteFields.{SiteFields, run_name_of}
+use Rattle.sd_tree_keys.specs.Keys.{period_key_of, check_value_of}
+use Rattle.sd_site_cards.specs.SiteFields.{SiteFields, run_name_of}
 use Rattle.sd_message.specs.EmmSpelled.{emm_section}
 use Rattle.sd_message.specs.Period.{Period, emms_of}
 use Rattle.sd_message.specs.declared.emm.Entry.{Entry}

@@ -1,6 +1,6 @@
 ghost use Rattle.std.specs.Prelude.{◌≡◌, ℕ, List, length};
-ghost use Rattle.sd_tree.specs.Keys.{control_word_of};
-ghost use Rattle.sd_site.specs.SiteFields.{SiteFields};
+ghost use Rattle.sd_tree_keys.specs.Keys.{control_word_of};
+ghost use Rattle.sd_site_cards.specs.SiteFields.{SiteFields};
 ghost use Rattle.sd_spec.specs.Plan.{word_of};
 ghost use Rattle.sd_spec.specs.Carried.{carried, parity_of};
 ghost use Rattle.sd_head.specs.declared.clear.Clear.{Clear as Clears};
@@ -8,7 +8,7 @@ ghost use Rattle.sd_head.specs.After.{IsAfter};
 ghost use Rattle.sd_head.specs.Follows.{MayFollow};
 
 use crate::judged::Judged;
-use sd_keystream::{Parity, scramble};
+use sd_cipher::{Parity, scramble};
 use sd_packet::Packet;
 
 impl<'a> Judged<'a> {

@@ -5,7 +5,7 @@ ghost use Rattle.sd_psi.specs.OurCat.{cat_section};
 use sd_message::pack;
 use sd_packet::Packet;
 use sd_psi::{CAT_HEADER, CAT_PID, Tuning, cat_descriptor};
-use sd_site::Site;
+use sd_site_cards::Site;
 
 /// The packet of the site's CAT, with counter 0 (this project, docs/FORMATS.md, Tables).
 #[tactic(auto, unfolding(sd_psi::specs::OurCat::cat_section))]

@@ -1,8 +1,8 @@
 ghost use Rattle.std.specs.Prelude.{◌≡◌};
 ghost use Rattle.sd_head.specs.Crypto.{crypto_in};
 
-use sd_keystream::wrap;
-use sd_tree::{check_value, control_word, period_key};
+use sd_cipher::wrap;
+use sd_tree_keys::{check_value, control_word, period_key};
 
 /// A crypto period, with its control word as control messages have it (this project, docs/FORMATS.md, Messages).
 #[derive(Clone, Copy)]

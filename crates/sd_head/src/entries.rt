@@ -1,15 +1,15 @@
 ghost use Rattle.std.specs.Prelude.{◌≡◌, All, IfOk, map};
-ghost use Rattle.sd_tree.specs.Keys.{key_of};
-ghost use Rattle.sd_site.specs.SiteFields.{fields_of};
-ghost use Rattle.sd_keystream.specs.Wrapping.{wrapped as under};
+ghost use Rattle.sd_tree_keys.specs.Keys.{key_of};
+ghost use Rattle.sd_site_cards.specs.SiteFields.{fields_of};
+ghost use Rattle.sd_cipher.specs.Wrapping.{wrapped as under};
 ghost use Rattle.sd_spec.specs.Messages.{entry_of};
 ghost use Rattle.sd_head.specs.Crypto.{IsKeyed};
 
 use sd_base::{NoMemory, Steps};
-use sd_keystream::wrap;
+use sd_cipher::wrap;
 use sd_message::Entry;
-use sd_site::Site;
-use sd_tree::{SetName, descend, middle, period_key, root_label, whole_key};
+use sd_site_cards::Site;
+use sd_tree_keys::{SetName, descend, middle, period_key, root_label, whole_key};
 use std::alloc::{AllocError, Global};
 use std::sync::ledger::Ledger;
 
@@ -67,7 +67,7 @@ fn entry<L: Ledger>(
 }
 
 // The key of a set [Naor, Naor, Lotspiech 2001, 3.2].
-#[tactic(auto, unfolding(sd_tree::specs::Keys::key_of, sd_tree::specs::Labels::label_of))]
+#[tactic(auto, unfolding(sd_tree_keys::specs::Keys::key_of, sd_tree_keys::specs::Labels::label_of))]
 fn set_key<L: Ledger>(master: &[u8; 32], name: SetName, steps: &mut Steps<L>) -> [u8; 32]
     requires { IsKeyed name }
     ensures { result ≡ key_of master.now name }

@@ -1,4 +1,4 @@
-use sd_psi::ClearFault;
+use sd_message::ClearFault;
 
 /// Why the head end stopped.
 #[derive(Clone, Copy, PartialEq, Eq)]

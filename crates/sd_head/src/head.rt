@@ -1,7 +1,7 @@
 ghost use Rattle.std.specs.Prelude.{◌≡◌, ◌-◌, ℕ, List, [], length, true, None, Ok, IfOk, OnOk, IsErrOf};
 ghost use Rattle.sd_base.specs.Count.{IsCaused};
 ghost use Rattle.sd_engine.specs.Stage.{vessel, HasGrown, IsCutShort};
-ghost use Rattle.sd_site.specs.SiteFields.{fields_of};
+ghost use Rattle.sd_site_cards.specs.SiteFields.{fields_of};
 ghost use Rattle.sd_spec.specs.Plan.{Plan, period_of, word_of};
 ghost use Rattle.sd_head.specs.Follows.{IsJudgement};
 ghost use Rattle.sd_head.specs.Kept.{plan_of};
@@ -20,7 +20,7 @@ use sd_book::Book;
 use sd_engine::{Stage, StageFault};
 use sd_packet::Packet;
 use sd_ports::Sink;
-use sd_site::Site;
+use sd_site_cards::Site;
 use std::alloc::Global;
 use std::sync::ledger::Ledger;
 

@@ -1,7 +1,7 @@
 ghost use Rattle.std.specs.Prelude.{◌≡◌, ◌<◌, ◌++◌, [], ℕ, List, OnOk, IfOk, true, false, None, IsSome};
 ghost use Rattle.sd_base.specs.Count.{HasCause};
 ghost use Rattle.sd_engine.specs.Stage.{vessel};
-ghost use Rattle.sd_site.specs.SiteFields.{fields_of};
+ghost use Rattle.sd_site_cards.specs.SiteFields.{fields_of};
 ghost use Rattle.sd_spec.specs.Plan.{closing_number};
 ghost use Rattle.sd_spec.specs.Messages.{places_after};
 ghost use Rattle.sd_head.specs.After.{IsAfter as IsKept};
@@ -21,7 +21,7 @@ use sd_base::NoMemory;
 use sd_message::{EcmHead, MOST_PLACES};
 use sd_packet::{Packet, SIZE};
 use sd_ports::{PortFault, Sink};
-use sd_site::Site;
+use sd_site_cards::Site;
 use std::alloc::Global;
 
 impl Sender {

@@ -3,7 +3,7 @@ ghost use Rattle.std.specs.Prelude.{MatchResult, MatchOption, is_none, nat_le, n
 ghost use Rattle.std.specs.Prelude.{length, get_or, slice_index};
 ghost use Rattle.sd_packet.specs.Header.{payload_start_of, pid_of, scrambling_of};
 ghost use Rattle.sd_packet.specs.Positions.{is_placed};
-ghost use Rattle.sd_site.specs.SiteFields.{fields_of};
+ghost use Rattle.sd_site_cards.specs.SiteFields.{fields_of};
 ghost use Rattle.sd_psi.specs.Rewriting.{restore_fault};
 ghost use Rattle.sd_spec.specs.Plan.{crypto_length};
 ghost use Rattle.sd_spec.specs.Carried.{pmt_carried};
@@ -16,10 +16,10 @@ ghost use Rattle.sd_head.specs.Follows.{limit_fault, wrong_by, IsJudgement, IsMo
 
 use crate::clear::{Clear, FIRST_POSITION};
 use crate::judged::{Judged, Move, PatRule};
-use sd_message::MOST_PLACES;
+use sd_message::{ClearFault, MOST_PLACES};
 use sd_packet::{Packet, advance};
-use sd_psi::{ClearFault, FormFault, Pat, pat_of, restore_pmt, rewrite_pmt};
-use sd_site::Site;
+use sd_psi::{FormFault, Pat, pat_of, restore_pmt, rewrite_pmt};
+use sd_site_cards::Site;
 
 impl Clear {
     /// How many packets were taken.

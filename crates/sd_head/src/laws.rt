@@ -4,7 +4,7 @@ ghost use Rattle.std.specs.Prelude.{◌≡◌, ◌++◌, ◌∷◌, [], ℕ, Lis
 ghost use Rattle.std.specs.List.{concat};
 ghost use Rattle.sd_engine.specs.Stage.{Chain};
 ghost use Rattle.sd_engine.specs.Driving.{ChainToEnd, ChainToRefusal};
-ghost use Rattle.sd_psi.specs.declared.clear_fault.ClearFault.{ClearFault as ClearFaults};
+ghost use Rattle.sd_message.specs.declared.clear_fault.ClearFault.{ClearFault as ClearFaults};
 ghost use Rattle.sd_spec.specs.Plan.{Plan};
 ghost use Rattle.sd_spec.specs.Refused.{refusal_from, whole_refusal, IsClear};
 ghost use Rattle.sd_spec.specs.Sent.{body, broadcast};

@@ -5,7 +5,7 @@ ghost use Rattle.sd_head.specs.Left.{renumbered, with_marked, with_refused, with
 use crate::judge::is_bad_pat;
 use sd_base::fields;
 use sd_packet::Packet;
-use sd_psi::ClearFault;
+use sd_message::ClearFault;
 use sd_spec::LeftOut;
 
 /// Nothing is left out.

@@ -33,4 +33,4 @@ pub use fault::{HeadFault, LiveFault};
 pub use head::Head;
 pub use judged::{Judged, Move, PatRule};
 pub use live::{Live, Taken};
-pub use sd_psi::ClearFault;
+pub use sd_message::ClearFault;

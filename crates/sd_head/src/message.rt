@@ -1,11 +1,11 @@
 ghost use Rattle.std.specs.Prelude.{◌≡◌, ◌≤◌};
-ghost use Rattle.sd_site.specs.SiteFields.{fields_of};
+ghost use Rattle.sd_site_cards.specs.SiteFields.{fields_of};
 ghost use Rattle.sd_spec.specs.Plan.{since_of};
 ghost use Rattle.sd_head.specs.Messages.{head_of};
 
 use crate::CryptoPeriod;
 use sd_message::EcmHead;
-use sd_site::Site;
+use sd_site_cards::Site;
 
 /// What the control message of this number says in a crypto period after so many clear packets, beside its positions
 /// (this project, docs/FORMATS.md, Messages).

@@ -2,12 +2,12 @@ ghost use Rattle.std.specs.Prelude.{◌≡◌, ◌+◌, ◌*◌, ◌^◌, ◌<�
 ghost use Rattle.sd_book.specs.declared.command.Command.{Command as Commands};
 ghost use Rattle.sd_book.specs.declared.command.Command.TheVariants.{Revoke as RevokeOf};
 ghost use Rattle.sd_book.specs.Commands.{is_within, revoked_after};
-ghost use Rattle.sd_tree.specs.Leaves.{without_leaf};
+ghost use Rattle.sd_tree_keys.specs.Leaves.{without_leaf};
 
 use sd_base::{NoMemory, Steps};
 use sd_book::Command;
-use sd_cover::CoverIndex;
-use sd_tree::Leaf;
+use sd_cover_tracing::CoverIndex;
+use sd_tree_keys::Leaf;
 use std::sync::ledger::Ledger;
 
 /// Takes commands into the index, one after the other.

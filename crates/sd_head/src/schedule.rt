@@ -1,5 +1,5 @@
 ghost use Rattle.std.specs.Prelude.{◌≡◌, ◌-◌, ◌%◌, ◌^◌, ◌==◌, ◌<◌, true, IfOk, OnOk, OnErr};
-ghost use Rattle.sd_site.specs.SiteFields.{fields_of};
+ghost use Rattle.sd_site_cards.specs.SiteFields.{fields_of};
 ghost use Rattle.sd_spec.specs.Plan.{crypto_length, crypto_of, word_of};
 ghost use Rattle.sd_head.specs.Kept.{plan_of, IsOf};
 ghost use Rattle.sd_head.specs.Messages.{number_due};
@@ -7,7 +7,7 @@ ghost use Rattle.sd_head.specs.Schedule.{begins_with, IsAt};
 
 use crate::Entitling;
 use sd_base::{NoMemory, Steps};
-use sd_site::Site;
+use sd_site_cards::Site;
 use std::sync::ledger::Ledger;
 
 /// What stands before a packet.

@@ -1,5 +1,5 @@
 ghost use Rattle.std.specs.Prelude.{◌≡◌, ◌<◌, ◌≤◌, OnOk, length};
-ghost use Rattle.sd_tree.specs.SetNames.{AreAscending};
+ghost use Rattle.sd_tree_keys.specs.SetNames.{AreAscending};
 ghost use Rattle.sd_message.specs.EmmSpelled.{names_in};
 ghost use Rattle.sd_message.specs.declared.emm_format.TheConstants.{MOST_SETS};
 ghost use Rattle.sd_head.specs.Packets.{period_packets, period_of_entries};

@@ -3,7 +3,7 @@ ghost use Rattle.std.specs.Prelude.{IfSome, vec_len, vec_capacity};
 ghost use Rattle.std.specs.List.{position};
 ghost use Rattle.sd_packet.specs.Positions.{first_position};
 ghost use Rattle.sd_psi.specs.Tables.{pmt_pids_of};
-ghost use Rattle.sd_site.specs.SiteFields.{SiteFields};
+ghost use Rattle.sd_site_cards.specs.SiteFields.{SiteFields};
 ghost use Rattle.sd_message.specs.declared.ecm_format.TheConstants.{MOST_PLACES};
 ghost use Rattle.sd_spec.specs.Kinds.{pmts_in, moved_pids, put_in};
 ghost use Rattle.sd_head.specs.Known.{AreKnown, AreNear, AreMarked};

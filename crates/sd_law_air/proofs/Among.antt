@@ -1,7 +1,7 @@
 -- What isn't sent might as well not be there.
 use Rattle.std.proofs.Common.{◌≡◌, ℕ, suc, ◌+◌, true, false, [], ◌∷◌, ◌++◌, length, refl, ap, sym, ◌∙◌}
 use Rattle.sd_base.specs.Types.{Packets, Arrived}
-use Rattle.sd_site.specs.SiteFields.{SiteFields}
+use Rattle.sd_site_cards.specs.SiteFields.{SiteFields}
 use Rattle.sd_spec.specs.Refused.{is_too_long}
 use Rattle.sd_spec.specs.Aired.{aired, aired_from}
 use Rattle.sd_law_losses.specs.Chosen.{chosen}

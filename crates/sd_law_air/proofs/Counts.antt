@@ -4,7 +4,7 @@ use Rattle.std.proofs.Common.{cond}
 use Rattle.std.specs.Prelude.{Option, IsSome, count_by, is_none, if◌then◌else◌, not}
 use Rattle.std.proofs.lemmas.List.Sums.{sum_by-cons}
 use Rattle.sd_base.specs.Types.{Packet, Packets}
-use Rattle.sd_site.specs.SiteFields.{SiteFields}
+use Rattle.sd_site_cards.specs.SiteFields.{SiteFields}
 use Rattle.sd_psi.specs.declared.fault.FormFault.{FormFault}
 use Rattle.sd_spec.specs.Refused.{pat_wrong}
 use Rattle.sd_spec.specs.Counting.{is_marked}

@@ -3,8 +3,8 @@ use Rattle.std.proofs.Common.{◌≡◌, ℕ, zero, suc, ◌+◌, ◌-◌, ◌*�
 use Rattle.std.proofs.Common.{◌↔◌, ◌∙◌, Some, None, refl, ap, sym, subst, append-nil, append_assoc, arith}
 use Rattle.std.proofs.lemmas.Bool.Decides.{nat_tests}
 use Rattle.sd_base.specs.Types.{Packet, Packets}
-use Rattle.sd_site.specs.SiteFields.{AreInRange, SiteFields}
-use Rattle.sd_psi.specs.declared.clear_fault.ClearFault.TheVariants.{TooLong}
+use Rattle.sd_site_cards.specs.SiteFields.{AreInRange, SiteFields}
+use Rattle.sd_message.specs.declared.clear_fault.ClearFault.TheVariants.{TooLong}
 use Rattle.sd_spec.specs.Counting.{is_marked}
 use Rattle.sd_spec.specs.Plan.{crypto_length, word_of}
 use Rattle.sd_spec.specs.Refused.{is_too_long, unsent_at}

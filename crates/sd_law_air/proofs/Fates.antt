@@ -3,10 +3,10 @@ use Rattle.std.proofs.Common.{◌≡◌, ℕ, ◌==◌, true, false, not, length
 use Rattle.std.proofs.lemmas.Bool.{cases_Bool}
 use Rattle.sd_base.specs.Types.{Packet, Packets}
 use Rattle.sd_packet.specs.Header.{pid_of, scrambling_of}
-use Rattle.sd_site.specs.SiteFields.{SiteFields}
-use Rattle.sd_psi.specs.declared.clear_fault.ClearFault.{ClearFault}
-use Rattle.sd_psi.specs.declared.clear_fault.ClearFault.TheVariants.{AlreadyScrambled, PidTaken, PmtForm}
-use Rattle.sd_psi.specs.declared.clear_fault.ClearFault.TheVariants.{TooManyPids, TooLong}
+use Rattle.sd_site_cards.specs.SiteFields.{SiteFields}
+use Rattle.sd_message.specs.declared.clear_fault.ClearFault.{ClearFault}
+use Rattle.sd_message.specs.declared.clear_fault.ClearFault.TheVariants.{AlreadyScrambled, PidTaken, PmtForm}
+use Rattle.sd_message.specs.declared.clear_fault.ClearFault.TheVariants.{TooManyPids, TooLong}
 use Rattle.sd_psi.specs.declared.fault.FormFault.TheVariants as Form
 use Rattle.sd_spec.specs.Kinds.{kind_of}
 use Rattle.sd_spec.specs.Counting.{is_marked}

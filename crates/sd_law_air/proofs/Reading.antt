@@ -4,7 +4,7 @@ use Rattle.std.proofs.Common.{◌∙◌, append-nil, append_assoc, arith}
 use Rattle.std.specs.List.{concat}
 use Rattle.std.proofs.lemmas.List.Folds.{concat-append}
 use Rattle.sd_base.specs.Types.{Bytes, Packets}
-use Rattle.sd_site.specs.SiteFields.{SiteFields}
+use Rattle.sd_site_cards.specs.SiteFields.{SiteFields}
 use Rattle.sd_spec.specs.Plan.{Plan}
 use Rattle.sd_spec.specs.Sent.{body, broadcast, closing_of, packets_from, sent as sent_items, sent_from}
 use Rattle.sd_spec.specs.Aired.{aired, aired_from, ended_from}

@@ -4,7 +4,7 @@ use Rattle.std.proofs.Common.{refl, ap}
 use Rattle.std.proofs.lemmas.List.Elements.{All-head, All-tail}
 use Rattle.sd_base.specs.Types.{Packet, Packets}
 use Rattle.sd_base.proofs.Lists.{both_none}
-use Rattle.sd_site.specs.SiteFields.{SiteFields}
+use Rattle.sd_site_cards.specs.SiteFields.{SiteFields}
 use Rattle.sd_spec.specs.Counting.{is_marked}
 use Rattle.sd_spec.specs.Refused.{IsSendable, unsent_at, unsent_from}
 use Rattle.sd_spec.specs.Refused.{IsClear, refusal_of, refusal_from}

@@ -1,8 +1,8 @@
 -- Public meaning: which packets are counted.
 use Rattle.std.specs.Prelude.{◌≡◌, Bool, false, not, is_none, [], ◌∷◌, ◌++◌, length, Some}
 use Rattle.sd_base.specs.Types.{Packet, Packets}
-use Rattle.sd_site.specs.SiteFields.{SiteFields}
-use Rattle.sd_psi.specs.declared.clear_fault.ClearFault.{ClearFault}
+use Rattle.sd_site_cards.specs.SiteFields.{SiteFields}
+use Rattle.sd_message.specs.declared.clear_fault.ClearFault.{ClearFault}
 use Rattle.sd_spec.specs.Counting.{is_marked}
 use Rattle.sd_spec.specs.Refused.{pat_wrong, unsent_at}
 use Rattle.sd_spec.specs.Aired.{aired, left_from}

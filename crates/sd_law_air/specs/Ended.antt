@@ -1,8 +1,8 @@
 -- Public meaning: where a broadcast ends that goes on as long as it can.
 use Rattle.std.specs.Prelude.{◌≡◌, false, [], ◌∷◌, ◌++◌, length, Some, None}
 use Rattle.sd_base.specs.Types.{Packet, Packets, PacketNumber}
-use Rattle.sd_site.specs.SiteFields.{SiteFields}
-use Rattle.sd_psi.specs.declared.clear_fault.ClearFault.TheVariants.{TooLong}
+use Rattle.sd_site_cards.specs.SiteFields.{SiteFields}
+use Rattle.sd_message.specs.declared.clear_fault.ClearFault.TheVariants.{TooLong}
 use Rattle.sd_spec.specs.Counting.{is_marked}
 use Rattle.sd_spec.specs.Refused.{unsent_at}
 use Rattle.sd_spec.specs.Aired.{aired, ended_from}

@@ -1,7 +1,7 @@
 -- Public meaning: which packets of a clear stream are sent.
 use Rattle.std.specs.Prelude.{◌≡◌, ℕ, ◌+◌, true, false, [], ◌∷◌, ◌++◌, get_or, All}
 use Rattle.sd_base.specs.Types.{Packets, PacketNumber, Arrived}
-use Rattle.sd_site.specs.SiteFields.{SiteFields}
+use Rattle.sd_site_cards.specs.SiteFields.{SiteFields}
 use Rattle.sd_spec.specs.Counting.{is_marked}
 use Rattle.sd_spec.specs.Aired.{verdict_of, following}
 

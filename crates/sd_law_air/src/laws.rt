@@ -4,8 +4,8 @@ ghost use Rattle.std.specs.Prelude.{◌≡◌, ◌+◌, ◌-◌, ◌*◌, ◌^�
 ghost use Rattle.std.specs.Prelude.{IsSome, count_by};
 ghost use Rattle.std.specs.List.{concat};
 ghost use Rattle.sd_base.specs.Types.{Bytes, Packets, PacketNumber, Arrived};
-ghost use Rattle.sd_psi.specs.declared.clear_fault.ClearFault.{ClearFault};
-ghost use Rattle.sd_site.specs.SiteFields.{AreInRange, SiteFields};
+ghost use Rattle.sd_message.specs.declared.clear_fault.ClearFault.{ClearFault};
+ghost use Rattle.sd_site_cards.specs.SiteFields.{AreInRange, SiteFields};
 ghost use Rattle.sd_spec.specs.Counting.{is_marked};
 ghost use Rattle.sd_spec.specs.Plan.{Plan, crypto_length, word_of};
 ghost use Rattle.sd_spec.specs.Refused.{IsClear, IsSendable, is_too_long};

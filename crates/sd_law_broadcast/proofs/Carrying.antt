@@ -7,13 +7,13 @@ use Rattle.std.proofs.lemmas.Bool.Decides.{nat_tests}
 use Rattle.sd_packet.proofs.Packets.{start_within}
 use Rattle.sd_packet.specs.Header.{pid_of, scrambling_of, payload_start_of, has_payload}
 use Rattle.sd_packet.specs.Positions.{is_placed, moved}
-use Rattle.sd_tree.specs.Keys.{control_word_of}
-use Rattle.sd_site.specs.SiteFields.{SiteFields}
+use Rattle.sd_tree_keys.specs.Keys.{control_word_of}
+use Rattle.sd_site_cards.specs.SiteFields.{SiteFields}
 use Rattle.sd_psi.specs.Rewriting.{rewrite_fault}
 use Rattle.sd_psi.specs.Undone.{IsPacket}
 use Rattle.sd_psi.proofs.Keeping.{rewritten_keeps, rewritten_packet_keeps}
-use Rattle.sd_keystream.specs.Scrambling.{control_of, payload_under, laid_under}
-use Rattle.sd_keystream.proofs.Scramblings.{prefix_is, laid_reads, control_fits, pid_by_bytes}
+use Rattle.sd_cipher.specs.Scrambling.{control_of, payload_under, laid_under}
+use Rattle.sd_cipher.proofs.Scramblings.{prefix_is, laid_reads, control_fits, pid_by_bytes}
 use Rattle.sd_spec.specs.Plan.{word_of}
 use Rattle.sd_spec.specs.Kinds.{kind_of}
 use Rattle.sd_spec.specs.Carried.{parity_of, place_after, pmt_carried, veiled, carried_as, carried}

@@ -5,16 +5,16 @@ use Rattle.std.specs.Prelude.{All, Contains}
 use Rattle.std.proofs.lemmas.Bool.{cases_Bool}
 use Rattle.std.proofs.lemmas.List.Elements.{Contains-get_or}
 use Rattle.sd_base.proofs.Lists.{is_found}
-use Rattle.sd_tree.specs.Leaves.{is_member}
-use Rattle.sd_tree.specs.declared.set.SetName.{SetName}
-use Rattle.sd_tree.specs.Names.{given}
+use Rattle.sd_tree_keys.specs.Leaves.{is_member}
+use Rattle.sd_tree_keys.specs.declared.set.SetName.{SetName}
+use Rattle.sd_tree_keys.specs.Names.{given}
 use Rattle.sd_book.specs.Commands.{revoked, entitled}
 use Rattle.sd_book.proofs.Revocations.{below}
-use Rattle.sd_cover.specs.Partition.{IsPartition}
-use Rattle.sd_cover.proofs.Covers.{cover_partition}
-use Rattle.sd_cover.proofs.Partitions.{among_unrevoked}
-use Rattle.sd_cover.proofs.Lists.{counted_some}
-use Rattle.sd_cover.specs.Reach.{ReachesNoneOf}
+use Rattle.sd_cover_tracing.specs.Partition.{IsPartition}
+use Rattle.sd_cover_tracing.proofs.Covers.{cover_partition}
+use Rattle.sd_cover_tracing.proofs.Partitions.{among_unrevoked}
+use Rattle.sd_cover_tracing.proofs.Lists.{counted_some}
+use Rattle.sd_cover_tracing.specs.Reach.{ReachesNoneOf}
 use Rattle.sd_law_covers.proofs.CoversReach.{revoked_reach_none}
 use Rattle.sd_spec.specs.Plan.{Plan, IsPlan, sets_at, period_of}
 use Rattle.sd_spec.specs.Refused.{IsSendable}

@@ -7,8 +7,8 @@ use Rattle.std.proofs.lemmas.Bool.{false_from_ne_true, cases_lt}
 use Rattle.std.proofs.lemmas.Option.{slice_get-get_or}
 use Rattle.std.proofs.lemmas.List.Elements.{All-contains}
 use Rattle.sd_book.specs.Commands.{entitled}
-use Rattle.sd_cover.proofs.Lists.{found_member}
-use Rattle.sd_cover.proofs.Partitions.{among_unrevoked}
+use Rattle.sd_cover_tracing.proofs.Lists.{found_member}
+use Rattle.sd_cover_tracing.proofs.Partitions.{among_unrevoked}
 use Rattle.sd_law_coalition.specs.Know.{PeriodKey, ControlWord}
 use Rattle.sd_law_coalition.proofs.Known.{entitled_free}
 use Rattle.sd_spec.specs.Plan.{period_in}

@@ -13,25 +13,25 @@ use Rattle.std.proofs.lemmas.List.Kept.{AllPairs-cons, AllPairs-filter}
 use Rattle.sha2.specs.Sha256.{sha256}
 use Rattle.sha2.proofs.Facts256.{length-sha256}
 use Rattle.std.proofs.lemmas.List.{length-take-le}
-use Rattle.sd_tree.specs.SetNames.{AreAscending as AreSetsAscending}
-use Rattle.sd_tree.specs.declared.set.SetName.{SetName}
-use Rattle.sd_tree.specs.declared.set.SetName.TheVariants.{Whole}
-use Rattle.sd_keystream.specs.Keystream.{keystream}
-use Rattle.sd_keystream.proofs.Streams.{keystream_length, xored_length}
+use Rattle.sd_tree_keys.specs.SetNames.{AreAscending as AreSetsAscending}
+use Rattle.sd_tree_keys.specs.declared.set.SetName.{SetName}
+use Rattle.sd_tree_keys.specs.declared.set.SetName.TheVariants.{Whole}
+use Rattle.sd_cipher.specs.Keystream.{keystream}
+use Rattle.sd_cipher.proofs.Streams.{keystream_length, xored_length}
 use Rattle.sd_packet.specs.Positions.{is_positional, position_of}
 use Rattle.sd_packet.proofs.Positions.{moved_by_near}
-use Rattle.sd_tree.specs.Keys.{key_of, period_key_of, control_word_of, check_value_of}
-use Rattle.sd_keystream.specs.Wrapping.{wrapped as under}
-use Rattle.sd_site.specs.SiteFields.{SiteFields, AreInRange}
+use Rattle.sd_tree_keys.specs.Keys.{key_of, period_key_of, control_word_of, check_value_of}
+use Rattle.sd_cipher.specs.Wrapping.{wrapped as under}
+use Rattle.sd_site_cards.specs.SiteFields.{SiteFields, AreInRange}
 use Rattle.sd_book.specs.Commands.{last_period, revoked}
 use Rattle.sd_book.proofs.Revocations.{below}
 use Rattle.sd_book.proofs.Cuts.{revoked_past}
-use Rattle.sd_cover.specs.Chains.{IsChainCover}
-use Rattle.sd_cover.specs.Partition.{IsSmall}
-use Rattle.sd_cover.proofs.Covers.{cover_small}
-use Rattle.sd_cover.proofs.Ends.{AreLeaves}
-use Rattle.sd_cover.proofs.There.{the_cover}
-use Rattle.sd_cover.proofs.Heights.{of_height}
+use Rattle.sd_cover_tracing.specs.Chains.{IsChainCover}
+use Rattle.sd_cover_tracing.specs.Partition.{IsSmall}
+use Rattle.sd_cover_tracing.proofs.Covers.{cover_small}
+use Rattle.sd_cover_tracing.proofs.Ends.{AreLeaves}
+use Rattle.sd_cover_tracing.proofs.There.{the_cover}
+use Rattle.sd_cover_tracing.proofs.Heights.{of_height}
 use Rattle.sd_message.specs.EmmSpelled.{names_in}
 use Rattle.sd_message.specs.EmmForm.{IsSetBeside, AreSets, AreWrapped}
 use Rattle.sd_message.specs.Period.{IsPeriod}

@@ -4,12 +4,12 @@ use Rattle.std.proofs.Common.{inl, inr}
 use Rattle.std.specs.Prelude.{◌↔◌, Contains, All, Any}
 use Rattle.std.specs.List.{flat_map}
 use Rattle.std.proofs.lemmas.List.Elements.{All-contains}
-use Rattle.sd_tree.specs.declared.set.SetName.{SetName}
-use Rattle.sd_tree.specs.Names.{given}
-use Rattle.sd_cover.proofs.Lists.{member_cases, member_first, no_member}
-use Rattle.sd_cover.specs.Reach.{Secret, Named, Key, IsGeneratorStep, IsHeld, IsReached}
-use Rattle.sd_cover.proofs.Derivation.{Reach, at_first, by_rule, from_derived, to_derived, passes}
-use Rattle.sd_cover.proofs.Reached.{from_one, to_all, held_is_reached, next_is_reached, reached_by_one}
+use Rattle.sd_tree_keys.specs.declared.set.SetName.{SetName}
+use Rattle.sd_tree_keys.specs.Names.{given}
+use Rattle.sd_cover_tracing.proofs.Lists.{member_cases, member_first, no_member}
+use Rattle.sd_cover_tracing.specs.Reach.{Secret, Named, Key, IsGeneratorStep, IsHeld, IsReached}
+use Rattle.sd_cover_tracing.proofs.Derivation.{Reach, at_first, by_rule, from_derived, to_derived, passes}
+use Rattle.sd_cover_tracing.proofs.Reached.{from_one, to_all, held_is_reached, next_is_reached, reached_by_one}
 use Rattle.sd_law_coalition.specs.Know.{Service, Knowable, OfTree, PeriodKey, ControlWord, IsPooled, service_sets}
 use Rattle.sd_law_coalition.proofs.Known.{unrevoked_reaches, reached_at}
 use Rattle.sd_spec.specs.Plan.{sets_at}

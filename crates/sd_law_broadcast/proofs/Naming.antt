@@ -8,7 +8,7 @@ use Rattle.std.proofs.lemmas.Bool.{cases_Bool}
 use Rattle.std.proofs.lemmas.Bool.Decides.{nat_tests}
 use Rattle.std.proofs.lemmas.List.{map-append}
 use Rattle.std.proofs.lemmas.List.Elements.{All-contains, Contains-append_left, Contains-append_right}
-use Rattle.sd_tree.specs.declared.set.SetName.{SetName}
+use Rattle.sd_tree_keys.specs.declared.set.SetName.{SetName}
 use Rattle.sd_message.specs.Pieces.{pieces_for}
 use Rattle.sd_message.proofs.Pieces as Pieces
 use Rattle.sd_message.specs.EmmSpelled.{listed_entries, names_in}
@@ -24,7 +24,7 @@ use Rattle.sd_spec.specs.Sent.{Item, sent, closing_of, broadcast}
 use Rattle.sd_spec.proofs.Items.{all_are_of_broadcast}
 use Rattle.sd_spec.proofs.Schedule.{period_short}
 use Rattle.sd_spec.proofs.Periods.{number_is}
-use Rattle.sd_cover.proofs.Lists.{member_cases, member_first, member_later, no_member}
+use Rattle.sd_cover_tracing.proofs.Lists.{member_cases, member_first, member_later, no_member}
 use Rattle.sd_law_broadcast.specs.Packets.{AreLong}
 use Rattle.sd_law_broadcast.specs.Named.{names_at, sets_named}
 use Rattle.sd_law_broadcast.proofs.Fitting.{period_names, period_fits}

@@ -5,7 +5,7 @@ use Rattle.std.proofs.Common.{Option, None, refl, ap, arith, length-append}
 use Rattle.std.proofs.lemmas.Bool.Decides.{nat_tests}
 use Rattle.sd_base.proofs.Lists.{both_none}
 use Rattle.sd_packet.specs.Header.{scrambling_of}
-use Rattle.sd_site.specs.SiteFields.{SiteFields, run_name_of}
+use Rattle.sd_site_cards.specs.SiteFields.{SiteFields, run_name_of}
 use Rattle.sd_spec.specs.Plan.{Plan, sets_at, crypto_of, word_of, period_in, period_of, closing_number}
 use Rattle.sd_spec.specs.Kinds.{kind_of}
 use Rattle.sd_spec.specs.Carried.{pmt_carried, veiled, carried_as, carried}
@@ -15,7 +15,7 @@ use Rattle.sd_spec.specs.Refused.{unsent_at, unsent_from, IsSendable}
 use Rattle.sd_spec.specs.Sent.{Item, Cat, Entitles, Controls, Carries, tables_at, added, sent, sent_from}
 use Rattle.sd_spec.specs.Sent.{closing_of}
 use Rattle.sd_spec.specs.Sent.{packet_of, packets_from, broadcast}
-use Rattle.sd_psi.specs.declared.clear_fault.ClearFault.{ClearFault}
+use Rattle.sd_message.specs.declared.clear_fault.ClearFault.{ClearFault}
 use Rattle.sd_spec.specs.declared.kind.Kind.{Kind}
 use Rattle.sd_spec.specs.declared.kind.Kind.TheVariants.{Passed, Pmt, Scrambled}
 use Rattle.sd_law_broadcast.specs.Accepted.{IsAccepted}

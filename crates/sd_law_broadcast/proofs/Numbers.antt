@@ -5,7 +5,7 @@ use Rattle.std.specs.Prelude.{Contains}
 use Rattle.std.proofs.lemmas.Bool.{cases_Bool, cases_lt}
 use Rattle.std.proofs.lemmas.Bool.Decides.{nat_tests}
 use Rattle.std.proofs.lemmas.Nat.{div-add-mod'}
-use Rattle.sd_site.specs.SiteFields.{SiteFields, AreInRange}
+use Rattle.sd_site_cards.specs.SiteFields.{SiteFields, AreInRange}
 use Rattle.sd_message.specs.EcmParts.{Message, IsMessage, parts_of}
 use Rattle.sd_message.specs.declared.ecm_part.EcmPart.{EcmPart}
 use Rattle.sd_spec.specs.Plan.{Plan, IsPlan, since_of, closing_number}

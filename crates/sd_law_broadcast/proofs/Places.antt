@@ -6,7 +6,7 @@ use Rattle.std.proofs.lemmas.List.{take-append-drop, take-take, length-take-le}
 use Rattle.sd_packet.specs.Header.{pid_of}
 use Rattle.sd_packet.specs.Positions.{is_placed, position_of}
 use Rattle.sd_packet.proofs.Positions.{next_position, moving_rises, moved_by_near, more_packets, own_moves}
-use Rattle.sd_keystream.specs.Scrambling.{stream_number}
+use Rattle.sd_cipher.specs.Scrambling.{stream_number}
 use Rattle.sd_spec.specs.Carried.{place_after}
 use Rattle.sd_spec.specs.Refused.{IsSendable}
 use Rattle.sd_law_broadcast.proofs.Clear.{clear_short}

@@ -4,7 +4,7 @@ use Rattle.std.specs.Prelude.{All, Contains, Some, slice_get, if◌then◌else�
 use Rattle.std.proofs.lemmas.Bool.{false≢true}
 use Rattle.std.proofs.lemmas.List.Elements.{All-nil, All-cons, All-map, All-contains}
 use Rattle.sd_packet.specs.Header.{payload_of}
-use Rattle.sd_tree.specs.Keys.{period_key_of, control_word_of}
+use Rattle.sd_tree_keys.specs.Keys.{period_key_of, control_word_of}
 use Rattle.sd_message.specs.EmmSpelled.{listed_entries}
 use Rattle.sd_spec.specs.Plan.{word_of}
 use Rattle.sd_spec.specs.Refused.{IsSendable}

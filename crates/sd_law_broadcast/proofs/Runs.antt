@@ -2,7 +2,7 @@
 use Rattle.std.proofs.Common.{◌≡◌, ◌∙◌, ℕ, ◌-◌, ◌/◌, Bool, true, false, Option, List, length, take, refl}
 use Rattle.std.specs.Prelude.{Contains}
 use Rattle.std.proofs.lemmas.List.Elements.{All-contains}
-use Rattle.sd_site.specs.SiteFields.{run_name_of}
+use Rattle.sd_site_cards.specs.SiteFields.{run_name_of}
 use Rattle.sd_message.specs.Period.{IsOfPeriod, emms_of}
 use Rattle.sd_message.specs.declared.emm.Emm.{Emm}
 use Rattle.sd_message.proofs.EmmSharing as Periods

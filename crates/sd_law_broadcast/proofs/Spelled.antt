@@ -5,14 +5,14 @@ use Rattle.std.proofs.Common.{get_or-take, true}
 use Rattle.std.specs.Prelude.{Option, Some, None, is_none, slice_index, slice_set}
 use Rattle.std.proofs.lemmas.Bool.{cases_Bool}
 use Rattle.std.proofs.lemmas.List.{get_or_append_left, length-set}
-use Rattle.sd_keystream.specs.Keystream.{keystream, xored}
-use Rattle.sd_keystream.proofs.Streams.{keystream_length, xored_length}
+use Rattle.sd_cipher.specs.Keystream.{keystream, xored}
+use Rattle.sd_cipher.proofs.Streams.{keystream_length, xored_length}
 use Rattle.sd_packet.specs.Header.{pid_of, payload_start_of}
 use Rattle.sd_packet.specs.Packing.{packed}
 use Rattle.sd_packet.proofs.Packets.{packet_length, packet_sync, start_within}
 use Rattle.sd_section.proofs.Spelling.{section_long}
-use Rattle.sd_tree.specs.Keys.{control_word_of}
-use Rattle.sd_site.specs.SiteFields.{SiteFields}
+use Rattle.sd_tree_keys.specs.Keys.{control_word_of}
+use Rattle.sd_site_cards.specs.SiteFields.{SiteFields}
 use Rattle.sd_psi.specs.Forms.{section_in, after_section}
 use Rattle.sd_psi.specs.OurCat.{cat_header, cat_descriptor, cat_section}
 use Rattle.sd_psi.specs.Tables.{info_length_of}
@@ -22,8 +22,8 @@ use Rattle.sd_psi.specs.Undone.{IsPacket}
 use Rattle.sd_psi.proofs.Undoing.{IsRightPmt, other_head, sealed_long}
 use Rattle.sd_psi.proofs.Inverse.{packet_parts, may_rewrite}
 use Rattle.sd_section.specs.Header.{section_length_of}
-use Rattle.sd_keystream.specs.Scrambling.{stream_number, control_of, payload_under, laid_under}
-use Rattle.sd_keystream.proofs.Scramblings.{prefix_is}
+use Rattle.sd_cipher.specs.Scrambling.{stream_number, control_of, payload_under, laid_under}
+use Rattle.sd_cipher.proofs.Scramblings.{prefix_is}
 use Rattle.sd_message.specs.EmmSpelled.{listed_entries, table_id_for, emm_body, emm_header, emm_section}
 use Rattle.sd_message.specs.EmmForm.{AreSets, IsEmm, FitsFields}
 use Rattle.sd_message.specs.declared.emm.Emm.{Emm}

@@ -5,14 +5,14 @@ use Rattle.std.specs.Prelude.{All, Contains, ◌↔◌}
 use Rattle.std.proofs.lemmas.Bool.{false≢true}
 use Rattle.std.proofs.lemmas.List.{length-take-le}
 use Rattle.std.proofs.lemmas.List.Elements.{All-map, All-contains, All-get_or}
-use Rattle.sd_tree.specs.declared.set.SetName.{SetName}
+use Rattle.sd_tree_keys.specs.declared.set.SetName.{SetName}
 use Rattle.sd_packet.specs.Header.{payload_of}
-use Rattle.sd_keystream.specs.Keystream.{keystream, xored}
-use Rattle.sd_keystream.specs.Wrapping.{wrapped}
-use Rattle.sd_tree.specs.Keys.{key_of, period_key_of, control_word_of}
-use Rattle.sd_site.specs.SiteFields.{SiteFields}
-use Rattle.sd_keystream.specs.Scrambling.{control_of, payload_under}
-use Rattle.sd_keystream.proofs.Scramblings.{laid_reads, control_fits}
+use Rattle.sd_cipher.specs.Keystream.{keystream, xored}
+use Rattle.sd_cipher.specs.Wrapping.{wrapped}
+use Rattle.sd_tree_keys.specs.Keys.{key_of, period_key_of, control_word_of}
+use Rattle.sd_site_cards.specs.SiteFields.{SiteFields}
+use Rattle.sd_cipher.specs.Scrambling.{control_of, payload_under}
+use Rattle.sd_cipher.proofs.Scramblings.{laid_reads, control_fits}
 use Rattle.sd_message.specs.EmmSpelled.{listed_entries}
 use Rattle.sd_message.specs.Period.{emms_of}
 use Rattle.sd_message.specs.declared.emm.Emm.{Emm}
@@ -21,7 +21,7 @@ use Rattle.sd_message.proofs.EmmSharing.{joined_are_all}
 use Rattle.sd_message.specs.EcmParts.{Message, parts_of, IsOfMessage}
 use Rattle.sd_message.specs.declared.ecm_part.EcmPart.{EcmPart}
 use Rattle.sd_message.proofs.EcmSharing as Parts
-use Rattle.sd_cover.proofs.Reached.{from_one, to_all}
+use Rattle.sd_cover_tracing.proofs.Reached.{from_one, to_all}
 use Rattle.sd_spec.specs.Plan.{Plan, sets_at, word_of, period_of, closing_number}
 use Rattle.sd_spec.specs.Kinds.{kind_of, is_scrambled}
 use Rattle.sd_spec.specs.Carried.{parity_of, place_after, pmt_carried, veiled, carried_as, carried}

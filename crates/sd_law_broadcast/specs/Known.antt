@@ -2,9 +2,9 @@
 -- is said of names and not of bytes.
 use Rattle.std.specs.Prelude.{◌≡◌, List, All, Contains}
 use Rattle.sd_base.specs.Types.{Height, Leaves, PeriodNumber, WordNumber}
-use Rattle.sd_tree.specs.declared.set.SetName.{SetName}
-use Rattle.sd_cover.specs.Derivation.{IsDerived}
-use Rattle.sd_cover.specs.Reach.{Secret, Key, IsGeneratorStep}
+use Rattle.sd_tree_keys.specs.declared.set.SetName.{SetName}
+use Rattle.sd_cover_tracing.specs.Derivation.{IsDerived}
+use Rattle.sd_cover_tracing.specs.Reach.{Secret, Key, IsGeneratorStep}
 use Rattle.sd_law_coalition.specs.Know.{Knowable, OfTree, PeriodKey, ControlWord, IsPooled}
 use Rattle.sd_spec.specs.Plan.{sets_at}
 use Rattle.sd_law_broadcast.specs.Runs.{Run, UsesWord, UsesPeriod}

@@ -4,13 +4,13 @@ use Rattle.std.specs.Prelude.{None, Result, Ok, Err, All, Contains, if◌then◌
 use Rattle.std.specs.List.{range_with_len}
 use Rattle.std.specs.Option.{option_map_or}
 use Rattle.sd_base.specs.Types.{Packets, Pid, Height, LeafNumber, PeriodNumber}
-use Rattle.sd_tree.specs.declared.set.SetName.{SetName}
-use Rattle.sd_tree.specs.Leaves.{is_member}
+use Rattle.sd_tree_keys.specs.declared.set.SetName.{SetName}
+use Rattle.sd_tree_keys.specs.Leaves.{is_member}
 use Rattle.sd_packet.specs.Header.{pid_of}
-use Rattle.sd_tree.specs.Names.{given}
+use Rattle.sd_tree_keys.specs.Names.{given}
 use Rattle.sd_book.specs.Commands.{revoked, entitled}
-use Rattle.sd_cover.specs.Partition.{IsPartition, IsSmall}
-use Rattle.sd_cover.specs.Reach.{ReachesNoneOf}
+use Rattle.sd_cover_tracing.specs.Partition.{IsPartition, IsSmall}
+use Rattle.sd_cover_tracing.specs.Reach.{ReachesNoneOf}
 use Rattle.sd_message.specs.EmmSpelled.{listed_entries, names_in}
 use Rattle.sd_message.specs.EmmJudged.{emm_read}
 use Rattle.sd_message.specs.declared.emm.Emm.{Emm}

@@ -1,6 +1,6 @@
 -- Public meaning: a site that may use other control words.
 use Rattle.sd_base.specs.Types.{WordNumber}
-use Rattle.sd_site.specs.SiteFields.{SiteFields}
+use Rattle.sd_site_cards.specs.SiteFields.{SiteFields}
 use Rattle.sd_spec.specs.Plan.{Plan}
 
 -- the site with x for its last control word

@@ -2,11 +2,11 @@
 use Rattle.std.specs.Prelude.{ℕ, List, [], ◌∷◌, Bool, true, false, take, map, if◌then◌else◌}
 use Rattle.std.specs.List.{flat_map}
 use Rattle.sd_base.specs.Types.{Bytes, Key, PeriodNumber, WordNumber, PacketNumber}
-use Rattle.sd_tree.specs.declared.set.SetName.{SetName}
+use Rattle.sd_tree_keys.specs.declared.set.SetName.{SetName}
 use Rattle.sd_packet.specs.Header.{pid_of, payload_of}
-use Rattle.sd_tree.specs.Keys.{key_of, period_key_of, control_word_of}
-use Rattle.sd_keystream.specs.Keystream.{keystream, xored}
-use Rattle.sd_keystream.specs.Scrambling.{stream_number}
+use Rattle.sd_tree_keys.specs.Keys.{key_of, period_key_of, control_word_of}
+use Rattle.sd_cipher.specs.Keystream.{keystream, xored}
+use Rattle.sd_cipher.specs.Scrambling.{stream_number}
 use Rattle.sd_message.specs.EmmSpelled.{listed_entries}
 use Rattle.sd_message.specs.declared.emm.Emm.{Emm}
 use Rattle.sd_message.specs.declared.emm.Entry.{Entry}

@@ -3,7 +3,7 @@ use Rattle.std.specs.Prelude.{◌≡◌, ◌⊎◌, ℕ, ◌-◌, ◌<◌, ◌�
 use Rattle.std.specs.Prelude.{[]}
 use Rattle.sd_base.specs.Types.{Packet, Packets, Key, Leaves, PeriodNumber, CryptoNumber, WordNumber}
 use Rattle.sd_base.specs.Types.{PacketNumber}
-use Rattle.sd_site.specs.SiteFields.{SiteFields}
+use Rattle.sd_site_cards.specs.SiteFields.{SiteFields}
 use Rattle.sd_book.specs.Commands.{revoked}
 use Rattle.sd_spec.specs.Plan.{Plan, IsPlan, crypto_of, word_in, period_in}
 use Rattle.sd_spec.specs.Kinds.{kind_of, is_scrambled}

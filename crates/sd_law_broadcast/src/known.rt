@@ -3,9 +3,9 @@
 ghost use Rattle.std.specs.Prelude.{◌≡◌, ◌^◌, ◌<◌, ◌≤◌, ◌↔◌, Bool, true, List, [], ◌∷◌, All, Any, Contains};
 ghost use Rattle.std.specs.List.{flat_map};
 ghost use Rattle.sd_base.specs.Types.{Key, Height, Leaves, PeriodNumber, WordNumber};
-ghost use Rattle.sd_tree.specs.Names.{given};
+ghost use Rattle.sd_tree_keys.specs.Names.{given};
 ghost use Rattle.sd_book.specs.Commands.{entitled};
-ghost use Rattle.sd_cover.specs.Reach.{Secret, IsReached};
+ghost use Rattle.sd_cover_tracing.specs.Reach.{Secret, IsReached};
 ghost use Rattle.sd_law_coalition.specs.Know.{Knowable, OfTree, PeriodKey, ControlWord, IsPooled};
 ghost use Rattle.sd_law_broadcast.specs.Runs.{Run, IsRun, HaveOwnWords, UsesWord, UsesPeriod, revoked_in, AllAgree};
 ghost use Rattle.sd_law_broadcast.specs.Known.{IsStepInRuns, IsKnownInRuns, AreOneTree};

@@ -15,7 +15,7 @@ ghost use Rattle.sd_law_broadcast.specs.Packets.{AreWholePackets, IsWholePacket,
 ghost use Rattle.sd_law_broadcast.specs.Synced.{AreSynced, AreBytes};
 ghost use Rattle.sd_packet.specs.Header.{pid_of, scrambling_of};
 ghost use Rattle.sd_packet.specs.Positions.{is_placed, moved};
-ghost use Rattle.sd_site.specs.SiteFields.{SiteFields, AreInRange, run_name_of};
+ghost use Rattle.sd_site_cards.specs.SiteFields.{SiteFields, AreInRange, run_name_of};
 ghost use Rattle.sd_message.specs.EmmForm.{AreSets};
 ghost use Rattle.sd_message.specs.Period.{IsPeriod};
 ghost use Rattle.sd_message.specs.declared.emm.Emm.{Emm};

@@ -3,7 +3,7 @@
 ghost use Rattle.std.specs.Prelude.{◌≡◌, ◌≢◌, ◌+◌, ◌-◌, ◌*◌, ◌^◌, ◌<◌, ◌≤◌, ◌++◌, ◌↔◌, false, List, Contains};
 ghost use Rattle.std.specs.Prelude.{length};
 ghost use Rattle.sd_base.specs.Types.{Key, PeriodNumber, WordNumber, PacketNumber};
-ghost use Rattle.sd_site.specs.SiteFields.{SiteFields, AreInRange};
+ghost use Rattle.sd_site_cards.specs.SiteFields.{SiteFields, AreInRange};
 ghost use Rattle.sd_book.specs.declared.command.Command.{Command};
 ghost use Rattle.sd_book.specs.Commands.{last_period};
 ghost use Rattle.sd_message.specs.EmmSpelled.{listed_entries};

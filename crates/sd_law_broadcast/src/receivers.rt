@@ -2,7 +2,7 @@
 
 ghost use Rattle.std.specs.Prelude.{◌≡◌, ◌++◌, ◌∷◌, None};
 ghost use Rattle.sd_base.specs.Types.{Packet, Packets};
-ghost use Rattle.sd_site.specs.CardFields.{CardFields};
+ghost use Rattle.sd_site_cards.specs.CardFields.{CardFields};
 ghost use Rattle.sd_spec.specs.Offered.{offered, out_from};
 
 /// Of packets of which the first isn't refused, what is written is what the first makes the receiver write, and then

@@ -7,7 +7,7 @@ ghost use Rattle.std.specs.List.{concat};
 ghost use Rattle.sd_base.specs.Types.{Packet, Packets, PacketNumber, MessageNumber};
 ghost use Rattle.sd_packet.specs.Header.{pid_of};
 ghost use Rattle.sd_packet.specs.Positions.{is_placed};
-ghost use Rattle.sd_site.specs.SiteFields.{SiteFields, AreInRange};
+ghost use Rattle.sd_site_cards.specs.SiteFields.{SiteFields, AreInRange};
 ghost use Rattle.sd_book.specs.Commands.{last_period};
 ghost use Rattle.sd_spec.specs.Sent.{Item, tables_at, added, sent, sent_from, closing_of, body, bytes_from};
 ghost use Rattle.sd_spec.specs.Items.{IsOfBroadcast};

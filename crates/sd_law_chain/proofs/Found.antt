@@ -5,11 +5,11 @@ use Rattle.std.proofs.lemmas.Bool.{leb-true}
 use Rattle.std.proofs.lemmas.Bool.Decides.{nat_tests}
 use Rattle.std.specs.Prelude.{nat_lt}
 use Rattle.sd_base.specs.Types.{Bytes}
-use Rattle.sd_site.specs.SiteFields.{SiteFields}
-use Rattle.sd_site.specs.Written.{newest_of, is_first, none_fewer}
-use Rattle.sd_site.specs.Chain.{most_word, has_room}
-use Rattle.sd_site.specs.declared.book_line.BookLine.{BookLine}
-use Rattle.sd_site.specs.declared.site_fault.SiteFault.{SiteFault}
+use Rattle.sd_site_cards.specs.SiteFields.{SiteFields}
+use Rattle.sd_site_cards.specs.Written.{newest_of, is_first, none_fewer}
+use Rattle.sd_site_cards.specs.Chain.{most_word, has_room}
+use Rattle.sd_site_cards.specs.declared.book_line.BookLine.{BookLine}
+use Rattle.sd_site_cards.specs.declared.site_fault.SiteFault.{SiteFault}
 use Rattle.sd_book.specs.declared.command.Command.{Command}
 use Rattle.sd_book.specs.Text.{book_of}
 use Rattle.sd_command_base.specs.declared.status.Status.{Status}
@@ -17,7 +17,7 @@ use Rattle.sd_command_base.specs.declared.status.LimitKind.{LimitKind}
 use Rattle.sd_command_base.specs.declared.status.LimitKind.TheVariants.{SiteBytes, BookBytes}
 use Rattle.sd_command_base.specs.declared.status.Status.TheVariants.{BadOut, BadWord, BadBook, Limit, OtherBook}
 use Rattle.sd_command_base.specs.declared.status.OutCause.TheVariants.{Name}
-use Rattle.sd_site.specs.declared.site_fault.SiteFault.TheVariants.{Range}
+use Rattle.sd_site_cards.specs.declared.site_fault.SiteFault.TheVariants.{Range}
 use Rattle.sd_book.specs.declared.fault.BookFault.{BookFault}
 use Rattle.std.specs.Result.{result_unwrap_or}
 use Rattle.sd_command_base.specs.Spec.{Spec, FileArgument, Readings, and_then, judged, value, within, ◌>>=◌}

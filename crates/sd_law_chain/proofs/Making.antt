@@ -10,20 +10,20 @@ use Rattle.std.proofs.lemmas.Slice.Eq.{bytes_eq-Decides}
 use Rattle.sha2.specs.Sha256.{sha256}
 use Rattle.sd_base.specs.Types.{Bytes}
 use Rattle.sd_base.proofs.Lists.{equal_bytes}
-use Rattle.sd_site.specs.SiteFields.{SiteFields}
-use Rattle.sd_site.specs.Chain.{has_room, most_word}
-use Rattle.sd_site.specs.Written.{is_first, is_whole, newest_of, none_fewer}
-use Rattle.sd_site.specs.Text.{book_line_of, site_of}
-use Rattle.sd_site.proofs.Alone.{newest_say, said_is_site}
-use Rattle.sd_site.specs.declared.book_line.BookLine.{BookLine}
-use Rattle.sd_site.specs.declared.site_fault.SiteFault.{SiteFault}
+use Rattle.sd_site_cards.specs.SiteFields.{SiteFields}
+use Rattle.sd_site_cards.specs.Chain.{has_room, most_word}
+use Rattle.sd_site_cards.specs.Written.{is_first, is_whole, newest_of, none_fewer}
+use Rattle.sd_site_cards.specs.Text.{book_line_of, site_of}
+use Rattle.sd_site_cards.proofs.Alone.{newest_say, said_is_site}
+use Rattle.sd_site_cards.specs.declared.book_line.BookLine.{BookLine}
+use Rattle.sd_site_cards.specs.declared.site_fault.SiteFault.{SiteFault}
 use Rattle.sd_book.specs.declared.command.Command.{Command}
 use Rattle.sd_book.specs.Text.{book_of}
 use Rattle.sd_command_base.specs.declared.status.Status.{Status}
 use Rattle.sd_command_base.specs.declared.status.Status.TheVariants.{BadBook, BadOut, BadWord, Limit, OtherBook}
 use Rattle.sd_command_base.specs.declared.status.OutCause.TheVariants.{Name}
 use Rattle.sd_command_base.specs.declared.status.LimitKind.TheVariants.{BookBytes, SiteBytes}
-use Rattle.sd_site.specs.declared.site_fault.SiteFault.TheVariants.{Range, Short}
+use Rattle.sd_site_cards.specs.declared.site_fault.SiteFault.TheVariants.{Range, Short}
 use Rattle.sd_command_base.specs.Files.{BookText, begins_with_book, ends_lines, longer_book_of_file, most_book_bytes}
 use Rattle.sd_command_base.specs.Files.{most_site_bytes, refused_site, told_book, told_longer, told_whole}
 use Rattle.sd_command_base.specs.BadLines.{bad_line}

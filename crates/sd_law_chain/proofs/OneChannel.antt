@@ -6,7 +6,7 @@ use Rattle.std.proofs.lemmas.Bool.{cases_lt}
 use Rattle.std.proofs.lemmas.Option.{slice_get-get_or}
 use Rattle.std.proofs.lemmas.List.Elements.{All-nil, All-cons, All-head, All-tail}
 use Rattle.sd_base.proofs.Lists.{all_by}
-use Rattle.sd_site.specs.SiteFields.{SiteFields, run_name_of}
+use Rattle.sd_site_cards.specs.SiteFields.{SiteFields, run_name_of}
 use Rattle.sd_law_broadcast.specs.Packets.{AreWholePackets}
 use Rattle.sd_law_broadcast.specs.Runs.{HasWords}
 use Rattle.sd_law_losses.specs.Channel.{AreRunsOf, HaveTwoNames, IsRunOf}

@@ -5,10 +5,10 @@ use Rattle.std.specs.Prelude.{slice_get}
 use Rattle.std.proofs.lemmas.Bool.{cases_lt}
 use Rattle.sha2.proofs.Facts256.{length-sha256}
 use Rattle.sd_base.specs.Types.{Bytes}
-use Rattle.sd_site.specs.SiteFields.{SiteFields, AreInRange}
-use Rattle.sd_site.specs.Forms.{IsWithin, cryptos_line, ecm_line, emm_line, every_line, height_line, span_line}
-use Rattle.sd_site.specs.Written.{IsSayable}
-use Rattle.sd_site.specs.Chain.{most_word}
+use Rattle.sd_site_cards.specs.SiteFields.{SiteFields, AreInRange}
+use Rattle.sd_site_cards.specs.Forms.{IsWithin, cryptos_line, ecm_line, emm_line, every_line, height_line, span_line}
+use Rattle.sd_site_cards.specs.Written.{IsSayable}
+use Rattle.sd_site_cards.specs.Chain.{most_word}
 use Rattle.sd_book.specs.Commands.{last_period}
 use Rattle.sd_book.specs.Limits.{most_periods}
 use Rattle.sd_law_broadcast.specs.Runs.{HasWords}

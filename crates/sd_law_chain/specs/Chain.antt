@@ -5,10 +5,10 @@ use Rattle.std.specs.Prelude.{Some, Ok, All, Contains, map}
 use Rattle.sha2.specs.Sha256.{sha256}
 use Rattle.sd_base.specs.Types.{Bytes, Packets, Leaves, PeriodNumber}
 use Rattle.sd_ports.specs.Bytes.{IsPrefix}
-use Rattle.sd_site.specs.SiteFields.{SiteFields}
-use Rattle.sd_site.specs.Written.{IsSayable}
-use Rattle.sd_site.specs.Forms.{most_book_size}
-use Rattle.sd_site.specs.Chain.{most_word, next_site, twin_site}
+use Rattle.sd_site_cards.specs.SiteFields.{SiteFields}
+use Rattle.sd_site_cards.specs.Written.{IsSayable}
+use Rattle.sd_site_cards.specs.Forms.{most_book_size}
+use Rattle.sd_site_cards.specs.Chain.{most_word, next_site, twin_site}
 use Rattle.sd_book.specs.declared.command.Command.{Command}
 use Rattle.sd_book.specs.declared.command.Command.TheVariants.{Subscribe}
 use Rattle.sd_book.specs.Commands.{commands_until, last_period}

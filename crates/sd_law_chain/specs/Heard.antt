@@ -1,7 +1,7 @@
 -- Public meaning: what a receiver that stays on gets of the broadcasts of a chain.
 use Rattle.std.specs.Prelude.{◌≢◌, ◌||◌, ℕ, Bool, List, [], ◌∷◌, if◌then◌else◌, map}
 use Rattle.sd_base.specs.Types.{Arrived}
-use Rattle.sd_site.specs.SiteFields.{SiteFields}
+use Rattle.sd_site_cards.specs.SiteFields.{SiteFields}
 use Rattle.sd_law_losses.specs.Channel.{Arrival, Channel}
 use Rattle.sd_law_losses.specs.Many.{has_cat}
 use Rattle.sd_law_losses.specs.Ends.{is_told}

@@ -2,9 +2,9 @@
 -- [this project, docs/FORMATS.md, Chains of sites].
 use Rattle.std.specs.Prelude.{◌≡◌, ℕ, ◌≤◌, Bool, true, List, [], ◌∷◌, length, Option, Some, None, Ok}
 use Rattle.sd_base.specs.Types.{Bytes}
-use Rattle.sd_site.specs.SiteFields.{SiteFields}
-use Rattle.sd_site.specs.Written.{newest_of, site_text}
-use Rattle.sd_site.specs.declared.book_line.BookLine.{BookLine}
+use Rattle.sd_site_cards.specs.SiteFields.{SiteFields}
+use Rattle.sd_site_cards.specs.Written.{newest_of, site_text}
+use Rattle.sd_site_cards.specs.declared.book_line.BookLine.{BookLine}
 use Rattle.sd_command_base.specs.Files.{most_site_bytes}
 use Rattle.sd_command_base.specs.Made.{NewFile, new_work}
 use Rattle.sd_command_base.specs.Spec.{FileArgument, Readings}

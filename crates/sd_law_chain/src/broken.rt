@@ -2,9 +2,9 @@
 
 ghost use Rattle.std.specs.Prelude.{◌≡◌, ◌≤◌, ◌++◌, [], List, Some, Contains, take};
 ghost use Rattle.sd_base.specs.Types.{Packets, PacketNumber};
-ghost use Rattle.sd_site.specs.SiteFields.{SiteFields};
-ghost use Rattle.sd_psi.specs.declared.clear_fault.ClearFault.{ClearFault};
-ghost use Rattle.sd_psi.specs.ClearFaults.{clear_packet};
+ghost use Rattle.sd_site_cards.specs.SiteFields.{SiteFields};
+ghost use Rattle.sd_message.specs.declared.clear_fault.ClearFault.{ClearFault};
+ghost use Rattle.sd_message.specs.ClearFaults.{clear_packet};
 ghost use Rattle.sd_spec.specs.Plan.{Plan};
 ghost use Rattle.sd_spec.specs.Refused.{IsClear, refusal_from};
 ghost use Rattle.sd_spec.specs.Sent.{Item, body, broadcast, sent};

@@ -2,7 +2,7 @@
 
 ghost use Rattle.std.specs.Prelude.{◌≡◌, ◌+◌, ◌<◌, ◌≤◌, ℕ, List, Some, length, slice_get};
 ghost use Rattle.sd_base.specs.Types.{Bytes};
-ghost use Rattle.sd_site.specs.Written.{IsSayable};
+ghost use Rattle.sd_site_cards.specs.Written.{IsSayable};
 ghost use Rattle.sd_law_broadcast.specs.Runs.{HasWords};
 ghost use Rattle.sd_run_books.specs.Chain.{line_of};
 ghost use Rattle.sd_law_chain.specs.Chain.{AreOneSet, Call, IsChain, IsNextAt, Link, book_at, site_at, words_of};

@@ -2,7 +2,7 @@
 
 ghost use Rattle.std.specs.Prelude.{◌≡◌, ◌↔◌, ◌≤◌, ℕ, List, length, Some, Ok};
 ghost use Rattle.sd_base.specs.Types.{Bytes};
-ghost use Rattle.sd_site.specs.Written.{is_first, none_fewer};
+ghost use Rattle.sd_site_cards.specs.Written.{is_first, none_fewer};
 ghost use Rattle.sd_book.specs.declared.command.Command.{Command};
 ghost use Rattle.sd_book.specs.Text.{book_of};
 ghost use Rattle.sd_command_base.specs.Files.{most_book_bytes, own_book_of_file};

@@ -10,20 +10,20 @@ use Rattle.std.proofs.lemmas.List.Elements.{filter_passes}
 use Rattle.std.proofs.lemmas.List.Folds.{list_any_at}
 use Rattle.std.proofs.lemmas.List.FromFn.{length-range_with_len, get_or-range_with_len}
 use Rattle.sd_base.proofs.Lists.{all_by}
-use Rattle.sd_tree.specs.Leaves.{is_member, leaves}
-use Rattle.sd_tree.specs.SetNames.{IsOfHeight}
-use Rattle.sd_tree.specs.declared.set.SetName.{SetName}
-use Rattle.sd_tree.specs.Names.{given}
+use Rattle.sd_tree_keys.specs.Leaves.{is_member, leaves}
+use Rattle.sd_tree_keys.specs.SetNames.{IsOfHeight}
+use Rattle.sd_tree_keys.specs.declared.set.SetName.{SetName}
+use Rattle.sd_tree_keys.specs.Names.{given}
 use Rattle.sd_book.specs.Commands.{entitled, last_period}
 use Rattle.sd_book.proofs.Revocations.{below}
-use Rattle.sd_cover.specs.Chains.{IsChainCover}
-use Rattle.sd_cover.proofs.Heights.{of_height}
-use Rattle.sd_cover.proofs.There.{the_cover}
-use Rattle.sd_cover.proofs.Lists.{only_member}
-use Rattle.sd_cover.specs.Reach.{Secret, Named, Key, IsGeneratorStep, IsHeld, IsReached}
-use Rattle.sd_cover.proofs.Derivation.{Reach, at_first, by_rule, from_derived, to_derived, passes}
-use Rattle.sd_cover.proofs.Reached.{held_is_reached, next_is_reached, reached_by_one}
-use Rattle.sd_cover.proofs.Own.{member_reaches_together}
+use Rattle.sd_cover_tracing.specs.Chains.{IsChainCover}
+use Rattle.sd_cover_tracing.proofs.Heights.{of_height}
+use Rattle.sd_cover_tracing.proofs.There.{the_cover}
+use Rattle.sd_cover_tracing.proofs.Lists.{only_member}
+use Rattle.sd_cover_tracing.specs.Reach.{Secret, Named, Key, IsGeneratorStep, IsHeld, IsReached}
+use Rattle.sd_cover_tracing.proofs.Derivation.{Reach, at_first, by_rule, from_derived, to_derived, passes}
+use Rattle.sd_cover_tracing.proofs.Reached.{held_is_reached, next_is_reached, reached_by_one}
+use Rattle.sd_cover_tracing.proofs.Own.{member_reaches_together}
 use Rattle.sd_law_covers.proofs.CoversReach.{cover_reached}
 use Rattle.sd_law_coalition.specs.Know.{Service, Knowable, OfTree, PeriodKey, ControlWord, IsKnowledgeStep, generated}
 use Rattle.sd_law_coalition.specs.Know.{entitled as of_set}

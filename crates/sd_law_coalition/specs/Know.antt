@@ -3,13 +3,13 @@
 use Rattle.std.specs.Prelude.{◌≡◌, ℕ, ◌≤◌, ◌/◌, min, List, Contains, Any}
 use Rattle.std.specs.List.{flat_map}
 use Rattle.sd_base.specs.Types.{Height, Leaves, PeriodNumber, WordNumber}
-use Rattle.sd_tree.specs.declared.set.SetName.{SetName}
-use Rattle.sd_tree.specs.Names.{given}
+use Rattle.sd_tree_keys.specs.declared.set.SetName.{SetName}
+use Rattle.sd_tree_keys.specs.Names.{given}
 use Rattle.sd_book.specs.declared.command.Command.{Command}
 use Rattle.sd_book.specs.Commands.{last_period, revoked}
-use Rattle.sd_cover.specs.Cover.{cover_of}
-use Rattle.sd_cover.specs.Derivation.{IsDerived}
-use Rattle.sd_cover.specs.Reach.{Secret, Key, IsGeneratorStep, IsHeld}
+use Rattle.sd_cover_tracing.specs.Cover.{cover_of}
+use Rattle.sd_cover_tracing.specs.Derivation.{IsDerived}
+use Rattle.sd_cover_tracing.specs.Reach.{Secret, Key, IsGeneratorStep, IsHeld}
 
 -- what counts of a broadcast: the tree's height, how many crypto periods a period has, and the commands of its book
 pub record Service : Type 0 where

@@ -3,10 +3,10 @@
 ghost use Rattle.std.specs.Prelude.{◌≡◌, ◌^◌, ◌<◌, ◌≤◌, ◌↔◌, Bool, true, false, [], ◌∷◌, All, Any, Contains};
 ghost use Rattle.std.specs.List.{list_any, flat_map};
 ghost use Rattle.sd_base.specs.Types.{LeafNumber, Leaves, PeriodNumber, WordNumber};
-ghost use Rattle.sd_tree.specs.Leaves.{is_member};
-ghost use Rattle.sd_tree.specs.Names.{given};
+ghost use Rattle.sd_tree_keys.specs.Leaves.{is_member};
+ghost use Rattle.sd_tree_keys.specs.Names.{given};
 ghost use Rattle.sd_book.specs.Commands.{entitled, last_period};
-ghost use Rattle.sd_cover.specs.Reach.{Secret, IsReached};
+ghost use Rattle.sd_cover_tracing.specs.Reach.{Secret, IsReached};
 ghost use Rattle.sd_law_coalition.specs.Know.{Service, Knowable, OfTree, PeriodKey, ControlWord, IsKnowledgeStep};
 ghost use Rattle.sd_law_coalition.specs.Know.{IsPooled};
 ghost use Rattle.sd_law_coalition.specs.Know.{IsKnown};

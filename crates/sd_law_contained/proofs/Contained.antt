@@ -1,7 +1,7 @@
 -- What is written of one PID, if what tells something and what is of the PID arrives as it was sent.
 use Rattle.std.proofs.Common.{◌≡◌, List, [], reverse, ap, sym, ◌∙◌}
 use Rattle.std.specs.Prelude.{ℕ, true, false, None}
-use Rattle.sd_site.specs.CardFields.{CardFields}
+use Rattle.sd_site_cards.specs.CardFields.{CardFields}
 use Rattle.sd_spec.specs.Offered.{out_from, break_from}
 use Rattle.sd_spec.specs.Ending.{ending_of}
 use Rattle.sd_spec.specs.Counting.{counting}

@@ -7,8 +7,8 @@ use Rattle.std.proofs.lemmas.Nat.{xor_of_8}
 use Rattle.sd_base.specs.Bits.{field}
 use Rattle.sd_packet.specs.Header.{pid_of, scrambling_of, counter_of, payload_start_of}
 use Rattle.sd_packet.proofs.Packets.{start_within}
-use Rattle.sd_keystream.specs.Keystream.{keystream, xored}
-use Rattle.sd_keystream.specs.Scrambling.{laid_under, stream_number}
+use Rattle.sd_cipher.specs.Keystream.{keystream, xored}
+use Rattle.sd_cipher.specs.Scrambling.{laid_under, stream_number}
 use Rattle.sd_law_contained.specs.Changed.{changed_by}
 
 -- an empty mask changes nothing

@@ -9,9 +9,9 @@ use Rattle.std.proofs.lemmas.List.{reverse-append, map-append, length-map}
 use Rattle.std.proofs.lemmas.List.Elements.{filter-append}
 use Rattle.sd_base.proofs.Bools.{tested}
 use Rattle.sd_packet.specs.Header.{pid_of}
-use Rattle.sd_tree.specs.Keys.{check_value_of}
-use Rattle.sd_keystream.specs.Wrapping.{wrapped as under}
-use Rattle.sd_site.specs.CardFields.{CardFields}
+use Rattle.sd_tree_keys.specs.Keys.{check_value_of}
+use Rattle.sd_cipher.specs.Wrapping.{wrapped as under}
+use Rattle.sd_site_cards.specs.CardFields.{CardFields}
 use Rattle.sd_message.specs.declared.emm.Emm.{Emm}
 use Rattle.sd_message.specs.declared.emm_fault.EmmFault.TheVariants as Emms
 use Rattle.sd_message.specs.EcmParts.{Message}

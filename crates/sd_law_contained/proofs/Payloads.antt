@@ -4,7 +4,7 @@ use Rattle.std.specs.Prelude.{slice_index, bit_xor}
 use Rattle.std.specs.Int.Bits.{xor_zero_r}
 use Rattle.sd_base.specs.Bits.{field}
 use Rattle.sd_packet.specs.Header.{pid_of, payload_start_of}
-use Rattle.sd_keystream.proofs.Scramblings.{pid_by_bytes}
+use Rattle.sd_cipher.proofs.Scramblings.{pid_by_bytes}
 use Rattle.sd_law_contained.specs.Changed.{changed_by, IsTable, IsHarmless}
 use Rattle.sd_law_contained.proofs.Masks.{changed_none}
 

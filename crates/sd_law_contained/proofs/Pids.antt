@@ -9,8 +9,8 @@ use Rattle.sd_base.proofs.Bools.{and_false}
 use Rattle.sd_packet.specs.Header.{pid_of, has_payload, payload_start_of, controlled}
 use Rattle.sd_packet.specs.Positions.{is_positional, is_placed, moved, moved_by}
 use Rattle.sd_packet.proofs.Packets.{start_within}
-use Rattle.sd_keystream.specs.Scrambling.{descrambled, laid_under, payload_under}
-use Rattle.sd_keystream.proofs.Scramblings.{pid_by_bytes}
+use Rattle.sd_cipher.specs.Scrambling.{descrambled, laid_under, payload_under}
+use Rattle.sd_cipher.proofs.Scramblings.{pid_by_bytes}
 use Rattle.sd_psi.specs.Rewriting.{restored, restore_fault}
 use Rattle.sd_spec.specs.Confirmed.{Segment, unmarked}
 

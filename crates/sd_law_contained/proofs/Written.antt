@@ -11,7 +11,7 @@ use Rattle.std.proofs.lemmas.List.Elements.{filter-append}
 use Rattle.sd_base.proofs.Bools.{tested}
 use Rattle.sd_packet.specs.Header.{pid_of, scrambling_of}
 use Rattle.sd_packet.specs.Positions.{is_placed, moved_by}
-use Rattle.sd_keystream.specs.Scrambling.{descrambled}
+use Rattle.sd_cipher.specs.Scrambling.{descrambled}
 use Rattle.sd_spec.specs.Confirmed.{Segment, position_in, position_or_first, tracked, is_near_to, is_confirmed}
 use Rattle.sd_spec.specs.Confirmed.{unmarked}
 use Rattle.sd_spec.specs.Confirmed.{is_foreign, judged, Wrote, then_wrote, written_from}

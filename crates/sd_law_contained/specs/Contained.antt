@@ -1,7 +1,7 @@
 -- Public meaning: a stream of which what tells a receiver something and what is of one PID arrives as it was sent.
 use Rattle.std.specs.Prelude.{◌≡◌, ◌^◌, ◌<◌, true, List, []}
 use Rattle.sd_base.specs.Types.{Packets, Pid, LeafNumber}
-use Rattle.sd_site.specs.CardFields.{CardFields, card_of}
+use Rattle.sd_site_cards.specs.CardFields.{CardFields, card_of}
 use Rattle.sd_spec.specs.Counting.{counting}
 use Rattle.sd_law_losses.specs.Channel.{Channel, Arrival, AreRunsOf, arriving}
 use Rattle.sd_law_contained.specs.Alone.{alone, few_held_in}

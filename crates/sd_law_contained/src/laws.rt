@@ -2,7 +2,7 @@
 
 ghost use Rattle.std.specs.Prelude.{◌≡◌, ◌<◌, ◌^◌, [], ℕ, List, slice_index, None, true, false, reverse};
 ghost use Rattle.sd_base.specs.Types.{Bytes, Packet, Packets, Pid, LeafNumber};
-ghost use Rattle.sd_site.specs.CardFields.{CardFields};
+ghost use Rattle.sd_site_cards.specs.CardFields.{CardFields};
 ghost use Rattle.sd_spec.specs.Offered.{out_from, break_from};
 ghost use Rattle.sd_spec.specs.Ending.{ending_of};
 ghost use Rattle.sd_spec.specs.Counting.{counting};

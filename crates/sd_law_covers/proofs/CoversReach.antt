@@ -7,21 +7,21 @@ use Rattle.std.proofs.lemmas.Bool.{false_from_ne_true}
 use Rattle.std.proofs.lemmas.List.Elements.{All-contains}
 use Rattle.std.proofs.lemmas.List.Folds.{Any-from_list_any}
 use Rattle.sd_base.proofs.Lists.{is_found, counted_any}
-use Rattle.sd_tree.specs.Leaves.{is_member}
-use Rattle.sd_tree.specs.declared.set.SetName.{SetName}
+use Rattle.sd_tree_keys.specs.Leaves.{is_member}
+use Rattle.sd_tree_keys.specs.declared.set.SetName.{SetName}
 use Rattle.sd_book.specs.declared.command.Command.{Command}
 use Rattle.sd_book.specs.Commands.{revoked}
 use Rattle.sd_book.proofs.Revocations.{below}
-use Rattle.sd_tree.specs.Names.{given}
-use Rattle.sd_cover.specs.Chains.{IsChainCover}
-use Rattle.sd_cover.proofs.Covers.{cover_partition}
-use Rattle.sd_cover.proofs.Heights.{of_height}
-use Rattle.sd_cover.proofs.Partitions.{among_unrevoked}
-use Rattle.sd_cover.proofs.Ends.{AreLeaves}
-use Rattle.sd_cover.proofs.Lists.{counted_some, found_member}
-use Rattle.sd_cover.specs.Reach.{IsReached, Named, Key, ReachesNoneOf, source_of}
-use Rattle.sd_cover.proofs.Reached.{reached_by_one}
-use Rattle.sd_cover.proofs.Own.{reaches_its_sets}
+use Rattle.sd_tree_keys.specs.Names.{given}
+use Rattle.sd_cover_tracing.specs.Chains.{IsChainCover}
+use Rattle.sd_cover_tracing.proofs.Covers.{cover_partition}
+use Rattle.sd_cover_tracing.proofs.Heights.{of_height}
+use Rattle.sd_cover_tracing.proofs.Partitions.{among_unrevoked}
+use Rattle.sd_cover_tracing.proofs.Ends.{AreLeaves}
+use Rattle.sd_cover_tracing.proofs.Lists.{counted_some, found_member}
+use Rattle.sd_cover_tracing.specs.Reach.{IsReached, Named, Key, ReachesNoneOf, source_of}
+use Rattle.sd_cover_tracing.proofs.Reached.{reached_by_one}
+use Rattle.sd_cover_tracing.proofs.Own.{reaches_its_sets}
 
 -- no set of a chain cover has a revoked leaf
 none_has : (d : ℕ) (leaves : List ℕ) (sets : List SetName) (u : ℕ) → d ≤ 20 → AreLeaves d leaves

@@ -5,10 +5,10 @@ use Rattle.std.specs.List.{range_with_len, flat_map}
 use Rattle.std.proofs.lemmas.List.{flat_map_more}
 use Rattle.std.proofs.lemmas.List.FromFn.{map-range_with_len_more}
 use Rattle.sd_base.proofs.Ranges.{range_more}
-use Rattle.sd_tree.specs.declared.name.Name.{Name}
-use Rattle.sd_tree.specs.declared.name.Name.TheVariants.{Whole, Pair}
-use Rattle.sd_tree.specs.Names.{given, given_under}
-use Rattle.sd_tree.specs.Paths.{path_node, sibling_of}
+use Rattle.sd_tree_keys.specs.declared.name.Name.{Name}
+use Rattle.sd_tree_keys.specs.declared.name.Name.TheVariants.{Whole, Pair}
+use Rattle.sd_tree_keys.specs.Names.{given, given_under}
+use Rattle.sd_tree_keys.specs.Paths.{path_node, sibling_of}
 
 -- the first n pairs of the leaf's ancestor at depth a
 abbrev pub first_pairs : ℕ → ℕ → ℕ → ℕ → List Name

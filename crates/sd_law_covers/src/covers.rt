@@ -2,14 +2,14 @@
 //! that was kept gives what a cover from scratch gives.
 
 ghost use Rattle.std.specs.Prelude.{◌≡◌, ℕ, ◌+◌, ◌^◌, ◌<◌, ◌≤◌, ◌↔◌, [], List, All, Bool, Contains, length};
-ghost use Rattle.sd_tree.specs.declared.set.SetName.{SetName};
-ghost use Rattle.sd_cover.specs.Chains.{IsInTree, IsChainCover};
-ghost use Rattle.sd_cover.specs.Index.{count_below};
-ghost use Rattle.sd_cover.specs.Changes.{Change, revoked_with, last_revoked};
-ghost use Rattle.sd_tree.specs.Leaves.{unrevoked};
-ghost use Rattle.sd_tree.specs.SetNames.{IsOfHeight};
-ghost use Rattle.sd_cover.specs.Partition.{IsPartition, IsSmall};
-ghost use Rattle.sd_cover.specs.Cover.{cover_by, cover_of};
+ghost use Rattle.sd_tree_keys.specs.declared.set.SetName.{SetName};
+ghost use Rattle.sd_cover_tracing.specs.Chains.{IsInTree, IsChainCover};
+ghost use Rattle.sd_cover_tracing.specs.Index.{count_below};
+ghost use Rattle.sd_cover_tracing.specs.Changes.{Change, revoked_with, last_revoked};
+ghost use Rattle.sd_tree_keys.specs.Leaves.{unrevoked};
+ghost use Rattle.sd_tree_keys.specs.SetNames.{IsOfHeight};
+ghost use Rattle.sd_cover_tracing.specs.Partition.{IsPartition, IsSmall};
+ghost use Rattle.sd_cover_tracing.specs.Cover.{cover_by, cover_of};
 
 /// The count of the revoked leaves at or below a node is above 0 exactly where the node is in the Steiner tree.
 pub fn counts_tell_the_tree()

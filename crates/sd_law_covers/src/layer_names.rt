@@ -1,11 +1,11 @@
 ghost use Rattle.std.specs.Prelude.{◌≡◌, ◌^◌, ◌<◌, ◌≤◌, IfOk, All, filter};
-ghost use Rattle.sd_tree.specs.SetNames.{IsOfHeight};
+ghost use Rattle.sd_tree_keys.specs.SetNames.{IsOfHeight};
 ghost use Rattle.sd_lsd.specs.LayerNames.{layer_given, is_useful_name, set_of, ReachesItsUseful};
 
 use crate::names::names_of;
 use sd_base::NoMemory;
 use sd_lsd::{Width, useful};
-use sd_tree::{HIGHEST, Height, Leaf, Name, SetName};
+use sd_tree_keys::{HIGHEST, Height, Leaf, Name, SetName};
 use std::alloc::{AllocError, Global};
 
 /// What the leaf's layer card holds secrets of, in the card's order: the whole set, and then of the pairs of each

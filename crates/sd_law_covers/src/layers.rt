@@ -2,18 +2,18 @@
 
 ghost use Rattle.std.specs.Prelude.{◌≡◌, ◌+◌, ◌≤◌, ◌<◌, ◌^◌, ◌↔◌, ◌⊎◌, ℕ, List, All, Any, Contains, true, length};
 ghost use Rattle.std.specs.Prelude.{◌%◌};
-ghost use Rattle.sd_tree.specs.Leaves.{is_member, unrevoked};
-ghost use Rattle.sd_tree.specs.SetNames.{IsOfHeight};
-ghost use Rattle.sd_tree.specs.Limits.{highest};
-ghost use Rattle.sd_tree.specs.declared.set.SetName.{SetName};
-ghost use Rattle.sd_tree.specs.Keys.{key_of};
-ghost use Rattle.sd_tree.specs.Names.{given};
-ghost use Rattle.sd_cover.specs.Reach.{Key, IsReached};
+ghost use Rattle.sd_tree_keys.specs.Leaves.{is_member, unrevoked};
+ghost use Rattle.sd_tree_keys.specs.SetNames.{IsOfHeight};
+ghost use Rattle.sd_tree_keys.specs.Limits.{highest};
+ghost use Rattle.sd_tree_keys.specs.declared.set.SetName.{SetName};
+ghost use Rattle.sd_tree_keys.specs.Keys.{key_of};
+ghost use Rattle.sd_tree_keys.specs.Names.{given};
+ghost use Rattle.sd_cover_tracing.specs.Reach.{Key, IsReached};
 ghost use Rattle.sd_lsd.specs.Layers.{is_useful, layer_end};
 ghost use Rattle.sd_lsd.specs.Cover.{IsLayerCover, IsDoubleSmall, layer_cover_of};
 ghost use Rattle.sd_lsd.specs.LayerNames.{layer_given, layer_count, ReachesItsUseful};
 ghost use Rattle.sd_lsd.specs.Fields.{LayerFields, IsLayerCard, layer_card_of, layer_bytes, layer_key};
-ghost use Rattle.sd_cover.specs.Partition.{IsPartition};
+ghost use Rattle.sd_cover_tracing.specs.Partition.{IsPartition};
 
 /// How many names a leaf is given in layers; and of width 1, and of the tree's height, all that it is given without.
 #[tactic(auto, using(sd_lsd::proofs::Given::length_layer_given, sd_lsd::proofs::Given::all_given))]

@@ -1,14 +1,14 @@
 ghost use Rattle.std.specs.Prelude.{◌≡◌, ◌+◌, ◌^◌, ◌<◌, ◌++◌, IfOk, OnOk};
-ghost use Rattle.sd_tree.specs.Names.{given, given_under};
-ghost use Rattle.sd_cover.specs.Reach.{ReachesItsSets};
+ghost use Rattle.sd_tree_keys.specs.Names.{given, given_under};
+ghost use Rattle.sd_cover_tracing.specs.Reach.{ReachesItsSets};
 
 use sd_base::NoMemory;
-use sd_tree::{Height, Leaf, Name, path_node, sibling};
+use sd_tree_keys::{Height, Leaf, Name, path_node, sibling};
 use std::alloc::{AllocError, Global};
 
 /// What the leaf's card holds secrets of, in the card's order: the whole set, and then the pairs of each ancestor
 /// [Naor, Naor, Lotspiech 2001, 3.2].
-#[tactic(auto, using(sd_cover::proofs::Own::reaches_its_sets))]
+#[tactic(auto, using(sd_cover_tracing::proofs::Own::reaches_its_sets))]
 pub fn names_of(alloc: Global, h: Height, u: Leaf) -> Result<Vec<Name>, NoMemory>
     requires { u < 2 ^ h }
     ensures value { IfOk result (λ names. names.items ≡ given h u) }

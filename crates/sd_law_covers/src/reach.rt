@@ -2,14 +2,14 @@
 
 ghost use Rattle.std.specs.Prelude.{◌≡◌, ℕ, ◌^◌, ◌<◌, ◌≤◌, ◌↔◌, Bool, true, List, All, Any, Contains};
 ghost use Rattle.std.specs.List.{flat_map};
-ghost use Rattle.sd_tree.specs.declared.set.SetName.{SetName};
-ghost use Rattle.sd_tree.specs.declared.name.Name.{Name};
-ghost use Rattle.sd_tree.specs.Names.{given};
+ghost use Rattle.sd_tree_keys.specs.declared.set.SetName.{SetName};
+ghost use Rattle.sd_tree_keys.specs.declared.name.Name.{Name};
+ghost use Rattle.sd_tree_keys.specs.Names.{given};
 ghost use Rattle.sd_book.specs.declared.command.Command.{Command};
 ghost use Rattle.sd_book.specs.Commands.{revoked as revoked_in};
-ghost use Rattle.sd_cover.specs.Chains.{IsChainCover};
-ghost use Rattle.sd_cover.specs.Reach.{Secret, Named, Key, IsGeneratorStep, IsReached, LeadsTo, ReachesItsSets};
-ghost use Rattle.sd_cover.specs.Reach.{ReachesNoneOf};
+ghost use Rattle.sd_cover_tracing.specs.Chains.{IsChainCover};
+ghost use Rattle.sd_cover_tracing.specs.Reach.{Secret, Named, Key, IsGeneratorStep, IsReached, LeadsTo, ReachesItsSets};
+ghost use Rattle.sd_cover_tracing.specs.Reach.{ReachesNoneOf};
 
 /// What is reached is the least that has what is held and is closed under the rules.
 pub fn least_closed()
@@ -23,20 +23,20 @@ pub fn least_closed()
 {}
 
 /// What is reached is just what one of the held names leads to, by the ancestry of nodes.
-#[tactic(auto, using(sd_cover::proofs::Reached::reached_by_ancestry))]
+#[tactic(auto, using(sd_cover_tracing::proofs::Reached::reached_by_ancestry))]
 pub fn reached_by_ancestry()
     ensures { (held : List Name) (secret : Secret) → IsReached held secret ↔ Any (λ name. LeadsTo name secret) held }
 {}
 
 /// A leaf's names reach the label or key of a set exactly where the leaf is in the set
 /// [Naor, Naor, Lotspiech 2001, 3.2].
-#[tactic(auto, using(sd_cover::proofs::Own::reaches_its_sets))]
+#[tactic(auto, using(sd_cover_tracing::proofs::Own::reaches_its_sets))]
 pub fn members_reach()
     ensures { (d u : ℕ) → d ≤ 20 → u < 2 ^ d → ReachesItsSets d u (given d u) }
 {}
 
 /// What several leaves reach together is what one of them reaches alone.
-#[tactic(auto, using(sd_cover::proofs::Reached::reached_by_one))]
+#[tactic(auto, using(sd_cover_tracing::proofs::Reached::reached_by_one))]
 pub fn pooled_reach()
     ensures { (d : ℕ) (coalition : List ℕ) (secret : Secret) →
         IsReached (flat_map (given d) coalition) secret ↔ Any (λ u. IsReached (given d u) secret) coalition }

@@ -1,7 +1,7 @@
 ghost use Rattle.std.specs.Prelude.{◌↔◌, IsTrue};
-ghost use Rattle.sd_cover.specs.Reach.{Key, IsReached, LeadsTo};
+ghost use Rattle.sd_cover_tracing.specs.Reach.{Key, IsReached, LeadsTo};
 
-use sd_tree::{Name, SetName, is_above};
+use sd_tree_keys::{Name, SetName, is_above};
 
 /// Whether the set's key follows from the held names by the steps of the generator [Naor, Naor, Lotspiech 2001, 3.2].
 pub fn reaches(held: &[Name], name: SetName) -> bool

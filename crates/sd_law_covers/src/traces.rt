@@ -2,8 +2,8 @@
 
 ghost use Rattle.std.specs.Prelude.{◌≡◌, ◌≢◌, ℕ, ◌+◌, ◌^◌, ◌<◌, ◌≤◌, ◌↔◌, ◌++◌, ◌∷◌, List, All, AllPairs, Contains};
 ghost use Rattle.std.specs.Prelude.{length, map};
-ghost use Rattle.sd_cover.specs.Trace.{IsTrace, AreAnyRounds, IsCheap, trace_of};
-ghost use Rattle.sd_cover.specs.declared.found.Found.{Found};
+ghost use Rattle.sd_cover_tracing.specs.Trace.{IsTrace, AreAnyRounds, IsCheap, trace_of};
+ghost use Rattle.sd_cover_tracing.specs.declared.found.Found.{Found};
 
 /// What is found of a coalition are its leaves that aren't revoked, each once, and no other leaves.
 pub fn a_trace_finds_the_coalition()
@@ -25,7 +25,7 @@ pub fn there_is_a_trace()
 {}
 
 /// A coalition has one trace: what is found, in its order, and by how many trials and splits.
-#[tactic(auto, using(sd_cover::proofs::Anyway::one_trace))]
+#[tactic(auto, using(sd_cover_tracing::proofs::Anyway::one_trace))]
 pub fn one_trace()
     ensures { (d : ℕ) (coalition revoked : List ℕ) (a b : List Found) → 1 ≤ d → d ≤ 20 →
         All (λ u. u < 2 ^ d) revoked → IsTrace d coalition revoked a → IsTrace d coalition revoked b → a ≡ b }

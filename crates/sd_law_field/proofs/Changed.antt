@@ -3,18 +3,18 @@ use Rattle.std.proofs.Common.{arith, ◌≡◌, ℕ, suc, ◌+◌, ◌-◌, ◌^
 use Rattle.std.proofs.Common.{length-append, refl, ap, sym, ◌∙◌, subst}
 use Rattle.std.proofs.lemmas.List.Elements.{All-contains}
 use Rattle.sd_base.specs.Types.{Packet, Packets}
-use Rattle.sd_tree.specs.Leaves.{leaves, with_leaf, without_leaf}
+use Rattle.sd_tree_keys.specs.Leaves.{leaves, with_leaf, without_leaf}
 use Rattle.sd_book.specs.declared.command.Command.{Command}
 use Rattle.sd_book.specs.declared.command.Command.TheVariants.{Subscribe, Revoke, Period}
 use Rattle.sd_book.specs.Commands.{revoked, after_commands, commands_until}
 use Rattle.sd_book.proofs.Followed.{all_follow}
 use Rattle.sd_book.proofs.Replays.{none_revoked}
 use Rattle.sd_book.proofs.Revocations.{below}
-use Rattle.sd_cover.specs.Changes.{revoked_with, last_revoked}
-use Rattle.sd_cover.specs.Chains.{IsChainCover}
-use Rattle.sd_cover.specs.Cover.{cover_of}
-use Rattle.sd_cover.proofs.Changed.{last_change_decides}
-use Rattle.sd_cover.proofs.There.{list_is_cover}
+use Rattle.sd_cover_tracing.specs.Changes.{revoked_with, last_revoked}
+use Rattle.sd_cover_tracing.specs.Chains.{IsChainCover}
+use Rattle.sd_cover_tracing.specs.Cover.{cover_of}
+use Rattle.sd_cover_tracing.proofs.Changed.{last_change_decides}
+use Rattle.sd_cover_tracing.proofs.There.{list_is_cover}
 use Rattle.sd_spec.specs.Plan.{Plan, period_of, sets_at}
 use Rattle.sd_head.specs.declared.head.Head.{Head}
 use Rattle.sd_head.specs.declared.entitling.Entitling.{Entitling}

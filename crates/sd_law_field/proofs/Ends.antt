@@ -3,15 +3,15 @@ use Rattle.std.proofs.Common.{◌≡◌, ℕ, suc, ◌^◌, ◌<◌, ◌≤◌, 
 use Rattle.std.proofs.Common.{◌∙◌, length, arith}
 use Rattle.std.specs.Prelude.{◌↔◌, All, Any, Contains, get_or, if◌then◌else◌}
 use Rattle.std.specs.List.{flat_map, list_any}
-use Rattle.sd_tree.specs.Limits.{highest}
-use Rattle.sd_tree.specs.declared.set.SetName.{SetName}
-use Rattle.sd_tree.specs.SetNames.{IsOfHeight}
-use Rattle.sd_tree.specs.Leaves.{is_member}
-use Rattle.sd_tree.specs.Names.{given}
+use Rattle.sd_tree_keys.specs.Limits.{highest}
+use Rattle.sd_tree_keys.specs.declared.set.SetName.{SetName}
+use Rattle.sd_tree_keys.specs.SetNames.{IsOfHeight}
+use Rattle.sd_tree_keys.specs.Leaves.{is_member}
+use Rattle.sd_tree_keys.specs.Names.{given}
 use Rattle.sd_book.specs.Commands.{last_period}
-use Rattle.sd_cover.specs.Cover.{cover_of}
-use Rattle.sd_cover.specs.Reach.{Key, IsReached}
-use Rattle.sd_cover.proofs.Own.{member_reaches_together}
+use Rattle.sd_cover_tracing.specs.Cover.{cover_of}
+use Rattle.sd_cover_tracing.specs.Reach.{Key, IsReached}
+use Rattle.sd_cover_tracing.proofs.Own.{member_reaches_together}
 use Rattle.sd_law_coalition.specs.Know.{Service, OfTree, PeriodKey, IsKnown, revoked_at, service_sets}
 use Rattle.sd_law_coalition.proofs.Known.{secrets_known, periods_known, sets_opened, sets_shut}
 use Rattle.sd_command_base.specs.Periods.{set_line, period_line}

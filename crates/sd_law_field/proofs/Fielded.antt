@@ -7,13 +7,13 @@ use Rattle.std.specs.List.Sorted.{IsStrictlyIncreasing}
 use Rattle.std.proofs.lemmas.List.{length-map, length-reverse}
 use Rattle.std.proofs.lemmas.List.Elements.{All-get_or, All-map, All-weaker}
 use Rattle.sd_base.proofs.Arithmetic.{packets_in}
-use Rattle.sd_site.specs.SiteFields.{SiteFields}
-use Rattle.sd_site.specs.CardFields.{card_of}
+use Rattle.sd_site_cards.specs.SiteFields.{SiteFields}
+use Rattle.sd_site_cards.specs.CardFields.{card_of}
 use Rattle.sd_book.specs.Commands.{last_period}
 use Rattle.sd_spec.specs.Plan.{IsPlan, Plan, period_of}
 use Rattle.sd_spec.specs.Refused.{IsClear, refusal_from}
 use Rattle.sd_spec.specs.Sent.{body}
-use Rattle.sd_psi.specs.declared.clear_fault.ClearFault.{ClearFault}
+use Rattle.sd_message.specs.declared.clear_fault.ClearFault.{ClearFault}
 use Rattle.sd_law_broadcast.specs.Synced.{IsSynced, AreSynced}
 use Rattle.sd_law_broadcast.proofs.Joined.{joined_long}
 use Rattle.sd_law_broadcast.proofs.Synced.{body_synced}

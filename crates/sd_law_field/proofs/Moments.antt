@@ -5,8 +5,8 @@ use Rattle.std.specs.Prelude.{All, Some, slice_get}
 use Rattle.std.proofs.lemmas.List.{length-map, length-take, reverse-append, take-append-drop, take-take}
 use Rattle.std.proofs.lemmas.List.Elements.{All-head, All-tail, All-take}
 use Rattle.std.proofs.Math.Seq.{get_or-take}
-use Rattle.sd_site.specs.SiteFields.{SiteFields}
-use Rattle.sd_site.specs.CardFields.{card_of}
+use Rattle.sd_site_cards.specs.SiteFields.{SiteFields}
+use Rattle.sd_site_cards.specs.CardFields.{card_of}
 use Rattle.sd_spec.specs.Refused.{IsClear}
 use Rattle.sd_law_broadcast.specs.Packets.{IsWholePacket}
 use Rattle.sd_law_broadcast.specs.Synced.{IsSynced}

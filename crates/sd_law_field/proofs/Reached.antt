@@ -9,7 +9,7 @@ use Rattle.std.proofs.lemmas.List.{length-map, length-reverse, reverse-append}
 use Rattle.std.proofs.lemmas.List.Elements.{All-nil, All-cons, All-append, All-head, All-tail, All-weaker}
 use Rattle.sd_base.proofs.Lists.{all_first}
 use Rattle.sd_base.specs.Types.{Packets}
-use Rattle.sd_site.specs.SiteFields.{SiteFields}
+use Rattle.sd_site_cards.specs.SiteFields.{SiteFields}
 use Rattle.sd_book.specs.declared.command.Command.{Command}
 use Rattle.sd_spec.specs.Plan.{Plan}
 use Rattle.sd_spec.specs.declared.event.Event.{Event}

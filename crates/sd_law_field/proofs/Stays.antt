@@ -8,12 +8,12 @@ use Rattle.std.proofs.lemmas.Bool.Decides.{nat_tests}
 use Rattle.std.proofs.lemmas.List.{length-take}
 use Rattle.std.proofs.Math.Nat.{le-div_iff_mul-le}
 use Rattle.sd_base.specs.Types.{Packets}
-use Rattle.sd_site.specs.SiteFields.{SiteFields, AreInRange}
+use Rattle.sd_site_cards.specs.SiteFields.{SiteFields, AreInRange}
 use Rattle.sd_book.specs.declared.command.Command.{Command}
 use Rattle.sd_book.specs.Limits.{most_periods}
 use Rattle.sd_book.specs.Commands.{last_period, revoked, revoked_after}
 use Rattle.sd_book.proofs.Cuts.{revoked_past}
-use Rattle.sd_cover.proofs.Ranges.{filter_same}
+use Rattle.sd_cover_tracing.proofs.Ranges.{filter_same}
 use Rattle.sd_spec.specs.Plan.{period_of, sets_at, closing_number}
 use Rattle.sd_spec.specs.Messages.{period_at, message_at}
 use Rattle.sd_spec.specs.Sent.{Item, Cat, tables_at, added, sent_from, sent}

@@ -2,7 +2,7 @@
 use Rattle.std.specs.Prelude.{List, [], ◌∷◌}
 use Rattle.sd_book.specs.declared.command.Command.{Command}
 use Rattle.sd_book.specs.declared.command.Command.TheVariants.{Subscribe, Revoke, Period}
-use Rattle.sd_cover.specs.Changes.{Change, Revokes, Subscribes}
+use Rattle.sd_cover_tracing.specs.Changes.{Change, Revokes, Subscribes}
 
 -- the changes that these commands make, one after the other: a Period makes none
 abbrev pub changes_of : List Command → List Change

@@ -3,7 +3,7 @@
 use Rattle.std.specs.Prelude.{◌≡◌, ◌^◌, ◌<◌, ◌≤◌, ℕ, zero, suc, true, List, ◌++◌, All, length, reverse}
 use Rattle.std.specs.List.{concat}
 use Rattle.sd_base.specs.Types.{Bytes, Packets, LeafNumber, PacketNumber}
-use Rattle.sd_site.specs.SiteFields.{SiteFields, AreInRange}
+use Rattle.sd_site_cards.specs.SiteFields.{SiteFields, AreInRange}
 use Rattle.sd_book.specs.Commands.{last_period}
 use Rattle.sd_spec.specs.Plan.{IsPlan, Plan}
 use Rattle.sd_spec.specs.Refused.{IsClear}

@@ -3,7 +3,7 @@
 use Rattle.std.specs.Prelude.{ℕ, nat_eq, List, filter, length, map, take}
 use Rattle.std.specs.List.{flat_map, list_any, range_with_len}
 use Rattle.sd_base.specs.Types.{Packets, Arrived, LeafNumber, PacketNumber}
-use Rattle.sd_site.specs.CardFields.{CardFields, card_of}
+use Rattle.sd_site_cards.specs.CardFields.{CardFields, card_of}
 use Rattle.sd_spec.specs.Plan.{Plan}
 use Rattle.sd_spec.specs.Sent.{Item, Cat, sent}
 use Rattle.sd_law_losses.specs.Kept.{after_cat}

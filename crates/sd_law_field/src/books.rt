@@ -2,7 +2,7 @@
 
 ghost use Rattle.std.specs.Prelude.{◌≡◌, ◌⊎◌, ◌+◌, ◌^◌, ◌<◌, ◌≤◌, ◌++◌, ℕ, true, List, All, count_by, length, max, min};
 ghost use Rattle.sd_base.specs.Types.{Packets, Height, PeriodNumber, PacketNumber};
-ghost use Rattle.sd_site.specs.SiteFields.{SiteFields, AreInRange};
+ghost use Rattle.sd_site_cards.specs.SiteFields.{SiteFields, AreInRange};
 ghost use Rattle.sd_book.specs.declared.command.Command.{Command};
 ghost use Rattle.sd_book.specs.Limits.{most_periods};
 ghost use Rattle.sd_book.specs.Commands.{commands_in, commands_until, last_period};

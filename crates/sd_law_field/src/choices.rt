@@ -2,7 +2,7 @@
 
 ghost use Rattle.std.specs.Prelude.{◌≡◌, ◌^◌, ◌<◌, ◌++◌, true, false, List, All, length};
 ghost use Rattle.sd_base.specs.Types.{Packets, LeafNumber, PacketNumber};
-ghost use Rattle.sd_site.specs.SiteFields.{SiteFields};
+ghost use Rattle.sd_site_cards.specs.SiteFields.{SiteFields};
 ghost use Rattle.sd_spec.specs.Plan.{Plan};
 ghost use Rattle.sd_spec.specs.declared.event.Event.{Event};
 ghost use Rattle.sd_spec.specs.Events.{is_of};

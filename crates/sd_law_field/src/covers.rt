@@ -4,9 +4,9 @@ ghost use Rattle.std.specs.Prelude.{◌≡◌, ◌<◌, ◌-◌, ◌++◌, ◌�
 ghost use Rattle.sd_base.specs.Types.{Bytes, Packet, Packets, Height, Leaves, PeriodNumber};
 ghost use Rattle.sd_book.specs.declared.command.Command.{Command};
 ghost use Rattle.sd_book.specs.Commands.{after_commands, commands_until, revoked};
-ghost use Rattle.sd_cover.specs.Changes.{revoked_with, last_revoked};
-ghost use Rattle.sd_cover.specs.Chains.{IsChainCover};
-ghost use Rattle.sd_cover.specs.Cover.{cover_of};
+ghost use Rattle.sd_cover_tracing.specs.Changes.{revoked_with, last_revoked};
+ghost use Rattle.sd_cover_tracing.specs.Chains.{IsChainCover};
+ghost use Rattle.sd_cover_tracing.specs.Cover.{cover_of};
 ghost use Rattle.sd_spec.specs.Plan.{Plan, period_of, sets_at};
 ghost use Rattle.sd_head.specs.declared.head.Head.{Head};
 ghost use Rattle.sd_head.specs.Staged.{IsAfter, head_closes};

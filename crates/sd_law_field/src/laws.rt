@@ -4,7 +4,7 @@ ghost use Rattle.std.specs.Prelude.{◌≡◌, ◌^◌, ◌<◌, [], ℕ, false,
 ghost use Rattle.std.specs.Prelude.{slice_get, take};
 ghost use Rattle.std.specs.List.Sorted.{IsStrictlyIncreasing};
 ghost use Rattle.sd_base.specs.Types.{Bytes, Packets, LeafNumber, PacketNumber};
-ghost use Rattle.sd_site.specs.SiteFields.{SiteFields};
+ghost use Rattle.sd_site_cards.specs.SiteFields.{SiteFields};
 ghost use Rattle.sd_spec.specs.Plan.{period_of};
 ghost use Rattle.sd_spec.specs.Refused.{IsClear};
 ghost use Rattle.sd_law_losses.specs.Confirmed.{is_revoked_in, packets_at};

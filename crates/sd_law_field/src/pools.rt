@@ -4,12 +4,12 @@
 ghost use Rattle.std.specs.Prelude.{◌≡◌, ◌^◌, ◌<◌, ◌≤◌, ◌↔◌, All, Any, Contains};
 ghost use Rattle.std.specs.List.{flat_map};
 ghost use Rattle.sd_base.specs.Types.{Height, Leaves, PeriodNumber};
-ghost use Rattle.sd_tree.specs.Limits.{highest};
-ghost use Rattle.sd_tree.specs.declared.set.SetName.{SetName};
-ghost use Rattle.sd_tree.specs.SetNames.{IsOfHeight};
-ghost use Rattle.sd_tree.specs.Names.{given};
+ghost use Rattle.sd_tree_keys.specs.Limits.{highest};
+ghost use Rattle.sd_tree_keys.specs.declared.set.SetName.{SetName};
+ghost use Rattle.sd_tree_keys.specs.SetNames.{IsOfHeight};
+ghost use Rattle.sd_tree_keys.specs.Names.{given};
 ghost use Rattle.sd_book.specs.Commands.{last_period};
-ghost use Rattle.sd_cover.specs.Reach.{Key, IsReached};
+ghost use Rattle.sd_cover_tracing.specs.Reach.{Key, IsReached};
 ghost use Rattle.sd_law_coalition.specs.Know.{Service, OfTree, PeriodKey, IsKnown, KnowsNothingOf, revoked_at};
 ghost use Rattle.sd_law_coalition.specs.Know.{service_sets};
 ghost use Rattle.sd_run_books.specs.Opens.{open_end, pool_end, opened_text, shut_text};

@@ -11,12 +11,12 @@ use Rattle.hex.specs.Hex.{IsBytes, decode_of}
 use Rattle.hex.specs.declared.error.FromHexError.{FromHexError}
 use Rattle.hex.proofs.HexLemmas.{decode_of-ok}
 use Rattle.sd_base.specs.Number.{rest_after}
-use Rattle.sd_site.specs.SiteFields.{SiteFields}
-use Rattle.sd_site.specs.Forms.{BytesLine, bytes_after, bytes_on, bytes_said, ca_line, digest_bytes, master_line}
-use Rattle.sd_site.specs.Forms.{most_book_size}
-use Rattle.sd_site.specs.Text.{IsSite}
-use Rattle.sd_site.specs.Written.{IsSayable}
-use Rattle.sd_site.specs.declared.book_line.BookLine.{BookLine}
+use Rattle.sd_site_cards.specs.SiteFields.{SiteFields}
+use Rattle.sd_site_cards.specs.Forms.{BytesLine, bytes_after, bytes_on, bytes_said, ca_line, digest_bytes, master_line}
+use Rattle.sd_site_cards.specs.Forms.{most_book_size}
+use Rattle.sd_site_cards.specs.Text.{IsSite}
+use Rattle.sd_site_cards.specs.Written.{IsSayable}
+use Rattle.sd_site_cards.specs.declared.book_line.BookLine.{BookLine}
 
 -- bytes are numbers below 256
 pub numbers_are : (bytes : List ℕ) → IsBytes bytes → All (λ byte. byte < 256) bytes

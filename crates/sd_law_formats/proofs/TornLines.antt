@@ -14,15 +14,15 @@ use Rattle.sd_base.specs.Lines.{lines_of, onto_first_line}
 use Rattle.sd_base.specs.Number.{decimal_after, decimal_value, is_decimal, rest_after}
 use Rattle.sd_base.proofs.Digits.{own}
 use Rattle.sd_ports.specs.Bytes.{IsPrefix}
-use Rattle.sd_site.specs.SiteFields.{SiteFields}
-use Rattle.sd_site.specs.Forms.{Form, first_period_line, forms, number}
-use Rattle.sd_site.specs.SiteFaults.{IsOutOfRange}
-use Rattle.sd_site.specs.Text.{◌>>=◌, site_of, book_line_of}
-use Rattle.sd_site.specs.Written.{IsSayable, site_text, is_whole, is_first, newest_of}
-use Rattle.sd_site.specs.declared.book_line.BookLine.{BookLine}
-use Rattle.sd_site.specs.declared.site_fault.SiteFault.{SiteFault}
-use Rattle.sd_site.specs.declared.site_fault.SiteFault.TheVariants.{Range, Short}
-use Rattle.sd_site.proofs.Alone.{is_cause}
+use Rattle.sd_site_cards.specs.SiteFields.{SiteFields}
+use Rattle.sd_site_cards.specs.Forms.{Form, first_period_line, forms, number}
+use Rattle.sd_site_cards.specs.SiteFaults.{IsOutOfRange}
+use Rattle.sd_site_cards.specs.Text.{◌>>=◌, site_of, book_line_of}
+use Rattle.sd_site_cards.specs.Written.{IsSayable, site_text, is_whole, is_first, newest_of}
+use Rattle.sd_site_cards.specs.declared.book_line.BookLine.{BookLine}
+use Rattle.sd_site_cards.specs.declared.site_fault.SiteFault.{SiteFault}
+use Rattle.sd_site_cards.specs.declared.site_fault.SiteFault.TheVariants.{Range, Short}
+use Rattle.sd_site_cards.proofs.Alone.{is_cause}
 use Rattle.sd_law_formats.proofs.WrittenSites.{book_line_on, lines_written, site_lines}
 
 -- one of the lines begins with this

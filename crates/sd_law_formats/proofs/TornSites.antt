@@ -8,12 +8,12 @@ use Rattle.std.proofs.lemmas.List.Sums.{sum_by-append}
 use Rattle.std.specs.Result.{result_unwrap_or}
 use Rattle.sd_base.specs.Lines.{lines_of, onto_first_line}
 use Rattle.sd_ports.specs.Bytes.{IsPrefix}
-use Rattle.sd_site.specs.SiteFields.{SiteFields}
-use Rattle.sd_site.specs.Text.{◌>>=◌, site_of, site_on, book_line_of}
-use Rattle.sd_site.specs.Written.{IsSayable, site_text, is_whole, is_first, newest_of, none_fewer}
-use Rattle.sd_site.specs.declared.book_line.BookLine.{BookLine}
-use Rattle.sd_site.specs.declared.site_fault.SiteFault.{SiteFault}
-use Rattle.sd_site.specs.declared.site_fault.SiteFault.TheVariants.{Short}
+use Rattle.sd_site_cards.specs.SiteFields.{SiteFields}
+use Rattle.sd_site_cards.specs.Text.{◌>>=◌, site_of, site_on, book_line_of}
+use Rattle.sd_site_cards.specs.Written.{IsSayable, site_text, is_whole, is_first, newest_of, none_fewer}
+use Rattle.sd_site_cards.specs.declared.book_line.BookLine.{BookLine}
+use Rattle.sd_site_cards.specs.declared.site_fault.SiteFault.{SiteFault}
+use Rattle.sd_site_cards.specs.declared.site_fault.SiteFault.TheVariants.{Short}
 use Rattle.sd_law_formats.proofs.WrittenSites.{feeds, site_lines, lines_said, lines_written}
 
 -- the line feeds of a text with a byte before it

@@ -21,14 +21,14 @@ use Rattle.hex.proofs.HexLemmas.{decode_of-encode_lower, length-encode_with}
 use Rattle.sd_base.specs.Lines.{lines_of, is_line, cut_at_space}
 use Rattle.sd_base.proofs.Cuts.{line_cut}
 use Rattle.sd_base.proofs.DecimalNumbers.{after_word, decimal_after_decimal, decimal_in_line, number_of_decimal}
-use Rattle.sd_site.specs.Forms.{height_line, master_line, ca_line, emm_line, ecm_line, every_line, cryptos_line}
-use Rattle.sd_site.specs.Forms.{span_line, messages_line, first_word_line, last_word_line, first_period_line}
-use Rattle.sd_site.specs.Forms.{NumberLine, BytesLine, IsWithin, bytes_after, bytes_said, book_after, book_word}
-use Rattle.sd_site.specs.Forms.{most_book_size, digest_bytes}
-use Rattle.sd_site.specs.Text.{number_at, bytes_at, said_on, site_on, book_on, optional_on, book_at}
-use Rattle.sd_site.specs.SiteFields.{SiteFields}
-use Rattle.sd_site.specs.Written.{IsSayable, site_text, newest_of, number_text, bytes_text, book_text}
-use Rattle.sd_site.specs.declared.book_line.BookLine.{BookLine}
+use Rattle.sd_site_cards.specs.Forms.{height_line, master_line, ca_line, emm_line, ecm_line, every_line, cryptos_line}
+use Rattle.sd_site_cards.specs.Forms.{span_line, messages_line, first_word_line, last_word_line, first_period_line}
+use Rattle.sd_site_cards.specs.Forms.{NumberLine, BytesLine, IsWithin, bytes_after, bytes_said, book_after, book_word}
+use Rattle.sd_site_cards.specs.Forms.{most_book_size, digest_bytes}
+use Rattle.sd_site_cards.specs.Text.{number_at, bytes_at, said_on, site_on, book_on, optional_on, book_at}
+use Rattle.sd_site_cards.specs.SiteFields.{SiteFields}
+use Rattle.sd_site_cards.specs.Written.{IsSayable, site_text, newest_of, number_text, bytes_text, book_text}
+use Rattle.sd_site_cards.specs.declared.book_line.BookLine.{BookLine}
 
 -- the number of line feeds in a text
 abbrev pub feeds : List ℕ → ℕ

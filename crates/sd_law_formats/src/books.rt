@@ -5,7 +5,7 @@ ghost use Rattle.std.specs.Prelude.{not, true, length, ◌*◌, ◌^◌};
 ghost use Rattle.sd_base.specs.Lines.{lines_of};
 ghost use Rattle.sd_book.specs.declared.command.Command.{Command as Commands};
 ghost use Rattle.sd_book.specs.declared.fault.BookFault.{BookFault as Faults};
-ghost use Rattle.sd_tree.specs.Leaves.{leaves};
+ghost use Rattle.sd_tree_keys.specs.Leaves.{leaves};
 ghost use Rattle.sd_book.specs.Commands.{after_command, after_commands, commands_in, commands_until, entitled};
 ghost use Rattle.sd_book.specs.Commands.{is_revoked, is_within, last_period, revoked, revoked_after};
 ghost use Rattle.sd_book.specs.Faults.{IsCauseOf};

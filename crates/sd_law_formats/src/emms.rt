@@ -9,7 +9,7 @@ ghost use Rattle.sd_message.specs.Period.{Period, emm_at, emms_of, IsPeriod, IsO
 ghost use Rattle.sd_message.specs.declared.emm.Emm.{Emm};
 
 use sd_message::{Emm, EmmFault, read_emm, write_emm};
-use sd_tree::Height;
+use sd_tree_keys::Height;
 
 /// What is written is read as what was written, at each height at which the entries are sets that may stand there.
 pub fn written_is_read(h: Height, emm: &Emm, pid: u16, counter: u8) -> Result<Option<Emm>, EmmFault>

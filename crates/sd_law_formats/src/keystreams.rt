@@ -1,28 +1,28 @@
 //! Laws of texts that are XORed with a keystream, of wrapping twice, and of scrambling and descrambling.
 
 ghost use Rattle.std.specs.Prelude.{◌≡◌, ◌≤◌, ℕ, List, length, ◌<◌, slice_index};
-ghost use Rattle.sd_keystream.specs.Keystream.{keystream, xored};
-ghost use Rattle.sd_keystream.specs.Wrapping.{wrapped};
+ghost use Rattle.sd_cipher.specs.Keystream.{keystream, xored};
+ghost use Rattle.sd_cipher.specs.Wrapping.{wrapped};
 ghost use Rattle.sd_packet.specs.Header.{scrambling_of};
-ghost use Rattle.sd_keystream.specs.Scrambling.{control_of, payload_under, scrambled, descrambled, IsLaidUnder};
-ghost use Rattle.sd_keystream.specs.declared.payload.Parity.{Parity};
+ghost use Rattle.sd_cipher.specs.Scrambling.{control_of, payload_under, scrambled, descrambled, IsLaidUnder};
+ghost use Rattle.sd_cipher.specs.declared.payload.Parity.{Parity};
 
-use sd_keystream::wrap;
+use sd_cipher::wrap;
 
 /// A stream laid twice over a text leaves the text.
-#[tactic(auto, using(sd_keystream::proofs::Streams::xored_twice))]
+#[tactic(auto, using(sd_cipher::proofs::Streams::xored_twice))]
 pub fn laid_twice()
     ensures { (text stream : List ℕ) → length text ≤ length stream → xored (xored text stream) stream ≡ text }
 {}
 
 /// A keystream has as many bytes as are asked for.
-#[tactic(auto, using(sd_keystream::proofs::Streams::keystream_length))]
+#[tactic(auto, using(sd_cipher::proofs::Streams::keystream_length))]
 pub fn keystreams_are_long()
     ensures { (key : List ℕ) (number n : ℕ) → length (keystream key number n) ≡ n }
 {}
 
 /// A wrapped key that is wrapped again, under the same key and number, is the key.
-#[tactic(auto, using(sd_keystream::proofs::Wrappings::twice))]
+#[tactic(auto, using(sd_cipher::proofs::Wrappings::twice))]
 pub fn wrapped_twice(key: &[u8; 32], number: u64, text: &[u8; 32]) -> [u8; 32]
     ensures result { result ≡ text.now }
     ensures each { (key text : List ℕ) (number : ℕ) → length text ≡ 32
@@ -32,7 +32,7 @@ pub fn wrapped_twice(key: &[u8; 32], number: u64, text: &[u8; 32]) -> [u8; 32]
 }
 
 /// A packet that is scrambled and then descrambled under the same word, at the same position, is the packet.
-#[tactic(auto, using(sd_keystream::proofs::Scramblings::undone, sd_keystream::proofs::Scramblings::control_fits))]
+#[tactic(auto, using(sd_cipher::proofs::Scramblings::undone, sd_cipher::proofs::Scramblings::control_fits))]
 pub fn scrambled_and_descrambled()
     ensures { (packet word : List ℕ) (position : ℕ) (parity : Parity) → length packet ≡ 188
         → slice_index packet 3 < 256 →

@@ -2,12 +2,12 @@
 
 ghost use Rattle.std.specs.Prelude.{◌≡◌, ◌≢◌, ℕ, ◌<◌, ◌≤◌, All, List, length, Bool, true, Option, Some, Ok, Err};
 ghost use Rattle.sd_ports.specs.Bytes.{IsPrefix};
-ghost use Rattle.sd_site.specs.SiteFields.{SiteFields};
-ghost use Rattle.sd_site.specs.Forms.{digest_bytes, most_book_size};
-ghost use Rattle.sd_site.specs.Text.{IsSite};
-ghost use Rattle.sd_site.specs.Written.{IsSayable, is_first, is_whole, newest_of, none_fewer, site_text};
-ghost use Rattle.sd_site.specs.declared.book_line.BookLine.{BookLine};
-ghost use Rattle.sd_site.specs.declared.site_fault.SiteFault.TheVariants.{Range};
+ghost use Rattle.sd_site_cards.specs.SiteFields.{SiteFields};
+ghost use Rattle.sd_site_cards.specs.Forms.{digest_bytes, most_book_size};
+ghost use Rattle.sd_site_cards.specs.Text.{IsSite};
+ghost use Rattle.sd_site_cards.specs.Written.{IsSayable, is_first, is_whole, newest_of, none_fewer, site_text};
+ghost use Rattle.sd_site_cards.specs.declared.book_line.BookLine.{BookLine};
+ghost use Rattle.sd_site_cards.specs.declared.site_fault.SiteFault.TheVariants.{Range};
 
 /// A site file has at most 317 bytes.
 pub fn sites_are_short()

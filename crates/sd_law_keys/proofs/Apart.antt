@@ -7,9 +7,9 @@ use Rattle.std.proofs.Math.Seq.{drop-append_seam, take-append_seam}
 use Rattle.std.proofs.lemmas.Nat.{from_be_bytes-to_be_bytes_4}
 use Rattle.sha2.specs.Sha256.{sha256}
 use Rattle.sha2.proofs.Facts256.{length-sha256}
-use Rattle.sd_tree.specs.Labels.{label_of_node, left_of, right_of, middle_of}
-use Rattle.sd_tree.specs.declared.set.SetName.TheVariants.{Whole, Diff}
-use Rattle.sd_tree.specs.Keys.{key_of, whole_key_of, period_key_of, control_word_of, check_value_of}
+use Rattle.sd_tree_keys.specs.Labels.{label_of_node, left_of, right_of, middle_of}
+use Rattle.sd_tree_keys.specs.declared.set.SetName.TheVariants.{Whole, Diff}
+use Rattle.sd_tree_keys.specs.Keys.{key_of, whole_key_of, period_key_of, control_word_of, check_value_of}
 use Rattle.sd_law_broadcast.specs.Pads.{KeyName, PeriodKey as OfPeriod, SetKey, Word, key_bytes}
 use Rattle.sd_law_keys.specs.Inputs.{Hashed, NodeLabel, WholeKey, PeriodKey, ControlWord, LeftThird, RightThird}
 use Rattle.sd_law_keys.specs.Inputs.{MiddleThird, CheckValue, IsSized, hashed_as, input_of, named_by}

@@ -17,7 +17,7 @@ use Rattle.sd_spec.specs.Stretches.{completed, completes, others, held_in}
 use Rattle.sd_spec.specs.Offered.{same_header, is_after, part_fault}
 use Rattle.sd_receive.proofs.Alike.{headers_told}
 use Rattle.sd_receive.proofs.Gathering.{is_mixed_with}
-use Rattle.sd_site.specs.CardFields.{CardFields}
+use Rattle.sd_site_cards.specs.CardFields.{CardFields}
 use Rattle.sd_law_keys.specs.Written.{IsHeardIn, IsMessageIn, Says}
 use Rattle.sd_law_keys.proofs.Running.{IsRunning, ascending_in, is_part, run_to_runs}
 

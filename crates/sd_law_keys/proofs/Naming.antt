@@ -11,12 +11,12 @@ use Rattle.std.proofs.lemmas.Bool.Decides.{nat_tests}
 use Rattle.std.proofs.lemmas.List.{length-map, map-append}
 use Rattle.std.proofs.lemmas.List.Elements.{All-nil, All-cons, All-map, All-weaker, All-contains, Contains-append_cases}
 use Rattle.std.proofs.lemmas.List.Elements.{Contains-append_right}
-use Rattle.sd_cover.proofs.Lists.{member_first, member_later, no_member}
-use Rattle.sd_tree.specs.Keys.{check_value_of}
+use Rattle.sd_cover_tracing.proofs.Lists.{member_first, member_later, no_member}
+use Rattle.sd_tree_keys.specs.Keys.{check_value_of}
 use Rattle.sd_packet.specs.Header.{pid_of}
 use Rattle.sd_psi.specs.declared.our_cat.Tuning.{Tuning}
-use Rattle.sd_site.specs.CardFields.{CardFields}
-use Rattle.sd_keystream.specs.Wrapping.{wrapped as under}
+use Rattle.sd_site_cards.specs.CardFields.{CardFields}
+use Rattle.sd_cipher.specs.Wrapping.{wrapped as under}
 use Rattle.sd_message.specs.EcmParts.{Message}
 use Rattle.sd_message.specs.declared.emm.Emm.{Emm}
 use Rattle.sd_message.specs.declared.emm_fault.EmmFault.TheVariants as Emms

@@ -7,14 +7,14 @@ use Rattle.std.specs.Option.{option_map_or}
 use Rattle.std.proofs.lemmas.Bool.{and_parts, or_parts, not-false}
 use Rattle.std.proofs.lemmas.Bool.Decides.{nat_tests}
 use Rattle.std.proofs.lemmas.List.Elements.{Contains-append_cases}
-use Rattle.sd_cover.proofs.Lists.{no_member, only_member}
+use Rattle.sd_cover_tracing.proofs.Lists.{no_member, only_member}
 use Rattle.sd_packet.specs.Header.{pid_of, scrambling_of}
 use Rattle.sd_packet.specs.Positions.{is_placed, moved_by}
 use Rattle.sd_packet.proofs.Positions.{moved_by_near, more_packets}
 use Rattle.sd_psi.specs.Rewriting.{restored, restore_fault}
-use Rattle.sd_keystream.specs.Scrambling.{descrambled}
+use Rattle.sd_cipher.specs.Scrambling.{descrambled}
 use Rattle.sd_psi.specs.declared.our_cat.Tuning.{Tuning}
-use Rattle.sd_site.specs.CardFields.{CardFields}
+use Rattle.sd_site_cards.specs.CardFields.{CardFields}
 use Rattle.sd_spec.specs.Confirmed.{Segment, Wrote, is_confirmed, is_foreign, judged, position_in, position_or_first}
 use Rattle.sd_spec.specs.Confirmed.{then_wrote, tracked, unmarked, written_from}
 use Rattle.sd_law_keys.specs.Written.{IsFramed, IsPlain, as_it_came, as_it_was}

@@ -7,7 +7,7 @@ use Rattle.std.proofs.lemmas.Bool.Decides.{nat_tests}
 use Rattle.std.proofs.lemmas.List.{length-append}
 use Rattle.sd_packet.specs.Header.{pid_of}
 use Rattle.sd_psi.specs.declared.our_cat.Tuning.{Tuning}
-use Rattle.sd_site.specs.CardFields.{CardFields}
+use Rattle.sd_site_cards.specs.CardFields.{CardFields}
 use Rattle.sd_section.specs.Header.{table_id_of, body_of}
 use Rattle.sd_message.specs.Framed.{section_of}
 use Rattle.sd_message.specs.EcmSpelled.{listed_places}

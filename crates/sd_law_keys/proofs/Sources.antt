@@ -3,10 +3,10 @@ use Rattle.std.proofs.Common.{◌≡◌, ℕ, ◌==◌, Bool, true, false, List,
 use Rattle.std.proofs.Common.{sym, ap, subst, ◌∙◌, append_assoc}
 use Rattle.std.specs.Prelude.{All, Contains, Option, Result, Ok, Err, if◌then◌else◌}
 use Rattle.std.proofs.lemmas.List.Elements.{All-weaker, Contains-append_right}
-use Rattle.sd_cover.proofs.Lists.{member_first}
+use Rattle.sd_cover_tracing.proofs.Lists.{member_first}
 use Rattle.sd_packet.specs.Header.{pid_of}
 use Rattle.sd_psi.specs.declared.our_cat.Tuning.{Tuning}
-use Rattle.sd_site.specs.CardFields.{CardFields}
+use Rattle.sd_site_cards.specs.CardFields.{CardFields}
 use Rattle.sd_message.specs.EmmJudged.{emm_read}
 use Rattle.sd_message.specs.EcmJudged.{ecm_read}
 use Rattle.sd_message.specs.declared.emm.Emm.{Emm}

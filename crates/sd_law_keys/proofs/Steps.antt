@@ -2,10 +2,10 @@
 use Rattle.std.proofs.Common.{◌≡◌, ℕ, ◌<◌, Bool, true, false, List, [], ◌∷◌, length, refl, subst}
 use Rattle.std.specs.Prelude.{All, Contains, if◌then◌else◌}
 use Rattle.std.proofs.lemmas.List.Elements.{All-nil, All-cons, All-map, All-contains}
-use Rattle.sd_tree.specs.declared.set.SetName.{SetName}
-use Rattle.sd_tree.specs.Keys.{control_word_of, period_key_of}
-use Rattle.sd_cover.specs.Reach.{Key}
-use Rattle.sd_cover.proofs.Lists.{member_first}
+use Rattle.sd_tree_keys.specs.declared.set.SetName.{SetName}
+use Rattle.sd_tree_keys.specs.Keys.{control_word_of, period_key_of}
+use Rattle.sd_cover_tracing.specs.Reach.{Key}
+use Rattle.sd_cover_tracing.proofs.Lists.{member_first}
 use Rattle.sd_base.proofs.Lists.{all_by}
 use Rattle.sd_message.specs.EmmSpelled.{listed_entries}
 use Rattle.sd_message.specs.declared.emm.Emm.{Emm}

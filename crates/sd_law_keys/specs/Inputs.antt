@@ -2,9 +2,9 @@
 use Rattle.std.specs.Prelude.{◌≡◌, ℕ, ◌<◌, ◌^◌, [], ◌∷◌, ◌++◌, length}
 use Rattle.std.specs.Int.{w32, to_be_bytes}
 use Rattle.sd_base.specs.Types.{Bytes, Key, PeriodNumber, WordNumber}
-use Rattle.sd_tree.specs.declared.set.SetName.TheVariants.{Whole, Diff}
-use Rattle.sd_tree.specs.Labels.{label_of, label_of_node, left_of, right_of, middle_of}
-use Rattle.sd_tree.specs.Keys.{whole_key_of, period_key_of, control_word_of, check_value_of}
+use Rattle.sd_tree_keys.specs.declared.set.SetName.TheVariants.{Whole, Diff}
+use Rattle.sd_tree_keys.specs.Labels.{label_of, label_of_node, left_of, right_of, middle_of}
+use Rattle.sd_tree_keys.specs.Keys.{whole_key_of, period_key_of, control_word_of, check_value_of}
 use Rattle.sd_law_broadcast.specs.Pads.{KeyName, PeriodKey as OfPeriod, SetKey, Word}
 
 -- the name of what is made by a hash: of a master the label of a node, the key of the whole set, the key of a period

@@ -2,14 +2,14 @@
 use Rattle.std.specs.Prelude.{◌≡◌, ℕ, ◌+◌, ◌%◌, ◌<◌, ◌≤◌, ◌&&◌, List, [], ◌∷◌, ◌++◌, length, map, Some, None, All}
 use Rattle.std.specs.Prelude.{AllPairs, Contains, false, is_none, true}
 use Rattle.sd_base.specs.Types.{Packet, Packets, Pid, Position, Key, PeriodNumber}
-use Rattle.sd_tree.specs.Keys.{check_value_of}
+use Rattle.sd_tree_keys.specs.Keys.{check_value_of}
 use Rattle.sd_packet.specs.Header.{pid_of, scrambling_of}
 use Rattle.sd_packet.specs.Positions.{is_placed}
 use Rattle.sd_psi.specs.Rewriting.{restored, restore_fault}
 use Rattle.sd_psi.specs.declared.our_cat.Tuning.{Tuning}
-use Rattle.sd_site.specs.CardFields.{CardFields}
-use Rattle.sd_keystream.specs.Scrambling.{descrambled}
-use Rattle.sd_keystream.specs.Wrapping.{wrapped as under}
+use Rattle.sd_site_cards.specs.CardFields.{CardFields}
+use Rattle.sd_cipher.specs.Scrambling.{descrambled}
+use Rattle.sd_cipher.specs.Wrapping.{wrapped as under}
 use Rattle.sd_message.specs.EcmForm.{AreAscending}
 use Rattle.sd_message.specs.EcmParts.{Message, message_of, ecm_head_of}
 use Rattle.sd_message.specs.declared.ecm_part.EcmPart.{EcmPart}

@@ -2,7 +2,7 @@
 
 ghost use Rattle.std.specs.Prelude.{◌≡◌, ◌<◌, ◌≤◌, ◌^◌, ◌∷◌, ℕ, [], true};
 ghost use Rattle.sd_base.specs.Types.{Arrived, LeafNumber, Packet, Packets, PeriodNumber};
-ghost use Rattle.sd_site.specs.CardFields.{CardFields, card_of};
+ghost use Rattle.sd_site_cards.specs.CardFields.{CardFields, card_of};
 ghost use Rattle.sd_spec.specs.Plan.{Plan, IsPlan};
 ghost use Rattle.sd_spec.specs.Refused.{IsSendable};
 ghost use Rattle.sd_spec.specs.Sent.{broadcast};

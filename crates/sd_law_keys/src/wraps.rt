@@ -2,9 +2,9 @@
 
 ghost use Rattle.std.specs.Prelude.{◌≡◌, ◌<◌, true, List, Contains, length};
 ghost use Rattle.sd_base.specs.Types.{PacketNumber, PeriodNumber, WordNumber};
-ghost use Rattle.sd_tree.specs.declared.set.SetName.{SetName};
-ghost use Rattle.sd_tree.specs.Keys.{control_word_of, period_key_of};
-ghost use Rattle.sd_cover.specs.Reach.{Key};
+ghost use Rattle.sd_tree_keys.specs.declared.set.SetName.{SetName};
+ghost use Rattle.sd_tree_keys.specs.Keys.{control_word_of, period_key_of};
+ghost use Rattle.sd_cover_tracing.specs.Reach.{Key};
 ghost use Rattle.sd_law_coalition.specs.Know.{ControlWord, OfTree};
 ghost use Rattle.sd_law_coalition.specs.Know as Known;
 ghost use Rattle.sd_law_broadcast.specs.Known.{IsStepInRuns};

@@ -2,9 +2,9 @@
 
 ghost use Rattle.std.specs.Prelude.{◌≢◌, [], Contains, reverse};
 ghost use Rattle.sd_base.specs.Types.{Key, Packet, Packets};
-ghost use Rattle.sd_tree.specs.Keys.{check_value_of};
-ghost use Rattle.sd_site.specs.CardFields.{CardFields};
-ghost use Rattle.sd_keystream.specs.Wrapping.{wrapped as under};
+ghost use Rattle.sd_tree_keys.specs.Keys.{check_value_of};
+ghost use Rattle.sd_site_cards.specs.CardFields.{CardFields};
+ghost use Rattle.sd_cipher.specs.Wrapping.{wrapped as under};
 ghost use Rattle.sd_message.specs.EcmParts.{Message};
 ghost use Rattle.sd_spec.specs.Offered.{out_from};
 ghost use Rattle.sd_law_keys.specs.Written.{CameClear, IsKeyIn, IsMessageIn, IsWrittenOf};

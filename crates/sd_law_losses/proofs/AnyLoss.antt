@@ -8,7 +8,7 @@ use Rattle.std.specs.List.{list_any, range_with_len}
 use Rattle.std.specs.Option.{option_map_or}
 use Rattle.std.proofs.lemmas.List.Elements.{All-nil, All-contains_itself}
 use Rattle.sd_base.proofs.Lists.{all_first}
-use Rattle.sd_site.specs.SiteFields.{run_name_of as site_name}
+use Rattle.sd_site_cards.specs.SiteFields.{run_name_of as site_name}
 use Rattle.sd_message.specs.Period.{emms_of}
 use Rattle.sd_message.specs.EcmParts.{parts_of}
 use Rattle.sd_spec.specs.Plan.{crypto_length, period_of, closing_number}
@@ -26,7 +26,7 @@ use Rattle.sd_spec.proofs.Runs.{never_turns}
 use Rattle.sd_law_losses.specs.Chosen.{chosen}
 use Rattle.sd_law_losses.specs.Kept.{is_carried, has_arrived, after_cat}
 use Rattle.sd_law_losses.specs.Confirmed.{confirmed, packets_at}
-use Rattle.sd_site.specs.CardFields.{CardFields}
+use Rattle.sd_site_cards.specs.CardFields.{CardFields}
 use Rattle.sd_law_losses.proofs.Completing.{IsLater}
 use Rattle.sd_law_losses.proofs.Writing.{onto, Writes, writes_append, IsOpenUpto, open_upto, open_append}
 use Rattle.sd_law_losses.proofs.Arriving.{is_of}

@@ -6,14 +6,14 @@ use Rattle.std.proofs.lemmas.Bool.{cases_Bool}
 use Rattle.std.specs.List.{list_any}
 use Rattle.sd_packet.specs.Header.{pid_of, scrambling_of}
 use Rattle.sd_packet.specs.Positions.{is_placed}
-use Rattle.sd_tree.specs.Keys.{control_word_of}
-use Rattle.sd_site.specs.SiteFields.{SiteFields}
+use Rattle.sd_tree_keys.specs.Keys.{control_word_of}
+use Rattle.sd_site_cards.specs.SiteFields.{SiteFields}
 use Rattle.sd_psi.specs.Rewriting.{rewritten, rewrite_fault, restore_fault}
 use Rattle.sd_psi.specs.Undone.{IsPacket}
 use Rattle.sd_psi.proofs.Keeping.{rewritten_packet_keeps}
 use Rattle.sd_psi.proofs.Inverse.{restorable, restored_again}
-use Rattle.sd_keystream.specs.Scrambling.{control_of, descrambled}
-use Rattle.sd_keystream.proofs.Scramblings.{undone, control_fits}
+use Rattle.sd_cipher.specs.Scrambling.{control_of, descrambled}
+use Rattle.sd_cipher.proofs.Scramblings.{undone, control_fits}
 use Rattle.sd_spec.specs.Plan.{word_of}
 use Rattle.sd_spec.specs.Kinds.{kind_of, pmts_in}
 use Rattle.sd_spec.specs.Carried.{parity_of, place_after, pmt_carried, veiled, carried_as, carried}

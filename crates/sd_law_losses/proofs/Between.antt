@@ -8,11 +8,11 @@ use Rattle.std.proofs.lemmas.List.{map-append, length-map}
 use Rattle.std.proofs.lemmas.List.Elements.{filter_agree}
 use Rattle.std.proofs.lemmas.Bool.{cases_Bool}
 use Rattle.std.proofs.lemmas.Bool.Decides.{nat_tests}
-use Rattle.sd_tree.specs.Keys.{control_word_of}
+use Rattle.sd_tree_keys.specs.Keys.{control_word_of}
 use Rattle.sd_spec.specs.Plan.{since_of}
 use Rattle.sd_spec.specs.Sent.{Item}
-use Rattle.sd_tree.specs.Keys.{period_key_of}
-use Rattle.sd_keystream.specs.Wrapping.{wrapped as under}
+use Rattle.sd_tree_keys.specs.Keys.{period_key_of}
+use Rattle.sd_cipher.specs.Wrapping.{wrapped as under}
 use Rattle.sd_spec.specs.Plan.{period_of}
 use Rattle.sd_spec.specs.Stretches.{Stretch, held_in}
 use Rattle.sd_spec.specs.Keys.{key_at}

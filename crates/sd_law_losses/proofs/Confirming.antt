@@ -6,7 +6,7 @@ use Rattle.std.specs.List.{range_with_len}
 use Rattle.std.proofs.Math.Nat.{div-lt_iff_lt-mul, le-div_iff_mul-le}
 use Rattle.std.proofs.lemmas.Bool.{and_right}
 use Rattle.sd_base.proofs.Ranges.{filter_range}
-use Rattle.sd_site.specs.SiteFields.{AreInRange}
+use Rattle.sd_site_cards.specs.SiteFields.{AreInRange}
 use Rattle.sd_spec.specs.Sent.{Item}
 use Rattle.sd_law_losses.specs.Kept.{is_kept, kept_in, has_arrived, arrived, greatest_at_most, least_above}
 use Rattle.sd_law_losses.specs.Confirmed.{packets_at, between, is_confirmed_at, is_written_between}

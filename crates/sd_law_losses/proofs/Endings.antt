@@ -9,8 +9,8 @@ use Rattle.std.specs.Option.{option_map_or}
 use Rattle.std.proofs.lemmas.List.{reverse-append, reverse-reverse, map-append}
 use Rattle.std.proofs.lemmas.List.Elements.{All-head, All-contains}
 use Rattle.std.proofs.lemmas.Bool.{cases_lt, both_ways}
-use Rattle.sd_site.specs.CardFields.{CardFields}
-use Rattle.sd_site.specs.SiteFields.{AreInRange}
+use Rattle.sd_site_cards.specs.CardFields.{CardFields}
+use Rattle.sd_site_cards.specs.SiteFields.{AreInRange}
 use Rattle.sd_message.specs.Pieces.{pieces_for}
 use Rattle.sd_message.specs.EmmForm.{sections_for}
 use Rattle.sd_message.specs.Period.{emms_of, IsOfPeriod}

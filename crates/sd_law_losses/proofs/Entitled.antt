@@ -9,9 +9,9 @@ use Rattle.std.proofs.lemmas.List.Sums.{sum_by-cons}
 use Rattle.std.proofs.lemmas.List.Folds.{list_any-append}
 use Rattle.std.proofs.lemmas.List.Elements.{All-head, All-tail}
 use Rattle.sd_base.proofs.Lists.{any_there}
-use Rattle.sd_tree.specs.Leaves.{is_member}
+use Rattle.sd_tree_keys.specs.Leaves.{is_member}
 use Rattle.sd_book.specs.Commands.{revoked}
-use Rattle.sd_cover.proofs.Partitions.{among_unrevoked}
+use Rattle.sd_cover_tracing.proofs.Partitions.{among_unrevoked}
 use Rattle.sd_message.specs.EmmSpelled.{listed_entries}
 use Rattle.sd_message.specs.Period.{emms_of}
 use Rattle.sd_message.specs.declared.emm.Emm.{Emm}

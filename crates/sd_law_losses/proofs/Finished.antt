@@ -6,7 +6,7 @@ use Rattle.std.specs.List.{range_with_len, find}
 use Rattle.std.proofs.lemmas.List.{map-append}
 use Rattle.std.proofs.lemmas.Bool.{cases_Bool, cases_eq}
 use Rattle.sd_base.proofs.Ranges.{range_more, none_found}
-use Rattle.sd_site.specs.SiteFields.{AreInRange}
+use Rattle.sd_site_cards.specs.SiteFields.{AreInRange}
 use Rattle.sd_spec.specs.Plan.{Plan, crypto_length, period_of, closing_number}
 use Rattle.sd_spec.proofs.Schedule.{periods_rise, periods_step, period_of_first, closing_covers}
 use Rattle.sd_law_losses.specs.Endings.{period_told}

@@ -9,8 +9,8 @@ use Rattle.std.proofs.lemmas.Bool.Decides.{nat_tests}
 use Rattle.sd_packet.specs.Header.{pid_of}
 use Rattle.sd_packet.specs.Positions.{is_moving, moved_by}
 use Rattle.sd_packet.proofs.Positions.{next_position}
-use Rattle.sd_site.specs.SiteFields.{AreInRange}
-use Rattle.sd_site.specs.CardFields.{card_of}
+use Rattle.sd_site_cards.specs.SiteFields.{AreInRange}
+use Rattle.sd_site_cards.specs.CardFields.{card_of}
 use Rattle.sd_spec.specs.Plan.{Plan, closing_number}
 use Rattle.sd_spec.specs.Kinds.{kind_of, is_scrambled}
 use Rattle.sd_spec.specs.Sent.{Item}

@@ -11,10 +11,10 @@ use Rattle.std.proofs.lemmas.Bool.Decides.{nat_tests}
 use Rattle.std.proofs.lemmas.List.{take-append-drop, take-take}
 use Rattle.std.proofs.lemmas.List.Elements.{All-contains, filter_passes}
 use Rattle.std.proofs.lemmas.List.Folds.{list_any-append}
-use Rattle.sd_cover.proofs.Lists.{member_cases, member_first, member_later, no_member}
+use Rattle.sd_cover_tracing.proofs.Lists.{member_cases, member_first, member_later, no_member}
 use Rattle.sd_packet.specs.Positions.{is_moving, position_of}
 use Rattle.sd_packet.proofs.Positions.{more_packets, moved_by_near}
-use Rattle.sd_site.specs.SiteFields.{AreInRange}
+use Rattle.sd_site_cards.specs.SiteFields.{AreInRange}
 use Rattle.sd_message.specs.declared.ecm_part.Place.{Place}
 use Rattle.sd_spec.specs.Plan.{Plan, IsPlan, word_of, period_of, closing_number}
 use Rattle.sd_spec.specs.Kinds.{has_moved, positional_pids, moved_pids}

@@ -4,8 +4,8 @@ use Rattle.std.proofs.Common.{Option, Some, None, is_none, arith, sym, ap, ◌�
 use Rattle.std.specs.Prelude.{if◌then◌else◌, All}
 use Rattle.std.specs.Option.{option_map_or}
 use Rattle.std.proofs.lemmas.List.Elements.{All-head, All-tail, All-cons}
-use Rattle.sd_site.specs.SiteFields.{run_name_of as site_name}
-use Rattle.sd_site.specs.CardFields.{CardFields}
+use Rattle.sd_site_cards.specs.SiteFields.{run_name_of as site_name}
+use Rattle.sd_site_cards.specs.CardFields.{CardFields}
 use Rattle.sd_message.specs.declared.emm.Emm.{Emm}
 use Rattle.sd_message.specs.declared.ecm_part.EcmPart.{EcmPart}
 use Rattle.sd_spec.specs.Sent.{Item, Cat, Entitles, Controls, Carries, packet_of, packets_from}

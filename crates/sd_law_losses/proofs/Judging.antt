@@ -11,8 +11,8 @@ use Rattle.std.proofs.lemmas.Bool.Decides.{nat_tests}
 use Rattle.sd_packet.specs.Header.{pid_of, scrambling_of}
 use Rattle.sd_packet.specs.Positions.{is_placed, is_moving}
 use Rattle.sd_packet.proofs.Positions.{next_position, own_moves}
-use Rattle.sd_tree.specs.Keys.{control_word_of}
-use Rattle.sd_keystream.specs.Scrambling.{descrambled}
+use Rattle.sd_tree_keys.specs.Keys.{control_word_of}
+use Rattle.sd_cipher.specs.Scrambling.{descrambled}
 use Rattle.sd_message.specs.declared.ecm_part.Place.{Place}
 use Rattle.sd_spec.specs.Plan.{word_of, since_of}
 use Rattle.sd_spec.specs.Kinds.{kind_of, has_moved, is_scrambled}

@@ -6,16 +6,16 @@ use Rattle.std.specs.Prelude.{All, Contains, find, flat_map, option_map}
 use Rattle.std.specs.List.{list_any}
 use Rattle.std.proofs.lemmas.Bool.{cases_Bool}
 use Rattle.std.proofs.lemmas.List.Elements.{All-head, All-tail, All-map, All-contains}
-use Rattle.sd_cover.proofs.Lists.{member_cases, no_member}
-use Rattle.sd_tree.specs.Leaves.{is_member}
-use Rattle.sd_tree.specs.SetNames.{IsOfHeight}
-use Rattle.sd_tree.specs.declared.set.SetName.{SetName}
-use Rattle.sd_tree.specs.Keys.{key_of, period_key_of, control_word_of, check_value_of}
-use Rattle.sd_keystream.specs.Wrapping.{wrapped as under}
-use Rattle.sd_keystream.proofs.Wrappings.{twice}
-use Rattle.sd_site.specs.CardFields.{CardFields, card_of, card_key}
-use Rattle.sd_site.proofs.Keys.{made_gives_key}
-use Rattle.sd_site.specs.SiteFields.{SiteFields}
+use Rattle.sd_cover_tracing.proofs.Lists.{member_cases, no_member}
+use Rattle.sd_tree_keys.specs.Leaves.{is_member}
+use Rattle.sd_tree_keys.specs.SetNames.{IsOfHeight}
+use Rattle.sd_tree_keys.specs.declared.set.SetName.{SetName}
+use Rattle.sd_tree_keys.specs.Keys.{key_of, period_key_of, control_word_of, check_value_of}
+use Rattle.sd_cipher.specs.Wrapping.{wrapped as under}
+use Rattle.sd_cipher.proofs.Wrappings.{twice}
+use Rattle.sd_site_cards.specs.CardFields.{CardFields, card_of, card_key}
+use Rattle.sd_site_cards.proofs.Keys.{made_gives_key}
+use Rattle.sd_site_cards.specs.SiteFields.{SiteFields}
 use Rattle.sd_message.specs.EmmSpelled.{listed_entries}
 use Rattle.sd_message.specs.Period.{emms_of, IsOfPeriod}
 use Rattle.sd_message.specs.declared.emm.Emm.{Emm}

@@ -8,10 +8,10 @@ use Rattle.std.proofs.lemmas.Bool.Decides.{nat_tests}
 use Rattle.std.proofs.lemmas.List.{reverse-reverse}
 use Rattle.std.proofs.lemmas.List.Elements.{All-get_or}
 use Rattle.sd_base.proofs.Lists.{equal_bytes}
-use Rattle.sd_tree.specs.Leaves.{is_member}
+use Rattle.sd_tree_keys.specs.Leaves.{is_member}
 use Rattle.sd_packet.specs.Header.{scrambling_of}
-use Rattle.sd_tree.specs.Keys.{period_key_of, control_word_of, check_value_of}
-use Rattle.sd_site.specs.CardFields.{card_of}
+use Rattle.sd_tree_keys.specs.Keys.{period_key_of, control_word_of, check_value_of}
+use Rattle.sd_site_cards.specs.CardFields.{card_of}
 use Rattle.sd_message.specs.EmmSpelled.{listed_entries}
 use Rattle.sd_message.specs.Period.{emms_of}
 use Rattle.sd_message.specs.declared.emm.Emm.{Emm}
@@ -45,7 +45,7 @@ use Rattle.sd_law_losses.proofs.Coming.{AreParts, is_nil}
 use Rattle.sd_law_losses.proofs.Setting.{Setting, IsDue, IsOpen, IsVeiled, AreLaws, told_by, carried_at, key_where}
 use Rattle.sd_spec.specs.Items.{IsOfBroadcast}
 use Rattle.sd_spec.proofs.Periods.{section_number}
-use Rattle.sd_site.specs.SiteFields.{run_name_of as site_name}
+use Rattle.sd_site_cards.specs.SiteFields.{run_name_of as site_name}
 use Rattle.sd_law_broadcast.proofs.Runs.{section_names, part_names}
 use Rattle.sd_law_broadcast.proofs.Texts.{kind_is}
 use Rattle.sd_law_losses.proofs.OneRun.{IsOfRun, of_named}

@@ -5,7 +5,7 @@ use Rattle.std.proofs.lemmas.List.{take_at, drop_at, reverse-append}
 use Rattle.std.proofs.lemmas.List.Elements.{All-nil, All-cons, All-head, All-take, All-drop, All-contains}
 use Rattle.std.proofs.lemmas.List.Elements.{Contains-append_left, Contains-append_right}
 use Rattle.sd_base.proofs.Lists.{pair_parts}
-use Rattle.sd_cover.proofs.Lists.{member_cases, no_member}
+use Rattle.sd_cover_tracing.proofs.Lists.{member_cases, no_member}
 
 -- what is true of all of a joined list is true of both of its lists
 pub split_all : {A : Type 0} (P : A → Type 0) (xs ys : List A) → All P (xs ++ ys) → All P xs × All P ys

@@ -4,8 +4,8 @@ use Rattle.std.proofs.Common.{drop, is_none, reverse, Option, Some, None, sym, a
 use Rattle.std.specs.Prelude.{if◌then◌else◌}
 use Rattle.std.specs.List.{list_any}
 use Rattle.std.specs.Option.{option_map_or}
-use Rattle.sd_site.specs.SiteFields.{run_name_of as site_name}
-use Rattle.sd_site.specs.CardFields.{CardFields, card_of}
+use Rattle.sd_site_cards.specs.SiteFields.{run_name_of as site_name}
+use Rattle.sd_site_cards.specs.CardFields.{CardFields, card_of}
 use Rattle.sd_spec.specs.Sent.{Item, Cat, sent, closing_of, broadcast, is_cat_item}
 use Rattle.sd_spec.specs.declared.ending.Ending.{Ending}
 use Rattle.sd_psi.specs.declared.our_cat.Tuning.{Tuning}

@@ -4,7 +4,7 @@ use Rattle.std.proofs.Common.{None, sym, ap, ◌∙◌, arith, subst, inl}
 use Rattle.std.specs.Prelude.{if◌then◌else◌}
 use Rattle.std.proofs.lemmas.Bool.{false≢true}
 use Rattle.sd_base.proofs.Lists.{first_none, rest_none}
-use Rattle.sd_site.specs.CardFields.{CardFields}
+use Rattle.sd_site_cards.specs.CardFields.{CardFields}
 use Rattle.sd_spec.specs.Sent.{Item, Cat, Entitles, Controls, Carries}
 use Rattle.sd_spec.specs.declared.ending.Ending.{Ending}
 use Rattle.sd_message.specs.declared.stream_fault.StreamFault.{StreamFault}

@@ -5,10 +5,10 @@ use Rattle.std.specs.Prelude.{if◌then◌else◌, nat_le, nat_lt, option_map, b
 use Rattle.std.specs.Option.{option_map_or}
 use Rattle.std.proofs.lemmas.List.{length-map}
 use Rattle.sd_packet.specs.Header.{pid_of, scrambling_of}
-use Rattle.sd_tree.specs.Keys.{check_value_of}
-use Rattle.sd_keystream.specs.Wrapping.{wrapped as under}
-use Rattle.sd_site.specs.CardFields.{CardFields}
-use Rattle.sd_keystream.specs.Scrambling.{descrambled}
+use Rattle.sd_tree_keys.specs.Keys.{check_value_of}
+use Rattle.sd_cipher.specs.Wrapping.{wrapped as under}
+use Rattle.sd_site_cards.specs.CardFields.{CardFields}
+use Rattle.sd_cipher.specs.Scrambling.{descrambled}
 use Rattle.sd_message.specs.declared.emm.Emm.{Emm}
 use Rattle.sd_message.specs.declared.emm_fault.EmmFault.TheVariants as Emms
 use Rattle.sd_message.specs.EcmParts.{Message}

@@ -8,7 +8,7 @@ use Rattle.std.proofs.lemmas.Bool.{cases_lt}
 use Rattle.std.proofs.lemmas.Bool.Decides.{nat_tests}
 use Rattle.std.proofs.Math.Nat.{mul-le-mul_right}
 use Rattle.sd_packet.specs.Positions.{moved_by}
-use Rattle.sd_site.specs.SiteFields.{AreInRange}
+use Rattle.sd_site_cards.specs.SiteFields.{AreInRange}
 use Rattle.sd_message.specs.EcmParts.{Message}
 use Rattle.sd_message.specs.declared.ecm_part.Place.{Place}
 use Rattle.sd_spec.specs.Plan.{word_of, period_of, since_of}

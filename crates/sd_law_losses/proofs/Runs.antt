@@ -4,8 +4,8 @@ use Rattle.std.proofs.Common.{None, reverse, ap, ◌∙◌, arith, subst}
 use Rattle.std.specs.Prelude.{if◌then◌else◌, All}
 use Rattle.std.proofs.lemmas.List.Elements.{All-head, All-tail}
 use Rattle.std.proofs.lemmas.Bool.Decides.{nat_tests}
-use Rattle.sd_site.specs.SiteFields.{run_name_of as site_name}
-use Rattle.sd_site.specs.CardFields.{CardFields}
+use Rattle.sd_site_cards.specs.SiteFields.{run_name_of as site_name}
+use Rattle.sd_site_cards.specs.CardFields.{CardFields}
 use Rattle.sd_spec.specs.Plan.{Plan, IsPlan, crypto_length}
 use Rattle.sd_spec.specs.Sent.{Item, Cat, Entitles, Controls, Carries, tables_at, sent, sent_from, closing_of}
 use Rattle.sd_spec.specs.Sent.{packet_of, packets_from, broadcast, added, message_before}

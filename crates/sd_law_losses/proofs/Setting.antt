@@ -3,14 +3,14 @@ use Rattle.std.proofs.Common.{◌≡◌, ℕ, ◌+◌, ◌-◌, ◌*◌, ◌%◌
 use Rattle.std.proofs.Common.{length, take, Option, Some, None}
 use Rattle.std.specs.Prelude.{Contains, bytes_eq, if◌then◌else◌}
 use Rattle.std.specs.List.{list_any}
-use Rattle.sd_tree.specs.Leaves.{is_member}
+use Rattle.sd_tree_keys.specs.Leaves.{is_member}
 use Rattle.sd_packet.specs.Header.{pid_of, scrambling_of}
 use Rattle.sd_packet.specs.Positions.{is_placed, moved}
-use Rattle.sd_tree.specs.Keys.{period_key_of, control_word_of, check_value_of}
-use Rattle.sd_keystream.specs.Scrambling.{descrambled}
-use Rattle.sd_site.specs.SiteFields.{AreInRange}
-use Rattle.sd_site.specs.CardFields.{CardFields}
-use Rattle.sd_keystream.specs.Wrapping.{wrapped as under}
+use Rattle.sd_tree_keys.specs.Keys.{period_key_of, control_word_of, check_value_of}
+use Rattle.sd_cipher.specs.Scrambling.{descrambled}
+use Rattle.sd_site_cards.specs.SiteFields.{AreInRange}
+use Rattle.sd_site_cards.specs.CardFields.{CardFields}
+use Rattle.sd_cipher.specs.Wrapping.{wrapped as under}
 use Rattle.sd_message.specs.EmmSpelled.{listed_entries}
 use Rattle.sd_message.specs.Period.{emms_of}
 use Rattle.sd_message.specs.declared.emm.Emm.{Emm}

@@ -1,7 +1,7 @@
 -- A packet of a run takes a key within a stream if it does so in the run by itself.
 use Rattle.std.proofs.Common.{◌≡◌, ◌≢◌, ℕ, ◌+◌, ◌++◌, true, false, List, [], length, Option, Some, sym, ap}
 use Rattle.std.proofs.Common.{◌∙◌}
-use Rattle.sd_site.specs.CardFields.{CardFields}
+use Rattle.sd_site_cards.specs.CardFields.{CardFields}
 use Rattle.sd_spec.specs.Tuned.{tuning_of}
 use Rattle.sd_psi.specs.declared.our_cat.Tuning.{Tuning}
 use Rattle.sd_spec.specs.Heard.{Heard, hears}

@@ -9,8 +9,8 @@ use Rattle.std.specs.Option.{option_map_or}
 use Rattle.std.proofs.lemmas.List.Elements.{All-nil, All-head, All-tail}
 use Rattle.std.proofs.lemmas.List.Folds.{list_any-append}
 use Rattle.std.proofs.lemmas.Bool.{or_parts}
-use Rattle.sd_site.specs.SiteFields.{AreInRange}
-use Rattle.sd_site.specs.CardFields.{CardFields}
+use Rattle.sd_site_cards.specs.SiteFields.{AreInRange}
+use Rattle.sd_site_cards.specs.CardFields.{CardFields}
 use Rattle.sd_message.specs.Period.{emms_of}
 use Rattle.sd_message.specs.declared.emm.Emm.{Emm}
 use Rattle.sd_message.specs.EcmParts.{parts_of}

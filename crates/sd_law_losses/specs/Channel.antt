@@ -1,7 +1,7 @@
 -- Public meaning: broadcasts of one channel that follow one another, and which of their packets arrive.
 use Rattle.std.specs.Prelude.{◌≡◌, ◌≢◌, List, [], ◌∷◌, ◌++◌, All}
 use Rattle.sd_base.specs.Types.{Packets, Arrived, Pid, SystemId, Key, Height}
-use Rattle.sd_site.specs.SiteFields.{run_name_of}
+use Rattle.sd_site_cards.specs.SiteFields.{run_name_of}
 use Rattle.sd_spec.specs.Plan.{Plan, IsPlan}
 use Rattle.sd_spec.specs.Refused.{IsSendable}
 use Rattle.sd_spec.specs.Sent.{broadcast}

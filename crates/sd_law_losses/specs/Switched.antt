@@ -1,7 +1,7 @@
 -- Public meaning: pieces of broadcasts that follow one another, as at a switch to a spare head end and back.
 use Rattle.std.specs.Prelude.{◌≢◌, ◌||◌, Bool, false, List, [], ◌∷◌, if◌then◌else◌, All}
 use Rattle.sd_base.specs.Types.{RunName}
-use Rattle.sd_site.specs.SiteFields.{run_name_of}
+use Rattle.sd_site_cards.specs.SiteFields.{run_name_of}
 use Rattle.sd_law_losses.specs.Channel.{Arrival, Channel, IsRunOf}
 use Rattle.sd_law_losses.specs.Many.{has_cat}
 use Rattle.sd_law_losses.specs.Ends.{is_told}

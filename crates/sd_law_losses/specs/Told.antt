@@ -1,6 +1,6 @@
 -- Public meaning: what a receiver hears of the things that are sent.
 use Rattle.sd_base.specs.Types.{PacketNumber}
-use Rattle.sd_site.specs.SiteFields.{SiteFields}
+use Rattle.sd_site_cards.specs.SiteFields.{SiteFields}
 use Rattle.sd_spec.specs.Sent.{Item, Cat, Entitles as SendsEmm, Controls as SendsEcm, Carries}
 use Rattle.sd_psi.specs.declared.our_cat.Tuning.{Tuning}
 use Rattle.sd_spec.specs.Heard.{Heard, Dropped, Entitles, Controls, Other}

@@ -5,8 +5,8 @@ ghost use Rattle.std.specs.Prelude.{false, not, nat_le, None, length, reverse, t
 ghost use Rattle.std.specs.Prelude.{Contains, if◌then◌else◌, map};
 ghost use Rattle.sd_packet.specs.Positions.{is_moving, moved, moved_by};
 ghost use Rattle.sd_packet.specs.Header.{pid_of};
-ghost use Rattle.sd_site.specs.SiteFields.{AreInRange, SiteFields};
-ghost use Rattle.sd_site.specs.CardFields.{card_of, CardFields};
+ghost use Rattle.sd_site_cards.specs.SiteFields.{AreInRange, SiteFields};
+ghost use Rattle.sd_site_cards.specs.CardFields.{card_of, CardFields};
 ghost use Rattle.sd_spec.specs.Plan.{Plan, IsPlan, closing_number, period_of, word_of};
 ghost use Rattle.sd_spec.specs.Kinds.{kind_of, is_scrambled};
 ghost use Rattle.sd_spec.specs.Refused.{IsSendable, unsent_at};
@@ -25,10 +25,10 @@ ghost use Rattle.sd_law_losses.specs.Confirmed.{packet_at, upto, is_open, is_con
 ghost use Rattle.sd_law_losses.specs.Confirmed.{is_revoked_in};
 ghost use Rattle.sd_law_losses.specs.Endings.{ending_told, first_revoked, is_on_air, whole_ending};
 ghost use Rattle.sd_law_losses.specs.Gaps.{kept_positions, are_near, has_no_gap};
-ghost use Rattle.sd_tree.specs.Leaves.{is_member};
-ghost use Rattle.sd_tree.specs.Keys.{period_key_of, control_word_of, check_value_of};
-ghost use Rattle.sd_keystream.specs.Scrambling.{descrambled};
-ghost use Rattle.sd_keystream.specs.Wrapping.{wrapped as under};
+ghost use Rattle.sd_tree_keys.specs.Leaves.{is_member};
+ghost use Rattle.sd_tree_keys.specs.Keys.{period_key_of, control_word_of, check_value_of};
+ghost use Rattle.sd_cipher.specs.Scrambling.{descrambled};
+ghost use Rattle.sd_cipher.specs.Wrapping.{wrapped as under};
 ghost use Rattle.sd_message.specs.EmmSpelled.{listed_entries};
 ghost use Rattle.sd_message.specs.Period.{Period, emms_of};
 ghost use Rattle.sd_message.specs.declared.emm.Emm.{Emm};

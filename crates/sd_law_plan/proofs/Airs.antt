@@ -1,7 +1,7 @@
 -- Control words and periods of planned streams.
 use Rattle.std.proofs.Common.{arith, ◌≡◌, ℕ, ◌+◌, ◌-◌, ◌^◌, ◌<◌, ◌≤◌, ◌||◌, ◌==◌, Bool, false, nat_lt, ap, ◌∙◌, le-ltb}
 use Rattle.std.proofs.lemmas.Bool.Decides.{nat_tests}
-use Rattle.sd_site.specs.SiteFields.{SiteFields, AreInRange}
+use Rattle.sd_site_cards.specs.SiteFields.{SiteFields, AreInRange}
 use Rattle.sd_spec.specs.Plan.{Plan, crypto_of, period_in, period_of, word_of}
 use Rattle.sd_spec.specs.Refused.{is_too_long}
 use Rattle.sd_spec.proofs.Schedule.{period_of_first, periods_rise, words_rise}

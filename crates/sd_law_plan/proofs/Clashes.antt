@@ -4,7 +4,7 @@ use Rattle.std.proofs.Common.{get_or, refl, sym, ap, ◌∙◌}
 use Rattle.std.specs.Prelude.{[], ◌∷◌}
 use Rattle.std.specs.List.{range_with_len}
 use Rattle.std.specs.Option.{option_map, option_or}
-use Rattle.sd_site.specs.SiteFields.{AreInRange}
+use Rattle.sd_site_cards.specs.SiteFields.{AreInRange}
 use Rattle.sd_book.specs.Commands.{commands_until, is_revoked}
 use Rattle.sd_spec.specs.Plan.{Plan}
 use Rattle.sd_spec.proofs.Schedule.{period_in_first, periods_in_rise}

@@ -8,7 +8,7 @@ use Rattle.sd_packet.specs.Header.{pid_of}
 use Rattle.sd_packet.specs.Packing.{packed}
 use Rattle.sd_packet.proofs.Packets.{packed_pid}
 use Rattle.sd_psi.specs.OurCat.{cat_section}
-use Rattle.sd_site.specs.SiteFields.{SiteFields}
+use Rattle.sd_site_cards.specs.SiteFields.{SiteFields}
 use Rattle.sd_message.specs.EmmJudged.{emm_read}
 use Rattle.sd_message.specs.EmmSpelled.{emm_section}
 use Rattle.sd_message.specs.declared.emm.Emm.{Emm}

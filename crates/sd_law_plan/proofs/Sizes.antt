@@ -12,7 +12,7 @@ use Rattle.std.proofs.lemmas.List.Folds.{list_any-append}
 use Rattle.std.proofs.lemmas.List.Sums.{sum_by-cons}
 use Rattle.sd_base.proofs.Arithmetic.{times_next}
 use Rattle.sd_message.specs.Pieces.{pieces_for}
-use Rattle.sd_site.specs.SiteFields.{AreInRange}
+use Rattle.sd_site_cards.specs.SiteFields.{AreInRange}
 use Rattle.sd_message.specs.Period.{emms_of}
 use Rattle.sd_message.specs.EmmForm.{sections_for}
 use Rattle.sd_message.proofs.EmmSharing.{as_many as sections_many}

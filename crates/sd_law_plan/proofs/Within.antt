@@ -5,7 +5,7 @@ use Rattle.std.specs.Prelude.{sum_by}
 use Rattle.std.specs.List.{range_with_len}
 use Rattle.std.proofs.lemmas.Bool.Decides.{nat_tests}
 use Rattle.sd_base.proofs.Arithmetic.{times_next}
-use Rattle.sd_site.specs.SiteFields.{SiteFields, AreInRange}
+use Rattle.sd_site_cards.specs.SiteFields.{SiteFields, AreInRange}
 use Rattle.sd_message.specs.EcmParts.{parts_for}
 use Rattle.sd_message.specs.EcmVersions.{positions_for}
 use Rattle.sd_spec.specs.Plan.{Plan, closing_number, crypto_length, crypto_of}

@@ -1,7 +1,7 @@
 -- Public meaning: what `messages` prints of a broadcast [this project, docs/FORMATS.md, Messages printed].
 use Rattle.std.specs.Prelude.{suc, List, [], ◌∷◌, Some}
 use Rattle.sd_base.specs.Types.{Bytes, PacketNumber}
-use Rattle.sd_site.specs.SiteFields.{SiteFields}
+use Rattle.sd_site_cards.specs.SiteFields.{SiteFields}
 use Rattle.sd_spec.specs.Sent.{Item, Cat, Entitles, Controls, Carries}
 use Rattle.sd_run_streams.specs.MessageLines.{ecm_data, emm_data, line_with}
 

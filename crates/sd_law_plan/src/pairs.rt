@@ -2,7 +2,7 @@
 
 ghost use Rattle.std.specs.Prelude.{◌≡◌, ◌<◌, ◌≤◌, ◌∷◌, ℕ, List, None, Some, length, slice_get};
 ghost use Rattle.sd_base.specs.Types.{Key, PeriodNumber};
-ghost use Rattle.sd_site.specs.SiteFields.{AreInRange};
+ghost use Rattle.sd_site_cards.specs.SiteFields.{AreInRange};
 ghost use Rattle.sd_spec.specs.Plan.{Plan};
 ghost use Rattle.sd_law_broadcast.specs.Runs.{Run, IsRun, HasWords, ShareNoWord, HaveOwnWords};
 ghost use Rattle.sd_law_broadcast.specs.Runs.{UsesPeriod, AgreeOnPeriods, AllAgree};

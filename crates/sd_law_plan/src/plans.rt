@@ -2,7 +2,7 @@
 
 ghost use Rattle.std.specs.Prelude.{◌≡◌, ◌+◌, ◌^◌, ◌<◌, ◌≤◌, ℕ, length, false};
 ghost use Rattle.sd_base.specs.Types.{Packets, PacketNumber};
-ghost use Rattle.sd_site.specs.SiteFields.{SiteFields, AreInRange};
+ghost use Rattle.sd_site_cards.specs.SiteFields.{SiteFields, AreInRange};
 ghost use Rattle.sd_spec.specs.Kinds.{moved_pids};
 ghost use Rattle.sd_spec.specs.Plan.{Plan, IsPlan, period_of, word_of};
 ghost use Rattle.sd_spec.specs.Refused.{IsSendable, is_too_long};

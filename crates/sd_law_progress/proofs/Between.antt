@@ -9,7 +9,7 @@ use Rattle.std.proofs.lemmas.List.{length-take}
 use Rattle.std.proofs.Math.Nat.{div-eq_of_lt-le}
 use Rattle.sd_packet.specs.Header.{pid_of}
 use Rattle.sd_packet.specs.Positions.{moved_by}
-use Rattle.sd_site.specs.CardFields.{card_of}
+use Rattle.sd_site_cards.specs.CardFields.{card_of}
 use Rattle.sd_message.specs.EcmParts.{parts_of}
 use Rattle.sd_spec.specs.Plan.{Plan, period_of, since_of}
 use Rattle.sd_spec.specs.Sent.{Item, Controls}

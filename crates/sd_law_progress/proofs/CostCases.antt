@@ -10,7 +10,7 @@ use native.Mathlib.Nat.{zero-mod}
 use Rattle.std.proofs.Math.Nat.{div-lt_iff_lt-mul, le-div_iff_mul-le}
 use Rattle.sd_packet.specs.Header.{pid_of}
 use Rattle.sd_packet.specs.Positions.{is_positional}
-use Rattle.sd_site.specs.CardFields.{card_of}
+use Rattle.sd_site_cards.specs.CardFields.{card_of}
 use Rattle.sd_message.specs.declared.ecm_part.EcmPart.{EcmPart}
 use Rattle.sd_spec.specs.Plan.{Plan, crypto_length, period_of, since_of}
 use Rattle.sd_spec.specs.Sent.{Item, Cat, Controls, Carries, tables_before}

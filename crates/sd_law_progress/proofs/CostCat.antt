@@ -12,8 +12,8 @@ use Rattle.std.proofs.Math.Nat.{le-div_iff_mul-le, mul-le-mul_right, mul-mod_lef
 use Rattle.std.proofs.Math.Nat.{mul-div_cancel}
 use Rattle.sd_base.proofs.Bools.{or_true}
 use Rattle.sd_packet.specs.Header.{pid_of}
-use Rattle.sd_site.specs.SiteFields.{AreInRange}
-use Rattle.sd_site.specs.CardFields.{card_of}
+use Rattle.sd_site_cards.specs.SiteFields.{AreInRange}
+use Rattle.sd_site_cards.specs.CardFields.{card_of}
 use Rattle.sd_spec.specs.Plan.{Plan, crypto_length, period_of, closing_number}
 use Rattle.sd_spec.specs.Sent.{Item, Cat, Entitles, Controls, Carries, tables_before}
 use Rattle.sd_spec.proofs.Schedule.{period_begins, crypto_length_some, closing_needed}

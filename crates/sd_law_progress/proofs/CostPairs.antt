@@ -9,7 +9,7 @@ use Rattle.std.proofs.lemmas.Bool.Decides.{nat_tests}
 use Rattle.sd_packet.specs.Header.{pid_of, counter_of}
 use Rattle.sd_packet.specs.Positions.{advanced, is_moving, moved, moved_by}
 use Rattle.sd_packet.proofs.Positions.{advanced_is_next, next_is_advanced, counter_below, next_position}
-use Rattle.sd_site.specs.SiteFields.{AreInRange}
+use Rattle.sd_site_cards.specs.SiteFields.{AreInRange}
 use Rattle.sd_spec.specs.Plan.{period_of, since_of}
 use Rattle.sd_spec.specs.Kinds.{kind_of, is_scrambled}
 use Rattle.sd_spec.specs.Sent.{Item}

@@ -9,7 +9,7 @@ use Rattle.std.proofs.lemmas.Bool.Decides.{nat_tests}
 use Rattle.std.proofs.lemmas.List.Elements.{All-head, All-tail, All-contains}
 use Rattle.std.proofs.lemmas.Nat.{div-add-mod'}
 use Rattle.std.proofs.Math.Nat.{mul-div_cancel, le-div_iff_mul-le, mod-lt, mul-le-mul_right}
-use Rattle.sd_site.specs.CardFields.{card_of}
+use Rattle.sd_site_cards.specs.CardFields.{card_of}
 use Rattle.sd_message.specs.Period.{Period, emms_of, emm_at}
 use Rattle.sd_message.specs.EmmForm.{sections_for}
 use Rattle.sd_message.specs.declared.emm.Emm.{Emm}

@@ -10,7 +10,7 @@ use Rattle.std.proofs.lemmas.List.{length-append, length-map, take-map, take-app
 use Rattle.std.proofs.Math.Seq.{take-append-add}
 use Rattle.std.proofs.Math.Nat.{div-mul-le_self, lt-div-mul-add, div-lt_iff_lt-mul, mul-le-mul_right}
 use Rattle.sd_packet.specs.Header.{pid_of}
-use Rattle.sd_site.specs.CardFields.{card_of}
+use Rattle.sd_site_cards.specs.CardFields.{card_of}
 use Rattle.sd_message.specs.EcmParts.{parts_of}
 use Rattle.sd_message.specs.declared.ecm_part.EcmPart.{EcmPart}
 use Rattle.sd_spec.specs.Plan.{Plan, crypto_length, period_of, closing_number}

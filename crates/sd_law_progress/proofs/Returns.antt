@@ -9,7 +9,7 @@ use Rattle.std.proofs.lemmas.List.Elements.{filter-append}
 use Rattle.std.proofs.Math.Nat.{mul-mod_left, div-mul-le_self, lt-div-mul-add, mul_assoc, mul_comm}
 use Rattle.std.proofs.Math.Nat.{le-div_iff_mul-le}
 use Rattle.sd_base.proofs.Ranges.{range_parts, filter_range}
-use Rattle.sd_site.specs.CardFields.{card_of}
+use Rattle.sd_site_cards.specs.CardFields.{card_of}
 use Rattle.sd_message.specs.declared.ecm_part.EcmPart.{EcmPart}
 use Rattle.sd_spec.specs.Plan.{Plan, crypto_length, period_of}
 use Rattle.sd_spec.specs.Sent.{Item, Controls, sent, broadcast, tables_before, is_cat_item}

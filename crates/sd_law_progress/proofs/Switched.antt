@@ -1,7 +1,7 @@
 -- What is written of a broadcast that is cut off, and of another one that is joined after it.
 use Rattle.std.proofs.Common.{◌≡◌, ℕ, ◌<◌, ◌≤◌, ◌^◌, ◌++◌, Bool, true, false, List, [], ◌∷◌, length, sym, ap, ◌∙◌}
 use Rattle.std.proofs.Common.{append-nil, subst}
-use Rattle.sd_site.specs.CardFields.{card_of}
+use Rattle.sd_site_cards.specs.CardFields.{card_of}
 use Rattle.sd_spec.specs.Plan.{Plan}
 use Rattle.sd_spec.specs.Offered.{out_from}
 use Rattle.sd_law_losses.specs.Confirmed.{confirmed}

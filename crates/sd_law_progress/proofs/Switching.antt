@@ -13,7 +13,7 @@ use Rattle.std.proofs.lemmas.List.Sums.{count_by-le-length}
 use Rattle.std.proofs.Math.Nat.{div-mul-le_self, lt-div-mul-add, div-lt_iff_lt-mul, le-div_iff_mul-le, div-eq_of_lt}
 use Rattle.std.proofs.Math.Nat.{mul-mod_left, mul_assoc, mul_comm, mul-le-mul_right}
 use Rattle.sd_base.proofs.Bools.{and_false}
-use Rattle.sd_site.specs.SiteFields.{SiteFields, AreInRange}
+use Rattle.sd_site_cards.specs.SiteFields.{SiteFields, AreInRange}
 use Rattle.sd_message.specs.Period.{emms_of}
 use Rattle.sd_message.specs.EcmParts.{parts_of}
 use Rattle.sd_spec.specs.Plan.{Plan, crypto_length, period_of, since_of, closing_number}

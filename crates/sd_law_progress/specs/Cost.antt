@@ -4,7 +4,7 @@ use Rattle.std.specs.Prelude.{length, take, drop, if◌then◌else◌}
 use Rattle.std.specs.List.{list_any}
 use Rattle.sd_base.specs.Types.{Packets, Pid, LeafNumber, PacketNumber}
 use Rattle.sd_packet.specs.Positions.{is_positional, position_of}
-use Rattle.sd_site.specs.SiteFields.{SiteFields}
+use Rattle.sd_site_cards.specs.SiteFields.{SiteFields}
 use Rattle.sd_spec.specs.Plan.{Plan, IsPlan, crypto_length, period_of}
 use Rattle.sd_spec.specs.Refused.{IsSendable}
 use Rattle.sd_spec.specs.Sent.{Item, Cat, Entitles, Controls, Carries, sent, closing_of, is_cat_item}

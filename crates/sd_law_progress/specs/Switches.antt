@@ -1,7 +1,7 @@
 -- Public meaning: a broadcast that is cut off, and one that is joined while it runs.
 use Rattle.std.specs.Prelude.{ℕ, ◌+◌, ◌-◌, ◌*◌, ◌/◌, true, false, ◌++◌, length, take, replicate}
 use Rattle.sd_base.specs.Types.{Packets, PacketNumber}
-use Rattle.sd_site.specs.SiteFields.{SiteFields}
+use Rattle.sd_site_cards.specs.SiteFields.{SiteFields}
 use Rattle.sd_spec.specs.Plan.{Plan, crypto_length}
 use Rattle.sd_spec.specs.Sent.{sent}
 use Rattle.sd_law_losses.specs.Channel.{Arrival}

@@ -3,7 +3,7 @@
 ghost use Rattle.std.specs.Prelude.{◌≡◌, ℕ, ◌+◌, ◌-◌, ◌*◌, ◌%◌, ◌≤◌, ◌≢◌, ◌++◌, [], List, Bool, true, false, length};
 ghost use Rattle.std.specs.List.{list_any};
 ghost use Rattle.sd_base.specs.Types.{Packet, Packets, LeafNumber, CryptoNumber, PacketNumber};
-ghost use Rattle.sd_site.specs.CardFields.{card_of};
+ghost use Rattle.sd_site_cards.specs.CardFields.{card_of};
 ghost use Rattle.sd_message.specs.declared.emm.Emm.{Emm};
 ghost use Rattle.sd_message.specs.declared.ecm_part.EcmPart.{EcmPart};
 ghost use Rattle.sd_spec.specs.Plan.{Plan, crypto_length};

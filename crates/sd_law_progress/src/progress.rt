@@ -3,7 +3,7 @@
 ghost use Rattle.std.specs.Prelude.{◌≡◌, ◌+◌, ◌*◌, ◌/◌, ◌%◌, ◌^◌, ◌<◌, ◌≤◌, ◌++◌, [], ℕ, true, false, length, take};
 ghost use Rattle.std.specs.List.{list_any};
 ghost use Rattle.sd_base.specs.Types.{Packets, Arrived, LeafNumber, MessageNumber, PacketNumber};
-ghost use Rattle.sd_site.specs.CardFields.{card_of};
+ghost use Rattle.sd_site_cards.specs.CardFields.{card_of};
 ghost use Rattle.sd_spec.specs.Plan.{Plan, IsPlan, crypto_length};
 ghost use Rattle.sd_spec.specs.Refused.{IsSendable};
 ghost use Rattle.sd_spec.specs.Sent.{sent, broadcast};

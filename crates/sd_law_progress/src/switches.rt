@@ -2,8 +2,8 @@
 
 ghost use Rattle.std.specs.Prelude.{◌≡◌, ◌+◌, ◌^◌, ◌<◌, ◌≤◌, ◌++◌, [], ◌∷◌, ℕ, false, length};
 ghost use Rattle.sd_base.specs.Types.{Packets, LeafNumber, PacketNumber};
-ghost use Rattle.sd_site.specs.SiteFields.{SiteFields, AreInRange};
-ghost use Rattle.sd_site.specs.CardFields.{card_of};
+ghost use Rattle.sd_site_cards.specs.SiteFields.{SiteFields, AreInRange};
+ghost use Rattle.sd_site_cards.specs.CardFields.{card_of};
 ghost use Rattle.sd_spec.specs.Plan.{Plan, crypto_length};
 ghost use Rattle.sd_spec.specs.Offered.{out_from};
 ghost use Rattle.sd_law_losses.specs.Channel.{Channel, AreRunsOf, arriving};

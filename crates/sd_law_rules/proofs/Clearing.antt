@@ -10,7 +10,7 @@ use Rattle.std.proofs.lemmas.List.Folds.{list_any-append}
 use Rattle.sd_base.proofs.Lists.{both_none}
 use Rattle.sd_packet.specs.Header.{pid_of, scrambling_of}
 use Rattle.sd_packet.specs.Positions.{is_moving, is_placed}
-use Rattle.sd_site.specs.SiteFields.{SiteFields}
+use Rattle.sd_site_cards.specs.SiteFields.{SiteFields}
 use Rattle.sd_spec.specs.Plan.{word_of}
 use Rattle.sd_spec.specs.Kinds.{pat_in_force, has_moved, moved_pids, positional_pids}
 use Rattle.sd_spec.specs.Refused.{is_reserved_pid, is_full_own, is_one_too_many, unsent_at, unsent_from}

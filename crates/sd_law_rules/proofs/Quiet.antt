@@ -8,7 +8,7 @@ use Rattle.std.proofs.lemmas.Bool.Decides.{nat_tests}
 use Rattle.std.proofs.lemmas.List.Elements.{All-head, All-tail}
 use Rattle.sd_packet.specs.Packing.{IsSectionPacket}
 use Rattle.sd_packet.proofs.Packets.{packet_reads}
-use Rattle.sd_site.specs.SiteFields.{SiteFields, AreInRange}
+use Rattle.sd_site_cards.specs.SiteFields.{SiteFields, AreInRange}
 use Rattle.sd_psi.specs.Rewriting.{restore_fault, rewrite_fault, ca_descriptor}
 use Rattle.sd_spec.specs.Kinds.{pat_in_force, is_current_pat}
 use Rattle.sd_spec.specs.Refused.{is_reserved_pid, is_full_own}

@@ -10,7 +10,7 @@ use Rattle.std.proofs.lemmas.Bool.{cases_Bool}
 use Rattle.std.proofs.lemmas.Bool.Decides.{nat_tests}
 use Rattle.sd_packet.specs.Header.{pid_of, unit_start_of, counter_of, scrambling_of, adaptation_of, payload_start_of}
 use Rattle.sd_packet.specs.Positions.{is_moving, is_placed}
-use Rattle.sd_site.specs.SiteFields.{SiteFields}
+use Rattle.sd_site_cards.specs.SiteFields.{SiteFields}
 use Rattle.sd_psi.specs.Tables.{pmt_pids_of}
 use Rattle.sd_psi.specs.Forms.{section_in}
 use Rattle.sd_spec.specs.Plan.{word_of}

@@ -15,7 +15,7 @@ use Rattle.sd_base.proofs.Ranges.{range_parts}
 use Rattle.sd_packet.specs.Header.{pid_of}
 use Rattle.sd_packet.specs.Positions.{is_placed, moved_by, position_of}
 use Rattle.sd_packet.proofs.Positions.{more_packets, higher_start}
-use Rattle.sd_site.specs.SiteFields.{SiteFields}
+use Rattle.sd_site_cards.specs.SiteFields.{SiteFields}
 use Rattle.sd_spec.specs.Plan.{Plan, IsPlan, word_of, closing_number}
 use Rattle.sd_spec.specs.Kinds.{kind_of, is_scrambled, pat_in_force}
 use Rattle.sd_spec.specs.Refused.{IsClear, IsSendable, is_reserved_pid}

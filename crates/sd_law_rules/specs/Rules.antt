@@ -6,7 +6,7 @@ use Rattle.sd_base.specs.Types.{Packet, Packets, Arrived, Pid, Position, Message
 use Rattle.sd_packet.specs.Header.{pid_of, unit_start_of, counter_of, scrambling_of, adaptation_of, payload_start_of}
 use Rattle.sd_packet.specs.Positions.{first_position, advanced, position_of}
 use Rattle.sd_message.specs.EcmParts.{Message}
-use Rattle.sd_site.specs.SiteFields.{SiteFields}
+use Rattle.sd_site_cards.specs.SiteFields.{SiteFields}
 use Rattle.sd_spec.specs.Plan.{Plan, closing_number}
 use Rattle.sd_spec.specs.Carried.{carried}
 use Rattle.sd_spec.specs.Sent.{Item}

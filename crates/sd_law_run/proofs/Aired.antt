@@ -6,10 +6,10 @@ use Rattle.std.specs.Io.KnownBytes.{Appends}
 use Rattle.sd_base.specs.Types.{Bytes, FileName, Packets}
 use Rattle.sd_ports.specs.Files.{Files}
 use Rattle.sd_engine.specs.Cut.{readable}
-use Rattle.sd_site.specs.SiteFields.{SiteFields}
-use Rattle.sd_site.specs.Written.{newest_of, none_fewer}
-use Rattle.sd_site.specs.declared.book_line.BookLine.{BookLine}
-use Rattle.sd_site.proofs.Alone.{site_said}
+use Rattle.sd_site_cards.specs.SiteFields.{SiteFields}
+use Rattle.sd_site_cards.specs.Written.{newest_of, none_fewer}
+use Rattle.sd_site_cards.specs.declared.book_line.BookLine.{BookLine}
+use Rattle.sd_site_cards.proofs.Alone.{site_said}
 use Rattle.sd_spec.specs.Plan.{Plan}
 use Rattle.sd_law_air.proofs.Sendable.{aired_sendable, aired_long, aired_synced, aired_unmarked}
 use Rattle.sd_command_base.specs.declared.status.Status.{Status}

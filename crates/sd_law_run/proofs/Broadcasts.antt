@@ -2,10 +2,10 @@
 use Rattle.std.proofs.Common.{◌≡◌, ℕ, ◌+◌, ◌*◌, ◌^◌, ◌<◌, ◌≤◌, cond, List, [], length, reverse, Option}
 use Rattle.std.proofs.Common.{Some, None, Ok, Err, refl, ap, ◌∙◌, le-ltb, arith}
 use Rattle.std.specs.List.{concat}
-use Rattle.sd_site.specs.CardFields.{CardFields, IsCard, card_of, card_bytes}
-use Rattle.sd_site.specs.CardFaults.{height_in, length_at}
-use Rattle.sd_site.proofs.Spellings.{written_is_good, good_parts}
-use Rattle.sd_site.proofs.Made.{made_is_card}
+use Rattle.sd_site_cards.specs.CardFields.{CardFields, IsCard, card_of, card_bytes}
+use Rattle.sd_site_cards.specs.CardFaults.{height_in, length_at}
+use Rattle.sd_site_cards.proofs.Spellings.{written_is_good, good_parts}
+use Rattle.sd_site_cards.proofs.Made.{made_is_card}
 use Rattle.sd_engine.specs.Taken.{Whole, taken_of, end_of}
 use Rattle.sd_spec.specs.Plan.{Plan, IsPlan}
 use Rattle.sd_spec.specs.Refused.{IsSendable}

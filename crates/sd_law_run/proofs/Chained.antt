@@ -2,12 +2,12 @@
 use Rattle.std.proofs.Common.{◌≡◌, ℕ, ◌≤◌, ◌+◌, ◌||◌, Bool, true, cond, List, [], Option, None, Ok, Err}
 use Rattle.std.proofs.Common.{Some, ap, ◌∙◌, arith, refl, le-leb, le-ltb}
 use Rattle.std.specs.Option.{option_map_or}
-use Rattle.sd_site.specs.SiteFields.{SiteFields}
-use Rattle.sd_site.specs.Text.{book_line_of}
-use Rattle.sd_site.specs.Chain.{most_word, twin_site}
-use Rattle.sd_site.specs.Written.{is_first, is_whole, newest_of, none_fewer, site_text}
-use Rattle.sd_site.specs.declared.book_line.BookLine.{BookLine}
-use Rattle.sd_site.proofs.Alone.{site_said}
+use Rattle.sd_site_cards.specs.SiteFields.{SiteFields}
+use Rattle.sd_site_cards.specs.Text.{book_line_of}
+use Rattle.sd_site_cards.specs.Chain.{most_word, twin_site}
+use Rattle.sd_site_cards.specs.Written.{is_first, is_whole, newest_of, none_fewer, site_text}
+use Rattle.sd_site_cards.specs.declared.book_line.BookLine.{BookLine}
+use Rattle.sd_site_cards.proofs.Alone.{site_said}
 use Rattle.sd_book.specs.declared.command.Command.{Command}
 use Rattle.sd_book.proofs.Judged.{book_again}
 use Rattle.sd_command_base.specs.declared.status.Status.TheVariants.{BadOut}

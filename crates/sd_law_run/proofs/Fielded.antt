@@ -11,7 +11,7 @@ use Rattle.sd_engine.specs.Stream.{break_of, is_packet, packets_of, pieces}
 use Rattle.sd_engine.specs.Taken.{taken_of}
 use Rattle.sd_engine.specs.declared.fault.StreamBreak.{StreamBreak}
 use Rattle.sd_engine.proofs.Walking.{all_counted}
-use Rattle.sd_site.specs.SiteFields.{SiteFields}
+use Rattle.sd_site_cards.specs.SiteFields.{SiteFields}
 use Rattle.sd_base.specs.Lines.{lines_of}
 use Rattle.sd_spec.specs.declared.event.Event.{Event}
 use Rattle.sd_spec.specs.Book.{sends}

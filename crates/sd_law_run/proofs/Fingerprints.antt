@@ -3,11 +3,11 @@ use Rattle.std.proofs.Common.{◌≡◌, ℕ, List, [], ◌∷◌, ◌++◌, len
 use Rattle.std.specs.List.{concat, flat_map, range_with_len}
 use Rattle.std.proofs.lemmas.List.{take_at, drop_at}
 use Rattle.sha2.proofs.Facts256.{length-sha256}
-use Rattle.sd_tree.specs.Keys.{check_value_of, whole_key_of}
-use Rattle.sd_tree.specs.Names.{given, given_under}
-use Rattle.sd_site.specs.Files.{check_of, file_body, file_bytes}
-use Rattle.sd_site.specs.Secrets.{secret_of}
-use Rattle.sd_site.specs.CardFields.{card_bytes, card_head, card_of}
+use Rattle.sd_tree_keys.specs.Keys.{check_value_of, whole_key_of}
+use Rattle.sd_tree_keys.specs.Names.{given, given_under}
+use Rattle.sd_site_cards.specs.Files.{check_of, file_body, file_bytes}
+use Rattle.sd_site_cards.specs.Secrets.{secret_of}
+use Rattle.sd_site_cards.specs.CardFields.{card_bytes, card_head, card_of}
 use Rattle.sd_run_books.specs.Fingerprint.{fingerprint_in, fingerprint_of, whole_key_in}
 
 key_long : (master : List ℕ) → length (whole_key_of master) ≡ 32

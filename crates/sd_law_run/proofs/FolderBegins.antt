@@ -7,14 +7,14 @@ use Rattle.sha2.proofs.Facts256.{length-sha256}
 use Rattle.sd_base.specs.Types.{Bytes, FileName}
 use Rattle.sd_base.specs.Number.{decimal_value}
 use Rattle.sd_ports.specs.Files.{Files}
-use Rattle.sd_site.specs.SiteFields.{SiteFields}
-use Rattle.sd_site.specs.Text.{◌>>=◌, site_of, book_line_of}
-use Rattle.sd_site.specs.Written.{is_first, is_whole, newest_of}
-use Rattle.sd_site.specs.declared.book_line.BookLine.{BookLine}
-use Rattle.sd_site.specs.declared.site_fault.SiteFault.{SiteFault}
-use Rattle.sd_site.specs.declared.site_fault.SiteFault.TheVariants.{Short}
-use Rattle.sd_site.proofs.Alone.{said_is_site}
-use Rattle.sd_site.proofs.Short.{site_short}
+use Rattle.sd_site_cards.specs.SiteFields.{SiteFields}
+use Rattle.sd_site_cards.specs.Text.{◌>>=◌, site_of, book_line_of}
+use Rattle.sd_site_cards.specs.Written.{is_first, is_whole, newest_of}
+use Rattle.sd_site_cards.specs.declared.book_line.BookLine.{BookLine}
+use Rattle.sd_site_cards.specs.declared.site_fault.SiteFault.{SiteFault}
+use Rattle.sd_site_cards.specs.declared.site_fault.SiteFault.TheVariants.{Short}
+use Rattle.sd_site_cards.proofs.Alone.{said_is_site}
+use Rattle.sd_site_cards.proofs.Short.{site_short}
 use Rattle.sd_run_books.specs.SiteNames.{digits_in}
 use Rattle.sd_run_books.specs.Chain.{line_of}
 use Rattle.sd_law_formats.proofs.SayableSites.{said_sayable}

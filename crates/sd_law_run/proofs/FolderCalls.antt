@@ -7,12 +7,12 @@ use Rattle.std.specs.FinMap.{get}
 use Rattle.std.specs.Result.{result_unwrap_or}
 use Rattle.sd_base.specs.Types.{Bytes, FileName}
 use Rattle.sd_ports.specs.Files.{Files}
-use Rattle.sd_site.specs.SiteFields.{SiteFields}
-use Rattle.sd_site.specs.Text.{◌>>=◌, site_of, book_line_of}
-use Rattle.sd_site.specs.Written.{newest_of, is_first, is_whole, none_fewer}
-use Rattle.sd_site.specs.declared.book_line.BookLine.{BookLine}
-use Rattle.sd_site.specs.declared.site_fault.SiteFault.{SiteFault}
-use Rattle.sd_site.specs.declared.site_fault.SiteFault.TheVariants.{Short}
+use Rattle.sd_site_cards.specs.SiteFields.{SiteFields}
+use Rattle.sd_site_cards.specs.Text.{◌>>=◌, site_of, book_line_of}
+use Rattle.sd_site_cards.specs.Written.{newest_of, is_first, is_whole, none_fewer}
+use Rattle.sd_site_cards.specs.declared.book_line.BookLine.{BookLine}
+use Rattle.sd_site_cards.specs.declared.site_fault.SiteFault.{SiteFault}
+use Rattle.sd_site_cards.specs.declared.site_fault.SiteFault.TheVariants.{Short}
 use Rattle.sd_command_base.specs.Spec.{FileArgument, contents_of}
 use Rattle.sd_command_base.specs.Shown.{NumberArgument}
 use Rattle.sd_command_base.specs.Work.{Work}

@@ -18,7 +18,7 @@ use Rattle.std.specs.Char.{is_ascii_digit}
 use Rattle.sd_base.specs.Number.{decimal_value}
 use Rattle.sd_base.proofs.Digits.{own}
 use Rattle.sd_base.proofs.DecimalNumbers.{number_of_decimal, decimal_of_number}
-use Rattle.sd_site.specs.Chain.{most_word}
+use Rattle.sd_site_cards.specs.Chain.{most_word}
 use Rattle.sd_run_books.specs.SiteNames.{after_number, before_number, digits_in, follows, is_one_up}
 use Rattle.sd_law_run.specs.Folders.{name_at}
 

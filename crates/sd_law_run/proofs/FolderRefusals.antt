@@ -8,12 +8,12 @@ use Rattle.std.proofs.lemmas.Map.Text.{is_eq-slice_cmp}
 use Rattle.std.proofs.lemmas.Option.{same_Some}
 use Rattle.sd_base.specs.Types.{Bytes, FileName}
 use Rattle.sd_ports.specs.Files.{Files}
-use Rattle.sd_site.specs.SiteFields.{SiteFields}
-use Rattle.sd_site.specs.Written.{is_first, newest_of}
-use Rattle.sd_site.specs.Chain.{has_room, most_word}
-use Rattle.sd_site.specs.declared.book_line.BookLine.{BookLine}
-use Rattle.sd_site.specs.declared.site_fault.SiteFault.{SiteFault}
-use Rattle.sd_site.specs.declared.site_fault.SiteFault.TheVariants.{Range}
+use Rattle.sd_site_cards.specs.SiteFields.{SiteFields}
+use Rattle.sd_site_cards.specs.Written.{is_first, newest_of}
+use Rattle.sd_site_cards.specs.Chain.{has_room, most_word}
+use Rattle.sd_site_cards.specs.declared.book_line.BookLine.{BookLine}
+use Rattle.sd_site_cards.specs.declared.site_fault.SiteFault.{SiteFault}
+use Rattle.sd_site_cards.specs.declared.site_fault.SiteFault.TheVariants.{Range}
 use Rattle.sd_book.specs.declared.command.Command.{Command}
 use Rattle.sd_book.specs.declared.fault.BookFault.{BookFault}
 use Rattle.sd_book.specs.declared.fault.BookFault.TheVariants as book

@@ -25,7 +25,7 @@ use Rattle.sd_law_chain.specs.Chain.{Call, IsChain, IsTaken, Link, link_at, made
 use Rattle.sd_law_chain.specs.Made.{file_made}
 use Rattle.sd_law_run.specs.Left.{HasOut, with_mark}
 use Rattle.sd_law_run.specs.Outcome.{out_name}
-use Rattle.sd_site.specs.Written.{IsSayable, is_first, newest_of}
+use Rattle.sd_site_cards.specs.Written.{IsSayable, is_first, newest_of}
 use Rattle.sd_run_books.specs.Chain.{line_of}
 use Rattle.sd_law_formats.proofs.TornSites.{torn_sites}
 use Rattle.sd_law_broadcast.specs.Runs.{HasWords}

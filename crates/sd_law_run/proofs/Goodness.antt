@@ -1,11 +1,11 @@
 -- Good words over good files mean work.
 use Rattle.std.proofs.Common.{◌≡◌, ℕ, ◌≤◌, ◌^◌, true, cond, List, length, Option, Some, Result, Ok, Err, ap, ◌∙◌}
 use Rattle.std.proofs.Common.{le-ltb, lt-ltb, arith, refl}
-use Rattle.sd_site.specs.SiteFields.{SiteFields}
-use Rattle.sd_site.specs.Text.{book_line_of, site_of, IsSite}
-use Rattle.sd_site.specs.declared.book_line.BookLine.{BookLine}
-use Rattle.sd_site.proofs.Alone.{site_said}
-use Rattle.sd_site.specs.CardFields.{card_of, card_bytes}
+use Rattle.sd_site_cards.specs.SiteFields.{SiteFields}
+use Rattle.sd_site_cards.specs.Text.{book_line_of, site_of, IsSite}
+use Rattle.sd_site_cards.specs.declared.book_line.BookLine.{BookLine}
+use Rattle.sd_site_cards.proofs.Alone.{site_said}
+use Rattle.sd_site_cards.specs.CardFields.{card_of, card_bytes}
 use Rattle.sd_engine.specs.Sample.{sample_of}
 use Rattle.sd_book.specs.declared.command.Command.{Command}
 use Rattle.sd_book.specs.Text.{SpellsBook, book_of, text_of}
@@ -24,7 +24,7 @@ use Rattle.sd_command_base.specs.Files.{book_of_file, is_book, own_book_of_file,
 use Rattle.sd_command_base.specs.Files.{site_in, book_in}
 use Rattle.sd_command_base.specs.Both.{SiteBook, both_meaning, both_by}
 use Rattle.sd_book.proofs.Short.{book_short}
-use Rattle.sd_site.proofs.Short.{site_short}
+use Rattle.sd_site_cards.proofs.Short.{site_short}
 use Rattle.sd_book.proofs.Written.{spelled_again}
 use Rattle.sd_book.specs.Limits.{IsWithinLimits}
 use Rattle.sd_law_run.specs.Good.{IsGoodSite, IsGoodBook, IsOwnBook}

@@ -7,7 +7,7 @@ use Rattle.std.proofs.lemmas.List.{map-append}
 use Rattle.sd_base.specs.Types.{Bytes, Packets}
 use Rattle.sd_ports.specs.Bytes.{IsPrefix}
 use Rattle.sd_engine.specs.Cut.{cut, readable}
-use Rattle.sd_site.specs.CardFields.{CardFields}
+use Rattle.sd_site_cards.specs.CardFields.{CardFields}
 use Rattle.sd_spec.specs.declared.report.Report.{Report}
 use Rattle.sd_spec.specs.Offered.{out_from}
 use Rattle.sd_spec.specs.Counting.{counting}

@@ -3,8 +3,8 @@ use Rattle.std.proofs.Common.{◌≡◌, ℕ, ◌+◌, ◌^◌, ◌<◌, ◌≤�
 use Rattle.std.specs.FinMap.{insert}
 use Rattle.std.specs.List.{concat}
 use Rattle.std.specs.Io.KnownBytes.{Appends}
-use Rattle.sd_site.specs.CardFields.{card_of}
-use Rattle.sd_site.proofs.Made.{made_is_card}
+use Rattle.sd_site_cards.specs.CardFields.{card_of}
+use Rattle.sd_site_cards.proofs.Made.{made_is_card}
 use Rattle.sd_spec.specs.Plan.{Plan}
 use Rattle.sd_spec.specs.Sent.{broadcast}
 use Rattle.sd_law_losses.specs.Chosen.{chosen}

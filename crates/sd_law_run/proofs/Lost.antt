@@ -3,8 +3,8 @@ use Rattle.std.proofs.Common.{◌≡◌, ℕ, ◌*◌, ◌^◌, ◌<◌, ◌≤�
 use Rattle.std.proofs.Common.{refl, sym, ap, ◌∙◌, arith}
 use Rattle.std.specs.Prelude.{Some, Ok}
 use Rattle.std.specs.List.{concat}
-use Rattle.sd_site.specs.CardFields.{CardFields, card_of}
-use Rattle.sd_site.proofs.Made.{made_is_card}
+use Rattle.sd_site_cards.specs.CardFields.{CardFields, card_of}
+use Rattle.sd_site_cards.proofs.Made.{made_is_card}
 use Rattle.sd_engine.specs.Driving.{most_packets}
 use Rattle.sd_engine.specs.Taken.{Whole, taken_of, end_of}
 use Rattle.sd_spec.specs.Plan.{Plan, IsPlan}

@@ -1,9 +1,9 @@
 -- Good words over good files mean that messages and cards are shown.
 use Rattle.std.proofs.Common.{◌≡◌, ℕ, ◌^◌, ◌<◌, ◌≤◌, List, Option, Some, Ok, refl, ap, sym, ◌∙◌, arith}
-use Rattle.sd_site.specs.CardFields.{CardFields, IsCard, card_bytes, card_of}
-use Rattle.sd_site.proofs.Made.{made_is_card}
-use Rattle.sd_site.proofs.Spellings.{written_is_good}
-use Rattle.sd_site.specs.Files.{check_in}
+use Rattle.sd_site_cards.specs.CardFields.{CardFields, IsCard, card_bytes, card_of}
+use Rattle.sd_site_cards.proofs.Made.{made_is_card}
+use Rattle.sd_site_cards.proofs.Spellings.{written_is_good}
+use Rattle.sd_site_cards.specs.Files.{check_in}
 use Rattle.sd_command_base.specs.declared.status.Status.TheVariants.{Done}
 use Rattle.sd_command_base.specs.declared.status.LimitKind.TheVariants.{CardBytes}
 use Rattle.sd_command_base.specs.Spec.{Readings, all_of, judged, value, within, ◌>>=◌}

@@ -4,8 +4,8 @@ use Rattle.std.proofs.Common.{Option, Some, Result, Ok, Err, refl, sym, ap, subs
 use Rattle.std.specs.Prelude.{◌||◌, if◌then◌else◌}
 use Rattle.std.specs.Str.{bytes_eq}
 use Rattle.sd_base.specs.Number.{decimal_value}
-use Rattle.sd_tree.proofs.Powers.{leaves_bounds}
-use Rattle.sd_site.specs.SiteFields.{SiteFields}
+use Rattle.sd_tree_keys.proofs.Powers.{leaves_bounds}
+use Rattle.sd_site_cards.specs.SiteFields.{SiteFields}
 use Rattle.sd_command_base.specs.declared.status.Status.{Status}
 use Rattle.sd_command_base.specs.declared.status.Status.TheVariants.{Usage, BadWord}
 use Rattle.sd_command_base.specs.Spec.{Readings, judged, ◌>>=◌}

@@ -5,7 +5,7 @@ use Rattle.std.proofs.lemmas.List.Elements.{All-nil, All-cons}
 use Rattle.std.specs.List.{concat}
 use Rattle.std.specs.Io.KnownBytes.{Appends}
 use Rattle.sd_ports.specs.Files.{Files}
-use Rattle.sd_site.specs.SiteFields.{SiteFields}
+use Rattle.sd_site_cards.specs.SiteFields.{SiteFields}
 use Rattle.sd_book.specs.declared.command.Command.{Command}
 use Rattle.sd_spec.specs.Plan.{Plan, IsPlan}
 use Rattle.sd_spec.specs.Refused.{IsClear}

@@ -6,9 +6,9 @@ use Rattle.std.specs.Io.KnownBytes.{Appends}
 use Rattle.sd_ports.specs.Files.{Files}
 use Rattle.sd_engine.specs.Stream.{break_of, packets_of}
 use Rattle.sd_engine.specs.declared.fault.StreamBreak.{StreamBreak}
-use Rattle.sd_site.specs.SiteFields.{SiteFields}
+use Rattle.sd_site_cards.specs.SiteFields.{SiteFields}
 use Rattle.sd_spec.specs.Refused.{refusal_from}
-use Rattle.sd_psi.specs.declared.clear_fault.ClearFault.{ClearFault}
+use Rattle.sd_message.specs.declared.clear_fault.ClearFault.{ClearFault}
 use Rattle.sd_spec.specs.declared.event.Event.{Event}
 use Rattle.sd_field.specs.Fields as field
 use Rattle.sd_field.specs.Script.{script_of}

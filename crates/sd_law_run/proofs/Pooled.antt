@@ -1,8 +1,8 @@
 -- Good files of a site, a book and leaves mean work.
 use Rattle.std.proofs.Common.{◌≡◌, ℕ, ◌+◌, cond, List, length, Option, Some, Ok, Err, ap, ◌∙◌, le-ltb}
 use Rattle.sd_command_base.specs.Text.{leaves_of_text}
-use Rattle.sd_cover.specs.Trace.{not_among, trace_of}
-use Rattle.sd_tree.specs.Limits.{most_revoked}
+use Rattle.sd_cover_tracing.specs.Trace.{not_among, trace_of}
+use Rattle.sd_tree_keys.specs.Limits.{most_revoked}
 use Rattle.sd_command_base.specs.declared.status.Status.TheVariants.{Limit}
 use Rattle.sd_command_base.specs.declared.status.LimitKind.TheVariants.{BookBytes, Traced}
 use Rattle.sd_command_base.specs.Spec.{FileArgument, Readings, judged, value, within, ◌>>=◌}

@@ -7,7 +7,7 @@ use Rattle.std.specs.List.{concat}
 use Rattle.std.proofs.lemmas.Bool.{cases_Bool, cond-true, cond-false}
 use Rattle.std.proofs.lemmas.List.Folds.{concat-append}
 use Rattle.sd_base.specs.Types.{Packet, Packets}
-use Rattle.sd_site.specs.CardFields.{CardFields}
+use Rattle.sd_site_cards.specs.CardFields.{CardFields}
 use Rattle.sd_spec.specs.declared.report.Report.{Report}
 use Rattle.sd_spec.specs.Offered.{offered, out_from}
 use Rattle.sd_spec.specs.Counting.{counting, counts}

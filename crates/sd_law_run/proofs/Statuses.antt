@@ -12,10 +12,10 @@ use Rattle.sd_base.proofs.Ranges.{in_range}
 use Rattle.sd_book.specs.Commands.{last_period}
 use Rattle.sd_lsd.proofs.Filters.{from_filter}
 use Rattle.sd_ports.specs.Files.{Files}
-use Rattle.sd_site.specs.CardFields.{card_bytes, card_of}
-use Rattle.sd_site.specs.Files.{check_in}
-use Rattle.sd_site.specs.SiteFields.{SiteFields}
-use Rattle.sd_site.proofs.Made.{made_is_card}
+use Rattle.sd_site_cards.specs.CardFields.{card_bytes, card_of}
+use Rattle.sd_site_cards.specs.Files.{check_in}
+use Rattle.sd_site_cards.specs.SiteFields.{SiteFields}
+use Rattle.sd_site_cards.proofs.Made.{made_is_card}
 use Rattle.sd_spec.specs.Plan.{Plan}
 use Rattle.sd_law_losses.specs.Confirmed.{is_revoked_in}
 use Rattle.sd_command_base.specs.declared.status.Status.{Status}

@@ -1,7 +1,7 @@
 -- Good words and files of a trial mean its lines.
 use Rattle.std.proofs.Common.{◌≡◌, ◌^◌, ◌≤◌, cond, List, ℕ, Ok, Err, ap, ◌∙◌, le-ltb}
 use Rattle.sd_engine.specs.Taken.{taken_of}
-use Rattle.sd_site.specs.SiteFields.{SiteFields}
+use Rattle.sd_site_cards.specs.SiteFields.{SiteFields}
 use Rattle.sd_spec.specs.Plan.{Plan}
 use Rattle.sd_command_base.specs.declared.status.Status.TheVariants.{Limit}
 use Rattle.sd_command_base.specs.declared.status.LimitKind.TheVariants.{TrialHeight}

@@ -1,6 +1,6 @@
 -- What `watch` leaves of any stream.
 use Rattle.std.proofs.Common.{◌≡◌, ℕ, List, Option, Some, Ok, sym, ap, ◌∙◌}
-use Rattle.sd_site.specs.CardFields.{CardFields, IsCard, card_bytes}
+use Rattle.sd_site_cards.specs.CardFields.{CardFields, IsCard, card_bytes}
 use Rattle.sd_command_base.specs.declared.status.Status.{Status}
 use Rattle.sd_command_base.specs.Spec.{FileArgument, Readings, all_of, contents_of, value, ◌>>=◌}
 use Rattle.sd_command_base.specs.Outside.{Outside}

@@ -7,7 +7,7 @@ use Rattle.std.specs.List.{concat, list_any, range_with_len}
 use Rattle.std.proofs.lemmas.List.{get_or_append_left, get_or-append-add, take_at, drop_at}
 use Rattle.std.proofs.lemmas.List.Elements.{All-head, All-tail}
 use Rattle.sd_base.specs.Types.{Packet, Packets}
-use Rattle.sd_site.specs.CardFields.{CardFields, card_of}
+use Rattle.sd_site_cards.specs.CardFields.{CardFields, card_of}
 use Rattle.sd_engine.specs.Cut.{begins_packet, cut, skipped_before}
 use Rattle.sd_engine.proofs.Begins.{followed}
 use Rattle.sd_engine.proofs.Cutting.{cut_end, cut_packet, skipped_end, skipped_none, skipped_packet}

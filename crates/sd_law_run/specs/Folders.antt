@@ -8,8 +8,8 @@ use Rattle.sd_base.specs.Types.{Bytes, FileName}
 use Rattle.sd_base.specs.Number.{decimal_value}
 use Rattle.sd_ports.specs.Files.{Files}
 use Rattle.sd_ports.specs.Bytes.{IsPrefix}
-use Rattle.sd_site.specs.Written.{is_first, site_text}
-use Rattle.sd_site.specs.Chain.{most_word}
+use Rattle.sd_site_cards.specs.Written.{is_first, site_text}
+use Rattle.sd_site_cards.specs.Chain.{most_word}
 use Rattle.sd_command_base.specs.declared.status.Status.{Status}
 use Rattle.sd_command_base.specs.declared.status.Status.TheVariants.{Done}
 use Rattle.sd_run_books.specs.SiteNames.{after_number, before_number, digits_in}

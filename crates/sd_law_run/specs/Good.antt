@@ -6,21 +6,21 @@ use Rattle.sd_command_line.specs.Words.{SampleOf, order_of, ReceiveOf, CoverOf, 
 use Rattle.sd_command_line.specs.Words.{AccountsOf, ApartOf, BookOf, LayeredOf, LcardOf, MessagesOf, OpensOf, PlanOf}
 use Rattle.sd_command_line.specs.Words.{NextOf, ShowOf, TraceOf, TwinOf}
 use Rattle.sd_engine.specs.Taken.{Whole, taken_of, end_of}
-use Rattle.sd_site.specs.CardFields.{CardFields, IsCard, card_bytes}
+use Rattle.sd_site_cards.specs.CardFields.{CardFields, IsCard, card_bytes}
 use Rattle.sd_run_books.specs.Judged.{book_of}
 use Rattle.sd_book.specs.declared.command.Command.{Command}
-use Rattle.sd_site.specs.SiteFields.{SiteFields}
+use Rattle.sd_site_cards.specs.SiteFields.{SiteFields}
 use Rattle.sd_command_base.specs.Shown.{NumberArgument}
 use Rattle.sd_spec.specs.Plan.{Plan}
 use Rattle.sd_spec.specs.Refused.{whole_refusal}
 use Rattle.sd_law_broadcast.specs.Synced.{AreBytes}
-use Rattle.sd_site.specs.Text.{IsSite, book_line_of}
-use Rattle.sd_site.specs.Written.{is_first, is_whole}
-use Rattle.sd_site.specs.Chain.{most_word}
-use Rattle.sd_site.specs.declared.book_line.BookLine.{BookLine}
+use Rattle.sd_site_cards.specs.Text.{IsSite, book_line_of}
+use Rattle.sd_site_cards.specs.Written.{is_first, is_whole}
+use Rattle.sd_site_cards.specs.Chain.{most_word}
+use Rattle.sd_site_cards.specs.declared.book_line.BookLine.{BookLine}
 use Rattle.sd_command_base.specs.Text.{leaves_of_text}
-use Rattle.sd_cover.specs.Trace.{not_among}
-use Rattle.sd_tree.specs.Limits.{most_revoked}
+use Rattle.sd_cover_tracing.specs.Trace.{not_among}
+use Rattle.sd_tree_keys.specs.Limits.{most_revoked}
 use Rattle.sd_run_books.specs.Air.{last_word_for}
 use Rattle.sd_run_books.specs.Trace.{revoked_last}
 use Rattle.sd_base.specs.Lines.{lines_of}

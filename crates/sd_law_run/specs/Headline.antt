@@ -6,11 +6,11 @@ use Rattle.std.specs.Option.{option_and_then}
 use Rattle.std.specs.Io.KnownBytes.{Appends}
 use Rattle.sd_base.specs.Types.{Bytes, FileName, Packets, LeafNumber, PeriodNumber}
 use Rattle.sd_base.specs.Count.{HasNotRisen}
-use Rattle.sd_tree.specs.Names.{given}
-use Rattle.sd_site.specs.SiteFields.{SiteFields}
-use Rattle.sd_site.specs.Secrets.{secret_of}
-use Rattle.sd_site.specs.Files.{file_bytes}
-use Rattle.sd_site.specs.CardFields.{card_head}
+use Rattle.sd_tree_keys.specs.Names.{given}
+use Rattle.sd_site_cards.specs.SiteFields.{SiteFields}
+use Rattle.sd_site_cards.specs.Secrets.{secret_of}
+use Rattle.sd_site_cards.specs.Files.{file_bytes}
+use Rattle.sd_site_cards.specs.CardFields.{card_head}
 use Rattle.sd_engine.specs.Taken.{taken_of}
 use Rattle.sd_spec.specs.Plan.{Plan, period_of}
 use Rattle.sd_spec.specs.Sent.{broadcast}

@@ -4,7 +4,7 @@ use Rattle.std.specs.Prelude.{◌≡◌, ◌≢◌, ℕ, ◌+◌, ◌-◌, ◌*�
 use Rattle.std.specs.List.{concat, list_any}
 use Rattle.std.specs.Io.KnownBytes.{Appends}
 use Rattle.sd_base.specs.Types.{Bytes, FileName, Packets, Arrived, LeafNumber, PeriodNumber}
-use Rattle.sd_site.specs.CardFields.{card_of, card_bytes}
+use Rattle.sd_site_cards.specs.CardFields.{card_of, card_bytes}
 use Rattle.sd_spec.specs.Plan.{Plan, period_of}
 use Rattle.sd_spec.specs.Sent.{Item, sent, closing_of, broadcast}
 use Rattle.sd_spec.specs.declared.ending.Ending.{Ending}

@@ -2,7 +2,7 @@
 use Rattle.std.specs.Prelude.{◌≡◌, ℕ, ◌+◌, ◌-◌, ◌*◌, ◌≤◌, nat_le, ◌&&◌, not, List, [], length, Option, Some, None, Ok}
 use Rattle.std.specs.List.{concat}
 use Rattle.sd_base.specs.Types.{Bytes, Packets, LeafNumber, PeriodNumber}
-use Rattle.sd_site.specs.CardFields.{card_of, card_bytes}
+use Rattle.sd_site_cards.specs.CardFields.{card_of, card_bytes}
 use Rattle.sd_engine.specs.Taken.{Whole, taken_of, end_of}
 use Rattle.sd_spec.specs.Plan.{Plan, period_of}
 use Rattle.sd_spec.specs.Sent.{broadcast}

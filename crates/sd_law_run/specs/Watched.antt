@@ -6,7 +6,7 @@ use Rattle.std.specs.Io.KnownBytes.{Appends}
 use Rattle.sd_base.specs.Types.{Bytes, FileName, LeafNumber, Packets}
 use Rattle.sd_ports.specs.Bytes.{IsPrefix}
 use Rattle.sd_engine.specs.Cut.{readable}
-use Rattle.sd_site.specs.CardFields.{CardFields}
+use Rattle.sd_site_cards.specs.CardFields.{CardFields}
 use Rattle.sd_spec.specs.declared.report.Report.{Report}
 use Rattle.sd_spec.specs.declared.report.Tally.{Tally}
 use Rattle.sd_spec.specs.Plan.{Plan}

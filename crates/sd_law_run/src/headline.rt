@@ -10,7 +10,7 @@ ghost use Rattle.sd_command_base.specs.Spec.{FileArgument, contents_of};
 ghost use Rattle.sd_command_line.specs.Words.{HeadOf, order_of};
 ghost use Rattle.sd_law_run.specs.Sent.{IsSent};
 ghost use Rattle.sd_base.specs.Number.{decimal_value};
-ghost use Rattle.sd_site.specs.SiteFields.{SiteFields};
+ghost use Rattle.sd_site_cards.specs.SiteFields.{SiteFields};
 ghost use Rattle.sd_spec.specs.Plan.{Plan};
 ghost use Rattle.sd_spec.specs.Sent.{broadcast};
 ghost use Rattle.sd_law_losses.specs.Chosen.{chosen};

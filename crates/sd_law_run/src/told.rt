@@ -4,7 +4,7 @@ ghost use Rattle.std.specs.Prelude.{◌≡◌, ◌<◌, ◌≤◌, ◌^◌, List
 ghost use Rattle.std.specs.FinMap.{get};
 ghost use Rattle.sd_base.specs.Types.{Bytes, LeafNumber};
 ghost use Rattle.sd_ports.specs.Files.{Files};
-ghost use Rattle.sd_site.specs.SiteFields.{SiteFields};
+ghost use Rattle.sd_site_cards.specs.SiteFields.{SiteFields};
 ghost use Rattle.sd_command_base.specs.Outside.{Outside};
 ghost use Rattle.sd_command_base.specs.Results.{RunResult};
 ghost use Rattle.sd_command_base.specs.Spec.{FileArgument, contents_of};

@@ -2,7 +2,7 @@
 ghost use Rattle.std.specs.Prelude.{◌≡◌, ◌≢◌, ◌<◌, ◌^◌, [], ◌∷◌, true, false, codes, map, string_bytes, Some};
 ghost use Rattle.std.specs.List.{concat, list_any};
 ghost use Rattle.sd_base.specs.Types.{Bytes, Packets, LeafNumber};
-ghost use Rattle.sd_site.specs.CardFields.{CardFields, IsCard, card_bytes};
+ghost use Rattle.sd_site_cards.specs.CardFields.{CardFields, IsCard, card_bytes};
 ghost use Rattle.sd_spec.specs.Plan.{Plan};
 ghost use Rattle.sd_spec.specs.Sent.{broadcast};
 ghost use Rattle.sd_spec.specs.Counting.{is_marked};

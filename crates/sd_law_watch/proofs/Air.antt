@@ -5,15 +5,15 @@ use Rattle.std.specs.Prelude.{is_none, slice_index}
 use Rattle.std.proofs.lemmas.Bool.{cases_Bool}
 use Rattle.std.proofs.lemmas.List.Elements.{All-get_or}
 use Rattle.sd_base.specs.Bits.{field}
-use Rattle.sd_tree.specs.Keys.{control_word_of}
+use Rattle.sd_tree_keys.specs.Keys.{control_word_of}
 use Rattle.sd_packet.specs.Header.{error_of, scrambling_of, counter_of, payload_start_of}
 use Rattle.sd_packet.specs.Packing.{packed}
 use Rattle.sd_packet.proofs.Packets.{packet_reads, start_within}
 use Rattle.sd_psi.specs.Rewriting.{rewrite_fault}
 use Rattle.sd_psi.proofs.Keeping.{rewritten_packet_keeps}
-use Rattle.sd_keystream.specs.Scrambling.{control_of, payload_under, laid_under}
-use Rattle.sd_keystream.proofs.Scramblings.{prefix_is}
-use Rattle.sd_site.specs.SiteFields.{SiteFields}
+use Rattle.sd_cipher.specs.Scrambling.{control_of, payload_under, laid_under}
+use Rattle.sd_cipher.proofs.Scramblings.{prefix_is}
+use Rattle.sd_site_cards.specs.SiteFields.{SiteFields}
 use Rattle.sd_spec.specs.Plan.{Plan, word_of}
 use Rattle.sd_spec.specs.Kinds.{kind_of}
 use Rattle.sd_spec.specs.Refused.{IsSendable}

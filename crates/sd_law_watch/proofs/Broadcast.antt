@@ -11,7 +11,7 @@ use Rattle.std.proofs.lemmas.List.Folds.{list_any_at}
 use Rattle.sd_base.proofs.Bools.{tested, and_false}
 use Rattle.sd_base.proofs.Lists.{all_first}
 use Rattle.sd_packet.specs.Header.{scrambling_of}
-use Rattle.sd_site.specs.CardFields.{card_of}
+use Rattle.sd_site_cards.specs.CardFields.{card_of}
 use Rattle.sd_message.specs.EcmParts.{Message, parts_of}
 use Rattle.sd_message.specs.Period.{emms_of}
 use Rattle.sd_message.specs.declared.emm.Emm.{Emm}

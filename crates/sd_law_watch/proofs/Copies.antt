@@ -6,7 +6,7 @@ use Rattle.std.specs.List.{list_any}
 use Rattle.std.proofs.lemmas.List.{reverse-append, length-reverse}
 use Rattle.std.proofs.lemmas.List.Elements.{All-head, All-tail, All-nil, All-cons, All-append, All-contains}
 use Rattle.sd_base.proofs.Lists.{equal_bytes, any_there}
-use Rattle.sd_site.specs.CardFields.{CardFields}
+use Rattle.sd_site_cards.specs.CardFields.{CardFields}
 use Rattle.sd_spec.specs.Counting.{is_scrambled_packet, is_doubled, counts, counting}
 use Rattle.sd_law_watch.proofs.Counted.{copy_uncounted, counting_more, counting_none}
 use Rattle.sd_law_watch.proofs.Odd.{any_reversed}

@@ -4,10 +4,10 @@ use Rattle.std.proofs.Common.{Some, None, sym, ap, ◌∙◌}
 use Rattle.std.specs.Prelude.{if◌then◌else◌, nat_lt, Ok, Err}
 use Rattle.std.proofs.lemmas.List.{map-append, reverse-append, length-map}
 use Rattle.sd_packet.specs.Header.{pid_of, scrambling_of}
-use Rattle.sd_keystream.specs.Scrambling.{descrambled}
-use Rattle.sd_keystream.specs.Wrapping.{wrapped as under}
+use Rattle.sd_cipher.specs.Scrambling.{descrambled}
+use Rattle.sd_cipher.specs.Wrapping.{wrapped as under}
 use Rattle.sd_psi.specs.declared.our_cat.Tuning.{Tuning}
-use Rattle.sd_site.specs.CardFields.{CardFields}
+use Rattle.sd_site_cards.specs.CardFields.{CardFields}
 use Rattle.sd_message.specs.EcmParts.{Message}
 use Rattle.sd_spec.specs.Stretches.{Stretch, others, held_in}
 use Rattle.sd_spec.specs.Confirmed.{Segment, Wrote, judged, is_foreign, is_confirmed, unmarked, tracked, written_from}

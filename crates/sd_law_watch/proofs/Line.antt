@@ -5,7 +5,7 @@ use Rattle.std.specs.Prelude.{if◌then◌else◌}
 use Rattle.std.specs.List.{list_any}
 use Rattle.std.proofs.lemmas.List.{reverse-append}
 use Rattle.sd_base.proofs.Bools.{and_false}
-use Rattle.sd_site.specs.CardFields.{CardFields, card_of}
+use Rattle.sd_site_cards.specs.CardFields.{CardFields, card_of}
 use Rattle.sd_message.specs.declared.stream_fault.StreamFault.{StreamFault}
 use Rattle.sd_spec.specs.declared.report.Report.{Report}
 use Rattle.sd_spec.specs.declared.report.Tally.{Tally}

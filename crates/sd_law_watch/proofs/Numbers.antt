@@ -3,10 +3,10 @@ use Rattle.std.proofs.Common.{◌≡◌, refl, ℕ, ◌+◌, Bool, true, false, 
 use Rattle.std.proofs.Common.{bytes_eq, ap, ◌∙◌, arith}
 use Rattle.std.specs.Prelude.{if◌then◌else◌, nat_lt}
 use Rattle.std.specs.Option.{option_map_or}
-use Rattle.sd_tree.specs.Keys.{check_value_of}
-use Rattle.sd_keystream.specs.Wrapping.{wrapped as under}
+use Rattle.sd_tree_keys.specs.Keys.{check_value_of}
+use Rattle.sd_cipher.specs.Wrapping.{wrapped as under}
 use Rattle.sd_psi.specs.declared.our_cat.Tuning.{Tuning}
-use Rattle.sd_site.specs.CardFields.{CardFields}
+use Rattle.sd_site_cards.specs.CardFields.{CardFields}
 use Rattle.sd_message.specs.EcmParts.{Message}
 use Rattle.sd_message.specs.declared.emm.Emm.{Emm}
 use Rattle.sd_message.specs.declared.emm_fault.EmmFault.TheVariants as Emms

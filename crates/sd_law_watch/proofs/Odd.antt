@@ -8,11 +8,11 @@ use Rattle.std.proofs.lemmas.Bool.{false≢true}
 use Rattle.std.proofs.lemmas.List.{reverse-append}
 use Rattle.std.proofs.lemmas.List.Folds.{list_any-append}
 use Rattle.sd_base.proofs.Bools.{tested, or_swap, or_false}
-use Rattle.sd_tree.specs.Keys.{check_value_of}
-use Rattle.sd_keystream.specs.Wrapping.{wrapped as under}
+use Rattle.sd_tree_keys.specs.Keys.{check_value_of}
+use Rattle.sd_cipher.specs.Wrapping.{wrapped as under}
 use Rattle.sd_packet.specs.Header.{pid_of, scrambling_of}
 use Rattle.sd_psi.specs.declared.our_cat.Tuning.{Tuning}
-use Rattle.sd_site.specs.CardFields.{CardFields}
+use Rattle.sd_site_cards.specs.CardFields.{CardFields}
 use Rattle.sd_message.specs.EcmParts.{Message}
 use Rattle.sd_message.specs.declared.emm.Emm.{Emm}
 use Rattle.sd_message.specs.declared.ecm_fault.EcmFault.{EcmFault}
@@ -27,7 +27,7 @@ use Rattle.sd_spec.specs.Runs.{is_turn, of_run}
 use Rattle.sd_spec.specs.Keys.{key_from, key_at}
 use Rattle.sd_spec.specs.Confirmed.{Segment, judged, is_foreign_under, is_confirmed, written_from, then_wrote}
 use Rattle.sd_spec.specs.Confirmed.{unmarked, tracked}
-use Rattle.sd_keystream.specs.Scrambling.{descrambled}
+use Rattle.sd_cipher.specs.Scrambling.{descrambled}
 use Rattle.sd_spec.specs.Offered.{heard, heard_with, heard_more, Offering, offered, tuned_offering, run_offering}
 use Rattle.sd_spec.specs.Offered.{heard_offering, emm_offering, key_offering, key_if_none, part_offering, part_fault}
 use Rattle.sd_spec.specs.Offered.{message_offering, stretch_wrote, segment_wrote, word_fault, is_back, most_held}

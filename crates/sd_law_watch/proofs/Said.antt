@@ -4,7 +4,7 @@ use Rattle.std.proofs.Common.{Option, Some, None, sym, ap, ◌∙◌, arith}
 use Rattle.std.specs.Prelude.{if◌then◌else◌, nat_le, max, find, is_none}
 use Rattle.std.specs.Option.{option_map_or}
 use Rattle.sd_base.proofs.Bools.{chosen_itself}
-use Rattle.sd_site.specs.CardFields.{CardFields}
+use Rattle.sd_site_cards.specs.CardFields.{CardFields}
 use Rattle.sd_message.specs.declared.emm.Emm.{Emm}
 use Rattle.sd_message.specs.EcmParts.{Message}
 use Rattle.sd_message.specs.declared.ecm_part.EcmPart.{EcmPart}

@@ -5,11 +5,11 @@ use Rattle.std.proofs.Common.{Some, None, sym, ap, ◌∙◌, inl, inr, ◌⊎�
 use Rattle.std.specs.Prelude.{if◌then◌else◌, nat_le, nat_lt}
 use Rattle.std.specs.Option.{option_map_or}
 use Rattle.std.proofs.lemmas.Bool.{false≢true, and_parts, not-true}
-use Rattle.sd_tree.specs.Keys.{check_value_of}
+use Rattle.sd_tree_keys.specs.Keys.{check_value_of}
 use Rattle.sd_packet.specs.Header.{scrambling_of}
-use Rattle.sd_keystream.specs.Wrapping.{wrapped as under}
+use Rattle.sd_cipher.specs.Wrapping.{wrapped as under}
 use Rattle.sd_psi.specs.declared.our_cat.Tuning.{Tuning}
-use Rattle.sd_site.specs.CardFields.{CardFields}
+use Rattle.sd_site_cards.specs.CardFields.{CardFields}
 use Rattle.sd_message.specs.EcmParts.{Message}
 use Rattle.sd_message.specs.declared.emm.Emm.{Emm}
 use Rattle.sd_message.specs.declared.emm_fault.EmmFault.{EmmFault}

@@ -1,7 +1,7 @@
 -- Public meaning: a stream without some of the packets that don't count.
 use Rattle.std.specs.Prelude.{◌+◌, Bool, [], ◌∷◌, if◌then◌else◌}
 use Rattle.sd_base.specs.Types.{Packets, PacketNumber}
-use Rattle.sd_site.specs.CardFields.{CardFields}
+use Rattle.sd_site_cards.specs.CardFields.{CardFields}
 use Rattle.sd_spec.specs.Counting.{counts}
 
 -- of packets from number n on, after others that counted, those that count, and of the rest those that are chosen

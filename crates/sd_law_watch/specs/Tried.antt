@@ -1,7 +1,7 @@
 -- Public meaning: how many of the packets that are refused have a key tried.
 use Rattle.std.specs.Prelude.{ℕ, ◌+◌, ◌&&◌, Bool, not, [], ◌∷◌, is_none, if◌then◌else◌}
 use Rattle.sd_base.specs.Types.{Packet, Packets}
-use Rattle.sd_site.specs.CardFields.{CardFields}
+use Rattle.sd_site_cards.specs.CardFields.{CardFields}
 use Rattle.sd_spec.specs.Taken.{takes_key_at}
 use Rattle.sd_spec.specs.Offered.{offered}
 use Rattle.sd_spec.specs.Counting.{is_marked, is_doubled, is_stray_at, counts}

@@ -3,7 +3,7 @@
 ghost use Rattle.std.specs.Prelude.{◌≡◌, ◌^◌, ◌<◌, Bool, true, false, List, [], ◌∷◌, map, reverse, None};
 ghost use Rattle.std.specs.List.{list_any};
 ghost use Rattle.sd_base.specs.Types.{LeafNumber, Packets};
-ghost use Rattle.sd_site.specs.CardFields.{card_of};
+ghost use Rattle.sd_site_cards.specs.CardFields.{card_of};
 ghost use Rattle.sd_spec.specs.Plan.{Plan, IsPlan};
 ghost use Rattle.sd_spec.specs.Refused.{IsSendable};
 ghost use Rattle.sd_spec.specs.Sent.{broadcast};

@@ -3,7 +3,7 @@
 ghost use Rattle.std.specs.Prelude.{◌≡◌, ◌≢◌, ◌+◌, ◌≤◌, Bool, true, false, [], ◌∷◌, ◌++◌, length, reverse};
 ghost use Rattle.std.specs.Prelude.{None, Some, All, Contains};
 ghost use Rattle.sd_base.specs.Types.{Packet, Packets, Arrived, PacketNumber};
-ghost use Rattle.sd_site.specs.CardFields.{CardFields};
+ghost use Rattle.sd_site_cards.specs.CardFields.{CardFields};
 ghost use Rattle.sd_message.specs.declared.stream_fault.StreamFault.TheVariants as Fault;
 ghost use Rattle.sd_spec.specs.Offered.{offered, out_from, break_from};
 ghost use Rattle.sd_spec.specs.Ending.{ending_of};

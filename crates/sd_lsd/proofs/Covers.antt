@@ -10,20 +10,20 @@ use Rattle.std.proofs.lemmas.List.Concat.{flat_map-cons}
 use Rattle.std.proofs.lemmas.List.Elements.{All-contains, Contains-append_cases, Contains-get_or}
 use Rattle.std.proofs.lemmas.List.Sorted.{Contains-permutation, IsPermutation-refl, IsPermutation-sym}
 use Rattle.std.proofs.lemmas.List.Sorted.{sum_by-IsPermutation}
-use Rattle.sd_tree.specs.Leaves.{is_member, unrevoked}
-use Rattle.sd_tree.specs.SetNames.{IsOfHeight, AreAscending, set_cmp}
-use Rattle.sd_tree.specs.declared.set.SetName.{SetName}
-use Rattle.sd_tree.specs.declared.set.SetName.TheVariants.{Whole, Diff}
-use Rattle.sd_cover.specs.Chains.{IsChainCover}
-use Rattle.sd_cover.specs.Cover.{cover_of}
-use Rattle.sd_cover.specs.Partition.{IsPartition}
-use Rattle.sd_cover.proofs.Covers.{cover_partition, cover_small}
-use Rattle.sd_cover.proofs.Ends.{AreLeaves}
-use Rattle.sd_cover.proofs.Heights.{of_height}
-use Rattle.sd_cover.proofs.Lists.{length_sum, member_cases, member_first, member_later, no_member}
-use Rattle.sd_cover.proofs.Names.{one_cover}
-use Rattle.sd_cover.proofs.There.{the_cover}
-use Rattle.sd_cover.proofs.Sorting.{sorted_ascends}
+use Rattle.sd_tree_keys.specs.Leaves.{is_member, unrevoked}
+use Rattle.sd_tree_keys.specs.SetNames.{IsOfHeight, AreAscending, set_cmp}
+use Rattle.sd_tree_keys.specs.declared.set.SetName.{SetName}
+use Rattle.sd_tree_keys.specs.declared.set.SetName.TheVariants.{Whole, Diff}
+use Rattle.sd_cover_tracing.specs.Chains.{IsChainCover}
+use Rattle.sd_cover_tracing.specs.Cover.{cover_of}
+use Rattle.sd_cover_tracing.specs.Partition.{IsPartition}
+use Rattle.sd_cover_tracing.proofs.Covers.{cover_partition, cover_small}
+use Rattle.sd_cover_tracing.proofs.Ends.{AreLeaves}
+use Rattle.sd_cover_tracing.proofs.Heights.{of_height}
+use Rattle.sd_cover_tracing.proofs.Lists.{length_sum, member_cases, member_first, member_later, no_member}
+use Rattle.sd_cover_tracing.proofs.Names.{one_cover}
+use Rattle.sd_cover_tracing.proofs.There.{the_cover}
+use Rattle.sd_cover_tracing.proofs.Sorting.{sorted_ascends}
 use Rattle.sd_lsd.specs.Layers.{is_useful, layer_node, split_of}
 use Rattle.sd_lsd.specs.Cover.{IsLayerCover, IsDoubleSmall, layer_cover_of}
 use Rattle.sd_lsd.proofs.Parts.{IsPart, cut_at, parts_are_useful}

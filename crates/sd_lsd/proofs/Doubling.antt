@@ -4,11 +4,11 @@ use Rattle.std.specs.Prelude.{count_by, Contains}
 use Rattle.std.specs.List.{flat_map}
 use Rattle.std.proofs.lemmas.List.Concat.{flat_map-cons}
 use Rattle.std.proofs.lemmas.List.Sums.{sum_by-append, sum_by-cons}
-use Rattle.sd_tree.specs.Leaves.{is_member}
-use Rattle.sd_tree.specs.SetNames.{IsOfHeight}
-use Rattle.sd_tree.specs.declared.set.SetName.{SetName}
-use Rattle.sd_tree.specs.declared.set.SetName.TheVariants.{Whole, Diff}
-use Rattle.sd_cover.proofs.Lists.{member_first, member_later}
+use Rattle.sd_tree_keys.specs.Leaves.{is_member}
+use Rattle.sd_tree_keys.specs.SetNames.{IsOfHeight}
+use Rattle.sd_tree_keys.specs.declared.set.SetName.{SetName}
+use Rattle.sd_tree_keys.specs.declared.set.SetName.TheVariants.{Whole, Diff}
+use Rattle.sd_cover_tracing.proofs.Lists.{member_first, member_later}
 use Rattle.sd_lsd.specs.Layers.{split_of}
 use Rattle.sd_lsd.proofs.Parts.{parts_counted, few_parts}
 

@@ -6,7 +6,7 @@ use Rattle.std.specs.List.{range_with_len, flat_map}
 use Rattle.std.proofs.lemmas.List.{append-nil, take_more}
 use Rattle.std.proofs.lemmas.List.Concat.{flat_map-cons}
 use Rattle.std.proofs.lemmas.List.Elements.{filter-append}
-use Rattle.sd_cover.proofs.Lists.{member_cases, member_first, member_later, no_member}
+use Rattle.sd_cover_tracing.proofs.Lists.{member_cases, member_first, member_later, no_member}
 
 -- what is kept is of the list and passes
 from_by : {X : Type 0} (test : X → Bool) (y : X) (xs kept : List X) (x : X)

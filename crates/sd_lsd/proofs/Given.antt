@@ -10,19 +10,19 @@ use Rattle.std.proofs.Math.Pow.{pow_mono}
 use Rattle.std.proofs.lemmas.Bool.{le-leb, lt-leb, cases_lt}
 use Rattle.std.proofs.lemmas.List.{length-take-le}
 use Rattle.std.proofs.lemmas.List.Concat.{length-flat_map}
-use Rattle.sd_tree.specs.Node.{depth}
-use Rattle.sd_tree.specs.Paths.{path_node, sibling_of}
-use Rattle.sd_tree.specs.SetNames.{IsOfHeight, IsPair}
-use Rattle.sd_tree.proofs.Levels.{doubled}
-use Rattle.sd_tree.proofs.Ancestors.{above_le, above_parent, properly_above_from_parent}
-use Rattle.sd_tree.proofs.Paths.{path_depth, path_level, path_is_node, sibling_half}
-use Rattle.sd_tree.specs.declared.name.Name.{Name}
-use Rattle.sd_tree.specs.declared.name.Name.TheVariants.{Whole, Pair}
-use Rattle.sd_tree.specs.Names.{given, given_under, IsGivenPair}
-use Rattle.sd_tree.proofs.NameCounts.{length_given_under}
-use Rattle.sd_tree.proofs.Descents.{child_level}
-use Rattle.sd_tree.proofs.Pairs.{given_is_hanging}
-use Rattle.sd_site.proofs.MadeSecrets.{path_half}
+use Rattle.sd_tree_keys.specs.Node.{depth}
+use Rattle.sd_tree_keys.specs.Paths.{path_node, sibling_of}
+use Rattle.sd_tree_keys.specs.SetNames.{IsOfHeight, IsPair}
+use Rattle.sd_tree_keys.proofs.Levels.{doubled}
+use Rattle.sd_tree_keys.proofs.Ancestors.{above_le, above_parent, properly_above_from_parent}
+use Rattle.sd_tree_keys.proofs.Paths.{path_depth, path_level, path_is_node, sibling_half}
+use Rattle.sd_tree_keys.specs.declared.name.Name.{Name}
+use Rattle.sd_tree_keys.specs.declared.name.Name.TheVariants.{Whole, Pair}
+use Rattle.sd_tree_keys.specs.Names.{given, given_under, IsGivenPair}
+use Rattle.sd_tree_keys.proofs.NameCounts.{length_given_under}
+use Rattle.sd_tree_keys.proofs.Descents.{child_level}
+use Rattle.sd_tree_keys.proofs.Pairs.{given_is_hanging}
+use Rattle.sd_site_cards.proofs.MadeSecrets.{path_half}
 use Rattle.sd_lsd.specs.Layers.{is_useful, layer_end}
 use Rattle.sd_lsd.proofs.Layers.{useful_everywhere}
 use Rattle.sd_lsd.specs.LayerNames.{set_of, is_useful_name, layer_given, pairs_under, pairs_above, layer_count}

@@ -1,18 +1,18 @@
 -- The keys that a layer card gives.
 use Rattle.std.proofs.Common.{ℕ, ◌^◌, ◌<◌, ◌≤◌, ◌≡◌, ◌≢◌, true, List, refl}
 use Rattle.std.proofs.lemmas.List.Kept.{AllPairs-filter}
-use Rattle.sd_tree.specs.SetNames.{IsOfHeight}
-use Rattle.sd_tree.specs.declared.set.SetName.{SetName}
-use Rattle.sd_tree.specs.declared.set.SetName.TheVariants.{Whole as WholeSet, Diff}
-use Rattle.sd_tree.specs.Leaves.{is_member}
-use Rattle.sd_tree.specs.Keys.{key_of}
-use Rattle.sd_tree.specs.Names.{given}
-use Rattle.sd_tree.specs.declared.name.Name.TheVariants.{Pair}
-use Rattle.sd_tree.proofs.Pairs.{given_is_hanging}
-use Rattle.sd_site.specs.Secrets.{secret_of, key_held}
-use Rattle.sd_site.proofs.Held.{AreOfLeaf, own_among}
-use Rattle.sd_site.proofs.SecretKeys.{pair_node}
-use Rattle.sd_site.proofs.Once.{given_once}
+use Rattle.sd_tree_keys.specs.SetNames.{IsOfHeight}
+use Rattle.sd_tree_keys.specs.declared.set.SetName.{SetName}
+use Rattle.sd_tree_keys.specs.declared.set.SetName.TheVariants.{Whole as WholeSet, Diff}
+use Rattle.sd_tree_keys.specs.Leaves.{is_member}
+use Rattle.sd_tree_keys.specs.Keys.{key_of}
+use Rattle.sd_tree_keys.specs.Names.{given}
+use Rattle.sd_tree_keys.specs.declared.name.Name.TheVariants.{Pair}
+use Rattle.sd_tree_keys.proofs.Pairs.{given_is_hanging}
+use Rattle.sd_site_cards.specs.Secrets.{secret_of, key_held}
+use Rattle.sd_site_cards.proofs.Held.{AreOfLeaf, own_among}
+use Rattle.sd_site_cards.proofs.SecretKeys.{pair_node}
+use Rattle.sd_site_cards.proofs.Once.{given_once}
 use Rattle.sd_lsd.specs.Layers.{is_useful}
 use Rattle.sd_lsd.specs.LayerNames.{layer_given, is_useful_name}
 use Rattle.sd_lsd.specs.Fields.{layer_card_of, layer_key}

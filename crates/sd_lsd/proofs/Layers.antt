@@ -7,12 +7,12 @@ use Rattle.std.proofs.lemmas.Bool.{eq-eqb, le-leb}
 use Rattle.std.proofs.lemmas.Bool.Decides.{nat_tests}
 use Rattle.std.proofs.Math.Pow.{pow_mono}
 use Rattle.sd_base.proofs.Bools.{or_true}
-use Rattle.sd_tree.specs.Node.{depth}
-use Rattle.sd_tree.specs.SetNames.{IsOfHeight}
-use Rattle.sd_tree.specs.declared.set.SetName.{SetName}
-use Rattle.sd_tree.specs.declared.set.SetName.TheVariants.{Whole, Diff}
-use Rattle.sd_tree.proofs.Ancestors.{depth_within}
-use Rattle.sd_tree.proofs.Members.{lower_is_node, upper_is_node}
+use Rattle.sd_tree_keys.specs.Node.{depth}
+use Rattle.sd_tree_keys.specs.SetNames.{IsOfHeight}
+use Rattle.sd_tree_keys.specs.declared.set.SetName.{SetName}
+use Rattle.sd_tree_keys.specs.declared.set.SetName.TheVariants.{Whole, Diff}
+use Rattle.sd_tree_keys.proofs.Ancestors.{depth_within}
+use Rattle.sd_tree_keys.proofs.Members.{lower_is_node, upper_is_node}
 use Rattle.sd_base.proofs.Arithmetic.{times_next}
 use Rattle.sd_lsd.specs.Layers.{layer_end, is_useful}
 

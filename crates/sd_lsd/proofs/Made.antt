@@ -1,8 +1,8 @@
 -- The secrets of a leaf's layer card, as they are made.
 use Rattle.std.proofs.Common.{ℕ, ◌^◌, ◌<◌, ◌≤◌, ◌≡◌, List, map, sym, ap, ◌∙◌}
 use Rattle.std.proofs.lemmas.List.{length-map}
-use Rattle.sd_site.specs.Secrets.{secret_of}
-use Rattle.sd_site.proofs.MadeSecrets.{secrets_long}
+use Rattle.sd_site_cards.specs.Secrets.{secret_of}
+use Rattle.sd_site_cards.proofs.MadeSecrets.{secrets_long}
 use Rattle.sd_lsd.specs.LayerNames.{layer_given}
 use Rattle.sd_lsd.specs.Fields.{IsLayerCard, layer_card_of}
 use Rattle.sd_lsd.proofs.Given.{layer_first, layer_given_parts, length_layer_given}

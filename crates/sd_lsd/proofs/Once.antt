@@ -6,15 +6,15 @@ use Rattle.std.specs.Prelude.{Contains, AllPairs, count_by}
 use Rattle.std.proofs.Math.Pow.{pow_mono}
 use Rattle.std.proofs.lemmas.List.Elements.{All-contains, Contains-get_or, filter_passes}
 use Rattle.std.proofs.lemmas.List.Sums.{sum_by-cons}
-use Rattle.sd_tree.specs.Node.{depth}
-use Rattle.sd_tree.specs.Leaves.{leaves, is_member, members}
-use Rattle.sd_tree.specs.SetNames.{IsOfHeight}
-use Rattle.sd_tree.specs.declared.set.SetName.{SetName}
-use Rattle.sd_tree.specs.declared.set.SetName.TheVariants.{Whole, Diff}
-use Rattle.sd_tree.proofs.Levels.{doubled}
-use Rattle.sd_tree.proofs.Ancestors.{depth_within, properly_above_by_levels}
-use Rattle.sd_tree.proofs.Members.{count_below, count_pair, count_whole, lower_is_node, upper_is_node, member_within}
-use Rattle.sd_cover.proofs.Lists.{counted_some}
+use Rattle.sd_tree_keys.specs.Node.{depth}
+use Rattle.sd_tree_keys.specs.Leaves.{leaves, is_member, members}
+use Rattle.sd_tree_keys.specs.SetNames.{IsOfHeight}
+use Rattle.sd_tree_keys.specs.declared.set.SetName.{SetName}
+use Rattle.sd_tree_keys.specs.declared.set.SetName.TheVariants.{Whole, Diff}
+use Rattle.sd_tree_keys.proofs.Levels.{doubled}
+use Rattle.sd_tree_keys.proofs.Ancestors.{depth_within, properly_above_by_levels}
+use Rattle.sd_tree_keys.proofs.Members.{count_below, count_pair, count_whole, lower_is_node, upper_is_node, member_within}
+use Rattle.sd_cover_tracing.proofs.Lists.{counted_some}
 
 -- a set of the tree has a leaf
 some_member : (d : ℕ) (name : SetName) → d ≤ 20 → IsOfHeight d name → 1 ≤ length (members d name)

@@ -14,11 +14,11 @@ use Rattle.std.proofs.lemmas.List.Sorted.{IsPermutation-trans, IsPermutation-ref
 use Rattle.std.proofs.lemmas.List.Sorted.{IsPermutation-insert}
 use Rattle.std.proofs.lemmas.List.Elements.{All-nil, All-cons, All-weaker}
 use Rattle.std.proofs.lemmas.List.Kept.{AllPairs-cons}
-use Rattle.sd_tree.specs.SetNames.{set_cmp, AreAscending}
-use Rattle.sd_tree.specs.declared.set.SetName.{SetName}
-use Rattle.sd_tree.specs.declared.set.SetName.TheVariants.{Whole, Diff}
-use Rattle.sd_cover.proofs.Lists.{member_first, member_later}
-use Rattle.sd_cover.proofs.Names.{rest_ascending, same_ascending}
+use Rattle.sd_tree_keys.specs.SetNames.{set_cmp, AreAscending}
+use Rattle.sd_tree_keys.specs.declared.set.SetName.{SetName}
+use Rattle.sd_tree_keys.specs.declared.set.SetName.TheVariants.{Whole, Diff}
+use Rattle.sd_cover_tracing.proofs.Lists.{member_first, member_later}
+use Rattle.sd_cover_tracing.proofs.Names.{rest_ascending, same_ascending}
 use Rattle.sd_lsd.specs.Cover.{with_name, in_order}
 
 -- ---- the order

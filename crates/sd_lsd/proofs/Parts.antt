@@ -4,16 +4,16 @@ use Rattle.std.proofs.Common.{Bool, true, false, List, [], ◌∷◌, refl, pow_
 use Rattle.std.specs.Prelude.{Contains, count_by}
 use Rattle.std.proofs.Math.Pow.{shr-shr}
 use Rattle.std.proofs.lemmas.Bool.{leb-false, le-leb, eq-eqb, or_parts}
-use Rattle.sd_tree.specs.Node.{depth}
-use Rattle.sd_tree.specs.Leaves.{is_member}
-use Rattle.sd_tree.specs.SetNames.{IsPair, IsOfHeight}
-use Rattle.sd_tree.specs.declared.set.SetName.{SetName}
-use Rattle.sd_tree.specs.declared.set.SetName.TheVariants.{Whole, Diff}
-use Rattle.sd_tree.proofs.Levels.{halved_level, depth_at}
-use Rattle.sd_tree.proofs.Ancestors.{depth_within, above_by_levels}
-use Rattle.sd_tree.proofs.Halves.{cut_counts}
-use Rattle.sd_tree.proofs.Members.{lower_is_node, upper_is_node}
-use Rattle.sd_cover.proofs.Lists.{member_cases, no_member}
+use Rattle.sd_tree_keys.specs.Node.{depth}
+use Rattle.sd_tree_keys.specs.Leaves.{is_member}
+use Rattle.sd_tree_keys.specs.SetNames.{IsPair, IsOfHeight}
+use Rattle.sd_tree_keys.specs.declared.set.SetName.{SetName}
+use Rattle.sd_tree_keys.specs.declared.set.SetName.TheVariants.{Whole, Diff}
+use Rattle.sd_tree_keys.proofs.Levels.{halved_level, depth_at}
+use Rattle.sd_tree_keys.proofs.Ancestors.{depth_within, above_by_levels}
+use Rattle.sd_tree_keys.proofs.Halves.{cut_counts}
+use Rattle.sd_tree_keys.proofs.Members.{lower_is_node, upper_is_node}
+use Rattle.sd_cover_tracing.proofs.Lists.{member_cases, no_member}
 use Rattle.sd_lsd.specs.Layers.{layer_end, is_useful, layer_node, split_of}
 use Rattle.sd_lsd.proofs.Layers.{layer_bounds}
 

@@ -6,24 +6,24 @@ use Rattle.std.specs.List.{list_any}
 use Rattle.std.proofs.lemmas.Bool.{false_from_ne_true, eq-eqb}
 use Rattle.std.proofs.lemmas.List.Folds.{list_any_at, Any-from_list_any}
 use Rattle.sd_base.proofs.Lists.{counted_any}
-use Rattle.sd_tree.specs.Node.{depth, IsAbove}
-use Rattle.sd_tree.specs.Leaves.{is_member}
-use Rattle.sd_tree.specs.SetNames.{IsOfHeight, IsPair}
-use Rattle.sd_tree.specs.declared.set.SetName.{SetName}
-use Rattle.sd_tree.specs.declared.set.SetName.TheVariants.{Whole as WholeSet, Diff}
-use Rattle.sd_tree.proofs.Levels.{doubled}
-use Rattle.sd_tree.proofs.Ancestors.{depth_within, above_by_levels, above_le}
-use Rattle.sd_tree.proofs.Members.{member_of_pair}
-use Rattle.sd_tree.specs.declared.name.Name.TheVariants.{Whole, Pair}
-use Rattle.sd_tree.specs.Names.{given}
-use Rattle.sd_tree.proofs.Pairs.{given_pairs, given_whole}
-use Rattle.sd_tree.proofs.Hanging.{hangs}
-use Rattle.sd_cover.proofs.Ends.{AreLeaves}
-use Rattle.sd_cover.proofs.Lists.{counted_some, found_member}
-use Rattle.sd_cover.proofs.Partitions.{among_unrevoked}
-use Rattle.sd_cover.specs.Reach.{Secret, Named, Key, IsReached, source_of}
-use Rattle.sd_cover.proofs.Reached.{reached_is_found, found_is_reached}
-use Rattle.sd_cover.proofs.Own.{reaches_its_sets}
+use Rattle.sd_tree_keys.specs.Node.{depth, IsAbove}
+use Rattle.sd_tree_keys.specs.Leaves.{is_member}
+use Rattle.sd_tree_keys.specs.SetNames.{IsOfHeight, IsPair}
+use Rattle.sd_tree_keys.specs.declared.set.SetName.{SetName}
+use Rattle.sd_tree_keys.specs.declared.set.SetName.TheVariants.{Whole as WholeSet, Diff}
+use Rattle.sd_tree_keys.proofs.Levels.{doubled}
+use Rattle.sd_tree_keys.proofs.Ancestors.{depth_within, above_by_levels, above_le}
+use Rattle.sd_tree_keys.proofs.Members.{member_of_pair}
+use Rattle.sd_tree_keys.specs.declared.name.Name.TheVariants.{Whole, Pair}
+use Rattle.sd_tree_keys.specs.Names.{given}
+use Rattle.sd_tree_keys.proofs.Pairs.{given_pairs, given_whole}
+use Rattle.sd_tree_keys.proofs.Hanging.{hangs}
+use Rattle.sd_cover_tracing.proofs.Ends.{AreLeaves}
+use Rattle.sd_cover_tracing.proofs.Lists.{counted_some, found_member}
+use Rattle.sd_cover_tracing.proofs.Partitions.{among_unrevoked}
+use Rattle.sd_cover_tracing.specs.Reach.{Secret, Named, Key, IsReached, source_of}
+use Rattle.sd_cover_tracing.proofs.Reached.{reached_is_found, found_is_reached}
+use Rattle.sd_cover_tracing.proofs.Own.{reaches_its_sets}
 use Rattle.sd_lsd.specs.Layers.{is_useful}
 use Rattle.sd_lsd.specs.Cover.{IsLayerCover}
 use Rattle.sd_lsd.proofs.Layers.{useful_upwards}

@@ -2,9 +2,9 @@
 use Rattle.std.proofs.Common.{ℕ, ◌+◌, ◌^◌, ◌<◌, ◌≡◌, List, [], ◌∷◌, length, sym, refl, ap}
 use Rattle.std.proofs.Common.{◌∙◌, arith}
 use Rattle.std.proofs.Math.Pow.{pow_mono}
-use Rattle.sd_site.specs.Files.{byte_at, number_in, file_body, file_bytes}
-use Rattle.sd_site.proofs.Written.{secrets_once}
-use Rattle.sd_site.proofs.Heads.{IsFileOf, file_is_sound}
+use Rattle.sd_site_cards.specs.Files.{byte_at, number_in, file_body, file_bytes}
+use Rattle.sd_site_cards.proofs.Written.{secrets_once}
+use Rattle.sd_site_cards.proofs.Heads.{IsFileOf, file_is_sound}
 use Rattle.sd_lsd.specs.LayerNames.{layer_count}
 use Rattle.sd_lsd.specs.Fields.{LayerFields, IsLayerCard, saying, layer_head, layer_bytes, layer_magic}
 

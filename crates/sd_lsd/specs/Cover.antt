@@ -3,11 +3,11 @@ use Rattle.std.specs.Prelude.{◌≡◌, ◌≢◌, ℕ, ◌-◌, ◌*◌, ◌<�
 use Rattle.std.specs.List.{flat_map}
 use Rattle.std.specs.List.Sorted.{IsPermutation}
 use Rattle.std.specs.Ordering.{is_lt}
-use Rattle.sd_tree.specs.SetNames.{AreAscending, set_cmp}
-use Rattle.sd_tree.specs.declared.set.SetName.{SetName}
-use Rattle.sd_tree.specs.declared.set.SetName.TheVariants.{Whole}
-use Rattle.sd_cover.specs.Chains.{IsChainCover}
-use Rattle.sd_cover.specs.Cover.{cover_of}
+use Rattle.sd_tree_keys.specs.SetNames.{AreAscending, set_cmp}
+use Rattle.sd_tree_keys.specs.declared.set.SetName.{SetName}
+use Rattle.sd_tree_keys.specs.declared.set.SetName.TheVariants.{Whole}
+use Rattle.sd_cover_tracing.specs.Chains.{IsChainCover}
+use Rattle.sd_cover_tracing.specs.Cover.{cover_of}
 use Rattle.sd_lsd.specs.Layers.{split_of}
 
 -- the sets of the chain cover, each as useful ones, ascending [Halevy, Shamir 2002, 3]

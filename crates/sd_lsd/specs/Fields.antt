@@ -1,9 +1,9 @@
 -- Public meaning: the layer card of a receiver, and the file that it is kept in.
 use Rattle.std.specs.Prelude.{◌≡◌, ℕ, ◌+◌, ◌^◌, ◌<◌, ◌≤◌, List, [], ◌∷◌, length, map, codes}
-use Rattle.sd_tree.specs.Limits.{highest}
-use Rattle.sd_tree.specs.declared.set.SetName.{SetName}
-use Rattle.sd_site.specs.Files.{AreSecrets, head_of, file_bytes}
-use Rattle.sd_site.specs.Secrets.{secret_of, key_held}
+use Rattle.sd_tree_keys.specs.Limits.{highest}
+use Rattle.sd_tree_keys.specs.declared.set.SetName.{SetName}
+use Rattle.sd_site_cards.specs.Files.{AreSecrets, head_of, file_bytes}
+use Rattle.sd_site_cards.specs.Secrets.{secret_of, key_held}
 use Rattle.sd_lsd.specs.LayerNames.{layer_given, layer_count}
 use Rattle.sd_lsd.specs.declared.card.LayerCard.{LayerCard}
 

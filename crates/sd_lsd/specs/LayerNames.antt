@@ -1,14 +1,14 @@
 -- Public meaning: what a receiver is given in layers [Halevy, Shamir 2002, 3].
 use Rattle.std.specs.Prelude.{◌≡◌, ℕ, ◌-◌, ◌%◌, Bool, true, ◌==◌, ◌↔◌, min, List, filter, sum_by, if◌then◌else◌}
 use Rattle.std.specs.List.{range_with_len}
-use Rattle.sd_tree.specs.Leaves.{is_member}
-use Rattle.sd_tree.specs.SetNames.{IsOfHeight}
-use Rattle.sd_tree.specs.declared.set.SetName.{SetName}
-use Rattle.sd_tree.specs.declared.set.SetName.TheVariants.{Whole as WholeSet, Diff}
-use Rattle.sd_tree.specs.declared.name.Name.{Name}
-use Rattle.sd_tree.specs.declared.name.Name.TheVariants.{Whole, Pair}
-use Rattle.sd_tree.specs.Names.{given}
-use Rattle.sd_cover.specs.Reach.{Named, Key, IsReached, source_of}
+use Rattle.sd_tree_keys.specs.Leaves.{is_member}
+use Rattle.sd_tree_keys.specs.SetNames.{IsOfHeight}
+use Rattle.sd_tree_keys.specs.declared.set.SetName.{SetName}
+use Rattle.sd_tree_keys.specs.declared.set.SetName.TheVariants.{Whole as WholeSet, Diff}
+use Rattle.sd_tree_keys.specs.declared.name.Name.{Name}
+use Rattle.sd_tree_keys.specs.declared.name.Name.TheVariants.{Whole, Pair}
+use Rattle.sd_tree_keys.specs.Names.{given}
+use Rattle.sd_cover_tracing.specs.Reach.{Named, Key, IsReached, source_of}
 use Rattle.sd_lsd.specs.Layers.{is_useful, layer_end}
 
 -- the set whose key is made from the name's secret alone

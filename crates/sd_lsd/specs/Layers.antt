@@ -2,9 +2,9 @@
 -- [Halevy, Shamir 2002, 3].
 use Rattle.std.specs.Prelude.{ℕ, ◌+◌, ◌-◌, ◌*◌, ◌/◌, ◌%◌, ◌^◌, Bool, true, ◌==◌, ◌||◌, nat_le, List, [], ◌∷◌}
 use Rattle.std.specs.Prelude.{if◌then◌else◌}
-use Rattle.sd_tree.specs.Node.{depth}
-use Rattle.sd_tree.specs.declared.set.SetName.{SetName}
-use Rattle.sd_tree.specs.declared.set.SetName.TheVariants.{Whole, Diff}
+use Rattle.sd_tree_keys.specs.Node.{depth}
+use Rattle.sd_tree_keys.specs.declared.set.SetName.{SetName}
+use Rattle.sd_tree_keys.specs.declared.set.SetName.TheVariants.{Whole, Diff}
 
 -- the first depth greater than a at which a layer ends: the next multiple of the width [Halevy, Shamir 2002, 3]
 unfoldable pub layer_end : ℕ → ℕ → ℕ

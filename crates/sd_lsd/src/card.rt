@@ -1,9 +1,9 @@
 ghost use Rattle.std.specs.Prelude.{◌≡◌, ◌+◌, ◌^◌, ◌<◌, ◌≤◌, length};
-ghost use Rattle.sd_tree.specs.declared.height.TheConstants.{HIGHEST};
+ghost use Rattle.sd_tree_keys.specs.declared.height.TheConstants.{HIGHEST};
 ghost use Rattle.sd_lsd.specs.LayerNames.{layer_count};
 
 use crate::Width;
-use sd_tree::{Height, Leaf};
+use sd_tree_keys::{Height, Leaf};
 
 /// What a receiver is given once in layers: the whole set's key and the labels of its leaf's pairs of useful sets, in
 /// their order [this project, docs/FORMATS.md, Layer card].

@@ -1,10 +1,10 @@
 ghost use Rattle.std.specs.Prelude.{◌≡◌, ◌+◌, ◌-◌, ◌*◌, ◌<◌, ◌≤◌};
-ghost use Rattle.sd_tree.specs.declared.height.TheConstants.{HIGHEST};
+ghost use Rattle.sd_tree_keys.specs.declared.height.TheConstants.{HIGHEST};
 ghost use Rattle.sd_lsd.specs.LayerNames.{pairs_under as pairs_of, pairs_above as pairs_before};
 ghost use Rattle.sd_lsd.specs.LayerNames.{layer_count as count_of};
 
 use crate::{Width, layer_end};
-use sd_tree::{HIGHEST, Height};
+use sd_tree_keys::{HIGHEST, Height};
 
 // How many pairs of its ancestor at this depth a leaf is given.
 #[tactic(auto, using(crate::proofs::Pairs::below_both, crate::proofs::Pairs::under_within), unfolding(crate::specs::LayerNames::pairs_under))]

@@ -1,20 +1,20 @@
 ghost use Rattle.std.specs.Prelude.{◌≡◌, ◌^◌, ◌<◌, ◌≤◌, ◌++◌, ◌↔◌, All, length, IfOk, OnOk, IsErrOf};
 ghost use Rattle.std.specs.List.{flat_map};
 ghost use Rattle.std.specs.List.Sorted.{IsStrictlyIncreasing, IsPermutation, IsSorted};
-ghost use Rattle.sd_tree.specs.SetNames.{IsOfHeight, set_cmp};
-ghost use Rattle.sd_tree.specs.declared.leaf.TheConstants.{MOST_REVOKED};
+ghost use Rattle.sd_tree_keys.specs.SetNames.{IsOfHeight, set_cmp};
+ghost use Rattle.sd_tree_keys.specs.declared.leaf.TheConstants.{MOST_REVOKED};
 ghost use Rattle.sd_lsd.specs.Layers.{split_of};
 ghost use Rattle.sd_lsd.specs.Cover.{IsLayerCover, layer_cover_of};
 
 use crate::layer::{layer_end, useful};
 use crate::width::Width;
-use sd_cover::{CoverFault, cover};
-use sd_tree::{HIGHEST, Height, Leaf, SetName, depth};
+use sd_cover_tracing::{CoverFault, cover};
+use sd_tree_keys::{HIGHEST, Height, Leaf, SetName, depth};
 use std::alloc::{AllocError, Global};
 
 /// The cover by useful sets of the leaves that are not revoked, ascending: the chain cover, in which each set that
 /// isn't useful is cut where its upper node's layer ends [Halevy, Shamir 2002, 3].
-/// It faults with `TooMany` above [`sd_tree::MOST_REVOKED`] leaves, and with `NoMemory` where memory runs out.
+/// It faults with `TooMany` above [`sd_tree_keys::MOST_REVOKED`] leaves, and with `NoMemory` where memory runs out.
 pub fn layered_cover(
     alloc: Global,
     h: Height,

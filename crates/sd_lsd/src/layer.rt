@@ -1,9 +1,9 @@
 ghost use Rattle.std.specs.Prelude.{◌≡◌, ◌<◌, ◌≤◌};
-ghost use Rattle.sd_tree.specs.SetNames.{IsOfHeight};
+ghost use Rattle.sd_tree_keys.specs.SetNames.{IsOfHeight};
 ghost use Rattle.sd_lsd.specs.Layers.{is_useful, layer_end as end_of_layer};
 
 use crate::width::Width;
-use sd_tree::{Height, SetName, depth};
+use sd_tree_keys::{Height, SetName, depth};
 
 /// Whether the set is useful in layers of this width: it has a key of its own [Halevy, Shamir 2002, 3].
 #[tactic(auto, unfolding(crate::specs::Layers::is_useful))]

@@ -1,6 +1,6 @@
 ghost use Rattle.std.specs.Prelude.{◌≡◌, ◌+◌, ◌^◌, ◌<◌, ◌≤◌, length, IfOk, map};
-ghost use Rattle.sd_tree.specs.declared.height.TheConstants.{HIGHEST};
-ghost use Rattle.sd_site.specs.Secrets.{secret_of};
+ghost use Rattle.sd_tree_keys.specs.declared.height.TheConstants.{HIGHEST};
+ghost use Rattle.sd_site_cards.specs.Secrets.{secret_of};
 ghost use Rattle.sd_lsd.specs.LayerNames.{layer_given, layer_count};
 ghost use Rattle.sd_lsd.specs.Fields.{fields_of, layer_card_of};
 
@@ -8,8 +8,8 @@ use crate::Width;
 use crate::card::LayerCard;
 use crate::counts::{layer_count, pairs_under};
 use sd_base::{NoMemory, Steps};
-use sd_site::{Site, push_labels};
-use sd_tree::{Leaf, whole_key};
+use sd_site_cards::{Site, push_labels};
+use sd_tree_keys::{Leaf, whole_key};
 use std::alloc::{AllocError, Global};
 use std::sync::ledger::Ledger;
 

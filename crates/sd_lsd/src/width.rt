@@ -1,7 +1,7 @@
 ghost use Rattle.std.specs.Prelude.{◌≡◌, ◌≤◌, ◌↔◌, IsSome, IfSome};
-ghost use Rattle.sd_tree.specs.declared.height.TheConstants.{HIGHEST};
+ghost use Rattle.sd_tree_keys.specs.declared.height.TheConstants.{HIGHEST};
 
-use sd_tree::Height;
+use sd_tree_keys::Height;
 use std::marker::Model;
 
 /// The width of a layer: how many levels of the tree it has, 1 to the tree's height.
@@ -12,7 +12,7 @@ pub struct Width {
 
 impl Model for Width {
     ghost use Rattle.std.specs.Prelude.{ℕ, ◌≤◌};
-    ghost use Rattle.sd_tree.specs.declared.height.TheConstants.{HIGHEST};
+    ghost use Rattle.sd_tree_keys.specs.declared.height.TheConstants.{HIGHEST};
 
     ghost Value = { ℕ };
 

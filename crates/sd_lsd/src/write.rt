@@ -4,7 +4,7 @@ ghost use Rattle.sd_lsd.specs.Fields.{IsLayerCard, fields_of, layer_bytes};
 use crate::card::LayerCard;
 use crate::format::{MAGIC, VERSION};
 use sd_base::NoMemory;
-use sd_site::{write_file, write_head};
+use sd_site_cards::{write_file, write_head};
 use std::alloc::{AllocError, Global};
 
 impl LayerCard {

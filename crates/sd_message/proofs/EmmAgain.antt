@@ -5,8 +5,8 @@ use Rattle.std.proofs.Common.{length-append, length-take-le, drop-drop, get_or-d
 use Rattle.std.specs.Prelude.{All, slice_index, flat_map, Option, Some, None, IfSome, is_some}
 use Rattle.std.proofs.lemmas.List.{take_at, drop_at, take_all}
 use Rattle.sd_base.specs.Bits.{field}
-use Rattle.sd_tree.specs.declared.set.SetName.{SetName}
-use Rattle.sd_tree.specs.declared.set.SetName.TheVariants.{Whole, Diff}
+use Rattle.sd_tree_keys.specs.declared.set.SetName.{SetName}
+use Rattle.sd_tree_keys.specs.declared.set.SetName.TheVariants.{Whole, Diff}
 use Rattle.sd_message.proofs.Numbers.{half_again, word_again}
 use Rattle.sd_message.proofs.Items.{items_again, long_items}
 use Rattle.sd_message.proofs.Pieces.{filled_again}

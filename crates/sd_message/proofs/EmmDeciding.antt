@@ -16,10 +16,10 @@ use Rattle.std.proofs.lemmas.Bool.Decides.{Decides-and, Decides-or, Decides-eqb,
 use Rattle.std.proofs.lemmas.Bool.Decides.{Decides-by_and}
 use Rattle.std.proofs.lemmas.Bool.Decides.{Decides-below_or}
 use Rattle.sd_packet.specs.Packing.{packed}
-use Rattle.sd_tree.specs.SetNames.{IsPair, set_cmp, AreAscending}
-use Rattle.sd_tree.specs.Node.{IsProperlyAbove}
-use Rattle.sd_tree.specs.declared.set.SetName.{SetName}
-use Rattle.sd_tree.specs.declared.set.SetName.TheVariants.{Whole, Diff}
+use Rattle.sd_tree_keys.specs.SetNames.{IsPair, set_cmp, AreAscending}
+use Rattle.sd_tree_keys.specs.Node.{IsProperlyAbove}
+use Rattle.sd_tree_keys.specs.declared.set.SetName.{SetName}
+use Rattle.sd_tree_keys.specs.declared.set.SetName.TheVariants.{Whole, Diff}
 use Rattle.sd_section.specs.Header.{least_length, extension_of, body_of, section_length_of, table_id_of}
 use Rattle.sd_section.specs.Header.{section_number_of, last_number_of}
 use Rattle.sd_message.specs.Framed.{has_section, section_of}

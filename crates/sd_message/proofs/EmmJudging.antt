@@ -2,7 +2,7 @@
 use Rattle.std.proofs.Common.{◌≡◌, ℕ, ◌-◌, List, length, take, drop, refl, sym, ap, ◌∙◌, subst}
 use Rattle.std.specs.Prelude.{Bool, replicate, ◌↔◌}
 use Rattle.std.proofs.lemmas.List.{take_at, take_rest, drop_at}
-use Rattle.sd_tree.specs.SetNames.{AreAscending}
+use Rattle.sd_tree_keys.specs.SetNames.{AreAscending}
 use Rattle.sd_message.specs.EmmSpelled.{listed_entries, names_in}
 use Rattle.sd_message.specs.EmmForm.{no_entry, AreSets, IsEmm}
 use Rattle.sd_message.specs.EmmFields.{entry_in, entries_in, padded_entries, emm_head_length, emm_in, with_entries, HasCount}

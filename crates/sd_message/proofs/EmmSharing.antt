@@ -3,8 +3,8 @@ use Rattle.std.proofs.Common.{◌≡◌, ℕ, ◌*◌, ◌/◌, ◌%◌, ◌<◌
 use Rattle.std.specs.Prelude.{All, Some, slice_get, flat_map}
 use Rattle.std.specs.declared.cmp.Ordering.TheVariants.{Less}
 use Rattle.std.proofs.lemmas.List.{drop-map, take-map}
-use Rattle.sd_tree.specs.declared.set.SetName.{SetName}
-use Rattle.sd_tree.specs.SetNames.{set_cmp, AreAscending}
+use Rattle.sd_tree_keys.specs.declared.set.SetName.{SetName}
+use Rattle.sd_tree_keys.specs.SetNames.{set_cmp, AreAscending}
 use Rattle.sd_message.specs.Pieces.{pieces_for, piece_at}
 use Rattle.sd_message.proofs.Pieces as Pieces
 use Rattle.sd_message.proofs.Pieces.{long_piece, each_of_piece, pairs_of_piece, filled_items, filled_rest}

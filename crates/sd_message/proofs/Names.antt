@@ -3,9 +3,9 @@ use Rattle.std.proofs.Common.{◌≡◌, ◌⊎◌, inl, inr, ℕ, ◌+◌, ◌^
 use Rattle.std.proofs.Common.{eq-eqb}
 use Rattle.std.specs.Prelude.{Bool, ◌==◌, if◌then◌else◌, true, false}
 use Rattle.std.proofs.lemmas.Bool.{cases_eq, ne_eqb}
-use Rattle.sd_tree.specs.declared.set.SetName.{SetName}
-use Rattle.sd_tree.specs.declared.set.SetName.TheVariants.{Whole, Diff}
-use Rattle.sd_tree.specs.SetNames.{IsPair, IsOfHeight}
+use Rattle.sd_tree_keys.specs.declared.set.SetName.{SetName}
+use Rattle.sd_tree_keys.specs.declared.set.SetName.TheVariants.{Whole, Diff}
+use Rattle.sd_tree_keys.specs.SetNames.{IsPair, IsOfHeight}
 use Rattle.std.proofs.Math.Pow.{pow_mono}
 use Rattle.sd_base.specs.Bits.{field}
 use Rattle.sd_message.proofs.Numbers.{word_again}

@@ -1,8 +1,8 @@
 -- Public meaning: which entitlements are ones that a period has.
 use Rattle.std.specs.Prelude.{◌≡◌, ℕ, ◌-◌, ◌*◌, ◌^◌, ◌<◌, ◌≤◌, List, length, drop, min, replicate, All, IfSome}
-use Rattle.sd_tree.specs.SetNames.{IsOfHeight, AreAscending}
-use Rattle.sd_tree.specs.declared.set.SetName.{SetName}
-use Rattle.sd_tree.specs.declared.set.SetName.TheVariants.{Whole}
+use Rattle.sd_tree_keys.specs.SetNames.{IsOfHeight, AreAscending}
+use Rattle.sd_tree_keys.specs.declared.set.SetName.{SetName}
+use Rattle.sd_tree_keys.specs.declared.set.SetName.TheVariants.{Whole}
 use Rattle.sd_message.specs.EmmSpelled.{listed_entries, names_in}
 use Rattle.sd_message.specs.declared.emm.Entry.{Entry}
 use Rattle.sd_message.specs.declared.emm.Emm.{Emm}

@@ -1,8 +1,8 @@
 -- Public meaning: entitlement management messages as bytes.
 use Rattle.std.specs.Prelude.{ℕ, List, [], ◌∷◌, ◌++◌, take, map, flat_map, Option, Some, None}
 use Rattle.std.specs.Int.{w16, w32, to_be_bytes}
-use Rattle.sd_tree.specs.declared.set.SetName.{SetName}
-use Rattle.sd_tree.specs.declared.set.SetName.TheVariants.{Whole, Diff}
+use Rattle.sd_tree_keys.specs.declared.set.SetName.{SetName}
+use Rattle.sd_tree_keys.specs.declared.set.SetName.TheVariants.{Whole, Diff}
 use Rattle.sd_section.specs.Written.{section_bytes}
 use Rattle.sd_section.specs.declared.write.Header.{Header}
 use Rattle.sd_message.specs.Framed.{BeginsWithSection}

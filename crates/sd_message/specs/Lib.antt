@@ -15,3 +15,4 @@ pub mod EcmJudged
 pub mod EcmParts
 pub mod EcmFaults
 pub mod StreamFaults
+pub mod ClearFaults

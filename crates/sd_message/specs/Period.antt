@@ -1,6 +1,6 @@
 -- Public meaning: all sections of a period's entitlements.
 use Rattle.std.specs.Prelude.{◌≡◌, ℕ, ◌^◌, ◌<◌, ◌≤◌, List, length, Option, IfSome}
-use Rattle.sd_tree.specs.SetNames.{AreAscending}
+use Rattle.sd_tree_keys.specs.SetNames.{AreAscending}
 use Rattle.sd_message.specs.EmmSpelled.{names_in}
 use Rattle.sd_message.specs.EmmForm.{sections_for, AreWrapped, most_entries}
 use Rattle.sd_message.specs.EmmFields.{padded_entries}

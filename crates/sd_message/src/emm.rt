@@ -3,7 +3,7 @@ ghost use Rattle.sd_message.specs.EmmSpelled.{listed_entries};
 ghost use Rattle.sd_message.specs.declared.emm_format.TheConstants.{MOST_ENTRIES};
 
 use crate::emm_format::MOST_ENTRIES;
-use sd_tree::SetName;
+use sd_tree_keys::SetName;
 
 /// A set of receivers, and the period key wrapped under the set's key.
 #[derive(Clone, Copy, PartialEq, Eq)]

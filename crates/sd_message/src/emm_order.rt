@@ -1,10 +1,10 @@
 ghost use Rattle.std.specs.Prelude.{◌≡◌, ◌↔◌, IsTrue};
-ghost use Rattle.sd_tree.specs.SetNames.{set_cmp, AreAscending};
+ghost use Rattle.sd_tree_keys.specs.SetNames.{set_cmp, AreAscending};
 ghost use Rattle.std.specs.declared.cmp.Ordering.TheVariants.{Less};
 ghost use Rattle.sd_message.specs.EmmSpelled.{names_in};
 
 use crate::emm::Entry;
-use sd_tree::compare_names;
+use sd_tree_keys::compare_names;
 use std::cmp::Ordering;
 
 /// Whether each entry's set stands after all before it.

@@ -3,7 +3,7 @@ ghost use Rattle.sd_message.specs.EmmSpelled.{names_in};
 ghost use Rattle.sd_message.specs.EmmForm.{IsEmm, sections_for};
 ghost use Rattle.sd_message.specs.EmmFields.{padded_entries};
 ghost use Rattle.sd_message.specs.Period.{entries_at, emms_of};
-ghost use Rattle.sd_tree.specs.SetNames.{AreAscending};
+ghost use Rattle.sd_tree_keys.specs.SetNames.{AreAscending};
 ghost use Rattle.sd_message.specs.declared.emm_format.TheConstants.{MOST_ENTRIES, MOST_SETS};
 
 use crate::emm::{Emm, Entry, NOTHING};

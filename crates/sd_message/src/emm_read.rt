@@ -26,7 +26,7 @@ use crate::section_in;
 use sd_base::fields;
 use sd_packet::Packet;
 use sd_section::Section;
-use sd_tree::{Height, SetName};
+use sd_tree_keys::{Height, SetName};
 
 /// The entitlements that a packet's section says, or `None` where the packet is of another kind. What stands after the
 /// section isn't read.

@@ -13,7 +13,7 @@ use crate::emm_format::{NAMED_TABLE_ID, TABLE_ID};
 use crate::frame::pack;
 use sd_packet::Packet;
 use sd_section::Header;
-use sd_tree::SetName;
+use sd_tree_keys::SetName;
 
 /// The packet that is the section of these entitlements by itself (docs/FORMATS.md, Messages).
 #[tactic(auto, unfolding(crate::specs::EmmSpelled::emm_section))]

@@ -1,9 +1,11 @@
 //! The messages of a broadcast, each one section, alone in its packet after pointer 0. Entitlements: which sets of
 //! receivers a period names, each with the period key wrapped for it. Control messages: the control word of a crypto
-//! period, wrapped, and the positions of the stream's PIDs. And why a receiver refuses a packet.
+//! period, wrapped, and the positions of the stream's PIDs. And why a head end refuses a clear
+//! packet, and a receiver a packet.
 #![tactic(auto)]
 
 mod body;
+mod clear_fault;
 mod ecm_fault;
 mod ecm_format;
 mod ecm_message;
@@ -21,6 +23,7 @@ mod emm_write;
 mod frame;
 mod stream_fault;
 
+pub use clear_fault::ClearFault;
 pub use ecm_fault::EcmFault;
 pub use ecm_format::{MOST_PLACES, POSITIONS};
 pub use ecm_message::{EcmHead, part_count};

@@ -5,4 +5,3 @@ pub mod Rewriting
 pub mod Undone
 pub mod Access
 pub mod OurCat
-pub mod ClearFaults

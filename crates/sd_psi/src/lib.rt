@@ -1,9 +1,8 @@
-//! PAT, CAT and PMT as views of sections and packets, the project's CAT, the PMT with the project's CA_descriptor, and
-//! why a clear packet is refused.
+//! PAT, CAT and PMT as views of sections and packets, the project's CAT, and the PMT with the project's
+//! CA_descriptor.
 #![tactic(auto)]
 
 mod cat;
-mod clear_fault;
 mod descriptor;
 mod fault;
 mod form;
@@ -16,7 +15,6 @@ mod rewrite;
 mod stream;
 
 pub use cat::{Cat, cat_in, cat_of};
-pub use clear_fault::ClearFault;
 pub use descriptor::{CA_TAG, CaDescriptor, Descriptor, Descriptors};
 pub use fault::FormFault;
 pub use our_cat::{CAT_HEADER, CAT_PID, Tuning, cat_descriptor, cat_tuning};

@@ -7,8 +7,8 @@ use Rattle.std.specs.Option.{option_map_or}
 use Rattle.std.proofs.lemmas.List.{length-reverse}
 use Rattle.std.proofs.lemmas.List.Folds.{concat-append}
 use Rattle.sd_base.proofs.Lists.{reversed, first_none, rest_none}
-use Rattle.sd_site.specs.CardFields.{CardFields, card_fields_of}
-use Rattle.sd_site.specs.declared.card.Card.{Card}
+use Rattle.sd_site_cards.specs.CardFields.{CardFields, card_fields_of}
+use Rattle.sd_site_cards.specs.declared.card.Card.{Card}
 use Rattle.sd_engine.specs.Stage.{Chain}
 use Rattle.sd_message.specs.declared.stream_fault.StreamFault.{StreamFault}
 use Rattle.sd_spec.specs.Offered.{offered, out_from, break_from}

@@ -3,9 +3,9 @@ use Rattle.std.proofs.Common.{◌≡◌, ℕ, ◌<◌, ◌≤◌, Bool, true, fa
 use Rattle.std.specs.Prelude.{find, Some, None, option_map}
 use Rattle.std.proofs.lemmas.List.{at_drop_more, drop_all}
 use Rattle.std.proofs.lemmas.Bool.{true_from_ne_false}
-use Rattle.sd_tree.specs.Leaves.{is_member}
-use Rattle.sd_site.specs.CardFields.{CardFields, card_key}
-use Rattle.sd_keystream.specs.Wrapping.{wrapped}
+use Rattle.sd_tree_keys.specs.Leaves.{is_member}
+use Rattle.sd_site_cards.specs.CardFields.{CardFields, card_key}
+use Rattle.sd_cipher.specs.Wrapping.{wrapped}
 use Rattle.sd_message.specs.EmmSpelled.{listed_entries}
 use Rattle.sd_message.specs.declared.emm.Emm.{Emm}
 use Rattle.sd_message.specs.declared.emm.Entry.{Entry}

@@ -9,7 +9,7 @@ use Rattle.sd_packet.specs.Header.{pid_of, scrambling_of}
 use Rattle.sd_packet.specs.Positions.{is_placed, moved_by}
 use Rattle.sd_psi.specs.Rewriting.{restored, restore_fault}
 use Rattle.sd_psi.specs.declared.fault.FormFault.{FormFault}
-use Rattle.sd_keystream.specs.Scrambling.{descrambled}
+use Rattle.sd_cipher.specs.Scrambling.{descrambled}
 use Rattle.sd_spec.specs.Confirmed.{position_or_first, Segment, position_in, tracked, is_confirmed, is_foreign}
 use Rattle.sd_spec.specs.Confirmed.{unmarked, judged}
 use Rattle.sd_spec.proofs.Unmarked.{unmarked_stays, marked_back}

@@ -3,8 +3,8 @@ use Rattle.std.proofs.Common.{◌≡◌, inl, inr, ℕ, ◌+◌, ◌++◌, List,
 use Rattle.std.proofs.Common.{true, false, arith}
 use Rattle.std.specs.Prelude.{Option, Some, None, nat_lt, nat_le, option_map, if◌then◌else◌}
 use Rattle.std.proofs.lemmas.Bool.{cases_lt, lt-ltb, le-ltb}
-use Rattle.sd_site.specs.CardFields.{CardFields}
-use Rattle.sd_keystream.specs.Wrapping.{wrapped as under}
+use Rattle.sd_site_cards.specs.CardFields.{CardFields}
+use Rattle.sd_cipher.specs.Wrapping.{wrapped as under}
 use Rattle.sd_message.specs.EcmParts.{Message, message_of}
 use Rattle.sd_message.specs.declared.ecm_part.Place.{Place}
 use Rattle.sd_message.specs.declared.ecm_message.EcmHead.{EcmHead}

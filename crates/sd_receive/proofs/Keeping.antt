@@ -13,7 +13,7 @@ use Rattle.std.proofs.lemmas.Bool.{le-leb, le-ltb, eqb-true, ne_eqb, and_parts, 
 use Rattle.std.proofs.lemmas.Bool.{not-false, both_ways}
 use Rattle.sd_base.proofs.Bools.{or_true}
 use Rattle.sd_base.proofs.Lists.{unmarked}
-use Rattle.sd_site.specs.CardFields.{CardFields}
+use Rattle.sd_site_cards.specs.CardFields.{CardFields}
 use Rattle.sd_message.specs.declared.emm.Emm.{Emm}
 use Rattle.sd_message.specs.EcmParts.{Message}
 use Rattle.sd_message.specs.declared.ecm_part.EcmPart.{EcmPart}

@@ -5,8 +5,8 @@ use Rattle.std.specs.Prelude.{Option, Some, None, is_none, not, nat_lt, Result, 
 use Rattle.std.specs.Prelude.{bytes_eq, ◌+◌, ◌≤◌}
 use Rattle.std.proofs.lemmas.Bool.{le-leb, le-ltb}
 use Rattle.std.specs.List.{concat}
-use Rattle.sd_site.specs.CardFields.{CardFields}
-use Rattle.sd_tree.specs.Keys.{check_value_of}
+use Rattle.sd_site_cards.specs.CardFields.{CardFields}
+use Rattle.sd_tree_keys.specs.Keys.{check_value_of}
 use Rattle.sd_message.specs.declared.emm.Emm.{Emm}
 use Rattle.sd_message.specs.declared.emm_fault.EmmFault.{EmmFault}
 use Rattle.sd_message.specs.declared.emm_fault.EmmFault.TheVariants as Emms

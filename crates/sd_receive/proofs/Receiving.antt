@@ -8,8 +8,8 @@ use Rattle.std.specs.Option.{option_or}
 use Rattle.std.proofs.lemmas.Bool.{cases_Bool, le-ltb, true≢false}
 use Rattle.std.proofs.lemmas.List.{reverse-append, reverse-reverse}
 use Rattle.sd_base.proofs.Bools.{tested}
-use Rattle.sd_site.specs.declared.card.Card.{Card}
-use Rattle.sd_site.specs.CardFields.{CardFields, card_fields_of}
+use Rattle.sd_site_cards.specs.declared.card.Card.{Card}
+use Rattle.sd_site_cards.specs.CardFields.{CardFields, card_fields_of}
 use Rattle.sd_engine.specs.Stage.{SinkState, HasGrown, IsCutShort}
 use Rattle.sd_engine.specs.declared.stage.StageFault.{StageFault}
 use Rattle.sd_engine.specs.declared.stage.StageFault.TheVariants.{Write, Refused}

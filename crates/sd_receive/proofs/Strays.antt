@@ -6,9 +6,9 @@ use Rattle.std.specs.List.{list_any}
 use Rattle.std.specs.Option.{option_map_or}
 use Rattle.std.proofs.lemmas.Bool.{or_parts, true≢false}
 use Rattle.sd_packet.specs.Header.{pid_of, scrambling_of}
-use Rattle.sd_keystream.specs.Scrambling.{descrambled}
-use Rattle.sd_keystream.specs.Wrapping.{wrapped as under}
-use Rattle.sd_site.specs.CardFields.{CardFields}
+use Rattle.sd_cipher.specs.Scrambling.{descrambled}
+use Rattle.sd_cipher.specs.Wrapping.{wrapped as under}
+use Rattle.sd_site_cards.specs.CardFields.{CardFields}
 use Rattle.sd_message.specs.EcmParts.{Message, message_of}
 use Rattle.sd_message.specs.declared.ecm_part.EcmPart.{EcmPart}
 use Rattle.sd_message.specs.declared.ecm_message.EcmHead.{EcmHead}

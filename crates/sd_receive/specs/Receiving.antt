@@ -2,7 +2,7 @@
 use Rattle.std.specs.Prelude.{◌≡◌, ℕ, ◌-◌, ◌*◌, ◌^◌, ◌<◌, ◌≤◌, Bool, true, false, List, [], ◌∷◌, ◌++◌, length, reverse}
 use Rattle.std.specs.Prelude.{if◌then◌else◌, ◌+◌, Option, Some, None, IfSome}
 use Rattle.std.specs.List.{concat}
-use Rattle.sd_site.specs.CardFields.{CardFields, card_fields_of}
+use Rattle.sd_site_cards.specs.CardFields.{CardFields, card_fields_of}
 use Rattle.sd_message.specs.declared.stream_fault.StreamFault.{StreamFault}
 use Rattle.sd_base.specs.Types.{RunName}
 use Rattle.sd_spec.specs.Tuned.{tuning_of}

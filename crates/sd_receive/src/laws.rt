@@ -3,7 +3,7 @@
 ghost use Rattle.std.specs.Prelude.{◌≡◌, ℕ, ◌+◌, ◌-◌, ◌^◌, ◌<◌, ◌≤◌, ◌++◌, ◌∷◌, [], List, length, true, map, Some};
 ghost use Rattle.sd_engine.specs.Stage.{Chain};
 ghost use Rattle.sd_message.specs.declared.stream_fault.StreamFault.{StreamFault};
-ghost use Rattle.sd_site.specs.CardFields.{CardFields};
+ghost use Rattle.sd_site_cards.specs.CardFields.{CardFields};
 ghost use Rattle.sd_spec.specs.Heard.{Heard};
 ghost use Rattle.sd_spec.specs.Stretches.{current, seen};
 ghost use Rattle.sd_message.specs.EcmParts.{Message};

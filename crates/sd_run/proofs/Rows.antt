@@ -42,9 +42,9 @@ use Rattle.sd_run_broadcasts.specs.Trial.{plan_meaning as trial_plan, trial_text
 use Rattle.sd_run_broadcasts.specs.Trial.{most_clear_bytes}
 use Rattle.sd_run_broadcasts.specs.Watch.{watch_meaning, watched_meaning, watching}
 use Rattle.sd_engine.specs.Sample.{sample_of}
-use Rattle.sd_site.specs.Chain.{most_word}
-use Rattle.sd_site.specs.SiteFields.{SiteFields}
-use Rattle.sd_site.specs.Written.{none_fewer}
+use Rattle.sd_site_cards.specs.Chain.{most_word}
+use Rattle.sd_site_cards.specs.SiteFields.{SiteFields}
+use Rattle.sd_site_cards.specs.Written.{none_fewer}
 use Rattle.sd_book.specs.Text.{text_of}
 use Rattle.sd_lsd.specs.Fields.{layer_card_of, layer_bytes}
 use Rattle.sd_command_line.specs.declared.command.Command.{Command}

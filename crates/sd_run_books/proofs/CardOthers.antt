@@ -1,9 +1,9 @@
 -- No command of this crate ever means `Usage`.
 use Rattle.std.proofs.Common.{ℕ, Bool, true, false, cond, List, Option, Ok, Err, ◌+◌, length, ◌^◌}
 use Rattle.std.specs.Prelude.{nat_le, ◌&&◌, nat_lt, if◌then◌else◌}
-use Rattle.sd_tree.specs.Limits.{most_revoked}
+use Rattle.sd_tree_keys.specs.Limits.{most_revoked}
 use Rattle.sd_book.specs.declared.command.Command.{Command}
-use Rattle.sd_cover.specs.Trace.{not_among, trace_of}
+use Rattle.sd_cover_tracing.specs.Trace.{not_among, trace_of}
 use Rattle.sd_command_base.specs.Spec.{FileArgument, Readings, value, judged, ◌>>=◌, within}
 use Rattle.sd_command_base.specs.declared.status.Status.TheVariants.{BadWord, Limit}
 use Rattle.sd_command_base.specs.declared.status.LimitKind.TheVariants.{Traced, CardBytes}
@@ -19,9 +19,9 @@ use Rattle.sd_run_books.specs.Cover.{covering, cover_meaning}
 use Rattle.sd_run_books.specs.Layered.{told_layers, layers_of_file, layering, layered_meaning}
 use Rattle.sd_run_books.specs.Opens.{opening, opens_meaning}
 use Rattle.sd_run_books.specs.Trace.{revoked_last, trace_text, traced, trace_meaning}
-use Rattle.sd_site.specs.SiteFields.{SiteFields}
-use Rattle.sd_site.specs.CardFields.{card_of, card_bytes}
-use Rattle.sd_site.specs.CardFaults.{fault_in}
+use Rattle.sd_site_cards.specs.SiteFields.{SiteFields}
+use Rattle.sd_site_cards.specs.CardFields.{card_of, card_bytes}
+use Rattle.sd_site_cards.specs.CardFaults.{fault_in}
 use Rattle.sd_lsd.specs.Fields.{layer_card_of, layer_bytes}
 use Rattle.sd_command_base.specs.Made.{making}
 use Rattle.sd_run_books.specs.Card.{told_card, card_meaning}

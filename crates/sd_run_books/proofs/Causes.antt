@@ -11,8 +11,8 @@ use Rattle.std.specs.Prelude.{option_and_then, codes}
 use Rattle.sd_base.proofs.Bools.{or_true}
 use Rattle.sd_base.specs.Lines.{cut_at_space, lines_of}
 use Rattle.sd_base.specs.Number.{rest_after, decimal_value}
-use Rattle.sd_site.proofs.Places.{get_first}
-use Rattle.sd_tree.specs.declared.leaf.TheConstants.{MOST_REVOKED}
+use Rattle.sd_site_cards.proofs.Places.{get_first}
+use Rattle.sd_tree_keys.specs.declared.leaf.TheConstants.{MOST_REVOKED}
 use Rattle.sd_book.specs.declared.command.Command.{Command}
 use Rattle.sd_book.specs.declared.command.Command.TheVariants.{Subscribe, Revoke, Period}
 use Rattle.sd_book.specs.declared.fault.BookFault.{BookFault}

@@ -2,14 +2,14 @@
 use Rattle.std.proofs.Common.{◌≡◌, ◌≢◌, ℕ, ◌+◌, ◌^◌, ◌<◌, ◌≤◌, Bool, true, false, List, length, Ok, Err}
 use Rattle.std.specs.Prelude.{◌↔◌, AllPairs, Contains, map, nat_lt, if◌then◌else◌}
 use Rattle.std.proofs.lemmas.List.Elements.{All-contains, All-map, All-weaker}
-use Rattle.sd_tree.specs.Limits.{highest, most_revoked}
+use Rattle.sd_tree_keys.specs.Limits.{highest, most_revoked}
 use Rattle.sd_book.specs.declared.command.Command.{Command}
 use Rattle.sd_book.specs.Commands.{last_period}
 use Rattle.sd_book.proofs.Revocations.{below}
-use Rattle.sd_cover.specs.Trace.{IsTrace, not_among, trace_of}
-use Rattle.sd_cover.specs.declared.found.Found.{Found}
-use Rattle.sd_cover.proofs.Inside.{trace_is_coalition}
-use Rattle.sd_cover.proofs.Listed.{there_is_a_trace, trace_new, trace_once}
+use Rattle.sd_cover_tracing.specs.Trace.{IsTrace, not_among, trace_of}
+use Rattle.sd_cover_tracing.specs.declared.found.Found.{Found}
+use Rattle.sd_cover_tracing.proofs.Inside.{trace_is_coalition}
+use Rattle.sd_cover_tracing.proofs.Listed.{there_is_a_trace, trace_new, trace_once}
 use Rattle.sd_command_base.specs.declared.status.Status.{Status}
 use Rattle.sd_command_base.specs.declared.status.Status.TheVariants.{Limit}
 use Rattle.sd_command_base.specs.declared.status.LimitKind.TheVariants.{Traced}

@@ -8,7 +8,7 @@ use Rattle.std.proofs.lemmas.List.Sums.{sum_by_push}
 use Rattle.sd_base.proofs.Ranges.{range_more}
 use Rattle.sd_book.specs.Commands.{last_period, revoked}
 use Rattle.sd_book.proofs.Cuts.{same_revoked}
-use Rattle.sd_cover.specs.Cover.{cover_of}
+use Rattle.sd_cover_tracing.specs.Cover.{cover_of}
 use Rattle.sd_message.specs.EmmForm.{sections_for}
 use Rattle.sd_spec.specs.Plan.{Plan, sets_at}
 use Rattle.sd_run_books.specs.Air.{cryptos_in, line_at, period_line, tables_in}

@@ -2,14 +2,14 @@
 use Rattle.std.proofs.Common.{arith, ℕ, ◌^◌, ◌<◌, ◌≤◌, List, length}
 use Rattle.std.specs.Prelude.{Contains}
 use Rattle.std.proofs.lemmas.List.Elements.{All-contains}
-use Rattle.sd_tree.specs.Leaves.{unrevoked}
+use Rattle.sd_tree_keys.specs.Leaves.{unrevoked}
 use Rattle.sd_book.specs.declared.command.Command.{Command}
 use Rattle.sd_book.specs.Commands.{revoked}
 use Rattle.sd_book.proofs.Revocations.{below}
-use Rattle.sd_cover.specs.Cover.{cover_of}
-use Rattle.sd_cover.specs.Partition.{IsPartition, IsSmall}
-use Rattle.sd_cover.proofs.Covers.{cover_partition, cover_small}
-use Rattle.sd_cover.proofs.There.{list_is_cover}
+use Rattle.sd_cover_tracing.specs.Cover.{cover_of}
+use Rattle.sd_cover_tracing.specs.Partition.{IsPartition, IsSmall}
+use Rattle.sd_cover_tracing.proofs.Covers.{cover_partition, cover_small}
+use Rattle.sd_cover_tracing.proofs.There.{list_is_cover}
 
 -- the sets of a period unite to the leaves that are not revoked, and are few
 pub sets_unite : (d q : ℕ) (commands : List Command) → d ≤ 20 →

@@ -2,11 +2,11 @@
 use Rattle.std.proofs.Common.{arith, ℕ, ◌^◌, ◌<◌, ◌≤◌, List, [], ◌∷◌, length, refl}
 use Rattle.std.specs.Prelude.{All, Contains}
 use Rattle.std.proofs.lemmas.List.Elements.{All-contains}
-use Rattle.sd_tree.specs.Limits.{highest, most_revoked}
+use Rattle.sd_tree_keys.specs.Limits.{highest, most_revoked}
 use Rattle.sd_message.specs.declared.emm_format.TheConstants.{MOST_SETS}
-use Rattle.sd_cover.specs.Cover.{cover_of}
-use Rattle.sd_cover.proofs.Covers.{cover_small}
-use Rattle.sd_cover.proofs.There.{list_is_cover}
+use Rattle.sd_cover_tracing.specs.Cover.{cover_of}
+use Rattle.sd_cover_tracing.proofs.Covers.{cover_small}
+use Rattle.sd_cover_tracing.proofs.There.{list_is_cover}
 
 pub sets_few : (d : ℕ) (leaves : List ℕ) → d ≤ highest → All (λ u. u < 2 ^ d) leaves →
     length leaves ≤ most_revoked → length (cover_of d leaves) ≤ MOST_SETS

@@ -7,7 +7,7 @@ use Rattle.std.proofs.lemmas.Bool.Decides.{nat_tests}
 use Rattle.sd_base.specs.Number.{decimal_value, decimal_after, fitting, rest_after}
 use Rattle.sd_base.specs.declared.decimals.NumberFault.{NumberFault}
 use Rattle.sd_base.proofs.Fitting.{fits_is, misfit_high}
-use Rattle.sd_site.specs.Chain.{most_word}
+use Rattle.sd_site_cards.specs.Chain.{most_word}
 use Rattle.sd_run_books.specs.SiteNames.{is_one_up}
 
 -- two decimals that are said

@@ -1,6 +1,6 @@
 -- Good files mean that the book is made and the report printed.
 use Rattle.std.proofs.Common.{◌≡◌, ℕ, ◌≤◌, Bool, cond, List, length, Option, Some, Ok, Err, ap, ◌∙◌, le-ltb}
-use Rattle.sd_site.specs.SiteFields.{SiteFields}
+use Rattle.sd_site_cards.specs.SiteFields.{SiteFields}
 use Rattle.sd_book.specs.Text.{text_of}
 use Rattle.sd_book.specs.declared.command.Command.{Command}
 use Rattle.sd_run_books.specs.Accounts.{AccountsValue}

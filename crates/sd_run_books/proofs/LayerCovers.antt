@@ -2,14 +2,14 @@
 use Rattle.std.proofs.Common.{◌≡◌, ℕ, ◌^◌, ◌<◌, ◌≤◌, List, length, get_or, true, refl}
 use Rattle.std.specs.Prelude.{All, Contains}
 use Rattle.std.proofs.lemmas.List.Elements.{All-contains, Contains-get_or}
-use Rattle.sd_tree.specs.Limits.{highest}
-use Rattle.sd_tree.specs.declared.set.SetName.{SetName}
-use Rattle.sd_tree.specs.Leaves.{unrevoked}
-use Rattle.sd_tree.specs.SetNames.{IsOfHeight}
+use Rattle.sd_tree_keys.specs.Limits.{highest}
+use Rattle.sd_tree_keys.specs.declared.set.SetName.{SetName}
+use Rattle.sd_tree_keys.specs.Leaves.{unrevoked}
+use Rattle.sd_tree_keys.specs.SetNames.{IsOfHeight}
 use Rattle.sd_book.specs.declared.command.Command.{Command}
 use Rattle.sd_book.specs.Commands.{revoked}
 use Rattle.sd_book.proofs.Revocations.{below}
-use Rattle.sd_cover.specs.Partition.{IsPartition}
+use Rattle.sd_cover_tracing.specs.Partition.{IsPartition}
 use Rattle.sd_lsd.specs.Layers.{is_useful}
 use Rattle.sd_lsd.specs.Cover.{IsLayerCover, IsDoubleSmall, layer_cover_of}
 use Rattle.sd_lsd.proofs.Covers.{cover_listed, layer_cover_useful, layer_cover_unites, layer_cover_small}

@@ -7,7 +7,7 @@ use Rattle.sd_book.specs.declared.fault.BookFault.{BookFault}
 use Rattle.sd_book.specs.declared.fault.BookFault.TheVariants.{Limit, NoMemory}
 use Rattle.sd_book.specs.declared.fault.BookLimit.{BookLimit}
 use Rattle.sd_book.specs.declared.fault.BookLimit.TheVariants.{Revoked}
-use Rattle.sd_tree.specs.Limits.{most_revoked}
+use Rattle.sd_tree_keys.specs.Limits.{most_revoked}
 use Rattle.sd_book.specs.Commands.{is_within, last_period, revoked_after}
 use Rattle.sd_book.specs.Faults.{BreaksLimit, IsBroken, IsCauseOf}
 use Rattle.sd_book.specs.Limits.{IsDraft, IsWithinLimits}

@@ -1,8 +1,8 @@
 -- What a next site is made from, as the code has it and as it is meant.
 use Rattle.std.proofs.Common.{ℕ, List, Option}
-use Rattle.sd_site.specs.SiteFields.{SiteFields, fields_of}
-use Rattle.sd_site.specs.declared.site.Site.{Site}
-use Rattle.sd_site.specs.declared.book_line.BookLine.{BookLine}
+use Rattle.sd_site_cards.specs.SiteFields.{SiteFields, fields_of}
+use Rattle.sd_site_cards.specs.declared.site.Site.{Site}
+use Rattle.sd_site_cards.specs.declared.book_line.BookLine.{BookLine}
 use Rattle.sd_command_base.specs.declared.own_book.BookFile.{BookFile}
 use Rattle.sd_command_base.specs.Spec.{Spec}
 use Rattle.sd_command_base.specs.Files.{BookText, longer_book_of_file}

@@ -1,7 +1,7 @@
 -- No command of this crate ever means `Usage`.
 use Rattle.std.proofs.Common.{ℕ, List, Option, Result, Ok, Err, [], ◌++◌, map, Some, Bool, true, false, cond, None}
 use Rattle.std.specs.Prelude.{nat_le}
-use Rattle.sd_site.specs.SiteFields.{SiteFields}
+use Rattle.sd_site_cards.specs.SiteFields.{SiteFields}
 use Rattle.sd_book.specs.Text.{text_of, judged as said}
 use Rattle.sd_book.specs.declared.command.Command.{Command}
 use Rattle.sd_run_books.specs.Accounts.{AccountsValue}

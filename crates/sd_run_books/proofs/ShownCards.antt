@@ -1,10 +1,10 @@
 -- The line of a card's file that was read.
 use Rattle.std.proofs.Common.{◌≡◌, ◌≤◌, ◌*◌, ◌/◌, ◌+◌, ℕ, arith, length, List, Option, None, Ok, sym, ap, ◌∙◌}
-use Rattle.sd_site.specs.Files.{check_in}
-use Rattle.sd_site.specs.declared.card_fault.CardFault.{CardFault}
-use Rattle.sd_site.specs.CardFaults.{height_in, leaf_in, ca_in, fault_in, length_at}
-use Rattle.sd_site.specs.CardFields.{CardFields, IsCard, card_bytes}
-use Rattle.sd_site.proofs.Spellings.{good_parts, height_written, leaf_written, ca_written}
+use Rattle.sd_site_cards.specs.Files.{check_in}
+use Rattle.sd_site_cards.specs.declared.card_fault.CardFault.{CardFault}
+use Rattle.sd_site_cards.specs.CardFaults.{height_in, leaf_in, ca_in, fault_in, length_at}
+use Rattle.sd_site_cards.specs.CardFields.{CardFields, IsCard, card_bytes}
+use Rattle.sd_site_cards.proofs.Spellings.{good_parts, height_written, leaf_written, ca_written}
 use Rattle.sd_command_base.specs.Files.{card_unless}
 use Rattle.sd_run_books.specs.Fingerprint.{fingerprint_in}
 use Rattle.sd_run_books.specs.Show.{card_line, shown_line, told_show}

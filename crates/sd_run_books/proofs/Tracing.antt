@@ -2,14 +2,14 @@
 use Rattle.std.proofs.Common.{◌≡◌, ℕ, ◌+◌, ◌^◌, ◌<◌, ◌≤◌, List, length, Ok, Err, refl, ap, le-ltb, lt-ltb}
 use Rattle.std.proofs.Common.{inl, inr}
 use Rattle.std.specs.Prelude.{All}
-use Rattle.sd_tree.specs.Limits.{most_revoked}
+use Rattle.sd_tree_keys.specs.Limits.{most_revoked}
 use Rattle.sd_book.specs.declared.command.Command.{Command}
-use Rattle.sd_cover.specs.declared.found.Found.{Found}
-use Rattle.sd_cover.specs.declared.found.TraceFault.{TraceFault}
-use Rattle.sd_cover.specs.declared.found.TraceFault.TheVariants.{TooMany, NoMemory}
-use Rattle.sd_cover.specs.Trace.{IsTrace, not_among, trace_of}
-use Rattle.sd_cover.proofs.Anyway.{one_trace}
-use Rattle.sd_cover.proofs.Listed.{there_is_a_trace}
+use Rattle.sd_cover_tracing.specs.declared.found.Found.{Found}
+use Rattle.sd_cover_tracing.specs.declared.found.TraceFault.{TraceFault}
+use Rattle.sd_cover_tracing.specs.declared.found.TraceFault.TheVariants.{TooMany, NoMemory}
+use Rattle.sd_cover_tracing.specs.Trace.{IsTrace, not_among, trace_of}
+use Rattle.sd_cover_tracing.proofs.Anyway.{one_trace}
+use Rattle.sd_cover_tracing.proofs.Listed.{there_is_a_trace}
 use Rattle.sd_command_base.specs.declared.status.Status.TheVariants.{Limit}
 use Rattle.sd_command_base.specs.declared.status.LimitKind.TheVariants.{Traced}
 use Rattle.sd_command_base.specs.Reads.{JudgedOutcome}

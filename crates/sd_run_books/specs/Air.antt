@@ -4,7 +4,7 @@ use Rattle.std.specs.Prelude.{false, if◌then◌else◌, Option, None, Result, 
 use Rattle.std.specs.List.{concat, range_with_len, sum_by}
 use Rattle.std.specs.Fmt.{decimal}
 use Rattle.std.specs.Int.{div_ceil}
-use Rattle.sd_site.specs.SiteFields.{SiteFields}
+use Rattle.sd_site_cards.specs.SiteFields.{SiteFields}
 use Rattle.sd_book.specs.Commands.{last_period, revoked}
 use Rattle.sd_message.specs.EmmForm.{sections_for}
 use Rattle.sd_message.specs.EcmParts.{parts_for}

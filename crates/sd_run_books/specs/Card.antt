@@ -1,7 +1,7 @@
 -- Public meaning: `card SITE LEAF OUT` [this project, docs/FORMATS.md, Card].
 use Rattle.std.specs.Prelude.{ℕ, ◌^◌, nat_lt, List, if◌then◌else◌, Result, Ok, Err}
-use Rattle.sd_site.specs.SiteFields.{SiteFields}
-use Rattle.sd_site.specs.CardFields.{card_of, card_bytes}
+use Rattle.sd_site_cards.specs.SiteFields.{SiteFields}
+use Rattle.sd_site_cards.specs.CardFields.{card_of, card_bytes}
 use Rattle.sd_command_base.specs.declared.status.Status.{Status}
 use Rattle.sd_command_base.specs.declared.status.Status.TheVariants.{BadWord}
 use Rattle.sd_command_base.specs.Spec.{Spec, FileArgument, Readings, value, judged, ◌>>=◌}

@@ -1,7 +1,7 @@
 -- Public meaning: `cover SITE BOOK` [this project, docs/FORMATS.md, Cover].
 use Rattle.std.specs.Prelude.{ℕ, List}
 use Rattle.sd_book.specs.declared.command.Command.{Command}
-use Rattle.sd_cover.specs.Cover.{cover_of}
+use Rattle.sd_cover_tracing.specs.Cover.{cover_of}
 use Rattle.sd_command_base.specs.Spec.{Spec, FileArgument, Readings, value, ◌>>=◌}
 use Rattle.sd_command_base.specs.Work.{Work}
 use Rattle.sd_command_base.specs.Periods.{bare_end, listing}

@@ -1,7 +1,7 @@
 -- Public meaning: the fingerprint of a master, by which a card and a site are compared without a secret [this project,
 -- docs/FORMATS.md, Card].
 use Rattle.std.specs.Prelude.{ℕ, List, take, drop}
-use Rattle.sd_tree.specs.Keys.{check_value_of, whole_key_of}
+use Rattle.sd_tree_keys.specs.Keys.{check_value_of, whole_key_of}
 
 -- the check value of the key of the whole set
 abbrev pub fingerprint_of : List ℕ → List ℕ

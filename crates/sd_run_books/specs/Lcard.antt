@@ -1,6 +1,6 @@
 -- Public meaning: `lcard SITE LEAF WIDTH OUT` [this project, docs/FORMATS.md, Layer card].
 use Rattle.std.specs.Prelude.{ℕ, ◌^◌, ◌&&◌, nat_lt, nat_le, if◌then◌else◌, Result, Ok, Err}
-use Rattle.sd_site.specs.SiteFields.{SiteFields}
+use Rattle.sd_site_cards.specs.SiteFields.{SiteFields}
 use Rattle.sd_lsd.specs.Fields.{layer_card_of, layer_bytes}
 use Rattle.sd_command_base.specs.declared.status.Status.{Status}
 use Rattle.sd_command_base.specs.declared.status.Status.TheVariants.{BadWord}

@@ -1,8 +1,8 @@
 -- Public meaning: `next SITE BOOK WORDS OUT` [this project, docs/FORMATS.md, Chains of sites].
 use Rattle.std.specs.Prelude.{ℕ, ◌-◌, List, [], ◌∷◌, take, Option}
-use Rattle.sd_site.specs.SiteFields.{SiteFields, fields_of}
-use Rattle.sd_site.specs.Written.{site_text, is_first}
-use Rattle.sd_site.specs.Chain.{most_word, next_site}
+use Rattle.sd_site_cards.specs.SiteFields.{SiteFields, fields_of}
+use Rattle.sd_site_cards.specs.Written.{site_text, is_first}
+use Rattle.sd_site_cards.specs.Chain.{most_word, next_site}
 use Rattle.sd_book.specs.declared.command.Command.{Command}
 use Rattle.sd_book.specs.Commands.{last_period}
 use Rattle.sd_command_base.specs.Spec.{Spec, FileArgument, Readings, judged, value, ◌>>=◌}

@@ -1,10 +1,10 @@
 -- Public meaning: `opens SITE BOOK LEAVES` [this project, docs/FORMATS.md, Cover].
 use Rattle.std.specs.Prelude.{ℕ, List, codes, if◌then◌else◌}
 use Rattle.std.specs.List.{list_any}
-use Rattle.sd_tree.specs.declared.set.SetName.{SetName}
-use Rattle.sd_tree.specs.Leaves.{is_member}
+use Rattle.sd_tree_keys.specs.declared.set.SetName.{SetName}
+use Rattle.sd_tree_keys.specs.Leaves.{is_member}
 use Rattle.sd_book.specs.declared.command.Command.{Command}
-use Rattle.sd_cover.specs.Cover.{cover_of}
+use Rattle.sd_cover_tracing.specs.Cover.{cover_of}
 use Rattle.sd_command_base.specs.Spec.{Spec, FileArgument, Readings, value, ◌>>=◌}
 use Rattle.sd_command_base.specs.Work.{Work}
 use Rattle.sd_command_base.specs.Periods.{listing, text_at}

@@ -3,8 +3,8 @@ use Rattle.std.specs.Prelude.{ℕ, ◌+◌, ◌*◌, ◌/◌, List, [], ◌∷�
 use Rattle.hex.specs.Hex.{encode_lower}
 use Rattle.serde_json.specs.Data.{Data, number, unsigned, string, object, member, no_members}
 use Rattle.serde_json.specs.Written.{compact_text}
-use Rattle.sd_site.specs.CardFaults.{height_in, leaf_in, ca_in, fault_in}
-use Rattle.sd_site.specs.Files.{check_in}
+use Rattle.sd_site_cards.specs.CardFaults.{height_in, leaf_in, ca_in, fault_in}
+use Rattle.sd_site_cards.specs.Files.{check_in}
 use Rattle.sd_command_base.specs.declared.status.Status.{Status}
 use Rattle.sd_command_base.specs.declared.status.LimitKind.TheVariants.{CardBytes}
 use Rattle.sd_command_base.specs.Spec.{Spec, FileArgument, Readings, within, judged, value, ◌>>=◌}

@@ -3,7 +3,7 @@ use Rattle.std.specs.Prelude.{ℕ, ◌+◌, ◌-◌, ◌==◌, ◌&&◌, nat_lt,
 use Rattle.std.specs.Prelude.{List, length, take, drop, reverse, take_while, Option, Some, None}
 use Rattle.std.specs.Char.{is_ascii_digit}
 use Rattle.sd_base.specs.Number.{decimal_value}
-use Rattle.sd_site.specs.Chain.{most_word}
+use Rattle.sd_site_cards.specs.Chain.{most_word}
 
 -- a name read from its end: what stands after its last digit
 abbrev pub after_number : List ℕ → List ℕ

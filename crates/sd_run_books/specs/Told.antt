@@ -3,8 +3,8 @@ use Rattle.std.specs.Prelude.{ℕ, ◌+◌, ◌-◌, ◌*◌, ◌==◌, if◌the
 use Rattle.std.specs.Prelude.{flat_map, codes, min, Option, Some, None}
 use Rattle.std.specs.List.{range_with_len}
 use Rattle.std.specs.Fmt.{decimal}
-use Rattle.sd_tree.specs.Leaves.{leaves}
-use Rattle.sd_site.specs.SiteFields.{SiteFields}
+use Rattle.sd_tree_keys.specs.Leaves.{leaves}
+use Rattle.sd_site_cards.specs.SiteFields.{SiteFields}
 use Rattle.sd_book.specs.declared.command.Command.{Command}
 use Rattle.sd_book.specs.declared.command.Command.TheVariants.{Subscribe, Revoke}
 use Rattle.sd_book.specs.Commands.{commands_until, is_revoked, last_period, revoked_after}

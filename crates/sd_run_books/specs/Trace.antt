@@ -3,13 +3,13 @@ use Rattle.std.specs.Prelude.{ℕ, ◌+◌, nat_lt, List, ◌++◌, length, code
 use Rattle.std.specs.Prelude.{Ok, Err}
 use Rattle.std.specs.List.{flat_map}
 use Rattle.std.specs.Fmt.{decimal}
-use Rattle.sd_tree.specs.Limits.{most_revoked}
+use Rattle.sd_tree_keys.specs.Limits.{most_revoked}
 use Rattle.sd_book.specs.declared.command.Command.{Command}
 use Rattle.sd_book.specs.Commands.{last_period, revoked}
-use Rattle.sd_cover.specs.declared.found.Found.{Found}
-use Rattle.sd_cover.specs.declared.found.TraceFault.{TraceFault}
-use Rattle.sd_cover.specs.declared.found.TraceFault.TheVariants as Fault
-use Rattle.sd_cover.specs.Trace.{not_among, trace_of}
+use Rattle.sd_cover_tracing.specs.declared.found.Found.{Found}
+use Rattle.sd_cover_tracing.specs.declared.found.TraceFault.{TraceFault}
+use Rattle.sd_cover_tracing.specs.declared.found.TraceFault.TheVariants as Fault
+use Rattle.sd_cover_tracing.specs.Trace.{not_among, trace_of}
 use Rattle.sd_command_base.specs.declared.status.Status.{Status}
 use Rattle.sd_command_base.specs.declared.status.Status.TheVariants.{Limit, NoMemory}
 use Rattle.sd_command_base.specs.declared.status.LimitKind.TheVariants.{Traced}

@@ -1,10 +1,10 @@
 -- Public meaning: `twin SITE WORDS OUT` [this project, docs/FORMATS.md, Chains of sites].
 use Rattle.std.specs.Prelude.{ℕ, [], Option}
 use Rattle.std.specs.Option.{option_map_or}
-use Rattle.sd_site.specs.SiteFields.{SiteFields}
-use Rattle.sd_site.specs.Written.{site_text, none_fewer}
-use Rattle.sd_site.specs.Chain.{most_word, twin_site}
-use Rattle.sd_site.specs.declared.book_line.BookLine.{BookLine}
+use Rattle.sd_site_cards.specs.SiteFields.{SiteFields}
+use Rattle.sd_site_cards.specs.Written.{site_text, none_fewer}
+use Rattle.sd_site_cards.specs.Chain.{most_word, twin_site}
+use Rattle.sd_site_cards.specs.declared.book_line.BookLine.{BookLine}
 use Rattle.sd_command_base.specs.Spec.{Spec, FileArgument, Readings, judged, ◌>>=◌}
 use Rattle.sd_command_base.specs.Work.{Work}
 use Rattle.sd_command_base.specs.Shown.{NumberArgument}

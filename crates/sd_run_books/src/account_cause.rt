@@ -12,7 +12,7 @@ use crate::account_line::{Line, line_in};
 use crate::account_name::{Name, is_name};
 use sd_base::{NumberFault, cut_at_space, next_line, number_after};
 use sd_command_base::{BadLine, LineCause, line_numbered, malformed, refused_line};
-use sd_tree::{Height, Leaf};
+use sd_tree_keys::{Height, Leaf};
 
 /// Line k, which isn't one of the lines of accounts, or whose leaf isn't in the tree.
 #[tactic(auto, unfolding(crate::specs::AccountsCause::bad_entry))]

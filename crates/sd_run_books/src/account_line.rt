@@ -5,7 +5,7 @@ ghost use Rattle.sd_run_books.specs.Read.{entry_in};
 
 use crate::account_name::{Name, name_in};
 use sd_base::{cut_at_space, number_after};
-use sd_tree::{Height, Leaf};
+use sd_tree_keys::{Height, Leaf};
 
 /// What a line says.
 #[derive(Clone, Copy)]

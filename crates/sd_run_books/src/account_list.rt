@@ -14,7 +14,7 @@ use crate::register::Register;
 use crate::report::report;
 use sd_base::NoMemory;
 use sd_book::Book;
-use sd_tree::{Height, Leaf};
+use sd_tree_keys::{Height, Leaf};
 use std::alloc::Global;
 use std::collections::BTreeMap;
 use std::marker::Model;

@@ -18,7 +18,7 @@ use sd_command_base::{
     refused_line, told,
 };
 use sd_ports::{Depot, Sink, write_file};
-use sd_tree::Height;
+use sd_tree_keys::Height;
 use std::alloc::Global;
 
 /// Does `accounts SITE ACCOUNTS OUT`.

@@ -3,15 +3,15 @@
 ghost use Rattle.std.specs.Prelude.{◌≡◌, ◌≤◌, ◌+◌, ℕ, Bool, filter, IfOk, OnOk};
 ghost use Rattle.std.specs.List.{range_with_len};
 ghost use Rattle.sd_book.specs.Commands.{last_period, revoked};
-ghost use Rattle.sd_site.specs.SiteFields.{fields_of};
+ghost use Rattle.sd_site_cards.specs.SiteFields.{fields_of};
 ghost use Rattle.sd_run_books.specs.Apart.{books_clash, first_differing};
 
 use crate::apart_sites::last_due;
 use sd_base::NoMemory;
 use sd_book::{Book, Periods};
 use sd_command_base::{Clash, replay_from};
-use sd_site::Site;
-use sd_tree::Leaf;
+use sd_site_cards::Site;
+use sd_tree_keys::Leaf;
 use std::alloc::Global;
 
 /// Why the books of two sites don't agree on the periods that broadcasts of both may use.

@@ -1,7 +1,7 @@
 //! `apart SITE BOOK SITE BOOK`: whether two broadcasts may go out under one set of cards.
 
 ghost use Rattle.std.specs.Prelude.{◌≡◌, ◌≢◌, ℕ, string_bytes};
-ghost use Rattle.sd_site.specs.SiteFields.{fields_of};
+ghost use Rattle.sd_site_cards.specs.SiteFields.{fields_of};
 ghost use Rattle.sd_command_base.specs.Outside.{outside, page_state, depot_state};
 ghost use Rattle.sd_command_base.specs.Reads.{JudgedOutcome};
 ghost use Rattle.sd_command_base.specs.Outcome.{Implements, status_of};
@@ -14,7 +14,7 @@ use crate::apart_sites::clash_of_sites;
 use sd_book::Book;
 use sd_command_base::{Status, Word, print_text, read_both};
 use sd_ports::{Depot, Sink};
-use sd_site::Site;
+use sd_site_cards::Site;
 use std::alloc::Global;
 
 /// Does `apart SITE BOOK SITE BOOK`.

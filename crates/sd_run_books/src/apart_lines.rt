@@ -3,11 +3,11 @@
 ghost use Rattle.std.specs.Prelude.{◌≡◌, ◌≤◌, ◌++◌, List, OnOk, string_bytes};
 ghost use Rattle.sd_book.specs.declared.command.Command.{Command};
 ghost use Rattle.sd_book.specs.Commands.{last_period as last_of};
-ghost use Rattle.sd_site.specs.SiteFields.{fields_of};
+ghost use Rattle.sd_site_cards.specs.SiteFields.{fields_of};
 ghost use Rattle.sd_run_books.specs.Apart.{line_of};
 
 use crate::apart_sites::last_due;
-use sd_site::Site;
+use sd_site_cards::Site;
 use std::alloc::AllocError;
 use std::fmt::Write;
 

@@ -3,11 +3,11 @@
 ghost use Rattle.std.specs.Prelude.{◌≡◌, ◌≤◌, ◌+◌, ◌-◌, List, IsNone};
 ghost use Rattle.sd_book.specs.declared.command.Command.{Command};
 ghost use Rattle.sd_book.specs.Commands.{last_period as last_of};
-ghost use Rattle.sd_site.specs.SiteFields.{fields_of};
+ghost use Rattle.sd_site_cards.specs.SiteFields.{fields_of};
 ghost use Rattle.sd_run_books.specs.Apart.{last_due as due_of, sites_clash};
 
 use sd_command_base::Clash;
-use sd_site::Site;
+use sd_site_cards::Site;
 
 /// Why the sites don't go together.
 #[tactic(auto, unfolding(crate::specs::Apart::sites_clash))]

@@ -1,6 +1,6 @@
 //! `card SITE LEAF OUT`: the card of a site's leaf.
 
-ghost use Rattle.sd_site.specs.SiteFields.{fields_of};
+ghost use Rattle.sd_site_cards.specs.SiteFields.{fields_of};
 ghost use Rattle.sd_command_base.specs.Outside.{PageState, depot_state, outside};
 ghost use Rattle.sd_command_base.specs.Reads.{JudgedOutcome, TakesFor};
 ghost use Rattle.sd_command_base.specs.Outcome.{Implements, status_of};
@@ -10,8 +10,8 @@ ghost use Rattle.sd_command_base.specs.Shown.{shown_word, shown_number};
 use sd_base::Steps;
 use sd_command_base::{Number, Status, Word, make_file, read_site};
 use sd_ports::Depot;
-use sd_site::{Card, Site};
-use sd_tree::Leaf;
+use sd_site_cards::{Card, Site};
+use sd_tree_keys::Leaf;
 use std::alloc::Global;
 use std::sync::ledger::Ledger;
 

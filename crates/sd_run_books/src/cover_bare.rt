@@ -1,6 +1,6 @@
 use sd_base::NoMemory;
 use sd_command_base::{Listing, cover_sets};
-use sd_tree::{Height, Leaf, SetName};
+use sd_tree_keys::{Height, Leaf, SetName};
 use std::alloc::Global;
 
 /// The cover of each period, its sets by their names alone.
@@ -8,7 +8,7 @@ use std::alloc::Global;
 pub(crate) struct Bare;
 
 impl Listing for Bare {
-    ghost use Rattle.sd_cover.specs.Cover.{cover_of};
+    ghost use Rattle.sd_cover_tracing.specs.Cover.{cover_of};
     ghost use Rattle.sd_command_base.specs.Periods.{bare_end};
 
     ghost fits = { λ _ _. Unit {0} };

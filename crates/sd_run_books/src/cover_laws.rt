@@ -2,15 +2,15 @@
 
 ghost use Rattle.std.specs.Prelude.{◌≡◌, ◌≢◌, ℕ, ◌^◌, ◌<◌, ◌≤◌, ◌↔◌, List, Ok, All, AllPairs, Contains};
 ghost use Rattle.std.specs.Prelude.{length, map, true};
-ghost use Rattle.sd_tree.specs.Limits.{highest};
-ghost use Rattle.sd_tree.specs.Leaves.{unrevoked};
-ghost use Rattle.sd_tree.specs.SetNames.{IsOfHeight};
+ghost use Rattle.sd_tree_keys.specs.Limits.{highest};
+ghost use Rattle.sd_tree_keys.specs.Leaves.{unrevoked};
+ghost use Rattle.sd_tree_keys.specs.SetNames.{IsOfHeight};
 ghost use Rattle.sd_book.specs.declared.command.Command.{Command};
 ghost use Rattle.sd_book.specs.Commands.{revoked};
-ghost use Rattle.sd_cover.specs.Partition.{IsPartition};
+ghost use Rattle.sd_cover_tracing.specs.Partition.{IsPartition};
 ghost use Rattle.sd_lsd.specs.Layers.{is_useful};
 ghost use Rattle.sd_lsd.specs.Cover.{IsDoubleSmall, layer_cover_of};
-ghost use Rattle.sd_cover.specs.Trace.{IsTrace, trace_of};
+ghost use Rattle.sd_cover_tracing.specs.Trace.{IsTrace, trace_of};
 ghost use Rattle.sd_run_books.specs.Trace.{revoked_last, trace_text, traced};
 
 /// The sets that `layered` prints of a period are useful and of the tree's height. They are disjoint and unite to the

@@ -11,7 +11,7 @@ use crate::layered_useful::UsefulSets;
 use sd_command_base::{Number, Status, Word, print_periods, read_book, read_site};
 use sd_lsd::Width;
 use sd_ports::{Depot, Sink};
-use sd_tree::{HIGHEST, Height};
+use sd_tree_keys::{HIGHEST, Height};
 use std::alloc::Global;
 
 /// Does `layered SITE BOOK WIDTH`.

@@ -1,8 +1,8 @@
 use sd_base::NoMemory;
 use sd_command_base::Listing;
-use sd_cover::CoverFault;
+use sd_cover_tracing::CoverFault;
 use sd_lsd::{Width, layered_cover};
-use sd_tree::{HIGHEST, Height, Leaf, SetName};
+use sd_tree_keys::{HIGHEST, Height, Leaf, SetName};
 use std::alloc::Global;
 
 /// The cover by useful sets of each period, in layers of a width, its sets by their names alone.

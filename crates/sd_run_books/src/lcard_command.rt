@@ -12,8 +12,8 @@ use sd_base::Steps;
 use sd_command_base::{Number, Status, Word, make_file, read_site};
 use sd_lsd::{LayerCard, Width};
 use sd_ports::Depot;
-use sd_site::Site;
-use sd_tree::{HIGHEST, Height, Leaf};
+use sd_site_cards::Site;
+use sd_tree_keys::{HIGHEST, Height, Leaf};
 use std::alloc::Global;
 use std::sync::ledger::Ledger;
 

@@ -11,7 +11,7 @@ use crate::account_fault::AccountFault;
 use crate::account_line::Line;
 use crate::account_name::Name;
 use sd_book::Command;
-use sd_tree::{Height, Leaf};
+use sd_tree_keys::{Height, Leaf};
 use std::alloc::{AllocError, Global};
 use std::collections::BTreeMap;
 

@@ -1,9 +1,9 @@
 //! The site that another one is made from.
 
 ghost use Rattle.std.specs.Prelude.{◌≡◌, ◌≤◌, ◌+◌, IfOk, IsSome, false};
-ghost use Rattle.sd_site.specs.SiteFields.{fields_of};
-ghost use Rattle.sd_site.specs.Written.{fewer_taken, newest_of};
-ghost use Rattle.sd_site.specs.Chain.{most_word};
+ghost use Rattle.sd_site_cards.specs.SiteFields.{fields_of};
+ghost use Rattle.sd_site_cards.specs.Written.{fewer_taken, newest_of};
+ghost use Rattle.sd_site_cards.specs.Chain.{most_word};
 ghost use Rattle.sd_command_base.specs.Outside.{depot_state};
 ghost use Rattle.sd_command_base.specs.Reads.{SureOutcome, FileOutcome};
 ghost use Rattle.sd_command_base.specs.Shown.{shown_word, shown_number};
@@ -14,7 +14,7 @@ use sd_command_base::{
     LimitKind, MOST_SITE_BYTES, Number, OutCause, Status, Word, read_bytes, site_fault,
 };
 use sd_ports::Depot;
-use sd_site::{BookLine, MOST_WORD, Site, SiteFault, read_newest};
+use sd_site_cards::{BookLine, MOST_WORD, Site, SiteFault, read_newest};
 use std::alloc::Global;
 
 /// Whether the name of OUT follows that of SITE.

@@ -1,7 +1,7 @@
 //! `next SITE BOOK WORDS OUT`: the site of the broadcast after that of a site.
 
 ghost use Rattle.std.specs.Prelude.{◌≡◌, ◌≢◌, ◌<◌, ◌≤◌, ◌+◌, ◌∷◌, [], ℕ, length, IfOk, IfErr, string_bytes};
-ghost use Rattle.sd_site.specs.Chain.{most_word};
+ghost use Rattle.sd_site_cards.specs.Chain.{most_word};
 ghost use Rattle.sd_command_base.specs.Outside.{outside, page_state, depot_state};
 ghost use Rattle.sd_command_base.specs.Outcome.{Implements, status_of};
 ghost use Rattle.sd_command_base.specs.Files.{most_book_bytes};
@@ -16,7 +16,7 @@ use crate::told::told_next;
 use sd_book::last_period;
 use sd_command_base::{Number, Status, Word, make_new, print_text};
 use sd_ports::{Depot, Sink};
-use sd_site::BookLine;
+use sd_site_cards::BookLine;
 use sha2::{Digest, Sha256};
 use std::alloc::Global;
 

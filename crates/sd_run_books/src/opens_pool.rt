@@ -1,7 +1,7 @@
 use sd_base::NoMemory;
 use sd_command_base::{Listing, cover_sets};
-use sd_cover::opens;
-use sd_tree::{Height, Leaf, SetName};
+use sd_cover_tracing::opens;
+use sd_tree_keys::{Height, Leaf, SetName};
 use std::alloc::Global;
 
 /// The cover of each period, and of each of its sets whether the pooled cards of these leaves open it.
@@ -12,7 +12,7 @@ pub(crate) struct Pool {
 
 impl Listing for Pool {
     ghost use Rattle.std.specs.Prelude.{◌^◌, ◌<◌, All};
-    ghost use Rattle.sd_cover.specs.Cover.{cover_of};
+    ghost use Rattle.sd_cover_tracing.specs.Cover.{cover_of};
     ghost use Rattle.sd_run_books.specs.Opens.{pool_end};
 
     ghost fits = { λ x h. All (λ u. u < 2 ^ h) x.leaves.items };

@@ -4,7 +4,7 @@ ghost use Rattle.std.specs.Prelude.{◌≡◌, ◌≢◌, ◌<◌, ◌≤◌, �
 ghost use Rattle.std.specs.Prelude.{count_by, length, take as first};
 ghost use Rattle.sd_book.specs.declared.command.Command.{Command};
 ghost use Rattle.sd_book.specs.Text.{book_of};
-ghost use Rattle.sd_site.specs.Chain.{most_word};
+ghost use Rattle.sd_site_cards.specs.Chain.{most_word};
 ghost use Rattle.sd_command_base.specs.Outside.{depot_state};
 ghost use Rattle.sd_command_base.specs.Files.{begins_with_book, most_book_bytes};
 ghost use Rattle.sd_command_base.specs.Reads.{FilesOutcome};
@@ -15,7 +15,7 @@ ghost use Rattle.sd_run_books.specs.Chain.{own_commands};
 use crate::newest_site::newest_site;
 use sd_command_base::{BookFile, Number, Status, Word, read_longer};
 use sd_ports::Depot;
-use sd_site::{BookLine, MOST_FIRST_PERIOD, Site};
+use sd_site_cards::{BookLine, MOST_FIRST_PERIOD, Site};
 use std::alloc::Global;
 
 /// What a next site is made from.

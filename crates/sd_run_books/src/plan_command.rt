@@ -1,7 +1,7 @@
 //! `plan SITE BOOK PACKETS PIDS`: what a broadcast takes on air, before it is sent.
 
 ghost use Rattle.std.specs.Prelude.{◌≡◌, ◌≢◌, ◌≤◌, ℕ, IfOk, IfErr, string_bytes};
-ghost use Rattle.sd_site.specs.SiteFields.{fields_of};
+ghost use Rattle.sd_site_cards.specs.SiteFields.{fields_of};
 ghost use Rattle.sd_command_base.specs.Outside.{outside, page_state, depot_state};
 ghost use Rattle.sd_command_base.specs.Reads.{SureOutcome, FileOutcome};
 ghost use Rattle.sd_command_base.specs.Outcome.{Implements, status_of};
@@ -15,7 +15,7 @@ use sd_book::Book;
 use sd_command_base::{Number, Status, Word, print_text, read_book, read_site};
 use sd_message::part_count;
 use sd_ports::{Depot, Sink};
-use sd_site::Site;
+use sd_site_cards::Site;
 use std::alloc::Global;
 
 /// Does `plan SITE BOOK PACKETS PIDS`. The lines are made before the first is printed.

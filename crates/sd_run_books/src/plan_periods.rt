@@ -3,9 +3,9 @@
 ghost use Rattle.std.specs.Prelude.{◌≡◌, ◌^◌, ◌<◌, ◌≤◌, ◌+◌, ◌*◌, ◌++◌, All, map, length, IfOk, string_bytes};
 ghost use Rattle.std.specs.List.{concat, sum_by};
 ghost use Rattle.std.specs.List.Sorted.{IsStrictlyIncreasing};
-ghost use Rattle.sd_tree.specs.declared.leaf.TheConstants.{MOST_REVOKED};
-ghost use Rattle.sd_site.specs.SiteFields.{fields_of};
-ghost use Rattle.sd_cover.specs.Cover.{cover_of};
+ghost use Rattle.sd_tree_keys.specs.declared.leaf.TheConstants.{MOST_REVOKED};
+ghost use Rattle.sd_site_cards.specs.SiteFields.{fields_of};
+ghost use Rattle.sd_cover_tracing.specs.Cover.{cover_of};
 ghost use Rattle.sd_message.specs.EmmForm.{sections_for};
 ghost use Rattle.sd_run_books.specs.Air.{line_at, period_line, periods_for, tables_in};
 
@@ -15,8 +15,8 @@ use sd_base::NoMemory;
 use sd_book::Book;
 use sd_command_base::{cover_sets, replay_from};
 use sd_message::section_count;
-use sd_site::Site;
-use sd_tree::{HIGHEST, Height, Leaf};
+use sd_site_cards::Site;
+use sd_tree_keys::{HIGHEST, Height, Leaf};
 use std::alloc::Global;
 
 /// The lines of the periods of this number of crypto periods, and the number of packets of their CATs and EMMs.

@@ -4,12 +4,12 @@ ghost use Rattle.std.specs.Prelude.{◌≡◌, ◌^◌, ◌≤◌, ◌+◌, ◌-
 ghost use Rattle.sd_book.specs.declared.command.Command.{Command};
 ghost use Rattle.sd_book.specs.Commands.{last_period as last_of};
 ghost use Rattle.sd_spec.specs.Plan.{Plan};
-ghost use Rattle.sd_site.specs.SiteFields.{fields_of};
+ghost use Rattle.sd_site_cards.specs.SiteFields.{fields_of};
 ghost use Rattle.sd_run_books.specs.Air.{cryptos_for as cryptos_of, cryptos_in as cryptos_of_period};
 ghost use Rattle.sd_run_books.specs.Air.{last_period_for, last_word_for, messages_for as messages_of};
 ghost use Rattle.sd_run_books.specs.Air.{period_count as count_of};
 
-use sd_site::Site;
+use sd_site_cards::Site;
 
 /// The number of crypto periods in this number of packets.
 #[tactic(auto, unfolding(sd_spec::specs::Plan::crypto_of))]

@@ -13,7 +13,7 @@ use crate::account_name::Name;
 use crate::names::Names;
 use sd_base::next_line;
 use sd_book::{Book, Draft, MOST_COMMANDS};
-use sd_tree::{Height, Leaf};
+use sd_tree_keys::{Height, Leaf};
 use std::alloc::Global;
 use std::collections::BTreeMap;
 

@@ -12,7 +12,7 @@ ghost use Rattle.sd_run_books.specs.Report.{account_data, is_active, report_data
 use crate::account_name::Name;
 use json::Writer;
 use sd_book::Book;
-use sd_tree::Leaf;
+use sd_tree_keys::Leaf;
 use std::alloc::{AllocError, Global};
 use std::collections::BTreeMap;
 

@@ -10,7 +10,7 @@ ghost use Rattle.sd_run_books.specs.Show.{line_of_file, show_meaning, told_show}
 use crate::show_line::line_of;
 use sd_command_base::{Status, Word, card_fault, print_text, read_card_bytes};
 use sd_ports::{Depot, Sink};
-use sd_site::Card;
+use sd_site_cards::Card;
 use std::alloc::Global;
 
 /// Does `show CARD`.

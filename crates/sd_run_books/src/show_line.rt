@@ -1,12 +1,12 @@
 ghost use Rattle.std.specs.Prelude.{◌≡◌, ◌≤◌, ◌*◌, ◌+◌, ◌/◌, IfOk, length, string_bytes};
 ghost use Rattle.serde_json.specs.View.{view};
-ghost use Rattle.sd_site.specs.Files.{check_in as check_of_file};
+ghost use Rattle.sd_site_cards.specs.Files.{check_in as check_of_file};
 ghost use Rattle.sd_run_books.specs.Fingerprint.{fingerprint_in, whole_key_in};
 ghost use Rattle.sd_run_books.specs.Show.{labels_for, shown_data, shown_line};
 
 use sd_command_base::as_line;
-use sd_site::{CHECK_BYTES, Card, SECRET_BYTES};
-use sd_tree::{Height, check_value};
+use sd_site_cards::{CHECK_BYTES, Card, SECRET_BYTES};
+use sd_tree_keys::{Height, check_value};
 use serde_json::{Value, json};
 use std::alloc::{AllocError, Global};
 
@@ -57,7 +57,7 @@ fn label_count(h: Height) -> u32
 }
 
 // The check at a file's end.
-#[tactic(auto, unfolding(sd_site::specs::Files::check_in))]
+#[tactic(auto, unfolding(sd_site_cards::specs::Files::check_in))]
 fn check_in(bytes: &[u8]) -> &[u8]
     ensures { result.now ≡ check_of_file bytes.now }
 {

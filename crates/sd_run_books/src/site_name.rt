@@ -7,7 +7,7 @@ ghost use Rattle.sd_run_books.specs.SiteNames.{after_number, before_number, digi
 ghost use Rattle.sd_run_books.specs.SiteNames.{follows as is_next, is_one_up as one_up};
 
 use sd_base::number_after;
-use sd_site::MOST_WORD;
+use sd_site_cards::MOST_WORD;
 
 /// A name cut at its last number.
 #[derive(Clone, Copy)]

@@ -1,7 +1,7 @@
 //! `status SITE BOOK LEAF`: whether a receiver is entitled, and when that changes.
 
 ghost use Rattle.std.specs.Prelude.{◌≡◌, ◌≢◌, ℕ, IfOk};
-ghost use Rattle.sd_site.specs.SiteFields.{fields_of};
+ghost use Rattle.sd_site_cards.specs.SiteFields.{fields_of};
 ghost use Rattle.sd_command_base.specs.Outside.{outside, page_state, depot_state};
 ghost use Rattle.sd_command_base.specs.Reads.{SureOutcome, FileOutcome};
 ghost use Rattle.sd_command_base.specs.Outcome.{Implements, status_of};
@@ -11,8 +11,8 @@ ghost use Rattle.sd_run_books.specs.Status.{status_meaning, told_tree, tree_of_f
 use crate::status_lines::status_text;
 use sd_command_base::{Number, Status, Word, print_text, read_book, read_site};
 use sd_ports::{Depot, Sink};
-use sd_site::Site;
-use sd_tree::Leaf;
+use sd_site_cards::Site;
+use sd_tree_keys::Leaf;
 use std::alloc::Global;
 
 /// Does `status SITE BOOK LEAF`. The lines are made before the first is printed.

@@ -3,7 +3,7 @@
 ghost use Rattle.std.specs.Prelude.{◌≡◌, ◌<◌, ◌≤◌, ℕ, List, Contains};
 ghost use Rattle.std.specs.List.Sorted.{IsStrictlyIncreasing};
 ghost use Rattle.sd_book.specs.declared.command.Command.{Command};
-ghost use Rattle.sd_site.specs.SiteFields.{SiteFields};
+ghost use Rattle.sd_site_cards.specs.SiteFields.{SiteFields};
 ghost use Rattle.sd_run_books.specs.Status.{change_periods, is_entitled};
 
 /// The periods that `status` prints ascend, and the site's first one is among them. From one that is printed on it does

@@ -1,7 +1,7 @@
 //! The lines of `status`.
 
 ghost use Rattle.std.specs.Prelude.{◌≡◌, ◌≤◌, ◌+◌, ◌++◌, [], if◌then◌else◌, IfOk, OnOk, string_bytes};
-ghost use Rattle.sd_site.specs.SiteFields.{fields_of};
+ghost use Rattle.sd_site_cards.specs.SiteFields.{fields_of};
 ghost use Rattle.sd_run_books.specs.Status.{entitled_line, master_line, status_text as status_of};
 ghost use Rattle.sd_run_books.specs.Same.{is_same};
 
@@ -9,8 +9,8 @@ use crate::report::is_active;
 use sd_base::NoMemory;
 use sd_book::Book;
 use sd_command_base::replay_from;
-use sd_site::Site;
-use sd_tree::{Leaf, check_value, whole_key};
+use sd_site_cards::Site;
+use sd_tree_keys::{Leaf, check_value, whole_key};
 use std::alloc::{AllocError, Global};
 use std::fmt::Write;
 

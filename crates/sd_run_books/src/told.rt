@@ -3,15 +3,15 @@
 ghost use Rattle.std.specs.Prelude.{◌≡◌, ◌≤◌, ◌+◌, ◌*◌, ◌++◌, true, All, List, IfOk, OnOk, string_bytes};
 ghost use Rattle.sd_book.specs.declared.command.Command.{Command as Commands};
 ghost use Rattle.sd_book.specs.Commands.{is_within, revoked_after};
-ghost use Rattle.sd_site.specs.SiteFields.{fields_of};
+ghost use Rattle.sd_site_cards.specs.SiteFields.{fields_of};
 ghost use Rattle.sd_run_books.specs.Told.{period_text, told_next as next_text, told_of};
 
 use crate::told_changes::push_changes;
 use sd_base::NoMemory;
 use sd_book::{Book, Command, revoked_by};
 use sd_command_base::replay_from;
-use sd_site::Site;
-use sd_tree::Leaf;
+use sd_site_cards::Site;
+use sd_tree_keys::Leaf;
 use std::alloc::{AllocError, Global};
 use std::fmt::Write;
 

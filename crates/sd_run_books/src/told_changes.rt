@@ -10,7 +10,7 @@ ghost use Rattle.sd_run_books.specs.Apart.{differ};
 ghost use Rattle.sd_run_books.specs.Told.{least_of};
 
 use sd_book::{Command, write_line};
-use sd_tree::Leaf;
+use sd_tree_keys::Leaf;
 use std::alloc::AllocError;
 
 /// Puts a line after the text for each leaf that one of two ascending lists has alone: where each list is what a test

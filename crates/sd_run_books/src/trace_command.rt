@@ -10,9 +10,9 @@ ghost use Rattle.sd_run_books.specs.Trace.{trace_meaning, traced, unended};
 use crate::trace_text::trace_text;
 use sd_book::Book;
 use sd_command_base::{LimitKind, Status, Word, print_text, read_both, read_leaves};
-use sd_cover::{CoalitionBox, TraceFault, trace_all};
+use sd_cover_tracing::{CoalitionBox, TraceFault, trace_all};
 use sd_ports::{Depot, Sink};
-use sd_tree::Leaf;
+use sd_tree_keys::Leaf;
 use std::alloc::Global;
 
 /// Does `trace SITE BOOK LEAVES`.

@@ -1,7 +1,7 @@
 ghost use Rattle.std.specs.Prelude.{◌≡◌, ◌++◌, IfOk, OnOk, string_bytes};
 ghost use Rattle.sd_run_books.specs.Trace.{found_line, silent_line, trace_text as text_of};
 
-use sd_cover::Found;
+use sd_cover_tracing::Found;
 use std::alloc::{AllocError, Global};
 use std::fmt::Write;
 

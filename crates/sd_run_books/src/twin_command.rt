@@ -1,8 +1,8 @@
 //! `twin SITE WORDS OUT`: the site of a broadcast that is on air at the same time as that of a site.
 
 ghost use Rattle.std.specs.Prelude.{◌≡◌, ◌≢◌, ◌≤◌, ◌+◌, ℕ, IsSome};
-ghost use Rattle.sd_site.specs.SiteFields.{fields_of};
-ghost use Rattle.sd_site.specs.Chain.{most_word};
+ghost use Rattle.sd_site_cards.specs.SiteFields.{fields_of};
+ghost use Rattle.sd_site_cards.specs.Chain.{most_word};
 ghost use Rattle.sd_command_base.specs.Outside.{PageState, outside, depot_state};
 ghost use Rattle.sd_command_base.specs.Outcome.{Implements, status_of};
 ghost use Rattle.sd_command_base.specs.Made.{NewOutcome};
@@ -12,7 +12,7 @@ ghost use Rattle.sd_run_books.specs.Twin.{twin_made, twin_meaning};
 use crate::newest_site::{judge_name, newest_site};
 use sd_command_base::{Number, Status, Word, make_new};
 use sd_ports::Depot;
-use sd_site::{BookLine, MOST_FIRST_PERIOD, Site};
+use sd_site_cards::{BookLine, MOST_FIRST_PERIOD, Site};
 use std::alloc::Global;
 
 /// Does `twin SITE WORDS OUT`.

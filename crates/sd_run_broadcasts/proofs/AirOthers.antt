@@ -1,11 +1,11 @@
 -- `air` never means `Usage`.
 use Rattle.std.proofs.Common.{ℕ, ◌==◌, not, nat_lt, Bool, true, false, if◌then◌else◌, List, Option, Some, None, Result}
 use Rattle.std.proofs.Common.{Ok, Err}
-use Rattle.sd_site.specs.SiteFields.{SiteFields}
-use Rattle.sd_site.specs.Written.{newest_of, none_fewer}
-use Rattle.sd_site.specs.declared.book_line.BookLine.{BookLine}
-use Rattle.sd_site.specs.declared.site_fault.SiteFault.{SiteFault}
-use Rattle.sd_site.specs.declared.site_fault.SiteFault.TheVariants.{Range}
+use Rattle.sd_site_cards.specs.SiteFields.{SiteFields}
+use Rattle.sd_site_cards.specs.Written.{newest_of, none_fewer}
+use Rattle.sd_site_cards.specs.declared.book_line.BookLine.{BookLine}
+use Rattle.sd_site_cards.specs.declared.site_fault.SiteFault.{SiteFault}
+use Rattle.sd_site_cards.specs.declared.site_fault.SiteFault.TheVariants.{Range}
 use Rattle.sd_command_base.specs.declared.status.LimitKind.TheVariants.{SiteBytes}
 use Rattle.sd_command_base.specs.Spec.{FileArgument, Readings, all_of, judged, value, within, ◌>>=◌}
 use Rattle.sd_command_base.specs.Files.{most_site_bytes, own_book_of_file, refused_site}

@@ -14,7 +14,7 @@ use Rattle.sd_engine.specs.Stage.{SinkState}
 use Rattle.sd_engine.specs.Taken.{IsLeft}
 use Rattle.sd_engine.specs.declared.seeking.SeekFault.{SeekFault}
 use Rattle.sd_engine.specs.declared.seeking.SeekFault.TheVariants as seek
-use Rattle.sd_site.specs.SiteFields.{SiteFields}
+use Rattle.sd_site_cards.specs.SiteFields.{SiteFields}
 use Rattle.sd_spec.specs.Aired.{Verdict, Marked, Refused, Sent, Ends, verdict_of, following, aired, aired_from}
 use Rattle.sd_spec.specs.Aired.{ended_from, left_by, left_from, none_left, one_marked, one_refused, one_sent}
 use Rattle.sd_spec.specs.Plan.{Plan}

@@ -3,12 +3,12 @@ use Rattle.std.proofs.Common.{◌≡◌, ℕ, ◌+◌, ◌*◌, ◌/◌, List, [
 use Rattle.std.proofs.Common.{drop, append_assoc, Option, Ok, refl, sym, ap, ◌∙◌}
 use Rattle.std.specs.List.{concat}
 use Rattle.std.proofs.lemmas.List.{take_at, drop_at}
-use Rattle.sd_site.specs.Files.{AreSecrets, check_of, file_body}
-use Rattle.sd_site.proofs.Written.{after_head}
-use Rattle.sd_site.specs.declared.card_fault.CardFault.{CardFault}
-use Rattle.sd_site.specs.CardFaults.{height_in, fault_in}
-use Rattle.sd_site.specs.CardFields.{CardFields, IsCard, card_head, card_bytes}
-use Rattle.sd_site.proofs.Spellings.{height_written, leaf_written, ca_written, written_is_good}
+use Rattle.sd_site_cards.specs.Files.{AreSecrets, check_of, file_body}
+use Rattle.sd_site_cards.proofs.Written.{after_head}
+use Rattle.sd_site_cards.specs.declared.card_fault.CardFault.{CardFault}
+use Rattle.sd_site_cards.specs.CardFaults.{height_in, fault_in}
+use Rattle.sd_site_cards.specs.CardFields.{CardFields, IsCard, card_head, card_bytes}
+use Rattle.sd_site_cards.proofs.Spellings.{height_written, leaf_written, ca_written, written_is_good}
 use Rattle.sd_command_base.specs.Files.{card_unless}
 use Rattle.sd_run_broadcasts.specs.Receive.{secrets_of, card_said, told_card}
 

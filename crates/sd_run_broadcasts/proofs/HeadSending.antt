@@ -14,7 +14,7 @@ use Rattle.sd_base.proofs.Lists.{nothing_joined}
 use Rattle.sd_ports.specs.Bytes.{IsPrefix}
 use Rattle.sd_ports.proofs.Starts.{prefix_of_prefix, after_first, nothing_after}
 use Rattle.sd_packet.specs.Header.{pid_of, scrambling_of}
-use Rattle.sd_site.specs.SiteFields.{SiteFields}
+use Rattle.sd_site_cards.specs.SiteFields.{SiteFields}
 use Rattle.sd_psi.specs.declared.fault.FormFault.{FormFault}
 use Rattle.sd_psi.specs.declared.fault.FormFault.TheVariants as Form
 use Rattle.sd_engine.specs.Stage.{Chain}
@@ -30,12 +30,12 @@ use Rattle.sd_spec.specs.Refused.{is_one_too_many}
 use Rattle.sd_spec.specs.Refused.{end_refusal, is_too_long, refusal_of, refusal_from, whole_refusal}
 use Rattle.sd_spec.specs.Sent.{sent, closing_of, packets_from, body, broadcast, bytes_added, bytes_from}
 use Rattle.sd_spec.proofs.Bodies.{body_bytes, closed_bytes}
-use Rattle.sd_psi.specs.declared.clear_fault.ClearFault.{ClearFault}
-use Rattle.sd_psi.specs.declared.clear_fault.ClearFault.TheVariants.{AlreadyScrambled, PidTaken, PatForm, PmtForm}
-use Rattle.sd_psi.specs.declared.clear_fault.ClearFault.TheVariants.{TooManyPids, TooLong}
+use Rattle.sd_message.specs.declared.clear_fault.ClearFault.{ClearFault}
+use Rattle.sd_message.specs.declared.clear_fault.ClearFault.TheVariants.{AlreadyScrambled, PidTaken, PatForm, PmtForm}
+use Rattle.sd_message.specs.declared.clear_fault.ClearFault.TheVariants.{TooManyPids, TooLong}
 use Rattle.sd_command_base.specs.declared.status.Status.TheVariants.{Done, BadClear, DepotFault}
 use Rattle.sd_command_base.specs.Turned.{Wrote, all_written, some_written}
-use Rattle.sd_psi.specs.ClearFaults.{clear_packet}
+use Rattle.sd_message.specs.ClearFaults.{clear_packet}
 use Rattle.sd_command_base.specs.declared.stream_refusal.StreamRefusal.TheVariants.{Packet}
 use Rattle.sd_run_broadcasts.specs.Head.{clear_status, status_where, sent_by, sent_where}
 use Rattle.sd_run_broadcasts.specs.Head.{sent_of, sent_status, sent_told, stop_status, stream_refusal}

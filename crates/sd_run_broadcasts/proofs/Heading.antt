@@ -9,7 +9,7 @@ use Rattle.sd_engine.proofs.Taken.{is_over}
 use Rattle.sd_engine.specs.declared.driver.DriveFault.{DriveFault}
 use Rattle.sd_engine.specs.declared.driver.DriveFault.TheVariants as drive
 use Rattle.sd_spec.specs.Plan.{Plan}
-use Rattle.sd_psi.specs.declared.clear_fault.ClearFault.{ClearFault}
+use Rattle.sd_message.specs.declared.clear_fault.ClearFault.{ClearFault}
 use Rattle.sd_head.specs.declared.fault.HeadFault.{HeadFault}
 use Rattle.sd_head.specs.declared.fault.HeadFault.TheVariants as head
 use Rattle.sd_head.specs.declared.head.Head.{Head}

@@ -4,7 +4,7 @@ use Rattle.std.proofs.Common.{length, take, Ok, Err, Result}
 use Rattle.std.specs.Prelude.{◌↔◌, reverse, slice_get, Option, Some, None, option_and_then}
 use Rattle.std.proofs.lemmas.Option.{slice_get_within}
 use Rattle.sd_spec.specs.Refused.{refusal_from}
-use Rattle.sd_psi.specs.declared.clear_fault.ClearFault.{ClearFault}
+use Rattle.sd_message.specs.declared.clear_fault.ClearFault.{ClearFault}
 use Rattle.sd_spec.specs.declared.event.Event.{Event}
 use Rattle.sd_spec.specs.Book.{sends}
 use Rattle.sd_field.specs.declared.fault.FieldFault.{FieldFault}

@@ -1,6 +1,6 @@
 -- `receive` never means `Usage`.
 use Rattle.std.proofs.Common.{ℕ, List, Option}
-use Rattle.sd_site.specs.CardFaults.{fault_in}
+use Rattle.sd_site_cards.specs.CardFaults.{fault_in}
 use Rattle.sd_command_base.specs.declared.status.LimitKind.TheVariants.{CardBytes}
 use Rattle.sd_command_base.specs.Spec.{FileArgument, Readings, all_of, judged, value, within}
 use Rattle.sd_command_base.specs.Files.{most_card_bytes}

@@ -1,11 +1,11 @@
 -- The refusal of a clear stream, by its packets and its end.
 use Rattle.std.proofs.Common.{◌≡◌, ℕ, Bool, true, false, List, [], ◌∷◌, Option, Some, None, refl, sym, ap, ◌∙◌}
 use Rattle.std.specs.Option.{option_map_or}
-use Rattle.sd_site.specs.SiteFields.{SiteFields}
+use Rattle.sd_site_cards.specs.SiteFields.{SiteFields}
 use Rattle.sd_engine.specs.Taken.{StreamEnd, Whole, Breaks, RunsOn}
-use Rattle.sd_psi.specs.declared.clear_fault.ClearFault.{ClearFault}
-use Rattle.sd_psi.specs.declared.clear_fault.ClearFault.TheVariants.{TooLong}
-use Rattle.sd_psi.specs.ClearFaults.{clear_packet}
+use Rattle.sd_message.specs.declared.clear_fault.ClearFault.{ClearFault}
+use Rattle.sd_message.specs.declared.clear_fault.ClearFault.TheVariants.{TooLong}
+use Rattle.sd_message.specs.ClearFaults.{clear_packet}
 use Rattle.sd_spec.specs.Refused.{end_refusal, fault_where, is_too_long, refusal_from, whole_refusal}
 use Rattle.sd_run_broadcasts.specs.Head.{stream_refusal}
 

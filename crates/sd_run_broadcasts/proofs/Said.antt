@@ -1,8 +1,8 @@
 -- What was read of a site's file, seen as its definition has it.
 use Rattle.std.proofs.Common.{Bool, Option}
-use Rattle.sd_site.specs.SiteFields.{SiteFields, fields_of}
-use Rattle.sd_site.specs.declared.site.Site.{Site}
-use Rattle.sd_site.specs.declared.book_line.BookLine.{BookLine}
+use Rattle.sd_site_cards.specs.SiteFields.{SiteFields, fields_of}
+use Rattle.sd_site_cards.specs.declared.site.Site.{Site}
+use Rattle.sd_site_cards.specs.declared.book_line.BookLine.{BookLine}
 
 -- the site, and what its line 13 says of its book
 abbrev pub said_of : Site × Option BookLine → SiteFields × Option BookLine

@@ -6,7 +6,7 @@ use Rattle.sd_command_base.specs.declared.status.Status.{Status}
 use Rattle.sd_command_base.specs.declared.status.Status.TheVariants.{DepotFault, NoMemory}
 use Rattle.sd_command_base.specs.Turned.{Wrote, all_written, some_written}
 use Rattle.sd_run_broadcasts.specs.Head.{sent_of, sent_status, SendsLeft}
-use Rattle.sd_site.specs.CardFields.{CardFields}
+use Rattle.sd_site_cards.specs.CardFields.{CardFields}
 use Rattle.sd_run_broadcasts.specs.Receive.{received_of, received_status, ReceivesLeft}
 use Rattle.sd_run_broadcasts.specs.Trial.{HasHeard, HasSent, is_wanting}
 

@@ -6,7 +6,7 @@ use Rattle.std.specs.List.{concat}
 use Rattle.sd_book.specs.declared.command.Command.{Command}
 use Rattle.sd_book.specs.Commands.{last_period}
 use Rattle.sd_spec.specs.Sent.{body}
-use Rattle.sd_psi.specs.declared.clear_fault.ClearFault.{ClearFault}
+use Rattle.sd_message.specs.declared.clear_fault.ClearFault.{ClearFault}
 use Rattle.sd_field.specs.Fields.{FieldValue, IsSentCut, plan_in, sends_of, taken, written_of}
 use Rattle.sd_field.proofs.Fields.{unsent}
 use Rattle.sd_command_base.specs.declared.status.Status.{Status}

@@ -1,8 +1,8 @@
 -- The lines of a trial.
 use Rattle.std.proofs.Common.{◌≡◌, ℕ, zero, suc, ◌+◌, ◌-◌, ◌^◌, ◌/◌, ◌<◌, Bool, List, length}
 use Rattle.std.proofs.Common.{Result, Ok, Err, sym, ap, subst, ◌∙◌, inl, inr, arith}
-use Rattle.sd_site.specs.SiteFields.{SiteFields}
-use Rattle.sd_site.specs.CardFields.{CardFields, card_of}
+use Rattle.sd_site_cards.specs.SiteFields.{SiteFields}
+use Rattle.sd_site_cards.specs.CardFields.{CardFields, card_of}
 use Rattle.sd_spec.specs.Plan.{Plan}
 use Rattle.sd_run_broadcasts.specs.Head.{sent_of, sent_status}
 use Rattle.sd_run_broadcasts.specs.Receive.{received_of}

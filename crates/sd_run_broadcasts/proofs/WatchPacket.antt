@@ -9,8 +9,8 @@ use Rattle.std.proofs.KnownBytes.{Appends-nil}
 use Rattle.sd_base.specs.Types.{Packet, Packets}
 use Rattle.sd_ports.specs.Bytes.{IsPrefix}
 use Rattle.sd_engine.specs.Stage.{SinkState, HasGrown, IsCutShort}
-use Rattle.sd_site.specs.CardFields.{CardFields, card_fields_of}
-use Rattle.sd_site.specs.declared.card.Card.{Card}
+use Rattle.sd_site_cards.specs.CardFields.{CardFields, card_fields_of}
+use Rattle.sd_site_cards.specs.declared.card.Card.{Card}
 use Rattle.sd_spec.specs.declared.report.Report.{Report}
 use Rattle.sd_spec.specs.Offered.{offered}
 use Rattle.sd_spec.specs.Counting.{counts}

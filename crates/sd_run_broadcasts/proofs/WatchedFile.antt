@@ -5,7 +5,7 @@ use Rattle.std.proofs.Common.{ap, subst, inl, inr}
 use Rattle.std.proofs.lemmas.List.{map-append}
 use Rattle.sd_base.proofs.Bools.{tested}
 use Rattle.sd_engine.specs.Cut.{readable}
-use Rattle.sd_site.specs.CardFields.{CardFields}
+use Rattle.sd_site_cards.specs.CardFields.{CardFields}
 use Rattle.sd_spec.specs.Reports.{report_of, turned_reports, reports}
 use Rattle.sd_watch.specs.Watching.{card_of, IsWatching}
 use Rattle.sd_watch.specs.declared.watcher.Watcher.{Watcher}

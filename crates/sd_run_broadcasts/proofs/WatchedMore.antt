@@ -6,7 +6,7 @@ use Rattle.std.proofs.lemmas.Bool.{and_parts}
 use Rattle.sd_base.specs.Types.{Packet, Packets}
 use Rattle.sd_base.proofs.Bools.{tested}
 use Rattle.sd_base.proofs.Lists.{reversed}
-use Rattle.sd_site.specs.CardFields.{CardFields}
+use Rattle.sd_site_cards.specs.CardFields.{CardFields}
 use Rattle.sd_message.specs.declared.stream_fault.StreamFault.{StreamFault}
 use Rattle.sd_spec.specs.declared.report.Report.{Report}
 use Rattle.sd_spec.specs.Offered.{offered, out_from}

@@ -5,10 +5,10 @@ use Rattle.std.specs.List.{concat}
 use Rattle.sd_engine.specs.Taken.{StreamEnd, Whole, Breaks, RunsOn, taken_of, end_of, IsLeft}
 use Rattle.sd_engine.specs.declared.driver.DriveFault.{DriveFault}
 use Rattle.sd_engine.specs.declared.driver.DriveFault.TheVariants as drive
-use Rattle.sd_site.specs.declared.file.TheConstants.{SECRET_BYTES}
-use Rattle.sd_site.specs.declared.format.TheConstants.{SECRETS_AT}
-use Rattle.sd_site.specs.CardFaults.{height_in, leaf_in, ca_in, fault_in}
-use Rattle.sd_site.specs.CardFields.{CardFields, saying}
+use Rattle.sd_site_cards.specs.declared.file.TheConstants.{SECRET_BYTES}
+use Rattle.sd_site_cards.specs.declared.format.TheConstants.{SECRETS_AT}
+use Rattle.sd_site_cards.specs.CardFaults.{height_in, leaf_in, ca_in, fault_in}
+use Rattle.sd_site_cards.specs.CardFields.{CardFields, saying}
 use Rattle.sd_message.specs.declared.stream_fault.StreamFault.{StreamFault}
 use Rattle.sd_spec.specs.declared.ending.Ending.{Ending}
 use Rattle.sd_spec.specs.declared.ending.Ending.TheVariants as end

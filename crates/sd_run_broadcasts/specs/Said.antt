@@ -7,9 +7,9 @@ use Rattle.std.specs.Io.KnownBytes.{Appends}
 use Rattle.sd_base.specs.Types.{Packets}
 use Rattle.sd_ports.specs.Files.{Files}
 use Rattle.sd_ports.specs.Bytes.{IsPrefix}
-use Rattle.sd_site.specs.SiteFields.{SiteFields}
-use Rattle.sd_site.specs.Text.{site_of}
-use Rattle.sd_site.specs.declared.site_fault.SiteFault.{SiteFault}
+use Rattle.sd_site_cards.specs.SiteFields.{SiteFields}
+use Rattle.sd_site_cards.specs.Text.{site_of}
+use Rattle.sd_site_cards.specs.declared.site_fault.SiteFault.{SiteFault}
 use Rattle.sd_spec.specs.Plan.{Plan}
 use Rattle.sd_command_base.specs.declared.status.Status.{Status}
 use Rattle.sd_command_base.specs.BadLines.{line_numbered}

@@ -3,8 +3,8 @@ use Rattle.std.specs.Prelude.{◌≡◌, ◌⊎◌, ◌^◌, ◌*◌, ◌/◌, �
 use Rattle.std.specs.Prelude.{codes, Option, Result, Ok, Err}
 use Rattle.std.specs.Fmt.{decimal}
 use Rattle.sd_ports.specs.Bytes.{Prefix}
-use Rattle.sd_site.specs.SiteFields.{SiteFields}
-use Rattle.sd_site.specs.CardFields.{CardFields, card_of}
+use Rattle.sd_site_cards.specs.SiteFields.{SiteFields}
+use Rattle.sd_site_cards.specs.CardFields.{CardFields, card_of}
 use Rattle.sd_spec.specs.Plan.{Plan}
 use Rattle.sd_command_base.specs.declared.status.Status.{Status}
 use Rattle.sd_command_base.specs.declared.status.Status.TheVariants.{Done, Revoked, DepotFault, Limit, NoMemory}

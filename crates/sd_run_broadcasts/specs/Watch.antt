@@ -6,7 +6,7 @@ use Rattle.serde_json.specs.Data.{Data, Members, object, no_members}
 use Rattle.serde_json.specs.Written.{compact_text}
 use Rattle.sd_base.specs.Types.{RunName}
 use Rattle.sd_engine.specs.Cut.{skipped_before, readable, is_too_long}
-use Rattle.sd_site.specs.CardFields.{CardFields}
+use Rattle.sd_site_cards.specs.CardFields.{CardFields}
 use Rattle.sd_message.specs.declared.stream_fault.StreamFault.{StreamFault}
 use Rattle.sd_spec.specs.declared.report.Report.{Report}
 use Rattle.sd_spec.specs.Offered.{out_from}

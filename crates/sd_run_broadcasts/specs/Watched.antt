@@ -11,7 +11,7 @@ use Rattle.sd_engine.specs.Seeking.{MayCome}
 use Rattle.sd_engine.specs.Taken.{IsLeft}
 use Rattle.sd_engine.specs.declared.seeking.SeekFault.{SeekFault}
 use Rattle.sd_engine.specs.declared.seeking.SeekFault.TheVariants as seek
-use Rattle.sd_site.specs.CardFields.{CardFields}
+use Rattle.sd_site_cards.specs.CardFields.{CardFields}
 use Rattle.sd_spec.specs.Offered.{out_from}
 use Rattle.sd_spec.specs.Counting.{counting, tried_keys}
 use Rattle.sd_spec.specs.Reports.{report_of, turns_after, turned_reports}

@@ -8,7 +8,7 @@ use crate::air_report::AirReport;
 use crate::member::{write_number, write_status};
 use json::Writer;
 use sd_command_base::{Status, StreamRefusal};
-use sd_psi::ClearFault;
+use sd_message::ClearFault;
 use std::alloc::{AllocError, Global};
 
 /// The line of a report on a live stream: compact JSON with the keys in ascending order, and a line feed [this project,

@@ -1,6 +1,6 @@
 ghost use Rattle.std.specs.Prelude.{◌≡◌, ◌≢◌, IfOk};
-ghost use Rattle.sd_site.specs.SiteFields.{fields_of};
-ghost use Rattle.sd_site.specs.Written.{newest_of, none_fewer};
+ghost use Rattle.sd_site_cards.specs.SiteFields.{fields_of};
+ghost use Rattle.sd_site_cards.specs.Written.{newest_of, none_fewer};
 ghost use Rattle.sd_command_base.specs.Outside.{depot_state};
 ghost use Rattle.sd_command_base.specs.Reads.{FileOutcome, FilesOutcome, SureOutcome};
 ghost use Rattle.sd_command_base.specs.Shown.{shown_word};
@@ -9,7 +9,7 @@ ghost use Rattle.sd_run_broadcasts.specs.Air.{air_plan_meaning, air_site_of_file
 use sd_book::Book;
 use sd_command_base::{LimitKind, MOST_SITE_BYTES, Status, Word, read_bytes, read_own, site_fault};
 use sd_ports::Depot;
-use sd_site::{BookLine, Site, SiteFault, read_newest};
+use sd_site_cards::{BookLine, Site, SiteFault, read_newest};
 use std::alloc::Global;
 
 // The version of the messages of what goes on air.

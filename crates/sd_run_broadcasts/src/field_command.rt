@@ -1,5 +1,5 @@
 ghost use Rattle.std.specs.Prelude.{◌≡◌, ◌≢◌, ◌≤◌, All, None, length, string_bytes, true};
-ghost use Rattle.sd_site.specs.SiteFields.{fields_of};
+ghost use Rattle.sd_site_cards.specs.SiteFields.{fields_of};
 ghost use Rattle.sd_spec.specs.Events.{is_of};
 ghost use Rattle.sd_command_base.specs.Outside.{outside, page_state, depot_state};
 ghost use Rattle.sd_command_base.specs.Outcome.{Implements, status_of};
@@ -17,9 +17,9 @@ use sd_command_base::{Status, Word, print_text};
 use sd_field::Field;
 use sd_packet::Packet;
 use sd_ports::{Depot, Sink};
-use sd_site::Site;
+use sd_site_cards::Site;
 use sd_spec::Event;
-use sd_tree::Height;
+use sd_tree_keys::Height;
 use std::alloc::Global;
 use std::sync::ledger::Ledger;
 

@@ -1,5 +1,5 @@
 ghost use Rattle.std.specs.Prelude.{◌≢◌, ◌≤◌, IfOk, length};
-ghost use Rattle.sd_site.specs.SiteFields.{fields_of};
+ghost use Rattle.sd_site_cards.specs.SiteFields.{fields_of};
 ghost use Rattle.sd_command_base.specs.Outside.{depot_state};
 ghost use Rattle.sd_command_base.specs.Reads.{FilesOutcome};
 ghost use Rattle.sd_command_base.specs.Shown.{shown_word};
@@ -9,7 +9,7 @@ use crate::field_clear::read_clear;
 use sd_command_base::{LimitKind, Status, Word, read_low_site};
 use sd_packet::Packet;
 use sd_ports::Depot;
-use sd_site::Site;
+use sd_site_cards::Site;
 use std::alloc::Global;
 
 /// The greatest height of a field's tree.

@@ -5,7 +5,7 @@ ghost use Rattle.sd_field.specs.Fields.{written_of};
 
 use sd_field::Field;
 use sd_packet::SIZE;
-use sd_tree::{Height, Leaf};
+use sd_tree_keys::{Height, Leaf};
 use sha2::{Digest, Sha256};
 use std::alloc::{AllocError, Global};
 use std::fmt::Write;

@@ -11,7 +11,7 @@ use sd_command_base::{
 use sd_field::{ScriptFault, read_script};
 use sd_ports::Depot;
 use sd_spec::Event;
-use sd_tree::Height;
+use sd_tree_keys::Height;
 use std::alloc::Global;
 
 /// The events of the script in the file of this argument.

@@ -1,6 +1,6 @@
 ghost use Rattle.std.specs.Prelude.{◌≡◌, ◌≢◌, IfOk};
-ghost use Rattle.sd_site.specs.SiteFields.{fields_of};
-ghost use Rattle.sd_site.specs.Text.{book_line_of, site_of};
+ghost use Rattle.sd_site_cards.specs.SiteFields.{fields_of};
+ghost use Rattle.sd_site_cards.specs.Text.{book_line_of, site_of};
 ghost use Rattle.sd_command_base.specs.Files.{told_site};
 ghost use Rattle.sd_command_base.specs.Outside.{depot_state};
 ghost use Rattle.sd_command_base.specs.Reads.{FileOutcome, FilesOutcome, SureOutcome};
@@ -13,7 +13,7 @@ use sd_command_base::{
     LimitKind, MOST_SITE_BYTES, Status, Word, line_numbered, read_bytes, read_own, site_fault,
 };
 use sd_ports::Depot;
-use sd_site::{BookLine, Site, read_with_book};
+use sd_site_cards::{BookLine, Site, read_with_book};
 use std::alloc::Global;
 
 // The number of the line `first-word` of a site.

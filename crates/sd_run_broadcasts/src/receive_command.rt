@@ -18,7 +18,7 @@ use sd_command_base::{
 use sd_engine::{DriveFault, drive};
 use sd_ports::{Depot, Sink, Source};
 use sd_receive::{Receiver, StreamFault};
-use sd_site::Card;
+use sd_site_cards::Card;
 use std::alloc::Global;
 use std::sync::ledger::Ledger;
 

@@ -15,7 +15,7 @@ use sd_book::Book;
 use sd_command_base::{Status, Word, print_text};
 use sd_packet::SIZE;
 use sd_ports::{Depot, Sink, Taken};
-use sd_site::Site;
+use sd_site_cards::Site;
 use std::alloc::Global;
 use std::sync::ledger::Ledger;
 

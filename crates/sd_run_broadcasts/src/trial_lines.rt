@@ -1,5 +1,5 @@
 ghost use Rattle.std.specs.Prelude.{◌≡◌, ◌^◌, ◌<◌, ◌/◌, string_bytes, length, IfOk};
-ghost use Rattle.sd_site.specs.SiteFields.{fields_of};
+ghost use Rattle.sd_site_cards.specs.SiteFields.{fields_of};
 ghost use Rattle.sd_command_base.specs.Outcome.{IsEnding};
 ghost use Rattle.sd_command_base.specs.Printed.{MemoryOutcome};
 ghost use Rattle.sd_run_broadcasts.specs.Trial.{AddsLine, clear_line, lines_to, receiver_line, told_line};
@@ -9,8 +9,8 @@ use sd_base::Steps;
 use sd_command_base::Status;
 use sd_packet::SIZE;
 use sd_receive::Receiver;
-use sd_site::{Card, Site};
-use sd_tree::Leaf;
+use sd_site_cards::{Card, Site};
+use sd_tree_keys::Leaf;
 use std::alloc::{AllocError, Global};
 use std::fmt::Write;
 use std::sync::ledger::Ledger;

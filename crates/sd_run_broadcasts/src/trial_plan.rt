@@ -1,5 +1,5 @@
 ghost use Rattle.std.specs.Prelude.{◌≡◌, ◌≢◌, IfOk};
-ghost use Rattle.sd_site.specs.SiteFields.{fields_of};
+ghost use Rattle.sd_site_cards.specs.SiteFields.{fields_of};
 ghost use Rattle.sd_command_base.specs.Outside.{depot_state};
 ghost use Rattle.sd_command_base.specs.Reads.{FilesOutcome};
 ghost use Rattle.sd_command_base.specs.Shown.{shown_word};
@@ -8,7 +8,7 @@ ghost use Rattle.sd_run_broadcasts.specs.Trial.{plan_meaning};
 use sd_book::Book;
 use sd_command_base::{LimitKind, Status, Word, read_book, read_low_site};
 use sd_ports::Depot;
-use sd_site::Site;
+use sd_site_cards::Site;
 use std::alloc::Global;
 
 /// The greatest height of a trial's tree.

@@ -11,7 +11,7 @@ use sd_command_base::{LimitKind, Status};
 use sd_head::Head;
 use sd_packet::SIZE;
 use sd_ports::{MemSink, SliceSource, Taken};
-use sd_site::Site;
+use sd_site_cards::Site;
 use std::alloc::Global;
 use std::sync::ledger::Ledger;
 

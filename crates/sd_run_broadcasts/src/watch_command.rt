@@ -22,7 +22,7 @@ use sd_command_base::{
 use sd_engine::{Ahead, MOST_PACKETS, ROOM, SeekFault, seek};
 use sd_packet::Packet;
 use sd_ports::{Depot, Sink, Source};
-use sd_site::Card;
+use sd_site_cards::Card;
 use sd_spec::Report;
 use sd_watch::Watcher;
 use std::alloc::Global;

@@ -1,8 +1,8 @@
 -- What the monitor writes of packets, one after the other.
 use Rattle.std.proofs.Common.{◌≡◌, ℕ, suc, ◌+◌, ◌-◌, ◌^◌, ◌≤◌, List, [], ◌∷◌, ◌++◌, length, ap, subst, ◌∙◌, arith}
 use Rattle.std.specs.List.{concat}
-use Rattle.sd_site.specs.SiteFields.{SiteFields, fields_of}
-use Rattle.sd_site.specs.declared.site.Site.{Site}
+use Rattle.sd_site_cards.specs.SiteFields.{SiteFields, fields_of}
+use Rattle.sd_site_cards.specs.declared.site.Site.{Site}
 use Rattle.sd_engine.specs.Stage.{Chain}
 use Rattle.sd_run_streams.specs.MessageLines.{message_line, message_lines}
 use Rattle.sd_run_streams.specs.MonitorStaged.{IsBegun, monitor_does}

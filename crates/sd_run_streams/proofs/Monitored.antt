@@ -18,7 +18,7 @@ use Rattle.sd_engine.specs.Taken.{taken_of, CutAt, DriveOutcomeOver}
 use Rattle.sd_engine.proofs.Taken.{any_prefix, is_over, few_taken, all_few}
 use Rattle.sd_engine.specs.declared.driver.DriveFault.{DriveFault}
 use Rattle.sd_engine.specs.declared.driver.DriveFault.TheVariants as drive
-use Rattle.sd_site.specs.SiteFields.{SiteFields}
+use Rattle.sd_site_cards.specs.SiteFields.{SiteFields}
 use Rattle.sd_run_streams.specs.MessageLines.{message_line, message_lines}
 use Rattle.sd_run_streams.specs.MonitorStaged.{IsBegun, monitor_does, monitor_ends, monitor_refuses}
 use Rattle.sd_run_streams.specs.declared.monitor.Monitor.{Monitor}

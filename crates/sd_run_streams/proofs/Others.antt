@@ -1,5 +1,5 @@
 -- No command of this crate ever means `Usage`.
-use Rattle.sd_site.specs.SiteFields.{SiteFields}
+use Rattle.sd_site_cards.specs.SiteFields.{SiteFields}
 use Rattle.sd_command_base.specs.Spec.{FileArgument, Readings, all_of, value}
 use Rattle.sd_command_base.proofs.Others.{IsOther, other_after, other_stream, other_site_file}
 use Rattle.sd_command_base.specs.Files.{site_of_file}

@@ -5,10 +5,10 @@ use Rattle.std.specs.Fmt.{decimal}
 use Rattle.hex.specs.Hex.{encode_lower}
 use Rattle.serde_json.specs.Data.{Data, Members, boolean, string, object, member, no_members}
 use Rattle.serde_json.specs.Written.{compact_text}
-use Rattle.sd_tree.specs.declared.set.SetName.{SetName}
-use Rattle.sd_tree.specs.declared.set.SetName.TheVariants.{Whole, Diff}
+use Rattle.sd_tree_keys.specs.declared.set.SetName.{SetName}
+use Rattle.sd_tree_keys.specs.declared.set.SetName.TheVariants.{Whole, Diff}
 use Rattle.sd_packet.specs.Header.{pid_of}
-use Rattle.sd_site.specs.SiteFields.{SiteFields}
+use Rattle.sd_site_cards.specs.SiteFields.{SiteFields}
 use Rattle.sd_message.specs.EmmSpelled.{listed_entries as entries_of, names_in}
 use Rattle.sd_message.specs.EmmJudged.{emm_read}
 use Rattle.sd_message.specs.declared.emm.Emm.{Emm}

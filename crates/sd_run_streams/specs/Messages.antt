@@ -1,7 +1,7 @@
 -- Public meaning: `messages SITE STREAM` [this project, docs/FORMATS.md, Messages printed].
 use Rattle.std.specs.Prelude.{ℕ, List, false, Option, None}
 use Rattle.sd_engine.specs.Taken.{taken_of, end_of, IsLeft}
-use Rattle.sd_site.specs.SiteFields.{SiteFields}
+use Rattle.sd_site_cards.specs.SiteFields.{SiteFields}
 use Rattle.sd_run_streams.specs.MessageLines.{message_lines}
 use Rattle.sd_command_base.specs.declared.status.Status.{Status}
 use Rattle.sd_command_base.specs.Outside.{PageState}

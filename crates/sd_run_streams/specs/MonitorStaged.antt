@@ -2,7 +2,7 @@
 use Rattle.std.specs.Prelude.{◌≡◌, ℕ, true, List, [], Option}
 use Rattle.sd_base.specs.Count.{with_added}
 use Rattle.sd_base.specs.declared.memory.NoMemory.{NoMemory}
-use Rattle.sd_site.specs.SiteFields.{SiteFields, fields_of}
+use Rattle.sd_site_cards.specs.SiteFields.{SiteFields, fields_of}
 use Rattle.sd_run_streams.specs.MessageLines.{message_line}
 use Rattle.sd_run_streams.specs.declared.monitor.Monitor.{Monitor}
 

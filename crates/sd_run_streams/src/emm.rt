@@ -7,7 +7,7 @@ ghost use Rattle.sd_run_streams.specs.MessageLines.{emm_data, name_data, set_wor
 
 use crate::object::object_of;
 use sd_message::{Emm, Entry};
-use sd_tree::SetName;
+use sd_tree_keys::SetName;
 use serde_json::Value;
 use std::alloc::{AllocError, Global};
 use std::fmt::Write;

@@ -2,7 +2,7 @@ ghost use Rattle.std.specs.Prelude.{◌≡◌, IfOk, Some, option_map, string_by
 ghost use Rattle.serde_json.specs.View.{view};
 ghost use Rattle.sd_message.specs.EmmJudged.{emm_read};
 ghost use Rattle.sd_message.specs.EcmJudged.{ecm_read};
-ghost use Rattle.sd_site.specs.SiteFields.{fields_of};
+ghost use Rattle.sd_site_cards.specs.SiteFields.{fields_of};
 ghost use Rattle.sd_run_streams.specs.MessageLines.{ecm_told, emm_told, message_data, message_line};
 
 use crate::ecm::ecm_value;
@@ -11,8 +11,8 @@ use crate::message_fault::fault_value;
 use sd_command_base::as_line;
 use sd_message::{read_ecm, read_emm};
 use sd_packet::Packet;
-use sd_site::Site;
-use sd_tree::Height;
+use sd_site_cards::Site;
+use sd_tree_keys::Height;
 use serde_json::Value;
 use std::alloc::{AllocError, Global};
 

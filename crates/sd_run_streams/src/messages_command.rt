@@ -2,7 +2,7 @@
 
 ghost use Rattle.std.specs.Prelude.{◌≡◌, ◌≢◌, ◌<◌, ℕ};
 ghost use Rattle.sd_base.specs.Count.{IsCaused};
-ghost use Rattle.sd_site.specs.SiteFields.{fields_of};
+ghost use Rattle.sd_site_cards.specs.SiteFields.{fields_of};
 ghost use Rattle.sd_command_base.specs.Outside.{outside, page_state, depot_state};
 ghost use Rattle.sd_command_base.specs.Outcome.{Implements, status_of};
 ghost use Rattle.sd_command_base.specs.Shown.{shown_word};
@@ -14,7 +14,7 @@ use sd_base::Steps;
 use sd_command_base::{Status, Word, opening_fault, read_site};
 use sd_engine::drive;
 use sd_ports::{Depot, Sink, Source};
-use sd_site::Site;
+use sd_site_cards::Site;
 use std::alloc::Global;
 use std::marker::Brand;
 use std::sync::ledger::{Blank, Ledger};

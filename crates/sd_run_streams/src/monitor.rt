@@ -1,5 +1,5 @@
 ghost use Rattle.std.specs.Prelude.{None, Some, if◌then◌else◌};
-ghost use Rattle.sd_site.specs.SiteFields.{fields_of};
+ghost use Rattle.sd_site_cards.specs.SiteFields.{fields_of};
 ghost use Rattle.sd_run_streams.specs.MonitorStaged.{IsBegun, monitor_does, monitor_ends, monitor_refuses};
 
 use crate::message_line::line_of;
@@ -7,7 +7,7 @@ use sd_base::{NoMemory, Steps};
 use sd_engine::{Stage, StageFault};
 use sd_packet::Packet;
 use sd_ports::{Sink, write_all};
-use sd_site::Site;
+use sd_site_cards::Site;
 use std::alloc::Global;
 use std::sync::ledger::Ledger;
 

@@ -2,7 +2,7 @@
 
 ghost use Rattle.std.specs.Prelude.{◌≡◌, ◌-◌, ◌^◌, ◌≤◌, ℕ, List, length};
 ghost use Rattle.std.specs.List.{concat};
-ghost use Rattle.sd_site.specs.SiteFields.{SiteFields};
+ghost use Rattle.sd_site_cards.specs.SiteFields.{SiteFields};
 ghost use Rattle.sd_engine.specs.Stage.{Chain};
 ghost use Rattle.sd_run_streams.specs.MessageLines.{message_lines};
 ghost use Rattle.sd_run_streams.specs.MonitorStaged.{IsBegun, monitor_does};

@@ -1,7 +1,7 @@
 -- What is sent for a clear stream depends on the book's periods of its packets alone.
 use Rattle.std.proofs.Common.{arith, ◌≡◌, ℕ, ◌+◌, ◌<◌, ◌≤◌, List, [], ◌∷◌, ◌++◌, refl, ap, sym, ◌∙◌}
 use Rattle.std.proofs.Common.{length, length-append, inl, inr, subst}
-use Rattle.sd_site.specs.SiteFields.{SiteFields, AreInRange}
+use Rattle.sd_site_cards.specs.SiteFields.{SiteFields, AreInRange}
 use Rattle.sd_book.specs.declared.command.Command.{Command}
 use Rattle.sd_book.specs.Limits.{most_periods}
 use Rattle.sd_book.specs.Commands.{last_period, revoked, revoked_after}

@@ -4,7 +4,7 @@ use Rattle.std.proofs.Common.{◌∙◌, Bool, true, false, inl, inr}
 use Rattle.std.specs.Prelude.{◌⊎◌, max, min, nat_le}
 use Rattle.std.proofs.lemmas.Bool.{cases_lt}
 use Rattle.std.proofs.lemmas.Bool.Decides.{nat_tests}
-use Rattle.sd_site.specs.SiteFields.{SiteFields, AreInRange}
+use Rattle.sd_site_cards.specs.SiteFields.{SiteFields, AreInRange}
 use Rattle.sd_book.specs.declared.command.Command.{Command}
 use Rattle.sd_book.specs.Limits.{most_periods}
 use Rattle.sd_book.specs.Commands.{is_within, last_period, commands_until}

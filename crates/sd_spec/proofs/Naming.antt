@@ -2,8 +2,8 @@
 use Rattle.std.proofs.Common.{ℕ, zero, suc, ◌^◌, ◌<◌, inl, inr, eq-eqb, arith, refl}
 use Rattle.std.specs.Prelude.{IfSome}
 use Rattle.std.proofs.lemmas.Bool.{cases_eq, ne_eqb, false≢true}
-use Rattle.sd_site.specs.Forms.{IsWithin, messages_line}
-use Rattle.sd_site.specs.SiteFields.{SiteFields, AreInRange, run_name_of}
+use Rattle.sd_site_cards.specs.Forms.{IsWithin, messages_line}
+use Rattle.sd_site_cards.specs.SiteFields.{SiteFields, AreInRange, run_name_of}
 use Rattle.sd_message.specs.EcmVersions.{IsVersion, IsNamed}
 
 -- the messages are of one of the three versions

@@ -10,8 +10,8 @@ use Rattle.std.proofs.lemmas.List.Concat.{flat_map-append}
 use Rattle.std.proofs.lemmas.List.Elements.{All-nil, All-cons, All-head, All-tail}
 use Rattle.std.proofs.lemmas.List.Sorted.{All-permutation, IsPermutation-reverse}
 use Rattle.sd_base.proofs.Lists.{last_out}
-use Rattle.sd_site.specs.SiteFields.{SiteFields, AreInRange}
-use Rattle.sd_site.specs.CardFields.{CardFields}
+use Rattle.sd_site_cards.specs.SiteFields.{SiteFields, AreInRange}
+use Rattle.sd_site_cards.specs.CardFields.{CardFields}
 use Rattle.sd_engine.specs.Stream.{packets_of}
 use Rattle.sd_spec.specs.Plan.{Plan}
 use Rattle.sd_message.specs.declared.stream_fault.StreamFault.{StreamFault}

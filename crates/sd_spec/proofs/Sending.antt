@@ -1,7 +1,7 @@
 -- What is sent for packets that come one after the other.
 use Rattle.std.proofs.Common.{◌≡◌, ℕ, List, [], ◌∷◌, ◌++◌, ap, sym, ◌∙◌, append_assoc, append-nil}
 use Rattle.sd_spec.specs.Plan.{Plan}
-use Rattle.sd_site.specs.SiteFields.{SiteFields}
+use Rattle.sd_site_cards.specs.SiteFields.{SiteFields}
 use Rattle.sd_spec.specs.Sent.{Item, added, sent, sent_from, packet_of, packets_from}
 
 pub sent_in_turn : (plan : Plan) (before xs ys : List (List ℕ))

@@ -4,7 +4,7 @@ use Rattle.std.proofs.Common.{Bool, true, false, nat_lt}
 use Rattle.std.specs.Prelude.{min, count_by, if◌then◌else◌}
 use Rattle.std.proofs.lemmas.Grind.{common_steps}
 use Rattle.std.proofs.lemmas.Bool.Decides.{nat_tests}
-use Rattle.sd_site.specs.SiteFields.{SiteFields, AreInRange}
+use Rattle.sd_site_cards.specs.SiteFields.{SiteFields, AreInRange}
 use Rattle.sd_book.specs.Limits.{most_periods}
 use Rattle.sd_spec.specs.Plan.{crypto_length, crypto_of}
 use Rattle.sd_spec.proofs.Schedule.{quotients_rise, quotients_step, crypto_length_some, cryptos_rise}

@@ -1,10 +1,10 @@
 -- Public meaning: which clear packets are sent by a head end that goes on, whatever comes.
 use Rattle.std.specs.Prelude.{ℕ, ◌+◌, List, [], ◌∷◌, ◌++◌, is_none, if◌then◌else◌, Option, Some, None}
 use Rattle.sd_base.specs.Types.{Packet, Packets, PacketNumber}
-use Rattle.sd_site.specs.SiteFields.{SiteFields}
-use Rattle.sd_psi.specs.declared.clear_fault.ClearFault.{ClearFault}
-use Rattle.sd_psi.specs.declared.clear_fault.ClearFault.TheVariants.{AlreadyScrambled, PidTaken, PatForm, PmtForm}
-use Rattle.sd_psi.specs.declared.clear_fault.ClearFault.TheVariants.{TooManyPids, TooLong}
+use Rattle.sd_site_cards.specs.SiteFields.{SiteFields}
+use Rattle.sd_message.specs.declared.clear_fault.ClearFault.{ClearFault}
+use Rattle.sd_message.specs.declared.clear_fault.ClearFault.TheVariants.{AlreadyScrambled, PidTaken, PatForm, PmtForm}
+use Rattle.sd_message.specs.declared.clear_fault.ClearFault.TheVariants.{TooManyPids, TooLong}
 use Rattle.sd_spec.specs.Counting.{is_marked}
 use Rattle.sd_spec.specs.Refused.{pat_wrong, unsent_at}
 use Rattle.sd_spec.specs.declared.left_out.LeftOut.{LeftOut}

@@ -2,7 +2,7 @@
 use Rattle.std.specs.Prelude.{ℕ, zero, suc, ◌+◌, ◌-◌, ◌/◌, ◌==◌, nat_le, List, [], ◌∷◌, ◌++◌, map, filter}
 use Rattle.std.specs.Prelude.{max, min, replicate, if◌then◌else◌}
 use Rattle.sd_base.specs.Types.{PeriodNumber, PacketNumber}
-use Rattle.sd_site.specs.SiteFields.{SiteFields}
+use Rattle.sd_site_cards.specs.SiteFields.{SiteFields}
 use Rattle.sd_book.specs.declared.command.Command.{Command}
 use Rattle.sd_book.specs.Limits.{most_periods}
 use Rattle.sd_book.specs.Commands.{last_period}

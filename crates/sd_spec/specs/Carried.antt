@@ -3,12 +3,12 @@ use Rattle.std.specs.Prelude.{◌%◌, ◌==◌, length, is_none, if◌then◌el
 use Rattle.sd_base.specs.Types.{Packet, Packets, Position, WordNumber}
 use Rattle.sd_packet.specs.Header.{pid_of}
 use Rattle.sd_packet.specs.Positions.{moved, position_of}
-use Rattle.sd_tree.specs.Keys.{control_word_of}
-use Rattle.sd_site.specs.SiteFields.{SiteFields}
+use Rattle.sd_tree_keys.specs.Keys.{control_word_of}
+use Rattle.sd_site_cards.specs.SiteFields.{SiteFields}
 use Rattle.sd_psi.specs.Rewriting.{rewritten, rewrite_fault}
-use Rattle.sd_keystream.specs.Scrambling.{scrambled}
-use Rattle.sd_keystream.specs.declared.payload.Parity.{Parity}
-use Rattle.sd_keystream.specs.declared.payload.Parity.TheVariants.{Even, Odd}
+use Rattle.sd_cipher.specs.Scrambling.{scrambled}
+use Rattle.sd_cipher.specs.declared.payload.Parity.{Parity}
+use Rattle.sd_cipher.specs.declared.payload.Parity.TheVariants.{Even, Odd}
 use Rattle.sd_spec.specs.Plan.{word_of}
 use Rattle.sd_spec.specs.Kinds.{kind_of}
 use Rattle.sd_spec.specs.declared.kind.Kind.{Kind}

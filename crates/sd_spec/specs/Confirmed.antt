@@ -6,7 +6,7 @@ use Rattle.sd_base.specs.Types.{Packet, Packets, Pid, Position, SystemId, Key, P
 use Rattle.sd_packet.specs.Header.{pid_of, scrambling_of}
 use Rattle.sd_packet.specs.Positions.{is_placed, first_position, moved_by}
 use Rattle.sd_psi.specs.Rewriting.{restored, restore_fault}
-use Rattle.sd_keystream.specs.Scrambling.{descrambled}
+use Rattle.sd_cipher.specs.Scrambling.{descrambled}
 use Rattle.sd_message.specs.EcmParts.{Message}
 use Rattle.sd_message.specs.declared.ecm_part.Place.{Place}
 

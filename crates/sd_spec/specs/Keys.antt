@@ -1,9 +1,9 @@
 -- Public meaning: the key of a period.
 use Rattle.std.specs.Prelude.{List, [], ◌∷◌, find, Option, Some, None, option_map}
 use Rattle.sd_base.specs.Types.{Key, PeriodNumber}
-use Rattle.sd_tree.specs.Leaves.{is_member}
-use Rattle.sd_site.specs.CardFields.{CardFields, card_key}
-use Rattle.sd_keystream.specs.Wrapping.{wrapped as under}
+use Rattle.sd_tree_keys.specs.Leaves.{is_member}
+use Rattle.sd_site_cards.specs.CardFields.{CardFields, card_key}
+use Rattle.sd_cipher.specs.Wrapping.{wrapped as under}
 use Rattle.sd_message.specs.EmmSpelled.{listed_entries}
 use Rattle.sd_message.specs.declared.emm.Emm.{Emm}
 use Rattle.sd_spec.specs.Heard.{Heard}

@@ -1,11 +1,11 @@
 -- Public meaning: what the messages of a broadcast say.
 use Rattle.std.specs.Prelude.{Bool, List, length, map}
 use Rattle.sd_base.specs.Types.{Packets, PeriodNumber, PacketNumber, MessageNumber}
-use Rattle.sd_tree.specs.declared.set.SetName.{SetName}
-use Rattle.sd_tree.specs.Keys.{key_of, period_key_of, control_word_of, check_value_of}
+use Rattle.sd_tree_keys.specs.declared.set.SetName.{SetName}
+use Rattle.sd_tree_keys.specs.Keys.{key_of, period_key_of, control_word_of, check_value_of}
 use Rattle.sd_packet.specs.Positions.{position_of}
-use Rattle.sd_site.specs.SiteFields.{SiteFields, run_name_of}
-use Rattle.sd_keystream.specs.Wrapping.{wrapped as under}
+use Rattle.sd_site_cards.specs.SiteFields.{SiteFields, run_name_of}
+use Rattle.sd_cipher.specs.Wrapping.{wrapped as under}
 use Rattle.sd_message.specs.Period.{Period}
 use Rattle.sd_message.specs.declared.emm.Entry.{Entry}
 use Rattle.sd_message.specs.EcmParts.{Message}

@@ -5,9 +5,9 @@ use Rattle.std.specs.Prelude.{None}
 use Rattle.std.specs.List.{list_any}
 use Rattle.std.specs.Option.{option_map_or}
 use Rattle.sd_base.specs.Types.{Packet, Packets, Key, PacketNumber}
-use Rattle.sd_tree.specs.Keys.{check_value_of}
-use Rattle.sd_site.specs.CardFields.{CardFields}
-use Rattle.sd_keystream.specs.Wrapping.{wrapped as under}
+use Rattle.sd_tree_keys.specs.Keys.{check_value_of}
+use Rattle.sd_site_cards.specs.CardFields.{CardFields}
+use Rattle.sd_cipher.specs.Wrapping.{wrapped as under}
 use Rattle.sd_message.specs.declared.emm.Emm.{Emm}
 use Rattle.sd_message.specs.declared.emm_fault.EmmFault.TheVariants as Emms
 use Rattle.sd_message.specs.EcmVersions.{most_places}

@@ -1,12 +1,12 @@
 -- Public meaning: what a broadcast is made of, and its schedule.
 use Rattle.std.specs.Prelude.{ℕ, zero, suc, ◌+◌, ◌-◌, ◌*◌, ◌/◌, ◌^◌, ◌<◌, min, List}
 use Rattle.sd_base.specs.Types.{PeriodNumber, CryptoNumber, WordNumber, PacketNumber, MessageNumber}
-use Rattle.sd_tree.specs.declared.set.SetName.{SetName}
-use Rattle.sd_site.specs.SiteFields.{SiteFields, AreInRange}
+use Rattle.sd_tree_keys.specs.declared.set.SetName.{SetName}
+use Rattle.sd_site_cards.specs.SiteFields.{SiteFields, AreInRange}
 use Rattle.sd_book.specs.declared.command.Command.{Command}
 use Rattle.sd_book.specs.Commands.{last_period, revoked}
 use Rattle.sd_book.specs.Limits.{IsWithinLimits}
-use Rattle.sd_cover.specs.Cover.{cover_of}
+use Rattle.sd_cover_tracing.specs.Cover.{cover_of}
 
 -- a site and the commands of a book
 pub record Plan : Type 0 where

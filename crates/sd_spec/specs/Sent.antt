@@ -5,7 +5,7 @@ use Rattle.std.specs.List.{concat}
 use Rattle.sd_base.specs.Types.{Bytes, Packet, Packets, PacketNumber}
 use Rattle.sd_packet.specs.Packing.{packed}
 use Rattle.sd_psi.specs.OurCat.{cat_section}
-use Rattle.sd_site.specs.SiteFields.{SiteFields}
+use Rattle.sd_site_cards.specs.SiteFields.{SiteFields}
 use Rattle.sd_message.specs.EmmSpelled.{emm_section}
 use Rattle.sd_message.specs.Period.{emms_of}
 use Rattle.sd_message.specs.declared.emm.Emm.{Emm}

@@ -4,7 +4,7 @@ use Rattle.std.specs.Prelude.{ℕ, suc, ◌==◌, ◌&&◌, Bool, true, false, n
 use Rattle.std.specs.Prelude.{length, take, reverse, get_or, if◌then◌else◌}
 use Rattle.std.specs.List.{concat, flat_map}
 use Rattle.sd_base.specs.Types.{Packets, LeafNumber, PacketNumber}
-use Rattle.sd_site.specs.CardFields.{CardFields}
+use Rattle.sd_site_cards.specs.CardFields.{CardFields}
 use Rattle.sd_engine.specs.Stream.{packets_of}
 use Rattle.sd_spec.specs.Plan.{Plan}
 use Rattle.sd_spec.specs.Sent.{body}

@@ -1,4 +1,4 @@
-use sd_tree::Leaf;
+use sd_tree_keys::Leaf;
 
 /// One event of a field: a command for the book, a clear packet that is sent, or what happens to one receiver.
 #[derive(Clone, Copy)]

@@ -1,4 +1,4 @@
-use sd_psi::ClearFault;
+use sd_message::ClearFault;
 
 /// What a head end that goes on leaves out of a clear stream [this project, docs/FORMATS.md, On air].
 #[derive(Clone, Copy, PartialEq, Eq)]

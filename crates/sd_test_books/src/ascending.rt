@@ -1,8 +1,8 @@
 ghost use Rattle.std.specs.Prelude.{◌^◌, ◌<◌, All, IsTrue};
 ghost use Rattle.std.specs.List.Sorted.{IsStrictlyIncreasing};
 
-use sd_cover::cover;
-use sd_tree::{Height, Leaf, SetName};
+use sd_cover_tracing::cover;
+use sd_tree_keys::{Height, Leaf, SetName};
 use std::alloc::Global;
 
 /// Heights, how many leaves a tree of each has, and those below each of its nodes, by bits.

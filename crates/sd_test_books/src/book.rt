@@ -1,6 +1,6 @@
 use crate::heights::height;
 use sd_book::{Book, BookFault, BookLimit, Command, Draft, Place};
-use sd_tree::Leaf;
+use sd_tree_keys::Leaf;
 use std::alloc::{AllocError, Global};
 use std::fmt::Write;
 use std::test::Fail;

@@ -1,10 +1,10 @@
 ghost use Rattle.std.specs.Prelude.{◌≡◌, ◌<◌, ◌≤◌};
-ghost use Rattle.sd_cover.specs.declared.counts.TheConstants.{NODES};
+ghost use Rattle.sd_cover_tracing.specs.declared.counts.TheConstants.{NODES};
 
 use crate::ascending::covered;
 use sd_base::Steps;
-use sd_cover::{Counts, CoverIndex, NODES};
-use sd_tree::{Height, Leaf, SetName};
+use sd_cover_tracing::{Counts, CoverIndex, NODES};
+use sd_tree_keys::{Height, Leaf, SetName};
 use std::alloc::Global;
 use std::marker::Brand;
 use std::sync::ledger::{Blank, Ledger};

@@ -1,4 +1,4 @@
-use sd_tree::Height;
+use sd_tree_keys::Height;
 use std::test::Fail;
 
 /// The height of this number.

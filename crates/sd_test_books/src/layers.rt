@@ -1,6 +1,6 @@
 use crate::ascending::{are_ascending, are_of_height, has_bit, marked};
 use sd_lsd::{Width, layered_cover};
-use sd_tree::{Height, SetName, depth};
+use sd_tree_keys::{Height, SetName, depth};
 use std::alloc::Global;
 use std::test::*;
 

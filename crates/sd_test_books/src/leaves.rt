@@ -1,5 +1,5 @@
 use sd_command_base::{LeavesFault, read};
-use sd_tree::Height;
+use sd_tree_keys::Height;
 use std::alloc::Global;
 use std::test::Fail;
 

@@ -1,5 +1,5 @@
 use sd_law_covers::names_of;
-use sd_tree::{Height, Leaf, Name};
+use sd_tree_keys::{Height, Leaf, Name};
 use std::alloc::{AllocError, Global};
 
 /// The names of a leaf at this height.

@@ -1,7 +1,7 @@
 use crate::ascending::covered;
 use crate::names::{closure, names};
 use sd_book::{Book, Periods};
-use sd_tree::{Height, Name, SetName};
+use sd_tree_keys::{Height, Name, SetName};
 use std::alloc::{AllocError, Global};
 use std::test::*;
 

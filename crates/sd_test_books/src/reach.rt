@@ -1,8 +1,8 @@
 use crate::ascending::{TREES, has_bit};
 use crate::names::{closure, names};
-use sd_cover::opens;
+use sd_cover_tracing::opens;
 use sd_law_covers::{names_of, reaches};
-use sd_tree::{Height, Leaf, Name, SetName};
+use sd_tree_keys::{Height, Leaf, Name, SetName};
 use std::alloc::Global;
 use std::test::*;
 

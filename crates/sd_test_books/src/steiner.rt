@@ -1,5 +1,5 @@
 use crate::ascending::covered;
-use sd_tree::{Height, Leaf, SetName};
+use sd_tree_keys::{Height, Leaf, SetName};
 use std::alloc::Global;
 use std::test::*;
 

@@ -1,10 +1,10 @@
 ghost use Rattle.std.specs.Prelude.{◌≡◌, ◌<◌, ◌≤◌, ◌^◌, All, IfSome, IsTrue, length};
 ghost use Rattle.std.specs.List.Sorted.{IsStrictlyIncreasing};
-ghost use Rattle.sd_tree.specs.declared.leaf.TheConstants.{MOST_REVOKED};
+ghost use Rattle.sd_tree_keys.specs.declared.leaf.TheConstants.{MOST_REVOKED};
 
 use crate::ascending::{TREES, are_ascending, are_of_height, covered, has_bit, marked};
-use sd_cover::{CoalitionBox, Found, TestBox, trace_all};
-use sd_tree::{Height, Leaf, MOST_REVOKED, SetName};
+use sd_cover_tracing::{CoalitionBox, Found, TestBox, trace_all};
+use sd_tree_keys::{Height, Leaf, MOST_REVOKED, SetName};
 use std::alloc::Global;
 use std::test::*;
 

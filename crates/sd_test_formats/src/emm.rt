@@ -2,7 +2,7 @@ use crate::packets::{Change, changed, flipped, packet_of};
 use hex::FromHex;
 use sd_message::{Emm, EmmFault, Entry, MOST_SETS, read_emm, section_count, write_emm};
 use sd_packet::Packet;
-use sd_tree::{Height, SetName};
+use sd_tree_keys::{Height, SetName};
 use std::alloc::Global;
 use std::ops::Range;
 use std::test::*;

@@ -1,4 +1,4 @@
-use sd_site::{Site, SiteFault, read};
+use sd_site_cards::{Site, SiteFault, read};
 use std::alloc::{AllocError, Global};
 use std::test::*;
 

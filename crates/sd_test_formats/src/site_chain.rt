@@ -1,4 +1,4 @@
-use sd_site::{MOST_FIRST_PERIOD, MOST_WORD, Site, SiteFault, read, read_newest, read_with_book};
+use sd_site_cards::{MOST_FIRST_PERIOD, MOST_WORD, Site, SiteFault, read, read_newest, read_with_book};
 use std::alloc::{AllocError, Global};
 use std::test::*;
 

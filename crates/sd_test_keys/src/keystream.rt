@@ -1,4 +1,4 @@
-use sd_keystream::{first_bytes, lay};
+use sd_cipher::{first_bytes, lay};
 
 // Keys and stream numbers, and the first 32 bytes of the stream.
 static STREAMS: [([u8; 32], u64, [u8; 32]); 3] = [

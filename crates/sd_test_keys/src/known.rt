@@ -1,7 +1,7 @@
 ghost use Rattle.std.specs.Prelude.{◌≡◌};
 
-use sd_site::Site;
-use sd_tree::Height;
+use sd_site_cards::Site;
+use sd_tree_keys::Height;
 use std::alloc::Global;
 use std::test::Fail;
 

@@ -2,7 +2,7 @@ ghost use Rattle.std.specs.Prelude.{◌≡◌, ◌<◌};
 
 use crate::known::master;
 use sd_base::Steps;
-use sd_tree::{
+use sd_tree_keys::{
     check_value, control_word, descend, is_above, middle, period_key, root_label, whole_key,
 };
 use std::marker::Brand;

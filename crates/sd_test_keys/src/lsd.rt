@@ -4,7 +4,7 @@ use crate::known::site;
 use sd_base::Steps;
 use sd_law_covers::layered_names;
 use sd_lsd::{LayerCard, Width};
-use sd_tree::{Height, Leaf, Name};
+use sd_tree_keys::{Height, Leaf, Name};
 use sha2::{Digest, Sha256};
 use std::alloc::{AllocError, Global};
 use std::marker::Brand;

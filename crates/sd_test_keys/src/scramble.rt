@@ -1,4 +1,4 @@
-use sd_keystream::{Parity, descramble, scramble};
+use sd_cipher::{Parity, descramble, scramble};
 use sd_packet::{Packet, is_positional};
 
 // A packet, a control word, a position and a parity, and the scrambled packet.

@@ -1,5 +1,5 @@
 use crate::known::master;
-use sd_site::{checks, write_file};
+use sd_site_cards::{checks, write_file};
 use std::test::*;
 
 // The check that Python's hashlib gives of a head of three bytes and two secrets.

@@ -1,4 +1,4 @@
-use sd_tree::{
+use sd_tree_keys::{
     Height, Leaf, SetName, child_towards, compare_names, contains, depth, is_above, lowest_common,
     path_node, sibling,
 };

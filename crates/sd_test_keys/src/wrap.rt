@@ -1,6 +1,6 @@
-use sd_keystream::{unwrap_checked, wrap};
+use sd_cipher::{unwrap_checked, wrap};
 use sd_law_formats::keystreams::wrapped_twice;
-use sd_tree::check_value;
+use sd_tree_keys::check_value;
 
 // Keys, numbers, texts, and what they are wrapped.
 static WRAPPED: [([u8; 32], u64, [u8; 32], [u8; 32]); 2] = [

@@ -9,8 +9,8 @@ use sd_head::Head;
 use sd_ports::MemSink;
 use sd_ports_memory::MemSource;
 use sd_receive::{Ending, Receiver};
-use sd_site::Card;
-use sd_tree::Leaf;
+use sd_site_cards::Card;
+use sd_tree_keys::Leaf;
 use std::alloc::Global;
 use std::marker::Brand;
 use std::sync::ledger::{Blank, Ledger};
@@ -42,7 +42,7 @@ fn taken<L: Ledger, G: Stage<MemSink, L>>(
 fn head_of(alloc: Global, site: &[u8], book: &[u8]) -> Option<Head>
     ensures { IfSome result IsReady }
 {
-    let Ok(site) = sd_site::read(site) else {
+    let Ok(site) = sd_site_cards::read(site) else {
         return None;
     };
     let Ok(book) = Book::read(alloc, book, site.height) else {
@@ -91,7 +91,7 @@ fn receiver_of<L: Ledger>(
 ) -> Option<Receiver>
     ensures { IfSome result IsLive }
 {
-    let Ok(site) = sd_site::read(site) else {
+    let Ok(site) = sd_site_cards::read(site) else {
         return None;
     };
     let leaf = Leaf::new(site.height, leaf)?;

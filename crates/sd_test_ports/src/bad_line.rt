@@ -2,8 +2,8 @@ use sd_command_base::{
     BadLine, LineCause, Status, Word, quoted, read_book, read_leaves, read_longer, site_excerpt,
 };
 use sd_ports_memory::MemDepot;
-use sd_site::SiteFault;
-use sd_tree::Height;
+use sd_site_cards::SiteFault;
+use sd_tree_keys::Height;
 use std::alloc::{AllocError, Global};
 
 fn name_of(cause: LineCause) -> &'static str {

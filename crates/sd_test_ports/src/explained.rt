@@ -5,9 +5,9 @@ use sd_command_base::{
 };
 use sd_command_line::{CommandLine, explanation};
 use sd_engine::{BreakCause, StreamBreak};
-use sd_message::{EcmFault, EmmFault, StreamFault};
-use sd_psi::{ClearFault, FormFault};
-use sd_site::{CardFault, SiteFault};
+use sd_message::{ClearFault, EcmFault, EmmFault, StreamFault};
+use sd_psi::FormFault;
+use sd_site_cards::{CardFault, SiteFault};
 use std::alloc::{AllocError, Global};
 
 // The arguments, the status, and what a user is told.

@@ -2,8 +2,8 @@ use sd_command_base::{
     OutCause, Status, Word, begins_with_book, ends_lines, is_book, make_new, read_longer, read_own,
 };
 use sd_ports_memory::MemDepot;
-use sd_site::BookLine;
-use sd_tree::Height;
+use sd_site_cards::BookLine;
+use sd_tree_keys::Height;
 use std::alloc::{AllocError, Global};
 
 // SHA-256, by sha256sum, of nothing, of "revoke 5" with a line feed, and of "revoke 5" without one.

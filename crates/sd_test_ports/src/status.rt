@@ -2,10 +2,10 @@ use sd_book::BookLimit;
 use sd_command_base::{Clash, LimitKind, OutCause, Status, StreamRefusal, site_fault};
 use sd_command_line::tell;
 use sd_engine::{BreakCause, StreamBreak};
-use sd_message::{EcmFault, EmmFault, StreamFault};
+use sd_message::{ClearFault, EcmFault, EmmFault, StreamFault};
 use sd_ports::MemSink;
-use sd_psi::{ClearFault, FormFault};
-use sd_site::{CardFault, SiteFault};
+use sd_psi::FormFault;
+use sd_site_cards::{CardFault, SiteFault};
 use std::alloc::{AllocError, Global};
 
 // Statuses, their codes, and their lines.

@@ -2,7 +2,7 @@ use crate::leaving::{Fault, Leaving};
 use crate::parts::{Part, bytes_of};
 use crate::rows::{File, over, sampled, tells};
 use sd_command_base::{Status, StreamRefusal};
-use sd_psi::ClearFault;
+use sd_message::ClearFault;
 use sd_test_texts::SITE;
 use std::alloc::{AllocError, Global};
 

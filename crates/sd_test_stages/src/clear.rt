@@ -1,12 +1,12 @@
 use crate::made::{Ends, Made, NULL, SCRAMBLED, plain, site_of};
 use crate::sections::{PAT, PMT, REWRITTEN};
 use sd_head::{Clear, PatRule};
-use sd_message::Place;
+use sd_message::{ClearFault, Place};
 use sd_packet::{Packet, pack_section};
-use sd_psi::{ClearFault, FormFault};
-use sd_site::Site;
+use sd_psi::FormFault;
+use sd_site_cards::Site;
 use sd_test_texts::{SITE, site_start};
-use sd_tree::control_word;
+use sd_tree_keys::control_word;
 use std::alloc::Global;
 use std::test::*;
 

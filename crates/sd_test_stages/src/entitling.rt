@@ -7,7 +7,7 @@ use sd_base::Steps;
 use sd_book::Book;
 use sd_head::{CryptoPeriod, Entitling};
 use sd_packet::{SIZE, pack_section};
-use sd_site::Site;
+use sd_site_cards::Site;
 use sd_test_texts::{BOOK, SITE, site};
 use std::alloc::Global;
 use std::marker::Brand;

@@ -4,7 +4,7 @@ use sd_packet::{Packet, pack_section};
 use sd_psi::{Tuning, cat_tuning};
 use sd_receive::{Channel, channel_of};
 use sd_section::seal;
-use sd_tree::Height;
+use sd_tree_keys::Height;
 
 // A CAT for system 0x1234, with entitlements on PID 0x1F0 and control messages on PID 0x1F1.
 static CAT: [u8; 20] = [

@@ -1,5 +1,5 @@
 use sd_packet::{Packet, pack_section};
-use sd_site::{Site, read};
+use sd_site_cards::{Site, read};
 
 /// The site of a site file.
 pub(crate) fn site_of(text: &str) -> Option<Site> {

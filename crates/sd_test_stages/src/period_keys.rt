@@ -9,7 +9,7 @@ use sd_message::{Emm, EmmFault, StreamFault, read_emm};
 use sd_packet::Packet;
 use sd_receive::PeriodKeys;
 use sd_section::seal;
-use sd_site::Card;
+use sd_site_cards::Card;
 use std::alloc::Global;
 use std::marker::Brand;
 use std::sync::ledger::{Blank, Ledger};

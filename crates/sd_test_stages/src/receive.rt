@@ -10,7 +10,7 @@ use sd_ports::MemSink;
 use sd_ports_memory::MemSource;
 use sd_receive::{Ending, Receiver, StreamFault};
 use sd_section::seal;
-use sd_site::Card;
+use sd_site_cards::Card;
 use sha2::{Digest, Sha256};
 use std::alloc::Global;
 use std::marker::Brand;

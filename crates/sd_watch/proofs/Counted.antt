@@ -4,7 +4,7 @@ use Rattle.std.proofs.Common.{Bool, true, false, append-nil, append_assoc}
 use Rattle.std.specs.Prelude.{reverse, if◌then◌else◌}
 use Rattle.std.proofs.lemmas.List.{reverse-append}
 use Rattle.sd_base.specs.Types.{Packet, Packets}
-use Rattle.sd_site.specs.CardFields.{CardFields}
+use Rattle.sd_site_cards.specs.CardFields.{CardFields}
 use Rattle.sd_spec.specs.Counting.{counts, counting}
 
 -- packets that are reversed before others, with one more in front

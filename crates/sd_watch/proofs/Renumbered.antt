@@ -2,10 +2,10 @@
 use Rattle.std.proofs.Common.{◌≡◌, ◌==◌, List, refl, ap, sym, ◌∙◌, Bool, true, false, length}
 use Rattle.std.specs.Prelude.{bytes_eq, nat_lt, if◌then◌else◌, Option, Some, None, option_map}
 use Rattle.sd_base.specs.Types.{Packet, Packets, PacketNumber, Key}
-use Rattle.sd_tree.specs.Keys.{check_value_of}
-use Rattle.sd_keystream.specs.Wrapping.{wrapped as under}
+use Rattle.sd_tree_keys.specs.Keys.{check_value_of}
+use Rattle.sd_cipher.specs.Wrapping.{wrapped as under}
 use Rattle.sd_packet.specs.Header.{pid_of}
-use Rattle.sd_site.specs.CardFields.{CardFields}
+use Rattle.sd_site_cards.specs.CardFields.{CardFields}
 use Rattle.sd_message.specs.EmmJudged.{emm_read}
 use Rattle.sd_message.specs.EcmJudged.{ecm_read}
 use Rattle.sd_message.specs.EcmParts.{Message}

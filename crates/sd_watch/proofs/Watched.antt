@@ -8,7 +8,7 @@ use Rattle.std.specs.Option.{option_or}
 use Rattle.std.proofs.KnownBytes.{Appends-nil}
 use Rattle.std.proofs.lemmas.List.{length-reverse, reverse-reverse}
 use Rattle.sd_base.specs.Types.{Packet, Packets}
-use Rattle.sd_site.specs.CardFields.{CardFields, card_fields_of}
+use Rattle.sd_site_cards.specs.CardFields.{CardFields, card_fields_of}
 use Rattle.sd_message.specs.declared.stream_fault.StreamFault.{StreamFault}
 use Rattle.sd_ports.specs.Rooms.{HasTaken}
 use Rattle.sd_engine.specs.Stage.{SinkState, HasGrown, IsCutShort}

@@ -21,9 +21,9 @@ use sd_message::StreamFault;
 use sd_packet::Packet;
 use sd_ports::{PortFault, Sink};
 use sd_receive::{EndedRun, Receiver};
-use sd_site::Card;
+use sd_site_cards::Card;
 use sd_spec::{Ending, Report, Tally};
-use sd_tree::Leaf;
+use sd_tree_keys::Leaf;
 use std::alloc::Global;
 use std::sync::ledger::Ledger;
 

@@ -15,7 +15,7 @@ use crate::buffer::BufferFault;
 use crate::buffer::pid_set::PidSet;
 use crate::buffer::tracked::{HeldPacket, PIDS, TrackedPackets};
 use crate::ecm::{ControlWord, is_foreign};
-use sd_keystream::descramble;
+use sd_cipher::descramble;
 use sd_message::Place;
 use sd_packet::Packet;
 use sd_ports::{Sink, write_all};

@@ -6,7 +6,7 @@ ghost use Rattle.sd_spec.specs.Offered.{word_fault};
 ghost use Rattle.sd_spec.specs.Confirmed.{is_foreign_under};
 ghost use Rattle.sd_receive.specs.Buffered.{word_under};
 
-use sd_keystream::unwrap_checked;
+use sd_cipher::unwrap_checked;
 use sd_message::{EcmHead, StreamFault};
 use sd_packet::Packet;
 

@@ -2,7 +2,7 @@
 
 ghost use Rattle.std.specs.Prelude.{◌≡◌, ◌≤◌, [], ◌∷◌, List, Some, None, IfOk, find, is_none, ◌&&◌, if◌then◌else◌};
 ghost use Rattle.std.specs.Option.{option_or};
-ghost use Rattle.sd_site.specs.CardFields.{CardFields};
+ghost use Rattle.sd_site_cards.specs.CardFields.{CardFields};
 ghost use Rattle.sd_message.specs.EcmParts.{Message};
 ghost use Rattle.sd_message.specs.declared.ecm_part.EcmPart.{EcmPart};
 ghost use Rattle.sd_spec.specs.Heard.{Heard, Controls};

@@ -4,23 +4,23 @@ ghost use Rattle.std.specs.Prelude.{◌≡◌, ◌+◌, ◌≤◌, ◌<◌, ◌=
 ghost use Rattle.std.specs.Prelude.{Option, IsNone, option_map};
 ghost use Rattle.sd_message.specs.EmmForm.{IsEmm, AreSets};
 ghost use Rattle.sd_message.specs.EmmSpelled.{listed_entries};
-ghost use Rattle.sd_site.specs.CardFields.{CardFields, card_fields_of};
+ghost use Rattle.sd_site_cards.specs.CardFields.{CardFields, card_fields_of};
 ghost use Rattle.sd_spec.specs.Heard.{Heard, Entitles};
 ghost use Rattle.sd_spec.specs.Stretches.{current, seen};
 ghost use Rattle.sd_spec.specs.Keys.{first_key, key_from, key_at};
 ghost use Rattle.sd_spec.specs.Offered.{emm_offering, is_mixed, key_offering};
 ghost use Rattle.sd_spec.specs.Taken.{takes_key};
 ghost use Rattle.sd_message.specs.declared.emm_format.TheConstants.{MOST_ENTRIES};
-ghost use Rattle.sd_keystream.specs.Wrapping.{wrapped};
+ghost use Rattle.sd_cipher.specs.Wrapping.{wrapped};
 ghost use Rattle.sd_receive.specs.PeriodKeys.{IsEntitled, IsStateAt, IsJudged, HasFault, is_said_otherwise, key_kept};
 ghost use Rattle.sd_receive.specs.PeriodKeys.{with_key};
 
 use crate::emm::PeriodKeys;
 use crate::emm::header::PeriodHeader;
 use sd_base::Steps;
-use sd_keystream::unwrap_checked;
+use sd_cipher::unwrap_checked;
 use sd_message::{Emm, EmmFault, StreamFault};
-use sd_site::Card;
+use sd_site_cards::Card;
 use std::sync::ledger::Ledger;
 
 impl PeriodKeys {

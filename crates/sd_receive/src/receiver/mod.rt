@@ -22,9 +22,9 @@ use sd_base::NoMemory;
 use sd_message::StreamFault;
 use sd_packet::Packet;
 use sd_psi::Tuning;
-use sd_site::Card;
+use sd_site_cards::Card;
 use sd_spec::Ending;
-use sd_tree::Leaf;
+use sd_tree_keys::Leaf;
 use std::alloc::Global;
 
 /// A receiver: its card, and what it keeps of the packets that were offered [this project, docs/FORMATS.md, Receiver].

@@ -3,7 +3,7 @@
 ghost use Rattle.std.specs.Prelude.{◌≡◌, ◌<◌, ◌∷◌, [], ℕ, true, List, option_map, Some, None, Err, IfErr, MatchResult};
 ghost use Rattle.std.specs.Prelude.{IsErrOf};
 ghost use Rattle.sd_base.specs.Count.{IsCaused};
-ghost use Rattle.sd_site.specs.CardFields.{CardFields, card_fields_of};
+ghost use Rattle.sd_site_cards.specs.CardFields.{CardFields, card_fields_of};
 ghost use Rattle.sd_message.specs.EcmForm.{AreShort};
 ghost use Rattle.sd_message.specs.EcmParts.{message_of};
 ghost use Rattle.sd_message.specs.declared.ecm_part.EcmPart.{EcmPart};
@@ -26,7 +26,7 @@ use sd_engine::StageFault;
 use sd_message::{EcmHead, StreamFault};
 use sd_ports::Sink;
 use sd_psi::Tuning;
-use sd_site::Card;
+use sd_site_cards::Card;
 
 // The fault of a control word for which its message is refused before anything is written, if it is.
 fn early_fault(strict: bool, word: &Result<Option<[u8; 32]>, StreamFault>) -> Option<StreamFault>

@@ -4,7 +4,7 @@ ghost use Rattle.std.specs.Prelude.{◌≡◌, ℕ, ◌+◌, ◌≤◌, ◌<◌,
 ghost use Rattle.std.specs.Prelude.{if◌then◌else◌, ◌-◌};
 ghost use Rattle.std.specs.Option.{option_map_or};
 ghost use Rattle.sd_base.specs.Count.{IsCaused};
-ghost use Rattle.sd_site.specs.CardFields.{CardFields, card_fields_of};
+ghost use Rattle.sd_site_cards.specs.CardFields.{CardFields, card_fields_of};
 ghost use Rattle.sd_message.specs.EcmForm.{IsEcm};
 ghost use Rattle.sd_engine.specs.Stage.{vessel};
 ghost use Rattle.sd_spec.specs.Heard.{Heard, Controls, Other, heard_ecm};
@@ -28,7 +28,7 @@ use sd_message::{EcmPart, StreamFault, read_ecm};
 use sd_packet::Packet;
 use sd_ports::Sink;
 use sd_psi::Tuning;
-use sd_site::Card;
+use sd_site_cards::Card;
 use sd_spec::Ending;
 use std::alloc::Global;
 use std::sync::ledger::Ledger;

@@ -1,4 +1,4 @@
-use Rattle.sd_cover.proofs.Heights.{cover_of_height}
+use Rattle.sd_cover_tracing.proofs.Heights.{cover_of_height}
 use Rattle.sd_command_base.proofs.sets.cover_sets.Goals as goal
 
 pub returns-in-Ok-clause-names : goal.returns-in-Ok-clause-names

@@ -1,7 +1,7 @@
 use Rattle.std.proofs.Common.{sym, ◌∙◌, append-nil, List, ℕ, length, take}
 use Rattle.std.proofs.lemmas.List.{take_all, take_more, flat_map_more}
-use Rattle.sd_tree.specs.declared.set.SetName.{SetName}
-use Rattle.sd_tree.specs.declared.set.SetName.TheVariants.{Whole}
+use Rattle.sd_tree_keys.specs.declared.set.SetName.{SetName}
+use Rattle.sd_tree_keys.specs.declared.set.SetName.TheVariants.{Whole}
 use Rattle.sd_command_base.specs.Periods.{set_line, period_line}
 use Rattle.sd_command_base.proofs.text.period_text.Goals as goal
 

@@ -1,7 +1,7 @@
 use Rattle.std.proofs.Common.{arith, ℕ, List, take, sym, subst}
 use Rattle.std.proofs.lemmas.Bool.{false≢true}
 use Rattle.std.specs.Prelude.{reverse}
-use Rattle.sd_site.specs.SiteFields.{fields_of}
+use Rattle.sd_site_cards.specs.SiteFields.{fields_of}
 use Rattle.sd_book.specs.Limits.{IsWithinLimits}
 use Rattle.sd_spec.specs.declared.event.Event.{Event}
 use Rattle.sd_field.specs.Laid.{IsLaid}

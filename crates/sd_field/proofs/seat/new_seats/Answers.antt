@@ -1,6 +1,6 @@
 use Rattle.std.proofs.Common.{arith, ◌≡◌, ◌∙◌, ◌+◌, ◌++◌, ◌∷◌, [], ℕ, List, ap, sym, subst}
 use Rattle.std.proofs.Common.{length, length-append}
-use Rattle.sd_site.specs.CardFields.{card_of}
+use Rattle.sd_site_cards.specs.CardFields.{card_of}
 use Rattle.sd_field.specs.Seats.{AreNew, IsNew}
 use Rattle.sd_field.specs.declared.seat.Seat.{Seat}
 use Rattle.sd_field.proofs.Seats.{seats_more, some_there}

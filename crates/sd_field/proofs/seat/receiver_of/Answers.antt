@@ -1,4 +1,4 @@
-use Rattle.sd_site.specs.CardFields.{card_of}
+use Rattle.sd_site_cards.specs.CardFields.{card_of}
 use Rattle.sd_field.proofs.Seats.{has_card}
 use Rattle.sd_field.proofs.seat.receiver_of.Goals as goal
 

@@ -1,7 +1,7 @@
 use Rattle.std.proofs.Common.{◌≡◌, ◌∙◌, List, subst, sym, ap}
 use Rattle.std.specs.Prelude.{OnOk, All, map}
-use Rattle.sd_tree.specs.declared.set.SetName.{SetName}
-use Rattle.sd_site.specs.SiteFields.{fields_of}
+use Rattle.sd_tree_keys.specs.declared.set.SetName.{SetName}
+use Rattle.sd_site_cards.specs.SiteFields.{fields_of}
 use Rattle.sd_message.specs.Period.{Period}
 use Rattle.sd_spec.specs.Messages.{entry_of}
 use Rattle.sd_head.specs.Crypto.{IsKeyed}

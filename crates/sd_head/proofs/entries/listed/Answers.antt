@@ -1,7 +1,7 @@
 use Rattle.std.proofs.Common.{◌∙◌}
 use Rattle.std.proofs.lemmas.List.{take_more}
-use Rattle.sd_tree.specs.declared.set.SetName.TheVariants.{Whole}
-use Rattle.sd_site.specs.SiteFields.{fields_of}
+use Rattle.sd_tree_keys.specs.declared.set.SetName.TheVariants.{Whole}
+use Rattle.sd_site_cards.specs.SiteFields.{fields_of}
 use Rattle.sd_head.proofs.Listing.{entry_more}
 use Rattle.sd_head.proofs.entries.listed.Goals as goal
 

@@ -1,5 +1,5 @@
 use Rattle.std.proofs.Common.{sym}
-use Rattle.sd_site.specs.SiteFields.{fields_of}
+use Rattle.sd_site_cards.specs.SiteFields.{fields_of}
 use Rattle.sd_head.proofs.Carrying.{pmt_rewritten, pmt_left}
 use Rattle.sd_head.proofs.judge.carried_pmt.Goals as goal
 

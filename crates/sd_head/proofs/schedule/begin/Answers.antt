@@ -1,6 +1,6 @@
 use Rattle.std.proofs.Common.{◌≡◌, ◌+◌, ◌%◌, ◌^◌, ◌<◌, ℕ, true, refl, sym, subst, eq-eqb, ne_eqb, arith}
 use Rattle.std.proofs.Math.Nat.{div-div-eq-div-mul}
-use Rattle.sd_site.specs.SiteFields.{fields_of}
+use Rattle.sd_site_cards.specs.SiteFields.{fields_of}
 use Rattle.sd_spec.specs.Plan.{crypto_length}
 use Rattle.sd_head.specs.Kept.{plan_of, begins_period, IsBefore, IsOf}
 use Rattle.sd_head.proofs.Starting.{starts, stays, word_begins, begun_at, begins_there, on_err_holds}

@@ -1,7 +1,7 @@
 use Rattle.std.proofs.Common.{◌<◌, ◌^◌}
 use Rattle.std.proofs.lemmas.List.Elements.{All-contains}
-use Rattle.sd_cover.proofs.Paths.{stands_in}
-use Rattle.sd_cover.proofs.Bridge.{counts_in_tree}
+use Rattle.sd_cover_tracing.proofs.Paths.{stands_in}
+use Rattle.sd_cover_tracing.proofs.Bridge.{counts_in_tree}
 use Rattle.sd_law_covers.proofs.covers.counts_tell_the_tree.Goals as goal
 
 pub returns : goal.returns

@@ -1,6 +1,6 @@
 use Rattle.std.proofs.Common.{◌<◌, ◌^◌}
 use Rattle.std.proofs.lemmas.List.Elements.{All-contains}
-use Rattle.sd_cover.proofs.There.{the_cover}
+use Rattle.sd_cover_tracing.proofs.There.{the_cover}
 use Rattle.sd_law_covers.proofs.covers.cover_is_listed.Goals as goal
 
 pub returns : goal.returns

@@ -1,6 +1,6 @@
 use Rattle.std.proofs.Common.{◌^◌, ◌<◌}
 use Rattle.std.proofs.lemmas.List.Elements.{All-contains}
-use Rattle.sd_cover.proofs.Covers.{cover_partition}
+use Rattle.sd_cover_tracing.proofs.Covers.{cover_partition}
 use Rattle.sd_law_covers.proofs.covers.cover_unites.Goals as goal
 
 pub returns : goal.returns

@@ -1,6 +1,6 @@
 use Rattle.std.proofs.Common.{◌^◌, ◌<◌, get_or}
 use Rattle.std.proofs.lemmas.List.Elements.{All-contains, Contains-get_or}
-use Rattle.sd_cover.proofs.Heights.{of_height}
+use Rattle.sd_cover_tracing.proofs.Heights.{of_height}
 use Rattle.sd_law_covers.proofs.covers.sets_are_of_height.Goals as goal
 
 pub returns : goal.returns

@@ -1,4 +1,4 @@
-use Rattle.sd_tree.proofs.Pairs.{given_pairs}
+use Rattle.sd_tree_keys.proofs.Pairs.{given_pairs}
 use Rattle.sd_law_covers.proofs.labels.names_given.Goals as goal
 
 pub returns-clause-pairs : goal.returns-clause-pairs

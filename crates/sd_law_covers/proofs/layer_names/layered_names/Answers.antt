@@ -1,8 +1,8 @@
 use Rattle.std.proofs.Common.{rules, ◌≡◌, List, subst}
 use Rattle.std.specs.Prelude.{All}
-use Rattle.sd_tree.specs.SetNames.{IsOfHeight}
-use Rattle.sd_tree.specs.Names.{given}
-use Rattle.sd_tree.specs.declared.name.Name.{Name}
+use Rattle.sd_tree_keys.specs.SetNames.{IsOfHeight}
+use Rattle.sd_tree_keys.specs.Names.{given}
+use Rattle.sd_tree_keys.specs.declared.name.Name.{Name}
 use Rattle.sd_lsd.specs.LayerNames.{set_of}
 use Rattle.sd_lsd.proofs.Given.{all_of_height}
 use Rattle.sd_law_covers.proofs.layer_names.layered_names.Goals as goal

@@ -1,10 +1,10 @@
 use Rattle.std.proofs.Common.{◌≡◌, ◌<◌, ◌≤◌, sym, ◌∙◌, ⊎_elim, arith, refl}
 use Rattle.std.proofs.lemmas.Bool.{false≢true, cases_lt}
 use Rattle.std.proofs.lemmas.List.Elements.{Contains-get_or}
-use Rattle.sd_tree.specs.declared.name.Name.{Name}
-use Rattle.sd_tree.specs.declared.name.Name.TheVariants.{Whole}
-use Rattle.sd_cover.specs.Reach.{Key, LeadsTo}
-use Rattle.sd_cover.proofs.Reached.{found_is_reached, reached_is_found, none_of_all}
+use Rattle.sd_tree_keys.specs.declared.name.Name.{Name}
+use Rattle.sd_tree_keys.specs.declared.name.Name.TheVariants.{Whole}
+use Rattle.sd_cover_tracing.specs.Reach.{Key, LeadsTo}
+use Rattle.sd_cover_tracing.proofs.Reached.{found_is_reached, reached_is_found, none_of_all}
 use Rattle.sd_law_covers.proofs.reaching.reaches.Goals as goal
 
 pub loop-given-init : goal.loop-given-init

@@ -1,6 +1,6 @@
 use Rattle.std.proofs.Common.{ℕ, ◌<◌, slice_index_or}
-use Rattle.sd_tree.specs.declared.name.Name.TheVariants.{Whole}
-use Rattle.sd_cover.specs.Reach.{Key, LeadsTo}
+use Rattle.sd_tree_keys.specs.declared.name.Name.TheVariants.{Whole}
+use Rattle.sd_cover_tracing.specs.Reach.{Key, LeadsTo}
 use Rattle.sd_law_covers.proofs.reaching.reaches.Given as goal
 
 abbrev pub invariant-loop-given : goal.invariant-loop-given

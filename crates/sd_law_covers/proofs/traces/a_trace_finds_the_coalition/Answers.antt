@@ -1,5 +1,5 @@
-use Rattle.sd_cover.proofs.Inside.{trace_is_coalition}
-use Rattle.sd_cover.proofs.Listed.{trace_new, trace_once}
+use Rattle.sd_cover_tracing.proofs.Inside.{trace_is_coalition}
+use Rattle.sd_cover_tracing.proofs.Listed.{trace_new, trace_once}
 use Rattle.sd_law_covers.proofs.traces.a_trace_finds_the_coalition.Goals as goal
 
 pub returns : goal.returns

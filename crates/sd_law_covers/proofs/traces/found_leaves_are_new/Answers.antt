@@ -1,4 +1,4 @@
-use Rattle.sd_cover.proofs.Anyway.{found_new, found_once, found_cheap}
+use Rattle.sd_cover_tracing.proofs.Anyway.{found_new, found_once, found_cheap}
 use Rattle.sd_law_covers.proofs.traces.found_leaves_are_new.Goals as goal
 
 pub returns : goal.returns

@@ -1,6 +1,6 @@
 use Rattle.std.proofs.Common.{arith}
-use Rattle.sd_keystream.specs.Scrambling.{control_of}
-use Rattle.sd_keystream.proofs.Scramblings.{laid_reads, control_fits}
+use Rattle.sd_cipher.specs.Scrambling.{control_of}
+use Rattle.sd_cipher.proofs.Scramblings.{laid_reads, control_fits}
 use Rattle.sd_law_formats.proofs.keystreams.the_rest_is_read_as_before.Goals as goal
 
 pub returns-clause-scrambled : goal.returns-clause-scrambled

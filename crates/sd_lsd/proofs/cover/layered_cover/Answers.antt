@@ -2,9 +2,9 @@ use Rattle.std.proofs.Common.{rules, ◌≡◌, ◌≤◌, List, subst}
 use Rattle.std.specs.Prelude.{All}
 use Rattle.std.specs.List.{flat_map}
 use Rattle.std.specs.List.Sorted.{IsPermutation}
-use Rattle.sd_cover.proofs.Heights.{cover_of_height}
-use Rattle.sd_tree.specs.SetNames.{IsOfHeight}
-use Rattle.sd_tree.specs.declared.set.SetName.{SetName}
+use Rattle.sd_cover_tracing.proofs.Heights.{cover_of_height}
+use Rattle.sd_tree_keys.specs.SetNames.{IsOfHeight}
+use Rattle.sd_tree_keys.specs.declared.set.SetName.{SetName}
 use Rattle.sd_lsd.specs.Layers.{split_of}
 use Rattle.sd_lsd.proofs.Covers.{made_is_cover}
 use Rattle.sd_lsd.proofs.cover.layered_cover.Goals as goal

@@ -1,7 +1,7 @@
 use Rattle.std.proofs.Common.{rules, ◌≡◌, ◌≤◌, ◌++◌, ◌∙◌, ◌∷◌, [], List, ℕ, map, length, ap, arith}
 use Rattle.std.proofs.lemmas.List.{length-map}
-use Rattle.sd_site.specs.Secrets.{secret_of}
-use Rattle.sd_site.proofs.MadeSecrets.{secrets_first, secrets_more}
+use Rattle.sd_site_cards.specs.Secrets.{secret_of}
+use Rattle.sd_site_cards.proofs.MadeSecrets.{secrets_first, secrets_more}
 use Rattle.sd_lsd.specs.LayerNames.{layer_given, pairs_under}
 use Rattle.sd_lsd.proofs.Given.{useful_under, length_layer_given}
 use Rattle.sd_lsd.proofs.Made.{secrets_all}

@@ -1,5 +1,5 @@
 use Rattle.std.proofs.Common.{◌≡◌, map}
-use Rattle.sd_site.specs.Secrets.{secret_of}
+use Rattle.sd_site_cards.specs.Secrets.{secret_of}
 use Rattle.sd_lsd.proofs.Given.{layer_first}
 use Rattle.sd_lsd.proofs.make.secrets.Given as goal
 

@@ -1,5 +1,5 @@
 use Rattle.std.proofs.Common.{take}
-use Rattle.sd_tree.specs.SetNames.{AreAscending}
+use Rattle.sd_tree_keys.specs.SetNames.{AreAscending}
 use Rattle.sd_message.specs.EmmSpelled.{names_in}
 use Rattle.sd_message.proofs.emm_order.are_ascending.Given as goal
 

@@ -3,7 +3,7 @@ use Rattle.std.specs.List.{range_with_len}
 use Rattle.std.specs.Option.{option_map}
 use Rattle.sd_book.specs.Commands.{last_period, revoked}
 use Rattle.sd_spec.specs.Plan.{Plan}
-use Rattle.sd_site.specs.SiteFields.{fields_of}
+use Rattle.sd_site_cards.specs.SiteFields.{fields_of}
 use Rattle.sd_command_base.specs.declared.status.Clash.TheVariants.{Books}
 use Rattle.sd_run_books.specs.Apart.{books_clash, clash_in, first_of, first_shared, shared_count}
 use Rattle.sd_run_books.proofs.Agreeing.{clash_is, first_found, none_more}

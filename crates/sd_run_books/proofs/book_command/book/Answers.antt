@@ -1,6 +1,6 @@
 use Rattle.std.proofs.Common.{◌≡◌, ℕ, Ok, Err, refl, subst}
 use Rattle.std.proofs.lemmas.Result.{err_from_is_err_and}
-use Rattle.sd_site.specs.SiteFields.{fields_of}
+use Rattle.sd_site_cards.specs.SiteFields.{fields_of}
 use Rattle.sd_book.specs.Text.{text_of}
 use Rattle.sd_book.specs.Value.{BookValue}
 use Rattle.sd_command_base.specs.declared.status.Status.TheVariants.{NoMemory}

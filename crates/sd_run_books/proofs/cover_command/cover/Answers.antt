@@ -1,6 +1,6 @@
 use Rattle.std.proofs.Common.{ℕ, ap, refl, sym}
 use Rattle.std.proofs.lemmas.Result.{err_from_is_err_and}
-use Rattle.sd_site.specs.SiteFields.{fields_of}
+use Rattle.sd_site_cards.specs.SiteFields.{fields_of}
 use Rattle.sd_command_base.specs.Outside.{depot_state, page_state}
 use Rattle.sd_command_base.specs.Work.{Work}
 use Rattle.sd_command_base.specs.Outcome.{status_of}

@@ -1,6 +1,6 @@
 use Rattle.std.proofs.Common.{inl, subst, ℕ, List}
 use Rattle.std.proofs.lemmas.Result.{err_from_is_err_and}
-use Rattle.sd_site.specs.SiteFields.{fields_of}
+use Rattle.sd_site_cards.specs.SiteFields.{fields_of}
 use Rattle.sd_lsd.specs.Fields.{layer_card_of, layer_bytes}
 use Rattle.sd_command_base.specs.Outside.{depot_state, outside}
 use Rattle.sd_command_base.specs.Work.{Uncounted}

@@ -1,7 +1,7 @@
 use Rattle.std.proofs.Common.{List, ℕ}
 use Rattle.std.proofs.lemmas.Result.{err_from_is_err_and}
-use Rattle.sd_site.specs.SiteFields.{fields_of}
-use Rattle.sd_site.specs.Written.{fewer_taken, newest_of}
+use Rattle.sd_site_cards.specs.SiteFields.{fields_of}
+use Rattle.sd_site_cards.specs.Written.{fewer_taken, newest_of}
 use Rattle.sd_command_base.specs.declared.status.LimitKind.TheVariants.{SiteBytes}
 use Rattle.sd_command_base.specs.Outside.{depot_state}
 use Rattle.sd_command_base.specs.Spec.{within, judged}

@@ -1,7 +1,7 @@
 use Rattle.std.proofs.Common.{◌-◌, ap, refl, List}
 use Rattle.std.proofs.lemmas.Result.{err_from_is_err_and}
-use Rattle.sd_site.specs.Written.{is_first}
-use Rattle.sd_site.specs.Chain.{most_word}
+use Rattle.sd_site_cards.specs.Written.{is_first}
+use Rattle.sd_site_cards.specs.Chain.{most_word}
 use Rattle.sd_book.specs.declared.command.Command.{Command}
 use Rattle.sd_command_base.specs.Outside.{depot_state}
 use Rattle.sd_command_base.specs.Spec.{value, ◌>>=◌}

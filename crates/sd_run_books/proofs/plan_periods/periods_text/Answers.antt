@@ -1,6 +1,6 @@
 use Rattle.std.proofs.Common.{◌≤◌, ◌-◌, ◌∙◌, arith, refl, string_bytes}
 use Rattle.sd_book.specs.Commands.{last_period}
-use Rattle.sd_site.specs.SiteFields.{fields_of}
+use Rattle.sd_site_cards.specs.SiteFields.{fields_of}
 use Rattle.sd_spec.specs.Plan.{Plan}
 use Rattle.sd_run_books.proofs.Counting.{one_more, tables_more, text_more}
 use Rattle.sd_run_books.proofs.plan_periods.periods_text.Goals as goal

@@ -2,7 +2,7 @@ use Rattle.std.proofs.Common.{◌≡◌, ◌+◌, ◌*◌, ◌≤◌, ◌^◌, m
 use Rattle.std.specs.List.{concat, range_with_len, sum_by}
 use Rattle.sd_book.specs.Commands.{last_period}
 use Rattle.sd_spec.specs.Plan.{Plan}
-use Rattle.sd_site.specs.SiteFields.{fields_of}
+use Rattle.sd_site_cards.specs.SiteFields.{fields_of}
 use Rattle.sd_run_books.specs.Air.{line_at, tables_in}
 use Rattle.sd_run_books.proofs.plan_periods.periods_text.Given as goal
 

@@ -1,5 +1,5 @@
 use Rattle.std.proofs.Common.{string_bytes}
-use Rattle.sd_site.specs.CardFields.{card_fields_of}
+use Rattle.sd_site_cards.specs.CardFields.{card_fields_of}
 use Rattle.sd_command_base.proofs.CardFaults.{card_refused}
 use Rattle.sd_run_books.specs.Show.{card_line, told_show}
 use Rattle.sd_run_books.proofs.ShownCards.{has_key, line_read}

@@ -2,7 +2,7 @@ use Rattle.std.proofs.Common.{◌≡◌, ◌≤◌, ◌+◌, ◌-◌, ◌++◌, 
 use Rattle.std.specs.Prelude.{filter, flat_map}
 use Rattle.std.specs.List.{range_with_len}
 use Rattle.sd_book.specs.Commands.{last_period}
-use Rattle.sd_site.specs.SiteFields.{fields_of}
+use Rattle.sd_site_cards.specs.SiteFields.{fields_of}
 use Rattle.sd_run_books.specs.Status.{change_periods, entitled_line, is_change, is_entitled, master_line, status_text}
 use Rattle.sd_run_books.proofs.StatusLines.{before_more, now_is, text_more}
 use Rattle.sd_run_books.proofs.status_lines.status_text.Goals as goal

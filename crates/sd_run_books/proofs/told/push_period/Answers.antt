@@ -1,5 +1,5 @@
 use Rattle.std.proofs.Common.{◌^◌, ap, string_bytes, length}
-use Rattle.sd_site.specs.SiteFields.{fields_of}
+use Rattle.sd_site_cards.specs.SiteFields.{fields_of}
 use Rattle.sd_book.specs.Commands.{is_revoked}
 use Rattle.sd_run_books.specs.Told.{change_text}
 use Rattle.sd_run_books.proofs.ToldPeriods.{told_more}

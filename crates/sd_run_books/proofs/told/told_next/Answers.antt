@@ -2,7 +2,7 @@ use Rattle.std.proofs.Common.{◌≡◌, ◌≤◌, ◌+◌, ◌-◌, ◌∙◌,
 use Rattle.std.specs.Prelude.{flat_map}
 use Rattle.std.specs.List.{range_with_len}
 use Rattle.sd_book.specs.Commands.{last_period}
-use Rattle.sd_site.specs.SiteFields.{fields_of}
+use Rattle.sd_site_cards.specs.SiteFields.{fields_of}
 use Rattle.sd_run_books.specs.Told.{told_at, told_next}
 use Rattle.sd_run_books.proofs.ToldPeriods.{before_more, text_more}
 use Rattle.sd_run_books.proofs.told.told_next.Goals as goal

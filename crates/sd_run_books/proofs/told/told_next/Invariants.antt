@@ -2,7 +2,7 @@ use Rattle.std.proofs.Common.{◌≡◌, ◌+◌, ◌≤◌, min, string_bytes}
 use Rattle.std.specs.Prelude.{flat_map}
 use Rattle.std.specs.List.{range_with_len}
 use Rattle.sd_book.specs.Commands.{last_period, revoked_after}
-use Rattle.sd_site.specs.SiteFields.{fields_of}
+use Rattle.sd_site_cards.specs.SiteFields.{fields_of}
 use Rattle.sd_run_books.specs.Told.{commands_before, told_at}
 use Rattle.sd_run_books.proofs.told.told_next.Given as goal
 

@@ -1,8 +1,8 @@
 use Rattle.std.proofs.Common.{[], ap, refl, List, ℕ, subst, ◌∙◌}
 use Rattle.std.proofs.lemmas.Result.{err_from_is_err_and}
-use Rattle.sd_site.specs.SiteFields.{SiteFields, fields_of}
-use Rattle.sd_site.specs.Written.{site_text}
-use Rattle.sd_site.specs.Chain.{twin_site}
+use Rattle.sd_site_cards.specs.SiteFields.{SiteFields, fields_of}
+use Rattle.sd_site_cards.specs.Written.{site_text}
+use Rattle.sd_site_cards.specs.Chain.{twin_site}
 use Rattle.sd_command_base.specs.declared.status.Status.TheVariants.{NoMemory}
 use Rattle.sd_command_base.specs.Outside.{depot_state, outside}
 use Rattle.sd_command_base.specs.Outcome.{status_of}

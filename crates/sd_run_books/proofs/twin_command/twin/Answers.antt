@@ -1,9 +1,9 @@
 use Rattle.std.proofs.Common.{Ok, Err, Option}
 use Rattle.std.proofs.lemmas.Result.{err_from_is_err_and}
-use Rattle.sd_site.specs.Written.{none_fewer}
-use Rattle.sd_site.specs.declared.site.Site.{Site}
-use Rattle.sd_site.specs.declared.book_line.BookLine.{BookLine}
-use Rattle.sd_site.specs.Chain.{most_word}
+use Rattle.sd_site_cards.specs.Written.{none_fewer}
+use Rattle.sd_site_cards.specs.declared.site.Site.{Site}
+use Rattle.sd_site_cards.specs.declared.book_line.BookLine.{BookLine}
+use Rattle.sd_site_cards.specs.Chain.{most_word}
 use Rattle.sd_command_base.specs.Outside.{depot_state, outside}
 use Rattle.sd_command_base.specs.Outcome.{status_of}
 use Rattle.sd_command_base.specs.Spec.{◌>>=◌}

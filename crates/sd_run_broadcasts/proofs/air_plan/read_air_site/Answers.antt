@@ -1,5 +1,5 @@
 use Rattle.std.proofs.lemmas.Result.{err_from_is_err_and}
-use Rattle.sd_site.specs.Written.{newest_of, none_fewer}
+use Rattle.sd_site_cards.specs.Written.{newest_of, none_fewer}
 use Rattle.sd_command_base.specs.declared.status.LimitKind.TheVariants.{SiteBytes}
 use Rattle.sd_command_base.specs.Outside.{depot_state}
 use Rattle.sd_command_base.specs.Spec.{within, judged}

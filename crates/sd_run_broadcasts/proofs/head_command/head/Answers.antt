@@ -1,6 +1,6 @@
 use Rattle.std.proofs.Common.{refl, sym, subst, Some, []}
 use Rattle.std.proofs.lemmas.Result.{err_from_is_err_and}
-use Rattle.sd_site.specs.SiteFields.{fields_of}
+use Rattle.sd_site_cards.specs.SiteFields.{fields_of}
 use Rattle.sd_ports.proofs.Outlets.{there_after}
 use Rattle.sd_spec.specs.Plan.{Plan}
 use Rattle.sd_head.specs.Staged.{IsAfter}

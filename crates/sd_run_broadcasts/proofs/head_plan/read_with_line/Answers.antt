@@ -1,7 +1,7 @@
 use Rattle.std.proofs.Common.{Ok, Err}
 use Rattle.std.proofs.lemmas.Result.{err_from_is_err_and}
-use Rattle.sd_site.specs.SiteFields.{fields_of}
-use Rattle.sd_site.specs.Text.{book_line_of, site_of}
+use Rattle.sd_site_cards.specs.SiteFields.{fields_of}
+use Rattle.sd_site_cards.specs.Text.{book_line_of, site_of}
 use Rattle.sd_command_base.specs.declared.status.LimitKind.TheVariants.{SiteBytes}
 use Rattle.sd_command_base.specs.Outside.{depot_state}
 use Rattle.sd_command_base.specs.Shown.{shown_word}

@@ -1,6 +1,6 @@
 use Rattle.std.proofs.Common.{◌≡◌, ◌^◌, ◌/◌, ℕ, List, [], length, string_bytes, arith}
 use Rattle.std.proofs.lemmas.Result.{err_from_is_err_and}
-use Rattle.sd_site.specs.SiteFields.{fields_of}
+use Rattle.sd_site_cards.specs.SiteFields.{fields_of}
 use Rattle.sd_run_broadcasts.specs.Trial.{clear_line}
 use Rattle.sd_run_broadcasts.proofs.Trying.{first_text, next_line, line_stopped}
 use Rattle.sd_run_broadcasts.proofs.trial_lines.lines.Goals as goal

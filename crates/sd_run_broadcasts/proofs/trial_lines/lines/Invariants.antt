@@ -1,5 +1,5 @@
 use Rattle.std.proofs.Common.{◌≡◌, ◌/◌, length, Ok, string_bytes}
-use Rattle.sd_site.specs.SiteFields.{fields_of}
+use Rattle.sd_site_cards.specs.SiteFields.{fields_of}
 use Rattle.sd_run_broadcasts.specs.Trial.{clear_line, lines_to}
 use Rattle.sd_run_broadcasts.proofs.trial_lines.lines.Given as goal
 

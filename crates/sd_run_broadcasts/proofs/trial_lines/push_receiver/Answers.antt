@@ -1,6 +1,6 @@
 use Rattle.std.proofs.Common.{ap, ◌∙◌}
-use Rattle.sd_site.specs.SiteFields.{fields_of}
-use Rattle.sd_site.specs.CardFields.{card_of, card_fields_of}
+use Rattle.sd_site_cards.specs.SiteFields.{fields_of}
+use Rattle.sd_site_cards.specs.CardFields.{card_of, card_fields_of}
 use Rattle.sd_receive.specs.Receiving.{card_in}
 use Rattle.sd_run_broadcasts.proofs.Trying.{heard_as}
 use Rattle.sd_run_broadcasts.proofs.trial_lines.push_receiver.Goals as goal

@@ -1,6 +1,6 @@
 use Rattle.std.proofs.Common.{sym, ap, ◌∙◌, Ok}
-use Rattle.sd_site.specs.declared.card.Card.{Card}
-use Rattle.sd_site.specs.CardFields.{card_fields_of}
+use Rattle.sd_site_cards.specs.declared.card.Card.{Card}
+use Rattle.sd_site_cards.specs.CardFields.{card_fields_of}
 use Rattle.sd_command_base.proofs.CardFaults.{card_refused}
 use Rattle.sd_run_broadcasts.specs.Receive.{card_said, told_card}
 use Rattle.sd_run_broadcasts.proofs.Cards.{card_read}

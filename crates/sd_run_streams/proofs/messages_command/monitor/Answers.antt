@@ -1,4 +1,4 @@
-use Rattle.sd_site.specs.SiteFields.{fields_of}
+use Rattle.sd_site_cards.specs.SiteFields.{fields_of}
 use Rattle.sd_command_base.specs.Outcome.{status_of}
 use Rattle.sd_run_streams.proofs.Inspected.{read_caused}
 use Rattle.sd_run_streams.proofs.Monitored.{is_monitored}

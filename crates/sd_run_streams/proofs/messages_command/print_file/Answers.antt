@@ -1,7 +1,7 @@
 use Rattle.std.proofs.Common.{refl, ◌∙◌, ◌≡◌, arith}
 use Rattle.sd_ports.proofs.Calls.{twice_called, open_as_before}
 use Rattle.sd_engine.specs.Taken.{end_of}
-use Rattle.sd_site.specs.SiteFields.{fields_of}
+use Rattle.sd_site_cards.specs.SiteFields.{fields_of}
 use Rattle.sd_command_base.specs.Outside.{depot_state, page_state}
 use Rattle.sd_command_base.specs.Spec.{all_of, value}
 use Rattle.sd_command_base.specs.Outcome.{status_of}

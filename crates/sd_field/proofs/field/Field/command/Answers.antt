@@ -1,6 +1,6 @@
 use Rattle.std.proofs.Common.{◌∙◌, ap, sym, subst}
 use Rattle.std.specs.Prelude.{IfSome, IsSome}
-use Rattle.sd_site.specs.SiteFields.{fields_of}
+use Rattle.sd_site_cards.specs.SiteFields.{fields_of}
 use Rattle.sd_field.specs.Fields.{FieldValue, IsCommand, next_event}
 use Rattle.sd_field.proofs.Fields.{field_commanded}
 use Rattle.sd_field.proofs.field.Field.command.Goals as goal

@@ -3,7 +3,7 @@ use Rattle.std.specs.Prelude.{get_or, slice_get, Some}
 use Rattle.std.proofs.lemmas.List.{get_or_default}
 use Rattle.std.proofs.lemmas.Option.{slice_get-get_or}
 use Rattle.sd_engine.specs.Stream.{packets_of}
-use Rattle.sd_site.specs.SiteFields.{fields_of}
+use Rattle.sd_site_cards.specs.SiteFields.{fields_of}
 use Rattle.sd_spec.specs.declared.event.Event.TheVariants.{Lose}
 use Rattle.sd_spec.specs.Watch.{watched}
 use Rattle.sd_field.specs.Seats.{IsSeated}

@@ -1,6 +1,6 @@
 use Rattle.std.proofs.Common.{arith, ◌≡◌, ◌∙◌, ◌*◌, [], ℕ, List, None, ap, length, refl, subst}
 use Rattle.std.specs.Prelude.{reverse}
-use Rattle.sd_site.specs.SiteFields.{SiteFields, fields_of}
+use Rattle.sd_site_cards.specs.SiteFields.{SiteFields, fields_of}
 use Rattle.sd_book.specs.declared.command.Command.{Command}
 use Rattle.sd_spec.specs.Plan.{Plan}
 use Rattle.sd_spec.specs.declared.event.Event.{Event}

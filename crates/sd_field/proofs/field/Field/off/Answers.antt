@@ -2,7 +2,7 @@ use Rattle.std.proofs.Common.{◌≡◌, ◌∙◌, ◌*◌, ◌<◌, ◌^◌, �
 use Rattle.std.specs.Prelude.{get_or, slice_get, Some}
 use Rattle.std.proofs.lemmas.List.{get_or_default}
 use Rattle.sd_engine.specs.Stream.{packets_of}
-use Rattle.sd_site.specs.SiteFields.{fields_of}
+use Rattle.sd_site_cards.specs.SiteFields.{fields_of}
 use Rattle.sd_spec.specs.declared.event.Event.TheVariants.{Off}
 use Rattle.sd_field.specs.Seats.{IsSeated}
 use Rattle.sd_field.specs.Fields.{FieldValue, card_at, plan_in, taken, watch_of}

@@ -4,7 +4,7 @@ use Rattle.std.specs.List.{concat}
 use Rattle.std.proofs.lemmas.List.{get_or_default}
 use Rattle.std.proofs.lemmas.Option.{slice_get-get_or}
 use Rattle.sd_engine.specs.Stream.{packets_of}
-use Rattle.sd_site.specs.SiteFields.{fields_of}
+use Rattle.sd_site_cards.specs.SiteFields.{fields_of}
 use Rattle.sd_spec.specs.declared.event.Event.TheVariants.{Offer}
 use Rattle.sd_spec.specs.Watch.{stream, watched, written}
 use Rattle.sd_field.specs.Seats.{IsSeated}

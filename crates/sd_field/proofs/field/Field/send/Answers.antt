@@ -3,7 +3,7 @@ use Rattle.std.proofs.Common.{Err, None, Some}
 use Rattle.std.specs.Prelude.{get_or, slice_get}
 use Rattle.std.proofs.lemmas.List.{length-take-le}
 use Rattle.std.proofs.lemmas.Option.{get_or_from_slice_get, slice_get_read, slice_get_within}
-use Rattle.sd_site.specs.SiteFields.{fields_of}
+use Rattle.sd_site_cards.specs.SiteFields.{fields_of}
 use Rattle.sd_spec.specs.Refused.{refusal_of}
 use Rattle.sd_spec.specs.declared.event.Event.TheVariants.{Send}
 use Rattle.sd_field.specs.Stations.{IsStation}

@@ -1,5 +1,5 @@
 use Rattle.std.proofs.Common.{arith, ◌≡◌, ◌∙◌, ◌<◌, ◌≤◌, ◌++◌, ◌∷◌, [], ℕ, List, OnOk, ap, sym, subst}
-use Rattle.sd_site.specs.SiteFields.{fields_of}
+use Rattle.sd_site_cards.specs.SiteFields.{fields_of}
 use Rattle.sd_book.specs.Limits.{IsDraft, IsWithinLimits}
 use Rattle.sd_book.specs.declared.command.Command.{Command}
 use Rattle.sd_book.proofs.Judged.{within_is_draft}

@@ -1,4 +1,4 @@
-use Rattle.sd_site.specs.CardFields.{card_of}
+use Rattle.sd_site_cards.specs.CardFields.{card_of}
 use Rattle.sd_field.proofs.Seats.{first_seat}
 use Rattle.sd_field.proofs.seat.Seat.new.Goals as goal
 

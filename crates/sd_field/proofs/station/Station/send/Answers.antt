@@ -1,5 +1,5 @@
 use Rattle.std.proofs.Common.{◌≡◌, ◌+◌, Err, Some, ap, refl, inl, inr, ◌∙◌}
-use Rattle.sd_psi.specs.declared.clear_fault.ClearFault.{ClearFault}
+use Rattle.sd_message.specs.declared.clear_fault.ClearFault.{ClearFault}
 use Rattle.sd_engine.specs.declared.stage.StageFault.TheVariants.{Refused}
 use Rattle.sd_head.specs.declared.fault.HeadFault.TheVariants as head
 use Rattle.sd_field.proofs.Stations.{head_after, never_short, none_sent, station_allowed, station_due, station_full}

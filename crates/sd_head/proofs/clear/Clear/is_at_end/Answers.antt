@@ -1,6 +1,6 @@
 use Rattle.std.proofs.Common.{◌-◌, ◌^◌, ◌∙◌, nat_le, ap₂, ne_eqb, arith}
 use Rattle.std.proofs.Math.Nat.{mul-pos}
-use Rattle.sd_site.specs.SiteFields.{fields_of}
+use Rattle.sd_site_cards.specs.SiteFields.{fields_of}
 use Rattle.sd_head.proofs.Refusing.{words_used}
 use Rattle.sd_head.proofs.clear.Clear.is_at_end.Goals as goal
 

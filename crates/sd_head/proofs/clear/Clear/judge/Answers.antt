@@ -1,9 +1,9 @@
 use Rattle.std.proofs.Common.{◌≡◌, ◌==◌, true, false, sym, ◌∙◌, ap}
 use Rattle.std.proofs.Common.{eq-eqb, ne_eqb}
 use Rattle.sd_packet.specs.Header.{pid_of, scrambling_of}
-use Rattle.sd_site.specs.SiteFields.{fields_of}
+use Rattle.sd_site_cards.specs.SiteFields.{fields_of}
 use Rattle.sd_spec.specs.Refused.{is_reserved_pid}
-use Rattle.sd_psi.specs.declared.clear_fault.ClearFault.TheVariants.{AlreadyScrambled, PidTaken}
+use Rattle.sd_message.specs.declared.clear_fault.ClearFault.TheVariants.{AlreadyScrambled, PidTaken}
 use Rattle.sd_head.proofs.Judging.{refused}
 use Rattle.sd_head.proofs.Refusing.{scrambled_refused, taken_refused}
 use Rattle.sd_head.proofs.clear.Clear.judge.Goals as goal

@@ -1,5 +1,5 @@
 use Rattle.std.proofs.Common.{◌∙◌, sym}
-use Rattle.sd_site.specs.SiteFields.{fields_of}
+use Rattle.sd_site_cards.specs.SiteFields.{fields_of}
 use Rattle.sd_head.proofs.Judging.{bad_pat_refused, long_refused, passed_judged}
 use Rattle.sd_head.proofs.clear.Clear.judge_passed.Goals as goal
 

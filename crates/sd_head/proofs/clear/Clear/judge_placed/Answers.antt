@@ -1,5 +1,5 @@
 use Rattle.std.proofs.Common.{ℕ, get_or, false, ◌∙◌, sym, ap}
-use Rattle.sd_site.specs.SiteFields.{fields_of}
+use Rattle.sd_site_cards.specs.SiteFields.{fields_of}
 use Rattle.sd_head.proofs.Judging.{scrambled_judged, scrambled_refused_by}
 use Rattle.sd_head.proofs.clear.Clear.judge_placed.Goals as goal
 

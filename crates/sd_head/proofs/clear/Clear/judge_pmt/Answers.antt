@@ -1,5 +1,5 @@
 use Rattle.std.proofs.Common.{◌∙◌, sym}
-use Rattle.sd_site.specs.SiteFields.{fields_of}
+use Rattle.sd_site_cards.specs.SiteFields.{fields_of}
 use Rattle.sd_head.proofs.Judging.{pmt_judged, pmt_refused_by, full_pmt_refused}
 use Rattle.sd_head.proofs.clear.Clear.judge_pmt.Goals as goal
 

@@ -1,5 +1,5 @@
 use Rattle.std.proofs.Common.{List, refl, sym, subst, ap}
-use Rattle.sd_site.specs.SiteFields.{fields_of}
+use Rattle.sd_site_cards.specs.SiteFields.{fields_of}
 use Rattle.sd_spec.specs.Sent.{Item}
 use Rattle.sd_head.specs.Kept.{plan_of}
 use Rattle.sd_head.specs.Items.{HasSent}

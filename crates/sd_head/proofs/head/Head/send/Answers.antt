@@ -1,7 +1,7 @@
 use Rattle.std.proofs.Common.{◌∙◌, ◌++◌, ◌+◌, ◌%◌, ◌==◌, ℕ, length, refl, sym, ap, subst, arith}
 use Rattle.std.specs.Prelude.{map, if◌then◌else◌}
-use Rattle.sd_tree.specs.Keys.{control_word_of}
-use Rattle.sd_site.specs.SiteFields.{fields_of}
+use Rattle.sd_tree_keys.specs.Keys.{control_word_of}
+use Rattle.sd_site_cards.specs.SiteFields.{fields_of}
 use Rattle.sd_spec.specs.Plan.{crypto_length, crypto_of}
 use Rattle.sd_head.specs.declared.crypto.CryptoPeriod.{CryptoPeriod}
 use Rattle.sd_head.specs.Kept.{uncounted, IsOf}

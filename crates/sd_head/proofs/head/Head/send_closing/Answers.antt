@@ -1,6 +1,6 @@
 use Rattle.std.proofs.Common.{◌∙◌, ◌++◌, ◌-◌, ◌==◌, ℕ, true, sym, ap, subst, arith}
 use Rattle.std.specs.Prelude.{map, Some}
-use Rattle.sd_site.specs.SiteFields.{fields_of}
+use Rattle.sd_site_cards.specs.SiteFields.{fields_of}
 use Rattle.sd_spec.specs.Plan.{closing_number, crypto_of}
 use Rattle.sd_head.specs.Kept.{uncounted, IsOf}
 use Rattle.sd_head.specs.Lending.{with_emms}

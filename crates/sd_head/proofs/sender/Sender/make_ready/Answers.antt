@@ -1,5 +1,5 @@
 use Rattle.std.proofs.Common.{arith}
-use Rattle.sd_site.specs.SiteFields.{fields_of}
+use Rattle.sd_site_cards.specs.SiteFields.{fields_of}
 use Rattle.sd_head.proofs.Telling.{may_be_sent}
 use Rattle.sd_head.proofs.sender.Sender.make_ready.Goals as goal
 

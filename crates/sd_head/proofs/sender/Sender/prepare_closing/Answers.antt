@@ -1,5 +1,5 @@
 use Rattle.std.proofs.Common.{◌∙◌, ◌+◌, ◌-◌, ◌/◌, ℕ, true, ap, arith}
-use Rattle.sd_site.specs.SiteFields.{fields_of}
+use Rattle.sd_site_cards.specs.SiteFields.{fields_of}
 use Rattle.sd_head.specs.Messages.{head_of}
 use Rattle.sd_head.proofs.Sends.{rounded_up}
 use Rattle.sd_head.proofs.sender.Sender.prepare_closing.Goals as goal

@@ -1,5 +1,5 @@
 use Rattle.std.proofs.Common.{◌∙◌, sym, arith, ◌≤◌}
-use Rattle.sd_site.specs.CardFields.{card_fields_of}
+use Rattle.sd_site_cards.specs.CardFields.{card_fields_of}
 use Rattle.sd_spec.specs.Stretches.{current}
 use Rattle.sd_spec.specs.Keys.{key_from}
 use Rattle.sd_receive.specs.PeriodKeys.{key_kept}

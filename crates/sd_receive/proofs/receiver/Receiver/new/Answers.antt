@@ -1,5 +1,5 @@
 use Rattle.std.proofs.Common.{[], refl}
-use Rattle.sd_site.specs.CardFields.{card_fields_of}
+use Rattle.sd_site_cards.specs.CardFields.{card_fields_of}
 use Rattle.sd_receive.proofs.Receiving.{first_after}
 use Rattle.sd_receive.proofs.receiver.Receiver.new.Goals as goal
 

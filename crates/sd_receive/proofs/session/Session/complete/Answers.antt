@@ -1,6 +1,6 @@
 use Rattle.std.proofs.Common.{◌∙◌, subst, sym, List, ℕ}
 use Rattle.std.specs.Prelude.{Option}
-use Rattle.sd_site.specs.CardFields.{card_fields_of}
+use Rattle.sd_site_cards.specs.CardFields.{card_fields_of}
 use Rattle.sd_engine.specs.Stage.{vessel}
 use Rattle.sd_receive.specs.Session.{IsWordOf}
 use Rattle.sd_receive.proofs.Strays.{word_first, word_not_first}

@@ -1,6 +1,6 @@
 use Rattle.std.proofs.Common.{◌≡◌, ◌∙◌, inl, inr, refl, sym, subst, true, List}
 use Rattle.std.specs.Prelude.{None, Ok}
-use Rattle.sd_site.specs.CardFields.{card_fields_of}
+use Rattle.sd_site_cards.specs.CardFields.{card_fields_of}
 use Rattle.sd_engine.specs.Stage.{vessel}
 use Rattle.sd_message.specs.declared.stream_fault.StreamFault.TheVariants.{BadEcm}
 use Rattle.sd_spec.specs.Heard.{Heard, Controls}

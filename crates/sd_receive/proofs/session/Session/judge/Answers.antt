@@ -1,6 +1,6 @@
 use Rattle.std.proofs.Common.{◌+◌, ◌≤◌, [], Bool, sym, subst}
 use Rattle.std.specs.Prelude.{if◌then◌else◌}
-use Rattle.sd_site.specs.CardFields.{card_fields_of}
+use Rattle.sd_site_cards.specs.CardFields.{card_fields_of}
 use Rattle.sd_receive.specs.Filter.{heard_as}
 use Rattle.sd_receive.specs.Session.{heard_of_run, Judgement}
 use Rattle.sd_receive.specs.Receiving.{takes_key_of}

@@ -1,5 +1,5 @@
 use Rattle.std.proofs.Common.{refl, ap, sym, subst, true, []}
-use Rattle.sd_site.specs.CardFields.{card_fields_of}
+use Rattle.sd_site_cards.specs.CardFields.{card_fields_of}
 use Rattle.sd_engine.specs.Stage.{vessel}
 use Rattle.sd_spec.specs.Heard.{Heard}
 use Rattle.sd_receive.specs.declared.filter.kind.PacketKind.{PacketKind as Kept}

@@ -1,7 +1,7 @@
 use Rattle.std.proofs.Common.{◌≡◌, refl, ap, subst, arith, ℕ}
 use Rattle.std.specs.Prelude.{Err}
 use Rattle.sd_base.specs.Count.{with_added}
-use Rattle.sd_site.specs.CardFields.{card_fields_of}
+use Rattle.sd_site_cards.specs.CardFields.{card_fields_of}
 use Rattle.sd_engine.specs.Stage.{vessel}
 use Rattle.sd_receive.specs.Writing.{WriteOutcome}
 use Rattle.sd_receive.specs.declared.buffer.BufferFault.{BufferFault}

@@ -2,7 +2,7 @@ use Rattle.std.proofs.Common.{◌≡◌, ◌==◌, ℕ, List, [], ◌∷◌, tru
 use Rattle.std.specs.Prelude.{Ok}
 use Rattle.std.proofs.lemmas.Bool.{ne_eqb}
 use Rattle.sd_packet.specs.Header.{pid_of, scrambling_of}
-use Rattle.sd_keystream.specs.Scrambling.{descrambled}
+use Rattle.sd_cipher.specs.Scrambling.{descrambled}
 use Rattle.sd_spec.specs.Confirmed.{is_foreign, is_confirmed, unmarked}
 use Rattle.sd_receive.specs.Writing.{segment_in, segment_of}
 use Rattle.sd_receive.proofs.HoldJudging.{confirmed_short, judged_clear, judged_far, judged_near, judged_foreign}

@@ -1,5 +1,0 @@
-use Rattle.sd_cover.specs.Halves.{cuts_left}
-use Rattle.sd_cover.proofs.narrow.+narrow.Given as goal
-
-abbrev pub decreases-narrow : goal.decreases-narrow
-decreases-narrow g l = cuts_left l.h l.name

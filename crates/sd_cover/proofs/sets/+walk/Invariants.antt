@@ -1,4 +1,0 @@
-use Rattle.sd_cover.proofs.sets.+walk.Given as goal
-
-abbrev pub decreases-walk : goal.decreases-walk
-decreases-walk g l = l.level

@@ -1,5 +1,0 @@
-use Rattle.std.proofs.Common.{rules}
-use Rattle.sd_keystream.proofs.keystream.generator.Goals as goal
-
-pub returns : goal.returns
-returns c = search rules

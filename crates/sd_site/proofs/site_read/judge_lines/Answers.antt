@@ -1,7 +1,0 @@
-use Rattle.std.proofs.Common.{rules}
-use Rattle.sd_site.specs.Text.{said_on}
-use Rattle.sd_site.proofs.site_read.judge_lines.Goals as goal
-
-pub returns : goal.returns
-unfolding said_on
-returns c = search rules
