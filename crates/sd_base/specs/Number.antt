@@ -24,6 +24,6 @@ abbrev pub decimal_after : List ℕ → List ℕ → Option ℕ
 decimal_after word line = option_and_then decimal_value (rest_after word line)
 
 -- that number as a reader of 32 bits gives it
-abbrev pub fitting : Option ℕ → Result ℕ NumberFault
-fitting None = Err Malformed
-fitting (Some n) = if nat_lt n (2 ^ 32) then Ok n else Err TooLarge
+abbrev pub fitting_u32 : Option ℕ → Result ℕ NumberFault
+fitting_u32 None = Err Malformed
+fitting_u32 (Some n) = if nat_lt n (2 ^ 32) then Ok n else Err TooLarge

@@ -3,7 +3,7 @@ ghost use Rattle.std.specs.Char.{is_ascii_digit};
 ghost use Rattle.std.specs.List.{list_all};
 ghost use Rattle.std.specs.Str.{all_ascii_digits};
 ghost use Rattle.std.specs.Str.Parse.{digits_value};
-ghost use Rattle.sd_base.specs.Number.{decimal_after, decimal_value, fitting, is_decimal};
+ghost use Rattle.sd_base.specs.Number.{decimal_after, decimal_value, fitting_u32, is_decimal};
 
 /// Why a line has no number of 32 bits.
 #[derive(Clone, Copy, PartialEq, Eq)]
@@ -17,7 +17,7 @@ pub enum NumberFault {
 /// The number on a line that is the word and a decimal, and nothing else.
 #[tactic(auto, unfolding(crate::specs::Number::rest_after))]
 pub fn number_after(word: &[u8], line: &[u8]) -> Result<u32, NumberFault>
-    ensures { result ≡ fitting (decimal_after word.now line.now) }
+    ensures { result ≡ fitting_u32 (decimal_after word.now line.now) }
 {
     let digits = line.strip_prefix(word).ok_or(NumberFault::Malformed)?;
     decimal(digits)
@@ -26,7 +26,7 @@ pub fn number_after(word: &[u8], line: &[u8]) -> Result<u32, NumberFault>
 /// The number that a decimal says.
 #[tactic(auto, unfolding(crate::specs::Number::decimal_value))]
 fn decimal(text: &[u8]) -> Result<u32, NumberFault>
-    ensures { result ≡ fitting (decimal_value text.now) }
+    ensures { result ≡ fitting_u32 (decimal_value text.now) }
 {
     if is_decimal(text) {
         value(text)
@@ -51,7 +51,7 @@ fn is_digits(text: &[u8]) -> bool
 #[tactic(auto, using(crate::proofs::Digits::digit_within, crate::proofs::Digits::value_more, crate::proofs::Digits::value_at_least))]
 fn value(digits: &[u8]) -> Result<u32, NumberFault>
     requires { all_ascii_digits digits.now ≡ true }
-    ensures { result ≡ fitting (Some (digits_value 10 digits.now)) }
+    ensures { result ≡ fitting_u32 (Some (digits_value 10 digits.now)) }
 {
     let mut value: u64 = 0;
     for digit in digits {

@@ -14,14 +14,14 @@ use Rattle.sd_book.specs.declared.fault.BookFault.TheVariants.{Line, Leaf, Limit
 use Rattle.sd_book.specs.declared.fault.BookLimit.{BookLimit}
 use Rattle.sd_book.specs.declared.fault.BookLimit.TheVariants.{Lines, Periods, Revoked}
 use Rattle.sd_book.specs.Commands.{is_within, last_period, revoked_after}
-use Rattle.sd_book.specs.Faults.{HasRoom, IsCrowded, BreaksLimit, IsBroken, FaultAfter, IsCauseOf, IsFirstLimit}
+use Rattle.sd_book.specs.Faults.{HasCommandRoom, IsCrowded, BreaksLimit, IsBrokenLimit, FaultAfter, IsBookFaultOf, IsFirstLimit}
 use Rattle.sd_book.specs.Limits.{IsWithinLimits, IsDraft, most_commands, most_periods}
 use Rattle.sd_book.specs.Value.{BookValue}
-use Rattle.sd_book.specs.Text.{SpellsBook, in_tree, ended, period_fits, command_fits, judged, said_by, book_of}
+use Rattle.sd_book.specs.Text.{SpellsBook, in_tree, period_end_check, period_fits, command_fits, book_commands, said_by_book, book_of}
 use Rattle.sd_book.proofs.Judged.{draft_again, said_again, command_again, within_is_draft, book_again}
 
 -- by the test of the room
-room_open : (before : List Command) → HasRoom before → nat_le most_commands (length before) ≡ false
+room_open : (before : List Command) → HasCommandRoom before → nat_le most_commands (length before) ≡ false
 room_open before h = grind (arith, common_steps)
 
 -- a fault by a test, or by what comes after it
@@ -31,7 +31,7 @@ guard_err true d fault r e = inl (refl, cc)
 guard_err false d fault r e = inr (refl, e)
 
 -- a period that may not end
-crowded : {A : Type 0} (d : ℕ) (before : List Command) (value : A) (q : ℕ) → IsCrowded d before q → ended d before value
+crowded : {A : Type 0} (d : ℕ) (before : List Command) (value : A) (q : ℕ) → IsCrowded d before q → period_end_check d before value
     ≡ Err (Limit (Revoked q))
 crowded d before value q h =
     let many : nat_lt most_revoked (length (revoked_after d before)) ≡ true = grind (arith, common_steps, h.1) in
@@ -40,44 +40,44 @@ crowded d before value q h =
 -- what is judged where a fault comes
 fault_judged : (d : ℕ) (before : List Command) (rest : List (Option Command)) (fault : BookFault) →
     FaultAfter d before rest fault
-    → judged d before rest ≡ Err fault
+    → book_commands d before rest ≡ Err fault
 fault_judged d before rest (Line k) h =
-    subst (λ (r : List (Option Command)). judged d before r ≡ Err (Line k)) (sym h.2.1)
+    subst (λ (r : List (Option Command)). book_commands d before r ≡ Err (Line k)) (sym h.2.1)
     (rw (room_open before h.0, h.1) refl)
 fault_judged d before rest (Leaf k) h =
-    subst (λ (r : List (Option Command)). judged d before r ≡ Err (Leaf k)) (sym h.3.1)
+    subst (λ (r : List (Option Command)). book_commands d before r ≡ Err (Leaf k)) (sym h.3.1)
     (rw (room_open before h.0, h.4, h.1) refl)
 fault_judged d before rest (Limit Lines) h =
     let full : nat_le most_commands (length before) ≡ true = grind (arith, common_steps, h.0) in
-    subst (λ (r : List (Option Command)). judged d before r ≡ Err (Limit Lines)) (sym h.2.1) (rw full refl)
+    subst (λ (r : List (Option Command)). book_commands d before r ≡ Err (Limit Lines)) (sym h.2.1) (rw full refl)
 fault_judged d before rest (Limit Periods) h =
     let last : nat_le most_periods (last_period before) ≡ true = grind (arith, common_steps, h.2) in
-    subst (λ (r : List (Option Command)). judged d before r ≡ Err (Limit Periods)) (sym h.1.1)
+    subst (λ (r : List (Option Command)). book_commands d before r ≡ Err (Limit Periods)) (sym h.1.1)
     (rw (room_open before h.0, last) refl)
 fault_judged d before rest (Limit (Revoked q)) h =
     elim h.0 [
-      | inl none ↦ subst (λ (r : List (Option Command)). judged d before r ≡ Err (Limit (Revoked q))) (sym none)
+      | inl none ↦ subst (λ (r : List (Option Command)). book_commands d before r ≡ Err (Limit (Revoked q))) (sym none)
           (crowded d before before q h.1)
       | inr period ↦
           let open_periods : nat_le most_periods (last_period before) ≡ false = grind (arith, common_steps, period.2) in
-          subst (λ (r : List (Option Command)). judged d before r ≡ Err (Limit (Revoked q))) (sym period.1.1)
+          subst (λ (r : List (Option Command)). book_commands d before r ≡ Err (Limit (Revoked q))) (sym period.1.1)
           (rw (room_open before period.0, open_periods, crowded d before Period q h.1) refl)
     ]
 fault_judged d before rest NoMemory h = absurd h
 
 -- the fault of lines is what is judged of them
-pub cause_judged : (d : ℕ) (said : List (Option Command)) (fault : BookFault) → IsCauseOf d said fault →
-    judged d [] said ≡ Err fault
-cause_judged d said fault h = ap (judged d []) h.2 ∙ draft_again d [] h.0 h.1 h.3 ∙ fault_judged d h.0 h.1 fault h.4
+pub cause_judged : (d : ℕ) (said : List (Option Command)) (fault : BookFault) → IsBookFaultOf d said fault →
+    book_commands d [] said ≡ Err fault
+cause_judged d said fault h = ap (book_commands d []) h.2 ∙ draft_again d [] h.0 h.1 h.3 ∙ fault_judged d h.0 h.1 fault h.4
 
 -- and of a book file
-pub cause_is_fault : (d : ℕ) (bytes : List ℕ) (fault : BookFault) → IsCauseOf d (said_by bytes) fault → book_of d bytes
+pub cause_is_fault : (d : ℕ) (bytes : List ℕ) (fault : BookFault) → IsBookFaultOf d (said_by_book bytes) fault → book_of d bytes
     ≡ Err fault
 unfolding book_of
-cause_is_fault d bytes fault h = cause_judged d (said_by bytes) fault h
+cause_is_fault d bytes fault h = cause_judged d (said_by_book bytes) fault h
 
 -- lines have one fault
-pub one_cause : (d : ℕ) (said : List (Option Command)) (a b : BookFault) → IsCauseOf d said a → IsCauseOf d said b →
+pub one_cause : (d : ℕ) (said : List (Option Command)) (a b : BookFault) → IsBookFaultOf d said a → IsBookFaultOf d said b →
     a ≡ b
 one_cause d said a b x y =
     let same : Err a ≡ Err b = sym (cause_judged d said a x) ∙ cause_judged d said b y in
@@ -85,13 +85,13 @@ one_cause d said a b x y =
 
 -- and none where they say commands within the limits
 pub no_cause : (d : ℕ) (commands : List Command) (fault : BookFault) → IsWithinLimits d commands →
-    IsCauseOf d (map Some commands) fault → ⊥
+    IsBookFaultOf d (map Some commands) fault → ⊥
 no_cause d commands fault all x =
     let same : Ok commands ≡ Err fault = sym (said_again d commands all) ∙ cause_judged d (map Some commands) fault x in
     absurd cc
 
 -- a period that may not end is crowded
-end_err : {A : Type 0} (d : ℕ) (before : List Command) (value : A) (fault : BookFault) → ended d before value
+end_err : {A : Type 0} (d : ℕ) (before : List Command) (value : A) (fault : BookFault) → period_end_check d before value
     ≡ Err fault
     → (q : ℕ) × (fault ≡ Limit (Revoked q)) × IsCrowded d before q
 end_err d before value fault e =
@@ -104,16 +104,16 @@ end_err d before value fault e =
 -- a book that is full
 lines_err : (d : ℕ) (before : List Command) (said : Option Command) (others : List (Option Command))
     (fault : BookFault) → IsDraft d before
-    → nat_le most_commands (length before) ≡ true → Limit Lines ≡ fault → IsBroken d before (said ∷ others) fault
+    → nat_le most_commands (length before) ≡ true → Limit Lines ≡ fault → IsBrokenLimit d before (said ∷ others) fault
 lines_err d before said others fault all full
     same = (Lines, sym same, (grind (arith, common_steps, full, all.lines), said, (others, refl)))
 
 -- a Period that may not come
 period_err : (d : ℕ) (before : List Command) (others : List (Option Command)) (fault : BookFault) → IsDraft d before →
-    HasRoom before
-    → period_fits d before Period ≡ Err fault → IsBroken d before (Some Period ∷ others) fault
+    HasCommandRoom before
+    → period_fits d before Period ≡ Err fault → IsBrokenLimit d before (Some Period ∷ others) fault
 period_err d before others fault all room e =
-    elim (guard_err (nat_le most_periods (last_period before)) (Limit Periods) fault (ended d before Period) e) [
+    elim (guard_err (nat_le most_periods (last_period before)) (Limit Periods) fault (period_end_check d before Period) e) [
       | inl last ↦ (Periods, sym last.1, (room, (others, refl), grind (arith, common_steps, last.0, all.periods)))
       | inr other ↦
           let few : last_period before < most_periods = grind (arith, common_steps, other.0) in
@@ -123,8 +123,8 @@ period_err d before others fault all room e =
 
 -- a command that doesn't fit breaks a limit
 step_err : (d : ℕ) (before : List Command) (command : Command) (others : List (Option Command)) (fault : BookFault) →
-    IsDraft d before → HasRoom before
-    → period_fits d before command ≡ Err fault → IsBroken d before (Some command ∷ others) fault
+    IsDraft d before → HasCommandRoom before
+    → period_fits d before command ≡ Err fault → IsBrokenLimit d before (Some command ∷ others) fault
 step_err d before (Subscribe u) others fault all room e = absurd cc
 step_err d before (Revoke u) others fault all room e = absurd cc
 step_err d before Period others fault all room e = period_err d before others fault all room e
@@ -132,7 +132,7 @@ step_err d before Period others fault all room e = period_err d before others fa
 -- a command that may not come breaks a limit
 pub command_broken : (d : ℕ) (before : List Command) (command : Command) (others : List (Option Command))
     (fault : BookFault) → IsDraft d before
-    → command_fits d before command ≡ Err fault → IsBroken d before (Some command ∷ others) fault
+    → command_fits d before command ≡ Err fault → IsBrokenLimit d before (Some command ∷ others) fault
 command_broken d before command others fault all e =
     elim (guard_err (nat_le most_commands (length before)) (Limit Lines) fault (period_fits d before command) e) [
       | inl full ↦ lines_err d before (Some command) others fault all full.0 full.1
@@ -148,8 +148,8 @@ command_allowed d before command fault all e =
     absurd cc
 
 -- commands that may not end break a limit
-pub end_broken : (d : ℕ) (before : List Command) (fault : BookFault) → ended {A = Unit {0}} d before tt ≡ Err fault →
-    IsBroken d before [] fault
+pub end_broken : (d : ℕ) (before : List Command) (fault : BookFault) → period_end_check {A = Unit {0}} d before tt ≡ Err fault →
+    IsBrokenLimit d before [] fault
 end_broken d before fault e =
     let end = end_err d before tt fault e in
     (Revoked end.0, end.1, (inl refl, end.2))
@@ -173,35 +173,35 @@ longer_breaks d before command others (Revoked q) h =
 
 -- so is the fault
 longer_rest : (d : ℕ) (before : List Command) (command : Command) (others : List (Option Command)) (fault : BookFault)
-    → IsBroken d before (Some command ∷ []) fault → IsBroken d before (Some command ∷ others) fault
+    → IsBrokenLimit d before (Some command ∷ []) fault → IsBrokenLimit d before (Some command ∷ others) fault
 longer_rest d before command others fault h = (h.0, h.1, longer_breaks d before command others h.0 h.2)
 
 -- the fault of lines, at a limit
 broken_cause : (d : ℕ) (said : List (Option Command)) (before : List Command) (rest : List (Option Command))
     (fault : BookFault)
-    → said ≡ map Some before ++ rest → IsDraft d before → IsBroken d before rest fault → IsCauseOf d said fault
+    → said ≡ map Some before ++ rest → IsDraft d before → IsBrokenLimit d before rest fault → IsBookFaultOf d said fault
 broken_cause d said before rest fault same all broken =
     (before, rest, same, all, subst (λ (f : BookFault). FaultAfter d before rest f) (sym broken.1) broken.2)
 
 -- the fault of lines, at a command that may not come
 pub push_cause : (d : ℕ) (said : List (Option Command)) (before : List Command) (command : Command)
     (others : List (Option Command)) (fault : BookFault)
-    → said ≡ map Some before ++ Some command ∷ others → IsDraft d before → IsBroken d before (Some command ∷ []) fault →
-    IsCauseOf d said fault
+    → said ≡ map Some before ++ Some command ∷ others → IsDraft d before → IsBrokenLimit d before (Some command ∷ []) fault →
+    IsBookFaultOf d said fault
 push_cause d said before command others fault same all broken =
     broken_cause d said before (Some command ∷ others) fault same all (longer_rest d before command others fault broken)
 
 -- at their end
 pub end_cause : (d : ℕ) (said : List (Option Command)) (commands : List Command) (fault : BookFault) →
     said ≡ map Some commands → IsDraft d commands
-    → IsBroken d commands [] fault → IsCauseOf d said fault
+    → IsBrokenLimit d commands [] fault → IsBookFaultOf d said fault
 end_cause d said commands fault same all broken =
     broken_cause d said commands [] fault (same ∙ sym (append-nil (map Some commands))) all broken
 
 -- at a line whose leaf is not of the tree
 leaf_cause : (d : ℕ) (before : List Command) (command : Command) (others : List (Option Command)) (fault : BookFault)
     (b : Bool)
-    → is_within d command ≡ b → HasRoom before → cond b (Ok command) (Err (Leaf (length before + 1))) ≡ Err fault
+    → is_within d command ≡ b → HasCommandRoom before → cond b (Ok command) (Err (Leaf (length before + 1))) ≡ Err fault
     → FaultAfter d before (Some command ∷ others) fault
 leaf_cause d before command others fault true outside room e = absurd cc
 leaf_cause d before command others fault false outside room e =
@@ -211,7 +211,7 @@ leaf_cause d before command others fault false outside room e =
 
 -- at a line that is no command of the tree
 tree_cause : (d : ℕ) (before : List Command) (o : Option Command) (others : List (Option Command)) (fault : BookFault) →
-    HasRoom before
+    HasCommandRoom before
     → in_tree d (length before + 1) o ≡ Err fault → FaultAfter d before (o ∷ others) fault
 tree_cause d before None others fault room e =
     let same : Line (length before + 1) ≡ fault = cc in
@@ -224,7 +224,7 @@ pub line_cause : (d : ℕ) (said : List (Option Command)) (before : List Command
     (others : List (Option Command)) (fault : BookFault)
     → said ≡ map Some before ++ o ∷ others → IsDraft d before
     → cond (nat_le most_commands (length before)) (Err (Limit Lines)) (in_tree d (length before + 1) o) ≡ Err fault →
-    IsCauseOf d said fault
+    IsBookFaultOf d said fault
 line_cause d said before o others fault same all e =
     elim (guard_err (nat_le most_commands (length before)) (Limit Lines) fault (in_tree d (length before + 1) o) e) [
       | inl full ↦ broken_cause d said before (o ∷ others) fault same all
@@ -241,7 +241,7 @@ line_cause d said before o others fault same all e =
 
 -- commands within the limits may end
 pub end_allowed : (d : ℕ) (commands : List Command) (fault : BookFault) → IsWithinLimits d commands →
-    ended {A = Unit {0}} d commands tt ≡ Err fault → ⊥
+    period_end_check {A = Unit {0}} d commands tt ≡ Err fault → ⊥
 end_allowed d commands fault all e =
     no_cause d commands fault all (end_cause d (map Some commands) commands fault refl (within_is_draft d commands all)
     (end_broken d commands fault e))
@@ -250,21 +250,21 @@ end_allowed d commands fault all e =
 pub push_faulty : (d h : ℕ) (said : List (Option Command)) (before : List Command) (command : Command)
     (others : List (Option Command)) (fault : BookFault) →
     h ≡ d → said ≡ map Some before ++ Some command ∷ others → IsDraft d before →
-    (fault ≡ NoMemory) ⊎ IsBroken h before (Some command ∷ []) fault → (fault ≡ NoMemory) ⊎ IsCauseOf d said fault
+    (fault ≡ NoMemory) ⊎ IsBrokenLimit h before (Some command ∷ []) fault → (fault ≡ NoMemory) ⊎ IsBookFaultOf d said fault
 push_faulty d h said before command others fault height same all (inl none) = inl none
 push_faulty d h said before command others fault height same all (inr broken) =
     inr (push_cause d said before command others fault same all
-    (subst (λ (k : ℕ). IsBroken k before (Some command ∷ []) fault) height broken))
+    (subst (λ (k : ℕ). IsBrokenLimit k before (Some command ∷ []) fault) height broken))
 
 -- and where their last period may not end
 pub end_faulty : (d h : ℕ) (bytes : List ℕ) (commands : List Command) (answer : Result BookValue BookFault) →
     h ≡ d → SpellsBook (lines_of bytes) commands → IsDraft d commands →
-    IfErr answer (λ fault. IsBroken h commands [] fault) →
-    IfErr answer (λ fault. (fault ≡ NoMemory) ⊎ IsCauseOf d (said_by bytes) fault)
+    IfErr answer (λ fault. IsBrokenLimit h commands [] fault) →
+    IfErr answer (λ fault. (fault ≡ NoMemory) ⊎ IsBookFaultOf d (said_by_book bytes) fault)
 end_faulty d h bytes commands (Ok book) height spelled all broken = tt
 end_faulty d h bytes commands (Err fault) height spelled all broken =
-    inr (end_cause d (said_by bytes) commands fault spelled all
-    (subst (λ (k : ℕ). IsBroken k commands [] fault) height broken))
+    inr (end_cause d (said_by_book bytes) commands fault spelled all
+    (subst (λ (k : ℕ). IsBrokenLimit k commands [] fault) height broken))
 
 -- lines that say a command more
 pub said_more : (said : List (Option Command)) (before commands : List Command) (command : Command)
@@ -294,7 +294,7 @@ appended_all before more commands i same h = same ∙ ap (λ (cs : List Command)
 -- the fault of a book's lines that get longer one command at a time
 append_cause : (d : ℕ) (before more : List Command) (i : ℕ) (command : Command) (fault : BookFault) → i < length more →
     get_or more i command ≡ command
-    → IsDraft d (before ++ take i more) → IsBroken d (before ++ take i more) (Some command ∷ []) fault
+    → IsDraft d (before ++ take i more) → IsBrokenLimit d (before ++ take i more) (Some command ∷ []) fault
     → IsFirstLimit d (before ++ more) fault
 append_cause d before more i command fault h at all broken =
     let rest : drop i more ≡ command ∷ drop (i + 1) more = drop_more more i command h ∙
@@ -316,25 +316,25 @@ append_cause d before more i command fault h at all broken =
 pub append_fault : (d h : ℕ) (before more commands : List Command) (i : ℕ) (command : Command) (fault : BookFault) →
     h ≡ d
     → commands ≡ before ++ take i more → i < length more → get_or more i command ≡ command → IsDraft d commands
-    → (fault ≡ NoMemory) ⊎ IsBroken h commands (Some command ∷ []) fault
+    → (fault ≡ NoMemory) ⊎ IsBrokenLimit h commands (Some command ∷ []) fault
     → (fault ≡ NoMemory) ⊎ IsFirstLimit d (before ++ more) fault
 append_fault d h before more commands i command fault height same lt at all (inl none) = inl none
 append_fault d h before more commands i command fault height same lt at all (inr broken) =
     inr (append_cause d before more i command fault lt at (subst (λ (cs : List Command). IsDraft d cs) same all)
-    (subst (λ (cs : List Command). IsBroken d cs (Some command ∷ []) fault) same
-    (subst (λ (k : ℕ). IsBroken k commands (Some command ∷ []) fault) height broken)))
+    (subst (λ (cs : List Command). IsBrokenLimit d cs (Some command ∷ []) fault) same
+    (subst (λ (k : ℕ). IsBrokenLimit k commands (Some command ∷ []) fault) height broken)))
 
 -- and where the last period may not end
 pub finish_fault : (d h : ℕ) (before more commands : List Command) (answer : Result BookValue BookFault) → h ≡ d →
     commands ≡ before ++ more
-    → IsDraft d commands → IfErr answer (λ fault. IsBroken h commands [] fault)
+    → IsDraft d commands → IfErr answer (λ fault. IsBrokenLimit h commands [] fault)
     → IfErr answer (λ fault. (fault ≡ NoMemory) ⊎ IsFirstLimit d (before ++ more) fault)
 finish_fault d h before more commands (Ok book) height same all broken = tt
 finish_fault d h before more commands (Err fault) height same all broken =
     inr (record {
       limit = (broken.0, broken.1);
       cause = end_cause d (map Some (before ++ more)) commands fault (ap (map Some) (sym same)) all
-          (subst (λ (k : ℕ). IsBroken k commands [] fault) height broken);
+          (subst (λ (k : ℕ). IsBrokenLimit k commands [] fault) height broken);
     })
 
 -- within the limits no longer book is refused
@@ -346,15 +346,15 @@ none_refused d commands fault (inr cause) all = absurd (no_cause d commands faul
 
 -- nor a text
 pub none_faulty : (d : ℕ) (bytes : List ℕ) (commands : List Command) (fault : BookFault) → (fault ≡ NoMemory)
-    ⊎ IsCauseOf d (said_by bytes) fault
+    ⊎ IsBookFaultOf d (said_by_book bytes) fault
     → SpellsBook (lines_of bytes) commands → IsWithinLimits d commands → fault ≡ NoMemory
 none_faulty d bytes commands fault (inl same) spelled all = same
 none_faulty d bytes commands fault (inr cause) spelled all =
-    absurd (no_cause d commands fault all (subst (λ (said : List (Option Command)). IsCauseOf d said fault) spelled
+    absurd (no_cause d commands fault all (subst (λ (said : List (Option Command)). IsBookFaultOf d said fault) spelled
     cause))
 
 -- the answer to a text that has a fault
-pub faulty_is : (d : ℕ) (bytes : List ℕ) (fault : BookFault) → (fault ≡ NoMemory) ⊎ IsCauseOf d (said_by bytes) fault
+pub faulty_is : (d : ℕ) (bytes : List ℕ) (fault : BookFault) → (fault ≡ NoMemory) ⊎ IsBookFaultOf d (said_by_book bytes) fault
     → (fault ≡ NoMemory) ⊎ (book_of d bytes ≡ Err fault)
 faulty_is d bytes fault (inl same) = inl same
 faulty_is d bytes fault (inr cause) = inr (cause_is_fault d bytes fault cause)
@@ -373,7 +373,7 @@ one_spelled (x ∷ a) (y ∷ b) e =
 -- of all that is asked of the answer to a text, what follows from the rest: it is complete
 pub answer_complete : (d : ℕ) (bytes : List ℕ) (answer : Result BookValue BookFault) →
     IfOk answer (λ book. SpellsBook (lines_of bytes) book.commands)
-    → IfErr answer (λ fault. (fault ≡ NoMemory) ⊎ IsCauseOf d (said_by bytes) fault)
+    → IfErr answer (λ fault. (fault ≡ NoMemory) ⊎ IsBookFaultOf d (said_by_book bytes) fault)
     → (commands : List Command) → SpellsBook (lines_of bytes) commands → IsWithinLimits d commands
     → MatchResult answer (λ book. book.commands ≡ commands) (λ fault. fault ≡ NoMemory)
 answer_complete d bytes (Ok book) sound cause commands spelled all = one_spelled book.commands commands
@@ -385,7 +385,7 @@ answer_complete d bytes (Err fault) sound cause commands spelled all = none_faul
 pub answer_value : (d : ℕ) (bytes : List ℕ) (answer : Result BookValue BookFault) →
     IfOk answer (λ book. IsWithinLimits d book.commands)
     → IfOk answer (λ book. SpellsBook (lines_of bytes) book.commands) →
-    IfErr answer (λ fault. (fault ≡ NoMemory) ⊎ IsCauseOf d (said_by bytes) fault)
+    IfErr answer (λ fault. (fault ≡ NoMemory) ⊎ IsBookFaultOf d (said_by_book bytes) fault)
     → MatchResult answer (λ book. book_of d bytes ≡ Ok book.commands)
     (λ fault. (fault ≡ NoMemory) ⊎ (book_of d bytes ≡ Err fault))
 answer_value d bytes (Ok book) fits sound cause = book_again d bytes book.commands sound fits

@@ -15,7 +15,7 @@ use Rattle.sd_book.specs.declared.fault.BookLimit.TheVariants.{Lines, Periods, R
 use Rattle.sd_tree_keys.specs.Limits.{most_revoked}
 use Rattle.sd_book.specs.Commands.{is_within, is_period, last_period, revoked, revoked_after}
 use Rattle.sd_book.specs.Limits.{IsWithinLimits, IsDraft, most_commands, most_periods}
-use Rattle.sd_book.specs.Text.{SpellsBook, ◌>>=◌, in_tree, ended, period_fits, command_fits, judged_line, judged}
+use Rattle.sd_book.specs.Text.{SpellsBook, ◌>>=◌, in_tree, period_end_check, period_fits, command_fits, judged_book_line, book_commands}
 use Rattle.sd_book.specs.Text.{book_of}
 use Rattle.sd_book.proofs.Tallies.{period_more, tally_of_none}
 use Rattle.sd_book.proofs.Cuts.{period_none, period_period, period_append, until_after, until_period, until_end}
@@ -54,7 +54,7 @@ line_command d before o command e =
     tree_ok d (length before + 1) o command g.1
 
 -- what the commands end with is few
-pub ended_ok : {A : Type 0} (d : ℕ) (commands : List Command) (value got : A) → ended d commands value ≡ Ok got →
+pub ended_ok : {A : Type 0} (d : ℕ) (commands : List Command) (value got : A) → period_end_check d commands value ≡ Ok got →
     (length (revoked_after d commands) ≤ most_revoked) × (value ≡ got)
 ended_ok d commands value got e =
     let g = guard_ok (nat_lt most_revoked (length (revoked_after d commands))) (Limit (Revoked (last_period commands)))
@@ -68,7 +68,7 @@ fits_ok : (d : ℕ) (before : List Command) (command got : Command) → period_f
 fits_ok d before (Subscribe u) got e = (cc, λ h. absurd cc, λ h. absurd cc)
 fits_ok d before (Revoke u) got e = (cc, λ h. absurd cc, λ h. absurd cc)
 fits_ok d before Period got e =
-    let g = guard_ok (nat_le most_periods (last_period before)) (Limit Periods) (ended d before Period) got e in
+    let g = guard_ok (nat_le most_periods (last_period before)) (Limit Periods) (period_end_check d before Period) got e in
     let few = ended_ok d before Period got g.1 in
     (few.1, λ h. grind (arith, common_steps, g.0), λ h. few.0)
 
@@ -103,7 +103,7 @@ both_fit : (d : ℕ) (before : List Command) (command got : Command) → nat_le 
 both_fit d before command got long fits = rw long fits
 
 -- what a judged line says
-line_ok : (d : ℕ) (before : List Command) (said : Option Command) (command : Command) → judged_line d before said
+line_ok : (d : ℕ) (before : List Command) (said : Option Command) (command : Command) → judged_book_line d before said
     ≡ Ok command
     → (said ≡ Some command) × (is_within d command ≡ true) × (command_fits d before command ≡ Ok command)
 line_ok d before said command e =
@@ -168,7 +168,7 @@ judged_one_more d before command all leaf e =
 
 -- with the command of a judged line they are judged
 pub judged_more : (d : ℕ) (before : List Command) (said : Option Command) (command : Command) → IsDraft d before →
-    judged_line d before said ≡ Ok command
+    judged_book_line d before said ≡ Ok command
     → IsDraft d (before ++ command ∷ [])
 judged_more d before said command all e =
     let newest = line_ok d before said command e in
@@ -189,7 +189,7 @@ within_at_end d commands all few = record {
 
 -- commands of a draft that may end are within the limits
 pub within_by_end : (d : ℕ) (commands : List Command) (u : Unit {0}) → IsDraft d commands →
-    ended {A = Unit {0}} d commands tt ≡ Ok u → IsWithinLimits d commands
+    period_end_check {A = Unit {0}} d commands tt ≡ Ok u → IsWithinLimits d commands
 within_by_end d commands u all e = within_at_end d commands all (ended_ok d commands tt u e).0
 
 -- no command is within the limits
@@ -232,23 +232,23 @@ command_again d before command more all =
 -- the line of a command of a draft gives it
 line_again : (d : ℕ) (before : List Command) (command : Command) (more : List Command) →
     IsDraft d (before ++ command ∷ more)
-    → judged_line d before (Some command) ≡ Ok command
+    → judged_book_line d before (Some command) ≡ Ok command
 line_again d before command more all = rw (draft_cut d before command more all)
     (command_again d before command more all)
 
 -- what is judged after the commands of a draft
 pub draft_again : (d : ℕ) (before new : List Command) (rest : List (Option Command)) → IsDraft d (before ++ new)
-    → judged d before (map Some new ++ rest) ≡ judged d (before ++ new) rest
-draft_again d before [] rest all = ap (λ (cs : List Command). judged d cs rest) (sym (append-nil before))
+    → book_commands d before (map Some new ++ rest) ≡ book_commands d (before ++ new) rest
+draft_again d before [] rest all = ap (λ (cs : List Command). book_commands d cs rest) (sym (append-nil before))
 draft_again d before (command ∷ new) rest all =
     let same : (before ++ command ∷ []) ++ new ≡ before ++ command ∷ new = append_assoc before (command ∷ []) new in
-    let others : judged d (before ++ command ∷ []) (map Some new ++ rest) ≡ judged d ((before ++ command ∷ []) ++ new)
+    let others : book_commands d (before ++ command ∷ []) (map Some new ++ rest) ≡ book_commands d ((before ++ command ∷ []) ++ new)
     rest = draft_again d (before ++ command ∷ []) new rest
     (subst (λ (cs : List Command). IsDraft d cs) (sym same) all) in
-    rw (line_again d before command new all) (others ∙ ap (λ (cs : List Command). judged d cs rest) same)
+    rw (line_again d before command new all) (others ∙ ap (λ (cs : List Command). book_commands d cs rest) same)
 
 -- commands that end within the limits
-pub end_again : (d : ℕ) (commands : List Command) → IsWithinLimits d commands → ended d commands commands ≡ Ok commands
+pub end_again : (d : ℕ) (commands : List Command) → IsWithinLimits d commands → period_end_check d commands commands ≡ Ok commands
 end_again d commands all =
     let few : length (revoked_after d commands)
     ≤ most_revoked = rw (until_end (last_period commands) commands (omega arith)) at
@@ -266,14 +266,14 @@ within_is_draft d commands all = record {
 }
 
 -- what says commands within the limits is judged to be these commands
-pub said_again : (d : ℕ) (commands : List Command) → IsWithinLimits d commands → judged d [] (map Some commands)
+pub said_again : (d : ℕ) (commands : List Command) → IsWithinLimits d commands → book_commands d [] (map Some commands)
     ≡ Ok commands
 said_again d commands all =
-    ap (judged d []) (sym (append-nil (map Some commands))) ∙
+    ap (book_commands d []) (sym (append-nil (map Some commands))) ∙
     draft_again d [] commands [] (within_is_draft d commands all) ∙ end_again d commands all
 
 -- what spells commands within the limits is their book
 pub book_again : (d : ℕ) (bytes : List ℕ) (commands : List Command) → SpellsBook (lines_of bytes) commands →
     IsWithinLimits d commands → book_of d bytes ≡ Ok commands
 unfolding book_of
-book_again d bytes commands spelled all = ap (judged d []) spelled ∙ said_again d commands all
+book_again d bytes commands spelled all = ap (book_commands d []) spelled ∙ said_again d commands all

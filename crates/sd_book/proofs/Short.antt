@@ -14,7 +14,7 @@ use Rattle.sd_book.specs.declared.command.Command.{Command}
 use Rattle.sd_book.specs.declared.command.Command.TheVariants.{Subscribe, Revoke, Period}
 use Rattle.sd_book.specs.Commands.{is_within}
 use Rattle.sd_book.specs.Limits.{IsWithinLimits}
-use Rattle.sd_book.specs.Text.{command_of, first_there, SpellsBook}
+use Rattle.sd_book.specs.Text.{command_of, first_command_there, SpellsBook}
 
 -- a leaf has at most seven digits
 leaf_digits : (d u : ℕ) → d ≤ 20 → u < 2 ^ d → u < 10 ^ 7
@@ -30,7 +30,7 @@ line_short d line command low within e =
   where
     by_tests : (b : Bool) (s r : Option ℕ) → bytes_eq line (codes "period") ≡ b →
         decimal_after (codes "subscribe ") line ≡ s → decimal_after (codes "revoke ") line ≡ r →
-        cond b (Some Period) (first_there (option_map Subscribe s) (option_map Revoke r)) ≡ Some command →
+        cond b (Some Period) (first_command_there (option_map Subscribe s) (option_map Revoke r)) ≡ Some command →
         length line ≤ 17
     by_tests true s r is f g h =
         let same = ap (λ (l : List ℕ). length l) ((bytes_eq-Decides line (codes "period")).0 is) in omega (arith, same)

@@ -18,7 +18,7 @@ use Rattle.sd_book.specs.Tally.{IsTally, marked_from}
 use Rattle.sd_tree_keys.specs.Limits.{most_revoked}
 use Rattle.sd_book.specs.declared.fault.BookFault.TheVariants.{Limit}
 use Rattle.sd_book.specs.declared.fault.BookLimit.TheVariants.{Revoked}
-use Rattle.sd_book.specs.Text.{ended}
+use Rattle.sd_book.specs.Text.{period_end_check}
 
 -- a write changes the number of marks by the mark that comes and the one that goes
 pub counted_at_write : (marks : List Bool) (i : ℕ) (mark : Bool) → i < length marks →
@@ -210,7 +210,7 @@ tally_leaves d commands marks revoked period tally = ap (marked_from 0) tally.ma
 -- a period may end by the number of its tally
 pub end_by_tally : (d : ℕ) (commands : List Command) (marks : List Bool) (revoked period : ℕ) →
     IsTally d commands marks revoked period → revoked ≤ most_revoked
-    → ended {A = Unit {0}} d commands tt ≡ Ok tt
+    → period_end_check {A = Unit {0}} d commands tt ≡ Ok tt
 end_by_tally d commands marks revoked period tally few =
     let ends : nat_lt most_revoked (length (revoked_after d commands)) ≡ false = grind
     (arith, common_steps, tally.revoked) in
@@ -219,7 +219,7 @@ end_by_tally d commands marks revoked period tally few =
 -- or may not
 pub crowd_by_tally : (d : ℕ) (commands : List Command) (marks : List Bool) (revoked period : ℕ) →
     IsTally d commands marks revoked period → most_revoked < revoked
-    → ended {A = Unit {0}} d commands tt ≡ Err (Limit (Revoked period))
+    → period_end_check {A = Unit {0}} d commands tt ≡ Err (Limit (Revoked period))
 crowd_by_tally d commands marks revoked period tally many =
     let ends : nat_lt most_revoked (length (revoked_after d commands))
     ≡ true = grind (arith, common_steps, tally.revoked) in

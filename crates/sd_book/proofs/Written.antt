@@ -14,7 +14,7 @@ use Rattle.sd_book.specs.declared.command.Command.{Command}
 use Rattle.sd_book.specs.declared.command.Command.TheVariants.{Subscribe, Revoke, Period}
 use Rattle.sd_book.specs.Commands.{is_within}
 use Rattle.sd_book.specs.Limits.{IsWithinLimits}
-use Rattle.sd_book.specs.Text.{command_of, SpellsBook, command_line, text_of, judged, book_of}
+use Rattle.sd_book.specs.Text.{command_of, SpellsBook, book_command_line, text_of_book, book_commands, book_of}
 use Rattle.sd_book.proofs.Judged.{book_again}
 
 -- a leaf of a tree is a number of 64 bits
@@ -30,8 +30,8 @@ other_word u = refl
 
 -- a command's line says it
 says : (d : ℕ) (command : Command) → d ≤ 20 → is_within d command ≡ true →
-    command_of (command_line command) ≡ Some command
-unfolding command_of command_line
+    command_of (book_command_line command) ≡ Some command
+unfolding command_of book_command_line
 says d (Subscribe u) small h =
     let below : u < 2 ^ 64 = leaf_small d u small (grind (arith, common_steps)) in
     rw (decimal_after_decimal (codes "subscribe ") u below) refl
@@ -41,28 +41,28 @@ says d (Revoke u) small h =
 says d Period small h = refl
 
 -- and stands on one line
-alone : (d : ℕ) (command : Command) → d ≤ 20 → is_within d command ≡ true → is_line (command_line command) ≡ true
-unfolding command_line
+alone : (d : ℕ) (command : Command) → d ≤ 20 → is_within d command ≡ true → is_line (book_command_line command) ≡ true
+unfolding book_command_line
 alone d (Subscribe u) small h = decimal_in_line u (leaf_small d u small (grind (arith, common_steps)))
 alone d (Revoke u) small h = decimal_in_line u (leaf_small d u small (grind (arith, common_steps)))
 alone d Period small h = refl
 
 -- the lines of a book's text are those of its commands
 lines_written : (d : ℕ) (commands : List Command) → d ≤ 20 → All (λ command. is_within d command ≡ true) commands →
-    lines_of (text_of commands) ≡ map command_line commands
-unfolding text_of
+    lines_of (text_of_book commands) ≡ map book_command_line commands
+unfolding text_of_book
 lines_written d [] small leaves = refl
 lines_written d (command ∷ commands) small leaves =
     let line = alone d command small (All-head (λ c. is_within d c ≡ true) command commands leaves) in
     let rest = lines_written d commands small (All-tail (λ c. is_within d c ≡ true) command commands leaves) in
-    rw (append_assoc (command_line command) (10 ∷ []) (text_of commands))
-    (line_cut (command_line command) (text_of commands) line
-    ∙ ap (λ (lines : List (List ℕ)). command_line command ∷ lines)
+    rw (append_assoc (book_command_line command) (10 ∷ []) (text_of_book commands))
+    (line_cut (book_command_line command) (text_of_book commands) line
+    ∙ ap (λ (lines : List (List ℕ)). book_command_line command ∷ lines)
     rest)
 
 -- and spell them
 spelled : (d : ℕ) (commands : List Command) → d ≤ 20 → All (λ command. is_within d command ≡ true) commands →
-    SpellsBook (map command_line commands) commands
+    SpellsBook (map book_command_line commands) commands
 spelled d [] small leaves = refl
 spelled d (command ∷ commands) small leaves =
     let first = says d command small (All-head (λ c. is_within d c ≡ true) command commands leaves) in
@@ -71,28 +71,28 @@ spelled d (command ∷ commands) small leaves =
 
 -- the lines of the text of commands of the tree spell these commands
 pub spelled_again : (d : ℕ) (commands : List Command) → d ≤ 20 → All (λ command. is_within d command ≡ true) commands →
-    SpellsBook (lines_of (text_of commands)) commands
+    SpellsBook (lines_of (text_of_book commands)) commands
 spelled_again d commands small leaves = rw (lines_written d commands small leaves) (spelled d commands small leaves)
 
 -- the text of commands of the tree is judged as these commands are
 pub judged_again : (d : ℕ) (commands : List Command) → d ≤ 20 → All (λ command. is_within d command ≡ true) commands
-    → book_of d (text_of commands) ≡ judged d [] (map Some commands)
+    → book_of d (text_of_book commands) ≡ book_commands d [] (map Some commands)
 unfolding book_of
 judged_again d commands small leaves =
-    ap (judged d []) (ap (map command_of) (lines_written d commands small leaves) ∙ spelled d commands small leaves)
+    ap (book_commands d []) (ap (map command_of) (lines_written d commands small leaves) ∙ spelled d commands small leaves)
 
 -- the text of commands within the limits is read as these commands
-pub read_again : (d : ℕ) (commands : List Command) → d ≤ 20 → IsWithinLimits d commands → book_of d (text_of commands)
+pub read_again : (d : ℕ) (commands : List Command) → d ≤ 20 → IsWithinLimits d commands → book_of d (text_of_book commands)
     ≡ Ok commands
 read_again d commands small all =
-    book_again d (text_of commands) commands (spelled_again d commands small all.leaves) all
+    book_again d (text_of_book commands) commands (spelled_again d commands small all.leaves) all
 
 -- the text of the first commands and the line of the next
 pub text_one_more : (commands : List Command) (i : ℕ) (command : Command) → i < length commands →
     command ≡ get_or commands i command →
-    text_of (take i commands) ++ (command_line command ++ 10 ∷ []) ≡ text_of (take (i + 1) commands)
-unfolding text_of
+    text_of_book (take i commands) ++ (book_command_line command ++ 10 ∷ []) ≡ text_of_book (take (i + 1) commands)
+unfolding text_of_book
 text_one_more commands i command inside at =
     let longer : take (i + 1) commands ≡ take i commands ++ command ∷ [] =
     (take_at_read commands i command inside).1 ∙ ap (λ (c : Command). take i commands ++ c ∷ []) (sym at) in
-    rw longer (flat_map_more (λ (c : Command). command_line c ++ 10 ∷ []) [] (take i commands) command)
+    rw longer (flat_map_more (λ (c : Command). book_command_line c ++ 10 ∷ []) [] (take i commands) command)

@@ -15,8 +15,8 @@ abbrev pub NextSays : Option Command → List (Option Command) → Type 0
 NextSays said rest = (others : List (Option Command)) × (rest ≡ said ∷ others)
 
 -- after these commands the book has room for another
-abbrev pub HasRoom : List Command → Type 0
-HasRoom before = length before < most_commands
+abbrev pub HasCommandRoom : List Command → Type 0
+HasCommandRoom before = length before < most_commands
 
 -- period q is the one that these commands end in, and too many leaves are revoked after them
 abbrev pub IsCrowded : ℕ → List Command → ℕ → Type 0
@@ -25,30 +25,30 @@ IsCrowded d before q = (q ≡ last_period before) × (most_revoked < length (rev
 -- after these commands the rest of the lines ends the period: by a Period that may come, or as no line is left
 abbrev pub PeriodEnds : List Command → List (Option Command) → Type 0
 PeriodEnds before rest = (rest ≡ [])
-    ⊎ (HasRoom before × NextSays (Some Period) rest × (last_period before < most_periods))
+    ⊎ (HasCommandRoom before × NextSays (Some Period) rest × (last_period before < most_periods))
 
 -- the limit that is broken after these commands, where the rest of the lines says this
 abbrev pub BreaksLimit : ℕ → List Command → List (Option Command) → BookLimit → Type 0
 BreaksLimit d before rest Lines = (length before ≡ most_commands) × (said : Option Command) × NextSays said rest
-BreaksLimit d before rest Periods = HasRoom before × NextSays (Some Period) rest × (last_period before ≡ most_periods)
+BreaksLimit d before rest Periods = HasCommandRoom before × NextSays (Some Period) rest × (last_period before ≡ most_periods)
 BreaksLimit d before rest (Revoked q) = PeriodEnds before rest × IsCrowded d before q
 
 -- the fault is the limit that is broken there
-abbrev pub IsBroken : ℕ → List Command → List (Option Command) → BookFault → Type 0
-IsBroken d before rest fault = (limit : BookLimit) × (fault ≡ Limit limit) × BreaksLimit d before rest limit
+abbrev pub IsBrokenLimit : ℕ → List Command → List (Option Command) → BookFault → Type 0
+IsBrokenLimit d before rest fault = (limit : BookLimit) × (fault ≡ Limit limit) × BreaksLimit d before rest limit
 
 -- the fault that comes after these commands, where the rest of the lines says this; lines are counted from 1
 abbrev pub FaultAfter : ℕ → List Command → List (Option Command) → BookFault → Type 0
-FaultAfter d before rest (Line k) = HasRoom before × (k ≡ length before + 1) × NextSays None rest
+FaultAfter d before rest (Line k) = HasCommandRoom before × (k ≡ length before + 1) × NextSays None rest
 FaultAfter d before rest (Leaf k) =
-    HasRoom before × (k ≡ length before + 1) × (command : Command) × NextSays (Some command) rest
+    HasCommandRoom before × (k ≡ length before + 1) × (command : Command) × NextSays (Some command) rest
     × (is_within d command ≡ false)
 FaultAfter d before rest (Limit limit) = BreaksLimit d before rest limit
 FaultAfter d before rest NoMemory = ⊥
 
 -- The fault of lines that say this: it comes after commands that a book of the tree may begin with
-abbrev pub IsCauseOf : ℕ → List (Option Command) → BookFault → Type 0
-IsCauseOf d said fault =
+abbrev pub IsBookFaultOf : ℕ → List (Option Command) → BookFault → Type 0
+IsBookFaultOf d said fault =
     (before : List Command) × (rest : List (Option Command))
     × (said ≡ map Some before ++ rest) × IsDraft d before × FaultAfter d before rest fault
 
@@ -59,4 +59,4 @@ IsLimit fault = (limit : BookLimit) × (fault ≡ Limit limit)
 -- the fault is the limit that a book of these commands breaks first
 pub record IsFirstLimit (d : ℕ) (commands : List Command) (fault : BookFault) : Type 0 where
   pub limit : IsLimit fault
-  pub cause : IsCauseOf d (map Some commands) fault
+  pub cause : IsBookFaultOf d (map Some commands) fault

@@ -6,11 +6,11 @@ use Rattle.sd_book.specs.declared.line.LineFault.TheVariants.{Form, Leaf}
 use Rattle.sd_book.specs.Commands.{is_within}
 
 -- the number of a line as a leaf of a tree of height d
-abbrev pub leaf_in : ℕ → Option ℕ → Result ℕ LineFault
-leaf_in d None = Err Form
-leaf_in d (Some u) = if nat_lt u (2 ^ d) then Ok u else Err Leaf
+abbrev pub book_leaf : ℕ → Option ℕ → Result ℕ LineFault
+book_leaf d None = Err Form
+book_leaf d (Some u) = if nat_lt u (2 ^ d) then Ok u else Err Leaf
 
 -- the command of a line, which is to be of a tree of height d
-abbrev pub command_in : ℕ → Option Command → Result Command LineFault
-command_in d None = Err Form
-command_in d (Some command) = if is_within d command then Ok command else Err Leaf
+abbrev pub command_on_line : ℕ → Option Command → Result Command LineFault
+command_on_line d None = Err Form
+command_on_line d (Some command) = if is_within d command then Ok command else Err Leaf

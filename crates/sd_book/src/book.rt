@@ -7,8 +7,8 @@ ghost use Rattle.sd_book.specs.Commands.{is_within, last_period as last_of, revo
 ghost use Rattle.sd_tree_keys.specs.declared.leaf.TheConstants.{MOST_REVOKED};
 ghost use Rattle.sd_book.specs.declared.limits.TheConstants.{MOST_PERIODS};
 ghost use Rattle.sd_book.specs.Limits.{IsWithinLimits};
-ghost use Rattle.sd_book.specs.Faults.{IsCauseOf, IsFirstLimit};
-ghost use Rattle.sd_book.specs.Text.{SpellsBook, book_of, said_by, text_of};
+ghost use Rattle.sd_book.specs.Faults.{IsBookFaultOf, IsFirstLimit};
+ghost use Rattle.sd_book.specs.Text.{SpellsBook, book_of, said_by_book, text_of_book};
 
 use crate::command::Command;
 use crate::draft::Draft;
@@ -77,7 +77,7 @@ impl Book {
         ensures complete { (commands : List Commands) →
             SpellsBook (lines_of bytes.now) commands → IsWithinLimits h commands →
             MatchResult result (λ book. book.commands ≡ commands) (λ fault. fault ≡ BookFault.NoMemory) }
-        ensures fault { IfErr result (λ fault. (fault ≡ BookFault.NoMemory) ⊎ IsCauseOf h (said_by bytes.now) fault) }
+        ensures fault { IfErr result (λ fault. (fault ≡ BookFault.NoMemory) ⊎ IsBookFaultOf h (said_by_book bytes.now) fault) }
         // The whole answer, as one value.
         ensures value { MatchResult result (λ book. book_of h bytes.now ≡ Ok book.commands)
             (λ fault. (fault ≡ BookFault.NoMemory) ⊎ (book_of h bytes.now ≡ Err fault)) }
@@ -151,9 +151,9 @@ impl Book {
     /// The file of the book: a line for each command, and a line feed after each.
     #[tactic(auto, using(crate::proofs::Written::read_again))]
     pub fn write(&self, alloc: Global) -> Result<Vec<u8>, NoMemory>
-        ensures value { IfOk result (λ text. text.items ≡ text_of self.now.commands) }
+        ensures value { IfOk result (λ text. text.items ≡ text_of_book self.now.commands) }
         // It is read again.
-        ensures again { book_of self.now.height (text_of self.now.commands) ≡ Ok self.now.commands }
+        ensures again { book_of self.now.height (text_of_book self.now.commands) ≡ Ok self.now.commands }
     {
         Ok(text_of(alloc, &self.list)?)
     }

@@ -1,7 +1,7 @@
 ghost use Rattle.std.specs.Prelude.{◌≡◌, ◌⊎◌, ◌≤◌, ◌++◌, ◌∷◌, [], true, Some, Ok, Err, IfOk, IfErr, OnOk, OnErr, IsOk};
 ghost use Rattle.std.specs.Prelude.{MatchResult};
 ghost use Rattle.sd_book.specs.Commands.{is_within};
-ghost use Rattle.sd_book.specs.Faults.{IsBroken};
+ghost use Rattle.sd_book.specs.Faults.{IsBrokenLimit};
 ghost use Rattle.sd_book.specs.Limits.{IsDraft, IsWithinLimits};
 ghost use Rattle.sd_book.specs.Tally.{IsTally};
 ghost use Rattle.sd_book.specs.Text.{command_fits};
@@ -77,7 +77,7 @@ impl Draft {
         ensures complete { IsDraft self.old.height (self.old.commands ++ command ∷ []) →
             IfErr result (λ fault. fault ≡ BookFault.NoMemory) }
         ensures fault { IfErr result (λ fault. (fault ≡ BookFault.NoMemory) ⊎
-            IsBroken self.old.height self.old.commands (Some command ∷ []) fault) }
+            IsBrokenLimit self.old.height self.old.commands (Some command ∷ []) fault) }
     {
         fits(&self.list, &self.tally, &command)?;
         self.list.push(command)?;
@@ -90,7 +90,7 @@ impl Draft {
         ensures height { IfOk result (λ book. book.height ≡ self.height) }
         ensures value { IfOk result (λ book. book.commands ≡ self.commands) }
         ensures complete { IsWithinLimits self.height self.commands → IsOk result }
-        ensures fault { IfErr result (λ fault. IsBroken self.height self.commands [] fault) }
+        ensures fault { IfErr result (λ fault. IsBrokenLimit self.height self.commands [] fault) }
     {
         self.tally.may_end()?;
         Ok(Book::of(self.tally.height(), self.list))

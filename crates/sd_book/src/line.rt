@@ -1,6 +1,6 @@
 ghost use Rattle.std.specs.Prelude.{◌≡◌};
 ghost use Rattle.sd_base.specs.Number.{decimal_after};
-ghost use Rattle.sd_book.specs.Line.{leaf_in, command_in};
+ghost use Rattle.sd_book.specs.Line.{book_leaf, command_on_line};
 ghost use Rattle.sd_book.specs.Text.{command_of};
 
 use crate::command::Command;
@@ -19,7 +19,7 @@ pub(crate) enum LineFault {
 /// The command on a line.
 #[tactic(auto, unfolding(crate::specs::Text::command_of))]
 pub(crate) fn command_on(line: &[u8], h: Height) -> Result<Command, LineFault>
-    ensures { result ≡ command_in h (command_of line.now) }
+    ensures { result ≡ command_on_line h (command_of line.now) }
 {
     if line == b"period".as_slice() {
         return Ok(Command::Period);
@@ -33,7 +33,7 @@ pub(crate) fn command_on(line: &[u8], h: Height) -> Result<Command, LineFault>
 
 /// The leaf after a word.
 fn leaf_after(word: &[u8], line: &[u8], h: Height) -> Result<Leaf, LineFault>
-    ensures { result ≡ leaf_in h (decimal_after word.now line.now) }
+    ensures { result ≡ book_leaf h (decimal_after word.now line.now) }
 {
     match number_after(word, line) {
         Ok(u) => Leaf::new(h, u).ok_or(LineFault::Leaf),

@@ -1,9 +1,9 @@
 ghost use Rattle.std.specs.Prelude.{◌≡◌, ◌≤◌, ◌⊎◌, ◌+◌, Ok, Err, IfOk, IfErr, nat_le, if◌then◌else◌};
 ghost use Rattle.sd_base.specs.Lines.{lines_of};
 ghost use Rattle.sd_book.specs.declared.limits.TheConstants.{MOST_COMMANDS};
-ghost use Rattle.sd_book.specs.Faults.{IsCauseOf};
+ghost use Rattle.sd_book.specs.Faults.{IsBookFaultOf};
 ghost use Rattle.sd_book.specs.Limits.{IsDraft};
-ghost use Rattle.sd_book.specs.Text.{SpellsBook, command_of, in_tree, said_by};
+ghost use Rattle.sd_book.specs.Text.{SpellsBook, command_of, in_tree, said_by_book};
 
 use crate::command::Command;
 use crate::draft::Draft;
@@ -19,7 +19,7 @@ pub(crate) fn draft_of(alloc: Global, bytes: &[u8], h: Height) -> Result<Draft, 
     ensures height { IfOk result (λ draft. draft.height ≡ h) }
     ensures fits { IfOk result (λ draft. IsDraft h draft.commands) }
     ensures sound { IfOk result (λ draft. SpellsBook (lines_of bytes.now) draft.commands) }
-    ensures fault { IfErr result (λ fault. (fault ≡ BookFault.NoMemory) ⊎ IsCauseOf h (said_by bytes.now) fault) }
+    ensures fault { IfErr result (λ fault. (fault ≡ BookFault.NoMemory) ⊎ IsBookFaultOf h (said_by_book bytes.now) fault) }
 {
     let mut draft = Draft::new(alloc, h)?;
     let mut rest = bytes;

@@ -4,7 +4,7 @@ ghost use Rattle.sd_book.specs.declared.command.Command.{Command as Commands};
 ghost use Rattle.sd_book.specs.declared.limits.TheConstants.{MOST_PERIODS};
 ghost use Rattle.sd_book.specs.Commands.{is_within, last_period, revoked_after};
 ghost use Rattle.sd_book.specs.Tally.{IsTally, marked_from};
-ghost use Rattle.sd_book.specs.Text.{ended};
+ghost use Rattle.sd_book.specs.Text.{period_end_check};
 
 use crate::command::Command;
 use crate::fault::{BookFault, BookLimit};
@@ -95,7 +95,7 @@ impl Tally {
     pub(crate) fn may_end(&self) -> Result<(), BookFault>
         ensures { (commands : List Commands) →
             IsTally self.now.height commands self.now.marks.items self.now.revoked self.now.period →
-            ended self.now.height commands tt ≡ result }
+            period_end_check self.now.height commands tt ≡ result }
     {
         if self.revoked as usize > MOST_REVOKED {
             return Err(BookFault::Limit(BookLimit::Revoked(self.period)));

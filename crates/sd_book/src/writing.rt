@@ -1,6 +1,6 @@
 ghost use Rattle.std.specs.Prelude.{◌≡◌, ◌++◌, [], ◌∷◌, IfOk, OnOk, string_bytes};
 ghost use Rattle.std.specs.Fmt.{decimal};
-ghost use Rattle.sd_book.specs.Text.{command_line, text_of};
+ghost use Rattle.sd_book.specs.Text.{book_command_line, text_of_book};
 
 use crate::command::Command;
 use sd_tree_keys::Leaf;
@@ -9,7 +9,7 @@ use std::fmt::Write;
 
 /// The text of these commands, one a line.
 pub(crate) fn text_of(alloc: Global, commands: &[Command]) -> Result<Vec<u8>, AllocError>
-    ensures { IfOk result (λ text. text.items ≡ text_of commands.now) }
+    ensures { IfOk result (λ text. text.items ≡ text_of_book commands.now) }
 {
     let mut text = String::new(alloc);
     for command in commands {
@@ -19,9 +19,9 @@ pub(crate) fn text_of(alloc: Global, commands: &[Command]) -> Result<Vec<u8>, Al
 }
 
 /// Writes a command's line and its line feed after the text [this project, docs/FORMATS.md, Book].
-#[tactic(auto, unfolding(crate::specs::Text::command_line))]
+#[tactic(auto, unfolding(crate::specs::Text::book_command_line))]
 pub fn write_line(text: &mut String, command: &Command) -> Result<(), AllocError>
-    ensures { OnOk result (string_bytes text.new ≡ string_bytes text.old ++ (command_line command.now ++ 10 ∷ [])) }
+    ensures { OnOk result (string_bytes text.new ≡ string_bytes text.old ++ (book_command_line command.now ++ 10 ∷ [])) }
 {
     match *command {
         Command::Subscribe(leaf) => write_leaf(text, "subscribe ", leaf),

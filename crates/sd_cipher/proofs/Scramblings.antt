@@ -13,7 +13,7 @@ use Rattle.sd_packet.specs.Header.{unit_start_of, pid_of, scrambling_of, adaptat
 use Rattle.sd_packet.specs.Header.{payload_of, controlled}
 use Rattle.sd_packet.proofs.Headers.{controls_and_counter}
 use Rattle.sd_packet.proofs.Packets.{start_within}
-use Rattle.sd_cipher.specs.Scrambling.{IsLaidUnder, payload_under, stream_number, laid_under, control_of}
+use Rattle.sd_cipher.specs.Scrambling.{IsPacketUnderKeystream, payload_under, stream_number, packet_under_keystream, control_of}
 use Rattle.sd_cipher.specs.declared.payload.Parity.{Parity}
 use Rattle.sd_cipher.specs.declared.payload.Parity.TheVariants.{Even, Odd}
 
@@ -77,8 +77,8 @@ fourth_stays (a ∷ (b ∷ (c ∷ (d ∷ rest)))) payload (suc (suc (suc (suc k)
 pub all_laid : (packet word laid put new : List ℕ) (position control : ℕ) → length packet ≡ 188 →
     laid ≡ xored (payload_of packet) (keystream word (stream_number (pid_of packet) position) 184) →
     put ≡ take (payload_start_of packet) packet ++ laid → new ≡ controlled put control →
-    new ≡ laid_under packet word position control
-unfolding laid_under
+    new ≡ packet_under_keystream packet word position control
+unfolding packet_under_keystream
 all_laid packet word laid put new position control long is_laid is_put is_new =
     is_new ∙ (ap (λ (bytes : List ℕ). controlled bytes control)
     (is_put ∙ ap (λ (bytes : List ℕ). take (payload_start_of packet) packet ++ bytes) is_laid)
@@ -165,7 +165,7 @@ start_by_bytes x y e h =
 
 -- what is read from a packet that is laid under a stream
 pub fields_of : (packet payload : List ℕ) (control : ℕ) → length packet ≡ 188 → slice_index packet 3 < 256 → control < 4
-    → IsLaidUnder packet control payload (take (payload_start_of packet) (controlled packet control) ++ payload)
+    → IsPacketUnderKeystream packet control payload (take (payload_start_of packet) (controlled packet control) ++ payload)
 fields_of packet payload control long byte low =
     let new : List ℕ = take (payload_start_of packet) (controlled packet control) ++ payload in
     let prefix =
@@ -198,16 +198,16 @@ fields_of packet payload control long byte low =
 -- what is read from a packet after scrambling or descrambling
 pub laid_reads : (packet word : List ℕ) (position control : ℕ) → length packet ≡ 188 → slice_index packet 3 < 256
     → control < 4 →
-    IsLaidUnder packet control (payload_under packet word position) (laid_under packet word position control)
-unfolding laid_under
+    IsPacketUnderKeystream packet control (payload_under packet word position) (packet_under_keystream packet word position control)
+unfolding packet_under_keystream
 laid_reads packet word position control long byte low =
     fields_of packet (payload_under packet word position) control long byte low
 
 -- a packet laid under a stream, and under it again with the control that it had, is the packet
 pub undone : (packet word : List ℕ) (position control : ℕ) → length packet ≡ 188 → slice_index packet 3 < 256
     → scrambling_of packet ≡ 0 → control < 4
-    → laid_under (laid_under packet word position control) word position 0 ≡ packet
-unfolding laid_under
+    → packet_under_keystream (packet_under_keystream packet word position control) word position 0 ≡ packet
+unfolding packet_under_keystream
 undone packet word position control long byte clear low =
     let stream : List ℕ = keystream word (stream_number (pid_of packet) position) 184 in
     let is = fields_of packet (xored (drop (payload_start_of packet) packet) stream) control long byte low in

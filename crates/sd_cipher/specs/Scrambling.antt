@@ -17,8 +17,8 @@ payload_under packet word position =
 
 -- the packet with this transport_scrambling_control, its payload under the keystream of its PID and position
 -- [this project, docs/FORMATS.md, Keystream]
-unfoldable pub laid_under : List ℕ → List ℕ → ℕ → ℕ → List ℕ
-laid_under packet word position control =
+unfoldable pub packet_under_keystream : List ℕ → List ℕ → ℕ → ℕ → List ℕ
+packet_under_keystream packet word position control =
     take (payload_start_of packet) (controlled packet control) ++ payload_under packet word position
 
 -- transport_scrambling_control of a packet under a word of this parity [this project, docs/FORMATS.md, Keystream]
@@ -28,15 +28,15 @@ control_of Odd = 3
 
 -- the packet scrambled under a control word of this parity, at its position [this project, docs/FORMATS.md, Keystream]
 abbrev pub scrambled : List ℕ → List ℕ → ℕ → Parity → List ℕ
-scrambled packet word position parity = laid_under packet word position (control_of parity)
+scrambled packet word position parity = packet_under_keystream packet word position (control_of parity)
 
 -- the packet descrambled under a control word, at its position [this project, docs/FORMATS.md, Keystream]
 abbrev pub descrambled : List ℕ → List ℕ → ℕ → List ℕ
-descrambled packet word position = laid_under packet word position 0
+descrambled packet word position = packet_under_keystream packet word position 0
 
 -- what is read from a packet after scrambling or descrambling: it has this control and this payload, and the rest as
 -- before [this project, docs/FORMATS.md, Keystream]
-pub record IsLaidUnder (old : List ℕ) (control : ℕ) (payload new : List ℕ) : Type 0 where
+pub record IsPacketUnderKeystream (old : List ℕ) (control : ℕ) (payload new : List ℕ) : Type 0 where
   pub unit_start : unit_start_of new ≡ unit_start_of old
   pub pid : pid_of new ≡ pid_of old
   pub scrambling : scrambling_of new ≡ control

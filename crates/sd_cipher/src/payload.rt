@@ -2,7 +2,7 @@ ghost use Rattle.std.specs.Prelude.{◌≡◌, ◌+◌, ◌*◌, ◌^◌, ◌<�
 ghost use Rattle.sd_packet.specs.Header.{pid_of, scrambling_of, payload_start_of, payload_of};
 ghost use Rattle.sd_packet.specs.Positions.{is_positional};
 ghost use Rattle.sd_cipher.specs.Keystream.{xored};
-ghost use Rattle.sd_cipher.specs.Scrambling.{laid_under, control_of, scrambled, descrambled};
+ghost use Rattle.sd_cipher.specs.Scrambling.{packet_under_keystream, control_of, scrambled, descrambled};
 
 use crate::{lay, payload_stream};
 use sd_packet::Packet;
@@ -55,11 +55,11 @@ pub fn descramble(packet: &mut Packet, word: &[u8; 32], position: u64)
 }
 
 // Lays the keystream of the packet's PID and position over its payload and writes transport_scrambling_control.
-#[tactic(auto, using(crate::proofs::Scramblings::controlled_first), unfolding(crate::specs::Scrambling::laid_under))]
+#[tactic(auto, using(crate::proofs::Scramblings::controlled_first), unfolding(crate::specs::Scrambling::packet_under_keystream))]
 fn lay_under(packet: &mut Packet, word: &[u8; 32], position: u64, control: u8)
     requires position { position < 2 ^ 48 }
     requires control { control < 4 }
-    ensures value { packet.new ≡ laid_under packet.old word.now position control }
+    ensures value { packet.new ≡ packet_under_keystream packet.old word.now position control }
     ensures byte { slice_index packet.old 3 < 256 }
     ensures length { length packet.old ≡ 188 }
 {

@@ -2,11 +2,11 @@
 use Rattle.std.proofs.Common.{◌≡◌, ◌⊎◌, ℕ, ◌+◌, ◌≤◌, Result, Ok, Err, refl, sym, ap, subst, ◌∙◌, inl, inr, arith}
 use Rattle.sd_base.specs.Count.{with_added, HasRisen}
 use Rattle.sd_command_base.specs.declared.status.Status.{Status}
-use Rattle.sd_command_base.specs.Outside.{DepotState, PageState, outside, called}
+use Rattle.sd_command_base.specs.Outside.{DepotState, PageState, io_state, depot_after_calls}
 use Rattle.sd_command_base.specs.Spec.{Spec, and_then, ◌>>=◌}
 use Rattle.sd_command_base.specs.Work.{StepBound, Uncounted, NoSteps, UpTo, Work, IsWithinSteps, TakesSteps}
 use Rattle.sd_command_base.specs.Work.{all_calls}
-use Rattle.sd_command_base.specs.Outcome.{IsUnmade, untouched, StopsFirst, Outcome, refused, exhausted, failed}
+use Rattle.sd_command_base.specs.Outcome.{IsNoOutMade, untouched, StopsFirst, Outcome, refused, exhausted, failed}
 use Rattle.sd_command_base.specs.Outcome.{OutcomeWithin}
 use Rattle.sd_command_base.specs.Reads.{IsAsked, IsRefused, StopCause, IsStopped, StepOutcome}
 
@@ -25,7 +25,7 @@ at_least : {A : Type 0} (n x now : ℕ) (r : Result A Status) (next : A → Spec
 at_least n x now (Ok y) next h = omega arith
 at_least n x now (Err status) next h = omega arith
 
-pub unmade : (most : ℕ) (p q : DepotState) → IsAsked most p q → IsUnmade p q
+pub unmade : (most : ℕ) (p q : DepotState) → IsAsked most p q → IsNoOutMade p q
 unmade most p q h = record { files = h.files; made = h.made }
 
 -- a device that failed but at closing a file stops a stream first
@@ -36,7 +36,7 @@ stops_first (Err status) p q rose = tt
 pub stopped_comes : (meant : Result Work Status) (most : ℕ) (p q : DepotState) (page : PageState) (steps now : ℕ)
     (status : Status) →
     IsStopped most p q status → StopCause p q status →
-    Outcome meant (outside p page steps) (outside q page now) status
+    Outcome meant (io_state p page steps) (io_state q page now) status
 stopped_comes meant most p q page steps now status h (inl c) =
     exhausted c.0 (untouched (unmade most p q h.asked) refl) c.2 refl h.misses
 stopped_comes meant most p q page steps now status h (inr c) =
@@ -44,10 +44,10 @@ stopped_comes meant most p q page steps now status h (inr c) =
 
 refused_obeys : {A : Type 0} (first : Spec A) (next : A → Spec Work) (p q : DepotState) (page : PageState) (steps : ℕ)
     (status : Status) →
-    IsRefused first p q status → OutcomeWithin (first >>= next) (outside p page steps) (outside q page steps) status
+    IsRefused first p q status → OutcomeWithin (first >>= next) (io_state p page steps) (io_state q page steps) status
 refused_obeys {A} first next p q page steps status h =
     subst (λ (r : Result A Status). OutcomeWithin
-    (and_then first.calls r next) (outside p page steps) (outside q page steps) status) (sym h.value)
+    (and_then first.calls r next) (io_state p page steps) (io_state q page steps) status) (sym h.value)
     (record {
       comes = refused refl h.refusal (unmade first.calls p q h.asked) refl (record { depot = h.calm; print = refl })
           h.miss;
@@ -60,7 +60,7 @@ refused_obeys {A} first next p q page steps status h =
 pub first_obeys : {A : Type 0} (first : Spec A) (next : A → Spec Work) (p q : DepotState) (page : PageState) (steps : ℕ)
     (status : Status) →
     IsRefused first p q status ⊎ IsStopped first.calls p q status →
-    OutcomeWithin (first >>= next) (outside p page steps) (outside q page steps) status
+    OutcomeWithin (first >>= next) (io_state p page steps) (io_state q page steps) status
 first_obeys first next p q page steps status (inl h) = refused_obeys first next p q page steps status h
 first_obeys first next p q page steps status (inr h) = record {
   comes = stopped_comes (first >>= next).result first.calls p q page steps steps status h h.cause;
@@ -70,7 +70,7 @@ first_obeys first next p q page steps status (inr h) = record {
 }
 
 -- a step that goes on where a first step ended
-asked_more : (n k : ℕ) (p q : DepotState) → IsAsked k (called n p) q → IsAsked (n + k) p q
+asked_more : (n k : ℕ) (p q : DepotState) → IsAsked k (depot_after_calls n p) q → IsAsked (n + k) p q
 asked_more n k p q h = record {
   files = h.files;
   made = h.made;
@@ -78,7 +78,7 @@ asked_more n k p q h = record {
   calls = let c = h.calls in omega arith;
 }
 
-called_more : (n k : ℕ) (p : DepotState) → called k (called n p) ≡ called (n + k) p
+called_more : (n k : ℕ) (p : DepotState) → depot_after_calls k (depot_after_calls n p) ≡ depot_after_calls (n + k) p
 called_more n k p =
     let twice : with_added (with_added p.calls n) k ≡ with_added p.calls (n + k) = omega arith in
     ap (λ (c : ℕ). record {
@@ -92,7 +92,7 @@ called_more n k p =
     }) twice
 
 gives_moved : {X Y : Type 0} (view : X → Y) (n : ℕ) (meant : Spec Y) (p q : DepotState) (result : Result X Status) →
-    StepOutcome view meant (called n p) q result →
+    StepOutcome view meant (depot_after_calls n p) q result →
     StepOutcome view (record { calls = n + meant.calls; result = meant.result }) p q result
 gives_moved view n meant p q (Ok x) h = (h.0, h.1 ∙ called_more n meant.calls p)
 gives_moved view n meant p q (Err status) (inl h) = inl (record {
@@ -111,7 +111,7 @@ gives_moved view n meant p q (Err status) (inr h) = inr (record {
 -- a step whose first part gave a value gives what is meant by the value
 pub then_gives : {X Y A : Type 0} (view : X → Y) (first : Spec A) (x : A) (next : A → Spec Y) (p q r : DepotState)
     (result : Result X Status) →
-    first.result ≡ Ok x → q ≡ called first.calls p → StepOutcome view (next x) q r result →
+    first.result ≡ Ok x → q ≡ depot_after_calls first.calls p → StepOutcome view (next x) q r result →
     StepOutcome view (first >>= next) p r result
 then_gives {A = A} view first x next p q r result e same h =
     subst (λ (s : Result A Status). StepOutcome view (and_then first.calls s next) p r result) (sym e)

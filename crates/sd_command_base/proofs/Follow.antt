@@ -5,10 +5,10 @@ use Rattle.std.specs.Prelude.{IfOk}
 use Rattle.sd_base.specs.Count.{with_added}
 use Rattle.sd_ports.specs.Files.{Files}
 use Rattle.sd_command_base.specs.declared.status.Status.{Status}
-use Rattle.sd_command_base.specs.Outside.{DepotState, PageState, Outside, outside, called}
-use Rattle.sd_command_base.specs.Spec.{Spec, FileArgument, Readings, IsGot, and_then, judged, value, ◌>>=◌}
+use Rattle.sd_command_base.specs.Outside.{DepotState, PageState, IoState, io_state, depot_after_calls}
+use Rattle.sd_command_base.specs.Spec.{Spec, FileArgument, Readings, IsReadingOfFile, and_then, of_result, value, ◌>>=◌}
 use Rattle.sd_command_base.specs.Work.{Out, Mark, Work}
-use Rattle.sd_command_base.specs.Outcome.{IsEnding, HasMiss, IsMade, marked_by, printing, refused, ended, exhausted, cut_off}
+use Rattle.sd_command_base.specs.Outcome.{IsEnding, HasMiss, IsOutMade, marked_by, printing, refused, ended, exhausted, cut_off}
 use Rattle.sd_command_base.specs.Outcome.{OutcomeWithin}
 use Rattle.sd_command_base.specs.Outcome.{Implements}
 use Rattle.sd_command_base.specs.Reads.{IsAsked, IsRefused, IsStopped, StepOutcome, FileOutcome, FilesOutcome}
@@ -19,7 +19,7 @@ use Rattle.sd_command_base.proofs.Moves.{then_obeys}
 use Rattle.sd_command_base.proofs.Firsts.{takes_none, stopped_comes, first_obeys, then_gives, first_gives}
 use Rattle.sd_command_base.proofs.Givens.{one_given, two_given}
 
-called_none : (n : ℕ) (a : DepotState) → called n a ≡ called 0 (called n a)
+called_none : (n : ℕ) (a : DepotState) → depot_after_calls n a ≡ depot_after_calls 0 (depot_after_calls n a)
 called_none n a =
     let same : with_added a.calls n ≡ with_added (with_added a.calls n) 0 = omega arith in
     ap (λ (c : ℕ). record {
@@ -33,10 +33,10 @@ called_none n a =
     }) same
 
 -- after calls nothing more is called
-pub rests : (n : ℕ) (a b : DepotState) → b ≡ called n a → b ≡ called 0 b
-rests n a b e = subst (λ (z : DepotState). z ≡ called 0 z) (sym e) (called_none n a)
+pub rests : (n : ℕ) (a b : DepotState) → b ≡ depot_after_calls n a → b ≡ depot_after_calls 0 b
+rests n a b e = subst (λ (z : DepotState). z ≡ depot_after_calls 0 z) (sym e) (called_none n a)
 
-asks_none : (n : ℕ) (a b : DepotState) → b ≡ called n a → IsAsked 0 b b
+asks_none : (n : ℕ) (a b : DepotState) → b ≡ depot_after_calls n a → IsAsked 0 b b
 asks_none n a b e = record {
   files = refl;
   made = refl;
@@ -50,7 +50,7 @@ none_missing status misses h = record { missing = λ word is. absurd (subst IsEn
 -- what is judged after calls
 judged_gives : {X Y : Type 0} (view : X → Y) (meant : Result Y Status) (n : ℕ) (a b : DepotState)
     (result : Result X Status) →
-    b ≡ called n a → JudgedOutcome view meant result → StepOutcome view (judged meant) b b result
+    b ≡ depot_after_calls n a → JudgedOutcome view meant result → StepOutcome view (of_result meant) b b result
 judged_gives view meant n a b (Ok x) e h = (h, rests n a b e)
 judged_gives view meant n a b (Err status) e (inl h) = inl (record {
   value = h.0;
@@ -73,11 +73,11 @@ pub looks_judged : {X Y W Z : Type 0} (before : X → Z) (view : W → Y) (meant
     (next : Z → Result Y Status)
     (name : List ℕ) (a b : DepotState) (x : X) (result : Result W Status) → FileOutcome before meant name a b (Ok x) →
     JudgedOutcome view (next (before x)) result →
-    FileOutcome view (λ got. meant got >>= λ z. judged (next z)) name a b result
+    FileOutcome view (λ got. meant got >>= λ z. of_result (next z)) name a b result
 looks_judged before view meant next name a b x result h j = record {
   got = h.got;
   is_got = h.is_got;
-  gives = then_gives view (meant h.got) (before x) (λ z. judged (next z)) a b b result h.gives.0 h.gives.1
+  gives = then_gives view (meant h.got) (before x) (λ z. of_result (next z)) a b b result h.gives.0 h.gives.1
       (judged_gives view (next (before x)) (meant h.got).calls a b result h.gives.1 j);
 }
 
@@ -95,7 +95,7 @@ looks_first before view meant next name a b status h = record {
 -- a command that came to work or to none before anything was printed or made
 pub given_obeys : (meant : Spec Work) (p q : DepotState) (page : PageState) (steps : ℕ) (status : Status) →
     IsRefused meant p q status ⊎ IsStopped meant.calls p q status →
-    OutcomeWithin meant (outside p page steps) (outside q page steps) status
+    OutcomeWithin meant (io_state p page steps) (io_state q page steps) status
 given_obeys meant p q page steps status (inl h) = record {
   comes = refused h.value h.refusal (record { files = h.asked.files; made = h.asked.made }) refl
       (record { depot = h.calm; print = refl }) h.miss;
@@ -113,7 +113,7 @@ given_obeys meant p q page steps status (inr h) = record {
 -- files that were refused, or not read
 pub reads_follows : {X : Type 0} (view : X → Work) (meant : Readings →
     Spec Work) (p q : DepotState) (page : PageState) (steps : ℕ) (status : Status) →
-    FilesOutcome view meant p q (Err status) → Implements meant (outside p page steps) (outside q page steps) status
+    FilesOutcome view meant p q (Err status) → Implements meant (io_state p page steps) (io_state q page steps) status
 reads_follows view meant p q page steps status h = record {
   given = h.given;
   is_given = h.is_given;
@@ -124,46 +124,46 @@ reads_follows view meant p q page steps status h = record {
 pub looks_follows : {X Z : Type 0} (view : X → Z) (meant : Option (List ℕ) → Spec Z) (next : Z → Spec Work)
     (word : FileArgument) (p q : DepotState)
     (page : PageState) (steps : ℕ) (status : Status) → FileOutcome view meant word.text p q (Err status) →
-    Implements (λ given. meant (given word) >>= next) (outside p page steps) (outside q page steps) status
+    Implements (λ given. meant (given word) >>= next) (io_state p page steps) (io_state q page steps) status
 looks_follows {Z = Z} view meant next word p q page steps status h =
     let g = one_given p.files word h.got h.is_got in record {
       given = g.given;
       is_given = g.is_given;
-      obeyed = subst (λ (got : Option (List ℕ)). OutcomeWithin (meant got >>= next) (outside p page steps)
-          (outside q page steps) status) (sym g.gave)
+      obeyed = subst (λ (got : Option (List ℕ)). OutcomeWithin (meant got >>= next) (io_state p page steps)
+          (io_state q page steps) status) (sym g.gave)
           (first_obeys (meant h.got) next p q page steps status h.gives);
     }
 
 -- a first file that was read
 pub looked_follows : {X Z : Type 0} (view : X → Z) (meant : Option (List ℕ) → Spec Z) (next : Z → Spec Work)
     (word : FileArgument) (p q : DepotState)
-    (page : PageState) (steps : ℕ) (b : Outside) (x : X) (status : Status) →
+    (page : PageState) (steps : ℕ) (b : IoState) (x : X) (status : Status) →
     FileOutcome view meant word.text p q (Ok x) →
-    OutcomeWithin (next (view x)) (outside q page steps) b status →
-    Implements (λ given. meant (given word) >>= next) (outside p page steps) b status
+    OutcomeWithin (next (view x)) (io_state q page steps) b status →
+    Implements (λ given. meant (given word) >>= next) (io_state p page steps) b status
 looked_follows view meant next word p q page steps b x status h obeys =
     let g = one_given p.files word h.got h.is_got in record {
       given = g.given;
       is_given = g.is_given;
-      obeyed = subst (λ (got : Option (List ℕ)). OutcomeWithin (meant got >>= next) (outside p page steps) b status)
+      obeyed = subst (λ (got : Option (List ℕ)). OutcomeWithin (meant got >>= next) (io_state p page steps) b status)
           (sym g.gave)
           (then_obeys (meant h.got) (view x) next p q page steps b status h.gives.0 h.gives.1 obeys);
     }
 
-none_made : (work : Work) (n : ℕ) (p q : DepotState) → work.out ≡ None → work.mark ≡ None → q ≡ called n p →
-    IsMade work.out (marked_by work.mark p) q
+none_made : (work : Work) (n : ℕ) (p q : DepotState) → work.out ≡ None → work.mark ≡ None → q ≡ depot_after_calls n p →
+    IsOutMade work.out (marked_by work.mark p) q
 none_made work n p q none unmarked e =
-    subst (λ (o : Option Out). IsMade o (marked_by work.mark p) q) (sym none)
-    (subst (λ (m : Option Mark). IsMade None (marked_by m p) q) (sym unmarked)
+    subst (λ (o : Option Out). IsOutMade o (marked_by work.mark p) q) (sym none)
+    (subst (λ (m : Option Mark). IsOutMade None (marked_by m p) q) (sym unmarked)
     (record { files = ap (λ (z : DepotState). z.files) e; made = ap (λ (z : DepotState). z.made) e }))
 
 -- work that only prints, after its files were read
 pub printed_obeys : (meant : Spec Work) (work : Work) (p q : DepotState) (page now : PageState) (steps : ℕ)
     (status : Status) →
     meant.result ≡ Ok work →
-    work.out ≡ None → work.mark ≡ None → IsEnding work.ends → q ≡ called meant.calls p →
+    work.out ≡ None → work.mark ≡ None → IsEnding work.ends → q ≡ depot_after_calls meant.calls p →
     PrintsWork work page now status →
-    OutcomeWithin meant (outside p page steps) (outside q now steps) status
+    OutcomeWithin meant (io_state p page steps) (io_state q now steps) status
 printed_obeys meant work p q page now steps status is none unmarked ending e prints = record {
   comes = elim prints [
     | inl all ↦ ended work is all.0 (subst IsEnding (sym all.0) ending) (none_made work meant.calls p q none unmarked e)
@@ -190,7 +190,7 @@ pub reads_two : {X W Y Z V : Type 0} (view_first : X → Y) (view_second : W →
     FilesOutcome view (λ given. first (given one) >>= λ y. second y (given two) >>= λ z. value (both y z)) p r (Ok w)
 reads_two {Z = Z} {V = V} view_first view_second view first second both one two p q r x w apart h k same =
     let y = view_first x in
-    let is_more : IsGot p.files two.text k.got = subst (λ (f : Option Files). IsGot f two.text k.got)
+    let is_more : IsReadingOfFile p.files two.text k.got = subst (λ (f : Option Files). IsReadingOfFile f two.text k.got)
     (ap (λ (z : DepotState). z.files) h.gives.1) k.is_got in
     let g = two_given p.files one two h.got k.got apart h.is_got is_more in
     let goes : StepOutcome view (second y k.got >>= λ z. value (both y z)) q r (Ok w) =
@@ -218,7 +218,7 @@ pub reads_second : {X W Y Z V : Type 0} (view_first : X → Y) (view_second : W 
     FilesOutcome view (λ given. first (given one) >>= λ y. second y (given two) >>= next y) p r (Err status)
 reads_second view_first view_second view first second next one two p q r x status apart h k =
     let y = view_first x in
-    let is_more : IsGot p.files two.text k.got = subst (λ (f : Option Files). IsGot f two.text k.got)
+    let is_more : IsReadingOfFile p.files two.text k.got = subst (λ (f : Option Files). IsReadingOfFile f two.text k.got)
     (ap (λ (z : DepotState). z.files) h.gives.1) k.is_got in
     let g = two_given p.files one two h.got k.got apart h.is_got is_more in
     let goes : StepOutcome view (second y k.got >>= next y) q r (Err status) =
@@ -254,7 +254,7 @@ pub prints_follows : {X : Type 0} (view : X → Work) (meant : Readings →
     Spec Work) (p q : DepotState) (page now : PageState) (steps : ℕ) (x : X) (status : Status) →
     (view x).out ≡ None → (view x).mark ≡ None → IsEnding (view x).ends → FilesOutcome view meant p q (Ok x) →
     PrintsWork (view x) page now status →
-    Implements meant (outside p page steps) (outside q now steps) status
+    Implements meant (io_state p page steps) (io_state q now steps) status
 prints_follows view meant p q page now steps x status none unmarked ending h prints = record {
   given = h.given;
   is_given = h.is_given;

@@ -10,7 +10,7 @@ use Rattle.std.specs.List.Sorted.{IsStrictlyIncreasing}
 use Rattle.std.proofs.lemmas.List.{append_assoc, append-nil, map-append, length-append, length_push, get_or_append_left}
 use Rattle.std.specs.Option.{option_map_or}
 use Rattle.sd_base.specs.Lines.{lines_of}
-use Rattle.sd_base.specs.Number.{decimal_value, rest_after, decimal_after, fitting}
+use Rattle.sd_base.specs.Number.{decimal_value, rest_after, decimal_after, fitting_u32}
 use Rattle.sd_base.specs.declared.decimals.NumberFault.{NumberFault}
 use Rattle.sd_base.proofs.Fitting.{fits_is, misfit_high}
 use Rattle.sd_command_base.specs.Text.{is_leaf_line, first_fault, leaves_of_text, leaf_after, stands_above}
@@ -40,19 +40,19 @@ none_found p lo (suc n) none =
     let e : lo + 1 + i ≡ lo + suc i = omega arith in ap p e ∙ none (suc i) (omega (arith, below))))
 
 -- a line that is a decimal of 32 bits says it
-pub said : (h u : ℕ) (line before : List ℕ) → fitting (decimal_after [] line) ≡ Ok u →
+pub said : (h u : ℕ) (line before : List ℕ) → fitting_u32 (decimal_after [] line) ≡ Ok u →
     leaf_after h before (Some u) ≡ leaf_after h before (decimal_value line)
 unfolding rest_after
 said h u line before e = ap (leaf_after h before) (sym (fits_is (decimal_value line) u e))
 
 -- another is no leaf
-pub unsaid : (h : ℕ) (line before : List ℕ) (fault : NumberFault) → h ≤ 20 → fitting (decimal_after [] line)
+pub unsaid : (h : ℕ) (line before : List ℕ) (fault : NumberFault) → h ≤ 20 → fitting_u32 (decimal_after [] line)
     ≡ Err fault →
     leaf_after h before (decimal_value line) ≡ None
 unfolding rest_after
 unsaid h line before fault low e = unsaid_by (decimal_value line) e
   where
-    unsaid_by : (n : Option ℕ) → fitting n ≡ Err fault → leaf_after h before n ≡ None
+    unsaid_by : (n : Option ℕ) → fitting_u32 n ≡ Err fault → leaf_after h before n ≡ None
     unsaid_by None e = refl
     unsaid_by (Some n) e =
         let high = misfit_high n fault e in

@@ -11,25 +11,25 @@ use Rattle.sd_ports.specs.Files.{Files, OpensFile, IsFile, IsLongFile, IsNotTher
 use Rattle.sd_command_base.specs.declared.status.Status.{Status}
 use Rattle.sd_command_base.specs.declared.status.Status.TheVariants.{Missing, Limit, DepotFault, NoMemory}
 use Rattle.sd_command_base.specs.declared.status.LimitKind.{LimitKind}
-use Rattle.sd_command_base.specs.Outside.{DepotState, called}
-use Rattle.sd_command_base.specs.Spec.{within, all_of, IsGot}
+use Rattle.sd_command_base.specs.Outside.{DepotState, depot_after_calls}
+use Rattle.sd_command_base.specs.Spec.{within, whole_file_bytes, IsReadingOfFile}
 use Rattle.sd_command_base.proofs.Givens.{some_got as any_got}
-use Rattle.sd_engine.specs.Taken.{IsLeft}
+use Rattle.sd_engine.specs.Taken.{AreBytesLeft}
 use Rattle.sd_command_base.specs.Reads.{IsAsked, StopCause, FileOutcome}
 use Rattle.sd_command_base.specs.Turned.{opening_status}
 
-file_got : (files : Option Files) (name bytes : List ℕ) → IsFile files name bytes → IsGot files name (Some bytes)
+file_got : (files : Option Files) (name bytes : List ℕ) → IsFile files name bytes → IsReadingOfFile files name (Some bytes)
 file_got None name bytes h = tt
 file_got (Some m) name bytes h = sym h
 
-pub none_got : (files : Option Files) (name : List ℕ) → IsNotThere files name → IsGot files name None
+pub none_got : (files : Option Files) (name : List ℕ) → IsNotThere files name → IsReadingOfFile files name None
 none_got None name h = tt
 none_got (Some m) name h = sym h
 
 -- the file was read
 pub looks_read : {X : Type 0} (view : X → List ℕ) (x : X) (word most : ℕ) (kind : LimitKind) (name : List ℕ)
     (a b : DepotState) →
-    IsFile a.files name (view x) → length (view x) ≤ most → b ≡ called 2 a →
+    IsFile a.files name (view x) → length (view x) ≤ most → b ≡ depot_after_calls 2 a →
     FileOutcome view (within word most kind) name a b (Ok x)
 looks_read view x word most kind name a b there short same = record {
   got = Some (view x);
@@ -48,7 +48,7 @@ more_zeros (suc n) = let h = more_zeros n in omega arith
 
 record LongGot (files : Option Files) (name : List ℕ) (most : ℕ) : Type 0 where
   bytes : List ℕ
-  got : IsGot files name (Some bytes)
+  got : IsReadingOfFile files name (Some bytes)
   long : most < length bytes
 
 long_of : (o : Option (List ℕ)) (most : ℕ) → IsSome o → IfSome o (λ bytes. most < length bytes) →
@@ -80,7 +80,7 @@ looks_long view word most kind name a b long asked calm misses = let l = long_go
 
 record SomeGot (files : Option Files) (name : List ℕ) (word most : ℕ) (kind : LimitKind) (before now : ℕ) : Type 0 where
   got : Option (List ℕ)
-  is_got : IsGot files name got
+  is_got : IsReadingOfFile files name got
   calls : now ≤ before + (within word most kind got).calls
 
 got_of : (o : Option (List ℕ)) (word most : ℕ) (kind : LimitKind) (before now : ℕ) → (now ≤ with_added before 1)
@@ -123,7 +123,7 @@ bytes_seen bytes = bytes
 -- the bytes to come from the port of a file are the file's
 pub opened_got : (files : Option Files) (name : List ℕ) (left : Option (List ℕ)) (bytes : List ℕ) →
     OpensFile files name left →
-    IsLeft left bytes → IsGot files name (Some bytes)
+    AreBytesLeft left bytes → IsReadingOfFile files name (Some bytes)
 opened_got None name left bytes opens is = tt
 opened_got (Some m) name None bytes opens is = absurd (let h = opens.0 in cc)
 opened_got (Some m) name (Some xs) bytes opens is = sym (opens.1 ∙ ap Some is)
@@ -131,7 +131,7 @@ opened_got (Some m) name (Some xs) bytes opens is = sym (opens.1 ∙ ap Some is)
 -- there is no such file to be opened
 opens_missing : (word : ℕ) (name : List ℕ) (a b : DepotState) → IsNotThere a.files name → IsAsked 1 a b →
     b.faults ≡ a.faults →
-    HasRisen a.misses b.misses → FileOutcome bytes_seen (all_of word) name a b (Err (Missing word))
+    HasRisen a.misses b.misses → FileOutcome bytes_seen (whole_file_bytes word) name a b (Err (Missing word))
 opens_missing word name a b none asked calm rose = record {
   got = None;
   is_got = none_got a.files name none;
@@ -144,14 +144,14 @@ opens_missing word name a b none asked calm rose = record {
   });
 }
 
-pub all_calls : (word : ℕ) (got : Option (List ℕ)) → 1 ≤ (all_of word got).calls
+pub all_calls : (word : ℕ) (got : Option (List ℕ)) → 1 ≤ (whole_file_bytes word got).calls
 all_calls word None = omega arith
 all_calls word (Some bytes) = omega arith
 
 -- the outside stopped it before it was opened
 opens_stopped : (word : ℕ) (name : List ℕ) (a b : DepotState) (status : Status) →
     StopCause a b status → IsAsked 1 a b → b.misses ≡ a.misses →
-    FileOutcome bytes_seen (all_of word) name a b (Err status)
+    FileOutcome bytes_seen (whole_file_bytes word) name a b (Err status)
 opens_stopped word name a b status cause asked misses =
     let g = any_got a.files name in record {
       got = g.0;
@@ -173,7 +173,7 @@ pub opens_refused : {T : Type 0} (word : ℕ) (name : List ℕ) (a b : DepotStat
     (IsErrOf {T = T} (Err fault) port.Missing → IsNotThere a.files name) →
     HasDepotCause {T = T} a.faults b.faults a.misses b.misses (Err fault) →
     IsCaused a.stops b.stops (IsErrOf {T = T} (Err fault) port.Failed) → IsAsked 1 a b →
-    FileOutcome bytes_seen (all_of word) name a b (Err (opening_status word fault))
+    FileOutcome bytes_seen (whole_file_bytes word) name a b (Err (opening_status word fault))
 opens_refused word name a b port.Missing none cause stops asked =
     opens_missing word name a b (none refl) asked (cause.no_fault (λ e. cc)) (cause.missing refl)
 opens_refused word name a b port.Failed none cause stops asked =

@@ -8,7 +8,7 @@ use Rattle.sd_ports.specs.Causes.{HasFileCause}
 use Rattle.sd_ports.specs.declared.file.FileFault.{FileFault}
 use Rattle.sd_ports.specs.declared.file.FileFault.TheVariants as file
 use Rattle.sd_command_base.specs.declared.status.Status.{Status}
-use Rattle.sd_command_base.specs.Outside.{DepotState, PageState, Outside, outside}
+use Rattle.sd_command_base.specs.Outside.{DepotState, PageState, IoState, io_state}
 use Rattle.sd_command_base.specs.Spec.{FileArgument, value}
 use Rattle.sd_command_base.specs.Work.{StepBound, Uncounted}
 use Rattle.sd_command_base.specs.Outcome.{Progress, untouched, writing, Outcome, ended, exhausted, failed, nowhere}
@@ -16,15 +16,15 @@ use Rattle.sd_command_base.specs.Outcome.{OutcomeWithin}
 use Rattle.sd_command_base.specs.Outcome.{status_of}
 use Rattle.sd_command_base.proofs.Firsts.{takes_none}
 use Rattle.sd_command_base.proofs.Moves.{comes_moved}
-use Rattle.sd_command_base.specs.Made.{out_of, making, making_told}
+use Rattle.sd_command_base.specs.Made.{out_file, making, making_told}
 
 stands_short : (most : StepBound) (word : FileArgument) (bytes : List ℕ) (a b : DepotState) (page : PageState)
     (steps : ℕ) →
     IsNoFile a.files b.files a.made b.made ⊎ IsShortFile a.files b.files a.made b.made word.text bytes →
-    Progress (Ok (making most word bytes)) (outside a page steps) (outside b page steps)
+    Progress (Ok (making most word bytes)) (io_state a page steps) (io_state b page steps)
 stands_short most word bytes a b page steps (inl none) = untouched (record { files = none.0; made = none.1 }) refl
 stands_short most word bytes a b page steps (inr cut) =
-    writing (making most word bytes) refl (out_of word bytes) refl
+    writing (making most word bytes) refl (out_file word bytes) refl
     (record { prefix = cut.0; short = cut.1; files = cut.2.0; made = cut.2.1 }) refl
 
 comes_made : (most : StepBound) (word : FileArgument) (bytes : List ℕ) (a b : DepotState) (page : PageState) (steps : ℕ)
@@ -32,14 +32,14 @@ comes_made : (most : StepBound) (word : FileArgument) (bytes : List ℕ) (a b : 
     WritesFile a.files b.files a.made b.made word.text bytes written → HasFileCause a.faults b.faults a.misses b.misses
     written →
     (¬ IsErrOf written file.Failed → b.stops ≡ a.stops) →
-    Outcome (Ok (making most word bytes)) (outside a page steps) (outside b page steps)
+    Outcome (Ok (making most word bytes)) (io_state a page steps) (io_state b page steps)
     (status_of (making_told word.number written))
 comes_made most word bytes a b page steps (Ok done) file cause stops =
     ended (making most word bytes) refl refl tt (record { files = file.made.0; made = file.made.1 })
     (Appends-nil page.printed)
     (record { depot = cause.no_fault (λ e. cc); print = refl }) (cause.no_miss (λ e. cc))
 comes_made most word bytes a b page steps (Err file.Missing) file cause stops =
-    nowhere (making most word bytes) refl (out_of word bytes) refl refl (file.missing refl).1
+    nowhere (making most word bytes) refl (out_file word bytes) refl refl (file.missing refl).1
     (record { files = (file.missing refl).0.0; made = (file.missing refl).0.1 }) refl
     (record { depot = cause.no_fault (λ e. cc); print = refl }) (cause.missing refl)
 comes_made most word bytes a b page steps (Err file.TooBig) file cause stops = absurd (file.fits refl)
@@ -58,10 +58,10 @@ pub made_obeys : (most : StepBound) (word : FileArgument) (bytes : List ℕ) (a 
     WritesFile a.files b.files a.made b.made word.text bytes written → HasFileCause a.faults b.faults a.misses b.misses
     written →
     (¬ IsErrOf written file.Failed → b.stops ≡ a.stops) → b.opened ≡ a.opened → b.calls ≤ with_added a.calls 2 →
-    OutcomeWithin (value (making most word bytes)) (outside a page steps) (outside b page steps) (status_of result)
+    OutcomeWithin (value (making most word bytes)) (io_state a page steps) (io_state b page steps) (status_of result)
 made_obeys most word bytes a b page steps written result told file cause stops ports calls =
-    subst (λ (r : Result (Unit {0}) Status). OutcomeWithin (value (making most word bytes)) (outside a page steps)
-    (outside b page steps) (status_of r)) (sym told)
+    subst (λ (r : Result (Unit {0}) Status). OutcomeWithin (value (making most word bytes)) (io_state a page steps)
+    (io_state b page steps) (status_of r)) (sym told)
     (record {
       comes = comes_made most word bytes a b page steps written file cause stops;
       ports = ports;
@@ -71,9 +71,9 @@ made_obeys most word bytes a b page steps written result told file cause stops p
 
 -- where no number of steps is said it doesn't matter how many were taken before
 pub any_steps : (word : FileArgument) (bytes : List ℕ) (a : DepotState) (page : PageState) (steps other : ℕ)
-    (b : Outside) (status : Status) →
-    OutcomeWithin (value (making Uncounted word bytes)) (outside a page steps) b status →
-    OutcomeWithin (value (making Uncounted word bytes)) (outside a page other) b status
+    (b : IoState) (status : Status) →
+    OutcomeWithin (value (making Uncounted word bytes)) (io_state a page steps) b status →
+    OutcomeWithin (value (making Uncounted word bytes)) (io_state a page other) b status
 any_steps word bytes a page steps other b status h = record {
   comes = comes_moved (Ok (making Uncounted word bytes)) a page a.calls steps other b status h.comes;
   ports = h.ports;

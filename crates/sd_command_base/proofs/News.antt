@@ -16,15 +16,15 @@ use Rattle.sd_ports.specs.declared.file.New.TheVariants as new
 use Rattle.sd_command_base.specs.declared.status.Status.{Status}
 use Rattle.sd_command_base.specs.declared.status.Status.TheVariants.{BadOut}
 use Rattle.sd_command_base.specs.declared.status.OutCause.TheVariants.{There}
-use Rattle.sd_command_base.specs.Outside.{DepotState, PageState, Outside, outside}
-use Rattle.sd_command_base.specs.Spec.{Spec, FileArgument, Readings, contents_of, IsGiven, IsGot, ◌>>=◌}
+use Rattle.sd_command_base.specs.Outside.{DepotState, PageState, IoState, io_state}
+use Rattle.sd_command_base.specs.Spec.{Spec, FileArgument, Readings, contents_of, AreReadingsOfFiles, IsReadingOfFile, ◌>>=◌}
 use Rattle.sd_command_base.specs.Work.{all_calls}
 use Rattle.sd_command_base.specs.Outcome.{StopsFirst, Progress, untouched, writing, printing, Outcome}
 use Rattle.sd_command_base.specs.Outcome.{refused, ended, exhausted, failed, nowhere, cut_off, OutcomeWithin}
 use Rattle.sd_command_base.specs.Outcome.{Implements, status_of, IsEnding}
 use Rattle.sd_command_base.specs.Prints.{PrintsWork}
 use Rattle.sd_command_base.specs.Reads.{FilesOutcome}
-use Rattle.sd_command_base.specs.Made.{NewFile, out_of, new_work, making_new, making_told, IsMadeNew}
+use Rattle.sd_command_base.specs.Made.{NewFile, out_file, new_work, making_new, making_told, IsMadeNew}
 use Rattle.sd_command_base.specs.Made.{NewOutcome, NewStep}
 use Rattle.sd_command_base.proofs.Moves.{then_obeys}
 use Rattle.sd_command_base.proofs.Firsts.{takes_none, first_obeys}
@@ -32,7 +32,7 @@ use Rattle.sd_command_base.proofs.Givens.{some_got}
 
 -- a file that is there gave some bytes
 pub there_got : (files : Option Files) (name : List ℕ) → IsThere files name →
-    (bytes : List ℕ) × IsGot files name (Some bytes)
+    (bytes : List ℕ) × IsReadingOfFile files name (Some bytes)
 there_got None name there = ([], tt)
 there_got (Some files) name there = is_there (get files name) there
   where
@@ -41,13 +41,13 @@ there_got (Some files) name there = is_there (get files name) there
     is_there None some = absurd (let h = some in cc)
 
 -- a file that isn't there gave nothing
-pub free_got : (files : Option Files) (name : List ℕ) → IsNotThere files name → IsGot files name None
+pub free_got : (files : Option Files) (name : List ℕ) → IsNotThere files name → IsReadingOfFile files name None
 free_got None name free = tt
 free_got (Some files) name free = sym free
 
 -- nothing says whether a file is there whose depot doesn't tell its files
-untold_got : (files : Option Files) (name : List ℕ) → files ≡ None → IsGot files name None
-untold_got files name is = subst (λ (f : Option Files). IsGot f name None) (sym is) tt
+untold_got : (files : Option Files) (name : List ℕ) → files ≡ None → IsReadingOfFile files name None
+untold_got files name is = subst (λ (f : Option Files). IsReadingOfFile f name None) (sym is) tt
 
 -- making a new file takes at most two calls, whatever has its name
 new_calls : (made : NewFile) (out : FileArgument) (got : Option (List ℕ)) → all_calls (making_new made out got) ≡ 2
@@ -68,10 +68,10 @@ answer_of word (Err fault) = making_told word (Err fault)
 
 module _ (made : NewFile) (out : FileArgument) (a b : DepotState) (page : PageState) (steps : ℕ) where
   -- where the calls and the ports are these, an outcome is all
-  within : (got : Option (List ℕ)) (status : Status) → IsGot a.files out.text got → b.opened ≡ a.opened →
+  within : (got : Option (List ℕ)) (status : Status) → IsReadingOfFile a.files out.text got → b.opened ≡ a.opened →
       b.calls ≤ with_added a.calls 2 →
-      Outcome (making_new made out got).result (outside a page steps) (outside b page steps) status →
-      NewOutcome made out (outside a page steps) (outside b page steps) status
+      Outcome (making_new made out got).result (io_state a page steps) (io_state b page steps) status →
+      NewOutcome made out (io_state a page steps) (io_state b page steps) status
   within got status is_got ports calls comes = record {
     got = got;
     is_got = is_got;
@@ -85,7 +85,7 @@ module _ (made : NewFile) (out : FileArgument) (a b : DepotState) (page : PageSt
 
   -- something has the name
   was_there : (bytes : List ℕ) → IsNoFile a.files b.files a.made b.made → b.faults ≡ a.faults → b.misses ≡ a.misses →
-      Outcome (making_new made out (Some bytes)).result (outside a page steps) (outside b page steps)
+      Outcome (making_new made out (Some bytes)).result (io_state a page steps) (io_state b page steps)
       (BadOut out.number There)
   was_there bytes none calm misses =
       refused refl tt (record { files = none.0; made = none.1 }) refl (record { depot = calm; print = refl })
@@ -93,14 +93,14 @@ module _ (made : NewFile) (out : FileArgument) (a b : DepotState) (page : PageSt
 
   -- the file was not made
   not_made : (got : Option (List ℕ)) → IsNoFile a.files b.files a.made b.made →
-      Progress (making_new made out got).result (outside a page steps) (outside b page steps)
+      Progress (making_new made out got).result (io_state a page steps) (io_state b page steps)
   not_made got none = untouched (record { files = none.0; made = none.1 }) refl
 
   -- a prefix of the file was made
   made_short : IsShortFile a.files b.files a.made b.made out.text made.bytes →
-      Progress (making_new made out None).result (outside a page steps) (outside b page steps)
+      Progress (making_new made out None).result (io_state a page steps) (io_state b page steps)
   made_short cut =
-      writing (new_work made out) refl (out_of out made.bytes) refl
+      writing (new_work made out) refl (out_file out made.bytes) refl
       (record { prefix = cut.0; short = cut.1; files = cut.2.0; made = cut.2.1 }) refl
 
   -- the device failed at the file
@@ -108,7 +108,7 @@ module _ (made : NewFile) (out : FileArgument) (a b : DepotState) (page : PageSt
       HasFileCause {T = New} a.faults b.faults a.misses b.misses (Err file.Failed) →
       IsNoFile a.files b.files a.made b.made
       ⊎ (IsNotThere a.files out.text × IsShortFile a.files b.files a.made b.made out.text made.bytes) →
-      NewStep made out (outside a page steps) (outside b page steps) (answer_of out.number (Err file.Failed))
+      NewStep made out (io_state a page steps) (io_state b page steps) (answer_of out.number (Err file.Failed))
   device_failed ports calls cause (inl none) =
       let got = some_got a.files out.text in
       within got.0 _ got.1 ports calls (failed refl (not_made got.0 none) (cause.failed refl)
@@ -123,7 +123,7 @@ module _ (made : NewFile) (out : FileArgument) (a b : DepotState) (page : PageSt
       HasFileCause a.faults b.faults a.misses b.misses written →
       (¬ IsErrOf written file.Failed → b.stops ≡ a.stops) → b.opened ≡ a.opened →
       CountsNewCalls a.calls b.calls written →
-      NewStep made out (outside a page steps) (outside b page steps) (answer_of out.number written)
+      NewStep made out (io_state a page steps) (io_state b page steps) (answer_of out.number written)
   new_steps (Ok new.Made) file cause stops ports calls = record {
     new = (file.made refl).0;
     made = record { files = (file.made refl).1.0; made = (file.made refl).1.1 };
@@ -139,7 +139,7 @@ module _ (made : NewFile) (out : FileArgument) (a b : DepotState) (page : PageSt
       (cause.no_miss (λ e. cc)))
   new_steps (Err file.Missing) file cause stops ports calls =
       within None _ (untold_got a.files out.text (file.missing refl).1) ports calls.most
-      (nowhere (new_work made out) refl (out_of out made.bytes) refl refl (file.missing refl).1
+      (nowhere (new_work made out) refl (out_file out made.bytes) refl refl (file.missing refl).1
       (record { files = (file.missing refl).0.0; made = (file.missing refl).0.1 }) refl
       (record { depot = cause.no_fault (λ e. cc); print = refl }) (cause.missing refl))
   new_steps (Err file.TooBig) file cause stops ports calls = absurd (file.fits refl)
@@ -156,15 +156,15 @@ module _ (made : NewFile) (out : FileArgument) (a b : DepotState) (page : PageSt
       HasFileCause a.faults b.faults a.misses b.misses written →
       (¬ IsErrOf written file.Failed → b.stops ≡ a.stops) → b.opened ≡ a.opened →
       CountsNewCalls a.calls b.calls written →
-      NewStep made out (outside a page steps) (outside b page steps) result
+      NewStep made out (io_state a page steps) (io_state b page steps) result
   new_obeys written result told file cause stops ports calls =
-      subst (λ (r : Result (Unit {0}) Status). NewStep made out (outside a page steps) (outside b page steps) r)
+      subst (λ (r : Result (Unit {0}) Status). NewStep made out (io_state a page steps) (io_state b page steps) r)
       (sym told) (new_steps written file cause stops ports calls)
 
   -- a new file that was made, and then its pieces printed
-  pub new_then : (now : PageState) (status : Status) → IsMadeNew (out_of out made.bytes) a b →
+  pub new_then : (now : PageState) (status : Status) → IsMadeNew (out_file out made.bytes) a b →
       PrintsWork (new_work made out) page now status →
-      NewOutcome made out (outside a page steps) (outside b now steps) status
+      NewOutcome made out (io_state a page steps) (io_state b now steps) status
   new_then now status h prints = record {
     got = None;
     is_got = free_got a.files out.text h.new;
@@ -184,8 +184,8 @@ module _ (made : NewFile) (out : FileArgument) (a b : DepotState) (page : PageSt
 -- a new file after which nothing is printed
 pub new_alone : (bytes : List ℕ) (out : FileArgument) (a b : DepotState) (page : PageState) (steps : ℕ)
     (result : Result (Unit {0}) Status) →
-    NewStep (record { bytes = bytes; pieces = [] }) out (outside a page steps) (outside b page steps) result →
-    NewOutcome (record { bytes = bytes; pieces = [] }) out (outside a page steps) (outside b page steps)
+    NewStep (record { bytes = bytes; pieces = [] }) out (io_state a page steps) (io_state b page steps) result →
+    NewOutcome (record { bytes = bytes; pieces = [] }) out (io_state a page steps) (io_state b page steps)
     (status_of result)
 new_alone bytes out a b page steps (Ok done) h =
     new_then (record { bytes = bytes; pieces = [] }) out a b page steps page _ h
@@ -196,12 +196,12 @@ new_alone bytes out a b page steps (Err status) h = h
 pub record GivenMore (files : Option Files) (given : Readings) (word : FileArgument) (got : Option (List ℕ)) :
     Type 0 where
   pub readings : Readings
-  pub is_given : IsGiven files readings
+  pub is_given : AreReadingsOfFiles files readings
   pub gave : readings word ≡ got
   pub others : (other : FileArgument) → other.number ≢ word.number → readings other ≡ given other
 
 pub given_more : (files : Option Files) (given : Readings) (word : FileArgument) (got : Option (List ℕ)) →
-    IsGiven files given → IsGot files word.text got → GivenMore files given word got
+    AreReadingsOfFiles files given → IsReadingOfFile files word.text got → GivenMore files given word got
 given_more None given word got h k = record {
   readings = λ w. cond (nat_eq w.number word.number) got (given w);
   is_given = tt;
@@ -224,8 +224,8 @@ module _ {X Y : Type 0} (view : X → Y) (meant : Readings → Spec Y) (made : Y
     (p q : DepotState) (page : PageState) (steps : ℕ) where
   -- files that were refused, or not read, and so no file is made
   pub new_unread : (status : Status) → FilesOutcome view meant p q (Err status) →
-      Implements (λ given. meant given >>= λ y. making_new (made y) out (given out)) (outside p page steps)
-      (outside q page steps) status
+      Implements (λ given. meant given >>= λ y. making_new (made y) out (given out)) (io_state p page steps)
+      (io_state q page steps) status
   new_unread status h = record {
     given = h.given;
     is_given = h.is_given;
@@ -233,19 +233,19 @@ module _ {X Y : Type 0} (view : X → Y) (meant : Readings → Spec Y) (made : Y
   }
 
   -- files that were read, and then a new file by what they gave
-  pub new_follows : (b : Outside) (x : X) (status : Status) → IsOfOthers out meant →
-      FilesOutcome view meant p q (Ok x) → NewOutcome (made (view x)) out (outside q page steps) b status →
-      Implements (λ given. meant given >>= λ y. making_new (made y) out (given out)) (outside p page steps) b status
+  pub new_follows : (b : IoState) (x : X) (status : Status) → IsOfOthers out meant →
+      FilesOutcome view meant p q (Ok x) → NewOutcome (made (view x)) out (io_state q page steps) b status →
+      Implements (λ given. meant given >>= λ y. making_new (made y) out (given out)) (io_state p page steps) b status
   new_follows b x status others h new =
-      let is_got : IsGot p.files out.text new.got = subst (λ (f : Option Files). IsGot f out.text new.got)
+      let is_got : IsReadingOfFile p.files out.text new.got = subst (λ (f : Option Files). IsReadingOfFile f out.text new.got)
       (ap (λ (z : DepotState). z.files) h.gives.1) new.is_got in
       let g = given_more p.files h.given out new.got h.is_given is_got in
       record {
         given = g.readings;
         is_given = g.is_given;
         obeyed = subst (λ (got : Option (List ℕ)). OutcomeWithin
-            (meant g.readings >>= λ y. making_new (made y) out got) (outside p page steps) b status) (sym g.gave)
-            (subst (λ (s : Spec Y). OutcomeWithin (s >>= λ y. making_new (made y) out new.got) (outside p page steps) b
+            (meant g.readings >>= λ y. making_new (made y) out got) (io_state p page steps) b status) (sym g.gave)
+            (subst (λ (s : Spec Y). OutcomeWithin (s >>= λ y. making_new (made y) out new.got) (io_state p page steps) b
             status) (sym (others h.given g.readings g.others))
             (then_obeys (meant h.given) (view x) (λ y. making_new (made y) out new.got) p q page steps b status
             h.gives.0 h.gives.1 new.obeyed));

@@ -16,14 +16,14 @@ use Rattle.sd_command_base.specs.declared.status.LimitKind.TheVariants.{SiteByte
 use Rattle.sd_command_base.specs.declared.bad_line.BadLine.{BadLine}
 use Rattle.sd_command_base.specs.declared.bad_line.LineCause.TheVariants.{Unended}
 use Rattle.sd_command_base.specs.BadLines.{bad_line}
-use Rattle.sd_command_base.specs.Spec.{Spec, FileArgument, and_then, all_of, judged, value, within, ◌>>=◌}
+use Rattle.sd_command_base.specs.Spec.{Spec, FileArgument, and_then, whole_file_bytes, of_result, value, within, ◌>>=◌}
 use Rattle.sd_command_base.specs.Both.{both_by}
-use Rattle.sd_command_base.specs.Files.{told_site, told_book, told_low, site_of_file, book_of_file, low_site_of_file}
+use Rattle.sd_command_base.specs.Files.{site_or_status, book_or_status, low_site_or_status, site_of_file, book_of_file, low_site_of_file}
 use Rattle.sd_command_base.specs.Files.{most_book_bytes, most_site_bytes, BookText, ends_lines, begins_with_book}
-use Rattle.sd_command_base.specs.Files.{is_book, told_own, own_book_of_file, told_whole, told_longer}
+use Rattle.sd_command_base.specs.Files.{is_book, own_book_or_status, own_book_of_file, whole_book_or_status, longer_book_or_status}
 use Rattle.sd_command_base.specs.Files.{longer_book_of_file}
 use Rattle.sd_command_base.specs.Made.{NewFile, making_new}
-use Rattle.sd_command_base.specs.Leaves.{told_leaves, leaves_of_file}
+use Rattle.sd_command_base.specs.Leaves.{leaves_or_status, leaves_of_file}
 use Rattle.sd_command_base.specs.Text.{leaves_of_text}
 
 -- no step but the words' own answers `Usage`
@@ -44,16 +44,16 @@ pub other_file : (word most : ℕ) (kind : LimitKind) (got : Option (List ℕ)) 
 other_file word most kind None = λ e. cc
 other_file word most kind (Some bytes) = other_limit (nat_lt most (length bytes)) (Limit kind) bytes (λ e. cc)
 
-pub other_stream : (word : ℕ) (got : Option (List ℕ)) → IsOther (all_of word got).result
+pub other_stream : (word : ℕ) (got : Option (List ℕ)) → IsOther (whole_file_bytes word got).result
 other_stream word None = λ e. cc
 other_stream word (Some bytes) = tt
 
-other_site : (word : ℕ) (bytes : List ℕ) (r : Result SiteFields SiteFault) → IsOther (told_site word bytes r)
+other_site : (word : ℕ) (bytes : List ℕ) (r : Result SiteFields SiteFault) → IsOther (site_or_status word bytes r)
 other_site word bytes (Ok site) = tt
 other_site word bytes (Err fault) = λ e. cc
 
 pub other_book : (word d : ℕ) (bytes : List ℕ) (r : Result (List Command) BookFault) →
-    IsOther (told_book word d bytes r)
+    IsOther (book_or_status word d bytes r)
 other_book word d bytes (Ok commands) = tt
 other_book word d bytes (Err (book.Line k)) = λ e. cc
 other_book word d bytes (Err (book.Leaf k)) = λ e. cc
@@ -64,7 +64,7 @@ pub other_site_file : (word : ℕ) (got : Option (List ℕ)) → IsOther (site_o
 unfolding site_of_file
 other_site_file word got =
     other_after (within word most_site_bytes SiteBytes got).calls (within word most_site_bytes SiteBytes got).result
-    (λ bytes. judged (told_site word bytes (site_of bytes))) (other_file word most_site_bytes SiteBytes got)
+    (λ bytes. of_result (site_or_status word bytes (site_of bytes))) (other_file word most_site_bytes SiteBytes got)
     (λ bytes. other_site word bytes (site_of bytes))
 
 other_height : (high : Bool) (kind : LimitKind) (site : SiteFields) → IsOther (cond high (Err (Limit kind)) (Ok site))
@@ -75,14 +75,14 @@ pub other_low_site : (word most : ℕ) (kind : LimitKind) (got : Option (List �
     IsOther (low_site_of_file word most kind got).result
 unfolding low_site_of_file
 other_low_site word most kind got =
-    other_after (site_of_file word got).calls (site_of_file word got).result (λ site. judged (told_low most kind site))
+    other_after (site_of_file word got).calls (site_of_file word got).result (λ site. of_result (low_site_or_status most kind site))
     (other_site_file word got) (λ site. other_height (nat_lt most site.height) kind site)
 
 pub other_book_file : (word d : ℕ) (got : Option (List ℕ)) → IsOther (book_of_file word d got).result
 unfolding book_of_file
 other_book_file word d got =
     other_after (within word most_book_bytes BookBytes got).calls (within word most_book_bytes BookBytes got).result
-    (λ bytes. judged (told_book word d bytes (book_of d bytes))) (other_file word most_book_bytes BookBytes got)
+    (λ bytes. of_result (book_or_status word d bytes (book_of d bytes))) (other_file word most_book_bytes BookBytes got)
     (λ bytes. other_book word d bytes (book_of d bytes))
 
 pub other_both : (site book : ℕ) (site_got book_got : Option (List ℕ)) →
@@ -97,7 +97,7 @@ other_both site book site_got book_got =
     (λ commands. value (record { site = fields; commands = commands })) (other_book_file book fields.height book_got)
     (λ commands. tt))
 
-pub other_leaves : (word d : ℕ) (bytes : List ℕ) (r : Result (List ℕ) ℕ) → IsOther (told_leaves word d bytes r)
+pub other_leaves : (word d : ℕ) (bytes : List ℕ) (r : Result (List ℕ) ℕ) → IsOther (leaves_or_status word d bytes r)
 other_leaves word d bytes (Ok leaves) = tt
 other_leaves word d bytes (Err k) = λ e. cc
 
@@ -105,7 +105,7 @@ pub other_leaves_file : (word d : ℕ) (got : Option (List ℕ)) → IsOther (le
 unfolding leaves_of_file
 other_leaves_file word d got =
     other_after (within word most_book_bytes BookBytes got).calls (within word most_book_bytes BookBytes got).result
-    (λ bytes. judged (told_leaves word d bytes (leaves_of_text d bytes)))
+    (λ bytes. of_result (leaves_or_status word d bytes (leaves_of_text d bytes)))
     (other_file word most_book_bytes BookBytes got)
     (λ bytes. other_leaves word d bytes (leaves_of_text d bytes))
 
@@ -119,8 +119,8 @@ pub other_own_book_file : (word d : ℕ) (line : Option BookLine) (got : Option 
 unfolding own_book_of_file
 other_own_book_file word d line got =
     other_after (within word most_book_bytes BookBytes got).calls (within word most_book_bytes BookBytes got).result
-    (λ bytes. judged (told_own word d line bytes)) (other_file word most_book_bytes BookBytes got)
-    (λ bytes. other_own (is_book line bytes) (told_book word d bytes (book_of d bytes))
+    (λ bytes. of_result (own_book_or_status word d line bytes)) (other_file word most_book_bytes BookBytes got)
+    (λ bytes. other_own (is_book line bytes) (book_or_status word d bytes (book_of d bytes))
     (other_book word d bytes (book_of d bytes)))
 
 other_ended : (ends : Bool) (word : ℕ) (line : BadLine) (bytes : List ℕ) (commands : List Command) →
@@ -130,7 +130,7 @@ other_ended true word line bytes commands = tt
 other_ended false word line bytes commands = λ e. cc
 
 other_whole : (word : ℕ) (bytes : List ℕ) (told : Result (List Command) Status) → IsOther told →
-    IsOther (told_whole word bytes told)
+    IsOther (whole_book_or_status word bytes told)
 other_whole word bytes (Ok commands) h =
     other_ended (ends_lines bytes) word (bad_line Unended (length commands) bytes) bytes commands
 other_whole word bytes (Err status) h = h
@@ -145,10 +145,10 @@ pub other_longer_book_file : (word d : ℕ) (line : Option BookLine) (got : Opti
 unfolding longer_book_of_file
 other_longer_book_file word d line got =
     other_after (within word most_book_bytes BookBytes got).calls (within word most_book_bytes BookBytes got).result
-    (λ bytes. judged (told_longer word d line bytes)) (other_file word most_book_bytes BookBytes got)
+    (λ bytes. of_result (longer_book_or_status word d line bytes)) (other_file word most_book_bytes BookBytes got)
     (λ bytes. other_longer (begins_with_book line bytes)
-    (told_whole word bytes (told_book word d bytes (book_of d bytes)))
-    (other_whole word bytes (told_book word d bytes (book_of d bytes)) (other_book word d bytes (book_of d bytes))))
+    (whole_book_or_status word bytes (book_or_status word d bytes (book_of d bytes)))
+    (other_whole word bytes (book_or_status word d bytes (book_of d bytes)) (other_book word d bytes (book_of d bytes))))
 
 -- no file that must be new answers it
 pub other_new : (made : NewFile) (out : FileArgument) (got : Option (List ℕ)) → IsOther (making_new made out got).result

@@ -4,7 +4,7 @@ use Rattle.std.specs.Io.KnownBytes.{Appends}
 use Rattle.std.proofs.KnownBytes.{Appends-nil}
 use Rattle.sd_ports.specs.Bytes.{AppendsPrefix}
 use Rattle.sd_command_base.specs.declared.status.Status.{Status}
-use Rattle.sd_command_base.specs.Outside.{DepotState, PageState, outside}
+use Rattle.sd_command_base.specs.Outside.{DepotState, PageState, io_state}
 use Rattle.sd_command_base.specs.Spec.{value}
 use Rattle.sd_command_base.specs.Outcome.{IsEnding, untouched, ended, exhausted, cut_off, OutcomeWithin}
 use Rattle.sd_command_base.specs.Prints.{PrintsText}
@@ -13,7 +13,7 @@ use Rattle.sd_command_base.specs.Printed.{MemoryOutcome, printing}
 -- a text, and then its printing
 pub text_printed : (text : List ℕ) (q : DepotState) (page now : PageState) (steps more : ℕ) (status : Status) →
     PrintsText text page now status →
-    OutcomeWithin (value (printing (Ok text))) (outside q page steps) (outside q now more) status
+    OutcomeWithin (value (printing (Ok text))) (io_state q page steps) (io_state q now more) status
 text_printed text q page now steps more status (inl all) = record {
   comes = ended (printing (Ok text)) refl all.0 (subst IsEnding (sym all.0) tt) (record { files = refl; made = refl })
       (subst (λ (xs : List ℕ). Appends page.printed now.printed xs) (sym (append-nil text)) all.1)
@@ -35,10 +35,10 @@ text_printed text q page now steps more status (inr cut) = record {
 pub nothing_printed : {X : Type 0} (view : X →
     List ℕ) (meant : Result (List ℕ) Status) (q : DepotState) (page : PageState)
     (steps more : ℕ) (status : Status) → MemoryOutcome view meant (Err status) →
-    OutcomeWithin (value (printing meant)) (outside q page steps) (outside q page more) status
+    OutcomeWithin (value (printing meant)) (io_state q page steps) (io_state q page more) status
 nothing_printed view meant q page steps more status (inl told) =
     subst (λ (r : Result (List ℕ) Status). OutcomeWithin
-    (value (printing r)) (outside q page steps) (outside q page more) status)
+    (value (printing r)) (io_state q page steps) (io_state q page more) status)
     (sym told.0)
     (record {
       comes = ended (printing (Err status)) refl refl told.1 (record { files = refl; made = refl })

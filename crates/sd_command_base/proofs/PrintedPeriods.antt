@@ -15,7 +15,7 @@ use Rattle.sd_command_base.specs.declared.status.Status.{Status}
 use Rattle.sd_command_base.specs.declared.status.Status.TheVariants.{Done, NoMemory}
 use Rattle.sd_command_base.specs.Outside.{PageState}
 use Rattle.sd_command_base.specs.Prints.{PrintsWork, PrintsPiece}
-use Rattle.sd_command_base.specs.Periods.{first_texts, printing}
+use Rattle.sd_command_base.specs.Periods.{first_texts, printing_texts}
 
 -- a period that is found is none after the last
 pub is_inside : (last q : ℕ) → IsNone {T = ℕ} (Some 0) ↔ (last < q) → q ≤ last
@@ -95,7 +95,7 @@ take_first texts rest =
 
 -- some first texts were printed, and then memory was out
 pub some_printed : (text : ℕ → List ℕ) (last n : ℕ) (a b : PageState) → n ≤ last + 1 → ArePrinted text n a b →
-    PrintsWork (printing text last) a b NoMemory
+    PrintsWork (printing_texts text last) a b NoMemory
 some_printed text last n a b within before =
     let texts = first_texts text n in
     let all = all_texts text last n within in
@@ -111,7 +111,7 @@ some_printed text last n a b within before =
 
 -- a text that was not printed whole
 pub one_failed : (text : ℕ → List ℕ) (last n : ℕ) (a b c : PageState) (status : Status) → n ≤ last →
-    ArePrinted text n a b → status ≢ Done → PrintsPiece (text n) b c status → PrintsWork (printing text last) a c status
+    ArePrinted text n a b → status ≢ Done → PrintsPiece (text n) b c status → PrintsWork (printing_texts text last) a c status
 one_failed text last n a b c status within before other (inl (inl all)) = absurd (other all.0)
 one_failed text last n a b c status within before other (inl (inr cut)) =
     let texts = first_texts text (n + 1) in
@@ -126,6 +126,6 @@ one_failed text last n a b c status within before other (inl (inr cut)) =
       subst (λ (k : ℕ). HasRisen k c.faults) before.calm cut.2,
     ))
 one_failed text last n a b c status within before other (inr none) =
-    subst (λ (s : Status). PrintsWork (printing text last) a c s) (sym none.0)
-    (subst (λ (z : PageState). PrintsWork (printing text last) a z NoMemory) (sym none.1)
+    subst (λ (s : Status). PrintsWork (printing_texts text last) a c s) (sym none.0)
+    (subst (λ (z : PageState). PrintsWork (printing_texts text last) a z NoMemory) (sym none.1)
     (some_printed text last n a b (omega (arith, within)) before))

@@ -9,19 +9,19 @@ use Rattle.sd_ports.specs.Files.{Files}
 use Rattle.sd_command_base.specs.declared.status.Status.{Status}
 use Rattle.sd_command_base.specs.declared.status.Status.TheVariants.{Done, Usage, Missing, DepotFault, PrintFault}
 use Rattle.sd_command_base.specs.declared.status.Status.TheVariants.{NoMemory}
-use Rattle.sd_command_base.specs.Texts.{line_of}
-use Rattle.sd_command_base.specs.Outside.{PageState, Outside}
-use Rattle.sd_command_base.specs.Spec.{Spec, Readings, contents_of, IsGiven}
+use Rattle.sd_command_base.specs.Texts.{line_of_status}
+use Rattle.sd_command_base.specs.Outside.{PageState, IoState}
+use Rattle.sd_command_base.specs.Spec.{Spec, Readings, contents_of, AreReadingsOfFiles}
 use Rattle.sd_command_base.specs.Work.{Work}
 use Rattle.sd_command_base.specs.Outcome.{IsRefusal, IsEnding, Outcome, refused, ended, unclosed, exhausted, failed}
 use Rattle.sd_command_base.specs.Outcome.{unmarked, nowhere}
 use Rattle.sd_command_base.specs.Outcome.{cut_off, cut_short, Implements}
-use Rattle.sd_command_base.specs.Results.{TakesMemory, PrintsStatusLine, with_page, RunResult, HasAnswerCause}
+use Rattle.sd_command_base.specs.Results.{IsLineInMemory, PrintsStatusLine, with_page, RunResult, HasAnswerCause}
 use Rattle.sd_command_base.specs.Results.{IsMeant}
 use Rattle.sd_command_base.specs.Results.{IsToldAs}
 
 -- work that is done has no line, and so has a failed print
-pub no_line : (page : PageState) (status : Status) → line_of status ≡ [] → PrintsStatusLine page page status status
+pub no_line : (page : PageState) (status : Status) → line_of_status status ≡ [] → PrintsStatusLine page page status status
 no_line page status e = record {
   line = status;
   of = inl refl;
@@ -34,16 +34,16 @@ no_line page status e = record {
 }
 
 -- a command that was done, or whose print failed, has no line to tell
-pub done_line : line_of Done ≡ []
-unfolding line_of
+pub done_line : line_of_status Done ≡ []
+unfolding line_of_status
 done_line = refl
 
-pub cut_line : line_of PrintFault ≡ []
-unfolding line_of
+pub cut_line : line_of_status PrintFault ≡ []
+unfolding line_of_status
 cut_line = refl
 
 -- a command whose status has no line answers it
-pub lineless_answers : (meant : Readings → Spec Work) (a b : Outside) (status : Status) → line_of status ≡ [] →
+pub lineless_answers : (meant : Readings → Spec Work) (a b : IoState) (status : Status) → line_of_status status ≡ [] →
     Implements meant a b status →
     RunResult meant a b status
 lineless_answers meant a b status e h =
@@ -79,7 +79,7 @@ rose_on a b c (inl e) h = subst (λ (n : ℕ). HasRisen n c) e h
 rose_on a b c (inr r) h = omega arith
 
 -- the count of print is as before, or rose
-page_later : (meant : Result Work Status) (a b : Outside) (status : Status) → Outcome meant a b status →
+page_later : (meant : Result Work Status) (a b : IoState) (status : Status) → Outcome meant a b status →
     (b.page.faults ≡ a.page.faults) ⊎ HasRisen a.page.faults b.page.faults
 page_later meant a b status (refused e r h k c m) = inl c.print
 page_later meant a b status (ended work e s i h k c m) = inl c.print
@@ -92,7 +92,7 @@ page_later meant a b status (cut_off work e s h k r c m) = inr r
 page_later meant a b status (cut_short work e l s out f h k r m) = inr r
 
 -- it is as before where printing didn't fail
-page_calm : (meant : Result Work Status) (a b : Outside) (status : Status) → Outcome meant a b status →
+page_calm : (meant : Result Work Status) (a b : IoState) (status : Status) → Outcome meant a b status →
     status ≢ PrintFault → b.page.faults ≡ a.page.faults
 page_calm meant a b status (refused e r h k c m) n = c.print
 page_calm meant a b status (ended work e s i h k c m) n = c.print
@@ -105,7 +105,7 @@ page_calm meant a b status (cut_off work e s h k r c m) n = absurd (n s)
 page_calm meant a b status (cut_short work e l s out f h k r m) n = absurd (n s)
 
 -- a print fault of the command itself
-print_failed : (meant : Result Work Status) (a b : Outside) (status : Status) → Outcome meant a b status →
+print_failed : (meant : Result Work Status) (a b : IoState) (status : Status) → Outcome meant a b status →
     status ≡ PrintFault → HasRisen a.page.faults b.page.faults
 print_failed meant a b status (refused e r h k c m) is = absurd (subst IsRefusal is r)
 print_failed meant a b status (ended work e s i h k c m) is = absurd (subst IsEnding is i)
@@ -117,7 +117,7 @@ print_failed meant a b status (nowhere work e out f s n h k c m) is = absurd (le
 print_failed meant a b status (cut_off work e s h k r c m) is = r
 print_failed meant a b status (cut_short work e l s out f h k r m) is = r
 
-depot_failed : (meant : Result Work Status) (a b : Outside) (status : Status) → Outcome meant a b status →
+depot_failed : (meant : Result Work Status) (a b : IoState) (status : Status) → Outcome meant a b status →
     status ≡ DepotFault → HasRisen a.place.faults b.place.faults
 depot_failed meant a b status (refused e r h k c m) is = absurd (subst IsRefusal is r)
 depot_failed meant a b status (ended work e s i h k c m) is = absurd (subst IsEnding is i)
@@ -129,7 +129,7 @@ depot_failed meant a b status (nowhere work e out f s n h k c m) is = absurd (le
 depot_failed meant a b status (cut_off work e s h k r c m) is = absurd (let x = sym s ∙ is in cc)
 depot_failed meant a b status (cut_short work e l s out f h k r m) is = absurd (let x = sym s ∙ is in cc)
 
-was_missing : (meant : Result Work Status) (a b : Outside) (status : Status) (word : ℕ) → Outcome meant a b status →
+was_missing : (meant : Result Work Status) (a b : IoState) (status : Status) (word : ℕ) → Outcome meant a b status →
     status ≡ Missing word → HasRisen a.place.misses b.place.misses
 was_missing meant a b status word (refused e r h k c m) is = m.missing word is
 was_missing meant a b status word (ended work e s i h k c m) is = absurd (subst IsEnding is i)
@@ -141,7 +141,7 @@ was_missing meant a b status word (nowhere work e out f s n h k c m) is = m
 was_missing meant a b status word (cut_off work e s h k r c m) is = absurd (let x = sym s ∙ is in cc)
 was_missing meant a b status word (cut_short work e l s out f h k r m) is = absurd (let x = sym s ∙ is in cc)
 
-was_done : (meant : Result Work Status) (a b : Outside) (status : Status) → Outcome meant a b status → status ≡ Done →
+was_done : (meant : Result Work Status) (a b : IoState) (status : Status) → Outcome meant a b status → status ≡ Done →
     b.place.faults ≡ a.place.faults
 was_done meant a b status (refused e r h k c m) is = absurd (subst IsRefusal is r)
 was_done meant a b status (ended work e s i h k c m) is = c.depot
@@ -153,15 +153,15 @@ was_done meant a b status (nowhere work e out f s n h k c m) is = absurd (let x 
 was_done meant a b status (cut_off work e s h k r c m) is = absurd (let x = sym s ∙ is in cc)
 was_done meant a b status (cut_short work e l s out f h k r m) is = absurd (let x = sym s ∙ is in cc)
 
-whole_line : (meant : Result Work Status) (a b : Outside) (status line answer : Status) → Outcome meant a b status →
-    (line ≡ status) ⊎ (TakesMemory status × (line ≡ NoMemory)) → answer ≡ line → answer ≢ PrintFault → b.page.faults
+whole_line : (meant : Result Work Status) (a b : IoState) (status line answer : Status) → Outcome meant a b status →
+    (line ≡ status) ⊎ (IsLineInMemory status × (line ≡ NoMemory)) → answer ≡ line → answer ≢ PrintFault → b.page.faults
     ≡ a.page.faults
 whole_line meant a b status line answer comes (inl own) e n = page_calm meant a b status comes (λ is. n (e ∙ own ∙ is))
 whole_line meant a b status line answer comes (inr other) e n =
-    page_calm meant a b status comes (λ is. subst TakesMemory is other.0)
+    page_calm meant a b status comes (λ is. subst IsLineInMemory is other.0)
 
 -- an answer has its cause
-pub causes : (meant : Readings → Spec Work) (a b : Outside) (answer : Status) → RunResult meant a b answer →
+pub causes : (meant : Readings → Spec Work) (a b : IoState) (answer : Status) → RunResult meant a b answer →
     HasAnswerCause a b answer
 causes meant a b answer h =
     let comes = h.obeyed.obeyed.comes in
@@ -197,7 +197,7 @@ out_of_memory (Ok work) answer e = inr e
 out_of_memory (Err status) answer e = inr e
 
 -- the status of a command is the one that is meant where no device failed
-own_meant : (meant : Result Work Status) (files : Files) (a b : Outside) (status answer : Status) → a.place.files
+own_meant : (meant : Result Work Status) (files : Files) (a b : IoState) (status answer : Status) → a.place.files
     ≡ Some files →
     IsStill a.place.faults b.place.faults → (HasRisen a.page.faults b.page.faults → ⊥) → Outcome meant a b status →
     answer ≡ status → IsMeant meant answer
@@ -216,7 +216,7 @@ own_meant meant files a b status answer told depot print (nowhere work e out f s
 own_meant meant files a b status answer told depot print (cut_off work e s h k r c m) is = absurd (print r)
 own_meant meant files a b status answer told depot print (cut_short work e l s out f h k r m) is = absurd (print r)
 
-answered : (meant : Result Work Status) (files : Files) (a b : Outside) (page : PageState) (status answer : Status) →
+answered : (meant : Result Work Status) (files : Files) (a b : IoState) (page : PageState) (status answer : Status) →
     a.place.files ≡ Some files →
     IsStill a.place.faults b.place.faults → IsStill a.page.faults b.page.faults → Outcome meant a (with_page b page)
     status →
@@ -233,12 +233,12 @@ answered meant files a b page status answer told depot print comes tells =
           (rose_on a.page.faults page.faults b.page.faults (page_later meant a (with_page b page) status comes) cut.2))
     ]
 
-pub told_given : (files : Option Files) (told : Files) (given : Readings) → files ≡ Some told → IsGiven files given →
+pub told_given : (files : Option Files) (told : Files) (given : Readings) → files ≡ Some told → AreReadingsOfFiles files given →
     given ≡ contents_of told
-told_given files told given e h = subst (λ (o : Option Files). IsGiven o given) e h
+told_given files told given e h = subst (λ (o : Option Files). AreReadingsOfFiles o given) e h
 
 -- what is meant is answered where files are told and no device failed
-pub completes : (meant : Readings → Spec Work) (files : Files) (a b : Outside) (answer : Status) →
+pub completes : (meant : Readings → Spec Work) (files : Files) (a b : IoState) (answer : Status) →
     RunResult meant a b answer →
     a.place.files ≡ Some files → IsStill a.place.faults b.place.faults → IsStill a.page.faults b.page.faults →
     IsMeant (meant (contents_of files)).result answer
@@ -248,7 +248,7 @@ completes meant files a b answer h told depot print =
     (answered (meant h.obeyed.given).result files a b h.page h.status answer told depot print h.obeyed.obeyed.comes
     h.told)
 
-refused_usage : (meant : Result Work Status) (a b : Outside) (status : Status) → Outcome meant a b status →
+refused_usage : (meant : Result Work Status) (a b : IoState) (status : Status) → Outcome meant a b status →
     status ≡ Usage → meant ≡ Err Usage
 refused_usage meant a b status (refused e r h k c m) is = e ∙ ap Err is
 refused_usage meant a b status (ended work e s i h k c m) is = absurd (subst IsEnding is i)
@@ -261,7 +261,7 @@ refused_usage meant a b status (cut_off work e s h k r c m) is = absurd (let x =
 refused_usage meant a b status (cut_short work e l s out f h k r m) is = absurd (let x = sym s ∙ is in cc)
 
 -- what `Usage` is answered to is meant so
-pub usage_meant : (meant : Readings → Spec Work) (a b : Outside) (answer : Status) → RunResult meant a b answer →
+pub usage_meant : (meant : Readings → Spec Work) (a b : IoState) (answer : Status) → RunResult meant a b answer →
     answer ≡ Usage →
     (given : Readings) × ((meant given).result ≡ Err Usage)
 usage_meant meant a b answer h is =

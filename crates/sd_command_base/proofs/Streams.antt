@@ -4,10 +4,10 @@ use Rattle.std.proofs.Common.{arith}
 use Rattle.sd_base.specs.Count.{with_added, IsCaused}
 use Rattle.sd_command_base.specs.declared.status.Status.{Status}
 use Rattle.sd_command_base.specs.declared.status.Status.TheVariants.{DepotFault}
-use Rattle.sd_command_base.specs.Outside.{DepotState, PageState, outside}
-use Rattle.sd_command_base.specs.Spec.{FileArgument, IsGot, all_of, value, ◌>>=◌}
+use Rattle.sd_command_base.specs.Outside.{DepotState, PageState, io_state}
+use Rattle.sd_command_base.specs.Spec.{FileArgument, IsReadingOfFile, whole_file_bytes, value, ◌>>=◌}
 use Rattle.sd_command_base.specs.Work.{Out, Mark, Work}
-use Rattle.sd_command_base.specs.Outcome.{IsEnding, IsMade, marked_by, printing, Outcome, ended, exhausted, failed, cut_off}
+use Rattle.sd_command_base.specs.Outcome.{IsEnding, IsOutMade, marked_by, printing, Outcome, ended, exhausted, failed, cut_off}
 use Rattle.sd_command_base.specs.Outcome.{OutcomeWithin, Implements}
 use Rattle.sd_command_base.specs.Prints.{PrintsReading}
 use Rattle.sd_command_base.proofs.Firsts.{takes_none}
@@ -34,10 +34,10 @@ faults_added before opened now from port status same within is fresh cause = rec
 }
 
 none_made : (work : Work) (p q : DepotState) → work.out ≡ None → work.mark ≡ None → q.files ≡ p.files →
-    q.made ≡ p.made → IsMade work.out (marked_by work.mark p) q
+    q.made ≡ p.made → IsOutMade work.out (marked_by work.mark p) q
 none_made work p q none unmarked files made =
-    subst (λ (o : Option Out). IsMade o (marked_by work.mark p) q) (sym none)
-    (subst (λ (m : Option Mark). IsMade None (marked_by m p) q) (sym unmarked)
+    subst (λ (o : Option Out). IsOutMade o (marked_by work.mark p) q) (sym none)
+    (subst (λ (m : Option Mark). IsOutMade None (marked_by m p) q) (sym unmarked)
     (record { files = files; made = made }))
 
 pub is_other : (status : Status) → IsEnding status → status ≢ DepotFault
@@ -48,7 +48,7 @@ printed_comes : (work : Work) (p q : DepotState) (page now : PageState) (steps :
     work.out ≡ None → work.mark ≡ None →
     IsEnding work.ends →
     IsRead p q status → PrintsReading work page now status →
-    Outcome (Ok work) (outside p page steps) (outside q now steps) status
+    Outcome (Ok work) (io_state p page steps) (io_state q now steps) status
 printed_comes work p q page now steps status none unmarked ending read (inl (inl all)) =
     ended work refl all.0 (subst IsEnding (sym all.0) ending) (none_made work p q none unmarked read.files read.made) all.1
     (record { depot = read.faults.calm (is_other status (subst IsEnding (sym all.0) ending)); print = all.2 })
@@ -67,17 +67,17 @@ printed_comes work p q page now steps status none unmarked ending read (inr brok
 pub reading_follows : (view : List ℕ →
     Work) (word : FileArgument) (bytes : List ℕ) (p q : DepotState) (page now : PageState) (steps : ℕ)
     (status : Status) →
-    (view bytes).out ≡ None → (view bytes).mark ≡ None → IsEnding (view bytes).ends → IsGot p.files word.text (Some bytes) → IsRead p q status →
+    (view bytes).out ≡ None → (view bytes).mark ≡ None → IsEnding (view bytes).ends → IsReadingOfFile p.files word.text (Some bytes) → IsRead p q status →
     PrintsReading (view bytes) page now status →
-    Implements (λ given. all_of word.number (given word) >>= λ bytes. value (view bytes)) (outside p page steps)
-    (outside q now steps) status
+    Implements (λ given. whole_file_bytes word.number (given word) >>= λ bytes. value (view bytes)) (io_state p page steps)
+    (io_state q now steps) status
 reading_follows view word bytes p q page now steps status none unmarked ending got read prints =
     let g = one_given p.files word (Some bytes) got in record {
       given = g.given;
       is_given = g.is_given;
-      obeyed = subst (λ (got : Option (List ℕ)). OutcomeWithin (all_of word.number got >>= λ bytes. value (view bytes))
-          (outside p page steps)
-          (outside q now steps) status) (sym g.gave)
+      obeyed = subst (λ (got : Option (List ℕ)). OutcomeWithin (whole_file_bytes word.number got >>= λ bytes. value (view bytes))
+          (io_state p page steps)
+          (io_state q now steps) status) (sym g.gave)
           (record {
             comes = printed_comes (view bytes) p q page now steps status none unmarked ending read prints;
             ports = read.ports;

@@ -6,8 +6,8 @@ use Rattle.sd_base.proofs.Arithmetic.{same_number, other_number}
 use Rattle.sd_ports.specs.Files.{Files}
 use Rattle.sd_command_base.specs.declared.status.Status.{Status}
 use Rattle.sd_command_base.specs.declared.status.Status.TheVariants.{NoMemory}
-use Rattle.sd_command_base.specs.Outside.{DepotState, PageState, Outside, outside}
-use Rattle.sd_command_base.specs.Spec.{Spec, FileArgument, Readings, IsGiven, IsGot, judged, ◌>>=◌}
+use Rattle.sd_command_base.specs.Outside.{DepotState, PageState, IoState, io_state}
+use Rattle.sd_command_base.specs.Spec.{Spec, FileArgument, Readings, AreReadingsOfFiles, IsReadingOfFile, of_result, ◌>>=◌}
 use Rattle.sd_command_base.specs.Work.{Work}
 use Rattle.sd_command_base.specs.Outcome.{IsEnding, untouched, exhausted, OutcomeWithin, Implements}
 use Rattle.sd_command_base.specs.Reads.{IsAsked, FileOutcome, FilesOutcome, JudgedOutcome}
@@ -18,14 +18,14 @@ use Rattle.sd_command_base.proofs.Moves.{then_obeys}
 pub record MoreGiven (files : Option Files) (given : Readings) (a b c : FileArgument) (got : Option (List ℕ)) : Type 0
   where
     pub more : Readings
-    pub is_more : IsGiven files more
+    pub is_more : AreReadingsOfFiles files more
     pub first : more a ≡ given a
     pub second : more b ≡ given b
     pub gave : more c ≡ got
 
 pub more_given : (files : Option Files) (given : Readings) (a b c : FileArgument) (got : Option (List ℕ)) →
-    IsGiven files given →
-    IsGot files c.text got → a.number ≢ c.number → b.number ≢ c.number → MoreGiven files given a b c got
+    AreReadingsOfFiles files given →
+    IsReadingOfFile files c.text got → a.number ≢ c.number → b.number ≢ c.number → MoreGiven files given a b c got
 more_given None given a b c got is is_got ac bc = record {
   more = λ w. cond (nat_eq w.number c.number) got (given w);
   is_more = tt;
@@ -45,14 +45,14 @@ more_given (Some files) given a b c got is is_got ac bc = record {
 pub third_follows : {X Y : Type 0} (view : X → Y) (by : Option (List ℕ) → Option (List ℕ) → Spec Y)
     (next : Y → Option (List ℕ) → Spec Work) (first second third : FileArgument) (got : Option (List ℕ))
     (p q : DepotState)
-    (page : PageState) (steps : ℕ) (b : Outside) (x : X) (status : Status) → first.number ≢ third.number →
+    (page : PageState) (steps : ℕ) (b : IoState) (x : X) (status : Status) → first.number ≢ third.number →
     second.number ≢ third.number → FilesOutcome view (λ given. by (given first) (given second)) p q (Ok x) →
-    IsGot q.files third.text got → OutcomeWithin (next (view x) got) (outside q page steps) b status →
-    Implements (λ given. by (given first) (given second) >>= λ y. next y (given third)) (outside p page steps) b status
+    IsReadingOfFile q.files third.text got → OutcomeWithin (next (view x) got) (io_state q page steps) b status →
+    Implements (λ given. by (given first) (given second) >>= λ y. next y (given third)) (io_state p page steps) b status
 third_follows {Y = Y} view by next first second third got p q page steps b x status ac bc read is_got obeys =
     let same : q.files ≡ p.files = ap (λ (z : DepotState). z.files) read.gives.1 in
     let g = more_given p.files read.given first second third got read.is_given
-    (subst (λ (f : Option Files). IsGot f third.text got) same is_got) ac bc in
+    (subst (λ (f : Option Files). IsReadingOfFile f third.text got) same is_got) ac bc in
     let one : by (read.given first) (read.given second) ≡ by (g.more first) (g.more second) =
     ap (λ (o : Option (List ℕ)). by o (read.given second)) (sym g.first)
     ∙ ap (λ (o : Option (List ℕ)). by (g.more first) o) (sym g.second) in
@@ -61,8 +61,8 @@ third_follows {Y = Y} view by next first second third got p q page steps b x sta
       is_given = g.is_more;
       obeyed =
           subst (λ (o : Option (List ℕ)). OutcomeWithin (by (g.more first) (g.more second) >>= λ y. next y o)
-          (outside p page steps) b status) (sym g.gave)
-          (subst (λ (m : Spec Y). OutcomeWithin (m >>= λ y. next y got) (outside p page steps) b status) one
+          (io_state p page steps) b status) (sym g.gave)
+          (subst (λ (m : Spec Y). OutcomeWithin (m >>= λ y. next y got) (io_state p page steps) b status) one
           (then_obeys (by (read.given first) (read.given second)) (view x) (λ y. next y got) p q page steps b status
           read.gives.0 read.gives.1 obeys));
     }
@@ -71,8 +71,8 @@ third_follows {Y = Y} view by next first second third got p q page steps b x sta
 pub not_both : {X Y : Type 0} (view : X → Y) (by : Option (List ℕ) → Option (List ℕ) → Spec Y)
     (next : Y → Option (List ℕ) → Spec Work) (first second third : FileArgument) (p q : DepotState) (page : PageState)
     (steps : ℕ) (status : Status) → FilesOutcome view (λ given. by (given first) (given second)) p q (Err status) →
-    Implements (λ given. by (given first) (given second) >>= λ y. next y (given third)) (outside p page steps)
-    (outside q page steps) status
+    Implements (λ given. by (given first) (given second) >>= λ y. next y (given third)) (io_state p page steps)
+    (io_state q page steps) status
 not_both view by next first second third p q page steps status read = record {
   given = read.given;
   is_given = read.is_given;
@@ -88,23 +88,23 @@ pub not_third : {X Y W Z : Type 0} (view : X → Y) (by : Option (List ℕ) → 
     FilesOutcome view (λ given. by (given first) (given second)) p q (Ok x) →
     FileOutcome view_third (look (view x)) third.text q r (Err status) →
     Implements (λ given. by (given first) (given second) >>= λ y. look y (given third) >>=
-    rest y) (outside p page steps) (outside r page steps) status
+    rest y) (io_state p page steps) (io_state r page steps) status
 not_third view by view_third look rest first second third p q r page steps x status ac bc read looks =
     third_follows view by (λ y got. look y got >>= rest y) first second third looks.got p q page steps
-    (outside r page steps) x status ac bc read looks.is_got
+    (io_state r page steps) x status ac bc read looks.is_got
     (first_obeys (look (view x) looks.got) (rest (view x)) q r page steps status looks.gives)
 
 -- a third file that was read, and then what is meant by all that was said
 pub third_looked : {X Y W Z : Type 0} (view : X → Y) (by : Option (List ℕ) → Option (List ℕ) → Spec Y)
     (view_third : W → Z) (look : Y → Option (List ℕ) → Spec Z) (rest : Y → Z →
     Spec Work) (first second third : FileArgument)
-    (p q r : DepotState) (page : PageState) (steps : ℕ) (b : Outside) (x : X) (w : W) (status : Status) →
+    (p q r : DepotState) (page : PageState) (steps : ℕ) (b : IoState) (x : X) (w : W) (status : Status) →
     first.number ≢ third.number → second.number ≢ third.number →
     FilesOutcome view (λ given. by (given first) (given second)) p q (Ok x) →
     FileOutcome view_third (look (view x)) third.text q r (Ok w) →
-    OutcomeWithin (rest (view x) (view_third w)) (outside r page steps) b status →
+    OutcomeWithin (rest (view x) (view_third w)) (io_state r page steps) b status →
     Implements (λ given. by (given first) (given second) >>= λ y. look y (given third) >>=
-    rest y) (outside p page steps) b status
+    rest y) (io_state p page steps) b status
 third_looked view by view_third look rest first second third p q r page steps b x w status ac bc read looks obeys =
     third_follows view by (λ y got. look y got >>= rest y) first second third looks.got p q page steps b x status ac bc
     read looks.is_got
@@ -125,7 +125,7 @@ same_value view other meant a b x z same h =
 -- memory was out before anything more was done
 pub wanting_obeys : (meant : Spec Work) (q : DepotState) (page : PageState) (steps : ℕ) (status : Status) →
     status ≡ NoMemory →
-    OutcomeWithin meant (outside q page steps) (outside q page steps) status
+    OutcomeWithin meant (io_state q page steps) (io_state q page steps) status
 wanting_obeys meant q page steps status is = record {
   comes = exhausted is (untouched (record { files = refl; made = refl }) refl) refl refl refl;
   ports = refl;
@@ -139,9 +139,9 @@ asks_nothing q = record { files = refl; made = refl; ports = refl; calls = omega
 -- what is judged without the outside was refused, or memory was out
 pub judged_refused : {X Z : Type 0} (view : X → Z) (meant : Result Z Status) (next : Z → Spec Work) (q : DepotState)
     (page : PageState) (steps : ℕ) (status : Status) → JudgedOutcome view meant (Err status) →
-    OutcomeWithin (judged meant >>= next) (outside q page steps) (outside q page steps) status
+    OutcomeWithin (of_result meant >>= next) (io_state q page steps) (io_state q page steps) status
 judged_refused view meant next q page steps status (inl h) =
-    first_obeys (judged meant) next q q page steps status
+    first_obeys (of_result meant) next q q page steps status
     (inl (record {
       value = h.0;
       refusal = h.1;
@@ -150,12 +150,12 @@ judged_refused view meant next q page steps status (inl h) =
       miss = record { missing = λ word is. absurd (subst IsEnding is h.2); there = λ other. refl };
     }))
 judged_refused view meant next q page steps status (inr h) =
-    wanting_obeys (judged meant >>= next) q page steps status h
+    wanting_obeys (of_result meant >>= next) q page steps status h
 
 -- or it gave a value, and what is meant by the value was obeyed
-pub judged_obeys : {Z : Type 0} (meant : Result Z Status) (z : Z) (next : Z → Spec Work) (a b : Outside)
+pub judged_obeys : {Z : Type 0} (meant : Result Z Status) (z : Z) (next : Z → Spec Work) (a b : IoState)
     (status : Status) → meant ≡ Ok z → OutcomeWithin (next z) a b status → OutcomeWithin
-    (judged meant >>= next) a b status
+    (of_result meant >>= next) a b status
 judged_obeys {Z} meant z next a b status is h =
-    subst (λ (r : Result Z Status). OutcomeWithin (judged r >>= next) a b status) (sym is)
+    subst (λ (r : Result Z Status). OutcomeWithin (of_result r >>= next) a b status) (sym is)
     (record { comes = h.comes; ports = h.ports; calls = let c = h.calls in omega (arith, c); steps = h.steps })

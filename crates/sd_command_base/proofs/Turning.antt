@@ -19,17 +19,17 @@ use Rattle.sd_command_base.specs.declared.status.Status.TheVariants.{Limit}
 use Rattle.sd_command_base.specs.declared.status.Status.TheVariants.{NoMemory, Unheard, Unclosed, Gaps, NoCat}
 use Rattle.sd_command_base.specs.declared.status.Status.TheVariants.{BadWord, Clash, BadOut, OtherBook, SiteUsed}
 use Rattle.sd_command_base.specs.declared.status.Status.TheVariants.{SiteUsedUp}
-use Rattle.sd_command_base.specs.Outside.{DepotState, PageState, Outside, outside}
-use Rattle.sd_command_base.specs.Spec.{Spec, FileArgument, IsGot, all_of, value, ◌>>=◌}
+use Rattle.sd_command_base.specs.Outside.{DepotState, PageState, IoState, io_state}
+use Rattle.sd_command_base.specs.Spec.{Spec, FileArgument, IsReadingOfFile, whole_file_bytes, value, ◌>>=◌}
 use Rattle.sd_command_base.specs.Work.{StepBound, Work, TakesSteps}
-use Rattle.sd_command_base.specs.Outcome.{IsRefusal, IsEnding, IsMadeShort, writing, Outcome, ended}
+use Rattle.sd_command_base.specs.Outcome.{IsRefusal, IsEnding, IsOutMadeShort, writing, Outcome, ended}
 use Rattle.sd_command_base.specs.Outcome.{unclosed}
 use Rattle.sd_command_base.specs.Outcome.{StopsFirst, exhausted, failed, nowhere, OutcomeWithin, status_of}
 use Rattle.sd_command_base.proofs.Firsts.{takes_none, stopped_comes, first_obeys, unmade}
 use Rattle.sd_command_base.proofs.Givens.{some_got as any_got}
 use Rattle.sd_command_base.proofs.Streams.{is_other}
-use Rattle.sd_command_base.specs.Turned.{IsOpened, NotOpened, no_input, no_folder, stopped_first, stopped_then}
-use Rattle.sd_command_base.specs.Turned.{unclosed_status, unclosed_by, IsClosed, is_break, turning, Wrote, all_written}
+use Rattle.sd_command_base.specs.Turned.{ArePortsOpened, NotOpened, no_input, no_folder, stopped_first, stopped_then}
+use Rattle.sd_command_base.specs.Turned.{unclosed_status, unclosed_by, ArePortsClosed, is_break, turning, StreamWritten, all_written}
 use Rattle.sd_command_base.specs.Turned.{some_written, HasPortCause}
 use Rattle.sd_command_base.proofs.Looked.{none_got, all_calls as opening_calls}
 
@@ -55,7 +55,7 @@ all_prefix before now bytes h = (bytes, ([], append-nil bytes), h)
 
 -- the prefix of what was written
 wrote_prefix : (bytes : List ℕ) (ends : Status) (before now : Option (List ℕ)) (status : Status) →
-    Wrote bytes ends before now status →
+    StreamWritten bytes ends before now status →
     AppendsPrefix before now bytes
 wrote_prefix bytes ends before now status (all_written e i h) = all_prefix before now bytes h
 wrote_prefix bytes ends before now status (some_written c h) = h
@@ -64,17 +64,17 @@ wrote_prefix bytes ends before now status (some_written c h) = h
 record IsThrough (out : FileArgument) (bytes : List ℕ) (ends : Status) (p q r : DepotState)
     (left held held' : Option (List ℕ)) (from : List ℕ)
     (f f' o o' : ℕ) (over result : Result (Unit {0}) Status) : Type 0 where
-  opened : IsOpened p q from out.text left held f o
+  opened : ArePortsOpened p q from out.text left held f o
   cause : HasPortCause f f' o o' (status_of over)
-  wrote : Wrote bytes ends held held' (status_of over)
-  closed : IsClosed q r out.text held' f' o' over result
+  wrote : StreamWritten bytes ends held held' (status_of over)
+  closed : ArePortsClosed q r out.text held' f' o' over result
 
 -- OUT has a prefix of its bytes
 made_short : (out : FileArgument) (bytes : List ℕ) (ends : Status) (p q r : DepotState)
     (left held held' : Option (List ℕ)) (from : List ℕ)
     (f f' o o' : ℕ) (over result : Result (Unit {0}) Status) →
     IsThrough out bytes ends p q r left held held' from f f' o o' over result →
-    IsMadeShort (record { word = out.number; name = out.text; bytes = bytes }) p r
+    IsOutMadeShort (record { word = out.number; name = out.text; bytes = bytes }) p r
 made_short out bytes ends p q r left held held' from f f' o o' over result h =
     let cut = cut_short p.files q.files r.files out.text bytes held held' h.opened.files h.opened.empty
     (wrote_prefix bytes ends held held' (status_of over) h.wrote) h.closed.prefix in
@@ -156,7 +156,7 @@ no_break s (inr is) breaks = let same : is_break DepotFault ≡ true = ap is_bre
 
 -- a stream that goes through a stage prints nothing, so that no printing fails
 no_print : (bytes : List ℕ) (ends : Status) (before now : Option (List ℕ)) (status : Status) →
-    Wrote bytes ends before now status → status ≡ PrintFault → ⊥
+    StreamWritten bytes ends before now status → status ≡ PrintFault → ⊥
 no_print bytes ends before now status (all_written e ending w) is = absurd (subst IsEnding is ending)
 no_print bytes ends before now status (some_written (inl e) w) is = absurd (let same = sym e ∙ is in cc)
 no_print bytes ends before now status (some_written (inr e) w) is = absurd (let same = sym e ∙ is in cc)
@@ -171,9 +171,9 @@ closed_comes : (steps : StepBound) (out : FileArgument) (bytes : List ℕ) (ends
     (left held held' : Option (List ℕ)) (from : List ℕ) (f f' o o' : ℕ) (over result : Result (Unit {0}) Status)
     (status : Status) →
     (h : IsThrough out bytes ends p q r left held held' from f f' o o' over result) → status ≡ status_of over →
-    Wrote bytes ends held held' status → ClosesFile q.files r.files out.text held' →
+    StreamWritten bytes ends held held' status → ClosesFile q.files r.files out.text held' →
     r.faults ≡ with_added (with_added q.faults f') o' →
-    Outcome (Ok (turning steps out bytes ends)) (outside p page i) (outside r page j) status
+    Outcome (Ok (turning steps out bytes ends)) (io_state p page i) (io_state r page j) status
 closed_comes steps out bytes ends p q r page i j left held held' from f f' o o' over result status h is
     (all_written e ending w) closes added =
     ended (turning steps out bytes ends) refl e ending
@@ -212,9 +212,9 @@ break_comes : (steps : StepBound) (out : FileArgument) (bytes : List ℕ) (ends 
     (left held held' : Option (List ℕ)) (from : List ℕ) (f f' o o' : ℕ) (over result : Result (Unit {0}) Status)
     (status : Status) →
     (h : IsThrough out bytes ends p q r left held held' from f f' o o' over result) →
-    Wrote bytes ends held held' status →
+    StreamWritten bytes ends held held' status →
     is_break status ≡ true → IsRefusal status → HasRisen p.faults r.faults → r.stops ≡ p.stops →
-    Outcome (Ok (turning steps out bytes ends)) (outside p page i) (outside r page j) status
+    Outcome (Ok (turning steps out bytes ends)) (io_state p page i) (io_state r page j) status
 break_comes steps out bytes ends p q r page i j left held held' from f f' o o' over result status h
     (all_written e ending w) breaks refuses rose calm =
     unclosed (turning steps out bytes ends) refl e ending refuses (ap is_break (sym e) ∙ breaks)
@@ -231,7 +231,7 @@ first_stopped : (steps : StepBound) (out : FileArgument) (bytes : List ℕ) (end
     (left held held' : Option (List ℕ)) (from : List ℕ) (f f' o o' : ℕ) (over result : Result (Unit {0}) Status)
     (status : Status) →
     IsThrough out bytes ends p q r left held held' from f f' o o' over result → status ≡ status_of over →
-    Wrote bytes ends held held' status → is_break status ≡ false → status ≢ NoMemory →
+    StreamWritten bytes ends held held' status → is_break status ≡ false → status ≢ NoMemory →
     StopsFirst (Ok (turning steps out bytes ends)) p r
 first_stopped steps out bytes ends p q r left held held' from f f' o o' over result status h is
     (all_written e ending w) calm other =
@@ -247,11 +247,11 @@ unclosed_comes : (steps : StepBound) (out : FileArgument) (bytes : List ℕ) (en
     (page : PageState) (i j : ℕ)
     (left held held' : Option (List ℕ)) (from : List ℕ) (f f' o o' : ℕ) (over result : Result (Unit {0}) Status) →
     (h : IsThrough out bytes ends p q r left held held' from f f' o o' over result) → HasRisen p.faults r.faults →
-    Outcome (Ok (turning steps out bytes ends)) (outside p page i) (outside r page j) (unclosed_status (status_of over))
+    Outcome (Ok (turning steps out bytes ends)) (io_state p page i) (io_state r page j) (unclosed_status (status_of over))
 unclosed_comes steps out bytes ends p q r page i j left held held' from f f' o o' over result h rose =
     elim (by_break (status_of over)) [
       | inl stands ↦
-          subst (λ (s : Status). Outcome (Ok (turning steps out bytes ends)) (outside p page i) (outside r page j) s)
+          subst (λ (s : Status). Outcome (Ok (turning steps out bytes ends)) (io_state p page i) (io_state r page j) s)
           (sym stands.0)
           (break_comes steps out bytes ends p q r page i j left held held' from f f' o o' over result (status_of over) h
           h.wrote stands.1 stands.2 rose
@@ -281,18 +281,18 @@ through_comes : (steps : StepBound) (out : FileArgument) (bytes : List ℕ) (end
     (page : PageState) (i j : ℕ)
     (left held held' : Option (List ℕ)) (from : List ℕ) (f f' o o' : ℕ) (over result : Result (Unit {0}) Status) →
     IsThrough out bytes ends p q r left held held' from f f' o o' over result →
-    Outcome (Ok (turning steps out bytes ends)) (outside p page i) (outside r page j) (status_of result)
+    Outcome (Ok (turning steps out bytes ends)) (io_state p page i) (io_state r page j) (status_of result)
 through_comes steps out bytes ends p q r page i j left held held' from f f' o o' over result h =
     elim h.closed.ends [
       | inl whole ↦
-          subst (λ (e : Result (Unit {0}) Status). Outcome (Ok (turning steps out bytes ends)) (outside p page i)
-          (outside r page j) (status_of e))
+          subst (λ (e : Result (Unit {0}) Status). Outcome (Ok (turning steps out bytes ends)) (io_state p page i)
+          (io_state r page j) (status_of e))
           (sym whole.0)
           (closed_comes steps out bytes ends p q r page i j left held held' from f f' o o' over result (status_of over)
           h refl h.wrote
           whole.1 whole.2)
       | inr cut ↦
-          subst (λ (s : Status). Outcome (Ok (turning steps out bytes ends)) (outside p page i) (outside r page j) s)
+          subst (λ (s : Status). Outcome (Ok (turning steps out bytes ends)) (io_state p page i) (io_state r page j) s)
           (sym (ap status_of cut.0 ∙ unclosed_told over))
           (unclosed_comes steps out bytes ends p q r page i j left held held' from f f' o o' over result h
           (subst (λ (n : ℕ). HasRisen n r.faults) h.opened.faults (added_later q.faults f' o' r.faults cut.1)))
@@ -303,12 +303,12 @@ pub turned_obeys : (steps : List ℕ → StepBound) (written : List ℕ → List
     Status) (word out : FileArgument) (bytes : List ℕ)
     (p q r : DepotState) (page : PageState) (i j : ℕ) (left held held' : Option (List ℕ)) (f f' o o' : ℕ)
     (over result : Result (Unit {0}) Status) →
-    IsOpened p q word.text out.text left held f o → HasPortCause f f' o o' (status_of over) →
-    Wrote (written bytes) (ends bytes) held held' (status_of over) → IsClosed q r out.text held' f' o' over result →
+    ArePortsOpened p q word.text out.text left held f o → HasPortCause f f' o o' (status_of over) →
+    StreamWritten (written bytes) (ends bytes) held held' (status_of over) → ArePortsClosed q r out.text held' f' o' over result →
     TakesSteps (Ok (turning (steps bytes) out (written bytes) (ends bytes))) i j →
-    OutcomeWithin (all_of word.number (Some bytes) >>= λ bytes.
+    OutcomeWithin (whole_file_bytes word.number (Some bytes) >>= λ bytes.
     value (turning (steps bytes) out (written bytes) (ends bytes)))
-    (outside p page i) (outside r page j) (status_of result)
+    (io_state p page i) (io_state r page j) (status_of result)
 turned_obeys steps written ends word out bytes p q r page i j left held held' f f' o o' over result opened cause wrote
     closed takes = record {
       comes = through_comes (steps bytes) out (written bytes) (ends bytes) p q r page i j left held held' word.text
@@ -320,14 +320,14 @@ turned_obeys steps written ends word out bytes p q r page i j left held held' f 
     }
 
 -- what the file gave where a port was not opened, and what is obeyed by it
-pub record NotTurned (files : Option Files) (name : List ℕ) (meant : Option (List ℕ) → Spec Work) (a b : Outside)
+pub record NotTurned (files : Option Files) (name : List ℕ) (meant : Option (List ℕ) → Spec Work) (a b : IoState)
     (status : Status) :
     Type 0 where
   pub got : Option (List ℕ)
-  pub is_got : IsGot files name got
+  pub is_got : IsReadingOfFile files name got
   pub obeys : OutcomeWithin (meant got) a b status
 
-pub there_got : (files : Option Files) (name : List ℕ) → IsThere files name → (bytes : List ℕ) × IsGot files name
+pub there_got : (files : Option Files) (name : List ℕ) → IsThere files name → (bytes : List ℕ) × IsReadingOfFile files name
     (Some bytes)
 there_got None name there = ([], tt)
 there_got (Some m) name there = some_of (get m name) there
@@ -336,19 +336,19 @@ there_got (Some m) name there = some_of (get m name) there
     some_of None is = absurd (let h = is in cc)
     some_of (Some bytes) is = (bytes, refl)
 
-pub untold_got : (files : Option Files) (name bytes : List ℕ) → files ≡ None → IsGot files name (Some bytes)
-untold_got files name bytes none = subst (λ (o : Option Files). IsGot o name (Some bytes)) (sym none) tt
+pub untold_got : (files : Option Files) (name bytes : List ℕ) → files ≡ None → IsReadingOfFile files name (Some bytes)
+untold_got files name bytes none = subst (λ (o : Option Files). IsReadingOfFile o name (Some bytes)) (sym none) tt
 
 pub not_turned : (steps : List ℕ → StepBound) (written : List ℕ → List ℕ) (ends : List ℕ →
     Status) (word out : FileArgument)
     (p q : DepotState) (page : PageState) (i : ℕ) (status : Status) → NotOpened word out p q status →
-    NotTurned p.files word.text (λ got. all_of word.number got >>= λ bytes. value
+    NotTurned p.files word.text (λ got. whole_file_bytes word.number got >>= λ bytes. value
     (turning (steps bytes) out (written bytes) (ends bytes)))
-    (outside p page i) (outside q page i) status
+    (io_state p page i) (io_state q page i) status
 not_turned steps written ends word out p q page i status (no_input is none asked calm rose) = record {
   got = None;
   is_got = none_got p.files word.text none;
-  obeys = first_obeys (all_of word.number None)
+  obeys = first_obeys (whole_file_bytes word.number None)
       (λ bytes. value (turning (steps bytes) out (written bytes) (ends bytes))) p q page i status
       (inl (record {
         value = ap Err (sym is);
@@ -374,7 +374,7 @@ not_turned steps written ends word out p q page i status (stopped_first stopped)
     let g = any_got p.files word.text in record {
       got = g.0;
       is_got = g.1;
-      obeys = first_obeys (all_of word.number g.0)
+      obeys = first_obeys (whole_file_bytes word.number g.0)
           (λ bytes. value (turning (steps bytes) out (written bytes) (ends bytes))) p q page i status
           (inr (record {
             cause = stopped.cause;

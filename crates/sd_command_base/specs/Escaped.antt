@@ -9,8 +9,8 @@ use Rattle.hex.specs.Hex.{encode_lower}
 use Rattle.sd_command_base.specs.declared.bad_line.Excerpt.{Excerpt}
 
 -- a control character: of C0, DEL, or of C1 [ISO/IEC 6429]
-abbrev pub is_control : ℕ → Bool
-is_control c = nat_lt c 0x20 || (not (nat_lt c 0x7f) && nat_lt c 0xa0)
+abbrev pub is_control_character : ℕ → Bool
+is_control_character c = nat_lt c 0x20 || (not (nat_lt c 0x7f) && nat_lt c 0xa0)
 
 -- a byte as `\x` and two hexadecimal digits
 unfoldable pub escaped_byte : ℕ → List ℕ
@@ -18,7 +18,7 @@ escaped_byte byte = codes "\\x" ++ encode_lower (byte ∷ [])
 
 -- a control character by its bytes, any other as it is
 unfoldable pub escaped_char : ℕ → List ℕ
-escaped_char c = if is_control c then flat_map escaped_byte (encode_utf8 c) else encode_utf8 c
+escaped_char c = if is_control_character c then flat_map escaped_byte (encode_utf8 c) else encode_utf8 c
 
 -- a text without control characters
 unfoldable pub escaped : List ℕ → List ℕ

@@ -20,7 +20,7 @@ use Rattle.sd_command_base.specs.declared.status.LimitKind.{LimitKind}
 use Rattle.sd_command_base.specs.declared.status.LimitKind.TheVariants.{SiteBytes, BookBytes, Book}
 use Rattle.sd_command_base.specs.declared.bad_line.LineCause.TheVariants.{Leaf, Unended}
 use Rattle.sd_command_base.specs.BadLines.{bad_line, malformed, site_excerpt}
-use Rattle.sd_command_base.specs.Spec.{Spec, FileArgument, Readings, within, judged, ◌>>=◌}
+use Rattle.sd_command_base.specs.Spec.{Spec, FileArgument, Readings, within, of_result, ◌>>=◌}
 
 -- the bytes of the longest site file
 abbrev pub most_site_bytes : ℕ
@@ -39,25 +39,25 @@ abbrev pub refused_site : ℕ → List ℕ → SiteFault → Status
 refused_site word bytes fault = BadSite word fault (site_excerpt fault bytes)
 
 -- the site that the bytes of this word's file say
-abbrev pub told_site : ℕ → List ℕ → Result SiteFields SiteFault → Result SiteFields Status
-told_site word bytes (Ok site) = Ok site
-told_site word bytes (Err fault) = Err (refused_site word bytes fault)
+abbrev pub site_or_status : ℕ → List ℕ → Result SiteFields SiteFault → Result SiteFields Status
+site_or_status word bytes (Ok site) = Ok site
+site_or_status word bytes (Err fault) = Err (refused_site word bytes fault)
 
 -- the site of what the file of this word gave
 unfoldable pub site_of_file : ℕ → Option (List ℕ) → Spec SiteFields
 site_of_file word got =
-    within word most_site_bytes SiteBytes got >>= λ bytes. judged (told_site word bytes (site_of bytes))
+    within word most_site_bytes SiteBytes got >>= λ bytes. of_result (site_or_status word bytes (site_of bytes))
 
 abbrev pub site_in : Readings → FileArgument → Spec SiteFields
 site_in given word = site_of_file word.number (given word)
 
 -- a site, if its tree is of height at most `most`, or that this limit is exceeded
-abbrev pub told_low : ℕ → LimitKind → SiteFields → Result SiteFields Status
-told_low most kind site = if nat_lt most site.height then Err (Limit kind) else Ok site
+abbrev pub low_site_or_status : ℕ → LimitKind → SiteFields → Result SiteFields Status
+low_site_or_status most kind site = if nat_lt most site.height then Err (Limit kind) else Ok site
 
 -- the site of what the file of this word gave, if its tree is of height at most `most`
 unfoldable pub low_site_of_file : ℕ → ℕ → LimitKind → Option (List ℕ) → Spec SiteFields
-low_site_of_file word most kind got = site_of_file word got >>= λ site. judged (told_low most kind site)
+low_site_of_file word most kind got = site_of_file word got >>= λ site. of_result (low_site_or_status most kind site)
 
 -- the status where the bytes of this word's file are no book for a tree of height d
 abbrev pub refused_book : ℕ → ℕ → List ℕ → BookFault → Status
@@ -77,14 +77,14 @@ card_unless word None x = Ok x
 card_unless word (Some fault) x = Err (BadCard word fault)
 
 -- the commands that a file's bytes say
-abbrev pub told_book : ℕ → ℕ → List ℕ → Result (List Command) BookFault → Result (List Command) Status
-told_book word d bytes (Ok commands) = Ok commands
-told_book word d bytes (Err fault) = Err (refused_book word d bytes fault)
+abbrev pub book_or_status : ℕ → ℕ → List ℕ → Result (List Command) BookFault → Result (List Command) Status
+book_or_status word d bytes (Ok commands) = Ok commands
+book_or_status word d bytes (Err fault) = Err (refused_book word d bytes fault)
 
 -- the book, for a tree of height d, of what the file of this word gave
 unfoldable pub book_of_file : ℕ → ℕ → Option (List ℕ) → Spec (List Command)
 book_of_file word d got =
-    within word most_book_bytes BookBytes got >>= λ bytes. judged (told_book word d bytes (book_of d bytes))
+    within word most_book_bytes BookBytes got >>= λ bytes. of_result (book_or_status word d bytes (book_of d bytes))
 
 abbrev pub book_in : Readings → ℕ → FileArgument → Spec (List Command)
 book_in given d word = book_of_file word.number d (given word)
@@ -107,13 +107,13 @@ is_book None bytes = true
 is_book (Some line) bytes = (length bytes == line.size) && bytes_eq (sha256 bytes) line.digest
 
 -- the commands of a book that must be that of the site's line 13
-abbrev pub told_own : ℕ → ℕ → Option BookLine → List ℕ → Result (List Command) Status
-told_own word d line bytes = if is_book line bytes then told_book word d bytes (book_of d bytes) else Err OtherBook
+abbrev pub own_book_or_status : ℕ → ℕ → Option BookLine → List ℕ → Result (List Command) Status
+own_book_or_status word d line bytes = if is_book line bytes then book_or_status word d bytes (book_of d bytes) else Err OtherBook
 
 -- the book, for a tree of height d, that the file of this word gave, if it is that of the site's line 13
 unfoldable pub own_book_of_file : ℕ → ℕ → Option BookLine → Option (List ℕ) → Spec (List Command)
 own_book_of_file word d line got =
-    within word most_book_bytes BookBytes got >>= λ bytes. judged (told_own word d line bytes)
+    within word most_book_bytes BookBytes got >>= λ bytes. of_result (own_book_or_status word d line bytes)
 
 -- the bytes of a book's file, and the commands that they say
 pub record BookText : Type 0 where
@@ -121,20 +121,20 @@ pub record BookText : Type 0 where
   pub commands : List Command
 
 -- a book's file, if it is whole lines; else its last line is refused, each line being a command
-abbrev pub told_whole : ℕ → List ℕ → Result (List Command) Status → Result BookText Status
-told_whole word bytes (Err status) = Err status
-told_whole word bytes (Ok commands) =
+abbrev pub whole_book_or_status : ℕ → List ℕ → Result (List Command) Status → Result BookText Status
+whole_book_or_status word bytes (Err status) = Err status
+whole_book_or_status word bytes (Ok commands) =
     if ends_lines bytes then Ok (record { bytes = bytes; commands = commands })
     else Err (BadBook word (bad_line Unended (length commands) bytes))
 
 -- a book's file that must begin with the book of the site's line 13, and be whole lines
-abbrev pub told_longer : ℕ → ℕ → Option BookLine → List ℕ → Result BookText Status
-told_longer word d line bytes =
-    if begins_with_book line bytes then told_whole word bytes (told_book word d bytes (book_of d bytes))
+abbrev pub longer_book_or_status : ℕ → ℕ → Option BookLine → List ℕ → Result BookText Status
+longer_book_or_status word d line bytes =
+    if begins_with_book line bytes then whole_book_or_status word bytes (book_or_status word d bytes (book_of d bytes))
     else Err OtherBook
 
 -- the book's file, for a tree of height d, that the file of this word gave, if it begins with the book of the site's
 -- line 13 and is whole lines
 unfoldable pub longer_book_of_file : ℕ → ℕ → Option BookLine → Option (List ℕ) → Spec BookText
 longer_book_of_file word d line got =
-    within word most_book_bytes BookBytes got >>= λ bytes. judged (told_longer word d line bytes)
+    within word most_book_bytes BookBytes got >>= λ bytes. of_result (longer_book_or_status word d line bytes)

@@ -7,20 +7,20 @@ use Rattle.sd_command_base.specs.declared.status.Status.{Status}
 use Rattle.sd_command_base.specs.declared.status.Status.TheVariants.{Done, Missing, DepotFault, NoMemory, BadOut}
 use Rattle.sd_command_base.specs.declared.status.Status.TheVariants.{SiteUsed}
 use Rattle.sd_command_base.specs.declared.status.OutCause.TheVariants.{There}
-use Rattle.sd_command_base.specs.Outside.{DepotState, Outside}
-use Rattle.sd_command_base.specs.Spec.{Spec, FileArgument, IsGot, value, ◌>>=◌}
+use Rattle.sd_command_base.specs.Outside.{DepotState, IoState}
+use Rattle.sd_command_base.specs.Spec.{Spec, FileArgument, IsReadingOfFile, value, ◌>>=◌}
 use Rattle.sd_command_base.specs.Work.{Out, StepBound, NoSteps, Work}
-use Rattle.sd_command_base.specs.Outcome.{IsMade, OutcomeWithin}
+use Rattle.sd_command_base.specs.Outcome.{IsOutMade, OutcomeWithin}
 
 -- the file that this argument names, with these bytes
-abbrev pub out_of : FileArgument → List ℕ → Out
-out_of out bytes = record { word = out.number; name = out.text; bytes = bytes }
+abbrev pub out_file : FileArgument → List ℕ → Out
+out_file out bytes = record { word = out.number; name = out.text; bytes = bytes }
 
 -- makes a file of these bytes, by so many steps at most
 abbrev pub making : StepBound → FileArgument → List ℕ → Work
 making steps out bytes = record {
   mark = None;
-  out = Some (out_of out bytes);
+  out = Some (out_file out bytes);
   pieces = [];
   ends = Done;
   breaks = false;
@@ -45,7 +45,7 @@ pub record NewFile : Type 0 where
 abbrev pub new_work : NewFile → FileArgument → Work
 new_work made out = record {
   mark = None;
-  out = Some (out_of out made.bytes);
+  out = Some (out_file out made.bytes);
   pieces = made.pieces;
   ends = Done;
   breaks = false;
@@ -76,7 +76,7 @@ making_new made out got = free out.number got >>= λ new. value (new_work made o
 -- a file was made with all of its bytes, and nothing had its name before
 pub record IsMadeNew (out : Out) (a b : DepotState) : Type 0 where
   pub new : IsNotThere a.files out.name
-  pub made : IsMade (Some out) a b
+  pub made : IsOutMade (Some out) a b
   pub faults : b.faults ≡ a.faults
   pub stops : b.stops ≡ a.stops
   pub misses : b.misses ≡ a.misses
@@ -84,13 +84,13 @@ pub record IsMadeNew (out : Out) (a b : DepotState) : Type 0 where
   pub calls : b.calls ≤ a.calls + 2
 
 -- making a file that must be new, and then printing its pieces, does what is meant by what has its name
-pub record NewOutcome (made : NewFile) (out : FileArgument) (a b : Outside) (status : Status) : Type 0 where
+pub record NewOutcome (made : NewFile) (out : FileArgument) (a b : IoState) (status : Status) : Type 0 where
   -- What has the name: if the model knows the files, it is so. If it doesn't, the answer says it.
   pub got : Option (List ℕ)
-  pub is_got : IsGot a.place.files out.text got
+  pub is_got : IsReadingOfFile a.place.files out.text got
   pub obeyed : OutcomeWithin (making_new made out got) a b status
 
 -- the file was made, and its pieces are still to be printed; or this is the end, and nothing is printed
-abbrev pub NewStep : NewFile → FileArgument → Outside → Outside → Result (Unit {0}) Status → Type 0
-NewStep made out a b (Ok done) = IsMadeNew (out_of out made.bytes) a.place b.place
+abbrev pub NewStep : NewFile → FileArgument → IoState → IoState → Result (Unit {0}) Status → Type 0
+NewStep made out a b (Ok done) = IsMadeNew (out_file out made.bytes) a.place b.place
 NewStep made out a b (Err status) = NewOutcome made out a b status

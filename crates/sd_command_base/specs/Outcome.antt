@@ -13,8 +13,8 @@ use Rattle.sd_command_base.specs.declared.status.Status.TheVariants.{Limit}
 use Rattle.sd_command_base.specs.declared.status.Status.TheVariants.{NoMemory, Unheard, Unclosed, Gaps, NoCat}
 use Rattle.sd_command_base.specs.declared.status.Status.TheVariants.{BadWord, Clash, BadOut, OtherBook, SiteUsed}
 use Rattle.sd_command_base.specs.declared.status.Status.TheVariants.{SiteUsedUp}
-use Rattle.sd_command_base.specs.Outside.{DepotState, PageState, Outside}
-use Rattle.sd_command_base.specs.Spec.{Spec, Readings, IsGiven}
+use Rattle.sd_command_base.specs.Outside.{DepotState, PageState, IoState}
+use Rattle.sd_command_base.specs.Spec.{Spec, Readings, AreReadingsOfFiles}
 use Rattle.sd_command_base.specs.Work.{Out, Mark, Work, files_marked, made_marked, files_with, made_with}
 use Rattle.sd_command_base.specs.Work.{all_calls, TakesSteps}
 
@@ -71,7 +71,7 @@ IsEnding OtherBook = Unit {0}
 IsEnding (SiteUsedUp packet) = Unit {0}
 
 -- no I/O error occurred
-pub record IsFaultless (a b : Outside) : Type 0 where
+pub record IsFaultless (a b : IoState) : Type 0 where
   pub depot : b.place.faults ≡ a.place.faults
   pub print : b.page.faults ≡ a.page.faults
 
@@ -81,7 +81,7 @@ pub record HasMiss (status : Status) (before now : ℕ) : Type 0 where
   pub there : ((word : ℕ) → status ≢ Missing word) → now ≡ before
 
 -- no file was made
-pub record IsUnmade (a b : DepotState) : Type 0 where
+pub record IsNoOutMade (a b : DepotState) : Type 0 where
   pub files : b.files ≡ a.files
   pub made : b.made ≡ a.made
 
@@ -98,12 +98,12 @@ marked_by mark at = record {
 }
 
 -- OUT was made with all of its bytes, where there is one, and the other files stay
-pub record IsMade (out : Option Out) (a b : DepotState) : Type 0 where
+pub record IsOutMade (out : Option Out) (a b : DepotState) : Type 0 where
   pub files : b.files ≡ files_with out a.files
   pub made : b.made ≡ made_with out a.made
 
 -- OUT was made with a prefix of its bytes, and the other files stay
-pub record IsMadeShort (out : Out) (a b : DepotState) : Type 0 where
+pub record IsOutMadeShort (out : Out) (a b : DepotState) : Type 0 where
   pub prefix : List ℕ
   pub short : IsPrefix prefix out.bytes
   pub files : b.files ≡ with_bytes a.files out.name prefix
@@ -124,15 +124,15 @@ PrintsPrefix work a b = AppendsPrefix a.printed b.printed (concat work.pieces)
 -- How far work came: nothing was done; or the mark was made, where there is one, and then: nothing more was done; or OUT
 -- has a prefix of its bytes and nothing was printed, or of live work some first pieces; or OUT is whole, where there is
 -- one, and some first pieces were printed.
-pub data Progress (meant : Result Work Status) (a b : Outside) : Type 0 where
-  untouched : IsUnmade a.place b.place → b.page.printed ≡ a.page.printed → Progress meant a b
-  marking : (work : Work) → meant ≡ Ok work → IsUnmade (marked_by work.mark a.place) b.place →
+pub data Progress (meant : Result Work Status) (a b : IoState) : Type 0 where
+  untouched : IsNoOutMade a.place b.place → b.page.printed ≡ a.page.printed → Progress meant a b
+  marking : (work : Work) → meant ≡ Ok work → IsNoOutMade (marked_by work.mark a.place) b.place →
       b.page.printed ≡ a.page.printed → Progress meant a b
   writing : (work : Work) → meant ≡ Ok work → (out : Out) → work.out ≡ Some out →
-      IsMadeShort out (marked_by work.mark a.place) b.place → b.page.printed ≡ a.page.printed → Progress meant a b
+      IsOutMadeShort out (marked_by work.mark a.place) b.place → b.page.printed ≡ a.page.printed → Progress meant a b
   telling : (work : Work) → meant ≡ Ok work → work.live ≡ true → (out : Out) → work.out ≡ Some out →
-      IsMadeShort out (marked_by work.mark a.place) b.place → PrintsSome work a.page b.page → Progress meant a b
-  printing : (work : Work) → meant ≡ Ok work → IsMade work.out (marked_by work.mark a.place) b.place →
+      IsOutMadeShort out (marked_by work.mark a.place) b.place → PrintsSome work a.page b.page → Progress meant a b
+  printing : (work : Work) → meant ≡ Ok work → IsOutMade work.out (marked_by work.mark a.place) b.place →
       PrintsSome work a.page b.page → Progress meant a b
 
 -- if the work is a stream that is refused, the device failed before that was known: not only at closing OUT
@@ -140,18 +140,18 @@ abbrev pub StopsFirst : Result Work Status → DepotState → DepotState → Typ
 StopsFirst (Ok work) a b = work.breaks ≡ true → HasRisen a.stops b.stops
 StopsFirst (Err refusal) a b = Unit {0}
 
-pub data Outcome (meant : Result Work Status) (a b : Outside) (status : Status) : Type 0 where
+pub data Outcome (meant : Result Work Status) (a b : IoState) (status : Status) : Type 0 where
   -- the words or the files are refused, and nothing was made or printed
-  refused : meant ≡ Err status → IsRefusal status → IsUnmade a.place b.place → b.page.printed ≡ a.page.printed →
+  refused : meant ≡ Err status → IsRefusal status → IsNoOutMade a.place b.place → b.page.printed ≡ a.page.printed →
       IsFaultless a b → HasMiss status a.place.misses b.place.misses → Outcome meant a b status
   -- the work came to its end: the mark is made, OUT is whole, and all is printed
   ended : (work : Work) → meant ≡ Ok work → status ≡ work.ends → IsEnding status →
-      IsMade work.out (marked_by work.mark a.place) b.place → PrintsAll work a.page b.page → IsFaultless a b →
+      IsOutMade work.out (marked_by work.mark a.place) b.place → PrintsAll work a.page b.page → IsFaultless a b →
       b.place.misses ≡ a.place.misses →
       Outcome meant a b status
   -- a refusal in the midst of a stream stands, though OUT failed to close after it; all is printed
   unclosed : (work : Work) → meant ≡ Ok work → status ≡ work.ends → IsEnding status → IsRefusal status →
-      work.breaks ≡ true → (out : Out) → work.out ≡ Some out → IsMadeShort out (marked_by work.mark a.place) b.place →
+      work.breaks ≡ true → (out : Out) → work.out ≡ Some out → IsOutMadeShort out (marked_by work.mark a.place) b.place →
       PrintsAll work a.page b.page →
       HasRisen a.place.faults b.place.faults → b.place.stops ≡ a.place.stops → b.page.faults ≡ a.page.faults →
       b.place.misses ≡ a.place.misses → Outcome meant a b status
@@ -164,23 +164,23 @@ pub data Outcome (meant : Result Work Status) (a b : Outside) (status : Status) 
       Outcome meant a b status
   -- there is no folder for the mark, in a depot that doesn't tell its files: nothing is made
   unmarked : (work : Work) → meant ≡ Ok work → (mark : Mark) → work.mark ≡ Some mark → status ≡ Missing mark.word →
-      a.place.files ≡ None → IsUnmade a.place b.place → b.page.printed ≡ a.page.printed → IsFaultless a b →
+      a.place.files ≡ None → IsNoOutMade a.place b.place → b.page.printed ≡ a.page.printed → IsFaultless a b →
       HasRisen a.place.misses b.place.misses → Outcome meant a b status
   -- there is no folder for OUT, in a depot that doesn't tell its files: the mark alone is made
   nowhere : (work : Work) → meant ≡ Ok work → (out : Out) → work.out ≡ Some out → status ≡ Missing out.word →
-      a.place.files ≡ None → IsUnmade (marked_by work.mark a.place) b.place → b.page.printed ≡ a.page.printed →
+      a.place.files ≡ None → IsNoOutMade (marked_by work.mark a.place) b.place → b.page.printed ≡ a.page.printed →
       IsFaultless a b → HasRisen a.place.misses b.place.misses → Outcome meant a b status
   -- printing failed at the text of the work
   cut_off : (work : Work) → meant ≡ Ok work → status ≡ PrintFault →
-      IsMade work.out (marked_by work.mark a.place) b.place → PrintsPrefix work a.page b.page →
+      IsOutMade work.out (marked_by work.mark a.place) b.place → PrintsPrefix work a.page b.page →
       HasRisen a.page.faults b.page.faults → b.place.faults ≡ a.place.faults → b.place.misses ≡ a.place.misses → Outcome meant a b status
   -- printing failed at the text of live work, while OUT was written or after it failed to close
   cut_short : (work : Work) → meant ≡ Ok work → work.live ≡ true → status ≡ PrintFault → (out : Out) →
-      work.out ≡ Some out → IsMadeShort out (marked_by work.mark a.place) b.place → PrintsPrefix work a.page b.page →
+      work.out ≡ Some out → IsOutMadeShort out (marked_by work.mark a.place) b.place → PrintsPrefix work a.page b.page →
       HasRisen a.page.faults b.page.faults → b.place.misses ≡ a.place.misses → Outcome meant a b status
 
 -- what a command left after it, before the line of its status is told
-pub record OutcomeWithin (meant : Spec Work) (a b : Outside) (status : Status) : Type 0 where
+pub record OutcomeWithin (meant : Spec Work) (a b : IoState) (status : Status) : Type 0 where
   pub comes : Outcome meant.result a b status
   -- each port that was opened is closed
   pub ports : b.place.opened ≡ a.place.opened
@@ -189,10 +189,10 @@ pub record OutcomeWithin (meant : Spec Work) (a b : Outside) (status : Status) :
   pub steps : TakesSteps meant.result a.steps b.steps
 
 -- a command did what is meant by what the files gave
-pub record Implements (meant : Readings → Spec Work) (a b : Outside) (status : Status) : Type 0 where
+pub record Implements (meant : Readings → Spec Work) (a b : IoState) (status : Status) : Type 0 where
   -- what the files of the arguments gave: files that the model knows give their bytes
   pub given : Readings
-  pub is_given : IsGiven a.place.files given
+  pub is_given : AreReadingsOfFiles a.place.files given
   pub obeyed : OutcomeWithin (meant given) a b status
 
 -- the status of a command's result

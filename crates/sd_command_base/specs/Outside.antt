@@ -25,7 +25,7 @@ pub record PageState : Type 0 where
   pub printed : Option (List ℕ)
   pub faults : ℕ
 
-pub record Outside : Type 0 where
+pub record IoState : Type 0 where
   pub place : DepotState
   pub page : PageState
   -- the steps of the generator
@@ -45,8 +45,13 @@ depot_state meanings depot = record {
 abbrev pub page_state : {P : Type 0} → SinkMeanings P → P → PageState
 page_state meanings print = record { printed = meanings.held print; faults = meanings.faults print }
 
-abbrev pub outside : DepotState → PageState → ℕ → Outside
-outside place page steps = record { place = place; page = page; steps = steps }
+abbrev pub io_state : DepotState → PageState → ℕ → IoState
+io_state place page steps = record { place = place; page = page; steps = steps }
+
+-- the same of a depot and a printer, by what they mean
+abbrev pub io_state_at : {D Inlet Outlet P : Type 0} → DepotMeanings D Inlet Outlet → SinkMeanings P → D → P → ℕ →
+    IoState
+io_state_at place page depot print steps = io_state (depot_state place depot) (page_state page print) steps
 
 -- the depot with another count of calls
 abbrev pub recalled : ℕ → DepotState → DepotState
@@ -61,5 +66,5 @@ recalled calls at = record {
 }
 
 -- the depot after so many more calls that changed nothing else
-abbrev pub called : ℕ → DepotState → DepotState
-called n at = recalled (with_added at.calls n) at
+abbrev pub depot_after_calls : ℕ → DepotState → DepotState
+depot_after_calls n at = recalled (with_added at.calls n) at

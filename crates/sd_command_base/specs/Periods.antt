@@ -39,8 +39,8 @@ first_texts text zero = []
 first_texts text (suc n) = first_texts text n ++ text n ∷ []
 
 -- prints these texts, from number 0 to the last
-abbrev pub printing : (ℕ → List ℕ) → ℕ → Work
-printing text last =
+abbrev pub printing_texts : (ℕ → List ℕ) → ℕ → Work
+printing_texts text last =
     record {
       mark = None;
       out = None;
@@ -53,4 +53,4 @@ printing text last =
 
 -- prints these sets of each period of a book for a tree of height d, with these ends
 abbrev pub listing : (List ℕ → List SetName) → (SetName → List ℕ) → ℕ → List Command → Work
-listing sets end d commands = printing (text_at sets end d commands) (last_period commands)
+listing sets end d commands = printing_texts (text_at sets end d commands) (last_period commands)

@@ -3,8 +3,8 @@ use Rattle.std.specs.Prelude.{◌≡◌, ◌⊎◌, ℕ, ◌+◌, ◌≤◌, Lis
 use Rattle.sd_base.specs.Count.{HasRisen}
 use Rattle.sd_command_base.specs.declared.status.Status.{Status}
 use Rattle.sd_command_base.specs.declared.status.Status.TheVariants.{DepotFault, NoMemory}
-use Rattle.sd_command_base.specs.Outside.{DepotState, called}
-use Rattle.sd_command_base.specs.Spec.{Spec, Readings, IsGiven, IsGot}
+use Rattle.sd_command_base.specs.Outside.{DepotState, depot_after_calls}
+use Rattle.sd_command_base.specs.Spec.{Spec, Readings, AreReadingsOfFiles, IsReadingOfFile}
 use Rattle.sd_command_base.specs.Outcome.{IsRefusal, IsEnding, HasMiss}
 
 -- no file was made, each port that was opened is closed, and at most so many calls were made
@@ -35,14 +35,14 @@ pub record IsStopped (calls : ℕ) (a b : DepotState) (status : Status) : Type 0
 
 -- a step gives what is meant, seen so, or its refusal, or was stopped
 abbrev pub StepOutcome : {X Y : Type 0} → (X → Y) → Spec Y → DepotState → DepotState → Result X Status → Type 0
-StepOutcome view meant a b (Ok x) = (meant.result ≡ Ok (view x)) × (b ≡ called meant.calls a)
+StepOutcome view meant a b (Ok x) = (meant.result ≡ Ok (view x)) × (b ≡ depot_after_calls meant.calls a)
 StepOutcome view meant a b (Err status) = IsRefused meant a b status ⊎ IsStopped meant.calls a b status
 
 -- a step that reads the file of this name gives what is meant by what the file gave
 pub record FileOutcome {X Y : Type 0} (view : X → Y) (meant : Option (List ℕ) →
     Spec Y) (name : List ℕ) (a b : DepotState) (result : Result X Status) : Type 0 where
   pub got : Option (List ℕ)
-  pub is_got : IsGot a.files name got
+  pub is_got : IsReadingOfFile a.files name got
   pub gives : StepOutcome view (meant got) a b result
 
 -- a step that reads files gives what is meant by what the files gave
@@ -50,7 +50,7 @@ pub record FilesOutcome {X Y : Type 0} (view : X → Y) (meant : Readings →
     Spec Y) (a b : DepotState) (result : Result X Status) : Type 0
   where
     pub given : Readings
-    pub is_given : IsGiven a.files given
+    pub is_given : AreReadingsOfFiles a.files given
     pub gives : StepOutcome view (meant given) a b result
 
 -- a step that asks nothing of the outside gives what is meant, or its refusal, or memory was out

@@ -15,8 +15,8 @@ pub record Spec (A : Type 0) : Type 0 where
 abbrev pub value : {A : Type 0} → A → Spec A
 value x = record { calls = 0; result = Ok x }
 
-abbrev pub judged : {A : Type 0} → Result A Status → Spec A
-judged result = record { calls = 0; result = result }
+abbrev pub of_result : {A : Type 0} → Result A Status → Spec A
+of_result result = record { calls = 0; result = result }
 
 abbrev pub and_then : {A B : Type 0} → ℕ → Result A Status → (A → Spec B) → Spec B
 and_then calls (Ok x) next = record { calls = calls + (next x).calls; result = (next x).result }
@@ -41,19 +41,19 @@ abbrev pub contents_of : Files → Readings
 contents_of files word = get files word.text
 
 -- files that the model knows give their bytes
-abbrev pub IsGiven : Option Files → Readings → Type 0
-IsGiven None given = Unit {0}
-IsGiven (Some files) given = given ≡ contents_of files
+abbrev pub AreReadingsOfFiles : Option Files → Readings → Type 0
+AreReadingsOfFiles None given = Unit {0}
+AreReadingsOfFiles (Some files) given = given ≡ contents_of files
 
 -- so it is of one file
-abbrev pub IsGot : Option Files → List ℕ → Option (List ℕ) → Type 0
-IsGot None name got = Unit {0}
-IsGot (Some files) name got = got ≡ get files name
+abbrev pub IsReadingOfFile : Option Files → List ℕ → Option (List ℕ) → Type 0
+IsReadingOfFile None name got = Unit {0}
+IsReadingOfFile (Some files) name got = got ≡ get files name
 
 -- the bytes of a word's file, however many: it is opened, read and closed
-abbrev pub all_of : ℕ → Option (List ℕ) → Spec (List ℕ)
-all_of word None = record { calls = 1; result = Err (Missing word) }
-all_of word (Some bytes) = record { calls = 2; result = Ok bytes }
+abbrev pub whole_file_bytes : ℕ → Option (List ℕ) → Spec (List ℕ)
+whole_file_bytes word None = record { calls = 1; result = Err (Missing word) }
+whole_file_bytes word (Some bytes) = record { calls = 2; result = Ok bytes }
 
 -- the bytes of a word's file, which are to be at most so many: it is opened, read and closed
 abbrev pub within : ℕ → ℕ → LimitKind → Option (List ℕ) → Spec (List ℕ)

@@ -43,12 +43,12 @@ use Rattle.sd_command_base.specs.declared.stream_refusal.StreamRefusal.{StreamRe
 use Rattle.sd_command_base.specs.declared.stream_refusal.StreamRefusal.TheVariants as refusal
 
 -- the line of a refused site
-unfoldable pub site_line : SiteFault → List ℕ
-site_line (site.Line k) = codes "site line " ++ (decimal k ++ codes " is malformed\n")
-site_line (site.Range k) = codes "site line " ++ (decimal k ++ codes " is out of range\n")
-site_line site.SamePid = codes "site names one pid twice\n"
-site_line (site.Extra k) = codes "site has extra line " ++ (decimal k ++ codes "\n")
-site_line site.Short = codes "site is short\n"
+unfoldable pub site_refusal_line : SiteFault → List ℕ
+site_refusal_line (site.Line k) = codes "site line " ++ (decimal k ++ codes " is malformed\n")
+site_refusal_line (site.Range k) = codes "site line " ++ (decimal k ++ codes " is out of range\n")
+site_refusal_line site.SamePid = codes "site names one pid twice\n"
+site_refusal_line (site.Extra k) = codes "site has extra line " ++ (decimal k ++ codes "\n")
+site_refusal_line site.Short = codes "site is short\n"
 
 -- a number of 32 bits in eight hexadecimal digits
 unfoldable pub hex_of : ℕ → List ℕ
@@ -91,8 +91,8 @@ clear_text (clear.TooManyPids packet) = codes "too many pids"
 clear_text (clear.TooLong packet) = codes "too long"
 
 -- the line of a clear stream that is refused
-unfoldable pub clear_line : StreamRefusal ClearFault → List ℕ
-clear_line found =
+unfoldable pub clear_refusal_line : StreamRefusal ClearFault → List ℕ
+clear_refusal_line found =
     codes "clear packet "
     ++ (decimal (refused_packet clear_packet found)
     ++ (codes ": " ++ (refusal_text clear_text found ++ codes "\n")))
@@ -102,14 +102,14 @@ unfoldable pub checks_text : List ℕ → List ℕ → List ℕ
 checks_text found due = encode_lower found ++ (codes " " ++ encode_lower due)
 
 -- the line of a card that is refused
-unfoldable pub card_line : CardFault → List ℕ
-card_line card.Magic = codes "card: magic\n"
-card_line card.Version = codes "card: version\n"
-card_line card.Height = codes "card: height\n"
-card_line card.Leaf = codes "card: leaf\n"
-card_line card.Length = codes "card: length\n"
-card_line (card.Check found due) = codes "card: check " ++ (checks_text found due ++ codes "\n")
-card_line card.NoMemory = codes "no memory\n"
+unfoldable pub card_refusal_line : CardFault → List ℕ
+card_refusal_line card.Magic = codes "card: magic\n"
+card_refusal_line card.Version = codes "card: version\n"
+card_refusal_line card.Height = codes "card: height\n"
+card_refusal_line card.Leaf = codes "card: leaf\n"
+card_refusal_line card.Length = codes "card: length\n"
+card_refusal_line (card.Check found due) = codes "card: check " ++ (checks_text found due ++ codes "\n")
+card_refusal_line card.NoMemory = codes "no memory\n"
 
 -- why a packet of a stream is refused
 unfoldable pub stream_text : StreamFault → List ℕ
@@ -175,8 +175,8 @@ unfoldable pub book_line : ℕ → ℕ → List ℕ
 book_line word line = codes "word " ++ (decimal word ++ (codes " line " ++ (decimal line ++ codes " is refused\n")))
 
 -- the line of a word that is out of its range
-unfoldable pub word_line : ℕ → List ℕ
-word_line word = codes "word " ++ (decimal word ++ codes " is out of range\n")
+unfoldable pub word_refusal_line : ℕ → List ℕ
+word_refusal_line word = codes "word " ++ (decimal word ++ codes " is out of range\n")
 
 -- the line of two broadcasts that may not go out under one set of cards
 unfoldable pub clash_line : ClashKind → List ℕ
@@ -198,27 +198,27 @@ unfoldable pub used_up_line : ℕ → List ℕ
 used_up_line packet = codes "site is used up at packet " ++ (decimal packet ++ codes "\n")
 
 -- the line that a status prints; none where the work is done, or where printing failed
-unfoldable pub line_of : Status → List ℕ
-line_of Done = []
-line_of Usage = codes "usage\n"
-line_of (Missing word) = missing_line word
-line_of (Revoked leaf period) = revoked_line leaf period
-line_of DepotFault = codes "device fault\n"
-line_of PrintFault = []
-line_of (BadSite word fault text) = site_line fault
-line_of (BadBook word line) = book_line word line.number
-line_of (BadCard word fault) = card_line fault
-line_of (BadClear refusal) = clear_line refusal
-line_of (BadStream refusal) = stream_line refusal
-line_of (Limit kind) = limit_line kind
-line_of NoMemory = codes "no memory\n"
-line_of (Unheard leaf period) = unheard_line leaf period
-line_of (Unclosed number) = unclosed_line number
-line_of (Gaps packets) = gaps_line packets
-line_of NoCat = codes "no CAT for this card\n"
-line_of (BadWord word) = word_line word
-line_of (Clash clash) = clash_line clash
-line_of (BadOut word cause) = out_line word cause
-line_of SiteUsed = codes "site is used\n"
-line_of OtherBook = codes "book is not that of the site\n"
-line_of (SiteUsedUp packet) = used_up_line packet
+unfoldable pub line_of_status : Status → List ℕ
+line_of_status Done = []
+line_of_status Usage = codes "usage\n"
+line_of_status (Missing word) = missing_line word
+line_of_status (Revoked leaf period) = revoked_line leaf period
+line_of_status DepotFault = codes "device fault\n"
+line_of_status PrintFault = []
+line_of_status (BadSite word fault text) = site_refusal_line fault
+line_of_status (BadBook word line) = book_line word line.number
+line_of_status (BadCard word fault) = card_refusal_line fault
+line_of_status (BadClear refusal) = clear_refusal_line refusal
+line_of_status (BadStream refusal) = stream_line refusal
+line_of_status (Limit kind) = limit_line kind
+line_of_status NoMemory = codes "no memory\n"
+line_of_status (Unheard leaf period) = unheard_line leaf period
+line_of_status (Unclosed number) = unclosed_line number
+line_of_status (Gaps packets) = gaps_line packets
+line_of_status NoCat = codes "no CAT for this card\n"
+line_of_status (BadWord word) = word_refusal_line word
+line_of_status (Clash clash) = clash_line clash
+line_of_status (BadOut word cause) = out_line word cause
+line_of_status SiteUsed = codes "site is used\n"
+line_of_status OtherBook = codes "book is not that of the site\n"
+line_of_status (SiteUsedUp packet) = used_up_line packet

@@ -18,7 +18,7 @@ use Rattle.sd_command_base.specs.Outcome.{IsEnding}
 use Rattle.sd_command_base.specs.Reads.{IsAsked, IsStopped}
 
 -- both were opened: what is left of the one, and what the other holds, with the counts of their faults
-pub record IsOpened (a b : DepotState) (from out : List ℕ) (left held : Option (List ℕ)) (from_faults out_faults : ℕ) :
+pub record ArePortsOpened (a b : DepotState) (from out : List ℕ) (left held : Option (List ℕ)) (from_faults out_faults : ℕ) :
     Type 0 where
   pub opens : OpensFile a.files from left
   pub empty : IsFresh a.files held
@@ -74,7 +74,7 @@ EndsClosed a b out held faults ended result =
     ⊎ ((result ≡ unclosed_by ended) × HasRisen faults b.faults)
 
 -- both were closed: the counts of their faults were added, and OUT has what its port held, or a prefix of it
-pub record IsClosed (a b : DepotState) (out : List ℕ) (held : Option (List ℕ)) (from_faults out_faults : ℕ)
+pub record ArePortsClosed (a b : DepotState) (out : List ℕ) (held : Option (List ℕ)) (from_faults out_faults : ℕ)
     (ended result : Result (Unit {0}) Status) : Type 0 where
   pub within : a.faults < 2 ^ 64
   pub below : a.stops < 2 ^ 64
@@ -107,10 +107,10 @@ turning steps out bytes ends = record {
 
 -- What came of a stream before its ports were closed: all the bytes were written, and this is how it ends; or a prefix
 -- of them, and the outside stopped it.
-pub data Wrote (bytes : List ℕ) (ends : Status) (before now : Option (List ℕ)) (status : Status) : Type 0 where
-  all_written : status ≡ ends → IsEnding status → Appends before now bytes → Wrote bytes ends before now status
+pub data StreamWritten (bytes : List ℕ) (ends : Status) (before now : Option (List ℕ)) (status : Status) : Type 0 where
+  all_written : status ≡ ends → IsEnding status → Appends before now bytes → StreamWritten bytes ends before now status
   some_written : (status ≡ NoMemory) ⊎ (status ≡ DepotFault) → AppendsPrefix before now bytes →
-      Wrote bytes ends before now status
+      StreamWritten bytes ends before now status
 
 -- the device failed just where the count of one port or the other rose
 pub record HasPortCause (from_before from_now out_before out_now : ℕ) (status : Status) : Type 0 where

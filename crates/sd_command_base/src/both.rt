@@ -1,5 +1,5 @@
 ghost use Rattle.std.specs.Prelude.{◌≡◌, ◌≢◌, IfOk};
-ghost use Rattle.sd_site_cards.specs.SiteFields.{fields_of};
+ghost use Rattle.sd_site_cards.specs.SiteFields.{site_fields_of};
 ghost use Rattle.sd_command_base.specs.Outside.{depot_state};
 ghost use Rattle.sd_command_base.specs.Reads.{FilesOutcome};
 ghost use Rattle.sd_command_base.specs.Both.{both_meaning};
@@ -21,7 +21,7 @@ pub fn read_both<D: Depot>(
     book: Word<'_>,
 ) -> Result<(Site, Book), Status>
     requires { site.number ≢ book.number }
-    ensures value { FilesOutcome (λ both. record { site = fields_of both.0; commands = both.1.commands })
+    ensures value { FilesOutcome (λ both. record { site = site_fields_of both.0; commands = both.1.commands })
         (both_meaning (shown_word site.entry) (shown_word book.entry))
         (depot_state D.Depot depot.old) (depot_state D.Depot depot.new) result }
     ensures height { IfOk result (λ both. both.1.height ≡ both.0.height) }

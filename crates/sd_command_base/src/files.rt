@@ -1,12 +1,12 @@
 ghost use Rattle.std.specs.Prelude.{◌≡◌, ◌≤◌, IfOk};
 ghost use Rattle.sd_book.specs.Text.{book_of};
-ghost use Rattle.sd_site_cards.specs.SiteFields.{fields_of};
+ghost use Rattle.sd_site_cards.specs.SiteFields.{site_fields_of};
 ghost use Rattle.sd_site_cards.specs.Text.{site_of};
 ghost use Rattle.sd_command_base.specs.Spec.{within};
 ghost use Rattle.sd_command_base.specs.Outside.{depot_state};
 ghost use Rattle.sd_command_base.specs.Reads.{JudgedOutcome, SureOutcome, FileOutcome};
-ghost use Rattle.sd_command_base.specs.Files.{site_of_file, book_of_file, low_site_of_file, told_book, told_low};
-ghost use Rattle.sd_command_base.specs.Files.{most_card_bytes, refused_site, refused_book, refused_card, told_site};
+ghost use Rattle.sd_command_base.specs.Files.{site_of_file, book_of_file, low_site_of_file, book_or_status, low_site_or_status};
+ghost use Rattle.sd_command_base.specs.Files.{most_card_bytes, refused_site, refused_book, refused_card, site_or_status};
 
 use crate::word::Word;
 use crate::{LimitKind, LineCause, Status, malformed, refused_line, site_excerpt};
@@ -27,7 +27,7 @@ pub const MOST_CARD_BYTES: usize = 8_192;
 
 /// The site of the word's file.
 pub fn read_site<D: Depot>(alloc: Global, depot: &mut D, word: Word<'_>) -> Result<Site, Status>
-    ensures { FileOutcome fields_of (site_of_file word.entry.number) word.entry.text.now
+    ensures { FileOutcome site_fields_of (site_of_file word.entry.number) word.entry.text.now
         (depot_state D.Depot depot.old) (depot_state D.Depot depot.new) result }
 {
     let bytes = read_bytes(alloc, depot, word, MOST_SITE_BYTES, LimitKind::SiteBytes)?;
@@ -36,7 +36,7 @@ pub fn read_site<D: Depot>(alloc: Global, depot: &mut D, word: Word<'_>) -> Resu
 
 /// The site that the bytes of this word's file say.
 fn judge_site(word: u8, bytes: &[u8]) -> Result<Site, Status>
-    ensures { SureOutcome fields_of (told_site word bytes.now (site_of bytes.now)) result }
+    ensures { SureOutcome site_fields_of (site_or_status word bytes.now (site_of bytes.now)) result }
 {
     match sd_site_cards::read(bytes) {
         Ok(site) => Ok(site),
@@ -63,7 +63,7 @@ pub fn read_low_site<D: Depot>(
     most: u8,
     kind: LimitKind,
 ) -> Result<Site, Status>
-    ensures value { FileOutcome fields_of (low_site_of_file word.entry.number most kind) word.entry.text.now
+    ensures value { FileOutcome site_fields_of (low_site_of_file word.entry.number most kind) word.entry.text.now
         (depot_state D.Depot depot.old) (depot_state D.Depot depot.new) result }
     ensures low { IfOk result (λ site. site.height ≤ most) }
 {
@@ -73,7 +73,7 @@ pub fn read_low_site<D: Depot>(
 
 /// The site, if its tree is of height at most `most`.
 fn judge_height(site: Site, most: u8, kind: LimitKind) -> Result<Site, Status>
-    ensures value { SureOutcome fields_of (told_low most kind (fields_of site)) result }
+    ensures value { SureOutcome site_fields_of (low_site_or_status most kind (site_fields_of site)) result }
     ensures low { IfOk result (λ site. site.height ≤ most) }
 {
     if site.height.get() > most {
@@ -99,7 +99,7 @@ pub fn read_book<D: Depot>(
 
 /// The book that the bytes of this word's file say.
 pub(crate) fn judge_book(alloc: Global, word: u8, bytes: &[u8], h: Height) -> Result<Book, Status>
-    ensures value { JudgedOutcome (λ book. book.commands) (told_book word h bytes.now (book_of h bytes.now)) result }
+    ensures value { JudgedOutcome (λ book. book.commands) (book_or_status word h bytes.now (book_of h bytes.now)) result }
     ensures height { IfOk result (λ book. book.height ≡ h) }
 {
     match Book::read(alloc, bytes, h) {

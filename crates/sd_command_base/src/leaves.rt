@@ -2,7 +2,7 @@ ghost use Rattle.std.specs.Prelude.{◌^◌, ◌<◌, All, IfOk};
 ghost use Rattle.sd_command_base.specs.Text.{leaves_of_text};
 ghost use Rattle.sd_command_base.specs.Outside.{depot_state};
 ghost use Rattle.sd_command_base.specs.Reads.{JudgedOutcome, FileOutcome};
-ghost use Rattle.sd_command_base.specs.Leaves.{leaves_of_file, told_leaves};
+ghost use Rattle.sd_command_base.specs.Leaves.{leaves_of_file, leaves_or_status};
 
 use crate::bad_line::bad_leaf;
 use crate::files::{MOST_BOOK_BYTES, read_bytes};
@@ -29,7 +29,7 @@ pub fn read_leaves<D: Depot>(
 
 /// The leaves that the bytes of this word's file say.
 fn judge_leaves(alloc: Global, word: u8, bytes: &[u8], h: Height) -> Result<Vec<Leaf>, Status>
-    ensures value { JudgedOutcome (λ leaves. leaves.items) (told_leaves word h bytes.now (leaves_of_text h bytes.now))
+    ensures value { JudgedOutcome (λ leaves. leaves.items) (leaves_or_status word h bytes.now (leaves_of_text h bytes.now))
         result }
     ensures fits { IfOk result (λ leaves. All (λ u. u < 2 ^ h) leaves.items) }
 {

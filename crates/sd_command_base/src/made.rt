@@ -1,5 +1,5 @@
 ghost use Rattle.std.specs.Prelude.{◌≡◌, ℕ, List, IsErrOf};
-ghost use Rattle.sd_command_base.specs.Outside.{PageState, depot_state, outside};
+ghost use Rattle.sd_command_base.specs.Outside.{PageState, depot_state, io_state};
 ghost use Rattle.sd_command_base.specs.Spec.{value};
 ghost use Rattle.sd_command_base.specs.Work.{StepBound};
 ghost use Rattle.sd_command_base.specs.Outcome.{OutcomeWithin, status_of};
@@ -20,7 +20,7 @@ pub fn make_file<D: Depot>(
 ) -> Result<(), Status>
     ensures { (page : PageState) (steps : ℕ) (most : StepBound) →
         OutcomeWithin (value (making most (shown_word word.entry) bytes.now))
-        (outside (depot_state D.Depot depot.old) page steps) (outside (depot_state D.Depot depot.new) page steps)
+        (io_state (depot_state D.Depot depot.old) page steps) (io_state (depot_state D.Depot depot.new) page steps)
         (status_of result) }
 {
     told(word.number, write_file(alloc, depot, word.text, bytes))
@@ -50,7 +50,7 @@ pub fn make_new<D: Depot>(
 ) -> Result<(), Status>
     ensures { (pieces : List (List ℕ)) (page : PageState) (steps : ℕ) →
         NewStep (record { bytes = bytes.now; pieces = pieces }) (shown_word word.entry)
-        (outside (depot_state D.Depot depot.old) page steps) (outside (depot_state D.Depot depot.new) page steps)
+        (io_state (depot_state D.Depot depot.old) page steps) (io_state (depot_state D.Depot depot.new) page steps)
         result }
 {
     match write_new(alloc, depot, word.text, bytes) {

@@ -5,7 +5,7 @@ ghost use Rattle.sd_command_base.specs.Outside.{depot_state};
 ghost use Rattle.sd_command_base.specs.Reads.{JudgedOutcome, SureOutcome, FileOutcome};
 ghost use Rattle.sd_command_base.specs.Files.{ends_lines as are_lines, begins_with_book as begins_with};
 ghost use Rattle.sd_command_base.specs.Files.{is_book as is_own};
-ghost use Rattle.sd_command_base.specs.Files.{own_book_of_file, longer_book_of_file, told_own, told_whole, told_longer};
+ghost use Rattle.sd_command_base.specs.Files.{own_book_of_file, longer_book_of_file, own_book_or_status, whole_book_or_status, longer_book_or_status};
 
 use crate::files::{MOST_BOOK_BYTES, judge_book, read_bytes};
 use crate::word::Word;
@@ -84,7 +84,7 @@ fn judge_own(
     h: Height,
     line: Option<BookLine>,
 ) -> Result<Book, Status>
-    ensures value { JudgedOutcome (λ book. book.commands) (told_own word h line bytes.now) result }
+    ensures value { JudgedOutcome (λ book. book.commands) (own_book_or_status word h line bytes.now) result }
     ensures height { IfOk result (λ book. book.height ≡ h) }
 {
     if !is_book(line, bytes) {
@@ -119,7 +119,7 @@ fn judge_longer(
     line: Option<BookLine>,
 ) -> Result<BookFile, Status>
     ensures value { JudgedOutcome (λ file. record { bytes = file.bytes.items; commands = file.book.commands })
-        (told_longer word h line bytes.items) result }
+        (longer_book_or_status word h line bytes.items) result }
     ensures height { IfOk result (λ file. file.book.height ≡ h) }
 {
     if !begins_with_book(line, &bytes) {
@@ -132,7 +132,7 @@ fn judge_longer(
 /// This word's file of these bytes, if they are whole lines; else the last line is refused.
 fn judge_end(word: u8, bytes: Vec<u8>, book: Book) -> Result<BookFile, Status>
     ensures value { SureOutcome (λ file. record { bytes = file.bytes.items; commands = file.book.commands })
-        (told_whole word bytes.items (Ok book.commands)) result }
+        (whole_book_or_status word bytes.items (Ok book.commands)) result }
     ensures height { IfOk result (λ file. file.book.height ≡ book.height) }
 {
     if !ends_lines(&bytes) {

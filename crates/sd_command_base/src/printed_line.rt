@@ -1,19 +1,19 @@
 //! The line of each status (docs/FORMATS.md, Exits).
 
 ghost use Rattle.std.specs.Prelude.{◌≡◌, IfOk, OnErr, string_bytes};
-ghost use Rattle.sd_command_base.specs.Texts.{line_of, site_line as site_line_of, stream_line as stream_line_of};
+ghost use Rattle.sd_command_base.specs.Texts.{line_of_status, site_refusal_line as site_line_of, stream_line as stream_line_of};
 ghost use Rattle.sd_command_base.specs.Texts.{limit_line as limit_line_of};
-ghost use Rattle.sd_command_base.specs.Texts.{clear_line as clear_line_of, clear_text as clear_text_of};
+ghost use Rattle.sd_command_base.specs.Texts.{clear_refusal_line as clear_line_of, clear_text as clear_text_of};
 ghost use Rattle.sd_command_base.specs.Texts.{break_text as break_text_of, form_text as form_text_of, hex_of};
-ghost use Rattle.sd_command_base.specs.Texts.{card_line as card_line_of, checks_text as checks_text_of};
+ghost use Rattle.sd_command_base.specs.Texts.{card_refusal_line as card_line_of, checks_text as checks_text_of};
 ghost use Rattle.sd_command_base.specs.Texts.{stream_text as stream_text_of};
 ghost use Rattle.sd_command_base.specs.Texts.{revoked_line as revoked_line_of, unheard_line as unheard_line_of};
 ghost use Rattle.sd_command_base.specs.Texts.{unclosed_line as unclosed_line_of, gaps_line as gaps_line_of};
 ghost use Rattle.sd_command_base.specs.Texts.{missing_line as missing_line_of, book_line as book_line_of};
-ghost use Rattle.sd_command_base.specs.Texts.{word_line as word_line_of, clash_line as clash_line_of};
+ghost use Rattle.sd_command_base.specs.Texts.{word_refusal_line as word_line_of, clash_line as clash_line_of};
 ghost use Rattle.sd_command_base.specs.Texts.{out_line as out_line_of, used_up_line as used_up_line_of};
 ghost use Rattle.sd_command_base.specs.Lines.{bytes_of};
-ghost use Rattle.sd_command_base.specs.Results.{TakesMemory};
+ghost use Rattle.sd_command_base.specs.Results.{IsLineInMemory};
 
 use crate::{Clash, LimitKind, OutCause, Status, StreamRefusal};
 use sd_book::BookLimit;
@@ -45,10 +45,10 @@ impl Line {
 }
 
 /// The line of a status, with its line feed; empty for `Done` and `PrintFault`.
-#[tactic(auto, unfolding(crate::specs::Texts::line_of))]
+#[tactic(auto, unfolding(crate::specs::Texts::line_of_status))]
 pub fn status_line(alloc: Global, status: Status) -> Result<Line, AllocError>
-    ensures value { IfOk result (λ line. bytes_of line ≡ line_of status) }
-    ensures memory { OnErr result (TakesMemory status) }
+    ensures value { IfOk result (λ line. bytes_of line ≡ line_of_status status) }
+    ensures memory { OnErr result (IsLineInMemory status) }
 {
     match status {
         Status::Done | Status::PrintFault => Ok(Line::Fixed("")),
@@ -93,7 +93,7 @@ fn book_line(alloc: Global, word: u8, line: u32) -> Result<Line, AllocError>
 }
 
 /// The line of a word that is out of its range.
-#[tactic(auto, unfolding(crate::specs::Texts::word_line))]
+#[tactic(auto, unfolding(crate::specs::Texts::word_refusal_line))]
 fn word_line(alloc: Global, word: u8) -> Result<Line, AllocError>
     ensures { IfOk result (λ line. bytes_of line ≡ word_line_of word) }
 {
@@ -172,7 +172,7 @@ fn gaps_line(alloc: Global, packets: u64) -> Result<Line, AllocError>
 }
 
 /// The line of a refused site.
-#[tactic(auto, unfolding(crate::specs::Texts::site_line))]
+#[tactic(auto, unfolding(crate::specs::Texts::site_refusal_line))]
 fn site_line(alloc: Global, fault: SiteFault) -> Result<Line, AllocError>
     ensures { IfOk result (λ line. bytes_of line ≡ site_line_of fault) }
 {
@@ -186,7 +186,7 @@ fn site_line(alloc: Global, fault: SiteFault) -> Result<Line, AllocError>
 }
 
 /// The line of a clear stream that is refused.
-#[tactic(auto, unfolding(crate::specs::Texts::clear_line))]
+#[tactic(auto, unfolding(crate::specs::Texts::clear_refusal_line))]
 fn clear_line(alloc: Global, refusal: StreamRefusal<ClearFault>) -> Result<Line, AllocError>
     ensures { IfOk result (λ line. bytes_of line ≡ clear_line_of refusal) }
 {
@@ -324,7 +324,7 @@ fn break_text(cause: BreakCause) -> &'static str
 }
 
 /// The line of a card that is refused.
-#[tactic(auto, unfolding(crate::specs::Texts::card_line))]
+#[tactic(auto, unfolding(crate::specs::Texts::card_refusal_line))]
 fn card_line(alloc: Global, fault: CardFault) -> Result<Line, AllocError>
     ensures { IfOk result (λ line. bytes_of line ≡ card_line_of fault) }
 {

@@ -2,7 +2,7 @@ ghost use Rattle.std.specs.Prelude.{◌≡◌, IfOk, IfErr};
 ghost use Rattle.sd_ports.specs.Files.{IsThere};
 ghost use Rattle.sd_command_base.specs.Outside.{depot_state};
 ghost use Rattle.sd_command_base.specs.Shown.{shown_word};
-ghost use Rattle.sd_command_base.specs.Turned.{opening_status, unclosed_by, IsClosed, IsOpened, NotOpened};
+ghost use Rattle.sd_command_base.specs.Turned.{opening_status, unclosed_by, ArePortsClosed, ArePortsOpened, NotOpened};
 
 use crate::Status;
 use crate::word::Word;
@@ -16,7 +16,7 @@ pub fn open_both<D: Depot>(
     from: Word<'_>,
     out: Word<'_>,
 ) -> Result<(D::Inlet, D::Outlet), Status>
-    ensures ok { IfOk result (λ ports. IsOpened (depot_state D.Depot depot.old) (depot_state D.Depot depot.new)
+    ensures ok { IfOk result (λ ports. ArePortsOpened (depot_state D.Depot depot.old) (depot_state D.Depot depot.new)
         from.entry.text.now out.entry.text.now (D.Inlet.left ports.0) (D.Outlet.held ports.1)
         (D.Inlet.faults ports.0) (D.Outlet.faults ports.1)) }
     ensures fault { IfErr result (NotOpened (shown_word from.entry) (shown_word out.entry)
@@ -55,7 +55,7 @@ pub fn close_both<D: Depot>(
     ended: Result<(), Status>,
 ) -> Result<(), Status>
     requires { IsThere (D.files depot.old) out.text.now }
-    ensures { IsClosed (depot_state D.Depot depot.old) (depot_state D.Depot depot.new) out.entry.text.now
+    ensures { ArePortsClosed (depot_state D.Depot depot.old) (depot_state D.Depot depot.new) out.entry.text.now
         (D.Outlet.held outlet) (D.Inlet.faults inlet) (D.Outlet.faults outlet) ended result }
 {
     depot.close_in(inlet);

@@ -11,10 +11,10 @@ use Rattle.sd_command_line.specs.declared.operand.Kind.TheVariants as kind
 use Rattle.sd_command_line.specs.declared.order.Order as declared
 use Rattle.sd_command_line.specs.Commands.{command_named, operands_of}
 use Rattle.sd_command_line.specs.Operands.{operand_kind}
-use Rattle.sd_command_line.specs.Words.{Argument, Order, argument_of, arguments_from, at_most, before, counted}
-use Rattle.sd_command_line.specs.Words.{help_on, help_words, is_help, is_version, named_words, number_in, numbered}
+use Rattle.sd_command_line.specs.Words.{Argument, Order, argument_of, arguments_from, at_most, before, nonzero_count}
+use Rattle.sd_command_line.specs.Words.{help_on, help_words, is_help, is_version, named_words, number_of_word, number_argument}
 use Rattle.sd_command_line.specs.Words.{asks_help, order_after, order_of, ordered, out_is_taken, version_words}
-use Rattle.sd_command_line.specs.Orders.{RefusesWords, shown}
+use Rattle.sd_command_line.specs.Orders.{RefusesWords, shown_order}
 
 abbrev IsWords : {A : Type 0} → Result A Status → Type 0
 IsWords {A} read = IfErr read RefusesWords
@@ -27,12 +27,12 @@ number_refused : (place most : ℕ) (found : Option ℕ) → IsWords (at_most pl
 number_refused place most None = inr (place, refl)
 number_refused place most (Some n) = within place n (nat_lt most n)
 
-count_refused : (place : ℕ) (read : Result ℕ Status) → IsWords read → IsWords (counted place read)
+count_refused : (place : ℕ) (read : Result ℕ Status) → IsWords read → IsWords (nonzero_count place read)
 count_refused place (Ok zero) h = inr (place, refl)
 count_refused place (Ok (suc n)) h = tt
 count_refused place (Err status) h = h
 
-numbered_refused : (place : ℕ) (read : Result ℕ Status) → IsWords read → IsWords (numbered place read)
+numbered_refused : (place : ℕ) (read : Result ℕ Status) → IsWords read → IsWords (number_argument place read)
 numbered_refused place (Ok n) h = tt
 numbered_refused place (Err status) h = h
 
@@ -40,10 +40,10 @@ argument_refused : (place : ℕ) (k : Kind) (text : List ℕ) → IsWords (argum
 argument_refused place kind.Input text = tt
 argument_refused place kind.Output text = tt
 argument_refused place (kind.Number most) text =
-    numbered_refused place (number_in place most text) (number_refused place most (decimal_value text))
+    numbered_refused place (number_of_word place most text) (number_refused place most (decimal_value text))
 argument_refused place (kind.Count most) text =
-    numbered_refused place (counted place (number_in place most text))
-    (count_refused place (number_in place most text) (number_refused place most (decimal_value text)))
+    numbered_refused place (nonzero_count place (number_of_word place most text))
+    (count_refused place (number_of_word place most text) (number_refused place most (decimal_value text)))
 
 before_refused : (first : Result Argument Status) (rest : Result (List Argument) Status) → IsWords first →
     IsWords rest → IsWords (before first rest)
@@ -104,12 +104,12 @@ words_refused (name ∷ texts) =
     (either (asks_help texts) (help_on (command_named name)) (order_after (command_named name) texts)
     (topic_refused (command_named name)) (command_refused (command_named name) texts)))
 
-said_refused : (read : Result declared.Order Status) → IsWords (shown read) → IsWords read
+said_refused : (read : Result declared.Order Status) → IsWords (shown_order read) → IsWords read
 said_refused (Ok order) h = tt
 said_refused (Err status) h = h
 
 -- the refusal of an order that was read of words
-pub read_refused : (read : Result declared.Order Status) (words : List (List ℕ)) → shown read ≡ order_of words →
+pub read_refused : (read : Result declared.Order Status) (words : List (List ℕ)) → shown_order read ≡ order_of words →
     IfErr read RefusesWords
 read_refused read words is =
     said_refused read (subst (λ (r : Result Order Status). IsWords r) (sym is) (words_refused words))

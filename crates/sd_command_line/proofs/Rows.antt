@@ -13,7 +13,7 @@ use Rattle.sd_command_base.specs.declared.status.Status.{Status}
 use Rattle.sd_command_line.specs.declared.argument.Argument.{Argument}
 use Rattle.sd_command_line.specs.Words as words
 use Rattle.sd_command_line.specs.Words.{before, argument_of, arguments_from, file_texts, input_texts, out_text}
-use Rattle.sd_command_line.specs.Words.{or_output, with_input}
+use Rattle.sd_command_line.specs.Words.{or_output, with_input_text}
 use Rattle.sd_command_line.specs.Orders.{argument_said, arguments_said}
 
 -- the argument at a place, as it is said
@@ -142,8 +142,8 @@ either false q = refl
 
 -- some text has this name, the first or one of the others
 some_input : (k : Kind) (text name : List ℕ) (texts : List (List ℕ)) →
-    list_any (λ t. bytes_eq t name) (with_input k text texts)
-    ≡ list_any (λ t. bytes_eq t name) (with_input k text []) || list_any (λ t. bytes_eq t name) texts
+    list_any (λ t. bytes_eq t name) (with_input_text k text texts)
+    ≡ list_any (λ t. bytes_eq t name) (with_input_text k text []) || list_any (λ t. bytes_eq t name) texts
 some_input kind.Input text name texts = either (bytes_eq text name) (list_any (λ t. bytes_eq t name) texts)
 some_input kind.Output text name texts = refl
 some_input (kind.Number most) text name texts = refl
@@ -153,7 +153,7 @@ some_input (kind.Count most) text name texts = refl
 pub input_later : (operands : List Operand) (texts : List (String Global)) (text name : List ℕ) (i : ℕ) (d : Operand)
     (e : String Global) → i < length operands → length operands ≡ length texts →
     text ≡ string_bytes (get_or texts i e) →
-    false ≡ list_any (λ t. bytes_eq t name) (with_input (operand_kind (get_or operands i d)) text []) →
+    false ≡ list_any (λ t. bytes_eq t name) (with_input_text (operand_kind (get_or operands i d)) text []) →
     list_any (λ t. bytes_eq t name) (input_texts (drop (i + 1) operands) (map string_bytes (drop (i + 1) texts)))
     ≡ list_any (λ t. bytes_eq t name) (input_texts (drop i operands) (map string_bytes (drop i texts)))
 input_later operands texts text name i d e h same is none =

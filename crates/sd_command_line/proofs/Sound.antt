@@ -13,44 +13,44 @@ use Rattle.sd_base.specs.Number.{decimal_value}
 use Rattle.sd_command_base.specs.declared.status.Status.{Status}
 use Rattle.sd_command_base.specs.declared.status.Status.TheVariants.{Usage, BadWord}
 use Rattle.sd_command_line.specs.declared.order.Order as declared
-use Rattle.sd_command_line.specs.Words.{Argument, Order, argument_of, arguments_from, at_most, before, counted}
-use Rattle.sd_command_line.specs.Words.{help_on, help_words, is_help, is_version, named_words, number_in, numbered}
+use Rattle.sd_command_line.specs.Words.{Argument, Order, argument_of, arguments_from, at_most, before, nonzero_count}
+use Rattle.sd_command_line.specs.Words.{help_on, help_words, is_help, is_version, named_words, number_of_word, number_argument}
 use Rattle.sd_command_line.specs.Words.{asks_help, ordered}
 use Rattle.sd_command_line.specs.Words.{order_after, order_of, out_is_taken, version_words}
-use Rattle.sd_command_line.specs.Orders.{AreOf, IsOf, IsSound, order_said, shown}
+use Rattle.sd_command_line.specs.Orders.{AreOf, IsArgumentOf, IsSoundOrder, order_said, shown_order}
 
 -- a number that was read is within its limit
 number_sound : (place most : ℕ) (found : Option ℕ) →
-    IfOk (numbered place (at_most place most found)) (IsOf place (kind.Number most))
+    IfOk (number_argument place (at_most place most found)) (IsArgumentOf place (kind.Number most))
 number_sound place most None = tt
 number_sound place most (Some n) =
     elim (cases_lt most n) [
       | inl lt ↦
           subst
-          (λ (b : Bool). IfOk (numbered place (if b then Err (BadWord place) else Ok n))
-          (IsOf place (kind.Number most))) (sym (lt-ltb most n lt)) tt
+          (λ (b : Bool). IfOk (number_argument place (if b then Err (BadWord place) else Ok n))
+          (IsArgumentOf place (kind.Number most))) (sym (lt-ltb most n lt)) tt
       | inr le ↦
           subst
-          (λ (b : Bool). IfOk (numbered place (if b then Err (BadWord place) else Ok n))
-          (IsOf place (kind.Number most))) (sym (le-ltb most n le)) (refl, le)
+          (λ (b : Bool). IfOk (number_argument place (if b then Err (BadWord place) else Ok n))
+          (IsArgumentOf place (kind.Number most))) (sym (le-ltb most n le)) (refl, le)
     ]
 
 -- a count is not 0 either
-count_sound : (place most : ℕ) (read : Result ℕ Status) → IfOk (numbered place read) (IsOf place (kind.Number most)) →
-    IfOk (numbered place (counted place read)) (IsOf place (kind.Count most))
+count_sound : (place most : ℕ) (read : Result ℕ Status) → IfOk (number_argument place read) (IsArgumentOf place (kind.Number most)) →
+    IfOk (number_argument place (nonzero_count place read)) (IsArgumentOf place (kind.Count most))
 count_sound place most (Ok zero) h = tt
 count_sound place most (Ok (suc n)) h = (h.0, (omega arith, h.1))
 count_sound place most (Err status) h = tt
 
-argument_sound : (place : ℕ) (k : Kind) (text : List ℕ) → IfOk (argument_of place k text) (IsOf place k)
+argument_sound : (place : ℕ) (k : Kind) (text : List ℕ) → IfOk (argument_of place k text) (IsArgumentOf place k)
 argument_sound place kind.Input text = refl
 argument_sound place kind.Output text = refl
 argument_sound place (kind.Number most) text = number_sound place most (decimal_value text)
 argument_sound place (kind.Count most) text =
-    count_sound place most (number_in place most text) (number_sound place most (decimal_value text))
+    count_sound place most (number_of_word place most text) (number_sound place most (decimal_value text))
 
 before_sound : (place : ℕ) (operand : Operand) (operands : List Operand) (first : Result Argument Status)
-    (rest : Result (List Argument) Status) → IfOk first (IsOf place (operand_kind operand)) →
+    (rest : Result (List Argument) Status) → IfOk first (IsArgumentOf place (operand_kind operand)) →
     IfOk rest (AreOf (place + 1) operands) → IfOk (before first rest) (AreOf place (operand ∷ operands))
 before_sound place operand operands (Err status) rest a b = tt
 before_sound place operand operands (Ok argument) (Err status) a b = tt
@@ -66,23 +66,23 @@ arguments_sound place (operand ∷ operands) (text ∷ texts) h =
     (arguments_sound (place + 1) operands texts (omega (arith, h)))
 
 ordered_sound : (command : Command) (read : Result (List Argument) Status) → IfOk read (AreOf 1 (operands_of command)) →
-    IfOk (ordered command read) IsSound
+    IfOk (ordered command read) IsSoundOrder
 ordered_sound command (Ok arguments) h = h
 ordered_sound command (Err status) h = tt
 
-unless : (p : Bool) (order : Result Order Status) → (p ≡ false → IfOk order IsSound) →
-    IfOk (if p then Err Usage else order) IsSound
+unless : (p : Bool) (order : Result Order Status) → (p ≡ false → IfOk order IsSoundOrder) →
+    IfOk (if p then Err Usage else order) IsSoundOrder
 unless true order h = tt
 unless false order h = h refl
 
-either : (p : Bool) (a b : Result Order Status) → IfOk a IsSound → IfOk b IsSound → IfOk (if p then a else b) IsSound
+either : (p : Bool) (a b : Result Order Status) → IfOk a IsSoundOrder → IfOk b IsSoundOrder → IfOk (if p then a else b) IsSoundOrder
 either true a b h k = h
 either false a b h k = k
 
 as_many : (m n : ℕ) (p : Bool) → not (m == n) || p ≡ false → m ≡ n
 as_many m n p h = grind (arith, h)
 
-named_command_sound : (command : Option Command) (texts : List (List ℕ)) → IfOk (order_after command texts) IsSound
+named_command_sound : (command : Option Command) (texts : List (List ℕ)) → IfOk (order_after command texts) IsSoundOrder
 named_command_sound None texts = tt
 named_command_sound (Some command) texts =
     let operands = operands_of command in
@@ -92,20 +92,20 @@ named_command_sound (Some command) texts =
     (arguments_sound 1 operands texts (as_many (length texts) (length operands) (out_is_taken command operands texts)
     h)))
 
-topic_sound : (topic : Option Command) → IfOk (help_on topic) IsSound
+topic_sound : (topic : Option Command) → IfOk (help_on topic) IsSoundOrder
 topic_sound None = tt
 topic_sound (Some topic) = tt
 
-help_sound : (texts : List (List ℕ)) → IfOk (help_words texts) IsSound
+help_sound : (texts : List (List ℕ)) → IfOk (help_words texts) IsSoundOrder
 help_sound [] = tt
 help_sound (name ∷ []) = topic_sound (command_named name)
 help_sound (name ∷ word ∷ words) = tt
 
-version_sound : (texts : List (List ℕ)) → IfOk (version_words texts) IsSound
+version_sound : (texts : List (List ℕ)) → IfOk (version_words texts) IsSoundOrder
 version_sound [] = tt
 version_sound (word ∷ words) = tt
 
-named_sound : (name : List ℕ) (texts : List (List ℕ)) → IfOk (named_words name texts) IsSound
+named_sound : (name : List ℕ) (texts : List (List ℕ)) → IfOk (named_words name texts) IsSoundOrder
 unfolding named_words
 named_sound name texts =
     let after =
@@ -115,17 +115,17 @@ named_sound name texts =
     (either (asks_help texts) (help_on (command_named name)) (order_after (command_named name) texts)
     (topic_sound (command_named name)) (named_command_sound (command_named name) texts)))
 
-said_sound : (read : Result declared.Order Status) → IfOk (shown read) IsSound →
-    IfOk read (λ order. IsSound (order_said order))
+said_sound : (read : Result declared.Order Status) → IfOk (shown_order read) IsSoundOrder →
+    IfOk read (λ order. IsSoundOrder (order_said order))
 said_sound (Ok order) h = h
 said_sound (Err status) h = tt
 
-words_sound : (words : List (List ℕ)) → IfOk (order_of words) IsSound
+words_sound : (words : List (List ℕ)) → IfOk (order_of words) IsSoundOrder
 words_sound [] = tt
 words_sound (name ∷ texts) = named_sound name texts
 
 -- so is one that was read of words
-pub read_sound : (read : Result declared.Order Status) (words : List (List ℕ)) → shown read ≡ order_of words →
-    IfOk read (λ order. IsSound (order_said order))
+pub read_sound : (read : Result declared.Order Status) (words : List (List ℕ)) → shown_order read ≡ order_of words →
+    IfOk read (λ order. IsSoundOrder (order_said order))
 read_sound read words is =
-    said_sound read (subst (λ (r : Result Order Status). IfOk r IsSound) (sym is) (words_sound words))
+    said_sound read (subst (λ (r : Result Order Status). IfOk r IsSoundOrder) (sym is) (words_sound words))

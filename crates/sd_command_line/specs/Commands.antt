@@ -16,7 +16,7 @@ use Rattle.sd_command_line.specs.declared.operand.Operand.TheVariants as word
 use Rattle.sd_command_line.specs.declared.operand.Files.{Files}
 use Rattle.sd_command_line.specs.Operands.{files_among}
 use Rattle.sd_command_line.specs.declared.exit.Exit.{Exit}
-use Rattle.sd_command_line.specs.Exits.{ends_air, is_common, ends_receiver, refuses, refuses_own_book, refuses_pair}
+use Rattle.sd_command_line.specs.Exits.{ends_air, is_common, ends_receiver, refuses_operand, refuses_own_book, refuses_pair}
 
 -- the command's name
 unfoldable pub command_name : Command → List ℕ
@@ -132,7 +132,7 @@ is_own command exit = false
 -- the command may end so
 unfoldable pub ends_with : Command → Exit → Bool
 ends_with command exit =
-    is_common exit || (is_own command exit || list_any (λ operand. refuses operand exit) (operands_of command))
+    is_common exit || (is_own command exit || list_any (λ operand. refuses_operand operand exit) (operands_of command))
 
 -- an example of its arguments
 unfoldable pub example_of : Command → List ℕ

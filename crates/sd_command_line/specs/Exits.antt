@@ -100,26 +100,26 @@ refuses_new_site BadOut = true
 refuses_new_site exit = false
 
 -- an argument is refused so
-abbrev pub refuses : Operand → Exit → Bool
-refuses argument.Site exit = refuses_site exit
-refuses argument.Book exit = refuses_lines exit
-refuses argument.Accounts exit = refuses_lines exit
-refuses argument.Commands exit = refuses_lines exit
-refuses argument.Script exit = refuses_lines exit
-refuses argument.Leaves exit = refuses_lines exit
-refuses argument.Card exit = refuses_card exit
-refuses argument.Clear exit = refuses_clear exit
-refuses argument.Live exit = false
-refuses argument.Stream exit = refuses_stream exit
-refuses argument.Leaf exit = refuses_number exit
-refuses argument.Width exit = refuses_number exit
-refuses argument.Number exit = refuses_number exit
-refuses argument.Packets exit = refuses_number exit
-refuses argument.Clears exit = refuses_number exit
-refuses argument.Pids exit = refuses_number exit
-refuses argument.Words exit = refuses_number exit
-refuses argument.NewSite exit = refuses_new_site exit
-refuses argument.Out exit = false
+abbrev pub refuses_operand : Operand → Exit → Bool
+refuses_operand argument.Site exit = refuses_site exit
+refuses_operand argument.Book exit = refuses_lines exit
+refuses_operand argument.Accounts exit = refuses_lines exit
+refuses_operand argument.Commands exit = refuses_lines exit
+refuses_operand argument.Script exit = refuses_lines exit
+refuses_operand argument.Leaves exit = refuses_lines exit
+refuses_operand argument.Card exit = refuses_card exit
+refuses_operand argument.Clear exit = refuses_clear exit
+refuses_operand argument.Live exit = false
+refuses_operand argument.Stream exit = refuses_stream exit
+refuses_operand argument.Leaf exit = refuses_number exit
+refuses_operand argument.Width exit = refuses_number exit
+refuses_operand argument.Number exit = refuses_number exit
+refuses_operand argument.Packets exit = refuses_number exit
+refuses_operand argument.Clears exit = refuses_number exit
+refuses_operand argument.Pids exit = refuses_number exit
+refuses_operand argument.Words exit = refuses_number exit
+refuses_operand argument.NewSite exit = refuses_new_site exit
+refuses_operand argument.Out exit = false
 
 -- two broadcasts are refused so
 abbrev pub refuses_pair : Exit → Bool

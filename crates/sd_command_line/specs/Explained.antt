@@ -24,8 +24,8 @@ use Rattle.sd_command_line.specs.Reasons.{revoked_reason, site_reason, stream_re
 use Rattle.sd_command_line.specs.Reasons.{unheard_reason, unknown_reason, used_reason, used_up_reason}
 
 -- what an argument is, and its text
-abbrev pub shown : Argument → Operand × List ℕ
-shown argument = (argument.operand, argument.text.now)
+abbrev pub shown_argument : Argument → Operand × List ℕ
+shown_argument argument = (argument.operand, argument.text.now)
 
 -- both, where both are there
 abbrev pub both : Option Operand → Option (List ℕ) → Option (Operand × List ℕ)
@@ -39,10 +39,10 @@ argument_at None texts place = None
 argument_at (Some command) texts place = both (slice_get (operands_of command) place) (slice_get texts place)
 
 -- the argument of this number, numbered from 1, where the first word is a command that takes as many
-abbrev pub argument_of : List (List ℕ) → ℕ → Option (Operand × List ℕ)
-argument_of words zero = None
-argument_of [] (suc place) = None
-argument_of (command ∷ texts) (suc place) = argument_at (command_named command) texts place
+abbrev pub argument_numbered : List (List ℕ) → ℕ → Option (Operand × List ℕ)
+argument_numbered words zero = None
+argument_numbered [] (suc place) = None
+argument_numbered (command ∷ texts) (suc place) = argument_at (command_named command) texts place
 
 -- the line of an argument: its name, its text and why it is refused
 unfoldable pub argument_line : List ℕ → Operand × List ℕ → List ℕ
@@ -50,17 +50,17 @@ argument_line reason (operand, text) =
     codes "sdca: " ++ (operand_name operand ++ (codes " " ++ (escaped text ++ (codes ": " ++ (reason ++ codes "\n")))))
 
 -- the line of the argument that was found, or none
-abbrev pub found_line : Option (Operand × List ℕ) → (Operand → List ℕ) → List ℕ
-found_line None reason = []
-found_line (Some argument) reason = argument_line (reason argument.0) argument
+abbrev pub explained_line : Option (Operand × List ℕ) → (Operand → List ℕ) → List ℕ
+explained_line None reason = []
+explained_line (Some argument) reason = argument_line (reason argument.0) argument
 
 -- the line of the argument of this number
 abbrev pub of_argument : List (List ℕ) → ℕ → (Operand → List ℕ) → List ℕ
-of_argument words number reason = found_line (argument_of words number) reason
+of_argument words number reason = explained_line (argument_numbered words number) reason
 
 -- the line of a word that is refused, which leads to the list of commands
-unfoldable pub word_line : List ℕ → List ℕ → List ℕ
-word_line reason word = codes "sdca: " ++ (escaped word ++ (codes ": " ++ (reason ++ codes "; see sdca help\n")))
+unfoldable pub word_explained : List ℕ → List ℕ → List ℕ
+word_explained reason word = codes "sdca: " ++ (escaped word ++ (codes ": " ++ (reason ++ codes "; see sdca help\n")))
 
 -- the line of a command with a wrong number of arguments, which leads to the command's page
 unfoldable pub count_line : List ℕ → List ℕ
@@ -73,31 +73,31 @@ taken_reason command texts = if out_is_mark command texts then mark_reason else 
 
 -- the line of words that begin with a command's name: OUT, the last of its arguments, is taken, or the command takes
 -- another number of them
-abbrev pub command_line : List (List ℕ) → List ℕ → List (List ℕ) → Option Command → List ℕ
-command_line words name texts None = word_line unknown_reason name
-command_line words name texts (Some command) =
+abbrev pub command_explained : List (List ℕ) → List ℕ → List (List ℕ) → Option Command → List ℕ
+command_explained words name texts None = word_explained unknown_reason name
+command_explained words name texts (Some command) =
     if length texts == length (operands_of command) then
     of_argument words (length texts) (λ operand. taken_reason command texts)
     else count_line name
 
 -- the line of a word after help that names no page: help and version are no unknown commands, but have none
-abbrev pub topic_line : List ℕ → List ℕ
-topic_line topic =
-    if is_help topic || is_version topic then word_line no_page_reason topic
-    else word_line unknown_reason topic
+abbrev pub no_topic_line : List ℕ → List ℕ
+no_topic_line topic =
+    if is_help topic || is_version topic then word_explained no_page_reason topic
+    else word_explained unknown_reason topic
 
 -- the line of help with these arguments
 abbrev pub help_line : List ℕ → List (List ℕ) → List ℕ
-help_line name [] = word_line miscounted_reason name
-help_line name (topic ∷ []) = topic_line topic
-help_line name (topic ∷ word ∷ words) = word_line miscounted_reason name
+help_line name [] = word_explained miscounted_reason name
+help_line name (topic ∷ []) = no_topic_line topic
+help_line name (topic ∷ word ∷ words) = word_explained miscounted_reason name
 
 -- the line of words that begin with this name
 abbrev pub named_line : List (List ℕ) → List ℕ → List (List ℕ) → List ℕ
 named_line words name texts =
     if is_help name then help_line name texts
-    else if is_version name then word_line miscounted_reason name
-    else command_line words name texts (command_named name)
+    else if is_version name then word_explained miscounted_reason name
+    else command_explained words name texts (command_named name)
 
 -- the line of words that are refused
 unfoldable pub usage_line : List (List ℕ) → List ℕ
@@ -112,8 +112,8 @@ site_word = 1
 -- BOOK is argument 2 of each command that asks whether it is the site's
 -- [this project, docs/FORMATS.md, Commands: `air SITE BOOK CLEAR OUT`, `head SITE BOOK CLEAR OUT`,
 -- `next SITE BOOK WORDS OUT`]
-abbrev pub book_word : ℕ
-book_word = 2
+abbrev pub book_argument : ℕ
+book_argument = 2
 
 -- CLEAR is this argument of the commands that have it [this project, docs/FORMATS.md, Commands]
 abbrev pub clear_word : Option Command → ℕ
@@ -151,11 +151,11 @@ abbrev pub names_file : Operand → List ℕ → List ℕ → Bool
 names_file operand text name = is_file (operand_kind operand) && bytes_eq text name
 
 -- the first file among arguments that has this text
-abbrev pub file_of : List ℕ → List Operand → List (List ℕ) → Option (Operand × List ℕ)
-file_of name [] texts = None
-file_of name (operand ∷ operands) [] = None
-file_of name (operand ∷ operands) (text ∷ texts) =
-    if names_file operand text name then Some (operand, text) else file_of name operands texts
+abbrev pub file_with_text : List ℕ → List Operand → List (List ℕ) → Option (Operand × List ℕ)
+file_with_text name [] texts = None
+file_with_text name (operand ∷ operands) [] = None
+file_with_text name (operand ∷ operands) (text ∷ texts) =
+    if names_file operand text name then Some (operand, text) else file_with_text name operands texts
 
 -- the line of a file that is an argument, or that is none
 abbrev pub file_line : List ℕ → List ℕ → Option (Operand × List ℕ) → List ℕ
@@ -165,7 +165,7 @@ file_line reason name (Some argument) = argument_line reason argument
 abbrev pub file_after : Option Command → List (List ℕ) → List ℕ → Option (Operand × List ℕ)
 file_after None texts name = None
 file_after (Some command) texts name =
-    if length texts == length (operands_of command) then file_of name (operands_of command) texts else None
+    if length texts == length (operands_of command) then file_with_text name (operands_of command) texts else None
 
 -- the file of this name among the arguments of words
 abbrev pub file_named : List (List ℕ) → List ℕ → Option (Operand × List ℕ)
@@ -199,11 +199,11 @@ explained words trouble (Unclosed number) =
     of_argument words (stream_word (command_in words)) (λ operand. unclosed_reason)
 explained words trouble (Gaps packets) = of_argument words (stream_word (command_in words)) (λ operand. gaps_reason)
 explained words trouble NoCat = of_argument words (stream_word (command_in words)) (λ operand. no_cat_reason)
-explained words trouble (BadWord word) = number_line (argument_of words word)
+explained words trouble (BadWord word) = number_line (argument_numbered words word)
 explained words trouble (Clash clash) = of_argument words (clash_word clash) (λ operand. clash_reason clash)
 explained words trouble (BadOut word cause) = of_argument words word (λ operand. out_reason cause)
 explained words trouble SiteUsed = of_argument words site_word (λ operand. used_reason)
 explained words trouble OtherBook =
-    of_argument words book_word (λ operand. own_book_reason (command_in words))
+    of_argument words book_argument (λ operand. own_book_reason (command_in words))
 explained words trouble (SiteUsedUp packet) = of_argument words site_word (λ operand. used_up_reason)
 explained words trouble status = []

@@ -40,24 +40,24 @@ order_said (Command command arguments) = words.CommandOf command (arguments_said
 order_said (Help topic) = words.HelpOf topic
 order_said Version = words.VersionOf
 
-abbrev pub shown : Result Order Status → Result words.Order Status
-shown (Ok order) = Ok (order_said order)
-shown (Err status) = Err status
+abbrev pub shown_order : Result Order Status → Result words.Order Status
+shown_order (Ok order) = Ok (order_said order)
+shown_order (Err status) = Err status
 
 -- an argument is of its kind, has its place as its number, and a number is within its limit
-abbrev pub IsOf : ℕ → Kind → words.Argument → Type 0
-IsOf place kind.Input (words.InputOf word) = word.number ≡ place
-IsOf place kind.Input (words.OutOf word) = ⊥
-IsOf place kind.Input (words.NumberOf number) = ⊥
-IsOf place kind.Output (words.InputOf word) = ⊥
-IsOf place kind.Output (words.OutOf word) = word.number ≡ place
-IsOf place kind.Output (words.NumberOf number) = ⊥
-IsOf place (kind.Number most) (words.InputOf word) = ⊥
-IsOf place (kind.Number most) (words.OutOf word) = ⊥
-IsOf place (kind.Number most) (words.NumberOf number) = (number.word ≡ place) × (number.value ≤ most)
-IsOf place (kind.Count most) (words.InputOf word) = ⊥
-IsOf place (kind.Count most) (words.OutOf word) = ⊥
-IsOf place (kind.Count most) (words.NumberOf number) =
+abbrev pub IsArgumentOf : ℕ → Kind → words.Argument → Type 0
+IsArgumentOf place kind.Input (words.InputOf word) = word.number ≡ place
+IsArgumentOf place kind.Input (words.OutOf word) = ⊥
+IsArgumentOf place kind.Input (words.NumberOf number) = ⊥
+IsArgumentOf place kind.Output (words.InputOf word) = ⊥
+IsArgumentOf place kind.Output (words.OutOf word) = word.number ≡ place
+IsArgumentOf place kind.Output (words.NumberOf number) = ⊥
+IsArgumentOf place (kind.Number most) (words.InputOf word) = ⊥
+IsArgumentOf place (kind.Number most) (words.OutOf word) = ⊥
+IsArgumentOf place (kind.Number most) (words.NumberOf number) = (number.word ≡ place) × (number.value ≤ most)
+IsArgumentOf place (kind.Count most) (words.InputOf word) = ⊥
+IsArgumentOf place (kind.Count most) (words.OutOf word) = ⊥
+IsArgumentOf place (kind.Count most) (words.NumberOf number) =
     (number.word ≡ place) × ((1 ≤ number.value) × (number.value ≤ most))
 
 -- arguments are those of a row, from a place on
@@ -66,13 +66,13 @@ AreOf place [] [] = Unit {0}
 AreOf place [] (argument ∷ arguments) = ⊥
 AreOf place (operand ∷ operands) [] = ⊥
 AreOf place (operand ∷ operands) (argument ∷ arguments) =
-    IsOf place (operand_kind operand) argument × AreOf (place + 1) operands arguments
+    IsArgumentOf place (operand_kind operand) argument × AreOf (place + 1) operands arguments
 
 -- The arguments are those of the command's row: each file has a number of its own, each number is within its limit.
-abbrev pub IsSound : words.Order → Type 0
-IsSound (words.CommandOf command arguments) = AreOf 1 (operands_of command) arguments
-IsSound (words.HelpOf topic) = Unit {0}
-IsSound words.VersionOf = Unit {0}
+abbrev pub IsSoundOrder : words.Order → Type 0
+IsSoundOrder (words.CommandOf command arguments) = AreOf 1 (operands_of command) arguments
+IsSoundOrder (words.HelpOf topic) = Unit {0}
+IsSoundOrder words.VersionOf = Unit {0}
 
 -- the two refusals of words
 abbrev pub RefusesWords : Status → Type 0

@@ -31,14 +31,14 @@ spelled_texts (operand ∷ operands) [] = []
 spelled_texts (operand ∷ operands) (text ∷ texts) = spelled_text operand text ∷ spelled_texts operands texts
 
 -- the arguments of a command, if there are as many texts
-abbrev pub fitting : Option Command → List (List ℕ) → List Operand
-fitting None texts = []
-fitting (Some command) texts = if length texts == length (operands_of command) then operands_of command else []
+abbrev pub fitting_operands : Option Command → List (List ℕ) → List Operand
+fitting_operands None texts = []
+fitting_operands (Some command) texts = if length texts == length (operands_of command) then operands_of command else []
 
 -- the arguments of the command that words name, if there are as many
 abbrev pub operands_in : List (List ℕ) → List Operand
 operands_in [] = []
-operands_in (name ∷ texts) = fitting (command_named name) texts
+operands_in (name ∷ texts) = fitting_operands (command_named name) texts
 
 -- the words after the program's name, spelled out: those of a command of the table that has as many arguments
 abbrev pub spelled : List (List ℕ) → List (List ℕ)

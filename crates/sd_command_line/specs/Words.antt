@@ -31,15 +31,15 @@ pub data Order : Type 0 where
   VersionOf : Order
 
 -- the file that an argument names
-abbrev pub file_of : ℕ → Option Argument → FileArgument
-file_of place None = word_at place []
-file_of place (Some (InputOf word)) = word
-file_of place (Some (OutOf word)) = word
-file_of place (Some (NumberOf number)) = word_at place []
+abbrev pub named_file : ℕ → Option Argument → FileArgument
+named_file place None = word_at place []
+named_file place (Some (InputOf word)) = word
+named_file place (Some (OutOf word)) = word
+named_file place (Some (NumberOf number)) = word_at place []
 
 -- the file of the argument at this place, counted from 1
 abbrev pub file : ℕ → List Argument → FileArgument
-file place arguments = file_of place (slice_get arguments (place - 1))
+file place arguments = named_file place (slice_get arguments (place - 1))
 
 -- the number that an argument says
 abbrev pub value_of : ℕ → Option Argument → NumberArgument
@@ -57,26 +57,26 @@ at_most word most None = Err (BadWord word)
 at_most word most (Some n) = if nat_lt most n then Err (BadWord word) else Ok n
 
 -- the number of a word, which must be a decimal and at most the greatest
-abbrev pub number_in : ℕ → ℕ → List ℕ → Result ℕ Status
-number_in word most text = at_most word most (decimal_value text)
+abbrev pub number_of_word : ℕ → ℕ → List ℕ → Result ℕ Status
+number_of_word word most text = at_most word most (decimal_value text)
 
 -- 0 is no count
-abbrev pub counted : ℕ → Result ℕ Status → Result ℕ Status
-counted word (Ok zero) = Err (BadWord word)
-counted word (Ok (suc n)) = Ok (suc n)
-counted word (Err status) = Err status
+abbrev pub nonzero_count : ℕ → Result ℕ Status → Result ℕ Status
+nonzero_count word (Ok zero) = Err (BadWord word)
+nonzero_count word (Ok (suc n)) = Ok (suc n)
+nonzero_count word (Err status) = Err status
 
 -- the argument that is a number, if there is one
-abbrev pub numbered : ℕ → Result ℕ Status → Result Argument Status
-numbered place (Ok n) = Ok (NumberOf (record { word = place; value = n }))
-numbered place (Err status) = Err status
+abbrev pub number_argument : ℕ → Result ℕ Status → Result Argument Status
+number_argument place (Ok n) = Ok (NumberOf (record { word = place; value = n }))
+number_argument place (Err status) = Err status
 
 -- an argument by its kind
 abbrev pub argument_of : ℕ → Kind → List ℕ → Result Argument Status
 argument_of place kind.Input text = Ok (InputOf (word_at place text))
 argument_of place kind.Output text = Ok (OutOf (word_at place text))
-argument_of place (kind.Number most) text = numbered place (number_in place most text)
-argument_of place (kind.Count most) text = numbered place (counted place (number_in place most text))
+argument_of place (kind.Number most) text = number_argument place (number_of_word place most text)
+argument_of place (kind.Count most) text = number_argument place (nonzero_count place (number_of_word place most text))
 
 -- an argument before others; the first refusal counts
 abbrev pub before : Result Argument Status → Result (List Argument) Status → Result (List Argument) Status
@@ -91,17 +91,17 @@ arguments_from place (operand ∷ operands) [] = Ok []
 arguments_from place (operand ∷ operands) (text ∷ texts) =
     before (argument_of place (operand_kind operand) text) (arguments_from (place + 1) operands texts)
 
-abbrev pub with_input : Kind → List ℕ → List (List ℕ) → List (List ℕ)
-with_input kind.Input text texts = text ∷ texts
-with_input kind.Output text texts = texts
-with_input (kind.Number most) text texts = texts
-with_input (kind.Count most) text texts = texts
+abbrev pub with_input_text : Kind → List ℕ → List (List ℕ) → List (List ℕ)
+with_input_text kind.Input text texts = text ∷ texts
+with_input_text kind.Output text texts = texts
+with_input_text (kind.Number most) text texts = texts
+with_input_text (kind.Count most) text texts = texts
 
 -- the texts that name files to be read
 abbrev pub input_texts : List Operand → List (List ℕ) → List (List ℕ)
 input_texts [] texts = []
 input_texts (operand ∷ operands) [] = []
-input_texts (operand ∷ operands) (text ∷ texts) = with_input (operand_kind operand) text (input_texts operands texts)
+input_texts (operand ∷ operands) (text ∷ texts) = with_input_text (operand_kind operand) text (input_texts operands texts)
 
 abbrev pub or_output : Kind → List ℕ → Option (List ℕ) → Option (List ℕ)
 or_output kind.Output text later = Some text

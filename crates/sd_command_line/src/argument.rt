@@ -2,7 +2,7 @@ ghost use Rattle.std.specs.Prelude.{◌≡◌, ◌<◌, ◌≤◌, IfOk, length,
 ghost use Rattle.std.specs.Prelude.{◌-◌};
 ghost use Rattle.sd_command_base.specs.Shown.{shown_number, shown_word};
 ghost use Rattle.sd_command_line.specs.Orders.{all_said, argument_said, arguments_said, one_said};
-ghost use Rattle.sd_command_line.specs.Words.{argument_of, arguments_from, counted, file, number, number_in};
+ghost use Rattle.sd_command_line.specs.Words.{argument_of, arguments_from, nonzero_count, file, number, number_of_word};
 
 use crate::{Kind, Operand};
 use arrayvec::ArrayVec;
@@ -110,7 +110,7 @@ fn read_argument<'a>(place: u8, kind: Kind, text: &'a str) -> Result<Argument<'a
 
 /// The number of this word, which must be at least 1 and at most the greatest.
 fn read_count(word: u8, text: &str, most: u32) -> Result<u32, Status>
-    ensures { result ≡ counted word (number_in word most text.now) }
+    ensures { result ≡ nonzero_count word (number_of_word word most text.now) }
 {
     match read_number(word, text, most) {
         Ok(0) => Err(Status::BadWord(word)),
@@ -121,7 +121,7 @@ fn read_count(word: u8, text: &str, most: u32) -> Result<u32, Status>
 
 /// The number of this word, which must be at most the greatest.
 fn read_number(word: u8, text: &str, most: u32) -> Result<u32, Status>
-    ensures value { result ≡ number_in word most text.now }
+    ensures value { result ≡ number_of_word word most text.now }
     ensures fits { IfOk result (λ number. number ≤ most) }
 {
     match number_after(b"", text.as_bytes()) {

@@ -1,5 +1,5 @@
 ghost use Rattle.std.specs.Prelude.{◌≡◌, ◌↔◌, ◌≤◌, IfErr, IfOk, length, map, string_bytes, true};
-ghost use Rattle.sd_command_line.specs.Orders.{order_said, shown, IsSound, RefusesWords};
+ghost use Rattle.sd_command_line.specs.Orders.{order_said, shown_order, IsSoundOrder, RefusesWords};
 ghost use Rattle.sd_command_line.specs.Words.{HoldsSecretsBy, command_in, file_texts, files_named, names_out};
 ghost use Rattle.sd_command_line.specs.Words.{order_of};
 
@@ -17,7 +17,7 @@ pub struct CommandLine<'a> {
     pub(crate) command: Option<Command>,
     pub(crate) order: Result<Order<'a>, Status>,
     ghost named: { command ≡ command_in (map string_bytes words.now) },
-    ghost read: { shown order ≡ order_of (map string_bytes words.now) },
+    ghost read: { shown_order order ≡ order_of (map string_bytes words.now) },
 }
 
 impl<'a> CommandLine<'a> {
@@ -38,8 +38,8 @@ impl<'a> CommandLine<'a> {
 
     /// What the words ask for, or the status of their refusal.
     pub fn order(&self) -> &Result<Order<'a>, Status>
-        ensures value { shown result.now ≡ order_of (words_of self.now) }
-        ensures fits { IfOk result.now (λ order. IsSound (order_said order)) }
+        ensures value { shown_order result.now ≡ order_of (words_of self.now) }
+        ensures fits { IfOk result.now (λ order. IsSoundOrder (order_said order)) }
         ensures fault { IfErr result.now RefusesWords }
     {
         &self.order

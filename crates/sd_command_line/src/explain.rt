@@ -1,10 +1,10 @@
 ghost use Rattle.std.specs.Prelude.{◌≡◌, map, option_map, string_bytes, IfOk};
 ghost use Rattle.sd_command_line.specs.CommandLine.{words_of};
-ghost use Rattle.sd_command_line.specs.Explained.{argument_line, argument_of, card_word, clash_word as word_of_clash};
-ghost use Rattle.sd_command_line.specs.Explained.{clear_word as word_of_clear, command_line, count_line, explained};
-ghost use Rattle.sd_command_line.specs.Explained.{file_line, file_named, file_of as file_there, help_line, number_line};
-ghost use Rattle.sd_command_line.specs.Explained.{of_argument, plain_line, shown, stream_word as word_of_stream};
-ghost use Rattle.sd_command_line.specs.Explained.{taken_reason, topic_line, trouble_line, usage_line, word_line};
+ghost use Rattle.sd_command_line.specs.Explained.{argument_line, argument_numbered, card_word, clash_word as word_of_clash};
+ghost use Rattle.sd_command_line.specs.Explained.{clear_word as word_of_clear, command_explained, count_line, explained};
+ghost use Rattle.sd_command_line.specs.Explained.{file_line, file_named, file_with_text as file_there, help_line, number_line};
+ghost use Rattle.sd_command_line.specs.Explained.{of_argument, plain_line, shown_argument, stream_word as word_of_stream};
+ghost use Rattle.sd_command_line.specs.Explained.{taken_reason, no_topic_line, trouble_line, usage_line, word_explained};
 ghost use Rattle.sd_command_line.specs.Reasons.{clear_reason, line_reason, missing_reason, revoked_reason, site_reason};
 ghost use Rattle.sd_command_line.specs.Reasons.{stream_reason, unheard_reason};
 ghost use Rattle.sd_command_line.specs.Words.{command_in};
@@ -165,7 +165,7 @@ fn at_file(
 /// The line of an argument.
 #[tactic(auto, unfolding(crate::specs::Explained::argument_line))]
 fn about(alloc: Global, argument: Argument<'_>, reason: &str) -> Result<String, AllocError>
-    ensures { IfOk result (λ text. string_bytes text ≡ argument_line reason.now (shown argument.entry)) }
+    ensures { IfOk result (λ text. string_bytes text ≡ argument_line reason.now (shown_argument argument.entry)) }
 {
     let name = argument.operand.name();
     let text = escaped(alloc, argument.text)?;
@@ -201,7 +201,7 @@ fn help(alloc: Global, name: &str, texts: &[String]) -> Result<String, AllocErro
 
 /// The line of a word after help that names no page.
 fn no_page(alloc: Global, topic: &str) -> Result<String, AllocError>
-    ensures { IfOk result (λ text. string_bytes text ≡ topic_line topic.now) }
+    ensures { IfOk result (λ text. string_bytes text ≡ no_topic_line topic.now) }
 {
     if is_help(topic) || is_version(topic) {
         word(alloc, reason::no_page(), topic)
@@ -218,7 +218,7 @@ fn command(
     texts: &[String],
 ) -> Result<String, AllocError>
     ensures { IfOk result (λ text. string_bytes text
-        ≡ command_line (words_of line.now) name.now (map string_bytes texts.now) line.now.command) }
+        ≡ command_explained (words_of line.now) name.now (map string_bytes texts.now) line.now.command) }
 {
     match line.command {
         Some(command) if texts.len() == command.operands().len() => {
@@ -265,9 +265,9 @@ fn wrong_number(alloc: Global, name: &str) -> Result<String, AllocError>
 }
 
 /// The line of a word that is refused for this reason.
-#[tactic(auto, unfolding(crate::specs::Explained::word_line))]
+#[tactic(auto, unfolding(crate::specs::Explained::word_explained))]
 fn word(alloc: Global, reason: &str, word: &str) -> Result<String, AllocError>
-    ensures { IfOk result (λ text. string_bytes text ≡ word_line reason.now word.now) }
+    ensures { IfOk result (λ text. string_bytes text ≡ word_explained reason.now word.now) }
 {
     let word = escaped(alloc, word)?;
     format!(in alloc; "sdca: {word}: {reason}; see sdca help\n")
@@ -353,7 +353,7 @@ fn stream(
 
 /// The line of a number that is refused.
 fn range(alloc: Global, line: &CommandLine<'_>, word: u8) -> Result<String, AllocError>
-    ensures { IfOk result (λ text. string_bytes text ≡ number_line (argument_of (words_of line.now) word)) }
+    ensures { IfOk result (λ text. string_bytes text ≡ number_line (argument_numbered (words_of line.now) word)) }
 {
     match find_argument(line, word) {
         Some(argument) => {

@@ -1,8 +1,8 @@
 ghost use Rattle.std.specs.Prelude.{◌≡◌, length, map, option_map, slice_get, string_bytes, Some};
 ghost use Rattle.sd_command_line.specs.CommandLine.{words_of};
 ghost use Rattle.sd_command_line.specs.Commands.{operands_of};
-ghost use Rattle.sd_command_line.specs.Explained.{argument_at as argument_there, argument_of, file_named};
-ghost use Rattle.sd_command_line.specs.Explained.{file_of as file_there, names_file as names_this, shown};
+ghost use Rattle.sd_command_line.specs.Explained.{argument_at as argument_there, argument_numbered, file_named};
+ghost use Rattle.sd_command_line.specs.Explained.{file_with_text as file_there, names_file as names_this, shown_argument};
 
 use crate::{Command, CommandLine, Operand};
 
@@ -15,7 +15,7 @@ pub(crate) struct Argument<'a> {
 
 /// The argument of this number, if the first word is a command that takes as many. They are numbered from 1.
 pub(crate) fn find_argument<'a>(line: &CommandLine<'a>, number: u8) -> Option<Argument<'a>>
-    ensures { option_map shown result ≡ argument_of (words_of line.now) number }
+    ensures { option_map shown_argument result ≡ argument_numbered (words_of line.now) number }
 {
     let place = usize::from(number).checked_sub(1)?;
     let [_, texts @ ..] = line.words else {
@@ -26,7 +26,7 @@ pub(crate) fn find_argument<'a>(line: &CommandLine<'a>, number: u8) -> Option<Ar
 
 /// The argument at this place behind the command's name.
 fn argument_at(command: Command, texts: &[String], place: usize) -> Option<Argument<'_>>
-    ensures { option_map shown result ≡ argument_there (Some command) (map string_bytes texts.now) place }
+    ensures { option_map shown_argument result ≡ argument_there (Some command) (map string_bytes texts.now) place }
 {
     match (operand_at(command, place), text_at(texts, place)) {
         (Some(operand), Some(text)) => Some(Argument { operand, text }),
@@ -55,7 +55,7 @@ fn text_at(texts: &[String], place: usize) -> Option<&str>
 
 /// The first file among the arguments that has this text, if the first word is a command that takes as many.
 pub(crate) fn find_file<'a>(line: &CommandLine<'a>, name: &str) -> Option<Argument<'a>>
-    ensures { option_map shown result ≡ file_named (words_of line.now) name.now }
+    ensures { option_map shown_argument result ≡ file_named (words_of line.now) name.now }
 {
     match (line.command, line.words) {
         (Some(command), [_, texts @ ..]) if texts.len() == command.operands().len() => {
@@ -68,7 +68,7 @@ pub(crate) fn find_file<'a>(line: &CommandLine<'a>, name: &str) -> Option<Argume
 /// The first file among these arguments that has this text.
 fn file_among<'a>(operands: &[Operand], texts: &'a [String], name: &str) -> Option<Argument<'a>>
     requires { length operands.now ≡ length texts.now }
-    ensures { option_map shown result ≡ file_there name.now operands.now (map string_bytes texts.now) }
+    ensures { option_map shown_argument result ≡ file_there name.now operands.now (map string_bytes texts.now) }
 {
     for index in 0..operands.len() {
         let operand = operands[index];

@@ -1,6 +1,6 @@
 ghost use Rattle.std.specs.Prelude.{◌≡◌, ℕ, IfOk, string_bytes};
 ghost use Rattle.sd_command_base.specs.Outcome.{Implements, status_of};
-ghost use Rattle.sd_command_base.specs.Outside.{DepotState, outside, page_state};
+ghost use Rattle.sd_command_base.specs.Outside.{DepotState, io_state, page_state};
 ghost use Rattle.sd_command_line.specs.Help.{help_meaning, version_meaning};
 ghost use Rattle.sd_command_line.specs.Pages.{help_text, version_text};
 
@@ -13,7 +13,7 @@ use std::alloc::{AllocError, Global};
 /// Runs `help COMMAND`, or `help` if no command is named: prints the page of the command, or the list of all commands.
 pub fn help<P: Sink>(alloc: Global, print: &mut P, topic: Option<Command>) -> Result<(), Status>
     ensures { (place : DepotState) (steps : ℕ) → Implements (help_meaning topic)
-        (outside place (page_state P.Sink print.old) steps) (outside place (page_state P.Sink print.new) steps)
+        (io_state place (page_state P.Sink print.old) steps) (io_state place (page_state P.Sink print.new) steps)
         (status_of result) }
 {
     let text = text_of(alloc, topic)?;
@@ -34,7 +34,7 @@ fn text_of(alloc: Global, topic: Option<Command>) -> Result<String, AllocError>
 /// Runs `version`: prints the version, and the toolchains that proved it.
 pub fn version<P: Sink>(print: &mut P) -> Result<(), Status>
     ensures { (place : DepotState) (steps : ℕ) → Implements version_meaning
-        (outside place (page_state P.Sink print.old) steps) (outside place (page_state P.Sink print.new) steps)
+        (io_state place (page_state P.Sink print.old) steps) (io_state place (page_state P.Sink print.new) steps)
         (status_of result) }
 {
     print_text(print, version_line())

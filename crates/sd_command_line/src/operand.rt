@@ -3,7 +3,7 @@ ghost use Rattle.std.specs.List.{list_any};
 ghost use Rattle.sd_command_line.specs.Operands.{is_file as kind_is_file, is_input as kind_is_input};
 ghost use Rattle.sd_command_line.specs.Operands.{is_output as kind_is_output, files_among, operand_kind};
 ghost use Rattle.sd_command_line.specs.Operands.{meaning_of, operand_name};
-ghost use Rattle.sd_command_line.specs.Exits.{refuses as argument_refuses};
+ghost use Rattle.sd_command_line.specs.Exits.{refuses_operand as argument_refuses};
 
 use crate::exit::Exit;
 

@@ -7,8 +7,8 @@ ghost use Rattle.sd_command_line.specs.Words.{order_of, HoldsSecretsBy};
 ghost use Rattle.sd_command_line.specs.Words.{asks_help as ask_for_help, is_help as names_help};
 ghost use Rattle.sd_command_line.specs.Words.{is_help_option as names_help_option};
 ghost use Rattle.sd_command_line.specs.Words.{is_version as names_version};
-ghost use Rattle.sd_command_line.specs.Words.{out_is_mark as names_mark, out_is_read, out_text, version_words, with_input};
-ghost use Rattle.sd_command_line.specs.Orders.{order_said, shown};
+ghost use Rattle.sd_command_line.specs.Words.{out_is_mark as names_mark, out_is_read, out_text, version_words, with_input_text};
+ghost use Rattle.sd_command_line.specs.Orders.{order_said, shown_order};
 
 use crate::argument::Arguments;
 use crate::{Command, Kind, Operand};
@@ -33,7 +33,7 @@ pub enum Order<'a> {
 /// What the arguments ask for, or the status of their refusal. The command is the one that the first of them names.
 pub(crate) fn read_words(words: &[String], command: Option<Command>) -> Result<Order<'_>, Status>
     requires { command ≡ command_in (map string_bytes words.now) }
-    ensures { shown result ≡ order_of (map string_bytes words.now) }
+    ensures { shown_order result ≡ order_of (map string_bytes words.now) }
 {
     match words {
         [name, texts @ ..] => read_named(name.as_str(), command, texts),
@@ -49,7 +49,7 @@ fn read_named<'a>(
     texts: &'a [String],
 ) -> Result<Order<'a>, Status>
     requires { command ≡ command_named name.now }
-    ensures { shown result ≡ named_words name.now (map string_bytes texts.now) }
+    ensures { shown_order result ≡ named_words name.now (map string_bytes texts.now) }
 {
     if is_help(name) {
         return read_help(texts);
@@ -98,7 +98,7 @@ pub(crate) fn is_version(name: &str) -> bool
 
 /// Help on a command, or on all.
 fn read_help<'a>(texts: &[String]) -> Result<Order<'a>, Status>
-    ensures { shown result ≡ help_words (map string_bytes texts.now) }
+    ensures { shown_order result ≡ help_words (map string_bytes texts.now) }
 {
     match texts {
         [] => Ok(Order::Help { topic: None }),
@@ -112,7 +112,7 @@ fn read_help<'a>(texts: &[String]) -> Result<Order<'a>, Status>
 
 /// `version` takes no arguments.
 fn read_version<'a>(texts: &[String]) -> Result<Order<'a>, Status>
-    ensures { shown result ≡ version_words (map string_bytes texts.now) }
+    ensures { shown_order result ≡ version_words (map string_bytes texts.now) }
 {
     if texts.is_empty() {
         Ok(Order::Version)
@@ -123,7 +123,7 @@ fn read_version<'a>(texts: &[String]) -> Result<Order<'a>, Status>
 
 /// The arguments of a command.
 fn read_command<'a>(command: Command, texts: &'a [String]) -> Result<Order<'a>, Status>
-    ensures { shown result ≡ command_words command (operands_of command) (map string_bytes texts.now) }
+    ensures { shown_order result ≡ command_words command (operands_of command) (map string_bytes texts.now) }
 {
     let operands = command.operands();
     if texts.len() != operands.len()
@@ -198,7 +198,7 @@ fn is_input(operands: &[Operand], texts: &[String], name: &str) -> bool
 
 /// Whether an argument of this kind is a file that is read and has this name.
 fn names_input(kind: Kind, text: &str, name: &str) -> bool
-    ensures { result ≡ list_any (λ text. bytes_eq text name.now) (with_input kind text.now []) }
+    ensures { result ≡ list_any (λ text. bytes_eq text name.now) (with_input_text kind text.now []) }
 {
     match kind {
         Kind::Input => text == name,

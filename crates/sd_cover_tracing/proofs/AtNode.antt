@@ -9,7 +9,7 @@ use Rattle.sd_tree_keys.specs.declared.set.SetName.TheVariants.{Whole, Diff}
 use Rattle.sd_tree_keys.specs.Paths.{sibling_of}
 use Rattle.sd_cover_tracing.specs.Chains.{IsInTree, IsChainEnd, IsChainHead, HasOneChild, HasTwoChildren, EndsChain}
 use Rattle.sd_cover_tracing.specs.Chains.{IsOfChain}
-use Rattle.sd_cover_tracing.specs.Walk.{LeadsTo, IsOnChain, BeginsBy, AreChainsFrom, of_ends}
+use Rattle.sd_cover_tracing.specs.Walk.{ChainEndsAt, IsOnChain, BeginsBy, AreChainsFrom, of_ends}
 use Rattle.sd_tree_keys.proofs.Ancestors.{above_self, above_le, above_trans, above_through_child}
 use Rattle.sd_cover_tracing.proofs.Ancestry.{below_parent, siblings_apart}
 use Rattle.sd_cover_tracing.proofs.Lists.{member_cases, member_first, no_member, once_append}
@@ -80,7 +80,7 @@ end_made : (d : ℕ) (revoked : List ℕ) (head v i j : ℕ) → AreLeaves d rev
     → IsChainEnd d revoked v → EndsChain d revoked i j → i ≡ head → Contains (of_ends head v) (Diff i j)
 end_made d revoked head v i j leaves on e c same =
     let leads = chain_leads d revoked i j c in
-    let from = subst (λ (x : ℕ). LeadsTo d revoked x j) same leads.0 in
+    let from = subst (λ (x : ℕ). ChainEndsAt d revoked x j) same leads.0 in
     let last : j ≡ v = end_leads_only d revoked v j leaves e ((on.ends j).0 from) in
     let other : head ≢ v = λ f. leads.1 (same ∙ (f ∙ sym last)) in
     let first = member_first (Diff head v) [] in

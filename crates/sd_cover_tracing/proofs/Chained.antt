@@ -8,7 +8,7 @@ use Rattle.sd_tree_keys.specs.declared.set.SetName.TheVariants.{Whole}
 use Rattle.sd_cover_tracing.proofs.Lists.{member_cases, member_first, member_later}
 use Rattle.sd_cover_tracing.proofs.There.{same_leaves}
 use Rattle.sd_cover_tracing.specs.declared.found.Found.{Found}
-use Rattle.sd_cover_tracing.specs.Halves.{narrowed}
+use Rattle.sd_cover_tracing.specs.Halves.{narrowed_leaf_and_cuts}
 use Rattle.sd_cover_tracing.specs.Search.{halvings, IsLastOpen}
 use Rattle.sd_cover_tracing.specs.Rounds.{IsJoined}
 use Rattle.sd_cover_tracing.specs.Trace.{IsRound, IsAnyRound, IsTrace, AreAnyRounds}
@@ -59,7 +59,7 @@ round_same d coalition a b found low same r =
     record {
       place = r.place;
       opened = subst (λ (sets : List SetName). IsLastOpen d coalition sets r.place) is r.opened;
-      leaf = subst (λ (sets : List SetName). (found.leaf, found.splits) ≡ narrowed d coalition d
+      leaf = subst (λ (sets : List SetName). (found.leaf, found.splits) ≡ narrowed_leaf_and_cuts d coalition d
           (get_or sets r.place Whole)) is r.leaf;
       trials = subst (λ (sets : List SetName). found.trials ≡ 1 + halvings (length sets) 0 (length sets) r.place
           + found.splits) is r.trials;

@@ -6,7 +6,7 @@ use Rattle.std.proofs.lemmas.Bool.Decides.{eqb_tells}
 use Rattle.sd_tree_keys.specs.Node.{IsAbove}
 use Rattle.sd_tree_keys.specs.Paths.{sibling_of}
 use Rattle.sd_cover_tracing.specs.Chains.{IsInTree, AreLinked, IsChainEnd, IsChainHead, HasOneChild, EndsChain, last_of}
-use Rattle.sd_cover_tracing.specs.Walk.{LeadsTo}
+use Rattle.sd_cover_tracing.specs.Walk.{ChainEndsAt}
 use Rattle.sd_tree_keys.proofs.Ancestors.{above_le, above_trans}
 
 -- the numbers are of leaves of the tree
@@ -87,12 +87,12 @@ one_child_is d revoked v w x one e f t s = elim one [
 
 -- an end of a chain leads to itself alone
 pub end_leads : (d : ℕ) (revoked : List ℕ) (v : ℕ) → IsInTree d revoked v → IsChainEnd d revoked v
-    → LeadsTo d revoked v v
+    → ChainEndsAt d revoked v v
 end_leads d revoked v t e = record { nodes = []; linked = (t, e); last = refl }
 
 -- it leads to nothing else
 pub end_leads_only : (d : ℕ) (revoked : List ℕ) (v j : ℕ) → AreLeaves d revoked → IsChainEnd d revoked v
-    → LeadsTo d revoked v j → j ≡ v
+    → ChainEndsAt d revoked v j → j ≡ v
 end_leads_only d revoked v j leaves e l = only l.nodes l.linked l.last
   where
     only : (nodes : List ℕ) → AreLinked d revoked (v ∷ nodes) → last_of v nodes ≡ j → j ≡ v
@@ -101,16 +101,16 @@ end_leads_only d revoked v j leaves e l = only l.nodes l.linked l.last
 
 -- a node with one child leads to where the child leads
 pub leads_from_child : (d : ℕ) (revoked : List ℕ) (v w j : ℕ) → IsInTree d revoked v → HasOneChild d revoked v
-    → w / 2 ≡ v → LeadsTo d revoked w j → LeadsTo d revoked v j
+    → w / 2 ≡ v → ChainEndsAt d revoked w j → ChainEndsAt d revoked v j
 leads_from_child d revoked v w j t one e l =
     record { nodes = w ∷ l.nodes; linked = (t, one, e, l.linked); last = l.last }
 
 -- the child in the tree leads to where the node does
 pub leads_to_child : (d : ℕ) (revoked : List ℕ) (v w j : ℕ) → AreLeaves d revoked → HasOneChild d revoked v → w / 2 ≡ v
-    → IsInTree d revoked w → LeadsTo d revoked v j → LeadsTo d revoked w j
+    → IsInTree d revoked w → ChainEndsAt d revoked v j → ChainEndsAt d revoked w j
 leads_to_child d revoked v w j leaves one e t l = go l.nodes l.linked l.last
   where
-    go : (nodes : List ℕ) → AreLinked d revoked (v ∷ nodes) → last_of v nodes ≡ j → LeadsTo d revoked w j
+    go : (nodes : List ℕ) → AreLinked d revoked (v ∷ nodes) → last_of v nodes ≡ j → ChainEndsAt d revoked w j
     go [] linked last = absurd (end_not_one d revoked v leaves linked.1 one)
     go (x ∷ nodes) linked last =
         let same = one_child_is d revoked v x w one linked.2 e (linked_start d revoked nodes x linked.3) t in
@@ -129,7 +129,7 @@ linked_rises d revoked (w ∷ nodes) v l =
     omega arith
 
 -- a chain of more than one node leads from its first node to another one
-pub chain_leads : (d : ℕ) (revoked : List ℕ) (i j : ℕ) → EndsChain d revoked i j → LeadsTo d revoked i j × (i ≢ j)
+pub chain_leads : (d : ℕ) (revoked : List ℕ) (i j : ℕ) → EndsChain d revoked i j → ChainEndsAt d revoked i j × (i ≢ j)
 chain_leads d revoked i j c =
     (record { nodes = c.nodes; linked = c.linked; last = c.last }, go c.nodes c.several c.linked c.last)
   where
@@ -142,7 +142,7 @@ chain_leads d revoked i j c =
         λ same. omega arith
 
 -- from a head that leads to another node there is such a chain
-pub chain_from_leads : (d : ℕ) (revoked : List ℕ) (i j : ℕ) → IsChainHead d revoked i → LeadsTo d revoked i j → i ≢ j
+pub chain_from_leads : (d : ℕ) (revoked : List ℕ) (i j : ℕ) → IsChainHead d revoked i → ChainEndsAt d revoked i j → i ≢ j
     → EndsChain d revoked i j
 chain_from_leads d revoked i j h l other = record {
   nodes = l.nodes;

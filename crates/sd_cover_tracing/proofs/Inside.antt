@@ -23,7 +23,7 @@ use Rattle.sd_cover_tracing.proofs.There.{the_cover}
 use Rattle.sd_cover_tracing.specs.declared.found.Found.{Found}
 use Rattle.sd_cover_tracing.specs.Trace.{IsRound, IsTrace}
 use Rattle.sd_cover_tracing.proofs.Opening.{leaf_is_fresh}
-use Rattle.sd_cover_tracing.specs.Halves.{halves_of, cuts_left, only_leaf, narrowed, has_some}
+use Rattle.sd_cover_tracing.specs.Halves.{halves_of, cuts_left, only_leaf, narrowed_leaf_and_cuts, has_some}
 use Rattle.sd_cover_tracing.proofs.Narrowing.{IfCounted, halves_counted, siblings}
 use Rattle.sd_cover_tracing.proofs.Narrowed.{is_alone, whole_is_cut, half_fits, first_holds, second_holds, narrowed_uncut}
 use Rattle.sd_cover_tracing.proofs.Narrowed.{narrowed_more, cuts_few}
@@ -108,14 +108,14 @@ IsInside d coalition name u = Contains coalition u × (is_member d name u ≡ tr
 narrowed_half : (d m : ℕ) (coalition : List ℕ) (name a b : SetName) → 1 ≤ d → d ≤ 20 → IsOfHeight d name →
     halves_of d name ≡ Some (a, b) → has_some d coalition name ≡ true → cuts_left d name ≤ suc m →
     ((half : SetName) → IsOfHeight d half → cuts_left d half ≤ m → has_some d coalition half ≡ true →
-    IsInside d coalition half (narrowed d coalition m half).0) → (t : Bool) → has_some d coalition a ≡ t →
-    IsInside d coalition name (narrowed d coalition m (if t then a else b)).0
+    IsInside d coalition half (narrowed_leaf_and_cuts d coalition m half).0) → (t : Bool) → has_some d coalition a ≡ t →
+    IsInside d coalition name (narrowed_leaf_and_cuts d coalition m (if t then a else b)).0
 narrowed_half d m coalition name a b some small h e opens few sub true first =
     let fits = half_fits d name a b some small h e in
     let inside = sub a fits.left_height (omega (arith, fits.left_fewer, few)) first in (
       inside.0,
-      first_holds d (narrowed d coalition m a).0 name a b some small h
-          (member_within d a (narrowed d coalition m a).0 inside.1) e inside.1,
+      first_holds d (narrowed_leaf_and_cuts d coalition m a).0 name a b some small h
+          (member_within d a (narrowed_leaf_and_cuts d coalition m a).0 inside.1) e inside.1,
     )
 narrowed_half d m coalition name a b some small h e opens few sub false first =
     let fits = half_fits d name a b some small h e in
@@ -128,17 +128,17 @@ narrowed_half d m coalition name a b some small h e opens few sub false first =
     let second : has_some d coalition b ≡ true = has_leaf d coalition b u there.1 other in
     let inside = sub b fits.right_height (omega (arith, fits.right_fewer, few)) second in (
       inside.0,
-      second_holds d (narrowed d coalition m b).0 name a b some small h
-          (member_within d b (narrowed d coalition m b).0 inside.1) e inside.1,
+      second_holds d (narrowed_leaf_and_cuts d coalition m b).0 name a b some small h
+          (member_within d b (narrowed_leaf_and_cuts d coalition m b).0 inside.1) e inside.1,
     )
 
 inside_by : (d most : ℕ) (coalition : List ℕ) (name : SetName) → 1 ≤ d → d ≤ 20 → IsOfHeight d name →
     cuts_left d name ≤ most → has_some d coalition name ≡ true → (halves : Option (SetName × SetName)) →
-    halves_of d name ≡ halves → IsInside d coalition name (narrowed d coalition most name).0
+    halves_of d name ≡ halves → IsInside d coalition name (narrowed_leaf_and_cuts d coalition most name).0
 inside_by d most coalition name some small h few opens None e =
     let there = some_leaf d coalition name opens in
     let alone = alone_only d there.0 name some small h e there.2 in
-    let is : (narrowed d coalition most name).0 ≡ there.0 =
+    let is : (narrowed_leaf_and_cuts d coalition most name).0 ≡ there.0 =
     ap (λ (r : ℕ × ℕ). r.0) (narrowed_uncut d coalition most name e) ∙ sym alone in
     (subst (Contains coalition) (sym is) there.1, subst (λ (u : ℕ). is_member d name u ≡ true) (sym is) there.2)
 inside_by d zero coalition name some small h few opens (Some (a, b)) e =
@@ -153,7 +153,7 @@ inside_by d (suc m) coalition name some small h few opens (Some (a, b)) e =
 -- a set with a leaf of the coalition is cut down to one
 pub narrowed_inside : (d most : ℕ) (coalition : List ℕ) (name : SetName) → 1 ≤ d → d ≤ 20 → IsOfHeight d name →
     cuts_left d name ≤ most → has_some d coalition name ≡ true → IsInside d coalition name
-    (narrowed d coalition most name).0
+    (narrowed_leaf_and_cuts d coalition most name).0
 narrowed_inside d most coalition name some small h few opens = inside_by d most coalition name some small h few opens
     (halves_of d name) refl
 
@@ -169,7 +169,7 @@ round_inside d coalition gone found some small leaves round =
     let there : Contains sets name = Contains-get_or sets round.place Whole round.opened.within in
     let height = of_height d gone sets each cover name there in
     let inside = narrowed_inside d d coalition name some small height (cuts_few d name height) round.opened.opens in
-    let is : (narrowed d coalition d name).0 ≡ found.leaf = sym (ap (λ (r : ℕ × ℕ). r.0) round.leaf) in
+    let is : (narrowed_leaf_and_cuts d coalition d name).0 ≡ found.leaf = sym (ap (λ (r : ℕ × ℕ). r.0) round.leaf) in
     let member = subst (λ (u : ℕ). is_member d name u ≡ true) is inside.1 in
     let leaf = member_within d name found.leaf member in (
       leaf,

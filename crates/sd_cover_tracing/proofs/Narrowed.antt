@@ -11,7 +11,7 @@ use Rattle.sd_tree_keys.specs.SetNames.{IsPair, IsOfHeight}
 use Rattle.sd_tree_keys.specs.declared.set.SetName.{SetName}
 use Rattle.sd_tree_keys.specs.declared.set.SetName.TheVariants.{Whole, Diff}
 use Rattle.sd_tree_keys.proofs.Levels.{depth_at, doubled}
-use Rattle.sd_cover_tracing.specs.Halves.{halves_of, halves_below, child_to, cuts_left, only_leaf, narrowed}
+use Rattle.sd_cover_tracing.specs.Halves.{halves_of, halves_below, child_to, cuts_left, only_leaf, narrowed_leaf_and_cuts}
 use Rattle.sd_cover_tracing.specs.Halves.{has_some, open_half, cut_once_more, AreHalves, IfHalves}
 use Rattle.sd_cover_tracing.specs.Search.{opens_some}
 use Rattle.sd_cover_tracing.proofs.TraceCuts.{cuts_within}
@@ -67,15 +67,15 @@ second_holds d u name a b some low h leaf e m = half_holds d u name a b some low
 
 -- a set without halves is cut down to its leaf by no cut
 pub narrowed_uncut : (d : ℕ) (coalition : List ℕ) (most : ℕ) (name : SetName) → halves_of d name ≡ None →
-    narrowed d coalition most name ≡ (only_leaf d name, 0)
-unfolding narrowed
+    narrowed_leaf_and_cuts d coalition most name ≡ (only_leaf d name, 0)
+unfolding narrowed_leaf_and_cuts
 narrowed_uncut d coalition zero name e = refl
 narrowed_uncut d coalition (suc most) name e = rw e refl
 
 -- any other by one cut more than its half
 pub narrowed_more : (d : ℕ) (coalition : List ℕ) (most : ℕ) (name a b : SetName) → halves_of d name ≡ Some (a, b) →
-    narrowed d coalition (suc most) name ≡ cut_once_more (narrowed d coalition most (open_half d coalition (a, b)))
-unfolding narrowed
+    narrowed_leaf_and_cuts d coalition (suc most) name ≡ cut_once_more (narrowed_leaf_and_cuts d coalition most (open_half d coalition (a, b)))
+unfolding narrowed_leaf_and_cuts
 narrowed_more d coalition most name a b e = rw e refl
 
 -- what a box says that tells its coalition, where it is asked for the first half
@@ -90,20 +90,20 @@ half_told d coalition a b = either (has_some d coalition a)
 
 -- the leaf of a set without halves, where the coalition is told
 pub told_uncut : (d : ℕ) (coalition : List ℕ) (most leaf : ℕ) (name : SetName) → halves_of d name ≡ None →
-    leaf ≡ only_leaf d name → (leaf, 0) ≡ narrowed d coalition most name
+    leaf ≡ only_leaf d name → (leaf, 0) ≡ narrowed_leaf_and_cuts d coalition most name
 told_uncut d coalition most leaf name e is = rw is (sym (narrowed_uncut d coalition most name e))
 
 -- and of another, from what its half was cut down to
 pub told_more : (d : ℕ) (coalition : List ℕ) (most leaf cuts : ℕ) (name a b half : SetName) (opened : Bool) →
     halves_of d name ≡ Some (a, b) → opened ≡ opens_some d coalition (a ∷ b ∷ []) (true ∷ false ∷ []) →
     half ≡ (if opened then a else b) → cuts_left d half < cuts_left d name → cuts_left d name ≤ most →
-    ((m : ℕ) → cuts_left d half ≤ m → (leaf, cuts) ≡ narrowed d coalition m half) →
-    (leaf, cuts + 1) ≡ narrowed d coalition most name
+    ((m : ℕ) → cuts_left d half ≤ m → (leaf, cuts) ≡ narrowed_leaf_and_cuts d coalition m half) →
+    (leaf, cuts + 1) ≡ narrowed_leaf_and_cuts d coalition most name
 told_more d coalition zero leaf cuts name a b half opened e answer is fewer few sub = absurd (omega (arith, fewer, few))
 told_more d coalition (suc most) leaf cuts name a b half opened e answer is fewer few sub =
     let same : half ≡ open_half d coalition (a, b) =
     is ∙ ap (λ (t : Bool). if t then a else b) (answer ∙ half_told d coalition a b) in
-    ap cut_once_more (sub most (omega (arith, fewer, few)) ∙ ap (narrowed d coalition most) same)
+    ap cut_once_more (sub most (omega (arith, fewer, few)) ∙ ap (narrowed_leaf_and_cuts d coalition most) same)
     ∙ sym (narrowed_more d coalition most name a b e)
 
 none_by : (d x : ℕ) (b : Bool) → nat_lt x (2 ^ d) ≡ b →

@@ -17,7 +17,7 @@ use Rattle.sd_cover_tracing.proofs.Covers.{cover_partition}
 use Rattle.sd_cover_tracing.proofs.Partitions.{among_unrevoked}
 use Rattle.sd_cover_tracing.proofs.Lists.{counted_some, found_member}
 use Rattle.sd_cover_tracing.specs.declared.found.Found.{Found}
-use Rattle.sd_cover_tracing.specs.Halves.{has_some, narrowed}
+use Rattle.sd_cover_tracing.specs.Halves.{has_some, narrowed_leaf_and_cuts}
 use Rattle.sd_cover_tracing.specs.Search.{IsLastOpen, halvings, opens_some, right_from}
 use Rattle.sd_cover_tracing.specs.Rounds.{IsLastIn}
 
@@ -182,7 +182,7 @@ tells_none d coalition (name ∷ sets) opened is (inr empty) = absurd (omega (ar
 pub tells_last : (d : ℕ) (coalition : List ℕ) (sets : List SetName) (place turns : ℕ) (found : Found) →
     list_any (has_some d coalition) sets ≡ true →
     ((z : ℕ) → IsLastOpen d coalition sets z → (place ≡ z) × (turns ≡ halvings (length sets) 0 (length sets) z)) →
-    (found.leaf, found.splits) ≡ narrowed d coalition d (get_or sets place Whole) →
+    (found.leaf, found.splits) ≡ narrowed_leaf_and_cuts d coalition d (get_or sets place Whole) →
     found.trials ≡ 1 + turns + found.splits → IsLastIn d coalition sets found
 tells_last d coalition sets place turns found some told narrow trials =
     let last = last_opened d coalition sets some in
@@ -190,6 +190,6 @@ tells_last d coalition sets place turns found some told narrow trials =
     record {
       place = last.0;
       opened = last.1;
-      leaf = subst (λ (z : ℕ). (found.leaf, found.splits) ≡ narrowed d coalition d (get_or sets z Whole)) at.0 narrow;
+      leaf = subst (λ (z : ℕ). (found.leaf, found.splits) ≡ narrowed_leaf_and_cuts d coalition d (get_or sets z Whole)) at.0 narrow;
       trials = trials ∙ ap (λ (n : ℕ). 1 + n + found.splits) at.1;
     }

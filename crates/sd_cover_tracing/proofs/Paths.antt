@@ -16,7 +16,7 @@ use Rattle.sd_cover_tracing.specs.Walk.{node_at}
 use Rattle.sd_cover_tracing.specs.Walk.{StandsAt}
 use Rattle.sd_cover_tracing.proofs.Levels.{node_stands, below_by_halvings}
 use Rattle.sd_cover_tracing.specs.Tally.{tally_at, with_count}
-use Rattle.sd_cover_tracing.specs.Path.{met_by}
+use Rattle.sd_cover_tracing.specs.Path.{path_visit_count}
 use Rattle.sd_cover_tracing.proofs.Tables.{counted, get_with_count, count_counted}
 
 -- the count that was written, and the others as before
@@ -29,17 +29,17 @@ count_written m v n q = ap (λ o. unwrap_or o 0) (get_with_count m v n q) ∙ el
     ]
 
 -- a node is met at most as often as there are nodes
-pub met_at_most : (node k v : ℕ) → met_by node k v ≤ k
+pub met_at_most : (node k v : ℕ) → path_visit_count node k v ≤ k
 met_at_most node zero v = omega arith
 met_at_most node (suc k) v = let rest = met_at_most node k v in elim (node / 2 ^ k == v) as
-    (λ b. met_by node k v + (if b then 1 else 0) ≤ suc k) [
+    (λ b. path_visit_count node k v + (if b then 1 else 0) ≤ suc k) [
       | true ↦ omega arith
       | false ↦ omega arith
     ]
 
 -- a raise of the next node of the path
-pub raised_further : (m : FinMap nat_cmp ℕ) (node k old q : ℕ) → tally_at m q ≡ old + met_by node k q →
-    tally_at (with_count m (node / 2 ^ k) (tally_at m (node / 2 ^ k) + 1)) q ≡ old + met_by node (suc k) q
+pub raised_further : (m : FinMap nat_cmp ℕ) (node k old q : ℕ) → tally_at m q ≡ old + path_visit_count node k q →
+    tally_at (with_count m (node / 2 ^ k) (tally_at m (node / 2 ^ k) + 1)) q ≡ old + path_visit_count node (suc k) q
 raised_further m node k old q is = count_written m (node / 2 ^ k) (tally_at m (node / 2 ^ k) + 1) q ∙
     elim (eqb_tells q (node / 2 ^ k)) [
       | inl same ↦
@@ -52,8 +52,8 @@ raised_further m node k old q is = count_written m (node / 2 ^ k) (tally_at m (n
 
 -- a lowering of the next node of the path
 pub lowered_further : (m : FinMap nat_cmp ℕ) (node k old q : ℕ) → 0 < tally_at m (node / 2 ^ k) →
-    tally_at m q + met_by node k q ≡ old → tally_at (with_count m (node / 2 ^ k) (tally_at m (node / 2 ^ k) - 1)) q
-    + met_by node (suc k) q ≡ old
+    tally_at m q + path_visit_count node k q ≡ old → tally_at (with_count m (node / 2 ^ k) (tally_at m (node / 2 ^ k) - 1)) q
+    + path_visit_count node (suc k) q ≡ old
 lowered_further m node k old q some is =
     let written = count_written m (node / 2 ^ k) (tally_at m (node / 2 ^ k) - 1) q in
     elim (eqb_tells q (node / 2 ^ k)) [
@@ -68,36 +68,36 @@ lowered_further m node k old q some is =
     ]
 
 -- the same as a loop has it
-pub raised_next : (m : FinMap nat_cmp ℕ) (node k old q : ℕ) → tally_at m q ≡ old + met_by node k q →
-    tally_at (with_count m (node / 2 ^ k) (tally_at m (node / 2 ^ k) + 1)) q ≡ old + met_by node (k + 1) q
+pub raised_next : (m : FinMap nat_cmp ℕ) (node k old q : ℕ) → tally_at m q ≡ old + path_visit_count node k q →
+    tally_at (with_count m (node / 2 ^ k) (tally_at m (node / 2 ^ k) + 1)) q ≡ old + path_visit_count node (k + 1) q
 raised_next m node k old q is =
     let e : k + 1 ≡ suc k = omega arith in
     rw e (raised_further m node k old q is)
 
 pub lowered_next : (m : FinMap nat_cmp ℕ) (node k old q : ℕ) → 0 < tally_at m (node / 2 ^ k) →
-    tally_at m q + met_by node k q ≡ old → tally_at (with_count m (node / 2 ^ k) (tally_at m (node / 2 ^ k) - 1)) q
-    + met_by node (k + 1) q ≡ old
+    tally_at m q + path_visit_count node k q ≡ old → tally_at (with_count m (node / 2 ^ k) (tally_at m (node / 2 ^ k) - 1)) q
+    + path_visit_count node (k + 1) q ≡ old
 lowered_next m node k old q some is =
     let e : k + 1 ≡ suc k = omega arith in
     rw e (lowered_further m node k old q some is)
 
 -- the further the path, the more of its nodes are v
-pub met_more : (node j k v : ℕ) → met_by node k v ≤ met_by node (j + k) v
-met_more node zero k v = let e : 0 + k ≡ k = omega arith in subst (λ (n : ℕ). met_by node k v ≤ met_by node n v) (sym e)
+pub met_more : (node j k v : ℕ) → path_visit_count node k v ≤ path_visit_count node (j + k) v
+met_more node zero k v = let e : 0 + k ≡ k = omega arith in subst (λ (n : ℕ). path_visit_count node k v ≤ path_visit_count node n v) (sym e)
     (omega arith)
 met_more node (suc j) k v =
     let e : suc j + k ≡ suc (j + k) = omega arith in
     let rest = met_more node j k v in
-    subst (λ (n : ℕ). met_by node k v ≤ met_by node n v) (sym e) (omega arith)
+    subst (λ (n : ℕ). path_visit_count node k v ≤ path_visit_count node n v) (sym e) (omega arith)
 
 -- the next node of the path is met once more
-pub met_once : (node k n : ℕ) → suc k ≤ n → met_by node k (node / 2 ^ k) + 1 ≤ met_by node n (node / 2 ^ k)
+pub met_once : (node k n : ℕ) → suc k ≤ n → path_visit_count node k (node / 2 ^ k) + 1 ≤ path_visit_count node n (node / 2 ^ k)
 met_once node k n h =
     let e : n - suc k + suc k ≡ n = omega arith in
-    let more = subst (λ (m : ℕ). met_by node (suc k) (node / 2 ^ k) ≤ met_by node m (node / 2 ^ k)) e
+    let more = subst (λ (m : ℕ). path_visit_count node (suc k) (node / 2 ^ k) ≤ path_visit_count node m (node / 2 ^ k)) e
     (met_more node (n - suc k) (suc k) (node / 2 ^ k)) in
     let same = eq-eqb (node / 2 ^ k) (node / 2 ^ k) refl in
-    let step : met_by node (suc k) (node / 2 ^ k) ≡ met_by node k (node / 2 ^ k) + 1 = rw same refl in
+    let step : path_visit_count node (suc k) (node / 2 ^ k) ≡ path_visit_count node k (node / 2 ^ k) + 1 = rw same refl in
     omega arith
 
 -- each node of the path from one of the lowest is one of the tree
@@ -127,7 +127,7 @@ stands_in d v low high =
     (d - at.0, record { within = omega arith; at = subst (λ (k : ℕ). IsAtLevel v k) e at.1 })
 
 -- a node that stands a number of steps above the leaves is met after that many halvings or not at all
-met_at : (d u level v k : ℕ) → StandsAt d level v → u < 2 ^ d → k ≤ d + 1 → met_by (2 ^ d + u) k v
+met_at : (d u level v k : ℕ) → StandsAt d level v → u < 2 ^ d → k ≤ d + 1 → path_visit_count (2 ^ d + u) k v
     ≡ (if nat_lt level k then (if node_at d level u == v then 1 else 0) else 0)
 met_at d u level v zero at lt h = sym (cond-false {A = ℕ} (nat_lt level 0) (if node_at d level u == v then 1 else 0) 0
     (le-ltb level 0 (omega arith)))
@@ -155,7 +155,7 @@ met_at d u level v (suc k) at lt h =
     ]
 
 -- where a leaf is below a node its path meets the node once, and else not
-pub met_is_below : (d u v : ℕ) → d < 32 → u < 2 ^ d → 1 ≤ v → v < 2 ^ (d + 1) → met_by (2 ^ d + u) (d + 1) v
+pub met_is_below : (d u v : ℕ) → d < 32 → u < 2 ^ d → 1 ≤ v → v < 2 ^ (d + 1) → path_visit_count (2 ^ d + u) (d + 1) v
     ≡ (if is_below d v u then 1 else 0)
 met_is_below d u v small lt low high =
     let level = stands_in d v low high in

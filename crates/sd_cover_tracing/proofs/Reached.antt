@@ -14,11 +14,11 @@ use Rattle.sd_tree_keys.proofs.Ancestors.{above_self, above_left, above_right, a
 use Rattle.sd_tree_keys.specs.declared.set.SetName.TheVariants.{Whole as WholeSet, Diff}
 use Rattle.sd_tree_keys.specs.declared.name.Name.{Name}
 use Rattle.sd_tree_keys.specs.declared.name.Name.TheVariants.{Whole, Pair}
-use Rattle.sd_tree_keys.specs.Names.{given}
+use Rattle.sd_tree_keys.specs.Names.{names_of_receiver}
 use Rattle.sd_cover_tracing.proofs.Lists.{member_cases, member_first, member_later, no_member}
 use Rattle.sd_cover_tracing.proofs.Derivation.{Reach, at_first, by_rule, from_derived, to_derived, passes}
 use Rattle.sd_cover_tracing.specs.Reach.{Secret, Named, Key, IsGeneratorStep, left, right, middle, whole, IsHeld}
-use Rattle.sd_cover_tracing.specs.Reach.{IsReached, LeadsTo}
+use Rattle.sd_cover_tracing.specs.Reach.{IsReached, DerivesSecret}
 
 -- what is reached, by how it came in
 abbrev Had : List Name → Secret → Type 0
@@ -58,7 +58,7 @@ reached_passes held test is closed secret r =
     passes (IsHeld held) IsGeneratorStep test (held_named held test is) closed (from_reached held secret r)
 
 -- a name leads to itself
-leads_to_itself : (name : Name) → LeadsTo name (Named name)
+leads_to_itself : (name : Name) → DerivesSecret name (Named name)
 leads_to_itself Whole = tt
 leads_to_itself (Pair i w) = (refl, inl refl)
 
@@ -73,7 +73,7 @@ at_or_above w v (inl same) = subst (IsAbove w) same (above_self w)
 at_or_above w v (inr above) = above.1
 
 -- a name leads to what follows from what it leads to
-leads_further : (name : Name) {from to : Secret} → LeadsTo name from → IsGeneratorStep from to → LeadsTo name to
+leads_further : (name : Name) {from to : Secret} → DerivesSecret name from → IsGeneratorStep from to → DerivesSecret name to
 leads_further Whole l (left h) = l
 leads_further Whole l (right h) = l
 leads_further Whole l (middle h) = l
@@ -87,7 +87,7 @@ leads_further (Pair k v) l whole = l
 
 -- what has come in by the rules is led to by a held name
 found : (held : List Name) {secret : Secret} → Had held secret → (name : Name) × Contains held name
-    × LeadsTo name secret
+    × DerivesSecret name secret
 found held (at_first {x = Named name} m) = (name, m, leads_to_itself name)
 found held (at_first {x = Key name} m) = absurd m
 found held (by_rule r f) = let l = found held r in (l.0, l.1, leads_further l.0 l.2 f)
@@ -109,7 +109,7 @@ descends held i w (suc k) v low e r =
     (cases_lt v (2 * (v / 2) + 1))
 
 -- what a name that has come in leads to has come in too
-arrives : (held : List Name) (name : Name) (secret : Secret) → Had held (Named name) → LeadsTo name secret
+arrives : (held : List Name) (name : Name) (secret : Secret) → Had held (Named name) → DerivesSecret name secret
     → Had held secret
 arrives held Whole (Named Whole) r l = r
 arrives held Whole (Named (Pair k v)) r l = absurd l
@@ -126,17 +126,17 @@ arrives held (Pair i w) (Key (Diff k v)) r (same, (low, above)) =
 
 -- what is reached is led to by a held name
 pub reached_is_found : (held : List Name) (secret : Secret) → IsReached held secret → (name : Name) × Contains held name
-    × LeadsTo name secret
+    × DerivesSecret name secret
 reached_is_found held secret r = found held (from_reached held secret r)
 
 -- what a held name leads to is reached
-pub found_is_reached : (held : List Name) (secret : Secret) (name : Name) → Contains held name → LeadsTo name secret
+pub found_is_reached : (held : List Name) (secret : Secret) (name : Name) → Contains held name → DerivesSecret name secret
     → IsReached held secret
 found_is_reached held secret name m l = to_reached held secret (arrives held name secret (at_first m) l)
 
 -- what is reached is just what a held name leads to
 pub reached_by_ancestry : (held : List Name) (secret : Secret) → IsReached held secret
-    ↔ Any (λ name. LeadsTo name secret) held
+    ↔ Any (λ name. DerivesSecret name secret) held
 reached_by_ancestry held secret = (
   λ r. let (name, (k, within, is), leads) = reached_is_found held secret r in (k, name, within, is, leads),
   λ (k, name, within, is, leads). found_is_reached held secret name (k, within, is) leads,
@@ -168,13 +168,13 @@ pub none_of_all : {X : Type 0} (xs : List X) (P : X → Type 0) (d : X)
 none_of_all xs P d none x (k, within, is) p = none k within (subst P (sym (get_or_default xs k d x within ∙ is)) p)
 
 -- what is reached from the names of several leaves is reached from those of one
-pub reached_by_one : (d : ℕ) (coalition : List ℕ) (secret : Secret) → IsReached (flat_map (given d) coalition) secret
-    ↔ Any (λ u. IsReached (given d u) secret) coalition
+pub reached_by_one : (d : ℕ) (coalition : List ℕ) (secret : Secret) → IsReached (flat_map (names_of_receiver d) coalition) secret
+    ↔ Any (λ u. IsReached (names_of_receiver d u) secret) coalition
 reached_by_one d coalition secret = (
-  λ r. let (name, held, leads) = reached_is_found (flat_map (given d) coalition) secret r in
-      let (u, (k, within, is), own) = from_one (given d) coalition name held in
-      (k, u, within, is, found_is_reached (given d u) secret name own leads),
-  λ (k, u, within, is, r). let (name, held, leads) = reached_is_found (given d u) secret r in
-      found_is_reached (flat_map (given d) coalition) secret name
-      (to_all (given d) coalition u name (k, within, is) held) leads,
+  λ r. let (name, held, leads) = reached_is_found (flat_map (names_of_receiver d) coalition) secret r in
+      let (u, (k, within, is), own) = from_one (names_of_receiver d) coalition name held in
+      (k, u, within, is, found_is_reached (names_of_receiver d u) secret name own leads),
+  λ (k, u, within, is, r). let (name, held, leads) = reached_is_found (names_of_receiver d u) secret r in
+      found_is_reached (flat_map (names_of_receiver d) coalition) secret name
+      (to_all (names_of_receiver d) coalition u name (k, within, is) held) leads,
 )

@@ -13,7 +13,7 @@ use Rattle.std.proofs.lemmas.Bool.Decides.{eqb_tells}
 use Rattle.sd_cover_tracing.specs.Tally.{tally_at, with_count}
 use Rattle.std.proofs.lemmas.List.Sums.{sum_by-set, count_by-le-length}
 use Rattle.std.proofs.lemmas.List.Folds.{sum_by-replicate}
-use Rattle.sd_cover_tracing.specs.Table.{map_from, map_of, used, IsTable}
+use Rattle.sd_cover_tracing.specs.Table.{map_from, map_of, used, IsProbeTable}
 use Rattle.sd_cover_tracing.specs.declared.counts.TheConstants.{NODES, MOST_ROOM}
 
 -- what a map has for a node that counts so
@@ -107,9 +107,9 @@ used_after_write ns v n h = sum_by-set (λ (m : ℕ). if nat_lt 0 m then 1 else 
 
 -- a table stays one where a place is written that counts or that there is room for, and the room with the places that
 -- count doesn't grow
-pub table_written : (ns : List ℕ) (room room' v n : ℕ) → IsTable ns room → v < length ns →
+pub table_written : (ns : List ℕ) (room room' v n : ℕ) → IsProbeTable ns room → v < length ns →
     room' + (if nat_lt 0 n then 1 else 0) ≤ room + (if nat_lt 0 (get_or ns v 0) then 1 else 0) →
-    IsTable (set ns v n) room'
+    IsProbeTable (set ns v n) room'
 table_written ns room room' v n t h less = record {
   size = elim t.size [
     | inl whole ↦ inl (length-set ns v n ∙ whole)
@@ -119,7 +119,7 @@ table_written ns room room' v n t h less = record {
 }
 
 -- a node has a place where there is room or it counts
-pub placed : (ns : List ℕ) (room v : ℕ) → IsTable ns room → v < NODES → (0 < get_or ns v 0) ⊎ (0 < room) → v < length ns
+pub placed : (ns : List ℕ) (room v : ℕ) → IsProbeTable ns room → v < NODES → (0 < get_or ns v 0) ⊎ (0 < room) → v < length ns
 placed ns room v t h (inl some) = counted_within ns v some
 placed ns room v t h (inr more) = elim t.size [
   | inl whole ↦ omega arith
@@ -136,13 +136,13 @@ unfolding used
 used_within ns = count_by-le-length (nat_lt 0) ns
 
 -- where there is no table there is no room
-pub table_none : IsTable [] 0
+pub table_none : IsProbeTable [] 0
 unfolding used
 table_none = record { size = inr (refl, refl); fits = omega arith }
 
 -- a table stays one where there is room for more
-pub table_reserved : (ns ms : List ℕ) (room more : ℕ) → IsTable ns room → length ms ≡ NODES → used ms ≡ used ns →
-    more ≤ MOST_ROOM → IsTable ms (max room more)
+pub table_reserved : (ns ms : List ℕ) (room more : ℕ) → IsProbeTable ns room → length ms ≡ NODES → used ms ≡ used ns →
+    more ≤ MOST_ROOM → IsProbeTable ms (max room more)
 table_reserved ns ms room more t size same h =
     let f = t.fits in
     let within = used_within ms in
@@ -156,7 +156,7 @@ used_made [] ms (suc n) k none is = ap used is ∙ used_zeros k
 used_made (x ∷ ns) ms n k none is = absurd (omega arith)
 
 -- the same by the counts that contracts see
-pub placed_count : (ns : List ℕ) (room v : ℕ) → IsTable ns room → v < NODES → (0 < tally_at (map_of ns) v)
+pub placed_count : (ns : List ℕ) (room v : ℕ) → IsProbeTable ns room → v < NODES → (0 < tally_at (map_of ns) v)
     ⊎ (0 < room) → v < length ns
 placed_count ns room v t h (inl some) = placed ns room v t h (inl (let e = count_in_table ns v in omega arith))
 placed_count ns room v t h (inr more) = placed ns room v t h (inr more)
@@ -166,8 +166,8 @@ counts_one : (n : ℕ) → 0 < n → ◌≡◌ {A = ℕ} (if nat_lt 0 n then 1 e
 counts_one n h = cond-true {A = ℕ} (nat_lt 0 n) 1 0 (lt-ltb 0 n h)
 
 -- a count raised by one
-pub raised_table : (ns : List ℕ) (room v n r : ℕ) → IsTable ns room → v < length ns → n ≡ get_or ns v 0 →
-    r ≡ (if n == 0 then 1 else 0) → (0 < n) ⊎ (0 < room) → IsTable (set ns v (n + 1)) (room - r)
+pub raised_table : (ns : List ℕ) (room v n r : ℕ) → IsProbeTable ns room → v < length ns → n ≡ get_or ns v 0 →
+    r ≡ (if n == 0 then 1 else 0) → (0 < n) ⊎ (0 < room) → IsProbeTable (set ns v (n + 1)) (room - r)
 raised_table ns room v zero r t h is one (inl some) = absurd (omega arith)
 raised_table ns room v zero r t h is one (inr more) = table_written ns room (room - r) v 1 t h (omega arith)
 raised_table ns room v (suc n) r t h is one some =

@@ -25,7 +25,7 @@ use Rattle.sd_tree_keys.proofs.Ancestors.{node_level, above_from_below}
 use Rattle.sd_cover_tracing.specs.Chains.{IsInTree, IsChainHead, IsOfChain, EndsChain, IsChainCover}
 use Rattle.sd_cover_tracing.specs.Cover.{is_inside, chain_end, chain_end_of, begins_chain, set_from, nodes, cover_by}
 use Rattle.sd_cover_tracing.specs.Cover.{cover_of}
-use Rattle.sd_cover_tracing.specs.Walk.{node_at, LeadsTo}
+use Rattle.sd_cover_tracing.specs.Walk.{node_at, ChainEndsAt}
 use Rattle.sd_cover_tracing.proofs.Lists.{member_cases, member_first, member_later, no_member}
 use Rattle.sd_cover_tracing.proofs.Names.{one_cover}
 use Rattle.sd_cover_tracing.proofs.Ends.{AreLeaves, within_tree, sibling_cases, linked_start, end_leads, end_leads_only}
@@ -134,7 +134,7 @@ module _ (d : ℕ) (revoked : List ℕ) (small : d < 32) (leaves : AreLeaves d r
 
   -- a chain from v leads to its end
   leads_there : (level v : ℕ) → StandsAt d level v → IsInTree d revoked v
-      → LeadsTo d revoked v (chain_end (is_inside d revoked) level v)
+      → ChainEndsAt d revoked v (chain_end (is_inside d revoked) level v)
   leads_there zero v at t =
       let to = in_tree_to d 0 v revoked leaves at t in
       let is : (2 ^ d + to.0) / 1 ≡ v = to.2 in
@@ -161,7 +161,7 @@ module _ (d : ℕ) (revoked : List ℕ) (small : d < 32) (leaves : AreLeaves d r
       ]
 
   -- and nowhere else
-  leads_only : (level v j : ℕ) → StandsAt d level v → LeadsTo d revoked v j
+  leads_only : (level v j : ℕ) → StandsAt d level v → ChainEndsAt d revoked v j
       → j ≡ chain_end (is_inside d revoked) level v
   leads_only zero v j at lead =
       let t = linked_start d revoked lead.nodes v lead.linked in

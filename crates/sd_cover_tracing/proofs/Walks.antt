@@ -26,19 +26,19 @@ use Rattle.sd_cover_tracing.specs.Cover.{cover_of}
 use Rattle.sd_cover_tracing.proofs.There.{the_cover}
 use Rattle.sd_cover_tracing.proofs.Sorting.{sorted_chains}
 use Rattle.sd_cover_tracing.specs.Tally.{tally_at}
-use Rattle.sd_cover_tracing.specs.Index.{count_below, counts_one, revoked_by, IsIndex, AreRevocable}
+use Rattle.sd_cover_tracing.specs.Index.{count_below, counts_one, indexed_leaves, IsIndex, AreRevocable}
 use Rattle.sd_cover_tracing.proofs.Bridge.{counts_in_tree, count_children, stands_low, stands_high}
 
 -- the revoked leaves are leaves of the tree, ascending
-pub revocable : (d : ℕ) (m : FinMap nat_cmp ℕ) → AreRevocable d (revoked_by d m)
-unfolding revoked_by
+pub revocable : (d : ℕ) (m : FinMap nat_cmp ℕ) → AreRevocable d (indexed_leaves d m)
+unfolding indexed_leaves
 revocable d m = record {
   leaves = All-filter (counts_one d m) (λ u. u < 2 ^ d) (leaves d) (leaves_below d);
   ascending = IsStrictlyIncreasing-filter (counts_one d m) (leaves d) (leaves_ascending d);
 }
 
-pub are_leaves : (d : ℕ) (m : FinMap nat_cmp ℕ) → AreLeaves d (revoked_by d m)
-are_leaves d m u c = All-contains (λ w. w < 2 ^ d) (revoked_by d m) u (revocable d m).leaves c
+pub are_leaves : (d : ℕ) (m : FinMap nat_cmp ℕ) → AreLeaves d (indexed_leaves d m)
+are_leaves d m u c = All-contains (λ w. w < 2 ^ d) (indexed_leaves d m) u (revocable d m).leaves c
 
 -- the cover, by both definitions
 abbrev IsListed : ℕ → List ℕ → List SetName → Type 0
@@ -59,11 +59,11 @@ stands_root d =
 
 module _ (d : ℕ) (m : FinMap nat_cmp ℕ) (small : d < 32) (is : IsIndex d m) where
   -- a node's count is above 0 exactly where the node is in the tree
-  pub in_tree : (level v : ℕ) → StandsAt d level v → (0 < tally_at m v) ↔ IsInTree d (revoked_by d m) v
+  pub in_tree : (level v : ℕ) → StandsAt d level v → (0 < tally_at m v) ↔ IsInTree d (indexed_leaves d m) v
   in_tree level v at =
-      subst (λ (n : ℕ). (0 < n) ↔ IsInTree d (revoked_by d m) v)
+      subst (λ (n : ℕ). (0 < n) ↔ IsInTree d (indexed_leaves d m) v)
       (sym (is.count v (stands_low d level v at) (stands_high d level v at)))
-      (counts_in_tree d level v (revoked_by d m) small (are_leaves d m) at)
+      (counts_in_tree d level v (indexed_leaves d m) small (are_leaves d m) at)
 
   -- a node above the leaves counts as its children do together
   pub children : (level v : ℕ) → 0 < level → StandsAt d level v → tally_at m v ≡ tally_at m (2 * v)
@@ -75,34 +75,34 @@ module _ (d : ℕ) (m : FinMap nat_cmp ℕ) (small : d < 32) (is : IsIndex d m) 
       let whole = is.count v (stands_low d (suc k) v at) (stands_high d (suc k) v at) in
       let a = is.count (2 * v) (stands_low d k (2 * v) left) (stands_high d k (2 * v) left) in
       let b = is.count (2 * v + 1) (stands_low d k (2 * v + 1) right) (stands_high d k (2 * v + 1) right) in
-      let sum = count_children d k v (revoked_by d m) small at in
+      let sum = count_children d k v (indexed_leaves d m) small at in
       omega arith
 
   -- a node that doesn't count isn't in the tree
-  outside : (level v : ℕ) → StandsAt d level v → tally_at m v ≡ 0 → IsInTree d (revoked_by d m) v → ⊥
+  outside : (level v : ℕ) → StandsAt d level v → tally_at m v ≡ 0 → IsInTree d (indexed_leaves d m) v → ⊥
   outside level v at none t = let some = (in_tree level v at).1 t in omega arith
 
   -- at a revoked leaf's node
   pub added_leaf : (level head v : ℕ) (old new : List SetName) → level ≡ 0 → StandsAt d level v →
-      IsOnChain d (revoked_by d m) head v → new ≡ old ++ of_ends head v → AddsChains d (revoked_by d m) head v old new
+      IsOnChain d (indexed_leaves d m) head v → new ≡ old ++ of_ends head v → AddsChains d (indexed_leaves d m) head v old new
   added_leaf level head v old new bottom at on added =
       let at' = subst (λ (l : ℕ). StandsAt d l v) bottom at in
-      let to = in_tree_to d 0 v (revoked_by d m) (are_leaves d m) at' on.inside in
+      let to = in_tree_to d 0 v (indexed_leaves d m) (are_leaves d m) at' on.inside in
       let u = to.0 in
       let is_node : (2 ^ d + u) / 1 ≡ v = to.2 in
       let same : v ≡ 2 ^ d + u = omega arith in (
         of_ends head v,
         added,
-        walk_leaf d (revoked_by d m) head v (are_leaves d m) on (omega arith)
+        walk_leaf d (indexed_leaves d m) head v (are_leaves d m) on (omega arith)
             (inl (u, to.1, same)),
       )
 
   -- the root counts all revoked leaves
-  pub root_counts : tally_at m 1 ≡ length (revoked_by d m)
+  pub root_counts : tally_at m 1 ≡ length (indexed_leaves d m)
   unfolding count_below
   root_counts =
       let at = is.count 1 (omega arith) (stands_high d d 1 (stands_root d)) in
-      at ∙ all_below (revoked_by d m) (are_leaves d m)
+      at ∙ all_below (indexed_leaves d m) (are_leaves d m)
     where
       all_below : (us : List ℕ) → AreLeaves d us → count_below d us 1 ≡ length us
       all_below [] leaves = refl
@@ -114,27 +114,27 @@ module _ (d : ℕ) (m : FinMap nat_cmp ℕ) (small : d < 32) (is : IsIndex d m) 
           sum_by-cons (λ w. cond (is_below d 1 w) 1 0) u us ∙ omega arith
 
   -- where it counts, it begins a chain
-  pub chain_root : 0 < tally_at m 1 → IsOnChain d (revoked_by d m) 1 1
-  chain_root some = on_chain_begun d (revoked_by d m) 1 (inl refl) ((in_tree d 1 (stands_root d)).0 some)
+  pub chain_root : 0 < tally_at m 1 → IsOnChain d (indexed_leaves d m) 1 1
+  chain_root some = on_chain_begun d (indexed_leaves d m) 1 (inl refl) ((in_tree d 1 (stands_root d)).0 some)
 
   -- a chain cover is the list of the definition
-  listed : (sets : List SetName) → IsChainCover d (revoked_by d m) sets → IsListed d (revoked_by d m) sets
-  listed sets c = ((the_cover d (revoked_by d m) sets small (are_leaves d m)).0 c, c)
+  listed : (sets : List SetName) → IsChainCover d (indexed_leaves d m) sets → IsListed d (indexed_leaves d m) sets
+  listed sets c = ((the_cover d (indexed_leaves d m) sets small (are_leaves d m)).0 c, c)
 
   -- what the walk from the root adds, sorted, is the cover
-  pub cover_of_walk : (old sets sorted : List SetName) → 0 < tally_at m 1 → old ≡ [] → AddsChains d (revoked_by d m) 1 1
-      old sets → IsPermutation sets sorted → IsSorted set_cmp sorted → IsListed d (revoked_by d m) sorted
+  pub cover_of_walk : (old sets sorted : List SetName) → 0 < tally_at m 1 → old ≡ [] → AddsChains d (indexed_leaves d m) 1 1
+      old sets → IsPermutation sets sorted → IsSorted set_cmp sorted → IsListed d (indexed_leaves d m) sorted
   cover_of_walk old sets sorted some none added moved up =
       let all = root_counts in
       let is_added : sets ≡ added.0 = added.1 ∙ ap (λ (xs : List SetName). xs ++ added.0) none in
-      listed sorted (sorted_chains d (revoked_by d m) added.0 sorted (λ e. let n = ap length e in omega arith) added.2
+      listed sorted (sorted_chains d (indexed_leaves d m) added.0 sorted (λ e. let n = ap length e in omega arith) added.2
       (subst (λ (xs : List SetName). IsPermutation xs sorted) is_added moved) up)
 
   -- the whole set is the cover where no leaf is revoked
-  pub cover_of_none : (sets : List SetName) → tally_at m 1 ≡ 0 → sets ≡ Whole ∷ [] → IsListed d (revoked_by d m) sets
+  pub cover_of_none : (sets : List SetName) → tally_at m 1 ≡ 0 → sets ≡ Whole ∷ [] → IsListed d (indexed_leaves d m) sets
   cover_of_none sets none whole =
       let all = root_counts in
-      let empty : revoked_by d m ≡ [] = none_of_length (revoked_by d m) (omega arith) in
+      let empty : indexed_leaves d m ≡ [] = none_of_length (indexed_leaves d m) (omega arith) in
       listed sets (record {
         ascending = subst AreAscending (sym whole)
             (λ i j x below within. absurd (let h : j < 1 = within in omega arith));
@@ -152,10 +152,10 @@ pub record IsInner (d : ℕ) (m : FinMap nat_cmp ℕ) (level head v : ℕ) : Typ
   pub index : IsIndex d m
   pub up : 0 < level
   pub at : StandsAt d level v
-  pub on : IsOnChain d (revoked_by d m) head v
+  pub on : IsOnChain d (indexed_leaves d m) head v
 
 module _ {d : ℕ} {m : FinMap nat_cmp ℕ} {level head v : ℕ} (here : IsInner d m level head v) where
-  inside : (k w : ℕ) → StandsAt d k w → (0 < tally_at m w) ↔ IsInTree d (revoked_by d m) w
+  inside : (k w : ℕ) → StandsAt d k w → (0 < tally_at m w) ↔ IsInTree d (indexed_leaves d m) w
   inside = in_tree d m here.small here.index
 
   pub at_left : StandsAt d (level - 1) (2 * v)
@@ -178,68 +178,68 @@ module _ {d : ℕ} {m : FinMap nat_cmp ℕ} {level head v : ℕ} (here : IsInner
   split whole l a b = let s = sum in (omega arith, omega arith)
 
   -- where the right child doesn't count, the left one alone is in the tree
-  one_left : tally_at m (2 * v + 1) ≡ 0 → HasOneChild d (revoked_by d m) v × IsInTree d (revoked_by d m) (2 * v)
+  one_left : tally_at m (2 * v + 1) ≡ 0 → HasOneChild d (indexed_leaves d m) v × IsInTree d (indexed_leaves d m) (2 * v)
   one_left none =
       let s = sum in
       let some = some_count in
       let l = (inside (level - 1) (2 * v) at_left).0 (omega arith) in
       (inl (l, outside d m here.small here.index (level - 1) (2 * v + 1) at_right none), l)
 
-  one_right : tally_at m (2 * v) ≡ 0 → HasOneChild d (revoked_by d m) v × IsInTree d (revoked_by d m) (2 * v + 1)
+  one_right : tally_at m (2 * v) ≡ 0 → HasOneChild d (indexed_leaves d m) v × IsInTree d (indexed_leaves d m) (2 * v + 1)
   one_right none =
       let s = sum in
       let some = some_count in
       let r = (inside (level - 1) (2 * v + 1) at_right).0 (omega arith) in
       (inr (outside d m here.small here.index (level - 1) (2 * v) at_left none, r), r)
 
-  two : 0 < tally_at m (2 * v) → 0 < tally_at m (2 * v + 1) → HasTwoChildren d (revoked_by d m) v
+  two : 0 < tally_at m (2 * v) → 0 < tally_at m (2 * v + 1) → HasTwoChildren d (indexed_leaves d m) v
   two l r = ((inside (level - 1) (2 * v) at_left).0 l, (inside (level - 1) (2 * v + 1) at_right).0 r)
 
   -- where one child counts, the chain goes on there
-  pub chain_left : tally_at m (2 * v + 1) ≡ 0 → IsOnChain d (revoked_by d m) head (2 * v)
+  pub chain_left : tally_at m (2 * v + 1) ≡ 0 → IsOnChain d (indexed_leaves d m) head (2 * v)
   chain_left none =
       let one = one_left none in
-      on_chain_child d (revoked_by d m) head v (2 * v) (are_leaves d m) here.on one.0 (omega arith) one.1
+      on_chain_child d (indexed_leaves d m) head v (2 * v) (are_leaves d m) here.on one.0 (omega arith) one.1
 
-  pub chain_right : tally_at m (2 * v) ≡ 0 → IsOnChain d (revoked_by d m) head (2 * v + 1)
+  pub chain_right : tally_at m (2 * v) ≡ 0 → IsOnChain d (indexed_leaves d m) head (2 * v + 1)
   chain_right none =
       let one = one_right none in
-      on_chain_child d (revoked_by d m) head v (2 * v + 1) (are_leaves d m) here.on one.0 (omega arith) one.1
+      on_chain_child d (indexed_leaves d m) head v (2 * v + 1) (are_leaves d m) here.on one.0 (omega arith) one.1
 
   -- where both count, each begins a chain
   pub begins_left : 0 < tally_at m (2 * v) → 0 < tally_at m (2 * v + 1) →
-      IsOnChain d (revoked_by d m) (2 * v) (2 * v)
-  begins_left l r = on_chain_left d v (revoked_by d m) (two l r)
+      IsOnChain d (indexed_leaves d m) (2 * v) (2 * v)
+  begins_left l r = on_chain_left d v (indexed_leaves d m) (two l r)
 
   pub begins_right : 0 < tally_at m (2 * v) → 0 < tally_at m (2 * v + 1) →
-      IsOnChain d (revoked_by d m) (2 * v + 1) (2 * v + 1)
-  begins_right l r = on_chain_right d v (revoked_by d m) (two l r)
+      IsOnChain d (indexed_leaves d m) (2 * v + 1) (2 * v + 1)
+  begins_right l r = on_chain_right d v (indexed_leaves d m) (two l r)
 
   -- what the walk adds
   pub added_left : (old new : List SetName) → tally_at m (2 * v + 1) ≡ 0 →
-      AddsChains d (revoked_by d m) head (2 * v) old new → AddsChains d (revoked_by d m) head v old new
+      AddsChains d (indexed_leaves d m) head (2 * v) old new → AddsChains d (indexed_leaves d m) head v old new
   added_left old new none added =
       let one = one_left none in
-      let sets = walk_one d (revoked_by d m) head v (2 * v) added.0 here.on.inside.0 one.0 (omega arith) one.1
+      let sets = walk_one d (indexed_leaves d m) head v (2 * v) added.0 here.on.inside.0 one.0 (omega arith) one.1
       added.2 in
       (added.0, added.1, sets)
 
   pub added_right : (old new : List SetName) → tally_at m (2 * v) ≡ 0 →
-      AddsChains d (revoked_by d m) head (2 * v + 1) old new → AddsChains d (revoked_by d m) head v old new
+      AddsChains d (indexed_leaves d m) head (2 * v + 1) old new → AddsChains d (indexed_leaves d m) head v old new
   added_right old new none added =
       let one = one_right none in
       let low = here.on.inside.0 in
-      let sets = walk_one d (revoked_by d m) head v (2 * v + 1) added.0 low one.0 (omega arith) one.1 added.2 in
+      let sets = walk_one d (indexed_leaves d m) head v (2 * v + 1) added.0 low one.0 (omega arith) one.1 added.2 in
       (added.0, added.1, sets)
 
   pub added_both : (old first mid new : List SetName) → 0 < tally_at m (2 * v) → 0 < tally_at m (2 * v + 1) →
-      first ≡ old ++ of_ends head v → AddsChains d (revoked_by d m) (2 * v) (2 * v) first mid →
-      AddsChains d (revoked_by d m) (2 * v + 1) (2 * v + 1) mid new → AddsChains d (revoked_by d m) head v old new
+      first ≡ old ++ of_ends head v → AddsChains d (indexed_leaves d m) (2 * v) (2 * v) first mid →
+      AddsChains d (indexed_leaves d m) (2 * v + 1) (2 * v + 1) mid new → AddsChains d (indexed_leaves d m) head v old new
   added_both old first mid new l r begun a b = (
     of_ends head v ++ (a.0 ++ b.0),
     b.1 ∙ (ap (λ (xs : List SetName). xs ++ b.0) (a.1 ∙ ap (λ (xs : List SetName). xs ++ a.0) begun) ∙
         (append_assoc (old ++ of_ends head v) a.0 b.0 ∙ append_assoc old (of_ends head v) (a.0 ++ b.0))),
-    walk_two d (revoked_by d m) head v a.0 b.0 (are_leaves d m) here.on (two l r) a.2 b.2,
+    walk_two d (indexed_leaves d m) head v a.0 b.0 (are_leaves d m) here.on (two l r) a.2 b.2,
   )
 
 -- the steps of a walk: one for each node above the leaves that is at or above a revoked leaf

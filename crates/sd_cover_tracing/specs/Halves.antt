@@ -56,12 +56,12 @@ open_half d coalition halves = if has_some d coalition halves.0 then halves.0 el
 
 -- one cut more
 abbrev pub cut_once_more : ℕ × ℕ → ℕ × ℕ
-cut_once_more narrowed = (narrowed.0, narrowed.1 + 1)
+cut_once_more narrowed_leaf_and_cuts = (narrowed_leaf_and_cuts.0, narrowed_leaf_and_cuts.1 + 1)
 
 -- the leaf to which a set is cut down by at most so many cuts, and the number of cuts [Naor, Naor, Lotspiech 2001, 5]
-unfoldable pub narrowed : ℕ → List ℕ → ℕ → SetName → ℕ × ℕ
-narrowed d coalition zero name = (only_leaf d name, 0)
-narrowed d coalition (suc most) name =
-    option_map_or (λ halves. cut_once_more (narrowed d coalition most (open_half d coalition halves)))
+unfoldable pub narrowed_leaf_and_cuts : ℕ → List ℕ → ℕ → SetName → ℕ × ℕ
+narrowed_leaf_and_cuts d coalition zero name = (only_leaf d name, 0)
+narrowed_leaf_and_cuts d coalition (suc most) name =
+    option_map_or (λ halves. cut_once_more (narrowed_leaf_and_cuts d coalition most (open_half d coalition halves)))
     (halves_of d name)
     (only_leaf d name, 0)

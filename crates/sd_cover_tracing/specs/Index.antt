@@ -22,12 +22,12 @@ unfoldable pub counts_one : ℕ → FinMap nat_cmp ℕ → ℕ → Bool
 counts_one d counts u = tally_at counts (2 ^ d + u) == 1
 
 -- the revoked leaves, ascending
-unfoldable pub revoked_by : ℕ → FinMap nat_cmp ℕ → List ℕ
-revoked_by d counts = filter (counts_one d counts) (leaves d)
+unfoldable pub indexed_leaves : ℕ → FinMap nat_cmp ℕ → List ℕ
+indexed_leaves d counts = filter (counts_one d counts) (leaves d)
 
 -- each node of the tree counts the revoked leaves at or below it
 pub record IsIndex (d : ℕ) (counts : FinMap nat_cmp ℕ) : Type 0 where
-  pub count : (v : ℕ) → 1 ≤ v → v < 2 ^ (d + 1) → tally_at counts v ≡ count_below d (revoked_by d counts) v
+  pub count : (v : ℕ) → 1 ≤ v → v < 2 ^ (d + 1) → tally_at counts v ≡ count_below d (indexed_leaves d counts) v
 
 -- they are leaves of a tree of height d, and ascend
 pub record AreRevocable (d : ℕ) (revoked : List ℕ) : Type 0 where

@@ -50,12 +50,12 @@ ReachesNoneOf held sets = (name : SetName) → Contains sets name → ¬ IsReach
 
 -- the secret is derivable from this one name: a label leads to those of all nodes below and to their keys [Naor, Naor,
 -- Lotspiech 2001, 3.2]
-abbrev pub LeadsTo : Name → Secret → Type 0
-LeadsTo Whole (Named Whole) = Unit {0}
-LeadsTo Whole (Named (Pair k v)) = ⊥
-LeadsTo Whole (Key WholeSet) = Unit {0}
-LeadsTo Whole (Key (Diff k v)) = ⊥
-LeadsTo (Pair i w) (Named Whole) = ⊥
-LeadsTo (Pair i w) (Named (Pair k v)) = (i ≡ k) × ((w ≡ v) ⊎ ((1 ≤ w) × IsAbove w v))
-LeadsTo (Pair i w) (Key WholeSet) = ⊥
-LeadsTo (Pair i w) (Key (Diff k v)) = (i ≡ k) × ((1 ≤ w) × IsAbove w v)
+abbrev pub DerivesSecret : Name → Secret → Type 0
+DerivesSecret Whole (Named Whole) = Unit {0}
+DerivesSecret Whole (Named (Pair k v)) = ⊥
+DerivesSecret Whole (Key WholeSet) = Unit {0}
+DerivesSecret Whole (Key (Diff k v)) = ⊥
+DerivesSecret (Pair i w) (Named Whole) = ⊥
+DerivesSecret (Pair i w) (Named (Pair k v)) = (i ≡ k) × ((w ≡ v) ⊎ ((1 ≤ w) × IsAbove w v))
+DerivesSecret (Pair i w) (Key WholeSet) = ⊥
+DerivesSecret (Pair i w) (Key (Diff k v)) = (i ≡ k) × ((1 ≤ w) × IsAbove w v)

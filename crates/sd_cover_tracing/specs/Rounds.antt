@@ -11,7 +11,7 @@ use Rattle.sd_cover_tracing.specs.Chains.{IsChainCover}
 use Rattle.sd_cover_tracing.specs.Cover.{cover_of}
 use Rattle.std.specs.List.Sorted.{IsStrictlyIncreasing}
 use Rattle.sd_cover_tracing.specs.declared.found.Found.{Found}
-use Rattle.sd_cover_tracing.specs.Halves.{has_some, narrowed}
+use Rattle.sd_cover_tracing.specs.Halves.{has_some, narrowed_leaf_and_cuts}
 use Rattle.sd_cover_tracing.specs.Search.{IsLastOpen, halvings}
 use Rattle.sd_cover_tracing.specs.Trace.{IsRound, IsAnyRound}
 
@@ -40,7 +40,7 @@ FindsIn d sets before after (Some found) = IsFoundIn d sets found × (after ≡ 
 pub record IsLastIn (d : ℕ) (coalition : List ℕ) (sets : List SetName) (found : Found) : Type 0 where
   pub place : ℕ
   pub opened : IsLastOpen d coalition sets place
-  pub leaf : (found.leaf, found.splits) ≡ narrowed d coalition d (get_or sets place Whole)
+  pub leaf : (found.leaf, found.splits) ≡ narrowed_leaf_and_cuts d coalition d (get_or sets place Whole)
   pub trials : found.trials ≡ 1 + halvings (length sets) 0 (length sets) place + found.splits
 
 abbrev pub FindsLast : ℕ → List ℕ → List SetName → Option Found → Type 0

@@ -20,6 +20,6 @@ unfoldable pub used : List ℕ → ℕ
 used table = sum_by (λ n. if nat_lt 0 n then 1 else 0) table
 
 -- there is a place for each node, or none and no room, and the room with the places that count is a number of 32 bits
-pub record IsTable (table : List ℕ) (room : ℕ) : Type 0 where
+pub record IsProbeTable (table : List ℕ) (room : ℕ) : Type 0 where
   pub size : (length table ≡ NODES) ⊎ ((length table ≡ 0) × (room ≡ 0))
   pub fits : room + used table ≤ 2 ^ 25

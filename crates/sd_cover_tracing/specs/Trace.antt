@@ -9,7 +9,7 @@ use Rattle.sd_tree_keys.specs.declared.set.SetName.{SetName}
 use Rattle.sd_tree_keys.specs.declared.set.SetName.TheVariants.{Whole}
 use Rattle.sd_cover_tracing.specs.Cover.{cover_of}
 use Rattle.sd_cover_tracing.specs.declared.found.Found.{Found}
-use Rattle.sd_cover_tracing.specs.Halves.{has_some, narrowed}
+use Rattle.sd_cover_tracing.specs.Halves.{has_some, narrowed_leaf_and_cuts}
 use Rattle.sd_cover_tracing.specs.Search.{halvings, IsLastOpen}
 
 -- What one round finds where these leaves are revoked or found: of the cover's sets the last that opens is cut down to
@@ -17,7 +17,7 @@ use Rattle.sd_cover_tracing.specs.Search.{halvings, IsLastOpen}
 pub record IsRound (d : ℕ) (coalition gone : List ℕ) (found : Found) : Type 0 where
   pub place : ℕ
   pub opened : IsLastOpen d coalition (cover_of d gone) place
-  pub leaf : (found.leaf, found.splits) ≡ narrowed d coalition d (get_or (cover_of d gone) place Whole)
+  pub leaf : (found.leaf, found.splits) ≡ narrowed_leaf_and_cuts d coalition d (get_or (cover_of d gone) place Whole)
   pub trials : found.trials ≡ 1 + halvings (length (cover_of d gone)) 0 (length (cover_of d gone)) place + found.splits
 
 -- what all rounds find, until no leaf of the coalition is left
@@ -61,7 +61,7 @@ last_open d coalition (name ∷ sets) =
 -- place, and the cuts [Naor, Naor, Lotspiech 2001, 5; this project, docs/FORMATS.md, Tracing]
 unfoldable pub found_at : ℕ → List ℕ → List SetName → ℕ → Found
 found_at d coalition sets z =
-    let cut = narrowed d coalition d (get_or sets z Whole) in
+    let cut = narrowed_leaf_and_cuts d coalition d (get_or sets z Whole) in
     record { leaf = cut.0; trials = 1 + halvings (length sets) 0 (length sets) z + cut.1; splits = cut.1 }
 
 -- what is found in so many rounds where these leaves are revoked or found, as long as a set opens

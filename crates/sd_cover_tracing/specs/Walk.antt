@@ -23,7 +23,7 @@ abbrev pub of_ends : ℕ → ℕ → List SetName
 of_ends i j = if i == j then [] else Diff i j ∷ []
 
 -- the part of a chain from v on ends at j
-pub record LeadsTo (d : ℕ) (revoked : List ℕ) (v j : ℕ) : Type 0 where
+pub record ChainEndsAt (d : ℕ) (revoked : List ℕ) (v j : ℕ) : Type 0 where
   pub nodes : List ℕ
   pub linked : AreLinked d revoked (v ∷ nodes)
   pub last : last_of v nodes ≡ j
@@ -33,7 +33,7 @@ pub record IsOnChain (d : ℕ) (revoked : List ℕ) (head v : ℕ) : Type 0 wher
   pub begins : IsChainHead d revoked head
   pub inside : IsInTree d revoked v
   pub above : IsAbove head v
-  pub ends : (j : ℕ) → LeadsTo d revoked head j ↔ LeadsTo d revoked v j
+  pub ends : (j : ℕ) → ChainEndsAt d revoked head j ↔ ChainEndsAt d revoked v j
 
 -- the name is of a chain that begins at head or below v
 abbrev pub BeginsBy : ℕ → ℕ → SetName → Type 0

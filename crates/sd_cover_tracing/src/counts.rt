@@ -35,11 +35,11 @@ impl Model for Counts {
 
     ghost coded = { tally_code };
 
-    ghost use Rattle.sd_cover_tracing.specs.Table.{map_of, IsTable};
+    ghost use Rattle.sd_cover_tracing.specs.Table.{map_of, IsProbeTable};
 
     ghost view = { λ c. record { counts = map_of c.table.items; room = c.room } };
 
-    ghost invariant = { λ c. IsTable c.table.items c.room };
+    ghost invariant = { λ c. IsProbeTable c.table.items c.room };
 }
 
 impl Counts {

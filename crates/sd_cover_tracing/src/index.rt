@@ -24,13 +24,13 @@ pub struct CoverIndex {
 
 impl Model for CoverIndex {
     ghost use Rattle.std.specs.Prelude.{◌+◌, ◌/◌};
-    ghost use Rattle.sd_cover_tracing.specs.Index.{IndexValue, IsIndex, revoked_by};
+    ghost use Rattle.sd_cover_tracing.specs.Index.{IndexValue, IsIndex, indexed_leaves};
 
     ghost Value = { IndexValue };
 
     ghost view = { λ x. record {
       height = x.height;
-      revoked = revoked_by x.height x.counts.counts;
+      revoked = indexed_leaves x.height x.counts.counts;
       spare = x.counts.room / (x.height + 1);
     } };
 

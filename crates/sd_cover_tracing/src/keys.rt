@@ -2,7 +2,7 @@ ghost use Rattle.std.specs.Prelude.{◌≡◌, ◌^◌, ◌<◌, ◌↔◌, IsTr
 ghost use Rattle.std.specs.List.{list_any, flat_map};
 ghost use Rattle.sd_tree_keys.specs.Leaves.{is_member};
 ghost use Rattle.sd_tree_keys.specs.SetNames.{IsOfHeight};
-ghost use Rattle.sd_tree_keys.specs.Names.{given};
+ghost use Rattle.sd_tree_keys.specs.Names.{names_of_receiver};
 ghost use Rattle.sd_cover_tracing.specs.Reach.{Key, IsReached};
 
 use sd_tree_keys::{Height, Leaf, SetName, contains};
@@ -12,8 +12,8 @@ use sd_tree_keys::{Height, Leaf, SetName, contains};
 pub fn opens(h: Height, coalition: &[Leaf], name: SetName) -> bool
     requires leaves { All (λ u. u < 2 ^ h) coalition.now }
     requires name { IsOfHeight h name }
-    ensures reached { IsTrue result ↔ Any (λ u. IsReached (given h u) (Key name)) coalition.now }
-    ensures together { IsTrue result ↔ IsReached (flat_map (given h) coalition.now) (Key name) }
+    ensures reached { IsTrue result ↔ Any (λ u. IsReached (names_of_receiver h u) (Key name)) coalition.now }
+    ensures together { IsTrue result ↔ IsReached (flat_map (names_of_receiver h) coalition.now) (Key name) }
     ensures member { result ≡ list_any (is_member h name) coalition.now }
 {
     prove!(h.get() <= 20);

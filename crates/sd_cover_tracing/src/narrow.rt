@@ -2,7 +2,7 @@ ghost use Rattle.std.specs.Prelude.{◌≡◌, ℕ, ◌+◌, ◌-◌, ◌^◌, �
 ghost use Rattle.sd_tree_keys.specs.SetNames.{IsOfHeight};
 ghost use Rattle.sd_tree_keys.specs.declared.height.TheConstants.{HIGHEST};
 ghost use Rattle.sd_tree_keys.specs.Leaves.{is_member};
-ghost use Rattle.sd_cover_tracing.specs.Halves.{halves_of, cuts_left, narrowed, only_leaf as leaf_alone};
+ghost use Rattle.sd_cover_tracing.specs.Halves.{halves_of, cuts_left, narrowed_leaf_and_cuts, only_leaf as leaf_alone};
 
 use crate::cut::halves;
 use crate::target::TestBox;
@@ -20,7 +20,7 @@ pub fn narrow<B: TestBox>(h: Height, name: SetName, target: &mut B) -> (Leaf, u3
     ensures few { result.1 ≤ HIGHEST }
     ensures asked { B.asked target.new ≡ B.asked target.old + result.1 }
     ensures told { (coalition : List ℕ) (most : ℕ) → B.coalition target.old ≡ Some coalition →
-        cuts_left h name ≤ most → (result.0, result.1) ≡ narrowed h coalition most name }
+        cuts_left h name ≤ most → (result.0, result.1) ≡ narrowed_leaf_and_cuts h coalition most name }
     ensures height { B.height target.new ≡ B.height target.old }
     ensures coalition { B.coalition target.new ≡ B.coalition target.old }
 {

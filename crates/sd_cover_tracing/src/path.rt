@@ -3,7 +3,7 @@ ghost use Rattle.sd_tree_keys.specs.declared.height.TheConstants.{HIGHEST};
 ghost use Rattle.sd_tree_keys.specs.Paths.{leaf_node as leaf_node_of};
 ghost use Rattle.sd_cover_tracing.specs.declared.counts.TheConstants.{NODES};
 ghost use Rattle.sd_cover_tracing.specs.Tally.{tally_at};
-ghost use Rattle.sd_cover_tracing.specs.Path.{met_by};
+ghost use Rattle.sd_cover_tracing.specs.Path.{path_visit_count};
 
 use crate::counts::Counts;
 use sd_base::Steps;
@@ -29,7 +29,7 @@ pub fn raise_path<L: Ledger>(counts: &mut Counts, h: Height, node: u32, steps: &
     requires most { node < NODES }
     requires fits { (v : ℕ) → 1 ≤ v → v < 2 ^ (h + 1) → tally_at counts.old.counts v ≤ 2 ^ h }
     requires room { h + 1 ≤ counts.old.room }
-    ensures value { (v : ℕ) → tally_at counts.new.counts v ≡ tally_at counts.old.counts v + met_by node (h + 1) v }
+    ensures value { (v : ℕ) → tally_at counts.new.counts v ≡ tally_at counts.old.counts v + path_visit_count node (h + 1) v }
     ensures room { counts.old.room ≤ counts.new.room + (h + 1) }
     ensures steps { steps.new ≡ steps.old + (h + 1) }
 {
@@ -43,8 +43,8 @@ pub fn lower_path<L: Ledger>(counts: &mut Counts, h: Height, node: u32, steps: &
     requires low { 2 ^ h ≤ node }
     requires high { node < 2 ^ (h + 1) }
     requires most { node < NODES }
-    requires some { (v : ℕ) → 1 ≤ v → v < 2 ^ (h + 1) → met_by node (h + 1) v ≤ tally_at counts.old.counts v }
-    ensures value { (v : ℕ) → tally_at counts.new.counts v + met_by node (h + 1) v ≡ tally_at counts.old.counts v }
+    requires some { (v : ℕ) → 1 ≤ v → v < 2 ^ (h + 1) → path_visit_count node (h + 1) v ≤ tally_at counts.old.counts v }
+    ensures value { (v : ℕ) → tally_at counts.new.counts v + path_visit_count node (h + 1) v ≡ tally_at counts.old.counts v }
     ensures room { counts.old.room ≤ counts.new.room }
     ensures steps { steps.new ≡ steps.old + (h + 1) }
 {

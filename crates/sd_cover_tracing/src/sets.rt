@@ -4,7 +4,7 @@ ghost use Rattle.sd_cover_tracing.specs.Cover.{cover_of};
 ghost use Rattle.sd_tree_keys.specs.declared.height.TheConstants.{HIGHEST};
 ghost use Rattle.sd_cover_tracing.specs.Walk.{of_ends, IsOnChain, AddsChains, StandsAt};
 ghost use Rattle.sd_cover_tracing.specs.Tally.{tally_at};
-ghost use Rattle.sd_cover_tracing.specs.Index.{IsIndex, AreRevocable, revoked_by};
+ghost use Rattle.sd_cover_tracing.specs.Index.{IsIndex, AreRevocable, indexed_leaves};
 
 use crate::counts::Counts;
 use crate::index::CoverIndex;
@@ -37,9 +37,9 @@ fn chain_sets<L: Ledger>(
     steps: &mut Steps<L>,
 ) -> Result<Vec<SetName>, AllocError>
     requires index { IsIndex h counts.now.counts }
-    ensures value { IfOk result (λ sets. (sets.items ≡ cover_of h (revoked_by h counts.now.counts))
-        × IsChainCover h (revoked_by h counts.now.counts) sets.items) }
-    ensures steps { steps.new ≤ steps.old + (length (revoked_by h counts.now.counts) * h + 1) }
+    ensures value { IfOk result (λ sets. (sets.items ≡ cover_of h (indexed_leaves h counts.now.counts))
+        × IsChainCover h (indexed_leaves h counts.now.counts) sets.items) }
+    ensures steps { steps.new ≤ steps.old + (length (indexed_leaves h counts.now.counts) * h + 1) }
 {
     let mut sets = Vec::new(alloc);
     let levels = u32::from(h.get());
@@ -69,8 +69,8 @@ fn walk<L: Ledger>(
     requires index { IsIndex h counts.now.counts }
     requires stands { StandsAt h level v }
     requires revoked { revoked ≡ tally_at counts.now.counts v }
-    requires chain { IsOnChain h (revoked_by h counts.now.counts) head v }
-    ensures value { OnOk result (AddsChains h (revoked_by h counts.now.counts) head v sets.old.items sets.new.items) }
+    requires chain { IsOnChain h (indexed_leaves h counts.now.counts) head v }
+    ensures value { OnOk result (AddsChains h (indexed_leaves h counts.now.counts) head v sets.old.items sets.new.items) }
     ensures steps { steps.new ≤ steps.old + revoked * level }
 {
     if level == 0 {

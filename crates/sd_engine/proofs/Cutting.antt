@@ -2,7 +2,7 @@
 use Rattle.std.proofs.Common.{◌≡◌, ℕ, zero, suc, ◌+◌, ◌-◌, ◌<◌, ◌≤◌, true, false, ◌==◌, List, [], ◌∷◌, length, take}
 use Rattle.std.proofs.Common.{drop, refl, ap, ◌∙◌, arith}
 use Rattle.std.proofs.lemmas.Bool.{cond-true, cond-false, both_ways, ne_eqb}
-use Rattle.sd_engine.specs.Cut.{begins_packet, cut_after, cut, skipped_before}
+use Rattle.sd_engine.specs.Cut.{begins_packet, cut_after, cut_packets, skipped_before}
 use Rattle.sd_engine.proofs.Begins.{too_few}
 
 -- no byte begins with no packet
@@ -10,7 +10,7 @@ none_begins : begins_packet [] ≡ false
 none_begins = too_few [] (omega arith)
 
 -- behind the bytes of a packet the search goes on
-cut_behind : (n : ℕ) (bytes : List ℕ) → cut_after n bytes ≡ cut (drop n bytes)
+cut_behind : (n : ℕ) (bytes : List ℕ) → cut_after n bytes ≡ cut_packets (drop n bytes)
 unfolding cut_after
 cut_behind zero bytes = refl
 cut_behind (suc n) [] = refl
@@ -23,7 +23,7 @@ skipped_behind k (suc n) [] = refl
 skipped_behind k (suc n) (byte ∷ bytes) = skipped_behind k n bytes
 
 -- nothing is cut of no byte
-pub cut_end : cut [] ≡ []
+pub cut_end : cut_packets [] ≡ []
 unfolding cut_after
 cut_end = refl
 
@@ -32,7 +32,7 @@ unfolding skipped_before
 skipped_end k = refl
 
 -- a packet is first
-pub cut_packet : (bytes : List ℕ) → begins_packet bytes ≡ true → cut bytes ≡ take 188 bytes ∷ cut (drop 188 bytes)
+pub cut_packet : (bytes : List ℕ) → begins_packet bytes ≡ true → cut_packets bytes ≡ take 188 bytes ∷ cut_packets (drop 188 bytes)
 unfolding cut_after
 cut_packet [] begins = absurd (both_ways (begins_packet []) none_begins begins)
 cut_packet (byte ∷ bytes) begins =
@@ -56,7 +56,7 @@ skipped_none [] begins = refl
 skipped_none (byte ∷ bytes) begins = cond-true (begins_packet (byte ∷ bytes)) _ _ begins
 
 -- no packet is first
-cut_other : (byte : ℕ) (bytes : List ℕ) → begins_packet (byte ∷ bytes) ≡ false → cut (byte ∷ bytes) ≡ cut bytes
+cut_other : (byte : ℕ) (bytes : List ℕ) → begins_packet (byte ∷ bytes) ≡ false → cut_packets (byte ∷ bytes) ≡ cut_packets bytes
 unfolding cut_after
 cut_other byte bytes other = cond-false (begins_packet (byte ∷ bytes)) _ _ other
 
@@ -67,7 +67,7 @@ skipped_other k byte bytes other = cond-false (begins_packet (byte ∷ bytes)) _
 
 -- no packet begins within the first bytes
 pub cut_passed : (n : ℕ) (bytes : List ℕ) → n ≤ length bytes →
-    ((i : ℕ) → i < n → begins_packet (drop i bytes) ≡ false) → cut bytes ≡ cut (drop n bytes)
+    ((i : ℕ) → i < n → begins_packet (drop i bytes) ≡ false) → cut_packets bytes ≡ cut_packets (drop n bytes)
 cut_passed zero bytes within none = refl
 cut_passed (suc n) [] within none = absurd (omega (arith, within))
 cut_passed (suc n) (byte ∷ bytes) within none =

@@ -13,16 +13,16 @@ use Rattle.sd_engine.specs.declared.fault.BreakCause.{BreakCause}
 use Rattle.sd_engine.specs.declared.fault.BreakCause.TheVariants.{Torn, NoSync}
 use Rattle.sd_engine.specs.Stream.{ArePackets, pieces, packets_of, break_after}
 use Rattle.sd_engine.specs.Stage.{SinkState, HasGrown, IsCutShort, IsAllowed, Chain}
-use Rattle.sd_engine.specs.Feeding.{ReadsMore, GivesPacket, GivesNone, TakesPacket, IsBroken, FeedStop}
+use Rattle.sd_engine.specs.Feeding.{ReadsMore, GivesPacket, GivesNone, IsWaitingPacket, IsBrokenStream, FeedStop}
 use Rattle.sd_engine.specs.declared.feed.FeedFault.{FeedFault}
 use Rattle.sd_engine.specs.declared.feed.FeedFault.TheVariants.{Read, Write, Break}
-use Rattle.sd_engine.specs.Driving.{DriveState, moment, IsUnderWay, IsWhole, ChainToEnd, PassesPackets, IsStopped}
+use Rattle.sd_engine.specs.Driving.{DriveState, drive_state_of, IsUnderWay, IsWhole, ChainToEnd, PassesPackets, IsStopped}
 use Rattle.sd_engine.specs.Driving.{IsHeldUp, IsStreamBroken}
 use Rattle.sd_engine.specs.declared.stage.StageFault.{StageFault}
 use Rattle.sd_engine.specs.declared.stage.StageFault.TheVariants.{Write as StageWrite, Refused as StageRefused}
 use Rattle.sd_engine.specs.declared.driver.DriveFault.{DriveFault}
 use Rattle.sd_engine.specs.declared.driver.DriveFault.TheVariants.{Broken, TooLong, ReadFault, WriteFault, Refused}
-use Rattle.sd_engine.specs.Driving.{DriveOutcome, IsClosed, stopped_by, broken_by, overrun_by, IsRefused}
+use Rattle.sd_engine.specs.Driving.{DriveOutcome, IsStageEnd, stopped_by, broken_by, overrun_by, IsRefused}
 use Rattle.sd_engine.specs.Driving.{ChainToRefusal, IsCutOff}
 use Rattle.sd_engine.specs.Driving.{IsAllowedAt, IsTooLong, most_packets}
 use Rattle.sd_engine.proofs.Walking.{all_counted, all_taken, none_broken, torn_here, no_sync_here}
@@ -52,9 +52,9 @@ reads_on a b c taken old new before reads =
 pub one_more : {S : Type 0} (does : S → List ℕ → S → List ℕ → ℕ → Type 0) (a : DriveState S)
     (left left' : Option (List ℕ)) (sink sink' : SinkState) (stage stage' : S) (steps steps' count : ℕ)
     (old new packet : List ℕ)
-    → IsUnderWay does a (moment left sink stage steps) count old → GivesPacket left left' old new packet
+    → IsUnderWay does a (drive_state_of left sink stage steps) count old → GivesPacket left left' old new packet
     → HasGrown sink sink' steps steps' (does stage packet stage')
-    → IsUnderWay does a (moment left' sink' stage' steps') (count + 1) new
+    → IsUnderWay does a (drive_state_of left' sink' stage' steps') (count + 1) new
 one_more does a left left' sink sink' stage stage' steps steps' count old new packet way gives grew =
     let more : count + 1 ≡ suc count = omega arith in
     record {
@@ -76,9 +76,9 @@ pub all_driven : {S : Type 0} (does : S → List ℕ → S → List ℕ → ℕ 
     (a : DriveState S)
     (left left' : Option (List ℕ)) (sink sink' : SinkState) (stage stage' : S) (steps steps' count : ℕ)
     (old new : List ℕ)
-    → IsUnderWay does a (moment left sink stage steps) count old → GivesNone left left' old new
+    → IsUnderWay does a (drive_state_of left sink stage steps) count old → GivesNone left left' old new
     → HasGrown sink sink' steps steps' (ends stage stage') → count ≤ most_packets
-    → IsWhole does ends a (moment left' sink' stage' steps') count
+    → IsWhole does ends a (drive_state_of left' sink' stage' steps') count
 all_driven does ends a left left' sink sink' stage stage' steps steps' count old new way gives grew few =
     let whole = all_taken count way.taken way.packets in
     record {
@@ -116,8 +116,8 @@ prefix_of count taken rest are =
 -- so many packets went through, and then some bytes were lost, or none
 some_went : {S : Type 0} (does : S → List ℕ → S → List ℕ → ℕ → Type 0) (a : DriveState S)
     (left left' : Option (List ℕ)) (sink : SinkState) (stage : S) (steps count : ℕ) (old : List ℕ)
-    → IsUnderWay does a (moment left sink stage steps) count old → LosesPrefix left left' → count ≤ most_packets
-    → IsStopped does a (moment left' sink stage steps) count
+    → IsUnderWay does a (drive_state_of left sink stage steps) count old → LosesPrefix left left' → count ≤ most_packets
+    → IsStopped does a (drive_state_of left' sink stage steps) count
 some_went does a left left' sink stage steps count old way lost few =
     let prefix = prefix_of count way.taken (old ++ lost.0) way.packets in
     record {
@@ -126,7 +126,7 @@ some_went does a left left' sink stage steps count old way lost few =
           (record { bytes = lost.0; consumed = lost.1; joined = refl });
       enough = prefix.1;
       few = few;
-      passed = subst (λ (ps : List (List ℕ)). PassesPackets does a ps (moment left' sink stage steps)) (sym prefix.0)
+      passed = subst (λ (ps : List (List ℕ)). PassesPackets does a ps (drive_state_of left' sink stage steps)) (sym prefix.0)
           way.passed;
     }
 
@@ -139,8 +139,8 @@ untold_before (Some held) now bytes taken none =
 -- what waited in the sink could not be handed on
 write_failed : {S : Type 0} (does : S → List ℕ → S → List ℕ → ℕ → Type 0) (a : DriveState S)
     (left left' : Option (List ℕ)) (sink : SinkState) (stage : S) (steps count : ℕ) (old : List ℕ)
-    → IsUnderWay does a (moment left sink stage steps) count old → left' ≡ left → sink.held ≡ None →
-    count ≤ most_packets → IsHeldUp does a (moment left' sink stage steps)
+    → IsUnderWay does a (drive_state_of left sink stage steps) count old → left' ≡ left → sink.held ≡ None →
+    count ≤ most_packets → IsHeldUp does a (drive_state_of left' sink stage steps)
 write_failed does a left left' sink stage steps count old way same none few = record {
   count = count;
   untold = untold_before a.sink.held sink.held way.passed.bytes way.passed.taken none;
@@ -151,25 +151,25 @@ write_failed does a left left' sink stage steps count old way same none few = re
 -- the sink handed on what waited, which changes nothing that it tells
 pub handed_on : {S : Type 0} (does : S → List ℕ → S → List ℕ → ℕ → Type 0) (a : DriveState S)
     (left : Option (List ℕ)) (sink sink' : SinkState) (stage : S) (steps count : ℕ) (old : List ℕ)
-    → IsUnderWay does a (moment left sink stage steps) count old → sink' ≡ sink →
-    IsUnderWay does a (moment left sink' stage steps) count old
+    → IsUnderWay does a (drive_state_of left sink stage steps) count old → sink' ≡ sink →
+    IsUnderWay does a (drive_state_of left sink' stage steps) count old
 handed_on does a left sink sink' stage steps count old way same =
-    subst (λ (s : SinkState). IsUnderWay does a (moment left s stage steps) count old) (sym same) way
+    subst (λ (s : SinkState). IsUnderWay does a (drive_state_of left s stage steps) count old) (sym same) way
 
 -- and a sink that didn't tell what it held before doesn't tell it then
 pub still_untold : (sink sink' : SinkState) → sink' ≡ sink → sink.held ≡ None → sink'.held ≡ None
 still_untold sink sink' same none = ap (λ (s : SinkState). s.held) same ∙ none
 
 -- what is left is no packet
-break_here : (count : ℕ) (rest : List ℕ) (cause : BreakCause) → TakesPacket rest (Err cause) →
+break_here : (count : ℕ) (rest : List ℕ) (cause : BreakCause) → IsWaitingPacket rest (Err cause) →
     (packets_of rest ≡ []) × (break_after count rest ≡ Some (record { packet = count; cause = cause }))
 break_here count rest Torn takes = torn_here rest count takes.0 takes.1
 break_here count rest NoSync takes = no_sync_here rest count takes.0 takes.1
 
 pub stream_broken : {S : Type 0} (does : S → List ℕ → S → List ℕ → ℕ → Type 0) (a : DriveState S)
     (left left' : Option (List ℕ)) (sink : SinkState) (stage : S) (steps count : ℕ) (old : List ℕ) (cause : BreakCause)
-    → IsUnderWay does a (moment left sink stage steps) count old → IsBroken left left' old cause → count < most_packets
-    → IsStreamBroken does a (moment left' sink stage steps) (record { packet = count; cause = cause })
+    → IsUnderWay does a (drive_state_of left sink stage steps) count old → IsBrokenStream left left' old cause → count < most_packets
+    → IsStreamBroken does a (drive_state_of left' sink stage steps) (record { packet = count; cause = cause })
 stream_broken does a left left' sink stage steps count old cause way found few =
     let here = break_here count found.left cause found.broken in
     let all : packets_of (way.taken ++ found.left) ≡ pieces count way.taken =
@@ -184,7 +184,7 @@ stream_broken does a left left' sink stage steps count old cause way found few =
       counted = sym (ap (λ (ps : List (List ℕ)). length ps) all ∙ all_counted count way.taken);
       few = few;
       passed = subst (λ (ps : List (List ℕ)).
-          PassesPackets does a ps (moment left' sink stage steps)) (sym all) way.passed;
+          PassesPackets does a ps (drive_state_of left' sink stage steps)) (sym all) way.passed;
     }
 
 -- a packet by itself
@@ -232,9 +232,9 @@ pub packet_refused : {S F : Type 0} (does : S → List ℕ → S → List ℕ �
     (refuses : S → Option (List ℕ) → F → S → List ℕ → ℕ → Type 0) (a : DriveState S)
     (left left' : Option (List ℕ)) (sink sink' : SinkState) (stage stage' : S) (steps steps' count : ℕ)
     (old new packet : List ℕ) (fault : F)
-    → IsUnderWay does a (moment left sink stage steps) count old → GivesPacket left left' old new packet
+    → IsUnderWay does a (drive_state_of left sink stage steps) count old → GivesPacket left left' old new packet
     → HasGrown sink sink' steps steps' (refuses stage (Some packet) fault stage') → count < most_packets
-    → IsRefused does refuses a (moment left' sink' stage' steps') fault
+    → IsRefused does refuses a (drive_state_of left' sink' stage' steps') fault
 packet_refused does refuses a left left' sink sink' stage stage' steps steps' count old new packet fault way gives grew
     few =
     let here = packet_at count way.taken packet new way.packets gives.long gives.sync in
@@ -282,9 +282,9 @@ pub end_refused : {S F : Type 0} (does : S → List ℕ → S → List ℕ → �
     (refuses : S → Option (List ℕ) → F → S → List ℕ → ℕ → Type 0) (a : DriveState S)
     (left left' : Option (List ℕ)) (sink sink' : SinkState) (stage stage' : S) (steps steps' count : ℕ)
     (old new : List ℕ) (fault : F)
-    → IsUnderWay does a (moment left sink stage steps) count old → GivesNone left left' old new
+    → IsUnderWay does a (drive_state_of left sink stage steps) count old → GivesNone left left' old new
     → HasGrown sink sink' steps steps' (refuses stage None fault stage') → count ≤ most_packets
-    → IsRefused does refuses a (moment left' sink' stage' steps') fault
+    → IsRefused does refuses a (drive_state_of left' sink' stage' steps') fault
 end_refused does refuses a left left' sink sink' stage stage' steps steps' count old new fault way gives grew few =
     let all = all_of count way.taken way.packets in
     record {
@@ -316,10 +316,10 @@ pub packet_cut : {S F : Type 0} (does : S → List ℕ → S → List ℕ → �
     (refuses : S → Option (List ℕ) → F → S → List ℕ → ℕ → Type 0) (a : DriveState S)
     (left left' : Option (List ℕ)) (sink sink' : SinkState) (stage stage' : S) (steps steps' count : ℕ)
     (old new packet : List ℕ)
-    → IsUnderWay does a (moment left sink stage steps) count old → GivesPacket left left' old new packet
+    → IsUnderWay does a (drive_state_of left sink stage steps) count old → GivesPacket left left' old new packet
     → IsCutShort sink sink' (IsAllowed (does stage packet) (refuses stage (Some packet)) steps steps') →
     count < most_packets
-    → IsCutOff does ends refuses a (moment left' sink' stage' steps')
+    → IsCutOff does ends refuses a (drive_state_of left' sink' stage' steps')
 packet_cut does ends refuses a left left' sink sink' stage stage' steps steps' count old new packet way gives cut few =
     let here = packet_at count way.taken packet new way.packets gives.long gives.sync in
     let prefix = prefix_of count way.taken (packet ++ new) way.packets in
@@ -334,8 +334,8 @@ packet_cut does ends refuses a left left' sink sink' stage stage' steps steps' c
         end = λ e. absurd
             (omega (arith, e, here.1));
       };
-      mid = moment left sink stage steps;
-      passed = subst (λ (ps : List (List ℕ)). PassesPackets does a ps (moment left sink stage steps)) (sym prefix.0)
+      mid = drive_state_of left sink stage steps;
+      passed = subst (λ (ps : List (List ℕ)). PassesPackets does a ps (drive_state_of left sink stage steps)) (sym prefix.0)
           way.passed;
       cut = subst (λ (p : Option (List ℕ)). IsCutShort sink sink' (IsAllowedAt does ends refuses stage p steps steps'))
           (sym here.0) cut;
@@ -346,9 +346,9 @@ pub end_cut : {S F : Type 0} (does : S → List ℕ → S → List ℕ → ℕ �
     (refuses : S → Option (List ℕ) → F → S → List ℕ → ℕ → Type 0) (a : DriveState S)
     (left left' : Option (List ℕ)) (sink sink' : SinkState) (stage stage' : S) (steps steps' count : ℕ)
     (old new : List ℕ)
-    → IsUnderWay does a (moment left sink stage steps) count old → GivesNone left left' old new
+    → IsUnderWay does a (drive_state_of left sink stage steps) count old → GivesNone left left' old new
     → IsCutShort sink sink' (IsAllowed (ends stage) (refuses stage None) steps steps') → count ≤ most_packets
-    → IsCutOff does ends refuses a (moment left' sink' stage' steps')
+    → IsCutOff does ends refuses a (drive_state_of left' sink' stage' steps')
 end_cut does ends refuses a left left' sink sink' stage stage' steps steps' count old new way gives cut few =
     let all = all_of count way.taken way.packets in
     record {
@@ -362,9 +362,9 @@ end_cut does ends refuses a left left' sink sink' stage stage' steps steps' coun
         fewer = λ h. absurd (omega (arith, h, all.2));
         end = λ e. (gives.end, none_broken count way.taken way.packets, way.packets.long);
       };
-      mid = moment left sink stage steps;
+      mid = drive_state_of left sink stage steps;
       passed = subst (λ (ps : List (List ℕ)).
-          PassesPackets does a ps (moment left sink stage steps)) (sym all.0) way.passed;
+          PassesPackets does a ps (drive_state_of left sink stage steps)) (sym all.0) way.passed;
       cut = subst (λ (p : Option (List ℕ)). IsCutShort sink sink' (IsAllowedAt does ends refuses stage p steps steps'))
           (sym all.1) cut;
     }
@@ -372,9 +372,9 @@ end_cut does ends refuses a left left' sink sink' stage stage' steps steps' coun
 -- more bytes stand after the most packets
 too_many : {S : Type 0} (does : S → List ℕ → S → List ℕ → ℕ → Type 0) (a : DriveState S)
     (left left' : Option (List ℕ)) (sink : SinkState) (stage : S) (steps : ℕ) (old more : List ℕ)
-    → IsUnderWay does a (moment left sink stage steps) most_packets old → ReadsMore left left' old more →
+    → IsUnderWay does a (drive_state_of left sink stage steps) most_packets old → ReadsMore left left' old more →
     0 < length more
-    → IsTooLong does a (moment left' sink stage steps)
+    → IsTooLong does a (drive_state_of left' sink stage steps)
 too_many does a left left' sink stage steps old more way reads some =
     let prefix = prefix_of most_packets way.taken more way.packets in
     record {
@@ -382,26 +382,26 @@ too_many does a left left' sink stage steps old more way reads some =
       read = reads_on a.left left left' way.taken old more way.read reads;
       enough = prefix.1;
       longer = omega (arith, way.packets.long, length-append way.taken more, some);
-      passed = subst (λ (ps : List (List ℕ)). PassesPackets does a ps (moment left' sink stage steps)) (sym prefix.0)
+      passed = subst (λ (ps : List (List ℕ)). PassesPackets does a ps (drive_state_of left' sink stage steps)) (sym prefix.0)
           way.passed;
     }
 
 pub packet_too_many : {S : Type 0} (does : S → List ℕ → S → List ℕ → ℕ → Type 0) (a : DriveState S)
     (left left' : Option (List ℕ)) (sink : SinkState) (stage : S) (steps : ℕ) (old new packet : List ℕ)
-    → IsUnderWay does a (moment left sink stage steps) most_packets old → GivesPacket left left' old new packet
-    → IsTooLong does a (moment left' sink stage steps)
+    → IsUnderWay does a (drive_state_of left sink stage steps) most_packets old → GivesPacket left left' old new packet
+    → IsTooLong does a (drive_state_of left' sink stage steps)
 packet_too_many does a left left' sink stage steps old new packet way gives =
     too_many does a left left' sink stage steps old (packet ++ new) way gives.read
     (omega (arith, length-append packet new, gives.long))
 
-some_left : (rest : List ℕ) (cause : BreakCause) → TakesPacket rest (Err cause) → 0 < length rest
+some_left : (rest : List ℕ) (cause : BreakCause) → IsWaitingPacket rest (Err cause) → 0 < length rest
 some_left rest Torn takes = takes.0
 some_left rest NoSync takes = omega (arith, takes.0)
 
 pub break_too_many : {S : Type 0} (does : S → List ℕ → S → List ℕ → ℕ → Type 0) (a : DriveState S)
     (left left' : Option (List ℕ)) (sink : SinkState) (stage : S) (steps : ℕ) (old : List ℕ) (cause : BreakCause)
-    → IsUnderWay does a (moment left sink stage steps) most_packets old → IsBroken left left' old cause
-    → IsTooLong does a (moment left' sink stage steps)
+    → IsUnderWay does a (drive_state_of left sink stage steps) most_packets old → IsBrokenStream left left' old cause
+    → IsTooLong does a (drive_state_of left' sink stage steps)
 break_too_many does a left left' sink stage steps old cause way found =
     too_many does a left left' sink stage steps old found.left way found.read (some_left found.left cause found.broken)
 
@@ -411,14 +411,14 @@ pub packet_stopped : {S F : Type 0} (does : S → List ℕ → S → List ℕ �
     (left left' : Option (List ℕ)) (sink sink' : SinkState) (stage stage' : S) (steps steps' count : ℕ)
     (old new packet : List ℕ)
     (result : Result (Unit {0}) (StageFault F)) (fault : StageFault F)
-    → IsUnderWay does a (moment left sink stage steps) count old → GivesPacket left left' old new packet →
+    → IsUnderWay does a (drive_state_of left sink stage steps) count old → GivesPacket left left' old new packet →
     result ≡ Err fault
     → ((f : F) → result ≡ Err (StageRefused f) →
     HasGrown sink sink' steps steps' (refuses stage (Some packet) f stage'))
     → (result ≡ Err StageWrite →
     IsCutShort sink sink' (IsAllowed (does stage packet) (refuses stage (Some packet)) steps steps')) →
     count < most_packets
-    → DriveOutcome does ends refuses a (moment left' sink' stage' steps') (Err (stopped_by fault))
+    → DriveOutcome does ends refuses a (drive_state_of left' sink' stage' steps') (Err (stopped_by fault))
 packet_stopped does ends refuses a left left' sink sink' stage stage' steps steps' count old new packet result
     StageWrite way gives is
     refused cut few =
@@ -435,12 +435,12 @@ pub all_closed : {S F : Type 0} (does : S → List ℕ → S → List ℕ → �
     (refuses : S → Option (List ℕ) → F → S → List ℕ → ℕ → Type 0) (a : DriveState S)
     (left left' : Option (List ℕ)) (sink sink' : SinkState) (stage stage' : S) (steps steps' count : ℕ)
     (old new : List ℕ) (result : Result ℕ (DriveFault F))
-    → IsUnderWay does a (moment left sink stage steps) count old → GivesNone left left' old new
-    → IsClosed ends refuses sink sink' stage stage' steps steps' count result → count ≤ most_packets
-    → DriveOutcome does ends refuses a (moment left' sink' stage' steps') result
+    → IsUnderWay does a (drive_state_of left sink stage steps) count old → GivesNone left left' old new
+    → IsStageEnd ends refuses sink sink' stage stage' steps steps' count result → count ≤ most_packets
+    → DriveOutcome does ends refuses a (drive_state_of left' sink' stage' steps') result
 all_closed does ends refuses a left left' sink sink' stage stage' steps steps' count old new (Ok n) way gives closed
     few =
-    subst (λ (k : ℕ). IsWhole does ends a (moment left' sink' stage' steps') k) (sym closed.0)
+    subst (λ (k : ℕ). IsWhole does ends a (drive_state_of left' sink' stage' steps') k) (sym closed.0)
     (all_driven does ends a left left' sink sink' stage stage' steps steps' count old new way gives closed.1 few)
 all_closed does ends refuses a left left' sink sink' stage stage' steps steps' count old new (Err (Broken found)) way
     gives closed few =
@@ -463,9 +463,9 @@ all_closed does ends refuses a left left' sink sink' stage stage' steps steps' c
 pub not_fed : {S F : Type 0} (does : S → List ℕ → S → List ℕ → ℕ → Type 0) (ends : S → S → List ℕ → ℕ → Type 0)
     (refuses : S → Option (List ℕ) → F → S → List ℕ → ℕ → Type 0) (a : DriveState S)
     (left left' : Option (List ℕ)) (sink : SinkState) (stage : S) (steps count : ℕ) (old : List ℕ) (fault : FeedFault)
-    → IsUnderWay does a (moment left sink stage steps) count old → FeedStop left left' old fault →
+    → IsUnderWay does a (drive_state_of left sink stage steps) count old → FeedStop left left' old fault →
     (fault ≡ Write → sink.held ≡ None) → count < most_packets
-    → DriveOutcome does ends refuses a (moment left' sink stage steps) (Err (broken_by count fault))
+    → DriveOutcome does ends refuses a (drive_state_of left' sink stage steps) (Err (broken_by count fault))
 not_fed does ends refuses a left left' sink stage steps count old Read way stops told few =
     (count, some_went does a left left' sink stage steps count old way stops (omega (arith, few)))
 not_fed does ends refuses a left left' sink stage steps count old Write way stops told few =
@@ -477,9 +477,9 @@ not_fed does ends refuses a left left' sink stage steps count old (Break cause) 
 pub not_ended : {S F : Type 0} (does : S → List ℕ → S → List ℕ → ℕ → Type 0) (ends : S → S → List ℕ → ℕ → Type 0)
     (refuses : S → Option (List ℕ) → F → S → List ℕ → ℕ → Type 0) (a : DriveState S)
     (left left' : Option (List ℕ)) (sink : SinkState) (stage : S) (steps : ℕ) (old : List ℕ) (fault : FeedFault)
-    → IsUnderWay does a (moment left sink stage steps) most_packets old → FeedStop left left' old fault →
+    → IsUnderWay does a (drive_state_of left sink stage steps) most_packets old → FeedStop left left' old fault →
     (fault ≡ Write → sink.held ≡ None)
-    → DriveOutcome does ends refuses a (moment left' sink stage steps) (Err (overrun_by fault))
+    → DriveOutcome does ends refuses a (drive_state_of left' sink stage steps) (Err (overrun_by fault))
 not_ended does ends refuses a left left' sink stage steps old Read way stops told =
     (most_packets, some_went does a left left' sink stage steps most_packets old way stops (omega arith))
 not_ended does ends refuses a left left' sink stage steps old Write way stops told =

@@ -13,7 +13,7 @@ use Rattle.std.specs.Io.KnownBytes.{IsAtEnd, ReadConsumes}
 use Rattle.std.proofs.KnownBytes.{Consumes-nil, Consumes-trans}
 use Rattle.std.specs.Prelude.{Ok, Err}
 use Rattle.sd_ports.specs.Bytes.{LosesPrefix}
-use Rattle.sd_engine.specs.Feeding.{waiting, ReadsMore, HasFilled, TakesPacket, GivesPacket, GivesNone}
+use Rattle.sd_engine.specs.Feeding.{waiting, ReadsMore, HasFilled, IsWaitingPacket, GivesPacket, GivesNone}
 
 -- no byte was read, and the same wait
 pub nothing_read : (a : Option (List ℕ)) (old new : List ℕ) → new ≡ old → ReadsMore a a old new
@@ -93,7 +93,7 @@ end_waits least a b c old mid piece filled more none before read end = record {
 
 -- the first packet of what waits, and what waits after it
 pub packet_given : (a b : Option (List ℕ)) (old piece packet : List ℕ) (at filled : ℕ) →
-    HasFilled 188 a b old (waiting piece at filled) → filled ≤ length piece → TakesPacket (waiting piece at filled)
+    HasFilled 188 a b old (waiting piece at filled) → filled ≤ length piece → IsWaitingPacket (waiting piece at filled)
     (Ok (Some packet)) →
     GivesPacket a b old (waiting piece (at + 188) filled) packet
 packet_given a b old piece packet at filled fills within takes =

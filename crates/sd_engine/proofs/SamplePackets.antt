@@ -2,16 +2,16 @@
 use Rattle.std.proofs.Common.{ℕ, ◌%◌, ◌<◌, ◌≤◌, ◌≡◌, ◌≢◌, List, ◌++◌, take, refl, ap, ◌∙◌, arith}
 use Rattle.std.specs.Prelude.{slice_set, replicate}
 use Rattle.std.proofs.lemmas.Bool.Decides.{nat_tests}
-use Rattle.sd_packet.specs.Packing.{packed}
+use Rattle.sd_packet.specs.Packing.{section_packet}
 use Rattle.sd_engine.specs.Sample.{pat_section, pmt_section, state_at, generated, pid_at, counter_at, generated_in}
 use Rattle.sd_engine.specs.Sample.{header_at, adaptation_field, sample_packet_at}
 
 -- a packet, by its place in the round
-pub pat_packet : (k x : ℕ) → k % 100 ≡ 0 → sample_packet_at k x ≡ packed pat_section (pid_at k) (counter_at k)
+pub pat_packet : (k x : ℕ) → k % 100 ≡ 0 → sample_packet_at k x ≡ section_packet pat_section (pid_at k) (counter_at k)
 unfolding sample_packet_at
 pat_packet k x h = rw h refl
 
-pub pmt_packet : (k x : ℕ) → k % 100 ≡ 1 → sample_packet_at k x ≡ packed pmt_section (pid_at k) (counter_at k)
+pub pmt_packet : (k x : ℕ) → k % 100 ≡ 1 → sample_packet_at k x ≡ section_packet pmt_section (pid_at k) (counter_at k)
 unfolding sample_packet_at
 pmt_packet k x h = rw h refl
 

@@ -7,7 +7,7 @@ use Rattle.std.specs.Io.KnownBytes.{Consumes}
 use Rattle.std.proofs.KnownBytes.{Consumes-nil, Consumes-trans}
 use Rattle.std.proofs.lemmas.Bool.{cases_eq, false≢true}
 use Rattle.std.proofs.lemmas.List.{drop-append-le, take-append-le, get_or-drop, get_or_append_left}
-use Rattle.sd_engine.specs.Cut.{begins_packet, cut, skipped_before}
+use Rattle.sd_engine.specs.Cut.{begins_packet, cut_packets, skipped_before}
 use Rattle.sd_engine.specs.Seeking.{MayCome, CutsOff, CutsNone, ReadsOn, SeekOutcome, SkipsTooMany, SeekStop}
 use Rattle.sd_engine.specs.Seeking.{HasFilledAhead, IsEnough, IsFound, IsNextSync, IsSearching, Skips}
 use Rattle.sd_engine.specs.Seeking.{TakesFirst, FillAheadStop}
@@ -58,8 +58,8 @@ skips_reading b c bytes left more ended now passed skips reads =
     rw (reads.nothing e) (h (reads.still e)) in
     record {
       cuts = λ xs h.
-          ap cut (append_assoc bytes more xs) ∙ skips.cuts (more ++ xs) (may xs h)
-          ∙ ap cut (sym (append_assoc left more xs));
+          ap cut_packets (append_assoc bytes more xs) ∙ skips.cuts (more ++ xs) (may xs h)
+          ∙ ap cut_packets (sym (append_assoc left more xs));
       skipped = λ xs h k.
           ap (λ (ys : List ℕ). skipped_before k zero ys) (append_assoc bytes more xs)
           ∙ skips.skipped (more ++ xs) (may xs h) k
@@ -85,7 +85,7 @@ skips_next left ended count enough none next =
           ∙ sym (get_or-drop i (left ++ more) 0 0) ∙ sync))
     ] in
     record {
-      cuts = λ more may. cut_passed count (left ++ more) (within more) (others more may) ∙ ap cut (rest more);
+      cuts = λ more may. cut_passed count (left ++ more) (within more) (others more may) ∙ ap cut_packets (rest more);
       skipped = λ more may k.
           skipped_passed k count (left ++ more) (within more) (others more may)
           ∙ ap (λ (xs : List ℕ). count + skipped_before k zero xs) (rest more);
@@ -113,8 +113,8 @@ skips_found bytes left ended passed skips enough begins =
     record {
       first = λ more may.
           skips.cuts more may ∙ cut_packet (left ++ more) (here more may)
-          ∙ ap (λ (p : List ℕ). p ∷ cut (drop 188 (left ++ more))) (take-append-le 188 left more long)
-          ∙ ap (λ (xs : List ℕ). take 188 left ∷ cut xs) (rest more);
+          ∙ ap (λ (p : List ℕ). p ∷ cut_packets (drop 188 (left ++ more))) (take-append-le 188 left more long)
+          ∙ ap (λ (xs : List ℕ). take 188 left ∷ cut_packets xs) (rest more);
       before = λ more may.
           skips.skipped more may zero ∙ ap (λ (n : ℕ). passed + n) (skipped_none (left ++ more) (here more may))
           ∙ omega arith;
@@ -132,7 +132,7 @@ skips_end bytes left passed skips none =
     let here : left ++ [] ≡ [] = ap (λ (xs : List ℕ). xs ++ []) none in
     let count : passed ≡ length bytes = omega (arith, skips.long, ap (λ (xs : List ℕ). length xs) none) in
     record {
-      none = ap cut all ∙ skips.cuts [] (λ h. refl) ∙ ap cut here ∙ cut_end;
+      none = ap cut_packets all ∙ skips.cuts [] (λ h. refl) ∙ ap cut_packets here ∙ cut_end;
       passed_are = count;
       before = λ k.
           ap (skipped_before k zero) all ∙ skips.skipped [] (λ h. refl) k

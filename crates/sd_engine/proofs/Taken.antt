@@ -12,7 +12,7 @@ use Rattle.sd_engine.specs.Stream.{packets_of, break_of}
 use Rattle.sd_engine.specs.Stage.{HasGrown, IsCutShort}
 use Rattle.sd_engine.specs.Driving.{DriveState, most_packets, PassesPackets, ChainToEnd, IsPlace, ChainToRefusal}
 use Rattle.sd_engine.specs.Driving.{IsAllowedAt, IsStopped, DriveOutcome}
-use Rattle.sd_engine.specs.Taken.{StreamEnd, Whole, Breaks, RunsOn, taken_of, ended_by, end_of, IsLeft, IsAt, IsOver}
+use Rattle.sd_engine.specs.Taken.{StreamEnd, Whole, Breaks, RunsOn, packets_taken, stream_end_by, end_of, AreBytesLeft, IsReachedPacket, IsOver}
 use Rattle.sd_engine.specs.declared.fault.StreamBreak.{StreamBreak}
 use Rattle.sd_engine.specs.declared.fault.BreakCause.{BreakCause}
 use Rattle.sd_engine.specs.declared.fault.BreakCause.TheVariants.{Torn, NoSync}
@@ -23,7 +23,7 @@ use Rattle.sd_engine.proofs.Longer.{first_stay, packets_stay, break_stays}
 -- bytes that come after those that were read, where all that was left is told
 record Rest (left now : Option (List ℕ)) (bytes : List ℕ) : Type 0 where
   rest : List ℕ
-  all : IsLeft left (bytes ++ rest)
+  all : AreBytesLeft left (bytes ++ rest)
   none : IsAtEnd now → rest ≡ []
 
 rest_of : (left now : Option (List ℕ)) (bytes : List ℕ) → Consumes left now bytes → Rest left now bytes
@@ -32,14 +32,14 @@ rest_of (Some xs) None bytes h = absurd h
 rest_of (Some xs) (Some ys) bytes h = record { rest = ys; all = h; none = λ e. e }
 
 -- at the end they are all
-all_read : (left now : Option (List ℕ)) (bytes : List ℕ) → Consumes left now bytes → IsAtEnd now → IsLeft left bytes
+all_read : (left now : Option (List ℕ)) (bytes : List ℕ) → Consumes left now bytes → IsAtEnd now → AreBytesLeft left bytes
 all_read left now bytes h end =
     let r = rest_of left now bytes h in
-    subst (IsLeft left) (ap (λ (xs : List ℕ). bytes ++ xs) (r.none end) ∙ append-nil bytes) r.all
+    subst (AreBytesLeft left) (ap (λ (xs : List ℕ). bytes ++ xs) (r.none end) ∙ append-nil bytes) r.all
 
 -- no more packets than the most are there, and so all are taken
-all_taken : (bytes : List ℕ) → length (packets_of bytes) ≤ most_packets → taken_of bytes ≡ packets_of bytes
-unfolding taken_of
+all_taken : (bytes : List ℕ) → length (packets_of bytes) ≤ most_packets → packets_taken bytes ≡ packets_of bytes
+unfolding packets_taken
 all_taken bytes few = take_all most_packets (packets_of bytes) few
 
 min_left : (a b : ℕ) → min a b ≤ a
@@ -56,16 +56,16 @@ abbrev late : List ℕ → StreamEnd
 late bytes = cond (nat_lt (188 * most_packets) (length bytes)) RunsOn Whole
 
 -- how a stream ends that breaks, or not, before the most packets
-ends_early : (bytes : List ℕ) → length (packets_of bytes) < most_packets → end_of bytes ≡ ended_by (break_of bytes)
+ends_early : (bytes : List ℕ) → length (packets_of bytes) < most_packets → end_of bytes ≡ stream_end_by (break_of bytes)
 unfolding end_of
 ends_early bytes few =
-    ap (λ (b : Bool). cond b (ended_by (break_of bytes)) (late bytes))
+    ap (λ (b : Bool). cond b (stream_end_by (break_of bytes)) (late bytes))
     (lt-ltb (length (packets_of bytes)) most_packets few)
 
 ends_late : (bytes : List ℕ) → most_packets ≤ length (packets_of bytes) → end_of bytes ≡ late bytes
 unfolding end_of
 ends_late bytes many =
-    ap (λ (b : Bool). cond b (ended_by (break_of bytes)) (late bytes))
+    ap (λ (b : Bool). cond b (stream_end_by (break_of bytes)) (late bytes))
     (le-ltb (length (packets_of bytes)) most_packets many)
 
 runs_on : (bytes : List ℕ) → most_packets ≤ length (packets_of bytes) → 188 * most_packets < length bytes → end_of bytes
@@ -75,35 +75,35 @@ runs_on bytes many long =
 
 pub is_whole : (bytes : List ℕ) → break_of bytes ≡ None → length bytes ≤ 188 * most_packets → end_of bytes ≡ Whole
 is_whole bytes unbroken short = elim (cases_lt (length (packets_of bytes)) most_packets) [
-  | inl few ↦ ends_early bytes few ∙ ap ended_by unbroken
+  | inl few ↦ ends_early bytes few ∙ ap stream_end_by unbroken
   | inr many ↦
       ends_late bytes many ∙ ap (λ (b : Bool). cond b RunsOn Whole) (le-ltb (188 * most_packets) (length bytes) short)
 ]
 
 -- the first packets that are taken are those of what was read
 first_taken : (k : ℕ) (bytes more : List ℕ) → k ≤ length (packets_of bytes) → k ≤ most_packets →
-    take k (taken_of (bytes ++ more)) ≡ take k (packets_of bytes)
-unfolding taken_of
+    take k (packets_taken (bytes ++ more)) ≡ take k (packets_of bytes)
+unfolding packets_taken
 first_taken k bytes more some few =
     take-take k most_packets (packets_of (bytes ++ more)) few ∙ first_stay k bytes more some
 
 -- and there are as many at least
 as_many : (k : ℕ) (bytes more : List ℕ) → k ≤ length (packets_of bytes) → k ≤ most_packets →
-    k ≤ length (taken_of (bytes ++ more))
+    k ≤ length (packets_taken (bytes ++ more))
 as_many k bytes more some few =
     omega (
       arith,
       some,
       ap (λ (ps : List (List ℕ)). length ps) (first_taken k bytes more some few),
-      length-take k (taken_of (bytes ++ more)),
+      length-take k (packets_taken (bytes ++ more)),
       length-take k (packets_of bytes),
     )
 
 -- a packet of what was read is one that is taken
 same_packet : (k : ℕ) (bytes more : List ℕ) → k < length (packets_of bytes) → k < most_packets →
-    slice_get (taken_of (bytes ++ more)) k ≡ slice_get (packets_of bytes) k
+    slice_get (packets_taken (bytes ++ more)) k ≡ slice_get (packets_of bytes) k
 same_packet k bytes more some few =
-    let taken = taken_of (bytes ++ more) in
+    let taken = packets_taken (bytes ++ more) in
     let inside : k < length taken = omega (arith, as_many (k + 1) bytes more (omega (arith, some)) (omega (arith, few)))
     in
     slice_get-get_or taken k [] inside
@@ -116,9 +116,9 @@ same_packet k bytes more some few =
 
 -- a place in what was read is one in the stream
 record IsSamePlace (bytes all : List ℕ) (count : ℕ) : Type 0 where
-  at : IsAt all count
-  first : take count (taken_of all) ≡ take count (packets_of bytes)
-  here : slice_get (taken_of all) count ≡ slice_get (packets_of bytes) count
+  at : IsReachedPacket all count
+  first : take count (packets_taken all) ≡ take count (packets_of bytes)
+  here : slice_get (packets_taken all) count ≡ slice_get (packets_of bytes) count
 
 at_packet : (bytes more : List ℕ) (count : ℕ) → count < length (packets_of bytes) → count < most_packets →
     IsSamePlace bytes (bytes ++ more) count
@@ -147,7 +147,7 @@ at_end bytes count all few unbroken long =
 -- the bytes of the stream in which a place of what was read stands
 record Placed (before : Option (List ℕ)) (bytes : List ℕ) (count : ℕ) : Type 0 where
   all : List ℕ
-  left : IsLeft before all
+  left : AreBytesLeft before all
   same : IsSamePlace bytes all count
 
 placed : (left now : Option (List ℕ)) (bytes : List ℕ) (count : ℕ) → Consumes left now bytes → IsPlace now bytes count →
@@ -169,15 +169,15 @@ placed left now bytes count read place = elim (cases_lt count (length (packets_o
 -- the bytes of a stream that breaks
 record Broke (before : Option (List ℕ)) (bytes : List ℕ) (found : StreamBreak) : Type 0 where
   all : List ℕ
-  left : IsLeft before all
+  left : AreBytesLeft before all
   end : end_of all ≡ Breaks found
-  taken : taken_of all ≡ packets_of bytes
+  taken : packets_taken all ≡ packets_of bytes
 
 breaks_at : (all bytes : List ℕ) (found : StreamBreak) → packets_of all ≡ packets_of bytes → break_of all ≡ Some found →
-    length (packets_of bytes) < most_packets → (end_of all ≡ Breaks found) × (taken_of all ≡ packets_of bytes)
+    length (packets_of bytes) < most_packets → (end_of all ≡ Breaks found) × (packets_taken all ≡ packets_of bytes)
 breaks_at all bytes found same broken few =
     let count = ap (λ (ps : List (List ℕ)). length ps) same in (
-      ends_early all (omega (arith, count, few)) ∙ ap ended_by broken,
+      ends_early all (omega (arith, count, few)) ∙ ap stream_end_by broken,
       all_taken all (omega (arith, count, few)) ∙ same,
     )
 
@@ -194,9 +194,9 @@ broke left now bytes packet NoSync read end broken few =
     record { all = bytes ++ r.rest; left = r.all; end = here.0; taken = here.1 }
 
 -- how many packets are taken
-pub least_of : (bytes : List ℕ) → (length (taken_of bytes) ≤ length (packets_of bytes))
-    × (length (taken_of bytes) ≤ most_packets)
-unfolding taken_of
+pub least_of : (bytes : List ℕ) → (length (packets_taken bytes) ≤ length (packets_of bytes))
+    × (length (packets_taken bytes) ≤ most_packets)
+unfolding packets_taken
 least_of bytes =
     let n = length-take most_packets (packets_of bytes) in (
       subst (λ (k : ℕ). k ≤ length (packets_of bytes)) (sym n) (min_right most_packets (length (packets_of bytes))),
@@ -205,14 +205,14 @@ least_of bytes =
 
 -- the most packets went through, and more bytes stand after them
 too_long : {S : Type 0} (does : S → List ℕ → S → List ℕ → ℕ → Type 0) (a b : DriveState S) (bytes more : List ℕ) →
-    take most_packets (taken_of (bytes ++ more)) ≡ take most_packets (packets_of bytes) →
-    most_packets ≤ length (taken_of (bytes ++ more)) → 188 * most_packets < length bytes →
+    take most_packets (packets_taken (bytes ++ more)) ≡ take most_packets (packets_of bytes) →
+    most_packets ≤ length (packets_taken (bytes ++ more)) → 188 * most_packets < length bytes →
     PassesPackets does a (take most_packets (packets_of bytes)) b →
-    (end_of (bytes ++ more) ≡ RunsOn) × PassesPackets does a (taken_of (bytes ++ more)) b
+    (end_of (bytes ++ more) ≡ RunsOn) × PassesPackets does a (packets_taken (bytes ++ more)) b
 too_long does a b bytes more first many longer passed =
     let all = bytes ++ more in
     let least = least_of all in
-    let same : taken_of all ≡ take most_packets (packets_of bytes) = sym (take_all most_packets (taken_of all) least.1)
+    let same : packets_taken all ≡ take most_packets (packets_of bytes) = sym (take_all most_packets (packets_taken all) least.1)
     ∙ first in (
       runs_on all (le_trans many least.0) (lt_of_lt_of_le longer (longer_by bytes more)),
       subst (λ (ps : List (List ℕ)). PassesPackets does a ps b) (sym same) passed,
@@ -222,9 +222,9 @@ too_long does a b bytes more first many longer passed =
 record SomePassed {S : Type 0} (does : S → List ℕ → S → List ℕ → ℕ → Type 0) (a b : DriveState S) (count : ℕ) : Type 0
   where
     bytes : List ℕ
-    left : IsLeft a.left bytes
-    within : count ≤ length (taken_of bytes)
-    passed : PassesPackets does a (take count (taken_of bytes)) b
+    left : AreBytesLeft a.left bytes
+    within : count ≤ length (packets_taken bytes)
+    passed : PassesPackets does a (take count (packets_taken bytes)) b
 
 some_passed : {S : Type 0} (does : S → List ℕ → S → List ℕ → ℕ → Type 0) (a b : DriveState S) (count : ℕ) →
     IsStopped does a b count → SomePassed does a b count
@@ -306,7 +306,7 @@ is_over does ends refuses a b (Err (Refused fault)) h =
         place = o.same.at;
         passed =
             subst (λ (p : Option (List ℕ)). HasGrown a.sink b.sink a.steps b.steps
-            (ChainToRefusal does refuses a.stage (take h.count (taken_of o.all)) p fault b.stage)) (sym o.same.here)
+            (ChainToRefusal does refuses a.stage (take h.count (packets_taken o.all)) p fault b.stage)) (sym o.same.here)
             (subst (λ (ps : List (List ℕ)). HasGrown a.sink b.sink a.steps b.steps
             (ChainToRefusal does refuses a.stage ps (slice_get (packets_of h.bytes) h.count) fault b.stage))
             (sym o.same.first) h.passed);
@@ -314,17 +314,17 @@ is_over does ends refuses a b (Err (Refused fault)) h =
     }
 
 -- the packets that are taken, or some first ones, can be counted
-pub few_taken : (k : ℕ) (bytes : List ℕ) → length (take k (taken_of bytes)) ≤ 2 ^ 64 - 1
-few_taken k bytes = few_of (taken_of bytes) k (least_of bytes).1
+pub few_taken : (k : ℕ) (bytes : List ℕ) → length (take k (packets_taken bytes)) ≤ 2 ^ 64 - 1
+few_taken k bytes = few_of (packets_taken bytes) k (least_of bytes).1
   where
     few_of : (packets : List (List ℕ)) (k : ℕ) → length packets ≤ most_packets → length (take k packets) ≤ 2 ^ 64 - 1
     few_of packets k few = omega (arith, few, length-take k packets)
 
-pub all_few : (bytes : List ℕ) → length (taken_of bytes) ≤ 2 ^ 64 - 1
+pub all_few : (bytes : List ℕ) → length (packets_taken bytes) ≤ 2 ^ 64 - 1
 all_few bytes = let few = (least_of bytes).1 in omega (arith, few)
 
 -- some bytes are left
-pub some_left : (left : Option (List ℕ)) → (bytes : List ℕ) × IsLeft left bytes
+pub some_left : (left : Option (List ℕ)) → (bytes : List ℕ) × AreBytesLeft left bytes
 some_left None = ([], tt)
 some_left (Some bytes) = (bytes, refl)
 

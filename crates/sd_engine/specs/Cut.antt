@@ -17,8 +17,8 @@ cut_after zero (byte ∷ bytes) =
     else cut_after zero bytes
 
 -- the packets in bytes, found by the sync byte
-abbrev pub cut : List ℕ → List (List ℕ)
-cut bytes = cut_after zero bytes
+abbrev pub cut_packets : List ℕ → List (List ℕ)
+cut_packets bytes = cut_after zero bytes
 
 -- the bytes in no packet before packet k, or before the end, if the first n are of a packet that was cut
 unfoldable pub skipped_before : ℕ → ℕ → List ℕ → ℕ
@@ -41,9 +41,9 @@ read_from bytes k (packet ∷ packets) =
 -- the packets that are read of a stream: 2^48 at most, and none behind 2^64 - 1 bytes that are in no packet [this
 -- project, docs/FORMATS.md, Streams]
 abbrev pub readable : List ℕ → List (List ℕ)
-readable bytes = read_from bytes 0 (cut bytes)
+readable bytes = read_from bytes 0 (cut_packets bytes)
 
 -- a stream has more than is read of it: more than 2^48 packets, or 2^64 - 1 bytes that are in none [this project,
 -- docs/FORMATS.md, Streams]
-unfoldable pub is_too_long : List ℕ → Bool
-is_too_long bytes = nat_lt (2 ^ 48) (length (cut bytes)) || not (skips_few bytes (length (cut bytes)))
+unfoldable pub is_stream_too_long : List ℕ → Bool
+is_stream_too_long bytes = nat_lt (2 ^ 48) (length (cut_packets bytes)) || not (skips_few bytes (length (cut_packets bytes)))

@@ -24,8 +24,8 @@ pub record DriveState (S : Type 0) : Type 0 where
   pub stage : S
   pub steps : ℕ
 
-abbrev pub moment : {S : Type 0} → Option (List ℕ) → SinkState → S → ℕ → DriveState S
-moment left sink stage steps = record { left = left; sink = sink; stage = stage; steps = steps }
+abbrev pub drive_state_of : {S : Type 0} → Option (List ℕ) → SinkState → S → ℕ → DriveState S
+drive_state_of left sink stage steps = record { left = left; sink = sink; stage = stage; steps = steps }
 
 -- the sink grew by what was written for these packets, one after the other
 abbrev pub PassesPackets : {S : Type 0} → (S → List ℕ → S → List ℕ → ℕ → Type 0) → DriveState S → List (List ℕ) →
@@ -159,16 +159,16 @@ stopped_by StageWrite = WriteFault
 stopped_by (StageRefused fault) = Refused fault
 
 -- what a stage answers at the end, after so many packets
-abbrev pub IsClosed : {S F : Type 0} → (S → S → List ℕ → ℕ → Type 0) →
+abbrev pub IsStageEnd : {S F : Type 0} → (S → S → List ℕ → ℕ → Type 0) →
     (S → Option (List ℕ) → F → S → List ℕ → ℕ → Type 0)
     → SinkState → SinkState → S → S → ℕ → ℕ → ℕ → Result ℕ (DriveFault F) → Type 0
-IsClosed ends refuses u v s t from to count (Ok n) = (n ≡ count) × HasGrown u v from to (ends s t)
-IsClosed ends refuses u v s t from to count (Err (Broken found)) = ⊥
-IsClosed ends refuses u v s t from to count (Err TooLong) = ⊥
-IsClosed ends refuses u v s t from to count (Err ReadFault) = ⊥
-IsClosed ends refuses u v s t from to count (Err WriteFault) =
+IsStageEnd ends refuses u v s t from to count (Ok n) = (n ≡ count) × HasGrown u v from to (ends s t)
+IsStageEnd ends refuses u v s t from to count (Err (Broken found)) = ⊥
+IsStageEnd ends refuses u v s t from to count (Err TooLong) = ⊥
+IsStageEnd ends refuses u v s t from to count (Err ReadFault) = ⊥
+IsStageEnd ends refuses u v s t from to count (Err WriteFault) =
     IsCutShort u v (IsAllowed (ends s) (refuses s None) from to)
-IsClosed ends refuses u v s t from to count (Err (Refused fault)) = HasGrown u v from to (refuses s None fault t)
+IsStageEnd ends refuses u v s t from to count (Err (Refused fault)) = HasGrown u v from to (refuses s None fault t)
 
 -- why no packet comes after so many
 abbrev pub broken_by : {F : Type 0} → ℕ → FeedFault → DriveFault F

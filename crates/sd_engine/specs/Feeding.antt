@@ -25,12 +25,12 @@ pub record HasFilled (least : ℕ) (before now : Option (List ℕ)) (old new : L
   pub enough : (least ≤ length new) ⊎ IsAtEnd now
 
 -- what waits: a packet first, nothing, or bytes that are no packet [ISO/IEC 13818-1, 2.4.3.2]
-abbrev pub TakesPacket : List ℕ → Result (Option (List ℕ)) BreakCause → Type 0
-TakesPacket waiting (Ok (Some packet)) =
+abbrev pub IsWaitingPacket : List ℕ → Result (Option (List ℕ)) BreakCause → Type 0
+IsWaitingPacket waiting (Ok (Some packet)) =
     (take 188 waiting ≡ packet) × (188 ≤ length waiting) × (slice_index waiting 0 ≡ 0x47)
-TakesPacket waiting (Ok None) = waiting ≡ []
-TakesPacket waiting (Err Torn) = (0 < length waiting) × (length waiting < 188)
-TakesPacket waiting (Err NoSync) = (188 ≤ length waiting) × (slice_index waiting 0 ≢ 0x47)
+IsWaitingPacket waiting (Ok None) = waiting ≡ []
+IsWaitingPacket waiting (Err Torn) = (0 < length waiting) × (length waiting < 188)
+IsWaitingPacket waiting (Err NoSync) = (188 ≤ length waiting) × (slice_index waiting 0 ≢ 0x47)
 
 -- a packet came [ISO/IEC 13818-1, 2.4.3.2]
 pub record GivesPacket (before now : Option (List ℕ)) (old new packet : List ℕ) : Type 0 where
@@ -50,10 +50,10 @@ FeedOutcome before now old new (Some packet) = GivesPacket before now old new pa
 FeedOutcome before now old new None = GivesNone before now old new
 
 -- the bytes that wait once some were read are no packet, for this cause
-pub record IsBroken (before now : Option (List ℕ)) (old : List ℕ) (cause : BreakCause) : Type 0 where
+pub record IsBrokenStream (before now : Option (List ℕ)) (old : List ℕ) (cause : BreakCause) : Type 0 where
   pub left : List ℕ
   pub read : ReadsMore before now old left
-  pub broken : TakesPacket left (Err cause)
+  pub broken : IsWaitingPacket left (Err cause)
   pub end : cause ≡ Torn → IsAtEnd now
 
 -- why not as many bytes wait: a read failed, or a write before it, and then nothing was read
@@ -66,4 +66,4 @@ FillStop before now (Break cause) = ⊥
 abbrev pub FeedStop : Option (List ℕ) → Option (List ℕ) → List ℕ → FeedFault → Type 0
 FeedStop before now old Read = LosesPrefix before now
 FeedStop before now old Write = now ≡ before
-FeedStop before now old (Break cause) = IsBroken before now old cause
+FeedStop before now old (Break cause) = IsBrokenStream before now old cause

@@ -3,7 +3,7 @@
 use Rattle.std.specs.Prelude.{ℕ, zero, suc, ◌+◌, ◌*◌, ◌/◌, ◌%◌, ◌^◌, ◌==◌, List, [], ◌∷◌, ◌++◌, map, replicate, nat_lt}
 use Rattle.std.specs.Prelude.{if◌then◌else◌}
 use Rattle.std.specs.List.{range_with_len, flat_map, sum_by, count_by}
-use Rattle.sd_packet.specs.Packing.{packed}
+use Rattle.sd_packet.specs.Packing.{section_packet}
 
 -- the PAT: program 1 has its PMT on PID 0x1000 [ISO/IEC 13818-1, 2.4.4.3]
 abbrev pub pat_section : List ℕ
@@ -64,8 +64,8 @@ adaptation_field = 7 ∷ 0 ∷ replicate 6 0xFF
 -- packet k, by the generator's state before it [this project, docs/FORMATS.md, Sample]
 unfoldable pub sample_packet_at : ℕ → ℕ → List ℕ
 sample_packet_at k x =
-    if k % 100 == 0 then packed pat_section (pid_at k) (counter_at k)
-    else if k % 100 == 1 then packed pmt_section (pid_at k) (counter_at k)
+    if k % 100 == 0 then section_packet pat_section (pid_at k) (counter_at k)
+    else if k % 100 == 1 then section_packet pmt_section (pid_at k) (counter_at k)
     else if k % 100 == 2 then header_at k 1 ++ replicate 184 0xFF
     else if k % 10 == 9 then header_at k 3 ++ (adaptation_field ++ generated x 176)
     else header_at k 1 ++ generated x 184

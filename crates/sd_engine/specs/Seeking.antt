@@ -3,7 +3,7 @@ use Rattle.std.specs.Prelude.{◌≡◌, ℕ, zero, suc, ◌+◌, ◌-◌, ◌^�
 use Rattle.std.specs.Prelude.{◌⊎◌, ◌≢◌, take, slice_index, Option, Some, None}
 use Rattle.std.specs.Io.KnownBytes.{Consumes, IsAtEnd}
 use Rattle.sd_ports.specs.Bytes.{LosesPrefix}
-use Rattle.sd_engine.specs.Cut.{begins_packet, cut, skipped_before}
+use Rattle.sd_engine.specs.Cut.{begins_packet, cut_packets, skipped_before}
 use Rattle.sd_engine.specs.declared.seeking.SeekFault.{SeekFault}
 use Rattle.sd_engine.specs.declared.seeking.SeekFault.TheVariants.{Read, Write, TooLong}
 
@@ -14,7 +14,7 @@ MayCome ended more = ended ≡ true → more ≡ []
 -- these bytes are cut into this packet first and then into what is left of them, whatever comes, and so many bytes
 -- before it are in no packet
 pub record CutsOff (bytes packet left : List ℕ) (ended : Bool) (passed : ℕ) : Type 0 where
-  pub first : (more : List ℕ) → MayCome ended more → cut (bytes ++ more) ≡ packet ∷ cut (left ++ more)
+  pub first : (more : List ℕ) → MayCome ended more → cut_packets (bytes ++ more) ≡ packet ∷ cut_packets (left ++ more)
   pub before : (more : List ℕ) → MayCome ended more → skipped_before zero zero (bytes ++ more) ≡ passed
   pub behind : (more : List ℕ) → MayCome ended more → (k : ℕ) →
       skipped_before (suc k) zero (bytes ++ more) ≡ passed + skipped_before k zero (left ++ more)
@@ -22,7 +22,7 @@ pub record CutsOff (bytes packet left : List ℕ) (ended : Bool) (passed : ℕ) 
 
 -- these bytes are all that comes, there is no packet in them, and they are so many
 pub record CutsNone (bytes : List ℕ) (passed : ℕ) : Type 0 where
-  pub none : cut bytes ≡ []
+  pub none : cut_packets bytes ≡ []
   pub passed_are : passed ≡ length bytes
   pub before : (k : ℕ) → skipped_before k zero bytes ≡ length bytes
 
@@ -70,7 +70,7 @@ IsEnough left ended = (189 ≤ length left) ⊎ (ended ≡ true)
 
 -- of these bytes so many were passed, and the rest is left, whatever comes
 pub record Skips (bytes left : List ℕ) (ended : Bool) (passed : ℕ) : Type 0 where
-  pub cuts : (more : List ℕ) → MayCome ended more → cut (bytes ++ more) ≡ cut (left ++ more)
+  pub cuts : (more : List ℕ) → MayCome ended more → cut_packets (bytes ++ more) ≡ cut_packets (left ++ more)
   pub skipped : (more : List ℕ) → MayCome ended more → (k : ℕ) →
       skipped_before k zero (bytes ++ more) ≡ passed + skipped_before k zero (left ++ more)
   pub long : length bytes ≡ passed + length left

@@ -10,8 +10,8 @@ pub record SinkState : Type 0 where
   pub held : Option (List ℕ)
   pub room : Option ℕ
 
-abbrev pub vessel : {K : Type 0} → SinkMeanings K → K → SinkState
-vessel meanings sink = record { held = meanings.held sink; room = meanings.room sink }
+abbrev pub sink_state_of : {K : Type 0} → SinkMeanings K → K → SinkState
+sink_state_of meanings sink = record { held = meanings.held sink; room = meanings.room sink }
 
 -- the sink took these bytes
 pub record TookBytes (old new : SinkState) (bytes : List ℕ) : Type 0 where

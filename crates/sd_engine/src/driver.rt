@@ -1,7 +1,7 @@
 ghost use Rattle.std.specs.Prelude.{◌≡◌, Err, IsErrOf};
 ghost use Rattle.sd_base.specs.Count.{IsCaused};
-ghost use Rattle.sd_engine.specs.Stage.{vessel};
-ghost use Rattle.sd_engine.specs.Driving.{moment, DriveOutcome, IsClosed, broken_by, overrun_by, stopped_by};
+ghost use Rattle.sd_engine.specs.Stage.{sink_state_of};
+ghost use Rattle.sd_engine.specs.Driving.{drive_state_of, DriveOutcome, IsStageEnd, broken_by, overrun_by, stopped_by};
 
 use crate::fault::StreamBreak;
 use crate::feed::{FeedFault, Span, next};
@@ -42,8 +42,8 @@ pub fn drive<S: Source, K: Sink, L: Ledger, G: Stage<K, L>>(
 ) -> Result<u64, DriveFault<G::Fault>>
     requires live { G.live stage.old }
     ensures value { DriveOutcome G.does G.ends G.refuses
-        (moment (S.left source.old) (vessel K.Sink sink.old) stage.old steps.old)
-        (moment (S.left source.new) (vessel K.Sink sink.new) stage.new steps.new) result }
+        (drive_state_of (S.left source.old) (sink_state_of K.Sink sink.old) stage.old steps.old)
+        (drive_state_of (S.left source.new) (sink_state_of K.Sink sink.new) stage.new steps.new) result }
     ensures read { IsCaused (S.faults source.old) (S.faults source.new) (IsErrOf result DriveFault.ReadFault) }
     ensures written { IsCaused (K.faults sink.old) (K.faults sink.new) (IsErrOf result DriveFault.WriteFault) }
 {
@@ -76,7 +76,7 @@ fn close<K: Sink, L: Ledger, G: Stage<K, L>>(
     count: u64,
 ) -> Result<u64, DriveFault<G::Fault>>
     requires live { G.live stage.old }
-    ensures value { IsClosed G.ends G.refuses (vessel K.Sink sink.old) (vessel K.Sink sink.new) stage.old stage.new
+    ensures value { IsStageEnd G.ends G.refuses (sink_state_of K.Sink sink.old) (sink_state_of K.Sink sink.new) stage.old stage.new
         steps.old steps.new count result }
     ensures written { IsCaused (K.faults sink.old) (K.faults sink.new) (IsErrOf result DriveFault.WriteFault) }
 {

@@ -1,8 +1,8 @@
 ghost use Rattle.std.specs.Prelude.{◌≡◌, ◌+◌, ◌-◌, ◌<◌, ◌≤◌, None, Ok, IfOk, IfErr, IsErrOf, OnErr, length};
 ghost use Rattle.std.specs.Io.KnownBytes.{IsAtEnd};
 ghost use Rattle.sd_base.specs.Count.{HasCause, IsCaused};
-ghost use Rattle.sd_engine.specs.Feeding.{waiting, ReadsMore, HasFilled, FillStop, FeedOutcome, FeedStop, TakesPacket};
-ghost use Rattle.sd_engine.specs.Stage.{vessel};
+ghost use Rattle.sd_engine.specs.Feeding.{waiting, ReadsMore, HasFilled, FillStop, FeedOutcome, FeedStop, IsWaitingPacket};
+ghost use Rattle.sd_engine.specs.Stage.{sink_state_of};
 ghost use Rattle.sd_ports.specs.Bytes.{LosesPrefix};
 
 use crate::fault::BreakCause;
@@ -33,7 +33,7 @@ pub enum FeedFault {
 pub fn take(piece: &[u8], span: Span) -> Result<Option<Packet>, BreakCause>
     requires begun { span.at ≤ span.filled }
     requires within { span.filled ≤ length piece.now }
-    ensures { TakesPacket (waiting piece.now span.at span.filled) result }
+    ensures { IsWaitingPacket (waiting piece.now span.at span.filled) result }
 {
     let rest = &piece[span.at..span.filled];
     if rest.is_empty() {
@@ -68,7 +68,7 @@ pub fn fill<S: Source, K: Sink>(
         × (sink.new ≡ sink.old) × (piece.new ≡ piece.old) }
     ensures fault { IfErr result (FillStop (S.left source.old) (S.left source.new)) }
     ensures cause { IsCaused (S.faults source.old) (S.faults source.new) (IsErrOf result FeedFault.Read) }
-    ensures same { vessel K.Sink sink.new ≡ vessel K.Sink sink.old }
+    ensures same { sink_state_of K.Sink sink.new ≡ sink_state_of K.Sink sink.old }
     ensures told { IsErrOf result FeedFault.Write → K.held sink.old ≡ None }
     ensures written { IsCaused (K.faults sink.old) (K.faults sink.new) (IsErrOf result FeedFault.Write) }
 {
@@ -173,7 +173,7 @@ pub fn next<S: Source, K: Sink>(
     ensures fault { IfErr result
         (FeedStop (S.left source.old) (S.left source.new) (waiting piece.old span.at span.filled)) }
     ensures cause { IsCaused (S.faults source.old) (S.faults source.new) (IsErrOf result FeedFault.Read) }
-    ensures same { vessel K.Sink sink.new ≡ vessel K.Sink sink.old }
+    ensures same { sink_state_of K.Sink sink.new ≡ sink_state_of K.Sink sink.old }
     ensures told { IsErrOf result FeedFault.Write → K.held sink.old ≡ None }
     ensures written { IsCaused (K.faults sink.old) (K.faults sink.new) (IsErrOf result FeedFault.Write) }
 {

@@ -1,5 +1,5 @@
 ghost use Rattle.std.specs.Prelude.{◌≡◌, ◌-◌, ◌%◌, ◌<◌, ◌≤◌, ◌++◌, length, replicate, take};
-ghost use Rattle.sd_packet.specs.Packing.{packed};
+ghost use Rattle.sd_packet.specs.Packing.{section_packet};
 ghost use Rattle.sd_engine.specs.Sample.{next_state, state_at, generated, pid_at, counter_at, generated_in, header_at};
 ghost use Rattle.sd_engine.specs.Sample.{adaptation_field, sample_packet_at};
 
@@ -38,7 +38,7 @@ fn table(section: &[u8], k: u32) -> [u8; SIZE]
     requires some { 1 ≤ length section.now }
     requires room { length section.now ≤ 183 }
     requires number { k < MOST_SAMPLE_PACKETS }
-    ensures { result ≡ packed section.now (pid_at k) (counter_at k) }
+    ensures { result ≡ section_packet section.now (pid_at k) (counter_at k) }
 {
     *pack_section(section, pid(k), counter(k)).bytes()
 }

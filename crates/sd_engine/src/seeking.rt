@@ -5,7 +5,7 @@ ghost use Rattle.sd_engine.specs.Cut.{begins_packet};
 ghost use Rattle.sd_engine.specs.Feeding.{waiting};
 ghost use Rattle.sd_engine.specs.Seeking.{SeekOutcome, SeekStop, HasFilledAhead, FillAheadStop, IsFound};
 ghost use Rattle.sd_engine.specs.Seeking.{TakesFirst, IsNextSync};
-ghost use Rattle.sd_engine.specs.Stage.{vessel};
+ghost use Rattle.sd_engine.specs.Stage.{sink_state_of};
 
 use crate::feed::{begin, read_until};
 use memchr::memchr;
@@ -61,7 +61,7 @@ pub fn seek<S: Source, K: Sink>(
     ensures fault { IfErr result (SeekStop (S.left source.old) (S.left source.new)
         (waiting piece.old ahead.at ahead.filled) ahead.ended skipped.old) }
     ensures cause { IsCaused (S.faults source.old) (S.faults source.new) (IsErrOf result SeekFault.Read) }
-    ensures same { vessel K.Sink sink.new ≡ vessel K.Sink sink.old }
+    ensures same { sink_state_of K.Sink sink.new ≡ sink_state_of K.Sink sink.old }
     ensures told { IsErrOf result SeekFault.Write → K.held sink.old ≡ None }
     ensures written { IsCaused (K.faults sink.old) (K.faults sink.new) (IsErrOf result SeekFault.Write) }
 {
@@ -93,7 +93,7 @@ fn find<S: Source, K: Sink>(
     ensures fault { IfErr result (SeekStop (S.left source.old) (S.left source.new)
         (waiting piece.old ahead.at ahead.filled) ahead.ended skipped.old) }
     ensures cause { IsCaused (S.faults source.old) (S.faults source.new) (IsErrOf result SeekFault.Read) }
-    ensures same { vessel K.Sink sink.new ≡ vessel K.Sink sink.old }
+    ensures same { sink_state_of K.Sink sink.new ≡ sink_state_of K.Sink sink.old }
     ensures told { IsErrOf result SeekFault.Write → K.held sink.old ≡ None }
     ensures written { IsCaused (K.faults sink.old) (K.faults sink.new) (IsErrOf result SeekFault.Write) }
 {
@@ -124,7 +124,7 @@ fn search<S: Source, K: Sink>(
     ensures fault { IfErr result (SeekStop (S.left source.old) (S.left source.new)
         (waiting piece.old ahead.at ahead.filled) ahead.ended skipped.old) }
     ensures cause { IsCaused (S.faults source.old) (S.faults source.new) (IsErrOf result SeekFault.Read) }
-    ensures same { vessel K.Sink sink.new ≡ vessel K.Sink sink.old }
+    ensures same { sink_state_of K.Sink sink.new ≡ sink_state_of K.Sink sink.old }
     ensures told { IsErrOf result SeekFault.Write → K.held sink.old ≡ None }
     ensures written { IsCaused (K.faults sink.old) (K.faults sink.new) (IsErrOf result SeekFault.Write) }
 {
@@ -161,7 +161,7 @@ fn fill_ahead<S: Source, K: Sink>(
         (waiting piece.old ahead.at ahead.filled) ahead.ended (waiting piece.new now.at now.filled) now.ended) }
     ensures fault { IfErr result (FillAheadStop (S.left source.old) (S.left source.new) ahead.ended) }
     ensures cause { IsCaused (S.faults source.old) (S.faults source.new) (IsErrOf result SeekFault.Read) }
-    ensures same { vessel K.Sink sink.new ≡ vessel K.Sink sink.old }
+    ensures same { sink_state_of K.Sink sink.new ≡ sink_state_of K.Sink sink.old }
     ensures told { IsErrOf result SeekFault.Write → K.held sink.old ≡ None }
     ensures written { IsCaused (K.faults sink.old) (K.faults sink.new) (IsErrOf result SeekFault.Write) }
 {

@@ -1,6 +1,6 @@
 ghost use Rattle.std.specs.Prelude.{◌≡◌, ℕ, List, Option, None, Some, Err, OnOk, IsErrOf};
 ghost use Rattle.sd_base.specs.Count.{IsCaused};
-ghost use Rattle.sd_engine.specs.Stage.{HasGrown, IsCutShort, IsAllowed, vessel};
+ghost use Rattle.sd_engine.specs.Stage.{HasGrown, IsCutShort, IsAllowed, sink_state_of};
 
 use sd_base::Steps;
 use sd_packet::Packet;
@@ -45,36 +45,36 @@ pub trait Stage<K: Sink, L: Ledger> {
         steps: &mut Steps<L>,
     ) -> Result<(), StageFault<Self::Fault>>
         requires live { live self.old }
-        ensures value { OnOk result (HasGrown (vessel K.Sink out.old) (vessel K.Sink out.new) steps.old steps.new
+        ensures value { OnOk result (HasGrown (sink_state_of K.Sink out.old) (sink_state_of K.Sink out.new) steps.old steps.new
             (does self.old packet.now self.new)) }
         ensures ok { OnOk result (live self.new × (kept self.new ≡ None)) }
         ensures fault { (fault : Self.Fault) → result ≡ Err (StageFault.Refused fault) →
-            HasGrown (vessel K.Sink out.old) (vessel K.Sink out.new) steps.old steps.new
+            HasGrown (sink_state_of K.Sink out.old) (sink_state_of K.Sink out.new) steps.old steps.new
             (refuses self.old (Some packet.now) fault self.new) }
         ensures keeps { (fault : Self.Fault) → result ≡ Err (StageFault.Refused fault) →
             live self.new × (kept self.new ≡ Some fault) }
         ensures again { (fault : Self.Fault) → kept self.old ≡ Some fault →
-            (result ≡ Err (StageFault.Refused fault)) × (vessel K.Sink out.new ≡ vessel K.Sink out.old)
+            (result ≡ Err (StageFault.Refused fault)) × (sink_state_of K.Sink out.new ≡ sink_state_of K.Sink out.old)
             × (steps.new ≡ steps.old) }
-        ensures prefix { IsErrOf result StageFault.Write → IsCutShort (vessel K.Sink out.old) (vessel K.Sink out.new)
+        ensures prefix { IsErrOf result StageFault.Write → IsCutShort (sink_state_of K.Sink out.old) (sink_state_of K.Sink out.new)
             (IsAllowed (does self.old packet.now) (refuses self.old (Some packet.now)) steps.old steps.new) }
         ensures cause { IsCaused (K.faults out.old) (K.faults out.new) (IsErrOf result StageFault.Write) };
 
     /// Takes the end of the stream, after its last packet.
     fn close(&mut self, out: &mut K, steps: &mut Steps<L>) -> Result<(), StageFault<Self::Fault>>
         requires live { live self.old }
-        ensures value { OnOk result (HasGrown (vessel K.Sink out.old) (vessel K.Sink out.new) steps.old steps.new
+        ensures value { OnOk result (HasGrown (sink_state_of K.Sink out.old) (sink_state_of K.Sink out.new) steps.old steps.new
             (ends self.old self.new)) }
         ensures ok { OnOk result (kept self.new ≡ None) }
         ensures fault { (fault : Self.Fault) → result ≡ Err (StageFault.Refused fault) →
-            HasGrown (vessel K.Sink out.old) (vessel K.Sink out.new) steps.old steps.new
+            HasGrown (sink_state_of K.Sink out.old) (sink_state_of K.Sink out.new) steps.old steps.new
             (refuses self.old None fault self.new) }
         ensures keeps { (fault : Self.Fault) → result ≡ Err (StageFault.Refused fault) →
             live self.new × (kept self.new ≡ Some fault) }
         ensures again { (fault : Self.Fault) → kept self.old ≡ Some fault →
-            (result ≡ Err (StageFault.Refused fault)) × (vessel K.Sink out.new ≡ vessel K.Sink out.old)
+            (result ≡ Err (StageFault.Refused fault)) × (sink_state_of K.Sink out.new ≡ sink_state_of K.Sink out.old)
             × (steps.new ≡ steps.old) }
-        ensures prefix { IsErrOf result StageFault.Write → IsCutShort (vessel K.Sink out.old) (vessel K.Sink out.new)
+        ensures prefix { IsErrOf result StageFault.Write → IsCutShort (sink_state_of K.Sink out.old) (sink_state_of K.Sink out.new)
             (IsAllowed (ends self.old) (refuses self.old None) steps.old steps.new) }
         ensures cause { IsCaused (K.faults out.old) (K.faults out.new) (IsErrOf result StageFault.Write) };
 }

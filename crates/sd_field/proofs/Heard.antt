@@ -13,16 +13,16 @@ use Rattle.sd_engine.specs.Stage.{IsTooShort}
 use Rattle.sd_engine.proofs.Chains.{chain_on}
 use Rattle.sd_message.specs.declared.stream_fault.StreamFault.{StreamFault}
 use Rattle.sd_spec.specs.Offered.{offered, out_from, break_from}
-use Rattle.sd_receive.specs.Receiving.{IsAfter, IsCountable, IsLive, Refusing, card_in, receiver_does}
+use Rattle.sd_receive.specs.Receiving.{HasReceived, IsCountable, MayReceive, Refusing, receiver_card, receiver_does}
 use Rattle.sd_receive.specs.declared.receiver.Receiver.{Receiver}
 use Rattle.sd_receive.proofs.Chained.{came_to_all}
 use Rattle.sd_receive.proofs.Turns.{out_more, break_more}
 use Rattle.sd_spec.proofs.Offers.{out_of_one_more}
-use Rattle.sd_field.specs.Heard.{IsReceiverAfter, IsHeard, HasRoom}
+use Rattle.sd_field.specs.Heard.{IsReceiverAfter, IsHeard, HasStoreRoom}
 
 -- what a receiver keeps that stands after packets
 after_of : (card : CardFields) (xs : List (List ℕ)) (s : Receiver) → IsCountable xs → IsReceiverAfter card xs s →
-    IsAfter (reverse xs) s × (card_in s ≡ card)
+    HasReceived (reverse xs) s × (receiver_card s ≡ card)
 after_of card xs s few stands =
     let came = came_to_all xs stands.start s stands.bytes stands.steps stands.new (omega (arith, few)) stands.chain in
     (came.after, came.same ∙ stands.same)
@@ -77,7 +77,7 @@ countable xs few = omega (arith, few, length-reverse xs)
 -- a packet that is taken
 pub heard_taken : (card : CardFields) (earlier : List ℕ) (xs : List (List ℕ)) (s : Receiver) (packet : List ℕ)
     (t : Receiver) (held bytes : List ℕ) (steps : ℕ) → IsCountable xs → IsHeard card earlier xs s held →
-    s.refusal ≡ None → receiver_does s packet t bytes steps → IsLive t →
+    s.refusal ≡ None → receiver_does s packet t bytes steps → MayReceive t →
     IsHeard card earlier (xs ++ packet ∷ []) t (held ++ bytes)
 heard_taken card earlier xs s packet t held bytes steps few heard calm does live =
     let quiet = unbroken card earlier xs s held heard calm in
@@ -110,7 +110,7 @@ heard_taken card earlier xs s packet t held bytes steps few heard calm does live
 pub heard_refused : (card : CardFields) (earlier : List ℕ) (xs : List (List ℕ)) (s : Receiver) (packet : List ℕ)
     (t : Receiver) (held bytes : List ℕ) (steps : ℕ) (why : StreamFault) → IsCountable xs →
     IsHeard card earlier xs s held → s.refusal ≡ None → Refusing s packet why bytes steps → t.refusal ≡ Some why →
-    IsLive t → IsHeard card earlier (xs ++ packet ∷ []) t (held ++ bytes)
+    MayReceive t → IsHeard card earlier (xs ++ packet ∷ []) t (held ++ bytes)
 heard_refused card earlier xs s packet t held bytes steps why few heard calm does kept live =
     let quiet = unbroken card earlier xs s held heard calm in
     let after = after_of card xs s few (heard.stands quiet) in
@@ -145,7 +145,7 @@ break_stays card past (x ∷ xs) ys why is =
 -- a packet after a refusal
 pub heard_kept : (card : CardFields) (earlier : List ℕ) (xs : List (List ℕ)) (s : Receiver) (packet : List ℕ)
     (t : Receiver) (held : List ℕ) (why : StreamFault) → IsCountable xs → IsHeard card earlier xs s held →
-    s.refusal ≡ Some why → t.refusal ≡ Some why → IsLive t → IsHeard card earlier (xs ++ packet ∷ []) t held
+    s.refusal ≡ Some why → t.refusal ≡ Some why → MayReceive t → IsHeard card earlier (xs ++ packet ∷ []) t held
 heard_kept card earlier xs s packet t held why few heard kept still live =
     let some = broken card earlier xs s held why few heard kept in
     let more = break_stays card [] xs (packet ∷ []) why some in
@@ -170,9 +170,9 @@ by_kept A (Some why) calm kept = kept why refl
 -- what is written of a packet passes the room, if a write fails
 pub full_more : (card : CardFields) (earlier : List ℕ) (xs : List (List ℕ)) (s : Receiver) (packet : List ℕ)
     (total : ℕ) (store : Store) (bytes : List ℕ) → IsCountable xs → IsHeard card earlier xs s store.held →
-    s.refusal ≡ None → HasRoom total store → IsTooShort (room_in store) (length bytes) →
-    ((past : List (List ℕ)) → IsAfter past s → IsCountable past →
-    bytes ≡ concat (offered (card_in s) past packet).wrote) →
+    s.refusal ≡ None → HasStoreRoom total store → IsTooShort (room_in store) (length bytes) →
+    ((past : List (List ℕ)) → HasReceived past s → IsCountable past →
+    bytes ≡ concat (offered (receiver_card s) past packet).wrote) →
     total < length (earlier ++ concat (out_from card [] (xs ++ packet ∷ [])))
 full_more card earlier xs s packet total store bytes few heard calm room short are =
     let quiet = unbroken card earlier xs s store.held heard calm in
@@ -192,8 +192,8 @@ full_more card earlier xs s packet total store bytes few heard calm room short a
     )
 
 -- what is written leaves the room that there is in all
-pub room_left : (total : ℕ) (old new : Store) (bytes : List ℕ) → HasRoom total old → new.held ≡ old.held ++ bytes →
-    HasTaken (room_in old) (room_in new) (length bytes) → HasRoom total new
+pub room_left : (total : ℕ) (old new : Store) (bytes : List ℕ) → HasStoreRoom total old → new.held ≡ old.held ++ bytes →
+    HasTaken (room_in old) (room_in new) (length bytes) → HasStoreRoom total new
 room_left total old new bytes room is taken =
     let took = subst (λ (left : Option ℕ). HasTaken left (room_in new) (length bytes)) room.left taken in
     let long : length new.held ≡ length old.held + length bytes = ap length is ∙ length-append old.held bytes in

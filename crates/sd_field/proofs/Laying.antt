@@ -15,11 +15,11 @@ use Rattle.sd_book.specs.Limits.{IsDraft, IsWithinLimits}
 use Rattle.sd_book.specs.Commands.{last_period}
 use Rattle.sd_spec.specs.declared.event.Event.{Event}
 use Rattle.sd_spec.specs.Events.{is_of, sends_with}
-use Rattle.sd_spec.specs.Book.{booked, commanded, event_book, with_periods_to, sends}
+use Rattle.sd_spec.specs.Book.{book_after_event, book_with_command, event_book, with_periods_to, sends}
 use Rattle.sd_spec.proofs.Filled.{filled_ends}
 use Rattle.sd_spec.proofs.Fitting.{event_books_fit, fronts_fit, revoked_few}
 use Rattle.sd_spec.proofs.Sends.{sends_are_counted}
-use Rattle.sd_field.specs.Laid.{IsLaid}
+use Rattle.sd_field.specs.Laid.{IsBookOfEvents}
 use Rattle.sd_field.specs.declared.laid.Laid.{Laid}
 
 -- one Period more
@@ -53,28 +53,28 @@ pub sends_low : (m : ℕ) (past : List Event) → sends m past ≤ m
 sends_low m past = let all = sends_are_counted m past in omega (arith, all)
 
 -- the book of one event more
-pub laid_on : (site : SiteFields) (m : ℕ) (event : Event) (past : List Event) (s t : Laid) → IsLaid site m past s →
-    t.draft.height ≡ s.draft.height → t.draft.commands ≡ booked site m s.sends event s.draft.commands →
-    t.last ≡ last_period t.draft.commands → t.sends ≡ sends_with m event s.sends → IsLaid site m (event ∷ past) t
+pub laid_on : (site : SiteFields) (m : ℕ) (event : Event) (past : List Event) (s t : Laid) → IsBookOfEvents site m past s →
+    t.draft.height ≡ s.draft.height → t.draft.commands ≡ book_after_event site m s.sends event s.draft.commands →
+    t.last ≡ last_period t.draft.commands → t.sends ≡ sends_with m event s.sends → IsBookOfEvents site m (event ∷ past) t
 unfolding event_book sends
 laid_on site m event past s t laid height commands last sent = record {
   height = height ∙ laid.height;
-  commands = commands ∙ (ap (λ (k : ℕ). booked site m k event s.draft.commands) laid.sends
-      ∙ ap (booked site m (sends m past) event) laid.commands);
+  commands = commands ∙ (ap (λ (k : ℕ). book_after_event site m k event s.draft.commands) laid.sends
+      ∙ ap (book_after_event site m (sends m past) event) laid.commands);
   last = last;
   sends = sent ∙ ap (sends_with m event) laid.sends;
 }
 
 -- a command of a period that a book can have is taken, and another isn't
 pub command_within : (q : ℕ) (command : Command) (book : List Command) → q ≤ 1023 →
-    with_periods_to q book ++ command ∷ [] ≡ commanded q command book
-unfolding commanded
+    with_periods_to q book ++ command ∷ [] ≡ book_with_command q command book
+unfolding book_with_command
 command_within q command book low =
     let test : nat_le q 1023 ≡ true = grind (arith, nat_tests, low) in
     rw test refl
 
-pub command_beyond : (q : ℕ) (command : Command) (book : List Command) → 1023 < q → book ≡ commanded q command book
-unfolding commanded
+pub command_beyond : (q : ℕ) (command : Command) (book : List Command) → 1023 < q → book ≡ book_with_command q command book
+unfolding book_with_command
 command_beyond q command book high =
     let test : nat_le q 1023 ≡ false = grind (arith, nat_tests, high) in
     rw test refl
@@ -141,15 +141,15 @@ taken_fits site m n events low few all =
 -- and with the next event
 pub next_fits : (site : SiteFields) (m i : ℕ) (events : List Event) (event : Event) (s : Laid) → site.height ≤ 6 →
     length events ≤ 524288 → All (λ event. is_of site.height event ≡ true) events → i < length events →
-    get_or events i event ≡ event → IsLaid site m (reverse (take i events)) s →
-    IsWithinLimits s.draft.height (booked site m s.sends event s.draft.commands)
+    get_or events i event ≡ event → IsBookOfEvents site m (reverse (take i events)) s →
+    IsWithinLimits s.draft.height (book_after_event site m s.sends event s.draft.commands)
 unfolding event_book
 next_fits site m i events event s low few all within is laid =
     let past : List Event = reverse (take i events) in
     let fits : IsWithinLimits site.height (event_book site m (event ∷ past)) =
     subst (λ (xs : List Event). IsWithinLimits site.height (event_book site m xs)) (past_more events i event within is)
     (taken_fits site m (i + 1) events low few all) in
-    subst (λ (d : ℕ). IsWithinLimits d (booked site m s.sends event s.draft.commands)) (sym laid.height)
-    (subst (λ (k : ℕ). IsWithinLimits site.height (booked site m k event s.draft.commands)) (sym laid.sends)
-    (subst (λ (book : List Command). IsWithinLimits site.height (booked site m (sends m past) event book))
+    subst (λ (d : ℕ). IsWithinLimits d (book_after_event site m s.sends event s.draft.commands)) (sym laid.height)
+    (subst (λ (k : ℕ). IsWithinLimits site.height (book_after_event site m k event s.draft.commands)) (sym laid.sends)
+    (subst (λ (book : List Command). IsWithinLimits site.height (book_after_event site m (sends m past) event book))
     (sym laid.commands) fits))

@@ -15,7 +15,7 @@ use Rattle.sd_spec.specs.declared.event.Event.TheVariants.{Lose, Off, Offer, On,
 use Rattle.sd_spec.specs.Book.{sends}
 use Rattle.sd_spec.proofs.Sends.{sends_rise}
 use Rattle.sd_field.specs.Fields.{FieldValue, after_next, done_to, next_event, next_refusal, past_of, refusal_at}
-use Rattle.sd_field.specs.Fields.{sends_of, taken}
+use Rattle.sd_field.specs.Fields.{sends_of, field_clear_packets}
 use Rattle.sd_field.proofs.Fields.{none_refused, none_to_send, one_refused, one_to_send, quiet_taken}
 
 -- each packet of a front of which none is refused isn't
@@ -82,7 +82,7 @@ first_refused site start (x ∷ xs) (suc k) (suc n) fault none within more found
 record IsRefused (v : FieldValue) (fault : ClearFault) : Type 0 where
   next : next_event v ≡ Some Send
   left : sends_of v < length v.clear
-  found : refusal_of v.site (taken v) (get_or v.clear (sends_of v) []) ≡ Some fault
+  found : refusal_of v.site (field_clear_packets v) (get_or v.clear (sends_of v) []) ≡ Some fault
 
 refused_next : (v : FieldValue) (fault : ClearFault) → next_refusal v ≡ Some fault → IsRefused v fault
 refused_next v fault found = by_event (next_event v) refl
@@ -118,24 +118,24 @@ sent_later v done is left more =
     omega (arith, one_to_send v is left, rises, ap (sends (length v.clear)) parts)
 
 -- the field stops at the first clear packet that is refused among those that its events send
-pub stops_at_first : (v : FieldValue) (fault : ClearFault) (done : ℕ) → IsClear v.site (taken v) →
-    next_refusal v ≡ Some fault → v.done < done → refusal_from v.site [] (taken (done_to done v)) ≡ Some fault
+pub stops_at_first : (v : FieldValue) (fault : ClearFault) (done : ℕ) → IsClear v.site (field_clear_packets v) →
+    next_refusal v ≡ Some fault → v.done < done → refusal_from v.site [] (field_clear_packets (done_to done v)) ≡ Some fault
 stops_at_first v fault done clear found more =
     let refused = refused_next v fault found in
     first_refused v.site [] v.clear (sends_of v) (sends_of (done_to done v)) fault clear refused.left
     (sent_later v done refused.next refused.left more) refused.found
 
 -- and goes on if the next isn't refused
-pub goes_on_clear : (v : FieldValue) → v.done < length v.events → IsClear v.site (taken v) → next_refusal v ≡ None →
-    IsClear v.site (taken (after_next v))
+pub goes_on_clear : (v : FieldValue) → v.done < length v.events → IsClear v.site (field_clear_packets v) → next_refusal v ≡ None →
+    IsClear v.site (field_clear_packets (after_next v))
 goes_on_clear v inside clear none =
     by_event (get_or v.events v.done Send) (slice_get-get_or v.events v.done Send inside)
   where
-    quiet : (event : Event) → next_event v ≡ Some event → taken (after_next v) ≡ taken v →
-        IsClear v.site (taken (after_next v))
+    quiet : (event : Event) → next_event v ≡ Some event → field_clear_packets (after_next v) ≡ field_clear_packets v →
+        IsClear v.site (field_clear_packets (after_next v))
     quiet event is same = subst (IsClear v.site) (sym same) clear
 
-    sent : next_event v ≡ Some Send → sends_of v < length v.clear → IsClear v.site (taken (after_next v))
+    sent : next_event v ≡ Some Send → sends_of v < length v.clear → IsClear v.site (field_clear_packets (after_next v))
     sent is left =
         subst (λ (k : ℕ). IsClear v.site (take k v.clear)) (sym (one_to_send v is left))
         (none_unrefused v.site [] v.clear (suc (sends_of v))
@@ -147,7 +147,7 @@ goes_on_clear v inside clear none =
               (sym (one_refused v is left) ∙ none)
         ]))
 
-    by_event : (event : Event) → next_event v ≡ Some event → IsClear v.site (taken (after_next v))
+    by_event : (event : Event) → next_event v ≡ Some event → IsClear v.site (field_clear_packets (after_next v))
     by_event (Subscribe u) is = quiet (Subscribe u) is (quiet_taken v (Subscribe u) is refl)
     by_event (Revoke u) is = quiet (Revoke u) is (quiet_taken v (Revoke u) is refl)
     by_event (Offer u) is = quiet (Offer u) is (quiet_taken v (Offer u) is refl)

@@ -7,7 +7,7 @@ use Rattle.std.specs.Prelude.{◌&&◌, if◌then◌else◌, option_map, option_
 use Rattle.std.proofs.lemmas.List.Elements.{All-nil, All-cons, All-append}
 use Rattle.sd_base.specs.declared.decimals.NumberFault.{NumberFault}
 use Rattle.sd_base.specs.Lines.{cut_at_space}
-use Rattle.sd_base.specs.Number.{rest_after, fitting, decimal_value}
+use Rattle.sd_base.specs.Number.{rest_after, fitting_u32, decimal_value}
 use Rattle.sd_base.proofs.Fitting.{fits_is, misfit_high}
 use Rattle.sd_spec.specs.declared.event.Event.{Event}
 use Rattle.sd_spec.specs.declared.event.Event.TheVariants.{Subscribe, Revoke, Send, Offer, Lose, Off, On}
@@ -17,19 +17,19 @@ use Rattle.sd_field.specs.declared.fault.ScriptFault.TheVariants.{Leaf, Events}
 use Rattle.sd_field.specs.declared.line.LineFault.{LineFault}
 use Rattle.sd_field.specs.declared.line.LineFault.TheVariants.{Form}
 use Rattle.sd_field.specs.declared.line.LineFault.TheVariants as fault
-use Rattle.sd_field.specs.Line.{events_in_run, leaf_in, pair_in, times_in}
-use Rattle.sd_field.specs.Script.{alone, both_of, by_word, count_of, counted, judged}
-use Rattle.sd_field.specs.Script.{leaf_and_count, put_before, repeated, script_from, sends_said, spoken}
+use Rattle.sd_field.specs.Line.{events_in_run, event_leaf, pair_in, times_in}
+use Rattle.sd_field.specs.Script.{single_event, both_of, event_by_word, count_of, event_count, judged_event}
+use Rattle.sd_field.specs.Script.{leaf_and_count, put_before, repeated, script_from, sends_said, script_line_event}
 
 -- a number of 32 bits is counted as it is said
-pub times_said : (text : List ℕ) (n : ℕ) → fitting (decimal_value text) ≡ Ok n →
-    times_in (count_of text) ≡ times_in (counted n)
+pub times_said : (text : List ℕ) (n : ℕ) → fitting_u32 (decimal_value text) ≡ Ok n →
+    times_in (count_of text) ≡ times_in (event_count n)
 times_said text n e =
-    ap (λ (number : Option ℕ). times_in (option_and_then counted number)) (fits_is (decimal_value text) n e)
+    ap (λ (number : Option ℕ). times_in (option_and_then event_count number)) (fits_is (decimal_value text) n e)
 
 -- a text that says none says no number of events
-none_counted : (number : Option ℕ) (fault : NumberFault) → fitting number ≡ Err fault →
-    option_and_then counted number ≡ None
+none_counted : (number : Option ℕ) (fault : NumberFault) → fitting_u32 number ≡ Err fault →
+    option_and_then event_count number ≡ None
 none_counted None fault e = refl
 none_counted (Some m) fault e =
     let high = misfit_high m fault e in
@@ -40,7 +40,7 @@ none_counted (Some m) fault e =
     by_first true over = rw over refl
     by_first false over = refl
 
-pub times_unsaid : (text : List ℕ) (fault : NumberFault) → fitting (decimal_value text) ≡ Err fault →
+pub times_unsaid : (text : List ℕ) (fault : NumberFault) → fitting_u32 (decimal_value text) ≡ Err fault →
     times_in (count_of text) ≡ Err Form
 times_unsaid text fault e = ap times_in (none_counted (decimal_value text) fault e)
 
@@ -72,8 +72,8 @@ repeated_run d make text leaf = by (leaf_and_count text)
 
 -- and so is the one event of a text
 pub alone_run : (d : ℕ) (make : ℕ → Event) (text : List ℕ) → ((u : ℕ) → is_of d (make u) ≡ nat_lt u (2 ^ d)) →
-    once make (leaf_in d (decimal_value text)) ≡ events_in_run d (alone make text)
-unfolding alone
+    once make (event_leaf d (decimal_value text)) ≡ events_in_run d (single_event make text)
+unfolding single_event
 alone_run d make text leaf = by (decimal_value text)
   where
     by_leaf : (u : ℕ) (b : Bool) → once make (if b then Ok u else Err fault.Leaf)
@@ -81,12 +81,12 @@ alone_run d make text leaf = by (decimal_value text)
     by_leaf u true = refl
     by_leaf u false = refl
 
-    by : (number : Option ℕ) → once make (leaf_in d number) ≡ events_in_run d (option_map (λ u. (make u, 1)) number)
+    by : (number : Option ℕ) → once make (event_leaf d number) ≡ events_in_run d (option_map (λ u. (make u, 1)) number)
     by None = refl
     by (Some u) = rw (leaf u) (by_leaf u (nat_lt u (2 ^ d)))
 
 -- a run has an event
-counted_some : (m n : ℕ) → counted m ≡ Some n → 1 ≤ n
+counted_some : (m n : ℕ) → event_count m ≡ Some n → 1 ≤ n
 counted_some m n e = by (nat_le 1 m) (nat_le m 65536) refl e
   where
     by : (a b : Bool) → nat_le 1 m ≡ a → (if a && b then Some m else None) ≡ Some n → 1 ≤ n
@@ -97,7 +97,7 @@ counted_some m n e = by (nat_le 1 m) (nat_le m 65536) refl e
 count_some : (text : List ℕ) (n : ℕ) → count_of text ≡ Some n → 1 ≤ n
 count_some text n e = by (decimal_value text) e
   where
-    by : (number : Option ℕ) → option_and_then counted number ≡ Some n → 1 ≤ n
+    by : (number : Option ℕ) → option_and_then event_count number ≡ Some n → 1 ≤ n
     by None e = absurd cc
     by (Some m) e = counted_some m n e
 
@@ -106,8 +106,8 @@ abbrev HasSome : Option (Event × ℕ) → Type 0
 HasSome None = Unit {0}
 HasSome (Some run) = 1 ≤ run.1
 
-alone_some : (make : ℕ → Event) (text : List ℕ) → HasSome (alone make text)
-unfolding alone
+alone_some : (make : ℕ → Event) (text : List ℕ) → HasSome (single_event make text)
+unfolding single_event
 alone_some make text = by (decimal_value text)
   where
     by : (number : Option ℕ) → HasSome (option_map (λ u. (make u, 1)) number)
@@ -153,20 +153,20 @@ repeated_some make text = by (leaf_and_count text) refl
     by (Some pair) e = pair_some text pair.0 pair.1 e
 
 word_some : (text : Option (List ℕ)) (says : List ℕ → Option (Event × ℕ)) (other : Option (Event × ℕ)) →
-    ((text : List ℕ) → HasSome (says text)) → HasSome other → HasSome (by_word text says other)
+    ((text : List ℕ) → HasSome (says text)) → HasSome other → HasSome (event_by_word text says other)
 word_some None says other some rest = rest
 word_some (Some text) says other some rest = some text
 
-spoken_some : (line : List ℕ) → HasSome (spoken line)
-unfolding spoken
+spoken_some : (line : List ℕ) → HasSome (script_line_event line)
+unfolding script_line_event
 spoken_some line =
-    word_some (rest_after (codes "subscribe ") line) (alone Subscribe) _ (alone_some Subscribe)
-    (word_some (rest_after (codes "revoke ") line) (alone Revoke) _ (alone_some Revoke)
+    word_some (rest_after (codes "subscribe ") line) (single_event Subscribe) _ (alone_some Subscribe)
+    (word_some (rest_after (codes "revoke ") line) (single_event Revoke) _ (alone_some Revoke)
     (word_some (rest_after (codes "send ") line) sends_said _ sends_some
     (word_some (rest_after (codes "offer ") line) (repeated Offer) _ (repeated_some Offer)
     (word_some (rest_after (codes "lose ") line) (repeated Lose) _ (repeated_some Lose)
-    (word_some (rest_after (codes "off ") line) (alone Off) _ (alone_some Off)
-    (word_some (rest_after (codes "on ") line) (alone On) None (alone_some On) tt))))))
+    (word_some (rest_after (codes "off ") line) (single_event Off) _ (alone_some Off)
+    (word_some (rest_after (codes "on ") line) (single_event On) None (alone_some On) tt))))))
 
 -- a run of the tree is the one that is said
 run_said : (d : ℕ) (said : Option (Event × ℕ)) (run : Event × ℕ) → HasSome said → events_in_run d said ≡ Ok run →
@@ -178,8 +178,8 @@ run_said d (Some other) run some e = by (is_of d other.0) e
     by true e = let same : other ≡ run = cc in rw (sym same) some
     by false e = absurd cc
 
-pub run_some : (d : ℕ) (line : List ℕ) (run : Event × ℕ) → events_in_run d (spoken line) ≡ Ok run → 1 ≤ run.1
-run_some d line run e = run_said d (spoken line) run (spoken_some line) e
+pub run_some : (d : ℕ) (line : List ℕ) (run : Event × ℕ) → events_in_run d (script_line_event line) ≡ Ok run → 1 ≤ run.1
+run_some d line run e = run_said d (script_line_event line) run (spoken_some line) e
 
 -- what a good line says: a run of the tree, with which the events aren't too many
 pub record IsGood (d n : ℕ) (run : Event × ℕ) : Type 0 where
@@ -188,7 +188,7 @@ pub record IsGood (d n : ℕ) (run : Event × ℕ) : Type 0 where
   pub leaf : is_of d run.0 ≡ true
 
 judged_good : (d k n : ℕ) (said : Option (Event × ℕ)) (run : Event × ℕ) → HasSome said →
-    judged d k n said ≡ Ok run → IsGood d n run
+    judged_event d k n said ≡ Ok run → IsGood d n run
 judged_good d k n None run some e = absurd cc
 judged_good d k n (Some other) run some e = by_leaf (is_of d other.0) (nat_lt 524288 (n + other.1)) refl refl e
   where
@@ -200,8 +200,8 @@ judged_good d k n (Some other) run some e = by_leaf (is_of d other.0) (nat_lt 52
         let same : other ≡ run = cc in
         rw (sym same) (record { some = some; few = ltb-false 524288 (n + other.1) t; leaf = s })
 
-pub line_good : (d k n : ℕ) (line : List ℕ) (run : Event × ℕ) → judged d k n (spoken line) ≡ Ok run → IsGood d n run
-line_good d k n line run e = judged_good d k n (spoken line) run (spoken_some line) e
+pub line_good : (d k n : ℕ) (line : List ℕ) (run : Event × ℕ) → judged_event d k n (script_line_event line) ≡ Ok run → IsGood d n run
+line_good d k n line run e = judged_good d k n (script_line_event line) run (spoken_some line) e
 
 -- the events of a good line, and those after it
 put_twice : (first second : List Event) (more : Result (List Event) ScriptFault) →
@@ -210,7 +210,7 @@ put_twice first second (Ok more) = ap (λ (events : List Event). Ok events) (sym
 put_twice first second (Err fault) = refl
 
 pub script_on : (d k n : ℕ) (events : List Event) (line : List ℕ) (lines : List (List ℕ)) (run : Event × ℕ) →
-    judged d k n (spoken line) ≡ Ok run →
+    judged_event d k n (script_line_event line) ≡ Ok run →
     put_before events (script_from d k n (line ∷ lines))
     ≡ put_before (events ++ replicate run.1 run.0) (script_from d (k + 1) (n + run.1) lines)
 unfolding script_from
@@ -219,7 +219,7 @@ script_on d k n events line lines run e =
 
 -- a bad line is the fault
 pub script_broken : (d k n : ℕ) (events : List Event) (line : List ℕ) (lines : List (List ℕ)) (fault : ScriptFault) →
-    judged d k n (spoken line) ≡ Err fault → put_before events (script_from d k n (line ∷ lines)) ≡ Err fault
+    judged_event d k n (script_line_event line) ≡ Err fault → put_before events (script_from d k n (line ∷ lines)) ≡ Err fault
 unfolding script_from
 script_broken d k n events line lines fault e = rw e refl
 

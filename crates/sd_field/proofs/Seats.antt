@@ -10,18 +10,18 @@ use Rattle.std.proofs.lemmas.List.Folds.{concat-append}
 use Rattle.std.proofs.lemmas.Option.{get_or_from_slice_get, slice_get_within}
 use Rattle.sd_site_cards.specs.declared.site.Site.{Site}
 use Rattle.sd_site_cards.specs.declared.card.Card.{Card}
-use Rattle.sd_site_cards.specs.CardFields.{CardFields, card_of, card_fields_of}
+use Rattle.sd_site_cards.specs.CardFields.{CardFields, card_fields_of, site_card}
 use Rattle.sd_spec.specs.Plan.{Plan}
 use Rattle.sd_ports.specs.Memory.{Store}
 use Rattle.sd_spec.specs.Offered.{out_from, break_from}
-use Rattle.sd_receive.specs.Receiving.{IsAfter, IsLive, card_in}
+use Rattle.sd_receive.specs.Receiving.{HasReceived, MayReceive, receiver_card}
 use Rattle.sd_receive.specs.declared.receiver.Receiver.{Receiver}
 use Rattle.sd_spec.specs.declared.event.Event.TheVariants.{Lose, Off, Offer, On}
-use Rattle.sd_spec.specs.Watch.{Watch, at_places, passed_by, present, stream, times, watched}
+use Rattle.sd_spec.specs.Watch.{Watch, at_places, passed_by, present, stream, times, watch_after_event}
 use Rattle.sd_spec.specs.Watch.{switched_off, switched_on, written}
 use Rattle.sd_spec.proofs.Offers.{heard_is, on_is, offer_is_present, switched_writes_nothing, written_parts}
-use Rattle.sd_field.specs.Heard.{HasRoom, IsHeard}
-use Rattle.sd_field.specs.Seats.{AreNew, IsNew, IsSeated, wrote_before}
+use Rattle.sd_field.specs.Heard.{HasStoreRoom, IsHeard}
+use Rattle.sd_field.specs.Seats.{AreNew, IsNewSeat, IsSeated, wrote_before}
 use Rattle.sd_field.specs.declared.seat.Seat.{Seat}
 
 -- what was written is what was written before, and in the present time
@@ -36,7 +36,7 @@ written_in plan card clear w =
     (out_from card [] (present plan clear w))
 
 -- a seat that is off passes a packet
-off_passes : (u n : ℕ) (w : Watch) → w.on ≡ false → w.cursor < n → watched u n (Offer u) w ≡ passed_by w
+off_passes : (u n : ℕ) (w : Watch) → w.on ≡ false → w.cursor < n → watch_after_event u n (Offer u) w ≡ passed_by w
 off_passes u n w off left =
     let test : ((u == u) && nat_lt w.cursor n) ≡ true = grind (arith, nat_tests, left) in
     rw test (rw off refl)
@@ -45,15 +45,15 @@ off_passes u n w off left =
 pub heard_seat : (plan : Plan) (card : CardFields) (clear : List (List ℕ)) (total u n : ℕ) (w : Watch) (seat : Seat)
     (before after : Receiver) (packet : List ℕ) (store : Store) (cursor : ℕ) → seat.receiver ≡ Some before →
     w.cursor < n → packet ≡ get_or (stream plan clear) w.cursor [] → IsSeated plan card clear total w seat →
-    cursor ≡ seat.cursor + 1 → HasRoom total store →
+    cursor ≡ seat.cursor + 1 → HasStoreRoom total store →
     IsHeard card (wrote_before plan card clear w) (present plan clear w ++ packet ∷ []) after store.held →
-    IsSeated plan card clear total (watched u n (Offer u) w)
+    IsSeated plan card clear total (watch_after_event u n (Offer u) w)
     (record { receiver = Some after; cursor = cursor; written = store })
 unfolding wrote_before
 heard_seat plan card clear total u n w seat before after packet store cursor some left next seated more room heard =
     let on : w.on ≡ true = seated.on.0 (subst IsSome (sym some) refl) in
     let is = heard_is u n w on left in
-    let to : Watch = watched u n (Offer u) w in
+    let to : Watch = watch_after_event u n (Offer u) w in
     let now : present plan clear to ≡ present plan clear w ++ packet ∷ [] =
     offer_is_present plan clear u n w on left
     ∙ ap (λ (p : List ℕ). present plan clear w ++ p ∷ []) (sym next) in
@@ -96,11 +96,11 @@ passed_same plan card clear total w seat cursor seated next = record {
 pub passed_seat : (plan : Plan) (card : CardFields) (clear : List (List ℕ)) (total u n : ℕ) (w : Watch) (seat : Seat)
     (cursor : ℕ) → seat.receiver ≡ None → w.cursor < n → IsSeated plan card clear total w seat →
     cursor ≡ seat.cursor + 1 →
-    IsSeated plan card clear total (watched u n (Offer u) w)
+    IsSeated plan card clear total (watch_after_event u n (Offer u) w)
     (record { receiver = seat.receiver; cursor = cursor; written = seat.written })
 passed_seat plan card clear total u n w seat cursor none left seated more = by_on w.on refl
   where
-    by_on : (on : Bool) → w.on ≡ on → IsSeated plan card clear total (watched u n (Offer u) w)
+    by_on : (on : Bool) → w.on ≡ on → IsSeated plan card clear total (watch_after_event u n (Offer u) w)
         (record { receiver = seat.receiver; cursor = cursor; written = seat.written })
     by_on true on = absurd (let no = subst IsSome none (seated.on.1 on) in cc)
     by_on false off =
@@ -112,8 +112,8 @@ passed_seat plan card clear total u n w seat cursor none left seated more = by_o
 
 -- a seat whose receiver is switched on
 new_seat : (plan : Plan) (card : CardFields) (clear : List (List ℕ)) (total : ℕ) (w : Watch) (seat : Seat)
-    (receiver : Receiver) → IsSeated plan card clear total w seat → IsAfter [] receiver → IsLive receiver →
-    card_in receiver ≡ card →
+    (receiver : Receiver) → IsSeated plan card clear total w seat → HasReceived [] receiver → MayReceive receiver →
+    receiver_card receiver ≡ card →
     IsSeated plan card clear total (switched_on w)
     (record { receiver = Some receiver; cursor = seat.cursor; written = seat.written })
 unfolding present at_places out_from break_from
@@ -147,16 +147,16 @@ new_seat plan card clear total w seat receiver seated new live same =
     }
 
 pub on_seat : (plan : Plan) (card : CardFields) (clear : List (List ℕ)) (total u n : ℕ) (w : Watch) (seat : Seat)
-    (receiver : Receiver) → seat.receiver ≡ None → IsSeated plan card clear total w seat → IsAfter [] receiver →
-    IsLive receiver → card_in receiver ≡ card →
-    IsSeated plan card clear total (watched u n (On u) w)
+    (receiver : Receiver) → seat.receiver ≡ None → IsSeated plan card clear total w seat → HasReceived [] receiver →
+    MayReceive receiver → receiver_card receiver ≡ card →
+    IsSeated plan card clear total (watch_after_event u n (On u) w)
     (record { receiver = Some receiver; cursor = seat.cursor; written = seat.written })
 on_seat plan card clear total u n w seat receiver none seated new live same = by_on w.on refl
   where
     to : Seat
     to = record { receiver = Some receiver; cursor = seat.cursor; written = seat.written }
 
-    by_on : (on : Bool) → w.on ≡ on → IsSeated plan card clear total (watched u n (On u) w) to
+    by_on : (on : Bool) → w.on ≡ on → IsSeated plan card clear total (watch_after_event u n (On u) w) to
     by_on true on = absurd (let no = subst IsSome none (seated.on.1 on) in cc)
     by_on false off =
         subst (λ (x : Watch). IsSeated plan card clear total x to) (sym (on_is u n w off))
@@ -176,7 +176,7 @@ off_same plan card clear total w seat seated = record {
 }
 
 pub off_seat : (plan : Plan) (card : CardFields) (clear : List (List ℕ)) (total u n : ℕ) (w : Watch) (seat : Seat) →
-    IsSeated plan card clear total w seat → IsSeated plan card clear total (watched u n (Off u) w)
+    IsSeated plan card clear total w seat → IsSeated plan card clear total (watch_after_event u n (Off u) w)
     (record { receiver = None; cursor = seat.cursor; written = seat.written })
 off_seat plan card clear total u n w seat seated =
     let test : (u == u) ≡ true = grind (arith, nat_tests) in
@@ -185,7 +185,7 @@ off_seat plan card clear total u n w seat seated =
 -- a seat that lost a packet
 pub lost_seat : (plan : Plan) (card : CardFields) (clear : List (List ℕ)) (total u n : ℕ) (w : Watch) (seat : Seat)
     (cursor : ℕ) → seat.cursor < n → IsSeated plan card clear total w seat → cursor ≡ seat.cursor + 1 →
-    IsSeated plan card clear total (watched u n (Lose u) w)
+    IsSeated plan card clear total (watch_after_event u n (Lose u) w)
     (record { receiver = seat.receiver; cursor = cursor; written = seat.written })
 lost_seat plan card clear total u n w seat cursor left seated more =
     let test : ((u == u) && nat_lt w.cursor n) ≡ true = grind (arith, nat_tests, left, seated.cursor) in
@@ -193,7 +193,7 @@ lost_seat plan card clear total u n w seat cursor left seated more =
 
 pub none_lost : (plan : Plan) (card : CardFields) (clear : List (List ℕ)) (total u n : ℕ) (w : Watch) (seat : Seat) →
     n ≤ seat.cursor → IsSeated plan card clear total w seat →
-    IsSeated plan card clear total (watched u n (Lose u) w) seat
+    IsSeated plan card clear total (watch_after_event u n (Lose u) w) seat
 none_lost plan card clear total u n w seat none seated =
     let test : ((u == u) && nat_lt w.cursor n) ≡ false = grind (arith, nat_tests, none, seated.cursor) in
     rw test seated
@@ -209,11 +209,11 @@ pub heard_full : (plan : Plan) (card : CardFields) (clear : List (List ℕ)) (to
     packet ≡ get_or (stream plan clear) w.cursor [] → IsSeated plan card clear total w seat →
     total < length (wrote_before plan card clear w
     ++ concat (out_from card [] (present plan clear w ++ packet ∷ []))) →
-    total < length (concat (written plan card clear (watched u n (Offer u) w)))
+    total < length (concat (written plan card clear (watch_after_event u n (Offer u) w)))
 unfolding wrote_before
 heard_full plan card clear total u n w seat before packet some left next seated full =
     let on : w.on ≡ true = seated.on.0 (subst IsSome (sym some) refl) in
-    let to : Watch = watched u n (Offer u) w in
+    let to : Watch = watch_after_event u n (Offer u) w in
     let now : present plan clear to ≡ present plan clear w ++ packet ∷ [] =
     offer_is_present plan clear u n w on left
     ∙ ap (λ (p : List ℕ). present plan clear w ++ p ∷ []) (sym next) in
@@ -250,8 +250,8 @@ off_if_none plan card clear total w seat none seated = by_on w.on refl
 
 -- the seat of a new receiver
 pub first_seat : (card : CardFields) (total : ℕ) (receiver : Receiver) (store : Store) → store.held ≡ [] →
-    HasRoom total store → IsAfter [] receiver → IsLive receiver → card_in receiver ≡ card →
-    IsNew card total (record { receiver = Some receiver; cursor = 0; written = store })
+    HasStoreRoom total store → HasReceived [] receiver → MayReceive receiver → receiver_card receiver ≡ card →
+    IsNewSeat card total (record { receiver = Some receiver; cursor = 0; written = store })
 unfolding present at_places out_from break_from wrote_before
 first_seat card total receiver store held room new live same plan clear =
     let start : Watch = record { on = true; cursor = 0; now = []; earlier = [] } in
@@ -283,12 +283,12 @@ first_seat card total receiver store held room new live same plan clear =
 
 -- a new seat more
 pub seats_more : (site : Site) (total : ℕ) (seats : List Seat) (more : Seat) → AreNew site total seats →
-    IsNew (card_of site.master site.ca site.height (length seats)) total more → AreNew site total (seats ++ more ∷ [])
+    IsNewSeat (site_card site (length seats)) total more → AreNew site total (seats ++ more ∷ [])
 seats_more site total seats more old new u seat there = elim (before_or_last seats u there) [
   | inl before ↦ old u seat before
   | inr last ↦
-      subst (λ (s : Seat). IsNew (card_of site.master site.ca site.height u) total s) last.1
-      (subst (λ (k : ℕ). IsNew (card_of site.master site.ca site.height k) total more) last.0 new)
+      subst (λ (s : Seat). IsNewSeat (site_card site u) total s) last.1
+      (subst (λ (k : ℕ). IsNewSeat (site_card site k) total more) last.0 new)
 ]
   where
     before_or_last : (xs : List Seat) (k : ℕ) → slice_get (xs ++ more ∷ []) k ≡ Some seat →
@@ -309,14 +309,14 @@ some_there (Some x) some never = never x refl
 -- a receiver has the card that it was made with
 pub has_card : {E : Type 0} (made : Result Receiver E) (card : Card) (fields : CardFields) →
     IfOk made (λ receiver. receiver.card ≡ card) → card_fields_of card ≡ fields →
-    IfOk made (λ receiver. card_in receiver ≡ fields)
+    IfOk made (λ receiver. receiver_card receiver ≡ fields)
 has_card (Ok receiver) card fields is same = ap card_fields_of is ∙ same
 has_card (Err fault) card fields is same = tt
 
 -- a seat that passed all packets stays as it is
 pub none_passed : (plan : Plan) (card : CardFields) (clear : List (List ℕ)) (total u n : ℕ) (w : Watch) (seat : Seat) →
     n ≤ seat.cursor → IsSeated plan card clear total w seat →
-    IsSeated plan card clear total (watched u n (Offer u) w) seat
+    IsSeated plan card clear total (watch_after_event u n (Offer u) w) seat
 none_passed plan card clear total u n w seat none seated =
     let test : ((u == u) && nat_lt w.cursor n) ≡ false = grind (arith, nat_tests, none, seated.cursor) in
     rw test seated

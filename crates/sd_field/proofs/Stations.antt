@@ -13,17 +13,17 @@ use Rattle.sd_spec.specs.Refused.{refusal_of, IsClear}
 use Rattle.sd_spec.specs.Sent.{Item, added, body, bytes_added, packets_from, sent, sent_from}
 use Rattle.sd_spec.proofs.Sending.{packets_in_turn, sent_more}
 use Rattle.sd_head.specs.Schedule.{IsDue}
-use Rattle.sd_head.specs.Staged.{IsAfter, IsReady, RefusesPacket, head_does}
+use Rattle.sd_head.specs.Staged.{IsHeadEndAfter, IsHeadReady, RefusesClearPacket, head_does}
 use Rattle.sd_head.specs.declared.fault.HeadFault.{HeadFault}
 use Rattle.sd_head.specs.declared.head.Head.{Head}
 use Rattle.sd_head.proofs.Chained.{all_clear, chained}
-use Rattle.sd_field.specs.Heard.{HasRoom}
+use Rattle.sd_field.specs.Heard.{HasStoreRoom}
 use Rattle.sd_field.specs.Stations.{IsHeadAfter, IsStation}
 use Rattle.sd_field.specs.declared.station.Station.{Station}
 
 -- the head end has sent what is sent for its packets
 pub head_after : (plan : Plan) (packets : List (List ℕ)) (head : Head) → IsHeadAfter plan packets head →
-    IsAfter plan packets head
+    IsHeadEndAfter plan packets head
 head_after plan packets head stands =
     (chained plan packets stands.start head (concat (body plan packets)) stands.steps stands.new.0 stands.chain).1
 
@@ -34,10 +34,10 @@ head_clear plan packets head stands =
     all_clear plan packets stands.start head (concat (body plan packets)) stands.steps stands.new.0 stands.chain
 
 -- so it may be offered one more
-pub head_ready : (plan : Plan) (packets : List (List ℕ)) (head : Head) → IsHeadAfter plan packets head → IsReady head
+pub head_ready : (plan : Plan) (packets : List (List ℕ)) (head : Head) → IsHeadAfter plan packets head → IsHeadReady head
 head_ready plan packets head stands calm =
     let after = head_after plan packets head stands in
-    (packets, subst (λ (p : Plan). IsAfter p packets head) (sym after.keeps_to) after)
+    (packets, subst (λ (p : Plan). IsHeadEndAfter p packets head) (sym after.keeps_to) after)
 
 -- it stands with one packet more
 pub head_goes_on : (plan : Plan) (packets : List (List ℕ)) (s : Head) (packet : List ℕ) (t : Head) (bytes : List ℕ)
@@ -67,7 +67,7 @@ body_more plan packets packet =
 
 -- the room after bytes that were taken
 pub room_after : (total : ℕ) (old new : Store) (bytes : List ℕ) → new.held ≡ old.held ++ bytes →
-    HasTaken (room_in old) (room_in new) (length bytes) → HasRoom total old → HasRoom total new
+    HasTaken (room_in old) (room_in new) (length bytes) → HasStoreRoom total old → HasStoreRoom total new
 room_after total old new bytes held taken room =
     let took : HasTaken (Some (total - length old.held)) (room_in new) (length bytes) =
     subst (λ (left : Option ℕ). HasTaken left (room_in new) (length bytes)) room.left taken in
@@ -103,7 +103,7 @@ station_allowed plan packets total s packet t bytes steps stands does =
 -- a refusal is due
 pub station_due : (plan : Plan) (packets : List (List ℕ)) (total : ℕ) (s : Station) (packet : List ℕ)
     (fault : HeadFault) (bytes : List ℕ) → IsStation plan packets total s →
-    RefusesPacket s.head (Some packet) fault bytes → IsDue plan packets (Some packet) fault
+    RefusesClearPacket s.head (Some packet) fault bytes → IsDue plan packets (Some packet) fault
 station_due plan packets total s packet fault bytes stands refuses =
     let after = head_after plan packets s.head stands.head in
     elim refuses.cause [
@@ -139,8 +139,8 @@ never_short left total bytes is short none =
     omega (arith, passes, ap length none)
 
 -- a new head end
-pub first_station : (plan : Plan) (total : ℕ) (head : Head) (store : Store) → store.held ≡ [] → HasRoom total store →
-    IsAfter plan [] head → IsReady head →
+pub first_station : (plan : Plan) (total : ℕ) (head : Head) (store : Store) → store.held ≡ [] → HasStoreRoom total store →
+    IsHeadEndAfter plan [] head → IsHeadReady head →
     IsStation plan [] total (record { head = head; count = 0; sent = store })
 unfolding body sent_from packets_from
 first_station plan total head store held room new ready = record {

@@ -5,7 +5,7 @@ use Rattle.std.specs.Prelude.{All, length, reverse, take, get_or, slice_get, if�
 use Rattle.std.specs.Prelude.{Option, Some, None, IsSome, option_and_then}
 use Rattle.std.specs.List.{concat}
 use Rattle.sd_site_cards.specs.SiteFields.{SiteFields}
-use Rattle.sd_site_cards.specs.CardFields.{CardFields, card_of}
+use Rattle.sd_site_cards.specs.CardFields.{CardFields, site_card}
 use Rattle.sd_book.specs.Value.{BookValue}
 use Rattle.sd_message.specs.declared.clear_fault.ClearFault.{ClearFault}
 use Rattle.sd_spec.specs.Plan.{Plan, IsPlan}
@@ -19,7 +19,7 @@ use Rattle.sd_spec.specs.Book.{sends, plan_after}
 use Rattle.sd_spec.specs.Watch.{Watch, watch, written}
 use Rattle.sd_field.specs.declared.fault.FieldFault.{FieldFault}
 use Rattle.sd_field.specs.declared.fault.FieldFault.TheVariants.{NoMemory}
-use Rattle.sd_field.specs.Heard.{HasRoom}
+use Rattle.sd_field.specs.Heard.{HasStoreRoom}
 use Rattle.sd_field.specs.Seats.{IsSeated}
 use Rattle.sd_field.specs.Stations.{IsHeadAfter}
 use Rattle.sd_field.specs.declared.seat.Seat.{Seat}
@@ -43,24 +43,24 @@ abbrev pub sends_of : FieldValue → ℕ
 sends_of v = sends (length v.clear) (past_of v)
 
 -- the clear packets that were sent
-abbrev pub taken : FieldValue → List (List ℕ)
-taken v = take (sends_of v) v.clear
+abbrev pub field_clear_packets : FieldValue → List (List ℕ)
+field_clear_packets v = take (sends_of v) v.clear
 
 -- the site with the book of all events, whether they are done or not
-abbrev pub plan_in : FieldValue → Plan
-plan_in v = plan_after v.site (length v.clear) (reverse v.events)
+abbrev pub plan_of_field : FieldValue → Plan
+plan_of_field v = plan_after v.site (length v.clear) (reverse v.events)
 
 -- leaf u's receiver after the events that are done
 abbrev pub watch_of : ℕ → FieldValue → Watch
-watch_of u v = watch (plan_in v) v.clear u (past_of v)
+watch_of u v = watch (plan_of_field v) v.clear u (past_of v)
 
 -- leaf u's card
-abbrev pub card_at : FieldValue → ℕ → CardFields
-card_at v u = card_of v.site.master v.site.ca v.site.height u
+abbrev pub field_card : FieldValue → ℕ → CardFields
+field_card v u = site_card v.site u
 
 -- what leaf u's receivers wrote
 abbrev pub written_of : ℕ → FieldValue → List ℕ
-written_of u v = concat (written (plan_in v) (card_at v u) (taken v) (watch_of u v))
+written_of u v = concat (written (plan_of_field v) (field_card v u) (field_clear_packets v) (watch_of u v))
 
 -- one event more is done
 abbrev pub after_next : FieldValue → FieldValue
@@ -84,7 +84,7 @@ next_event v = slice_get v.events v.done
 abbrev pub refusal_at : FieldValue → Event → Option ClearFault
 refusal_at v event =
     if is_send event && nat_lt (sends_of v) (length v.clear)
-    then refusal_of v.site (taken v) (get_or v.clear (sends_of v) []) else None
+    then refusal_of v.site (field_clear_packets v) (get_or v.clear (sends_of v) []) else None
 
 -- why the clear packet that the next event sends is refused
 abbrev pub next_refusal : FieldValue → Option ClearFault
@@ -99,7 +99,7 @@ IsSendRefused v = IsSome v.failed × (next_event v ≡ Some Send)
 pub record IsSentOver (v : FieldValue) : Type 0 where
   pub next : next_event v ≡ Some Send
   pub allowed : next_refusal v ≡ None
-  pub over : 188 * 72 * length v.clear < length (concat (body (plan_in v) (take (suc (sends_of v)) v.clear)))
+  pub over : 188 * 72 * length v.clear < length (concat (body (plan_of_field v) (take (suc (sends_of v)) v.clear)))
 
 -- the next event is an offer to leaf u, and all that its receivers then wrote is more than the room of one packet for
 -- each clear packet
@@ -117,25 +117,25 @@ IsWrittenCut u v = (v.failed ≡ Some NoMemory) × IsWrittenOver u v
 
 -- the next event may run out of memory: a send with which a period begins, a send or an offer for which the room
 -- doesn't suffice, or switching on a receiver that is off
-abbrev pub TakesMemory : FieldValue → Option Event → Type 0
-TakesMemory v None = ⊥
-TakesMemory v (Some (Subscribe u)) = ⊥
-TakesMemory v (Some (Revoke u)) = ⊥
-TakesMemory v (Some Send) = (begins_with (plan_in v) (sends_of v) ≡ true) ⊎ IsSentOver v
-TakesMemory v (Some (Offer u)) = IsWrittenOver u v
-TakesMemory v (Some (Lose u)) = ⊥
-TakesMemory v (Some (Off u)) = ⊥
-TakesMemory v (Some (On u)) = (watch_of u v).on ≡ false
+abbrev pub EventTakesMemory : FieldValue → Option Event → Type 0
+EventTakesMemory v None = ⊥
+EventTakesMemory v (Some (Subscribe u)) = ⊥
+EventTakesMemory v (Some (Revoke u)) = ⊥
+EventTakesMemory v (Some Send) = (begins_with (plan_of_field v) (sends_of v) ≡ true) ⊎ IsSentOver v
+EventTakesMemory v (Some (Offer u)) = IsWrittenOver u v
+EventTakesMemory v (Some (Lose u)) = ⊥
+EventTakesMemory v (Some (Off u)) = ⊥
+EventTakesMemory v (Some (On u)) = (watch_of u v).on ≡ false
 
 -- leaf u's seat is as the events that are done leave it, unless an offer to it was cut short
-pub record IsKept (u : ℕ) (v : FieldValue) (seat : Seat) : Type 0 where
+pub record IsSeatKept (u : ℕ) (v : FieldValue) (seat : Seat) : Type 0 where
   pub on : IsSome seat.receiver ↔ ((watch_of u v).on ≡ true)
   pub seated : ¬ IsWrittenCut u v →
-      IsSeated (plan_in v) (card_at v u) (taken v) (188 * length v.clear) (watch_of u v) seat
+      IsSeated (plan_of_field v) (field_card v u) (field_clear_packets v) (188 * length v.clear) (watch_of u v) seat
 
 -- each seat is as the events that are done leave it
 abbrev pub AreSeated : FieldValue → List Seat → Type 0
-AreSeated v seats = (u : ℕ) (seat : Seat) → slice_get seats u ≡ Some seat → IsKept u v seat
+AreSeated v seats = (u : ℕ) (seat : Seat) → slice_get seats u ≡ Some seat → IsSeatKept u v seat
 
 -- what a field keeps: its limits, the book, the head end, and a seat for each leaf
 pub record IsField (v : FieldValue) (book : BookValue) (station : Station) (seats : List Seat) : Type 0 where
@@ -143,14 +143,14 @@ pub record IsField (v : FieldValue) (book : BookValue) (station : Station) (seat
   pub few : length v.events ≤ 524288
   pub leaves : All (λ event. is_of v.site.height event ≡ true) v.events
   pub done : v.done ≤ length v.events
-  pub plan : IsPlan (plan_in v)
-  pub clear : IsClear v.site (taken v)
+  pub plan : IsPlan (plan_of_field v)
+  pub clear : IsClear v.site (field_clear_packets v)
   pub height : book.height ≡ v.site.height
-  pub commands : book.commands ≡ (plan_in v).commands
+  pub commands : book.commands ≡ (plan_of_field v).commands
   pub count : station.count ≡ sends_of v
-  pub head : ¬ IsSendRefused v → IsHeadAfter (plan_in v) (taken v) station.head
-  pub sent : ¬ IsSentCut v → station.sent.held ≡ concat (body (plan_in v) (taken v))
-  pub room : v.failed ≡ None → HasRoom (188 * 72 * length v.clear) station.sent
+  pub head : ¬ IsSendRefused v → IsHeadAfter (plan_of_field v) (field_clear_packets v) station.head
+  pub sent : ¬ IsSentCut v → station.sent.held ≡ concat (body (plan_of_field v) (field_clear_packets v))
+  pub room : v.failed ≡ None → HasStoreRoom (188 * 72 * length v.clear) station.sent
   pub many : length seats ≡ 2 ^ v.site.height
   pub seated : AreSeated v seats
 

@@ -6,7 +6,7 @@ use Rattle.sd_ports.specs.Memory.{Store, room_in}
 use Rattle.sd_engine.specs.Stage.{Chain}
 use Rattle.sd_message.specs.declared.stream_fault.StreamFault.{StreamFault}
 use Rattle.sd_spec.specs.Offered.{out_from, break_from}
-use Rattle.sd_receive.specs.Receiving.{IsAfter, IsLive, card_in, receiver_does}
+use Rattle.sd_receive.specs.Receiving.{HasReceived, MayReceive, receiver_card, receiver_does}
 use Rattle.sd_receive.specs.declared.receiver.Receiver.{Receiver}
 
 -- the receiver is a new one with this card that was offered these packets
@@ -14,9 +14,9 @@ pub record IsReceiverAfter (card : CardFields) (xs : List (List ℕ)) (receiver 
   pub start : Receiver
   pub bytes : List ℕ
   pub steps : ℕ
-  pub new : IsAfter [] start
-  pub live : IsLive start
-  pub same : card_in start ≡ card
+  pub new : HasReceived [] start
+  pub live : MayReceive start
+  pub same : receiver_card start ≡ card
   pub chain : Chain receiver_does start xs receiver bytes steps
   pub wrote : bytes ≡ concat (out_from card [] xs)
 
@@ -27,9 +27,9 @@ pub record IsHeard (card : CardFields) (earlier : List ℕ) (xs : List (List ℕ
   pub bytes : held ≡ earlier ++ concat (out_from card [] xs)
   pub stands : break_from card [] xs ≡ None → IsReceiverAfter card xs receiver
   pub broken : (why : StreamFault) → break_from card [] xs ≡ Some why → receiver.refusal ≡ Some why
-  pub live : IsLive receiver
+  pub live : MayReceive receiver
 
 -- the sink has room for `total` bytes in all
-pub record HasRoom (total : ℕ) (store : Store) : Type 0 where
+pub record HasStoreRoom (total : ℕ) (store : Store) : Type 0 where
   pub fits : length store.held ≤ total
   pub left : room_in store ≡ Some (total - length store.held)

@@ -6,9 +6,9 @@ use Rattle.sd_field.specs.declared.line.LineFault.{LineFault}
 use Rattle.sd_field.specs.declared.line.LineFault.TheVariants.{Form, Leaf}
 
 -- a number as a leaf of a tree of height d
-abbrev pub leaf_in : ℕ → Option ℕ → Result ℕ LineFault
-leaf_in d None = Err Form
-leaf_in d (Some u) = if nat_lt u (2 ^ d) then Ok u else Err Leaf
+abbrev pub event_leaf : ℕ → Option ℕ → Result ℕ LineFault
+event_leaf d None = Err Form
+event_leaf d (Some u) = if nat_lt u (2 ^ d) then Ok u else Err Leaf
 
 -- two numbers of a line, of which the first must be a leaf of a tree of height d
 abbrev pub pair_in : ℕ → Option (ℕ × ℕ) → Result (ℕ × ℕ) LineFault

@@ -2,7 +2,7 @@ ghost use Rattle.std.specs.Prelude.{◌≡◌, ◌↔◌, ◌<◌, ◌≤◌, �
 ghost use Rattle.std.specs.Prelude.{Err};
 ghost use Rattle.std.specs.Prelude.{IfOk, IfErr, IfSome, IsErr, IsSome, OnOk};
 ghost use Rattle.std.specs.List.{concat};
-ghost use Rattle.sd_site_cards.specs.SiteFields.{fields_of};
+ghost use Rattle.sd_site_cards.specs.SiteFields.{site_fields_of};
 ghost use Rattle.sd_message.specs.declared.clear_fault.ClearFault.{ClearFault as Fault};
 ghost use Rattle.sd_spec.specs.Plan.{IsPlan};
 ghost use Rattle.sd_spec.specs.Refused.{IsClear};
@@ -10,9 +10,9 @@ ghost use Rattle.sd_spec.specs.Sent.{body};
 ghost use Rattle.sd_spec.specs.declared.event.Event.TheVariants.{Lose, Off, Offer, On, Revoke, Send, Subscribe};
 ghost use Rattle.sd_spec.specs.Events.{is_of};
 ghost use Rattle.sd_field.specs.declared.fault.FieldFault.{FieldFault as Faults};
-ghost use Rattle.sd_field.specs.Fields.{IsCommand, IsSentCut, IsWrittenCut, IsWrittenOver, TakesMemory};
-ghost use Rattle.sd_field.specs.Fields.{after_fault, after_next, next_event, next_refusal, plan_in, sends_of};
-ghost use Rattle.sd_field.specs.Fields.{taken, watch_of, written_of};
+ghost use Rattle.sd_field.specs.Fields.{IsCommand, IsSentCut, IsWrittenCut, IsWrittenOver, EventTakesMemory};
+ghost use Rattle.sd_field.specs.Fields.{after_fault, after_next, next_event, next_refusal, plan_of_field, sends_of};
+ghost use Rattle.sd_field.specs.Fields.{field_clear_packets, watch_of, written_of};
 
 use crate::fault::FieldFault;
 use crate::laid::event_book;
@@ -63,13 +63,13 @@ impl Drop for Field {
 }
 
 impl Model for Field {
-    ghost use Rattle.sd_site_cards.specs.SiteFields.{fields_of};
+    ghost use Rattle.sd_site_cards.specs.SiteFields.{site_fields_of};
     ghost use Rattle.sd_field.specs.Fields.{FieldValue, IsField};
 
     ghost Value = { FieldValue };
 
     ghost view = { λ f. record {
-      site = fields_of f.site;
+      site = site_fields_of f.site;
       clear = f.clear.items;
       events = f.events.items;
       done = f.done;
@@ -77,7 +77,7 @@ impl Model for Field {
     } };
 
     ghost invariant = { λ f. IsField (record {
-      site = fields_of f.site;
+      site = site_fields_of f.site;
       clear = f.clear.items;
       events = f.events.items;
       done = f.done;
@@ -102,7 +102,7 @@ impl Field {
         requires events { length events.items ≤ 524288 }
         requires leaves { All (λ event. is_of site.height event ≡ true) events.items }
         ensures { IfOk result (λ field. field ≡ record {
-          site = fields_of site;
+          site = site_fields_of site;
           clear = clear.items;
           events = events.items;
           done = 0;
@@ -142,7 +142,7 @@ impl Field {
         ensures clear { (fault : Fault) → self.old.failed ≡ None →
             (result ≡ Err (FieldFault.Clear fault)) ↔ (next_refusal self.old ≡ Some fault) }
         ensures memory { result ≡ Err FieldFault.NoMemory → self.old.failed ≡ None →
-            TakesMemory self.old (next_event self.old) }
+            EventTakesMemory self.old (next_event self.old) }
     {
         if let Some(fault) = self.failed {
             return Err(fault);
@@ -167,7 +167,7 @@ impl Field {
         ensures allowed { OnOk result (next_refusal self.old ≡ None) }
         ensures clear { (fault : Fault) → result ≡ Err (FieldFault.Clear fault) → next_refusal self.old ≡ Some fault }
         ensures memory { result ≡ Err FieldFault.NoMemory →
-            (next_refusal self.old ≡ None) × TakesMemory self.old (Some event) }
+            (next_refusal self.old ≡ None) × EventTakesMemory self.old (Some event) }
     {
         match event {
             Event::Subscribe(_) | Event::Revoke(_) => {
@@ -207,7 +207,7 @@ impl Field {
         ensures allowed { OnOk result (next_refusal self.old ≡ None) }
         ensures clear { (fault : Fault) → result ≡ Err (FieldFault.Clear fault) → next_refusal self.old ≡ Some fault }
         ensures memory { result ≡ Err FieldFault.NoMemory →
-            (next_refusal self.old ≡ None) × TakesMemory self.old (Some Send) }
+            (next_refusal self.old ≡ None) × EventTakesMemory self.old (Some Send) }
     {
         let Some(packet) = self.clear.get(self.station.count) else {
             self.done += 1;
@@ -298,14 +298,14 @@ impl Field {
     /// The number of clear packets that were sent.
     pub fn sends(&self) -> u64
         ensures value { result ≡ sends_of self.now }
-        ensures fits { IsPlan (plan_in self.now) × IsClear self.now.site (taken self.now) }
+        ensures fits { IsPlan (plan_of_field self.now) × IsClear self.now.site (field_clear_packets self.now) }
     {
         self.station.count as u64
     }
 
     /// The bytes of all packets that were sent, in order.
     pub fn sent(&self) -> &[u8]
-        ensures value { ¬ IsSentCut self.now → result.now ≡ concat (body (plan_in self.now) (taken self.now)) }
+        ensures value { ¬ IsSentCut self.now → result.now ≡ concat (body (plan_of_field self.now) (field_clear_packets self.now)) }
     {
         self.station.sent.bytes()
     }
@@ -321,7 +321,7 @@ impl Field {
     /// The book of the commands of all events, whether they are done or not.
     pub fn book(&self) -> &Book
         ensures value { (result.now.height ≡ self.now.site.height)
-            × (result.now.commands ≡ (plan_in self.now).commands) }
+            × (result.now.commands ≡ (plan_of_field self.now).commands) }
     {
         &self.book
     }

@@ -2,8 +2,8 @@ ghost use Rattle.std.specs.Prelude.{◌<◌, ◌++◌, ◌∷◌, [], ℕ, List,
 ghost use Rattle.std.specs.List.{concat};
 ghost use Rattle.sd_site_cards.specs.CardFields.{CardFields};
 ghost use Rattle.sd_spec.specs.Offered.{out_from};
-ghost use Rattle.sd_receive.specs.Receiving.{IsCountable, IsLive};
-ghost use Rattle.sd_field.specs.Heard.{HasRoom, IsHeard};
+ghost use Rattle.sd_receive.specs.Receiving.{IsCountable, MayReceive};
+ghost use Rattle.sd_field.specs.Heard.{HasStoreRoom, IsHeard};
 
 use sd_base::{NoMemory, Steps};
 use sd_engine::{Stage, StageFault};
@@ -20,13 +20,13 @@ pub fn hear<L: Ledger>(
     written: &mut MemSink,
     steps: &mut Steps<L>,
 ) -> Result<(), NoMemory>
-    requires live { IsLive receiver.old }
+    requires live { MayReceive receiver.old }
     ensures heard { (card : CardFields) (earlier : List ℕ) (xs : List (List ℕ)) → IsCountable xs →
         IsHeard card earlier xs receiver.old written.old.held →
         OnOk result (IsHeard card earlier (xs ++ packet.now ∷ []) receiver.new written.new.held) }
-    ensures room { (total : ℕ) → HasRoom total written.old → OnOk result (HasRoom total written.new) }
+    ensures room { (total : ℕ) → HasStoreRoom total written.old → OnOk result (HasStoreRoom total written.new) }
     ensures full { (card : CardFields) (earlier : List ℕ) (xs : List (List ℕ)) (total : ℕ) → IsErr result →
-        IsCountable xs → IsHeard card earlier xs receiver.old written.old.held → HasRoom total written.old →
+        IsCountable xs → IsHeard card earlier xs receiver.old written.old.held → HasStoreRoom total written.old →
         total < length (earlier ++ concat (out_from card [] (xs ++ packet.now ∷ []))) }
 {
     match receiver.offer(packet, written, steps) {

@@ -1,12 +1,12 @@
 ghost use Rattle.std.specs.Prelude.{◌≡◌, ◌<◌, ◌≤◌, ◌^◌, ◌++◌, ◌∷◌, [], true, All, IfOk, OnOk, length, reverse, ℕ};
-ghost use Rattle.sd_site_cards.specs.SiteFields.{fields_of};
+ghost use Rattle.sd_site_cards.specs.SiteFields.{site_fields_of};
 ghost use Rattle.sd_book.specs.Commands.{is_within, last_period};
 ghost use Rattle.sd_book.specs.Limits.{IsDraft, IsWithinLimits};
 ghost use Rattle.sd_spec.specs.declared.event.Event.TheVariants.{Send};
 ghost use Rattle.sd_spec.specs.Events.{is_of, sends_with};
-ghost use Rattle.sd_spec.specs.Book.{booked, commanded, event_book, with_periods_to, open_period, period_after};
-ghost use Rattle.sd_spec.specs.Book.{reached};
-ghost use Rattle.sd_field.specs.Laid.{IsLaid};
+ghost use Rattle.sd_spec.specs.Book.{book_after_event, book_with_command, event_book, with_periods_to, open_period, period_after};
+ghost use Rattle.sd_spec.specs.Book.{period_to_reach};
+ghost use Rattle.sd_field.specs.Laid.{IsBookOfEvents};
 
 use sd_base::NoMemory;
 use sd_book::{Book, BookFault, Command, Draft, MOST_PERIODS};
@@ -26,7 +26,7 @@ pub struct Laid {
 #[tactic(auto, unfolding(sd_spec::specs::Plan::crypto_of))]
 fn open_period(site: &Site, k: u64) -> u64
     requires few { k < 2 ^ 32 }
-    ensures value { result ≡ open_period (fields_of site.now) k }
+    ensures value { result ≡ open_period (site_fields_of site.now) k }
     ensures low { result < 2 ^ 33 }
 {
     let crypto = k / u64::from(site.every * site.cryptos);
@@ -36,7 +36,7 @@ fn open_period(site: &Site, k: u64) -> u64
 /// The period of a command after this number of sends.
 fn period_after(site: &Site, sends: usize) -> u64
     requires few { sends ≤ 16384 }
-    ensures { result ≡ period_after (fields_of site.now) sends }
+    ensures { result ≡ period_after (site_fields_of site.now) sends }
 {
     if sends == 0 {
         return 0;
@@ -47,7 +47,7 @@ fn period_after(site: &Site, sends: usize) -> u64
 /// The last period that the book must have after this number of sends.
 fn reached(site: &Site, sends: usize) -> u32
     requires few { sends ≤ 16384 }
-    ensures { result ≡ reached (fields_of site.now) sends }
+    ensures { result ≡ period_to_reach (site_fields_of site.now) sends }
 {
     if sends == 0 {
         return 0;
@@ -77,7 +77,7 @@ fn push(draft: &mut Draft, command: Command) -> Result<(), NoMemory>
 impl Laid {
     /// The book of no event.
     fn new(alloc: Global, site: &Site) -> Result<Laid, NoMemory>
-        ensures { IfOk result (λ laid. (m : ℕ) → IsLaid (fields_of site.now) m [] laid) }
+        ensures { IfOk result (λ laid. (m : ℕ) → IsBookOfEvents (site_fields_of site.now) m [] laid) }
     {
         Ok(Laid {
             draft: Draft::new(alloc, site.height)?,
@@ -111,10 +111,10 @@ impl Laid {
         requires single { last_period (command ∷ []) ≡ 0 }
         requires low { self.old.draft.height ≤ 6 }
         requires fits { IsWithinLimits self.old.draft.height
-            (commanded (period_after (fields_of site.now) self.old.sends) command self.old.draft.commands) }
+            (book_with_command (period_after (site_fields_of site.now) self.old.sends) command self.old.draft.commands) }
         ensures height { self.new.draft.height ≡ self.old.draft.height }
         ensures value { OnOk result (self.new.draft.commands
-            ≡ commanded (period_after (fields_of site.now) self.old.sends) command self.old.draft.commands) }
+            ≡ book_with_command (period_after (site_fields_of site.now) self.old.sends) command self.old.draft.commands) }
         ensures last { OnOk result (self.new.last ≡ last_period self.new.draft.commands) }
         ensures sends { self.new.sends ≡ self.old.sends }
     {
@@ -133,10 +133,10 @@ impl Laid {
         requires within { self.old.sends ≤ clear }
         requires low { self.old.draft.height ≤ 6 }
         requires fits { IsWithinLimits self.old.draft.height
-            (booked (fields_of site.now) clear self.old.sends Send self.old.draft.commands) }
+            (book_after_event (site_fields_of site.now) clear self.old.sends Send self.old.draft.commands) }
         ensures height { self.new.draft.height ≡ self.old.draft.height }
         ensures value { OnOk result (self.new.draft.commands
-            ≡ booked (fields_of site.now) clear self.old.sends Send self.old.draft.commands) }
+            ≡ book_after_event (site_fields_of site.now) clear self.old.sends Send self.old.draft.commands) }
         ensures last { OnOk result (self.new.last ≡ last_period self.new.draft.commands) }
         ensures sends { OnOk result (self.new.sends ≡ sends_with clear Send self.old.sends) }
     {
@@ -154,10 +154,10 @@ impl Laid {
         requires leaf { is_of self.old.draft.height event ≡ true }
         requires low { self.old.draft.height ≤ 6 }
         requires fits { IsWithinLimits self.old.draft.height
-            (booked (fields_of site.now) clear self.old.sends event self.old.draft.commands) }
+            (book_after_event (site_fields_of site.now) clear self.old.sends event self.old.draft.commands) }
         ensures height { self.new.draft.height ≡ self.old.draft.height }
         ensures value { OnOk result (self.new.draft.commands
-            ≡ booked (fields_of site.now) clear self.old.sends event self.old.draft.commands) }
+            ≡ book_after_event (site_fields_of site.now) clear self.old.sends event self.old.draft.commands) }
         ensures last { OnOk result (self.new.last ≡ last_period self.new.draft.commands) }
         ensures sends { OnOk result (self.new.sends ≡ sends_with clear event self.old.sends) }
     {
@@ -183,7 +183,7 @@ pub(crate) fn event_book(
     requires short { length events.now ≤ 524288 }
     ensures height { IfOk result (λ book. book.height ≡ site.now.height) }
     ensures value { IfOk result (λ book. book.commands
-        ≡ event_book (fields_of site.now) clear (reverse events.now)) }
+        ≡ event_book (site_fields_of site.now) clear (reverse events.now)) }
 {
     let mut laid = Laid::new(alloc, site)?;
     for event in events {

@@ -1,9 +1,9 @@
 ghost use Rattle.std.specs.Prelude.{◌≡◌, None, codes, option_map};
-ghost use Rattle.sd_base.specs.Number.{fitting, decimal_value, rest_after};
+ghost use Rattle.sd_base.specs.Number.{fitting_u32, decimal_value, rest_after};
 ghost use Rattle.sd_spec.specs.declared.event.Event.TheVariants.{Lose, Off, Offer, On};
-ghost use Rattle.sd_field.specs.Line.{leaf_in, pair_in, events_in_run, times_in};
-ghost use Rattle.sd_field.specs.Script.{alone, by_word, count_of, counted, leaf_and_count, repeated};
-ghost use Rattle.sd_field.specs.Script.{spoken};
+ghost use Rattle.sd_field.specs.Line.{event_leaf, pair_in, events_in_run, times_in};
+ghost use Rattle.sd_field.specs.Script.{single_event, event_by_word, count_of, event_count, leaf_and_count, repeated};
+ghost use Rattle.sd_field.specs.Script.{script_line_event};
 
 use sd_base::{NumberFault, cut_at_space, number_after};
 use sd_spec::Event;
@@ -22,9 +22,9 @@ pub(crate) enum LineFault {
 }
 
 /// The event that a line says, and how often.
-#[tactic(auto, unfolding(crate::specs::Script::spoken, crate::specs::Script::alone, crate::specs::Script::sends_said))]
+#[tactic(auto, unfolding(crate::specs::Script::script_line_event, crate::specs::Script::single_event, crate::specs::Script::sends_said))]
 pub(crate) fn run_on(line: &[u8], h: Height) -> Result<(Event, u32), LineFault>
-    ensures { result ≡ events_in_run h (spoken line.now) }
+    ensures { result ≡ events_in_run h (script_line_event line.now) }
 {
     if let Some(text) = text_after(b"subscribe ", line) {
         return Ok((Event::Subscribe(leaf_in(text, h)?), 1));
@@ -39,13 +39,13 @@ pub(crate) fn run_on(line: &[u8], h: Height) -> Result<(Event, u32), LineFault>
 }
 
 /// The event of a leaf's receiver that a line says, and how often.
-#[tactic(auto, unfolding(crate::specs::Script::alone, crate::specs::Script::repeated))]
+#[tactic(auto, unfolding(crate::specs::Script::single_event, crate::specs::Script::repeated))]
 fn run_at_leaf(line: &[u8], h: Height) -> Result<(Event, u32), LineFault>
     ensures { result ≡ events_in_run h
-        (by_word (rest_after (codes "offer ") line.now) (repeated Offer)
-        (by_word (rest_after (codes "lose ") line.now) (repeated Lose)
-        (by_word (rest_after (codes "off ") line.now) (alone Off)
-        (by_word (rest_after (codes "on ") line.now) (alone On) None)))) }
+        (event_by_word (rest_after (codes "offer ") line.now) (repeated Offer)
+        (event_by_word (rest_after (codes "lose ") line.now) (repeated Lose)
+        (event_by_word (rest_after (codes "off ") line.now) (single_event Off)
+        (event_by_word (rest_after (codes "on ") line.now) (single_event On) None)))) }
 {
     if let Some(text) = text_after(b"offer ", line) {
         let (leaf, times) = leaf_times(text, h)?;
@@ -74,7 +74,7 @@ fn text_after<'a>(word: &[u8], line: &'a [u8]) -> Option<&'a [u8]>
 
 /// The leaf that a text says.
 fn leaf_in(text: &[u8], h: Height) -> Result<Leaf, LineFault>
-    ensures { result ≡ leaf_in h (decimal_value text.now) }
+    ensures { result ≡ event_leaf h (decimal_value text.now) }
 {
     match number_in(text) {
         Ok(u) => Leaf::new(h, u).ok_or(LineFault::Leaf),
@@ -96,7 +96,7 @@ fn times_in(text: &[u8]) -> Result<u32, LineFault>
 
 /// The number, if one line may say it.
 fn counted(times: u32) -> Result<u32, LineFault>
-    ensures { result ≡ times_in (counted times) }
+    ensures { result ≡ times_in (event_count times) }
 {
     if times >= 1 && times <= MOST_TIMES {
         Ok(times)
@@ -108,7 +108,7 @@ fn counted(times: u32) -> Result<u32, LineFault>
 /// The number that a text says.
 #[tactic(auto, unfolding(sd_base::specs::Number::rest_after))]
 fn number_in(text: &[u8]) -> Result<u32, NumberFault>
-    ensures { result ≡ fitting (decimal_value text.now) }
+    ensures { result ≡ fitting_u32 (decimal_value text.now) }
 {
     number_after(b"", text)
 }

@@ -1,7 +1,7 @@
 ghost use Rattle.std.specs.Prelude.{◌≡◌, ◌⊎◌, ◌+◌, ◌≤◌, ◌++◌, true, replicate, length, All, IfErr, IfOk, OnOk, Ok, Err};
 ghost use Rattle.std.specs.Prelude.{MatchResult};
 ghost use Rattle.sd_spec.specs.Events.{is_of};
-ghost use Rattle.sd_field.specs.Script.{judged, script_of, spoken};
+ghost use Rattle.sd_field.specs.Script.{judged_event, script_of, script_line_event};
 
 use crate::fault::ScriptFault;
 use crate::line::{LineFault, run_on};
@@ -38,7 +38,7 @@ pub fn read_script(alloc: Global, bytes: &[u8], h: Height) -> Result<Vec<Event>,
 /// The event that line k says, and how often, after `count` events.
 fn judge(line: &[u8], h: Height, k: u32, count: usize) -> Result<(Event, u32), ScriptFault>
     requires few { count ≤ 524288 }
-    ensures value { result ≡ judged h k count (spoken line.now) }
+    ensures value { result ≡ judged_event h k count (script_line_event line.now) }
     ensures some { IfOk result (λ run. 1 ≤ run.1) }
     ensures few { IfOk result (λ run. count + run.1 ≤ 524288) }
 {

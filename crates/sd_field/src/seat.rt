@@ -1,14 +1,14 @@
 ghost use Rattle.std.specs.Prelude.{◌≡◌, ◌↔◌, ◌-◌, ◌^◌, ◌<◌, ◌≤◌, ◌++◌, ◌∷◌, [], ℕ, List, get_or, length, slice_get};
 ghost use Rattle.std.specs.Prelude.{IfOk, IfSome, IsSome, IsErr, OnOk, false, is_some};
 ghost use Rattle.std.specs.List.{concat};
-ghost use Rattle.sd_site_cards.specs.CardFields.{CardFields, card_of};
+ghost use Rattle.sd_site_cards.specs.CardFields.{CardFields, site_card};
 ghost use Rattle.sd_engine.specs.Stream.{packets_of};
 ghost use Rattle.sd_spec.specs.Plan.{Plan};
-ghost use Rattle.sd_receive.specs.Receiving.{IsAfter, IsCountable, IsLive, card_in};
+ghost use Rattle.sd_receive.specs.Receiving.{HasReceived, IsCountable, MayReceive, receiver_card};
 ghost use Rattle.sd_spec.specs.declared.event.Event.TheVariants.{Lose, Off, Offer, On};
-ghost use Rattle.sd_spec.specs.Watch.{Watch, present, stream, watched, written};
-ghost use Rattle.sd_field.specs.Heard.{HasRoom};
-ghost use Rattle.sd_field.specs.Seats.{AreNew, IsNew, IsSeated};
+ghost use Rattle.sd_spec.specs.Watch.{Watch, present, stream, watch_after_event, written};
+ghost use Rattle.sd_field.specs.Heard.{HasStoreRoom};
+ghost use Rattle.sd_field.specs.Seats.{AreNew, IsNewSeat, IsSeated};
 
 use crate::hear::hear;
 use sd_base::{NoMemory, Steps};
@@ -32,7 +32,7 @@ pub struct Seat {
 /// A sink in memory with room for `room` bytes.
 pub(crate) fn sink_of(alloc: Global, room: usize) -> Result<MemSink, NoMemory>
     ensures held { IfOk result (λ sink. sink.held ≡ []) }
-    ensures room { IfOk result (λ sink. HasRoom room sink) }
+    ensures room { IfOk result (λ sink. HasStoreRoom room sink) }
 {
     MemSink::new(alloc, room, usize::MAX, Vec::new(alloc))
 }
@@ -45,10 +45,10 @@ fn receiver_of<L: Ledger>(
     steps: &mut Steps<L>,
 ) -> Result<Receiver, NoMemory>
     requires leaf { u < 2 ^ site.now.height }
-    ensures value { IfOk result (IsAfter []) }
-    ensures card { IfOk result (λ receiver. card_in receiver
-        ≡ card_of site.now.master site.now.ca site.now.height u) }
-    ensures live { IfOk result IsLive }
+    ensures value { IfOk result (HasReceived []) }
+    ensures card { IfOk result (λ receiver. receiver_card receiver
+        ≡ site_card site.now u) }
+    ensures live { IfOk result MayReceive }
 {
     let card = Card::make(alloc, site, u, steps)?;
     Receiver::new(alloc, card)
@@ -64,7 +64,7 @@ impl Seat {
         steps: &mut Steps<L>,
     ) -> Result<Seat, NoMemory>
         requires leaf { u < 2 ^ site.now.height }
-        ensures { IfOk result (IsNew (card_of site.now.master site.now.ca site.now.height u) room) }
+        ensures { IfOk result (IsNewSeat (site_card site.now u) room) }
     {
         Ok(Seat {
             receiver: Some(receiver_of(alloc, site, u, steps)?),
@@ -75,17 +75,17 @@ impl Seat {
 
     /// Passes the next packet that was sent, which is offered to the receiver if that is on.
     pub fn pass<L: Ledger>(&mut self, packet: &Packet, steps: &mut Steps<L>) -> Result<(), NoMemory>
-        requires live { IfSome self.old.receiver IsLive }
+        requires live { IfSome self.old.receiver MayReceive }
         requires few { self.old.cursor < 2 ^ 64 - 1 }
         ensures seated { (plan : Plan) (card : CardFields) (clear : List (List ℕ)) (total u n : ℕ) (w : Watch) →
             IsCountable (present plan clear w) → w.cursor < n →
             packet.now ≡ get_or (stream plan clear) w.cursor [] → IsSeated plan card clear total w self.old →
-            OnOk result (IsSeated plan card clear total (watched u n (Offer u) w) self.new) }
+            OnOk result (IsSeated plan card clear total (watch_after_event u n (Offer u) w) self.new) }
         ensures there { IsErr result → IsSome self.new.receiver ↔ IsSome self.old.receiver }
         ensures full { (plan : Plan) (card : CardFields) (clear : List (List ℕ)) (total u n : ℕ) (w : Watch) →
             IsErr result → IsCountable (present plan clear w) → w.cursor < n →
             packet.now ≡ get_or (stream plan clear) w.cursor [] → IsSeated plan card clear total w self.old →
-            total < length (concat (written plan card clear (watched u n (Offer u) w))) }
+            total < length (concat (written plan card clear (watch_after_event u n (Offer u) w))) }
     {
         if let Some(receiver) = &mut self.receiver {
             hear(receiver, packet, &mut self.written, steps)?;
@@ -115,16 +115,16 @@ pub fn pass_next<L: Ledger>(
     sent: &[u8],
     steps: &mut Steps<L>,
 ) -> Result<(), NoMemory>
-    requires live { IfSome seat.old.receiver IsLive }
+    requires live { IfSome seat.old.receiver MayReceive }
     requires behind { seat.old.cursor ≤ length (packets_of sent.now) }
     ensures seated { (plan : Plan) (card : CardFields) (clear : List (List ℕ)) (total u : ℕ) (w : Watch) →
         IsCountable (present plan clear w) → packets_of sent.now ≡ stream plan clear →
         IsSeated plan card clear total w seat.old →
-        OnOk result (IsSeated plan card clear total (watched u (length (packets_of sent.now)) (Offer u) w) seat.new) }
+        OnOk result (IsSeated plan card clear total (watch_after_event u (length (packets_of sent.now)) (Offer u) w) seat.new) }
     ensures full { (plan : Plan) (card : CardFields) (clear : List (List ℕ)) (total u : ℕ) (w : Watch) →
         IsErr result → IsCountable (present plan clear w) → packets_of sent.now ≡ stream plan clear →
         IsSeated plan card clear total w seat.old →
-        total < length (concat (written plan card clear (watched u (length (packets_of sent.now)) (Offer u) w))) }
+        total < length (concat (written plan card clear (watch_after_event u (length (packets_of sent.now)) (Offer u) w))) }
     ensures there { IsErr result → IsSome seat.new.receiver ↔ IsSome seat.old.receiver }
 {
     match packet_at(sent, seat.cursor) {
@@ -138,7 +138,7 @@ pub fn lose_next(seat: &mut Seat, sent: &[u8])
     requires behind { seat.old.cursor ≤ length (packets_of sent.now) }
     ensures seated { (plan : Plan) (card : CardFields) (clear : List (List ℕ)) (total u : ℕ) (w : Watch) →
         IsSeated plan card clear total w seat.old →
-        IsSeated plan card clear total (watched u (length (packets_of sent.now)) (Lose u) w) seat.new }
+        IsSeated plan card clear total (watch_after_event u (length (packets_of sent.now)) (Lose u) w) seat.new }
 {
     if packet_at(sent, seat.cursor).is_some() {
         seat.cursor += 1;
@@ -156,9 +156,9 @@ impl Seat {
     ) -> Result<(), NoMemory>
         requires leaf { u < 2 ^ site.now.height }
         ensures seated { (plan : Plan) (card : CardFields) (clear : List (List ℕ)) (total n : ℕ) (w : Watch) →
-            card ≡ card_of site.now.master site.now.ca site.now.height u →
+            card ≡ site_card site.now u →
             IsSeated plan card clear total w self.old →
-            OnOk result (IsSeated plan card clear total (watched u n (On u) w) self.new) }
+            OnOk result (IsSeated plan card clear total (watch_after_event u n (On u) w) self.new) }
         ensures same { IsErr result → self.new ≡ self.old }
         ensures was_off { IsErr result → is_some self.old.receiver ≡ false }
     {
@@ -173,7 +173,7 @@ impl Seat {
     pub fn turn_off(&mut self)
         ensures seated { (plan : Plan) (card : CardFields) (clear : List (List ℕ)) (total u n : ℕ) (w : Watch) →
             IsSeated plan card clear total w self.old →
-            IsSeated plan card clear total (watched u n (Off u) w) self.new }
+            IsSeated plan card clear total (watch_after_event u n (Off u) w) self.new }
     {
         self.receiver = None;
     }

@@ -7,7 +7,7 @@ ghost use Rattle.sd_spec.specs.Refused.{refusal_of};
 ghost use Rattle.sd_spec.specs.Sent.{body};
 ghost use Rattle.sd_head.specs.Kept.{plan_of};
 ghost use Rattle.sd_head.specs.Schedule.{begins_with};
-ghost use Rattle.sd_head.specs.Staged.{IsReady};
+ghost use Rattle.sd_head.specs.Staged.{IsHeadReady};
 ghost use Rattle.sd_field.specs.Stations.{IsStation};
 
 use crate::fault::FieldFault;
@@ -50,7 +50,7 @@ impl Station {
         packet: &Packet,
         steps: &mut Steps<L>,
     ) -> Result<(), FieldFault>
-        requires live { IsReady self.old.head }
+        requires live { IsHeadReady self.old.head }
         requires few { self.old.count < 16384 }
         ensures sent { (plan : Plan) (packets : List (List ℕ)) (total : ℕ) →
             IsStation plan packets total self.old →

@@ -22,9 +22,9 @@ use Rattle.sd_head.specs.declared.crypto.CryptoPeriod.{CryptoPeriod}
 use Rattle.sd_head.specs.declared.entitling.Entitling.{Entitling}
 use Rattle.sd_head.specs.Crypto.{crypto_in}
 use Rattle.sd_head.specs.Packets.{period_packets}
-use Rattle.sd_head.specs.Kept.{uncounted, IsOf}
-use Rattle.sd_head.specs.Messages.{head_of, message_due}
-use Rattle.sd_head.specs.Items.{HasSent, HasCountersAfter, tables_bytes, message_bytes}
+use Rattle.sd_head.specs.Kept.{uncounted, IsPeriodState}
+use Rattle.sd_head.specs.Messages.{head_of_ecm, message_due}
+use Rattle.sd_head.specs.Items.{HasSentItems, HasCountersAfter, tables_bytes, message_bytes}
 use Rattle.sd_head.specs.declared.sender.Sender.{Sender}
 use Rattle.sd_head.proofs.Counting.{bytes_on, inserted_bytes, inserted_next, carried_next, items_due, items_of}
 use Rattle.sd_head.proofs.Counting.{of_sections}
@@ -34,7 +34,7 @@ abbrev pub sections_at : Plan → ℕ → List Emm
 sections_at plan k = emms_of (period_at plan (period_of plan k))
 
 -- the packets of the period at work are those of the period of packet k
-pub emms_are : (plan : Plan) (k : ℕ) (entitling : Entitling) → IsOf plan (crypto_of plan.site k) entitling →
+pub emms_are : (plan : Plan) (k : ℕ) (entitling : Entitling) → IsPeriodState plan (crypto_of plan.site k) entitling →
     map uncounted entitling.emms.items ≡ of_sections plan.site (sections_at plan k)
 unfolding period_packets period_of
 emms_are plan k entitling of = of.period.emms
@@ -50,9 +50,9 @@ message_is : (plan : Plan) (before : List (List ℕ)) (crypto : CryptoPeriod) (c
     crypto ≡ crypto_in plan.site.master (period_in plan (crypto_of plan.site k))
     (word_in plan.site (crypto_of plan.site k)) →
     clear ≡ length before →
-    message_of (head_of plan.site crypto clear number closing) (places_after before)
+    message_of (head_of_ecm plan.site crypto clear number closing) (places_after before)
     ≡ message_at plan before number k closing
-unfolding message_at head_of crypto_in period_of word_of
+unfolding message_at head_of_ecm crypto_in period_of word_of
 message_is plan before crypto clear number k closing is counted = rw is (rw counted refl)
 
 -- a message stands before every e-th packet
@@ -76,13 +76,13 @@ message_stands plan before crypto clear places counted is are =
     go true test =
         let some : IsSome (message_due plan.site crypto clear) = rw test refl in
         rw test (ap (λ (ps : List Place). map Controls
-        (parts_of (message_of (head_of plan.site crypto clear (clear / plan.site.every) false) ps))) (are some)
+        (parts_of (message_of (head_of_ecm plan.site crypto clear (clear / plan.site.every) false) ps))) (are some)
         ∙ ap (λ (message : Message). map Controls (parts_of message))
         (message_is plan before crypto clear (clear / plan.site.every) clear false is counted))
 
 -- what a packet adds is sent
 pub added_bytes : (plan : Plan) (before : List (List ℕ)) (packet veiled : List ℕ) (due : Bool) (emms : List (List ℕ))
-    (message : Option EcmHead) (sender : Sender) → HasSent plan.site (sent plan before) sender →
+    (message : Option EcmHead) (sender : Sender) → HasSentItems plan.site (sent plan before) sender →
     due ≡ (length before % crypto_length plan.site == 0) →
     map uncounted emms ≡ of_sections plan.site (sections_at plan (length before)) →
     items_of message sender.places.items ≡ message_before plan before → veiled ≡ carried plan.site before packet →
@@ -108,11 +108,11 @@ added_bytes plan before packet veiled due emms message sender has is are told ma
 
 -- and then these counters come next
 pub added_next : (plan : Plan) (before : List (List ℕ)) (packet : List ℕ) (due : Bool) (emms : List (List ℕ))
-    (message : Option EcmHead) (old new : Sender) → HasSent plan.site (sent plan before) old →
+    (message : Option EcmHead) (old new : Sender) → HasSentItems plan.site (sent plan before) old →
     due ≡ (length before % crypto_length plan.site == 0) →
     map uncounted emms ≡ of_sections plan.site (sections_at plan (length before)) →
     items_of message old.places.items ≡ message_before plan before → HasCountersAfter old due emms message new →
-    HasSent plan.site (sent plan (before ++ packet ∷ [])) new
+    HasSentItems plan.site (sent plan (before ++ packet ∷ [])) new
 unfolding added
 added_next plan before packet due emms message old new has is are told follows =
     let E = sent plan before in
@@ -123,10 +123,10 @@ added_next plan before packet due emms message old new has is are told follows =
     ap (λ (b : Bool). items_due b (sections_at plan (length before)) ++ items_of message old.places.items) is
     ∙ (ap (λ (xs : List Item). xs ++ items_of message old.places.items) (tables_are plan (length before))
     ∙ ap (λ (xs : List Item). T ++ xs) told) in
-    let inserted : HasSent plan.site (E ++ (T ++ M)) new =
-    subst (λ (xs : List Item). HasSent plan.site (E ++ xs) new) items
+    let inserted : HasSentItems plan.site (E ++ (T ++ M)) new =
+    subst (λ (xs : List Item). HasSentItems plan.site (E ++ xs) new) items
     (inserted_next plan.site E due (sections_at plan (length before)) emms message old new has are follows) in
-    subst (λ (xs : List Item). HasSent plan.site xs new)
+    subst (λ (xs : List Item). HasSentItems plan.site xs new)
     (append_assoc E (T ++ M) C
     ∙ (ap (λ (xs : List Item). E ++ xs) (append_assoc T M C) ∙ sym (sent_more plan before packet)))
     (carried_next plan.site (E ++ (T ++ M)) (length before) (carried plan.site before packet) new inserted)
@@ -134,11 +134,11 @@ added_next plan before packet due emms message old new has is are told follows =
 -- what the end adds is sent
 pub closing_bytes : (plan : Plan) (before : List (List ℕ)) (crypto : CryptoPeriod) (clear : ℕ) (due : Bool)
     (emms : List (List ℕ))
-    (head : EcmHead) (sender : Sender) → HasSent plan.site (sent plan before) sender → clear ≡ length before →
+    (head : EcmHead) (sender : Sender) → HasSentItems plan.site (sent plan before) sender → clear ≡ length before →
     due ≡ (clear == 0) → map uncounted emms ≡ of_sections plan.site (sections_at plan (clear - 1)) →
     crypto ≡ crypto_in plan.site.master (period_in plan (crypto_of plan.site (clear - 1)))
     (word_in plan.site (crypto_of plan.site (clear - 1))) →
-    head ≡ head_of plan.site crypto clear (closing_number plan.site clear) true →
+    head ≡ head_of_ecm plan.site crypto clear (closing_number plan.site clear) true →
     sender.places.items ≡ places_after before →
     tables_bytes sender due emms ++ message_bytes plan.site.ecm sender (Some head)
     ≡ concat (packets_from plan.site (sent plan before) (closing_of plan before))
@@ -158,7 +158,7 @@ closing_bytes plan before crypto clear due emms head sender has counted is are o
         ≡ message_at plan before (closing_number plan.site clear) (clear - 1) true
     told =
         ap (λ (h : EcmHead). message_of h sender.places.items) says
-        ∙ (ap (message_of (head_of plan.site crypto clear (closing_number plan.site clear) true)) placed
+        ∙ (ap (message_of (head_of_ecm plan.site crypto clear (closing_number plan.site clear) true)) placed
         ∙ message_is plan before crypto clear (closing_number plan.site clear) (clear - 1) true of counted)
 
     first : (n : ℕ) → items_due (n == 0) (sections_at plan (n - 1)) ≡ (if n == 0 then tables_at plan 0 else [])

@@ -7,8 +7,8 @@ use Rattle.sd_base.specs.Types.{Packet, Packets, PacketNumber}
 use Rattle.sd_site_cards.specs.SiteFields.{SiteFields}
 use Rattle.sd_message.specs.declared.clear_fault.ClearFault.{ClearFault}
 use Rattle.sd_spec.specs.Refused.{pat_wrong}
-use Rattle.sd_spec.specs.Aired.{Verdict, Marked, Refused, Sent, Ends, verdict_of, following, aired_from, ended_from}
-use Rattle.sd_spec.specs.Aired.{one_marked, one_refused, one_sent, left_by, none_left, left_from}
+use Rattle.sd_spec.specs.Aired.{Verdict, Marked, Refused, Sent, Ends, verdict_of, by_verdict, aired_from, ended_from}
+use Rattle.sd_spec.specs.Aired.{left_out_marked, left_out_refused, left_out_with_sent, left_by, none_left, left_from}
 use Rattle.sd_spec.specs.declared.left_out.LeftOut.{LeftOut}
 
 -- nothing more
@@ -18,7 +18,7 @@ add_none n = omega arith
 -- the packets that are sent of some that don't come to an end, and of others after them
 module _ (site : SiteFields) (rest : Packets) where
   aired_step : (v : Verdict) (before : Packets) (n : PacketNumber) (packet : Packet) (past : Packets) →
-      following v (ended_from site (before ++ packet ∷ []) (n + 1) past) (ended_from site before (n + 1) past) (Some n)
+      by_verdict v (ended_from site (before ++ packet ∷ []) (n + 1) past) (ended_from site before (n + 1) past) (Some n)
       ≡ None →
       (ended_from site (before ++ packet ∷ []) (n + 1) past ≡ None →
       aired_from site (before ++ packet ∷ []) (n + 1) (past ++ rest)
@@ -28,11 +28,11 @@ module _ (site : SiteFields) (rest : Packets) where
       (ended_from site before (n + 1) past ≡ None → aired_from site before (n + 1) (past ++ rest)
       ≡ aired_from site before (n + 1) past
       ++ aired_from site (before ++ aired_from site before (n + 1) past) ((n + 1) + length past) rest) →
-      following v (packet ∷ aired_from site (before ++ packet ∷ []) (n + 1) (past ++ rest))
+      by_verdict v (packet ∷ aired_from site (before ++ packet ∷ []) (n + 1) (past ++ rest))
       (aired_from site before (n + 1) (past ++ rest)) []
-      ≡ following v (packet ∷ aired_from site (before ++ packet ∷ []) (n + 1) past)
+      ≡ by_verdict v (packet ∷ aired_from site (before ++ packet ∷ []) (n + 1) past)
       (aired_from site before (n + 1) past) []
-      ++ aired_from site (before ++ following v (packet ∷ aired_from site (before ++ packet ∷ []) (n + 1) past)
+      ++ aired_from site (before ++ by_verdict v (packet ∷ aired_from site (before ++ packet ∷ []) (n + 1) past)
       (aired_from site before (n + 1) past) []) ((n + 1) + length past) rest
   aired_step Marked before n packet past h sent left = left h
   aired_step (Refused fault) before n packet past h sent left = left h
@@ -57,7 +57,7 @@ module _ (site : SiteFields) (rest : Packets) where
 
   -- the end that they come to
   ended_step : (v : Verdict) (before : Packets) (n : PacketNumber) (packet : Packet) (past : Packets) →
-      following v (ended_from site (before ++ packet ∷ []) (n + 1) past) (ended_from site before (n + 1) past) (Some n)
+      by_verdict v (ended_from site (before ++ packet ∷ []) (n + 1) past) (ended_from site before (n + 1) past) (Some n)
       ≡ None →
       (ended_from site (before ++ packet ∷ []) (n + 1) past ≡ None →
       ended_from site (before ++ packet ∷ []) (n + 1) (past ++ rest)
@@ -65,9 +65,9 @@ module _ (site : SiteFields) (rest : Packets) where
       ((n + 1) + length past) rest) →
       (ended_from site before (n + 1) past ≡ None → ended_from site before (n + 1) (past ++ rest)
       ≡ ended_from site (before ++ aired_from site before (n + 1) past) ((n + 1) + length past) rest) →
-      following v (ended_from site (before ++ packet ∷ []) (n + 1) (past ++ rest))
+      by_verdict v (ended_from site (before ++ packet ∷ []) (n + 1) (past ++ rest))
       (ended_from site before (n + 1) (past ++ rest)) (Some n)
-      ≡ ended_from site (before ++ following v (packet ∷ aired_from site (before ++ packet ∷ []) (n + 1) past)
+      ≡ ended_from site (before ++ by_verdict v (packet ∷ aired_from site (before ++ packet ∷ []) (n + 1) past)
       (aired_from site before (n + 1) past) []) ((n + 1) + length past) rest
   ended_step Marked before n packet past h sent left = left h
   ended_step (Refused fault) before n packet past h sent left = left h
@@ -90,33 +90,33 @@ module _ (site : SiteFields) (rest : Packets) where
 
 -- what is left out, with a packet at its end of which this becomes
 abbrev pub left_with : Verdict → Packet → LeftOut → LeftOut
-left_with Marked packet out = one_marked out
+left_with Marked packet out = left_out_marked out
 left_with (Refused fault) packet out = record {
   marked = out.marked;
   refused = out.refused + 1;
   pats = out.pats;
   first = option_or out.first (Some fault);
 }
-left_with Sent packet out = one_sent packet out
+left_with Sent packet out = left_out_with_sent packet out
 left_with Ends packet out = out
 
 -- one in front and one at the end, in either order
 marked_first : (v : Verdict) (packet : Packet) (out : LeftOut) →
-    one_marked (left_with v packet out) ≡ left_with v packet (one_marked out)
+    left_out_marked (left_with v packet out) ≡ left_with v packet (left_out_marked out)
 marked_first Marked packet out = refl
 marked_first (Refused fault) packet out = refl
 marked_first Sent packet out = refl
 marked_first Ends packet out = refl
 
 refused_first : (fault : ClearFault) (v : Verdict) (packet : Packet) (out : LeftOut) →
-    one_refused fault (left_with v packet out) ≡ left_with v packet (one_refused fault out)
+    left_out_refused fault (left_with v packet out) ≡ left_with v packet (left_out_refused fault out)
 refused_first fault Marked packet out = refl
 refused_first fault (Refused other) packet out = refl
 refused_first fault Sent packet out = refl
 refused_first fault Ends packet out = refl
 
 sent_first : (first : Packet) (v : Verdict) (packet : Packet) (out : LeftOut) →
-    one_sent first (left_with v packet out) ≡ left_with v packet (one_sent first out)
+    left_out_with_sent first (left_with v packet out) ≡ left_with v packet (left_out_with_sent first out)
 sent_first first Marked packet out = refl
 sent_first first (Refused other) packet out = refl
 sent_first first Sent packet out =
@@ -137,7 +137,7 @@ left_alone Ends packet = refl
 
 module _ (site : SiteFields) (last : Packet) where
   left_step : (v : Verdict) (before : Packets) (n : PacketNumber) (packet : Packet) (past : Packets) →
-      following v (ended_from site (before ++ packet ∷ []) (n + 1) past) (ended_from site before (n + 1) past) (Some n)
+      by_verdict v (ended_from site (before ++ packet ∷ []) (n + 1) past) (ended_from site before (n + 1) past) (Some n)
       ≡ None →
       (ended_from site (before ++ packet ∷ []) (n + 1) past ≡ None →
       left_from site (before ++ packet ∷ []) (n + 1) (past ++ last ∷ [])
@@ -148,19 +148,19 @@ module _ (site : SiteFields) (last : Packet) where
       (left_from site before (n + 1) past)) →
       left_by v packet (left_from site (before ++ packet ∷ []) (n + 1) (past ++ last ∷ []))
       (left_from site before (n + 1) (past ++ last ∷ [])) none_left
-      ≡ left_with (verdict_of site (before ++ following v
+      ≡ left_with (verdict_of site (before ++ by_verdict v
       (packet ∷ aired_from site (before ++ packet ∷ []) (n + 1) past) (aired_from site before (n + 1) past) [])
       ((n + 1) + length past) last) last (left_by v packet (left_from site (before ++ packet ∷ []) (n + 1) past)
       (left_from site before (n + 1) past) none_left)
   left_step Marked before n packet past h sent left =
-      ap one_marked (left h) ∙ marked_first _ last (left_from site before (n + 1) past)
+      ap left_out_marked (left h) ∙ marked_first _ last (left_from site before (n + 1) past)
   left_step (Refused fault) before n packet past h sent left =
-      ap (one_refused fault) (left h) ∙ refused_first fault _ last (left_from site before (n + 1) past)
+      ap (left_out_refused fault) (left h) ∙ refused_first fault _ last (left_from site before (n + 1) past)
   left_step Sent before n packet past h sent left =
-      ap (one_sent packet) (sent h)
+      ap (left_out_with_sent packet) (sent h)
       ∙ (sent_first packet _ last (left_from site (before ++ packet ∷ []) (n + 1) past)
       ∙ ap (λ (b : Packets). left_with (verdict_of site b ((n + 1) + length past) last) last
-      (one_sent packet (left_from site (before ++ packet ∷ []) (n + 1) past)))
+      (left_out_with_sent packet (left_from site (before ++ packet ∷ []) (n + 1) past)))
       (append_assoc before (packet ∷ []) (aired_from site (before ++ packet ∷ []) (n + 1) past)))
   left_step Ends before n packet past h sent left = absurd cc
 
@@ -207,12 +207,12 @@ left_within site before n (packet ∷ past) =
 
 -- of one packet alone
 pub aired_alone : (site : SiteFields) (before : Packets) (n : PacketNumber) (packet : Packet) →
-    aired_from site before n (packet ∷ []) ≡ following (verdict_of site before n packet) (packet ∷ []) [] []
+    aired_from site before n (packet ∷ []) ≡ by_verdict (verdict_of site before n packet) (packet ∷ []) [] []
 unfolding aired_from
 aired_alone site before n packet = refl
 
 pub ended_alone : (site : SiteFields) (before : Packets) (n : PacketNumber) (packet : Packet) →
-    ended_from site before n (packet ∷ []) ≡ following (verdict_of site before n packet) None None (Some n)
+    ended_from site before n (packet ∷ []) ≡ by_verdict (verdict_of site before n packet) None None (Some n)
 unfolding ended_from
 ended_alone site before n packet = refl
 

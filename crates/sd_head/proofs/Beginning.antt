@@ -7,16 +7,16 @@ use Rattle.std.proofs.lemmas.List.{get_or-replicate}
 use Rattle.sd_packet.specs.Positions.{moved_by}
 use Rattle.sd_packet.proofs.Positions.{positional_small}
 use Rattle.sd_spec.specs.Kinds.{pmts_in, pat_in_force, has_moved, moved_pids, positional_pids}
-use Rattle.sd_head.specs.Known.{AreKnown, AreNear, AreMarked}
+use Rattle.sd_head.specs.Known.{ArePids, AreReachablePositions, AreMarkedPids}
 use Rattle.sd_head.specs.After.{ArePositions}
 
-pub none_known : (pids : List ℕ) → pids ≡ [] → AreKnown pids
+pub none_known : (pids : List ℕ) → pids ≡ [] → ArePids pids
 none_known pids none = record { at = λ i. small pids i none }
   where
     small : (pids : List ℕ) (i : ℕ) → pids ≡ [] → get_or pids i 0 < 8192
     small pids i none = let is : get_or pids i 0 ≡ 0 = ap (λ (l : List ℕ). get_or l i 0) none in omega (arith, is)
 
-pub first_near : (positions : List ℕ) → positions ≡ replicate 8192 15 → AreNear 0 positions
+pub first_near : (positions : List ℕ) → positions ≡ replicate 8192 15 → AreReachablePositions 0 positions
 first_near positions is = record {
   at = λ pid. subst (λ (l : List ℕ). get_or l pid 0 ≤ 15 + 16 * 0) (sym is)
       (repeated 8192 pid);
@@ -42,7 +42,7 @@ pub first_pids : (pids : List ℕ) → pids ≡ [] → pids ≡ moved_pids []
 unfolding moved_pids positional_pids
 first_pids pids none = none ∙ sym (none_pass (has_moved []) 0x0020 0x1FD0 (λ m. refl))
 
-pub first_marks : (marks : List Bool) → marks ≡ replicate 8192 false → AreMarked (pmts_in []) marks
+pub first_marks : (marks : List Bool) → marks ≡ replicate 8192 false → AreMarkedPids (pmts_in []) marks
 unfolding pmts_in pat_in_force
 first_marks marks is = record {
   at = λ pid small. ap (λ (l : List Bool). get_or l pid false) is ∙ get_or-replicate 8192 pid false false small;

@@ -7,18 +7,18 @@ use Rattle.sd_packet.proofs.Positions.{own_moves, positional_small}
 use Rattle.sd_tree_keys.specs.Keys.{control_word_of}
 use Rattle.sd_site_cards.specs.SiteFields.{SiteFields}
 use Rattle.sd_psi.specs.declared.fault.FormFault.{FormFault}
-use Rattle.sd_psi.specs.Rewriting.{rewrite_fault, restore_fault, rewritten}
+use Rattle.sd_psi.specs.Rewriting.{rewrite_fault, restore_fault, pmt_with_descriptor}
 use Rattle.sd_cipher.specs.Scrambling.{scrambled}
 use Rattle.sd_cipher.specs.declared.payload.Parity.{Parity}
 use Rattle.sd_spec.specs.Plan.{word_of}
 use Rattle.sd_spec.specs.Refused.{is_full_own}
 use Rattle.sd_spec.specs.Kinds.{kind_of}
-use Rattle.sd_spec.specs.Carried.{carried, carried_as, pmt_carried, veiled, place_after, parity_of}
+use Rattle.sd_spec.specs.Carried.{carried, carried_as, pmt_carried, packet_under_word, place_after, parity_of}
 use Rattle.sd_spec.specs.declared.kind.Kind.{Kind}
 use Rattle.sd_spec.specs.declared.kind.Kind.TheVariants.{Passed, Pmt, Scrambled}
 use Rattle.sd_psi.specs.declared.pat.Pat.{Pat}
-use Rattle.sd_head.specs.After.{IsAfter, ArePositions}
-use Rattle.sd_head.specs.Follows.{IsLearned}
+use Rattle.sd_head.specs.After.{IsClearAfter, ArePositions}
+use Rattle.sd_head.specs.Follows.{IsPacketLearned}
 use Rattle.sd_head.specs.declared.clear.Clear.{Clear}
 use Rattle.sd_head.specs.declared.judged.Judged.TheVariants as Judged
 use Rattle.sd_head.specs.declared.judged.Move.{Move}
@@ -31,12 +31,12 @@ unfolding carried
 by_kind kind site before packet is = ap (λ (k : Kind). carried_as k site before packet) is
 
 pub carried_passed : (site : SiteFields) (clear : Clear) (before : List (List ℕ)) (packet : List ℕ)
-    (pat : Option Pat) → IsLearned site clear packet (Judged.Passed pat) → packet ≡ carried site before packet
+    (pat : Option Pat) → IsPacketLearned site clear packet (Judged.Passed pat) → packet ≡ carried site before packet
 carried_passed site clear before packet pat learned =
     by_kind Passed site before packet (passed_is before packet learned.moves)
 
 pub carried_pmt : (site : SiteFields) (clear : Clear) (before : List (List ℕ)) (packet new : List ℕ) (next : Move)
-    → IsLearned site clear packet (Judged.Pmt next new) → IsAfter before clear → new ≡ carried site before packet
+    → IsPacketLearned site clear packet (Judged.Pmt next new) → IsClearAfter before clear → new ≡ carried site before packet
 carried_pmt site clear before packet new next learned after =
     let placed = learned.moves.placed in
     let known = positional_small (pid_of packet) (placed_pid packet placed) in
@@ -45,7 +45,7 @@ carried_pmt site clear before packet new next learned after =
 
 -- a PMT that was rewritten, and one that couldn't be and couldn't be restored either
 pub pmt_rewritten : (site : SiteFields) (packet new : List ℕ) → rewrite_fault packet ≡ None
-    → new ≡ rewritten site.ca site.ecm packet
+    → new ≡ pmt_with_descriptor site.ca site.ecm packet
     → (is_full_own site Pmt packet ≡ false) × (new ≡ pmt_carried site packet)
 unfolding pmt_carried
 pmt_rewritten site packet new none value = (rw none refl, rw none value)
@@ -66,15 +66,15 @@ place_is before packet positions placed are =
 
 veiled_is : (site : SiteFields) (packet word : List ℕ) (t n position : ℕ) (parity : Parity) → n ≡ t
     → word ≡ control_word_of site.master n → parity ≡ parity_of n
-    → scrambled packet word position parity ≡ veiled site t position packet
-unfolding veiled
+    → scrambled packet word position parity ≡ packet_under_word site t position packet
+unfolding packet_under_word
 veiled_is site packet word t n position parity is own even =
     ap (λ (w : List ℕ). scrambled packet w position parity) own
     ∙ (ap (λ (p : Parity). scrambled packet (control_word_of site.master n) position p) even
     ∙ ap (λ (k : ℕ). scrambled packet (control_word_of site.master k) position (parity_of k)) is)
 
 pub carried_scrambled : (site : SiteFields) (clear : Clear) (before : List (List ℕ)) (packet word new : List ℕ)
-    (next : Move) (n : ℕ) (parity : Parity) → IsLearned site clear packet (Judged.Scrambled next) → IsAfter before clear
+    (next : Move) (n : ℕ) (parity : Parity) → IsPacketLearned site clear packet (Judged.Scrambled next) → IsClearAfter before clear
     → n ≡ word_of site (length before) → word ≡ control_word_of site.master n → parity ≡ parity_of n
     → new ≡ scrambled packet word next.position parity → new ≡ carried site before packet
 carried_scrambled site clear before packet word new next n parity learned after number own even value =
@@ -83,7 +83,7 @@ carried_scrambled site clear before packet word new next n parity learned after 
     let t = word_of site (length before) in
     value
     ∙ (veiled_is site packet word t n next.position parity number own even
-    ∙ (ap (λ (x : ℕ). veiled site t x packet)
+    ∙ (ap (λ (x : ℕ). packet_under_word site t x packet)
     (learned.moves.position ∙ place_is before packet clear.positions.items placed after.placed)
     ∙ by_kind Scrambled site before packet
     (scrambled_is before packet clear.pmts.items placed after.marked known learned.kind)))

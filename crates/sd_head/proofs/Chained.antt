@@ -11,9 +11,9 @@ use Rattle.sd_site_cards.specs.SiteFields.{SiteFields}
 use Rattle.sd_message.specs.declared.clear_fault.ClearFault.{ClearFault}
 use Rattle.sd_spec.specs.Plan.{Plan}
 use Rattle.sd_spec.specs.Refused.{refusal_of, refusal_from, whole_refusal, IsClear}
-use Rattle.sd_spec.specs.Sent.{body, broadcast, bytes_added, bytes_from}
+use Rattle.sd_spec.specs.Sent.{body, broadcast, bytes_added, sent_bytes_from}
 use Rattle.sd_spec.proofs.Bodies.{body_bytes, closed_bytes}
-use Rattle.sd_head.specs.Staged.{head_does, head_ends, head_refuses, IsAfter, RefusesPacket}
+use Rattle.sd_head.specs.Staged.{head_does, head_ends, head_refuses, IsHeadEndAfter, RefusesClearPacket}
 use Rattle.sd_head.specs.Schedule.{IsDue}
 use Rattle.sd_head.specs.declared.fault.HeadFault.{HeadFault}
 use Rattle.sd_head.specs.declared.fault.HeadFault.TheVariants.{Clear}
@@ -22,28 +22,28 @@ use Rattle.sd_head.proofs.Stepping.{none_then}
 
 -- the bytes of packets, each after those before it
 pub all_bytes : (plan : Plan) (before packets : List (List ℕ)) →
-    all_from (bytes_added plan) before packets ≡ bytes_from plan before packets
-unfolding bytes_from
+    all_from (bytes_added plan) before packets ≡ sent_bytes_from plan before packets
+unfolding sent_bytes_from
 all_bytes plan before [] = refl
 all_bytes plan before (packet ∷ packets) =
     ap (λ (rest : List ℕ). bytes_added plan before packet ++ rest) (all_bytes plan (before ++ packet ∷ []) packets)
 
 -- a chain from the beginning
-pub chained : (plan : Plan) (packets : List (List ℕ)) (s t : Head) (bytes : List ℕ) (steps : ℕ) → IsAfter plan [] s →
-    Chain head_does s packets t bytes steps → (bytes ≡ concat (body plan packets)) × IsAfter plan packets t
+pub chained : (plan : Plan) (packets : List (List ℕ)) (s t : Head) (bytes : List ℕ) (steps : ℕ) → IsHeadEndAfter plan [] s →
+    Chain head_does s packets t bytes steps → (bytes ≡ concat (body plan packets)) × IsHeadEndAfter plan packets t
 chained plan packets s t bytes steps after chain =
-    let there = chain_writes head_does (IsAfter plan) (bytes_added plan)
+    let there = chain_writes head_does (IsHeadEndAfter plan) (bytes_added plan)
     (λ before u packet v wrote n stands does. ((does plan before stands).1, (does plan before stands).2))
     [] s packets t bytes steps after chain in
     (there.0 ∙ (all_bytes plan [] packets ∙ sym (body_bytes plan packets)), there.1)
 
 pub all_written : (plan : Plan) (packets : List (List ℕ)) (s t : Head) (bytes : List ℕ) (steps : ℕ) →
-    IsAfter plan [] s →
+    IsHeadEndAfter plan [] s →
     Chain head_does s packets t bytes steps → bytes ≡ concat (body plan packets)
 all_written plan packets s t bytes steps after chain = (chained plan packets s t bytes steps after chain).0
 
-pub all_after : (plan : Plan) (packets : List (List ℕ)) (s t : Head) (bytes : List ℕ) (steps : ℕ) → IsAfter plan [] s →
-    Chain head_does s packets t bytes steps → IsAfter plan packets t
+pub all_after : (plan : Plan) (packets : List (List ℕ)) (s t : Head) (bytes : List ℕ) (steps : ℕ) → IsHeadEndAfter plan [] s →
+    Chain head_does s packets t bytes steps → IsHeadEndAfter plan packets t
 all_after plan packets s t bytes steps after chain = (chained plan packets s t bytes steps after chain).1
 
 -- packets that are clear and one more that isn't refused are clear
@@ -66,16 +66,16 @@ pub none_clear : (site : SiteFields) → IsClear site []
 unfolding refusal_from
 none_clear site = refl
 
-pub all_clear : (plan : Plan) (packets : List (List ℕ)) (s t : Head) (bytes : List ℕ) (steps : ℕ) → IsAfter plan [] s →
+pub all_clear : (plan : Plan) (packets : List (List ℕ)) (s t : Head) (bytes : List ℕ) (steps : ℕ) → IsHeadEndAfter plan [] s →
     Chain head_does s packets t bytes steps → IsClear plan.site packets
 all_clear plan packets s t bytes steps after chain =
-    (chain_writes head_does (λ before u. IsAfter plan before u × IsClear plan.site before) (bytes_added plan)
+    (chain_writes head_does (λ before u. IsHeadEndAfter plan before u × IsClear plan.site before) (bytes_added plan)
     (λ before u packet v wrote n stands does. let here = does plan before stands.0 in
     (here.1, (here.2, still_clear plan.site [] before packet stands.1 here.0)))
     [] s packets t bytes steps (after, none_clear plan.site) chain).1.1
 
 pub whole_written : (plan : Plan) (packets : List (List ℕ)) (s t : Head) (bytes : List ℕ) (steps : ℕ) →
-    IsAfter plan [] s →
+    IsHeadEndAfter plan [] s →
     ChainToEnd head_does head_ends s packets t bytes steps → bytes ≡ concat (broadcast plan packets)
 whole_written plan packets s t bytes steps after (mid, first, last, m, k, chain, end, joined, counted) =
     let there = chained plan packets s mid first m after chain in
@@ -84,14 +84,14 @@ whole_written plan packets s t bytes steps after (mid, first, last, m, k, chain,
     ∙ sym (closed_bytes plan packets)))
 
 pub whole_clear : (plan : Plan) (packets : List (List ℕ)) (s t : Head) (bytes : List ℕ) (steps : ℕ) →
-    IsAfter plan [] s →
+    IsHeadEndAfter plan [] s →
     ChainToEnd head_does head_ends s packets t bytes steps → IsClear plan.site packets
 whole_clear plan packets s t bytes steps after (mid, first, last, m, k, chain, end, joined, counted) =
     all_clear plan packets s mid first m after chain
 
 -- and the end isn't refused
 pub whole_ended : (plan : Plan) (packets : List (List ℕ)) (s t : Head) (bytes : List ℕ) (steps : ℕ) →
-    IsAfter plan [] s →
+    IsHeadEndAfter plan [] s →
     ChainToEnd head_does head_ends s packets t bytes steps → whole_refusal plan.site packets ≡ None
 unfolding whole_refusal
 whole_ended plan packets s t bytes steps after (mid, first, last, m, k, chain, end, joined, counted) =
@@ -100,7 +100,7 @@ whole_ended plan packets s t bytes steps after (mid, first, last, m, k, chain, e
 
 pub refused_written : (plan : Plan) (packets : List (List ℕ)) (refused : Option (List ℕ)) (fault : HeadFault)
     (s t : Head)
-    (bytes : List ℕ) (steps : ℕ) → IsAfter plan [] s →
+    (bytes : List ℕ) (steps : ℕ) → IsHeadEndAfter plan [] s →
     Refused head_does head_refuses s packets refused fault t bytes steps →
     bytes ≡ concat (body plan packets)
 refused_written plan packets refused fault s t bytes steps after
@@ -109,7 +109,7 @@ refused_written plan packets refused fault s t bytes steps after
     ∙ (append-nil first ∙ all_written plan packets s mid first m after chain))
 
 pub refused_clear : (plan : Plan) (packets : List (List ℕ)) (refused : Option (List ℕ)) (fault : HeadFault) (s t : Head)
-    (bytes : List ℕ) (steps : ℕ) → IsAfter plan [] s →
+    (bytes : List ℕ) (steps : ℕ) → IsHeadEndAfter plan [] s →
     Refused head_does head_refuses s packets refused fault t bytes steps →
     IsClear plan.site packets
 refused_clear plan packets refused fault s t bytes steps after
@@ -138,7 +138,7 @@ first_after site start (first ∷ packets) rest packet fault h now =
 
 -- whether it keeps a refusal or one is due, after packets that were sent one is due
 due_after : (plan : Plan) (packets : List (List ℕ)) (refused : Option (List ℕ)) (fault : HeadFault) (mid : Head)
-    (bytes : List ℕ) → IsAfter plan packets mid → RefusesPacket mid refused fault bytes →
+    (bytes : List ℕ) → IsHeadEndAfter plan packets mid → RefusesClearPacket mid refused fault bytes →
     IsDue plan packets refused fault
 due_after plan packets refused fault mid bytes there refuses = elim refuses.cause [
   | inl kept ↦ absurd (apart mid.refusal fault there.unrefused kept)
@@ -150,7 +150,7 @@ due_after plan packets refused fault mid bytes there refuses = elim refuses.caus
 
 pub first_refused : (plan : Plan) (packets rest : List (List ℕ)) (packet : List ℕ) (fault : ClearFault) (s t : Head)
     (bytes : List ℕ)
-    (steps : ℕ) → IsAfter plan [] s →
+    (steps : ℕ) → IsHeadEndAfter plan [] s →
     Refused head_does head_refuses s packets (Some packet) (Clear fault) t bytes steps →
     refusal_from plan.site [] (packets ++ packet ∷ rest) ≡ Some fault
 first_refused plan packets rest packet fault s t bytes steps after
@@ -161,7 +161,7 @@ first_refused plan packets rest packet fault s t bytes steps after
     (due_after plan packets (Some packet) (Clear fault) mid _ there refuses)
 
 pub end_refused : (plan : Plan) (packets : List (List ℕ)) (fault : ClearFault) (s t : Head) (bytes : List ℕ)
-    (steps : ℕ) → IsAfter plan [] s →
+    (steps : ℕ) → IsHeadEndAfter plan [] s →
     Refused head_does head_refuses s packets None (Clear fault) t bytes steps →
     whole_refusal plan.site packets ≡ Some fault
 unfolding whole_refusal

@@ -10,7 +10,7 @@ use Rattle.sd_packet.proofs.Positions.{unmoved_is_none}
 use Rattle.sd_spec.specs.Kinds.{pmts_in, kind_of, has_moved, moved_pids}
 use Rattle.sd_spec.specs.Refused.{is_one_too_many}
 use Rattle.sd_spec.specs.declared.kind.Kind.TheVariants.{Passed, Pmt, Scrambled}
-use Rattle.sd_head.specs.Known.{AreMarked}
+use Rattle.sd_head.specs.Known.{AreMarkedPids}
 use Rattle.sd_head.specs.After.{ArePositions}
 use Rattle.sd_head.specs.Follows.{IsMove}
 use Rattle.sd_head.specs.declared.judged.Move.{Move}
@@ -21,20 +21,20 @@ passed_is before packet h = rw h refl
 
 -- whether the PID is one of those of PMTs
 named_is : (before : List (List ℕ)) (packet : List ℕ) (marks : List Bool) (b : Bool)
-    → AreMarked (pmts_in before) marks
+    → AreMarkedPids (pmts_in before) marks
     → pid_of packet < 8192 → get_or marks (pid_of packet) false ≡ b
     → list_any (nat_eq (pid_of packet)) (pmts_in before) ≡ b
 named_is before packet marks b marked known mark = sym (marked.at (pid_of packet) known) ∙ mark
 
 pub pmt_is : (before : List (List ℕ)) (packet : List ℕ) (marks : List Bool) → is_placed packet ≡ true
-    → AreMarked (pmts_in before) marks → pid_of packet < 8192 → get_or marks (pid_of packet) false ≡ true
+    → AreMarkedPids (pmts_in before) marks → pid_of packet < 8192 → get_or marks (pid_of packet) false ≡ true
     → Pmt ≡ kind_of before packet
 unfolding kind_of
 pmt_is before packet marks placed marked known mark =
     rw placed (rw (named_is before packet marks true marked known mark) refl)
 
 pub scrambled_is : (before : List (List ℕ)) (packet : List ℕ) (marks : List Bool) → is_placed packet ≡ true
-    → AreMarked (pmts_in before) marks → pid_of packet < 8192 → get_or marks (pid_of packet) false ≡ false
+    → AreMarkedPids (pmts_in before) marks → pid_of packet < 8192 → get_or marks (pid_of packet) false ≡ false
     → Scrambled ≡ kind_of before packet
 unfolding kind_of
 scrambled_is before packet marks placed marked known mark =

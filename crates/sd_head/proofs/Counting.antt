@@ -6,7 +6,7 @@ use Rattle.std.specs.List.{concat}
 use Rattle.std.proofs.lemmas.List.Sums.{sum_by-cons, sum_by-append, sum_by_push}
 use Rattle.std.proofs.lemmas.List.{length-map}
 use Rattle.std.proofs.lemmas.List.Folds.{concat-append}
-use Rattle.sd_packet.specs.Packing.{packed}
+use Rattle.sd_packet.specs.Packing.{section_packet}
 use Rattle.sd_packet.proofs.Packets.{packet_counted}
 use Rattle.sd_psi.specs.OurCat.{cat_section}
 use Rattle.sd_site_cards.specs.SiteFields.{SiteFields}
@@ -14,15 +14,15 @@ use Rattle.sd_message.specs.EmmSpelled.{emm_section}
 use Rattle.sd_message.specs.declared.emm.Emm.{Emm}
 use Rattle.sd_message.specs.EcmSpelled.{ecm_section}
 use Rattle.sd_message.specs.declared.ecm_part.EcmPart.{EcmPart}
-use Rattle.sd_spec.specs.Sent.{Item, Cat, Entitles, Controls, Carries, is_alike, packet_of, packets_from}
+use Rattle.sd_spec.specs.Sent.{Item, Cat, Entitles, Controls, Carries, is_alike, item_packet, packets_from}
 use Rattle.sd_spec.specs.Sent.{is_cat_item}
 use Rattle.sd_message.specs.EcmParts.{message_of, parts_of}
 use Rattle.sd_message.specs.declared.ecm_message.EcmHead.{EcmHead}
 use Rattle.sd_message.specs.declared.ecm_part.Place.{Place}
 use Rattle.sd_spec.proofs.Sending.{packets_in_turn}
 use Rattle.sd_head.specs.Kept.{uncounted}
-use Rattle.sd_head.specs.Sending.{counter_after, numbered, recounted, packed_part}
-use Rattle.sd_head.specs.Items.{is_entitlement, is_control, tables_bytes, message_bytes, parts_in, HasSent}
+use Rattle.sd_head.specs.Sending.{counter_after, with_counters, recounted, packed_part}
+use Rattle.sd_head.specs.Items.{is_entitlement, is_ecm_item, tables_bytes, message_bytes, parts_in, HasSentItems}
 use Rattle.sd_head.specs.Items.{HasCountersAfter}
 use Rattle.sd_head.specs.declared.sender.Sender.{Sender}
 use Rattle.sd_head.proofs.Sends.{counter_is}
@@ -48,7 +48,7 @@ entitlement_alike emm (Entitles other) = refl
 entitlement_alike emm (Controls part) = refl
 entitlement_alike emm (Carries k packet) = refl
 
-control_alike : (part : EcmPart) (x : Item) → is_alike (Controls part) x ≡ is_control x
+control_alike : (part : EcmPart) (x : Item) → is_alike (Controls part) x ≡ is_ecm_item x
 control_alike part Cat = refl
 control_alike part (Entitles emm) = refl
 control_alike part (Controls other) = refl
@@ -98,38 +98,38 @@ none_counted p earlier x h =
 
 -- a period's packets, each with counter 0
 abbrev pub of_sections : SiteFields → List Emm → List (List ℕ)
-of_sections site sections = map (λ emm. packed (emm_section emm) site.emm 0) sections
+of_sections site sections = map (λ emm. section_packet (emm_section emm) site.emm 0) sections
 
 -- the packets of entitlements are those of counter 0 under the counters that come next
 entitled : (site : SiteFields) (counter : ℕ) (earlier : List Item) (sections : List Emm) →
     counter ≡ count_by is_entitlement earlier % 16 →
-    packets_from site earlier (map Entitles sections) ≡ numbered recounted counter (of_sections site sections)
+    packets_from site earlier (map Entitles sections) ≡ with_counters recounted counter (of_sections site sections)
 unfolding packets_from
 entitled site counter earlier [] is = refl
 entitled site counter earlier (emm ∷ sections) is =
-    let here : packet_of site earlier (Entitles emm) ≡ recounted (packed (emm_section emm) site.emm 0) counter =
-    ap (λ (n : ℕ). packed (emm_section emm) site.emm (n % 16))
+    let here : item_packet site earlier (Entitles emm) ≡ recounted (section_packet (emm_section emm) site.emm 0) counter =
+    ap (λ (n : ℕ). section_packet (emm_section emm) site.emm (n % 16))
     (same_counts (is_alike (Entitles emm)) is_entitlement (entitlement_alike emm) earlier)
-    ∙ (ap (packed (emm_section emm) site.emm) (sym is) ∙ packet_counted (emm_section emm) site.emm counter) in
+    ∙ (ap (section_packet (emm_section emm) site.emm) (sym is) ∙ packet_counted (emm_section emm) site.emm counter) in
     let next : (counter + 1) % 16 ≡ count_by is_entitlement (earlier ++ Entitles emm ∷ []) % 16 =
     ap (λ (c : ℕ). (c + 1) % 16) is ∙ sym (one_counted is_entitlement earlier (Entitles emm) refl) in
     ap (λ (p : List ℕ). p ∷ packets_from site (earlier ++ Entitles emm ∷ []) (map Entitles sections)) here
-    ∙ ap (λ (ps : List (List ℕ)). recounted (packed (emm_section emm) site.emm 0) counter ∷ ps)
+    ∙ ap (λ (ps : List (List ℕ)). recounted (section_packet (emm_section emm) site.emm 0) counter ∷ ps)
     (entitled site ((counter + 1) % 16) (earlier ++ Entitles emm ∷ []) sections next)
 
 -- and those of a message's parts are under the counters that come next
 controlled : (site : SiteFields) (counter : ℕ) (earlier : List Item) (parts : List EcmPart) →
-    counter ≡ count_by is_control earlier % 16 →
-    packets_from site earlier (map Controls parts) ≡ numbered (packed_part site.ecm) counter parts
+    counter ≡ count_by is_ecm_item earlier % 16 →
+    packets_from site earlier (map Controls parts) ≡ with_counters (packed_part site.ecm) counter parts
 unfolding packets_from
 controlled site counter earlier [] is = refl
 controlled site counter earlier (part ∷ parts) is =
-    let here : packet_of site earlier (Controls part) ≡ packed_part site.ecm part counter =
-    ap (λ (n : ℕ). packed (ecm_section part) site.ecm (n % 16))
-    (same_counts (is_alike (Controls part)) is_control (control_alike part) earlier)
-    ∙ ap (packed (ecm_section part) site.ecm) (sym is) in
-    let next : (counter + 1) % 16 ≡ count_by is_control (earlier ++ Controls part ∷ []) % 16 =
-    ap (λ (c : ℕ). (c + 1) % 16) is ∙ sym (one_counted is_control earlier (Controls part) refl) in
+    let here : item_packet site earlier (Controls part) ≡ packed_part site.ecm part counter =
+    ap (λ (n : ℕ). section_packet (ecm_section part) site.ecm (n % 16))
+    (same_counts (is_alike (Controls part)) is_ecm_item (control_alike part) earlier)
+    ∙ ap (section_packet (ecm_section part) site.ecm) (sym is) in
+    let next : (counter + 1) % 16 ≡ count_by is_ecm_item (earlier ++ Controls part ∷ []) % 16 =
+    ap (λ (c : ℕ). (c + 1) % 16) is ∙ sym (one_counted is_ecm_item earlier (Controls part) refl) in
     ap (λ (p : List ℕ). p ∷ packets_from site (earlier ++ Controls part ∷ []) (map Controls parts)) here
     ∙ ap (λ (ps : List (List ℕ)). packed_part site.ecm part counter ∷ ps)
     (controlled site ((counter + 1) % 16) (earlier ++ Controls part ∷ []) parts next)
@@ -152,13 +152,13 @@ bytes_on site earlier xs ys =
 
 -- the bytes of the tables
 tables_told : (site : SiteFields) (earlier : List Item) (due : Bool) (sections : List Emm) (sender : Sender) →
-    HasSent site earlier sender →
+    HasSentItems site earlier sender →
     tables_bytes sender due (of_sections site sections) ≡ concat (packets_from site earlier (items_due due sections))
 unfolding packets_from
 tables_told site earlier false sections sender sent = refl
 tables_told site earlier true sections sender sent =
-    let cat : packet_of site earlier Cat ≡ recounted sender.cat sender.cats =
-    ap (λ (n : ℕ). packed (cat_section site.ca site.emm site.ecm) 1 (n % 16))
+    let cat : item_packet site earlier Cat ≡ recounted sender.cat sender.cats =
+    ap (λ (n : ℕ). section_packet (cat_section site.ca site.emm site.ecm) 1 (n % 16))
     (same_counts (is_alike Cat) is_cat_item cat_alike earlier)
     ∙ (packet_counted (cat_section site.ca site.emm site.ecm) 1 (count_by is_cat_item earlier % 16)
     ∙ (ap (λ (p : List ℕ). recounted p (count_by is_cat_item earlier % 16)) (sym sent.cat_is)
@@ -178,7 +178,7 @@ tables_anew sender true emms =
 
 -- the bytes of a message
 message_told : (site : SiteFields) (earlier : List Item) (message : Option EcmHead) (sender : Sender) →
-    sender.ecms ≡ count_by is_control earlier % 16 →
+    sender.ecms ≡ count_by is_ecm_item earlier % 16 →
     message_bytes site.ecm sender message ≡ concat (packets_from site earlier (items_of message sender.places.items))
 unfolding packets_from
 message_told site earlier None sender sent = refl
@@ -202,11 +202,11 @@ emms_due true sections =
     let all = all_count is_entitlement Entitles (λ a. refl) sections in
     omega (arith, first, all)
 
-ecms_due : (due : Bool) (sections : List Emm) → count_by is_control (items_due due sections) ≡ 0
+ecms_due : (due : Bool) (sections : List Emm) → count_by is_ecm_item (items_due due sections) ≡ 0
 ecms_due false sections = refl
 ecms_due true sections =
-    let first = sum_by-cons (λ y. cond (is_control y) 1 0) Cat (map Entitles sections) in
-    let none = none_counts is_control Entitles (λ a. refl) sections in
+    let first = sum_by-cons (λ y. cond (is_ecm_item y) 1 0) Cat (map Entitles sections) in
+    let none = none_counts is_ecm_item Entitles (λ a. refl) sections in
     omega (arith, first, none)
 
 -- and a message
@@ -220,20 +220,20 @@ emms_of_message None places = refl
 emms_of_message (Some head) places = none_counts is_entitlement Controls (λ a. refl) (parts_of (message_of head places))
 
 ecms_of : (message : Option EcmHead) (sender : Sender) →
-    count_by is_control (items_of message sender.places.items) ≡ parts_in sender message
+    count_by is_ecm_item (items_of message sender.places.items) ≡ parts_in sender message
 ecms_of None sender = refl
-ecms_of (Some head) sender = all_count is_control Controls (λ a. refl) (parts_of (message_of head sender.places.items))
+ecms_of (Some head) sender = all_count is_ecm_item Controls (λ a. refl) (parts_of (message_of head sender.places.items))
 
 -- tables and a message are sent
 pub inserted_bytes : (site : SiteFields) (earlier : List Item) (due : Bool) (sections : List Emm) (emms : List (List ℕ))
-    (message : Option EcmHead) (sender : Sender) → HasSent site earlier sender →
+    (message : Option EcmHead) (sender : Sender) → HasSentItems site earlier sender →
     map uncounted emms ≡ of_sections site sections →
     tables_bytes sender due emms ++ message_bytes site.ecm sender message
     ≡ concat (packets_from site earlier (items_due due sections ++ items_of message sender.places.items))
 inserted_bytes site earlier due sections emms message sender sent are =
     let none = ecms_due due sections in
-    let on = counts_on is_control earlier (items_due due sections) in
-    let same : count_by is_control (earlier ++ items_due due sections) ≡ count_by is_control earlier =
+    let on = counts_on is_ecm_item earlier (items_due due sections) in
+    let same : count_by is_ecm_item (earlier ++ items_due due sections) ≡ count_by is_ecm_item earlier =
     omega (arith, none, on) in
     ap (λ (bytes : List ℕ). bytes ++ message_bytes site.ecm sender message) (tables_anew sender due emms
     ∙ ap (tables_bytes sender due) are)
@@ -246,14 +246,14 @@ inserted_bytes site earlier due sections emms message sender sent are =
 
 -- and then come these counters
 pub inserted_next : (site : SiteFields) (earlier : List Item) (due : Bool) (sections : List Emm) (emms : List (List ℕ))
-    (message : Option EcmHead) (old new : Sender) → HasSent site earlier old →
+    (message : Option EcmHead) (old new : Sender) → HasSentItems site earlier old →
     map uncounted emms ≡ of_sections site sections →
     HasCountersAfter old due emms message new →
-    HasSent site (earlier ++ (items_due due sections ++ items_of message old.places.items)) new
+    HasSentItems site (earlier ++ (items_due due sections ++ items_of message old.places.items)) new
 inserted_next site earlier due sections emms message old new sent are follows =
     let many : length emms ≡ length sections =
     sym (length-map emms uncounted) ∙ ap (λ (ps : List (List ℕ)). length ps) are
-    ∙ length-map sections (λ (emm : Emm). packed (emm_section emm) site.emm 0) in
+    ∙ length-map sections (λ (emm : Emm). section_packet (emm_section emm) site.emm 0) in
     record {
       cat_is = follows.cat ∙ sent.cat_is;
       cats_are = cats due sections follows.cats (counts_on is_cat_item earlier _)
@@ -261,11 +261,11 @@ inserted_next site earlier due sections emms message old new sent are follows =
       emms_are = emms_next due sections many follows.emms_next (counts_on is_entitlement earlier _)
           (counts_on is_entitlement (items_due due sections) _);
       ecms_are =
-          let after : new.ecms ≡ (count_by is_control earlier + parts_in old message) % 16 =
+          let after : new.ecms ≡ (count_by is_ecm_item earlier + parts_in old message) % 16 =
           follows.ecms ∙ (ap (λ (c : ℕ). counter_after c (parts_in old message)) sent.ecms_are
-          ∙ counter_is (count_by is_control earlier) (parts_in old message)) in
-          let on = counts_on is_control earlier (items_due due sections ++ items_of message old.places.items) in
-          let both = counts_on is_control (items_due due sections) (items_of message old.places.items) in
+          ∙ counter_is (count_by is_ecm_item earlier) (parts_in old message)) in
+          let on = counts_on is_ecm_item earlier (items_due due sections ++ items_of message old.places.items) in
+          let both = counts_on is_ecm_item (items_due due sections) (items_of message old.places.items) in
           let none = ecms_due due sections in
           let all = ecms_of message old in
           omega (arith, after, on, both, none, all);
@@ -310,11 +310,11 @@ inserted_next site earlier due sections emms message old new sent are follows =
 
 -- after a carried packet the counters are those before it
 pub carried_next : (site : SiteFields) (earlier : List Item) (k : ℕ) (packet : List ℕ) (sender : Sender) →
-    HasSent site earlier sender →
-    HasSent site (earlier ++ Carries k packet ∷ []) sender
+    HasSentItems site earlier sender →
+    HasSentItems site (earlier ++ Carries k packet ∷ []) sender
 carried_next site earlier k packet sender sent = record {
   cat_is = sent.cat_is;
   cats_are = sent.cats_are ∙ ap (λ (n : ℕ). n % 16) (sym (none_counted is_cat_item earlier (Carries k packet) refl));
   emms_are = sent.emms_are ∙ ap (λ (n : ℕ). n % 16) (sym (none_counted is_entitlement earlier (Carries k packet) refl));
-  ecms_are = sent.ecms_are ∙ ap (λ (n : ℕ). n % 16) (sym (none_counted is_control earlier (Carries k packet) refl));
+  ecms_are = sent.ecms_are ∙ ap (λ (n : ℕ). n % 16) (sym (none_counted is_ecm_item earlier (Carries k packet) refl));
 }

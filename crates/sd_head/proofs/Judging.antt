@@ -15,9 +15,9 @@ use Rattle.sd_spec.specs.Kinds.{kind_of}
 use Rattle.sd_spec.specs.Plan.{word_of}
 use Rattle.sd_spec.specs.Carried.{pmt_carried}
 use Rattle.sd_spec.specs.declared.kind.Kind.TheVariants as Kind
-use Rattle.sd_spec.specs.Refused.{end_refusal, fault_where, is_reserved_pid, pat_wrong, is_full_own, is_too_long}
-use Rattle.sd_head.specs.After.{IsAfter}
-use Rattle.sd_head.specs.Follows.{fault_by, limit_fault, wrong_by, HasRoom, IsJudgement, IsMove, IsPatOf}
+use Rattle.sd_spec.specs.Refused.{end_refusal, fault_where, is_reserved_pid, pat_wrong, is_full_own, is_used_up}
+use Rattle.sd_head.specs.After.{IsClearAfter}
+use Rattle.sd_head.specs.Follows.{fault_by, limit_fault, wrong_by, HasPidRoom, IsJudgement, IsMove, IsPatOf}
 use Rattle.sd_head.specs.declared.clear.Clear.{Clear}
 use Rattle.sd_head.specs.declared.judged.Judged.TheVariants.{Passed, Pmt, Scrambled}
 use Rattle.sd_head.specs.declared.judged.Move.{Move}
@@ -35,7 +35,7 @@ wrong_none Skipped packet right = refl
 
 -- a packet that is refused
 pub refused : (rule : PatRule) (site : SiteFields) (clear : Clear) (packet : List ℕ) (fault : ClearFault)
-    → ((before : List (List ℕ)) → IsAfter before clear → fault_by rule site before packet ≡ Some fault)
+    → ((before : List (List ℕ)) → IsClearAfter before clear → fault_by rule site before packet ≡ Some fault)
     → IsJudgement rule site clear packet (Err fault)
 refused rule site clear packet fault why = record { value = why; follows = tt; word = tt }
 
@@ -47,13 +47,13 @@ none_where false true f g h = absurd cc
 none_where false false f g h = (refl, refl)
 
 -- a stream isn't too long where a number and a control word are left
-pub numbers_left : (site : SiteFields) (k : ℕ) → k < 2 ^ 32 → is_too_long site k ≡ false
+pub numbers_left : (site : SiteFields) (k : ℕ) → k < 2 ^ 32 → is_used_up site k ≡ false
     → (k < 2 ^ 32 - 1) × (word_of site k ≤ site.last_word)
 numbers_left site k small left = grind (arith, nat_tests, small, left)
 
 -- a PID has room for its first move
 has_room : (pids : List ℕ) (next : Move) → (next.is_first && nat_le 256 (length pids)) ≡ false
-    → HasRoom pids (Some next)
+    → HasPidRoom pids (Some next)
 has_room pids next few = λ first. grind (arith, nat_tests, rw first at few)
 
 -- what refuses a packet with a position, if its form doesn't
@@ -61,19 +61,19 @@ pub limit_decides : (rule : PatRule) (site : SiteFields) (clear : Clear) (before
     (next : Move)
     → IsMove clear.positions.items packet next → scrambling_of packet ≡ 0
     → is_reserved_pid site (pid_of packet) ≡ false → is_full_own site (kind_of before packet) packet ≡ false
-    → IsAfter before clear → fault_by rule site before packet ≡ limit_fault site clear next
+    → IsClearAfter before clear → fault_by rule site before packet ≡ limit_fault site clear next
 limit_decides rule site clear before packet next moves unscrambled free full after =
     limits_decide rule site before packet unscrambled free (wrong_none rule packet
     (placed_no_pat packet moves.placed).0) full
     ∙ (ap (λ (many : Bool). fault_where many (TooManyPids (length before))
-    (fault_where (is_too_long site (length before)) (TooLong (length before)) None))
+    (fault_where (is_used_up site (length before)) (TooLong (length before)) None))
     (sym (too_many_is before packet clear.positions.items clear.pids.items next moves after.placed after.moved))
     ∙ ap (λ (n : ℕ). fault_where (next.is_first && nat_le 256 (length clear.pids.items)) (TooManyPids n)
-    (fault_where (is_too_long site n) (TooLong n) None)) (sym after.number))
+    (fault_where (is_used_up site n) (TooLong n) None)) (sym after.number))
 
 -- a scrambled packet, and a PMT, by the marks
 not_full : (site : SiteFields) (clear : Clear) (before : List (List ℕ)) (packet : List ℕ) → is_placed packet ≡ true
-    → get_or clear.pmts.items (pid_of packet) false ≡ false → IsAfter before clear
+    → get_or clear.pmts.items (pid_of packet) false ≡ false → IsClearAfter before clear
     → is_full_own site (kind_of before packet) packet ≡ false
 not_full site clear before packet placed mark after =
     let known = positional_small (pid_of packet) (placed_pid packet placed) in
@@ -82,7 +82,7 @@ not_full site clear before packet placed mark after =
 
 full_as : (site : SiteFields) (clear : Clear) (before : List (List ℕ)) (packet : List ℕ) (full : Bool)
     → is_placed packet ≡ true → get_or clear.pmts.items (pid_of packet) false ≡ true
-    → is_full_own site Kind.Pmt packet ≡ full → IsAfter before clear
+    → is_full_own site Kind.Pmt packet ≡ full → IsClearAfter before clear
     → is_full_own site (kind_of before packet) packet ≡ full
 full_as site clear before packet full placed mark own after =
     let known = positional_small (pid_of packet) (placed_pid packet placed) in
@@ -96,7 +96,7 @@ pub scrambled_judged : (rule : PatRule) (site : SiteFields) (clear : Clear) (pac
     → scrambling_of packet ≡ 0 → is_reserved_pid site (pid_of packet) ≡ false → limit_fault site clear next ≡ None
     → IsJudgement rule site clear packet (Ok (Scrambled next))
 scrambled_judged rule site clear packet next small moves mark unscrambled free none =
-    let few = none_where (next.is_first && nat_le 256 (length clear.pids.items)) (is_too_long site clear.count)
+    let few = none_where (next.is_first && nat_le 256 (length clear.pids.items)) (is_used_up site clear.count)
     (TooManyPids clear.count) (TooLong clear.count) none in
     let left = numbers_left site clear.count small few.1 in record {
       value = λ before after. limit_decides rule site clear before packet next moves unscrambled free
@@ -127,7 +127,7 @@ pub pmt_judged : (rule : PatRule) (site : SiteFields) (clear : Clear) (packet ca
     → is_full_own site Kind.Pmt packet ≡ false → carried ≡ pmt_carried site packet
     → limit_fault site clear next ≡ None → IsJudgement rule site clear packet (Ok (Pmt next carried))
 pmt_judged rule site clear packet carried next small moves mark unscrambled free own is none =
-    let few = none_where (next.is_first && nat_le 256 (length clear.pids.items)) (is_too_long site clear.count)
+    let few = none_where (next.is_first && nat_le 256 (length clear.pids.items)) (is_used_up site clear.count)
     (TooManyPids clear.count) (TooLong clear.count) none in
     let left = numbers_left site clear.count small few.1 in record {
       value = λ before after. limit_decides rule site clear before packet next moves unscrambled free
@@ -173,18 +173,18 @@ bad_pat_refused rule site clear packet n fault is unscrambled free wrong =
 long_told : (rule : PatRule) (site : SiteFields) (clear : Clear) (before : List (List ℕ)) (packet : List ℕ)
     (long : Bool)
     → is_placed packet ≡ false → scrambling_of packet ≡ 0 → is_reserved_pid site (pid_of packet) ≡ false
-    → wrong_by rule packet ≡ None → is_too_long site clear.count ≡ long → IsAfter before clear
+    → wrong_by rule packet ≡ None → is_used_up site clear.count ≡ long → IsClearAfter before clear
     → fault_by rule site before packet ≡ fault_where long (TooLong clear.count) None
 long_told rule site clear before packet long unplaced unscrambled free right is after =
     limits_decide rule site before packet unscrambled free right
     (ap (λ kind. is_full_own site kind packet) (sym (passed_is before packet unplaced)))
     ∙ rw (none_too_many before packet unplaced)
-    (ap (λ (n : ℕ). fault_where (is_too_long site n) (TooLong n) None) (sym after.number)
+    (ap (λ (n : ℕ). fault_where (is_used_up site n) (TooLong n) None) (sym after.number)
     ∙ ap (λ (b : Bool). fault_where b (TooLong clear.count) None) is)
 
 pub long_refused : (rule : PatRule) (site : SiteFields) (clear : Clear) (packet : List ℕ) (n : ℕ) → n ≡ clear.count
     → is_placed packet ≡ false → scrambling_of packet ≡ 0 → is_reserved_pid site (pid_of packet) ≡ false
-    → wrong_by rule packet ≡ None → is_too_long site clear.count ≡ true
+    → wrong_by rule packet ≡ None → is_used_up site clear.count ≡ true
     → IsJudgement rule site clear packet (Err (TooLong n))
 long_refused rule site clear packet n is unplaced unscrambled free right long =
     refused rule site clear packet (TooLong n) (λ before after.
@@ -194,7 +194,7 @@ long_refused rule site clear packet n is unplaced unscrambled free right long =
 pub passed_judged : (rule : PatRule) (site : SiteFields) (clear : Clear) (packet : List ℕ) (pat : Option Pat)
     → clear.count < 2 ^ 32
     → is_placed packet ≡ false → scrambling_of packet ≡ 0 → is_reserved_pid site (pid_of packet) ≡ false
-    → wrong_by rule packet ≡ None → IsPatOf packet pat → is_too_long site clear.count ≡ false
+    → wrong_by rule packet ≡ None → IsPatOf packet pat → is_used_up site clear.count ≡ false
     → IsJudgement rule site clear packet (Ok (Passed pat))
 passed_judged rule site clear packet pat small unplaced unscrambled free right is long =
     let left = numbers_left site clear.count small long in record {
@@ -208,8 +208,8 @@ passed_judged rule site clear packet pat small unplaced unscrambled free right i
     }
 
 -- the end is judged by how many packets were taken
-pub end_counted : (site : SiteFields) (clear : Clear) (before : List (List ℕ)) → IsAfter before clear
-    → end_refusal site before ≡ fault_where ((clear.count == 0) && is_too_long site clear.count) (TooLong 0) None
+pub end_counted : (site : SiteFields) (clear : Clear) (before : List (List ℕ)) → IsClearAfter before clear
+    → end_refusal site before ≡ fault_where ((clear.count == 0) && is_used_up site clear.count) (TooLong 0) None
 end_counted site clear [] after = rw after.number refl
 end_counted site clear (packet ∷ packets) after =
     let more : (clear.count == 0) ≡ false = ne_eqb clear.count 0 (λ e. absurd (omega (arith, e, after.number))) in

@@ -5,8 +5,8 @@ use Rattle.std.proofs.Math.Nat.{zero-div}
 use Rattle.sd_site_cards.specs.SiteFields.{SiteFields}
 use Rattle.sd_spec.specs.Plan.{Plan, crypto_of, period_in, period_of, word_of}
 use Rattle.sd_head.specs.Crypto.{crypto_in}
-use Rattle.sd_head.specs.Kept.{IsOf}
-use Rattle.sd_head.specs.Schedule.{IsAt}
+use Rattle.sd_head.specs.Kept.{IsPeriodState}
+use Rattle.sd_head.specs.Schedule.{IsPeriodAt}
 use Rattle.sd_head.specs.declared.crypto.CryptoPeriod.{CryptoPeriod}
 use Rattle.sd_head.specs.declared.entitling.Entitling.{Entitling}
 
@@ -25,12 +25,12 @@ first_word_is site =
     rw none (omega arith)
 
 -- after some packets the crypto period of the last is at work
-pub at_last : (plan : Plan) (k : ℕ) (entitling : Entitling) → IsAt plan k entitling → (k ≡ 0 → ⊥) →
-    IsOf plan (crypto_of plan.site (k - 1)) entitling
+pub at_last : (plan : Plan) (k : ℕ) (entitling : Entitling) → IsPeriodAt plan k entitling → (k ≡ 0 → ⊥) →
+    IsPeriodState plan (crypto_of plan.site (k - 1)) entitling
 at_last plan zero entitling at some = absurd (some refl)
 at_last plan (suc k) entitling at some =
     let last : k ≡ suc k - 1 = omega arith in
-    subst (λ (n : ℕ). IsOf plan (crypto_of plan.site n) entitling) last at
+    subst (λ (n : ℕ). IsPeriodState plan (crypto_of plan.site n) entitling) last at
 
 pub crypto_period : (crypto : CryptoPeriod) (master : List ℕ) (q t : ℕ) → crypto ≡ crypto_in master q t →
     crypto.period ≡ q

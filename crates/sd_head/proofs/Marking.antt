@@ -16,8 +16,8 @@ use Rattle.sd_psi.specs.Tables.{pmt_pids_of}
 use Rattle.sd_spec.specs.Kinds.{is_current_pat, pat_in_force, pmts_in}
 use Rattle.sd_spec.proofs.Following.{pat_next}
 use Rattle.sd_spec.specs.Refused.{pat_wrong}
-use Rattle.sd_head.specs.Known.{AreMarked}
-use Rattle.sd_head.specs.Follows.{pat_in, IsLearned, IsPatOf}
+use Rattle.sd_head.specs.Known.{AreMarkedPids}
+use Rattle.sd_head.specs.Follows.{pat_in, IsPacketLearned, IsPatOf}
 use Rattle.sd_head.specs.declared.clear.Clear.{Clear}
 use Rattle.sd_head.specs.declared.judged.Judged.{Judged}
 use Rattle.sd_head.specs.declared.judged.Judged.TheVariants.{Passed, Pmt, Scrambled}
@@ -63,7 +63,7 @@ placed_no_pat packet placed =
 
 -- what is learned of a packet tells which current PAT it is
 pub pat_told : (site : SiteFields) (clear : Clear) (packet : List ℕ) (judged : Judged)
-    → IsLearned site clear packet judged → IsPatOf packet (pat_in judged)
+    → IsPacketLearned site clear packet judged → IsPatOf packet (pat_in judged)
 pat_told site clear packet (Passed pat) learned = learned.kind
 pat_told site clear packet (Pmt next carried) learned = (placed_no_pat packet learned.moves.placed).1
 pat_told site clear packet (Scrambled next) learned = (placed_no_pat packet learned.moves.placed).1
@@ -107,12 +107,12 @@ pmts_stay before packet is =
     in_force before packet (pat_in_force before) (pat_next before packet ∙ rw is refl)
 
 pub marked_now : (before : List (List ℕ)) (packet section : List ℕ) (marks : List Bool) → is_current_pat packet ≡ true
-    → section ≡ section_in packet → AreMarked (pmt_pids_of section) marks
-    → AreMarked (pmts_in (before ++ packet ∷ [])) marks
+    → section ≡ section_in packet → AreMarkedPids (pmt_pids_of section) marks
+    → AreMarkedPids (pmts_in (before ++ packet ∷ [])) marks
 marked_now before packet section marks is same marked =
-    subst (λ (pids : List ℕ). AreMarked pids marks) (ap pmt_pids_of same ∙ sym (pmts_now before packet is)) marked
+    subst (λ (pids : List ℕ). AreMarkedPids pids marks) (ap pmt_pids_of same ∙ sym (pmts_now before packet is)) marked
 
 pub marked_still : (before : List (List ℕ)) (packet : List ℕ) (marks : List Bool) → is_current_pat packet ≡ false
-    → AreMarked (pmts_in before) marks → AreMarked (pmts_in (before ++ packet ∷ [])) marks
+    → AreMarkedPids (pmts_in before) marks → AreMarkedPids (pmts_in (before ++ packet ∷ [])) marks
 marked_still before packet marks is marked =
-    subst (λ (pids : List ℕ). AreMarked pids marks) (sym (pmts_stay before packet is)) marked
+    subst (λ (pids : List ℕ). AreMarkedPids pids marks) (sym (pmts_stay before packet is)) marked

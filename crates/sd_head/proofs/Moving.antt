@@ -13,14 +13,14 @@ use Rattle.sd_packet.specs.Positions.{advanced, is_positional, is_placed, is_mov
 use Rattle.sd_packet.proofs.Positions.{advanced_is_next, counter_below, one_more, own_moves, positional_small}
 use Rattle.sd_spec.specs.Kinds.{has_moved, moved_pids, put_in}
 use Rattle.sd_spec.proofs.Following.{moved_first, moved_again, moved_unplaced}
-use Rattle.sd_head.specs.Known.{AreKnown, AreNear}
+use Rattle.sd_head.specs.Known.{ArePids, AreReachablePositions}
 use Rattle.sd_head.specs.After.{ArePositions}
 use Rattle.sd_head.specs.Follows.{IsMove, IsMoveOf}
 use Rattle.sd_head.specs.declared.judged.Move.{Move}
 use Rattle.sd_head.proofs.ClearKinds.{first_told, placed_pid}
 
 -- a PID in its place among known ones
-pub known_more : (pid : ℕ) (pids : List ℕ) → pid < 8192 → AreKnown pids → AreKnown (put_in pid pids)
+pub known_more : (pid : ℕ) (pids : List ℕ) → pid < 8192 → ArePids pids → ArePids (put_in pid pids)
 known_more pid [] small known = record { at = one }
   where
     one : (i : ℕ) → get_or (pid ∷ []) i 0 < 8192
@@ -33,11 +33,11 @@ known_more pid (m ∷ ms) small known =
     after zero = small
     after (suc i) = known.at i
 
-    further : AreKnown (put_in pid ms) → (i : ℕ) → get_or (m ∷ put_in pid ms) i 0 < 8192
+    further : ArePids (put_in pid ms) → (i : ℕ) → get_or (m ∷ put_in pid ms) i 0 < 8192
     further rest zero = known.at 0
     further rest (suc i) = rest.at i
 
-    by_test : (b : Bool) → nat_lt pid m ≡ b → AreKnown (put_in pid ms) → AreKnown (put_in pid (m ∷ ms))
+    by_test : (b : Bool) → nat_lt pid m ≡ b → ArePids (put_in pid ms) → ArePids (put_in pid (m ∷ ms))
     by_test true is rest = rw is (record { at = after })
     by_test false is rest = rw is (record { at = further rest })
 
@@ -114,13 +114,13 @@ positions_after before packet positions i next makes long is are =
 
 -- a move comes no further than one packet more can, and its PID is one
 pub near_after : (count : ℕ) (packet positions : List ℕ) (next : Move) → IsMove positions packet next
-    → AreNear count positions → next.position ≤ 15 + 16 * (count + 1)
+    → AreReachablePositions count positions → next.position ≤ 15 + 16 * (count + 1)
 near_after count packet positions next makes near =
     let rises = advanced_is_next (get_or positions (pid_of packet) 0) (counter_of packet) (counter_below packet) in
     omega (arith, rises.near, near.at (pid_of packet), makes.position)
 
 pub near_if_moved : (count : ℕ) (packet positions : List ℕ) (next : Option Move) → IsMoveOf positions packet next
-    → AreNear count positions → IfSome next (λ move. move.position ≤ 15 + 16 * (count + 1))
+    → AreReachablePositions count positions → IfSome next (λ move. move.position ≤ 15 + 16 * (count + 1))
 near_if_moved count packet positions None makes near = tt
 near_if_moved count packet positions (Some next) makes near = near_after count packet positions next makes near
 

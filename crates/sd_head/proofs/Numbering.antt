@@ -4,13 +4,13 @@ use Rattle.std.proofs.Common.{refl, sym, ap, subst, ◌∙◌, arith}
 use Rattle.std.specs.Prelude.{map, slice_set, slice_index_or, Result}
 use Rattle.std.specs.List.{concat, flat_map}
 use Rattle.sd_engine.specs.Stage.{SinkState}
-use Rattle.sd_head.specs.Kept.{uncounted, AreAlike}
-use Rattle.sd_head.specs.Sending.{SendsBytes, counter_after, numbered, recounted}
+use Rattle.sd_head.specs.Kept.{uncounted, AreAlikeButCounters}
+use Rattle.sd_head.specs.Sending.{SendsBytes, counter_after, with_counters, recounted}
 use Rattle.sd_head.proofs.Sends.{counter_shift}
 
 -- the first packets under their counters, and the others as they are
 abbrev pub first_numbered : ℕ → ℕ → List (List ℕ) → List (List ℕ)
-first_numbered counter n packets = numbered recounted counter (take n packets) ++ drop n packets
+first_numbered counter n packets = with_counters recounted counter (take n packets) ++ drop n packets
 
 -- one packet more gets its counter
 one_numbered : (counter n now : ℕ) (packets : List (List ℕ)) → n < length packets → now ≡ counter_after counter n →
@@ -39,7 +39,7 @@ given_last (x ∷ y ∷ z ∷ []) a b = refl
 given_last (x ∷ y ∷ z ∷ w ∷ packet) a b = refl
 
 -- so the packets are the same but for their counters
-pub first_alike : (counter n : ℕ) (packets : List (List ℕ)) → AreAlike (first_numbered counter n packets) packets
+pub first_alike : (counter n : ℕ) (packets : List (List ℕ)) → AreAlikeButCounters (first_numbered counter n packets) packets
 first_alike counter zero [] = refl
 first_alike counter (suc n) [] = refl
 first_alike counter zero (packet ∷ packets) = refl
@@ -50,10 +50,10 @@ first_alike counter (suc n) (packet ∷ packets) =
 
 -- and the counters that they had before don't matter
 pub numbered_anew : (counter : ℕ) (packets : List (List ℕ)) →
-    numbered recounted counter (map uncounted packets) ≡ numbered recounted counter packets
+    with_counters recounted counter (map uncounted packets) ≡ with_counters recounted counter packets
 numbered_anew counter [] = refl
 numbered_anew counter (packet ∷ packets) =
-    ap (λ (p : List ℕ). p ∷ numbered recounted ((counter + 1) % 16) (map uncounted packets))
+    ap (λ (p : List ℕ). p ∷ with_counters recounted ((counter + 1) % 16) (map uncounted packets))
     (given_last packet 0x10 (0x10 + counter))
     ∙ ap (λ (ps : List (List ℕ)). recounted packet counter ∷ ps) (numbered_anew ((counter + 1) % 16) packets)
 

@@ -2,7 +2,7 @@
 use Rattle.std.proofs.Common.{◌≡◌, ℕ, true, List, [], length, inl, inr, refl, sym, ap, subst, ◌∙◌, arith}
 use Rattle.std.specs.Prelude.{Option, Some, None, Result, Ok, Err, OnOk}
 use Rattle.sd_base.specs.Count.{IsCaused}
-use Rattle.sd_site_cards.specs.SiteFields.{SiteFields, fields_of}
+use Rattle.sd_site_cards.specs.SiteFields.{SiteFields, site_fields_of}
 use Rattle.sd_engine.specs.Stage.{SinkState, HasGrown, IsCutShort, IsAllowed}
 use Rattle.sd_engine.proofs.Chains.{took_none}
 use Rattle.sd_message.specs.declared.clear_fault.ClearFault.{ClearFault}
@@ -10,9 +10,9 @@ use Rattle.sd_spec.specs.Plan.{Plan}
 use Rattle.sd_spec.specs.Refused.{refusal_of, end_refusal}
 use Rattle.sd_head.specs.Follows.{IsJudgement}
 use Rattle.sd_head.specs.Schedule.{begins_with, IsDue}
-use Rattle.sd_head.specs.After.{IsAfter as IsKept}
-use Rattle.sd_head.specs.Staged.{plan_in, head_closes, head_does, head_ends, head_refuses, head_sends, IsAfter}
-use Rattle.sd_head.specs.Staged.{IsOfSent, RefusesPacket}
+use Rattle.sd_head.specs.After.{IsClearAfter as IsKept}
+use Rattle.sd_head.specs.Staged.{plan_of_head, head_closes, head_does, head_ends, head_refuses, head_sends, IsHeadEndAfter}
+use Rattle.sd_head.specs.Staged.{IsOfSent, RefusesClearPacket}
 use Rattle.sd_head.specs.declared.fault.HeadFault.{HeadFault}
 use Rattle.sd_head.specs.declared.fault.HeadFault.TheVariants.{Clear, NoMemory}
 use Rattle.sd_head.specs.declared.head.Head.{Head}
@@ -79,21 +79,21 @@ no_cause before now value other fault caused = record {
 }
 
 -- the site of the plan is the head end's
-pub site_is : (plan : Plan) (before : List (List ℕ)) (head : Head) → IsAfter plan before head →
-    fields_of head.site ≡ plan.site
+pub site_is : (plan : Plan) (before : List (List ℕ)) (head : Head) → IsHeadEndAfter plan before head →
+    site_fields_of head.site ≡ plan.site
 site_is plan before head after = ap (λ (p : Plan). p.site) after.keeps_to
 
 -- of a packet that is judged by all rules
 module _ (s : Head) (packet : List ℕ) where
-  due_clear : (fault : ClearFault) → IsJudgement Asked (fields_of s.site) s.clear packet (Err fault) →
-      (plan : Plan) (before : List (List ℕ)) → IsAfter plan before s → refusal_of plan.site before packet ≡ Some fault
+  due_clear : (fault : ClearFault) → IsJudgement Asked (site_fields_of s.site) s.clear packet (Err fault) →
+      (plan : Plan) (before : List (List ℕ)) → IsHeadEndAfter plan before s → refusal_of plan.site before packet ≡ Some fault
   unfolding refusal_of
   due_clear fault told plan before after =
       subst (λ (site : SiteFields). refusal_of site before packet ≡ Some fault) (site_is plan before s after)
       (told.value before after.clear_is)
 
-  right_clear : (judged : Judged) → IsJudgement Asked (fields_of s.site) s.clear packet (Ok judged) →
-      (plan : Plan) (before : List (List ℕ)) → IsAfter plan before s → refusal_of plan.site before packet ≡ None
+  right_clear : (judged : Judged) → IsJudgement Asked (site_fields_of s.site) s.clear packet (Ok judged) →
+      (plan : Plan) (before : List (List ℕ)) → IsHeadEndAfter plan before s → refusal_of plan.site before packet ≡ None
   unfolding refusal_of
   right_clear judged told plan before after =
       subst (λ (site : SiteFields). refusal_of site before packet ≡ None) (site_is plan before s after)
@@ -101,40 +101,40 @@ module _ (s : Head) (packet : List ℕ) where
 
   -- a refusal of it
   pub refuses_clear : (result : Result Judged ClearFault) (found : ClearFault) (fault : HeadFault) →
-      IsJudgement Asked (fields_of s.site) s.clear packet result → result ≡ Err found → Clear found ≡ fault →
-      RefusesPacket s (Some packet) fault []
+      IsJudgement Asked (site_fields_of s.site) s.clear packet result → result ≡ Err found → Clear found ≡ fault →
+      RefusesClearPacket s (Some packet) fault []
   refuses_clear result found fault told is same = record {
     nothing = refl;
     cause = inr (λ plan before after. subst (IsDue plan before (Some packet)) same
-        (due_clear found (subst (IsJudgement Asked (fields_of s.site) s.clear packet) is told) plan before after));
+        (due_clear found (subst (IsJudgement Asked (site_fields_of s.site) s.clear packet) is told) plan before after));
   }
 
   -- want of memory for it
   pub refuses_memory : (result : Result Judged ClearFault) (judged : Judged) (fault : HeadFault) →
-      IsJudgement Asked (fields_of s.site) s.clear packet result → result ≡ Ok judged →
-      begins_with (plan_in s) s.clear.count ≡ true → NoMemory ≡ fault → RefusesPacket s (Some packet) fault []
+      IsJudgement Asked (site_fields_of s.site) s.clear packet result → result ≡ Ok judged →
+      begins_with (plan_of_head s) s.clear.count ≡ true → NoMemory ≡ fault → RefusesClearPacket s (Some packet) fault []
   refuses_memory result judged fault told is begins same = record {
     nothing = refl;
     cause = inr (λ plan before after. subst (IsDue plan before (Some packet)) same (
-      right_clear judged (subst (IsJudgement Asked (fields_of s.site) s.clear packet) is told) plan before after,
+      right_clear judged (subst (IsJudgement Asked (site_fields_of s.site) s.clear packet) is told) plan before after,
       subst (λ (p : Plan). begins_with p (length before) ≡ true) after.keeps_to
-          (subst (λ (n : ℕ). begins_with (plan_in s) n ≡ true) after.clear_is.number begins),
+          (subst (λ (n : ℕ). begins_with (plan_of_head s) n ≡ true) after.clear_is.number begins),
     ));
   }
 
   -- what is sent of it
   pub does_of : (result : Result Judged ClearFault) (judged : Judged) (t : Head) (bytes : List ℕ) (steps : ℕ) →
-      IsJudgement Asked (fields_of s.site) s.clear packet result → result ≡ Ok judged →
+      IsJudgement Asked (site_fields_of s.site) s.clear packet result → result ≡ Ok judged →
       head_sends s packet t bytes steps → head_does s packet t bytes steps
   does_of result judged t bytes steps told is sends = λ plan before after.
       let there = sends plan before after in (
-        right_clear judged (subst (IsJudgement Asked (fields_of s.site) s.clear packet) is told) plan before after,
+        right_clear judged (subst (IsJudgement Asked (site_fields_of s.site) s.clear packet) is told) plan before after,
         there.0,
         there.1,
       )
 
   pub allowed_of : (result : Result Judged ClearFault) (judged : Judged) (from to : ℕ) (bytes : List ℕ) →
-      IsJudgement Asked (fields_of s.site) s.clear packet result → result ≡ Ok judged →
+      IsJudgement Asked (site_fields_of s.site) s.clear packet result → result ≡ Ok judged →
       IsOfSent (head_sends s packet) from to bytes →
       IsAllowed (head_does s packet) (head_refuses s (Some packet)) from to bytes
   allowed_of result judged from to bytes told is (steps, few, (t, sends)) =
@@ -142,7 +142,7 @@ module _ (s : Head) (packet : List ℕ) where
 
 -- the same of the end, of which this is judged
 abbrev pub IsEndJudged : Head → Option ClearFault → Type 0
-IsEndJudged s found = (before : List (List ℕ)) → IsKept before s.clear → found ≡ end_refusal (fields_of s.site) before
+IsEndJudged s found = (before : List (List ℕ)) → IsKept before s.clear → found ≡ end_refusal (site_fields_of s.site) before
 
 -- what is no fault is none
 pub none_found : (judged : Option ClearFault) → ((fault : ClearFault) → judged ≡ Some fault → ⊥) → judged ≡ None
@@ -151,7 +151,7 @@ none_found (Some fault) apart = absurd (apart fault refl)
 
 module _ (s : Head) (judged : Option ClearFault) (told : IsEndJudged s judged) where
   end_is : (found : Option ClearFault) → judged ≡ found → (plan : Plan) (before : List (List ℕ)) →
-      IsAfter plan before s → end_refusal plan.site before ≡ found
+      IsHeadEndAfter plan before s → end_refusal plan.site before ≡ found
   end_is found is plan before after =
       subst (λ (site : SiteFields). end_refusal site before ≡ found) (site_is plan before s after)
       (sym (told before after.clear_is) ∙ is)
@@ -165,14 +165,14 @@ module _ (s : Head) (judged : Option ClearFault) (told : IsEndJudged s judged) w
   allowed_end from to bytes is (steps, few, (t, closes)) = (steps, few, inl (t, ends_of t bytes steps is closes))
 
   pub refuses_end : (found : ClearFault) (fault : HeadFault) → judged ≡ Some found → Clear found ≡ fault →
-      RefusesPacket s None fault []
+      RefusesClearPacket s None fault []
   refuses_end found fault is same = record {
     nothing = refl;
     cause = inr (λ plan before after. subst (IsDue plan before None) same (end_is (Some found) is plan before after));
   }
 
   pub wants_end : (fault : HeadFault) → judged ≡ None → s.clear.count ≡ 0 → NoMemory ≡ fault →
-      RefusesPacket s None fault []
+      RefusesClearPacket s None fault []
   wants_end fault is none same = record {
     nothing = refl;
     cause = inr (λ plan before after. subst (IsDue plan before None) same

@@ -2,7 +2,7 @@
 use Rattle.std.proofs.Common.{◌≡◌, ℕ, zero, suc, ◌+◌, ◌≤◌, List, [], ◌∷◌, ◌++◌, refl, ap, sym, ◌∙◌, take, length, arith}
 use Rattle.std.specs.Prelude.{map, slice_get, Option, Some}
 use Rattle.std.proofs.lemmas.List.{map-append, take_all}
-use Rattle.sd_packet.specs.Packing.{packed}
+use Rattle.sd_packet.specs.Packing.{section_packet}
 use Rattle.sd_message.specs.EmmSpelled.{emm_section}
 use Rattle.sd_message.specs.EmmForm.{sections_for}
 use Rattle.sd_message.specs.Period.{Period, emms_of}
@@ -17,7 +17,7 @@ use Rattle.sd_head.specs.Packets.{period_packets, period_of_sets, period_of_entr
 
 -- the packets of these sections
 abbrev pub of_sections : ℕ → List Emm → List (List ℕ)
-of_sections pid emms = map (λ emm. packed (emm_section emm) pid 0) emms
+of_sections pid emms = map (λ emm. section_packet (emm_section emm) pid 0) emms
 
 -- what stands at a place is one more than those before it
 pub taken_at : {A : Type 0} → (xs : List A) (k : ℕ) (x : A) → slice_get xs k ≡ Some x →
@@ -31,11 +31,11 @@ taken_at {A} (y ∷ xs) (suc k) x h =
 -- one section more
 pub section_more : (pid k : ℕ) (period : Period) (packets : List (List ℕ)) (emm : Emm) →
     packets ≡ of_sections pid (take k (emms_of period)) → slice_get (emms_of period) k ≡ Some emm →
-    packets ++ packed (emm_section emm) pid 0 ∷ [] ≡ of_sections pid (take (k + 1) (emms_of period))
+    packets ++ section_packet (emm_section emm) pid 0 ∷ [] ≡ of_sections pid (take (k + 1) (emms_of period))
 section_more pid k period packets emm so_far next =
     rw (taken_at (emms_of period) k emm next)
-    (ap (λ (ps : List (List ℕ)). ps ++ packed (emm_section emm) pid 0 ∷ []) so_far
-    ∙ sym (map-append (λ emm. packed (emm_section emm) pid 0) (take k (emms_of period)) (emm ∷ [])))
+    (ap (λ (ps : List (List ℕ)). ps ++ section_packet (emm_section emm) pid 0 ∷ []) so_far
+    ∙ sym (map-append (λ emm. section_packet (emm_section emm) pid 0) (take k (emms_of period)) (emm ∷ [])))
 
 -- what a period is of, by its sets
 pub period_is : (site : SiteFields) (run : Option ℕ) (q : ℕ) (sets cover : List SetName) (entries : List Entry)

@@ -12,7 +12,7 @@ use Rattle.sd_book.specs.declared.command.Command.{Command}
 use Rattle.sd_book.specs.Place.{PlaceValue, IsPlaceIn}
 use Rattle.sd_book.specs.Value.{BookValue}
 use Rattle.sd_cover_tracing.specs.Cover.{cover_of}
-use Rattle.sd_packet.specs.Packing.{packed}
+use Rattle.sd_packet.specs.Packing.{section_packet}
 use Rattle.sd_packet.proofs.Packets.{packet_counted}
 use Rattle.sd_message.specs.EmmSpelled.{emm_section}
 use Rattle.sd_message.specs.Period.{Period, emms_of}
@@ -23,7 +23,7 @@ use Rattle.sd_head.specs.Crypto.{crypto_in}
 use Rattle.sd_head.specs.Packets.{period_packets, period_of_sets}
 use Rattle.sd_spec.specs.Plan.{Plan, IsPlan, sets_at, word_in, period_in}
 use Rattle.sd_spec.proofs.Schedule.{periods_in_rise, period_in_first, period_in_within}
-use Rattle.sd_head.specs.Kept.{begins_period, uncounted, AreAlike, HasBegun, IsInPeriod, IsOf, IsBefore}
+use Rattle.sd_head.specs.Kept.{begins_period, uncounted, AreAlikeButCounters, HasBegun, IsInPeriod, IsPeriodState, IsBeforePeriod}
 use Rattle.sd_head.proofs.Packing.{of_sections}
 use Rattle.sd_head.specs.Lending.{with_emms}
 use Rattle.sd_head.specs.declared.entitling.Entitling.{Entitling}
@@ -51,7 +51,7 @@ held plan n p same =
     ]
 
 -- where all commands up to those of crypto period n's period are taken, that period is at work
-pub still_at_work : (plan : Plan) (n p : ℕ) (state : Entitling) → IsBefore plan n state →
+pub still_at_work : (plan : Plan) (n p : ℕ) (state : Entitling) → IsBeforePeriod plan n state →
     p ≡ min (period_in plan n) (last_period plan.commands) → p < state.place.next →
     IsInPeriod plan (period_in plan n) state
 still_at_work plan zero p state is decides above = absurd (omega (arith, is.next, above))
@@ -60,7 +60,7 @@ still_at_work plan (suc n) p state is decides above =
     subst (λ (q : ℕ). IsInPeriod plan q state) same is.period
 
 -- and a period begins with crypto period n
-pub begun_is : (plan : Plan) (n p : ℕ) (state : Entitling) → IsBefore plan n state →
+pub begun_is : (plan : Plan) (n p : ℕ) (state : Entitling) → IsBeforePeriod plan n state →
     p ≡ min (period_in plan n) (last_period plan.commands) → state.place.next ≤ p →
     begins_period plan n ≡ true
 unfolding begins_period
@@ -103,7 +103,7 @@ made_uncounted pid period = all_made (emms_of period)
     all_made (emm ∷ emms) =
         ap (λ (packet : List ℕ). packet ∷ map uncounted (of_sections pid emms))
         (sym (packet_counted (emm_section emm) pid 0))
-        ∙ ap (λ (packets : List (List ℕ)). packed (emm_section emm) pid 0 ∷ packets) (all_made emms)
+        ∙ ap (λ (packets : List (List ℕ)). section_packet (emm_section emm) pid 0 ∷ packets) (all_made emms)
 
 -- the periods that have begun are those of the book, the place and the index
 same_begun : (plan : Plan) (periods : ℕ) (old new : Entitling) → HasBegun plan periods old →
@@ -149,14 +149,14 @@ in_period plan begun p q old new was decides same place next height decided emms
 
 -- the packets that are kept once those lent got other counters
 pub left_alike : (state : Entitling) (lent left : List (List ℕ)) → lent ≡ state.emms.items →
-    length left ≡ length lent → AreAlike left lent → AreAlike (with_emms state left).emms.items lent
+    length left ≡ length lent → AreAlikeButCounters left lent → AreAlikeButCounters (with_emms state left).emms.items lent
 left_alike state lent left is long alike =
     let same : length lent ≡ length state.emms.items = ap (λ (xs : List (List ℕ)). length xs) is in
     ap (map uncounted) (with_items_is state.emms left (omega (arith, long, same, state.emms.ok.0))) ∙ alike
 
 -- the crypto period stays at work
-pub still_of : (plan : Plan) (n : ℕ) (state : Entitling) (lent left : List (List ℕ)) → IsOf plan n state →
-    lent ≡ state.emms.items → length left ≡ length lent → AreAlike left lent → IsOf plan n (with_emms state left)
+pub still_of : (plan : Plan) (n : ℕ) (state : Entitling) (lent left : List (List ℕ)) → IsPeriodState plan n state →
+    lent ≡ state.emms.items → length left ≡ length lent → AreAlikeButCounters left lent → IsPeriodState plan n (with_emms state left)
 still_of plan n state lent left was is long alike = record {
   period = record {
     begun = same_begun plan (period_in plan n + 1) state (with_emms state left) was.period.begun refl refl refl;
@@ -168,7 +168,7 @@ still_of plan n state lent left was is long alike = record {
 -- a crypto period that has begun
 pub at_work : (plan : Plan) (n q : ℕ) (old new : Entitling) → IsInPeriod plan q old → q ≡ period_in plan n →
     new.book ≡ old.book → new.place ≡ old.place → new.index ≡ old.index → new.emms.items ≡ old.emms.items →
-    new.crypto ≡ crypto_in plan.site.master q (word_in plan.site n) → IsOf plan n new
+    new.crypto ≡ crypto_in plan.site.master q (word_in plan.site n) → IsPeriodState plan n new
 at_work plan n q old new was period book place index emms crypto = record {
   period = subst (λ (p : ℕ). IsInPeriod plan p new) period (record {
     begun = same_begun plan (q + 1) old new was.begun book place index;

@@ -7,7 +7,7 @@ use Rattle.std.proofs.lemmas.Bool.Decides.{nat_tests}
 use Rattle.std.proofs.lemmas.List.{get_or-map, length-map, length-take-le, map-append, take_more}
 use Rattle.sd_packet.specs.Positions.{is_positional, position_of}
 use Rattle.sd_packet.proofs.Positions.{moved_by_near}
-use Rattle.sd_message.specs.EcmForm.{ArePositioned, AreAscending, AreShort}
+use Rattle.sd_message.specs.EcmForm.{ArePositioned, ArePidsAscending, AreShort}
 use Rattle.sd_message.specs.declared.ecm_part.Place.{Place}
 use Rattle.sd_spec.specs.Kinds.{has_moved, moved_pids, positional_pids}
 use Rattle.sd_spec.specs.Messages.{places_after}
@@ -123,7 +123,7 @@ positioned before k d h =
     let range = moved_at before k (within before k h) in
     rw (told_at before k d h) (positional_in (get_or (moved_pids before) k 0) range.0 range.1)
 
-pub ascending : (before : List (List ℕ)) → AreAscending (places_after before)
+pub ascending : (before : List (List ℕ)) → ArePidsAscending (places_after before)
 ascending before i j d below h =
     let first = told_at before i d (omega (arith, below, h)) in
     let second = told_at before j d h in

@@ -13,7 +13,7 @@ use Rattle.sd_psi.specs.declared.fault.FormFault.TheVariants as Form
 use Rattle.sd_spec.specs.Kinds.{kind_of}
 use Rattle.sd_spec.specs.Plan.{crypto_length, crypto_of, word_of}
 use Rattle.sd_spec.specs.Refused.{fault_where, form_where, is_reserved_pid, is_full_own, unsent_at}
-use Rattle.sd_spec.specs.Refused.{is_one_too_many, is_too_long}
+use Rattle.sd_spec.specs.Refused.{is_one_too_many, is_used_up}
 use Rattle.sd_message.specs.declared.clear_fault.ClearFault.{ClearFault}
 use Rattle.sd_message.specs.declared.clear_fault.ClearFault.TheVariants.{AlreadyScrambled, PidTaken, PatForm, PmtForm}
 use Rattle.sd_message.specs.declared.clear_fault.ClearFault.TheVariants.{TooManyPids, TooLong}
@@ -58,7 +58,7 @@ pub limits_decide : (rule : PatRule) (site : SiteFields) (before : List (List �
     → is_reserved_pid site (pid_of packet) ≡ false → wrong_by rule packet ≡ None
     → is_full_own site (kind_of before packet) packet ≡ false
     → fault_by rule site before packet ≡ fault_where (is_one_too_many before packet) (TooManyPids (length before))
-    (fault_where (is_too_long site (length before)) (TooLong (length before)) None)
+    (fault_where (is_used_up site (length before)) (TooLong (length before)) None)
 limits_decide rule site before packet clear free right full =
     rw (eq-eqb (scrambling_of packet) 0 clear) (rw free (rw right (rw full refl)))
 

@@ -13,7 +13,7 @@ use Rattle.sd_base.proofs.Lists.{concat_one}
 use Rattle.sd_ports.specs.Rooms.{HasTaken}
 use Rattle.sd_engine.specs.Stage.{SinkState, IsTooShort, TookBytes}
 use Rattle.sd_engine.proofs.Chains.{took_more}
-use Rattle.sd_head.specs.Sending.{FailsWithin, SendsBytes, counter_after, numbered}
+use Rattle.sd_head.specs.Sending.{FailsWithin, SendsBytes, counter_after, with_counters}
 
 -- a write that fails within some bytes fails within longer ones
 pub cuts_sooner : (u v : SinkState) (a b : List ℕ) → FailsWithin u v a → FailsWithin u v (a ++ b)
@@ -58,57 +58,57 @@ counter_shift counter (suc n) = ap (λ (c : ℕ). (c + 1) % 16) (counter_shift c
 
 -- what is made of things and then of others
 pub numbered_on : {A : Type 0} → (make : A → ℕ → List ℕ) (counter : ℕ) (xs ys : List A) →
-    numbered make counter (xs ++ ys) ≡ numbered make counter xs ++ numbered make (counter_after counter (length xs)) ys
+    with_counters make counter (xs ++ ys) ≡ with_counters make counter xs ++ with_counters make (counter_after counter (length xs)) ys
 numbered_on make counter [] ys = refl
 numbered_on make counter (x ∷ xs) ys =
     ap (λ (rest : List (List ℕ)). make x counter ∷ rest) (numbered_on make ((counter + 1) % 16) xs ys
-    ∙ ap (λ (c : ℕ). numbered make ((counter + 1) % 16) xs ++ numbered make c ys) (counter_shift counter (length xs)))
+    ∙ ap (λ (c : ℕ). with_counters make ((counter + 1) % 16) xs ++ with_counters make c ys) (counter_shift counter (length xs)))
 
 numbered_more : {A : Type 0} → (make : A → ℕ → List ℕ) (counter n : ℕ) (xs : List A) (x : A) → n ≤ length xs →
     take (n + 1) xs ≡ take n xs ++ x ∷ [] →
-    concat (numbered make counter (take (n + 1) xs)) ≡ concat (numbered make counter (take n xs))
+    concat (with_counters make counter (take (n + 1) xs)) ≡ concat (with_counters make counter (take n xs))
     ++ make x (counter_after counter n)
 numbered_more {A} make counter n xs x within more =
-    ap (λ (ys : List A). concat (numbered make counter ys)) more
+    ap (λ (ys : List A). concat (with_counters make counter ys)) more
     ∙ (ap concat (numbered_on make counter (take n xs) (x ∷ [])
-    ∙ ap (λ (k : ℕ). numbered make counter (take n xs) ++ make x (counter_after counter k) ∷ [])
+    ∙ ap (λ (k : ℕ). with_counters make counter (take n xs) ++ make x (counter_after counter k) ∷ [])
     (length-take-le n xs within))
-    ∙ concat_one (numbered make counter (take n xs)) (make x (counter_after counter n)))
+    ∙ concat_one (with_counters make counter (take n xs)) (make x (counter_after counter n)))
 
 -- one more is sent
 pub one_more : {A : Type 0} → (make : A → ℕ → List ℕ) (counter now n : ℕ) (xs : List A) (x : A) (u v w : SinkState) →
     n < length xs →
     take (n + 1) xs ≡ take n xs ++ x ∷ [] → now ≡ counter_after counter n →
-    TookBytes u v (concat (numbered make counter (take n xs))) → TookBytes v w (make x now) →
-    TookBytes u w (concat (numbered make counter (take (n + 1) xs)))
+    TookBytes u v (concat (with_counters make counter (take n xs))) → TookBytes v w (make x now) →
+    TookBytes u w (concat (with_counters make counter (take (n + 1) xs)))
 one_more make counter now n xs x u v w within more is before one =
     subst (TookBytes u w) (sym (numbered_more make counter n xs x (omega (arith, within)) more))
-    (took_more u v w (concat (numbered make counter (take n xs))) (make x (counter_after counter n)) before
+    (took_more u v w (concat (with_counters make counter (take n xs))) (make x (counter_after counter n)) before
     (subst (λ (c : ℕ). TookBytes v w (make x c)) is one))
 
 -- a write fails within one more
 pub one_cut : {A : Type 0} → (make : A → ℕ → List ℕ) (counter now n : ℕ) (xs : List A) (x : A) (u v w : SinkState) →
     n < length xs →
     take (n + 1) xs ≡ take n xs ++ x ∷ [] → now ≡ counter_after counter n →
-    TookBytes u v (concat (numbered make counter (take n xs))) → FailsWithin v w (make x now) →
-    FailsWithin u w (concat (numbered make counter xs))
+    TookBytes u v (concat (with_counters make counter (take n xs))) → FailsWithin v w (make x now) →
+    FailsWithin u w (concat (with_counters make counter xs))
 one_cut {A} make counter now n xs x u v w within more is before cut =
     subst (FailsWithin u w)
-    (sym (concat-append (numbered make counter (take (n + 1) xs))
-    (numbered make (counter_after counter (length (take (n + 1) xs))) (drop (n + 1) xs)))
+    (sym (concat-append (with_counters make counter (take (n + 1) xs))
+    (with_counters make (counter_after counter (length (take (n + 1) xs))) (drop (n + 1) xs)))
     ∙ (sym (ap concat (numbered_on make counter (take (n + 1) xs) (drop (n + 1) xs)))
-    ∙ ap (λ (ys : List A). concat (numbered make counter ys)) (take-append-drop (n + 1) xs)))
-    (cuts_sooner u w (concat (numbered make counter (take (n + 1) xs)))
-    (concat (numbered make (counter_after counter (length (take (n + 1) xs))) (drop (n + 1) xs)))
+    ∙ ap (λ (ys : List A). concat (with_counters make counter ys)) (take-append-drop (n + 1) xs)))
+    (cuts_sooner u w (concat (with_counters make counter (take (n + 1) xs)))
+    (concat (with_counters make (counter_after counter (length (take (n + 1) xs))) (drop (n + 1) xs)))
     (subst (FailsWithin u w) (sym (numbered_more make counter n xs x (omega (arith, within)) more))
-    (cuts_later u v w (concat (numbered make counter (take n xs))) (make x (counter_after counter n)) before
+    (cuts_later u v w (concat (with_counters make counter (take n xs))) (make x (counter_after counter n)) before
     (subst (λ (c : ℕ). FailsWithin v w (make x c)) is cut))))
 
 -- all are sent
 pub all_sent : {A : Type 0} → (make : A → ℕ → List ℕ) (counter n : ℕ) (xs : List A) (u v : SinkState) → length xs ≤ n →
-    TookBytes u v (concat (numbered make counter (take n xs))) → TookBytes u v (concat (numbered make counter xs))
+    TookBytes u v (concat (with_counters make counter (take n xs))) → TookBytes u v (concat (with_counters make counter xs))
 all_sent {A} make counter n xs u v all taken =
-    subst (λ (ys : List A). TookBytes u v (concat (numbered make counter ys))) (take_all n xs all) taken
+    subst (λ (ys : List A). TookBytes u v (concat (with_counters make counter ys))) (take_all n xs all) taken
 
 -- what was cut off was sent, up to the fault
 pub sends_err : {T E : Type 0} (result : Result T E) (u v : SinkState) (bytes : List ℕ) → IsErr result →

@@ -8,10 +8,10 @@ use Rattle.std.proofs.lemmas.Nat.{div-add-mod'}
 use Rattle.sd_site_cards.specs.SiteFields.{SiteFields}
 use Rattle.sd_spec.specs.Plan.{Plan, crypto_length, crypto_of, word_of, period_of}
 use Rattle.sd_spec.proofs.Schedule.{crypto_length_some}
-use Rattle.sd_head.specs.Kept.{IsOf, IsBefore, begins_period, revoked_before}
+use Rattle.sd_head.specs.Kept.{IsPeriodState, IsBeforePeriod, begins_period, revoked_before}
 use Rattle.sd_head.specs.declared.entitling.Entitling.{Entitling}
 use Rattle.sd_head.specs.Messages.{number_due}
-use Rattle.sd_head.specs.Schedule.{IsAt, begins_with}
+use Rattle.sd_head.specs.Schedule.{IsPeriodAt, begins_with}
 use Rattle.sd_book.specs.Commands.{revoked}
 
 -- the quotient of a whole multiple is one more than that of the number before
@@ -69,21 +69,21 @@ unfolding number_due
 no_message_stands site k other = rw (ne_eqb (k % site.every) 0 other) refl
 
 -- where a crypto period begins with packet k, it is the next
-pub starts : (plan : Plan) (k length : ℕ) (entitling : Entitling) → IsAt plan k entitling →
+pub starts : (plan : Plan) (k length : ℕ) (entitling : Entitling) → IsPeriodAt plan k entitling →
     length ≡ crypto_length plan.site →
-    k % length ≡ 0 → IsBefore plan (k / length) entitling
+    k % length ≡ 0 → IsBeforePeriod plan (k / length) entitling
 unfolding crypto_of
-starts plan zero length entitling at is whole = subst (λ (t : ℕ). IsBefore plan t entitling) (sym (zero-div length)) at
+starts plan zero length entitling at is whole = subst (λ (t : ℕ). IsBeforePeriod plan t entitling) (sym (zero-div length)) at
 starts plan (suc j) length entitling at is whole =
     let some : 0 < length =
     subst (λ (n : ℕ). 0 < n) (sym is) (crypto_length_some plan.site at.period.begun.is_plan.site) in
-    subst (λ (t : ℕ). IsBefore plan t entitling) (sym (next_quotient length j some whole))
-    (subst (λ (n : ℕ). IsOf plan (j / n) entitling) (sym is) at)
+    subst (λ (t : ℕ). IsBeforePeriod plan t entitling) (sym (next_quotient length j some whole))
+    (subst (λ (n : ℕ). IsPeriodState plan (j / n) entitling) (sym is) at)
 
 -- and where none does, it is that of the packet before
-pub stays : (plan : Plan) (k length : ℕ) (entitling : Entitling) → IsAt plan k entitling →
+pub stays : (plan : Plan) (k length : ℕ) (entitling : Entitling) → IsPeriodAt plan k entitling →
     length ≡ crypto_length plan.site →
-    k % length ≢ 0 → IsOf plan (crypto_of plan.site k) entitling
+    k % length ≢ 0 → IsPeriodState plan (crypto_of plan.site k) entitling
 unfolding crypto_of
 stays plan zero length entitling at is other =
     let some : 0 < length = subst (λ (n : ℕ). 0 < n) (sym is) (crypto_length_some plan.site at.is_plan.site) in
@@ -91,7 +91,7 @@ stays plan zero length entitling at is other =
 stays plan (suc j) length entitling at is other =
     let some : 0 < length =
     subst (λ (n : ℕ). 0 < n) (sym is) (crypto_length_some plan.site at.period.begun.is_plan.site) in
-    subst (λ (t : ℕ). IsOf plan t entitling)
+    subst (λ (t : ℕ). IsPeriodState plan t entitling)
     (ap (λ (n : ℕ). j / n) (sym is) ∙ (same_quotient length j some other ∙ ap (λ (n : ℕ). suc j / n) is)) at
 
 -- the control word that begins with packet k is that of the packet
@@ -102,9 +102,9 @@ word_begins plan k length is small = rw is small
 
 -- the crypto period that began is that of packet k
 pub begun_at : (plan : Plan) (k length : ℕ) (entitling : Entitling) → length ≡ crypto_length plan.site →
-    IsOf plan (k / length) entitling → IsOf plan (crypto_of plan.site k) entitling
+    IsPeriodState plan (k / length) entitling → IsPeriodState plan (crypto_of plan.site k) entitling
 unfolding crypto_of
-begun_at plan k length entitling is of = subst (λ (n : ℕ). IsOf plan (k / n) entitling) is of
+begun_at plan k length entitling is of = subst (λ (n : ℕ). IsPeriodState plan (k / n) entitling) is of
 
 -- what holds stands after an error
 pub on_err_holds : {A E : Type 0} (result : Result A E) (P : Type 0) → P → OnErr result P
@@ -123,22 +123,22 @@ begins_there plan k length is whole begins =
     rw zero' period
 
 -- packet 0 is of crypto period 0
-pub first_at : (plan : Plan) (count : ℕ) (entitling : Entitling) → count ≡ 0 → IsOf plan 0 entitling →
-    IsOf plan (crypto_of plan.site (count - 1)) entitling
+pub first_at : (plan : Plan) (count : ℕ) (entitling : Entitling) → count ≡ 0 → IsPeriodState plan 0 entitling →
+    IsPeriodState plan (crypto_of plan.site (count - 1)) entitling
 unfolding crypto_of
 first_at plan count entitling none of =
     let before : count - 1 ≡ 0 = omega (arith, none) in
-    rw before (subst (λ (t : ℕ). IsOf plan t entitling) (sym (zero-div (crypto_length plan.site))) of)
+    rw before (subst (λ (t : ℕ). IsPeriodState plan t entitling) (sym (zero-div (crypto_length plan.site))) of)
 
 -- and they are at work after a packet of that crypto period
-pub at_next : (plan : Plan) (k : ℕ) (entitling : Entitling) → IsOf plan (crypto_of plan.site k) entitling →
-    IsAt plan (k + 1) entitling
+pub at_next : (plan : Plan) (k : ℕ) (entitling : Entitling) → IsPeriodState plan (crypto_of plan.site k) entitling →
+    IsPeriodAt plan (k + 1) entitling
 at_next plan k entitling of =
     let one : k + 1 ≡ suc k = omega arith in
     rw one of
 
 -- the index has the leaves that are revoked in the period at work
-pub revoked_now : (plan : Plan) (k : ℕ) (entitling : Entitling) → IsOf plan (crypto_of plan.site k) entitling →
+pub revoked_now : (plan : Plan) (k : ℕ) (entitling : Entitling) → IsPeriodState plan (crypto_of plan.site k) entitling →
     entitling.index.revoked ≡ revoked plan.site.height plan.commands (period_of plan k)
 unfolding period_of
 revoked_now plan k entitling of =

@@ -2,7 +2,7 @@
 use Rattle.std.specs.Prelude.{◌≡◌, ℕ, true, List, length, slice_index}
 use Rattle.sd_packet.specs.Positions.{is_positional, position_of}
 use Rattle.sd_spec.specs.Kinds.{pmts_in, moved_pids}
-use Rattle.sd_head.specs.Known.{AreMarked}
+use Rattle.sd_head.specs.Known.{AreMarkedPids}
 use Rattle.sd_head.specs.declared.clear.Clear.{Clear}
 
 -- the positions, by PID, are those after these packets [this project, docs/FORMATS.md, Positions]
@@ -10,8 +10,8 @@ pub record ArePositions (before : List (List ℕ)) (positions : List ℕ) : Type
   pub at : (pid : ℕ) → is_positional pid ≡ true → slice_index positions pid ≡ position_of pid before
 
 -- it is what is kept after these packets
-pub record IsAfter (before : List (List ℕ)) (clear : Clear) : Type 0 where
+pub record IsClearAfter (before : List (List ℕ)) (clear : Clear) : Type 0 where
   pub number : clear.count ≡ length before
   pub placed : ArePositions before clear.positions.items
   pub moved : clear.pids.items ≡ moved_pids before
-  pub marked : AreMarked (pmts_in before) clear.pmts.items
+  pub marked : AreMarkedPids (pmts_in before) clear.pmts.items

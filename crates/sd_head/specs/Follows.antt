@@ -13,8 +13,8 @@ use Rattle.sd_spec.specs.Kinds.{is_current_pat}
 use Rattle.sd_spec.specs.Plan.{word_of}
 use Rattle.sd_spec.specs.Carried.{pmt_carried}
 use Rattle.sd_psi.specs.declared.fault.FormFault.{FormFault}
-use Rattle.sd_spec.specs.Refused.{broken_rule, fault_where, is_too_long, pat_wrong}
-use Rattle.sd_head.specs.After.{IsAfter}
+use Rattle.sd_spec.specs.Refused.{broken_rule, fault_where, is_used_up, pat_wrong}
+use Rattle.sd_head.specs.After.{IsClearAfter}
 use Rattle.sd_head.specs.declared.clear.Clear.{Clear}
 use Rattle.sd_head.specs.declared.judged.Judged.{Judged}
 use Rattle.sd_head.specs.declared.judged.PatRule.{PatRule}
@@ -47,8 +47,8 @@ IsMoveOf positions packet None = is_placed packet ≡ false
 IsMoveOf positions packet (Some next) = IsMove positions packet next
 
 -- there is room for one PID more, if the move is its PID's first
-abbrev pub HasRoom : List ℕ → Option Move → Type 0
-HasRoom pids next = IfSome next (λ move. move.is_first ≡ true → length pids < most_places)
+abbrev pub HasPidRoom : List ℕ → Option Move → Type 0
+HasPidRoom pids next = IfSome next (λ move. move.is_first ≡ true → length pids < most_places)
 
 -- this is the current PAT that the packet is; if there is none, it isn't one [ISO/IEC 13818-1, 2.4.4.3]
 abbrev pub IsPatOf : List ℕ → Option Pat → Type 0
@@ -64,23 +64,23 @@ IsOfKind site pmts packet (Pmt next carried) =
 IsOfKind site pmts packet (Scrambled next) = get_or pmts (pid_of packet) false ≡ false
 
 -- this is learned of the packet from what is kept
-pub record IsLearned (site : SiteFields) (clear : Clear) (packet : List ℕ) (judged : Judged) : Type 0 where
+pub record IsPacketLearned (site : SiteFields) (clear : Clear) (packet : List ℕ) (judged : Judged) : Type 0 where
   pub moves : IsMoveOf clear.positions.items packet (move_in judged)
-  pub room : HasRoom clear.pids.items (move_in judged)
+  pub room : HasPidRoom clear.pids.items (move_in judged)
   pub kind : IsOfKind site clear.pmts.items packet judged
 
 -- the packet, of which this was learned, may be the next one: it is clear and there is a number for it
 pub record MayFollow (site : SiteFields) (clear : Clear) (packet : List ℕ) (judged : Judged) : Type 0 where
   pub unscrambled : scrambling_of packet ≡ 0
   pub number : clear.count < 2 ^ 32 - 1
-  pub learned : IsLearned site clear packet judged
+  pub learned : IsPacketLearned site clear packet judged
 
 -- why a packet that makes this move is one too many: its PID would be one more than may have positions, or no number
 -- or no control word is left for it [this project, docs/FORMATS.md, Broadcast]
 abbrev pub limit_fault : SiteFields → Clear → Move → Option ClearFault
 limit_fault site clear next =
     fault_where (next.is_first && nat_le most_places (length clear.pids.items)) (TooManyPids clear.count)
-    (fault_where (is_too_long site clear.count) (TooLong clear.count) None)
+    (fault_where (is_used_up site clear.count) (TooLong clear.count) None)
 
 -- what is wrong with a packet as a PAT, if the rule on PATs is asked
 abbrev pub wrong_by : PatRule → List ℕ → Option FormFault
@@ -96,7 +96,7 @@ fault_by rule site before packet = broken_rule site before packet (wrong_by rule
 -- [this project, docs/FORMATS.md, Broadcast]
 pub record IsJudgement (rule : PatRule) (site : SiteFields) (clear : Clear) (packet : List ℕ)
     (result : Result Judged ClearFault) : Type 0 where
-  pub value : (before : List (List ℕ)) → IsAfter before clear → MatchResult result
+  pub value : (before : List (List ℕ)) → IsClearAfter before clear → MatchResult result
       (λ _. fault_by rule site before packet ≡ None) (λ fault. fault_by rule site before packet ≡ Some fault)
   pub follows : IfOk result (MayFollow site clear packet)
   pub word : OnOk result (word_of site clear.count ≤ site.last_word)

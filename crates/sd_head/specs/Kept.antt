@@ -2,7 +2,7 @@
 use Rattle.std.specs.Prelude.{◌≡◌, ℕ, zero, suc, ◌+◌, ◌-◌, ◌==◌, ◌||◌, not, Bool, min, List, []}
 use Rattle.std.specs.Prelude.{map, slice_set}
 use Rattle.sd_site_cards.specs.declared.site.Site.{Site}
-use Rattle.sd_site_cards.specs.SiteFields.{fields_of}
+use Rattle.sd_site_cards.specs.SiteFields.{site_fields_of}
 use Rattle.sd_book.specs.Value.{BookValue}
 use Rattle.sd_book.specs.declared.command.Command.{Command}
 use Rattle.sd_book.specs.Commands.{last_period, revoked}
@@ -15,7 +15,7 @@ use Rattle.sd_head.specs.declared.entitling.Entitling.{Entitling}
 
 -- the plan of a site and a book
 abbrev pub plan_of : Site → BookValue → Plan
-plan_of site book = record { site = fields_of site; commands = book.commands }
+plan_of site book = record { site = site_fields_of site; commands = book.commands }
 
 -- a period begins with crypto period n
 unfoldable pub begins_period : Plan → ℕ → Bool
@@ -37,16 +37,16 @@ pub record HasBegun (plan : Plan) (periods : ℕ) (state : Entitling) : Type 0 w
   pub revoked_are : state.index.revoked ≡ revoked_before plan.site.height plan.commands periods
 
 -- no crypto period has begun
-abbrev pub IsNew : Plan → Entitling → Type 0
-IsNew plan state = HasBegun plan 0 state
+abbrev pub IsUnbegun : Plan → Entitling → Type 0
+IsUnbegun plan state = HasBegun plan 0 state
 
 -- the packet under counter 0
 abbrev pub uncounted : List ℕ → List ℕ
 uncounted packet = slice_set packet 3 0x10
 
 -- the same packets but for their counters
-abbrev pub AreAlike : List (List ℕ) → List (List ℕ) → Type 0
-AreAlike packets others = map uncounted packets ≡ map uncounted others
+abbrev pub AreAlikeButCounters : List (List ℕ) → List (List ℕ) → Type 0
+AreAlikeButCounters packets others = map uncounted packets ≡ map uncounted others
 
 -- period q is at work, and its packets are kept under any counters
 pub record IsInPeriod (plan : Plan) (q : ℕ) (state : Entitling) : Type 0 where
@@ -54,11 +54,11 @@ pub record IsInPeriod (plan : Plan) (q : ℕ) (state : Entitling) : Type 0 where
   pub emms : map uncounted state.emms.items ≡ period_packets plan.site.emm (period_at plan q)
 
 -- crypto period n is at work
-pub record IsOf (plan : Plan) (n : ℕ) (state : Entitling) : Type 0 where
+pub record IsPeriodState (plan : Plan) (n : ℕ) (state : Entitling) : Type 0 where
   pub period : IsInPeriod plan (period_in plan n) state
   pub crypto : state.crypto ≡ crypto_in plan.site.master (period_in plan n) (word_in plan.site n)
 
 -- crypto period n is the next to begin
-abbrev pub IsBefore : Plan → ℕ → Entitling → Type 0
-IsBefore plan zero state = IsNew plan state
-IsBefore plan (suc n) state = IsOf plan n state
+abbrev pub IsBeforePeriod : Plan → ℕ → Entitling → Type 0
+IsBeforePeriod plan zero state = IsUnbegun plan state
+IsBeforePeriod plan (suc n) state = IsPeriodState plan n state

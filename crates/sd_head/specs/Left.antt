@@ -10,13 +10,13 @@ use Rattle.sd_spec.specs.Refused.{pat_wrong}
 use Rattle.sd_spec.specs.declared.left_out.LeftOut.{LeftOut}
 
 -- the same fault of the packet of this number
-abbrev pub renumbered : PacketNumber → ClearFault → ClearFault
-renumbered n (AlreadyScrambled k) = AlreadyScrambled n
-renumbered n (PidTaken k pid) = PidTaken n pid
-renumbered n (PatForm k form) = PatForm n form
-renumbered n (PmtForm k form) = PmtForm n form
-renumbered n (TooManyPids k) = TooManyPids n
-renumbered n (TooLong k) = TooLong n
+abbrev pub clear_fault_at : PacketNumber → ClearFault → ClearFault
+clear_fault_at n (AlreadyScrambled k) = AlreadyScrambled n
+clear_fault_at n (PidTaken k pid) = PidTaken n pid
+clear_fault_at n (PatForm k form) = PatForm n form
+clear_fault_at n (PmtForm k form) = PmtForm n form
+clear_fault_at n (TooManyPids k) = TooManyPids n
+clear_fault_at n (TooLong k) = TooLong n
 
 -- no number of a packet, or no control word, is left for it
 abbrev pub is_over : ClearFault → Bool

@@ -6,8 +6,8 @@ use Rattle.sd_spec.specs.Plan.{since_of}
 use Rattle.sd_head.specs.declared.crypto.CryptoPeriod.{CryptoPeriod}
 
 -- the message of this number in a crypto period, after so many clear packets [this project, docs/FORMATS.md, Messages]
-unfoldable pub head_of : SiteFields → CryptoPeriod → ℕ → ℕ → Bool → EcmHead
-head_of site crypto clear number closing = record {
+unfoldable pub head_of_ecm : SiteFields → CryptoPeriod → ℕ → ℕ → Bool → EcmHead
+head_of_ecm site crypto clear number closing = record {
   version = site.messages;
   number = number;
   period = crypto.period;
@@ -28,4 +28,4 @@ number_due site count = if count % site.every == 0 then Some (count / site.every
 -- the message that stands before the next packet after so many, if one does [this project, docs/FORMATS.md, Broadcast]
 unfoldable pub message_due : SiteFields → CryptoPeriod → ℕ → Option EcmHead
 message_due site crypto count =
-    if count % site.every == 0 then Some (head_of site crypto count (count / site.every) false) else None
+    if count % site.every == 0 then Some (head_of_ecm site crypto count (count / site.every) false) else None

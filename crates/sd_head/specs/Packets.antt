@@ -1,7 +1,7 @@
 -- Public meaning: the packets of a period's entitlements.
 use Rattle.std.specs.Prelude.{ℕ, List, map, Option}
 use Rattle.sd_tree_keys.specs.declared.set.SetName.{SetName}
-use Rattle.sd_packet.specs.Packing.{packed}
+use Rattle.sd_packet.specs.Packing.{section_packet}
 use Rattle.sd_tree_keys.specs.Keys.{period_key_of, check_value_of}
 use Rattle.sd_site_cards.specs.SiteFields.{SiteFields, run_name_of}
 use Rattle.sd_message.specs.EmmSpelled.{emm_section}
@@ -20,4 +20,4 @@ period_of_sets site q sets =
 
 -- the packets of a period's sections, each with counter 0 [this project, docs/FORMATS.md, Sections]
 unfoldable pub period_packets : ℕ → Period → List (List ℕ)
-period_packets pid period = map (λ emm. packed (emm_section emm) pid 0) (emms_of period)
+period_packets pid period = map (λ emm. section_packet (emm_section emm) pid 0) (emms_of period)

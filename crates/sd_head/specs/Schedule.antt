@@ -3,14 +3,14 @@ use Rattle.std.specs.Prelude.{◌≡◌, ℕ, zero, suc, ◌%◌, ◌==◌, ◌&
 use Rattle.sd_spec.specs.Plan.{Plan, crypto_length, crypto_of}
 use Rattle.sd_spec.specs.Refused.{refusal_of, end_refusal}
 use Rattle.sd_head.specs.declared.entitling.Entitling.{Entitling}
-use Rattle.sd_head.specs.Kept.{begins_period, IsNew, IsOf}
+use Rattle.sd_head.specs.Kept.{begins_period, IsUnbegun, IsPeriodState}
 use Rattle.sd_head.specs.declared.fault.HeadFault.{HeadFault}
 use Rattle.sd_head.specs.declared.fault.HeadFault.TheVariants.{Clear, NoMemory}
 
 -- after so many packets the crypto period of the last is at work
-abbrev pub IsAt : Plan → ℕ → Entitling → Type 0
-IsAt plan zero entitling = IsNew plan entitling
-IsAt plan (suc k) entitling = IsOf plan (crypto_of plan.site k) entitling
+abbrev pub IsPeriodAt : Plan → ℕ → Entitling → Type 0
+IsPeriodAt plan zero entitling = IsUnbegun plan entitling
+IsPeriodAt plan (suc k) entitling = IsPeriodState plan (crypto_of plan.site k) entitling
 
 -- a period begins with packet k
 unfoldable pub begins_with : Plan → ℕ → Bool

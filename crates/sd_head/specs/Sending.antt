@@ -1,7 +1,7 @@
 -- Inner: what is sent into a sink, and the counters of inserted packets.
 use Rattle.std.specs.Prelude.{ℕ, zero, suc, ◌+◌, ◌%◌, List, [], ◌∷◌, length, slice_set, Result, Ok, Err}
 use Rattle.std.specs.Io.KnownBytes.{Appends}
-use Rattle.sd_packet.specs.Packing.{packed}
+use Rattle.sd_packet.specs.Packing.{section_packet}
 use Rattle.sd_message.specs.EcmSpelled.{ecm_section}
 use Rattle.sd_message.specs.declared.ecm_part.EcmPart.{EcmPart}
 use Rattle.sd_ports.specs.Bytes.{IsPrefix}
@@ -25,9 +25,9 @@ counter_after counter zero = counter
 counter_after counter (suc n) = (counter_after counter n + 1) % 16
 
 -- what is made of each of these things with a counter, which rises from this one on [ISO/IEC 13818-1, 2.4.3.3]
-abbrev pub numbered : {A : Type 0} → (A → ℕ → List ℕ) → ℕ → List A → List (List ℕ)
-numbered make counter [] = []
-numbered make counter (x ∷ xs) = make x counter ∷ numbered make ((counter + 1) % 16) xs
+abbrev pub with_counters : {A : Type 0} → (A → ℕ → List ℕ) → ℕ → List A → List (List ℕ)
+with_counters make counter [] = []
+with_counters make counter (x ∷ xs) = make x counter ∷ with_counters make ((counter + 1) % 16) xs
 
 -- the packet under another counter [ISO/IEC 13818-1, 2.4.3.2]
 abbrev pub recounted : List ℕ → ℕ → List ℕ
@@ -35,4 +35,4 @@ recounted packet counter = slice_set packet 3 (0x10 + counter)
 
 -- the packet of a part on this PID
 abbrev pub packed_part : ℕ → EcmPart → ℕ → List ℕ
-packed_part pid part counter = packed (ecm_section part) pid counter
+packed_part pid part counter = section_packet (ecm_section part) pid counter

@@ -4,7 +4,7 @@ ghost use Rattle.sd_site_cards.specs.SiteFields.{SiteFields};
 ghost use Rattle.sd_spec.specs.Plan.{word_of};
 ghost use Rattle.sd_spec.specs.Carried.{carried, parity_of};
 ghost use Rattle.sd_head.specs.declared.clear.Clear.{Clear as Clears};
-ghost use Rattle.sd_head.specs.After.{IsAfter};
+ghost use Rattle.sd_head.specs.After.{IsClearAfter};
 ghost use Rattle.sd_head.specs.Follows.{MayFollow};
 
 use crate::judged::Judged;
@@ -17,7 +17,7 @@ impl<'a> Judged<'a> {
     pub fn carry(&self, packet: &mut Packet, number: u32, word: &[u8; 32])
         requires { (site : SiteFields) × (clear : Clears) × MayFollow site clear packet.old self.now }
         ensures { (site : SiteFields) (clear : Clears) (before : List (List ℕ)) →
-            MayFollow site clear packet.old self.now → IsAfter before clear →
+            MayFollow site clear packet.old self.now → IsClearAfter before clear →
             number ≡ word_of site (length before) →
             word.now ≡ control_word_of site.master number →
             packet.new ≡ carried site before packet.old }

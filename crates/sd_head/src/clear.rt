@@ -1,6 +1,6 @@
 ghost use Rattle.std.specs.Prelude.{◌≡◌, ◌≤◌, vec_len, vec_capacity};
 ghost use Rattle.sd_message.specs.declared.ecm_format.TheConstants.{MOST_PLACES};
-ghost use Rattle.sd_head.specs.Known.{AreKnown, AreNear};
+ghost use Rattle.sd_head.specs.Known.{ArePids, AreReachablePositions};
 
 /// How many PIDs there are (ISO/IEC 13818-1, 2.4.3.2).
 pub(crate) const PIDS: usize = 8192;
@@ -22,6 +22,6 @@ pub struct Clear {
     pub ghost pmts_long: { vec_len pmts ≡ 8192 },
     pub ghost pids_few: { vec_len pids ≤ MOST_PLACES },
     pub ghost pids_room: { MOST_PLACES ≤ vec_capacity pids },
-    pub ghost pids_known: { AreKnown pids.items },
-    pub ghost positions_near: { AreNear count positions.items },
+    pub ghost pids_known: { ArePids pids.items },
+    pub ghost positions_near: { AreReachablePositions count positions.items },
 }

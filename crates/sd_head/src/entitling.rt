@@ -2,15 +2,15 @@ ghost use Rattle.std.specs.Prelude.{◌≡◌, ◌+◌, ◌^◌, ◌<◌, ◌≤
 ghost use Rattle.std.specs.Borrow.{sem};
 ghost use Rattle.sd_tree_keys.specs.declared.height.TheConstants.{HIGHEST};
 ghost use Rattle.sd_tree_keys.specs.declared.leaf.TheConstants.{MOST_REVOKED};
-ghost use Rattle.sd_site_cards.specs.SiteFields.{fields_of};
+ghost use Rattle.sd_site_cards.specs.SiteFields.{site_fields_of};
 ghost use Rattle.sd_book.specs.Commands.{last_period, revoked};
 ghost use Rattle.sd_book.specs.declared.limits.TheConstants.{MOST_PERIODS};
 ghost use Rattle.sd_book.specs.Place.{IsPlaceIn};
 ghost use Rattle.sd_cover_tracing.specs.Cover.{cover_of};
 ghost use Rattle.sd_head.specs.Packets.{period_packets, period_of_sets};
 ghost use Rattle.sd_spec.specs.Plan.{period_in};
-ghost use Rattle.sd_head.specs.Kept.{plan_of, begins_period, revoked_before, HasBegun, IsNew};
-ghost use Rattle.sd_head.specs.Kept.{IsInPeriod, IsOf, IsBefore};
+ghost use Rattle.sd_head.specs.Kept.{plan_of, begins_period, revoked_before, HasBegun, IsUnbegun};
+ghost use Rattle.sd_head.specs.Kept.{IsInPeriod, IsPeriodState, IsBeforePeriod};
 ghost use Rattle.sd_head.specs.Lending.{LendsPackets};
 
 use crate::crypto::CryptoPeriod;
@@ -42,7 +42,7 @@ impl Entitling {
     pub fn new(alloc: Global, site: &Site, book: Book) -> Entitling
         requires { book.height ≡ site.now.height }
         ensures book { result.book ≡ book }
-        ensures value { IsNew (plan_of site.now book) result }
+        ensures value { IsUnbegun (plan_of site.now book) result }
     {
         prove!(site.height.get() <= HIGHEST);
         prove!(site.ca <= u16::MAX);
@@ -64,10 +64,10 @@ impl Entitling {
         n: u32,
         steps: &mut Steps<L>,
     ) -> Result<(), NoMemory>
-        requires before { IsBefore (plan_of site.now self.old.book) n self.old }
+        requires before { IsBeforePeriod (plan_of site.now self.old.book) n self.old }
         requires fits { site.now.first_word + n < 2 ^ 32 }
         ensures book { self.new.book ≡ self.old.book }
-        ensures value { OnOk result (IsOf (plan_of site.now self.old.book) n self.new) }
+        ensures value { OnOk result (IsPeriodState (plan_of site.now self.old.book) n self.new) }
         ensures fault { OnErr result (begins_period (plan_of site.now self.old.book) n ≡ true) }
     {
         let last = self.book.last_period();
@@ -86,7 +86,7 @@ impl Entitling {
         p: u32,
         steps: &mut Steps<L>,
     ) -> Result<(), NoMemory>
-        requires before { IsBefore (plan_of site.now self.old.book) n self.old }
+        requires before { IsBeforePeriod (plan_of site.now self.old.book) n self.old }
         requires period { q ≡ period_in (plan_of site.now self.old.book) n }
         requires decided { p ≡ min q (last_period self.old.book.commands) }
         requires few { p ≤ MOST_PERIODS }
@@ -194,7 +194,7 @@ fn pack_period<L: Ledger>(
     requires few { length index.now.revoked ≤ MOST_REVOKED }
     ensures { OnOk result (packets.new.items ≡
         period_packets site.now.emm
-        (period_of_sets (fields_of site.now) q (cover_of index.now.height index.now.revoked))) }
+        (period_of_sets (site_fields_of site.now) q (cover_of index.now.height index.now.revoked))) }
 {
     let alloc = *packets.allocator();
     let sets = index.sets(alloc, steps)?;

@@ -1,6 +1,6 @@
 ghost use Rattle.std.specs.Prelude.{◌≡◌, All, IfOk, map};
 ghost use Rattle.sd_tree_keys.specs.Keys.{key_of};
-ghost use Rattle.sd_site_cards.specs.SiteFields.{fields_of};
+ghost use Rattle.sd_site_cards.specs.SiteFields.{site_fields_of};
 ghost use Rattle.sd_cipher.specs.Wrapping.{wrapped as under};
 ghost use Rattle.sd_spec.specs.Messages.{entry_of};
 ghost use Rattle.sd_head.specs.Crypto.{IsKeyed};
@@ -22,7 +22,7 @@ pub fn entries_of<L: Ledger>(
     steps: &mut Steps<L>,
 ) -> Result<Vec<Entry>, NoMemory>
     requires { All IsKeyed sets.now }
-    ensures { IfOk result (λ entries. entries.items ≡ map (entry_of (fields_of site.now) q) sets.now) }
+    ensures { IfOk result (λ entries. entries.items ≡ map (entry_of (site_fields_of site.now) q) sets.now) }
 {
     Ok(listed(alloc, site, q, sets, steps)?)
 }
@@ -37,7 +37,7 @@ fn listed<L: Ledger>(
     steps: &mut Steps<L>,
 ) -> Result<Vec<Entry>, AllocError>
     requires { All IsKeyed sets.now }
-    ensures { IfOk result (λ entries. entries.items ≡ map (entry_of (fields_of site.now) q) sets.now) }
+    ensures { IfOk result (λ entries. entries.items ≡ map (entry_of (site_fields_of site.now) q) sets.now) }
 {
     let key = period_key(&site.master, q);
     let mut entries = Vec::new(alloc);

@@ -1,13 +1,13 @@
 ghost use Rattle.std.specs.Prelude.{◌≡◌, ◌-◌, ℕ, List, [], length, true, None, Ok, IfOk, OnOk, IsErrOf};
 ghost use Rattle.sd_base.specs.Count.{IsCaused};
-ghost use Rattle.sd_engine.specs.Stage.{vessel, HasGrown, IsCutShort};
-ghost use Rattle.sd_site_cards.specs.SiteFields.{fields_of};
+ghost use Rattle.sd_engine.specs.Stage.{sink_state_of, HasGrown, IsCutShort};
+ghost use Rattle.sd_site_cards.specs.SiteFields.{site_fields_of};
 ghost use Rattle.sd_spec.specs.Plan.{Plan, period_of, word_of};
 ghost use Rattle.sd_head.specs.Follows.{IsJudgement};
 ghost use Rattle.sd_head.specs.Kept.{plan_of};
 ghost use Rattle.sd_head.specs.Schedule.{begins_with};
-ghost use Rattle.sd_head.specs.Staged.{head_closes, head_does, head_ends, head_refuses, head_sends, plan_in, IsAfter};
-ghost use Rattle.sd_head.specs.Staged.{IsOfSent, IsOn, IsReady};
+ghost use Rattle.sd_head.specs.Staged.{head_closes, head_does, head_ends, head_refuses, head_sends, plan_of_head, IsHeadEndAfter};
+ghost use Rattle.sd_head.specs.Staged.{IsOfSent, IsOn, IsHeadReady};
 ghost use Rattle.sd_head.specs.declared.judged.PatRule.{PatRule as PatRules};
 
 use crate::fault::{HeadFault, LiveFault};
@@ -38,8 +38,8 @@ impl Head {
     /// Before the first packet.
     pub fn new(alloc: Global, site: Site, book: Book) -> Result<Head, NoMemory>
         requires { book.height ≡ site.height }
-        ensures value { IfOk result (λ head. IsAfter (plan_of site book) [] head) }
-        ensures live { IfOk result IsReady }
+        ensures value { IfOk result (λ head. IsHeadEndAfter (plan_of site book) [] head) }
+        ensures live { IfOk result IsHeadReady }
     {
         Ok(Head {
             clear: Clear::new(alloc)?,
@@ -56,7 +56,7 @@ impl Head {
         packet: &'a Packet,
         rule: PatRule,
     ) -> Result<Judged<'a>, ClearFault>
-        ensures { IsJudgement rule (fields_of self.now.site) self.now.clear packet.now result }
+        ensures { IsJudgement rule (site_fields_of self.now.site) self.now.clear packet.now result }
     {
         self.clear.judge(&self.site, packet, rule)
     }
@@ -71,14 +71,14 @@ impl Head {
     ) -> Result<(), LiveFault>
         requires on { IsOn self.old }
         requires judged { (rule : PatRules) ×
-            IsJudgement rule (fields_of self.old.site) self.old.clear packet.now (Ok judged.now) }
-        ensures value { OnOk result (HasGrown (vessel K.Sink out.old) (vessel K.Sink out.new) steps.old steps.new
+            IsJudgement rule (site_fields_of self.old.site) self.old.clear packet.now (Ok judged.now) }
+        ensures value { OnOk result (HasGrown (sink_state_of K.Sink out.old) (sink_state_of K.Sink out.new) steps.old steps.new
             (head_sends self.old packet.now self.new)) }
         ensures on { OnOk result (IsOn self.new) }
         ensures memory { IsErrOf result LiveFault.NoMemory →
-            (vessel K.Sink out.new ≡ vessel K.Sink out.old)
-            × (begins_with (plan_in self.old) self.old.clear.count ≡ true) }
-        ensures prefix { IsErrOf result LiveFault.Write → IsCutShort (vessel K.Sink out.old) (vessel K.Sink out.new)
+            (sink_state_of K.Sink out.new ≡ sink_state_of K.Sink out.old)
+            × (begins_with (plan_of_head self.old) self.old.clear.count ≡ true) }
+        ensures prefix { IsErrOf result LiveFault.Write → IsCutShort (sink_state_of K.Sink out.old) (sink_state_of K.Sink out.new)
             (IsOfSent (head_sends self.old packet.now) steps.old steps.new) }
         ensures cause { IsCaused (K.faults out.old) (K.faults out.new) (IsErrOf result LiveFault.Write) }
     {
@@ -114,12 +114,12 @@ impl Head {
         steps: &mut Steps<L>,
     ) -> Result<(), LiveFault>
         requires on { IsOn self.old }
-        ensures value { OnOk result (HasGrown (vessel K.Sink out.old) (vessel K.Sink out.new) steps.old steps.new
+        ensures value { OnOk result (HasGrown (sink_state_of K.Sink out.old) (sink_state_of K.Sink out.new) steps.old steps.new
             (head_closes self.old self.new)) }
         ensures unrefused { OnOk result (self.new.refusal ≡ None) }
         ensures memory { IsErrOf result LiveFault.NoMemory →
-            (vessel K.Sink out.new ≡ vessel K.Sink out.old) × (self.old.clear.count ≡ 0) }
-        ensures prefix { IsErrOf result LiveFault.Write → IsCutShort (vessel K.Sink out.old) (vessel K.Sink out.new)
+            (sink_state_of K.Sink out.new ≡ sink_state_of K.Sink out.old) × (self.old.clear.count ≡ 0) }
+        ensures prefix { IsErrOf result LiveFault.Write → IsCutShort (sink_state_of K.Sink out.old) (sink_state_of K.Sink out.new)
             (IsOfSent (head_closes self.old) steps.old steps.new) }
         ensures cause { IsCaused (K.faults out.old) (K.faults out.new) (IsErrOf result LiveFault.Write) }
     {
@@ -141,7 +141,7 @@ impl Head {
 
     /// How many packets were sent.
     pub(crate) fn sent(&self) -> u32
-        ensures value { (plan : Plan) (before : List (List ℕ)) → IsAfter plan before self.now → result ≡ length before }
+        ensures value { (plan : Plan) (before : List (List ℕ)) → IsHeadEndAfter plan before self.now → result ≡ length before }
         ensures count { result ≡ self.now.clear.count }
     {
         self.clear.count()
@@ -149,7 +149,7 @@ impl Head {
 
     /// The period of the last packet that was sent, or of the first one to come.
     pub(crate) fn period(&self) -> u32
-        ensures { (plan : Plan) (before : List (List ℕ)) → IsAfter plan before self.now →
+        ensures { (plan : Plan) (before : List (List ℕ)) → IsHeadEndAfter plan before self.now →
             result ≡ period_of plan (length before - 1) }
     {
         if self.clear.count() == 0 {
@@ -161,7 +161,7 @@ impl Head {
 
     /// The number of the control word of the last packet that was sent, or of the first one to come.
     pub(crate) fn word(&self) -> u32
-        ensures { (plan : Plan) (before : List (List ℕ)) → IsAfter plan before self.now →
+        ensures { (plan : Plan) (before : List (List ℕ)) → IsHeadEndAfter plan before self.now →
             result ≡ word_of plan.site (length before - 1) }
     {
         if self.clear.count() == 0 {
@@ -173,7 +173,7 @@ impl Head {
 
     /// How many of the site's control words come after that one.
     pub(crate) fn words_left(&self) -> u32
-        ensures { (plan : Plan) (before : List (List ℕ)) → IsAfter plan before self.now →
+        ensures { (plan : Plan) (before : List (List ℕ)) → IsHeadEndAfter plan before self.now →
             result ≡ plan.site.last_word - word_of plan.site (length before - 1) }
     {
         self.site.last_word.saturating_sub(self.word())
@@ -196,7 +196,7 @@ impl Drop for Head {
 impl<K: Sink, L: Ledger> Stage<K, L> for Head {
     type Fault = HeadFault;
 
-    ghost live = { λ s. IsReady s };
+    ghost live = { λ s. IsHeadReady s };
 
     ghost kept = { λ s. s.refusal };
 

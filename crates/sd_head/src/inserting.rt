@@ -1,14 +1,14 @@
 ghost use Rattle.std.specs.Prelude.{◌≡◌, ◌<◌, ◌++◌, [], ℕ, List, OnOk, IfOk, true, false, None, IsSome};
 ghost use Rattle.sd_base.specs.Count.{HasCause};
-ghost use Rattle.sd_engine.specs.Stage.{vessel};
-ghost use Rattle.sd_site_cards.specs.SiteFields.{fields_of};
+ghost use Rattle.sd_engine.specs.Stage.{sink_state_of};
+ghost use Rattle.sd_site_cards.specs.SiteFields.{site_fields_of};
 ghost use Rattle.sd_spec.specs.Plan.{closing_number};
 ghost use Rattle.sd_spec.specs.Messages.{places_after};
-ghost use Rattle.sd_head.specs.After.{IsAfter as IsKept};
-ghost use Rattle.sd_head.specs.Kept.{AreAlike};
+ghost use Rattle.sd_head.specs.After.{IsClearAfter as IsKept};
+ghost use Rattle.sd_head.specs.Kept.{AreAlikeButCounters};
 ghost use Rattle.sd_head.specs.Sending.{SendsBytes};
-ghost use Rattle.sd_head.specs.Messages.{head_of, message_due, number_due};
-ghost use Rattle.sd_head.specs.Items.{message_bytes, tables_bytes, AllMayBeSent, HasCountersAfter, HasPlaced, HasSent};
+ghost use Rattle.sd_head.specs.Messages.{head_of_ecm, message_due, number_due};
+ghost use Rattle.sd_head.specs.Items.{message_bytes, tables_bytes, AllMayBeSent, HasCountersAfter, HasPlaced, HasSentItems};
 ghost use Rattle.sd_head.specs.Items.{MayBeSent};
 
 use crate::cat::cat_packet;
@@ -27,7 +27,7 @@ use std::alloc::Global;
 impl Sender {
     /// Before the first message.
     pub fn new(alloc: Global, site: &Site) -> Result<Sender, NoMemory>
-        ensures { IfOk result (λ sender. HasSent (fields_of site.now) [] sender) }
+        ensures { IfOk result (λ sender. HasSentItems (site_fields_of site.now) [] sender) }
     {
         Ok(Sender {
             cat: cat_packet(site),
@@ -47,8 +47,8 @@ impl Sender {
         message: Option<u32>,
     ) -> Option<EcmHead>
         requires kept { (before : List (List ℕ)) × IsKept before clear.now }
-        requires due { message ≡ number_due (fields_of site.now) clear.now.count }
-        ensures value { result ≡ message_due (fields_of site.now) crypto.now clear.now.count }
+        requires due { message ≡ number_due (site_fields_of site.now) clear.now.count }
+        ensures value { result ≡ message_due (site_fields_of site.now) crypto.now clear.now.count }
         ensures fits { AllMayBeSent result self.new.places.items }
         ensures places { (before : List (List ℕ)) → IsKept before clear.now → IsSome result →
             self.new.places.items ≡ places_after before }
@@ -64,8 +64,8 @@ impl Sender {
     pub fn prepare_closing(&mut self, site: &Site, crypto: &CryptoPeriod, clear: &Clear) -> EcmHead
         requires { (before : List (List ℕ)) × IsKept before clear.now }
         ensures value { result ≡
-            head_of (fields_of site.now) crypto.now clear.now.count
-            (closing_number (fields_of site.now) clear.now.count) true }
+            head_of_ecm (site_fields_of site.now) crypto.now clear.now.count
+            (closing_number (site_fields_of site.now) clear.now.count) true }
         ensures fits { MayBeSent result self.new.places.items }
         ensures places { (before : List (List ℕ)) → IsKept before clear.now →
             self.new.places.items ≡ places_after before }
@@ -85,7 +85,7 @@ impl Sender {
         closing: bool,
     ) -> EcmHead
         requires { (before : List (List ℕ)) × IsKept before clear.now }
-        ensures value { result ≡ head_of (fields_of site.now) crypto.now clear.now.count number closing }
+        ensures value { result ≡ head_of_ecm (site_fields_of site.now) crypto.now clear.now.count number closing }
         ensures fits { MayBeSent result self.new.places.items }
         ensures places { (before : List (List ℕ)) → IsKept before clear.now →
             self.new.places.items ≡ places_after before }
@@ -106,10 +106,10 @@ impl Sender {
     ) -> Result<(), PortFault>
         requires pid { pid < 8192 }
         requires fits { AllMayBeSent message self.old.places.items }
-        ensures value { SendsBytes (vessel K.Sink out.old) (vessel K.Sink out.new)
+        ensures value { SendsBytes (sink_state_of K.Sink out.old) (sink_state_of K.Sink out.new)
             (tables_bytes self.old due emms.old ++ message_bytes pid self.old message) result }
         ensures next { OnOk result (HasCountersAfter self.old due emms.old message self.new) }
-        ensures alike { OnOk result (AreAlike emms.new emms.old) }
+        ensures alike { OnOk result (AreAlikeButCounters emms.new emms.old) }
         ensures cause { HasCause (K.faults out.old) (K.faults out.new) result }
     {
         self.send_tables(due, emms, out)?;
@@ -123,10 +123,10 @@ impl Sender {
         emms: &mut [[u8; SIZE]],
         out: &mut K,
     ) -> Result<(), PortFault>
-        ensures value { SendsBytes (vessel K.Sink out.old) (vessel K.Sink out.new)
+        ensures value { SendsBytes (sink_state_of K.Sink out.old) (sink_state_of K.Sink out.new)
             (tables_bytes self.old due emms.old) result }
         ensures next { OnOk result (HasCountersAfter self.old due emms.old None self.new) }
-        ensures alike { OnOk result (AreAlike emms.new emms.old) }
+        ensures alike { OnOk result (AreAlikeButCounters emms.new emms.old) }
         ensures places { self.new.places ≡ self.old.places }
         ensures cause { HasCause (K.faults out.old) (K.faults out.new) result }
     {
@@ -146,7 +146,7 @@ impl Sender {
     ) -> Result<(), PortFault>
         requires pid { pid < 8192 }
         requires fits { AllMayBeSent message self.old.places.items }
-        ensures value { SendsBytes (vessel K.Sink out.old) (vessel K.Sink out.new)
+        ensures value { SendsBytes (sink_state_of K.Sink out.old) (sink_state_of K.Sink out.new)
             (message_bytes pid self.old message) result }
         ensures next { OnOk result (HasCountersAfter self.old false [] message self.new) }
         ensures cause { HasCause (K.faults out.old) (K.faults out.new) result }
@@ -169,10 +169,10 @@ impl Sender {
     ) -> Result<(), PortFault>
         requires pid { pid < 8192 }
         requires fits { AllMayBeSent message self.old.places.items }
-        ensures value { SendsBytes (vessel K.Sink out.old) (vessel K.Sink out.new)
+        ensures value { SendsBytes (sink_state_of K.Sink out.old) (sink_state_of K.Sink out.new)
             ((tables_bytes self.old due emms.old ++ message_bytes pid self.old message) ++ packet.now) result }
         ensures next { OnOk result (HasCountersAfter self.old due emms.old message self.new) }
-        ensures alike { OnOk result (AreAlike emms.new emms.old) }
+        ensures alike { OnOk result (AreAlikeButCounters emms.new emms.old) }
         ensures cause { HasCause (K.faults out.old) (K.faults out.new) result }
     {
         self.send_inserted(due, emms, message, pid, out)?;

@@ -3,15 +3,15 @@ ghost use Rattle.std.specs.Prelude.{MatchResult, MatchOption, is_none, nat_le, n
 ghost use Rattle.std.specs.Prelude.{length, get_or, slice_index};
 ghost use Rattle.sd_packet.specs.Header.{payload_start_of, pid_of, scrambling_of};
 ghost use Rattle.sd_packet.specs.Positions.{is_placed};
-ghost use Rattle.sd_site_cards.specs.SiteFields.{fields_of};
+ghost use Rattle.sd_site_cards.specs.SiteFields.{site_fields_of};
 ghost use Rattle.sd_psi.specs.Rewriting.{restore_fault};
 ghost use Rattle.sd_spec.specs.Plan.{crypto_length};
 ghost use Rattle.sd_spec.specs.Carried.{pmt_carried};
 ghost use Rattle.sd_spec.specs.declared.kind.Kind.TheVariants as Kind;
 ghost use Rattle.sd_spec.specs.Refused.{is_reserved_pid as is_taken_pid, pat_wrong};
-ghost use Rattle.sd_spec.specs.Refused.{end_refusal, is_full_own, is_too_long};
+ghost use Rattle.sd_spec.specs.Refused.{end_refusal, is_full_own, is_used_up};
 ghost use Rattle.sd_head.specs.declared.judged.PatRule.{PatRule as PatRules};
-ghost use Rattle.sd_head.specs.After.{IsAfter};
+ghost use Rattle.sd_head.specs.After.{IsClearAfter};
 ghost use Rattle.sd_head.specs.Follows.{limit_fault, wrong_by, IsJudgement, IsMove, IsPatOf};
 
 use crate::clear::{Clear, FIRST_POSITION};
@@ -53,7 +53,7 @@ impl Clear {
         packet: &'a Packet,
         rule: PatRule,
     ) -> Result<Judged<'a>, ClearFault>
-        ensures { IsJudgement rule (fields_of site.now) self.now packet.now result }
+        ensures { IsJudgement rule (site_fields_of site.now) self.now packet.now result }
     {
         let number = u64::from(self.count);
         let pid = packet.pid();
@@ -73,8 +73,8 @@ impl Clear {
     /// Why the end is refused: no packet was taken, and no control word is left for the closing message.
     #[tactic(auto, using(crate::proofs::Judging::end_counted))]
     pub fn judge_end(&self, site: &Site) -> Option<ClearFault>
-        ensures { (before : List (List ℕ)) → IsAfter before self.now →
-            result ≡ end_refusal (fields_of site.now) before }
+        ensures { (before : List (List ℕ)) → IsClearAfter before self.now →
+            result ≡ end_refusal (site_fields_of site.now) before }
     {
         if self.count == 0 && self.is_at_end(site) {
             return Some(ClearFault::TooLong(0));
@@ -92,8 +92,8 @@ impl Clear {
         requires unplaced { is_placed packet.now ≡ false }
         requires number { self.now.count < 2 ^ 32 }
         requires clear { scrambling_of packet.now ≡ 0 }
-        requires free { is_taken_pid (fields_of site.now) (pid_of packet.now) ≡ false }
-        ensures { IsJudgement rule (fields_of site.now) self.now packet.now result }
+        requires free { is_taken_pid (site_fields_of site.now) (pid_of packet.now) ≡ false }
+        ensures { IsJudgement rule (site_fields_of site.now) self.now packet.now result }
     {
         let number = u64::from(self.count);
         match pat_by(rule, packet) {
@@ -109,8 +109,8 @@ impl Clear {
         requires placed { is_placed packet.now ≡ true }
         requires number { self.now.count < 2 ^ 32 }
         requires clear { scrambling_of packet.now ≡ 0 }
-        requires free { is_taken_pid (fields_of site.now) (pid_of packet.now) ≡ false }
-        ensures { (rule : PatRules) → IsJudgement rule (fields_of site.now) self.now packet.now result }
+        requires free { is_taken_pid (site_fields_of site.now) (pid_of packet.now) ≡ false }
+        ensures { (rule : PatRules) → IsJudgement rule (site_fields_of site.now) self.now packet.now result }
     {
         let next = self.next_move(packet);
         if self.is_pmt(next.pid) {
@@ -133,8 +133,8 @@ impl Clear {
         requires pmt { get_or self.now.pmts.items (pid_of packet.now) false ≡ true }
         requires number { self.now.count < 2 ^ 32 }
         requires clear { scrambling_of packet.now ≡ 0 }
-        requires free { is_taken_pid (fields_of site.now) (pid_of packet.now) ≡ false }
-        ensures { (rule : PatRules) → IsJudgement rule (fields_of site.now) self.now packet.now result }
+        requires free { is_taken_pid (site_fields_of site.now) (pid_of packet.now) ≡ false }
+        ensures { (rule : PatRules) → IsJudgement rule (site_fields_of site.now) self.now packet.now result }
     {
         let Some(carried) = carried_pmt(site, packet) else {
             return Err(ClearFault::PmtForm(u64::from(self.count), FormFault::NoRoom));
@@ -147,7 +147,7 @@ impl Clear {
 
     // Why a packet that makes this move is one too many: no position is left for its PID, or nothing for the packet.
     fn limit(&self, site: &Site, next: Move) -> Option<ClearFault>
-        ensures { result ≡ limit_fault (fields_of site.now) self.now next }
+        ensures { result ≡ limit_fault (site_fields_of site.now) self.now next }
     {
         let number = u64::from(self.count);
         if self.is_one_too_many(next) {
@@ -183,7 +183,7 @@ impl Clear {
 
     // Whether no number of a packet, or no control word of the site's, is left for the packet.
     fn is_at_end(&self, site: &Site) -> bool
-        ensures { result ≡ is_too_long (fields_of site.now) self.now.count }
+        ensures { result ≡ is_used_up (site_fields_of site.now) self.now.count }
     {
         self.count == u32::MAX || u64::from(self.count) >= most_packets(site)
     }
@@ -191,7 +191,7 @@ impl Clear {
 
 // How many packets the site's control words are enough for. A division by the packet would take longer.
 fn most_packets(site: &Site) -> u64
-    ensures { result ≡ (site.now.last_word + 1 - site.now.first_word) * crypto_length (fields_of site.now) }
+    ensures { result ≡ (site.now.last_word + 1 - site.now.first_word) * crypto_length (site_fields_of site.now) }
 {
     let words = (u64::from(site.last_word) + 1).saturating_sub(u64::from(site.first_word));
     words * u64::from(site.every * site.cryptos)
@@ -199,7 +199,7 @@ fn most_packets(site: &Site) -> u64
 
 // Whether the PID is 1 or that of the site's messages.
 fn is_taken(site: &Site, pid: u16) -> bool
-    ensures { result ≡ is_taken_pid (fields_of site.now) pid }
+    ensures { result ≡ is_taken_pid (site_fields_of site.now) pid }
 {
     pid == 1 || pid == site.emm || pid == site.ecm
 }
@@ -242,9 +242,9 @@ fn current_pat(packet: &Packet) -> Result<Option<Pat<'_>>, FormFault>
 // The PMT as it is carried. There is none if it can't be rewritten and could be restored all the same.
 fn carried_pmt(site: &Site, packet: &Packet) -> Option<Packet>
     requires { payload_start_of packet.now < 188 }
-    ensures { MatchOption result (is_full_own (fields_of site.now) Kind.Pmt packet.now ≡ true)
-        (λ carried. (is_full_own (fields_of site.now) Kind.Pmt packet.now ≡ false)
-        × (carried ≡ pmt_carried (fields_of site.now) packet.now)) }
+    ensures { MatchOption result (is_full_own (site_fields_of site.now) Kind.Pmt packet.now ≡ true)
+        (λ carried. (is_full_own (site_fields_of site.now) Kind.Pmt packet.now ≡ false)
+        × (carried ≡ pmt_carried (site_fields_of site.now) packet.now)) }
 {
     let mut carried = *packet;
     match rewrite_pmt(&mut carried, site.ca, site.ecm) {

@@ -1,6 +1,6 @@
 ghost use Rattle.std.specs.Prelude.{◌≡◌};
 ghost use Rattle.sd_spec.specs.Counting.{is_marked as is_marked_packet};
-ghost use Rattle.sd_head.specs.Left.{renumbered, with_marked, with_refused, with_sent};
+ghost use Rattle.sd_head.specs.Left.{clear_fault_at, with_marked, with_refused, with_sent};
 
 use crate::judge::is_bad_pat;
 use sd_base::fields;
@@ -26,7 +26,7 @@ pub fn is_marked(packet: &Packet) -> bool
 
 /// The fault with another number of the packet.
 pub fn renumber(fault: ClearFault, packet: u64) -> ClearFault
-    ensures { result ≡ renumbered packet fault }
+    ensures { result ≡ clear_fault_at packet fault }
 {
     match fault {
         ClearFault::AlreadyScrambled(_) => ClearFault::AlreadyScrambled(packet),

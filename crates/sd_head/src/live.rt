@@ -1,14 +1,14 @@
 ghost use Rattle.std.specs.Prelude.{◌≡◌, ◌-◌, ◌==◌, ◌||◌, not, if◌then◌else◌, ℕ, List, [], length, false, Ok};
 ghost use Rattle.std.specs.Prelude.{IfOk, OnOk, IsErrOf};
 ghost use Rattle.sd_base.specs.Count.{with_added, IsCaused};
-ghost use Rattle.sd_engine.specs.Stage.{vessel, HasGrown, IsCutShort};
+ghost use Rattle.sd_engine.specs.Stage.{sink_state_of, HasGrown, IsCutShort};
 ghost use Rattle.sd_spec.specs.Plan.{Plan, period_of, word_of};
 ghost use Rattle.sd_spec.specs.Aired.{aired, left_from};
 ghost use Rattle.sd_spec.specs.Counting.{is_marked as is_marked_packet};
 ghost use Rattle.sd_head.specs.Kept.{plan_of};
 ghost use Rattle.sd_head.specs.Left.{is_over, with_marked, with_sent};
-ghost use Rattle.sd_head.specs.Leaving.{HasRefused, IsJudged, LeavesOut};
-ghost use Rattle.sd_head.specs.Live.{live_breaks, live_ends, live_stops, live_takes, IsLive, IsOnAir};
+ghost use Rattle.sd_head.specs.Leaving.{HasRefused, IsLiveJudged, IsPacketLeftOut};
+ghost use Rattle.sd_head.specs.Live.{live_breaks, live_ends, live_stops, live_takes, IsLiveAfter, IsOnAir};
 ghost use Rattle.sd_head.specs.declared.live.Taken.TheVariants.{Begins, On};
 
 use crate::fault::LiveFault;
@@ -49,7 +49,7 @@ impl Live {
     /// Before the first packet.
     pub fn new(alloc: Global, site: Site, book: Book) -> Result<Live, NoMemory>
         requires { book.height ≡ site.height }
-        ensures value { IfOk result (λ live. IsLive (plan_of site book) [] live) }
+        ensures value { IfOk result (λ live. IsLiveAfter (plan_of site book) [] live) }
         ensures on { IfOk result IsOnAir }
     {
         Ok(Live {
@@ -67,11 +67,11 @@ impl Live {
         steps: &mut Steps<L>,
     ) -> Result<Taken, LiveFault>
         requires on { IsOnAir self.old }
-        ensures value { IfOk result (λ taken. HasGrown (vessel K.Sink out.old) (vessel K.Sink out.new)
+        ensures value { IfOk result (λ taken. HasGrown (sink_state_of K.Sink out.old) (sink_state_of K.Sink out.new)
             steps.old steps.new (live_takes self.old packet.now self.new taken)) }
         ensures on { IfOk result (λ _. IsOnAir self.new) }
-        ensures memory { IsErrOf result LiveFault.NoMemory → vessel K.Sink out.new ≡ vessel K.Sink out.old }
-        ensures prefix { IsErrOf result LiveFault.Write → IsCutShort (vessel K.Sink out.old) (vessel K.Sink out.new)
+        ensures memory { IsErrOf result LiveFault.NoMemory → sink_state_of K.Sink out.new ≡ sink_state_of K.Sink out.old }
+        ensures prefix { IsErrOf result LiveFault.Write → IsCutShort (sink_state_of K.Sink out.old) (sink_state_of K.Sink out.new)
             (live_stops self.old packet.now steps.old steps.new) }
         ensures cause { IsCaused (K.faults out.old) (K.faults out.new) (IsErrOf result LiveFault.Write) }
     {
@@ -91,10 +91,10 @@ impl Live {
         steps: &mut Steps<L>,
     ) -> Result<(), LiveFault>
         requires on { IsOnAir self.old }
-        ensures value { OnOk result (HasGrown (vessel K.Sink out.old) (vessel K.Sink out.new)
+        ensures value { OnOk result (HasGrown (sink_state_of K.Sink out.old) (sink_state_of K.Sink out.new)
             steps.old steps.new (live_ends self.old)) }
-        ensures memory { IsErrOf result LiveFault.NoMemory → vessel K.Sink out.new ≡ vessel K.Sink out.old }
-        ensures prefix { IsErrOf result LiveFault.Write → IsCutShort (vessel K.Sink out.old) (vessel K.Sink out.new)
+        ensures memory { IsErrOf result LiveFault.NoMemory → sink_state_of K.Sink out.new ≡ sink_state_of K.Sink out.old }
+        ensures prefix { IsErrOf result LiveFault.Write → IsCutShort (sink_state_of K.Sink out.old) (sink_state_of K.Sink out.new)
             (live_breaks self.old steps.old steps.new) }
         ensures cause { IsCaused (K.faults out.old) (K.faults out.new) (IsErrOf result LiveFault.Write) }
     {
@@ -103,7 +103,7 @@ impl Live {
 
     /// What is left out.
     pub fn left_out(&self) -> LeftOut
-        ensures { (plan : Plan) (past : List (List ℕ)) → IsLive plan past self.now →
+        ensures { (plan : Plan) (past : List (List ℕ)) → IsLiveAfter plan past self.now →
             result ≡ left_from plan.site [] 0 past }
     {
         self.left_out
@@ -111,14 +111,14 @@ impl Live {
 
     /// How many packets were taken.
     pub fn packets(&self) -> u64
-        ensures { (plan : Plan) (past : List (List ℕ)) → IsLive plan past self.now → result ≡ length past }
+        ensures { (plan : Plan) (past : List (List ℕ)) → IsLiveAfter plan past self.now → result ≡ length past }
     {
         self.packets
     }
 
     /// How many of them were sent.
     pub fn sent(&self) -> u64
-        ensures { (plan : Plan) (past : List (List ℕ)) → IsLive plan past self.now →
+        ensures { (plan : Plan) (past : List (List ℕ)) → IsLiveAfter plan past self.now →
             result ≡ length (aired plan.site past) }
     {
         u64::from(self.head.sent())
@@ -126,7 +126,7 @@ impl Live {
 
     /// The period of the closing message, if the broadcast ends here.
     pub fn period(&self) -> u32
-        ensures { (plan : Plan) (past : List (List ℕ)) → IsLive plan past self.now →
+        ensures { (plan : Plan) (past : List (List ℕ)) → IsLiveAfter plan past self.now →
             result ≡ period_of plan (length (aired plan.site past) - 1) }
     {
         self.head.period()
@@ -134,7 +134,7 @@ impl Live {
 
     /// The number of the control word of the closing message, if the broadcast ends here.
     pub fn word(&self) -> u32
-        ensures { (plan : Plan) (past : List (List ℕ)) → IsLive plan past self.now →
+        ensures { (plan : Plan) (past : List (List ℕ)) → IsLiveAfter plan past self.now →
             result ≡ word_of plan.site (length (aired plan.site past) - 1) }
     {
         self.head.word()
@@ -142,7 +142,7 @@ impl Live {
 
     /// How many control words of the site come after that one: those that were not used.
     pub fn left(&self) -> u32
-        ensures { (plan : Plan) (past : List (List ℕ)) → IsLive plan past self.now →
+        ensures { (plan : Plan) (past : List (List ℕ)) → IsLiveAfter plan past self.now →
             result ≡ plan.site.last_word - word_of plan.site (length (aired plan.site past) - 1) }
     {
         self.head.words_left()
@@ -160,7 +160,7 @@ impl Live {
 
     // Counts a packet that breaks a rule, if the broadcast doesn't end before it.
     fn leave_out(&mut self, fault: ClearFault) -> Taken
-        ensures { LeavesOut (is_over fault) fault self.old self.new result }
+        ensures { IsPacketLeftOut (is_over fault) fault self.old self.new result }
     {
         if let ClearFault::TooLong(_) = fault {
             return Taken::Full;
@@ -187,12 +187,12 @@ impl Live {
     ) -> Result<Taken, LiveFault>
         requires on { IsOnAir self.old }
         requires unmarked { is_marked_packet packet.now ≡ false }
-        requires judged { IsJudged self.old packet.now (Ok judged.now) }
-        ensures value { IfOk result (λ taken. HasGrown (vessel K.Sink out.old) (vessel K.Sink out.new)
+        requires judged { IsLiveJudged self.old packet.now (Ok judged.now) }
+        ensures value { IfOk result (λ taken. HasGrown (sink_state_of K.Sink out.old) (sink_state_of K.Sink out.new)
             steps.old steps.new (live_takes self.old packet.now self.new taken)) }
         ensures on { IfOk result (λ _. IsOnAir self.new) }
-        ensures memory { IsErrOf result LiveFault.NoMemory → vessel K.Sink out.new ≡ vessel K.Sink out.old }
-        ensures prefix { IsErrOf result LiveFault.Write → IsCutShort (vessel K.Sink out.old) (vessel K.Sink out.new)
+        ensures memory { IsErrOf result LiveFault.NoMemory → sink_state_of K.Sink out.new ≡ sink_state_of K.Sink out.old }
+        ensures prefix { IsErrOf result LiveFault.Write → IsCutShort (sink_state_of K.Sink out.old) (sink_state_of K.Sink out.new)
             (live_stops self.old packet.now steps.old steps.new) }
         ensures cause { IsCaused (K.faults out.old) (K.faults out.new) (IsErrOf result LiveFault.Write) }
     {

@@ -1,7 +1,7 @@
 ghost use Rattle.std.specs.Prelude.{◌≡◌, ◌≤◌};
-ghost use Rattle.sd_site_cards.specs.SiteFields.{fields_of};
+ghost use Rattle.sd_site_cards.specs.SiteFields.{site_fields_of};
 ghost use Rattle.sd_spec.specs.Plan.{since_of};
-ghost use Rattle.sd_head.specs.Messages.{head_of};
+ghost use Rattle.sd_head.specs.Messages.{head_of_ecm};
 
 use crate::CryptoPeriod;
 use sd_message::EcmHead;
@@ -9,7 +9,7 @@ use sd_site_cards::Site;
 
 /// What the control message of this number says in a crypto period after so many clear packets, beside its positions
 /// (this project, docs/FORMATS.md, Messages).
-#[tactic(auto, unfolding(crate::specs::Messages::head_of))]
+#[tactic(auto, unfolding(crate::specs::Messages::head_of_ecm))]
 pub fn message_head(
     site: &Site,
     crypto: &CryptoPeriod,
@@ -17,7 +17,7 @@ pub fn message_head(
     number: u32,
     closing: bool,
 ) -> EcmHead
-    ensures { result ≡ head_of (fields_of site.now) crypto.now clear number closing }
+    ensures { result ≡ head_of_ecm (site_fields_of site.now) crypto.now clear number closing }
 {
     EcmHead {
         version: site.messages,

@@ -1,9 +1,9 @@
 ghost use Rattle.std.specs.Prelude.{◌≡◌, ◌-◌, ◌%◌, ◌^◌, ◌==◌, ◌<◌, true, IfOk, OnOk, OnErr};
-ghost use Rattle.sd_site_cards.specs.SiteFields.{fields_of};
+ghost use Rattle.sd_site_cards.specs.SiteFields.{site_fields_of};
 ghost use Rattle.sd_spec.specs.Plan.{crypto_length, crypto_of, word_of};
-ghost use Rattle.sd_head.specs.Kept.{plan_of, IsOf};
+ghost use Rattle.sd_head.specs.Kept.{plan_of, IsPeriodState};
 ghost use Rattle.sd_head.specs.Messages.{number_due};
-ghost use Rattle.sd_head.specs.Schedule.{begins_with, IsAt};
+ghost use Rattle.sd_head.specs.Schedule.{begins_with, IsPeriodAt};
 
 use crate::Entitling;
 use sd_base::{NoMemory, Steps};
@@ -26,13 +26,13 @@ pub fn begin<L: Ledger>(
     k: u32,
     steps: &mut Steps<L>,
 ) -> Result<Inserted, NoMemory>
-    requires at { IsAt (plan_of site.now entitling.old.book) k entitling.old }
-    requires word { word_of (fields_of site.now) k < 2 ^ 32 }
+    requires at { IsPeriodAt (plan_of site.now entitling.old.book) k entitling.old }
+    requires word { word_of (site_fields_of site.now) k < 2 ^ 32 }
     ensures book { entitling.new.book ≡ entitling.old.book }
     ensures value { OnOk result
-        (IsOf (plan_of site.now entitling.old.book) (crypto_of (fields_of site.now) k) entitling.new) }
-    ensures message { IfOk result (λ inserted. inserted.message ≡ number_due (fields_of site.now) k) }
-    ensures begins { IfOk result (λ inserted. inserted.begins ≡ (k % crypto_length (fields_of site.now) == 0)) }
+        (IsPeriodState (plan_of site.now entitling.old.book) (crypto_of (site_fields_of site.now) k) entitling.new) }
+    ensures message { IfOk result (λ inserted. inserted.message ≡ number_due (site_fields_of site.now) k) }
+    ensures begins { IfOk result (λ inserted. inserted.begins ≡ (k % crypto_length (site_fields_of site.now) == 0)) }
     ensures fault { OnErr result (begins_with (plan_of site.now entitling.old.book) k ≡ true) }
 {
     if k % site.every != 0 {
@@ -63,10 +63,10 @@ pub fn finish<L: Ledger>(
     count: u32,
     steps: &mut Steps<L>,
 ) -> Result<(), NoMemory>
-    requires { IsAt (plan_of site.now entitling.old.book) count entitling.old }
+    requires { IsPeriodAt (plan_of site.now entitling.old.book) count entitling.old }
     ensures book { entitling.new.book ≡ entitling.old.book }
     ensures value { OnOk result
-        (IsOf (plan_of site.now entitling.old.book) (crypto_of (fields_of site.now) (count - 1)) entitling.new) }
+        (IsPeriodState (plan_of site.now entitling.old.book) (crypto_of (site_fields_of site.now) (count - 1)) entitling.new) }
     ensures fault { OnErr result (count ≡ 0) }
 {
     if count != 0 {

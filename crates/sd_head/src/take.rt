@@ -6,9 +6,9 @@ ghost use Rattle.sd_psi.specs.Tables.{pmt_pids_of};
 ghost use Rattle.sd_site_cards.specs.SiteFields.{SiteFields};
 ghost use Rattle.sd_message.specs.declared.ecm_format.TheConstants.{MOST_PLACES};
 ghost use Rattle.sd_spec.specs.Kinds.{pmts_in, moved_pids, put_in};
-ghost use Rattle.sd_head.specs.Known.{AreKnown, AreNear, AreMarked};
-ghost use Rattle.sd_head.specs.After.{IsAfter, ArePositions};
-ghost use Rattle.sd_head.specs.Follows.{move_in, pat_in, HasRoom, IsMoveOf, IsPatOf, MayFollow};
+ghost use Rattle.sd_head.specs.Known.{ArePids, AreReachablePositions, AreMarkedPids};
+ghost use Rattle.sd_head.specs.After.{IsClearAfter, ArePositions};
+ghost use Rattle.sd_head.specs.Follows.{move_in, pat_in, HasPidRoom, IsMoveOf, IsPatOf, MayFollow};
 
 use crate::clear::Clear;
 use crate::judged::{Judged, Move};
@@ -19,8 +19,8 @@ impl Clear {
     pub fn take(&mut self, judged: &Judged<'_>)
         requires { (site : SiteFields) × (packet : List ℕ) × MayFollow site self.old packet judged.now }
         ensures { (site : SiteFields) (before : List (List ℕ)) (packet : List ℕ) →
-            MayFollow site self.old packet judged.now → IsAfter before self.old →
-            IsAfter (before ++ packet ∷ []) self.new }
+            MayFollow site self.old packet judged.now → IsClearAfter before self.old →
+            IsClearAfter (before ++ packet ∷ []) self.new }
     {
         learn(&mut self.pmts, judged.pat());
         move_position(&mut self.positions, &mut self.pids, judged.next());
@@ -56,7 +56,7 @@ impl<'a> Judged<'a> {
 fn learn(marks: &mut [bool], pat: Option<Pat<'_>>)
     requires { length marks.old ≡ 8192 }
     ensures { (before : List (List ℕ)) (packet : List ℕ) → IsPatOf packet pat.entry →
-        AreMarked (pmts_in before) marks.old → AreMarked (pmts_in (before ++ packet ∷ [])) marks.new }
+        AreMarkedPids (pmts_in before) marks.old → AreMarkedPids (pmts_in (before ++ packet ∷ [])) marks.new }
 {
     if let Some(pat) = pat {
         mark(marks, &pat);
@@ -66,7 +66,7 @@ fn learn(marks: &mut [bool], pat: Option<Pat<'_>>)
 // Marks the PIDs of its PMTs, and no others.
 fn mark(marks: &mut [bool], pat: &Pat)
     requires { length marks.old ≡ 8192 }
-    ensures { AreMarked (pmt_pids_of pat.now.section.bytes.now) marks.new }
+    ensures { AreMarkedPids (pmt_pids_of pat.now.section.bytes.now) marks.new }
 {
     marks.fill(false);
     let mut pids = pat.pmt_pids();
@@ -80,19 +80,19 @@ fn move_position(positions: &mut [u64], pids: &mut Vec<u16>, next: Option<Move>)
     requires long { length positions.old ≡ 8192 }
     requires few { vec_len pids.old ≤ MOST_PLACES }
     requires capacity { MOST_PLACES ≤ vec_capacity pids.old }
-    requires known { AreKnown pids.old.items }
+    requires known { ArePids pids.old.items }
     requires pid { IfSome next (λ move. move.pid < 8192) }
-    requires room { HasRoom pids.old.items next }
+    requires room { HasPidRoom pids.old.items next }
     ensures placed { (before : List (List ℕ)) (packet : List ℕ) → IsMoveOf positions.old packet next →
         ArePositions before positions.old → ArePositions (before ++ packet ∷ []) positions.new }
     ensures moved { (before : List (List ℕ)) (packet : List ℕ) → IsMoveOf positions.old packet next →
         ArePositions before positions.old → pids.old.items ≡ moved_pids before →
         pids.new.items ≡ moved_pids (before ++ packet ∷ []) }
     ensures near { (n : ℕ) → IfSome next (λ move. move.position ≤ first_position + 16 * (n + 1)) →
-        AreNear n positions.old → AreNear (n + 1) positions.new }
+        AreReachablePositions n positions.old → AreReachablePositions (n + 1) positions.new }
     ensures few { vec_len pids.new ≤ MOST_PLACES }
     ensures capacity { MOST_PLACES ≤ vec_capacity pids.new }
-    ensures known { AreKnown pids.new.items }
+    ensures known { ArePids pids.new.items }
 {
     let Some(next) = next else {
         return;

@@ -8,11 +8,11 @@ use Rattle.sd_ports.specs.declared.fault.DepotFault.TheVariants.{Missing, Failed
 
 -- what an error of the machine is to a depot: a file is missing if its path or a part of it is not there
 -- [POSIX, ENOENT and ENOTDIR]
-abbrev pub fault_of : ErrorKind → DepotFault
-fault_of NotFound = Missing
-fault_of NotADirectory = Missing
-fault_of OutOfMemory = NoMemory
-fault_of kind = Failed
+abbrev pub depot_fault_of : ErrorKind → DepotFault
+depot_fault_of NotFound = Missing
+depot_fault_of NotADirectory = Missing
+depot_fault_of OutOfMemory = NoMemory
+depot_fault_of kind = Failed
 
 -- the count of missing files after a fault
 abbrev pub misses_after : ℕ → DepotFault → ℕ

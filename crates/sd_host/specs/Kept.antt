@@ -12,8 +12,8 @@ use Rattle.sd_host.specs.declared.target.Target.{Target}
 use Rattle.sd_host.specs.declared.target.Target.TheVariants as target
 
 -- a file of this kind keeps what is written: a regular file or a block device
-abbrev pub IsKept : Kind → Type 0
-IsKept kind = (kind ≡ Regular) ⊎ (kind ≡ Block)
+abbrev pub KeepsWrites : Kind → Type 0
+KeepsWrites kind = (kind ≡ Regular) ⊎ (kind ≡ Block)
 
 -- the standard output that is this file: no block device, terminal or other character device is taken for it
 -- [this project, docs/FORMATS.md, Commands]
@@ -33,14 +33,14 @@ MayRead standard kind file = ¬ ((kind ≡ Regular) × IsOutput standard file)
 
 -- the file may be made: it is none of the inputs that keep what is written [this project, docs/FORMATS.md, Commands]
 abbrev pub MayMake : List Identity → Kind → Identity → Type 0
-MayMake inputs kind file = ¬ (IsKept kind × Contains inputs file)
+MayMake inputs kind file = ¬ (KeepsWrites kind × Contains inputs file)
 
 -- the inputs once a file of this kind is read, too
-abbrev pub with_input : List Identity → Kind → Identity → List Identity
-with_input inputs Regular file = inputs ++ file ∷ []
-with_input inputs Block file = inputs ++ file ∷ []
-with_input inputs Stream file = inputs
-with_input inputs kind.Other file = inputs
+abbrev pub with_identity : List Identity → Kind → Identity → List Identity
+with_identity inputs Regular file = inputs ++ file ∷ []
+with_identity inputs Block file = inputs ++ file ∷ []
+with_identity inputs Stream file = inputs
+with_identity inputs kind.Other file = inputs
 
 -- the output is written through the descriptor of the standard output, and no file was opened for it
 abbrev pub IsThrough : {R F D : Type 0} → Target R F D → Type 0

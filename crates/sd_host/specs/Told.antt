@@ -9,7 +9,7 @@ abbrev pub said_in : FileError → List ℕ × ErrorKind
 said_in error = (string_bytes error.name, error.kind)
 
 -- an error of the file of this name, if both are known
-abbrev pub error_of : Option (String Global) → Option ErrorKind → Option FileError
-error_of (Some name) (Some kind) = Some (record { name = name; kind = kind })
-error_of (Some name) None = None
-error_of None kind = None
+abbrev pub file_error_of : Option (String Global) → Option ErrorKind → Option FileError
+file_error_of (Some name) (Some kind) = Some (record { name = name; kind = kind })
+file_error_of (Some name) None = None
+file_error_of None kind = None

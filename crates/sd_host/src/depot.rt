@@ -2,7 +2,7 @@ ghost use Rattle.std.specs.Prelude.{◌≡◌, ◌≢◌, ◌↔◌, ◌<◌, No
 ghost use Rattle.std.specs.Prelude.{List, ℕ, option_map, string_bytes, vec_capacity, vec_len};
 ghost use Rattle.sd_base.specs.Count.{IsCaused};
 ghost use Rattle.sd_ports.specs.Causes.{HasDepotCause};
-ghost use Rattle.sd_host.specs.Faults.{fault_of, faults_after, misses_after};
+ghost use Rattle.sd_host.specs.Faults.{depot_fault_of, faults_after, misses_after};
 ghost use Rattle.sd_host.specs.Kept.{IsOutput, IsThrough};
 ghost use Rattle.sd_host.specs.Told.{said_in};
 
@@ -131,9 +131,9 @@ impl<'a, R: Files + Print> HostDepot<'a, R> {
 
     /// Counts why the file of that name wasn't opened, and says it.
     fn refuse<T>(&mut self, name: &str, kind: ErrorKind) -> Result<T, DepotFault>
-        ensures value { result ≡ Err (fault_of kind) }
-        ensures misses { self.new.misses ≡ misses_after self.old.misses (fault_of kind) }
-        ensures faults { self.new.faults ≡ faults_after self.old.faults (fault_of kind) }
+        ensures value { result ≡ Err (depot_fault_of kind) }
+        ensures misses { self.new.misses ≡ misses_after self.old.misses (depot_fault_of kind) }
+        ensures faults { self.new.faults ≡ faults_after self.old.faults (depot_fault_of kind) }
         ensures cause { HasDepotCause self.old.faults self.new.faults self.old.misses self.new.misses result }
         ensures stops { IsCaused self.old.stops self.new.stops (IsErrOf result DepotFault.Failed) }
         ensures made { self.new.made ≡ self.old.made }

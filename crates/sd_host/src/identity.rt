@@ -2,7 +2,7 @@ ghost use Rattle.std.specs.Prelude.{◌≡◌, ◌↔◌, ◌⊎◌, ◌<◌, �
 ghost use Rattle.std.specs.Prelude.{vec_capacity, vec_len};
 ghost use Rattle.std.specs.Fs.{metadata_mode};
 ghost use Rattle.sd_host.specs.Folder.{folder_in};
-ghost use Rattle.sd_host.specs.Kept.{made_in, IsKept, IsOutput, MayMake, MayRead, output_of, with_input};
+ghost use Rattle.sd_host.specs.Kept.{made_in, KeepsWrites, IsOutput, MayMake, MayRead, output_of, with_identity};
 
 use std::fs::{Files, Metadata, OpenFile, OpenOptions};
 use std::io::{Error, ErrorKind};
@@ -59,7 +59,7 @@ impl Kind {
 
     /// Whether a file of this kind keeps what is written, so that an input of this kind must never be an output.
     fn is_kept(self) -> bool
-        ensures { IsTrue result ↔ IsKept self }
+        ensures { IsTrue result ↔ KeepsWrites self }
     {
         self == Kind::Regular || self == Kind::Block
     }
@@ -151,7 +151,7 @@ pub fn open<R: Files>(
     name: &str,
 ) -> io::Result<R::File>
     ensures ok { OnOk result ((kind : Kind) × (file : Identity) × MayRead output kind file
-        × (inputs.new.items ≡ with_input inputs.old.items kind file)) }
+        × (inputs.new.items ≡ with_identity inputs.old.items kind file)) }
     ensures unchanged { OnErr result (inputs.new.items ≡ inputs.old.items) }
 {
     let file = fs::open(files, name)?;
@@ -169,7 +169,7 @@ pub fn add_input(
     file: Identity,
 ) -> io::Result<()>
     ensures ok { OnOk result (MayRead output kind file
-        × (inputs.new.items ≡ with_input inputs.old.items kind file)) }
+        × (inputs.new.items ≡ with_identity inputs.old.items kind file)) }
     ensures refused { ¬ MayRead output kind file → IsErr result }
     ensures unchanged { OnErr result (inputs.new.items ≡ inputs.old.items) }
 {

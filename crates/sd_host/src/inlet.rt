@@ -2,7 +2,7 @@ ghost use Rattle.std.specs.Prelude.{◌≡◌, ◌<◌, None, OnErr, length};
 ghost use Rattle.std.specs.Io.{ReadsAtMost};
 ghost use Rattle.std.specs.Io.KnownBytes.{ReadConsumes};
 ghost use Rattle.sd_base.specs.Count.{HasCause, with_added};
-ghost use Rattle.sd_host.specs.Told.{error_of};
+ghost use Rattle.sd_host.specs.Told.{file_error_of};
 
 use crate::error::FileError;
 use sd_ports::{PortFault, Source};
@@ -41,7 +41,7 @@ impl<F: Read + Drop> HostInlet<F> {
 
     /// What the machine said of the file, if a read failed and the name is known.
     pub(crate) fn into_error(self) -> Option<FileError>
-        ensures { result ≡ error_of self.name self.kind }
+        ensures { result ≡ file_error_of self.name self.kind }
     {
         match (self.name, self.kind) {
             (Some(name), Some(kind)) => Some(FileError { name, kind }),

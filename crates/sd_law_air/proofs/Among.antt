@@ -2,7 +2,7 @@
 use Rattle.std.proofs.Common.{◌≡◌, ℕ, suc, ◌+◌, true, false, [], ◌∷◌, ◌++◌, length, refl, ap, sym, ◌∙◌}
 use Rattle.sd_base.specs.Types.{Packets, Arrived}
 use Rattle.sd_site_cards.specs.SiteFields.{SiteFields}
-use Rattle.sd_spec.specs.Refused.{is_too_long}
+use Rattle.sd_spec.specs.Refused.{is_used_up}
 use Rattle.sd_spec.specs.Aired.{aired, aired_from}
 use Rattle.sd_law_losses.specs.Chosen.{chosen}
 use Rattle.sd_law_air.specs.Sent.{AreAmong, sent_flags}
@@ -11,7 +11,7 @@ use Rattle.sd_law_air.proofs.Sendable.{aired_chosen}
 
 -- if nothing is left for a packet, none is sent
 pub none_sent : (site : SiteFields) (before : Packets) (n : ℕ) (packets : Packets) →
-    is_too_long site (length before) ≡ true → aired_from site before n packets ≡ []
+    is_used_up site (length before) ≡ true → aired_from site before n packets ≡ []
 unfolding aired_from
 none_sent site before n [] full = refl
 none_sent site before n (packet ∷ packets) full = elim (fate_of site before packet) [

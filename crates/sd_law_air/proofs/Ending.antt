@@ -7,7 +7,7 @@ use Rattle.sd_site_cards.specs.SiteFields.{AreInRange, SiteFields}
 use Rattle.sd_message.specs.declared.clear_fault.ClearFault.TheVariants.{TooLong}
 use Rattle.sd_spec.specs.Counting.{is_marked}
 use Rattle.sd_spec.specs.Plan.{crypto_length, word_of}
-use Rattle.sd_spec.specs.Refused.{is_too_long, unsent_at}
+use Rattle.sd_spec.specs.Refused.{is_used_up, unsent_at}
 use Rattle.sd_spec.specs.Aired.{aired, aired_from, ended_from, verdict_of}
 use Rattle.sd_law_broadcast.specs.Runs.{HasWords}
 use Rattle.sd_law_broadcast.proofs.Clear.{clear_short, clear_words}
@@ -131,20 +131,20 @@ ended_before site packets k it =
 -- then no number or no control word is left
 used_up_from : (site : SiteFields) (before : Packets) (n : ℕ) (packets : Packets) (k : ℕ) →
     ended_from site before n packets ≡ Some k →
-    is_too_long site (length (before ++ aired_from site before n packets)) ≡ true
+    is_used_up site (length (before ++ aired_from site before n packets)) ≡ true
 unfolding aired_from ended_from
 used_up_from site before n [] k e = absurd (cc)
 used_up_from site before n (packet ∷ packets) k e = elim (fate_of site before packet) [
   | marked bad is ↦ rw (is n) (used_up_from site before (n + 1) packets k (rw (is n) at e))
   | refused good fault why is ↦ rw (is n) (used_up_from site before (n + 1) packets k (rw (is n) at e))
-  | sent good short none is ↦ rw (is n) (subst (λ (them : Packets). is_too_long site (length them) ≡ true)
+  | sent good short none is ↦ rw (is n) (subst (λ (them : Packets). is_used_up site (length them) ≡ true)
       (append_assoc before (packet ∷ []) (aired_from site (before ++ packet ∷ []) (n + 1) packets))
       (used_up_from site (before ++ packet ∷ []) (n + 1) packets k (rw (is n) at e)))
   | ends good long why is ↦ rw (is n, append-nil before) long
 ]
 
 pub used_up : (site : SiteFields) (packets : Packets) (k : ℕ) → ended_from site [] 0 packets ≡ Some k →
-    is_too_long site (length (aired site packets)) ≡ true
+    is_used_up site (length (aired site packets)) ≡ true
 used_up site packets k e = used_up_from site [] 0 packets k e
 
 -- and nothing behind it is sent
@@ -175,6 +175,6 @@ aired_most site packets range has = by_length (length (aired site packets)) (air
     by_length zero few words = omega arith
     by_length (suc k) few words =
         let word = words k (omega arith) in
-        let left : is_too_long site k ≡ false = grind (arith, nat_tests, few, word) in
+        let left : is_used_up site k ≡ false = grind (arith, nat_tests, few, word) in
         let within = ((words_suffice site k range has).0 left).1 in
         omega (arith, within)

@@ -10,7 +10,7 @@ use Rattle.sd_message.specs.declared.clear_fault.ClearFault.TheVariants.{TooMany
 use Rattle.sd_psi.specs.declared.fault.FormFault.TheVariants as Form
 use Rattle.sd_spec.specs.Kinds.{kind_of}
 use Rattle.sd_spec.specs.Counting.{is_marked}
-use Rattle.sd_spec.specs.Refused.{is_reserved_pid, is_full_own, is_one_too_many, is_too_long, unsent_at}
+use Rattle.sd_spec.specs.Refused.{is_reserved_pid, is_full_own, is_one_too_many, is_used_up, unsent_at}
 use Rattle.sd_spec.specs.Aired.{Marked, Refused, Sent, Ends, verdict_of}
 
 -- what becomes of a packet after others that were sent, whatever its number: each case with what decides it
@@ -19,10 +19,10 @@ pub data Fate (site : SiteFields) (before : Packets) (packet : Packet) : Type 0 
   refused : is_marked packet ≡ false → (fault : ℕ → ClearFault) →
       ((n : ℕ) → unsent_at site before n packet ≡ Some (fault n)) →
       ((n : ℕ) → verdict_of site before n packet ≡ Refused (fault n)) → Fate site before packet
-  sent : is_marked packet ≡ false → is_too_long site (length before) ≡ false →
+  sent : is_marked packet ≡ false → is_used_up site (length before) ≡ false →
       ((n : ℕ) → unsent_at site before n packet ≡ None) → ((n : ℕ) → verdict_of site before n packet ≡ Sent) →
       Fate site before packet
-  ends : is_marked packet ≡ false → is_too_long site (length before) ≡ true →
+  ends : is_marked packet ≡ false → is_used_up site (length before) ≡ true →
       ((n : ℕ) → unsent_at site before n packet ≡ Some (TooLong n)) →
       ((n : ℕ) → verdict_of site before n packet ≡ Ends) → Fate site before packet
 
@@ -41,7 +41,7 @@ fate_of site before packet = elim (cases_Bool (is_marked packet)) [
         | inr own ↦ elim (cases_Bool (is_one_too_many before packet)) [
           | inl broken ↦ refused good (λ n. TooManyPids n) (λ n. rw (clear, free, own, broken) refl)
               (λ n. rw (good, clear, free, own, broken) refl)
-          | inr few ↦ elim (cases_Bool (is_too_long site (length before))) [
+          | inr few ↦ elim (cases_Bool (is_used_up site (length before))) [
             | inl long ↦ ends good long (λ n. rw (clear, free, own, few, long) refl)
                 (λ n. rw (good, clear, free, own, few, long) refl)
             | inr short ↦ sent good short (λ n. rw (clear, free, own, few, short) refl)

@@ -3,13 +3,13 @@ use Rattle.std.specs.Prelude.{◌≡◌, ℕ, ◌+◌, true, false, [], ◌∷�
 use Rattle.sd_base.specs.Types.{Packets, PacketNumber, Arrived}
 use Rattle.sd_site_cards.specs.SiteFields.{SiteFields}
 use Rattle.sd_spec.specs.Counting.{is_marked}
-use Rattle.sd_spec.specs.Aired.{verdict_of, following}
+use Rattle.sd_spec.specs.Aired.{verdict_of, by_verdict}
 
 -- of each of these packets, from packet n on, whether it is sent after others, up to the end of the broadcast [this
 -- project, docs/FORMATS.md, On air]
 unfoldable pub sent_flags : SiteFields → Packets → PacketNumber → Packets → Arrived
 sent_flags site before n [] = []
-sent_flags site before n (packet ∷ packets) = following (verdict_of site before n packet)
+sent_flags site before n (packet ∷ packets) = by_verdict (verdict_of site before n packet)
     (true ∷ sent_flags site (before ++ packet ∷ []) (n + 1) packets)
     (false ∷ sent_flags site before (n + 1) packets) []
 

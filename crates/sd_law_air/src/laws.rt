@@ -8,7 +8,7 @@ ghost use Rattle.sd_message.specs.declared.clear_fault.ClearFault.{ClearFault};
 ghost use Rattle.sd_site_cards.specs.SiteFields.{AreInRange, SiteFields};
 ghost use Rattle.sd_spec.specs.Counting.{is_marked};
 ghost use Rattle.sd_spec.specs.Plan.{Plan, crypto_length, word_of};
-ghost use Rattle.sd_spec.specs.Refused.{IsClear, IsSendable, is_too_long};
+ghost use Rattle.sd_spec.specs.Refused.{IsClear, IsSendable, is_used_up};
 ghost use Rattle.sd_spec.specs.Sent.{body, broadcast};
 ghost use Rattle.sd_spec.specs.Aired.{aired, aired_from, ended_from, left_from, none_left};
 ghost use Rattle.sd_law_losses.specs.Chosen.{chosen};
@@ -60,7 +60,7 @@ pub fn the_end_comes_of_a_packet_that_would_be_sent()
     ensures ends { (site : SiteFields) (packets : Packets) (k : PacketNumber) →
         (ended_from site [] 0 packets ≡ Some k) ↔ EndsBefore site packets k }
     ensures used_up { (site : SiteFields) (packets : Packets) (k : PacketNumber) →
-        ended_from site [] 0 packets ≡ Some k → is_too_long site (length (aired site packets)) ≡ true }
+        ended_from site [] 0 packets ≡ Some k → is_used_up site (length (aired site packets)) ≡ true }
     ensures behind { (site : SiteFields) (packets more : Packets) (k : PacketNumber) →
         ended_from site [] 0 packets ≡ Some k → aired site (packets ++ more) ≡ aired site packets }
     ensures few { (site : SiteFields) (packets : Packets) → length (aired site packets) < 2 ^ 32 }

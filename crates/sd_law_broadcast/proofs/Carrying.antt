@@ -12,11 +12,11 @@ use Rattle.sd_site_cards.specs.SiteFields.{SiteFields}
 use Rattle.sd_psi.specs.Rewriting.{rewrite_fault}
 use Rattle.sd_psi.specs.Undone.{IsPacket}
 use Rattle.sd_psi.proofs.Keeping.{rewritten_keeps, rewritten_packet_keeps}
-use Rattle.sd_cipher.specs.Scrambling.{control_of, payload_under, laid_under}
+use Rattle.sd_cipher.specs.Scrambling.{control_of, payload_under, packet_under_keystream}
 use Rattle.sd_cipher.proofs.Scramblings.{prefix_is, laid_reads, control_fits, pid_by_bytes}
 use Rattle.sd_spec.specs.Plan.{word_of}
 use Rattle.sd_spec.specs.Kinds.{kind_of}
-use Rattle.sd_spec.specs.Carried.{parity_of, place_after, pmt_carried, veiled, carried_as, carried}
+use Rattle.sd_spec.specs.Carried.{parity_of, place_after, pmt_carried, packet_under_word, carried_as, carried}
 use Rattle.sd_spec.specs.declared.kind.Kind.{Kind}
 use Rattle.sd_spec.specs.declared.kind.Kind.TheVariants.{Passed, Pmt, Scrambled}
 use Rattle.sd_law_broadcast.specs.Packets.{IsWholePacket}
@@ -71,8 +71,8 @@ pmt_keeps site packet is clear = elim (cases_Bool (is_none (rewrite_fault packet
 
 -- a scrambled packet keeps its header but for the control
 veiled_keeps : (site : SiteFields) (t position : ℕ) (packet : List ℕ) → IsWholePacket packet →
-    IsCarriedWith (2 + t % 2) packet (veiled site t position packet)
-unfolding veiled
+    IsCarriedWith (2 + t % 2) packet (packet_under_word site t position packet)
+unfolding packet_under_word
 veiled_keeps site t position packet whole =
     let reads = laid_reads packet (control_word_of site.master t) position (control_of (parity_of t)) whole.long
     (whole.bytes 3)
@@ -103,13 +103,13 @@ carried_keeps site before packet whole clear = by_kind (kind_of before packet) r
     by_kind Scrambled is = veiled_keeps site (word_of site (length before)) (place_after before packet) packet whole
 
 veiled_pid : (site : SiteFields) (t position : ℕ) (packet : List ℕ) → length packet ≡ 188 →
-    pid_of (veiled site t position packet) ≡ pid_of packet
-unfolding veiled laid_under
+    pid_of (packet_under_word site t position packet) ≡ pid_of packet
+unfolding packet_under_word packet_under_keystream
 veiled_pid site t position packet long =
     let word : List ℕ = control_word_of site.master t in
     let prefix = prefix_is packet (payload_under packet word position) (payload_start_of packet)
     (control_of (parity_of t) * 64 + slice_index packet 3 % 64) (start_within packet).0 (omega (arith, long)) in
-    pid_by_bytes (veiled site t position packet) packet prefix.second prefix.third
+    pid_by_bytes (packet_under_word site t position packet) packet prefix.second prefix.third
 
 pmt_pid : (site : SiteFields) (packet : List ℕ) → length packet ≡ 188 → payload_start_of packet < 188 →
     pid_of (pmt_carried site packet) ≡ pid_of packet

@@ -14,7 +14,7 @@ use Rattle.sd_spec.specs.Plan.{word_of}
 use Rattle.sd_spec.specs.Kinds.{kind_of, has_moved, positional_pids, moved_pids, put_in}
 use Rattle.sd_spec.specs.Refused.{fault_where, is_reserved_pid, is_full_own}
 use Rattle.sd_spec.specs.Refused.{is_one_too_many}
-use Rattle.sd_spec.specs.Refused.{is_too_long}
+use Rattle.sd_spec.specs.Refused.{is_used_up}
 use Rattle.sd_spec.specs.Refused.{unsent_at, unsent_from, IsSendable}
 use Rattle.sd_message.specs.declared.clear_fault.ClearFault.{ClearFault}
 use Rattle.sd_message.specs.declared.clear_fault.ClearFault.TheVariants.{AlreadyScrambled, PidTaken, PmtForm}
@@ -102,7 +102,7 @@ pub accepted : (site : SiteFields) (before : List (List ℕ)) (packet : List ℕ
 unfolding unsent_at
 accepted site before packet h =
     let n : ℕ = length before in
-    let last = fault_where (is_too_long site n) (TooLong n) None in
+    let last = fault_where (is_used_up site n) (TooLong n) None in
     let many = fault_where (is_one_too_many before packet) (TooManyPids n) last in
     let full = fault_where (is_full_own site (kind_of before packet) packet) (PmtForm n Form.NoRoom) many in
     let taken = fault_where (is_reserved_pid site (pid_of packet)) (PidTaken n (pid_of packet)) full in
@@ -110,7 +110,7 @@ accepted site before packet h =
     let two = untold (is_reserved_pid site (pid_of packet)) (PidTaken n (pid_of packet)) full one.1 in
     let three = untold (is_full_own site (kind_of before packet) packet) (PmtForm n Form.NoRoom) many two.1 in
     let four = untold (is_one_too_many before packet) (TooManyPids n) last three.1 in
-    let five = untold (is_too_long site n) (TooLong n) None four.1 in
+    let five = untold (is_used_up site n) (TooLong n) None four.1 in
     record {
       clear = grind (arith, nat_tests, one.0);
       untaken = two.0;

@@ -7,7 +7,7 @@ use Rattle.std.proofs.lemmas.List.Elements.{Contains-get_or}
 use Rattle.sd_base.proofs.Lists.{is_found}
 use Rattle.sd_tree_keys.specs.Leaves.{is_member}
 use Rattle.sd_tree_keys.specs.declared.set.SetName.{SetName}
-use Rattle.sd_tree_keys.specs.Names.{given}
+use Rattle.sd_tree_keys.specs.Names.{names_of_receiver}
 use Rattle.sd_book.specs.Commands.{revoked, entitled}
 use Rattle.sd_book.proofs.Revocations.{below}
 use Rattle.sd_cover_tracing.specs.Partition.{IsPartition}
@@ -49,7 +49,7 @@ none_has plan q u is m k d within = elim (cases_Bool (is_member plan.site.height
 
 -- what its names reach is no label or key of one
 none_reached : (plan : Plan) (q u : ℕ) → IsPlan plan → Contains (revoked plan.site.height plan.commands q) u →
-    ReachesNoneOf (given plan.site.height u) (sets_at plan q)
+    ReachesNoneOf (names_of_receiver plan.site.height u) (sets_at plan q)
 none_reached plan q u is m =
     let high = is.site.height.1 in
     revoked_reach_none plan.site.height (revoked plan.site.height plan.commands q) (sets_at plan q) u

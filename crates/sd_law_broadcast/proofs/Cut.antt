@@ -11,7 +11,7 @@ use Rattle.std.proofs.lemmas.List.Elements.{All-nil, All-cons, All-take, All-dro
 use Rattle.std.proofs.lemmas.List.Sums.{take_while-cons}
 use Rattle.sd_engine.specs.Stream.{pieces, is_packet, packets_of, break_after, break_of, torn, no_sync}
 use Rattle.sd_engine.specs.Driving.{most_packets}
-use Rattle.sd_engine.specs.Taken.{Whole, RunsOn, taken_of, ended_by, end_of}
+use Rattle.sd_engine.specs.Taken.{Whole, RunsOn, packets_taken, stream_end_by, end_of}
 use Rattle.sd_engine.specs.declared.fault.StreamBreak.{StreamBreak}
 use Rattle.sd_engine.proofs.Taken.{least_of}
 use Rattle.sd_law_broadcast.specs.Packets.{AreWholePackets}
@@ -63,11 +63,11 @@ unfolding packets_of
 packets_first bytes = kept_first (length bytes / 188) bytes (omega arith)
 
 -- the packets that are taken are synced
-pub taken_synced : (bytes : List ℕ) → AreSynced (taken_of bytes)
-unfolding taken_of
+pub taken_synced : (bytes : List ℕ) → AreSynced (packets_taken bytes)
+unfolding packets_taken
 taken_synced bytes = All-take IsSynced most_packets (packets_of bytes) (packets_first bytes).synced
 
-pub taken_few : (bytes : List ℕ) → length (taken_of bytes) ≤ most_packets
+pub taken_few : (bytes : List ℕ) → length (packets_taken bytes) ≤ most_packets
 taken_few bytes = (least_of bytes).1
 
 -- a stream without break has as many bytes as its packets
@@ -98,7 +98,7 @@ whole_long bytes whole =
   where
     by_tests : (few more : Bool) (found : Option StreamBreak) → nat_lt (length (packets_of bytes)) most_packets ≡ few →
         nat_lt (188 * most_packets) (length bytes) ≡ more → break_of bytes ≡ found →
-        cond few (ended_by found) (cond more RunsOn Whole) ≡ Whole →
+        cond few (stream_end_by found) (cond more RunsOn Whole) ≡ Whole →
         (length bytes ≡ 188 * length (packets_of bytes)) × (length (packets_of bytes) ≤ most_packets)
     by_tests true more None a b e w =
         let less = ltb-true (length (packets_of bytes)) most_packets a in
@@ -112,8 +112,8 @@ whole_long bytes whole =
         (omega (arith, many, short, within), omega (arith, many, short, within))
 
 -- joined they are all bytes of a stream that ends whole
-pub taken_joined : (bytes : List ℕ) → end_of bytes ≡ Whole → concat (taken_of bytes) ≡ bytes
-unfolding taken_of
+pub taken_joined : (bytes : List ℕ) → end_of bytes ≡ Whole → concat (packets_taken bytes) ≡ bytes
+unfolding packets_taken
 taken_joined bytes whole =
     let long = whole_long bytes whole in
     ap concat (take_all most_packets (packets_of bytes) long.1)
@@ -128,8 +128,8 @@ pieces_bytes (suc n) bytes each =
     (pieces_bytes n (drop 188 bytes) (All-drop (λ byte. byte < 256) 188 bytes each))
 
 -- and so are the packets that are taken
-taken_bytes : (bytes : List ℕ) → AreBytes bytes → All AreBytes (taken_of bytes)
-unfolding taken_of packets_of
+taken_bytes : (bytes : List ℕ) → AreBytes bytes → All AreBytes (packets_taken bytes)
+unfolding packets_taken packets_of
 taken_bytes bytes each =
     All-take AreBytes most_packets (take_while is_packet (pieces (length bytes / 188) bytes))
     (All-take AreBytes _ (pieces (length bytes / 188) bytes) (pieces_bytes (length bytes / 188) bytes each))
@@ -140,8 +140,8 @@ byte_at packet each i = elim (cases_lt i (length packet)) [
   | inr past ↦ rw (get_or_past packet i 0 past) (omega arith)
 ]
 
-pub taken_whole : (bytes : List ℕ) → AreBytes bytes → AreWholePackets (taken_of bytes)
+pub taken_whole : (bytes : List ℕ) → AreBytes bytes → AreWholePackets (packets_taken bytes)
 taken_whole bytes each = λ k d within. record {
   long = (taken_synced bytes k d within).long;
-  bytes = byte_at (get_or (taken_of bytes) k d) (taken_bytes bytes each k d within);
+  bytes = byte_at (get_or (packets_taken bytes) k d) (taken_bytes bytes each k d within);
 }

@@ -36,8 +36,8 @@ use Rattle.sd_message.specs.EmmSpelled.{names_in}
 use Rattle.sd_message.specs.EmmForm.{IsSetBeside, AreSets, AreWrapped}
 use Rattle.sd_message.specs.Period.{IsPeriod}
 use Rattle.sd_message.specs.declared.emm.Entry.{Entry}
-use Rattle.sd_message.specs.EcmForm.{AreAscending}
-use Rattle.sd_message.specs.EcmVersions.{IsBefore}
+use Rattle.sd_message.specs.EcmForm.{ArePidsAscending}
+use Rattle.sd_message.specs.EcmVersions.{IsBeforeMessage}
 use Rattle.sd_message.specs.EcmParts.{IsMessage}
 use Rattle.sd_message.specs.declared.ecm_part.Place.{Place}
 use Rattle.sd_spec.specs.Plan.{Plan, IsPlan, sets_at, crypto_length, crypto_of, word_of, period_of}
@@ -207,7 +207,7 @@ place_at before pid = record { pid = pid; position = position_of pid before }
 
 -- places of ascending PIDs ascend
 places_ascend : (before : List (List ℕ)) (pids : List ℕ) → AllPairs (λ x y. x < y) pids →
-    AreAscending (map (place_at before) pids)
+    ArePidsAscending (map (place_at before) pids)
 places_ascend before [] up = λ i j d below within. absurd (omega (arith, within))
 places_ascend before (pid ∷ pids) up =
     AllPairs-cons (λ (a b : Place). a.pid < b.pid) (place_at before pid) (map (place_at before) pids)
@@ -221,7 +221,7 @@ since_first : (version cryptos : ℕ) → version ≡ 1 → (a : ℕ) → since_
 since_first version cryptos one zero = refl
 since_first version cryptos one (suc a) = rw one (omega arith)
 
-since_before : (version cryptos a : ℕ) → IsBefore (since_of version cryptos a) a
+since_before : (version cryptos a : ℕ) → IsBeforeMessage (since_of version cryptos a) a
 since_before version cryptos zero = inr (refl, refl)
 since_before version cryptos (suc a) = inl (since_is_below version cryptos (suc a) (omega arith))
 

@@ -7,7 +7,7 @@ use Rattle.std.proofs.lemmas.List.{take_all, take_at, drop_at, get_or_append_lef
 use Rattle.std.proofs.lemmas.List.Elements.{All-head, All-tail}
 use Rattle.sd_engine.specs.Stream.{packets_of, break_after, break_of}
 use Rattle.sd_engine.specs.Driving.{most_packets}
-use Rattle.sd_engine.specs.Taken.{Whole, taken_of, end_of}
+use Rattle.sd_engine.specs.Taken.{Whole, packets_taken, end_of}
 use Rattle.sd_engine.proofs.Walking.{no_piece, packets_more, break_after_more, none_at_end}
 use Rattle.sd_engine.proofs.Taken.{is_whole}
 use Rattle.sd_law_broadcast.specs.Synced.{IsSynced, AreSynced}
@@ -63,8 +63,8 @@ joined_long (packet ∷ packets) each =
 
 -- all of them are taken
 pub taken_again : (packets : List (List ℕ)) → AreSynced packets → length packets ≤ most_packets →
-    taken_of (concat packets) ≡ packets
-unfolding taken_of
+    packets_taken (concat packets) ≡ packets
+unfolding packets_taken
 taken_again packets each few =
     ap (take most_packets) (packets_again packets each) ∙ take_all most_packets packets few
 

@@ -5,7 +5,7 @@ use Rattle.std.specs.Prelude.{◌↔◌, Contains, All, Any}
 use Rattle.std.specs.List.{flat_map}
 use Rattle.std.proofs.lemmas.List.Elements.{All-contains}
 use Rattle.sd_tree_keys.specs.declared.set.SetName.{SetName}
-use Rattle.sd_tree_keys.specs.Names.{given}
+use Rattle.sd_tree_keys.specs.Names.{names_of_receiver}
 use Rattle.sd_cover_tracing.proofs.Lists.{member_cases, member_first, no_member}
 use Rattle.sd_cover_tracing.specs.Reach.{Secret, Named, Key, IsGeneratorStep, IsHeld, IsReached}
 use Rattle.sd_cover_tracing.proofs.Derivation.{Reach, at_first, by_rule, from_derived, to_derived, passes}
@@ -56,20 +56,20 @@ known_passes runs h coalition test is closed item k =
 -- the last step of what is known: a secret is reached, a period's key was sent under the key of a set, and a control
 -- word under the key of its period
 abbrev Comes : List Run → ℕ → List ℕ → Knowable → Type 0
-Comes runs h coalition (OfTree secret) = IsReached (flat_map (given h) coalition) secret
+Comes runs h coalition (OfTree secret) = IsReached (flat_map (names_of_receiver h) coalition) secret
 Comes runs h coalition (PeriodKey q) = (run : Run) × Contains runs run × UsesPeriod run q
-    × ((name : SetName) × Contains (sets_at run.plan q) name × IsReached (flat_map (given h) coalition) (Key name))
+    × ((name : SetName) × Contains (sets_at run.plan q) name × IsReached (flat_map (names_of_receiver h) coalition) (Key name))
 Comes runs h coalition (ControlWord t) = (run : Run) × Contains runs run
     × ((q : ℕ) × UsesWord run t q × IsKnownInRuns runs h coalition (PeriodKey q))
 
 comes : (runs : List Run) (h : ℕ) (coalition : List ℕ) {item : Knowable} → Had runs h coalition item
     → Comes runs h coalition item
-comes runs h coalition (at_first {x = OfTree (Named name)} m) = held_is_reached (flat_map (given h) coalition) name m
+comes runs h coalition (at_first {x = OfTree (Named name)} m) = held_is_reached (flat_map (names_of_receiver h) coalition) name m
 comes runs h coalition (at_first {x = OfTree (Key name)} m) = absurd m
 comes runs h coalition (at_first {x = PeriodKey q} m) = absurd m
 comes runs h coalition (at_first {x = ControlWord t} m) = absurd m
 comes runs h coalition (by_rule r (generated {from = from} {to = to} f)) =
-    next_is_reached (flat_map (given h) coalition) from to (comes runs h coalition r) f
+    next_is_reached (flat_map (names_of_receiver h) coalition) from to (comes runs h coalition r) f
 comes runs h coalition (by_rule r (of_set {run = run} {name = name} there uses sets)) =
     (run, there, uses, (name, sets, comes runs h coalition r))
 comes runs h coalition (by_rule r (controlled {run = run} {t = t} {q = q} there uses)) =
@@ -77,20 +77,20 @@ comes runs h coalition (by_rule r (controlled {run = run} {t = t} {q = q} there 
 
 -- a secret that has come in by the generator is known
 lifted : (runs : List Run) (h : ℕ) (coalition : List ℕ) {secret : Secret}
-    → Reach (IsHeld (flat_map (given h) coalition)) IsGeneratorStep secret → Had runs h coalition (OfTree secret)
+    → Reach (IsHeld (flat_map (names_of_receiver h) coalition)) IsGeneratorStep secret → Had runs h coalition (OfTree secret)
 lifted runs h coalition (at_first m) = at_first m
 lifted runs h coalition (by_rule r f) = by_rule (lifted runs h coalition r) (generated f)
 
 reached_is_known : (runs : List Run) (h : ℕ) (coalition : List ℕ) (secret : Secret)
-    → IsReached (flat_map (given h) coalition) secret → IsKnownInRuns runs h coalition (OfTree secret)
+    → IsReached (flat_map (names_of_receiver h) coalition) secret → IsKnownInRuns runs h coalition (OfTree secret)
 unfolding IsReached
 reached_is_known runs h coalition secret r =
     to_known runs h coalition (OfTree secret)
-    (lifted runs h coalition (from_derived (IsHeld (flat_map (given h) coalition)) IsGeneratorStep secret r))
+    (lifted runs h coalition (from_derived (IsHeld (flat_map (names_of_receiver h) coalition)) IsGeneratorStep secret r))
 
 -- just the secrets that are reached are known
 pub secrets_known : (runs : List Run) (h : ℕ) (coalition : List ℕ) (secret : Secret)
-    → IsKnownInRuns runs h coalition (OfTree secret) ↔ IsReached (flat_map (given h) coalition) secret
+    → IsKnownInRuns runs h coalition (OfTree secret) ↔ IsReached (flat_map (names_of_receiver h) coalition) secret
 secrets_known runs h coalition secret = (
   λ k. comes runs h coalition (from_known runs h coalition (OfTree secret) k),
   reached_is_known runs h coalition secret,
@@ -124,9 +124,9 @@ HasUnrevoked run coalition q = Any (λ u. ¬ Contains (revoked_in run q) u) coal
 -- where the key of a set of a period is reached, some leaf isn't revoked in it
 set_unrevoked : (h : ℕ) (run : Run) (coalition : List ℕ) (q : ℕ) (name : SetName) → run.plan.site.height ≡ h → h ≤ 20
     → All (λ u. u < 2 ^ h) coalition → Contains (sets_at run.plan q) name
-    → IsReached (flat_map (given h) coalition) (Key name) → HasUnrevoked run coalition q
+    → IsReached (flat_map (names_of_receiver h) coalition) (Key name) → HasUnrevoked run coalition q
 set_unrevoked h run coalition q name same low leaves there =
-    subst (λ (d : ℕ). IsReached (flat_map (given d) coalition) (Key name) → HasUnrevoked run coalition q) same
+    subst (λ (d : ℕ). IsReached (flat_map (names_of_receiver d) coalition) (Key name) → HasUnrevoked run coalition q) same
     (unrevoked_reaches (service_of run) coalition q name (subst (λ (d : ℕ). d ≤ 20) (sym same) low)
     (subst (λ (d : ℕ). All (λ u. u < 2 ^ d) coalition) (sym same) leaves)
     (subst (λ (sets : List SetName). Contains sets name) (same_sets run q) there))
@@ -134,13 +134,13 @@ set_unrevoked h run coalition q name same low leaves there =
 -- a leaf that isn't revoked reaches the key of a set
 leaf_reaches : (h : ℕ) (run : Run) (q u : ℕ) → run.plan.site.height ≡ h → h ≤ 20 → u < 2 ^ h
     → ¬ Contains (revoked_in run q) u
-    → (name : SetName) × Contains (sets_at run.plan q) name × IsReached (given h u) (Key name)
+    → (name : SetName) × Contains (sets_at run.plan q) name × IsReached (names_of_receiver h u) (Key name)
 leaf_reaches h run q u same low leaf free =
     let (k, name, within, is, own) = (reached_at (service_of run) q u (subst (λ (d : ℕ). d ≤ 20) (sym same) low)
     (subst (λ (d : ℕ). u < 2 ^ d) (sym same) leaf)).1 free in (
       name,
       subst (λ (sets : List SetName). Contains sets name) (sym (same_sets run q)) (k, within, is),
-      subst (λ (d : ℕ). IsReached (given d u) (Key name)) same own,
+      subst (λ (d : ℕ). IsReached (names_of_receiver d u) (Key name)) same own,
     )
 
 -- the height of a run among those of one tree
@@ -185,8 +185,8 @@ periods_known runs h coalition q low tree leaves = (
 held_by_one : (h : ℕ) (coalition : List ℕ) (item : Knowable) → IsPooled h coalition item
     → Any (λ u. IsPooled h (u ∷ []) item) coalition
 held_by_one h coalition (OfTree (Named name)) m =
-    let (u, (k, within, is), own) = from_one (given h) coalition name m in
-    (k, u, within, is, to_all (given h) (u ∷ []) u name (member_first u []) own)
+    let (u, (k, within, is), own) = from_one (names_of_receiver h) coalition name m in
+    (k, u, within, is, to_all (names_of_receiver h) (u ∷ []) u name (member_first u []) own)
 held_by_one h coalition (OfTree (Key name)) m = absurd m
 held_by_one h coalition (PeriodKey q) m = absurd m
 held_by_one h coalition (ControlWord t) m = absurd m
@@ -205,9 +205,9 @@ to_one runs h coalition (by_rule {from = from} {to = to} r y) =
 held_by_all : (h : ℕ) (coalition : List ℕ) (u : ℕ) (item : Knowable) → Contains coalition u → IsPooled h (u ∷ []) item
     → IsPooled h coalition item
 held_by_all h coalition u (OfTree (Named name)) there m =
-    let (w, only, own) = from_one (given h) (u ∷ []) name m in
+    let (w, only, own) = from_one (names_of_receiver h) (u ∷ []) name m in
     elim (member_cases u [] w only) [
-      | inl same ↦ to_all (given h) coalition u name there (subst (λ (v : ℕ). Contains (given h v) name) (sym same) own)
+      | inl same ↦ to_all (names_of_receiver h) coalition u name there (subst (λ (v : ℕ). Contains (names_of_receiver h v) name) (sym same) own)
       | inr none ↦ absurd (no_member w none)
     ]
 held_by_all h coalition u (OfTree (Key name)) there m = absurd m

@@ -8,13 +8,13 @@ use Rattle.sd_packet.specs.Header.{scrambling_of}
 use Rattle.sd_site_cards.specs.SiteFields.{SiteFields, run_name_of}
 use Rattle.sd_spec.specs.Plan.{Plan, sets_at, crypto_of, word_of, period_in, period_of, closing_number}
 use Rattle.sd_spec.specs.Kinds.{kind_of}
-use Rattle.sd_spec.specs.Carried.{pmt_carried, veiled, carried_as, carried}
+use Rattle.sd_spec.specs.Carried.{pmt_carried, packet_under_word, carried_as, carried}
 use Rattle.sd_spec.specs.Messages.{entry_of, period_at, message_at}
-use Rattle.sd_spec.specs.Refused.{fault_where, is_full_own, is_too_long}
+use Rattle.sd_spec.specs.Refused.{fault_where, is_full_own, is_used_up}
 use Rattle.sd_spec.specs.Refused.{unsent_at, unsent_from, IsSendable}
 use Rattle.sd_spec.specs.Sent.{Item, Cat, Entitles, Controls, Carries, tables_at, added, sent, sent_from}
 use Rattle.sd_spec.specs.Sent.{closing_of}
-use Rattle.sd_spec.specs.Sent.{packet_of, packets_from, broadcast}
+use Rattle.sd_spec.specs.Sent.{item_packet, packets_from, broadcast}
 use Rattle.sd_message.specs.declared.clear_fault.ClearFault.{ClearFault}
 use Rattle.sd_spec.specs.declared.kind.Kind.{Kind}
 use Rattle.sd_spec.specs.declared.kind.Kind.TheVariants.{Passed, Pmt, Scrambled}
@@ -30,7 +30,7 @@ word_same x site k = refl
 -- a packet is carried as it was
 carried_same : (x : ℕ) (site : SiteFields) (before : List (List ℕ)) (packet : List ℕ) →
     carried (up_to x site) before packet ≡ carried site before packet
-unfolding carried pmt_carried veiled word_of crypto_of
+unfolding carried pmt_carried packet_under_word word_of crypto_of
 carried_same x site before packet = by_kind (kind_of before packet)
   where
     by_kind : (kind : Kind) → carried_as kind (up_to x site) before packet ≡ carried_as kind site before packet
@@ -79,7 +79,7 @@ closing_same x plan clear =
 
 -- and its bytes are the same
 packet_same : (x : ℕ) (site : SiteFields) (earlier : List Item) (item : Item) →
-    packet_of (up_to x site) earlier item ≡ packet_of site earlier item
+    item_packet (up_to x site) earlier item ≡ item_packet site earlier item
 packet_same x site earlier Cat = refl
 packet_same x site earlier (Entitles emm) = refl
 packet_same x site earlier (Controls part) = refl
@@ -90,7 +90,7 @@ packets_same : (x : ℕ) (site : SiteFields) (earlier items : List Item) →
 unfolding packets_from
 packets_same x site earlier [] = refl
 packets_same x site earlier (item ∷ items) =
-    rw (packet_same x site earlier item) (ap (λ (rest : List (List ℕ)). packet_of site earlier item ∷ rest)
+    rw (packet_same x site earlier item) (ap (λ (rest : List (List ℕ)). item_packet site earlier item ∷ rest)
     (packets_same x site (earlier ++ item ∷ []) items))
 
 pub broadcast_same : (plan : Plan) (clear : List (List ℕ)) (x : ℕ) →
@@ -115,7 +115,7 @@ can_be_sent site before packet is =
     let other = is.short in
     let word = is.word in
     let unscrambled : not (scrambling_of packet == 0) ≡ false = grind (arith, nat_tests, clear) in
-    let short : is_too_long site (length before) ≡ false = grind (arith, nat_tests, other, word) in
+    let short : is_used_up site (length before) ≡ false = grind (arith, nat_tests, other, word) in
     passed _ _ _ unscrambled (passed _ _ _ is.untaken (passed _ _ _ is.own
     (passed _ _ _ is.room (passed _ _ _ short refl))))
 

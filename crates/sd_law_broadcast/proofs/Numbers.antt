@@ -14,23 +14,23 @@ use Rattle.sd_spec.specs.Refused.{IsSendable}
 use Rattle.sd_spec.specs.Sent.{Item, Cat, Entitles, Controls, Carries}
 use Rattle.sd_spec.specs.Items.{IsOfBroadcast, cat, entitlement, part, closing, carried_on}
 use Rattle.sd_spec.proofs.Schedule.{quotients_rise, closing_above, closing_needed}
-use Rattle.sd_law_broadcast.specs.Numbered.{numbered}
+use Rattle.sd_law_broadcast.specs.Numbered.{numbered_message}
 use Rattle.sd_law_broadcast.proofs.Clear.{clear_short, take_clear}
 use Rattle.sd_law_broadcast.proofs.Fitting.{message_fits, word_low, closing_fits, closing_low}
 
 -- a message before the closing one stands before its packet
 pub numbered_before : (plan : Plan) (clear : List (List ℕ)) (a : ℕ) → a < closing_number plan.site (length clear) →
-    numbered plan clear a ≡ message_at plan (take (a * plan.site.every) clear) a (a * plan.site.every) false
-unfolding numbered
+    numbered_message plan clear a ≡ message_at plan (take (a * plan.site.every) clear) a (a * plan.site.every) false
+unfolding numbered_message
 numbered_before plan clear a below =
     let test : nat_lt a (closing_number plan.site (length clear)) ≡ true = grind
     (arith, nat_tests, below) in rw test refl
 
 -- the closing one is the last
 pub numbered_closing : (plan : Plan) (clear : List (List ℕ)) →
-    numbered plan clear (closing_number plan.site (length clear))
+    numbered_message plan clear (closing_number plan.site (length clear))
     ≡ message_at plan clear (closing_number plan.site (length clear)) (length clear - 1) true
-unfolding numbered
+unfolding numbered_message
 numbered_closing plan clear =
     let last : ℕ = closing_number plan.site (length clear) in
     let test : nat_lt last last ≡ false = grind (arith, nat_tests) in rw test refl
@@ -49,7 +49,7 @@ before_closing site m k r within =
 -- the message before a packet
 pub message_numbered : (plan : Plan) (clear : List (List ℕ)) (k : ℕ) → AreInRange plan.site → k < length clear →
     k % plan.site.every ≡ 0 →
-    message_at plan (take k clear) (k / plan.site.every) k false ≡ numbered plan clear (k / plan.site.every)
+    message_at plan (take k clear) (k / plan.site.every) k false ≡ numbered_message plan clear (k / plan.site.every)
 message_numbered plan clear k r within due =
     let a : ℕ = k / plan.site.every in
     ap (λ (n : ℕ). message_at plan (take n clear) a n false) (sym (whole_number plan.site k due))
@@ -66,16 +66,16 @@ since_at : (plan : Plan) (before : List (List ℕ)) (a k : ℕ) (last : Bool) �
 unfolding message_at
 since_at plan before a k last = refl
 
-pub numbered_number : (plan : Plan) (clear : List (List ℕ)) (a : ℕ) → (numbered plan clear a).number ≡ a
-unfolding numbered
+pub numbered_number : (plan : Plan) (clear : List (List ℕ)) (a : ℕ) → (numbered_message plan clear a).number ≡ a
+unfolding numbered_message
 numbered_number plan clear a = elim (cases_Bool (nat_lt a (closing_number plan.site (length clear)))) [
   | inl inner ↦ rw inner (number_at plan (take (a * plan.site.every) clear) a (a * plan.site.every) false)
   | inr last ↦ rw last (number_at plan clear a (length clear - 1) true)
 ]
 
 pub numbered_since : (plan : Plan) (clear : List (List ℕ)) (a : ℕ) →
-    (numbered plan clear a).since ≡ since_of plan.site.messages plan.site.cryptos a
-unfolding numbered
+    (numbered_message plan clear a).since ≡ since_of plan.site.messages plan.site.cryptos a
+unfolding numbered_message
 numbered_since plan clear a = elim (cases_Bool (nat_lt a (closing_number plan.site (length clear)))) [
   | inl inner ↦ rw inner (since_at plan (take (a * plan.site.every) clear) a (a * plan.site.every) false)
   | inr last ↦ rw last (since_at plan clear a (length clear - 1) true)
@@ -83,7 +83,7 @@ numbered_since plan clear a = elim (cases_Bool (nat_lt a (closing_number plan.si
 
 -- each fits
 pub numbered_fits : (plan : Plan) (clear : List (List ℕ)) (a : ℕ) → IsPlan plan → IsSendable plan.site clear →
-    a ≤ closing_number plan.site (length clear) → IsMessage (numbered plan clear a)
+    a ≤ closing_number plan.site (length clear) → IsMessage (numbered_message plan clear a)
 numbered_fits plan clear a is all within = elim (cases_lt a (closing_number plan.site (length clear))) [
   | inl inner ↦
       let short = clear_short plan.site clear all in
@@ -94,7 +94,7 @@ numbered_fits plan clear a is all within = elim (cases_lt a (closing_number plan
       (omega (arith, short, low, inner)) (word_low plan clear (a * plan.site.every) is all (omega (arith, needed))))
   | inr past ↦
       let same : closing_number plan.site (length clear) ≡ a = omega (arith, within, past) in
-      subst (λ (n : ℕ). IsMessage (numbered plan clear n)) same
+      subst (λ (n : ℕ). IsMessage (numbered_message plan clear n)) same
       (rw (numbered_closing plan clear) (closing_fits plan clear is all))
 ]
 
@@ -103,7 +103,7 @@ abbrev pub IsPartSent : Plan → List (List ℕ) → Item → Type 0
 IsPartSent plan clear Cat = Unit {0}
 IsPartSent plan clear (Entitles emm) = Unit {0}
 IsPartSent plan clear (Controls one) =
-    (a : ℕ) × (a ≤ closing_number plan.site (length clear)) × Contains (parts_of (numbered plan clear a)) one
+    (a : ℕ) × (a ≤ closing_number plan.site (length clear)) × Contains (parts_of (numbered_message plan clear a)) one
 IsPartSent plan clear (Carries n packet) = Unit {0}
 
 part_sent : (plan : Plan) (clear : List (List ℕ)) (item : Item) → AreInRange plan.site → IsOfBroadcast plan clear item →
@@ -124,5 +124,5 @@ part_sent plan clear _ r (carried_on k within) = tt
 
 pub parts_numbered : (plan : Plan) (clear : List (List ℕ)) (one : EcmPart) → AreInRange plan.site →
     IsOfBroadcast plan clear (Controls one) →
-    (a : ℕ) × (a ≤ closing_number plan.site (length clear)) × Contains (parts_of (numbered plan clear a)) one
+    (a : ℕ) × (a ≤ closing_number plan.site (length clear)) × Contains (parts_of (numbered_message plan clear a)) one
 parts_numbered plan clear one r is = part_sent plan clear (Controls one) r is

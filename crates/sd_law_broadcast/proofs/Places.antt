@@ -13,7 +13,7 @@ use Rattle.sd_law_broadcast.proofs.Clear.{clear_short}
 use Rattle.sd_law_broadcast.proofs.Carrying.{kind_placed}
 use Rattle.sd_spec.specs.Kinds.{is_scrambled}
 use Rattle.sd_law_broadcast.specs.Runs.{Run, run_packet, is_veiled}
-use Rattle.sd_law_broadcast.specs.Pads.{number_at}
+use Rattle.sd_law_broadcast.specs.Pads.{stream_number_at}
 
 -- the position of clear packet k
 abbrev pub place_at : Run → ℕ → ℕ
@@ -70,9 +70,9 @@ numbers_tell pid p other q low short same = (omega (arith, low, short, same), om
 
 -- scrambled packets of one stream number are one packet
 pub one_packet : (run : Run) (j k : ℕ) → IsSendable run.plan.site run.clear → j < length run.clear
-    → k < length run.clear → is_veiled run j ≡ true → is_veiled run k ≡ true → number_at run j ≡ number_at run k
+    → k < length run.clear → is_veiled run j ≡ true → is_veiled run k ≡ true → stream_number_at run j ≡ stream_number_at run k
     → j ≡ k
-unfolding number_at
+unfolding stream_number_at
 one_packet run j k is inside within first second same =
     let parts = numbers_tell (pid_of (run_packet run j)) (place_at run j) (pid_of (run_packet run k)) (place_at run k)
     (place_short run j is inside) (place_short run k is within) same in

@@ -11,8 +11,8 @@ use Rattle.sd_spec.specs.Refused.{IsSendable}
 use Rattle.sd_spec.specs.Sent.{Item}
 use Rattle.sd_spec.specs.Items.{IsOfBroadcast, cat, entitlement, part, closing, carried_on}
 use Rattle.sd_spec.proofs.Items.{all_are_of_broadcast}
-use Rattle.sd_law_broadcast.specs.Runs.{Run, IsRun, HaveOwnWords, sent_by, run_packet, is_veiled}
-use Rattle.sd_law_broadcast.specs.Pads.{KeyName, SetKey, PeriodKey, Word, is_for_keys, Pad, number_at, entry_pad}
+use Rattle.sd_law_broadcast.specs.Runs.{Run, IsRun, HaveOwnWords, run_sent, run_packet, is_veiled}
+use Rattle.sd_law_broadcast.specs.Pads.{KeyName, SetKey, PeriodKey, Word, is_for_keys, Pad, stream_number_at, entry_pad}
 use Rattle.sd_law_broadcast.specs.Pads.{part_pad}
 use Rattle.sd_law_broadcast.specs.Pads.{payload_pad, pads_in, pads_of}
 use Rattle.sd_law_broadcast.proofs.Places.{one_packet}
@@ -25,7 +25,7 @@ record IsPayload (run : Run) (t number : ℕ) (text : List ℕ) : Type 0 where
   within : k < length run.clear
   veiled : is_veiled run k ≡ true
   word : t ≡ word_of run.plan.site k
-  at : number ≡ number_at run k
+  at : number ≡ stream_number_at run k
   payload : text ≡ payload_of (run_packet run k)
 
 -- the text that a run has under a key and a stream number
@@ -56,10 +56,10 @@ pads_told run _ (carried_on k within) = by_test (is_veiled run k) refl
     by_test false plain = All-nil (IsPadOf run)
 
 -- what is sent is of the broadcast
-sent_is_of : (run : Run) (item : Item) → Contains (sent_by run) item → IsOfBroadcast run.plan run.clear item
-unfolding sent_by
+sent_is_of : (run : Run) (item : Item) → Contains (run_sent run) item → IsOfBroadcast run.plan run.clear item
+unfolding run_sent
 sent_is_of run item there =
-    All-contains (IsOfBroadcast run.plan run.clear) (sent_by run) item (all_are_of_broadcast run.plan run.clear) there
+    All-contains (IsOfBroadcast run.plan run.clear) (run_sent run) item (all_are_of_broadcast run.plan run.clear) there
 
 pad_told : (run : Run) (pad : Pad) → Contains (pads_of run) pad → IsPadOf run pad
 pad_told run pad m =
@@ -111,7 +111,7 @@ pub packets_repeat : (master : List ℕ) (runs : List Run) (i j k l : ℕ) (a b 
     → HaveOwnWords runs → slice_get runs i ≡ Some a → slice_get runs j ≡ Some b → k < length a.clear →
     l < length b.clear
     → is_veiled a k ≡ true → is_veiled b l ≡ true → word_of a.plan.site k ≡ word_of b.plan.site l
-    → number_at a k ≡ number_at b l → (i ≡ j) × (k ≡ l)
+    → stream_number_at a k ≡ stream_number_at b l → (i ≡ j) × (k ≡ l)
 packets_repeat master runs i j k l a b all own first second inside within veiled other words numbers =
     let is = at_place (IsRun master) runs i a first all in
     let its = at_place (IsRun master) runs j b second all in
@@ -123,7 +123,7 @@ packets_repeat master runs i j k l a b all own first second inside within veiled
       place,
       one_packet b k l its.is_sendable (subst (λ (r : Run). k < length r.clear) run inside) within
           (subst (λ (r : Run). is_veiled r k ≡ true) run veiled) other
-          (subst (λ (r : Run). number_at r k ≡ number_at b l) run numbers),
+          (subst (λ (r : Run). stream_number_at r k ≡ stream_number_at b l) run numbers),
     )
 
 -- the runs have one master

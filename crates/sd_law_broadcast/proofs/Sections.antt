@@ -7,11 +7,11 @@ use Rattle.std.proofs.lemmas.Bool.Decides.{nat_tests}
 use Rattle.std.proofs.lemmas.List.{length-take-le}
 use Rattle.std.proofs.lemmas.List.Elements.{All-nil, All-cons, All-head, All-tail, All-contains, All-get_or}
 use Rattle.sd_packet.specs.Header.{pid_of}
-use Rattle.sd_packet.specs.Packing.{packed}
+use Rattle.sd_packet.specs.Packing.{section_packet}
 use Rattle.sd_packet.proofs.Packets.{packet_reads}
 use Rattle.sd_psi.specs.OurCat.{cat_section}
 use Rattle.sd_message.specs.EmmSpelled.{listed_entries, emm_section}
-use Rattle.sd_message.specs.EmmForm.{AreSets, IsEmm, FitsFields}
+use Rattle.sd_message.specs.EmmForm.{AreSets, IsEmm, FitsEmmFields}
 use Rattle.sd_message.specs.EmmJudged.{emm_read}
 use Rattle.sd_message.specs.Period.{emms_of}
 use Rattle.sd_message.specs.declared.emm.Emm.{Emm}
@@ -23,7 +23,7 @@ use Rattle.sd_spec.specs.Plan.{Plan, IsPlan, word_of, period_of, closing_number}
 use Rattle.sd_spec.specs.Carried.{carried}
 use Rattle.sd_spec.specs.Messages.{period_at, message_at}
 use Rattle.sd_spec.specs.Refused.{is_reserved_pid, IsSendable}
-use Rattle.sd_spec.specs.Sent.{Item, Cat, Entitles, Controls, Carries, is_alike, packet_of, packets_from}
+use Rattle.sd_spec.specs.Sent.{Item, Cat, Entitles, Controls, Carries, is_alike, item_packet, packets_from}
 use Rattle.sd_spec.specs.Items.{IsOfBroadcast, cat, entitlement, part, closing, carried_on}
 use Rattle.sd_spec.proofs.Schedule.{period_short}
 use Rattle.sd_law_broadcast.specs.Packets.{AreLong}
@@ -47,10 +47,10 @@ IsSaid plan clear (Carries n packet) =
 
 -- the sections of a packet's period fit their form, and have sets of the tree
 pub section_form : (plan : Plan) → IsPlan plan → (k : ℕ) (emm : Emm) →
-    Contains (emms_of (period_at plan (period_of plan k))) emm → IsEmm emm × FitsFields emm
+    Contains (emms_of (period_at plan (period_of plan k))) emm → IsEmm emm × FitsEmmFields emm
 section_form plan is k emm m =
     let q : ℕ = period_of plan k in
-    All-contains (λ (e : Emm). IsEmm e × FitsFields e) (emms_of (period_at plan q)) emm
+    All-contains (λ (e : Emm). IsEmm e × FitsEmmFields e) (emms_of (period_at plan q)) emm
     (all_are_emms (period_at plan q) (period_fits plan q is (period_short plan k is))) m
 
 pub section_sets : (plan : Plan) → IsPlan plan → (k : ℕ) (emm : Emm) →
@@ -86,7 +86,7 @@ module _ (plan : Plan) (clear : List (List ℕ)) (is : IsPlan plan) (all : IsSen
 
   -- a section that is sent is read
   pub section_reads : (emm : Emm) (counter : ℕ) → IsSectionOf plan clear emm → counter < 16 →
-      emm_read plan.site.height (packed (emm_section emm) plan.site.emm counter) ≡ Ok (Some emm)
+      emm_read plan.site.height (section_packet (emm_section emm) plan.site.emm counter) ≡ Ok (Some emm)
   section_reads emm counter (k, within, m) few =
       let form = section_form plan is k emm m in
       let sets = section_sets plan is k emm m in
@@ -158,31 +158,31 @@ module _ (plan : Plan) (clear : List (List ℕ)) (is : IsPlan plan) (all : IsSen
   its_pid packet emm packets same reads = rw (same, reads) refl
 
   -- the PID of a packed section
-  packed_pid : (section : List ℕ) (pid counter : ℕ) → pid < 8192 → pid_of (packed section pid (counter % 16)) ≡ pid
+  packed_pid : (section : List ℕ) (pid counter : ℕ) → pid < 8192 → pid_of (section_packet section pid (counter % 16)) ≡ pid
   packed_pid section pid counter low = (packet_reads section pid (counter % 16) low (omega arith)).pid_is
 
   -- the packet of one thing
   one_reads : (earlier : List Item) (item : Item) (packets : List (List ℕ)) → IsSaid plan clear item →
-      sections_on plan.site.height plan.site.emm (packet_of plan.site earlier item ∷ packets)
+      sections_on plan.site.height plan.site.emm (item_packet plan.site earlier item ∷ packets)
       ≡ section_in item ++ sections_on plan.site.height plan.site.emm packets
   one_reads earlier Cat packets said =
       let section : List ℕ = cat_section plan.site.ca plan.site.emm plan.site.ecm in
       let count : ℕ = count_by (is_alike Cat) earlier in
       let low = is.site.emm.0 in
       let pid = packed_pid section 1 count (omega arith) in
-      other_pid (packed section 1 (count % 16)) packets (grind (arith, nat_tests, pid, low))
+      other_pid (section_packet section 1 (count % 16)) packets (grind (arith, nat_tests, pid, low))
   one_reads earlier (Entitles emm) packets said =
       let count : ℕ = count_by (is_alike (Entitles emm)) earlier in
       let high = is.site.emm.1 in
       let pid = packed_pid (emm_section emm) plan.site.emm count (omega (arith, high)) in
-      its_pid (packed (emm_section emm) plan.site.emm (count % 16)) emm packets (grind (arith, nat_tests, pid))
+      its_pid (section_packet (emm_section emm) plan.site.emm (count % 16)) emm packets (grind (arith, nat_tests, pid))
       (section_reads plan clear is all emm (count % 16) said (omega arith))
   one_reads earlier (Controls one) packets said =
       let count : ℕ = count_by (is_alike (Controls one)) earlier in
       let high = is.site.ecm.1 in
       let apart = is.site.apart in
       let pid = packed_pid (ecm_section one) plan.site.ecm count (omega (arith, high)) in
-      other_pid (packed (ecm_section one) plan.site.ecm (count % 16)) packets (grind (arith, nat_tests, pid, apart))
+      other_pid (section_packet (ecm_section one) plan.site.ecm (count % 16)) packets (grind (arith, nat_tests, pid, apart))
   one_reads earlier (Carries n packet) packets (k, within, same) =
       let taken = carried_pid k packet within same in
       other_pid packet packets (grind (arith, nat_tests, taken))

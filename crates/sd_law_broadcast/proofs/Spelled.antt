@@ -8,7 +8,7 @@ use Rattle.std.proofs.lemmas.List.{get_or_append_left, length-set}
 use Rattle.sd_cipher.specs.Keystream.{keystream, xored}
 use Rattle.sd_cipher.proofs.Streams.{keystream_length, xored_length}
 use Rattle.sd_packet.specs.Header.{pid_of, payload_start_of}
-use Rattle.sd_packet.specs.Packing.{packed}
+use Rattle.sd_packet.specs.Packing.{section_packet}
 use Rattle.sd_packet.proofs.Packets.{packet_length, packet_sync, start_within}
 use Rattle.sd_section.proofs.Spelling.{section_long}
 use Rattle.sd_tree_keys.specs.Keys.{control_word_of}
@@ -16,26 +16,26 @@ use Rattle.sd_site_cards.specs.SiteFields.{SiteFields}
 use Rattle.sd_psi.specs.Forms.{section_in, after_section}
 use Rattle.sd_psi.specs.OurCat.{cat_header, cat_descriptor, cat_section}
 use Rattle.sd_psi.specs.Tables.{info_length_of}
-use Rattle.sd_psi.specs.Rewriting.{ca_descriptor, with_lengths, inserted, before_section, rewritten, rewrite_fault}
+use Rattle.sd_psi.specs.Rewriting.{ca_descriptor, with_lengths, section_with_descriptor, before_section, pmt_with_descriptor, rewrite_fault}
 use Rattle.sd_psi.specs.declared.fault.FormFault.{FormFault}
 use Rattle.sd_psi.specs.Undone.{IsPacket}
 use Rattle.sd_psi.proofs.Undoing.{IsRightPmt, other_head, sealed_long}
 use Rattle.sd_psi.proofs.Inverse.{packet_parts, may_rewrite}
 use Rattle.sd_section.specs.Header.{section_length_of}
-use Rattle.sd_cipher.specs.Scrambling.{stream_number, control_of, payload_under, laid_under}
+use Rattle.sd_cipher.specs.Scrambling.{stream_number, control_of, payload_under, packet_under_keystream}
 use Rattle.sd_cipher.proofs.Scramblings.{prefix_is}
 use Rattle.sd_message.specs.EmmSpelled.{listed_entries, table_id_for, emm_body, emm_header, emm_section}
-use Rattle.sd_message.specs.EmmForm.{AreSets, IsEmm, FitsFields}
+use Rattle.sd_message.specs.EmmForm.{AreSets, IsEmm, FitsEmmFields}
 use Rattle.sd_message.specs.declared.emm.Emm.{Emm}
 use Rattle.sd_message.proofs.EmmAgain.{few_entries, few_head, long_whole}
 use Rattle.sd_message.specs.EcmSpelled.{ecm_body, ecm_header, ecm_section}
-use Rattle.sd_message.specs.EcmForm.{IsEcm, FitsFields as FitsPart}
+use Rattle.sd_message.specs.EcmForm.{IsEcm, FitsEcmFields as FitsPart}
 use Rattle.sd_message.specs.declared.ecm_part.EcmPart.{EcmPart}
 use Rattle.sd_message.proofs.Versions.{fits_packet}
 use Rattle.sd_message.proofs.EcmAgain.{long_body}
 use Rattle.sd_spec.specs.Plan.{word_of}
 use Rattle.sd_spec.specs.Kinds.{kind_of}
-use Rattle.sd_spec.specs.Carried.{parity_of, place_after, pmt_carried, veiled, carried_as, carried}
+use Rattle.sd_spec.specs.Carried.{parity_of, place_after, pmt_carried, packet_under_word, carried_as, carried}
 use Rattle.sd_spec.specs.declared.kind.Kind.{Kind}
 use Rattle.sd_spec.specs.declared.kind.Kind.TheVariants.{Passed, Pmt, Scrambled}
 use Rattle.sd_law_broadcast.specs.Packets.{IsWholePacket}
@@ -43,7 +43,7 @@ use Rattle.sd_law_broadcast.proofs.Carrying.{kind_placed, placed_packet}
 use Rattle.sd_law_broadcast.specs.Synced.{IsSynced}
 
 -- a packed section is one that a stream may have
-pub packed_synced : (section : List ℕ) (pid counter : ℕ) → length section ≤ 183 → IsSynced (packed section pid counter)
+pub packed_synced : (section : List ℕ) (pid counter : ℕ) → length section ≤ 183 → IsSynced (section_packet section pid counter)
 packed_synced section pid counter few =
     record { long = packet_length section pid counter few; sync = packet_sync section pid counter }
 
@@ -52,7 +52,7 @@ pub cat_short : (ca emm ecm : ℕ) → length (cat_section ca emm ecm) ≤ 183
 unfolding cat_section
 cat_short ca emm ecm = omega (arith, section_long cat_header (cat_descriptor ca emm ecm))
 
-pub emm_short : (h : ℕ) (emm : Emm) → h ≤ 20 → FitsFields emm → IsEmm emm → AreSets h emm.sets (listed_entries emm) →
+pub emm_short : (h : ℕ) (emm : Emm) → h ≤ 20 → FitsEmmFields emm → IsEmm emm → AreSets h emm.sets (listed_entries emm) →
     length (emm_section emm) ≤ 183
 unfolding emm_section
 emm_short h emm high fits form sets =
@@ -77,8 +77,8 @@ ecm_short part fits form =
 
 -- a scrambled packet is as long, and begins as it did
 veiled_synced : (site : SiteFields) (t position : ℕ) (packet : List ℕ) → IsSynced packet →
-    IsSynced (veiled site t position packet)
-unfolding veiled laid_under
+    IsSynced (packet_under_word site t position packet)
+unfolding packet_under_word packet_under_keystream
 veiled_synced site t position packet is =
     let word : List ℕ = control_word_of site.master t in
     let start : ℕ = payload_start_of packet in
@@ -107,8 +107,8 @@ veiled_synced site t position packet is =
 
 -- the section of a PMT is six bytes longer with the descriptor
 inserted_long : (ca pid : ℕ) (section : List ℕ) → IsRightPmt section → length section + 6 ≤ 183 →
-    length (inserted (ca_descriptor ca pid) section) ≡ length section + 6
-unfolding inserted ca_descriptor
+    length (section_with_descriptor (ca_descriptor ca pid) section) ≡ length section + 6
+unfolding section_with_descriptor ca_descriptor
 inserted_long ca pid section is few =
     let a : ℕ = section_length_of section + 6 in
     let b : ℕ = info_length_of section + 6 in
@@ -124,8 +124,8 @@ inserted_long ca pid section is few =
 
 -- a rewritten packet is as long, and begins as it did
 rewritten_synced : (ca pid : ℕ) (packet : List ℕ) → IsPacket packet → rewrite_fault packet ≡ None → IsSynced packet →
-    IsSynced (rewritten ca pid packet)
-unfolding rewritten
+    IsSynced (pmt_with_descriptor ca pid packet)
+unfolding pmt_with_descriptor
 rewritten_synced ca pid packet is may synced =
     let good = may_rewrite packet is may in
     let section : List ℕ = section_in packet in
@@ -140,8 +140,8 @@ rewritten_synced ca pid packet is may synced =
     record {
       long = omega (
         arith,
-        length-append (before_section packet) (inserted (ca_descriptor ca pid) section ++ drop 6 after),
-        length-append (inserted (ca_descriptor ca pid) section) (drop 6 after),
+        length-append (before_section packet) (section_with_descriptor (ca_descriptor ca pid) section ++ drop 6 after),
+        length-append (section_with_descriptor (ca_descriptor ca pid) section) (drop 6 after),
         length-drop 6 after,
         parts,
         all,
@@ -151,7 +151,7 @@ rewritten_synced ca pid packet is may synced =
         is.long,
       );
       sync =
-          get_or_append_left (before_section packet) (inserted (ca_descriptor ca pid) section ++ drop 6 after) 0 0
+          get_or_append_left (before_section packet) (section_with_descriptor (ca_descriptor ca pid) section ++ drop 6 after) 0 0
           (omega (arith, before))
           ∙ (get_or-take (payload_start_of packet + 1) packet 0 0 (omega arith) ∙ synced.sync);
     }

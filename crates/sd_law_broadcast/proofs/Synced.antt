@@ -6,13 +6,13 @@ use Rattle.sd_base.proofs.Lists.{all_first}
 use Rattle.sd_psi.specs.OurCat.{cat_section}
 use Rattle.sd_message.specs.EmmSpelled.{emm_section}
 use Rattle.sd_message.specs.EcmSpelled.{ecm_section}
-use Rattle.sd_message.specs.EcmForm.{IsEcm, FitsFields as FitsPart}
+use Rattle.sd_message.specs.EcmForm.{IsEcm, FitsEcmFields as FitsPart}
 use Rattle.sd_message.specs.EcmParts.{parts_of}
 use Rattle.sd_message.specs.declared.ecm_part.EcmPart.{EcmPart}
 use Rattle.sd_message.proofs.EcmSharing.{all_are_ecms}
 use Rattle.sd_spec.specs.Plan.{Plan, IsPlan}
 use Rattle.sd_spec.specs.Refused.{IsSendable}
-use Rattle.sd_spec.specs.Sent.{Item, Cat, Entitles, Controls, Carries, is_alike, packet_of, packets_from}
+use Rattle.sd_spec.specs.Sent.{Item, Cat, Entitles, Controls, Carries, is_alike, item_packet, packets_from}
 use Rattle.sd_spec.specs.Sent.{sent}
 use Rattle.sd_spec.specs.Sent.{closing_of, body, broadcast}
 use Rattle.sd_spec.specs.Items.{IsOfBroadcast}
@@ -26,7 +26,7 @@ module _ (plan : Plan) (clear : List (List ℕ)) (is : IsPlan plan) (all : IsSen
     (whole : AreWholePackets clear) (synced : AreSynced clear) where
   -- the packet of each thing that is sent
   one_synced : (earlier : List Item) (item : Item) → IsSaid plan clear item →
-      IsSynced (packet_of plan.site earlier item)
+      IsSynced (item_packet plan.site earlier item)
   one_synced earlier Cat says =
       packed_synced (cat_section plan.site.ca plan.site.emm plan.site.ecm) 1 (count_by (is_alike Cat) earlier % 16)
       (cat_short plan.site.ca plan.site.emm plan.site.ecm)
@@ -52,7 +52,7 @@ module _ (plan : Plan) (clear : List (List ℕ)) (is : IsPlan plan) (all : IsSen
   unfolding packets_from
   sent_synced earlier [] each = All-nil IsSynced
   sent_synced earlier (item ∷ items) each =
-      All-cons IsSynced (packet_of plan.site earlier item) (packets_from plan.site (earlier ++ item ∷ []) items)
+      All-cons IsSynced (item_packet plan.site earlier item) (packets_from plan.site (earlier ++ item ∷ []) items)
       (one_synced earlier item (said plan clear is all item (All-head (IsOfBroadcast plan clear) item items each)))
       (sent_synced (earlier ++ item ∷ []) items (All-tail (IsOfBroadcast plan clear) item items each))
 

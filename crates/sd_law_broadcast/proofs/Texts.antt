@@ -24,7 +24,7 @@ use Rattle.sd_message.proofs.EcmSharing as Parts
 use Rattle.sd_cover_tracing.proofs.Reached.{from_one, to_all}
 use Rattle.sd_spec.specs.Plan.{Plan, sets_at, word_of, period_of, closing_number}
 use Rattle.sd_spec.specs.Kinds.{kind_of, is_scrambled}
-use Rattle.sd_spec.specs.Carried.{parity_of, place_after, pmt_carried, veiled, carried_as, carried}
+use Rattle.sd_spec.specs.Carried.{parity_of, place_after, pmt_carried, packet_under_word, carried_as, carried}
 use Rattle.sd_spec.specs.Messages.{entry_of, period_at, message_at}
 use Rattle.sd_spec.specs.Sent.{Item, Cat, Entitles, Controls, Carries}
 use Rattle.sd_spec.specs.Items.{IsOfBroadcast, cat, entitlement, part, closing, carried_on}
@@ -32,8 +32,8 @@ use Rattle.sd_spec.specs.declared.kind.Kind.{Kind}
 use Rattle.sd_spec.specs.declared.kind.Kind.TheVariants.{Passed, Pmt, Scrambled}
 use Rattle.sd_spec.proofs.Periods.{section_number}
 use Rattle.sd_law_broadcast.specs.Packets.{IsWholePacket, AreWholePackets}
-use Rattle.sd_law_broadcast.specs.Runs.{Run, sent_by, run_packet, is_veiled}
-use Rattle.sd_law_broadcast.specs.Pads.{Pad, under_keystream, number_at, entry_pad, part_pad, payload_pad, pads_in}
+use Rattle.sd_law_broadcast.specs.Runs.{Run, run_sent, run_packet, is_veiled}
+use Rattle.sd_law_broadcast.specs.Pads.{Pad, under_keystream, stream_number_at, entry_pad, part_pad, payload_pad, pads_in}
 use Rattle.sd_law_broadcast.specs.Pads.{pads_of}
 
 -- an entry of period q: the period's key under the key of its set
@@ -89,21 +89,21 @@ kind_is Scrambled so = refl
 
 -- its payload is carried under its control word
 veiled_payload : (site : SiteFields) (t position : ℕ) (packet : List ℕ) → IsWholePacket packet
-    → payload_of (veiled site t position packet) ≡ payload_under packet (control_word_of site.master t) position
-unfolding veiled
+    → payload_of (packet_under_word site t position packet) ≡ payload_under packet (control_word_of site.master t) position
+unfolding packet_under_word
 veiled_payload site t position packet whole =
     (laid_reads packet (control_word_of site.master t) position (control_of (parity_of t)) whole.long (whole.bytes 3)
     (control_fits (parity_of t))).payload_is
 
 carried_veiled : (site : SiteFields) (before : List (List ℕ)) (packet : List ℕ) → kind_of before packet ≡ Scrambled
-    → carried site before packet ≡ veiled site (word_of site (length before)) (place_after before packet) packet
+    → carried site before packet ≡ packet_under_word site (word_of site (length before)) (place_after before packet) packet
 unfolding carried
 carried_veiled site before packet kind = ap (λ (kind : Kind). carried_as kind site before packet) kind
 
 payload_is : (run : Run) (k : ℕ) → AreWholePackets run.clear → k < length run.clear → is_veiled run k ≡ true
     → payload_of (carried run.plan.site (take k run.clear) (run_packet run k))
     ≡ under_keystream run.plan.site.master (payload_pad run k) 184
-unfolding is_veiled number_at
+unfolding is_veiled stream_number_at
 payload_is run k whole within so =
     let before : List (List ℕ) = take k run.clear in
     let long : length before ≡ k = length-take-le k run.clear (omega (arith, within)) in
@@ -174,9 +174,9 @@ others_stay run k packet is plain = (lies run (Carries k packet) is).1 plain
 
 -- the pads of a broadcast are those of the things that it sends
 pub pads_are : (run : Run) (pad : Pad) → Contains (pads_of run) pad
-    ↔ ((item : Item) × Contains (sent_by run) item × Contains (pads_in run item) pad)
+    ↔ ((item : Item) × Contains (run_sent run) item × Contains (pads_in run item) pad)
 unfolding pads_of
 pads_are run pad = (
-  λ m. from_one (pads_in run) (sent_by run) pad m,
-  λ (item, there, m). to_all (pads_in run) (sent_by run) item pad there m,
+  λ m. from_one (pads_in run) (run_sent run) pad m,
+  λ (item, there, m). to_all (pads_in run) (run_sent run) item pad there m,
 )

@@ -18,7 +18,7 @@ use Rattle.sd_message.specs.declared.ecm_part.EcmPart.{EcmPart}
 use Rattle.sd_spec.specs.Plan.{Plan, crypto_length, crypto_of, word_of, period_in, period_of, sets_at}
 use Rattle.sd_spec.specs.Plan.{closing_number}
 use Rattle.sd_spec.specs.Messages.{entry_of, period_at, message_at}
-use Rattle.sd_spec.specs.Refused.{is_too_long}
+use Rattle.sd_spec.specs.Refused.{is_used_up}
 use Rattle.sd_spec.specs.Sent.{Item, Cat, Entitles, Controls, Carries}
 use Rattle.sd_spec.specs.Items.{IsOfBroadcast, cat, entitlement, part, closing, carried_on}
 use Rattle.sd_spec.proofs.Schedule.{quotients_rise, crypto_length_some}
@@ -27,7 +27,7 @@ use Rattle.sd_law_broadcast.specs.Runs.{Run, HasWords, last_crypto, UsesWord, Us
 use Rattle.sd_law_broadcast.proofs.Texts.{entry_of_period, part_of_message}
 
 -- a packet is not too long where its number and its control word are left
-left_for : (site : SiteFields) (k : ℕ) → (is_too_long site k ≡ false)
+left_for : (site : SiteFields) (k : ℕ) → (is_used_up site k ≡ false)
     ↔ ((k ≢ 2 ^ 32 - 1) × (word_of site k ≤ site.last_word))
 left_for site k = (
   λ fits. (grind (arith, nat_tests, fits), grind (arith, nat_tests, fits)),
@@ -47,7 +47,7 @@ words_last site k r some =
     )
 
 -- the control words of a site suffice for just the packets of as many crypto periods
-pub words_suffice : (site : SiteFields) (k : ℕ) → AreInRange site → HasWords site → (is_too_long site k ≡ false)
+pub words_suffice : (site : SiteFields) (k : ℕ) → AreInRange site → HasWords site → (is_used_up site k ≡ false)
     ↔ ((k ≢ 2 ^ 32 - 1) × (k < (site.last_word + 1 - site.first_word) * crypto_length site))
 words_suffice site k r some =
     let left = left_for site k in

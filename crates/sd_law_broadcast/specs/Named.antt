@@ -7,7 +7,7 @@ use Rattle.sd_base.specs.Types.{Packets, Pid, Height, LeafNumber, PeriodNumber}
 use Rattle.sd_tree_keys.specs.declared.set.SetName.{SetName}
 use Rattle.sd_tree_keys.specs.Leaves.{is_member}
 use Rattle.sd_packet.specs.Header.{pid_of}
-use Rattle.sd_tree_keys.specs.Names.{given}
+use Rattle.sd_tree_keys.specs.Names.{names_of_receiver}
 use Rattle.sd_book.specs.Commands.{revoked, entitled}
 use Rattle.sd_cover_tracing.specs.Partition.{IsPartition, IsSmall}
 use Rattle.sd_cover_tracing.specs.Reach.{ReachesNoneOf}
@@ -54,4 +54,4 @@ pub record NamesPeriod (plan : Plan) (q : PeriodNumber) (names : List SetName) :
       → All (λ name. is_member plan.site.height name u ≡ false) names
   -- and what it is given reaches no label or key of one
   pub unreached : (u : LeafNumber) → Contains (revoked plan.site.height plan.commands q) u
-      → ReachesNoneOf (given plan.site.height u) names
+      → ReachesNoneOf (names_of_receiver plan.site.height u) names

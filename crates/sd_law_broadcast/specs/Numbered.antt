@@ -7,8 +7,8 @@ use Rattle.sd_spec.specs.Messages.{message_at}
 
 -- control message a of a clear stream: the one before its packet a e, or the closing one
 -- [this project, docs/FORMATS.md, Broadcast]
-unfoldable pub numbered : Plan → Packets → MessageNumber → Message
-numbered plan clear a =
+unfoldable pub numbered_message : Plan → Packets → MessageNumber → Message
+numbered_message plan clear a =
     if nat_lt a (closing_number plan.site (length clear))
     then message_at plan (take (a * plan.site.every) clear) a (a * plan.site.every) false
     else message_at plan clear a (length clear - 1) true

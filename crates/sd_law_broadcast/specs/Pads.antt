@@ -14,7 +14,7 @@ use Rattle.sd_message.specs.declared.ecm_part.EcmPart.{EcmPart}
 use Rattle.sd_spec.specs.Plan.{word_of}
 use Rattle.sd_spec.specs.Carried.{place_after}
 use Rattle.sd_spec.specs.Sent.{Item, Cat, Entitles, Controls, Carries}
-use Rattle.sd_law_broadcast.specs.Runs.{Run, sent_by, run_packet, is_veiled}
+use Rattle.sd_law_broadcast.specs.Runs.{Run, run_sent, run_packet, is_veiled}
 
 -- the name of a key: that of a set, of a period, or a control word by its number
 pub data KeyName : Type 0 where
@@ -45,8 +45,8 @@ abbrev pub under_keystream : Key → Pad → ℕ → Bytes
 under_keystream master pad n = xored pad.text (keystream (key_bytes master pad.key) pad.number n)
 
 -- the stream number of clear packet k: its PID, and its position [this project, docs/FORMATS.md, Keystream]
-unfoldable pub number_at : Run → PacketNumber → ℕ
-number_at run k = stream_number (pid_of (run_packet run k)) (place_after (take k run.clear) (run_packet run k))
+unfoldable pub stream_number_at : Run → PacketNumber → ℕ
+stream_number_at run k = stream_number (pid_of (run_packet run k)) (place_after (take k run.clear) (run_packet run k))
 
 -- a set's entry: the period's key under the key of the set [this project, docs/FORMATS.md, Messages]
 abbrev pub entry_pad : Run → Emm → Entry → Pad
@@ -65,7 +65,7 @@ part_pad run part = record {
 abbrev pub payload_pad : Run → PacketNumber → Pad
 payload_pad run k = record {
   key = Word (word_of run.plan.site k);
-  number = number_at run k;
+  number = stream_number_at run k;
   text = payload_of (run_packet run k);
 }
 
@@ -78,4 +78,4 @@ pads_in run (Carries k packet) = if is_veiled run k then payload_pad run k ∷ [
 
 -- what lies under keystreams in the broadcast of the run, in order
 unfoldable pub pads_of : Run → List Pad
-pads_of run = flat_map (pads_in run) (sent_by run)
+pads_of run = flat_map (pads_in run) (run_sent run)

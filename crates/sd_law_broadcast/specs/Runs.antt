@@ -23,8 +23,8 @@ pub record IsRun (master : Key) (run : Run) : Type 0 where
   pub is_sendable : IsSendable run.plan.site run.clear
 
 -- all that the run sends, in order [this project, docs/FORMATS.md, Broadcast]
-unfoldable pub sent_by : Run → List Item
-sent_by run = sent run.plan run.clear ++ closing_of run.plan run.clear
+unfoldable pub run_sent : Run → List Item
+run_sent run = sent run.plan run.clear ++ closing_of run.plan run.clear
 
 -- clear packet k of the run
 abbrev pub run_packet : Run → PacketNumber → Packet

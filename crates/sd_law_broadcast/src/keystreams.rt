@@ -13,8 +13,8 @@ ghost use Rattle.sd_spec.specs.Refused.{IsSendable};
 ghost use Rattle.sd_spec.specs.Sent.{Item, Entitles, Controls, Carries};
 ghost use Rattle.sd_spec.specs.Items.{IsOfBroadcast};
 ghost use Rattle.sd_law_broadcast.specs.Packets.{AreWholePackets};
-ghost use Rattle.sd_law_broadcast.specs.Runs.{Run, IsRun, sent_by, run_packet, is_veiled, HaveOwnWords};
-ghost use Rattle.sd_law_broadcast.specs.Pads.{Pad, is_for_keys, under_keystream, number_at, entry_pad, part_pad};
+ghost use Rattle.sd_law_broadcast.specs.Runs.{Run, IsRun, run_sent, run_packet, is_veiled, HaveOwnWords};
+ghost use Rattle.sd_law_broadcast.specs.Pads.{Pad, is_for_keys, under_keystream, stream_number_at, entry_pad, part_pad};
 ghost use Rattle.sd_law_broadcast.specs.Pads.{payload_pad};
 ghost use Rattle.sd_law_broadcast.specs.Pads.{pads_in, pads_of};
 
@@ -35,7 +35,7 @@ pub fn texts_lie_under_their_keystreams()
         IsOfBroadcast run.plan run.clear (Carries k packet) → is_veiled run k ≡ false →
         (packet ≡ run_packet run k) ⊎ (packet ≡ pmt_carried run.plan.site (run_packet run k)) }
     ensures pads { (run : Run) (pad : Pad) → Contains (pads_of run) pad ↔
-        ((item : Item) × Contains (sent_by run) item × Contains (pads_in run item) pad) }
+        ((item : Item) × Contains (run_sent run) item × Contains (pads_in run item) pad) }
 {}
 
 /// In one broadcast, texts under one key and one stream number are equal, and two scrambled packets never have the same
@@ -45,7 +45,7 @@ pub fn a_broadcast_repeats_no_keystream()
         Contains (pads_of run) y → x.key ≡ y.key → x.number ≡ y.number → x.text ≡ y.text }
     ensures packets { (run : Run) (j k : PacketNumber) → IsSendable run.plan.site run.clear → j < length run.clear →
         k < length run.clear → is_veiled run j ≡ true → is_veiled run k ≡ true →
-        number_at run j ≡ number_at run k → j ≡ k }
+        stream_number_at run j ≡ stream_number_at run k → j ≡ k }
 {}
 
 /// In broadcasts of one master whose sites have no control word in common, texts under one key and one stream number
@@ -60,5 +60,5 @@ pub fn broadcasts_repeat_no_keystream()
     ensures packets { (master : Key) (runs : List Run) (i j : ℕ) (k l : PacketNumber) (a b : Run) →
         All (IsRun master) runs → HaveOwnWords runs → slice_get runs i ≡ Some a → slice_get runs j ≡ Some b →
         k < length a.clear → l < length b.clear → is_veiled a k ≡ true → is_veiled b l ≡ true →
-        word_of a.plan.site k ≡ word_of b.plan.site l → number_at a k ≡ number_at b l → (i ≡ j) × (k ≡ l) }
+        word_of a.plan.site k ≡ word_of b.plan.site l → stream_number_at a k ≡ stream_number_at b l → (i ≡ j) × (k ≡ l) }
 {}

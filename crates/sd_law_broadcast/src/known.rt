@@ -3,7 +3,7 @@
 ghost use Rattle.std.specs.Prelude.{◌≡◌, ◌^◌, ◌<◌, ◌≤◌, ◌↔◌, Bool, true, List, [], ◌∷◌, All, Any, Contains};
 ghost use Rattle.std.specs.List.{flat_map};
 ghost use Rattle.sd_base.specs.Types.{Key, Height, Leaves, PeriodNumber, WordNumber};
-ghost use Rattle.sd_tree_keys.specs.Names.{given};
+ghost use Rattle.sd_tree_keys.specs.Names.{names_of_receiver};
 ghost use Rattle.sd_book.specs.Commands.{entitled};
 ghost use Rattle.sd_cover_tracing.specs.Reach.{Secret, IsReached};
 ghost use Rattle.sd_law_coalition.specs.Know.{Knowable, OfTree, PeriodKey, ControlWord, IsPooled};
@@ -26,7 +26,7 @@ pub fn least_known()
 #[tactic(auto, using(crate::proofs::Knowing::secrets_known))]
 pub fn secrets_known()
     ensures { (runs : List Run) (h : Height) (coalition : Leaves) (secret : Secret) →
-        IsKnownInRuns runs h coalition (OfTree secret) ↔ IsReached (flat_map (given h) coalition) secret }
+        IsKnownInRuns runs h coalition (OfTree secret) ↔ IsReached (flat_map (names_of_receiver h) coalition) secret }
 {}
 
 /// The key of a period is known exactly if some broadcast uses the period and some leaf of the coalition isn't revoked

@@ -7,7 +7,7 @@ ghost use Rattle.sd_base.specs.Types.{Bytes, Packets, Packet, Pid, Position, Per
 ghost use Rattle.sd_base.specs.Types.{MessageNumber};
 ghost use Rattle.sd_engine.specs.Stream.{packets_of, break_of};
 ghost use Rattle.sd_engine.specs.Driving.{most_packets};
-ghost use Rattle.sd_engine.specs.Taken.{Whole, taken_of, end_of};
+ghost use Rattle.sd_engine.specs.Taken.{Whole, packets_taken, end_of};
 ghost use Rattle.sd_spec.specs.Plan.{Plan, IsPlan, word_of, period_of, since_of, closing_number};
 ghost use Rattle.sd_spec.specs.Refused.{IsClear, IsSendable, pat_wrong, unsent_at};
 ghost use Rattle.sd_spec.specs.Sent.{body, broadcast, Controls, Entitles, sent_from, closing_of};
@@ -30,7 +30,7 @@ ghost use Rattle.sd_spec.specs.declared.kind.Kind.TheVariants.{Passed};
 ghost use Rattle.sd_law_broadcast.specs.Accepted.{IsAccepted};
 ghost use Rattle.sd_law_broadcast.specs.Narrowed.{up_to, plan_up_to};
 ghost use Rattle.sd_law_broadcast.specs.Named.{sets_named, NamesPeriod};
-ghost use Rattle.sd_law_broadcast.specs.Numbered.{numbered};
+ghost use Rattle.sd_law_broadcast.specs.Numbered.{numbered_message};
 ghost use Rattle.sd_law_broadcast.specs.Rest.{IsOfRest};
 ghost use Rattle.sd_law_broadcast.specs.Headers.{control_in, IsCarriedWith};
 
@@ -41,7 +41,7 @@ pub fn joined_packets_are_taken()
     ensures packets { (packets : Packets) → AreSynced packets → packets_of (concat packets) ≡ packets }
     ensures unbroken { (packets : Packets) → AreSynced packets → break_of (concat packets) ≡ None }
     ensures taken { (packets : Packets) → AreSynced packets → length packets ≤ most_packets →
-        taken_of (concat packets) ≡ packets }
+        packets_taken (concat packets) ≡ packets }
     ensures whole { (packets : Packets) → AreSynced packets → length packets ≤ most_packets →
         end_of (concat packets) ≡ Whole }
 {}
@@ -50,10 +50,10 @@ pub fn joined_packets_are_taken()
 /// its bytes, one after the other.
 #[tactic(auto, using(crate::proofs::Cut::taken_synced, crate::proofs::Cut::taken_few, crate::proofs::Cut::taken_joined, crate::proofs::Cut::taken_whole))]
 pub fn taken_packets_join()
-    ensures packets { (bytes : Bytes) → AreSynced (taken_of bytes) }
-    ensures few { (bytes : Bytes) → length (taken_of bytes) ≤ most_packets }
-    ensures joined { (bytes : Bytes) → end_of bytes ≡ Whole → concat (taken_of bytes) ≡ bytes }
-    ensures bytes { (bytes : Bytes) → AreBytes bytes → AreWholePackets (taken_of bytes) }
+    ensures packets { (bytes : Bytes) → AreSynced (packets_taken bytes) }
+    ensures few { (bytes : Bytes) → length (packets_taken bytes) ≤ most_packets }
+    ensures joined { (bytes : Bytes) → end_of bytes ≡ Whole → concat (packets_taken bytes) ≡ bytes }
+    ensures bytes { (bytes : Bytes) → AreBytes bytes → AreWholePackets (packets_taken bytes) }
 {}
 
 /// The packets of a broadcast are ones that a stream may have, and no more than it may; and so are those of its body.
@@ -75,11 +75,11 @@ pub fn broadcasts_fit_streams()
 pub fn broadcasts_are_taken()
     ensures whole { (plan : Plan) (clear : Packets) → IsPlan plan → IsSendable plan.site clear →
         AreWholePackets clear → AreSynced clear →
-        (taken_of (concat (broadcast plan clear)) ≡ broadcast plan clear)
+        (packets_taken (concat (broadcast plan clear)) ≡ broadcast plan clear)
         × (end_of (concat (broadcast plan clear)) ≡ Whole) }
     ensures body { (plan : Plan) (clear : Packets) → IsPlan plan → IsSendable plan.site clear →
         AreWholePackets clear → AreSynced clear →
-        (taken_of (concat (body plan clear)) ≡ body plan clear) × (end_of (concat (body plan clear)) ≡ Whole) }
+        (packets_taken (concat (body plan clear)) ≡ body plan clear) × (end_of (concat (body plan clear)) ≡ Whole) }
 {}
 
 /// A clear stream is one of which each packet can be sent, and each that is to be a PAT is one by itself.
@@ -159,21 +159,21 @@ pub fn periods_are_reached()
 pub fn messages_are_numbered()
     ensures at { (plan : Plan) (clear : Packets) (k : PacketNumber) → AreInRange plan.site → k < length clear →
         k % plan.site.every ≡ 0 →
-        message_at plan (take k clear) (k / plan.site.every) k false ≡ numbered plan clear (k / plan.site.every) }
+        message_at plan (take k clear) (k / plan.site.every) k false ≡ numbered_message plan clear (k / plan.site.every) }
     ensures before { (plan : Plan) (clear : Packets) (a : MessageNumber) → a < closing_number plan.site (length clear) →
-        numbered plan clear a ≡ message_at plan (take (a * plan.site.every) clear) a (a * plan.site.every) false }
+        numbered_message plan clear a ≡ message_at plan (take (a * plan.site.every) clear) a (a * plan.site.every) false }
     ensures closing { (plan : Plan) (clear : Packets) →
-        numbered plan clear (closing_number plan.site (length clear))
+        numbered_message plan clear (closing_number plan.site (length clear))
         ≡ message_at plan clear (closing_number plan.site (length clear)) (length clear - 1) true }
-    ensures number { (plan : Plan) (clear : Packets) (a : MessageNumber) → (numbered plan clear a).number ≡ a }
+    ensures number { (plan : Plan) (clear : Packets) (a : MessageNumber) → (numbered_message plan clear a).number ≡ a }
     ensures since { (plan : Plan) (clear : Packets) (a : MessageNumber) →
-        (numbered plan clear a).since ≡ since_of plan.site.messages plan.site.cryptos a }
+        (numbered_message plan clear a).since ≡ since_of plan.site.messages plan.site.cryptos a }
     ensures fits { (plan : Plan) (clear : Packets) (a : MessageNumber) → IsPlan plan → IsSendable plan.site clear →
-        a ≤ closing_number plan.site (length clear) → IsMessage (numbered plan clear a) }
+        a ≤ closing_number plan.site (length clear) → IsMessage (numbered_message plan clear a) }
     ensures parts { (plan : Plan) (clear : Packets) (one : EcmPart) → AreInRange plan.site →
         IsOfBroadcast plan clear (Controls one) →
         (a : MessageNumber) × (a ≤ closing_number plan.site (length clear)) ×
-        Contains (parts_of (numbered plan clear a)) one }
+        Contains (parts_of (numbered_message plan clear a)) one }
 {}
 
 /// What is sent from a packet on is the CAT, sections of its period or later ones, parts of messages that stand before

@@ -11,7 +11,7 @@ ghost use Rattle.sd_message.specs.declared.emm.Emm.{Emm};
 ghost use Rattle.sd_message.specs.declared.emm.Entry.{Entry};
 ghost use Rattle.sd_message.specs.declared.ecm_part.EcmPart.{EcmPart};
 ghost use Rattle.sd_spec.specs.Plan.{crypto_length, period_of, sets_at};
-ghost use Rattle.sd_spec.specs.Refused.{is_too_long};
+ghost use Rattle.sd_spec.specs.Refused.{is_used_up};
 ghost use Rattle.sd_spec.specs.Sent.{Entitles, Controls};
 ghost use Rattle.sd_spec.specs.Items.{IsOfBroadcast};
 ghost use Rattle.sd_law_broadcast.specs.Runs.{Run, IsRun, HasWords, UsesWord, UsesPeriod, AgreeOnPeriods};
@@ -25,7 +25,7 @@ pub fn words_are_own()
 /// The control words of a site suffice for just the packets of as many crypto periods.
 #[tactic(auto, using(crate::proofs::Using::words_suffice))]
 pub fn words_suffice()
-    ensures { (site : SiteFields) (k : PacketNumber) → AreInRange site → HasWords site → (is_too_long site k ≡ false) ↔
+    ensures { (site : SiteFields) (k : PacketNumber) → AreInRange site → HasWords site → (is_used_up site k ≡ false) ↔
         ((k ≢ 2 ^ 32 - 1) × (k < (site.last_word + 1 - site.first_word) * crypto_length site)) }
 {}
 

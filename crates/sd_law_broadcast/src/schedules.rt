@@ -9,7 +9,7 @@ ghost use Rattle.sd_packet.specs.Header.{pid_of};
 ghost use Rattle.sd_packet.specs.Positions.{is_placed};
 ghost use Rattle.sd_site_cards.specs.SiteFields.{SiteFields, AreInRange};
 ghost use Rattle.sd_book.specs.Commands.{last_period};
-ghost use Rattle.sd_spec.specs.Sent.{Item, tables_at, added, sent, sent_from, closing_of, body, bytes_from};
+ghost use Rattle.sd_spec.specs.Sent.{Item, tables_at, added, sent, sent_from, closing_of, body, sent_bytes_from};
 ghost use Rattle.sd_spec.specs.Items.{IsOfBroadcast};
 ghost use Rattle.sd_spec.specs.Plan.{Plan, IsPlan, crypto_length, crypto_of, word_of, period_of, since_of};
 ghost use Rattle.sd_spec.specs.Plan.{closing_number};
@@ -95,7 +95,7 @@ pub fn packets_are_sent_in_turn()
         sent plan (before ++ packet ∷ []) ≡ sent plan before ++ added plan before packet }
     ensures turn { (plan : Plan) (before xs ys : Packets) →
         sent_from plan before (xs ++ ys) ≡ sent_from plan before xs ++ sent_from plan (before ++ xs) ys }
-    ensures bytes { (plan : Plan) (clear : Packets) → concat (body plan clear) ≡ bytes_from plan [] clear }
+    ensures bytes { (plan : Plan) (clear : Packets) → concat (body plan clear) ≡ sent_bytes_from plan [] clear }
 {}
 
 /// Each thing that is sent for a clear stream is the CAT, a section of a period's entitlements, a part of a message in

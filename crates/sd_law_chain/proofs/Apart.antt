@@ -12,15 +12,15 @@ use Rattle.sd_law_broadcast.specs.Runs.{AgreeOnPeriods, AllAgree, HasWords, Run}
 use Rattle.sd_law_broadcast.proofs.Words.{at_place}
 use Rattle.sd_command_base.specs.declared.status.Clash.{Clash as ClashKind}
 use Rattle.sd_command_base.specs.declared.status.Clash.TheVariants.{Books}
-use Rattle.sd_run_books.specs.Apart.{books_clash, clash_in, clash_of, first_differing}
+use Rattle.sd_run_books.specs.Apart.{books_clash, clash_in, plan_clash, first_differing}
 use Rattle.sd_run_books.specs.Apart.{differ, first_of, first_shared, last_due, shared_count, sites_clash}
 use Rattle.sd_run_books.specs.Chain.{commands_said}
 use Rattle.sd_law_plan.proofs.Clashes.{swapped_have_none, two_apart}
 use Rattle.sd_law_plan.proofs.Found.{all_fail, same_no}
 use Rattle.sd_law_plan.proofs.Ranges.{none_of}
 use Rattle.sd_law_plan.proofs.Sites.{later_shares_none, pairs_have_none}
-use Rattle.sd_law_chain.specs.Chain.{AreKept, Call, HaveGrown, HaveOwnSites, IsChain, IsOnAir, Link, Next, OnAir, Twin}
-use Rattle.sd_law_chain.specs.Chain.{book_at, plan_at, plan_of, run_of, runs_of, site_at}
+use Rattle.sd_law_chain.specs.Chain.{IsTrueChain, Call, HaveGrown, HaveOwnSites, IsChain, IsChainOnAir, Link, Next, OnAir, Twin}
+use Rattle.sd_law_chain.specs.Chain.{chain_book, plan_at, chain_plan, chain_run, runs_of, site_at}
 use Rattle.sd_law_chain.proofs.Following.{next_is_above, plan_is}
 use Rattle.sd_law_chain.proofs.Links.{next_link, some_call}
 use Rattle.sd_law_chain.proofs.Meeting.{air_is_run, air_of}
@@ -51,18 +51,18 @@ later_has_none a b later =
 -- a later site is for the same commands, or begins above all periods of the earlier one
 abbrev SharesBook : Link → List Call → ℕ → ℕ → Type 0
 SharesBook root calls i j =
-    (commands_said (book_at root calls i) ≡ commands_said (book_at root calls j))
+    (commands_said (chain_book root calls i) ≡ commands_said (chain_book root calls j))
     ⊎ (last_due (plan_at root calls i) < (site_at root calls j).first_period)
 
 shares_book : (root : Link) (calls : List Call) (i j : ℕ) → IsChain root calls → HaveGrown root calls → i ≤ j →
     j ≤ length calls → SharesBook root calls i j
 shares_book root calls i zero is have low within =
     let same : i ≡ 0 = omega (arith, low) in
-    inl (ap (λ (k : ℕ). commands_said (book_at root calls k)) same)
+    inl (ap (λ (k : ℕ). commands_said (chain_book root calls k)) same)
 shares_book root calls i (suc j) is have low within = elim (cases_lt j i) [
   | inl lt ↦
       let same : i ≡ suc j = omega (arith, low, lt) in
-      inl (ap (λ (k : ℕ). commands_said (book_at root calls k)) same)
+      inl (ap (λ (k : ℕ). commands_said (chain_book root calls k)) same)
   | inr le ↦
       let (call, at) = some_call calls j (omega (arith, within)) in
       by_call call at le (shares_book root calls i j is have le (omega (arith, within)))
@@ -82,7 +82,7 @@ shares_book root calls i (suc j) is have low within = elim (cases_lt j i) [
 
 -- so two sites with their own books don't clash
 sites_are_apart : (root : Link) (calls : List Call) (i j : ℕ) → IsChain root calls → HaveGrown root calls → i < j →
-    j ≤ length calls → HasWords (site_at root calls i) → clash_of (plan_at root calls i) (plan_at root calls j) ≡ None
+    j ≤ length calls → HasWords (site_at root calls i) → plan_clash (plan_at root calls i) (plan_at root calls j) ≡ None
 sites_are_apart root calls i j is have low within some =
     let a : Plan = plan_at root calls i in
     let b : Plan = plan_at root calls j in
@@ -103,13 +103,13 @@ sites_are_apart root calls i j is have low within some =
     by_book (inl same) = one_book_has_none (plan_at root calls i) (plan_at root calls j) same
     by_book (inr below) = later_has_none (plan_at root calls i) (plan_at root calls j) below
 
-airs_are_ordered : (root : Link) (calls : List Call) (airs : List OnAir) (a b : OnAir) → AreKept root calls airs →
-    IsOnAir root calls a → IsOnAir root calls b → a.book ≡ book_at root calls a.number →
-    b.book ≡ book_at root calls b.number → a.number ≢ b.number →
-    clash_of (plan_of root calls a) (plan_of root calls b) ≡ None
+airs_are_ordered : (root : Link) (calls : List Call) (airs : List OnAir) (a b : OnAir) → IsTrueChain root calls airs →
+    IsChainOnAir root calls a → IsChainOnAir root calls b → a.book ≡ chain_book root calls a.number →
+    b.book ≡ chain_book root calls b.number → a.number ≢ b.number →
+    plan_clash (chain_plan root calls a) (chain_plan root calls b) ≡ None
 airs_are_ordered root calls airs a b kept on also own its other =
-    subst (λ (plan : Plan). clash_of plan (plan_of root calls b) ≡ None) (sym (plan_is root calls a own))
-    (subst (λ (plan : Plan). clash_of (plan_at root calls a.number) plan ≡ None) (sym (plan_is root calls b its))
+    subst (λ (plan : Plan). plan_clash plan (chain_plan root calls b) ≡ None) (sym (plan_is root calls a own))
+    (subst (λ (plan : Plan). plan_clash (plan_at root calls a.number) plan ≡ None) (sym (plan_is root calls b its))
     (elim (cases_lt a.number b.number) [
       | inl lt ↦
           sites_are_apart root calls a.number b.number kept.chain kept.books.grown lt also.there on.words
@@ -137,25 +137,25 @@ two_sites airs i j a b own other at beside = elim (cases_lt i j) [
 ]
 
 pub airs_are_apart : (root : Link) (calls : List Call) (airs : List OnAir) (i j : ℕ) (a b : OnAir) →
-    AreKept root calls airs → i ≢ j → slice_get airs i ≡ Some a → slice_get airs j ≡ Some b →
-    clash_of (plan_of root calls a) (plan_of root calls b) ≡ None
+    IsTrueChain root calls airs → i ≢ j → slice_get airs i ≡ Some a → slice_get airs j ≡ Some b →
+    plan_clash (chain_plan root calls a) (chain_plan root calls b) ≡ None
 airs_are_apart root calls airs i j a b kept other at beside =
-    airs_are_ordered root calls airs a b kept (at_place (IsOnAir root calls) airs i a at kept.sent)
-    (at_place (IsOnAir root calls) airs j b beside kept.sent)
-    (at_place (λ air. air.book ≡ book_at root calls air.number) airs i a at kept.books.own)
-    (at_place (λ air. air.book ≡ book_at root calls air.number) airs j b beside kept.books.own)
+    airs_are_ordered root calls airs a b kept (at_place (IsChainOnAir root calls) airs i a at kept.sent)
+    (at_place (IsChainOnAir root calls) airs j b beside kept.sent)
+    (at_place (λ air. air.book ≡ chain_book root calls air.number) airs i a at kept.books.own)
+    (at_place (λ air. air.book ≡ chain_book root calls air.number) airs j b beside kept.books.own)
     (two_sites airs i j a b kept.sites other at beside)
 
 -- the books agree on the periods that two broadcasts share
-pub all_agree : (root : Link) (calls : List Call) (airs : List OnAir) → AreKept root calls airs →
+pub all_agree : (root : Link) (calls : List Call) (airs : List OnAir) → IsTrueChain root calls airs →
     AllAgree (runs_of root calls airs)
 all_agree root calls airs kept i j a b at beside low =
     let (one, one_at, first) = air_of root calls airs i a at in
     let (two, two_at, second) = air_of root calls airs j b beside in
-    let on = at_place (IsOnAir root calls) airs i one one_at kept.sent in
-    let also = at_place (IsOnAir root calls) airs j two two_at kept.sent in
-    let agree = (two_apart root.site.master (run_of root calls one) (run_of root calls two)
+    let on = at_place (IsChainOnAir root calls) airs i one one_at kept.sent in
+    let also = at_place (IsChainOnAir root calls) airs j two two_at kept.sent in
+    let agree = (two_apart root.site.master (chain_run root calls one) (chain_run root calls two)
     (air_is_run root calls one kept.chain on) (air_is_run root calls two kept.chain also)
     (airs_are_apart root calls airs i j one two kept (λ same. absurd (omega (arith, low, same))) one_at two_at)).1.1 in
     subst (λ (run : Run). AgreeOnPeriods run b) first
-    (subst (λ (run : Run). AgreeOnPeriods (run_of root calls one) run) second agree)
+    (subst (λ (run : Run). AgreeOnPeriods (chain_run root calls one) run) second agree)

@@ -16,10 +16,10 @@ use Rattle.sd_message.specs.ClearFaults.{clear_packet}
 use Rattle.sd_spec.specs.Plan.{Plan}
 use Rattle.sd_spec.specs.Kinds.{kind_of}
 use Rattle.sd_spec.specs.Refused.{IsClear, fault_where, form_where, is_full_own, is_one_too_many, is_reserved_pid}
-use Rattle.sd_spec.specs.Refused.{is_too_long, pat_wrong, refusal_from, refusal_of}
+use Rattle.sd_spec.specs.Refused.{is_used_up, pat_wrong, refusal_from, refusal_of}
 use Rattle.sd_spec.specs.Sent.{Item, body, broadcast, closing_of, packets_from, sent, sent_from}
 use Rattle.sd_spec.proofs.Sending.{packets_in_turn, sent_in_turn}
-use Rattle.sd_law_broadcast.specs.Runs.{sent_by}
+use Rattle.sd_law_broadcast.specs.Runs.{run_sent}
 
 -- what was sent for the first packets of a stream is sent first
 pub sent_before : (plan : Plan) (before rest : Packets) →
@@ -28,8 +28,8 @@ sent_before plan before rest = (sent_from plan ([] ++ before) rest, sent_in_turn
 
 -- all of it is of the broadcast of those packets
 pub sent_is_of_broadcast : (plan : Plan) (before : Packets) (item : Item) → Contains (sent plan before) item →
-    Contains (sent_by (record { plan = plan; clear = before })) item
-unfolding sent_by
+    Contains (run_sent (record { plan = plan; clear = before })) item
+unfolding run_sent
 sent_is_of_broadcast plan before item has =
     Contains-append_left (sent plan before) (closing_of plan before) item has
 
@@ -65,7 +65,7 @@ refusal_names site before packet =
     let k : ℕ = length before in
     let pid : ℕ = pid_of packet in
     let own : Bool = is_full_own site (kind_of before packet) packet in
-    let long : Option ClearFault = fault_where (is_too_long site k) (TooLong k) None in
+    let long : Option ClearFault = fault_where (is_used_up site k) (TooLong k) None in
     let many : Option ClearFault = fault_where (is_one_too_many before packet) (TooManyPids k) long in
     let full : Option ClearFault = fault_where own (PmtForm k Form.NoRoom) many in
     let form : Option ClearFault = form_where (pat_wrong packet) (PatForm k) full in
@@ -75,7 +75,7 @@ refusal_names site before packet =
     (names_form (pat_wrong packet) k (PatForm k) full (λ wrong. refl)
     (names_where own k (PmtForm k Form.NoRoom) many refl
     (names_where (is_one_too_many before packet) k (TooManyPids k) long refl
-    (names_where (is_too_long site k) k (TooLong k) None refl tt)))))
+    (names_where (is_used_up site k) k (TooLong k) None refl tt)))))
 
 -- packets up to the one that is refused aren't refused
 clear_before : (site : SiteFields) (before packets : Packets) (fault : ClearFault) (k : ℕ) →

@@ -6,8 +6,8 @@ use Rattle.std.proofs.lemmas.Bool.Decides.{nat_tests}
 use Rattle.std.specs.Prelude.{nat_lt}
 use Rattle.sd_base.specs.Types.{Bytes}
 use Rattle.sd_site_cards.specs.SiteFields.{SiteFields}
-use Rattle.sd_site_cards.specs.Written.{newest_of, is_first, none_fewer}
-use Rattle.sd_site_cards.specs.Chain.{most_word, has_room}
+use Rattle.sd_site_cards.specs.Written.{site_of_chain, is_first_site, none_fewer}
+use Rattle.sd_site_cards.specs.Chain.{most_word, has_word_room}
 use Rattle.sd_site_cards.specs.declared.book_line.BookLine.{BookLine}
 use Rattle.sd_site_cards.specs.declared.site_fault.SiteFault.{SiteFault}
 use Rattle.sd_book.specs.declared.command.Command.{Command}
@@ -20,11 +20,11 @@ use Rattle.sd_command_base.specs.declared.status.OutCause.TheVariants.{Name}
 use Rattle.sd_site_cards.specs.declared.site_fault.SiteFault.TheVariants.{Range}
 use Rattle.sd_book.specs.declared.fault.BookFault.{BookFault}
 use Rattle.std.specs.Result.{result_unwrap_or}
-use Rattle.sd_command_base.specs.Spec.{Spec, FileArgument, Readings, and_then, judged, value, within, ◌>>=◌}
+use Rattle.sd_command_base.specs.Spec.{Spec, FileArgument, Readings, and_then, of_result, value, within, ◌>>=◌}
 use Rattle.sd_command_base.specs.Shown.{NumberArgument}
 use Rattle.sd_command_base.specs.Work.{Work}
 use Rattle.sd_command_base.specs.Files.{begins_with_book, ends_lines, longer_book_of_file, most_book_bytes, most_site_bytes}
-use Rattle.sd_command_base.specs.Files.{refused_site, told_book, told_longer, told_whole}
+use Rattle.sd_command_base.specs.Files.{refused_site, book_or_status, longer_book_or_status, whole_book_or_status}
 use Rattle.sd_command_base.specs.BadLines.{bad_line}
 use Rattle.sd_command_base.specs.declared.bad_line.LineCause.TheVariants.{Unended}
 use Rattle.sd_command_base.specs.Files.{BookText}
@@ -98,7 +98,7 @@ pub record IsNewest (fewer : List ℕ → SiteFields → Bool) (most words : ℕ
     (newest : SiteFields × Option BookLine) : Type 0 where
   pub text : Bytes
   pub there : got ≡ Some text
-  pub says : newest_of fewer text ≡ Ok newest
+  pub says : site_of_chain fewer text ≡ Ok newest
   pub period : newest.0.first_period ≤ most
   pub room : newest.0.last_word + words ≤ most_word
 
@@ -109,7 +109,7 @@ told_ok : (word : ℕ) (bytes : Bytes) (most : ℕ) (words : NumberArgument)
 told_ok word bytes most words (Err fault) newest e = absurd cc
 told_ok word bytes most words (Ok found) newest e =
     let low = unmet (nat_lt most found.0.first_period) _ newest (refused_site word bytes (Range 12)) e in
-    let room = test_ok (has_room words.value found.0) found newest (BadWord words.word) low.1 in
+    let room = test_ok (has_word_room words.value found.0) found newest (BadWord words.word) low.1 in
     let period : found.0.first_period ≤ most = grind (arith, nat_tests, low.0) in (
       ap Ok room.1,
       subst (λ (n : SiteFields × Option BookLine). n.0.first_period ≤ most) room.1 period,
@@ -123,8 +123,8 @@ newest_ok : (fewer : List ℕ → SiteFields → Bool) (word most : ℕ) (words 
 unfolding newest_of_file
 newest_ok fewer word most words got newest e =
     let (text, read, told) = then_ok (within word most_site_bytes SiteBytes got)
-    (λ bytes. judged (told_newest word bytes most words (newest_of fewer bytes))) newest e in
-    let parts = told_ok word text most words (newest_of fewer text) newest told in
+    (λ bytes. of_result (told_newest word bytes most words (site_of_chain fewer bytes))) newest e in
+    let parts = told_ok word text most words (site_of_chain fewer text) newest told in
     record {
       text = text;
       there = (within_ok word most_site_bytes SiteBytes got text read).0;
@@ -142,12 +142,12 @@ pub record IsLonger (height : ℕ) (line : Option BookLine) (got : Option Bytes)
   pub is_book : book_of height book.bytes ≡ Ok book.commands
 
 pub book_ok : (word d : ℕ) (bytes : Bytes) (said : Result (List Command) BookFault) (commands : List Command) →
-    told_book word d bytes said ≡ Ok commands → said ≡ Ok commands
+    book_or_status word d bytes said ≡ Ok commands → said ≡ Ok commands
 book_ok word d bytes (Ok found) commands e = ap Ok (one_value (Ok found) found commands refl e)
 book_ok word d bytes (Err fault) commands e = absurd cc
 
 whole_ok : (word : ℕ) (bytes : Bytes) (said : Result (List Command) Status) (book : BookText) →
-    told_whole word bytes said ≡ Ok book →
+    whole_book_or_status word bytes said ≡ Ok book →
     (said ≡ Ok book.commands) × (book.bytes ≡ bytes) × (ends_lines bytes ≡ true)
 whole_ok word bytes (Err status) book e = absurd cc
 whole_ok word bytes (Ok commands) book e =
@@ -160,11 +160,11 @@ longer_ok : (word height : ℕ) (line : Option BookLine) (got : Option Bytes) (b
 unfolding longer_book_of_file
 longer_ok word height line got book e =
     let (bytes, read, told) = then_ok (within word most_book_bytes BookBytes got)
-    (λ bytes. judged (told_longer word height line bytes)) book e in
+    (λ bytes. of_result (longer_book_or_status word height line bytes)) book e in
     let file = within_ok word most_book_bytes BookBytes got bytes read in
-    let begins = met (begins_with_book line bytes) (told_whole word bytes (told_book word height bytes (book_of height bytes)))
+    let begins = met (begins_with_book line bytes) (whole_book_or_status word bytes (book_or_status word height bytes (book_of height bytes)))
     book OtherBook told in
-    let whole = whole_ok word bytes (told_book word height bytes (book_of height bytes)) book begins.1 in
+    let whole = whole_ok word bytes (book_or_status word height bytes (book_of height bytes)) book begins.1 in
     let commands = book_ok word height bytes (book_of height bytes) book.commands whole.0 in
     record {
       there = rw whole.1 file.0;
@@ -196,7 +196,7 @@ pub record NextFound (site book : FileArgument) (words : NumberArgument) (out : 
     (work : Work) : Type 0 where
   pub follow : follows site.text out.text ≡ true
   pub newest : SiteFields × Option BookLine
-  pub is_newest : IsNewest is_first (most_word - 1) words.value (given site) newest
+  pub is_newest : IsNewest is_first_site (most_word - 1) words.value (given site) newest
   pub text : BookText
   pub longer : IsLonger newest.0.height newest.1 (given book) text
   pub new : given out ≡ None
@@ -208,10 +208,10 @@ unfolding next_meaning origin_of_files
 next_found site book words out given work e =
     let read : Spec Origin = origin_of_files site.number book.number words (given site) (given book) in
     let (named, is_named, after_name) =
-    then_ok (judged (told_name site out)) (λ named. read >>= then_make words out (given out)) work e in
+    then_ok (of_result (told_name site out)) (λ named. read >>= then_make words out (given out)) work e in
     let (origin, is_origin, made) = then_ok read (then_make words out (given out)) work after_name in
     let (newest, is_newest, after_site) =
-    then_ok (newest_of_file is_first site.number (most_word - 1) words (given site)) (then_read book.number (given book))
+    then_ok (newest_of_file is_first_site site.number (most_word - 1) words (given site)) (then_read book.number (given book))
     origin is_origin in
     let (text, is_text, is_it) =
     then_ok (longer_book_of_file book.number newest.0.height newest.1 (given book)) (λ text. value (with_book newest text))
@@ -220,7 +220,7 @@ next_found site book words out given work e =
     record {
       follow = name_ok site out named is_named;
       newest = newest;
-      is_newest = newest_ok is_first site.number (most_word - 1) words (given site) newest is_newest;
+      is_newest = newest_ok is_first_site site.number (most_word - 1) words (given site) newest is_newest;
       text = text;
       longer = longer_ok book.number newest.0.height newest.1 (given book) text is_text;
       new = new.0;
@@ -248,7 +248,7 @@ twin_found site words out given work e =
     let read : Spec (SiteFields × Option BookLine) =
     newest_of_file none_fewer site.number most_word words (given site) in
     let (named, is_named, after_name) =
-    then_ok (judged (told_name site out)) (λ named. read >>= then_twin words out (given out)) work e in
+    then_ok (of_result (told_name site out)) (λ named. read >>= then_twin words out (given out)) work e in
     let (newest, is_newest, made) = then_ok read (then_twin words out (given out)) work after_name in
     let new = new_ok (twin_made newest.0 newest.1 words.value) out (given out) work made in
     record {

@@ -11,8 +11,8 @@ use Rattle.std.proofs.lemmas.List.Elements.{All-nil, All-cons, All-contains, Con
 use Rattle.sd_base.specs.Types.{Bytes}
 use Rattle.sd_base.proofs.Lists.{equal_bytes}
 use Rattle.sd_ports.specs.Bytes.{IsPrefix}
-use Rattle.sd_law_chain.specs.Chain.{AreKept, AreTrue, Call, Collides, HaveGrown, HaveOwnSites, IsChain, IsCollision}
-use Rattle.sd_law_chain.specs.Chain.{IsLike, IsNextAt, IsOnAir, Link, Next, OnAir, Twin, book_at, grown, link_at, own_bytes}
+use Rattle.sd_law_chain.specs.Chain.{IsTrueChain, AreTrue, Call, Collides, HaveGrown, HaveOwnSites, IsChain, IsCollision}
+use Rattle.sd_law_chain.specs.Chain.{IsLike, IsNextAt, IsChainOnAir, Link, Next, OnAir, Twin, chain_book, grown, link_at, own_bytes}
 use Rattle.sd_law_chain.specs.Chain.{sent}
 use Rattle.sd_law_chain.proofs.Links.{call_taken, next_link, some_call}
 
@@ -40,7 +40,7 @@ either_all P Q (x ∷ xs) each =
 -- what `next` took for the book of its SITE was that book, of the sites up to number m
 abbrev TookOwn : Link → List Call → ℕ → Type 0
 TookOwn root calls m = (n : ℕ) (bytes : Bytes) → n ≤ m → IsNextAt calls n bytes →
-    own_bytes (link_at root calls (n - 1)) bytes ≡ book_at root calls (n - 1)
+    own_bytes (link_at root calls (n - 1)) bytes ≡ chain_book root calls (n - 1)
 
 -- one call more that is no `next`
 no_next : (root : Link) (calls : List Call) (m : ℕ) → TookOwn root calls m →
@@ -54,7 +54,7 @@ no_next root calls m before none n bytes low (words, some, at) = elim (cases_lt 
 
 -- and one that is
 one_next : (root : Link) (calls : List Call) (m : ℕ) (bytes : Bytes) (words : ℕ) → TookOwn root calls m →
-    slice_get calls m ≡ Some (Next bytes words) → own_bytes (link_at root calls m) bytes ≡ book_at root calls m →
+    slice_get calls m ≡ Some (Next bytes words) → own_bytes (link_at root calls m) bytes ≡ chain_book root calls m →
     TookOwn root calls (suc m)
 one_next root calls m bytes words before here same n other low (count, some, at) = elim (cases_lt m n) [
   | inl lt ↦
@@ -63,7 +63,7 @@ one_next root calls m bytes words before here same n other low (count, some, at)
       ap (λ (b : Bytes). own_bytes (link_at root calls (n - 1)) b) one
       ∙ ap (λ (k : ℕ). own_bytes (link_at root calls k) bytes) last
       ∙ same
-      ∙ sym (ap (book_at root calls) last)
+      ∙ sym (ap (chain_book root calls) last)
   | inr le ↦ before n other le (count, some, at)
 ]
   where
@@ -86,10 +86,10 @@ took_own root calls airs (suc m) is = elim (took_own root calls airs m is) [
     by_call (Some (Next bytes words)) at before =
         let taken = call_taken root calls m (Next bytes words) is at in
         let last : m ≡ suc m - 1 = omega arith in
-        elim (alike_or_same (own_bytes (link_at root calls m) bytes) (book_at root calls m) taken.begins) [
+        elim (alike_or_same (own_bytes (link_at root calls m) bytes) (chain_book root calls m) taken.begins) [
           | inl collision ↦
               inl (grown (suc m) bytes (words, omega arith, sym (ap (slice_get calls) last) ∙ at)
-              (subst (λ (k : ℕ). IsCollision (own_bytes (link_at root calls k) bytes) (book_at root calls k)) last
+              (subst (λ (k : ℕ). IsCollision (own_bytes (link_at root calls k) bytes) (chain_book root calls k)) last
               collision))
           | inr same ↦ inr (one_next root calls m bytes words before at same)
         ]
@@ -105,7 +105,7 @@ begins book bytes same = (
 all_grown : (root : Link) (calls : List Call) → TookOwn root calls (length calls) → HaveGrown root calls
 all_grown root calls took n bytes (words, some, at) =
     let within = slice_get_within calls (n - 1) (Next bytes words) at in
-    begins (book_at root calls (n - 1)) bytes (took n bytes (omega (arith, within, some)) (words, some, at))
+    begins (chain_book root calls (n - 1)) bytes (took n bytes (omega (arith, within, some)) (words, some, at))
 
 prefix_through : (a b c : Bytes) → IsPrefix a b → IsPrefix b c → IsPrefix a c
 prefix_through a b c (one, is) (two, its) =
@@ -116,36 +116,36 @@ same_prefix a = ([], append-nil a)
 
 -- each call makes a site whose book begins with that of the site before
 pub book_step : (root : Link) (calls : List Call) (k : ℕ) → HaveGrown root calls → k < length calls →
-    IsPrefix (book_at root calls k) (book_at root calls (suc k))
+    IsPrefix (chain_book root calls k) (chain_book root calls (suc k))
 book_step root calls k have low =
     let (call, at) = some_call calls k low in by_call call at
   where
-    by_call : (call : Call) → slice_get calls k ≡ Some call → IsPrefix (book_at root calls k) (book_at root calls (suc k))
+    by_call : (call : Call) → slice_get calls k ≡ Some call → IsPrefix (chain_book root calls k) (chain_book root calls (suc k))
     by_call (Next bytes words) at =
         let last : suc k - 1 ≡ k = omega arith in
-        let is : IsPrefix (book_at root calls k) bytes =
-        subst (λ (n : ℕ). IsPrefix (book_at root calls n) bytes) last
+        let is : IsPrefix (chain_book root calls k) bytes =
+        subst (λ (n : ℕ). IsPrefix (chain_book root calls n) bytes) last
         (have (suc k) bytes (words, omega arith, ap (slice_get calls) last ∙ at)) in
-        subst (λ (link : Link). IsPrefix (book_at root calls k) link.book)
+        subst (λ (link : Link). IsPrefix (chain_book root calls k) link.book)
         (sym (next_link root calls k (Next bytes words) at)) is
     by_call (Twin words) at =
-        subst (λ (link : Link). IsPrefix (book_at root calls k) link.book)
-        (sym (next_link root calls k (Twin words) at)) (same_prefix (book_at root calls k))
+        subst (λ (link : Link). IsPrefix (chain_book root calls k) link.book)
+        (sym (next_link root calls k (Twin words) at)) (same_prefix (chain_book root calls k))
 
 -- and so do later sites
 pub books_are_prefixes : (root : Link) (calls : List Call) (i j : ℕ) → HaveGrown root calls → i ≤ j →
-    j ≤ length calls → IsPrefix (book_at root calls i) (book_at root calls j)
+    j ≤ length calls → IsPrefix (chain_book root calls i) (chain_book root calls j)
 books_are_prefixes root calls i zero have low within =
     let same : 0 ≡ i = omega (arith, low) in
-    subst (λ (k : ℕ). IsPrefix (book_at root calls i) (book_at root calls k)) (sym same)
-    (same_prefix (book_at root calls i))
+    subst (λ (k : ℕ). IsPrefix (chain_book root calls i) (chain_book root calls k)) (sym same)
+    (same_prefix (chain_book root calls i))
 books_are_prefixes root calls i (suc j) have low within = elim (cases_lt j i) [
   | inl lt ↦
       let same : suc j ≡ i = omega (arith, low, lt) in
-      subst (λ (k : ℕ). IsPrefix (book_at root calls i) (book_at root calls k)) (sym same)
-      (same_prefix (book_at root calls i))
+      subst (λ (k : ℕ). IsPrefix (chain_book root calls i) (chain_book root calls k)) (sym same)
+      (same_prefix (chain_book root calls i))
   | inr le ↦
-      prefix_through (book_at root calls i) (book_at root calls j) (book_at root calls (suc j))
+      prefix_through (chain_book root calls i) (chain_book root calls j) (chain_book root calls (suc j))
       (books_are_prefixes root calls i j have le (omega (arith, within)))
       (book_step root calls j have (omega (arith, within)))
 ]
@@ -154,25 +154,25 @@ books_are_prefixes root calls i (suc j) have low within = elim (cases_lt j i) [
 abbrev pub AreGrown : List OnAir → Type 0
 AreGrown airs = (a b : OnAir) → Contains airs a → Contains airs b → a.number ≤ b.number → IsPrefix a.book b.book
 
-airs_grown : (root : Link) (calls : List Call) (airs : List OnAir) → All (IsOnAir root calls) airs →
+airs_grown : (root : Link) (calls : List Call) (airs : List OnAir) → All (IsChainOnAir root calls) airs →
     AreTrue root calls airs → AreGrown airs
 airs_grown root calls airs all own a b has also low =
-    let own_a = All-contains (λ air. air.book ≡ book_at root calls air.number) airs a own.own has in
-    let own_b = All-contains (λ air. air.book ≡ book_at root calls air.number) airs b own.own also in
-    let there = (All-contains (IsOnAir root calls) airs b all also).there in
+    let own_a = All-contains (λ air. air.book ≡ chain_book root calls air.number) airs a own.own has in
+    let own_b = All-contains (λ air. air.book ≡ chain_book root calls air.number) airs b own.own also in
+    let there = (All-contains (IsChainOnAir root calls) airs b all also).there in
     subst (λ (x : Bytes). IsPrefix x b.book) (sym own_a)
-    (subst (λ (y : Bytes). IsPrefix (book_at root calls a.number) y) (sym own_b)
+    (subst (λ (y : Bytes). IsPrefix (chain_book root calls a.number) y) (sym own_b)
     (books_are_prefixes root calls a.number b.number own.grown low there))
 
 collides_or_true : (root : Link) (calls : List Call) (airs : List OnAir) → IsChain root calls →
-    All (IsOnAir root calls) airs → Collides root calls airs ⊎ AreTrue root calls airs
+    All (IsChainOnAir root calls) airs → Collides root calls airs ⊎ AreTrue root calls airs
 collides_or_true root calls airs is all = elim (took_own root calls airs (length calls) is) [
   | inl collides ↦ inl collides
   | inr took ↦
-      elim (either_all (λ air. IsCollision air.book (book_at root calls air.number))
-      (λ air. air.book ≡ book_at root calls air.number) airs (λ air has.
-      alike_or_same air.book (book_at root calls air.number)
-      (All-contains (IsOnAir root calls) airs air all has).book)) [
+      elim (either_all (λ air. IsCollision air.book (chain_book root calls air.number))
+      (λ air. air.book ≡ chain_book root calls air.number) airs (λ air has.
+      alike_or_same air.book (chain_book root calls air.number)
+      (All-contains (IsChainOnAir root calls) airs air all has).book)) [
         | inl (air, has, collision) ↦ inl (sent air has collision)
         | inr own ↦ inr (record { grown = all_grown root calls took; own = own })
       ]
@@ -180,7 +180,7 @@ collides_or_true root calls airs is all = elim (took_own root calls airs (length
 
 -- one of the pairs that were compared is a collision, or all books grew
 pub books_grow : (root : Link) (calls : List Call) (airs : List OnAir) → IsChain root calls →
-    All (IsOnAir root calls) airs → Collides root calls airs ⊎ (AreTrue root calls airs × AreGrown airs)
+    All (IsChainOnAir root calls) airs → Collides root calls airs ⊎ (AreTrue root calls airs × AreGrown airs)
 books_grow root calls airs is all = elim (collides_or_true root calls airs is all) [
   | inl collides ↦ inl collides
   | inr own ↦ inr (own, airs_grown root calls airs all own)
@@ -188,7 +188,7 @@ books_grow root calls airs is all = elim (collides_or_true root calls airs is al
 
 -- or the chain is kept
 pub chains_are_kept : (root : Link) (calls : List Call) (airs : List OnAir) → IsChain root calls →
-    All (IsOnAir root calls) airs → HaveOwnSites airs → Collides root calls airs ⊎ AreKept root calls airs
+    All (IsChainOnAir root calls) airs → HaveOwnSites airs → Collides root calls airs ⊎ IsTrueChain root calls airs
 chains_are_kept root calls airs is all sites = elim (collides_or_true root calls airs is all) [
   | inl collides ↦ inl collides
   | inr own ↦ inr (record { chain = is; sent = all; sites = sites; books = own })

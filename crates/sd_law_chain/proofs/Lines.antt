@@ -4,7 +4,7 @@ use Rattle.std.specs.List.{filter_map}
 use Rattle.std.proofs.lemmas.List.{map-append}
 use Rattle.std.proofs.lemmas.List.Elements.{filter_map-append}
 use Rattle.sd_base.specs.Lines.{lines_of}
-use Rattle.sd_book.specs.Text.{command_of, said_by}
+use Rattle.sd_book.specs.Text.{command_of, said_by_book}
 use Rattle.sd_run_books.specs.Chain.{commands_said}
 use Rattle.sd_run_books.proofs.WholeLines.{lines_joined}
 use Rattle.sd_law_chain.specs.Chain.{EndsLines}
@@ -14,4 +14,4 @@ pub commands_joined : (a b : List ℕ) → EndsLines a → commands_said (a ++ b
 commands_joined a b h =
     ap (λ (lines : List (List ℕ)). filter_map (λ said. said) (map command_of lines)) (lines_joined a b h)
     ∙ ap (filter_map (λ said. said)) (map-append command_of (lines_of a) (lines_of b))
-    ∙ filter_map-append (λ said. said) (said_by a) (said_by b)
+    ∙ filter_map-append (λ said. said) (said_by_book a) (said_by_book b)

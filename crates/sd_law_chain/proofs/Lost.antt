@@ -24,8 +24,8 @@ use Rattle.sd_law_coalition.specs.Know.{ControlWord, PeriodKey}
 use Rattle.sd_run_books.specs.Apart.{last_due}
 use Rattle.sd_run_books.specs.Chain.{commands_said}
 use Rattle.sd_law_plan.proofs.Found.{kept, passes}
-use Rattle.sd_law_chain.specs.Chain.{AreKept, Call, IsChain, IsNextAt, IsOnAir, KeepsOut, Link, OnAir, book_at}
-use Rattle.sd_law_chain.specs.Chain.{run_of, runs_of, site_at}
+use Rattle.sd_law_chain.specs.Chain.{IsTrueChain, Call, IsChain, IsNextAt, IsChainOnAir, KeepsOut, Link, OnAir, chain_book}
+use Rattle.sd_law_chain.specs.Chain.{chain_run, runs_of, site_at}
 use Rattle.sd_law_chain.proofs.Cuts.{until_begins, until_grows}
 use Rattle.sd_law_chain.proofs.Following.{broadcast_is_below, commands_grow}
 use Rattle.sd_law_chain.proofs.Meeting.{air_has_run, air_is_run, all_are_one_tree, all_are_runs, all_have_own_words}
@@ -96,7 +96,7 @@ due_at_least run q (t, (n, within, word, period)) = omega (arith, period)
 -- what is asked of a coalition that a `next` revokes, and of the broadcasts from then on
 pub record IsCutOff (root : Link) (calls : List Call) (airs : List OnAir) (n : ℕ) (bytes : Bytes) (coalition : Leaves) :
     Type 0 where
-  pub kept : AreKept root calls airs
+  pub kept : IsTrueChain root calls airs
   pub next : IsNextAt calls n bytes
   pub gone : All (Contains (revoked root.site.height (commands_said bytes) (site_at root calls n).first_period))
       coalition
@@ -115,13 +115,13 @@ leaves_of root calls airs n bytes coalition is =
 -- a broadcast of site n or a later one revokes them all from that site's first period on
 revoked_later : (root : Link) (calls : List Call) (airs : List OnAir) (n q : ℕ) (bytes : Bytes) (coalition : Leaves)
     (other : OnAir) → IsCutOff root calls airs n bytes coalition → Contains airs other → n ≤ other.number →
-    (site_at root calls n).first_period ≤ q → All (Contains (revoked_in (run_of root calls other) q)) coalition
+    (site_at root calls n).first_period ≤ q → All (Contains (revoked_in (chain_run root calls other) q)) coalition
 revoked_later root calls airs n q bytes coalition other is has late low =
     let h : ℕ = root.site.height in
     let p : ℕ = (site_at root calls n).first_period in
     let (words, at, made) = made_next root calls n bytes is.next in
-    let on = All-contains (IsOnAir root calls) airs other is.kept.sent has in
-    let own = All-contains (λ one. one.book ≡ book_at root calls one.number) airs other is.kept.books.own has in
+    let on = All-contains (IsChainOnAir root calls) airs other is.kept.sent has in
+    let own = All-contains (λ one. one.book ≡ chain_book root calls one.number) airs other is.kept.books.own has in
     let (more, grown) =
     commands_grow root calls n other.number is.kept.chain is.kept.books.grown late on.there in
     let longer : commands_said other.book ≡ commands_said bytes ++ more =
@@ -144,14 +144,14 @@ all_revoke : (root : Link) (calls : List Call) (airs : List OnAir) (n q : ℕ) (
     IsCutOff root calls airs n bytes coalition → (site_at root calls n).first_period ≤ q →
     All (λ run. UsesPeriod run q → All (Contains (revoked_in run q)) coalition) (runs_of root calls airs)
 all_revoke root calls airs n q bytes coalition is low =
-    All-map (λ run. UsesPeriod run q → All (Contains (revoked_in run q)) coalition) (run_of root calls) airs
-    (all_by (λ other. UsesPeriod (run_of root calls other) q →
-    All (Contains (revoked_in (run_of root calls other) q)) coalition) airs (λ other has uses.
+    All-map (λ run. UsesPeriod run q → All (Contains (revoked_in run q)) coalition) (chain_run root calls) airs
+    (all_by (λ other. UsesPeriod (chain_run root calls other) q →
+    All (Contains (revoked_in (chain_run root calls other) q)) coalition) airs (λ other has uses.
     elim (cases_lt other.number n) [
       | inl early ↦
-          let on = All-contains (IsOnAir root calls) airs other is.kept.sent has in
+          let on = All-contains (IsChainOnAir root calls) airs other is.kept.sent has in
           let run = air_is_run root calls other is.kept.chain on in
-          let due = due_at_most root.site.master (run_of root calls other) q run on.words uses in
+          let due = due_at_most root.site.master (chain_run root calls other) q run on.words uses in
           let under = broadcast_is_below root calls airs other n bytes is.kept has early is.next in
           absurd (omega (arith, due, under, low))
       | inr late ↦ revoked_later root calls airs n q bytes coalition other is has late low
@@ -159,22 +159,22 @@ all_revoke root calls airs n q bytes coalition is low =
 
 -- a broadcast of site n or a later one uses periods from that site's first one on
 late_periods : (root : Link) (calls : List Call) (airs : List OnAir) (n q : ℕ) (air : OnAir) →
-    AreKept root calls airs → Contains airs air → n ≤ air.number → UsesPeriod (run_of root calls air) q →
+    IsTrueChain root calls airs → Contains airs air → n ≤ air.number → UsesPeriod (chain_run root calls air) q →
     (site_at root calls n).first_period ≤ q
 late_periods root calls airs n q air is has late uses =
-    let on = All-contains (IsOnAir root calls) airs air is.sent has in
+    let on = All-contains (IsChainOnAir root calls) airs air is.sent has in
     let rise = periods_never_fall root calls n air.number is.chain late on.there in
-    let above = due_at_least (run_of root calls air) q uses in
+    let above = due_at_least (chain_run root calls air) q uses in
     omega (arith, rise, above)
 
 low_tree : (root : Link) (calls : List Call) → IsChain root calls → root.site.height ≤ 20
 low_tree root calls is = is.first.ranges.height.1
 
 pub key_lost : (root : Link) (calls : List Call) (airs : List OnAir) (n : ℕ) (bytes : Bytes) (coalition : Leaves)
-    (air : OnAir) (q : ℕ) → AreKept root calls airs → IsNextAt calls n bytes →
+    (air : OnAir) (q : ℕ) → IsTrueChain root calls airs → IsNextAt calls n bytes →
     All (Contains (revoked root.site.height (commands_said bytes) (site_at root calls n).first_period)) coalition →
     All (λ other. n ≤ other.number → KeepsOut coalition (site_at root calls n).first_period (commands_said bytes)
-    other) airs → Contains airs air → n ≤ air.number → UsesPeriod (run_of root calls air) q →
+    other) airs → Contains airs air → n ≤ air.number → UsesPeriod (chain_run root calls air) q →
     ¬ IsKnownInRuns (runs_of root calls airs) root.site.height coalition (PeriodKey q)
 key_lost root calls airs n bytes coalition air q kept next gone out has late uses =
     let is : IsCutOff root calls airs n bytes coalition =
@@ -184,16 +184,16 @@ key_lost root calls airs n bytes coalition air q kept next gone out has late use
     (all_revoke root calls airs n q bytes coalition is (late_periods root calls airs n q air kept has late uses))
 
 pub word_lost : (root : Link) (calls : List Call) (airs : List OnAir) (n : ℕ) (bytes : Bytes) (coalition : Leaves)
-    (air : OnAir) (t q : ℕ) → AreKept root calls airs → IsNextAt calls n bytes →
+    (air : OnAir) (t q : ℕ) → IsTrueChain root calls airs → IsNextAt calls n bytes →
     All (Contains (revoked root.site.height (commands_said bytes) (site_at root calls n).first_period)) coalition →
     All (λ other. n ≤ other.number → KeepsOut coalition (site_at root calls n).first_period (commands_said bytes)
-    other) airs → Contains airs air → n ≤ air.number → UsesWord (run_of root calls air) t q →
+    other) airs → Contains airs air → n ≤ air.number → UsesWord (chain_run root calls air) t q →
     ¬ IsKnownInRuns (runs_of root calls airs) root.site.height coalition (ControlWord t)
 word_lost root calls airs n bytes coalition air t q kept next gone out has late uses =
     let is : IsCutOff root calls airs n bytes coalition =
     record { kept = kept; next = next; gone = gone; out = out } in
     let runs : List Run = runs_of root calls airs in
-    word_unknown root.site.master runs root.site.height coalition (run_of root calls air) t q
+    word_unknown root.site.master runs root.site.height coalition (chain_run root calls air) t q
     (low_tree root calls kept.chain) (all_are_one_tree root calls airs kept.chain kept.sent)
     (leaves_of root calls airs n bytes coalition is) (all_are_runs root calls airs kept.chain kept.sent)
     (all_have_own_words root calls airs kept.chain kept.sent kept.sites)

@@ -11,8 +11,8 @@ use Rattle.sha2.specs.Sha256.{sha256}
 use Rattle.sd_base.specs.Types.{Bytes}
 use Rattle.sd_base.proofs.Lists.{equal_bytes}
 use Rattle.sd_site_cards.specs.SiteFields.{SiteFields}
-use Rattle.sd_site_cards.specs.Chain.{has_room, most_word}
-use Rattle.sd_site_cards.specs.Written.{is_first, is_whole, newest_of, none_fewer}
+use Rattle.sd_site_cards.specs.Chain.{has_word_room, most_word}
+use Rattle.sd_site_cards.specs.Written.{is_first_site, are_lines_whole, site_of_chain, none_fewer}
 use Rattle.sd_site_cards.specs.Text.{book_line_of, site_of}
 use Rattle.sd_site_cards.proofs.Alone.{newest_say, said_is_site}
 use Rattle.sd_site_cards.specs.declared.book_line.BookLine.{BookLine}
@@ -25,18 +25,18 @@ use Rattle.sd_command_base.specs.declared.status.OutCause.TheVariants.{Name}
 use Rattle.sd_command_base.specs.declared.status.LimitKind.TheVariants.{BookBytes, SiteBytes}
 use Rattle.sd_site_cards.specs.declared.site_fault.SiteFault.TheVariants.{Range, Short}
 use Rattle.sd_command_base.specs.Files.{BookText, begins_with_book, ends_lines, longer_book_of_file, most_book_bytes}
-use Rattle.sd_command_base.specs.Files.{most_site_bytes, refused_site, told_book, told_longer, told_whole}
+use Rattle.sd_command_base.specs.Files.{most_site_bytes, refused_site, book_or_status, longer_book_or_status, whole_book_or_status}
 use Rattle.sd_command_base.specs.BadLines.{bad_line}
 use Rattle.sd_command_base.specs.declared.bad_line.LineCause.TheVariants.{Unended}
 use Rattle.sd_command_base.specs.Made.{NewFile, making_new, new_work}
 use Rattle.sd_command_base.specs.Shown.{NumberArgument}
-use Rattle.sd_command_base.specs.Spec.{FileArgument, Readings, Spec, and_then, judged, value, ◌>>=◌}
+use Rattle.sd_command_base.specs.Spec.{FileArgument, Readings, Spec, and_then, of_result, value, ◌>>=◌}
 use Rattle.sd_command_base.specs.Work.{Work}
-use Rattle.sd_run_books.specs.Chain.{commands_said, line_of, newest_of_file, own_commands, told_name, told_newest}
+use Rattle.sd_run_books.specs.Chain.{commands_said, line_of_book, newest_of_file, own_commands, told_name, told_newest}
 use Rattle.sd_run_books.specs.Next.{Origin, next_made, next_meaning, origin_of_files}
 use Rattle.sd_run_books.specs.SiteNames.{follows}
 use Rattle.sd_run_books.specs.Twin.{twin_made, twin_meaning}
-use Rattle.sd_law_chain.specs.Chain.{EndsLines, IsLeft, IsLike, IsNextTaken, IsTaken, Link, Next, Twin, own_bytes}
+use Rattle.sd_law_chain.specs.Chain.{EndsLines, AreWordsLeft, IsLike, IsNextTaken, IsTaken, Link, Next, Twin, own_bytes}
 use Rattle.sd_law_chain.specs.Made.{IsFileOf, IsLineOf, IsNewNext, work_made}
 use Rattle.sd_law_chain.proofs.Found.{IsLonger, IsNewest, next_found, then_read, twin_found, with_book}
 use Rattle.sd_law_chain.proofs.Said.{commands_are}
@@ -59,20 +59,20 @@ told_back : (word : ℕ) (bytes : Bytes) (most : ℕ) (words : NumberArgument) (
     said.0.first_period ≤ most → said.0.last_word + words.value ≤ most_word →
     told_newest word bytes most words (Ok said) ≡ Ok said
 told_back word bytes most words said low left =
-    let room : has_room words.value said.0 ≡ true = grind (arith, nat_tests, left) in
-    ap (λ (t : Bool). cond t (Err (refused_site word bytes (Range 12))) (cond (has_room words.value said.0) (Ok said)
+    let room : has_word_room words.value said.0 ≡ true = grind (arith, nat_tests, left) in
+    ap (λ (t : Bool). cond t (Err (refused_site word bytes (Range 12))) (cond (has_word_room words.value said.0) (Ok said)
     (Err (BadWord words.word)))) (not_above most said.0.first_period low)
     ∙ ap (λ (t : Bool). cond t (Ok said) (Err (BadWord words.word))) room
 
 -- what the file of SITE gives
 newest_back : (fewer : List ℕ → SiteFields → Bool) (word most : ℕ) (words : NumberArgument) (bytes : List ℕ)
-    (said : SiteFields × Option BookLine) → length bytes ≤ most_site_bytes → newest_of fewer bytes ≡ Ok said →
+    (said : SiteFields × Option BookLine) → length bytes ≤ most_site_bytes → site_of_chain fewer bytes ≡ Ok said →
     said.0.first_period ≤ most → said.0.last_word + words.value ≤ most_word →
     (newest_of_file fewer word most words (Some bytes)).result ≡ Ok said
 unfolding newest_of_file
 newest_back fewer word most words bytes said short says low left =
     ok_then 2 (cond (nat_lt most_site_bytes (length bytes)) (Err (Limit SiteBytes)) (Ok bytes))
-    (λ text. judged (told_newest word text most words (newest_of fewer text))) bytes
+    (λ text. of_result (told_newest word text most words (site_of_chain fewer text))) bytes
     (within_back most_site_bytes (Limit SiteBytes) bytes short)
     ∙ ap (told_newest word bytes most words) says
     ∙ told_back word bytes most words said low left
@@ -85,10 +85,10 @@ longer_back : (word d : ℕ) (line : Option BookLine) (bytes : Bytes) (commands 
 unfolding longer_book_of_file
 longer_back word d line bytes commands size begins book ends =
     ok_then 2 (cond (nat_lt most_book_bytes (length bytes)) (Err (Limit BookBytes)) (Ok bytes))
-    (λ read. judged (told_longer word d line read)) bytes
+    (λ read. of_result (longer_book_or_status word d line read)) bytes
     (within_back most_book_bytes (Limit BookBytes) bytes size)
-    ∙ ap (λ (t : Bool). cond t (told_whole word bytes (told_book word d bytes (book_of d bytes))) (Err OtherBook)) begins
-    ∙ ap (λ found. told_whole word bytes (told_book word d bytes found)) book
+    ∙ ap (λ (t : Bool). cond t (whole_book_or_status word bytes (book_or_status word d bytes (book_of d bytes))) (Err OtherBook)) begins
+    ∙ ap (λ found. whole_book_or_status word bytes (book_or_status word d bytes found)) book
     ∙ ap (λ (t : Bool). cond t (Ok (record { bytes = bytes; commands = commands }))
     (Err (BadBook word (bad_line Unended (length commands) bytes)))) ends
 
@@ -101,7 +101,7 @@ begins_ok : (line : Option BookLine) (book bytes : Bytes) → IsLineOf line book
 begins_ok None book bytes is h = subst (λ (b : Bytes). IsOwn b bytes) (sym is) ((refl, refl), refl)
 begins_ok (Some line) book bytes is h =
     let own : Bytes = take (length book) bytes in
-    let said : begins_with_book (Some (line_of book)) bytes ≡ true =
+    let said : begins_with_book (Some (line_of_book book)) bytes ≡ true =
     ap (λ (l : BookLine). begins_with_book (Some l) bytes) (sym is) ∙ h in
     let one = and_parts (nat_le (length book) (length bytes))
     (ends_lines own && bytes_eq (sha256 own) (sha256 book)) said in
@@ -182,21 +182,21 @@ said_once p q h = cc
 
 -- the file of SITE was read, and says what it says
 one_newest : (fewer : List ℕ → SiteFields → Bool) (most words : ℕ) (got : Option Bytes) (text : Bytes)
-    (said newest : SiteFields × Option BookLine) → got ≡ Some text → newest_of fewer text ≡ Ok said →
+    (said newest : SiteFields × Option BookLine) → got ≡ Some text → site_of_chain fewer text ≡ Ok said →
     IsNewest fewer most words got newest → newest ≡ said
 one_newest fewer most words got text said newest given says is =
     let same : is.text ≡ text = one_some is.text text (sym is.there ∙ given) in
-    said_once newest said (sym is.says ∙ ap (newest_of fewer) same ∙ says)
+    said_once newest said (sym is.says ∙ ap (site_of_chain fewer) same ∙ says)
 
 next_ok : (link : Link) (site book out : FileArgument) (words : NumberArgument) (given : Readings) (text bytes : Bytes)
-    (work : Work) → given site ≡ Some text → IsFileOf is_first link text → given book ≡ Some bytes → 1 ≤ words.value →
+    (work : Work) → given site ≡ Some text → IsFileOf is_first_site link text → given book ≡ Some bytes → 1 ≤ words.value →
     (next_meaning site book words out given).result ≡ Ok work →
     (IsNextTaken link bytes words.value × IsNewNext site out given)
     × (work ≡ work_made link (Next bytes words.value) out)
 next_ok link site book out words given text bytes work first is second some h =
     let found = next_found site book words out given work h in
     let newest = found.is_newest in
-    let same = one_newest is_first (most_word - 1) words.value (given site) text (link.site, is.line) found.newest first
+    let same = one_newest is_first_site (most_word - 1) words.value (given site) text (link.site, is.line) found.newest first
     is.says newest in
     let by = subst (IsFoundBy words out (given book) work found.text) same
     (newest.period, newest.room, found.longer, found.is_work) in
@@ -219,7 +219,7 @@ new_back made out got is = ap (λ (g : Option (List ℕ)). (making_new made out 
 abbrev next_by : FileArgument → FileArgument → NumberArgument → FileArgument → Option (List ℕ) → Option (List ℕ) →
     Option (List ℕ) → Spec Work
 next_by site book words out site_got book_got out_got =
-    judged (told_name site out) >>= λ named. (origin_of_files site.number book.number words site_got book_got
+    of_result (told_name site out) >>= λ named. (origin_of_files site.number book.number words site_got book_got
     >>= λ origin. making_new (next_made origin words.value) out out_got)
 
 next_is : (site book out : FileArgument) (words : NumberArgument) (given : Readings) (text bytes : Bytes) →
@@ -230,18 +230,18 @@ next_is site book out words given text bytes first second =
     ap (λ got. next_by site book words out got (given book) (given out)) first
     ∙ ap (λ got. next_by site book words out (Some text) got (given out)) second
 
-origin_back : (link : Link) (site book : ℕ) (words : NumberArgument) (text bytes : Bytes) → IsFileOf is_first link text →
+origin_back : (link : Link) (site book : ℕ) (words : NumberArgument) (text bytes : Bytes) → IsFileOf is_first_site link text →
     IsNextTaken link bytes words.value →
     (origin_of_files site book words (Some text) (Some bytes)).result ≡ Ok (origin_of link bytes)
 unfolding origin_of_files
 origin_back link site book words text bytes is taken =
     let said : SiteFields × Option BookLine = (link.site, is.line) in
     let site_read : Spec (SiteFields × Option BookLine) =
-    newest_of_file is_first site (most_word - 1) words (Some text) in
+    newest_of_file is_first_site site (most_word - 1) words (Some text) in
     let book_read : Spec BookText = longer_book_of_file book link.site.height is.line (Some bytes) in
     let read : BookText = record { bytes = bytes; commands = commands_said bytes } in
     ok_then site_read.calls site_read.result (then_read book (Some bytes)) said
-    (newest_back is_first site (most_word - 1) words text said is.short is.says (omega (arith, taken.period))
+    (newest_back is_first_site site (most_word - 1) words text said is.short is.says (omega (arith, taken.period))
     taken.left.1)
     ∙ ok_then book_read.calls book_read.result (λ t. value (with_book said t)) read
     (longer_back book link.site.height is.line bytes (commands_said bytes) taken.size
@@ -250,7 +250,7 @@ origin_back link site book words text bytes is taken =
     (own_said is.line link.book bytes is.book)
 
 next_back : (link : Link) (site book out : FileArgument) (words : NumberArgument) (text bytes : Bytes)
-    (got : Option (List ℕ)) → IsFileOf is_first link text → IsNextTaken link bytes words.value →
+    (got : Option (List ℕ)) → IsFileOf is_first_site link text → IsNextTaken link bytes words.value →
     follows site.text out.text ≡ true → got ≡ None →
     (next_by site book words out (Some text) (Some bytes) got).result ≡ Ok (work_made link (Next bytes words.value) out)
 next_back link site book out words text bytes got is taken name new =
@@ -262,7 +262,7 @@ next_back link site book out words text bytes got is taken name new =
     ∙ new_back (next_made (origin_of link bytes) words.value) out got new
 
 pub next_exactly : (link : Link) (site book out : FileArgument) (words : NumberArgument) (given : Readings)
-    (text bytes : Bytes) → given site ≡ Some text → IsFileOf is_first link text → given book ≡ Some bytes →
+    (text bytes : Bytes) → given site ≡ Some text → IsFileOf is_first_site link text → given book ≡ Some bytes →
     1 ≤ words.value →
     ((next_meaning site book words out given).result ≡ Ok (work_made link (Next bytes words.value) out)) ↔
     (IsTaken link (Next bytes words.value) × IsNewNext site out given)
@@ -274,7 +274,7 @@ next_exactly link site book out words given text bytes first is second some = (
 )
 
 pub next_alone : (link : Link) (site book out : FileArgument) (words : NumberArgument) (given : Readings)
-    (text bytes : Bytes) (work : Work) → given site ≡ Some text → IsFileOf is_first link text →
+    (text bytes : Bytes) (work : Work) → given site ≡ Some text → IsFileOf is_first_site link text →
     given book ≡ Some bytes → 1 ≤ words.value → (next_meaning site book words out given).result ≡ Ok work →
     work ≡ work_made link (Next bytes words.value) out
 next_alone link site book out words given text bytes work first is second some h =
@@ -284,7 +284,7 @@ next_alone link site book out words given text bytes work first is second some h
 record SaysSite (fewer : List ℕ → SiteFields → Bool) (bytes : Bytes) (site : SiteFields) (line : Option BookLine) :
     Type 0 where
   site_is : site_of bytes ≡ Ok site
-  whole : (is_whole 13 bytes || fewer bytes site) ≡ true
+  whole : (are_lines_whole 13 bytes || fewer bytes site) ≡ true
   line_is : book_line_of bytes ≡ line
 
 -- a step behind the site
@@ -294,12 +294,12 @@ site_then (Ok site) next = next site
 site_then (Err fault) next = Err fault
 
 newest_says : (fewer : List ℕ → SiteFields → Bool) (bytes : Bytes) (site : SiteFields) (line : Option BookLine) →
-    newest_of fewer bytes ≡ Ok (site, line) → SaysSite fewer bytes site line
-unfolding newest_of
+    site_of_chain fewer bytes ≡ Ok (site, line) → SaysSite fewer bytes site line
+unfolding site_of_chain
 newest_says fewer bytes site line h = by_site (site_of bytes) refl h
   where
     by_whole : (found : SiteFields) (whole : Bool) → site_of bytes ≡ Ok found →
-        (is_whole 13 bytes || fewer bytes found) ≡ whole →
+        (are_lines_whole 13 bytes || fewer bytes found) ≡ whole →
         told_if whole found (book_line_of bytes) ≡ Ok (site, line) → SaysSite fewer bytes site line
     by_whole found true read whole e =
         let pair = said_once (found, book_line_of bytes) (site, line) e in
@@ -307,25 +307,25 @@ newest_says fewer bytes site line h = by_site (site_of bytes) refl h
         let told : book_line_of bytes ≡ line = ap (λ p. p.1) pair in
         record {
           site_is = read ∙ ap (λ (s : SiteFields). Ok s) same;
-          whole = ap (λ (s : SiteFields). is_whole 13 bytes || fewer bytes s) (sym same) ∙ whole;
+          whole = ap (λ (s : SiteFields). are_lines_whole 13 bytes || fewer bytes s) (sym same) ∙ whole;
           line_is = told;
         }
     by_whole found false read whole e = absurd cc
 
     by_site : (found : Result SiteFields SiteFault) → site_of bytes ≡ found →
-        site_then found (λ s. told_if (is_whole 13 bytes || fewer bytes s) s (book_line_of bytes))
+        site_then found (λ s. told_if (are_lines_whole 13 bytes || fewer bytes s) s (book_line_of bytes))
         ≡ Ok (site, line) → SaysSite fewer bytes site line
-    by_site (Ok found) read e = by_whole found (is_whole 13 bytes || fewer bytes found) read refl e
+    by_site (Ok found) read e = by_whole found (are_lines_whole 13 bytes || fewer bytes found) read refl e
     by_site (Err fault) read e = absurd cc
 
 -- a file of thirteen lines has line 13
-line_is : (link : Link) (bytes : Bytes) (line : Option BookLine) → newest_of none_fewer bytes ≡ Ok (link.site, line) →
-    IsLineOf line link.book → line ≡ Some (line_of link.book)
+line_is : (link : Link) (bytes : Bytes) (line : Option BookLine) → site_of_chain none_fewer bytes ≡ Ok (link.site, line) →
+    IsLineOf line link.book → line ≡ Some (line_of_book link.book)
 line_is link bytes line says is =
     let said = newest_says none_fewer bytes link.site line says in
     by_line line (subst IsSome said.line_is (newest_say bytes link.site false said.site_is said.whole refl)) is
   where
-    by_line : (line : Option BookLine) → IsSome line → IsLineOf line link.book → line ≡ Some (line_of link.book)
+    by_line : (line : Option BookLine) → IsSome line → IsLineOf line link.book → line ≡ Some (line_of_book link.book)
     by_line None some is = absurd (let e = some in cc)
     by_line (Some found) some is = ap (λ (l : BookLine). Some l) is
 
@@ -356,7 +356,7 @@ twin_ok link site out words given text work first is some h =
 -- `twin`, by what the files gave
 abbrev twin_by : FileArgument → NumberArgument → FileArgument → Option (List ℕ) → Option (List ℕ) → Spec Work
 twin_by site words out site_got out_got =
-    judged (told_name site out) >>= λ named. (newest_of_file none_fewer site.number most_word words site_got
+    of_result (told_name site out) >>= λ named. (newest_of_file none_fewer site.number most_word words site_got
     >>= λ newest. making_new (twin_made newest.0 newest.1 words.value) out out_got)
 
 twin_is : (site out : FileArgument) (words : NumberArgument) (given : Readings) (text : Bytes) →
@@ -365,7 +365,7 @@ unfolding twin_meaning
 twin_is site out words given text first = ap (λ got. twin_by site words out got (given out)) first
 
 twin_back : (link : Link) (site out : FileArgument) (words : NumberArgument) (text : Bytes) (got : Option (List ℕ)) →
-    IsFileOf none_fewer link text → IsLeft link.site words.value → follows site.text out.text ≡ true → got ≡ None →
+    IsFileOf none_fewer link text → AreWordsLeft link.site words.value → follows site.text out.text ≡ true → got ≡ None →
     (twin_by site words out (Some text) got).result ≡ Ok (work_made link (Twin words.value) out)
 twin_back link site out words text got is left name new =
     let said : SiteFields × Option BookLine = (link.site, is.line) in

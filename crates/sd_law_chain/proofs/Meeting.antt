@@ -11,14 +11,14 @@ use Rattle.sd_law_broadcast.specs.Runs.{HasWords, HaveOwnWords, IsRun, Run, Shar
 use Rattle.sd_law_broadcast.specs.Known.{AreOneTree}
 use Rattle.sd_law_broadcast.proofs.Words.{at_place}
 use Rattle.sd_run_books.specs.Chain.{commands_said}
-use Rattle.sd_law_chain.specs.Chain.{Call, HaveOwnSites, IsChain, IsOnAir, Link, OnAir, run_of}
+use Rattle.sd_law_chain.specs.Chain.{Call, HaveOwnSites, IsChain, IsChainOnAir, Link, OnAir, chain_run}
 use Rattle.sd_law_chain.specs.Chain.{runs_of, site_at}
 use Rattle.sd_law_chain.proofs.Within.{read_within}
 use Rattle.sd_law_chain.proofs.Rising.{all_are_one_set, all_are_sayable, words_rise}
 
 -- each broadcast is a run of the master
-pub air_is_run : (root : Link) (calls : List Call) (air : OnAir) → IsChain root calls → IsOnAir root calls air →
-    IsRun root.site.master (run_of root calls air)
+pub air_is_run : (root : Link) (calls : List Call) (air : OnAir) → IsChain root calls → IsChainOnAir root calls air →
+    IsRun root.site.master (chain_run root calls air)
 air_is_run root calls air is on =
     let set = all_are_one_set root calls air.number is on.there in
     let sayable = all_are_sayable root calls air.number is on.there in
@@ -34,24 +34,24 @@ air_is_run root calls air is on =
     }
 
 pub all_are_runs : (root : Link) (calls : List Call) (airs : List OnAir) → IsChain root calls →
-    All (IsOnAir root calls) airs → All (IsRun root.site.master) (runs_of root calls airs)
+    All (IsChainOnAir root calls) airs → All (IsRun root.site.master) (runs_of root calls airs)
 all_are_runs root calls airs is all =
-    All-map (IsRun root.site.master) (run_of root calls) airs (all_by (λ air. IsRun root.site.master (run_of root calls
-    air)) airs (λ air has. air_is_run root calls air is (All-contains (IsOnAir root calls) airs air all has)))
+    All-map (IsRun root.site.master) (chain_run root calls) airs (all_by (λ air. IsRun root.site.master (chain_run root calls
+    air)) airs (λ air has. air_is_run root calls air is (All-contains (IsChainOnAir root calls) airs air all has)))
 
 pub all_are_one_tree : (root : Link) (calls : List Call) (airs : List OnAir) → IsChain root calls →
-    All (IsOnAir root calls) airs → AreOneTree root.site.height (runs_of root calls airs)
+    All (IsChainOnAir root calls) airs → AreOneTree root.site.height (runs_of root calls airs)
 all_are_one_tree root calls airs is all =
-    All-map (λ run. run.plan.site.height ≡ root.site.height) (run_of root calls) airs
+    All-map (λ run. run.plan.site.height ≡ root.site.height) (chain_run root calls) airs
     (all_by (λ air. (site_at root calls air.number).height ≡ root.site.height) airs (λ air has.
-    sym (all_are_one_set root calls air.number is (All-contains (IsOnAir root calls) airs air all has).there).height))
+    sym (all_are_one_set root calls air.number is (All-contains (IsChainOnAir root calls) airs air all has).there).height))
 
-all_have_words : (root : Link) (calls : List Call) (airs : List OnAir) → All (IsOnAir root calls) airs →
+all_have_words : (root : Link) (calls : List Call) (airs : List OnAir) → All (IsChainOnAir root calls) airs →
     All (λ run. HasWords run.plan.site) (runs_of root calls airs)
 all_have_words root calls airs all =
-    All-map (λ run. HasWords run.plan.site) (run_of root calls) airs
+    All-map (λ run. HasWords run.plan.site) (chain_run root calls) airs
     (all_by (λ air. HasWords (site_at root calls air.number)) airs (λ air has.
-    (All-contains (IsOnAir root calls) airs air all has).words))
+    (All-contains (IsChainOnAir root calls) airs air all has).words))
 
 -- the broadcast of a run
 mapped_from : {A B : Type 0} (f : A → B) (found : Option A) (y : B) → option_map f found ≡ Some y →
@@ -61,18 +61,18 @@ mapped_from f (Some x) y h = (x, refl, (let e : f x ≡ y = cc in e))
 
 pub air_of : (root : Link) (calls : List Call) (airs : List OnAir) (i : ℕ) (run : Run) →
     slice_get (runs_of root calls airs) i ≡ Some run →
-    (air : OnAir) × (slice_get airs i ≡ Some air) × (run_of root calls air ≡ run)
+    (air : OnAir) × (slice_get airs i ≡ Some air) × (chain_run root calls air ≡ run)
 air_of root calls airs i run at =
-    mapped_from (run_of root calls) (slice_get airs i) run (sym (slice_get-map (run_of root calls) airs i) ∙ at)
+    mapped_from (chain_run root calls) (slice_get airs i) run (sym (slice_get-map (chain_run root calls) airs i) ∙ at)
 
 pub air_has_run : (root : Link) (calls : List Call) (airs : List OnAir) (air : OnAir) → Contains airs air →
-    Contains (runs_of root calls airs) (run_of root calls air)
+    Contains (runs_of root calls airs) (chain_run root calls air)
 air_has_run root calls airs air (k, within, is) =
     let runs : List Run = runs_of root calls airs in
-    let run : Run = run_of root calls air in
+    let run : Run = chain_run root calls air in
     let there : slice_get airs k ≡ Some air = slice_get-get_or airs k air within ∙ ap Some is in
     let at : slice_get runs k ≡ Some run =
-    slice_get-map (run_of root calls) airs k ∙ ap (option_map (run_of root calls)) there in
+    slice_get-map (chain_run root calls) airs k ∙ ap (option_map (chain_run root calls)) there in
     (k, slice_get_within runs k run at, get_or_from_slice_get runs k run run at)
 
 -- two sites of a chain have no control word in common
@@ -87,14 +87,14 @@ sites_share_none root calls m n is other there also = elim (cases_lt m n) [
 ]
 
 pub all_have_own_words : (root : Link) (calls : List Call) (airs : List OnAir) → IsChain root calls →
-    All (IsOnAir root calls) airs → HaveOwnSites airs → HaveOwnWords (runs_of root calls airs)
+    All (IsChainOnAir root calls) airs → HaveOwnSites airs → HaveOwnWords (runs_of root calls airs)
 all_have_own_words root calls airs is all sites = record {
   some = all_have_words root calls airs all;
   apart = λ i j a b at beside low.
       let (one, one_at, first) = air_of root calls airs i a at in
       let (two, two_at, second) = air_of root calls airs j b beside in
-      let there = (at_place (IsOnAir root calls) airs i one one_at all).there in
-      let also = (at_place (IsOnAir root calls) airs j two two_at all).there in
+      let there = (at_place (IsChainOnAir root calls) airs i one one_at all).there in
+      let also = (at_place (IsChainOnAir root calls) airs j two two_at all).there in
       subst (λ (run : Run). ShareNoWord run.plan.site b.plan.site) first
       (subst (λ (run : Run). ShareNoWord (site_at root calls one.number) run.plan.site) second
       (sites_share_none root calls one.number two.number is (sites i j one two one_at two_at low) there also));

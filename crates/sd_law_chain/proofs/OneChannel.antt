@@ -13,8 +13,8 @@ use Rattle.sd_law_losses.specs.Channel.{AreRunsOf, HaveTwoNames, IsRunOf}
 use Rattle.sd_law_losses.specs.Ends.{is_told}
 use Rattle.sd_law_losses.specs.Many.{has_cat}
 use Rattle.sd_law_losses.specs.Switched.{AreAlternating, ArePiecesOf, IsOtherThanFirst, names_from}
-use Rattle.sd_law_chain.specs.Chain.{Call, HaveOwnSites, IsChain, IsOnAir, Link, OnAir, site_at}
-use Rattle.sd_law_chain.specs.Heard.{Heard, IsOtherNumber, TakeTurns, airs_of, arrival_of, arrivals_of, channel_of}
+use Rattle.sd_law_chain.specs.Chain.{Call, HaveOwnSites, IsChain, IsChainOnAir, Link, OnAir, site_at}
+use Rattle.sd_law_chain.specs.Heard.{ArrivedBroadcast, IsOtherNumber, TakeTurns, airs_of, arrival_of, arrivals_of, channel_of}
 use Rattle.sd_law_chain.specs.Heard.{numbers_from}
 use Rattle.sd_law_chain.proofs.Meeting.{air_is_run}
 use Rattle.sd_law_chain.proofs.Rising.{all_are_one_set, messages_are_three, words_rise}
@@ -48,7 +48,7 @@ record CanAir (root : Link) (calls : List Call) (n : ℕ) : Type 0 where
   there : n ≤ length calls
   words : HasWords (site_at root calls n)
 
-can_air : (root : Link) (calls : List Call) (air : OnAir) → IsOnAir root calls air → CanAir root calls air.number
+can_air : (root : Link) (calls : List Call) (air : OnAir) → IsChainOnAir root calls air → CanAir root calls air.number
 can_air root calls air on = record { there = on.there; words = on.words }
 
 names_differ : (root : Link) (calls : List Call) (m n : ℕ) → IsChain root calls → CanAir root calls m →
@@ -62,7 +62,7 @@ names_differ root calls m n is can also other = elim (cases_lt m n) [
 ]
 
 -- each is of the channel
-is_run_of : (root : Link) (calls : List Call) (one : Heard) → IsChain root calls → IsOnAir root calls one.air →
+is_run_of : (root : Link) (calls : List Call) (one : ArrivedBroadcast) → IsChain root calls → IsChainOnAir root calls one.air →
     AreWholePackets one.air.clear → IsRunOf (channel_of root.site) (arrival_of root calls one)
 is_run_of root calls one is on whole =
     let set = all_are_one_set root calls one.air.number is on.there in
@@ -86,46 +86,46 @@ others : (air : OnAir) (airs : List OnAir) → HaveOwnSites (air ∷ airs) → A
 others air airs own = all_by (λ other. air.number ≢ other.number) airs (λ other (k, within, is).
     own 0 (suc k) air other refl (slice_get-get_or airs k other within ∙ ap Some is) (omega arith))
 
-two_names : (root : Link) (calls : List Call) (first : Heard) (heard : List Heard) → IsChain root calls →
-    CanAir root calls first.air.number → All (IsOnAir root calls) (airs_of heard) →
+two_names : (root : Link) (calls : List Call) (first : ArrivedBroadcast) (heard : List ArrivedBroadcast) → IsChain root calls →
+    CanAir root calls first.air.number → All (IsChainOnAir root calls) (airs_of heard) →
     All (λ other. first.air.number ≢ other.number) (airs_of heard) →
     All (HaveTwoNames (arrival_of root calls first)) (arrivals_of root calls heard)
 two_names root calls first [] is can all own = All-nil (HaveTwoNames (arrival_of root calls first))
 two_names root calls first (one ∷ heard) is can all own =
     All-cons (HaveTwoNames (arrival_of root calls first)) (arrival_of root calls one) (arrivals_of root calls heard)
     (names_differ root calls first.air.number one.air.number is can
-    (can_air root calls one.air (All-head (IsOnAir root calls) one.air (airs_of heard) all))
+    (can_air root calls one.air (All-head (IsChainOnAir root calls) one.air (airs_of heard) all))
     (All-head (λ other. first.air.number ≢ other.number) one.air (airs_of heard) own))
-    (two_names root calls first heard is can (All-tail (IsOnAir root calls) one.air (airs_of heard) all)
+    (two_names root calls first heard is can (All-tail (IsChainOnAir root calls) one.air (airs_of heard) all)
     (All-tail (λ other. first.air.number ≢ other.number) one.air (airs_of heard) own))
 
 -- each clear packet is whole
-abbrev AreWhole : Heard → Type 0
+abbrev AreWhole : ArrivedBroadcast → Type 0
 AreWhole one = AreWholePackets one.air.clear
 
-pub arrivals_are_runs : (root : Link) (calls : List Call) (heard : List Heard) → IsChain root calls →
-    All (IsOnAir root calls) (airs_of heard) → HaveOwnSites (airs_of heard) →
+pub arrivals_are_runs : (root : Link) (calls : List Call) (heard : List ArrivedBroadcast) → IsChain root calls →
+    All (IsChainOnAir root calls) (airs_of heard) → HaveOwnSites (airs_of heard) →
     All (λ one. AreWholePackets one.air.clear) heard →
     AreRunsOf (channel_of root.site) (arrivals_of root calls heard)
 arrivals_are_runs root calls [] is all own whole = tt
 arrivals_are_runs root calls (one ∷ heard) is all own whole =
-    let on = All-head (IsOnAir root calls) one.air (airs_of heard) all in
-    let rest = All-tail (IsOnAir root calls) one.air (airs_of heard) all in (
+    let on = All-head (IsChainOnAir root calls) one.air (airs_of heard) all in
+    let rest = All-tail (IsChainOnAir root calls) one.air (airs_of heard) all in (
       is_run_of root calls one is on (All-head AreWhole one heard whole),
       two_names root calls one heard is (can_air root calls one.air on) rest (others one.air (airs_of heard) own),
       arrivals_are_runs root calls heard is rest (own_behind one.air (airs_of heard) own)
           (All-tail AreWhole one heard whole),
     )
 
-each_is_run : (root : Link) (calls : List Call) (heard : List Heard) → IsChain root calls →
-    All (IsOnAir root calls) (airs_of heard) → All (λ one. AreWholePackets one.air.clear) heard →
+each_is_run : (root : Link) (calls : List Call) (heard : List ArrivedBroadcast) → IsChain root calls →
+    All (IsChainOnAir root calls) (airs_of heard) → All (λ one. AreWholePackets one.air.clear) heard →
     All (IsRunOf (channel_of root.site)) (arrivals_of root calls heard)
 each_is_run root calls [] is all whole = All-nil (IsRunOf (channel_of root.site))
 each_is_run root calls (one ∷ heard) is all whole =
     All-cons (IsRunOf (channel_of root.site)) (arrival_of root calls one) (arrivals_of root calls heard)
-    (is_run_of root calls one is (All-head (IsOnAir root calls) one.air (airs_of heard) all)
+    (is_run_of root calls one is (All-head (IsChainOnAir root calls) one.air (airs_of heard) all)
     (All-head AreWhole one heard whole))
-    (each_is_run root calls heard is (All-tail (IsOnAir root calls) one.air (airs_of heard) all)
+    (each_is_run root calls heard is (All-tail (IsChainOnAir root calls) one.air (airs_of heard) all)
     (All-tail AreWhole one heard whole))
 
 -- the names of the sites of these numbers
@@ -133,7 +133,7 @@ abbrev names_of : Link → List Call → List ℕ → List (Option ℕ)
 names_of root calls numbers = map (λ n. run_name_of (site_at root calls n)) numbers
 
 -- the names of which a message is heard are those of the sites of these numbers
-names_are : (root : Link) (calls : List Call) (tuned : Bool) (heard : List Heard) →
+names_are : (root : Link) (calls : List Call) (tuned : Bool) (heard : List ArrivedBroadcast) →
     names_from tuned (arrivals_of root calls heard) ≡ names_of root calls (numbers_from root calls tuned heard)
 names_are root calls tuned [] = refl
 names_are root calls tuned (one ∷ heard) =
@@ -152,14 +152,14 @@ names_are root calls tuned (one ∷ heard) =
     by_test false rest = rest
 
 -- these are numbers that a broadcast can have
-numbers_can : (root : Link) (calls : List Call) (tuned : Bool) (heard : List Heard) →
-    All (IsOnAir root calls) (airs_of heard) → All (CanAir root calls) (numbers_from root calls tuned heard)
+numbers_can : (root : Link) (calls : List Call) (tuned : Bool) (heard : List ArrivedBroadcast) →
+    All (IsChainOnAir root calls) (airs_of heard) → All (CanAir root calls) (numbers_from root calls tuned heard)
 numbers_can root calls tuned [] all = All-nil (CanAir root calls)
 numbers_can root calls tuned (one ∷ heard) all =
     by_test (is_told tuned (arrival_of root calls one))
-    (can_air root calls one.air (All-head (IsOnAir root calls) one.air (airs_of heard) all))
+    (can_air root calls one.air (All-head (IsChainOnAir root calls) one.air (airs_of heard) all))
     (numbers_can root calls (tuned || has_cat (arrival_of root calls one)) heard
-    (All-tail (IsOnAir root calls) one.air (airs_of heard) all))
+    (All-tail (IsChainOnAir root calls) one.air (airs_of heard) all))
   where
     by_test : (t : Bool) → CanAir root calls one.air.number →
         All (CanAir root calls) (numbers_from root calls (tuned || has_cat (arrival_of root calls one)) heard) →
@@ -186,8 +186,8 @@ names_alternate root calls (n ∷ numbers) is can turns = (
   names_alternate root calls numbers is (All-tail (CanAir root calls) n numbers can) turns.1,
 )
 
-pub arrivals_are_pieces : (root : Link) (calls : List Call) (heard : List Heard) → IsChain root calls →
-    All (IsOnAir root calls) (airs_of heard) → All (λ one. AreWholePackets one.air.clear) heard →
+pub arrivals_are_pieces : (root : Link) (calls : List Call) (heard : List ArrivedBroadcast) → IsChain root calls →
+    All (IsChainOnAir root calls) (airs_of heard) → All (λ one. AreWholePackets one.air.clear) heard →
     TakeTurns (numbers_from root calls false heard) →
     ArePiecesOf (channel_of root.site) (arrivals_of root calls heard)
 arrivals_are_pieces root calls heard is all whole turns = (

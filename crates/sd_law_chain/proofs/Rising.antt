@@ -12,9 +12,9 @@ use Rattle.sd_site_cards.specs.Chain.{most_word}
 use Rattle.sd_book.specs.Commands.{last_period}
 use Rattle.sd_book.specs.Limits.{most_periods}
 use Rattle.sd_law_broadcast.specs.Runs.{HasWords}
-use Rattle.sd_run_books.specs.Chain.{commands_said, line_of}
-use Rattle.sd_law_chain.specs.Chain.{AreOneSet, Call, IsChain, IsLeft, IsNextAt, IsNextTaken, IsTaken, Link, Next, Twin}
-use Rattle.sd_law_chain.specs.Chain.{book_at, link_at, made_by, own_bytes, site_at, words_of}
+use Rattle.sd_run_books.specs.Chain.{commands_said, line_of_book}
+use Rattle.sd_law_chain.specs.Chain.{AreOneSet, Call, IsChain, AreWordsLeft, IsNextAt, IsNextTaken, IsTaken, Link, Next, Twin}
+use Rattle.sd_law_chain.specs.Chain.{chain_book, link_at, made_by, own_bytes, site_at, words_asked}
 use Rattle.sd_law_chain.proofs.Within.{fewer_periods, read_within, sha_below}
 use Rattle.sd_law_chain.proofs.Links.{call_taken, first_link, next_link, some_call}
 
@@ -73,11 +73,11 @@ set_through a b c p q = record {
   span = p.span ∙ q.span;
 }
 
-left_of : (link : Link) (call : Call) → IsTaken link call → IsLeft link.site (words_of call)
+left_of : (link : Link) (call : Call) → IsTaken link call → AreWordsLeft link.site (words_asked call)
 left_of link (Next bytes words) taken = taken.left
 left_of link (Twin words) taken = taken
 
-one_step : (link : Link) (call : Call) → IsTaken link call → IsStep link (made_by link call) (words_of call)
+one_step : (link : Link) (call : Call) → IsTaken link call → IsStep link (made_by link call) (words_asked call)
 one_step link (Next bytes words) taken = record {
   follows = refl;
   count = refl;
@@ -96,16 +96,16 @@ one_step link (Twin words) taken = record {
 }
 
 step_of : (root : Link) (calls : List Call) (n : ℕ) (call : Call) → IsChain root calls → slice_get calls n ≡ Some call →
-    IsStep (link_at root calls n) (link_at root calls (suc n)) (words_of call)
+    IsStep (link_at root calls n) (link_at root calls (suc n)) (words_asked call)
 step_of root calls n call is at =
-    subst (λ (b : Link). IsStep (link_at root calls n) b (words_of call)) (sym (next_link root calls n call at))
+    subst (λ (b : Link). IsStep (link_at root calls n) b (words_asked call)) (sym (next_link root calls n call at))
     (one_step (link_at root calls n) call (call_taken root calls n call is at))
 
 step_at : (root : Link) (calls : List Call) (n : ℕ) → IsChain root calls → n < length calls →
     (words : ℕ) × IsStep (link_at root calls n) (link_at root calls (suc n)) words
 step_at root calls n is low =
     let (call, at) = some_call calls n low in
-    (words_of call, step_of root calls n call is at)
+    (words_asked call, step_of root calls n call is at)
 
 -- each site that a call made has a control word
 pub words_are_had : (root : Link) (calls : List Call) (j : ℕ) → IsChain root calls → 1 ≤ j → j ≤ length calls →
@@ -143,7 +143,7 @@ words_follow root calls n is low =
 
 pub words_are_as_asked : (root : Link) (calls : List Call) (n : ℕ) (call : Call) → IsChain root calls →
     slice_get calls n ≡ Some call →
-    (site_at root calls (n + 1)).last_word + 1 ≡ (site_at root calls (n + 1)).first_word + words_of call
+    (site_at root calls (n + 1)).last_word + 1 ≡ (site_at root calls (n + 1)).first_word + words_asked call
 words_are_as_asked root calls n call is at =
     let step = step_of root calls n call is at in
     let next = ap (λ (k : ℕ). (site_at root calls k).first_word) (sym (after n)) in
@@ -227,8 +227,8 @@ own_last link bytes words taken =
     let own = fewer_periods (length link.book) bytes taken.own_ends in
     omega (arith, all, own)
 
-sayable_step : (link : Link) (call : Call) → IsSayable link.site (line_of link.book) → IsTaken link call →
-    IsSayable (made_by link call).site (line_of (made_by link call).book)
+sayable_step : (link : Link) (call : Call) → IsSayable link.site (line_of_book link.book) → IsTaken link call →
+    IsSayable (made_by link call).site (line_of_book (made_by link call).book)
 sayable_step link (Next bytes words) is taken = record {
   ranges = same_ranges link.site (made_by link (Next bytes words)).site is.ranges
       (made_set link (Next bytes words)) refl
@@ -250,11 +250,11 @@ sayable_step link (Twin words) is taken = record {
 }
 
 pub all_are_sayable : (root : Link) (calls : List Call) (j : ℕ) → IsChain root calls → j ≤ length calls →
-    IsSayable (site_at root calls j) (line_of (book_at root calls j))
+    IsSayable (site_at root calls j) (line_of_book (chain_book root calls j))
 all_are_sayable root calls zero is within =
-    subst (λ (link : Link). IsSayable link.site (line_of link.book)) (sym (first_link root calls)) is.first
+    subst (λ (link : Link). IsSayable link.site (line_of_book link.book)) (sym (first_link root calls)) is.first
 all_are_sayable root calls (suc j) is within =
     let (call, at) = some_call calls j (omega (arith, within)) in
-    subst (λ (link : Link). IsSayable link.site (line_of link.book)) (sym (next_link root calls j call at))
+    subst (λ (link : Link). IsSayable link.site (line_of_book link.book)) (sym (next_link root calls j call at))
     (sayable_step (link_at root calls j) call (all_are_sayable root calls j is (omega (arith, within)))
     (call_taken root calls j call is at))

@@ -9,7 +9,7 @@ use Rattle.sha2.specs.Sha256.{digest_bytes, sha256}
 use Rattle.sd_book.specs.declared.command.Command.{Command}
 use Rattle.sd_book.specs.Commands.{last_period}
 use Rattle.sd_book.specs.Limits.{IsDraft, IsWithinLimits}
-use Rattle.sd_book.specs.Text.{book_of, judged, judged_line, said_by}
+use Rattle.sd_book.specs.Text.{book_of, book_commands, judged_book_line, said_by_book}
 use Rattle.sd_book.proofs.Cuts.{period_append}
 use Rattle.sd_book.proofs.Judged.{bind_ok, ended_ok, judged_more, judged_none, within_at_end}
 use Rattle.sd_run_books.specs.Chain.{commands_said}
@@ -17,20 +17,20 @@ use Rattle.sd_law_chain.specs.Chain.{EndsLines}
 use Rattle.sd_law_chain.proofs.Lines.{commands_joined}
 
 judged_within : (d : ℕ) (before : List Command) (said : List (Option Command)) (commands : List Command) →
-    IsDraft d before → judged d before said ≡ Ok commands → IsWithinLimits d commands
+    IsDraft d before → book_commands d before said ≡ Ok commands → IsWithinLimits d commands
 judged_within d before [] commands draft h =
     let is = ended_ok d before before commands h in
     subst (IsWithinLimits d) is.1 (within_at_end d before draft is.0)
 judged_within d before (one ∷ said) commands draft h =
     let (command, first, rest) =
-    bind_ok (judged_line d before one) (λ c. judged d (before ++ c ∷ []) said) commands h in
+    bind_ok (judged_book_line d before one) (λ c. book_commands d (before ++ c ∷ []) said) commands h in
     judged_within d (before ++ command ∷ []) said commands (judged_more d before one command draft first) rest
 
 -- a book that is read is within the limits
 pub read_within : (d : ℕ) (bytes : List ℕ) (commands : List Command) → book_of d bytes ≡ Ok commands →
     IsWithinLimits d commands
 unfolding book_of
-read_within d bytes commands h = judged_within d [] (said_by bytes) commands (judged_none d) h
+read_within d bytes commands h = judged_within d [] (said_by_book bytes) commands (judged_none d) h
 
 -- the first bytes of a text, up to a line feed, have no more lines `period` than all
 pub fewer_periods : (n : ℕ) (bytes : List ℕ) → EndsLines (take n bytes) →

@@ -17,7 +17,7 @@ use Rattle.sd_spec.specs.Plan.{Plan}
 use Rattle.sd_spec.specs.Refused.{IsSendable}
 use Rattle.sd_law_broadcast.specs.Runs.{Run, HasWords}
 use Rattle.sd_command_base.specs.Files.{ends_lines}
-use Rattle.sd_run_books.specs.Chain.{commands_said, line_of}
+use Rattle.sd_run_books.specs.Chain.{commands_said, line_of_book}
 
 -- a site and the bytes of its book, none without line 13
 pub record Link : Type 0 where
@@ -48,12 +48,12 @@ abbrev pub EndsLines : Bytes → Type 0
 EndsLines bytes = ends_lines bytes ≡ true
 
 -- so many control words are left above those of the site
-abbrev pub IsLeft : SiteFields → ℕ → Type 0
-IsLeft site words = (1 ≤ words) × (site.last_word + words ≤ most_word)
+abbrev pub AreWordsLeft : SiteFields → ℕ → Type 0
+AreWordsLeft site words = (1 ≤ words) × (site.last_word + words ≤ most_word)
 
 -- `next` from this site is not refused
 pub record IsNextTaken (link : Link) (bytes : Bytes) (words : ℕ) : Type 0 where
-  pub left : IsLeft link.site words
+  pub left : AreWordsLeft link.site words
   pub period : link.site.first_period < most_word
   pub size : length bytes ≤ most_book_size
   -- BOOK begins with the site's book, which ends with a line feed as BOOK does
@@ -66,12 +66,12 @@ pub record IsNextTaken (link : Link) (bytes : Bytes) (words : ℕ) : Type 0 wher
 -- the call is not refused
 abbrev pub IsTaken : Link → Call → Type 0
 IsTaken link (Next bytes words) = IsNextTaken link bytes words
-IsTaken link (Twin words) = IsLeft link.site words
+IsTaken link (Twin words) = AreWordsLeft link.site words
 
 -- the number of control words that the call asks for
-abbrev pub words_of : Call → ℕ
-words_of (Next bytes words) = words
-words_of (Twin words) = words
+abbrev pub words_asked : Call → ℕ
+words_asked (Next bytes words) = words
+words_asked (Twin words) = words
 
 -- the first eight lines of the two sites say the same: they are of one tree, one master and one channel
 pub record AreOneSet (a b : SiteFields) : Type 0 where
@@ -96,7 +96,7 @@ AreTaken link (call ∷ calls) = IsTaken link call × AreTaken (made_by link cal
 
 -- a site file can say the first site, and each call makes the site after it
 pub record IsChain (root : Link) (calls : List Call) : Type 0 where
-  pub first : IsSayable root.site (line_of root.book)
+  pub first : IsSayable root.site (line_of_book root.book)
   pub taken : AreTaken root calls
 
 -- the site of number n with its book, the first one being number 0
@@ -106,12 +106,12 @@ link_at root calls n = get_or (chain root calls) n root
 abbrev pub site_at : Link → List Call → ℕ → SiteFields
 site_at root calls n = (link_at root calls n).site
 
-abbrev pub book_at : Link → List Call → ℕ → Bytes
-book_at root calls n = (link_at root calls n).book
+abbrev pub chain_book : Link → List Call → ℕ → Bytes
+chain_book root calls n = (link_at root calls n).book
 
 -- what a broadcast of site n with its own book is planned by
 abbrev pub plan_at : Link → List Call → ℕ → Plan
-plan_at root calls n = record { site = site_at root calls n; commands = commands_said (book_at root calls n) }
+plan_at root calls n = record { site = site_at root calls n; commands = commands_said (chain_book root calls n) }
 
 -- site n was made by a `next` with this BOOK
 abbrev pub IsNextAt : List Call → ℕ → Bytes → Type 0
@@ -124,18 +124,18 @@ pub record OnAir : Type 0 where
   pub clear : Packets
 
 -- what is sent is planned by the site and the book
-abbrev pub plan_of : Link → List Call → OnAir → Plan
-plan_of root calls air = record { site = site_at root calls air.number; commands = commands_said air.book }
+abbrev pub chain_plan : Link → List Call → OnAir → Plan
+chain_plan root calls air = record { site = site_at root calls air.number; commands = commands_said air.book }
 
-abbrev pub run_of : Link → List Call → OnAir → Run
-run_of root calls air = record { plan = plan_of root calls air; clear = air.clear }
+abbrev pub chain_run : Link → List Call → OnAir → Run
+chain_run root calls air = record { plan = chain_plan root calls air; clear = air.clear }
 
 -- the book is not refused, and each packet can be sent
-pub record IsOnAir (root : Link) (calls : List Call) (air : OnAir) : Type 0 where
+pub record IsChainOnAir (root : Link) (calls : List Call) (air : OnAir) : Type 0 where
   pub there : air.number ≤ length calls
   -- each site that a call made has a control word; it is asked of the first one
   pub words : HasWords (site_at root calls air.number)
-  pub book : IsLike air.book (book_at root calls air.number)
+  pub book : IsLike air.book (chain_book root calls air.number)
   pub commands : book_of root.site.height air.book ≡ Ok (commands_said air.book)
   pub sendable : IsSendable (site_at root calls air.number) air.clear
 
@@ -146,17 +146,17 @@ HaveOwnSites airs = (i j : ℕ) (a b : OnAir) → slice_get airs i ≡ Some a �
 
 -- each `next` got a book that begins with that of its site
 abbrev pub HaveGrown : Link → List Call → Type 0
-HaveGrown root calls = (n : ℕ) (bytes : Bytes) → IsNextAt calls n bytes → IsPrefix (book_at root calls (n - 1)) bytes
+HaveGrown root calls = (n : ℕ) (bytes : Bytes) → IsNextAt calls n bytes → IsPrefix (chain_book root calls (n - 1)) bytes
 
 -- what was compared was equal: each `next` got a book that grew, and each broadcast its site's own
 pub record AreTrue (root : Link) (calls : List Call) (airs : List OnAir) : Type 0 where
   pub grown : HaveGrown root calls
-  pub own : All (λ air. air.book ≡ book_at root calls air.number) airs
+  pub own : All (λ air. air.book ≡ chain_book root calls air.number) airs
 
 -- the broadcasts of a chain whose books are true
-pub record AreKept (root : Link) (calls : List Call) (airs : List OnAir) : Type 0 where
+pub record IsTrueChain (root : Link) (calls : List Call) (airs : List OnAir) : Type 0 where
   pub chain : IsChain root calls
-  pub sent : All (IsOnAir root calls) airs
+  pub sent : All (IsChainOnAir root calls) airs
   pub sites : HaveOwnSites airs
   pub books : AreTrue root calls airs
 
@@ -168,14 +168,14 @@ pub record IsCollision (x y : Bytes) : Type 0 where
 -- one of the pairs that were compared is a collision
 pub data Collides (root : Link) (calls : List Call) (airs : List OnAir) : Type 0 where
   grown : (n : ℕ) (bytes : Bytes) → IsNextAt calls n bytes →
-      IsCollision (own_bytes (link_at root calls (n - 1)) bytes) (book_at root calls (n - 1)) →
+      IsCollision (own_bytes (link_at root calls (n - 1)) bytes) (chain_book root calls (n - 1)) →
       Collides root calls airs
-  sent : (air : OnAir) → Contains airs air → IsCollision air.book (book_at root calls air.number) →
+  sent : (air : OnAir) → Contains airs air → IsCollision air.book (chain_book root calls air.number) →
       Collides root calls airs
 
 -- the runs of broadcasts of a chain
 abbrev pub runs_of : Link → List Call → List OnAir → List Run
-runs_of root calls airs = map (run_of root calls) airs
+runs_of root calls airs = map (chain_run root calls) airs
 
 -- behind the commands that decide period q of a book, that of the broadcast subscribes none of the leaves
 abbrev pub KeepsOut : Leaves → PeriodNumber → List Command → OnAir → Type 0

@@ -5,8 +5,8 @@ ghost use Rattle.sd_base.specs.Types.{Bytes};
 ghost use Rattle.sd_book.specs.Commands.{commands_until, last_period};
 ghost use Rattle.sd_run_books.specs.Apart.{last_due};
 ghost use Rattle.sd_run_books.specs.Chain.{commands_said};
-ghost use Rattle.sd_law_chain.specs.Chain.{AreKept, Call, HaveGrown, IsChain, IsNextAt, Link, OnAir};
-ghost use Rattle.sd_law_chain.specs.Chain.{book_at, plan_at, plan_of, site_at};
+ghost use Rattle.sd_law_chain.specs.Chain.{IsTrueChain, Call, HaveGrown, IsChain, IsNextAt, Link, OnAir};
+ghost use Rattle.sd_law_chain.specs.Chain.{chain_book, plan_at, chain_plan, site_at};
 
 /// The first period of a site that a `next` made is above all periods that a broadcast of a site before can use,
 /// whatever its stream is.
@@ -15,8 +15,8 @@ pub fn broadcasts_are_followed()
         HaveGrown root calls → i < n → IsNextAt calls n bytes →
         last_due (plan_at root calls i) < (site_at root calls n).first_period }
     ensures airs { (root : Link) (calls : List Call) (airs : List OnAir) (air : OnAir) (n : ℕ) (bytes : Bytes) →
-        AreKept root calls airs → Contains airs air → air.number < n → IsNextAt calls n bytes →
-        last_due (plan_of root calls air) < (site_at root calls n).first_period }
+        IsTrueChain root calls airs → Contains airs air → air.number < n → IsNextAt calls n bytes →
+        last_due (chain_plan root calls air) < (site_at root calls n).first_period }
 {}
 
 /// Suppose that BOOK of a `next` is the book of its SITE with more appended. Then all of that book is decided in the
@@ -24,16 +24,16 @@ pub fn broadcasts_are_followed()
 /// least 1. So what is appended without a line `period`, or with one, holds at once.
 pub fn new_sites_hold_what_is_appended()
     ensures decided { (root : Link) (calls : List Call) (n : ℕ) (more : Bytes) →
-        IsNextAt calls n (book_at root calls (n - 1) ++ more) →
-        last_period (commands_said (book_at root calls (n - 1))) < (site_at root calls n).first_period }
+        IsNextAt calls n (chain_book root calls (n - 1) ++ more) →
+        last_period (commands_said (chain_book root calls (n - 1))) < (site_at root calls n).first_period }
     ensures held { (root : Link) (calls : List Call) (n : ℕ) (more : Bytes) → IsChain root calls →
-        IsNextAt calls n (book_at root calls (n - 1) ++ more) →
-        commands_until (site_at root calls n).first_period (commands_said (book_at root calls (n - 1) ++ more))
-        ≡ commands_said (book_at root calls (n - 1))
-        ++ commands_until ((site_at root calls n).first_period - last_period (commands_said (book_at root calls (n - 1))))
+        IsNextAt calls n (chain_book root calls (n - 1) ++ more) →
+        commands_until (site_at root calls n).first_period (commands_said (chain_book root calls (n - 1) ++ more))
+        ≡ commands_said (chain_book root calls (n - 1))
+        ++ commands_until ((site_at root calls n).first_period - last_period (commands_said (chain_book root calls (n - 1))))
         (commands_said more) }
     ensures at_once { (root : Link) (calls : List Call) (n : ℕ) (more : Bytes) → IsChain root calls →
-        IsNextAt calls n (book_at root calls (n - 1) ++ more) → last_period (commands_said more) ≤ 1 →
-        commands_until (site_at root calls n).first_period (commands_said (book_at root calls (n - 1) ++ more))
-        ≡ commands_said (book_at root calls (n - 1) ++ more) }
+        IsNextAt calls n (chain_book root calls (n - 1) ++ more) → last_period (commands_said more) ≤ 1 →
+        commands_until (site_at root calls n).first_period (commands_said (chain_book root calls (n - 1) ++ more))
+        ≡ commands_said (chain_book root calls (n - 1) ++ more) }
 {}

@@ -13,7 +13,7 @@ use Rattle.sd_base.proofs.Lists.{all_by}
 use Rattle.sd_tree_keys.specs.Leaves.{is_member, leaves}
 use Rattle.sd_tree_keys.specs.SetNames.{IsOfHeight}
 use Rattle.sd_tree_keys.specs.declared.set.SetName.{SetName}
-use Rattle.sd_tree_keys.specs.Names.{given}
+use Rattle.sd_tree_keys.specs.Names.{names_of_receiver}
 use Rattle.sd_book.specs.Commands.{entitled, last_period}
 use Rattle.sd_book.proofs.Revocations.{below}
 use Rattle.sd_cover_tracing.specs.Chains.{IsChainCover}
@@ -87,7 +87,7 @@ height_at service q name low there =
 
 -- a leaf's names reach the key of some set of a period exactly where it isn't revoked in it
 pub reached_at : (service : Service) (q u : ℕ) → service.height ≤ 20 → u < 2 ^ service.height
-    → Any (λ name. IsReached (given service.height u) (Key name)) (service_sets service q)
+    → Any (λ name. IsReached (names_of_receiver service.height u) (Key name)) (service_sets service q)
     ↔ ¬ Contains (revoked_at service q) u
 reached_at service q u low leaf =
     cover_reached service.height (revoked_at service q) (service_sets service q) u low
@@ -95,14 +95,14 @@ reached_at service q u low leaf =
 
 -- what is known comes to: a secret is reached, and a period has an unrevoked leaf
 abbrev Comes : Service → List ℕ → Knowable → Type 0
-Comes service coalition (OfTree secret) = IsReached (flat_map (given service.height) coalition) secret
+Comes service coalition (OfTree secret) = IsReached (flat_map (names_of_receiver service.height) coalition) secret
 Comes service coalition (PeriodKey q) = (q ≤ last_period service.commands) × HasUnrevoked service coalition q
 Comes service coalition (ControlWord t) = HasUnrevoked service coalition (period_of_word service t)
 
 -- where a secret of a set is reached, an unrevoked leaf reaches it
 pub unrevoked_reaches : (service : Service) (coalition : List ℕ) (q : ℕ) (name : SetName) → service.height ≤ 20
     → All (λ u. u < 2 ^ service.height) coalition → Contains (service_sets service q) name
-    → IsReached (flat_map (given service.height) coalition) (Key name) → HasUnrevoked service coalition q
+    → IsReached (flat_map (names_of_receiver service.height) coalition) (Key name) → HasUnrevoked service coalition q
 unrevoked_reaches service coalition q name low leaves (k, within, is) r =
     let (place, u, inside, at, own) = (reached_by_one service.height coalition (Key name)).0 r in
     let leaf = All-contains (λ w. w < 2 ^ service.height) coalition u leaves (place, inside, at) in
@@ -112,12 +112,12 @@ unrevoked_reaches service coalition q name low leaves (k, within, is) r =
 comes : (service : Service) (coalition : List ℕ) → service.height ≤ 20 → All (λ u. u < 2 ^ service.height) coalition
     → {item : Knowable} → Had service coalition item → Comes service coalition item
 comes service coalition low leaves (at_first {x = OfTree (Named name)} m) =
-    held_is_reached (flat_map (given service.height) coalition) name m
+    held_is_reached (flat_map (names_of_receiver service.height) coalition) name m
 comes service coalition low leaves (at_first {x = OfTree (Key name)} m) = absurd m
 comes service coalition low leaves (at_first {x = PeriodKey q} m) = absurd m
 comes service coalition low leaves (at_first {x = ControlWord t} m) = absurd m
 comes service coalition low leaves (by_rule r (generated {from = from} {to = to} f)) =
-    next_is_reached (flat_map (given service.height) coalition) from to (comes service coalition low leaves r) f
+    next_is_reached (flat_map (names_of_receiver service.height) coalition) from to (comes service coalition low leaves r) f
 comes service coalition low leaves (by_rule r (of_set {name = name} {q = q} due there)) =
     let some = unrevoked_reaches service coalition q name low leaves there (comes service coalition low leaves r) in
     (omega (arith, due), some)
@@ -126,19 +126,19 @@ comes service coalition low leaves (by_rule r (controlled {q = q} {t = t} is)) =
 
 -- a secret that has come in by the generator is known
 lifted : (service : Service) (coalition : List ℕ) {secret : Secret}
-    → Reach (IsHeld (flat_map (given service.height) coalition)) IsGeneratorStep secret
+    → Reach (IsHeld (flat_map (names_of_receiver service.height) coalition)) IsGeneratorStep secret
     → Had service coalition (OfTree secret)
 lifted service coalition (at_first m) = at_first m
 lifted service coalition (by_rule r f) = by_rule (lifted service coalition r) (generated f)
 
 -- a secret that is reached is known
 reached_is_known : (service : Service) (coalition : List ℕ) (secret : Secret)
-    → IsReached (flat_map (given service.height) coalition) secret → IsKnown service coalition (OfTree secret)
+    → IsReached (flat_map (names_of_receiver service.height) coalition) secret → IsKnown service coalition (OfTree secret)
 unfolding IsReached
 reached_is_known service coalition secret r =
     to_known service coalition (OfTree secret)
     (lifted service coalition
-    (from_derived (IsHeld (flat_map (given service.height) coalition)) IsGeneratorStep secret r))
+    (from_derived (IsHeld (flat_map (names_of_receiver service.height) coalition)) IsGeneratorStep secret r))
 
 -- the key of a period is known where a leaf isn't revoked in it
 key_is_known : (service : Service) (coalition : List ℕ) (q : ℕ) → service.height ≤ 20
@@ -164,7 +164,7 @@ word_is_known service coalition t low leaves free =
 -- just the secrets that are reached are known
 pub secrets_known : (service : Service) (coalition : List ℕ) (secret : Secret) → service.height ≤ 20
     → All (λ u. u < 2 ^ service.height) coalition → IsKnown service coalition (OfTree secret)
-    ↔ IsReached (flat_map (given service.height) coalition) secret
+    ↔ IsReached (flat_map (names_of_receiver service.height) coalition) secret
 secrets_known service coalition secret low leaves = (
   λ k. comes service coalition low leaves (from_known service coalition (OfTree secret) k),
   reached_is_known service coalition secret,
@@ -223,7 +223,7 @@ from_one : (service : Service) (coalition : List ℕ) (item : Knowable) (u : ℕ
 from_one service coalition (OfTree secret) u low leaves (k, within, is) known =
     let single = alone service.height coalition u leaves (k, within, is) in
     let reached = (secrets_known service (u ∷ []) secret low single).0 known in
-    let own = of_only (λ w. IsReached (given service.height w) secret) u
+    let own = of_only (λ w. IsReached (names_of_receiver service.height w) secret) u
     ((reached_by_one service.height (u ∷ []) secret).0 reached) in
     reached_is_known service coalition secret
     ((reached_by_one service.height coalition secret).1 (k, u, within, is, own))

@@ -4,7 +4,7 @@ use Rattle.std.specs.Prelude.{◌≡◌, ℕ, ◌≤◌, ◌/◌, min, List, Con
 use Rattle.std.specs.List.{flat_map}
 use Rattle.sd_base.specs.Types.{Height, Leaves, PeriodNumber, WordNumber}
 use Rattle.sd_tree_keys.specs.declared.set.SetName.{SetName}
-use Rattle.sd_tree_keys.specs.Names.{given}
+use Rattle.sd_tree_keys.specs.Names.{names_of_receiver}
 use Rattle.sd_book.specs.declared.command.Command.{Command}
 use Rattle.sd_book.specs.Commands.{last_period, revoked}
 use Rattle.sd_cover_tracing.specs.Cover.{cover_of}
@@ -49,7 +49,7 @@ pub data IsKnowledgeStep (service : Service) : Knowable → Knowable → Type 0 
 
 -- what the cards of a coalition hold together: the secrets of all names of its leaves [Naor, Naor, Lotspiech 2001, 3.2]
 abbrev pub IsPooled : Height → Leaves → Knowable → Type 0
-IsPooled d coalition (OfTree secret) = IsHeld (flat_map (given d) coalition) secret
+IsPooled d coalition (OfTree secret) = IsHeld (flat_map (names_of_receiver d) coalition) secret
 IsPooled d coalition (PeriodKey q) = ⊥
 IsPooled d coalition (ControlWord t) = ⊥
 

@@ -4,7 +4,7 @@ ghost use Rattle.std.specs.Prelude.{◌≡◌, ◌^◌, ◌<◌, ◌≤◌, ◌�
 ghost use Rattle.std.specs.List.{list_any, flat_map};
 ghost use Rattle.sd_base.specs.Types.{LeafNumber, Leaves, PeriodNumber, WordNumber};
 ghost use Rattle.sd_tree_keys.specs.Leaves.{is_member};
-ghost use Rattle.sd_tree_keys.specs.Names.{given};
+ghost use Rattle.sd_tree_keys.specs.Names.{names_of_receiver};
 ghost use Rattle.sd_book.specs.Commands.{entitled, last_period};
 ghost use Rattle.sd_cover_tracing.specs.Reach.{Secret, IsReached};
 ghost use Rattle.sd_law_coalition.specs.Know.{Service, Knowable, OfTree, PeriodKey, ControlWord, IsKnowledgeStep};
@@ -30,7 +30,7 @@ pub fn least_known()
 pub fn secrets_known()
     ensures { (service : Service) (coalition : Leaves) (secret : Secret) → service.height ≤ 20 →
         All (λ u. u < 2 ^ service.height) coalition →
-        IsKnown service coalition (OfTree secret) ↔ IsReached (flat_map (given service.height) coalition) secret }
+        IsKnown service coalition (OfTree secret) ↔ IsReached (flat_map (names_of_receiver service.height) coalition) secret }
 {}
 
 /// The key of a period is known exactly where some leaf of the coalition isn't revoked in it

@@ -6,7 +6,7 @@ use Rattle.sd_base.proofs.Bools.{tested}
 use Rattle.sd_site_cards.specs.CardFields.{CardFields}
 use Rattle.sd_spec.specs.Offered.{offered, out_from, break_from}
 use Rattle.sd_spec.specs.Counting.{is_marked, is_doubled, is_stray_at, counts, counting}
-use Rattle.sd_law_contained.specs.Alone.{alone, few_held_in}
+use Rattle.sd_law_contained.specs.Alone.{packets_alone, few_held_in}
 use Rattle.sd_law_contained.proofs.Written.{those_on}
 use Rattle.sd_law_contained.proofs.Leaving.{is_nothing, calm_both, out_alone}
 
@@ -35,6 +35,6 @@ none_counting card (packet ∷ packets) past =
 pub out_watched : (card : CardFields) (pid : ℕ) (packets : List (List ℕ)) →
     few_held_in card [] (counting card [] packets) ≡ true →
     those_on pid (out_from card [] (counting card [] packets))
-    ≡ out_from card [] (alone card pid [] (counting card [] packets))
+    ≡ out_from card [] (packets_alone card pid [] (counting card [] packets))
 out_watched card pid packets room =
     out_alone card pid (counting card [] packets) (none_counting card packets []) room

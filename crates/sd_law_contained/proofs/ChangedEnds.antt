@@ -16,11 +16,11 @@ use Rattle.sd_law_losses.specs.Kept.{after_cat, has_arrived, arrived, greatest_a
 use Rattle.sd_law_losses.specs.Confirmed.{confirmed}
 use Rattle.sd_law_losses.specs.Endings.{period_told, periods_arrived, is_untold, has_all, closed_told, next_number}
 use Rattle.sd_law_losses.specs.Endings.{ending_told}
-use Rattle.sd_law_losses.specs.Channel.{Channel, AreRunsOf}
+use Rattle.sd_law_losses.specs.Channel.{Channel, AreRunsOf, channel_card}
 use Rattle.sd_law_losses.specs.Many.{kept_of_arrival, has_cat}
 use Rattle.sd_law_losses.specs.Ends.{is_message, is_told, endings_from, all_joined, ending_of_all}
 use Rattle.sd_law_losses.proofs.Finishing.{runs_end}
-use Rattle.sd_law_contained.specs.Contained.{card_for}
+use Rattle.sd_law_losses.specs.Channel.{channel_card}
 use Rattle.sd_law_contained.specs.Changed.{all_changed, AreHarmless, Damaged, AreAllHarmless, runs_sent}
 use Rattle.sd_law_contained.specs.Changed.{run_changed, runs_changed, arriving_changed, masks_confirmed}
 use Rattle.sd_law_contained.proofs.Endings.{find_same}
@@ -212,9 +212,9 @@ ends_same channel damaged u are harmless =
 
 pub end_changed : (channel : Channel) (damaged : List Damaged) (u : ℕ) → AreRunsOf channel (runs_sent damaged) →
     AreAllHarmless damaged → u < 2 ^ channel.height →
-    ending_of (card_for channel u) (reverse (arriving_changed damaged)) ≡ ending_of_all u (runs_sent damaged)
+    ending_of (channel_card channel u) (reverse (arriving_changed damaged)) ≡ ending_of_all u (runs_sent damaged)
 end_changed channel damaged u are harmless leaf =
-    ap (λ (ps : List (List ℕ)). ending_of (card_for channel u) (reverse ps))
+    ap (λ (ps : List (List ℕ)). ending_of (channel_card channel u) (reverse ps))
     (sym (arrive_changed channel damaged are harmless))
     ∙ (runs_end channel (runs_changed damaged) u (runs_taken channel damaged are harmless) leaf
     ∙ ends_same channel damaged u are harmless)

@@ -18,9 +18,9 @@ use Rattle.sd_spec.specs.Messages.{period_at, message_at}
 use Rattle.sd_spec.specs.declared.kind.Kind.{Kind}
 use Rattle.sd_spec.specs.declared.kind.Kind.TheVariants.{Passed, Pmt, Scrambled}
 use Rattle.sd_spec.specs.Kinds.{kind_of}
-use Rattle.sd_spec.specs.Carried.{parity_of, place_after, pmt_carried, veiled, carried_as, carried}
+use Rattle.sd_spec.specs.Carried.{parity_of, place_after, pmt_carried, packet_under_word, carried_as, carried}
 use Rattle.sd_spec.specs.Sent.{Item, Cat, Entitles, Controls, Carries, tables_at, tables_before, message_before, added}
-use Rattle.sd_spec.specs.Sent.{sent_from, sent, closing_of, is_alike, packet_of, packets_from, broadcast}
+use Rattle.sd_spec.specs.Sent.{sent_from, sent, closing_of, is_alike, item_packet, packets_from, broadcast}
 use Rattle.sd_law_broadcast.specs.Packets.{IsWholePacket, AreWholePackets}
 use Rattle.sd_law_contained.specs.Changed.{changed_by, all_changed, IsHarmless, AreHarmless, mask_of}
 use Rattle.sd_law_contained.proofs.Masks.{changed_none, fourth_stays, laid_changed}
@@ -49,7 +49,7 @@ all_alike before (packet ∷ packets) (mask ∷ masks) are =
 carried_by : (kind : Kind) (site : SiteFields) (before after : List (List ℕ)) (packet mask : List ℕ) →
     AreAlike before after → length packet ≡ 188 → IsHarmless before packet mask → (kind ≡ Pmt → mask ≡ []) →
     carried_as kind site after (changed_by packet mask) ≡ changed_by (carried_as kind site before packet) mask
-unfolding veiled
+unfolding packet_under_word
 carried_by Passed site before after packet mask are long is table = refl
 carried_by Pmt site before after packet mask are long is table =
     let none = table refl in
@@ -249,14 +249,14 @@ count_stays masks item earlier =
     ∙ (kept_stays masks item earlier ∙ length-filter (is_alike item) earlier)
 
 packet_changed : (masks : List (List ℕ)) (site : SiteFields) (earlier : List Item) (item : Item) →
-    packet_of site (items_changed masks earlier) (item_changed masks item)
-    ≡ changed_by (packet_of site earlier item) (mask_of masks item)
+    item_packet site (items_changed masks earlier) (item_changed masks item)
+    ≡ changed_by (item_packet site earlier item) (mask_of masks item)
 packet_changed masks site earlier Cat =
-    rw (count_stays masks Cat earlier) (sym (changed_none (packet_of site earlier Cat)))
+    rw (count_stays masks Cat earlier) (sym (changed_none (item_packet site earlier Cat)))
 packet_changed masks site earlier (Entitles emm) =
-    rw (count_stays masks (Entitles emm) earlier) (sym (changed_none (packet_of site earlier (Entitles emm))))
+    rw (count_stays masks (Entitles emm) earlier) (sym (changed_none (item_packet site earlier (Entitles emm))))
 packet_changed masks site earlier (Controls part) =
-    rw (count_stays masks (Controls part) earlier) (sym (changed_none (packet_of site earlier (Controls part))))
+    rw (count_stays masks (Controls part) earlier) (sym (changed_none (item_packet site earlier (Controls part))))
 packet_changed masks site earlier (Carries j packet) = refl
 
 pub packets_changed : (masks : List (List ℕ)) (site : SiteFields) (earlier items : List Item) →
@@ -267,9 +267,9 @@ packets_changed masks site earlier [] = refl
 packets_changed masks site earlier (item ∷ items) =
     ap (λ (packet : List ℕ). packet ∷ packets_from site (items_changed masks earlier ++ item_changed masks item ∷ [])
     (items_changed masks items)) (packet_changed masks site earlier item)
-    ∙ (ap (λ (before : List Item). changed_by (packet_of site earlier item) (mask_of masks item)
+    ∙ (ap (λ (before : List Item). changed_by (item_packet site earlier item) (mask_of masks item)
     ∷ packets_from site before (items_changed masks items)) (sym (map-append (item_changed masks) earlier (item ∷ [])))
-    ∙ ap (λ (packets : List (List ℕ)). changed_by (packet_of site earlier item) (mask_of masks item) ∷ packets)
+    ∙ ap (λ (packets : List (List ℕ)). changed_by (item_packet site earlier item) (mask_of masks item) ∷ packets)
     (packets_changed masks site (earlier ++ item ∷ []) items))
 
 pub broadcast_changed : (plan : Plan) (clear masks : List (List ℕ)) → AreWholePackets clear →

@@ -20,10 +20,11 @@ use Rattle.sd_law_losses.specs.Kept.{greatest_at_most, least_above, entitles, is
 use Rattle.sd_law_losses.specs.Confirmed.{packet_at, packets_at, upto, kept_between, is_open, tracked_position}
 use Rattle.sd_law_losses.specs.Confirmed.{is_traced}
 use Rattle.sd_law_losses.specs.Confirmed.{is_written_between, between, is_confirmed_at, confirmed}
-use Rattle.sd_law_losses.specs.Channel.{Channel, AreRunsOf}
+use Rattle.sd_law_losses.specs.Channel.{Channel, AreRunsOf, channel_card}
 use Rattle.sd_law_losses.specs.Many.{flags_after, kept_of_arrival, has_cat, confirmed_from}
 use Rattle.sd_law_losses.proofs.Finishing.{runs_break, runs_out}
-use Rattle.sd_law_contained.specs.Contained.{card_for, IsContained}
+use Rattle.sd_law_contained.specs.Contained.{IsContained}
+use Rattle.sd_law_losses.specs.Channel.{channel_card}
 use Rattle.sd_law_contained.proofs.Written.{those_on}
 use Rattle.sd_law_contained.proofs.Contained.{out_contained}
 use Rattle.sd_law_contained.specs.Changed.{changed_by, all_changed, AreHarmless, Damaged, AreAllHarmless, runs_sent}
@@ -332,24 +333,24 @@ confirmed_all channel tuned u (one ∷ more) are harmless =
 -- what is written
 pub out_changed : (channel : Channel) (damaged : List Damaged) (u : ℕ) → AreRunsOf channel (runs_sent damaged) →
     AreAllHarmless damaged → u < 2 ^ channel.height →
-    out_from (card_for channel u) [] (arriving_changed damaged) ≡ confirmed_changed false u damaged
+    out_from (channel_card channel u) [] (arriving_changed damaged) ≡ confirmed_changed false u damaged
 out_changed channel damaged u are harmless leaf =
-    ap (out_from (card_for channel u) []) (sym (arrive_changed channel damaged are harmless))
+    ap (out_from (channel_card channel u) []) (sym (arrive_changed channel damaged are harmless))
     ∙ (runs_out channel (runs_changed damaged) u (runs_taken channel damaged are harmless) leaf
     ∙ confirmed_all channel false u damaged are harmless)
 
 pub none_changed : (channel : Channel) (damaged : List Damaged) (u : ℕ) → AreRunsOf channel (runs_sent damaged) →
     AreAllHarmless damaged → u < 2 ^ channel.height →
-    break_from (card_for channel u) [] (arriving_changed damaged) ≡ None
+    break_from (channel_card channel u) [] (arriving_changed damaged) ≡ None
 none_changed channel damaged u are harmless leaf =
-    ap (break_from (card_for channel u) []) (sym (arrive_changed channel damaged are harmless))
+    ap (break_from (channel_card channel u) []) (sym (arrive_changed channel damaged are harmless))
     ∙ runs_break channel (runs_changed damaged) u (runs_taken channel damaged are harmless) leaf
 
 -- and of a stream that is damaged in other ways too
 pub changed_contained : (channel : Channel) (damaged : List Damaged) (u pid : ℕ) (packets : List (List ℕ)) →
     AreRunsOf channel (runs_sent damaged) → AreAllHarmless damaged →
     IsContained channel (runs_changed damaged) u pid packets →
-    those_on pid (out_from (card_for channel u) [] (counting (card_for channel u) [] packets))
+    those_on pid (out_from (channel_card channel u) [] (counting (channel_card channel u) [] packets))
     ≡ confirmed_changed false u damaged
 changed_contained channel damaged u pid packets are harmless is =
     out_contained channel (runs_changed damaged) u pid packets is ∙ confirmed_all channel false u damaged are harmless

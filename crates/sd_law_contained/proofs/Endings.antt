@@ -14,12 +14,12 @@ use Rattle.sd_spec.specs.declared.ending.Ending.{Ending}
 use Rattle.sd_spec.specs.declared.ending.Ending.TheVariants.{Opened, Revoked, Unheard, NoCat, Unclosed, Gaps}
 use Rattle.sd_spec.specs.Tuned.{tuning_of}
 use Rattle.sd_spec.specs.Heard.{Heard, hears}
-use Rattle.sd_spec.specs.Stretches.{newest, is_closed}
+use Rattle.sd_spec.specs.Stretches.{newest_message, is_closed}
 use Rattle.sd_spec.specs.Runs.{is_turn}
 use Rattle.sd_spec.specs.Offered.{heard}
 use Rattle.sd_spec.specs.Ending.{periods_told, is_unkeyed, are_all, is_all_seen, ending_with, run_ending}
-use Rattle.sd_spec.specs.Ending.{joined, turns_at, run_wrote, ended_before, ending_of}
-use Rattle.sd_law_contained.specs.Alone.{speaks, alone, without_gaps}
+use Rattle.sd_spec.specs.Ending.{endings_joined, turns_at, run_wrote, ended_before, ending_of}
+use Rattle.sd_law_contained.specs.Alone.{speaks, packets_alone, without_gaps}
 use Rattle.sd_law_contained.proofs.Thinned.{thinned, same_by, messages_thinned, message_thinned, closed_thinned}
 use Rattle.sd_law_contained.proofs.Thinned.{seen_thinned, key_thinned}
 use Rattle.sd_law_contained.proofs.Written.{neither}
@@ -56,7 +56,7 @@ abbrev unheard_in : CardFields → List Heard → Option ℕ
 unheard_in card past = find (is_unkeyed card past) (periods_told past)
 
 abbrev next_number : List Heard → ℕ
-next_number past = option_map_or (λ (message : Message). message.number + 1) (newest past).message 0
+next_number past = option_map_or (λ (message : Message). message.number + 1) (newest_message past).message 0
 
 abbrev run_end : CardFields → List Heard → Ending
 run_end card past =
@@ -74,7 +74,7 @@ run_end_is : (card : CardFields) (past : List Heard) (written : ℕ) →
 unfolding run_ending
 run_end_is card past written =
     run_end_by (is_closed past) (revoked_in card past) (unheard_in card past)
-    (option_map_or (λ (message : Message). message.clear) (newest past).message 0 - written) (next_number past)
+    (option_map_or (λ (message : Message). message.clear) (newest_message past).message 0 - written) (next_number past)
 
 periods_thinned : (pid : ℕ) (past : List Heard) → periods_told (thinned pid past) ≡ periods_told past
 unfolding periods_told
@@ -124,8 +124,8 @@ run_end_same pid card a b m n same =
 
 -- endings together
 joined_without : (earlier later : Ending) →
-    without_gaps (joined earlier later) ≡ joined (without_gaps earlier) (without_gaps later)
-unfolding without_gaps joined
+    without_gaps (endings_joined earlier later) ≡ endings_joined (without_gaps earlier) (without_gaps later)
+unfolding without_gaps endings_joined
 joined_without NoCat NoCat = refl
 joined_without NoCat (Unclosed m) = refl
 joined_without NoCat (Revoked m) = refl
@@ -164,11 +164,11 @@ joined_without Opened (Gaps m) = refl
 joined_without Opened Opened = refl
 
 joined_same : (a b c d : Ending) → without_gaps a ≡ without_gaps c → without_gaps b ≡ without_gaps d →
-    without_gaps (joined a b) ≡ without_gaps (joined c d)
+    without_gaps (endings_joined a b) ≡ without_gaps (endings_joined c d)
 joined_same a b c d first second =
     joined_without a b
-    ∙ (ap (λ (e : Ending). joined e (without_gaps b)) first
-    ∙ (ap (joined (without_gaps c)) second ∙ sym (joined_without c d)))
+    ∙ (ap (λ (e : Ending). endings_joined e (without_gaps b)) first
+    ∙ (ap (endings_joined (without_gaps c)) second ∙ sym (joined_without c d)))
 
 -- a packet that both receivers are offered begins a run for both or for none
 both_turn_by : (card : CardFields) (pid n m : ℕ) (tuning : Option Tuning) (packet : List ℕ) (past few : List Heard) →
@@ -220,8 +220,8 @@ both_end : (card : CardFields) (pid : ℕ) (packet : List ℕ) (past few : List 
 unfolding ended_before
 both_end card pid packet past few agrees ends =
     if_turned (turns_at card past packet) (turns_at card few packet)
-    (joined (ended_before card few) (run_ending card (heard card few) (run_wrote card few))) (ended_before card few)
-    (joined (ended_before card past) (run_ending card (heard card past) (run_wrote card past))) (ended_before card past)
+    (endings_joined (ended_before card few) (run_ending card (heard card few) (run_wrote card few))) (ended_before card few)
+    (endings_joined (ended_before card past) (run_ending card (heard card past) (run_wrote card past))) (ended_before card past)
     (both_turn card pid packet past few agrees)
     (joined_same (ended_before card few) (run_ending card (heard card few) (run_wrote card few))
     (ended_before card past) (run_ending card (heard card past) (run_wrote card past)) ends
@@ -239,8 +239,8 @@ end_same : (card : CardFields) (pid : ℕ) (past few : List (List ℕ)) → Agre
 unfolding ending_of
 end_same card pid past few agrees ends =
     if_turned (is_none (tuning_of card.ca past)) (is_none (tuning_of card.ca few)) NoCat
-    (joined (ended_before card few) (run_ending card (heard card few) (run_wrote card few))) NoCat
-    (joined (ended_before card past) (run_ending card (heard card past) (run_wrote card past)))
+    (endings_joined (ended_before card few) (run_ending card (heard card few) (run_wrote card few))) NoCat
+    (endings_joined (ended_before card past) (run_ending card (heard card past) (run_wrote card past)))
     (ap {B = Bool} (λ (tuning : Option Tuning). is_none tuning) agrees.tuned) refl
     (joined_same (ended_before card few) (run_ending card (heard card few) (run_wrote card few))
     (ended_before card past) (run_ending card (heard card past) (run_wrote card past)) ends
@@ -257,9 +257,9 @@ onto_is (packet ∷ packets) past = reversed packet packets past ∙ onto_is pac
 
 all_end : (card : CardFields) (pid : ℕ) (packets past few : List (List ℕ)) → Agrees card pid past few →
     EndsSo card past few →
-    without_gaps (ending_of card (onto (alone card pid past packets) few))
+    without_gaps (ending_of card (onto (packets_alone card pid past packets) few))
     ≡ without_gaps (ending_of card (onto packets past))
-unfolding alone
+unfolding packets_alone
 all_end card pid [] past few agrees ends = end_same card pid past few agrees ends
 all_end card pid (packet ∷ packets) past few agrees ends =
     tested ((pid_of packet == pid) || speaks card (tuning_of card.ca past) packet)
@@ -275,9 +275,9 @@ turned_onto : (packets : List (List ℕ)) → reverse packets ≡ onto packets [
 turned_onto packets = sym (append-nil (reverse packets)) ∙ onto_is packets []
 
 pub end_alone : (card : CardFields) (pid : ℕ) (packets : List (List ℕ)) →
-    without_gaps (ending_of card (reverse (alone card pid [] packets)))
+    without_gaps (ending_of card (reverse (packets_alone card pid [] packets)))
     ≡ without_gaps (ending_of card (reverse packets))
 end_alone card pid packets =
-    ap (λ (past : List (List ℕ)). without_gaps (ending_of card past)) (turned_onto (alone card pid [] packets))
+    ap (λ (past : List (List ℕ)). without_gaps (ending_of card past)) (turned_onto (packets_alone card pid [] packets))
     ∙ (all_end card pid packets [] [] (begin_agrees card pid) refl
     ∙ ap (λ (past : List (List ℕ)). without_gaps (ending_of card past)) (sym (turned_onto packets)))

@@ -15,9 +15,9 @@ use Rattle.sd_psi.specs.declared.our_cat.Tuning.{Tuning}
 use Rattle.sd_spec.specs.Tuned.{tuned_by, tuning_of}
 use Rattle.sd_spec.specs.Heard.{Heard, Dropped, Entitles, Controls, BadEmm, BadEcm, Other, heard_emm, heard_ecm, hears}
 use Rattle.sd_spec.specs.Stretches.{is_closed}
-use Rattle.sd_spec.specs.Runs.{run_name_heard, name_in, are_two, is_turn, of_run}
+use Rattle.sd_spec.specs.Runs.{run_name_heard, run_name_in, are_two, is_turn, of_run}
 use Rattle.sd_spec.specs.Offered.{heard_more, heard_with, heard}
-use Rattle.sd_law_contained.specs.Alone.{speaks, alone}
+use Rattle.sd_law_contained.specs.Alone.{speaks, packets_alone}
 use Rattle.sd_law_contained.proofs.Thinned.{thin_with, thinned, same_by, closed_thinned, name_thinned, AreOn}
 use Rattle.sd_law_contained.proofs.Offers.{numbered}
 
@@ -137,49 +137,49 @@ on_heard pid h n tuning packet past are taken =
     (emm_read h packet) (ecm_read packet) past are taken
 
 -- the run that is current with a thing
-pub turn_same : (pid n m : ℕ) (past alone : List Heard) (thing : Heard) → thinned pid alone ≡ thinned pid past →
-    is_turn alone (numbered m thing) ≡ is_turn past (numbered n thing)
+pub turn_same : (pid n m : ℕ) (past packets_alone : List Heard) (thing : Heard) → thinned pid packets_alone ≡ thinned pid past →
+    is_turn packets_alone (numbered m thing) ≡ is_turn past (numbered n thing)
 unfolding is_turn
-turn_same pid n m past alone thing same =
+turn_same pid n m past packets_alone thing same =
     ap (λ (name : Option (Option ℕ)). are_two name (run_name_heard (numbered m thing)))
-    (same_by name_in pid alone past (name_thinned pid) same)
-    ∙ ap (are_two (name_in past)) (name_numbered m thing ∙ sym (name_numbered n thing))
+    (same_by run_name_in pid packets_alone past (name_thinned pid) same)
+    ∙ ap (are_two (run_name_in past)) (name_numbered m thing ∙ sym (name_numbered n thing))
 
-run_by : (pid : ℕ) (turn : Bool) (past alone : List Heard) → thinned pid alone ≡ thinned pid past →
-    thinned pid (if turn then [] else alone) ≡ thinned pid (if turn then [] else past)
-run_by pid true past alone same = refl
-run_by pid false past alone same = same
+run_by : (pid : ℕ) (turn : Bool) (past packets_alone : List Heard) → thinned pid packets_alone ≡ thinned pid past →
+    thinned pid (if turn then [] else packets_alone) ≡ thinned pid (if turn then [] else past)
+run_by pid true past packets_alone same = refl
+run_by pid false past packets_alone same = same
 
-pub run_same : (pid n m : ℕ) (past alone : List Heard) (thing : Heard) → thinned pid alone ≡ thinned pid past →
-    thinned pid (of_run alone (numbered m thing)) ≡ thinned pid (of_run past (numbered n thing))
+pub run_same : (pid n m : ℕ) (past packets_alone : List Heard) (thing : Heard) → thinned pid packets_alone ≡ thinned pid past →
+    thinned pid (of_run packets_alone (numbered m thing)) ≡ thinned pid (of_run past (numbered n thing))
 unfolding of_run
-run_same pid n m past alone thing same =
-    ap (λ (turn : Bool). thinned pid (if turn then [] else alone)) (turn_same pid n m past alone thing same)
-    ∙ run_by pid (is_turn past (numbered n thing)) past alone same
+run_same pid n m past packets_alone thing same =
+    ap (λ (turn : Bool). thinned pid (if turn then [] else packets_alone)) (turn_same pid n m past packets_alone thing same)
+    ∙ run_by pid (is_turn past (numbered n thing)) past packets_alone same
 
-pub closed_same : (pid n m : ℕ) (past alone : List Heard) (thing : Heard) → thinned pid alone ≡ thinned pid past →
-    is_closed (of_run alone (numbered m thing)) ≡ is_closed (of_run past (numbered n thing))
-closed_same pid n m past alone thing same =
-    same_by is_closed pid (of_run alone (numbered m thing)) (of_run past (numbered n thing)) (closed_thinned pid)
-    (run_same pid n m past alone thing same)
+pub closed_same : (pid n m : ℕ) (past packets_alone : List Heard) (thing : Heard) → thinned pid packets_alone ≡ thinned pid past →
+    is_closed (of_run packets_alone (numbered m thing)) ≡ is_closed (of_run past (numbered n thing))
+closed_same pid n m past packets_alone thing same =
+    same_by is_closed pid (of_run packets_alone (numbered m thing)) (of_run past (numbered n thing)) (closed_thinned pid)
+    (run_same pid n m past packets_alone thing same)
 
-more_by : (pid n m : ℕ) (closed : Bool) (past alone run mine : List Heard) (thing : Heard) →
-    thinned pid alone ≡ thinned pid past → thinned pid mine ≡ thinned pid run →
-    thinned pid (if closed then alone else numbered m thing ∷ mine)
+more_by : (pid n m : ℕ) (closed : Bool) (past packets_alone run mine : List Heard) (thing : Heard) →
+    thinned pid packets_alone ≡ thinned pid past → thinned pid mine ≡ thinned pid run →
+    thinned pid (if closed then packets_alone else numbered m thing ∷ mine)
     ≡ thinned pid (if closed then past else numbered n thing ∷ run)
-more_by pid n m true past alone run mine thing same runs = same
-more_by pid n m false past alone run mine thing same runs =
+more_by pid n m true past packets_alone run mine thing same runs = same
+more_by pid n m false past packets_alone run mine thing same runs =
     thin_numbered pid m thing (thinned pid mine)
     ∙ (ap (thin_with pid thing) runs ∙ sym (thin_numbered pid n thing (thinned pid run)))
 
 -- what is heard with one thing more
-more_same : (pid n m : ℕ) (past alone : List Heard) (thing : Heard) → thinned pid alone ≡ thinned pid past →
-    thinned pid (heard_more alone (numbered m thing)) ≡ thinned pid (heard_more past (numbered n thing))
-more_same pid n m past alone thing same =
-    ap (λ (closed : Bool). thinned pid (if closed then alone
-    else numbered m thing ∷ of_run alone (numbered m thing))) (closed_same pid n m past alone thing same)
-    ∙ more_by pid n m (is_closed (of_run past (numbered n thing))) past alone (of_run past (numbered n thing))
-    (of_run alone (numbered m thing)) thing same (run_same pid n m past alone thing same)
+more_same : (pid n m : ℕ) (past packets_alone : List Heard) (thing : Heard) → thinned pid packets_alone ≡ thinned pid past →
+    thinned pid (heard_more packets_alone (numbered m thing)) ≡ thinned pid (heard_more past (numbered n thing))
+more_same pid n m past packets_alone thing same =
+    ap (λ (closed : Bool). thinned pid (if closed then packets_alone
+    else numbered m thing ∷ of_run packets_alone (numbered m thing))) (closed_same pid n m past packets_alone thing same)
+    ∙ more_by pid n m (is_closed (of_run past (numbered n thing))) past packets_alone (of_run past (numbered n thing))
+    (of_run packets_alone (numbered m thing)) thing same (run_same pid n m past packets_alone thing same)
 
 -- no turn comes with a thing that belongs to no run
 two_none : (name : Option (Option ℕ)) → are_two name None ≡ false
@@ -190,7 +190,7 @@ pub no_turn : (n : ℕ) (past : List Heard) (thing : Heard) → run_name_heard t
     is_turn past (numbered n thing) ≡ false
 unfolding is_turn
 no_turn n past thing nameless =
-    ap (are_two (name_in past)) (name_numbered n thing ∙ nameless) ∙ two_none (name_in past)
+    ap (are_two (run_name_in past)) (name_numbered n thing ∙ nameless) ∙ two_none (run_name_in past)
 
 stay_by : (pid n : ℕ) (closed : Bool) (past : List Heard) (thing : Heard) → IsQuiet pid thing →
     thinned pid (if closed then past else numbered n thing ∷ past) ≡ thinned pid past

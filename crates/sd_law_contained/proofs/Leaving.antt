@@ -13,11 +13,11 @@ use Rattle.sd_psi.specs.OurCat.{cat_tuning}
 use Rattle.sd_psi.specs.declared.our_cat.Tuning.{Tuning}
 use Rattle.sd_spec.specs.Tuned.{tuned_by, tuning_of}
 use Rattle.sd_spec.specs.Heard.{Heard, Dropped, Entitles, Controls, BadEmm, BadEcm, Other, hears}
-use Rattle.sd_spec.specs.Stretches.{newest, is_closed}
+use Rattle.sd_spec.specs.Stretches.{newest_message, is_closed}
 use Rattle.sd_spec.specs.Runs.{run_name_heard, is_turn, of_run}
 use Rattle.sd_spec.specs.Offered.{heard_with, heard, Offering, no_offering, heard_offering}
 use Rattle.sd_spec.specs.Offered.{tuned_offering, offered, out_from, break_from}
-use Rattle.sd_law_contained.specs.Alone.{speaks, alone, few_held, few_held_in}
+use Rattle.sd_law_contained.specs.Alone.{speaks, packets_alone, few_held, few_held_in}
 use Rattle.sd_law_contained.proofs.Thinned.{thinned, AreOn}
 use Rattle.sd_law_contained.proofs.Written.{those_on, neither}
 use Rattle.sd_law_contained.proofs.Offers.{Follows, numbered, thing_follows}
@@ -102,7 +102,7 @@ left_writes card pid packet past off silent =
 
 -- a packet that both receivers are offered
 run_room : (turn : Bool) (past : List Heard) → few_held past ≡ true → few_held (if turn then [] else past) ≡ true
-unfolding newest
+unfolding newest_message
 run_room true past room = refl
 run_room false past room = room
 
@@ -162,40 +162,40 @@ written_one : (pid : ℕ) (whole : Offering) (rest mine : List (List ℕ)) → w
 written_one pid whole rest mine calm none more = rw (calm, none) more
 
 abbrev pub WritesAlone : CardFields → ℕ → List (List ℕ) → List (List ℕ) → List (List ℕ) → Type 0
-WritesAlone card pid past few packets = (break_from card few (alone card pid past packets) ≡ None)
-    × (those_on pid (out_from card past packets) ≡ out_from card few (alone card pid past packets))
+WritesAlone card pid past few packets = (break_from card few (packets_alone card pid past packets) ≡ None)
+    × (those_on pid (out_from card past packets) ≡ out_from card few (packets_alone card pid past packets))
 
 taken_writes : (card : CardFields) (pid : ℕ) (packet : List ℕ) (packets past few : List (List ℕ)) →
     Agrees card pid past few → (offered card past packet).fault ≡ None → few_held (heard card past) ≡ true →
     WritesAlone card pid (packet ∷ past) (packet ∷ few) packets →
-    (break_from card few (packet ∷ alone card pid (packet ∷ past) packets) ≡ None)
+    (break_from card few (packet ∷ packets_alone card pid (packet ∷ past) packets) ≡ None)
     × (those_on pid (out_from card past (packet ∷ packets))
-    ≡ out_from card few (packet ∷ alone card pid (packet ∷ past) packets))
+    ≡ out_from card few (packet ∷ packets_alone card pid (packet ∷ past) packets))
 unfolding break_from out_from
 taken_writes card pid packet packets past few agrees calm room rest =
     let one = both_follow card pid packet past few agrees room calm in (
       calm_both (offered card few packet).fault
-          (break_from card (packet ∷ few) (alone card pid (packet ∷ past) packets)) one.0 rest.0,
+          (break_from card (packet ∷ few) (packets_alone card pid (packet ∷ past) packets)) one.0 rest.0,
       written_both pid (offered card past packet) (offered card few packet) (out_from card (packet ∷ past) packets)
-          (out_from card (packet ∷ few) (alone card pid (packet ∷ past) packets)) calm one.0 one.1 rest.1,
+          (out_from card (packet ∷ few) (packets_alone card pid (packet ∷ past) packets)) calm one.0 one.1 rest.1,
     )
 
 left_out : (card : CardFields) (pid : ℕ) (packet : List ℕ) (packets past few : List (List ℕ)) →
     (offered card past packet).fault ≡ None → (offered card past packet).wrote ≡ [] →
     WritesAlone card pid (packet ∷ past) few packets →
-    (break_from card few (alone card pid (packet ∷ past) packets) ≡ None)
-    × (those_on pid (out_from card past (packet ∷ packets)) ≡ out_from card few (alone card pid (packet ∷ past)
+    (break_from card few (packets_alone card pid (packet ∷ past) packets) ≡ None)
+    × (those_on pid (out_from card past (packet ∷ packets)) ≡ out_from card few (packets_alone card pid (packet ∷ past)
     packets))
 unfolding out_from
 left_out card pid packet packets past few calm none rest = (
   rest.0,
   written_one pid (offered card past packet) (out_from card (packet ∷ past) packets)
-      (out_from card few (alone card pid (packet ∷ past) packets)) calm none rest.1,
+      (out_from card few (packets_alone card pid (packet ∷ past) packets)) calm none rest.1,
 )
 
 pub writes_alone : (card : CardFields) (pid : ℕ) (packets past few : List (List ℕ)) → Agrees card pid past few →
     break_from card past packets ≡ None → few_held_in card past packets ≡ true → WritesAlone card pid past few packets
-unfolding break_from out_from alone few_held_in
+unfolding break_from out_from packets_alone few_held_in
 writes_alone card pid [] past few agrees calm room = (refl, refl)
 writes_alone card pid (packet ∷ packets) past few agrees calm room =
     let calms = calm_parts (offered card past packet).fault (break_from card (packet ∷ past) packets) calm in
@@ -217,10 +217,10 @@ unfolding heard
 begin_agrees card pid = record { tuned = refl; same = refl; on = tt }
 
 pub none_alone : (card : CardFields) (pid : ℕ) (packets : List (List ℕ)) → break_from card [] packets ≡ None →
-    few_held_in card [] packets ≡ true → break_from card [] (alone card pid [] packets) ≡ None
+    few_held_in card [] packets ≡ true → break_from card [] (packets_alone card pid [] packets) ≡ None
 none_alone card pid packets calm room = (writes_alone card pid packets [] [] (begin_agrees card pid) calm room).0
 
 pub out_alone : (card : CardFields) (pid : ℕ) (packets : List (List ℕ)) → break_from card [] packets ≡ None →
     few_held_in card [] packets ≡ true →
-    those_on pid (out_from card [] packets) ≡ out_from card [] (alone card pid [] packets)
+    those_on pid (out_from card [] packets) ≡ out_from card [] (packets_alone card pid [] packets)
 out_alone card pid packets calm room = (writes_alone card pid packets [] [] (begin_agrees card pid) calm room).1

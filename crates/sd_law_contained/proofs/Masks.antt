@@ -8,7 +8,7 @@ use Rattle.sd_base.specs.Bits.{field}
 use Rattle.sd_packet.specs.Header.{pid_of, scrambling_of, counter_of, payload_start_of}
 use Rattle.sd_packet.proofs.Packets.{start_within}
 use Rattle.sd_cipher.specs.Keystream.{keystream, xored}
-use Rattle.sd_cipher.specs.Scrambling.{laid_under, stream_number}
+use Rattle.sd_cipher.specs.Scrambling.{packet_under_keystream, stream_number}
 use Rattle.sd_law_contained.specs.Changed.{changed_by}
 
 -- an empty mask changes nothing
@@ -111,9 +111,9 @@ laid_fourth (suc (suc (suc (suc start)))) fourth (a ∷ (b ∷ (c ∷ (d ∷ pac
 pub laid_changed : (packet mask word : List ℕ) (position control : ℕ) → length packet ≡ 188 →
     slice_index mask 3 ≡ 0 → pid_of (changed_by packet mask) ≡ pid_of packet →
     payload_start_of (changed_by packet mask) ≡ payload_start_of packet →
-    laid_under (changed_by packet mask) word position control
-    ≡ changed_by (laid_under packet word position control) mask
-unfolding laid_under
+    packet_under_keystream (changed_by packet mask) word position control
+    ≡ changed_by (packet_under_keystream packet word position control) mask
+unfolding packet_under_keystream
 laid_changed packet mask word position control long none pid start =
     rw (start, pid, fourth_stays packet mask none)
     (laid_fourth (payload_start_of packet) (control * 64 + slice_index packet 3 % 64) packet mask

@@ -5,7 +5,7 @@ use Rattle.std.specs.Int.Bits.{xor_zero_r}
 use Rattle.sd_base.specs.Bits.{field}
 use Rattle.sd_packet.specs.Header.{pid_of, payload_start_of}
 use Rattle.sd_cipher.proofs.Scramblings.{pid_by_bytes}
-use Rattle.sd_law_contained.specs.Changed.{changed_by, IsTable, IsHarmless}
+use Rattle.sd_law_contained.specs.Changed.{changed_by, IsTablePacket, IsHarmless}
 use Rattle.sd_law_contained.proofs.Masks.{changed_none}
 
 -- a byte whose mask is 0 stays
@@ -23,7 +23,7 @@ unfolding payload_start_of field
 start_by_bytes x y e f = rw (e, f) refl
 
 pub behind_five : (before : List (List ℕ)) (packet mask : List ℕ) → ((i : ℕ) → slice_index mask i < 256) →
-    ((i : ℕ) → i < 5 → slice_index mask i ≡ 0) → (IsTable before packet → ⊥) → IsHarmless before packet mask
+    ((i : ℕ) → i < 5 → slice_index mask i ≡ 0) → (IsTablePacket before packet → ⊥) → IsHarmless before packet mask
 behind_five before packet mask bytes none other =
     let stays : (i : ℕ) → i < 5 → slice_index (changed_by packet mask) i ≡ slice_index packet i =
     λ i low. byte_stays packet mask i (none i low) in

@@ -9,9 +9,9 @@ use Rattle.sd_base.proofs.Bools.{and_false}
 use Rattle.sd_packet.specs.Header.{pid_of, has_payload, payload_start_of, controlled}
 use Rattle.sd_packet.specs.Positions.{is_positional, is_placed, moved, moved_by}
 use Rattle.sd_packet.proofs.Packets.{start_within}
-use Rattle.sd_cipher.specs.Scrambling.{descrambled, laid_under, payload_under}
+use Rattle.sd_cipher.specs.Scrambling.{descrambled, packet_under_keystream, payload_under}
 use Rattle.sd_cipher.proofs.Scramblings.{pid_by_bytes}
-use Rattle.sd_psi.specs.Rewriting.{restored, restore_fault}
+use Rattle.sd_psi.specs.Rewriting.{pmt_without_descriptor, restore_fault}
 use Rattle.sd_spec.specs.Confirmed.{Segment, unmarked}
 
 -- a packet without a fourth byte has no payload
@@ -63,7 +63,7 @@ controlled_pid (a ∷ (b ∷ (c ∷ (d ∷ packet)))) control long = (
 -- a descrambled packet
 pub descrambled_pid : (packet word : List ℕ) (position : ℕ) → is_placed packet ≡ true →
     pid_of (descrambled packet word position) ≡ pid_of packet
-unfolding laid_under
+unfolding packet_under_keystream
 descrambled_pid packet word position placed =
     let long = placed_long packet placed in
     let set = controlled_pid packet 0 long in
@@ -71,14 +71,14 @@ descrambled_pid packet word position placed =
     (start_within packet).0 set.1 ∙ set.0
 
 -- a packet in the clear, as it is written
-restored_pid : (packet : List ℕ) → is_placed packet ≡ true → pid_of (restored packet) ≡ pid_of packet
-unfolding restored
+restored_pid : (packet : List ℕ) → is_placed packet ≡ true → pid_of (pmt_without_descriptor packet) ≡ pid_of packet
+unfolding pmt_without_descriptor
 restored_pid packet placed =
     behind_header packet _ (payload_start_of packet + 1) (omega (arith, (start_within packet).0))
     (placed_long packet placed)
 
-unmarked_by : (packet : List ℕ) (placed marked : Bool) → (placed ≡ true → pid_of (restored packet) ≡ pid_of packet) →
-    pid_of (if placed && marked then restored packet else packet) ≡ pid_of packet
+unmarked_by : (packet : List ℕ) (placed marked : Bool) → (placed ≡ true → pid_of (pmt_without_descriptor packet) ≡ pid_of packet) →
+    pid_of (if placed && marked then pmt_without_descriptor packet else packet) ≡ pid_of packet
 unmarked_by packet true true kept = kept refl
 unmarked_by packet true false kept = refl
 unmarked_by packet false marked kept = refl

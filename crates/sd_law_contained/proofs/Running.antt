@@ -16,7 +16,7 @@ use Rattle.sd_spec.specs.declared.kind.Kind.{Kind}
 use Rattle.sd_spec.specs.declared.kind.Kind.TheVariants.{Passed, Pmt, Scrambled}
 use Rattle.sd_spec.specs.Kinds.{kind_of, has_moved, moved_pids}
 use Rattle.sd_spec.specs.Refused.{fault_where, is_reserved_pid, is_full_own, is_one_too_many}
-use Rattle.sd_spec.specs.Refused.{is_too_long, unsent_at, unsent_from}
+use Rattle.sd_spec.specs.Refused.{is_used_up, unsent_at, unsent_from}
 use Rattle.sd_spec.specs.Sent.{broadcast}
 use Rattle.sd_law_broadcast.specs.Packets.{IsWholePacket, AreWholePackets}
 use Rattle.sd_law_losses.specs.Chosen.{chosen}
@@ -53,7 +53,7 @@ unsent_by site marked pid full many n =
     (fault_where (is_reserved_pid site pid) (PidTaken n pid)
     (fault_where full (PmtForm n Form.NoRoom)
     (fault_where many (TooManyPids n)
-    (fault_where (is_too_long site n) (TooLong n)
+    (fault_where (is_used_up site n) (TooLong n)
     None))))
 
 unsent_same : (site : SiteFields) (marked other : Bool) (pid q : ℕ) (full own many more : Bool) (n k : ℕ) →

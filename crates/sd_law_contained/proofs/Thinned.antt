@@ -11,13 +11,13 @@ use Rattle.sd_message.specs.declared.emm.Emm.{Emm}
 use Rattle.sd_message.specs.EcmParts.{Message}
 use Rattle.sd_message.specs.declared.ecm_part.EcmPart.{EcmPart}
 use Rattle.sd_spec.specs.Heard.{Heard, Dropped, Entitles, Controls, BadEmm, BadEcm, Other}
-use Rattle.sd_spec.specs.Stretches.{Stretch, exceeds, counted, run_of, message_told, run_to, completed}
-use Rattle.sd_spec.specs.Stretches.{stretched}
-use Rattle.sd_spec.specs.Stretches.{newest, completes, messages, with_message, is_closed, period_heard}
+use Rattle.sd_spec.specs.Stretches.{Stretch, exceeds, counted_parts, run_of_parts, message_told, message_parts_to, completed}
+use Rattle.sd_spec.specs.Stretches.{stretch_after}
+use Rattle.sd_spec.specs.Stretches.{newest_message, completes, messages, with_message, is_closed, period_heard}
 use Rattle.sd_spec.specs.Stretches.{current}
-use Rattle.sd_spec.specs.Stretches.{seen}
+use Rattle.sd_spec.specs.Stretches.{sections_seen}
 use Rattle.sd_spec.specs.Stretches.{others}
-use Rattle.sd_spec.specs.Runs.{name_in}
+use Rattle.sd_spec.specs.Runs.{run_name_in}
 use Rattle.sd_spec.specs.Keys.{key_in, key_at}
 
 -- what is heard, and what was heard before, if it is a message or a packet of one PID; its number is left out
@@ -48,14 +48,14 @@ same_by f pid a b each same = sym (each a) ∙ (ap f same ∙ each b)
 
 -- control messages
 counted_other : (test : Bool) (message : Option Message) (packet : List ℕ) (past : List Heard) →
-    counted message (if test then Other 0 packet ∷ past else past) ≡ counted message past
-unfolding counted
+    counted_parts message (if test then Other 0 packet ∷ past else past) ≡ counted_parts message past
+unfolding counted_parts
 counted_other true message packet past = refl
 counted_other false message packet past = refl
 
 counted_thinned : (pid : ℕ) (message : Option Message) (past : List Heard) →
-    counted message (thinned pid past) ≡ counted message past
-unfolding counted
+    counted_parts message (thinned pid past) ≡ counted_parts message past
+unfolding counted_parts
 counted_thinned pid message [] = refl
 counted_thinned pid message (Dropped ∷ past) = counted_thinned pid message past
 counted_thinned pid message (Entitles emm ∷ past) = counted_thinned pid message past
@@ -68,10 +68,10 @@ counted_thinned pid message (Other n packet ∷ past) =
     counted_other (pid_of packet == pid) message packet (thinned pid past) ∙ counted_thinned pid message past
 
 run_to_thinned : (pid : ℕ) (stretch : Stretch) (part : EcmPart) →
-    run_to (stretch_thinned pid stretch) part ≡ run_to stretch part
-unfolding run_to
+    message_parts_to (stretch_thinned pid stretch) part ≡ message_parts_to stretch part
+unfolding message_parts_to
 run_to_thinned pid stretch part =
-    ap (λ (parts : List EcmPart). if exceeds stretch.message part then run_of (part ∷ parts) else [])
+    ap (λ (parts : List EcmPart). if exceeds stretch.message part then run_of_parts (part ∷ parts) else [])
     (counted_thinned pid stretch.message stretch.after)
 
 completed_thinned : (pid : ℕ) (stretch : Stretch) (part : EcmPart) →
@@ -81,50 +81,50 @@ completed_thinned pid stretch part =
     (run_to_thinned pid stretch part)
 
 stretched_thinned : (pid : ℕ) (past : List Heard) (stretch : Stretch) (part : EcmPart) (message : Option Message) →
-    stretched (thinned pid past) (stretch_thinned pid stretch) (Controls part) message
-    ≡ stretch_thinned pid (stretched past stretch (Controls part) message)
+    stretch_after (thinned pid past) (stretch_thinned pid stretch) (Controls part) message
+    ≡ stretch_thinned pid (stretch_after past stretch (Controls part) message)
 stretched_thinned pid past stretch part None = refl
 stretched_thinned pid past stretch part (Some message) = refl
 
 newest_other : (test : Bool) (packet : List ℕ) (past before after : List Heard) (message : Option Message) →
-    newest past ≡ record { message = message; before = before; after = after } →
-    newest (if test then Other 0 packet ∷ past else past)
+    newest_message past ≡ record { message = message; before = before; after = after } →
+    newest_message (if test then Other 0 packet ∷ past else past)
     ≡ record { message = message; before = before; after = if test then Other 0 packet ∷ after else after }
-unfolding newest
+unfolding newest_message
 newest_other true packet past before after message is =
-    ap (λ (stretch : Stretch). stretched past stretch (Other 0 packet) None) is
+    ap (λ (stretch : Stretch). stretch_after past stretch (Other 0 packet) None) is
 newest_other false packet past before after message is = is
 
-pub newest_thinned : (pid : ℕ) (past : List Heard) → newest (thinned pid past) ≡ stretch_thinned pid (newest past)
-unfolding newest
+pub newest_thinned : (pid : ℕ) (past : List Heard) → newest_message (thinned pid past) ≡ stretch_thinned pid (newest_message past)
+unfolding newest_message
 newest_thinned pid [] = refl
 newest_thinned pid (Dropped ∷ past) = newest_thinned pid past
 newest_thinned pid (Entitles emm ∷ past) =
-    ap (λ (stretch : Stretch). stretched (thinned pid past) stretch (Entitles emm) None) (newest_thinned pid past)
+    ap (λ (stretch : Stretch). stretch_after (thinned pid past) stretch (Entitles emm) None) (newest_thinned pid past)
 newest_thinned pid (Controls part ∷ past) =
-    ap (λ (stretch : Stretch). stretched (thinned pid past) stretch (Controls part)
+    ap (λ (stretch : Stretch). stretch_after (thinned pid past) stretch (Controls part)
     (completed stretch (Controls part))) (newest_thinned pid past)
-    ∙ (ap (stretched (thinned pid past) (stretch_thinned pid (newest past)) (Controls part))
-    (completed_thinned pid (newest past) part)
-    ∙ stretched_thinned pid past (newest past) part (completed (newest past) (Controls part)))
+    ∙ (ap (stretch_after (thinned pid past) (stretch_thinned pid (newest_message past)) (Controls part))
+    (completed_thinned pid (newest_message past) part)
+    ∙ stretched_thinned pid past (newest_message past) part (completed (newest_message past) (Controls part)))
 newest_thinned pid (BadEmm fault ∷ past) = newest_thinned pid past
 newest_thinned pid (BadEcm fault ∷ past) = newest_thinned pid past
 newest_thinned pid (Other n packet ∷ past) =
-    newest_other (pid_of packet == pid) packet (thinned pid past) (thinned pid (newest past).before)
-    (thinned pid (newest past).after) (newest past).message (newest_thinned pid past)
+    newest_other (pid_of packet == pid) packet (thinned pid past) (thinned pid (newest_message past).before)
+    (thinned pid (newest_message past).after) (newest_message past).message (newest_thinned pid past)
 
 pub run_thinned : (pid : ℕ) (part : EcmPart) (past : List Heard) →
-    run_to (newest (thinned pid past)) part ≡ run_to (newest past) part
+    message_parts_to (newest_message (thinned pid past)) part ≡ message_parts_to (newest_message past) part
 run_thinned pid part past =
-    ap (λ (stretch : Stretch). run_to stretch part) (newest_thinned pid past) ∙ run_to_thinned pid (newest past) part
+    ap (λ (stretch : Stretch). message_parts_to stretch part) (newest_thinned pid past) ∙ run_to_thinned pid (newest_message past) part
 
 pub completes_thinned : (pid : ℕ) (part : EcmPart) (past : List Heard) →
     completes (thinned pid past) (Controls part) ≡ completes past (Controls part)
 completes_thinned pid part past =
     ap (λ (stretch : Stretch). completed stretch (Controls part)) (newest_thinned pid past)
-    ∙ completed_thinned pid (newest past) part
+    ∙ completed_thinned pid (newest_message past) part
 
-pub message_thinned : (pid : ℕ) (past : List Heard) → (newest (thinned pid past)).message ≡ (newest past).message
+pub message_thinned : (pid : ℕ) (past : List Heard) → (newest_message (thinned pid past)).message ≡ (newest_message past).message
 message_thinned pid past = ap (λ (stretch : Stretch). stretch.message) (newest_thinned pid past)
 
 messages_other : (test : Bool) (packet : List ℕ) (past : List Heard) →
@@ -193,19 +193,19 @@ current_thinned pid (Other n packet ∷ past) =
     ∙ (current_thinned pid past ∙ sym (zero-max (current past)))
 
 seen_other : (test : Bool) (q : ℕ) (packet : List ℕ) (past : List Heard) →
-    seen q (if test then Other 0 packet ∷ past else past) ≡ seen q past
-unfolding seen
+    sections_seen q (if test then Other 0 packet ∷ past else past) ≡ sections_seen q past
+unfolding sections_seen
 seen_other true q packet past = refl
 seen_other false q packet past = refl
 
-pub seen_thinned : (pid q : ℕ) (past : List Heard) → seen q (thinned pid past) ≡ seen q past
-unfolding seen
+pub seen_thinned : (pid q : ℕ) (past : List Heard) → sections_seen q (thinned pid past) ≡ sections_seen q past
+unfolding sections_seen
 seen_thinned pid q [] = refl
 seen_thinned pid q (Dropped ∷ past) = seen_thinned pid q past
 seen_thinned pid q (Entitles emm ∷ past) =
     ap (λ (sections : List Emm). if (emm.period == q) && nat_le (current (thinned pid past)) q
     then emm ∷ sections else sections) (seen_thinned pid q past)
-    ∙ ap (λ (now : ℕ). if (emm.period == q) && nat_le now q then emm ∷ seen q past else seen q past)
+    ∙ ap (λ (now : ℕ). if (emm.period == q) && nat_le now q then emm ∷ sections_seen q past else sections_seen q past)
     (current_thinned pid past)
 seen_thinned pid q (Controls part ∷ past) = seen_thinned pid q past
 seen_thinned pid q (BadEmm fault ∷ past) = seen_thinned pid q past
@@ -219,13 +219,13 @@ key_thinned pid q card past = ap (key_in card) (seen_thinned pid q past)
 
 -- the names of runs
 name_other : (test : Bool) (packet : List ℕ) (past : List Heard) →
-    name_in (if test then Other 0 packet ∷ past else past) ≡ name_in past
-unfolding name_in
+    run_name_in (if test then Other 0 packet ∷ past else past) ≡ run_name_in past
+unfolding run_name_in
 name_other true packet past = refl
 name_other false packet past = refl
 
-pub name_thinned : (pid : ℕ) (past : List Heard) → name_in (thinned pid past) ≡ name_in past
-unfolding name_in
+pub name_thinned : (pid : ℕ) (past : List Heard) → run_name_in (thinned pid past) ≡ run_name_in past
+unfolding run_name_in
 name_thinned pid [] = refl
 name_thinned pid (Dropped ∷ past) = name_thinned pid past
 name_thinned pid (Entitles emm ∷ past) = refl
@@ -282,17 +282,17 @@ all_on pid (Other n packet ∷ past) are =
     rw are.0 (ap (λ (ps : List (List ℕ)). packet ∷ ps) (all_on pid past are.1))
 
 after_by : (pid : ℕ) (past : List Heard) (stretch : Stretch) (part : EcmPart) (message : Option Message) →
-    AreOn pid stretch.after → AreOn pid (stretched past stretch (Controls part) message).after
+    AreOn pid stretch.after → AreOn pid (stretch_after past stretch (Controls part) message).after
 after_by pid past stretch part None are = are
 after_by pid past stretch part (Some message) are = tt
 
-pub after_on : (pid : ℕ) (past : List Heard) → AreOn pid past → AreOn pid (newest past).after
-unfolding newest
+pub after_on : (pid : ℕ) (past : List Heard) → AreOn pid past → AreOn pid (newest_message past).after
+unfolding newest_message
 after_on pid [] are = are
 after_on pid (Dropped ∷ past) are = after_on pid past are
 after_on pid (Entitles emm ∷ past) are = after_on pid past are
 after_on pid (Controls part ∷ past) are =
-    after_by pid past (newest past) part (completed (newest past) (Controls part)) (after_on pid past are)
+    after_by pid past (newest_message past) part (completed (newest_message past) (Controls part)) (after_on pid past are)
 after_on pid (BadEmm fault ∷ past) are = after_on pid past are
 after_on pid (BadEcm fault ∷ past) are = after_on pid past are
 after_on pid (Other n packet ∷ past) are = (are.0, after_on pid past are.1)

@@ -14,7 +14,7 @@ use Rattle.sd_packet.specs.Positions.{is_placed, moved_by}
 use Rattle.sd_cipher.specs.Scrambling.{descrambled}
 use Rattle.sd_spec.specs.Confirmed.{Segment, position_in, position_or_first, tracked, is_near_to, is_confirmed}
 use Rattle.sd_spec.specs.Confirmed.{unmarked}
-use Rattle.sd_spec.specs.Confirmed.{is_foreign, judged, Wrote, then_wrote, written_from}
+use Rattle.sd_spec.specs.Confirmed.{is_foreign, judged_packet, WrittenPackets, then_segment_output, written_from}
 use Rattle.sd_law_contained.proofs.Pids.{descrambled_pid, unmarked_pid, moved_by_on}
 
 -- the packets of one PID, and the segment with these alone
@@ -60,8 +60,8 @@ abbrev judged_as : ℕ → Bool → Bool → Bool → List ℕ → List ℕ → 
 judged_as n clear odd confirmed plain opened =
     if clear then Ok (plain ∷ []) else if odd then Err n else if confirmed then Ok (opened ∷ []) else Ok []
 
-first_right : (n : ℕ) (clear odd confirmed : Bool) (plain opened : List ℕ) (rest : Wrote) →
-    (then_wrote (judged_as n clear odd confirmed plain opened) rest).refused ≡ None →
+first_right : (n : ℕ) (clear odd confirmed : Bool) (plain opened : List ℕ) (rest : WrittenPackets) →
+    (then_segment_output (judged_as n clear odd confirmed plain opened) rest).refused ≡ None →
     ((not clear && odd) ≡ false) × (rest.refused ≡ None)
 first_right n true odd confirmed plain opened rest is = (refl, is)
 first_right n false true confirmed plain opened rest is = absurd (cc)
@@ -77,7 +77,7 @@ either_none a b e f = rw (e, f) refl
 -- where none is refused, none is wrong
 pub none_wrong : (segment : Segment) (before : List (List ℕ)) (held : List (ℕ × List ℕ)) →
     (written_from segment before held).refused ≡ None → list_any (is_wrong segment) (packets_in held) ≡ false
-unfolding written_from judged
+unfolding written_from judged_packet
 none_wrong segment before [] is = refl
 none_wrong segment before (one ∷ held) is =
     let parts = first_right one.0 (scrambling_of one.1 == 0) (is_foreign segment one.1)
@@ -88,7 +88,7 @@ none_wrong segment before (one ∷ held) is =
 
 first_told : (n : ℕ) (clear odd confirmed : Bool) (plain opened : List ℕ) (packets : List (List ℕ)) →
     (not clear && odd) ≡ false →
-    then_wrote (judged_as n clear odd confirmed plain opened) (record { packets = packets; refused = None })
+    then_segment_output (judged_as n clear odd confirmed plain opened) (record { packets = packets; refused = None })
     ≡ record { packets = one_of clear odd confirmed plain opened ++ packets; refused = None }
 first_told n true odd confirmed plain opened packets right = refl
 first_told n false true confirmed plain opened packets right = absurd (cc)
@@ -104,13 +104,13 @@ pub all_told : (segment : Segment) (before : List (List ℕ)) (held : List (ℕ 
     list_any (is_wrong segment) (packets_in held) ≡ false →
     written_from segment before held
     ≡ record { packets = all_written segment before (packets_in held); refused = None }
-unfolding written_from judged
+unfolding written_from judged_packet
 all_told segment before [] right = refl
 all_told segment before (one ∷ held) right =
     let parts = neither (is_wrong segment one.1) (list_any (is_wrong segment) (packets_in held)) right in
     let judging : Result (List (List ℕ)) ℕ = judged_as one.0 (scrambling_of one.1 == 0) (is_foreign segment one.1)
     (is_confirmed segment (pid_of one.1)) (unmarked segment one.1) (opened_in segment before one.1) in
-    ap (then_wrote judging) (all_told segment (before ++ one.1 ∷ []) held parts.1)
+    ap (then_segment_output judging) (all_told segment (before ++ one.1 ∷ []) held parts.1)
     ∙ first_told one.0 (scrambling_of one.1 == 0) (is_foreign segment one.1) (is_confirmed segment (pid_of one.1))
     (unmarked segment one.1) (opened_in segment before one.1)
     (all_written segment (before ++ one.1 ∷ []) (packets_in held)) parts.0

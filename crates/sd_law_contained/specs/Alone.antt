@@ -10,7 +10,7 @@ use Rattle.sd_spec.specs.declared.ending.Ending.{Ending}
 use Rattle.sd_spec.specs.declared.ending.Ending.TheVariants.{Opened, Revoked, Unheard, NoCat, Unclosed, Gaps}
 use Rattle.sd_spec.specs.Tuned.{tuning_of}
 use Rattle.sd_spec.specs.Heard.{Heard, hears}
-use Rattle.sd_spec.specs.Stretches.{newest, held_in}
+use Rattle.sd_spec.specs.Stretches.{newest_message, held_in}
 use Rattle.sd_spec.specs.Runs.{run_name_heard}
 use Rattle.sd_spec.specs.Offered.{heard}
 
@@ -26,17 +26,17 @@ speaks card (Some tuning) packet = not (is_none (run_name_heard (hears card.heig
 
 -- those of these packets, after others, that are of one PID or tell the receiver something. The others have the newest
 -- first
-unfoldable pub alone : CardFields → Pid → Packets → Packets → Packets
-alone card pid past [] = []
-alone card pid past (packet ∷ packets) =
+unfoldable pub packets_alone : CardFields → Pid → Packets → Packets → Packets
+packets_alone card pid past [] = []
+packets_alone card pid past (packet ∷ packets) =
     if (pid_of packet == pid) || speaks card (tuning_of card.ca past) packet
-    then packet ∷ alone card pid (packet ∷ past) packets
-    else alone card pid (packet ∷ past) packets
+    then packet ∷ packets_alone card pid (packet ∷ past) packets
+    else packets_alone card pid (packet ∷ past) packets
 
 -- no message is complete, or at most 4,096 packets are buffered behind the newest one [this project, docs/FORMATS.md,
 -- Receiver]
 abbrev pub few_held : List Heard → Bool
-few_held past = is_none (newest past).message || nat_le (length (held_in (newest past))) 4096
+few_held past = is_none (newest_message past).message || nat_le (length (held_in (newest_message past))) 4096
 
 -- and so it is before each of these packets, after others, which have the newest first
 unfoldable pub few_held_in : CardFields → Packets → Packets → Bool

@@ -27,8 +27,8 @@ all_changed (packet ∷ packets) (mask ∷ masks) = changed_by packet mask ∷ a
 
 -- the head end reads all of the packet, after these: it is a PMT's, or on PID 0 [this project, docs/FORMATS.md,
 -- Broadcast]
-abbrev pub IsTable : Packets → Packet → Type 0
-IsTable before packet = (kind_of before packet ≡ Pmt) ⊎ (pid_of packet ≡ 0)
+abbrev pub IsTablePacket : Packets → Packet → Type 0
+IsTablePacket before packet = (kind_of before packet ≡ Pmt) ⊎ (pid_of packet ≡ 0)
 
 -- the mask changes nothing that the head end reads of the packet, after these: the PID, the fourth byte, which has both
 -- controls and the counter, where the payload starts, and nothing of a table
@@ -37,7 +37,7 @@ pub record IsHarmless (before : Packets) (packet : Packet) (mask : Bytes) : Type
   pub pid : pid_of (changed_by packet mask) ≡ pid_of packet
   pub fourth : slice_index mask 3 ≡ 0
   pub start : payload_start_of (changed_by packet mask) ≡ payload_start_of packet
-  pub table : IsTable before packet → mask ≡ []
+  pub table : IsTablePacket before packet → mask ≡ []
 
 -- there is a mask for each of these packets, after others, and none of the masks does harm
 abbrev pub AreHarmless : Packets → Packets → List Bytes → Type 0

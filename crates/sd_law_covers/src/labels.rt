@@ -3,7 +3,7 @@
 ghost use Rattle.std.specs.Prelude.{◌≡◌, ℕ, ◌+◌, ◌*◌, ◌/◌, ◌^◌, ◌<◌, ◌≤◌, ◌↔◌, List, length, Contains};
 ghost use Rattle.sd_tree_keys.specs.Node.{IsAbove};
 ghost use Rattle.sd_tree_keys.specs.Labels.{label_of_node, label_of, left_of, right_of, descended};
-ghost use Rattle.sd_tree_keys.specs.Names.{given, IsGivenPair};
+ghost use Rattle.sd_tree_keys.specs.Names.{names_of_receiver, IsGivenPair};
 
 use sd_tree_keys::Name;
 
@@ -28,7 +28,7 @@ pub fn labels_of_pairs()
 /// nothing else.
 #[tactic(auto, using(sd_tree_keys::proofs::NameCounts::length_given, sd_tree_keys::proofs::Pairs::given_whole))]
 pub fn names_given()
-    ensures count { (d u : ℕ) → length (given d u) ≡ d * (d + 1) / 2 + 1 }
-    ensures whole { (d u : ℕ) → Contains (given d u) Name.Whole }
-    ensures pairs { (d u i w : ℕ) → u < 2 ^ d → Contains (given d u) (Name.Pair i w) ↔ IsGivenPair d u i w }
+    ensures count { (d u : ℕ) → length (names_of_receiver d u) ≡ d * (d + 1) / 2 + 1 }
+    ensures whole { (d u : ℕ) → Contains (names_of_receiver d u) Name.Whole }
+    ensures pairs { (d u i w : ℕ) → u < 2 ^ d → Contains (names_of_receiver d u) (Name.Pair i w) ↔ IsGivenPair d u i w }
 {}

@@ -7,7 +7,7 @@ ghost use Rattle.sd_tree_keys.specs.SetNames.{IsOfHeight};
 ghost use Rattle.sd_tree_keys.specs.Limits.{highest};
 ghost use Rattle.sd_tree_keys.specs.declared.set.SetName.{SetName};
 ghost use Rattle.sd_tree_keys.specs.Keys.{key_of};
-ghost use Rattle.sd_tree_keys.specs.Names.{given};
+ghost use Rattle.sd_tree_keys.specs.Names.{names_of_receiver};
 ghost use Rattle.sd_cover_tracing.specs.Reach.{Key, IsReached};
 ghost use Rattle.sd_lsd.specs.Layers.{is_useful, layer_end};
 ghost use Rattle.sd_lsd.specs.Cover.{IsLayerCover, IsDoubleSmall, layer_cover_of};
@@ -20,7 +20,7 @@ ghost use Rattle.sd_cover_tracing.specs.Partition.{IsPartition};
 pub fn names_in_layers()
     ensures count { (d w u : ℕ) → d ≤ highest → 1 ≤ w → u < 2 ^ d →
         length (layer_given d w u) ≡ layer_count d w + 1 }
-    ensures all { (d w u : ℕ) → d ≤ highest → u < 2 ^ d → (w ≡ 1) ⊎ (w ≡ d) → layer_given d w u ≡ given d u }
+    ensures all { (d w u : ℕ) → d ≤ highest → u < 2 ^ d → (w ≡ 1) ⊎ (w ≡ d) → layer_given d w u ≡ names_of_receiver d u }
 {}
 
 /// A leaf's names in layers reach only keys of sets that the leaf is in, and of useful sets all of them

@@ -1,5 +1,5 @@
 ghost use Rattle.std.specs.Prelude.{◌≡◌, ◌+◌, ◌^◌, ◌<◌, ◌++◌, IfOk, OnOk};
-ghost use Rattle.sd_tree_keys.specs.Names.{given, given_under};
+ghost use Rattle.sd_tree_keys.specs.Names.{names_of_receiver, pair_names_under};
 ghost use Rattle.sd_cover_tracing.specs.Reach.{ReachesItsSets};
 
 use sd_base::NoMemory;
@@ -11,7 +11,7 @@ use std::alloc::{AllocError, Global};
 #[tactic(auto, using(sd_cover_tracing::proofs::Own::reaches_its_sets))]
 pub fn names_of(alloc: Global, h: Height, u: Leaf) -> Result<Vec<Name>, NoMemory>
     requires { u < 2 ^ h }
-    ensures value { IfOk result (λ names. names.items ≡ given h u) }
+    ensures value { IfOk result (λ names. names.items ≡ names_of_receiver h u) }
     ensures reach { IfOk result (λ names. ReachesItsSets h u names.items) }
 {
     prove!(h.get() <= 20);
@@ -22,7 +22,7 @@ pub fn names_of(alloc: Global, h: Height, u: Leaf) -> Result<Vec<Name>, NoMemory
 #[tactic(auto, using(crate::proofs::Given::ancestor_more, crate::proofs::Given::ancestors_all))]
 fn given_names(alloc: Global, h: Height, u: Leaf) -> Result<Vec<Name>, AllocError>
     requires { u < 2 ^ h }
-    ensures { IfOk result (λ names. names.items ≡ given h u) }
+    ensures { IfOk result (λ names. names.items ≡ names_of_receiver h u) }
 {
     let mut names = Vec::new(alloc);
     names.push(Name::Whole)?;
@@ -37,7 +37,7 @@ fn given_names(alloc: Global, h: Height, u: Leaf) -> Result<Vec<Name>, AllocErro
 fn give(names: &mut Vec<Name>, h: Height, u: Leaf, depth: u32) -> Result<(), AllocError>
     requires leaf { u < 2 ^ h }
     requires depth { depth < h }
-    ensures { OnOk result (names.new.items ≡ names.old.items ++ given_under h u depth) }
+    ensures { OnOk result (names.new.items ≡ names.old.items ++ pair_names_under h u depth) }
 {
     let i = path_node(h, u, depth);
     for below in 0..u32::from(h.get()) - depth {

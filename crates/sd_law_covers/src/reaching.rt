@@ -1,5 +1,5 @@
 ghost use Rattle.std.specs.Prelude.{◌↔◌, IsTrue};
-ghost use Rattle.sd_cover_tracing.specs.Reach.{Key, IsReached, LeadsTo};
+ghost use Rattle.sd_cover_tracing.specs.Reach.{Key, IsReached, DerivesSecret};
 
 use sd_tree_keys::{Name, SetName, is_above};
 
@@ -17,7 +17,7 @@ pub fn reaches(held: &[Name], name: SetName) -> bool
 
 // Whether the set's key follows from this one name.
 fn leads_to(given: Name, name: SetName) -> bool
-    ensures { IsTrue result ↔ LeadsTo given (Key name) }
+    ensures { IsTrue result ↔ DerivesSecret given (Key name) }
 {
     match (given, name) {
         (Name::Whole, SetName::Whole) => true,

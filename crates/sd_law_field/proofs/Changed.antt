@@ -18,8 +18,8 @@ use Rattle.sd_cover_tracing.proofs.There.{list_is_cover}
 use Rattle.sd_spec.specs.Plan.{Plan, period_of, sets_at}
 use Rattle.sd_head.specs.declared.head.Head.{Head}
 use Rattle.sd_head.specs.declared.entitling.Entitling.{Entitling}
-use Rattle.sd_head.specs.Schedule.{IsAt}
-use Rattle.sd_head.specs.Staged.{IsAfter, head_closes}
+use Rattle.sd_head.specs.Schedule.{IsPeriodAt}
+use Rattle.sd_head.specs.Staged.{IsHeadEndAfter, head_closes}
 use Rattle.sd_law_field.specs.Changed.{changes_of}
 
 -- an index after the changes of commands has what it has after the commands
@@ -52,7 +52,7 @@ sets_are_last plan q low =
     (list_is_cover d gone low (λ u there. All-contains (λ w. w < 2 ^ d) gone u (below d plan.commands q) there))
 
 -- the index of a head end
-of_period : (plan : Plan) (k : ℕ) (entitling : Entitling) → IsAt plan (suc k) entitling →
+of_period : (plan : Plan) (k : ℕ) (entitling : Entitling) → IsPeriodAt plan (suc k) entitling →
     cover_of entitling.index.height entitling.index.revoked ≡ sets_at plan (period_of plan k)
 unfolding sets_at period_of
 of_period plan k entitling of =
@@ -61,16 +61,16 @@ of_period plan k entitling of =
     rw (begun.height, begun.revoked_are, one) refl
 
 pub index_after : (plan : Plan) (before : Packets) (packet : Packet) (head : Head) →
-    IsAfter plan (before ++ packet ∷ []) head →
+    IsHeadEndAfter plan (before ++ packet ∷ []) head →
     cover_of head.entitling.index.height head.entitling.index.revoked ≡ sets_at plan (period_of plan (length before))
 index_after plan before packet head after =
     let long = length-append before (packet ∷ []) in
     let one : length (before ++ packet ∷ []) ≡ suc (length before) = omega (arith, long) in
     of_period plan (length before) head.entitling
-    (subst (λ (k : ℕ). IsAt plan k head.entitling) one after.entitled)
+    (subst (λ (k : ℕ). IsPeriodAt plan k head.entitling) one after.entitled)
 
 pub index_at_end : (plan : Plan) (before : Packets) (head closed : Head) (bytes : List ℕ) (steps : ℕ) →
-    IsAfter plan before head → head_closes head closed bytes steps →
+    IsHeadEndAfter plan before head → head_closes head closed bytes steps →
     cover_of plan.site.height closed.entitling.index.revoked ≡ sets_at plan (period_of plan (length before - 1))
 unfolding sets_at
 index_at_end plan before head closed bytes steps after ends = ap (cover_of plan.site.height) (ends plan before after).1

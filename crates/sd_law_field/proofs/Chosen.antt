@@ -13,7 +13,7 @@ use Rattle.sd_spec.specs.Sent.{Item, Cat}
 use Rattle.sd_law_losses.specs.Chosen.{chosen}
 use Rattle.sd_law_losses.proofs.Later.{chosen_append}
 use Rattle.sd_spec.specs.Watch.{at_places}
-use Rattle.sd_law_field.specs.Times.{flags_of}
+use Rattle.sd_law_field.specs.Times.{arrived_flags}
 use Rattle.sd_law_field.proofs.Rising.{Rises, rises_lower, increasing_rises}
 
 -- a number below all isn't among them
@@ -103,16 +103,16 @@ from_start none xs (p ∷ places) =
 
 -- what is at the places is what their flags choose
 places_chosen : {A : Type 0} (none : A) (xs : List A) (places : List ℕ) → IsStrictlyIncreasing places →
-    All (λ i. i < length xs) places → chosen (flags_of places (length xs)) xs ≡ at_places none xs places
-unfolding flags_of at_places
+    All (λ i. i < length xs) places → chosen (arrived_flags places (length xs)) xs ≡ at_places none xs places
+unfolding arrived_flags at_places
 places_chosen none xs places up below =
     chosen_from none 0 xs places (increasing_rises places up)
     (All-weaker (λ i. i < length xs) (λ i. i < 0 + length xs) (λ i low. omega (arith, low)) places below)
     ∙ from_start none xs places
 
 -- so many flags as elements
-flags_long : (places : List ℕ) (n : ℕ) → length (flags_of places n) ≡ n
-unfolding flags_of
+flags_long : (places : List ℕ) (n : ℕ) → length (arrived_flags places n) ≡ n
+unfolding arrived_flags
 flags_long places n = length-map (range_with_len 0 n) (λ i. list_any (nat_eq i) places) ∙ length-range_with_len 0 n
 
 -- and they choose the same of a longer list
@@ -127,24 +127,24 @@ flags_choose_of_more flags xs ys long =
     ∙ append-nil (chosen flags xs)))
 
 more_chosen : {A : Type 0} (none : A) (xs ys : List A) (places : List ℕ) → IsStrictlyIncreasing places →
-    All (λ i. i < length xs) places → chosen (flags_of places (length xs)) (xs ++ ys) ≡ at_places none xs places
+    All (λ i. i < length xs) places → chosen (arrived_flags places (length xs)) (xs ++ ys) ≡ at_places none xs places
 more_chosen none xs ys places up below =
-    flags_choose_of_more (flags_of places (length xs)) xs ys (flags_long places (length xs))
+    flags_choose_of_more (arrived_flags places (length xs)) xs ys (flags_long places (length xs))
     ∙ places_chosen none xs places up below
 
 -- of packets, and of things
 pub packets_chosen : (xs : List (List ℕ)) (places : List ℕ) → IsStrictlyIncreasing places →
-    All (λ i. i < length xs) places → chosen (flags_of places (length xs)) xs ≡ at_places [] xs places
+    All (λ i. i < length xs) places → chosen (arrived_flags places (length xs)) xs ≡ at_places [] xs places
 packets_chosen xs places up below = places_chosen [] xs places up below
 
 pub items_chosen : (xs : List Item) (places : List ℕ) → IsStrictlyIncreasing places →
-    All (λ i. i < length xs) places → chosen (flags_of places (length xs)) xs ≡ at_places Cat xs places
+    All (λ i. i < length xs) places → chosen (arrived_flags places (length xs)) xs ≡ at_places Cat xs places
 items_chosen xs places up below = places_chosen Cat xs places up below
 
 pub packets_chosen_of_more : (xs ys : List (List ℕ)) (places : List ℕ) → IsStrictlyIncreasing places →
-    All (λ i. i < length xs) places → chosen (flags_of places (length xs)) (xs ++ ys) ≡ at_places [] xs places
+    All (λ i. i < length xs) places → chosen (arrived_flags places (length xs)) (xs ++ ys) ≡ at_places [] xs places
 packets_chosen_of_more xs ys places up below = more_chosen [] xs ys places up below
 
 pub items_chosen_of_more : (xs ys : List Item) (places : List ℕ) → IsStrictlyIncreasing places →
-    All (λ i. i < length xs) places → chosen (flags_of places (length xs)) (xs ++ ys) ≡ at_places Cat xs places
+    All (λ i. i < length xs) places → chosen (arrived_flags places (length xs)) (xs ++ ys) ≡ at_places Cat xs places
 items_chosen_of_more xs ys places up below = more_chosen Cat xs ys places up below

@@ -18,7 +18,7 @@ use Rattle.sd_law_losses.specs.Confirmed.{is_confirmed_at}
 use Rattle.sd_law_losses.specs.Confirmed.{is_revoked_in}
 use Rattle.sd_law_losses.proofs.Opened.{after_all, confirmed_open}
 use Rattle.sd_spec.specs.Watch.{at_places}
-use Rattle.sd_law_field.specs.Times.{kept_at, places_in}
+use Rattle.sd_law_field.specs.Times.{kept_at, confirmed_places_in}
 
 -- what is at any places of what is sent is of the broadcast
 places_of_broadcast : (plan : Plan) (clear : List (List ℕ)) (places : List ℕ) →
@@ -39,8 +39,8 @@ places_of_broadcast plan clear places =
 -- so what is confirmed in a time is of such periods
 pub places_are_entitled : (plan : Plan) (clear : List (List ℕ)) (u : ℕ) (places : List ℕ) → IsPlan plan →
     u < 2 ^ plan.site.height →
-    All (λ j. is_revoked_in plan u (period_of plan j) ≡ false) (places_in plan u clear places)
-unfolding places_in
+    All (λ j. is_revoked_in plan u (period_of plan j) ≡ false) (confirmed_places_in plan u clear places)
+unfolding confirmed_places_in
 places_are_entitled plan clear u places is leaf =
     let test : ℕ → Bool = is_confirmed_at plan u clear (kept_at plan clear places) in
     All-weaker (λ j. test j ≡ true) (λ j. is_revoked_in plan u (period_of plan j) ≡ false)

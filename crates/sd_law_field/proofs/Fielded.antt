@@ -8,7 +8,7 @@ use Rattle.std.proofs.lemmas.List.{length-map, length-reverse}
 use Rattle.std.proofs.lemmas.List.Elements.{All-get_or, All-map, All-weaker}
 use Rattle.sd_base.proofs.Arithmetic.{packets_in}
 use Rattle.sd_site_cards.specs.SiteFields.{SiteFields}
-use Rattle.sd_site_cards.specs.CardFields.{card_of}
+use Rattle.sd_site_cards.specs.CardFields.{site_card}
 use Rattle.sd_book.specs.Commands.{last_period}
 use Rattle.sd_spec.specs.Plan.{IsPlan, Plan, period_of}
 use Rattle.sd_spec.specs.Refused.{IsClear, refusal_from}
@@ -25,7 +25,7 @@ use Rattle.sd_spec.specs.Watch.{watch, written}
 use Rattle.sd_spec.proofs.Fitting.{event_plans_fit}
 use Rattle.sd_law_field.proofs.Written.{written_is_confirmed, places_rise, places_are_sent, places_entitled}
 use Rattle.sd_field.specs.Fields as field
-use Rattle.sd_run_broadcasts.specs.Field.{digest_of, done_field, field_text, first_line, lines_to, receiver_line}
+use Rattle.sd_run_broadcasts.specs.Field.{digest_of, done_field, field_text, first_line, lines_of_field, field_receiver_line}
 use Rattle.sd_run_broadcasts.specs.Field.{text_in}
 use Rattle.sd_run_broadcasts.specs.Field.{unrefused, wrote_line}
 use Rattle.sd_law_field.specs.Fielded.{IsGoodField, confirmed_line, confirmed_lines, confirmed_places, plan_for}
@@ -68,8 +68,8 @@ past_is site clear events = ap reverse (take_all (length events) events (omega a
 
 -- the first line
 first_same : (site : SiteFields) (clear : List (List ℕ)) (events : List Event) → IsGoodField site clear events →
-    lines_to (done_field site clear events) 0 ≡ confirmed_lines site clear events 0
-unfolding lines_to confirmed_lines
+    lines_of_field (done_field site clear events) 0 ≡ confirmed_lines site clear events 0
+unfolding lines_of_field confirmed_lines
 first_same site clear events good =
     let plan : Plan = plan_for site clear events in
     let sent : List (List ℕ) = sent_for clear events in
@@ -88,7 +88,7 @@ wrote_same : (site : SiteFields) (clear : List (List ℕ)) (events : List Event)
     ≡ concat (packets_at (sent_for clear events) (confirmed_places site clear events u))
 wrote_same site clear events u good leaf =
     let plan : Plan = plan_for site clear events in
-    ap (λ (past : List Event). concat (written plan (card_of site.master site.ca site.height u)
+    ap (λ (past : List Event). concat (written plan (site_card site u)
     (take (sends (length clear) past) clear) (watch plan clear u past))) (past_is site clear events)
     ∙ ap concat (written_is_confirmed plan clear u (reverse events) (plan_is site clear events good) good.sent
     good.whole good.synced leaf)
@@ -108,15 +108,15 @@ line_same site clear events u good leaf =
     (λ j within. All-get_or IsSynced sent j [] within good.synced) places
     (confirmed_sent site clear events u good leaf)) in
     ap (wrote_line u) (wrote_same site clear events u good leaf)
-    ∙ ap (λ (n : ℕ). receiver_line u n (digest_of (concat packets)))
+    ∙ ap (λ (n : ℕ). field_receiver_line u n (digest_of (concat packets)))
     (packets_in (length (concat packets)) (length packets) (joined_long packets each)
     ∙ length-map places (packet_at sent))
 
 -- the lines of the first n leaves
 lines_same : (site : SiteFields) (clear : List (List ℕ)) (events : List Event) (n : ℕ) →
     IsGoodField site clear events → n ≤ 2 ^ site.height →
-    lines_to (done_field site clear events) n ≡ confirmed_lines site clear events n
-unfolding lines_to confirmed_lines
+    lines_of_field (done_field site clear events) n ≡ confirmed_lines site clear events n
+unfolding lines_of_field confirmed_lines
 lines_same site clear events zero good few = first_same site clear events good
 lines_same site clear events (suc n) good few =
     ap (λ (text : List ℕ). text ++ wrote_line n (field.written_of n (done_field site clear events)))
@@ -126,7 +126,7 @@ lines_same site clear events (suc n) good few =
 
 -- none of the clear packets that are sent is refused
 sent_same : (site : SiteFields) (clear : List (List ℕ)) (events : List Event) →
-    field.taken (done_field site clear events) ≡ sent_for clear events
+    field.field_clear_packets (done_field site clear events) ≡ sent_for clear events
 sent_same site clear events =
     ap (λ (past : List Event). take (sends (length clear) past) clear) (past_is site clear events)
 
@@ -135,7 +135,7 @@ pub text_is_confirmed : (site : SiteFields) (clear : List (List ℕ)) (events : 
     field_text site clear events ≡ Ok (confirmed_lines site clear events (2 ^ site.height))
 unfolding text_in
 text_is_confirmed site clear events good =
-    ap (λ (r : Option ClearFault). unrefused r (lines_to (done_field site clear events) (2 ^ site.height)))
+    ap (λ (r : Option ClearFault). unrefused r (lines_of_field (done_field site clear events) (2 ^ site.height)))
     (ap (refusal_from site []) (sent_same site clear events) ∙ good.sent)
     ∙ ap (λ (text : List ℕ). Ok text) (lines_same site clear events (2 ^ site.height) good (omega arith))
 
@@ -149,5 +149,5 @@ pub done_is_clear : (site : SiteFields) (clear : List (List ℕ)) (events : List
 unfolding text_in
 done_is_clear site clear events text is =
     ap (refusal_from site []) (sym (sent_same site clear events))
-    ∙ clear_where (refusal_from site [] (field.taken (done_field site clear events)))
-    (lines_to (done_field site clear events) (2 ^ site.height)) text is
+    ∙ clear_where (refusal_from site [] (field.field_clear_packets (done_field site clear events)))
+    (lines_of_field (done_field site clear events) (2 ^ site.height)) text is

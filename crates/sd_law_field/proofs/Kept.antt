@@ -11,7 +11,7 @@ use Rattle.sd_spec.specs.Sent.{Item, Cat, Entitles, Controls, Carries, sent}
 use Rattle.sd_law_losses.specs.Kept.{after_cat, is_carried, is_kept}
 use Rattle.sd_law_losses.specs.Confirmed.{is_confirmed_at}
 use Rattle.sd_spec.specs.Watch.{at_places}
-use Rattle.sd_law_field.specs.Times.{kept_at, places_in}
+use Rattle.sd_law_field.specs.Times.{kept_at, confirmed_places_in}
 use Rattle.sd_law_field.proofs.Numbers.{sent_rises}
 
 -- what is kept after the CAT is kept
@@ -50,9 +50,9 @@ carried_is j (Carries k packet) is =
 
 -- a clear packet that is confirmed is at one of the places
 pub confirmed_are_kept : (plan : Plan) (clear : List (List ℕ)) (u j : ℕ) (places : List ℕ) →
-    Contains (places_in plan u clear places) j →
+    Contains (confirmed_places_in plan u clear places) j →
     (i : ℕ) × (packet : List ℕ) × Contains places i × (get_or (sent plan clear) i Cat ≡ Carries j packet)
-unfolding places_in is_confirmed_at at_places
+unfolding confirmed_places_in is_confirmed_at at_places
 confirmed_are_kept plan clear u j places there =
     let test : ℕ → Bool = is_confirmed_at plan u clear (kept_at plan clear places) in
     let told : test j ≡ true =
@@ -68,7 +68,7 @@ confirmed_are_kept plan clear u j places there =
 -- so of later places later packets are
 pub kept_apart : (plan : Plan) (clear : List (List ℕ)) (u j l : ℕ) (places later : List ℕ) →
     ((i k : ℕ) → Contains places i → Contains later k → i < k) →
-    Contains (places_in plan u clear places) j → Contains (places_in plan u clear later) l → j < l
+    Contains (confirmed_places_in plan u clear places) j → Contains (confirmed_places_in plan u clear later) l → j < l
 kept_apart plan clear u j l places later before first last =
     let (i, packet, at, is) = confirmed_are_kept plan clear u j places first in
     let (k, other, there, same) = confirmed_are_kept plan clear u l later last in

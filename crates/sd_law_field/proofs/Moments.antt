@@ -6,7 +6,7 @@ use Rattle.std.proofs.lemmas.List.{length-map, length-take, reverse-append, take
 use Rattle.std.proofs.lemmas.List.Elements.{All-head, All-tail, All-take}
 use Rattle.std.proofs.Math.Seq.{get_or-take}
 use Rattle.sd_site_cards.specs.SiteFields.{SiteFields}
-use Rattle.sd_site_cards.specs.CardFields.{card_of}
+use Rattle.sd_site_cards.specs.CardFields.{site_card}
 use Rattle.sd_spec.specs.Refused.{IsClear}
 use Rattle.sd_law_broadcast.specs.Packets.{IsWholePacket}
 use Rattle.sd_law_broadcast.specs.Synced.{IsSynced}
@@ -123,4 +123,4 @@ book_is_one site clear events u n good =
     subst (λ (past : List Event). wrote_by (plan_after site (length clear) past) clear (take n events) u
     ≡ wrote_for site clear (take n events) u) (parted n events)
     (written_stays_later site (reverse (drop n events)) (reverse (take n events))
-    (card_of site.master site.ca site.height u) clear u good.range)
+    (site_card site u) clear u good.range)

@@ -14,17 +14,17 @@ use Rattle.sd_spec.specs.declared.event.Event.TheVariants.{Offer, Send}
 use Rattle.sd_spec.specs.Watch.{present}
 use Rattle.sd_law_field.proofs.Few.{body_is_short}
 use Rattle.sd_law_field.proofs.Written.{present_unrefused, written_has_room}
-use Rattle.sd_field.specs.Fields.{FieldValue, IsSentOver, IsWrittenOver, after_next, card_at, past_of}
-use Rattle.sd_field.specs.Fields.{plan_in, sends_of}
-use Rattle.sd_field.specs.Fields.{taken, watch_of}
+use Rattle.sd_field.specs.Fields.{FieldValue, IsSentOver, IsWrittenOver, after_next, field_card, past_of}
+use Rattle.sd_field.specs.Fields.{plan_of_field, sends_of}
+use Rattle.sd_field.specs.Fields.{field_clear_packets, watch_of}
 use Rattle.sd_field.proofs.Fields.{one_to_send, quiet_taken}
 use Rattle.sd_field.proofs.Refused.{goes_on_clear}
 use Rattle.sd_law_field.specs.Fielded.{IsWhole}
 
 pub never_refuses : (v : FieldValue) (u : ℕ) → IsWhole v → u < 2 ^ v.site.height →
-    break_from (card_at v u) [] (present (plan_in v) (taken v) (watch_of u v)) ≡ None
+    break_from (field_card v u) [] (present (plan_of_field v) (field_clear_packets v) (watch_of u v)) ≡ None
 never_refuses v u is leaf =
-    present_unrefused (plan_in v) v.clear u (past_of v) is.plan is.sent
+    present_unrefused (plan_of_field v) v.clear u (past_of v) is.plan is.sent
     (All-take IsWholePacket (sends_of v) v.clear is.whole) (All-take IsSynced (sends_of v) v.clear is.synced) leaf
 
 -- an offer sends nothing, so what is then written has room
@@ -32,7 +32,7 @@ pub never_written_over : (v : FieldValue) (u : ℕ) → IsWhole v → u < 2 ^ v.
 never_written_over v u is leaf passed =
     let n : ℕ = sends_of (after_next v) in
     let clear = subst (IsClear v.site) (sym (quiet_taken v (Offer u) passed.next refl)) is.sent in
-    let room = written_has_room (plan_in v) v.clear u (past_of (after_next v)) is.plan clear
+    let room = written_has_room (plan_of_field v) v.clear u (past_of (after_next v)) is.plan clear
     (All-take IsWholePacket n v.clear is.whole) (All-take IsSynced n v.clear is.synced) leaf in
     let over = passed.over in
     omega (arith, over, room)
@@ -51,7 +51,7 @@ clear_next v is passed = elim (cases_lt (sends_of v) (length v.clear)) [
 pub never_sent_over : (v : FieldValue) → IsWhole v → ¬ IsSentOver v
 never_sent_over v is passed =
     let k : ℕ = suc (sends_of v) in
-    let room = body_is_short (plan_in v) (take k v.clear) is.low is.plan (clear_next v is passed)
+    let room = body_is_short (plan_of_field v) (take k v.clear) is.low is.plan (clear_next v is passed)
     (All-take IsWholePacket k v.clear is.whole) (All-take IsSynced k v.clear is.synced) in
     let long = length-take k v.clear in
     let over = passed.over in

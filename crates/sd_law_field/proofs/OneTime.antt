@@ -15,7 +15,7 @@ use Rattle.sd_law_losses.specs.Chosen.{chosen}
 use Rattle.sd_law_losses.specs.Confirmed.{packets_at, confirmed}
 use Rattle.sd_law_losses.proofs.Theorem.{confirmed_alone, none_refused as none_of_choice}
 use Rattle.sd_spec.specs.Watch.{stream, at_places}
-use Rattle.sd_law_field.specs.Times.{card_at, flags_of, places_in}
+use Rattle.sd_law_field.specs.Times.{plan_card, arrived_flags, confirmed_places_in}
 use Rattle.sd_law_field.proofs.Chosen.{packets_chosen_of_more, items_chosen_of_more}
 use Rattle.sd_law_field.proofs.Streams.{stream_is}
 
@@ -23,7 +23,7 @@ module _ (plan : Plan) (clear : List (List ℕ)) (places : List ℕ) (up : IsStr
     (below : All (λ i. i < length (sent plan clear)) places) where
   -- the choice of the broadcast
   abbrev flags : List Bool
-  flags = flags_of places (length (sent plan clear))
+  flags = arrived_flags places (length (sent plan clear))
 
   body_chosen : chosen flags (broadcast plan clear) ≡ at_places [] (body plan clear) places
   unfolding body broadcast
@@ -32,7 +32,7 @@ module _ (plan : Plan) (clear : List (List ℕ)) (places : List ℕ) (up : IsStr
       let rest : List (List ℕ) = packets_from plan.site (sent plan clear) (closing_of plan clear) in
       let long : length first ≡ length (sent plan clear) = packets_many plan.site [] (sent plan clear) in
       ap (chosen flags) (packets_in_turn plan.site [] (sent plan clear) (closing_of plan clear))
-      ∙ (ap (λ (n : ℕ). chosen (flags_of places n) (first ++ rest)) (sym long)
+      ∙ (ap (λ (n : ℕ). chosen (arrived_flags places n) (first ++ rest)) (sym long)
       ∙ packets_chosen_of_more first rest places up
       (subst (λ (n : ℕ). All (λ i. i < n) places) (sym long) below))
 
@@ -50,21 +50,21 @@ module _ (plan : Plan) (clear : List (List ℕ)) (places : List ℕ) (up : IsStr
 pub none_refused : (plan : Plan) (clear : List (List ℕ)) (u : ℕ) (places : List ℕ) → IsPlan plan →
     IsClear plan.site clear → AreWholePackets clear → AreSynced clear → u < 2 ^ plan.site.height →
     IsStrictlyIncreasing places → All (λ i. i < length (sent plan clear)) places →
-    break_from (card_at plan u) [] (at_places [] (stream plan clear) places) ≡ None
+    break_from (plan_card plan u) [] (at_places [] (stream plan clear) places) ≡ None
 none_refused plan clear u places is all whole synced leaf up below =
-    ap (break_from (card_at plan u) []) (stream_chosen plan clear places up below is all whole synced)
-    ∙ none_of_choice plan clear u (flags_of places (length (sent plan clear))) is
+    ap (break_from (plan_card plan u) []) (stream_chosen plan clear places up below is all whole synced)
+    ∙ none_of_choice plan clear u (arrived_flags places (length (sent plan clear))) is
     (clear_sendable plan.site clear all) whole leaf
 
 -- and writes what is confirmed to it
 pub time_writes : (plan : Plan) (clear : List (List ℕ)) (u : ℕ) (places : List ℕ) → IsPlan plan →
     IsClear plan.site clear → AreWholePackets clear → AreSynced clear → u < 2 ^ plan.site.height →
     IsStrictlyIncreasing places → All (λ i. i < length (sent plan clear)) places →
-    out_from (card_at plan u) [] (at_places [] (stream plan clear) places)
-    ≡ packets_at clear (places_in plan u clear places)
-unfolding confirmed places_in
+    out_from (plan_card plan u) [] (at_places [] (stream plan clear) places)
+    ≡ packets_at clear (confirmed_places_in plan u clear places)
+unfolding confirmed confirmed_places_in
 time_writes plan clear u places is all whole synced leaf up below =
-    ap (out_from (card_at plan u) []) (stream_chosen plan clear places up below is all whole synced)
-    ∙ (confirmed_alone plan clear u (flags_of places (length (sent plan clear))) is
+    ap (out_from (plan_card plan u) []) (stream_chosen plan clear places up below is all whole synced)
+    ∙ (confirmed_alone plan clear u (arrived_flags places (length (sent plan clear))) is
     (clear_sendable plan.site clear all) whole leaf
     ∙ ap (confirmed plan u clear) (items_kept plan clear places up below))

@@ -15,8 +15,8 @@ use Rattle.sd_spec.specs.Plan.{Plan}
 use Rattle.sd_spec.specs.declared.event.Event.{Event}
 use Rattle.sd_spec.specs.declared.event.Event.TheVariants.{Subscribe, Revoke, Send, Offer, Lose, Off, On}
 use Rattle.sd_spec.specs.Events.{is_of, sends_with}
-use Rattle.sd_spec.specs.Book.{sends, booked, event_book, plan_after}
-use Rattle.sd_spec.specs.Watch.{Watch, watched, watch, count_sent, times}
+use Rattle.sd_spec.specs.Book.{sends, book_after_event, event_book, plan_after}
+use Rattle.sd_spec.specs.Watch.{Watch, watch_after_event, watch, count_sent, times}
 use Rattle.sd_spec.proofs.Offers.{others_wait}
 use Rattle.sd_spec.proofs.Watching.{all_below, cursor_within, times_below, times_rise}
 use Rattle.sd_law_losses.proofs.Losses.{all_second}
@@ -30,12 +30,12 @@ at on cursor now earlier = record { on = on; cursor = cursor; now = now; earlier
 -- the receiver of leaf u after these events, while n packets are sent
 abbrev run : ℕ → ℕ → List Event → Watch → Watch
 run u n [] w = w
-run u n (event ∷ events) w = watched u n event (run u n events w)
+run u n (event ∷ events) w = watch_after_event u n event (run u n events w)
 
 run_join : (u n : ℕ) (later events : List Event) (w : Watch) →
     run u n (later ++ events) w ≡ run u n later (run u n events w)
 run_join u n [] events w = refl
-run_join u n (event ∷ later) events w = ap (watched u n event) (run_join u n later events w)
+run_join u n (event ∷ later) events w = ap (watch_after_event u n event) (run_join u n later events w)
 
 -- One event.
 
@@ -43,16 +43,16 @@ left_test : (u n c : ℕ) → c < n → ((u == u) && nat_lt c n) ≡ true
 left_test u n c left = grind (arith, nat_tests, left)
 
 lost_one : (u n c : ℕ) (on : Bool) (now : List ℕ) (earlier : List (List ℕ)) → c < n →
-    watched u n (Lose u) (at on c now earlier) ≡ at on (suc c) now earlier
+    watch_after_event u n (Lose u) (at on c now earlier) ≡ at on (suc c) now earlier
 lost_one u n c on now earlier left = rw (left_test u n c left) refl
 
 offered_one : (u n c : ℕ) (now : List ℕ) (earlier : List (List ℕ)) → c < n →
-    watched u n (Offer u) (at true c now earlier) ≡ at true (suc c) (c ∷ now) earlier
+    watch_after_event u n (Offer u) (at true c now earlier) ≡ at true (suc c) (c ∷ now) earlier
 offered_one u n c now earlier left = rw (left_test u n c left) refl
 
 -- off, and on again
 anew : (u n c : ℕ) (now : List ℕ) (earlier : List (List ℕ)) →
-    watched u n (On u) (watched u n (Off u) (at true c now earlier)) ≡ at true c [] (now ∷ earlier)
+    watch_after_event u n (On u) (watch_after_event u n (Off u) (at true c now earlier)) ≡ at true c [] (now ∷ earlier)
 anew u n c now earlier =
     let test : (u == u) ≡ true = grind (arith, nat_tests) in rw test refl
 
@@ -63,7 +63,7 @@ lost_all u n c zero now earlier within =
     let none : c ≡ c + 0 = omega arith in ap (λ (x : ℕ). at true x now earlier) none
 lost_all u n c (suc k) now earlier within =
     let next : suc (c + k) ≡ c + suc k = omega arith in
-    ap (watched u n (Lose u)) (lost_all u n c k now earlier (omega (arith, within)))
+    ap (watch_after_event u n (Lose u)) (lost_all u n c k now earlier (omega (arith, within)))
     ∙ (lost_one u n (c + k) true now earlier (omega (arith, within))
     ∙ ap (λ (x : ℕ). at true x now earlier) next)
 
@@ -99,7 +99,7 @@ time_made u n c (p ∷ ps) now earlier rises below =
     let there : c + (p - c) ≡ p = omega (arith, from) in
     let losses : List Event = replicate (p - c) (Lose u) in
     run_join u n (time_events u (suc p) ps) (Offer u ∷ losses) (at true c now earlier)
-    ∙ (ap (λ (w : Watch). run u n (time_events u (suc p) ps) (watched u n (Offer u) w))
+    ∙ (ap (λ (w : Watch). run u n (time_events u (suc p) ps) (watch_after_event u n (Offer u) w))
     (lost_all u n c (p - c) now earlier (omega (arith, from, inside))
     ∙ ap (λ (x : ℕ). at true x now earlier) there)
     ∙ (ap (run u n (time_events u (suc p) ps)) (offered_one u n p now earlier inside)
@@ -137,7 +137,7 @@ times_made u n c xs (ys ∷ more) earlier rises below =
     let events : List Event = times_events u (time_end c xs) ys more in
     ap (λ (w : Watch). reverse (map reverse (w.now ∷ w.earlier)))
     (run_join u n events (On u ∷ Off u ∷ time_events u c xs) (at true c [] earlier)
-    ∙ (ap (λ (w : Watch). run u n events (watched u n (On u) (watched u n (Off u) w))) made
+    ∙ (ap (λ (w : Watch). run u n events (watch_after_event u n (On u) (watch_after_event u n (Off u) w))) made
     ∙ ap (run u n events) (anew u n (time_end c xs) (laid xs []) earlier)))
     ∙ (times_made u n (time_end c xs) ys more (laid xs [] ∷ earlier) (rises_end c xs (concat rest) rises)
     (all_second (λ i. i < n) xs (concat rest) below)
@@ -208,7 +208,7 @@ at_no_head u (Off v) is = refl
 at_no_head u (On v) is = refl
 
 -- another leaf's receiver waits
-at_waits : (u v n : ℕ) (event : Event) (w : Watch) → u ≢ v → IsAt v event → watched u n event w ≡ w
+at_waits : (u v n : ℕ) (event : Event) (w : Watch) → u ≢ v → IsAt v event → watch_after_event u n event w ≡ w
 at_waits u v n (Subscribe x) w apart is = refl
 at_waits u v n (Revoke x) w apart is = refl
 at_waits u v n Send w apart is = refl
@@ -288,7 +288,7 @@ none_sent m k (Off v) free = refl
 none_sent m k (On v) free = refl
 
 none_booked : (site : SiteFields) (m k : ℕ) (event : Event) (book : List Command) → is_of_head event ≡ false →
-    booked site m k event book ≡ book
+    book_after_event site m k event book ≡ book
 none_booked site m k (Subscribe v) book free = absurd cc
 none_booked site m k (Revoke v) book free = absurd cc
 none_booked site m k Send book free = absurd cc
@@ -323,13 +323,13 @@ unfolding watch
 watch_runs plan clear u [] past free = refl
 watch_runs plan clear u (event ∷ events) past free =
     let rest = All-tail (λ e. is_of_head e ≡ false) event events free in
-    ap (λ (k : ℕ). watched u (count_sent plan clear k) event (watch plan clear u (events ++ past)))
+    ap (λ (k : ℕ). watch_after_event u (count_sent plan clear k) event (watch plan clear u (events ++ past)))
     (sends_same (length clear) events past rest)
-    ∙ ap (watched u (count_sent plan clear (sends (length clear) past)) event)
+    ∙ ap (watch_after_event u (count_sent plan clear (sends (length clear) past)) event)
     (watch_runs plan clear u events past rest)
 
 -- at the head end's events they wait
-head_waits : (u n : ℕ) (event : Event) (w : Watch) → is_of_head event ≡ true → watched u n event w ≡ w
+head_waits : (u n : ℕ) (event : Event) (w : Watch) → is_of_head event ≡ true → watch_after_event u n event w ≡ w
 head_waits u n (Subscribe v) w is = refl
 head_waits u n (Revoke v) w is = refl
 head_waits u n Send w is = refl

@@ -27,7 +27,7 @@ use Rattle.sd_spec.proofs.Offers.{watch_stays}
 use Rattle.sd_law_losses.specs.Kept.{arrived, greatest_at_most, least_above, after_cat, is_kept}
 use Rattle.sd_law_losses.specs.Confirmed.{is_open, tracked_position, is_traced, between}
 use Rattle.sd_law_losses.specs.Confirmed.{is_written_between, is_confirmed_at}
-use Rattle.sd_law_field.specs.Times.{kept_at, places_in, places_of, taken}
+use Rattle.sd_law_field.specs.Times.{kept_at, confirmed_places_in, confirmed_to_leaf, clear_sent_in}
 
 -- Two books of a site that agree on all packets.
 
@@ -97,8 +97,8 @@ module _ (site : SiteFields) (a b : List Command) (clear : List (List ℕ)) (u :
           written_agrees kept j x y (omega (arith, first, inside))
 
   places_agree : (places : List ℕ) → AreInRange site →
-      places_in (with_book site a) u clear places ≡ places_in (with_book site b) u clear places
-  unfolding places_in
+      confirmed_places_in (with_book site a) u clear places ≡ confirmed_places_in (with_book site b) u clear places
+  unfolding confirmed_places_in
   places_agree places r =
       ap (λ (items : List Item). filter (is_confirmed_at (with_book site a) u clear
       (after_cat (at_places Cat items places))) (range_with_len 0 (length clear))) sent_agrees
@@ -107,11 +107,11 @@ module _ (site : SiteFields) (a b : List Command) (clear : List (List ℕ)) (u :
       (λ j inside. confirmed_agrees (kept_at (with_book site b) clear places) j r (omega (arith, inside)))
 
   all_agree : (xss : List (List ℕ)) → AreInRange site →
-      flat_map (places_in (with_book site a) u clear) xss ≡ flat_map (places_in (with_book site b) u clear) xss
+      flat_map (confirmed_places_in (with_book site a) u clear) xss ≡ flat_map (confirmed_places_in (with_book site b) u clear) xss
   all_agree [] r = refl
   all_agree (xs ∷ xss) r =
       rw (places_agree xs r)
-      (ap (λ (rest : List ℕ). places_in (with_book site b) u clear xs ++ rest) (all_agree xss r))
+      (ap (λ (rest : List ℕ). confirmed_places_in (with_book site b) u clear xs ++ rest) (all_agree xss r))
 
 -- The books of some events, and of more.
 
@@ -154,16 +154,16 @@ events_agree site m later past k r below =
 
 -- the numbers of the packets that are confirmed
 pub places_stay : (site : SiteFields) (later past : List Event) (clear : Packets) (u : ℕ) → AreInRange site →
-    places_of (plan_after site (length clear) (later ++ past)) u (taken clear past)
+    confirmed_to_leaf (plan_after site (length clear) (later ++ past)) u (clear_sent_in clear past)
     (watch (plan_after site (length clear) (later ++ past)) clear u past)
-    ≡ places_of (plan_after site (length clear) past) u (taken clear past)
+    ≡ confirmed_to_leaf (plan_after site (length clear) past) u (clear_sent_in clear past)
     (watch (plan_after site (length clear) past) clear u past)
-unfolding places_of
+unfolding confirmed_to_leaf
 places_stay site later past clear u r =
     let m : ℕ = length clear in
     let short = length-take (sends m past) clear in
-    ap (λ (w : Watch). flat_map (places_in (plan_after site m (later ++ past)) u (taken clear past)) (times w))
+    ap (λ (w : Watch). flat_map (confirmed_places_in (plan_after site m (later ++ past)) u (clear_sent_in clear past)) (times w))
     (watch_stays site later past clear u r)
-    ∙ all_agree site (event_book site m (later ++ past)) (event_book site m past) (taken clear past) u
+    ∙ all_agree site (event_book site m (later ++ past)) (event_book site m past) (clear_sent_in clear past) u
     (λ k within. events_agree site m later past k r (omega (arith, within, short)))
     (times (watch (plan_after site m past) clear u past)) r

@@ -8,8 +8,8 @@ use Rattle.std.proofs.lemmas.List.FromFn.{length-range_with_len, get_or-range_wi
 use Rattle.std.proofs.lemmas.List.Elements.{All-nil, All-cons, All-head, All-tail, All-get_or, All-from_get_or}
 use Rattle.std.proofs.lemmas.List.Elements.{All-filter}
 use Rattle.sd_base.proofs.Arithmetic.{packets_in}
-use Rattle.sd_site_cards.specs.CardFields.{CardFields, card_of}
-use Rattle.sd_engine.specs.Taken.{StreamEnd, Whole, Breaks, RunsOn, taken_of, end_of}
+use Rattle.sd_site_cards.specs.CardFields.{CardFields, card_of, site_card}
+use Rattle.sd_engine.specs.Taken.{StreamEnd, Whole, Breaks, RunsOn, packets_taken, end_of}
 use Rattle.sd_spec.specs.Plan.{Plan, IsPlan, period_of}
 use Rattle.sd_spec.specs.Refused.{IsClear, IsSendable, whole_refusal}
 use Rattle.sd_message.specs.declared.clear_fault.ClearFault.{ClearFault}
@@ -33,14 +33,14 @@ use Rattle.sd_ports.specs.Bytes.{Prefix}
 use Rattle.sd_run_broadcasts.specs.Head.{sent_of, sent_status, status_where, stream_refusal}
 use Rattle.sd_run_broadcasts.proofs.HeadSending.{sent_whole}
 use Rattle.sd_run_broadcasts.proofs.Refusals.{ended_whole, none_whole}
-use Rattle.sd_run_broadcasts.specs.Receive.{ending_status, ended_status, received_of, received_status}
+use Rattle.sd_run_broadcasts.specs.Receive.{ending_status, receive_end_status, received_of, received_status}
 use Rattle.sd_run_broadcasts.proofs.Received.{none_refused, bytes_are}
-use Rattle.sd_run_broadcasts.specs.Trial.{clear_line, trial_lines, lines_to, receiver_line, sent_or, then_line}
+use Rattle.sd_run_broadcasts.specs.Trial.{trial_clear_line, trial_lines, lines_of_trial, trial_receiver_line, sent_or, then_line}
 use Rattle.sd_run_broadcasts.specs.Trial.{told_line}
 use Rattle.sd_command_base.specs.Printed.{printing}
-use Rattle.sd_run_broadcasts.specs.Trial.{plan_meaning, told_sent, trial_meaning, trial_text, trying}
+use Rattle.sd_run_broadcasts.specs.Trial.{trial_plan_meaning, told_sent, trial_meaning, trial_text, trying}
 use Rattle.sd_run_broadcasts.specs.Prefixes.{prefix_of_file}
-use Rattle.sd_run_broadcasts.specs.Trial.{most_clear_bytes}
+use Rattle.sd_run_broadcasts.specs.Trial.{trial_clear_bytes}
 use Rattle.sd_run_broadcasts.proofs.Prefixes.{whole_prefix}
 use Rattle.sd_law_field.specs.Trials.{line_by, opened_line, opened_lines}
 
@@ -85,7 +85,7 @@ module _ (plan : Plan) (clear : List (List ℕ)) (is : IsPlan plan) (all : IsCle
   can = clear_sendable plan.site clear all
 
   abbrev card : ℕ → CardFields
-  card u = card_of plan.site.master plan.site.ca plan.site.height u
+  card u = site_card plan.site u
 
   leaf_is : (u : ℕ) → (card u).leaf ≡ u
   unfolding card_of
@@ -99,7 +99,7 @@ module _ (plan : Plan) (clear : List (List ℕ)) (is : IsPlan plan) (all : IsCle
 
   heard_status : (u : ℕ) → u < 2 ^ plan.site.height →
       received_status (card u) stream ≡ ending_status u (whole_ending (first_revoked plan u clear))
-  unfolding ended_status
+  unfolding receive_end_status
   heard_status u leaf =
       let taken = broadcast_taken plan clear is can whole synced in
       none_refused (card u) stream Whole
@@ -109,8 +109,8 @@ module _ (plan : Plan) (clear : List (List ℕ)) (is : IsPlan plan) (all : IsCle
       ∙ ap (λ (v : ℕ). ending_status v (whole_ending (first_revoked plan u clear))) (leaf_is u)
 
   heard_line : (u : ℕ) → u < 2 ^ plan.site.height →
-      receiver_line plan.site stream u ≡ Ok (opened_line plan clear u)
-  unfolding receiver_line opened_line
+      trial_receiver_line plan.site stream u ≡ Ok (opened_line plan clear u)
+  unfolding trial_receiver_line opened_line
   heard_line u leaf =
       ap (λ (n : ℕ). told_line u n (received_status (card u) stream))
       (ap (λ (xs : List ℕ). length xs / 188) (heard_bytes u leaf)
@@ -119,12 +119,12 @@ module _ (plan : Plan) (clear : List (List ℕ)) (is : IsPlan plan) (all : IsCle
       ∙ line_told u (length (opened_by plan u clear)) (first_revoked plan u clear)
 
   all_lines : (n : ℕ) → n ≤ 2 ^ plan.site.height →
-      lines_to plan.site stream (clear_line (length clear) (length (broadcast plan clear))) n
+      lines_of_trial plan.site stream (trial_clear_line (length clear) (length (broadcast plan clear))) n
       ≡ Ok (opened_lines plan clear n)
-  unfolding lines_to opened_lines
+  unfolding lines_of_trial opened_lines
   all_lines zero low = refl
   all_lines (suc n) low =
-      ap (λ (r : Result (List ℕ) Status). then_line r (receiver_line plan.site stream n))
+      ap (λ (r : Result (List ℕ) Status). then_line r (trial_receiver_line plan.site stream n))
       (all_lines n (omega (arith, low)))
       ∙ ap (then_line (Ok (opened_lines plan clear n))) (heard_line n (omega (arith, low)))
 
@@ -133,12 +133,12 @@ all_told : (status : Status) (sent bytes : List ℕ) → Done ≡ status → byt
 all_told status sent bytes done is =
     ap (λ (s : Status). sent_or s false sent) (sym done) ∙ ap Ok (sym is)
 
-pub trial_opened : (plan : Plan) (bytes : List ℕ) → IsPlan plan → whole_refusal plan.site (taken_of bytes) ≡ None →
+pub trial_opened : (plan : Plan) (bytes : List ℕ) → IsPlan plan → whole_refusal plan.site (packets_taken bytes) ≡ None →
     AreBytes bytes → end_of bytes ≡ Whole → trial_text plan (record { bytes = bytes; more = false })
-    ≡ Ok (opened_lines plan (taken_of bytes) (2 ^ plan.site.height))
+    ≡ Ok (opened_lines plan (packets_taken bytes) (2 ^ plan.site.height))
 unfolding trial_text told_sent
 trial_opened plan bytes is none are end =
-    let clear : List (List ℕ) = taken_of bytes in
+    let clear : List (List ℕ) = packets_taken bytes in
     let all = (none_whole plan.site clear none).0 in
     let stream : List ℕ = concat (broadcast plan clear) in
     let whole = taken_whole bytes are in
@@ -150,23 +150,23 @@ trial_opened plan bytes is none are end =
     long_packets (broadcast plan clear)
     (broadcast_synced plan clear is (clear_sendable plan.site clear all) whole synced) in
     ap (trial_lines plan (length bytes)) (all_told (sent_status plan bytes) (sent_of plan bytes) stream sent.1 sent.0)
-    ∙ ap (λ (n : ℕ). lines_to plan.site stream (clear_line n (length stream / 188)) (2 ^ plan.site.height)) size
-    ∙ ap (λ (n : ℕ). lines_to plan.site stream (clear_line (length clear) n) (2 ^ plan.site.height)) long
+    ∙ ap (λ (n : ℕ). lines_of_trial plan.site stream (trial_clear_line n (length stream / 188)) (2 ^ plan.site.height)) size
+    ∙ ap (λ (n : ℕ). lines_of_trial plan.site stream (trial_clear_line (length clear) n) (2 ^ plan.site.height)) long
     ∙ all_lines plan clear is all whole synced (2 ^ plan.site.height) (omega arith)
 
 -- a trial of good files, by its steps
 pub trial_good : (site book clear : FileArgument) (given : Readings) (plan : Plan) (bytes : List ℕ) → IsPlan plan →
-    (plan_meaning site book given).result ≡ Ok plan → given clear ≡ Some bytes → length bytes ≤ most_clear_bytes →
-    AreBytes bytes → end_of bytes ≡ Whole → whole_refusal plan.site (taken_of bytes) ≡ None →
+    (trial_plan_meaning site book given).result ≡ Ok plan → given clear ≡ Some bytes → length bytes ≤ trial_clear_bytes →
+    AreBytes bytes → end_of bytes ≡ Whole → whole_refusal plan.site (packets_taken bytes) ≡ None →
     (trial_meaning site book clear given).result
-    ≡ Ok (printing (Ok (opened_lines plan (taken_of bytes) (2 ^ plan.site.height))))
+    ≡ Ok (printing (Ok (opened_lines plan (packets_taken bytes) (2 ^ plan.site.height))))
 unfolding trial_meaning prefix_of_file
 trial_good site book clear given plan bytes is said there few are end all =
-    ap (λ (r : Result Plan Status). (and_then (plan_meaning site book given).calls r (λ plan.
-    prefix_of_file clear.number most_clear_bytes (given clear) >>= λ prefix. value (trying plan prefix))).result) said
-    ∙ ap (λ (got : Option (List ℕ)). (prefix_of_file clear.number most_clear_bytes got
+    ap (λ (r : Result Plan Status). (and_then (trial_plan_meaning site book given).calls r (λ plan.
+    prefix_of_file clear.number trial_clear_bytes (given clear) >>= λ prefix. value (trying plan prefix))).result) said
+    ∙ ap (λ (got : Option (List ℕ)). (prefix_of_file clear.number trial_clear_bytes got
     >>= λ prefix. value (trying plan prefix)).result) there
-    ∙ ap (λ (prefix : Prefix). Ok (trying plan prefix)) (whole_prefix most_clear_bytes bytes few)
+    ∙ ap (λ (prefix : Prefix). Ok (trying plan prefix)) (whole_prefix trial_clear_bytes bytes few)
     ∙ ap (λ (text : Result (List ℕ) Status). Ok (printing text)) (trial_opened plan bytes is all are end)
 
 -- a trial that is done, by the ways that it may end
@@ -184,17 +184,17 @@ lines_sent plan n (Ok sent) text e = (sent, refl)
 lines_sent plan n (Err status) text e = absurd (cc)
 
 sent_right : (plan : Plan) (prefix : Prefix) (sent : List ℕ) → told_sent plan prefix ≡ Ok sent →
-    (end_of prefix.bytes ≡ Whole) × (whole_refusal plan.site (taken_of prefix.bytes) ≡ None)
+    (end_of prefix.bytes ≡ Whole) × (whole_refusal plan.site (packets_taken prefix.bytes) ≡ None)
     × (prefix.more ≡ false)
 unfolding told_sent sent_status
 sent_right plan prefix sent e =
-    let clear = taken_of prefix.bytes in
+    let clear = packets_taken prefix.bytes in
     let done = done_sent (end_of prefix.bytes) (stream_refusal plan.site clear (end_of prefix.bytes)) prefix.more
     (sent_of plan prefix.bytes) sent e in
     (done.0, ended_whole plan.site clear (end_of prefix.bytes) done.0 done.1, done.2)
 
 pub trial_right : (plan : Plan) (prefix : Prefix) (text : List ℕ) → trial_text plan prefix ≡ Ok text →
-    (end_of prefix.bytes ≡ Whole) × (whole_refusal plan.site (taken_of prefix.bytes) ≡ None)
+    (end_of prefix.bytes ≡ Whole) × (whole_refusal plan.site (packets_taken prefix.bytes) ≡ None)
     × (prefix.more ≡ false)
 unfolding trial_text
 trial_right plan prefix text e =
@@ -207,15 +207,15 @@ one_text told a b e f = cc
 
 pub trial_done : (plan : Plan) (prefix : Prefix) (text : List ℕ) → IsPlan plan → AreBytes prefix.bytes →
     trial_text plan prefix ≡ Ok text →
-    (end_of prefix.bytes ≡ Whole) × (whole_refusal plan.site (taken_of prefix.bytes) ≡ None)
+    (end_of prefix.bytes ≡ Whole) × (whole_refusal plan.site (packets_taken prefix.bytes) ≡ None)
     × (prefix.more ≡ false)
-    × (text ≡ opened_lines plan (taken_of prefix.bytes) (2 ^ plan.site.height))
+    × (text ≡ opened_lines plan (packets_taken prefix.bytes) (2 ^ plan.site.height))
 trial_done plan prefix text is are e =
     let right = trial_right plan prefix text e in (
       right.0,
       right.1,
       right.2,
-      one_text (trial_text plan prefix) text (opened_lines plan (taken_of prefix.bytes) (2 ^ plan.site.height)) e
+      one_text (trial_text plan prefix) text (opened_lines plan (packets_taken prefix.bytes) (2 ^ plan.site.height)) e
           (ap (λ (more : Bool). trial_text plan (record { bytes = prefix.bytes; more = more })) right.2
           ∙ trial_opened plan prefix.bytes is right.1 are right.0),
     )

@@ -23,7 +23,7 @@ use Rattle.sd_spec.specs.declared.event.Event.{Event}
 use Rattle.sd_spec.specs.Book.{sends}
 use Rattle.sd_spec.specs.Watch.{Watch, stream, watch, times, present, written}
 use Rattle.sd_spec.proofs.Watching.{all_below, cursor_within, times_below, times_rise}
-use Rattle.sd_law_field.specs.Times.{card_at, taken, places_of}
+use Rattle.sd_law_field.specs.Times.{plan_card, clear_sent_in, confirmed_to_leaf}
 use Rattle.sd_law_field.proofs.Rising.{Rises, increasing_rises, rises_increase, rises_second, rises_short}
 use Rattle.sd_law_field.proofs.Streams.{stream_is}
 use Rattle.sd_law_field.proofs.Entitled.{places_are_entitled}
@@ -37,14 +37,14 @@ body_long plan clear = packets_many plan.site [] (sent plan clear)
 
 -- what a receiver was offered was sent
 offered_within : (plan : Plan) (clear : List (List ℕ)) (u : ℕ) (past : List Event) → IsPlan plan →
-    IsClear plan.site (taken clear past) → AreWholePackets (taken clear past) → AreSynced (taken clear past) →
-    All (λ i. i < length (sent plan (taken clear past))) (concat (times (watch plan clear u past)))
+    IsClear plan.site (clear_sent_in clear past) → AreWholePackets (clear_sent_in clear past) → AreSynced (clear_sent_in clear past) →
+    All (λ i. i < length (sent plan (clear_sent_in clear past))) (concat (times (watch plan clear u past)))
 offered_within plan clear u past is fit whole synced =
     let w : Watch = watch plan clear u past in
     let passed = cursor_within plan clear u past in
-    let same : length (stream plan (taken clear past)) ≡ length (sent plan (taken clear past)) =
-    ap length (stream_is plan (taken clear past) is fit whole synced) ∙ body_long plan (taken clear past) in
-    all_below w.cursor (length (sent plan (taken clear past))) (concat (times w)) (omega (arith, passed, same))
+    let same : length (stream plan (clear_sent_in clear past)) ≡ length (sent plan (clear_sent_in clear past)) =
+    ap length (stream_is plan (clear_sent_in clear past) is fit whole synced) ∙ body_long plan (clear_sent_in clear past) in
+    all_below w.cursor (length (sent plan (clear_sent_in clear past))) (concat (times w)) (omega (arith, passed, same))
     (times_below plan clear u past)
 
 offered_rise : (plan : Plan) (clear : List (List ℕ)) (u : ℕ) (past : List Event) →
@@ -54,81 +54,81 @@ offered_rise plan clear u past =
 
 -- what it writes is confirmed
 pub written_is_confirmed : (plan : Plan) (clear : List (List ℕ)) (u : ℕ) (past : List Event) → IsPlan plan →
-    IsClear plan.site (taken clear past) → AreWholePackets (taken clear past) → AreSynced (taken clear past) →
-    u < 2 ^ plan.site.height → written plan (card_at plan u) (taken clear past) (watch plan clear u past)
-    ≡ packets_at (taken clear past) (places_of plan u (taken clear past) (watch plan clear u past))
-unfolding written places_of
+    IsClear plan.site (clear_sent_in clear past) → AreWholePackets (clear_sent_in clear past) → AreSynced (clear_sent_in clear past) →
+    u < 2 ^ plan.site.height → written plan (plan_card plan u) (clear_sent_in clear past) (watch plan clear u past)
+    ≡ packets_at (clear_sent_in clear past) (confirmed_to_leaf plan u (clear_sent_in clear past) (watch plan clear u past))
+unfolding written confirmed_to_leaf
 written_is_confirmed plan clear u past is fit whole synced leaf =
-    all.times_write plan (taken clear past) u is fit whole synced leaf (times (watch plan clear u past))
+    all.times_write plan (clear_sent_in clear past) u is fit whole synced leaf (times (watch plan clear u past))
     (offered_rise plan clear u past) (offered_within plan clear u past is fit whole synced)
 
 -- the places rise
 confirmed_rise : (plan : Plan) (clear : List (List ℕ)) (u : ℕ) (past : List Event) →
-    Rises 0 (places_of plan u (taken clear past) (watch plan clear u past))
-unfolding places_of
+    Rises 0 (confirmed_to_leaf plan u (clear_sent_in clear past) (watch plan clear u past))
+unfolding confirmed_to_leaf
 confirmed_rise plan clear u past =
-    all.places_rise plan (taken clear past) u (times (watch plan clear u past)) (offered_rise plan clear u past)
+    all.places_rise plan (clear_sent_in clear past) u (times (watch plan clear u past)) (offered_rise plan clear u past)
 
 pub places_rise : (plan : Plan) (clear : List (List ℕ)) (u : ℕ) (past : List Event) → IsPlan plan →
-    IsClear plan.site (taken clear past) → AreWholePackets (taken clear past) → AreSynced (taken clear past) →
+    IsClear plan.site (clear_sent_in clear past) → AreWholePackets (clear_sent_in clear past) → AreSynced (clear_sent_in clear past) →
     u < 2 ^ plan.site.height →
-    IsStrictlyIncreasing (places_of plan u (taken clear past) (watch plan clear u past))
+    IsStrictlyIncreasing (confirmed_to_leaf plan u (clear_sent_in clear past) (watch plan clear u past))
 places_rise plan clear u past is fit whole synced leaf =
-    rises_increase 0 (places_of plan u (taken clear past) (watch plan clear u past))
+    rises_increase 0 (confirmed_to_leaf plan u (clear_sent_in clear past) (watch plan clear u past))
     (confirmed_rise plan clear u past)
 
 -- they were sent
 confirmed_inside : (plan : Plan) (clear : List (List ℕ)) (u : ℕ) (past : List Event) →
-    All (λ j. j < length (taken clear past)) (places_of plan u (taken clear past) (watch plan clear u past))
-unfolding places_of
+    All (λ j. j < length (clear_sent_in clear past)) (confirmed_to_leaf plan u (clear_sent_in clear past) (watch plan clear u past))
+unfolding confirmed_to_leaf
 confirmed_inside plan clear u past =
-    all.each_time plan (taken clear past) u (λ j. j < length (taken clear past))
-    (all.places_inside plan (taken clear past) u) (times (watch plan clear u past))
+    all.each_time plan (clear_sent_in clear past) u (λ j. j < length (clear_sent_in clear past))
+    (all.places_inside plan (clear_sent_in clear past) u) (times (watch plan clear u past))
 
 pub places_are_sent : (plan : Plan) (clear : List (List ℕ)) (u : ℕ) (past : List Event) → IsPlan plan →
-    IsClear plan.site (taken clear past) → AreWholePackets (taken clear past) → AreSynced (taken clear past) →
-    u < 2 ^ plan.site.height → All (λ j. j < length (taken clear past))
-    (places_of plan u (taken clear past) (watch plan clear u past))
+    IsClear plan.site (clear_sent_in clear past) → AreWholePackets (clear_sent_in clear past) → AreSynced (clear_sent_in clear past) →
+    u < 2 ^ plan.site.height → All (λ j. j < length (clear_sent_in clear past))
+    (confirmed_to_leaf plan u (clear_sent_in clear past) (watch plan clear u past))
 places_are_sent plan clear u past is fit whole synced leaf = confirmed_inside plan clear u past
 
 -- and are of periods in which the leaf isn't revoked
 pub places_entitled : (plan : Plan) (clear : List (List ℕ)) (u : ℕ) (past : List Event) → IsPlan plan →
-    IsClear plan.site (taken clear past) → AreWholePackets (taken clear past) → AreSynced (taken clear past) →
+    IsClear plan.site (clear_sent_in clear past) → AreWholePackets (clear_sent_in clear past) → AreSynced (clear_sent_in clear past) →
     u < 2 ^ plan.site.height → All (λ j. is_revoked_in plan u (period_of plan j) ≡ false)
-    (places_of plan u (taken clear past) (watch plan clear u past))
-unfolding places_of
+    (confirmed_to_leaf plan u (clear_sent_in clear past) (watch plan clear u past))
+unfolding confirmed_to_leaf
 places_entitled plan clear u past is fit whole synced leaf =
-    all.each_time plan (taken clear past) u (λ j. is_revoked_in plan u (period_of plan j) ≡ false)
-    (λ xs. places_are_entitled plan (taken clear past) u xs is leaf) (times (watch plan clear u past))
+    all.each_time plan (clear_sent_in clear past) u (λ j. is_revoked_in plan u (period_of plan j) ≡ false)
+    (λ xs. places_are_entitled plan (clear_sent_in clear past) u xs is leaf) (times (watch plan clear u past))
 
 -- what it writes for a place is the clear packet
 pub written_for : (plan : Plan) (clear : List (List ℕ)) (u i j : ℕ) (past : List Event) → IsPlan plan →
-    IsClear plan.site (taken clear past) → AreWholePackets (taken clear past) → AreSynced (taken clear past) →
+    IsClear plan.site (clear_sent_in clear past) → AreWholePackets (clear_sent_in clear past) → AreSynced (clear_sent_in clear past) →
     u < 2 ^ plan.site.height →
-    slice_get (places_of plan u (taken clear past) (watch plan clear u past)) i ≡ Some j →
-    slice_get (written plan (card_at plan u) (taken clear past) (watch plan clear u past)) i
+    slice_get (confirmed_to_leaf plan u (clear_sent_in clear past) (watch plan clear u past)) i ≡ Some j →
+    slice_get (written plan (plan_card plan u) (clear_sent_in clear past) (watch plan clear u past)) i
     ≡ Some (get_or clear j [])
 written_for plan clear u i j past is fit whole synced leaf at =
-    let places : List ℕ = places_of plan u (taken clear past) (watch plan clear u past) in
-    let here = All-get_or (λ x. x < length (taken clear past)) places i 0 (slice_get_within places i j at)
+    let places : List ℕ = confirmed_to_leaf plan u (clear_sent_in clear past) (watch plan clear u past) in
+    let here = All-get_or (λ x. x < length (clear_sent_in clear past)) places i 0 (slice_get_within places i j at)
     (confirmed_inside plan clear u past) in
     let same = get_or_from_slice_get places i j 0 at in
     let long = length-take (sends (length clear) past) clear in
     let within : j < sends (length clear) past = omega (arith, here, same, long) in
     ap (λ (packets : List (List ℕ)). slice_get packets i)
     (written_is_confirmed plan clear u past is fit whole synced leaf)
-    ∙ (slice_get-map (packet_at (taken clear past)) places i
-    ∙ (ap (option_map (packet_at (taken clear past))) at
+    ∙ (slice_get-map (packet_at (clear_sent_in clear past)) places i
+    ∙ (ap (option_map (packet_at (clear_sent_in clear past))) at
     ∙ ap (λ (packet : List ℕ). Some packet) (get_or-take (sends (length clear) past) clear j [] within)))
 
 pub one_packet : (plan : Plan) (clear : List (List ℕ)) (u v i k j : ℕ) (past other : List Event) → IsPlan plan →
-    IsClear plan.site (taken clear past) → AreWholePackets (taken clear past) → AreSynced (taken clear past) →
-    IsClear plan.site (taken clear other) → AreWholePackets (taken clear other) → AreSynced (taken clear other) →
+    IsClear plan.site (clear_sent_in clear past) → AreWholePackets (clear_sent_in clear past) → AreSynced (clear_sent_in clear past) →
+    IsClear plan.site (clear_sent_in clear other) → AreWholePackets (clear_sent_in clear other) → AreSynced (clear_sent_in clear other) →
     u < 2 ^ plan.site.height → v < 2 ^ plan.site.height →
-    slice_get (places_of plan u (taken clear past) (watch plan clear u past)) i ≡ Some j →
-    slice_get (places_of plan v (taken clear other) (watch plan clear v other)) k ≡ Some j →
-    slice_get (written plan (card_at plan u) (taken clear past) (watch plan clear u past)) i
-    ≡ slice_get (written plan (card_at plan v) (taken clear other) (watch plan clear v other)) k
+    slice_get (confirmed_to_leaf plan u (clear_sent_in clear past) (watch plan clear u past)) i ≡ Some j →
+    slice_get (confirmed_to_leaf plan v (clear_sent_in clear other) (watch plan clear v other)) k ≡ Some j →
+    slice_get (written plan (plan_card plan u) (clear_sent_in clear past) (watch plan clear u past)) i
+    ≡ slice_get (written plan (plan_card plan v) (clear_sent_in clear other) (watch plan clear v other)) k
 one_packet plan clear u v i k j past other is fit whole synced fits wholes syncs leaf other_leaf at there =
     written_for plan clear u i j past is fit whole synced leaf at
     ∙ sym (written_for plan clear v k j other is fits wholes syncs other_leaf there)
@@ -144,65 +144,65 @@ last_time w =
 
 -- nothing is refused in it
 pub present_unrefused : (plan : Plan) (clear : List (List ℕ)) (u : ℕ) (past : List Event) → IsPlan plan →
-    IsClear plan.site (taken clear past) → AreWholePackets (taken clear past) → AreSynced (taken clear past) →
+    IsClear plan.site (clear_sent_in clear past) → AreWholePackets (clear_sent_in clear past) → AreSynced (clear_sent_in clear past) →
     u < 2 ^ plan.site.height →
-    break_from (card_at plan u) [] (present plan (taken clear past) (watch plan clear u past)) ≡ None
+    break_from (plan_card plan u) [] (present plan (clear_sent_in clear past) (watch plan clear u past)) ≡ None
 unfolding present
 present_unrefused plan clear u past is fit whole synced leaf =
     let w : Watch = watch plan clear u past in
     let before : List ℕ = concat (reverse (map reverse w.earlier)) in
-    none_refused plan (taken clear past) u (reverse w.now) is fit whole synced leaf
+    none_refused plan (clear_sent_in clear past) u (reverse w.now) is fit whole synced leaf
     (rises_increase 0 (reverse w.now)
     (rises_second 0 before (reverse w.now) (subst (Rises 0) (last_time w) (offered_rise plan clear u past))))
-    (all_second (λ i. i < length (sent plan (taken clear past))) before (reverse w.now)
-    (subst (All (λ i. i < length (sent plan (taken clear past)))) (last_time w)
+    (all_second (λ i. i < length (sent plan (clear_sent_in clear past))) before (reverse w.now)
+    (subst (All (λ i. i < length (sent plan (clear_sent_in clear past)))) (last_time w)
     (offered_within plan clear u past is fit whole synced)))
 
 -- no more is written than was sent clear
 places_few : (plan : Plan) (clear : List (List ℕ)) (u : ℕ) (past : List Event) →
-    length (places_of plan u (taken clear past) (watch plan clear u past)) ≤ length (taken clear past)
+    length (confirmed_to_leaf plan u (clear_sent_in clear past) (watch plan clear u past)) ≤ length (clear_sent_in clear past)
 places_few plan clear u past =
-    let few = rises_short 0 (length (taken clear past))
-    (places_of plan u (taken clear past) (watch plan clear u past)) (confirmed_rise plan clear u past)
+    let few = rises_short 0 (length (clear_sent_in clear past))
+    (confirmed_to_leaf plan u (clear_sent_in clear past) (watch plan clear u past)) (confirmed_rise plan clear u past)
     (confirmed_inside plan clear u past) (omega arith) in
     omega (arith, few)
 
 pub written_few : (plan : Plan) (clear : List (List ℕ)) (u : ℕ) (past : List Event) → IsPlan plan →
-    IsClear plan.site (taken clear past) → AreWholePackets (taken clear past) → AreSynced (taken clear past) →
+    IsClear plan.site (clear_sent_in clear past) → AreWholePackets (clear_sent_in clear past) → AreSynced (clear_sent_in clear past) →
     u < 2 ^ plan.site.height →
-    length (written plan (card_at plan u) (taken clear past) (watch plan clear u past))
-    ≤ length (taken clear past)
+    length (written plan (plan_card plan u) (clear_sent_in clear past) (watch plan clear u past))
+    ≤ length (clear_sent_in clear past)
 written_few plan clear u past is fit whole synced leaf =
-    let places : List ℕ = places_of plan u (taken clear past) (watch plan clear u past) in
+    let places : List ℕ = confirmed_to_leaf plan u (clear_sent_in clear past) (watch plan clear u past) in
     let same = ap length (written_is_confirmed plan clear u past is fit whole synced leaf) in
-    let long = length-map places (packet_at (taken clear past)) in
+    let long = length-map places (packet_at (clear_sent_in clear past)) in
     let few = places_few plan clear u past in
     omega (arith, same, long, few)
 
 pub written_short : (plan : Plan) (clear : List (List ℕ)) (u : ℕ) (past : List Event) → IsPlan plan →
-    IsClear plan.site (taken clear past) → AreWholePackets (taken clear past) → AreSynced (taken clear past) →
+    IsClear plan.site (clear_sent_in clear past) → AreWholePackets (clear_sent_in clear past) → AreSynced (clear_sent_in clear past) →
     u < 2 ^ plan.site.height →
-    length (concat (written plan (card_at plan u) (taken clear past) (watch plan clear u past)))
-    ≤ 188 * length (taken clear past)
+    length (concat (written plan (plan_card plan u) (clear_sent_in clear past) (watch plan clear u past)))
+    ≤ 188 * length (clear_sent_in clear past)
 written_short plan clear u past is fit whole synced leaf =
-    let places : List ℕ = places_of plan u (taken clear past) (watch plan clear u past) in
-    let packets : List (List ℕ) = packets_at (taken clear past) places in
+    let places : List ℕ = confirmed_to_leaf plan u (clear_sent_in clear past) (watch plan clear u past) in
+    let packets : List (List ℕ) = packets_at (clear_sent_in clear past) places in
     let same = ap (λ (ps : List (List ℕ)). length (concat ps))
     (written_is_confirmed plan clear u past is fit whole synced leaf) in
     let each : AreSynced packets =
-    All-map IsSynced (packet_at (taken clear past)) places
-    (All-weaker (λ j. j < length (taken clear past)) (λ j. IsSynced (packet_at (taken clear past) j))
-    (λ j within. All-get_or IsSynced (taken clear past) j [] within synced) places
+    All-map IsSynced (packet_at (clear_sent_in clear past)) places
+    (All-weaker (λ j. j < length (clear_sent_in clear past)) (λ j. IsSynced (packet_at (clear_sent_in clear past) j))
+    (λ j within. All-get_or IsSynced (clear_sent_in clear past) j [] within synced) places
     (confirmed_inside plan clear u past)) in
     let bytes = joined_long packets each in
-    let long = length-map places (packet_at (taken clear past)) in
+    let long = length-map places (packet_at (clear_sent_in clear past)) in
     let few = places_few plan clear u past in
     omega (arith, same, bytes, long, few)
 
 pub written_has_room : (plan : Plan) (clear : List (List ℕ)) (u : ℕ) (past : List Event) → IsPlan plan →
-    IsClear plan.site (taken clear past) → AreWholePackets (taken clear past) → AreSynced (taken clear past) →
+    IsClear plan.site (clear_sent_in clear past) → AreWholePackets (clear_sent_in clear past) → AreSynced (clear_sent_in clear past) →
     u < 2 ^ plan.site.height →
-    length (concat (written plan (card_at plan u) (taken clear past) (watch plan clear u past)))
+    length (concat (written plan (plan_card plan u) (clear_sent_in clear past) (watch plan clear u past)))
     ≤ 188 * length clear
 written_has_room plan clear u past is fit whole synced leaf =
     let short = written_short plan clear u past is fit whole synced leaf in

@@ -15,14 +15,14 @@ use Rattle.sd_spec.specs.declared.event.Event.{Event}
 use Rattle.sd_spec.specs.Book.{sends, plan_after}
 use Rattle.sd_spec.specs.Events.{is_of}
 use Rattle.sd_spec.specs.Watch.{watch, written}
-use Rattle.sd_law_field.specs.Times.{card_at, places_of, taken}
-use Rattle.sd_field.specs.Fields.{FieldValue, plan_in}
+use Rattle.sd_law_field.specs.Times.{plan_card, confirmed_to_leaf, clear_sent_in}
+use Rattle.sd_field.specs.Fields.{FieldValue, plan_of_field}
 use Rattle.sd_field.specs.Fields as field
-use Rattle.sd_run_broadcasts.specs.Field.{digest_of, first_line, receiver_line}
+use Rattle.sd_run_broadcasts.specs.Field.{digest_of, first_line, field_receiver_line}
 
 -- the clear packets that the events send
 abbrev pub sent_for : Packets → List Event → Packets
-sent_for clear events = taken clear (reverse events)
+sent_for clear events = clear_sent_in clear (reverse events)
 
 -- the site with the book of the events
 abbrev pub plan_for : SiteFields → Packets → List Event → Plan
@@ -30,13 +30,13 @@ plan_for site clear events = plan_after site (length clear) (reverse events)
 
 -- the numbers of the clear packets that are confirmed to leaf u, in all times that its receiver was on
 abbrev pub confirmed_places : SiteFields → Packets → List Event → LeafNumber → List PacketNumber
-confirmed_places site clear events u = places_of (plan_for site clear events) u (sent_for clear events)
+confirmed_places site clear events u = confirmed_to_leaf (plan_for site clear events) u (sent_for clear events)
     (watch (plan_for site clear events) clear u (reverse events))
 
 -- the line of leaf u, if exactly the confirmed clear packets are written
 unfoldable pub confirmed_line : SiteFields → Packets → List Event → LeafNumber → Bytes
 confirmed_line site clear events u =
-    receiver_line u (length (confirmed_places site clear events u))
+    field_receiver_line u (length (confirmed_places site clear events u))
     (digest_of (concat (packets_at (sent_for clear events) (confirmed_places site clear events u))))
 
 -- the first line of a field, and then those of the first n leaves
@@ -62,7 +62,7 @@ pub record IsGoodField (site : SiteFields) (clear : Packets) (events : List Even
 -- what leaf u's receivers write, one time after the other, if the head end sends by this plan
 abbrev pub wrote_by : Plan → Packets → List Event → LeafNumber → Packets
 wrote_by plan clear events u =
-    written plan (card_at plan u) (sent_for clear events) (watch plan clear u (reverse events))
+    written plan (plan_card plan u) (sent_for clear events) (watch plan clear u (reverse events))
 
 -- the same by the site with the book of the events
 abbrev pub wrote_for : SiteFields → Packets → List Event → LeafNumber → Packets
@@ -73,5 +73,5 @@ pub record IsWhole (v : FieldValue) : Type 0 where
   pub low : v.site.height ≤ 6
   pub whole : AreWholePackets v.clear
   pub synced : AreSynced v.clear
-  pub plan : IsPlan (plan_in v)
-  pub sent : IsClear v.site (field.taken v)
+  pub plan : IsPlan (plan_of_field v)
+  pub sent : IsClear v.site (field.field_clear_packets v)

@@ -11,7 +11,7 @@ ghost use Rattle.sd_spec.specs.Plan.{Plan, IsPlan, period_of, sets_at};
 ghost use Rattle.sd_spec.specs.Sent.{body};
 ghost use Rattle.sd_spec.specs.declared.event.Event.{Event};
 ghost use Rattle.sd_spec.specs.Events.{is_of, is_send};
-ghost use Rattle.sd_spec.specs.Book.{sends, open_period, period_after, reached, with_periods_to, event_book};
+ghost use Rattle.sd_spec.specs.Book.{sends, open_period, period_after, period_to_reach, with_periods_to, event_book};
 ghost use Rattle.sd_spec.specs.Book.{plan_after};
 ghost use Rattle.sd_spec.specs.Book.{accepted, greatest_period, commands_of};
 
@@ -26,13 +26,13 @@ pub fn sends_are_counted()
 /// have it. With more packets neither the period of a command nor that of the book falls, and each rises by at most one
 /// with a packet after the first.
 pub fn commands_are_of_later_periods()
-    ensures above { (site : SiteFields) (k : ℕ) → 0 < k → reached site k < period_after site k }
+    ensures above { (site : SiteFields) (k : ℕ) → 0 < k → period_to_reach site k < period_after site k }
     ensures next { (site : SiteFields) (k : ℕ) → 0 < k → period_after site k ≤ most_periods →
-        period_after site k ≡ reached site k + 1 }
+        period_after site k ≡ period_to_reach site k + 1 }
     ensures rise { (site : SiteFields) (j : PacketNumber) (k : ℕ) → AreInRange site → j ≤ k →
-        (reached site j ≤ reached site k) × (period_after site j ≤ period_after site k) }
+        (period_to_reach site j ≤ period_to_reach site k) × (period_after site j ≤ period_after site k) }
     ensures step { (site : SiteFields) (k : ℕ) → AreInRange site → 0 < k →
-        (reached site (k + 1) ≤ reached site k + 1) × (period_after site (k + 1) ≤ period_after site k + 1) }
+        (period_to_reach site (k + 1) ≤ period_to_reach site k + 1) × (period_after site (k + 1) ≤ period_after site k + 1) }
 {}
 
 /// A filled book ends with the period that it is filled to, or with a later one that it had. To fill it twice is to
@@ -50,7 +50,7 @@ pub fn periods_fill_books()
 /// above that of the next command.
 pub fn event_books_go_on()
     ensures reached { (site : SiteFields) (m : ℕ) (past : List Event) →
-        reached site (sends m past) ≤ last_period (event_book site m past) }
+        period_to_reach site (sends m past) ≤ last_period (event_book site m past) }
     ensures most { (site : SiteFields) (m : ℕ) (past : List Event) →
         last_period (event_book site m past) ≤ most_periods }
     ensures within { (site : SiteFields) (m : ℕ) (past : List Event) → AreInRange site →
@@ -77,7 +77,7 @@ pub fn commands_are_in_their_periods()
         commands_in (event_book site m past) q ≡ commands_of q (accepted site m past) }
     ensures last { (site : SiteFields) (m : ℕ) (past : List Event) → AreInRange site →
         last_period (event_book site m past)
-        ≡ max (greatest_period (accepted site m past)) (reached site (sends m past)) }
+        ≡ max (greatest_period (accepted site m past)) (period_to_reach site (sends m past)) }
 {}
 
 /// The number of a sent packet's period depends on no command. It is a period that the book has to have, or the site's
@@ -88,8 +88,8 @@ pub fn periods_of_packets_stay()
         period_of (plan_after site m past) j ≡ max site.first_period (min (open_period site j) most_periods) }
     ensures kept { (site : SiteFields) (m : ℕ) (past : List Event) (j : PacketNumber) → AreInRange site →
         j < sends m past →
-        (period_of (plan_after site m past) j ≤ reached site (sends m past))
-        ⊎ ((most_periods < period_of (plan_after site m past) j) × (reached site (sends m past) ≡ most_periods)
+        (period_of (plan_after site m past) j ≤ period_to_reach site (sends m past))
+        ⊎ ((most_periods < period_of (plan_after site m past) j) × (period_to_reach site (sends m past) ≡ most_periods)
         × (last_period (event_book site m past) ≡ most_periods)) }
 {}
 
@@ -98,7 +98,7 @@ pub fn periods_of_packets_stay()
 pub fn reached_periods_stay()
     ensures { (site : SiteFields) (m : ℕ) (later past : List Event) (q : PeriodNumber) → AreInRange site →
         0 < sends m past →
-        q ≤ reached site (sends m past) →
+        q ≤ period_to_reach site (sends m past) →
         commands_until q (event_book site m (later ++ past)) ≡ commands_until q (event_book site m past) }
 {}
 

@@ -9,7 +9,7 @@ ghost use Rattle.sd_cover_tracing.specs.Chains.{IsChainCover};
 ghost use Rattle.sd_cover_tracing.specs.Cover.{cover_of};
 ghost use Rattle.sd_spec.specs.Plan.{Plan, period_of, sets_at};
 ghost use Rattle.sd_head.specs.declared.head.Head.{Head};
-ghost use Rattle.sd_head.specs.Staged.{IsAfter, head_closes};
+ghost use Rattle.sd_head.specs.Staged.{IsHeadEndAfter, head_closes};
 ghost use Rattle.sd_law_field.specs.Changed.{changes_of};
 
 /// Commands of a book leave the revoked leaves that their changes leave of an index. So the leaves that are revoked in
@@ -35,11 +35,11 @@ pub fn sets_are_of_the_last_changes()
 /// last packet's, or of the first period where there was no packet.
 pub fn kept_indexes_have_the_sets()
     ensures after { (plan : Plan) (before : Packets) (packet : Packet) (head : Head) →
-        IsAfter plan (before ++ packet ∷ []) head →
+        IsHeadEndAfter plan (before ++ packet ∷ []) head →
         cover_of head.entitling.index.height head.entitling.index.revoked
         ≡ sets_at plan (period_of plan (length before)) }
     ensures end { (plan : Plan) (before : Packets) (head closed : Head) (bytes : Bytes) (steps : ℕ) →
-        IsAfter plan before head → head_closes head closed bytes steps →
+        IsHeadEndAfter plan before head → head_closes head closed bytes steps →
         cover_of plan.site.height closed.entitling.index.revoked
         ≡ sets_at plan (period_of plan (length before - 1)) }
 {}

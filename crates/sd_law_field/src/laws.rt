@@ -10,7 +10,7 @@ ghost use Rattle.sd_spec.specs.Refused.{IsClear};
 ghost use Rattle.sd_law_losses.specs.Confirmed.{is_revoked_in, packets_at};
 ghost use Rattle.sd_spec.specs.declared.event.Event.{Event};
 ghost use Rattle.sd_spec.specs.Watch.{present};
-ghost use Rattle.sd_field.specs.Fields.{FieldValue, IsSentOver, IsWrittenOver, card_at, plan_in, taken, watch_of};
+ghost use Rattle.sd_field.specs.Fields.{FieldValue, IsSentOver, IsWrittenOver, field_card, plan_of_field, field_clear_packets, watch_of};
 ghost use Rattle.sd_spec.specs.Offered.{break_from};
 ghost use Rattle.sd_run_broadcasts.specs.Field.{field_text};
 ghost use Rattle.sd_law_field.specs.Fielded.{IsGoodField, IsWhole, confirmed_lines, confirmed_places};
@@ -85,7 +85,7 @@ pub fn receivers_write_clear_packets()
 #[tactic(auto, using(crate::proofs::Never::never_refuses, crate::proofs::Never::never_written_over, crate::proofs::Never::never_sent_over))]
 pub fn fields_never_run_over()
     ensures refusal { (v : FieldValue) (u : LeafNumber) → IsWhole v → u < 2 ^ v.site.height →
-        break_from (card_at v u) [] (present (plan_in v) (taken v) (watch_of u v)) ≡ None }
+        break_from (field_card v u) [] (present (plan_of_field v) (field_clear_packets v) (watch_of u v)) ≡ None }
     ensures written { (v : FieldValue) (u : LeafNumber) → IsWhole v → u < 2 ^ v.site.height → ¬ IsWrittenOver u v }
     ensures sent { (v : FieldValue) → IsWhole v → ¬ IsSentOver v }
 {}

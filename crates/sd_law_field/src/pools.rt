@@ -7,7 +7,7 @@ ghost use Rattle.sd_base.specs.Types.{Height, Leaves, PeriodNumber};
 ghost use Rattle.sd_tree_keys.specs.Limits.{highest};
 ghost use Rattle.sd_tree_keys.specs.declared.set.SetName.{SetName};
 ghost use Rattle.sd_tree_keys.specs.SetNames.{IsOfHeight};
-ghost use Rattle.sd_tree_keys.specs.Names.{given};
+ghost use Rattle.sd_tree_keys.specs.Names.{names_of_receiver};
 ghost use Rattle.sd_book.specs.Commands.{last_period};
 ghost use Rattle.sd_cover_tracing.specs.Reach.{Key, IsReached};
 ghost use Rattle.sd_law_coalition.specs.Know.{Service, OfTree, PeriodKey, IsKnown, KnowsNothingOf, revoked_at};
@@ -20,7 +20,7 @@ ghost use Rattle.sd_run_books.specs.Opens.{open_end, pool_end, opened_text, shut
 pub fn open_sets_are_reached()
     ensures reached { (d : Height) (leaves : Leaves) (name : SetName) → d ≤ highest → All (λ u. u < 2 ^ d) leaves →
         IsOfHeight d name →
-        (pool_end d leaves name ≡ open_end) ↔ IsReached (flat_map (given d) leaves) (Key name) }
+        (pool_end d leaves name ≡ open_end) ↔ IsReached (flat_map (names_of_receiver d) leaves) (Key name) }
     ensures known { (service : Service) (leaves : Leaves) (name : SetName) → service.height ≤ highest →
         All (λ u. u < 2 ^ service.height) leaves → IsOfHeight service.height name →
         (pool_end service.height leaves name ≡ open_end) ↔ IsKnown service leaves (OfTree (Key name)) }

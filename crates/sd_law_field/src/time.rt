@@ -12,19 +12,19 @@ ghost use Rattle.sd_spec.specs.Offered.{out_from, break_from};
 ghost use Rattle.sd_law_losses.specs.Chosen.{chosen};
 ghost use Rattle.sd_law_losses.specs.Confirmed.{packets_at, is_revoked_in};
 ghost use Rattle.sd_spec.specs.Watch.{stream, at_places};
-ghost use Rattle.sd_law_field.specs.Times.{card_at, flags_of, places_in};
+ghost use Rattle.sd_law_field.specs.Times.{plan_card, arrived_flags, confirmed_places_in};
 
 /// What is at rising places of a list is a choice of the list, and the same choice of a longer one.
 #[tactic(auto, using(crate::proofs::Chosen::packets_chosen, crate::proofs::Chosen::items_chosen, crate::proofs::Chosen::packets_chosen_of_more, crate::proofs::Chosen::items_chosen_of_more))]
 pub fn places_are_chosen()
     ensures packets { (xs : Packets) (places : List PacketNumber) → IsStrictlyIncreasing places →
-        All (λ i. i < length xs) places → chosen (flags_of places (length xs)) xs ≡ at_places [] xs places }
+        All (λ i. i < length xs) places → chosen (arrived_flags places (length xs)) xs ≡ at_places [] xs places }
     ensures items { (xs : List Item) (places : List PacketNumber) → IsStrictlyIncreasing places →
-        All (λ i. i < length xs) places → chosen (flags_of places (length xs)) xs ≡ at_places Cat xs places }
+        All (λ i. i < length xs) places → chosen (arrived_flags places (length xs)) xs ≡ at_places Cat xs places }
     ensures longer_packets { (xs ys : Packets) (places : List PacketNumber) → IsStrictlyIncreasing places →
-        All (λ i. i < length xs) places → chosen (flags_of places (length xs)) (xs ++ ys) ≡ at_places [] xs places }
+        All (λ i. i < length xs) places → chosen (arrived_flags places (length xs)) (xs ++ ys) ≡ at_places [] xs places }
     ensures longer_items { (xs ys : List Item) (places : List PacketNumber) → IsStrictlyIncreasing places →
-        All (λ i. i < length xs) places → chosen (flags_of places (length xs)) (xs ++ ys) ≡ at_places Cat xs places }
+        All (λ i. i < length xs) places → chosen (arrived_flags places (length xs)) (xs ++ ys) ≡ at_places Cat xs places }
 {}
 
 /// In one time that it is on a receiver refuses nothing, whatever packets it isn't offered, and writes the clear
@@ -34,18 +34,18 @@ pub fn times_are_confirmed()
     ensures none { (plan : Plan) (clear : Packets) (u : LeafNumber) (places : List PacketNumber) → IsPlan plan →
         IsClear plan.site clear → AreWholePackets clear → AreSynced clear → u < 2 ^ plan.site.height →
         IsStrictlyIncreasing places → All (λ i. i < length (sent plan clear)) places →
-        break_from (card_at plan u) [] (at_places [] (stream plan clear) places) ≡ None }
+        break_from (plan_card plan u) [] (at_places [] (stream plan clear) places) ≡ None }
     ensures out { (plan : Plan) (clear : Packets) (u : LeafNumber) (places : List PacketNumber) → IsPlan plan →
         IsClear plan.site clear → AreWholePackets clear → AreSynced clear → u < 2 ^ plan.site.height →
         IsStrictlyIncreasing places → All (λ i. i < length (sent plan clear)) places →
-        out_from (card_at plan u) [] (at_places [] (stream plan clear) places)
-        ≡ packets_at clear (places_in plan u clear places) }
+        out_from (plan_card plan u) [] (at_places [] (stream plan clear) places)
+        ≡ packets_at clear (confirmed_places_in plan u clear places) }
 {}
 
 /// A clear packet that is confirmed was offered.
 pub fn confirmed_packets_were_offered()
     ensures { (plan : Plan) (clear : Packets) (u : LeafNumber) (j : PacketNumber) (places : List PacketNumber) →
-        Contains (places_in plan u clear places) j →
+        Contains (confirmed_places_in plan u clear places) j →
         (i : PacketNumber) × (packet : Packet) × Contains places i ×
         (get_or (sent plan clear) i Cat ≡ Carries j packet) }
 {}
@@ -55,7 +55,7 @@ pub fn confirmed_packets_were_offered()
 pub fn later_times_have_later_packets()
     ensures { (plan : Plan) (clear : Packets) (u : LeafNumber) (j l : PacketNumber) (places later : List PacketNumber) →
         ((i k : PacketNumber) → Contains places i → Contains later k → i < k) →
-        Contains (places_in plan u clear places) j → Contains (places_in plan u clear later) l → j < l }
+        Contains (confirmed_places_in plan u clear places) j → Contains (confirmed_places_in plan u clear later) l → j < l }
 {}
 
 /// A clear packet that is confirmed is of a period in which the leaf isn't revoked.
@@ -63,5 +63,5 @@ pub fn later_times_have_later_packets()
 pub fn confirmed_packets_are_entitled()
     ensures { (plan : Plan) (clear : Packets) (u : LeafNumber) (places : List PacketNumber) → IsPlan plan →
         u < 2 ^ plan.site.height →
-        All (λ j. is_revoked_in plan u (period_of plan j) ≡ false) (places_in plan u clear places) }
+        All (λ j. is_revoked_in plan u (period_of plan j) ≡ false) (confirmed_places_in plan u clear places) }
 {}

@@ -12,7 +12,7 @@ ghost use Rattle.sd_spec.specs.Offered.{break_from};
 ghost use Rattle.sd_law_losses.specs.Confirmed.{packets_at, is_revoked_in};
 ghost use Rattle.sd_spec.specs.declared.event.Event.{Event};
 ghost use Rattle.sd_spec.specs.Watch.{watch, present, written};
-ghost use Rattle.sd_law_field.specs.Times.{card_at, taken, places_of};
+ghost use Rattle.sd_law_field.specs.Times.{plan_card, clear_sent_in, confirmed_to_leaf};
 
 /// By whatever book a head end sends, and however often a receiver is switched off and on and loses packets: what it
 /// writes is the clear packets that are confirmed to it. Their numbers rise over all times that it was on, they were
@@ -20,21 +20,21 @@ ghost use Rattle.sd_law_field.specs.Times.{card_at, taken, places_of};
 #[tactic(auto, using(crate::proofs::Written::written_is_confirmed, crate::proofs::Written::places_rise, crate::proofs::Written::places_are_sent, crate::proofs::Written::places_entitled))]
 pub fn written_packets_are_confirmed()
     ensures packets { (plan : Plan) (clear : Packets) (u : LeafNumber) (past : List Event) → IsPlan plan →
-        IsClear plan.site (taken clear past) → AreWholePackets (taken clear past) → AreSynced (taken clear past) →
-        u < 2 ^ plan.site.height → written plan (card_at plan u) (taken clear past) (watch plan clear u past)
-        ≡ packets_at (taken clear past) (places_of plan u (taken clear past) (watch plan clear u past)) }
+        IsClear plan.site (clear_sent_in clear past) → AreWholePackets (clear_sent_in clear past) → AreSynced (clear_sent_in clear past) →
+        u < 2 ^ plan.site.height → written plan (plan_card plan u) (clear_sent_in clear past) (watch plan clear u past)
+        ≡ packets_at (clear_sent_in clear past) (confirmed_to_leaf plan u (clear_sent_in clear past) (watch plan clear u past)) }
     ensures rising { (plan : Plan) (clear : Packets) (u : LeafNumber) (past : List Event) → IsPlan plan →
-        IsClear plan.site (taken clear past) → AreWholePackets (taken clear past) → AreSynced (taken clear past) →
+        IsClear plan.site (clear_sent_in clear past) → AreWholePackets (clear_sent_in clear past) → AreSynced (clear_sent_in clear past) →
         u < 2 ^ plan.site.height →
-        IsStrictlyIncreasing (places_of plan u (taken clear past) (watch plan clear u past)) }
+        IsStrictlyIncreasing (confirmed_to_leaf plan u (clear_sent_in clear past) (watch plan clear u past)) }
     ensures inside { (plan : Plan) (clear : Packets) (u : LeafNumber) (past : List Event) → IsPlan plan →
-        IsClear plan.site (taken clear past) → AreWholePackets (taken clear past) → AreSynced (taken clear past) →
-        u < 2 ^ plan.site.height → All (λ j. j < length (taken clear past))
-        (places_of plan u (taken clear past) (watch plan clear u past)) }
+        IsClear plan.site (clear_sent_in clear past) → AreWholePackets (clear_sent_in clear past) → AreSynced (clear_sent_in clear past) →
+        u < 2 ^ plan.site.height → All (λ j. j < length (clear_sent_in clear past))
+        (confirmed_to_leaf plan u (clear_sent_in clear past) (watch plan clear u past)) }
     ensures entitled { (plan : Plan) (clear : Packets) (u : LeafNumber) (past : List Event) → IsPlan plan →
-        IsClear plan.site (taken clear past) → AreWholePackets (taken clear past) → AreSynced (taken clear past) →
+        IsClear plan.site (clear_sent_in clear past) → AreWholePackets (clear_sent_in clear past) → AreSynced (clear_sent_in clear past) →
         u < 2 ^ plan.site.height → All (λ j. is_revoked_in plan u (period_of plan j) ≡ false)
-        (places_of plan u (taken clear past) (watch plan clear u past)) }
+        (confirmed_to_leaf plan u (clear_sent_in clear past) (watch plan clear u past)) }
 {}
 
 /// No two receivers ever write different packets for one clear packet, however their events and times interleave, and
@@ -43,40 +43,40 @@ pub fn written_packets_are_confirmed()
 pub fn one_packet_for_a_place()
     ensures { (plan : Plan) (clear : Packets) (u v : LeafNumber) (i k : ℕ) (j : PacketNumber)
         (past other : List Event) → IsPlan plan →
-        IsClear plan.site (taken clear past) → AreWholePackets (taken clear past) → AreSynced (taken clear past) →
-        IsClear plan.site (taken clear other) → AreWholePackets (taken clear other) → AreSynced (taken clear other) →
+        IsClear plan.site (clear_sent_in clear past) → AreWholePackets (clear_sent_in clear past) → AreSynced (clear_sent_in clear past) →
+        IsClear plan.site (clear_sent_in clear other) → AreWholePackets (clear_sent_in clear other) → AreSynced (clear_sent_in clear other) →
         u < 2 ^ plan.site.height → v < 2 ^ plan.site.height →
-        slice_get (places_of plan u (taken clear past) (watch plan clear u past)) i ≡ Some j →
-        slice_get (places_of plan v (taken clear other) (watch plan clear v other)) k ≡ Some j →
-        slice_get (written plan (card_at plan u) (taken clear past) (watch plan clear u past)) i
-        ≡ slice_get (written plan (card_at plan v) (taken clear other) (watch plan clear v other)) k }
+        slice_get (confirmed_to_leaf plan u (clear_sent_in clear past) (watch plan clear u past)) i ≡ Some j →
+        slice_get (confirmed_to_leaf plan v (clear_sent_in clear other) (watch plan clear v other)) k ≡ Some j →
+        slice_get (written plan (plan_card plan u) (clear_sent_in clear past) (watch plan clear u past)) i
+        ≡ slice_get (written plan (plan_card plan v) (clear_sent_in clear other) (watch plan clear v other)) k }
 {}
 
 /// No receiver ever refuses a packet.
 #[tactic(auto, using(crate::proofs::Written::present_unrefused))]
 pub fn receivers_never_refuse()
     ensures { (plan : Plan) (clear : Packets) (u : LeafNumber) (past : List Event) → IsPlan plan →
-        IsClear plan.site (taken clear past) → AreWholePackets (taken clear past) → AreSynced (taken clear past) →
+        IsClear plan.site (clear_sent_in clear past) → AreWholePackets (clear_sent_in clear past) → AreSynced (clear_sent_in clear past) →
         u < 2 ^ plan.site.height →
-        break_from (card_at plan u) [] (present plan (taken clear past) (watch plan clear u past)) ≡ None }
+        break_from (plan_card plan u) [] (present plan (clear_sent_in clear past) (watch plan clear u past)) ≡ None }
 {}
 
 /// A receiver never writes more packets than were sent clear, so that 188 bytes for each clear packet are enough.
 #[tactic(auto, using(crate::proofs::Written::written_few, crate::proofs::Written::written_short, crate::proofs::Written::written_has_room))]
 pub fn written_lists_have_room()
     ensures packets { (plan : Plan) (clear : Packets) (u : LeafNumber) (past : List Event) → IsPlan plan →
-        IsClear plan.site (taken clear past) → AreWholePackets (taken clear past) → AreSynced (taken clear past) →
+        IsClear plan.site (clear_sent_in clear past) → AreWholePackets (clear_sent_in clear past) → AreSynced (clear_sent_in clear past) →
         u < 2 ^ plan.site.height →
-        length (written plan (card_at plan u) (taken clear past) (watch plan clear u past))
-        ≤ length (taken clear past) }
+        length (written plan (plan_card plan u) (clear_sent_in clear past) (watch plan clear u past))
+        ≤ length (clear_sent_in clear past) }
     ensures bytes { (plan : Plan) (clear : Packets) (u : LeafNumber) (past : List Event) → IsPlan plan →
-        IsClear plan.site (taken clear past) → AreWholePackets (taken clear past) → AreSynced (taken clear past) →
+        IsClear plan.site (clear_sent_in clear past) → AreWholePackets (clear_sent_in clear past) → AreSynced (clear_sent_in clear past) →
         u < 2 ^ plan.site.height →
-        length (concat (written plan (card_at plan u) (taken clear past) (watch plan clear u past)))
-        ≤ 188 * length (taken clear past) }
+        length (concat (written plan (plan_card plan u) (clear_sent_in clear past) (watch plan clear u past)))
+        ≤ 188 * length (clear_sent_in clear past) }
     ensures room { (plan : Plan) (clear : Packets) (u : LeafNumber) (past : List Event) → IsPlan plan →
-        IsClear plan.site (taken clear past) → AreWholePackets (taken clear past) → AreSynced (taken clear past) →
+        IsClear plan.site (clear_sent_in clear past) → AreWholePackets (clear_sent_in clear past) → AreSynced (clear_sent_in clear past) →
         u < 2 ^ plan.site.height →
-        length (concat (written plan (card_at plan u) (taken clear past) (watch plan clear u past)))
+        length (concat (written plan (plan_card plan u) (clear_sent_in clear past) (watch plan clear u past)))
         ≤ 188 * length clear }
 {}

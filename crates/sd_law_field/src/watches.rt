@@ -13,8 +13,8 @@ ghost use Rattle.sd_spec.specs.Offered.{offered, break_from};
 ghost use Rattle.sd_spec.specs.declared.event.Event.{Event};
 ghost use Rattle.sd_spec.specs.declared.event.Event.TheVariants.{Offer, Lose, Off, On};
 ghost use Rattle.sd_spec.specs.Book.{sends, plan_after};
-ghost use Rattle.sd_spec.specs.Watch.{Watch, watched, stream, count_sent, watch, times, present, written};
-ghost use Rattle.sd_law_field.specs.Times.{places_of, taken};
+ghost use Rattle.sd_spec.specs.Watch.{Watch, watch_after_event, stream, count_sent, watch, times, present, written};
+ghost use Rattle.sd_law_field.specs.Times.{confirmed_to_leaf, clear_sent_in};
 
 /// A receiver has passed no more packets than were sent. It was offered packets that it has passed, each at most once
 /// and in the order in which they were sent, in all times that it was on together.
@@ -43,16 +43,16 @@ pub fn sends_change_nothing()
 pub fn offers_are_heard()
     ensures present { (plan : Plan) (clear : Packets) (u : LeafNumber) (n : ℕ) (w : Watch) → w.on ≡ true →
         w.cursor < n →
-        present plan clear (watched u n (Offer u) w)
+        present plan clear (watch_after_event u n (Offer u) w)
         ≡ present plan clear w ++ get_or (stream plan clear) w.cursor [] ∷ [] }
     ensures written { (plan : Plan) (card : CardFields) (clear : Packets) (u : LeafNumber) (n : ℕ) (w : Watch) →
         w.on ≡ true →
         w.cursor < n → break_from card [] (present plan clear w) ≡ None →
-        written plan card clear (watched u n (Offer u) w) ≡ written plan card clear w
+        written plan card clear (watch_after_event u n (Offer u) w) ≡ written plan card clear w
         ++ (offered card (reverse (present plan clear w)) (get_or (stream plan clear) w.cursor [])).wrote }
     ensures refused { (plan : Plan) (card : CardFields) (clear : Packets) (u : LeafNumber) (n : ℕ) (w : Watch)
         (why : StreamFault) → w.on ≡ true → w.cursor < n → break_from card [] (present plan clear w) ≡ Some why →
-        written plan card clear (watched u n (Offer u) w) ≡ written plan card clear w }
+        written plan card clear (watch_after_event u n (Offer u) w) ≡ written plan card clear w }
 {}
 
 /// A receiver is offered nothing, and writes nothing, when a packet is lost, when it is switched off, and at an offer
@@ -60,27 +60,27 @@ pub fn offers_are_heard()
 pub fn other_events_write_nothing()
     ensures lost { (plan : Plan) (card : CardFields) (clear : Packets) (u : LeafNumber) (n : ℕ) (v : LeafNumber)
         (w : Watch) →
-        (present plan clear (watched u n (Lose v) w) ≡ present plan clear w)
-        × (written plan card clear (watched u n (Lose v) w) ≡ written plan card clear w) }
+        (present plan clear (watch_after_event u n (Lose v) w) ≡ present plan clear w)
+        × (written plan card clear (watch_after_event u n (Lose v) w) ≡ written plan card clear w) }
     ensures off { (plan : Plan) (card : CardFields) (clear : Packets) (u : LeafNumber) (n : ℕ) (v : LeafNumber)
         (w : Watch) →
-        (present plan clear (watched u n (Off v) w) ≡ present plan clear w)
-        × (written plan card clear (watched u n (Off v) w) ≡ written plan card clear w) }
+        (present plan clear (watch_after_event u n (Off v) w) ≡ present plan clear w)
+        × (written plan card clear (watch_after_event u n (Off v) w) ≡ written plan card clear w) }
     ensures unheard { (plan : Plan) (card : CardFields) (clear : Packets) (u : LeafNumber) (n : ℕ) (v : LeafNumber)
         (w : Watch) →
-        w.on ≡ false → (present plan clear (watched u n (Offer v) w) ≡ present plan clear w)
-        × (written plan card clear (watched u n (Offer v) w) ≡ written plan card clear w) }
-    ensures others { (u : LeafNumber) (n : ℕ) (v : LeafNumber) (w : Watch) → v ≢ u → (watched u n (Offer v) w ≡ w) ×
-        (watched u n (Lose v) w ≡ w)
-        × (watched u n (Off v) w ≡ w) × (watched u n (On v) w ≡ w) }
+        w.on ≡ false → (present plan clear (watch_after_event u n (Offer v) w) ≡ present plan clear w)
+        × (written plan card clear (watch_after_event u n (Offer v) w) ≡ written plan card clear w) }
+    ensures others { (u : LeafNumber) (n : ℕ) (v : LeafNumber) (w : Watch) → v ≢ u → (watch_after_event u n (Offer v) w ≡ w) ×
+        (watch_after_event u n (Lose v) w ≡ w)
+        × (watch_after_event u n (Off v) w ≡ w) × (watch_after_event u n (On v) w ≡ w) }
 {}
 
 /// A receiver that is switched on is a new one: it was offered nothing yet, and what earlier ones wrote stays.
 pub fn new_receivers_wrote_nothing()
     ensures present { (plan : Plan) (clear : Packets) (u : LeafNumber) (n : ℕ) (w : Watch) → w.on ≡ false →
-        present plan clear (watched u n (On u) w) ≡ [] }
+        present plan clear (watch_after_event u n (On u) w) ≡ [] }
     ensures written { (plan : Plan) (card : CardFields) (clear : Packets) (u : LeafNumber) (n : ℕ) (w : Watch) →
-        w.on ≡ false → written plan card clear (watched u n (On u) w) ≡ written plan card clear w }
+        w.on ≡ false → written plan card clear (watch_after_event u n (On u) w) ≡ written plan card clear w }
 {}
 
 /// What a receiver was offered, which clear packets are confirmed to it, and what it wrote, depends on no later event,
@@ -90,9 +90,9 @@ pub fn what_was_received_stays()
         AreInRange site → watch (plan_after site (length clear) (later ++ past)) clear u past
         ≡ watch (plan_after site (length clear) past) clear u past }
     ensures places { (site : SiteFields) (later past : List Event) (clear : Packets) (u : LeafNumber) →
-        AreInRange site → places_of (plan_after site (length clear) (later ++ past)) u (taken clear past)
+        AreInRange site → confirmed_to_leaf (plan_after site (length clear) (later ++ past)) u (clear_sent_in clear past)
         (watch (plan_after site (length clear) (later ++ past)) clear u past)
-        ≡ places_of (plan_after site (length clear) past) u (taken clear past)
+        ≡ confirmed_to_leaf (plan_after site (length clear) past) u (clear_sent_in clear past)
         (watch (plan_after site (length clear) past) clear u past) }
     ensures written { (site : SiteFields) (later past : List Event) (card : CardFields) (clear : Packets)
         (u : LeafNumber) → AreInRange site →

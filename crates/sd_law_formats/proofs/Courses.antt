@@ -2,7 +2,7 @@
 use Rattle.std.proofs.Common.{◌≡◌, ℕ, zero, suc, ◌+◌, ◌<◌, ◌≤◌, true, false, List, [], ◌∷◌, length}
 use Rattle.std.proofs.Common.{drop, refl, arith, inl, inr, length-drop}
 use Rattle.std.proofs.lemmas.Bool.{cases_Bool}
-use Rattle.sd_engine.specs.Cut.{begins_packet, cut, skipped_before}
+use Rattle.sd_engine.specs.Cut.{begins_packet, cut_packets, skipped_before}
 use Rattle.sd_engine.proofs.Begins.{parts_of}
 use Rattle.sd_engine.proofs.Cutting.{cut_passed, skipped_passed}
 
@@ -28,7 +28,7 @@ pub course_of : (bytes : List ℕ) → Course bytes
 course_of bytes = course_within (length bytes) bytes (omega arith)
 
 -- the byte at which no packet begins is passed
-pub cut_one : (bytes : List ℕ) → begins_packet bytes ≡ false → 0 < length bytes → cut bytes ≡ cut (drop 1 bytes)
+pub cut_one : (bytes : List ℕ) → begins_packet bytes ≡ false → 0 < length bytes → cut_packets bytes ≡ cut_packets (drop 1 bytes)
 cut_one bytes not some = cut_passed 1 bytes some (λ i first. let is : i ≡ 0 = omega (arith, first) in rw is not)
 
 pub skipped_one : (k : ℕ) (bytes : List ℕ) → begins_packet bytes ≡ false → 0 < length bytes →

@@ -18,7 +18,7 @@ use Rattle.sd_site_cards.specs.SiteFields.{SiteFields}
 use Rattle.sd_site_cards.specs.Forms.{Form, first_period_line, forms, number}
 use Rattle.sd_site_cards.specs.SiteFaults.{IsOutOfRange}
 use Rattle.sd_site_cards.specs.Text.{◌>>=◌, site_of, book_line_of}
-use Rattle.sd_site_cards.specs.Written.{IsSayable, site_text, is_whole, is_first, newest_of}
+use Rattle.sd_site_cards.specs.Written.{IsSayable, site_text, are_lines_whole, is_first_site, site_of_chain}
 use Rattle.sd_site_cards.specs.declared.book_line.BookLine.{BookLine}
 use Rattle.sd_site_cards.specs.declared.site_fault.SiteFault.{SiteFault}
 use Rattle.sd_site_cards.specs.declared.site_fault.SiteFault.TheVariants.{Range, Short}
@@ -154,11 +154,11 @@ short_or_taken false site line k e = absurd cc
 
 -- so a torn site is refused, and not for its line 12
 pub torn_in_range : (site : SiteFields) (book : BookLine) (torn : List ℕ) → IsSayable site book →
-    IsPrefix torn (site_text site book) → newest_of is_first torn ≡ Err (Range 12) → ⊥
-unfolding newest_of forms
+    IsPrefix torn (site_text site book) → site_of_chain is_first_site torn ≡ Err (Range 12) → ⊥
+unfolding site_of_chain forms
 torn_in_range site book torn is prefix e =
     let said = fault_of_site (site_of torn) _ 12
-    (λ site. short_or_taken (is_whole 13 torn || is_first torn site) site (book_line_of torn) 12) e in
+    (λ site. short_or_taken (are_lines_whole 13 torn || is_first_site torn site) site (book_line_of torn) 12) e in
     let (n, at, good, (form, line, form_is, line_is, bad)) =
     (is_cause torn (Err (Range 12)) said (Range 12)).0 refl in
     let place : n ≡ 11 = omega (arith, at) in

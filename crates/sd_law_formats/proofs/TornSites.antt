@@ -10,7 +10,7 @@ use Rattle.sd_base.specs.Lines.{lines_of, onto_first_line}
 use Rattle.sd_ports.specs.Bytes.{IsPrefix}
 use Rattle.sd_site_cards.specs.SiteFields.{SiteFields}
 use Rattle.sd_site_cards.specs.Text.{◌>>=◌, site_of, site_on, book_line_of}
-use Rattle.sd_site_cards.specs.Written.{IsSayable, site_text, is_whole, is_first, newest_of, none_fewer}
+use Rattle.sd_site_cards.specs.Written.{IsSayable, site_text, are_lines_whole, is_first_site, site_of_chain, none_fewer}
 use Rattle.sd_site_cards.specs.declared.book_line.BookLine.{BookLine}
 use Rattle.sd_site_cards.specs.declared.site_fault.SiteFault.{SiteFault}
 use Rattle.sd_site_cards.specs.declared.site_fault.SiteFault.TheVariants.{Short}
@@ -56,7 +56,7 @@ lines_follow (byte ∷ bytes) rest e = by_feed (byte == 10) (e ∙ feed_more byt
     by_feed false count follow = by_lines (lines_of bytes) refl (omega (arith, count)) follow
 
 -- the lines of a text of whole lines are the first of a longer text's
-lines_first : (n : ℕ) (text rest : List ℕ) → is_whole n text ≡ true →
+lines_first : (n : ℕ) (text rest : List ℕ) → are_lines_whole n text ≡ true →
     (length (lines_of text) ≡ n) × (lines_of (text ++ rest) ≡ lines_of text ++ lines_of rest)
 lines_first n text rest whole =
     let parts = and_parts _ _ whole in
@@ -66,7 +66,7 @@ lines_first n text rest whole =
 
 -- a proper prefix of a site's file is not thirteen lines
 not_thirteen : (site : SiteFields) (book : BookLine) (torn : List ℕ) (byte : ℕ) (rest : List ℕ) →
-    IsSayable site book → torn ++ byte ∷ rest ≡ site_text site book → is_whole 13 torn ≡ true → ⊥
+    IsSayable site book → torn ++ byte ∷ rest ≡ site_text site book → are_lines_whole 13 torn ≡ true → ⊥
 not_thirteen site book torn byte rest is whole thirteen =
     let cut = lines_first 13 torn (byte ∷ rest) thirteen in
     let all = ap (λ (r : List (List ℕ)). length r) (sym cut.1 ∙ (ap lines_of whole ∙ lines_written site book is)) in
@@ -74,7 +74,7 @@ not_thirteen site book torn byte rest is whole thirteen =
 
 -- one that is twelve lines says the site
 twelve_say : (site : SiteFields) (book : BookLine) (torn rest : List ℕ) → IsSayable site book →
-    torn ++ rest ≡ site_text site book → is_whole 12 torn ≡ true → site_of torn ≡ Ok site
+    torn ++ rest ≡ site_text site book → are_lines_whole 12 torn ≡ true → site_of torn ≡ Ok site
 unfolding site_on
 twelve_say site book torn rest is whole twelve =
     let cut = lines_first 12 torn rest twelve in
@@ -99,10 +99,10 @@ taken_parts (Ok site) line fewer false other e = (site, refl, inr (by_fewer (few
 -- a proper prefix of a site's file makes no site
 pub torn_short : (site : SiteFields) (book : BookLine) (torn : List ℕ) (other : SiteFields × Option BookLine) →
     IsSayable site book → site.first_word ≤ site.last_word → (byte : ℕ) (rest : List ℕ) →
-    torn ++ byte ∷ rest ≡ site_text site book → newest_of is_first torn ≡ Ok other → ⊥
-unfolding newest_of
+    torn ++ byte ∷ rest ≡ site_text site book → site_of_chain is_first_site torn ≡ Ok other → ⊥
+unfolding site_of_chain
 torn_short site book torn other is words byte rest whole e =
-    let parts = taken_parts (site_of torn) (book_line_of torn) (is_first torn) (is_whole 13 torn) other e in
+    let parts = taken_parts (site_of torn) (book_line_of torn) (is_first_site torn) (are_lines_whole 13 torn) other e in
     elim parts.2 [
       | inl thirteen ↦ not_thirteen site book torn byte rest is whole thirteen
       | inr first ↦
@@ -122,14 +122,14 @@ torn_short site book torn other is words byte rest whole e =
 -- by the two texts alone
 pub torn_sites : (site : SiteFields) (book : BookLine) (torn : List ℕ) (other : SiteFields × Option BookLine) →
     IsSayable site book → site.first_word ≤ site.last_word → IsPrefix torn (site_text site book) →
-    torn ≢ site_text site book → newest_of is_first torn ≡ Ok other → ⊥
+    torn ≢ site_text site book → site_of_chain is_first_site torn ≡ Ok other → ⊥
 torn_sites site book torn other is words ([], whole) proper e = proper (sym (append-nil torn) ∙ whole)
 torn_sites site book torn other is words (byte ∷ rest, whole) proper e =
     torn_short site book torn other is words byte rest whole e
 
 -- it is not thirteen lines
 pub torn_not_whole : (site : SiteFields) (book : BookLine) (torn : List ℕ) → IsSayable site book →
-    IsPrefix torn (site_text site book) → torn ≢ site_text site book → is_whole 13 torn ≡ true → ⊥
+    IsPrefix torn (site_text site book) → torn ≢ site_text site book → are_lines_whole 13 torn ≡ true → ⊥
 torn_not_whole site book torn is ([], whole) proper thirteen = proper (sym (append-nil torn) ∙ whole)
 torn_not_whole site book torn is (byte ∷ rest, whole) proper thirteen =
     not_thirteen site book torn byte rest is whole thirteen
@@ -137,10 +137,10 @@ torn_not_whole site book torn is (byte ∷ rest, whole) proper thirteen =
 -- so no twin is made from it
 pub torn_no_twin : (site : SiteFields) (book : BookLine) (torn : List ℕ) (other : SiteFields × Option BookLine) →
     IsSayable site book → IsPrefix torn (site_text site book) → torn ≢ site_text site book →
-    newest_of none_fewer torn ≡ Ok other → ⊥
-unfolding newest_of
+    site_of_chain none_fewer torn ≡ Ok other → ⊥
+unfolding site_of_chain
 torn_no_twin site book torn other is prefix proper e =
-    let parts = taken_parts (site_of torn) (book_line_of torn) (none_fewer torn) (is_whole 13 torn) other e in
+    let parts = taken_parts (site_of torn) (book_line_of torn) (none_fewer torn) (are_lines_whole 13 torn) other e in
     elim parts.2 [
       | inl thirteen ↦ torn_not_whole site book torn is prefix proper thirteen
       | inr fewer ↦ absurd (let f : false ≡ true = fewer in cc)

@@ -25,9 +25,9 @@ use Rattle.sd_site_cards.specs.Forms.{height_line, master_line, ca_line, emm_lin
 use Rattle.sd_site_cards.specs.Forms.{span_line, messages_line, first_word_line, last_word_line, first_period_line}
 use Rattle.sd_site_cards.specs.Forms.{NumberLine, BytesLine, IsWithin, bytes_after, bytes_said, book_after, book_word}
 use Rattle.sd_site_cards.specs.Forms.{most_book_size, digest_bytes}
-use Rattle.sd_site_cards.specs.Text.{number_at, bytes_at, said_on, site_on, book_on, optional_on, book_at}
+use Rattle.sd_site_cards.specs.Text.{number_on_line, bytes_at, site_and_book_on, site_on, book_on, optional_on, book_line_at}
 use Rattle.sd_site_cards.specs.SiteFields.{SiteFields}
-use Rattle.sd_site_cards.specs.Written.{IsSayable, site_text, newest_of, number_text, bytes_text, book_text}
+use Rattle.sd_site_cards.specs.Written.{IsSayable, site_text, site_of_chain, number_text, bytes_text, book_text}
 use Rattle.sd_site_cards.specs.declared.book_line.BookLine.{BookLine}
 
 -- the number of line feeds in a text
@@ -70,7 +70,7 @@ number_cut form n rest line low = line_of_text form.word (decimal n) rest line (
 
 -- a number on its line is read
 pub number_read : (k : ℕ) (form : NumberLine) (n : ℕ) (lines : List (List ℕ)) → IsWithin form n → n < 2 ^ 64 →
-    number_at k form ((form.word ++ decimal n) ∷ lines) ≡ Ok (n, lines)
+    number_on_line k form ((form.word ++ decimal n) ∷ lines) ≡ Ok (n, lines)
 number_read k form n lines within low =
     rw (decimal_after_decimal form.word n low, le-leb _ _ within.0, le-leb _ _ within.1) refl
 
@@ -192,8 +192,8 @@ site_lines site others =
 
 -- the twelve lines say the site, and those after them its book
 pub lines_said : (site : SiteFields) (book : BookLine) (others : List (List ℕ)) (said : Option BookLine) →
-    IsSayable site book → book_at others ≡ Ok (said, []) → said_on (site_lines site others) ≡ Ok (site, said)
-unfolding said_on optional_on
+    IsSayable site book → book_line_at others ≡ Ok (said, []) → site_and_book_on (site_lines site others) ≡ Ok (site, said)
+unfolding site_and_book_on optional_on
 lines_said site book others said is rest =
     let r = is.ranges in
     let master = bytes_are site.master is.master.1 in
@@ -218,7 +218,7 @@ lines_said site book others said is rest =
 
 -- line 13 says the book
 pub book_said : (site : SiteFields) (book : BookLine) → IsSayable site book →
-    book_at (book_line_on book ∷ []) ≡ Ok (Some book, [])
+    book_line_at (book_line_on book ∷ []) ≡ Ok (Some book, [])
 book_said site book is =
     rw (book_read book is.size is.digest.0 (bytes_are book.digest is.digest.1), le-leb _ _ is.size) refl
 
@@ -276,8 +276,8 @@ feeds_written site book is =
 
 -- a site's file is read as what it was written from
 pub site_read : (fewer : List ℕ → SiteFields → Bool) (site : SiteFields) (book : BookLine) → IsSayable site book →
-    newest_of fewer (site_text site book) ≡ Ok (site, Some book)
-unfolding newest_of site_on book_on
+    site_of_chain fewer (site_text site book) ≡ Ok (site, Some book)
+unfolding site_of_chain site_on book_on
 site_read fewer site book is =
     let digest = bytes_are book.digest is.digest.1 in
     rw (

@@ -8,16 +8,16 @@ ghost use Rattle.sd_book.specs.declared.fault.BookFault.{BookFault as Faults};
 ghost use Rattle.sd_tree_keys.specs.Leaves.{leaves};
 ghost use Rattle.sd_book.specs.Commands.{after_command, after_commands, commands_in, commands_until, entitled};
 ghost use Rattle.sd_book.specs.Commands.{is_revoked, is_within, last_period, revoked, revoked_after};
-ghost use Rattle.sd_book.specs.Faults.{IsCauseOf};
+ghost use Rattle.sd_book.specs.Faults.{IsBookFaultOf};
 ghost use Rattle.sd_book.specs.Limits.{IsWithinLimits};
-ghost use Rattle.sd_book.specs.Text.{SpellsBook, book_of, judged, text_of};
+ghost use Rattle.sd_book.specs.Text.{SpellsBook, book_of, book_commands, text_of_book};
 
 /// Lines have one fault at most, and none where they say commands within the limits.
 pub fn causes_are_one()
     ensures one { (d : ℕ) (said : List (Option Commands)) (a b : Faults) →
-        IsCauseOf d said a → IsCauseOf d said b → a ≡ b }
+        IsBookFaultOf d said a → IsBookFaultOf d said b → a ≡ b }
     ensures none { (d : ℕ) (commands : List Commands) (fault : Faults) → IsWithinLimits d commands →
-        ¬ IsCauseOf d (map Some commands) fault }
+        ¬ IsBookFaultOf d (map Some commands) fault }
 {}
 
 /// A book file has at most 18,874,368 bytes.
@@ -30,9 +30,9 @@ pub fn books_are_short()
 #[tactic(auto, using(sd_book::proofs::Written::judged_again, sd_book::proofs::Written::read_again))]
 pub fn written_is_read()
     ensures value { (d : ℕ) (commands : List Commands) → d ≤ 20 → All (λ command. is_within d command ≡ true) commands →
-        book_of d (text_of commands) ≡ judged d [] (map Some commands) }
+        book_of d (text_of_book commands) ≡ book_commands d [] (map Some commands) }
     ensures ok { (d : ℕ) (commands : List Commands) → d ≤ 20 → IsWithinLimits d commands →
-        book_of d (text_of commands) ≡ Ok commands }
+        book_of d (text_of_book commands) ≡ Ok commands }
 {}
 
 /// The leaves that are revoked in a period follow from those of the period before, command by command.

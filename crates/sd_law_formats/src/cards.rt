@@ -7,7 +7,7 @@ ghost use Rattle.sd_tree_keys.specs.SetNames.{IsOfHeight};
 ghost use Rattle.sd_tree_keys.specs.Keys.{key_of};
 ghost use Rattle.sd_site_cards.specs.CardFields.{CardFields, IsCard, card_of, card_bytes, card_key};
 ghost use Rattle.sd_site_cards.specs.CardFaults.{fault_in};
-ghost use Rattle.sd_tree_keys.specs.Names.{given};
+ghost use Rattle.sd_tree_keys.specs.Names.{names_of_receiver};
 
 use sd_tree_keys::SetName;
 
@@ -35,5 +35,5 @@ pub fn made_keys()
 /// A leaf is given each name once.
 #[tactic(auto, using(sd_site_cards::proofs::Once::given_once))]
 pub fn names_once()
-    ensures { (d u : ℕ) → u < 2 ^ d → AllPairs (λ a b. a ≢ b) (given d u) }
+    ensures { (d u : ℕ) → u < 2 ^ d → AllPairs (λ a b. a ≢ b) (names_of_receiver d u) }
 {}

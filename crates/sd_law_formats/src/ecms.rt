@@ -4,9 +4,9 @@ ghost use Rattle.std.specs.Prelude.{◌≡◌, ◌+◌, ◌*◌, ◌%◌, ◌<�
 ghost use Rattle.sd_section.specs.Header.{table_id_of};
 ghost use Rattle.sd_message.specs.Framed.{section_of};
 ghost use Rattle.sd_message.specs.EcmVersions.{positions_for, even_table_id};
-ghost use Rattle.sd_packet.specs.Packing.{packed};
+ghost use Rattle.sd_packet.specs.Packing.{section_packet};
 ghost use Rattle.sd_message.specs.EcmSpelled.{listed_places, ecm_section, SpellsPart};
-ghost use Rattle.sd_message.specs.EcmForm.{AreAscending, IsEcm, FitsFields};
+ghost use Rattle.sd_message.specs.EcmForm.{ArePidsAscending, IsEcm, FitsEcmFields};
 ghost use Rattle.sd_message.specs.EcmJudged.{ecm_read};
 ghost use Rattle.sd_message.specs.EcmParts.{Message, part_count_of, part_at, parts_of, IsMessage, IsOfMessage, SaySame};
 ghost use Rattle.sd_message.specs.declared.ecm_part.EcmPart.{EcmPart};
@@ -26,7 +26,7 @@ pub fn written_is_read(part: &EcmPart, pid: u16, counter: u8) -> Result<Option<E
 /// The packet of a part begins with its section.
 pub fn written_packets_spell()
     ensures { (part : EcmPart) (pid counter : ℕ) → pid < 8192 → counter < 16 →
-        SpellsPart part (packed (ecm_section part) pid counter) }
+        SpellsPart part (section_packet (ecm_section part) pid counter) }
 {}
 
 /// A message's parts share out its positions: there are as many as have room for them, each stands at its number and
@@ -44,23 +44,23 @@ pub fn messages_are_shared_out()
         r < positions_for message.version →
         k < length message.places → slice_get (listed_places (part_at message q)) r ≡ slice_get message.places k }
     ensures places { (message : Message) → flat_map listed_places (parts_of message) ≡ message.places }
-    ensures ascending { (message : Message) → AreAscending message.places →
-        AreAscending (flat_map listed_places (parts_of message)) }
+    ensures ascending { (message : Message) → ArePidsAscending message.places →
+        ArePidsAscending (flat_map listed_places (parts_of message)) }
     ensures says { (message : Message) → All (IsOfMessage message) (parts_of message) }
     ensures same { (message : Message) (x y : ℕ) (a b : EcmPart) → slice_get (parts_of message) x ≡ Some a →
         slice_get (parts_of message) y ≡ Some b → SaySame a b }
     ensures form { (message : Message) → IsMessage message →
-        All (λ part. IsEcm part × FitsFields part) (parts_of message) }
+        All (λ part. IsEcm part × FitsEcmFields part) (parts_of message) }
 {}
 
 /// The reader as a function: each packet that begins with the section of a part in its form is read as that part, and
 /// what is read is in its form.
 #[tactic(auto, using(sd_message::proofs::EcmDeciding::spelled_reads, sd_message::proofs::EcmDeciding::packed_reads))]
 pub fn spelled_parts_are_read()
-    ensures spelled { (part : EcmPart) (packet : List ℕ) → FitsFields part → IsEcm part → SpellsPart part packet →
+    ensures spelled { (part : EcmPart) (packet : List ℕ) → FitsEcmFields part → IsEcm part → SpellsPart part packet →
         ecm_read packet ≡ Ok (Some part) }
-    ensures packed { (part : EcmPart) (pid counter : ℕ) → FitsFields part → IsEcm part → pid < 8192 → counter < 16 →
-        ecm_read (packed (ecm_section part) pid counter) ≡ Ok (Some part) }
+    ensures packed { (part : EcmPart) (pid counter : ℕ) → FitsEcmFields part → IsEcm part → pid < 8192 → counter < 16 →
+        ecm_read (section_packet (ecm_section part) pid counter) ≡ Ok (Some part) }
     ensures form { (packet : List ℕ) (part : EcmPart) → ecm_read packet ≡ Ok (Some part) → IsEcm part }
 {}
 
@@ -68,9 +68,9 @@ pub fn spelled_parts_are_read()
 /// as it is read.
 #[tactic(auto, using(crate::proofs::SharedParts::parities))]
 pub fn table_ids_tell_parity()
-    ensures table_id { (part : EcmPart) → FitsFields part → IsEcm part →
+    ensures table_id { (part : EcmPart) → FitsEcmFields part → IsEcm part →
         table_id_of (ecm_section part) ≡ even_table_id part.version + part.word % 2 }
-    ensures written { (part : EcmPart) → FitsFields part → IsEcm part →
+    ensures written { (part : EcmPart) → FitsEcmFields part → IsEcm part →
         table_id_of (ecm_section part) % 2 ≡ part.word % 2 }
     ensures read { (packet : List ℕ) (part : EcmPart) → ecm_read packet ≡ Ok (Some part) →
         table_id_of (section_of packet) % 2 ≡ part.word % 2 }

@@ -1,9 +1,9 @@
 //! What writing and reading come to.
 
 ghost use Rattle.std.specs.Prelude.{◌≡◌, ◌<◌, ◌≤◌, ◌/◌, ◌%◌, ℕ, List, Ok, Some, All, length, flat_map, slice_get};
-ghost use Rattle.sd_packet.specs.Packing.{packed};
+ghost use Rattle.sd_packet.specs.Packing.{section_packet};
 ghost use Rattle.sd_message.specs.EmmSpelled.{listed_entries, emm_section, SpellsEmm};
-ghost use Rattle.sd_message.specs.EmmForm.{AreSets, IsEmm, FitsFields, sections_for};
+ghost use Rattle.sd_message.specs.EmmForm.{AreSets, IsEmm, FitsEmmFields, sections_for};
 ghost use Rattle.sd_message.specs.EmmJudged.{emm_read};
 ghost use Rattle.sd_message.specs.Period.{Period, emm_at, emms_of, IsPeriod, IsOfPeriod, SaysSame};
 ghost use Rattle.sd_message.specs.declared.emm.Emm.{Emm};
@@ -26,7 +26,7 @@ pub fn written_is_read(h: Height, emm: &Emm, pid: u16, counter: u8) -> Result<Op
 #[tactic(auto, using(sd_message::proofs::EmmReading::written_spells))]
 pub fn written_packets_spell()
     ensures { (emm : Emm) (pid counter : ℕ) → pid < 8192 → counter < 16 →
-        SpellsEmm emm (packed (emm_section emm) pid counter) }
+        SpellsEmm emm (section_packet (emm_section emm) pid counter) }
 {}
 
 /// A period's sections share out its sets: there are as many as have room for them, each stands at its index and says
@@ -44,7 +44,7 @@ pub fn periods_are_shared_out()
     ensures says { (period : Period) → All (IsOfPeriod period) (emms_of period) }
     ensures same { (period : Period) (x y : ℕ) (a b : Emm) → slice_get (emms_of period) x ≡ Some a →
         slice_get (emms_of period) y ≡ Some b → SaysSame a b }
-    ensures form { (period : Period) → IsPeriod period → All (λ emm. IsEmm emm × FitsFields emm) (emms_of period) }
+    ensures form { (period : Period) → IsPeriod period → All (λ emm. IsEmm emm × FitsEmmFields emm) (emms_of period) }
     ensures sets { (h : ℕ) (period : Period) → AreSets h (length period.entries) period.entries →
         All (λ emm. AreSets h emm.sets (listed_entries emm)) (emms_of period) }
 {}
@@ -53,12 +53,12 @@ pub fn periods_are_shared_out()
 /// each height at which their sets may stand, and what is read is in its form.
 #[tactic(auto, using(sd_message::proofs::EmmDeciding::spelled_reads, sd_message::proofs::EmmDeciding::packed_reads))]
 pub fn spelled_entitlements_are_read()
-    ensures spelled { (h : ℕ) (emm : Emm) (packet : List ℕ) → h ≤ 20 → FitsFields emm → IsEmm emm →
+    ensures spelled { (h : ℕ) (emm : Emm) (packet : List ℕ) → h ≤ 20 → FitsEmmFields emm → IsEmm emm →
         AreSets h emm.sets (listed_entries emm) →
         SpellsEmm emm packet → emm_read h packet ≡ Ok (Some emm) }
-    ensures packed { (h : ℕ) (emm : Emm) (pid counter : ℕ) → h ≤ 20 → FitsFields emm → IsEmm emm →
+    ensures packed { (h : ℕ) (emm : Emm) (pid counter : ℕ) → h ≤ 20 → FitsEmmFields emm → IsEmm emm →
         AreSets h emm.sets (listed_entries emm) →
-        pid < 8192 → counter < 16 → emm_read h (packed (emm_section emm) pid counter) ≡ Ok (Some emm) }
+        pid < 8192 → counter < 16 → emm_read h (section_packet (emm_section emm) pid counter) ≡ Ok (Some emm) }
     ensures form { (h : ℕ) (packet : List ℕ) (emm : Emm) → emm_read h packet ≡ Ok (Some emm) →
         IsEmm emm × AreSets h emm.sets (listed_entries emm) }
 {}

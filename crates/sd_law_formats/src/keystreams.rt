@@ -4,7 +4,7 @@ ghost use Rattle.std.specs.Prelude.{◌≡◌, ◌≤◌, ℕ, List, length, ◌
 ghost use Rattle.sd_cipher.specs.Keystream.{keystream, xored};
 ghost use Rattle.sd_cipher.specs.Wrapping.{wrapped};
 ghost use Rattle.sd_packet.specs.Header.{scrambling_of};
-ghost use Rattle.sd_cipher.specs.Scrambling.{control_of, payload_under, scrambled, descrambled, IsLaidUnder};
+ghost use Rattle.sd_cipher.specs.Scrambling.{control_of, payload_under, scrambled, descrambled, IsPacketUnderKeystream};
 ghost use Rattle.sd_cipher.specs.declared.payload.Parity.{Parity};
 
 use sd_cipher::wrap;
@@ -43,8 +43,8 @@ pub fn scrambled_and_descrambled()
 pub fn the_rest_is_read_as_before()
     ensures scrambled { (packet word : List ℕ) (position : ℕ) (parity : Parity) → length packet ≡ 188
         → slice_index packet 3 < 256 →
-        IsLaidUnder packet (control_of parity) (payload_under packet word position)
+        IsPacketUnderKeystream packet (control_of parity) (payload_under packet word position)
         (scrambled packet word position parity) }
     ensures descrambled { (packet word : List ℕ) (position : ℕ) → length packet ≡ 188 → slice_index packet 3 < 256 →
-        IsLaidUnder packet 0 (payload_under packet word position) (descrambled packet word position) }
+        IsPacketUnderKeystream packet 0 (payload_under packet word position) (descrambled packet word position) }
 {}

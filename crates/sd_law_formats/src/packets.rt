@@ -4,14 +4,14 @@ ghost use Rattle.std.specs.Prelude.{◌≡◌, ◌+◌, ◌*◌, ◌%◌, ◌<�
 ghost use Rattle.std.specs.Prelude.{length, slice_index, slice_index_or, slice_set, take};
 ghost use Rattle.std.specs.List.{list_any};
 ghost use Rattle.sd_packet.specs.Header.{counter_of, payload_start_of};
-ghost use Rattle.sd_packet.specs.Packing.{packed, IsSectionPacket};
-ghost use Rattle.sd_packet.specs.Positions.{advanced, IsNext, is_moving, moved, moved_by, first_position, position_of};
+ghost use Rattle.sd_packet.specs.Packing.{section_packet, IsSectionPacket};
+ghost use Rattle.sd_packet.specs.Positions.{advanced, IsNextPosition, is_moving, moved, moved_by, first_position, position_of};
 
 /// A step rises by 1 to 16, to a number that equals the counter mod 16, and no other number is so.
 #[tactic(auto, using(sd_packet::proofs::Positions::advanced_is_next, sd_packet::proofs::Positions::next_is_advanced))]
 pub fn a_step_rises()
-    ensures next { (position counter : ℕ) → counter < 16 → IsNext position counter (advanced position counter) }
-    ensures alone { (position counter next : ℕ) → counter < 16 → IsNext position counter next →
+    ensures next { (position counter : ℕ) → counter < 16 → IsNextPosition position counter (advanced position counter) }
+    ensures alone { (position counter next : ℕ) → counter < 16 → IsNextPosition position counter next →
         next ≡ advanced position counter }
 {}
 
@@ -29,7 +29,7 @@ pub fn one_packet_more()
 #[tactic(auto, using(sd_packet::proofs::Positions::moving_rises))]
 pub fn a_packet_rises()
     ensures { (pid position : ℕ) (packet : List ℕ) → is_moving pid packet ≡ true →
-        IsNext position (counter_of packet) (moved pid position packet) }
+        IsNextPosition position (counter_of packet) (moved pid position packet) }
 {}
 
 /// From any start, the packets of two lists move a position one after the other.
@@ -76,10 +76,10 @@ pub fn payloads_start_within()
 #[tactic(auto, using(sd_packet::proofs::Packets::packet_length, sd_packet::proofs::Packets::packet_sync, sd_packet::proofs::Packets::packet_counted))]
 pub fn packed_sections_are_read()
     ensures fields { (section : List ℕ) (pid counter : ℕ) → pid < 8192 → counter < 16 →
-        IsSectionPacket section pid counter (packed section pid counter) }
+        IsSectionPacket section pid counter (section_packet section pid counter) }
     ensures length { (section : List ℕ) (pid counter : ℕ) → length section ≤ 183 →
-        length (packed section pid counter) ≡ 188 }
+        length (section_packet section pid counter) ≡ 188 }
     ensures counter { (section : List ℕ) (pid counter : ℕ) →
-        packed section pid counter ≡ slice_set (packed section pid 0) 3 (0x10 + counter) }
-    ensures sync { (section : List ℕ) (pid counter : ℕ) → slice_index (packed section pid counter) 0 ≡ 0x47 }
+        section_packet section pid counter ≡ slice_set (section_packet section pid 0) 3 (0x10 + counter) }
+    ensures sync { (section : List ℕ) (pid counter : ℕ) → slice_index (section_packet section pid counter) 0 ≡ 0x47 }
 {}

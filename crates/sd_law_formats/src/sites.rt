@@ -5,7 +5,7 @@ ghost use Rattle.sd_ports.specs.Bytes.{IsPrefix};
 ghost use Rattle.sd_site_cards.specs.SiteFields.{SiteFields};
 ghost use Rattle.sd_site_cards.specs.Forms.{digest_bytes, most_book_size};
 ghost use Rattle.sd_site_cards.specs.Text.{IsSite};
-ghost use Rattle.sd_site_cards.specs.Written.{IsSayable, is_first, is_whole, newest_of, none_fewer, site_text};
+ghost use Rattle.sd_site_cards.specs.Written.{IsSayable, is_first_site, are_lines_whole, site_of_chain, none_fewer, site_text};
 ghost use Rattle.sd_site_cards.specs.declared.book_line.BookLine.{BookLine};
 ghost use Rattle.sd_site_cards.specs.declared.site_fault.SiteFault.TheVariants.{Range};
 
@@ -24,7 +24,7 @@ pub fn read_sites_are_sayable()
 #[tactic(auto, using(crate::proofs::WrittenSites::site_read, crate::proofs::ShortSites::short_written))]
 pub fn written_sites_are_read()
     ensures read { (fewer : List ℕ → SiteFields → Bool) (site : SiteFields) (book : BookLine) → IsSayable site book →
-        newest_of fewer (site_text site book) ≡ Ok (site, Some book) }
+        site_of_chain fewer (site_text site book) ≡ Ok (site, Some book) }
     ensures short { (site : SiteFields) (book : BookLine) → IsSayable site book → length (site_text site book) ≤ 317 }
 {}
 
@@ -34,13 +34,13 @@ pub fn written_sites_are_read()
 #[tactic(auto, using(crate::proofs::TornSites::torn_not_whole, crate::proofs::TornSites::torn_no_twin, crate::proofs::TornSites::torn_sites, crate::proofs::TornLines::torn_in_range))]
 pub fn torn_sites_are_short()
     ensures whole { (site : SiteFields) (book : BookLine) (torn : List ℕ) → IsSayable site book →
-        IsPrefix torn (site_text site book) → torn ≢ site_text site book → is_whole 13 torn ≡ true → ⊥ }
+        IsPrefix torn (site_text site book) → torn ≢ site_text site book → are_lines_whole 13 torn ≡ true → ⊥ }
     ensures twin { (site : SiteFields) (book : BookLine) (torn : List ℕ) (other : SiteFields × Option BookLine) →
         IsSayable site book → IsPrefix torn (site_text site book) → torn ≢ site_text site book →
-        newest_of none_fewer torn ≡ Ok other → ⊥ }
+        site_of_chain none_fewer torn ≡ Ok other → ⊥ }
     ensures refused { (site : SiteFields) (book : BookLine) (torn : List ℕ) (other : SiteFields × Option BookLine) →
         IsSayable site book → site.first_word ≤ site.last_word → IsPrefix torn (site_text site book) →
-        torn ≢ site_text site book → newest_of is_first torn ≡ Ok other → ⊥ }
+        torn ≢ site_text site book → site_of_chain is_first_site torn ≡ Ok other → ⊥ }
     ensures range { (site : SiteFields) (book : BookLine) (torn : List ℕ) → IsSayable site book →
-        IsPrefix torn (site_text site book) → newest_of is_first torn ≡ Err (Range 12) → ⊥ }
+        IsPrefix torn (site_text site book) → site_of_chain is_first_site torn ≡ Err (Range 12) → ⊥ }
 {}

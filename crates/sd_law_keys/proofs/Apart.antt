@@ -13,7 +13,7 @@ use Rattle.sd_tree_keys.specs.Keys.{key_of, whole_key_of, period_key_of, control
 use Rattle.sd_law_broadcast.specs.Pads.{KeyName, PeriodKey as OfPeriod, SetKey, Word, key_bytes}
 use Rattle.sd_law_keys.specs.Inputs.{Hashed, NodeLabel, WholeKey, PeriodKey, ControlWord, LeftThird, RightThird}
 use Rattle.sd_law_keys.specs.Inputs.{MiddleThird, CheckValue, IsSized, hashed_as, input_of, named_by}
-use Rattle.sd_law_keys.specs.Inputs.{size_of}
+use Rattle.sd_law_keys.specs.Inputs.{hashed_size}
 
 -- the name that these first bytes, this letter and this rest are the input of
 abbrev read_by : List ℕ → ℕ → List ℕ → Hashed
@@ -65,7 +65,7 @@ whole_hash : (input : List ℕ) → sha256 input ≡ take 32 (sha256 input)
 whole_hash input = sym (take_all 32 (sha256 input) (omega (arith, length-sha256 input)))
 
 -- what each name is of
-pub inputs_hashed : (name : Hashed) → named_by name ≡ take (size_of name) (sha256 (input_of name))
+pub inputs_hashed : (name : Hashed) → named_by name ≡ take (hashed_size name) (sha256 (input_of name))
 unfolding label_of_node left_of right_of middle_of whole_key_of period_key_of control_word_of check_value_of
 inputs_hashed (NodeLabel master i) = whole_hash (input_of (NodeLabel master i))
 inputs_hashed (WholeKey master) = whole_hash (input_of (WholeKey master))

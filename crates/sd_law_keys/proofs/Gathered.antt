@@ -12,7 +12,7 @@ use Rattle.sd_message.specs.declared.ecm_part.EcmPart.{EcmPart}
 use Rattle.sd_message.specs.declared.ecm_message.EcmHead.{EcmHead}
 use Rattle.sd_message.specs.declared.ecm_fault.EcmFault.TheVariants.{Count, Order, Mixed}
 use Rattle.sd_spec.specs.Heard.{Heard, Dropped, Entitles, Controls, BadEmm, BadEcm, Other}
-use Rattle.sd_spec.specs.Stretches.{exceeds, counted, run_with, run_of, run_to, message_told, newest, stretched}
+use Rattle.sd_spec.specs.Stretches.{exceeds, counted_parts, message_parts_with, run_of_parts, message_parts_to, message_told, newest_message, stretch_after}
 use Rattle.sd_spec.specs.Stretches.{completed, completes, others, held_in}
 use Rattle.sd_spec.specs.Offered.{same_header, is_after, part_fault}
 use Rattle.sd_receive.proofs.Alike.{headers_told}
@@ -30,15 +30,15 @@ all_reversed P (x ∷ xs) all =
 
 -- what was heard after the newest message was heard
 after_one : (P : Heard → Type 0) (so_far : List Heard) (thing : Heard) (m : Option Message) → P thing
-    → All P (newest so_far).after → All P (stretched so_far (newest so_far) thing m).after
-after_one P so_far thing None is all = All-cons P thing (newest so_far).after is all
+    → All P (newest_message so_far).after → All P (stretch_after so_far (newest_message so_far) thing m).after
+after_one P so_far thing None is all = All-cons P thing (newest_message so_far).after is all
 after_one P so_far thing (Some message) is all = All-nil P
 
-after_heard : (P : Heard → Type 0) (so_far : List Heard) → All P so_far → All P (newest so_far).after
-unfolding newest
+after_heard : (P : Heard → Type 0) (so_far : List Heard) → All P so_far → All P (newest_message so_far).after
+unfolding newest_message
 after_heard P [] all = All-nil P
 after_heard P (thing ∷ so_far) all =
-    after_one P so_far thing (completed (newest so_far) thing) (All-head P thing so_far all)
+    after_one P so_far thing (completed (newest_message so_far) thing) (All-head P thing so_far all)
     (after_heard P so_far (All-tail P thing so_far all))
 
 -- one part more, if it counts
@@ -49,11 +49,11 @@ with_counted Q part parts false is all = all
 
 -- the parts that count were heard
 counted_heard : (P : Heard → Type 0) (message : Option Message) (things : List Heard) → All P things
-    → All (λ (part : EcmPart). P (Controls part)) (counted message things)
-unfolding counted
+    → All (λ (part : EcmPart). P (Controls part)) (counted_parts message things)
+unfolding counted_parts
 counted_heard P message [] all = All-nil (λ (part : EcmPart). P (Controls part))
 counted_heard P message (Controls part ∷ things) all =
-    with_counted (λ (part : EcmPart). P (Controls part)) part (counted message things) (exceeds message part)
+    with_counted (λ (part : EcmPart). P (Controls part)) part (counted_parts message things) (exceeds message part)
     (All-head P (Controls part) things all)
     (counted_heard P message things (All-tail P (Controls part) things all))
 counted_heard P message (Dropped ∷ things) all = counted_heard P message things (All-tail P Dropped things all)
@@ -68,7 +68,7 @@ counted_heard P message (Other n packet ∷ things) all =
 
 -- the parts of a run are some of those that count
 with_part : (Q : EcmPart → Type 0) (part : EcmPart) (run : List EcmPart) → Q part → All Q run
-    → All Q (run_with part run)
+    → All Q (message_parts_with part run)
 with_part Q part [] is all = All-nil Q
 with_part Q part (before ∷ run) is all = by_test ((before.number == part.number) && (before.part + 1 == part.part))
   where
@@ -77,30 +77,30 @@ with_part Q part (before ∷ run) is all = by_test ((before.number == part.numbe
     by_test false = All-nil Q
 
 begun_or_with : (Q : EcmPart → Type 0) (part : EcmPart) (run : List EcmPart) (b : Bool) → Q part → All Q run
-    → All Q (if b then part ∷ [] else run_with part run)
+    → All Q (if b then part ∷ [] else message_parts_with part run)
 begun_or_with Q part run true is all = All-cons Q part [] is (All-nil Q)
 begun_or_with Q part run false is all = with_part Q part run is all
 
-run_heard : (Q : EcmPart → Type 0) (parts : List EcmPart) → All Q parts → All Q (run_of parts)
-unfolding run_of
+run_heard : (Q : EcmPart → Type 0) (parts : List EcmPart) → All Q parts → All Q (run_of_parts parts)
+unfolding run_of_parts
 run_heard Q [] all = All-nil Q
 run_heard Q (part ∷ earlier) all =
-    begun_or_with Q part (run_of earlier) (part.part == 0) (All-head Q part earlier all)
+    begun_or_with Q part (run_of_parts earlier) (part.part == 0) (All-head Q part earlier all)
     (run_heard Q earlier (All-tail Q part earlier all))
 
 run_to_heard : (P : Heard → Type 0) (so_far : List Heard) (part : EcmPart) → All P so_far → P (Controls part)
-    → All (λ (one : EcmPart). P (Controls one)) (run_to (newest so_far) part)
-unfolding run_to
-run_to_heard P so_far part all is = by_test (exceeds (newest so_far).message part)
+    → All (λ (one : EcmPart). P (Controls one)) (message_parts_to (newest_message so_far) part)
+unfolding message_parts_to
+run_to_heard P so_far part all is = by_test (exceeds (newest_message so_far).message part)
   where
     parts : List EcmPart
-    parts = part ∷ counted (newest so_far).message (newest so_far).after
+    parts = part ∷ counted_parts (newest_message so_far).message (newest_message so_far).after
 
-    by_test : (b : Bool) → All (λ (one : EcmPart). P (Controls one)) (if b then run_of parts else [])
+    by_test : (b : Bool) → All (λ (one : EcmPart). P (Controls one)) (if b then run_of_parts parts else [])
     by_test true =
         run_heard (λ (one : EcmPart). P (Controls one)) parts
-        (All-cons (λ (one : EcmPart). P (Controls one)) part (counted (newest so_far).message (newest so_far).after) is
-        (counted_heard P (newest so_far).message (newest so_far).after (after_heard P so_far all)))
+        (All-cons (λ (one : EcmPart). P (Controls one)) part (counted_parts (newest_message so_far).message (newest_message so_far).after) is
+        (counted_heard P (newest_message so_far).message (newest_message so_far).after (after_heard P so_far all)))
     by_test false = All-nil (λ (one : EcmPart). P (Controls one))
 
 -- the other packets were heard
@@ -118,10 +118,10 @@ others_heard P (BadEmm fault ∷ things) all = others_heard P things (All-tail P
 others_heard P (BadEcm fault ∷ things) all = others_heard P things (All-tail P (BadEcm fault) things all)
 
 pub held_heard : (P : Heard → Type 0) (so_far : List Heard) → All P so_far
-    → All (λ (held : ℕ × List ℕ). P (Other held.0 held.1)) (held_in (newest so_far))
+    → All (λ (held : ℕ × List ℕ). P (Other held.0 held.1)) (held_in (newest_message so_far))
 held_heard P so_far all =
-    all_reversed (λ (held : ℕ × List ℕ). P (Other held.0 held.1)) (others (newest so_far).after)
-    (others_heard P (newest so_far).after (after_heard P so_far all))
+    all_reversed (λ (held : ℕ × List ℕ). P (Other held.0 held.1)) (others (newest_message so_far).after)
+    (others_heard P (newest_message so_far).after (after_heard P so_far all))
 
 -- none of the earlier parts says otherwise
 none_mixed : (part : EcmPart) (run : List EcmPart) → is_mixed_with part run ≡ false
@@ -166,17 +166,17 @@ told_by_run false run message is = absurd cc
 -- a message that is completed without a fault of its parts is in the packets
 pub message_in : (card : CardFields) (past : List (List ℕ)) (so_far : List Heard) (part : EcmPart) (message : Message)
     → All (IsHeardIn card past) so_far → IsHeardIn card past (Controls part)
-    → part_fault (run_to (newest so_far) part) ≡ None
-    → IsRunning (newest so_far) → completes so_far (Controls part) ≡ Some message → IsMessageIn card past message
+    → part_fault (message_parts_to (newest_message so_far) part) ≡ None
+    → IsRunning (newest_message so_far) → completes so_far (Controls part) ≡ Some message → IsMessageIn card past message
 message_in card past so_far part message all is none running done =
-    let told = told_by_run (part.part == part.last_part) (run_to (newest so_far) part) message done in
-    let (last, alike) = all_say message (run_to (newest so_far) part) told none in record {
+    let told = told_by_run (part.part == part.last_part) (message_parts_to (newest_message so_far) part) message done in
+    let (last, alike) = all_say message (message_parts_to (newest_message so_far) part) told none in record {
       last = last;
-      parts = run_to (newest so_far) part;
+      parts = message_parts_to (newest_message so_far) part;
       told = told;
       are_heard = run_to_heard (IsHeardIn card past) so_far part all is;
       alike = alike;
-      ascending = ascending_in message (run_to (newest so_far) part)
+      ascending = ascending_in message (message_parts_to (newest_message so_far) part)
           (run_to_runs so_far part running (is_part card past part is) none) told;
     }
 

@@ -6,7 +6,7 @@ use Rattle.std.specs.List.{list_any}
 use Rattle.std.specs.Option.{option_map_or}
 use Rattle.std.proofs.lemmas.Bool.{false≢true}
 use Rattle.std.proofs.lemmas.Bool.Decides.{nat_tests}
-use Rattle.sd_site_cards.specs.CardFields.{CardFields, card_of}
+use Rattle.sd_site_cards.specs.CardFields.{CardFields, card_of, site_card}
 use Rattle.sd_message.specs.declared.emm.Emm.{Emm}
 use Rattle.sd_psi.specs.declared.our_cat.Tuning.{Tuning}
 use Rattle.sd_spec.specs.Plan.{Plan, IsPlan}
@@ -14,7 +14,7 @@ use Rattle.sd_spec.specs.Refused.{IsSendable}
 use Rattle.sd_spec.specs.Sent.{Item, sent, closing_of, broadcast}
 use Rattle.sd_spec.specs.Tuned.{tuning_of}
 use Rattle.sd_spec.specs.Heard.{Heard, Dropped, Entitles, Controls, BadEmm, BadEcm, Other, hears}
-use Rattle.sd_spec.specs.Stretches.{current, is_closed, seen}
+use Rattle.sd_spec.specs.Stretches.{current, is_closed, sections_seen}
 use Rattle.sd_spec.specs.Runs.{is_turn, of_run}
 use Rattle.sd_spec.specs.Keys.{first_key, key_at, key_from, key_in}
 use Rattle.sd_spec.specs.Offered.{heard, heard_more, heard_with}
@@ -47,11 +47,11 @@ first_stays None b known = absurd (false≢true (sym known))
 -- a key that is known stays so with one thing more of the run
 known_with : (card : CardFields) (past : List Heard) (thing : Heard) (q : ℕ) → IsKnown card past q →
     IsKnown card (thing ∷ past) q
-unfolding seen key_in
+unfolding sections_seen key_in
 known_with card past (Entitles emm) q known = by_test ((emm.period == q) && nat_le (current past) q)
   where
-    by_test : (b : Bool) → is_none (key_in card (if b then emm ∷ seen q past else seen q past)) ≡ false
-    by_test true = first_stays (key_in card (seen q past)) (key_from card emm) known
+    by_test : (b : Bool) → is_none (key_in card (if b then emm ∷ sections_seen q past else sections_seen q past)) ≡ false
+    by_test true = first_stays (key_in card (sections_seen q past)) (key_from card emm) known
     by_test false = known
 known_with card past Dropped q known = known
 known_with card past (Controls part) q known = known
@@ -70,7 +70,7 @@ known_on card past thing q straight known = rw (same_run past thing straight) (b
 -- a section of q that takes a key makes it known
 known_now : (card : CardFields) (run : List Heard) (thing : Heard) (q : ℕ) → takes_key_of card run thing ≡ true →
     is_section_of q thing ≡ true → IsKnown card (thing ∷ run) q
-unfolding takes_key seen key_in
+unfolding takes_key sections_seen key_in
 known_now card run (Entitles emm) q takes section =
     let same : emm.period ≡ q = grind (arith, nat_tests, section) in
     let parts = both_true (nat_le (current run) emm.period)
@@ -78,7 +78,7 @@ known_now card run (Entitles emm) q takes section =
     let gives = (both_true (is_none (key_at card run emm.period)) (not (is_none (key_from card emm))) parts.1).1 in
     let within : nat_le (current run) q ≡ true =
     subst (λ (p : ℕ). nat_le (current run) p ≡ true) same parts.0 in
-    rw section (rw within (last_given (key_in card (seen q run)) (key_from card emm) gives))
+    rw section (rw within (last_given (key_in card (sections_seen q run)) (key_from card emm) gives))
   where
     last_given : (a b : Option (List ℕ)) → not (is_none b) ≡ true → is_none (first_key a b) ≡ false
     last_given (Some key) b gives = refl
@@ -230,7 +230,7 @@ one_run_is card (packet ∷ packets) past one =
 -- what is kept of a broadcast is of one run
 kept_of_one_run : (plan : Plan) (clear : List (List ℕ)) (u : ℕ) (flags : List Bool) → IsPlan plan →
     IsSendable plan.site clear → AreWholePackets clear → u < 2 ^ plan.site.height →
-    AreOneRun (card_of plan.site.master plan.site.ca plan.site.height u)
+    AreOneRun (site_card plan.site u)
     (onto (chosen flags (broadcast plan clear)) [])
 kept_of_one_run plan clear u flags is all whole leaf =
     by_cat (list_any is_cat_item kept)
@@ -251,11 +251,11 @@ kept_of_one_run plan clear u flags is all whole leaf =
 
 pub few_of_broadcast : (plan : Plan) (clear : List (List ℕ)) (u : ℕ) (flags : List Bool) (q : ℕ) → IsPlan plan →
     IsSendable plan.site clear → AreWholePackets clear → u < 2 ^ plan.site.height →
-    steps_for q (card_of plan.site.master plan.site.ca plan.site.height u) [] (chosen flags (broadcast plan clear))
+    steps_for q (site_card plan.site u) [] (chosen flags (broadcast plan clear))
     ≤ plan.site.height
 unfolding card_of
 few_of_broadcast plan clear u flags q is all whole leaf =
-    let card : CardFields = card_of plan.site.master plan.site.ca plan.site.height u in
+    let card : CardFields = site_card plan.site u in
     let packets : List (List ℕ) = chosen flags (broadcast plan clear) in
     few_after q card [] packets (one_run_is card packets [] (kept_of_one_run plan clear u flags is all whole leaf))
 

@@ -28,19 +28,19 @@ use Rattle.sd_message.specs.declared.stream_fault.StreamFault.{StreamFault}
 use Rattle.sd_message.specs.declared.stream_fault.StreamFault.TheVariants as Fault
 use Rattle.sd_spec.specs.Tuned.{tuning_of}
 use Rattle.sd_spec.specs.Heard.{Heard, Dropped, Entitles, Controls, BadEmm, BadEcm, Other, hears}
-use Rattle.sd_spec.specs.Stretches.{Stretch, completes, counted, exceeds, message_told, newest, run_of, run_to}
-use Rattle.sd_spec.specs.Stretches.{run_with}
-use Rattle.sd_spec.specs.Stretches.{is_closed, current, seen, held_in}
+use Rattle.sd_spec.specs.Stretches.{Stretch, completes, counted_parts, exceeds, message_told, newest_message, run_of_parts, message_parts_to}
+use Rattle.sd_spec.specs.Stretches.{message_parts_with}
+use Rattle.sd_spec.specs.Stretches.{is_closed, current, sections_seen, held_in}
 use Rattle.sd_spec.specs.Runs.{of_run}
 use Rattle.sd_spec.specs.Keys.{key_from, key_at}
 use Rattle.sd_spec.specs.Confirmed.{Segment, position_in, tracked, written_from}
-use Rattle.sd_spec.specs.Offered.{Offering, heard, no_offering, refuses, is_mixed, key_if_none, emm_offering}
+use Rattle.sd_spec.specs.Offered.{Offering, heard, no_offering, refused_offering, is_mixed, key_if_none, emm_offering}
 use Rattle.sd_spec.specs.Offered.{part_fault, is_before, is_back, most_held, segment_wrote, stretch_wrote, word_fault}
 use Rattle.sd_spec.specs.Offered.{wrote_or, message_offering, part_offering, heard_offering, tuned_offering, offered}
 use Rattle.sd_spec.specs.Offered.{out_from}
 use Rattle.sd_spec.proofs.Hearing.{tuned_more}
 use Rattle.sd_law_keys.specs.Written.{CameClear, GoesOn, IsFramed, IsHeardIn, IsKeyIn, IsMessageIn}
-use Rattle.sd_law_keys.specs.Written.{IsOpened, IsWrittenOf, OpenPackets, clear, opened}
+use Rattle.sd_law_keys.specs.Written.{IsWrittenUnder, IsWrittenOf, OpenPackets, clear, opened}
 use Rattle.sd_law_keys.proofs.Sources.{all_later, other_here}
 use Rattle.sd_law_keys.proofs.Gathered.{held_heard, message_in, one_on}
 use Rattle.sd_law_keys.proofs.Sound.{IsSound, IsUpTo, key_later, message_later, sound_none, sound_run}
@@ -65,11 +65,11 @@ abbrev AreHere : List (List ℕ) → List (ℕ × List ℕ) → Type 0
 AreHere past helds = All (λ (held : ℕ × List ℕ). Contains past held.1) helds
 
 held_here : (card : CardFields) (past : List (List ℕ)) (so_far : List Heard) → All (IsHeardIn card past) so_far
-    → AreHere past (held_in (newest so_far))
+    → AreHere past (held_in (newest_message so_far))
 held_here card past so_far all =
     All-weaker (λ (held : ℕ × List ℕ). IsHeardIn card past (Other held.0 held.1))
     (λ (held : ℕ × List ℕ). Contains past held.1) (λ held is. other_here card past held.0 held.1 is)
-    (held_in (newest so_far)) (held_heard (IsHeardIn card past) so_far all)
+    (held_in (newest_message so_far)) (held_heard (IsHeardIn card past) so_far all)
 
 -- the packets that are buffered behind message a, when message b is complete
 record AreBehind (card : CardFields) (tuning : Tuning) (past : List (List ℕ)) (a b : Message) (stretch : Stretch)
@@ -78,7 +78,7 @@ record AreBehind (card : CardFields) (tuning : Tuning) (past : List (List ℕ)) 
   earlier : List (List ℕ)
   part : EcmPart
   stands : past ≡ later ++ earlier
-  stretch_is : stretch ≡ newest (heard card earlier)
+  stretch_is : stretch ≡ newest_message (heard card earlier)
   message_is : stretch.message ≡ Some a
   completed : completes (heard card earlier) (Controls part) ≡ Some b
   are_here : AreHere past (held_in stretch)
@@ -97,7 +97,7 @@ is_opened : (card : CardFields) (tuning : Tuning) (past : List (List ℕ)) (stre
     → AreBehind card tuning past a b stretch → length (held_in stretch) ≤ 4096
     → held_in stretch ≡ first ++ held ∷ rest
     → IsDescrambled (between card tuning stretch a b key) (map (λ (one : ℕ × List ℕ). one.1) first) held.1 out
-    → IsOpened card past held.1 out
+    → IsWrittenUnder card past held.1 out
 is_opened card tuning past stretch a b key out first rest held pair behind few stands is =
     let s : Segment = between card tuning stretch a b key in
     let befores : List (List ℕ) = map (λ (one : ℕ × List ℕ). one.1) first in
@@ -234,11 +234,11 @@ goes_on_by a b none number =
       places = places_go_on a b a.places clears.1;
     }
 
-goes_on : (so_far : List Heard) (a b : Message) → is_back so_far b ≡ false → (newest so_far).message ≡ Some a
+goes_on : (so_far : List Heard) (a b : Message) → is_back so_far b ≡ false → (newest_message so_far).message ≡ Some a
     → a.number < b.number → GoesOn a b
 unfolding is_back
 goes_on so_far a b none is number =
-    let tests = or_parts (nat_lt b.period (current so_far)) (option_map_or (is_before b) (newest so_far).message false)
+    let tests = or_parts (nat_lt b.period (current so_far)) (option_map_or (is_before b) (newest_message so_far).message false)
     none in
     goes_on_by a b (ap (λ (m : Option Message). option_map_or (is_before b) m false) (sym is) ∙ tests.1) number
 
@@ -252,12 +252,12 @@ number_by a part true true run b told is done =
     let number = told b done in
     let below : a.number < part.number = grind (arith, nat_tests, is) in omega (arith, number, below)
 
-number_told : (part : EcmPart) (parts : List EcmPart) (b : Message) → message_told (run_of (part ∷ parts)) ≡ Some b
+number_told : (part : EcmPart) (parts : List EcmPart) (b : Message) → message_told (run_of_parts (part ∷ parts)) ≡ Some b
     → b.number ≡ part.number
-unfolding run_of
+unfolding run_of_parts
 number_told part parts b told = by_test (part.part == 0) told
   where
-    by_run : (run : List EcmPart) → message_told (run_with part run) ≡ Some b → b.number ≡ part.number
+    by_run : (run : List EcmPart) → message_told (message_parts_with part run) ≡ Some b → b.number ≡ part.number
     by_run [] none = absurd cc
     by_run (before ∷ run) is = by_next ((before.number == part.number) && (before.part + 1 == part.part)) is
       where
@@ -266,36 +266,36 @@ number_told part parts b told = by_test (part.part == 0) told
         by_next true so = cc
         by_next false none = absurd cc
 
-    by_test : (test : Bool) → message_told (if test then part ∷ [] else run_with part (run_of parts)) ≡ Some b
+    by_test : (test : Bool) → message_told (if test then part ∷ [] else message_parts_with part (run_of_parts parts)) ≡ Some b
         → b.number ≡ part.number
     by_test true is = cc
-    by_test false is = by_run (run_of parts) is
+    by_test false is = by_run (run_of_parts parts) is
 
-number_later : (so_far : List Heard) (part : EcmPart) (a b : Message) → (newest so_far).message ≡ Some a
+number_later : (so_far : List Heard) (part : EcmPart) (a b : Message) → (newest_message so_far).message ≡ Some a
     → completes so_far (Controls part) ≡ Some b → a.number < b.number
-unfolding run_to
+unfolding message_parts_to
 number_later so_far part a b is done =
     number_by a part (part.part == part.last_part) (nat_lt a.number part.number)
-    (run_of (part ∷ counted (newest so_far).message (newest so_far).after)) b
-    (λ c told. number_told part (counted (newest so_far).message (newest so_far).after) c told) refl
+    (run_of_parts (part ∷ counted_parts (newest_message so_far).message (newest_message so_far).after)) b
+    (λ c told. number_told part (counted_parts (newest_message so_far).message (newest_message so_far).after) c told) refl
     (subst (λ (m : Option Message). (if part.part == part.last_part
     then message_told (if exceeds m part
-    then run_of (part ∷ counted (newest so_far).message (newest so_far).after) else [])
+    then run_of_parts (part ∷ counted_parts (newest_message so_far).message (newest_message so_far).after) else [])
     else None) ≡ Some b) is done)
 
 -- the packets that were buffered, once a later one completes a message
 no_newest : (card : CardFields) (a : Message) (so_far : List Heard) → so_far ≡ []
-    → (newest so_far).message ≡ Some a → ⊥
-unfolding newest
+    → (newest_message so_far).message ≡ Some a → ⊥
+unfolding newest_message
 no_newest card a so_far none is =
-    let first : (newest []).message ≡ Some a = subst (λ (l : List Heard). (newest l).message ≡ Some a) none is in
+    let first : (newest_message []).message ≡ Some a = subst (λ (l : List Heard). (newest_message l).message ≡ Some a) none is in
     absurd cc
 
 behind_later : (card : CardFields) (tuning : Tuning) (past : List (List ℕ)) (packet : List ℕ) (a b : Message)
     (so_far : List Heard) (part : EcmPart) → tuning_of card.ca past ≡ Some tuning → IsUpTo card past so_far
-    → (newest so_far).message ≡ Some a → completes so_far (Controls part) ≡ Some b
-    → AreHere (packet ∷ past) (held_in (newest so_far))
-    → AreBehind card tuning (packet ∷ past) a b (newest so_far)
+    → (newest_message so_far).message ≡ Some a → completes so_far (Controls part) ≡ Some b
+    → AreHere (packet ∷ past) (held_in (newest_message so_far))
+    → AreBehind card tuning (packet ∷ past) a b (newest_message so_far)
 behind_later card tuning past packet a b so_far part tuned (inl none) is done here =
     absurd (no_newest card a so_far none is)
 behind_later card tuning past packet a b so_far part tuned (inr (later, earlier, stands, same)) is done here = record {
@@ -303,7 +303,7 @@ behind_later card tuning past packet a b so_far part tuned (inr (later, earlier,
   earlier = earlier;
   part = part;
   stands = ap (λ (l : List (List ℕ)). packet ∷ l) stands;
-  stretch_is = ap newest same;
+  stretch_is = ap newest_message same;
   message_is = is;
   completed = subst (λ (l : List Heard). completes l (Controls part) ≡ Some b) same done;
   are_here = here;
@@ -315,7 +315,7 @@ message_is : (card : CardFields) (tuning : Tuning) (n : ℕ) (past : List (List 
     (so_far : List Heard) (part : EcmPart) (message : Option Message) (out : List ℕ)
     → tuning_of card.ca past ≡ Some tuning
     → IsSound card past so_far → IsUpTo card past so_far → IsHeardIn card (packet ∷ past) (Controls part)
-    → part_fault (run_to (newest so_far) part) ≡ None
+    → part_fault (message_parts_to (newest_message so_far) part) ≡ None
     → completes so_far (Controls part) ≡ message
     → Contains (message_offering card tuning n so_far message).wrote out → IsWrittenOf card (packet ∷ past) out
 message_is card tuning n past packet so_far part None out tuned sound up is right done m = absurd (no_member out m)
@@ -325,8 +325,8 @@ message_is card tuning n past packet so_far part (Some b) out tuned sound up is 
     all : All (IsHeardIn card (packet ∷ past)) so_far
     all = all_later card past (packet ∷ []) so_far sound.are_heard
 
-    pair : is_back so_far b ≡ false → (a : Message) → (newest so_far).message ≡ Some a → b.since ≤ a.number
-        → (k : List ℕ) → key_at card (newest so_far).before a.period ≡ Some k
+    pair : is_back so_far b ≡ false → (a : Message) → (newest_message so_far).message ≡ Some a → b.since ≤ a.number
+        → (k : List ℕ) → key_at card (newest_message so_far).before a.period ≡ Some k
         → OpenPackets card (packet ∷ past) a b k
     pair none a newest_is since k known =
         let taken = sound.taken a newest_is in record {
@@ -339,19 +339,19 @@ message_is card tuning n past packet so_far part (Some b) out tuned sound up is 
         }
 
     by_test : (test : Bool) → is_back so_far b ≡ test
-        → Contains (if test then refuses (Fault.BadEcm n Back)
-        else wrote_or (stretch_wrote card tuning (newest so_far) (newest so_far).message b)
+        → Contains (if test then refused_offering (Fault.BadEcm n Back)
+        else wrote_or (stretch_wrote card tuning (newest_message so_far) (newest_message so_far).message b)
         (word_fault n b (key_at card so_far b.period))).wrote out → IsWrittenOf card (packet ∷ past) out
     by_test true back none = absurd (no_member out none)
     by_test false none some =
-        stretch_is card tuning (packet ∷ past) (newest so_far) (newest so_far).message b out (pair none)
+        stretch_is card tuning (packet ∷ past) (newest_message so_far) (newest_message so_far).message b out (pair none)
         (λ a newest_is. behind_later card tuning past packet a b so_far part tuned up newest_is done
         (held_here card (packet ∷ past) so_far all)) some
 
 part_is : (card : CardFields) (tuning : Tuning) (n : ℕ) (past : List (List ℕ)) (packet : List ℕ) (so_far : List Heard)
     (part : EcmPart) (fault : Option EcmFault) (out : List ℕ) → tuning_of card.ca past ≡ Some tuning
     → IsSound card past so_far → IsUpTo card past so_far → IsHeardIn card (packet ∷ past) (Controls part)
-    → part_fault (run_to (newest so_far) part) ≡ fault
+    → part_fault (message_parts_to (newest_message so_far) part) ≡ fault
     → Contains (part_offering n fault
     (message_offering card tuning n so_far (completes so_far (Controls part)))).wrote out
     → IsWrittenOf card (packet ∷ past) out
@@ -368,13 +368,13 @@ key_writes_none n emm None None out m = no_member out m
 key_writes_none n emm None (Some key) out m = by_test (bytes_eq (check_value_of key) emm.check) m
   where
     by_test : (test : Bool) → Contains (if test then no_offering
-        else refuses (Fault.WrongKey n emm.period (check_value_of key) emm.check)).wrote out → ⊥
+        else refused_offering (Fault.WrongKey n emm.period (check_value_of key) emm.check)).wrote out → ⊥
     by_test true none = no_member out none
     by_test false none = no_member out none
 
 section_writes_none : (early mixed : Bool) (why : StreamFault) (offering : Offering) (out : List ℕ)
     → (Contains offering.wrote out → ⊥)
-    → Contains (if early then no_offering else if mixed then refuses why else offering).wrote out → ⊥
+    → Contains (if early then no_offering else if mixed then refused_offering why else offering).wrote out → ⊥
 section_writes_none true mixed why offering out none m = no_member out m
 section_writes_none false true why offering out none m = no_member out m
 section_writes_none false false why offering out none m = none m
@@ -383,7 +383,7 @@ emm_writes_none : (card : CardFields) (n : ℕ) (so_far : List Heard) (emm : Emm
     → Contains (emm_offering card n so_far emm).wrote out → ⊥
 unfolding emm_offering
 emm_writes_none card n so_far emm out m =
-    section_writes_none (nat_lt emm.period (current so_far)) (is_mixed (seen emm.period so_far) emm)
+    section_writes_none (nat_lt emm.period (current so_far)) (is_mixed (sections_seen emm.period so_far) emm)
     (Fault.BadEmm n Emms.Mixed) (key_if_none n emm (key_at card so_far emm.period) (key_from card emm)) out
     (key_writes_none n emm (key_at card so_far emm.period) (key_from card emm) out) m
 
@@ -396,7 +396,7 @@ heard_is card tuning n past packet so_far Dropped out tuned sound up is m = absu
 heard_is card tuning n past packet so_far (Entitles emm) out tuned sound up is m =
     absurd (emm_writes_none card n so_far emm out m)
 heard_is card tuning n past packet so_far (Controls part) out tuned sound up is m =
-    part_is card tuning n past packet so_far part (part_fault (run_to (newest so_far) part)) out tuned sound up is
+    part_is card tuning n past packet so_far part (part_fault (message_parts_to (newest_message so_far) part)) out tuned sound up is
     refl m
 heard_is card tuning n past packet so_far (BadEmm fault) out tuned sound up is m = absurd (no_member out m)
 heard_is card tuning n past packet so_far (BadEcm fault) out tuned sound up is m = absurd (no_member out m)

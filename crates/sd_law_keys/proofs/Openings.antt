@@ -11,13 +11,13 @@ use Rattle.sd_cover_tracing.proofs.Lists.{no_member, only_member}
 use Rattle.sd_packet.specs.Header.{pid_of, scrambling_of}
 use Rattle.sd_packet.specs.Positions.{is_placed, moved_by}
 use Rattle.sd_packet.proofs.Positions.{moved_by_near, more_packets}
-use Rattle.sd_psi.specs.Rewriting.{restored, restore_fault}
+use Rattle.sd_psi.specs.Rewriting.{pmt_without_descriptor, restore_fault}
 use Rattle.sd_cipher.specs.Scrambling.{descrambled}
 use Rattle.sd_psi.specs.declared.our_cat.Tuning.{Tuning}
 use Rattle.sd_site_cards.specs.CardFields.{CardFields}
-use Rattle.sd_spec.specs.Confirmed.{Segment, Wrote, is_confirmed, is_foreign, judged, position_in, position_or_first}
-use Rattle.sd_spec.specs.Confirmed.{then_wrote, tracked, unmarked, written_from}
-use Rattle.sd_law_keys.specs.Written.{IsFramed, IsPlain, as_it_came, as_it_was}
+use Rattle.sd_spec.specs.Confirmed.{Segment, WrittenPackets, is_confirmed, is_foreign, judged_packet, position_in, position_or_first}
+use Rattle.sd_spec.specs.Confirmed.{then_segment_output, tracked, unmarked, written_from}
+use Rattle.sd_law_keys.specs.Written.{IsFramed, IsWrittenClear, as_it_came, as_it_was}
 
 -- a packet that is written of these: the one that it is written of, after those before it
 pub record IsFrom (s : Segment) (before : List (List ℕ)) (helds : List (ℕ × List ℕ)) (out : List ℕ) : Type 0 where
@@ -26,12 +26,12 @@ pub record IsFrom (s : Segment) (before : List (List ℕ)) (helds : List (ℕ ×
   pub rest : List (ℕ × List ℕ)
   pub packets : List (List ℕ)
   pub stands : helds ≡ first ++ held ∷ rest
-  pub is_judged : judged s (before ++ map (λ (one : ℕ × List ℕ). one.1) first) held ≡ Ok packets
+  pub is_judged : judged_packet s (before ++ map (λ (one : ℕ × List ℕ). one.1) first) held ≡ Ok packets
   pub here : Contains packets out
 
 -- it is of the first packet, or of a later one
 from_first : (s : Segment) (before : List (List ℕ)) (held : ℕ × List ℕ) (more : List (ℕ × List ℕ)) (out : List ℕ)
-    (packets : List (List ℕ)) → judged s before held ≡ Ok packets → Contains packets out
+    (packets : List (List ℕ)) → judged_packet s before held ≡ Ok packets → Contains packets out
     → IsFrom s before (held ∷ more) out
 from_first s before held more out packets is here = record {
   first = [];
@@ -39,7 +39,7 @@ from_first s before held more out packets is here = record {
   rest = more;
   packets = packets;
   stands = refl;
-  is_judged = ap (λ (l : List (List ℕ)). judged s l held) (append-nil before) ∙ is;
+  is_judged = ap (λ (l : List (List ℕ)). judged_packet s l held) (append-nil before) ∙ is;
   here = here;
 }
 
@@ -51,15 +51,15 @@ from_later s before held more out is = record {
   rest = is.rest;
   packets = is.packets;
   stands = ap (λ (l : List (ℕ × List ℕ)). held ∷ l) is.stands;
-  is_judged = ap (λ (l : List (List ℕ)). judged s l is.held)
+  is_judged = ap (λ (l : List (List ℕ)). judged_packet s l is.held)
       (sym (append_assoc before (held.1 ∷ []) (map (λ (one : ℕ × List ℕ). one.1) is.first))) ∙ is.is_judged;
   here = is.here;
 }
 
 from_one : (s : Segment) (before : List (List ℕ)) (held : ℕ × List ℕ) (more : List (ℕ × List ℕ)) (out : List ℕ)
-    (result : Result (List (List ℕ)) ℕ) (rest : Wrote) → judged s before held ≡ result
+    (result : Result (List (List ℕ)) ℕ) (rest : WrittenPackets) → judged_packet s before held ≡ result
     → (Contains rest.packets out → IsFrom s (before ++ held.1 ∷ []) more out)
-    → Contains (then_wrote result rest).packets out → IsFrom s before (held ∷ more) out
+    → Contains (then_segment_output result rest).packets out → IsFrom s before (held ∷ more) out
 from_one s before held more out (Err n) rest is later here = absurd (no_member out here)
 from_one s before held more out (Ok packets) rest is later here =
     elim (Contains-append_cases packets rest.packets out here) [
@@ -72,7 +72,7 @@ pub written_is_from : (s : Segment) (before : List (List ℕ)) (helds : List (�
 unfolding written_from
 written_is_from s before [] out here = absurd (no_member out here)
 written_is_from s before (held ∷ more) out here =
-    from_one s before held more out (judged s before held) (written_from s (before ++ held.1 ∷ []) more) refl
+    from_one s before held more out (judged_packet s before held) (written_from s (before ++ held.1 ∷ []) more) refl
     (λ other. written_is_from s (before ++ held.1 ∷ []) more out other) here
 
 -- a packet that is written under the segment's control word
@@ -110,9 +110,9 @@ judged_by s before held out packets false false false p o c is here =
     absurd (no_member out (subst (λ (l : List (List ℕ)). Contains l out) (sym none) here))
 
 pub judged_is : (s : Segment) (before : List (List ℕ)) (held : ℕ × List ℕ) (out : List ℕ) (packets : List (List ℕ))
-    → judged s before held ≡ Ok packets → Contains packets out
+    → judged_packet s before held ≡ Ok packets → Contains packets out
     → ((scrambling_of held.1 ≡ 0) × (out ≡ unmarked s held.1)) ⊎ IsDescrambled s before held.1 out
-unfolding judged
+unfolding judged_packet
 judged_is s before held out packets is here =
     judged_by s before held out packets (scrambling_of held.1 == 0) (is_foreign s held.1) (is_confirmed s (pid_of
     held.1))
@@ -121,11 +121,11 @@ judged_is s before held out packets is here =
 -- a packet in the clear is written as it came, or restored
 plain_by : (card : CardFields) (tuning : Tuning) (held out : List ℕ) (b : Bool)
     → (is_placed held && is_none (restore_fault card.ca tuning.ecm held)) ≡ b
-    → out ≡ (if b then restored held else held) → IsPlain card tuning held out
-plain_by card tuning held out false other is = subst (IsPlain card tuning held) (sym is) (as_it_came other)
+    → out ≡ (if b then pmt_without_descriptor held else held) → IsWrittenClear card tuning held out
+plain_by card tuning held out false other is = subst (IsWrittenClear card tuning held) (sym is) (as_it_came other)
 plain_by card tuning held out true marked is =
     let tests = and_parts (is_placed held) (is_none (restore_fault card.ca tuning.ecm held)) marked in
-    subst (IsPlain card tuning held) (sym is)
+    subst (IsWrittenClear card tuning held) (sym is)
     (as_it_was tests.0 (none_of (restore_fault card.ca tuning.ecm held) tests.1))
   where
     none_of : {X : Type 0} (o : Option X) → is_none o ≡ true → o ≡ None
@@ -133,13 +133,13 @@ plain_by card tuning held out true marked is =
     none_of (Some x) none = absurd cc
 
 pub plain_is : (card : CardFields) (tuning : Tuning) (s : Segment) (held out : List ℕ) → s.ca ≡ card.ca
-    → s.ecm ≡ tuning.ecm → out ≡ unmarked s held → IsPlain card tuning held out
+    → s.ecm ≡ tuning.ecm → out ≡ unmarked s held → IsWrittenClear card tuning held out
 unfolding unmarked
 plain_is card tuning s held out ca ecm is =
     plain_by card tuning held out (is_placed held && is_none (restore_fault card.ca tuning.ecm held)) refl
-    (subst (λ (e : ℕ). out ≡ (if is_placed held && is_none (restore_fault card.ca e held) then restored held else held))
+    (subst (λ (e : ℕ). out ≡ (if is_placed held && is_none (restore_fault card.ca e held) then pmt_without_descriptor held else held))
     ecm
-    (subst (λ (c : ℕ). out ≡ (if is_placed held && is_none (restore_fault c s.ecm held) then restored held else held))
+    (subst (λ (c : ℕ). out ≡ (if is_placed held && is_none (restore_fault c s.ecm held) then pmt_without_descriptor held else held))
     ca is))
 
 -- a packet that isn't odd has the parity of the word

@@ -11,13 +11,13 @@ use Rattle.sd_site_cards.specs.CardFields.{CardFields}
 use Rattle.sd_section.specs.Header.{table_id_of, body_of}
 use Rattle.sd_message.specs.Framed.{section_of}
 use Rattle.sd_message.specs.EcmSpelled.{listed_places}
-use Rattle.sd_message.specs.EcmFields.{ecm_in, ecm_of, flags_of, from_flags, place_of, places_in}
-use Rattle.sd_message.specs.EcmFields.{version_of}
+use Rattle.sd_message.specs.EcmFields.{ecm_in, ecm_of, body_flags, from_flags, ecm_position_in, ecm_positions_in}
+use Rattle.sd_message.specs.EcmFields.{ecm_version_of}
 use Rattle.sd_message.specs.EcmVersions.{most_places, most_positions}
 use Rattle.sd_message.proofs.Items.{length_items}
 use Rattle.sd_message.proofs.Pieces.{filled_length}
 use Rattle.sd_message.proofs.Versions.{few_positions}
-use Rattle.sd_message.specs.EcmForm.{AreAscending, no_place}
+use Rattle.sd_message.specs.EcmForm.{ArePidsAscending, no_place}
 use Rattle.sd_message.specs.EcmParts.{Message}
 use Rattle.sd_message.specs.EmmJudged.{emm_read}
 use Rattle.sd_message.specs.EcmJudged.{are_positioned, ecm_judged, ecm_read, has_ecm, is_ascending_by_pid, is_count_due}
@@ -29,9 +29,9 @@ use Rattle.sd_message.specs.declared.ecm_fault.EcmFault.{EcmFault}
 use Rattle.sd_message.specs.declared.ecm_fault.EcmFault.TheVariants.{Count, Order, Mixed, Pid}
 use Rattle.sd_message.proofs.EcmDeciding.{read_form}
 use Rattle.sd_spec.specs.Heard.{Heard, Dropped, Controls, Other, heard_emm, heard_ecm, hears}
-use Rattle.sd_spec.specs.Stretches.{Stretch, counted, exceeds, message_told, newest, run_of, run_to, run_with}
+use Rattle.sd_spec.specs.Stretches.{Stretch, counted_parts, exceeds, message_told, newest_message, run_of_parts, message_parts_to, message_parts_with}
 use Rattle.sd_spec.specs.Offered.{part_fault, is_after}
-use Rattle.sd_receive.specs.PartialEcm.{IsPart, IsRun, places_of}
+use Rattle.sd_receive.specs.PartialEcm.{IsPart, IsPartialEcm, part_positions}
 use Rattle.sd_receive.proofs.Gathering.{as_many, grows, is_mixed_with, none_gathered}
 use Rattle.sd_law_keys.specs.Written.{IsHeardIn}
 
@@ -81,7 +81,7 @@ part_is packet part is =
     let body : List ℕ = body_of (section_of packet) in
     same_part (has_ecm packet) (not (is_count_due (length body) one)) (not (are_positioned (listed_places one)))
     (not (is_ascending_by_pid (listed_places one)))
-    (not (is_matched (table_id_of (section_of packet)) (flags_of one.version body) one)) one part is
+    (not (is_matched (table_id_of (section_of packet)) (body_flags one.version body) one)) one part is
 
 -- so it is a part in its form, with room for all positions that one may have
 pub is_part : (card : CardFields) (past : List (List ℕ)) (part : EcmPart) → IsHeardIn card past (Controls part)
@@ -91,24 +91,24 @@ is_part card past part is =
     let read = part_read card.height is.tuning (length is.earlier) is.packet part is.is_heard in
     let one = part_is is.packet part read in
     let body : List ℕ = body_of (section_of is.packet) in
-    let flags : List ℕ = from_flags (version_of (section_of is.packet)) body in
+    let flags : List ℕ = from_flags (ecm_version_of (section_of is.packet)) body in
     let form = read_form is.packet part read in
     let count : slice_index flags 49 ≡ part.count = ap (λ (p : EcmPart). p.count) one in
-    let few : length (places_in (slice_index flags 49) (drop 50 flags)) ≤ 13 = omega (
+    let few : length (ecm_positions_in (slice_index flags 49) (drop 50 flags)) ≤ 13 = omega (
       arith,
       count,
       form.counted.few,
       few_positions part.version,
-      length_items place_of 8 (slice_index flags 49) (drop 50 flags),
+      length_items ecm_position_in 8 (slice_index flags 49) (drop 50 flags),
     ) in record {
       form = form;
       long = ap (λ (p : EcmPart). length p.positions) (sym one)
-          ∙ filled_length most_positions no_place (places_in (slice_index flags 49) (drop 50 flags)) few;
+          ∙ filled_length most_positions no_place (ecm_positions_in (slice_index flags 49) (drop 50 flags)) few;
     }
 
 -- a part without a fault leaves no more places than a message may have
 few_of : (part : EcmPart) (run : List EcmPart) → part_fault (part ∷ run) ≡ None
-    → length (places_of run) + length (listed_places part) ≤ 256
+    → length (part_positions run) + length (listed_places part) ≤ 256
 unfolding part_fault
 few_of part run none =
     let fits = no_count (is_mixed_with part run) (not (is_after part run))
@@ -124,15 +124,15 @@ few_of part run none =
     no_count false false false e = refl
 
 -- one part more of a run
-grown_with : (part : EcmPart) (run : List EcmPart) → IsRun run → IsPart part → part_fault (run_with part run) ≡ None
-    → IsRun (run_with part run)
+grown_with : (part : EcmPart) (run : List EcmPart) → IsPartialEcm run → IsPart part → part_fault (message_parts_with part run) ≡ None
+    → IsPartialEcm (message_parts_with part run)
 grown_with part [] good is none = good
 grown_with part (before ∷ run) good is none =
     by_test ((before.number == part.number) && (before.part + 1 == part.part)) refl none
   where
     by_test : (b : Bool) → ((before.number == part.number) && (before.part + 1 == part.part)) ≡ b
         → part_fault (if b then part ∷ before ∷ run else []) ≡ None
-        → IsRun (if b then part ∷ before ∷ run else [])
+        → IsPartialEcm (if b then part ∷ before ∷ run else [])
     by_test true next fine =
         let tests = and_parts (before.number == part.number) (before.part + 1 == part.part) next in
         let after : before.part + 1 ≡ part.part = grind (arith, nat_tests, tests.1) in
@@ -141,64 +141,64 @@ grown_with part (before ∷ run) good is none =
 
 -- the parts that count after the newest message are a run
 abbrev pub IsRunning : Stretch → Type 0
-IsRunning stretch = IsRun (run_of (counted stretch.message stretch.after))
+IsRunning stretch = IsPartialEcm (run_of_parts (counted_parts stretch.message stretch.after))
 
-next_runs : (part : EcmPart) (parts : List EcmPart) → IsRun (run_of parts) → IsPart part
-    → part_fault (run_of (part ∷ parts)) ≡ None → IsRun (run_of (part ∷ parts))
-unfolding run_of
+next_runs : (part : EcmPart) (parts : List EcmPart) → IsPartialEcm (run_of_parts parts) → IsPart part
+    → part_fault (run_of_parts (part ∷ parts)) ≡ None → IsPartialEcm (run_of_parts (part ∷ parts))
+unfolding run_of_parts
 next_runs part parts good is none = by_test (part.part == 0) none
   where
-    by_test : (b : Bool) → part_fault (if b then part ∷ [] else run_with part (run_of parts)) ≡ None
-        → IsRun (if b then part ∷ [] else run_with part (run_of parts))
+    by_test : (b : Bool) → part_fault (if b then part ∷ [] else message_parts_with part (run_of_parts parts)) ≡ None
+        → IsPartialEcm (if b then part ∷ [] else message_parts_with part (run_of_parts parts))
     by_test true fine = grows part [] none_gathered.good is tt (few_of part [] fine) fine
-    by_test false fine = grown_with part (run_of parts) good is fine
+    by_test false fine = grown_with part (run_of_parts parts) good is fine
 
 -- so are those with a part that counts
-pub run_to_runs : (so_far : List Heard) (part : EcmPart) → IsRunning (newest so_far) → IsPart part
-    → part_fault (run_to (newest so_far) part) ≡ None → IsRun (run_to (newest so_far) part)
-unfolding run_to
-run_to_runs so_far part good is none = by_test (exceeds (newest so_far).message part) none
+pub run_to_runs : (so_far : List Heard) (part : EcmPart) → IsRunning (newest_message so_far) → IsPart part
+    → part_fault (message_parts_to (newest_message so_far) part) ≡ None → IsPartialEcm (message_parts_to (newest_message so_far) part)
+unfolding message_parts_to
+run_to_runs so_far part good is none = by_test (exceeds (newest_message so_far).message part) none
   where
     parts : List EcmPart
-    parts = counted (newest so_far).message (newest so_far).after
+    parts = counted_parts (newest_message so_far).message (newest_message so_far).after
 
-    by_test : (b : Bool) → part_fault (if b then run_of (part ∷ parts) else []) ≡ None
-        → IsRun (if b then run_of (part ∷ parts) else [])
+    by_test : (b : Bool) → part_fault (if b then run_of_parts (part ∷ parts) else []) ≡ None
+        → IsPartialEcm (if b then run_of_parts (part ∷ parts) else [])
     by_test true fine = next_runs part parts good is fine
     by_test false fine = none_gathered.good
 
 -- and those that count then
-pub runs_on : (so_far : List Heard) (part : EcmPart) → IsRunning (newest so_far) → IsPart part
-    → part_fault (run_to (newest so_far) part) ≡ None → IsRunning (record {
-      message = (newest so_far).message;
-      before = (newest so_far).before;
-      after = Controls part ∷ (newest so_far).after;
+pub runs_on : (so_far : List Heard) (part : EcmPart) → IsRunning (newest_message so_far) → IsPart part
+    → part_fault (message_parts_to (newest_message so_far) part) ≡ None → IsRunning (record {
+      message = (newest_message so_far).message;
+      before = (newest_message so_far).before;
+      after = Controls part ∷ (newest_message so_far).after;
     })
-unfolding run_to counted
-runs_on so_far part good is none = by_test (exceeds (newest so_far).message part) none
+unfolding message_parts_to counted_parts
+runs_on so_far part good is none = by_test (exceeds (newest_message so_far).message part) none
   where
     parts : List EcmPart
-    parts = counted (newest so_far).message (newest so_far).after
+    parts = counted_parts (newest_message so_far).message (newest_message so_far).after
 
-    by_test : (b : Bool) → part_fault (if b then run_of (part ∷ parts) else []) ≡ None
-        → IsRun (run_of (if b then part ∷ parts else parts))
+    by_test : (b : Bool) → part_fault (if b then run_of_parts (part ∷ parts) else []) ≡ None
+        → IsPartialEcm (run_of_parts (if b then part ∷ parts else parts))
     by_test true fine = next_runs part parts good is fine
     by_test false fine = good
 
-pub none_run : IsRunning (newest [])
-unfolding newest counted run_of
+pub none_run : IsRunning (newest_message [])
+unfolding newest_message counted_parts run_of_parts
 none_run = none_gathered.good
 
 pub begins_anew : (b : Message) (before : List Heard)
     → IsRunning (record { message = Some b; before = before; after = [] })
-unfolding counted run_of
+unfolding counted_parts run_of_parts
 begins_anew b before = none_gathered.good
 
 -- the places of a message are those of its parts
-pub ascending_in : (message : Message) (run : List EcmPart) → IsRun run → message_told run ≡ Some message
-    → AreAscending message.places
-unfolding places_of
+pub ascending_in : (message : Message) (run : List EcmPart) → IsPartialEcm run → message_told run ≡ Some message
+    → ArePidsAscending message.places
+unfolding part_positions
 ascending_in message [] good told = absurd cc
 ascending_in message (part ∷ run) good told =
     let places : flat_map listed_places (reverse (part ∷ run)) ≡ message.places = cc in
-    subst AreAscending places good.places.ascending
+    subst ArePidsAscending places good.places.ascending

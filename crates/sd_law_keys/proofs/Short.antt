@@ -18,17 +18,17 @@ use Rattle.sd_spec.specs.Items.{IsOfBroadcast, cat, entitlement, part, closing, 
 use Rattle.sd_spec.proofs.Items.{all_are_of_broadcast}
 use Rattle.sd_spec.proofs.Periods.{section_number}
 use Rattle.sd_spec.proofs.Schedule.{period_short}
-use Rattle.sd_law_broadcast.specs.Runs.{Run, UsesWord, is_veiled, last_crypto, run_packet, sent_by}
-use Rattle.sd_law_broadcast.specs.Pads.{Pad, entry_pad, number_at, pads_in, pads_of, part_pad, payload_pad}
+use Rattle.sd_law_broadcast.specs.Runs.{Run, UsesWord, is_veiled, last_crypto, run_packet, run_sent}
+use Rattle.sd_law_broadcast.specs.Pads.{Pad, entry_pad, stream_number_at, pads_in, pads_of, part_pad, payload_pad}
 use Rattle.sd_law_broadcast.proofs.Clear.{clear_short, clear_words}
 use Rattle.sd_law_broadcast.proofs.Texts.{pads_are}
 use Rattle.sd_law_broadcast.proofs.Using.{parts_are_used}
 
 -- what is sent is of the broadcast
-sent_is_of : (run : Run) (item : Item) → Contains (sent_by run) item → IsOfBroadcast run.plan run.clear item
-unfolding sent_by
+sent_is_of : (run : Run) (item : Item) → Contains (run_sent run) item → IsOfBroadcast run.plan run.clear item
+unfolding run_sent
 sent_is_of run item there =
-    All-contains (IsOfBroadcast run.plan run.clear) (sent_by run) item (all_are_of_broadcast run.plan run.clear) there
+    All-contains (IsOfBroadcast run.plan run.clear) (run_sent run) item (all_are_of_broadcast run.plan run.clear) there
 
 abbrev IsShort : Pad → Type 0
 IsShort pad = pad.number < 2 ^ 64
@@ -62,8 +62,8 @@ part_short run one fits is of =
 
 -- that of a payload is its PID and its position
 payload_short : (run : Run) (k : ℕ) → IsSendable run.plan.site run.clear → k < length run.clear →
-    number_at run k < 2 ^ 64
-unfolding number_at
+    stream_number_at run k < 2 ^ 64
+unfolding stream_number_at
 payload_short run k is within =
     let pid : ℕ = pid_of (run_packet run k) in
     let before : List (List ℕ) = take (k + 1) run.clear in

@@ -22,10 +22,10 @@ use Rattle.sd_message.specs.declared.stream_fault.StreamFault.{StreamFault}
 use Rattle.sd_message.specs.declared.stream_fault.StreamFault.TheVariants as Fault
 use Rattle.sd_spec.specs.Tuned.{tuning_of}
 use Rattle.sd_spec.specs.Heard.{Heard, Dropped, Entitles, Controls, BadEmm, BadEcm, Other, hears}
-use Rattle.sd_spec.specs.Stretches.{Stretch, counted, newest, run_to, completes, is_closed, current, seen}
+use Rattle.sd_spec.specs.Stretches.{Stretch, counted_parts, newest_message, message_parts_to, completes, is_closed, current, sections_seen}
 use Rattle.sd_spec.specs.Runs.{is_turn, of_run}
 use Rattle.sd_spec.specs.Keys.{first_key, key_from, key_in, key_at}
-use Rattle.sd_spec.specs.Offered.{Offering, heard, heard_with, no_offering, refuses, says_same, is_mixed}
+use Rattle.sd_spec.specs.Offered.{Offering, heard, heard_with, no_offering, refused_offering, says_same, is_mixed}
 use Rattle.sd_spec.specs.Offered.{key_offering, key_if_none, emm_offering, part_fault, is_back, stretch_wrote}
 use Rattle.sd_spec.specs.Offered.{word_fault}
 use Rattle.sd_spec.specs.Offered.{wrote_or, message_offering, part_offering, heard_offering}
@@ -42,7 +42,7 @@ AreChecked key sections = All (λ (emm : Emm). check_value_of key ≡ emm.check)
 
 -- the keys that are known have the check values of all sections that were seen
 abbrev pub AreKeysChecked : CardFields → List Heard → Type 0
-AreKeysChecked card so_far = (q : ℕ) (key : List ℕ) → key_at card so_far q ≡ Some key → AreChecked key (seen q so_far)
+AreKeysChecked card so_far = (q : ℕ) (key : List ℕ) → key_at card so_far q ≡ Some key → AreChecked key (sections_seen q so_far)
 
 -- sections of a period agree
 abbrev pub AllAgree : List Emm → Type 0
@@ -50,7 +50,7 @@ AllAgree sections = AllPairs (λ (newer older : Emm). Agree older newer) section
 
 -- all sections that were seen of a period do
 abbrev pub AreAgreed : List Heard → Type 0
-AreAgreed so_far = (q : ℕ) → AllAgree (seen q so_far)
+AreAgreed so_far = (q : ℕ) → AllAgree (sections_seen q so_far)
 
 -- a message that was taken after this was heard, in these packets
 pub record IsTaken (card : CardFields) (past : List (List ℕ)) (before : List Heard) (a : Message) : Type 0 where
@@ -64,8 +64,8 @@ pub record IsSound (card : CardFields) (past : List (List ℕ)) (so_far : List H
   pub are_heard : All (IsHeardIn card past) so_far
   pub keys : AreKeysChecked card so_far
   pub agreed : AreAgreed so_far
-  pub running : IsRunning (newest so_far)
-  pub taken : (a : Message) → (newest so_far).message ≡ Some a → IsTaken card past (newest so_far).before a
+  pub running : IsRunning (newest_message so_far)
+  pub taken : (a : Message) → (newest_message so_far).message ≡ Some a → IsTaken card past (newest_message so_far).before a
 
 -- nothing was heard, or what was heard up to some packet
 abbrev pub IsUpTo : CardFields → List (List ℕ) → List Heard → Type 0
@@ -78,7 +78,7 @@ bytes_same xs ys same = (bytes_eq-Decides xs ys).0 same
 
 -- no key is known of nothing
 none_known : (card : CardFields) (q : ℕ) (key : List ℕ) → key_at card [] q ≡ Some key → ⊥
-unfolding seen key_in
+unfolding sections_seen key_in
 none_known card q key known = absurd cc
 
 -- sections that aren't mixed agree
@@ -113,7 +113,7 @@ check_of_given : (n : ℕ) (emm : Emm) (key : List ℕ) → (key_offering n emm 
 check_of_given n emm key good = by_test (bytes_eq (check_value_of key) emm.check) refl good
   where
     by_test : (b : Bool) → bytes_eq (check_value_of key) emm.check ≡ b
-        → (if b then no_offering else refuses (Fault.WrongKey n emm.period (check_value_of key) emm.check)).fault ≡ None
+        → (if b then no_offering else refused_offering (Fault.WrongKey n emm.period (check_value_of key) emm.check)).fault ≡ None
         → check_value_of key ≡ emm.check
     by_test true same none = bytes_same (check_value_of key) emm.check same
     by_test false other none = absurd cc
@@ -140,7 +140,7 @@ key_with card n sections emm None (Some k) key is gives checked same good known 
 
 -- a section of the current period or a later one, that isn't refused, isn't mixed with those that were seen
 emm_good : (early mixed : Bool) (why : StreamFault) (offering : Offering)
-    → (if early then no_offering else if mixed then refuses why else offering).fault ≡ None → early ≡ false
+    → (if early then no_offering else if mixed then refused_offering why else offering).fault ≡ None → early ≡ false
     → (mixed ≡ false) × (offering.fault ≡ None)
 emm_good true mixed why offering good now = absurd cc
 emm_good false true why offering good now = absurd cc
@@ -148,7 +148,7 @@ emm_good false false why offering good now = (refl, good)
 
 -- what is known of a section that is seen and isn't refused
 record IsFine (card : CardFields) (n : ℕ) (so_far : List Heard) (emm : Emm) (q : ℕ) : Type 0 where
-  agrees : All (λ (other : Emm). Agree other emm) (seen q so_far)
+  agrees : All (λ (other : Emm). Agree other emm) (sections_seen q so_far)
   given : (key_if_none n emm (key_at card so_far q) (key_from card emm)).fault ≡ None
 
 fine_with : (card : CardFields) (n : ℕ) (so_far : List Heard) (emm : Emm) (q : ℕ)
@@ -159,40 +159,40 @@ fine_with card n so_far emm q good same =
     let tests = and_parts (emm.period == q) (nat_le (current so_far) q) same in
     let is : emm.period ≡ q = grind (arith, nat_tests, tests.0) in
     let now : nat_lt emm.period (current so_far) ≡ false = grind (arith, nat_tests, tests.1, is) in
-    let fine = emm_good (nat_lt emm.period (current so_far)) (is_mixed (seen emm.period so_far) emm)
+    let fine = emm_good (nat_lt emm.period (current so_far)) (is_mixed (sections_seen emm.period so_far) emm)
     (Fault.BadEmm n Emms.Mixed) (key_if_none n emm (key_at card so_far emm.period) (key_from card emm)) good now in
     record {
-      agrees = one_check (seen q so_far) emm (subst (λ (p : ℕ). is_mixed (seen p so_far) emm ≡ false) is fine.0);
+      agrees = one_check (sections_seen q so_far) emm (subst (λ (p : ℕ). is_mixed (sections_seen p so_far) emm ≡ false) is fine.0);
       given = subst (λ (p : ℕ). (key_if_none n emm (key_at card so_far p) (key_from card emm)).fault ≡ None) is fine.1;
     }
 
 -- the keys after a section
 keys_with : (card : CardFields) (n : ℕ) (so_far : List Heard) (emm : Emm) → AreKeysChecked card so_far
     → (emm_offering card n so_far emm).fault ≡ None → AreKeysChecked card (Entitles emm ∷ so_far)
-unfolding seen key_in
+unfolding sections_seen key_in
 keys_with card n so_far emm keys good q key known =
     by_test ((emm.period == q) && nat_le (current so_far) q) refl known
   where
     by_test : (b : Bool) → ((emm.period == q) && nat_le (current so_far) q) ≡ b
-        → key_in card (if b then emm ∷ seen q so_far else seen q so_far) ≡ Some key
-        → AreChecked key (if b then emm ∷ seen q so_far else seen q so_far)
+        → key_in card (if b then emm ∷ sections_seen q so_far else sections_seen q so_far) ≡ Some key
+        → AreChecked key (if b then emm ∷ sections_seen q so_far else sections_seen q so_far)
     by_test false other found = keys q key found
     by_test true same found =
         let fine = fine_with card n so_far emm q good same in
-        key_with card n (seen q so_far) emm (key_at card so_far q) (key_from card emm) key refl refl (keys q)
+        key_with card n (sections_seen q so_far) emm (key_at card so_far q) (key_from card emm) key refl refl (keys q)
         fine.agrees fine.given found
 
 -- and the sections
 agreed_with : (card : CardFields) (n : ℕ) (so_far : List Heard) (emm : Emm) → AreAgreed so_far
     → (emm_offering card n so_far emm).fault ≡ None → AreAgreed (Entitles emm ∷ so_far)
-unfolding seen
+unfolding sections_seen
 agreed_with card n so_far emm agreed good q = by_test ((emm.period == q) && nat_le (current so_far) q) refl
   where
     by_test : (b : Bool) → ((emm.period == q) && nat_le (current so_far) q) ≡ b
-        → AllAgree (if b then emm ∷ seen q so_far else seen q so_far)
+        → AllAgree (if b then emm ∷ sections_seen q so_far else sections_seen q so_far)
     by_test false other = agreed q
     by_test true same =
-        AllPairs-cons (λ (newer older : Emm). Agree older newer) emm (seen q so_far)
+        AllPairs-cons (λ (newer older : Emm). Agree older newer) emm (sections_seen q so_far)
         (fine_with card n so_far emm q good same).agrees (agreed q)
 
 -- a part that isn't refused has no fault, and what it completes isn't refused
@@ -202,7 +202,7 @@ part_good n None next good = (refl, good)
 part_good n (Some fault) next good = absurd cc
 
 not_back : (back : Bool) (why : StreamFault) (offering : Offering)
-    → (if back then refuses why else offering).fault ≡ None → (back ≡ false) × (offering.fault ≡ None)
+    → (if back then refused_offering why else offering).fault ≡ None → (back ≡ false) × (offering.fault ≡ None)
 not_back true why offering good = absurd cc
 not_back false why offering good = (refl, good)
 
@@ -233,8 +233,8 @@ key_taken card past so_far q key (inr (later, earlier, stands, is)) keys agreed 
   earlier = earlier;
   stands = stands;
   known = subst (λ (things : List Heard). key_at card things q ≡ Some key) is known;
-  agree = subst (λ (things : List Heard). AllAgree (seen q things)) is (agreed q);
-  checked = subst (λ (things : List Heard). AreChecked key (seen q things)) is (keys q key known);
+  agree = subst (λ (things : List Heard). AllAgree (sections_seen q things)) is (agreed q);
+  checked = subst (λ (things : List Heard). AreChecked key (sections_seen q things)) is (keys q key known);
 }
 
 -- all that holds in packets holds in them with one more
@@ -277,12 +277,12 @@ sound_later card past packet so_far is = record {
   keys = is.keys;
   agreed = is.agreed;
   running = is.running;
-  taken = λ a m. taken_later card past packet (newest so_far).before a (is.taken a m);
+  taken = λ a m. taken_later card past packet (newest_message so_far).before a (is.taken a m);
 }
 
 -- nothing that was heard is sound
 pub sound_none : (card : CardFields) (past : List (List ℕ)) → IsSound card past []
-unfolding newest seen
+unfolding newest_message sections_seen
 sound_none card past = record {
   are_heard = All-nil (IsHeardIn card past);
   keys = λ q key known. absurd (none_known card q key known);
@@ -295,9 +295,9 @@ sound_none card past = record {
 sound_waits : (card : CardFields) (past : List (List ℕ)) (packet : List ℕ) (so_far : List Heard) (thing : Heard)
     → IsSound card past so_far → IsHeardIn card (packet ∷ past) thing → completes so_far thing ≡ None
     → AreKeysChecked card (thing ∷ so_far) → AreAgreed (thing ∷ so_far) → IsRunning (record {
-      message = (newest so_far).message;
-      before = (newest so_far).before;
-      after = thing ∷ (newest so_far).after;
+      message = (newest_message so_far).message;
+      before = (newest_message so_far).before;
+      after = thing ∷ (newest_message so_far).after;
     }) → IsSound card (packet ∷ past) (thing ∷ so_far)
 sound_waits card past packet so_far thing sound is none keys agreed running =
     let e = newest_waits so_far thing none in record {
@@ -307,7 +307,7 @@ sound_waits card past packet so_far thing sound is none keys agreed running =
       agreed = agreed;
       running = subst IsRunning (sym e) running;
       taken = λ a m. subst (λ (st : Stretch). IsTaken card (packet ∷ past) st.before a) (sym e)
-          (taken_later card past packet (newest so_far).before a
+          (taken_later card past packet (newest_message so_far).before a
           (sound.taken a (ap (λ (st : Stretch). st.message) (sym e) ∙ m)));
     }
 
@@ -333,14 +333,14 @@ sound_completes card past packet so_far thing b sound is done keys agreed taken 
 -- the message that a part completes without a fault is taken
 message_taken : (card : CardFields) (tuning : Tuning) (n : ℕ) (past : List (List ℕ)) (packet : List ℕ)
     (so_far : List Heard) (part : EcmPart) (b : Message) → IsSound card past so_far → IsUpTo card past so_far
-    → IsHeardIn card (packet ∷ past) (Controls part) → part_fault (run_to (newest so_far) part) ≡ None
+    → IsHeardIn card (packet ∷ past) (Controls part) → part_fault (message_parts_to (newest_message so_far) part) ≡ None
     → completes so_far (Controls part) ≡ Some b → (message_offering card tuning n so_far (Some b)).fault ≡ None
     → IsTaken card (packet ∷ past) so_far b
 message_taken card tuning n past packet so_far part b sound up is right done good =
     let fine = not_back (is_back so_far b) (Fault.BadEcm n Back)
-    (wrote_or (stretch_wrote card tuning (newest so_far) (newest so_far).message b)
+    (wrote_or (stretch_wrote card tuning (newest_message so_far) (newest_message so_far).message b)
     (word_fault n b (key_at card so_far b.period))) good in
-    let word = not_refused (stretch_wrote card tuning (newest so_far) (newest so_far).message b).refused
+    let word = not_refused (stretch_wrote card tuning (newest_message so_far) (newest_message so_far).message b).refused
     (word_fault n b (key_at card so_far b.period)) fine.1 in record {
       tells = message_in card (packet ∷ past) so_far part b
           (all_later card past (packet ∷ []) so_far sound.are_heard) is right sound.running done;
@@ -354,10 +354,10 @@ message_taken card tuning n past packet so_far part b sound up is right done goo
 sound_with_part : (card : CardFields) (tuning : Tuning) (n : ℕ) (past : List (List ℕ)) (packet : List ℕ)
     (so_far : List Heard) (part : EcmPart) (message : Option Message) → IsSound card past so_far
     → IsUpTo card past so_far → IsHeardIn card (packet ∷ past) (Controls part)
-    → part_fault (run_to (newest so_far) part) ≡ None → completes so_far (Controls part) ≡ message
+    → part_fault (message_parts_to (newest_message so_far) part) ≡ None → completes so_far (Controls part) ≡ message
     → (message_offering card tuning n so_far message).fault ≡ None
     → IsSound card (packet ∷ past) (Controls part ∷ so_far)
-unfolding seen
+unfolding sections_seen
 sound_with_part card tuning n past packet so_far part None sound up is right done good =
     sound_waits card past packet so_far (Controls part) sound is done sound.keys sound.agreed
     (runs_on so_far part sound.running (is_part card (packet ∷ past) part is) right)
@@ -369,14 +369,14 @@ sound_with : (card : CardFields) (tuning : Tuning) (n : ℕ) (past : List (List 
     (so_far : List Heard) (thing : Heard) → IsSound card past so_far → IsUpTo card past so_far
     → IsHeardIn card (packet ∷ past) thing → (heard_offering card tuning n so_far thing).fault ≡ None
     → IsSound card (packet ∷ past) (thing ∷ so_far)
-unfolding seen counted
+unfolding sections_seen counted_parts
 sound_with card tuning n past packet so_far Dropped sound up is good =
     sound_waits card past packet so_far Dropped sound is refl sound.keys sound.agreed sound.running
 sound_with card tuning n past packet so_far (Entitles emm) sound up is good =
     sound_waits card past packet so_far (Entitles emm) sound is refl (keys_with card n so_far emm sound.keys good)
     (agreed_with card n so_far emm sound.agreed good) sound.running
 sound_with card tuning n past packet so_far (Controls part) sound up is good =
-    let fine = part_good n (part_fault (run_to (newest so_far) part))
+    let fine = part_good n (part_fault (message_parts_to (newest_message so_far) part))
     (message_offering card tuning n so_far (completes so_far (Controls part))) good in
     sound_with_part card tuning n past packet so_far part (completes so_far (Controls part)) sound up is fine.0 refl
     fine.1

@@ -19,7 +19,7 @@ use Rattle.sd_law_coalition.specs.Know as Known
 use Rattle.sd_law_broadcast.specs.Known.{IsStepInRuns, entitled, controlled}
 use Rattle.sd_law_broadcast.specs.Pads.{KeyName, Pad, PeriodKey, SetKey, Word, entry_pad, pads_in, pads_of, part_pad}
 use Rattle.sd_law_broadcast.specs.Pads.{payload_pad}
-use Rattle.sd_law_broadcast.specs.Runs.{Run, is_veiled, sent_by}
+use Rattle.sd_law_broadcast.specs.Runs.{Run, is_veiled, run_sent}
 use Rattle.sd_law_broadcast.proofs.Texts.{pads_are}
 use Rattle.sd_law_broadcast.proofs.Using.{entries_are_used, parts_are_used}
 
@@ -67,10 +67,10 @@ item_told runs run _ there (carried_on k within) = by_test (is_veiled run k) ref
     by_test false plain = All-nil (λ (pad : Pad). IsTold runs run pad pad.key)
 
 -- what is sent is of the broadcast
-sent_is_of : (run : Run) (item : Item) → Contains (sent_by run) item → IsOfBroadcast run.plan run.clear item
-unfolding sent_by
+sent_is_of : (run : Run) (item : Item) → Contains (run_sent run) item → IsOfBroadcast run.plan run.clear item
+unfolding run_sent
 sent_is_of run item there =
-    All-contains (IsOfBroadcast run.plan run.clear) (sent_by run) item (all_are_of_broadcast run.plan run.clear) there
+    All-contains (IsOfBroadcast run.plan run.clear) (run_sent run) item (all_are_of_broadcast run.plan run.clear) there
 
 pad_told : (runs : List Run) (run : Run) (pad : Pad) (name : KeyName) → Contains runs run → Contains (pads_of run) pad
     → pad.key ≡ name → IsTold runs run pad name

@@ -51,15 +51,15 @@ hashed_as master (OfPeriod q) = PeriodKey master q
 hashed_as master (Word t) = ControlWord master t
 
 -- how many bytes of the hash it has
-abbrev pub size_of : Hashed → ℕ
-size_of (NodeLabel master i) = 32
-size_of (WholeKey master) = 32
-size_of (PeriodKey master q) = 32
-size_of (ControlWord master t) = 32
-size_of (LeftThird label) = 32
-size_of (RightThird label) = 32
-size_of (MiddleThird label) = 32
-size_of (CheckValue key) = 16
+abbrev pub hashed_size : Hashed → ℕ
+hashed_size (NodeLabel master i) = 32
+hashed_size (WholeKey master) = 32
+hashed_size (PeriodKey master q) = 32
+hashed_size (ControlWord master t) = 32
+hashed_size (LeftThird label) = 32
+hashed_size (RightThird label) = 32
+hashed_size (MiddleThird label) = 32
+hashed_size (CheckValue key) = 16
 
 -- masters, labels and keys have 32 bytes, and numbers fit into four
 abbrev pub IsSized : Hashed → Type 0

@@ -5,18 +5,18 @@ use Rattle.sd_base.specs.Types.{Packet, Packets, Pid, Position, Key, PeriodNumbe
 use Rattle.sd_tree_keys.specs.Keys.{check_value_of}
 use Rattle.sd_packet.specs.Header.{pid_of, scrambling_of}
 use Rattle.sd_packet.specs.Positions.{is_placed}
-use Rattle.sd_psi.specs.Rewriting.{restored, restore_fault}
+use Rattle.sd_psi.specs.Rewriting.{pmt_without_descriptor, restore_fault}
 use Rattle.sd_psi.specs.declared.our_cat.Tuning.{Tuning}
 use Rattle.sd_site_cards.specs.CardFields.{CardFields}
 use Rattle.sd_cipher.specs.Scrambling.{descrambled}
 use Rattle.sd_cipher.specs.Wrapping.{wrapped as under}
-use Rattle.sd_message.specs.EcmForm.{AreAscending}
+use Rattle.sd_message.specs.EcmForm.{ArePidsAscending}
 use Rattle.sd_message.specs.EcmParts.{Message, message_of, ecm_head_of}
 use Rattle.sd_message.specs.declared.ecm_part.EcmPart.{EcmPart}
 use Rattle.sd_message.specs.declared.emm.Emm.{Emm}
 use Rattle.sd_spec.specs.Tuned.{tuning_of}
 use Rattle.sd_spec.specs.Heard.{Heard, Controls, hears}
-use Rattle.sd_spec.specs.Stretches.{completes, held_in, message_told, newest, seen}
+use Rattle.sd_spec.specs.Stretches.{completes, held_in, message_told, newest_message, sections_seen}
 use Rattle.sd_spec.specs.Keys.{key_at}
 use Rattle.sd_spec.specs.Offered.{heard}
 use Rattle.sd_spec.specs.Confirmed.{position_in, position_or_first, tracked}
@@ -43,7 +43,7 @@ pub record IsMessageIn (card : CardFields) (past : Packets) (message : Message) 
   pub told : message_told parts ≡ Some message
   pub are_heard : All (λ part. IsHeardIn card past (Controls part)) parts
   pub alike : All (Says message last) parts
-  pub ascending : AreAscending message.places
+  pub ascending : ArePidsAscending message.places
 
 -- two sections say the same of their period
 abbrev pub Agree : Emm → Emm → Type 0
@@ -56,8 +56,8 @@ pub record IsKeyIn (card : CardFields) (past : Packets) (q : PeriodNumber) (key 
   pub earlier : Packets
   pub stands : past ≡ later ++ earlier
   pub known : key_at card (heard card earlier) q ≡ Some key
-  pub agree : AllPairs (λ newer older. Agree older newer) (seen q (heard card earlier))
-  pub checked : All (λ emm. check_value_of key ≡ emm.check) (seen q (heard card earlier))
+  pub agree : AllPairs (λ newer older. Agree older newer) (sections_seen q (heard card earlier))
+  pub checked : All (λ emm. check_value_of key ≡ emm.check) (sections_seen q (heard card earlier))
 
 -- message b goes on behind message a: it is of a later number, and neither its period, its control word, its clear
 -- packets nor the position of a PID is lower [this project, docs/FORMATS.md, Receiver]
@@ -86,9 +86,9 @@ pub record AreBuffered (card : CardFields) (past : Packets) (a b : Message) (pac
   pub earlier : Packets
   pub part : EcmPart
   pub stands : past ≡ later ++ earlier
-  pub message_is : (newest (heard card earlier)).message ≡ Some a
+  pub message_is : (newest_message (heard card earlier)).message ≡ Some a
   pub completed : completes (heard card earlier) (Controls part) ≡ Some b
-  pub packets_are : packets ≡ map (λ held. held.1) (held_in (newest (heard card earlier)))
+  pub packets_are : packets ≡ map (λ held. held.1) (held_in (newest_message (heard card earlier)))
   pub are_here : All (Contains past) packets
   pub few : length packets ≤ 4096
 
@@ -104,7 +104,7 @@ pub record IsFramed (a b : Message) (pid : Pid) (buffered : Packets) (position :
 -- A buffered packet is written under the control word of the message before it, once another message came after it. It
 -- is scrambled by the word's parity, and descrambled at the position to which the buffered packets up to it led, which
 -- the two messages frame [this project, docs/FORMATS.md, Receiver].
-pub record IsOpened (card : CardFields) (past : Packets) (held out : Packet) : Type 0 where
+pub record IsWrittenUnder (card : CardFields) (past : Packets) (held out : Packet) : Type 0 where
   pub a : Message
   pub b : Message
   pub key : Key
@@ -119,10 +119,10 @@ pub record IsOpened (card : CardFields) (past : Packets) (held out : Packet) : T
 
 -- a packet in the clear as it is written: as it came; or, if it is a PMT with the project's CA_descriptor for these
 -- PIDs, without that [this project, docs/FORMATS.md, Receiver]
-pub data IsPlain (card : CardFields) (tuning : Tuning) (came : Packet) : Packet → Type 0 where
-  as_it_came : (is_placed came && is_none (restore_fault card.ca tuning.ecm came)) ≡ false → IsPlain card tuning came came
+pub data IsWrittenClear (card : CardFields) (tuning : Tuning) (came : Packet) : Packet → Type 0 where
+  as_it_came : (is_placed came && is_none (restore_fault card.ca tuning.ecm came)) ≡ false → IsWrittenClear card tuning came came
   as_it_was : is_placed came ≡ true → restore_fault card.ca tuning.ecm came ≡ None
-      → IsPlain card tuning came (restored came)
+      → IsWrittenClear card tuning came (pmt_without_descriptor came)
 
 -- the packet is one of these that came with control 00 [this project, docs/FORMATS.md, Receiver]
 pub record CameClear (card : CardFields) (past : Packets) (out : Packet) : Type 0 where
@@ -131,9 +131,9 @@ pub record CameClear (card : CardFields) (past : Packets) (out : Packet) : Type 
   pub tuned : tuning_of card.ca past ≡ Some tuning
   pub is_here : Contains past came
   pub control : scrambling_of came ≡ 0
-  pub plain : IsPlain card tuning came out
+  pub plain : IsWrittenClear card tuning came out
 
 -- the packet came in the clear, or is one that two messages open
 pub data IsWrittenOf (card : CardFields) (past : Packets) (out : Packet) : Type 0 where
   clear : CameClear card past out → IsWrittenOf card past out
-  opened : (held : Packet) → IsOpened card past held out → IsWrittenOf card past out
+  opened : (held : Packet) → IsWrittenUnder card past held out → IsWrittenOf card past out

@@ -2,7 +2,7 @@
 
 ghost use Rattle.std.specs.Prelude.{◌≡◌, ◌<◌, ◌≤◌, ◌^◌, ◌∷◌, ℕ, [], true};
 ghost use Rattle.sd_base.specs.Types.{Arrived, LeafNumber, Packet, Packets, PeriodNumber};
-ghost use Rattle.sd_site_cards.specs.CardFields.{CardFields, card_of};
+ghost use Rattle.sd_site_cards.specs.CardFields.{CardFields, site_card};
 ghost use Rattle.sd_spec.specs.Plan.{Plan, IsPlan};
 ghost use Rattle.sd_spec.specs.Refused.{IsSendable};
 ghost use Rattle.sd_spec.specs.Sent.{broadcast};
@@ -19,7 +19,7 @@ pub fn a_period_costs_at_most_the_height()
         is_one_run card (packet ∷ past) packets ≡ true → steps_for q card past (packet ∷ packets) ≤ card.height }
     ensures lost { (plan : Plan) (clear : Packets) (u : LeafNumber) (flags : Arrived) (q : PeriodNumber) →
         IsPlan plan → IsSendable plan.site clear → AreWholePackets clear → u < 2 ^ plan.site.height →
-        steps_for q (card_of plan.site.master plan.site.ca plan.site.height u) []
+        steps_for q (site_card plan.site u) []
         (chosen flags (broadcast plan clear)) ≤ plan.site.height }
     ensures each { (card : CardFields) (past : Packets) (packet : Packet) → takes_key_at card past packet ≡ true →
         (q : PeriodNumber) × (is_section_at q card past packet ≡ true)

@@ -13,11 +13,11 @@ use Rattle.sd_psi.specs.declared.our_cat.Tuning.{Tuning}
 use Rattle.sd_spec.specs.Tuned.{tuning_of}
 use Rattle.sd_spec.specs.Heard.{Heard, Dropped, Entitles, Controls, BadEmm, BadEcm, Other, hears}
 use Rattle.sd_spec.specs.Stretches.{is_closed, completes}
-use Rattle.sd_spec.specs.Runs.{run_name_heard, name_or, name_in, is_same, are_two, is_turn, of_run}
+use Rattle.sd_spec.specs.Runs.{run_name_heard, name_or, run_name_in, is_same_run, are_two, is_turn, of_run}
 use Rattle.sd_spec.specs.Offered.{heard, heard_with, heard_more, offered, tuned_offering}
 use Rattle.sd_spec.proofs.Runs.{same_run, new_run}
 use Rattle.sd_spec.proofs.Hearing.{tuned_more}
-use Rattle.sd_law_losses.specs.Pieces.{name_at}
+use Rattle.sd_law_losses.specs.Pieces.{packet_run_name}
 use Rattle.sd_law_losses.proofs.NextLater.{thing_later, things_later, hears_later, name_later, names_later, run_later}
 use Rattle.sd_law_losses.proofs.Offerings.{offering_later, open_offering, open_later, more_later}
 
@@ -91,7 +91,7 @@ unfolding heard tuning_of
 cat_unheard card cat = refl
 
 pub first_run : (thing : Heard) → of_run [] thing ≡ []
-unfolding of_run is_turn name_in
+unfolding of_run is_turn run_name_in
 first_run thing = refl
 
 first_more : (past : List Heard) (thing : Heard) → of_run past thing ≡ [] → heard_more past thing ≡ thing ∷ []
@@ -139,13 +139,13 @@ turn_agrees card tuning k past cat packet tuned is count turns =
 
 -- the name of the run at hand
 pub name_any : (h n : ℕ) (tuning : Tuning) (packet : List ℕ) →
-    run_name_heard (hears h tuning n packet) ≡ name_at h tuning packet
+    run_name_heard (hears h tuning n packet) ≡ packet_run_name h tuning packet
 name_any h n tuning packet =
     let zero_more : n ≡ n + 0 = omega arith in
     ap (λ (m : ℕ). run_name_heard (hears h tuning m packet)) zero_more
     ∙ (ap run_name_heard (hears_later h n 0 tuning packet) ∙ name_later n (hears h tuning 0 packet))
 
-pub same_is : (a b : Option ℕ) → is_same a b ≡ true → a ≡ b
+pub same_is : (a b : Option ℕ) → is_same_run a b ≡ true → a ≡ b
 same_is None None is = refl
 same_is None (Some b) is = absurd (false≢true is)
 same_is (Some a) None is = absurd (false≢true is)
@@ -154,7 +154,7 @@ same_is (Some a) (Some b) is = let same : a ≡ b = grind (arith, nat_tests, is)
 pub some_kept : (a : Option ℕ) (name : Option (Option ℕ)) → are_two (Some a) name ≡ false →
     Some a ≡ name_or name (Some a)
 some_kept a None one = refl
-some_kept a (Some b) one = ap Some (same_is a b (true_from_not (is_same a b) one))
+some_kept a (Some b) one = ap Some (same_is a b (true_from_not (is_same_run a b) one))
 
 name_kept : (a : Option ℕ) (last name : Option (Option ℕ)) → last ≡ Some a → are_two last name ≡ false →
     last ≡ name_or name last
@@ -180,39 +180,39 @@ closing_named past (BadEmm fault) closing = absurd (false≢true closing)
 closing_named past (BadEcm fault) closing = absurd (false≢true closing)
 closing_named past (Other n packet) closing = absurd (false≢true closing)
 
-closed_named : (past : List Heard) → is_closed past ≡ true → (a : Option ℕ) × (name_in past ≡ Some a)
-unfolding is_closed name_in
+closed_named : (past : List Heard) → is_closed past ≡ true → (a : Option ℕ) × (run_name_in past ≡ Some a)
+unfolding is_closed run_name_in
 closed_named [] closed = absurd (false≢true closed)
 closed_named (thing ∷ past) closed =
     tested (is_closed past)
-    (λ before. let named = closed_named past before in named_or (run_name_heard thing) (name_in past) named.0 named.1)
+    (λ before. let named = closed_named past before in named_or (run_name_heard thing) (run_name_in past) named.0 named.1)
     (λ yet.
     let named = closing_named past thing (ap {B = Bool} (λ (t : Bool). if t then true
     else option_map_or (λ (m : Message). m.closing) (completes past thing) false) (sym yet) ∙ closed) in
-    (named.0, named_first (run_name_heard thing) (name_in past) named.0 named.1))
+    (named.0, named_first (run_name_heard thing) (run_name_in past) named.0 named.1))
 
-pub name_next : (past : List Heard) (thing : Heard) → are_two (name_in past) (run_name_heard thing) ≡ false →
-    name_in (heard_more past thing) ≡ name_or (run_name_heard thing) (name_in past)
-unfolding is_turn name_in
+pub name_next : (past : List Heard) (thing : Heard) → are_two (run_name_in past) (run_name_heard thing) ≡ false →
+    run_name_in (heard_more past thing) ≡ name_or (run_name_heard thing) (run_name_in past)
+unfolding is_turn run_name_in
 name_next past thing one =
-    ap (λ (run : List Heard). name_in (if is_closed run then past else thing ∷ run)) (same_run past thing one)
+    ap (λ (run : List Heard). run_name_in (if is_closed run then past else thing ∷ run)) (same_run past thing one)
     ∙ tested (is_closed past)
-    (λ closed. ap (λ (t : Bool). name_in (if t then past else thing ∷ past)) closed
-    ∙ (let named = closed_named past closed in name_kept named.0 (name_in past) (run_name_heard thing) named.1 one))
-    (λ yet. ap (λ (t : Bool). name_in (if t then past else thing ∷ past)) yet)
+    (λ closed. ap (λ (t : Bool). run_name_in (if t then past else thing ∷ past)) closed
+    ∙ (let named = closed_named past closed in name_kept named.0 (run_name_in past) (run_name_heard thing) named.1 one))
+    (λ yet. ap (λ (t : Bool). run_name_in (if t then past else thing ∷ past)) yet)
 
 -- after a packet of the same run
 pub name_stays : (card : CardFields) (tuning : Tuning) (past : List (List ℕ)) (packet : List ℕ) →
     tuning_of card.ca past ≡ Some tuning →
-    are_two (name_in (heard card past)) (name_at card.height tuning packet) ≡ false →
-    name_or (name_at card.height tuning packet) (name_in (heard card past)) ≡ name_in (heard card (packet ∷ past))
+    are_two (run_name_in (heard card past)) (packet_run_name card.height tuning packet) ≡ false →
+    name_or (packet_run_name card.height tuning packet) (run_name_in (heard card past)) ≡ run_name_in (heard card (packet ∷ past))
 name_stays card tuning past packet tuned one =
     let thing : Heard = hears card.height tuning (length past) packet in
-    let same : run_name_heard thing ≡ name_at card.height tuning packet =
+    let same : run_name_heard thing ≡ packet_run_name card.height tuning packet =
     name_any card.height (length past) tuning packet in
-    ap (λ (name : Option (Option ℕ)). name_or name (name_in (heard card past))) (sym same)
-    ∙ (sym (name_next (heard card past) thing (ap (are_two (name_in (heard card past))) same ∙ one))
-    ∙ ap name_in (sym (heard_by card tuning past packet tuned)))
+    ap (λ (name : Option (Option ℕ)). name_or name (run_name_in (heard card past))) (sym same)
+    ∙ (sym (name_next (heard card past) thing (ap (are_two (run_name_in (heard card past))) same ∙ one))
+    ∙ ap run_name_in (sym (heard_by card tuning past packet tuned)))
 
 turned_name : (last name : Option (Option ℕ)) → are_two last name ≡ true → name_or name last ≡ name_or name None
 turned_name None None two = refl
@@ -221,31 +221,31 @@ turned_name last (Some b) two = refl
 
 -- and after the first message of another run
 pub name_turns : (card : CardFields) (tuning : Tuning) (last : Option (Option ℕ)) (cat packet : List ℕ) →
-    cat_tuning card.ca cat ≡ Some tuning → are_two last (name_at card.height tuning packet) ≡ true →
-    name_or (name_at card.height tuning packet) last ≡ name_in (heard card (packet ∷ cat ∷ []))
-unfolding name_in
+    cat_tuning card.ca cat ≡ Some tuning → are_two last (packet_run_name card.height tuning packet) ≡ true →
+    name_or (packet_run_name card.height tuning packet) last ≡ run_name_in (heard card (packet ∷ cat ∷ []))
+unfolding run_name_in
 name_turns card tuning last cat packet is two =
     let thing : Heard = hears card.height tuning 1 packet in
-    turned_name last (name_at card.height tuning packet) two
+    turned_name last (packet_run_name card.height tuning packet) two
     ∙ (ap (λ (name : Option (Option ℕ)). name_or name None) (sym (name_any card.height 1 tuning packet))
-    ∙ ap name_in (sym (heard_by card tuning (cat ∷ []) packet (cat_tuned card tuning cat is)
+    ∙ ap run_name_in (sym (heard_by card tuning (cat ∷ []) packet (cat_tuned card tuning cat is)
     ∙ (ap (λ (hs : List Heard). heard_more hs thing) (cat_unheard card cat) ∙ first_more [] thing (first_run thing)))))
 
 -- a packet is a turn in the one place as in the other
 pub turn_is : (card : CardFields) (tuning : Tuning) (k : ℕ) (past alone : List (List ℕ)) (packet : List ℕ) →
     Agrees card tuning k past alone →
     is_turn (heard card past) (hears card.height tuning (length past) packet)
-    ≡ are_two (name_in (heard card alone)) (name_at card.height tuning packet)
+    ≡ are_two (run_name_in (heard card alone)) (packet_run_name card.height tuning packet)
 unfolding is_turn
 turn_is card tuning k past alone packet agrees =
-    ap (are_two (name_in (heard card past))) (name_any card.height (length past) tuning packet)
-    ∙ (ap (λ (hs : List Heard). are_two (name_in hs) (name_at card.height tuning packet)) agrees.heard_is
-    ∙ ap (λ (name : Option (Option ℕ)). are_two name (name_at card.height tuning packet))
+    ap (are_two (run_name_in (heard card past))) (name_any card.height (length past) tuning packet)
+    ∙ (ap (λ (hs : List Heard). are_two (run_name_in hs) (packet_run_name card.height tuning packet)) agrees.heard_is
+    ∙ ap (λ (name : Option (Option ℕ)). are_two name (packet_run_name card.height tuning packet))
     (names_later k (heard card alone)))
 
 pub turn_alone : (card : CardFields) (tuning : Tuning) (alone : List (List ℕ)) (packet : List ℕ) →
     is_turn (heard card alone) (hears card.height tuning (length alone) packet)
-    ≡ are_two (name_in (heard card alone)) (name_at card.height tuning packet)
+    ≡ are_two (run_name_in (heard card alone)) (packet_run_name card.height tuning packet)
 unfolding is_turn
 turn_alone card tuning alone packet =
-    ap (are_two (name_in (heard card alone))) (name_any card.height (length alone) tuning packet)
+    ap (are_two (run_name_in (heard card alone))) (name_any card.height (length alone) tuning packet)

@@ -13,7 +13,7 @@ use Rattle.sd_message.specs.Period.{emms_of}
 use Rattle.sd_message.specs.EcmParts.{parts_of}
 use Rattle.sd_spec.specs.Plan.{crypto_length, period_of, closing_number}
 use Rattle.sd_spec.specs.Messages.{period_at}
-use Rattle.sd_spec.specs.Sent.{Item, Cat, Controls, sent, closing_of, packet_of, packets_from}
+use Rattle.sd_spec.specs.Sent.{Item, Cat, Controls, sent, closing_of, item_packet, packets_from}
 use Rattle.sd_spec.specs.Sent.{broadcast}
 use Rattle.sd_spec.specs.Items.{IsOfBroadcast}
 use Rattle.sd_spec.proofs.Items.{all_are_of_broadcast}
@@ -122,20 +122,20 @@ taken_heard card packet past none =
 
 cat_tunes : (s : Setting) (able : AreHearable s) (earlier : List Item) (past : List (List ℕ)) →
     tuning_of s.card.ca past ≡ None →
-    tuning_of s.card.ca (packet_of s.plan.site earlier Cat ∷ past) ≡ Some (tuning_at s)
+    tuning_of s.card.ca (item_packet s.plan.site earlier Cat ∷ past) ≡ Some (tuning_at s)
 unfolding tuning_of
 cat_tunes s able earlier past none =
-    ap (λ (t : Option Tuning). tuned_by t (cat_tuning s.card.ca (packet_of s.plan.site earlier Cat))) none
+    ap (λ (t : Option Tuning). tuned_by t (cat_tuning s.card.ca (item_packet s.plan.site earlier Cat))) none
     ∙ able.tuning earlier
 
 -- a CAT that is kept is taken, and what is written then
 pub taken_tuning : (s : Setting) (able : AreHearable s) (earlier : List Item) (past : List (List ℕ)) →
-    tuning_of s.card.ca past ≡ None → IsTuned s (packet_of s.plan.site earlier Cat ∷ past)
+    tuning_of s.card.ca past ≡ None → IsTuned s (item_packet s.plan.site earlier Cat ∷ past)
 taken_tuning s able earlier past none = record {
   tuning = cat_tunes s able earlier past none;
-  named = subst (All named) (sym (taken_heard s.card (packet_of s.plan.site earlier Cat) past none)) (All-nil named);
+  named = subst (All named) (sym (taken_heard s.card (item_packet s.plan.site earlier Cat) past none)) (All-nil named);
   one = (
-    never_turns s.card past (packet_of s.plan.site earlier Cat) none,
+    never_turns s.card past (item_packet s.plan.site earlier Cat) none,
     untuned_one_run s.card past none,
   );
 }
@@ -155,16 +155,16 @@ one_skipped s past packets wrote packet is rest = record {
 
 cat_taken : (s : Setting) (able : AreHearable s) (items earlier : List Item) (fs : List Bool) (past : List (List ℕ)) →
     tuning_of s.card.ca past ≡ None →
-    (IsTuned s (packet_of s.plan.site earlier Cat ∷ past) →
-    heard s.card (packet_of s.plan.site earlier Cat ∷ past) ≡ [] →
-    IsWrittenFrom s (earlier ++ Cat ∷ []) items fs (packet_of s.plan.site earlier Cat ∷ past) None []) →
+    (IsTuned s (item_packet s.plan.site earlier Cat ∷ past) →
+    heard s.card (item_packet s.plan.site earlier Cat ∷ past) ≡ [] →
+    IsWrittenFrom s (earlier ++ Cat ∷ []) items fs (item_packet s.plan.site earlier Cat ∷ past) None []) →
     IsWrittenBefore s earlier (Cat ∷ items) (true ∷ fs) past
 unfolding chosen packets_from after_cat
 cat_taken s able items earlier fs past none more =
     one_skipped s past (chosen fs (packets_from s.plan.site (earlier ++ Cat ∷ []) items))
-    (confirmed_in s (chosen fs items) 0 (length s.clear)) (packet_of s.plan.site earlier Cat)
-    (offered_none s.card past (packet_of s.plan.site earlier Cat) none)
-    (more (taken_tuning s able earlier past none) (taken_heard s.card (packet_of s.plan.site earlier Cat) past none))
+    (confirmed_in s (chosen fs items) 0 (length s.clear)) (item_packet s.plan.site earlier Cat)
+    (offered_none s.card past (item_packet s.plan.site earlier Cat) none)
+    (more (taken_tuning s able earlier past none) (taken_heard s.card (item_packet s.plan.site earlier Cat) past none))
 
 -- after the CAT before packet k
 pub after_cat_goes : (s : Setting) (laws : AreLaws s) (k i : ℕ) (fs : List Bool) (later : List Item) →
@@ -340,9 +340,9 @@ before_cat s laws able = record {
   without = without_cat s laws able;
   skipped = skipped_first s able;
   ended = λ fs earlier past empty all none. cat_taken s able (items_of_none s) earlier fs past none
-      (sections_end s laws able fs (earlier ++ Cat ∷ []) (packet_of s.plan.site earlier Cat ∷ past) empty all);
+      (sections_end s laws able fs (earlier ++ Cat ∷ []) (item_packet s.plan.site earlier Cat ∷ past) empty all);
   taken = λ n k fs earlier past count due all none. cat_taken s able (here_at s k ++ rest_at s (k + 1)) earlier fs past
-      none (cat_here s laws able n k fs (earlier ++ Cat ∷ []) (packet_of s.plan.site earlier Cat ∷ past) count due all);
+      none (cat_here s laws able n k fs (earlier ++ Cat ∷ []) (item_packet s.plan.site earlier Cat ∷ past) count due all);
 }
 
 -- Whatever is lost of a broadcast, a receiver refuses nothing and writes exactly what is confirmed.

@@ -8,7 +8,7 @@ use Rattle.sd_packet.specs.Header.{pid_of, scrambling_of}
 use Rattle.sd_packet.specs.Positions.{is_placed}
 use Rattle.sd_tree_keys.specs.Keys.{control_word_of}
 use Rattle.sd_site_cards.specs.SiteFields.{SiteFields}
-use Rattle.sd_psi.specs.Rewriting.{rewritten, rewrite_fault, restore_fault}
+use Rattle.sd_psi.specs.Rewriting.{pmt_with_descriptor, rewrite_fault, restore_fault}
 use Rattle.sd_psi.specs.Undone.{IsPacket}
 use Rattle.sd_psi.proofs.Keeping.{rewritten_packet_keeps}
 use Rattle.sd_psi.proofs.Inverse.{restorable, restored_again}
@@ -16,7 +16,7 @@ use Rattle.sd_cipher.specs.Scrambling.{control_of, descrambled}
 use Rattle.sd_cipher.proofs.Scramblings.{undone, control_fits}
 use Rattle.sd_spec.specs.Plan.{word_of}
 use Rattle.sd_spec.specs.Kinds.{kind_of, pmts_in}
-use Rattle.sd_spec.specs.Carried.{parity_of, place_after, pmt_carried, veiled, carried_as, carried}
+use Rattle.sd_spec.specs.Carried.{parity_of, place_after, pmt_carried, packet_under_word, carried_as, carried}
 use Rattle.sd_spec.specs.Refused.{unsent_at, is_full_own}
 use Rattle.sd_spec.specs.declared.kind.Kind.{Kind}
 use Rattle.sd_spec.specs.declared.kind.Kind.TheVariants.{Passed, Pmt, Scrambled}
@@ -45,7 +45,7 @@ none_is (Some a) e = absurd (cc)
 
 -- a rewritten packet is placed as it was
 placed_still : (ca pid : ℕ) (packet : List ℕ) → IsPacket packet → is_placed packet ≡ true →
-    is_placed (rewritten ca pid packet) ≡ true
+    is_placed (pmt_with_descriptor ca pid packet) ≡ true
 placed_still ca pid packet is placed =
     let keeps = rewritten_packet_keeps ca pid packet is in
     rw (keeps.same_pid, keeps.start) placed
@@ -58,9 +58,9 @@ unfolding pmt_carried
 pmt_back site packet segment is placed own ca ecm = elim (cases_Bool (is_none (rewrite_fault packet))) [
   | inl room ↦
       let may = none_is (rewrite_fault packet) room in
-      let good : restore_fault segment.ca segment.ecm (rewritten site.ca site.ecm packet) ≡ None =
+      let good : restore_fault segment.ca segment.ecm (pmt_with_descriptor site.ca site.ecm packet) ≡ None =
       rw (ca, ecm) (restorable site.ca site.ecm packet is may) in
-      rw room (marked_back segment (rewritten site.ca site.ecm packet) (placed_still site.ca site.ecm packet is
+      rw room (marked_back segment (pmt_with_descriptor site.ca site.ecm packet) (placed_still site.ca site.ecm packet is
       placed) good
       ∙ restored_again site.ca site.ecm packet is may)
   | inr full ↦
@@ -87,8 +87,8 @@ clear_back site before packet segment whole sent ca ecm other = by_kind (kind_of
 
 -- a scrambled one does at its own position
 veiled_back : (site : SiteFields) (t position : ℕ) (packet : List ℕ) → IsWholePacket packet → scrambling_of packet ≡ 0 →
-    descrambled (veiled site t position packet) (control_word_of site.master t) position ≡ packet
-unfolding veiled
+    descrambled (packet_under_word site t position packet) (control_word_of site.master t) position ≡ packet
+unfolding packet_under_word
 veiled_back site t position packet whole clear =
     undone packet (control_word_of site.master t) position (control_of (parity_of t)) whole.long (whole.bytes 3) clear
     (control_fits (parity_of t))

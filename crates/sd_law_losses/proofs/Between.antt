@@ -17,7 +17,7 @@ use Rattle.sd_spec.specs.Plan.{period_of}
 use Rattle.sd_spec.specs.Stretches.{Stretch, held_in}
 use Rattle.sd_spec.specs.Keys.{key_at}
 use Rattle.sd_spec.specs.Offered.{segment_wrote, stretch_wrote}
-use Rattle.sd_spec.specs.Confirmed.{Segment, judged, Wrote, then_wrote, written_from}
+use Rattle.sd_spec.specs.Confirmed.{Segment, judged_packet, WrittenPackets, then_segment_output, written_from}
 use Rattle.sd_law_losses.specs.Kept.{is_kept, kept_in, is_entitled_before}
 use Rattle.sd_law_losses.specs.Confirmed.{packet_at, packets_at, is_open, is_written_between}
 use Rattle.sd_law_losses.proofs.Tracking.{kept_more, kept_none, nothing_in}
@@ -43,23 +43,23 @@ abbrev pub packets_held : List (ℕ × List ℕ) → List (List ℕ)
 packets_held hs = map (λ held. held.1) hs
 
 -- what is written of some of the held packets, none of them refused
-abbrev pub all_of : List (List ℕ) → Wrote
+abbrev pub all_of : List (List ℕ) → WrittenPackets
 all_of packets = record { packets = packets; refused = None }
 
 -- one held packet and the next ones
 one_held : (segment : Segment) (before : List (List ℕ)) (held : ℕ × List ℕ) (packet : List ℕ) (more : List (ℕ × List ℕ))
-    (first rest : List (List ℕ)) → held.1 ≡ packet → ((n : ℕ) → judged segment before (n, packet) ≡ Ok first) →
+    (first rest : List (List ℕ)) → held.1 ≡ packet → ((n : ℕ) → judged_packet segment before (n, packet) ≡ Ok first) →
     written_from segment (before ++ packet ∷ []) more ≡ all_of rest →
     written_from segment before (held ∷ more) ≡ all_of (first ++ rest)
 unfolding written_from
 one_held segment before held packet more first rest is good others =
-    subst (λ (p : List ℕ). ((n : ℕ) → judged segment before (n, p) ≡ Ok first) →
+    subst (λ (p : List ℕ). ((n : ℕ) → judged_packet segment before (n, p) ≡ Ok first) →
     written_from segment (before ++ p ∷ []) more ≡ all_of rest →
-    then_wrote (judged segment before (held.0, held.1)) (written_from segment (before ++ held.1 ∷ []) more)
+    then_segment_output (judged_packet segment before (held.0, held.1)) (written_from segment (before ++ held.1 ∷ []) more)
     ≡ all_of (first ++ rest)) is
-    (λ good others. ap (λ (r : Result (List (List ℕ)) ℕ). then_wrote r (written_from segment
+    (λ good others. ap (λ (r : Result (List (List ℕ)) ℕ). then_segment_output r (written_from segment
     (before ++ held.1 ∷ []) more))
-    (good held.0) ∙ ap (then_wrote (Ok first)) others) good others
+    (good held.0) ∙ ap (then_segment_output (Ok first)) others) good others
 
 -- a filter over a range, one number at a time
 let_first : (s : Setting) (kept : List Item) (a b j : ℕ) (js : List ℕ) →

@@ -8,7 +8,7 @@ use Rattle.std.proofs.lemmas.Bool.Decides.{nat_tests}
 use Rattle.sd_base.proofs.Ranges.{filter_range}
 use Rattle.sd_spec.specs.Sent.{Item, Carries}
 use Rattle.sd_spec.specs.Heard.{Heard, Other}
-use Rattle.sd_spec.specs.Stretches.{messages, newest, counted, current, seen, is_closed, others, held_in}
+use Rattle.sd_spec.specs.Stretches.{messages, newest_message, counted_parts, current, sections_seen, is_closed, others, held_in}
 use Rattle.sd_law_losses.specs.Kept.{is_kept, is_carried, kept_in, entitles, is_section_item}
 use Rattle.sd_law_losses.proofs.Tracking.{kept_more, kept_none}
 use Rattle.sd_law_losses.proofs.Arriving.{is_of}
@@ -71,7 +71,7 @@ kept_with s kept low k from =
 pub carried_heard : (s : Setting) (k p n i : ℕ) (last : Option ℕ) (kept : List Item) (past : List Heard) →
     AreHeard s k p n last kept past →
     AreHeard s (k + 1) p n last (kept ++ carrying s k ∷ []) (Other i (carried_at s k) ∷ past)
-unfolding is_closed current seen newest counted others messages
+unfolding is_closed current sections_seen newest_message counted_parts others messages
 carried_heard s k p n i last kept past are = record {
   open_yet = rw (are.open_yet) refl;
   now = omega (arith, are.now);
@@ -81,8 +81,8 @@ carried_heard s k p n i last kept past are = record {
   message = are.message;
   keyed = keyed_stays s kept past (Other i (carried_at s k) ∷ past) last (carrying s k ∷ []) refl are.keyed;
   parts = are.parts;
-  held = ap packets_held (reverse-append ((i, carried_at s k) ∷ []) (others (newest past).after))
-      ∙ (map-append (λ held. held.1) (held_in (newest past)) ((i, carried_at s k) ∷ [])
+  held = ap packets_held (reverse-append ((i, carried_at s k) ∷ []) (others (newest_message past).after))
+      ∙ (map-append (λ held. held.1) (held_in (newest_message past)) ((i, carried_at s k) ∷ [])
       ∙ (ap (λ (ps : List (List ℕ)). ps ++ carried_at s k ∷ []) are.held
       ∙ (sym (map-append (carried_at s) (kept_in kept (from_last s last) k) (k ∷ []))
       ∙ ap (map (carried_at s)) (sym (kept_with s kept (from_last s last) k are.begun)))));

@@ -17,9 +17,9 @@ use Rattle.sd_spec.specs.Plan.{period_of}
 use Rattle.sd_spec.specs.Messages.{period_at}
 use Rattle.sd_spec.specs.Sent.{Item, Controls}
 use Rattle.sd_spec.specs.Heard.{Heard}
-use Rattle.sd_spec.specs.Stretches.{newest, current}
+use Rattle.sd_spec.specs.Stretches.{newest_message, current}
 use Rattle.sd_spec.specs.Keys.{key_at, key_in}
-use Rattle.sd_spec.specs.Confirmed.{Wrote}
+use Rattle.sd_spec.specs.Confirmed.{WrittenPackets}
 use Rattle.sd_spec.specs.Offered.{message_offering, is_back, is_before, stretch_wrote, word_fault, wrote_or}
 use Rattle.sd_law_losses.specs.Chosen.{chosen}
 use Rattle.sd_law_losses.specs.Kept.{is_carried, kept_in, has_arrived, entitles, is_entitled_before, is_section_item}
@@ -204,7 +204,7 @@ not_back : (s : Setting) (laws : AreLaws s) (k p n a : ℕ) (last : Option ℕ) 
 unfolding is_back
 not_back s laws k p n a last kept past now within below period is same are =
     or_from (nat_lt (told_by s a).period (current now)) (option_map_or (is_before (told_by s a))
-    (newest now).message false)
+    (newest_message now).message false)
     (grind (arith, nat_tests, period, are.now, same.current))
     (ap (λ (m : Option Message). option_map_or (is_before (told_by s a)) m false) (same.message ∙ are.message)
     ∙ by_last last is)
@@ -231,14 +231,14 @@ IsLater k later = (j : ℕ) → j < k → list_any (is_carried j) later ≡ fals
 
 pair_at : (s : Setting) (laws : AreLaws s) (k p a c : ℕ) (kept later : List Item) (past now : List Heard) →
     IsPair s c a → k ≡ end_of s a → IsLater k later → Same past now → AreHeard s k p a (Some c) kept past →
-    stretch_wrote s.card (tuning_at s) (newest now) (Some (told_by s c)) (told_by s a)
+    stretch_wrote s.card (tuning_at s) (newest_message now) (Some (told_by s c)) (told_by s a)
     ≡ all_of (pair_packets s (kept ++ later) c a)
 pair_at s laws k p a c kept later past now pair here is same are =
-    pair_writes s laws (kept ++ later) c a (newest now) pair
+    pair_writes s laws (kept ++ later) c a (newest_message now) pair
     (ap (λ (xs : List (ℕ × List ℕ)). packets_held (reverse xs)) same.others
     ∙ (are.held ∙ (ap (map (carried_at s)) (sym (kept_below kept later (start_of s c) k is are.begun))
     ∙ ap (λ (n : ℕ). map (carried_at s) (kept_in (kept ++ later) (start_of s c) n)) here)))
-    (subst (λ (q : ℕ). key_at s.card (newest now).before q ≡ key_where s q
+    (subst (λ (q : ℕ). key_at s.card (newest_message now).before q ≡ key_where s q
     (is_entitled_before s.plan.site.height s.card.leaf (period_of s.plan (start_of s c)) c (kept ++ later)))
     (sym (period_is s c (omega (arith, pair.below, pair.within))))
     (ap (λ (before : List Heard). key_at s.card before (period_of s.plan (start_of s c))) same.before
@@ -248,15 +248,15 @@ stretch_is : (s : Setting) (laws : AreLaws s) (k p a : ℕ) (last : Option ℕ) 
     (past now : List Heard) →
     a ≤ final s → k ≡ end_of s a → IsLater k later → IsLast a kept last → Same past now →
     AreHeard s k p a last kept past →
-    stretch_wrote s.card (tuning_at s) (newest now) (newest now).message (told_by s a)
+    stretch_wrote s.card (tuning_at s) (newest_message now) (newest_message now).message (told_by s a)
     ≡ all_of (written_at s (kept ++ later) last a)
 stretch_is s laws k p a last kept later past now within here is lasts same are =
-    ap (λ (m : Option Message). stretch_wrote s.card (tuning_at s) (newest now) m (told_by s a)) (same.message
+    ap (λ (m : Option Message). stretch_wrote s.card (tuning_at s) (newest_message now) m (told_by s a)) (same.message
     ∙ are.message)
     ∙ by_last last lasts are
   where
     by_last : (last : Option ℕ) → IsLast a kept last → AreHeard s k p a last kept past →
-        stretch_wrote s.card (tuning_at s) (newest now) (option_map (told_by s) last) (told_by s a)
+        stretch_wrote s.card (tuning_at s) (newest_message now) (option_map (told_by s) last) (told_by s a)
         ≡ all_of (written_at s (kept ++ later) last a)
     by_last None none are = refl
     by_last (Some c) lasts are =
@@ -270,7 +270,7 @@ pub complete_offering : (s : Setting) (laws : AreLaws s) (k p a n : ℕ) (last :
     ≡ record { wrote = written_at s (kept ++ later) last a; fault = None }
 complete_offering s laws k p a n last kept later past now within here period is kept_is same are =
     rw (not_back s laws k p a a last kept past now within (omega arith) period kept_is.last_is same are)
-    (ap (λ (w : Wrote). wrote_or w (word_fault n (told_by s a) (key_at s.card now (told_by s a).period)))
+    (ap (λ (w : WrittenPackets). wrote_or w (word_fault n (told_by s a) (key_at s.card now (told_by s a).period)))
     (stretch_is s laws k p a last kept later past now within here is kept_is.last_is same are)
     ∙ ap (wrote_or (all_of (written_at s (kept ++ later) last a)))
     (ap (λ (k : Option (List ℕ)). word_fault n (told_by s a) k)

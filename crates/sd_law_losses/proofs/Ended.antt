@@ -17,7 +17,7 @@ use Rattle.sd_spec.specs.Messages.{period_at, message_at}
 use Rattle.sd_spec.specs.Sent.{Item, Controls, tables_at, closing_of, packets_from}
 use Rattle.sd_spec.specs.Items.{IsOfBroadcast}
 use Rattle.sd_spec.specs.Heard.{Heard, Controls as HeardControls}
-use Rattle.sd_spec.specs.Stretches.{messages, newest, current, seen, is_closed, completes}
+use Rattle.sd_spec.specs.Stretches.{messages, newest_message, current, sections_seen, is_closed, completes}
 use Rattle.sd_spec.specs.Keys.{key_at, key_in}
 use Rattle.sd_spec.specs.Offered.{heard}
 use Rattle.sd_law_losses.specs.Chosen.{chosen}
@@ -48,10 +48,10 @@ pub record HasEnded (s : Setting) (kept : List Item) (past : List Heard) : Type 
   pub last : Option ℕ
   pub last_is : IsLast (final s + 1) kept last
   pub closed : is_closed past ≡ has_arrived kept (final s)
-  pub message : (newest past).message ≡ option_map (told_by s) last
+  pub message : (newest_message past).message ≡ option_map (told_by s) last
   pub keys : (q : ℕ) → key_at s.card past q ≡ key_where s q (is_told s q kept)
-  pub sections : (q : ℕ) → All (Contains (emms_of (period_at s.plan q))) (seen q past)
-  pub indexes : (q x : ℕ) → list_any (λ emm. emm.index == x) (seen q past) ≡ list_any (is_section_item q x) kept
+  pub sections : (q : ℕ) → All (Contains (emms_of (period_at s.plan q))) (sections_seen q past)
+  pub indexes : (q x : ℕ) → list_any (λ emm. emm.index == x) (sections_seen q past) ≡ list_any (is_section_item q x) kept
   pub told : messages past ≡ map (told_by s) (reverse (filter (has_arrived kept) (range_with_len 0 (final s + 1))))
   pub taken : keys_of s.card past ≡ how_many (λ q. is_told s q kept) (reach s + 1)
 
@@ -78,7 +78,7 @@ ended_closed : (s : Setting) (laws : AreLaws s) (k p : ℕ) (last : Option ℕ) 
     Same past mid → completes mid (HeardControls part) ≡ Some (told_by s (final s)) →
     all_kept fs (parts_of (told_by s (final s))) ≡ true →
     HasEnded s (kept ++ map Controls (parts_at s (final s) fs)) (HeardControls part ∷ mid)
-unfolding newest current seen is_closed messages message_at
+unfolding newest_message current sections_seen is_closed messages message_at
 ended_closed s laws k p last fs kept past mid part is low are same done all = record {
   last = Some z;
   last_is = now_last s laws k z last fs kept (omega arith) is all;

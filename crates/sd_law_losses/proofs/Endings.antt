@@ -25,10 +25,10 @@ use Rattle.sd_law_broadcast.proofs.Fitting.{period_count}
 use Rattle.sd_spec.specs.Tuned.{tuning_of}
 use Rattle.sd_psi.specs.declared.our_cat.Tuning.{Tuning}
 use Rattle.sd_spec.specs.Heard.{Heard}
-use Rattle.sd_spec.specs.Stretches.{newest, seen}
+use Rattle.sd_spec.specs.Stretches.{newest_message, sections_seen}
 use Rattle.sd_spec.specs.Offered.{heard}
 use Rattle.sd_spec.specs.Ending.{periods_told, is_unkeyed, is_all_seen, are_all, ending_with, closed_ending}
-use Rattle.sd_spec.specs.Ending.{joined, run_wrote, run_ending, ended_before, ending_of}
+use Rattle.sd_spec.specs.Ending.{endings_joined, run_wrote, run_ending, ended_before, ending_of}
 use Rattle.sd_spec.specs.declared.ending.Ending.{Ending}
 use Rattle.sd_spec.specs.declared.ending.Ending.TheVariants.{NoCat, Unclosed}
 use Rattle.sd_spec.proofs.Runs.{opened_joins}
@@ -135,7 +135,7 @@ some_section n = omega arith
 all_seen_is : (s : Setting) (kept : List Item) (past : List Heard) (q : ℕ) → HasEnded s kept past →
     is_all_seen past q ≡ has_all s.plan kept q
 unfolding has_all
-all_seen_is s kept past q ends = by_seen (seen q past) (ends.sections q) (ends.indexes q)
+all_seen_is s kept past q ends = by_seen (sections_seen q past) (ends.sections q) (ends.indexes q)
   where
     by_seen : (sections : List Emm) → All (Contains (emms_of (period_at s.plan q))) sections →
         ((x : ℕ) → list_any (λ emm. emm.index == x) sections ≡ list_any (is_section_item q x) kept) →
@@ -188,7 +188,7 @@ run_ends : (s : Setting) (kept : List Item) (past : List Heard) (written : ℕ) 
 unfolding run_ending closed_told
 run_ends s kept past written range ends =
     ap (λ (b : Bool). if b then closed_ending s.card past written
-    else Unclosed (option_map_or (λ message. message.number + 1) (newest past).message 0)) ends.closed
+    else Unclosed (option_map_or (λ message. message.number + 1) (newest_message past).message 0)) ends.closed
     ∙ by_closed (has_arrived kept (final s)) refl
   where
     both : (q : ℕ) → (is_unkeyed s.card past q && is_all_seen past q)
@@ -198,7 +198,7 @@ run_ends s kept past written range ends =
 
     by_closed : (b : Bool) → has_arrived kept (final s) ≡ b →
         (if b then closed_ending s.card past written
-        else Unclosed (option_map_or (λ message. message.number + 1) (newest past).message 0))
+        else Unclosed (option_map_or (λ message. message.number + 1) (newest_message past).message 0))
         ≡ (if b then closed_told s.plan s.card.leaf s.clear kept written else Unclosed
         (next_number s.plan s.clear kept))
     by_closed false none = ap Unclosed (ap (λ (m : Option Message). option_map_or
@@ -208,16 +208,16 @@ run_ends s kept past written range ends =
         ap (λ (qs : List ℕ). ending_with (find (λ q. is_unkeyed s.card past q && is_all_seen
         past q) qs)
         (find (is_unkeyed s.card past) qs)
-        (option_map_or (λ message. message.clear) (newest past).message 0 - written))
+        (option_map_or (λ message. message.clear) (newest_message past).message 0 - written))
         (periods_are s kept past range ends)
         ∙ (ap (λ (o : Option ℕ). ending_with o (find (is_unkeyed s.card past)
         (periods_arrived s.plan s.clear kept))
-        (option_map_or (λ message. message.clear) (newest past).message 0 - written))
+        (option_map_or (λ message. message.clear) (newest_message past).message 0 - written))
         (find_agree (λ q. is_unkeyed s.card past q && is_all_seen past q)
         (λ q. is_untold s.plan s.card.leaf kept q && has_all s.plan kept q) (periods_arrived s.plan s.clear kept) both)
         ∙ (ap (λ (o : Option ℕ). ending_with (find (λ q. is_untold s.plan s.card.leaf kept q && has_all s.plan kept q)
         (periods_arrived s.plan s.clear kept)) o
-        (option_map_or (λ message. message.clear) (newest past).message 0 - written))
+        (option_map_or (λ message. message.clear) (newest_message past).message 0 - written))
         (find_agree (is_unkeyed s.card past) (is_untold s.plan s.card.leaf kept)
         (periods_arrived s.plan s.clear kept)
         (λ q. unkeyed_is s kept past q ends))
@@ -234,9 +234,9 @@ tuned_ending : (s : Setting) (kept : List Item) (past : List (List ℕ)) → Are
     else Unclosed (next_number s.plan s.clear kept))
 unfolding ending_of
 tuned_ending s kept past range stands =
-    ap (λ (t : Option Tuning). if is_none t then NoCat else joined (ended_before s.card past) ending)
+    ap (λ (t : Option Tuning). if is_none t then NoCat else endings_joined (ended_before s.card past) ending)
     stands.tuned.tuning
-    ∙ (ap (λ (before : Ending). joined before ending) (none_ended s.card past stands.tuned.one)
+    ∙ (ap (λ (before : Ending). endings_joined before ending) (none_ended s.card past stands.tuned.one)
     ∙ (opened_joins ending ∙ run_ends s kept (heard s.card past) (run_wrote s.card past) range stands.ended))
   where
     ending : Ending
@@ -246,7 +246,7 @@ untuned_ending : (card : CardFields) (past : List (List ℕ)) → tuning_of card
     ending_of card past ≡ NoCat
 unfolding ending_of
 untuned_ending card past none =
-    ap (λ (t : Option Tuning). if is_none t then NoCat else joined (ended_before card past)
+    ap (λ (t : Option Tuning). if is_none t then NoCat else endings_joined (ended_before card past)
     (run_ending card (heard card past) (run_wrote card past))) none
 
 -- The ending of a broadcast, whatever is lost of it.

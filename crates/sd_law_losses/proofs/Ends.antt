@@ -7,7 +7,7 @@ use Rattle.std.specs.List.{list_any}
 use Rattle.std.proofs.lemmas.List.Folds.{list_any-append}
 use Rattle.sd_base.proofs.Lists.{all_first}
 use Rattle.sd_spec.specs.Plan.{period_of, closing_number}
-use Rattle.sd_spec.specs.Sent.{Item, Cat, sent, closing_of, packet_of, packets_from}
+use Rattle.sd_spec.specs.Sent.{Item, Cat, sent, closing_of, item_packet, packets_from}
 use Rattle.sd_spec.specs.Sent.{broadcast}
 use Rattle.sd_spec.specs.Items.{IsOfBroadcast}
 use Rattle.sd_spec.proofs.Items.{all_are_of_broadcast}
@@ -194,13 +194,13 @@ skipped_first s able group rest earlier fs past all none no_cat more =
 
 cat_taken : (s : Setting) (able : AreHearable s) (items earlier : List Item) (fs : List Bool) (past : List (List ℕ)) →
     tuning_of s.card.ca past ≡ None →
-    (IsTuned s (packet_of s.plan.site earlier Cat ∷ past) →
-    heard s.card (packet_of s.plan.site earlier Cat ∷ past) ≡ [] →
-    EndsFrom s (earlier ++ Cat ∷ []) items fs (packet_of s.plan.site earlier Cat ∷ past) []) →
+    (IsTuned s (item_packet s.plan.site earlier Cat ∷ past) →
+    heard s.card (item_packet s.plan.site earlier Cat ∷ past) ≡ [] →
+    EndsFrom s (earlier ++ Cat ∷ []) items fs (item_packet s.plan.site earlier Cat ∷ past) []) →
     EndsUntuned s earlier (Cat ∷ items) (true ∷ fs) past
 unfolding chosen packets_from after_cat
 cat_taken s able items earlier fs past none more =
-    more (taken_tuning s able earlier past none) (taken_heard s.card (packet_of s.plan.site earlier Cat) past none)
+    more (taken_tuning s able earlier past none) (taken_heard s.card (item_packet s.plan.site earlier Cat) past none)
 
 -- the CAT before packet k is kept
 cat_here : (s : Setting) (laws : AreLaws s) (able : AreHearable s) (n k : ℕ) (fs : List Bool) (earlier : List Item)
@@ -261,9 +261,9 @@ before_cat s laws able = record {
   without = without_cat s able;
   skipped = skipped_first s able;
   ended = λ fs earlier past empty all none. cat_taken s able (items_of_none s) earlier fs past none
-      (sections_ends s laws able fs (earlier ++ Cat ∷ []) (packet_of s.plan.site earlier Cat ∷ past) empty all);
+      (sections_ends s laws able fs (earlier ++ Cat ∷ []) (item_packet s.plan.site earlier Cat ∷ past) empty all);
   taken = λ n k fs earlier past count due all none. cat_taken s able (here_at s k ++ rest_at s (k + 1)) earlier fs past
-      none (cat_here s laws able n k fs (earlier ++ Cat ∷ []) (packet_of s.plan.site earlier Cat ∷ past) count all);
+      none (cat_here s laws able n k fs (earlier ++ Cat ∷ []) (item_packet s.plan.site earlier Cat ∷ past) count all);
 }
 
 -- Where a receiver stands after a broadcast, whatever is lost of it.

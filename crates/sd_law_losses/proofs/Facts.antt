@@ -13,7 +13,7 @@ use Rattle.sd_spec.specs.Plan.{period_of}
 use Rattle.sd_spec.specs.Messages.{period_at}
 use Rattle.sd_spec.specs.Sent.{Item, Cat, Entitles}
 use Rattle.sd_spec.specs.Heard.{Heard, Dropped}
-use Rattle.sd_spec.specs.Stretches.{messages, newest, counted, current, seen, is_closed, others, held_in}
+use Rattle.sd_spec.specs.Stretches.{messages, newest_message, counted_parts, current, sections_seen, is_closed, others, held_in}
 use Rattle.sd_spec.specs.Keys.{key_at}
 use Rattle.sd_law_losses.specs.Kept.{is_section_item, is_kept, is_carried, kept_in, has_arrived, entitles}
 use Rattle.sd_law_losses.specs.Kept.{is_entitled_before}
@@ -40,7 +40,7 @@ IsLast n kept (Some a) = (a < n) × (has_arrived kept a ≡ true) × ((b : ℕ) 
 abbrev pub IsKeyed : Setting → List Item → List Heard → Option ℕ → Type 0
 IsKeyed s kept past None = Unit {0}
 IsKeyed s kept past (Some a) = (later : List Item) →
-    key_at s.card (newest past).before (period_of s.plan (start_of s a)) ≡ key_where s (period_of s.plan (start_of s a))
+    key_at s.card (newest_message past).before (period_of s.plan (start_of s a)) ≡ key_where s (period_of s.plan (start_of s a))
     (is_entitled_before s.plan.site.height s.card.leaf (period_of s.plan (start_of s a)) a (kept ++ later))
 
 -- Of what was kept: the last message that arrived, no part of message n or of a later one, and no clear packet from k
@@ -60,14 +60,14 @@ is_told s q kept = list_any (entitles s.plan.site.height s.card.leaf q) kept
 pub record AreHeard (s : Setting) (k p n : ℕ) (last : Option ℕ) (kept : List Item) (past : List Heard) : Type 0 where
   pub open_yet : is_closed past ≡ false
   pub now : current past ≤ p
-  pub sections : (q : ℕ) → All (Contains (emms_of (period_at s.plan q))) (seen q past)
+  pub sections : (q : ℕ) → All (Contains (emms_of (period_at s.plan q))) (sections_seen q past)
   pub keys : (q : ℕ) → key_at s.card past q ≡ key_where s q (is_told s q kept)
-  pub message : (newest past).message ≡ option_map (told_by s) last
+  pub message : (newest_message past).message ≡ option_map (told_by s) last
   pub keyed : IsKeyed s kept past last
   pub parts : All (λ part. part.number < n) (counting past)
-  pub held : packets_held (held_in (newest past)) ≡ map (carried_at s) (kept_in kept (from_last s last) k)
+  pub held : packets_held (held_in (newest_message past)) ≡ map (carried_at s) (kept_in kept (from_last s last) k)
   pub begun : from_last s last ≤ k
-  pub indexes : (q x : ℕ) → list_any (λ emm. emm.index == x) (seen q past) ≡ list_any (is_section_item q x) kept
+  pub indexes : (q x : ℕ) → list_any (λ emm. emm.index == x) (sections_seen q past) ≡ list_any (is_section_item q x) kept
   pub told : messages past ≡ map (told_by s) (reverse (filter (has_arrived kept) (range_with_len 0 n)))
   pub taken : (bound : ℕ) → p < bound → keys_of s.card past ≡ how_many (λ q. is_told s q kept) bound
 
@@ -115,7 +115,7 @@ bare_in kept item low high bare = filter_agree (is_kept (kept ++ item ∷ [])) (
 
 -- what was told before a message stays
 pub keyed_stays : (s : Setting) (kept : List Item) (past now : List Heard) (last : Option ℕ) (later : List Item) →
-    (newest now).before ≡ (newest past).before → IsKeyed s kept past last → IsKeyed s (kept ++ later) now last
+    (newest_message now).before ≡ (newest_message past).before → IsKeyed s kept past last → IsKeyed s (kept ++ later) now last
 keyed_stays s kept past now None later same is = tt
 keyed_stays s kept past now (Some a) later same is = λ more.
     ap (λ (before : List Heard). key_at s.card before (period_of s.plan (start_of s a))) same
@@ -156,7 +156,7 @@ keys_same s kept later past thing p bound none same are =
 -- a CAT that is kept is dropped
 pub cat_heard : (s : Setting) (k p n : ℕ) (last : Option ℕ) (kept : List Item) (past : List Heard) →
     AreHeard s k p n last kept past → AreHeard s k p n last (kept ++ Cat ∷ []) (Dropped ∷ past)
-unfolding is_closed current seen newest counted others messages
+unfolding is_closed current sections_seen newest_message counted_parts others messages
 cat_heard s k p n last kept past are = record {
   open_yet = rw (are.open_yet) refl;
   now = omega (arith, are.now);

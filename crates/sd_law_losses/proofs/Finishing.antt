@@ -6,13 +6,13 @@ use Rattle.std.specs.List.{list_any}
 use Rattle.std.proofs.lemmas.Bool.{false≢true}
 use Rattle.std.proofs.lemmas.List.Elements.{All-nil, All-cons, All-head, All-tail}
 use Rattle.sd_site_cards.specs.SiteFields.{run_name_of as site_name}
-use Rattle.sd_site_cards.specs.CardFields.{CardFields, card_of}
+use Rattle.sd_site_cards.specs.CardFields.{CardFields}
 use Rattle.sd_spec.specs.Sent.{broadcast}
 use Rattle.sd_spec.specs.declared.ending.Ending.{Ending}
 use Rattle.sd_spec.specs.declared.ending.Ending.TheVariants.{NoCat}
 use Rattle.sd_psi.specs.declared.our_cat.Tuning.{Tuning}
 use Rattle.sd_spec.specs.Offered.{heard, out_from, break_from}
-use Rattle.sd_spec.specs.Ending.{joined, run_ending, run_wrote, ending_of}
+use Rattle.sd_spec.specs.Ending.{endings_joined, run_ending, run_wrote, ending_of}
 use Rattle.sd_spec.specs.Taken.{taken_keys}
 use Rattle.sd_spec.proofs.Runs.{opened_joins}
 use Rattle.sd_law_losses.specs.Chosen.{chosen}
@@ -20,6 +20,7 @@ use Rattle.sd_law_losses.specs.Confirmed.{confirmed}
 use Rattle.sd_law_losses.specs.Endings.{ending_told}
 use Rattle.sd_law_losses.specs.Together.{joined_to}
 use Rattle.sd_law_losses.specs.Channel.{Arrival, Channel, IsRunOf, HaveTwoNames, AreRunsOf, arriving}
+use Rattle.sd_law_losses.specs.Channel.{channel_card}
 use Rattle.sd_law_losses.specs.Many.{kept_of_arrival, has_cat, confirmed_from}
 use Rattle.sd_law_losses.specs.Ends.{is_told, endings_from, all_joined, ending_of_all}
 use Rattle.sd_law_losses.specs.Keys.{kept_periods, keys_from}
@@ -52,7 +53,7 @@ all_over : (card : CardFields) (tuning : Tuning) (Fresh : Option ℕ → Type 0)
     ending_of card past ≡ ending_after told []
 all_over card tuning Fresh None past (tuned, ended) =
     ending_by card tuning past tuned
-    ∙ (ap (λ (e : Ending). joined e (run_ending card (heard card past) (run_wrote card past))) ended.1
+    ∙ (ap (λ (e : Ending). endings_joined e (run_ending card (heard card past) (run_wrote card past))) ended.1
     ∙ (opened_joins (run_ending card (heard card past) (run_wrote card past))
     ∙ ending_quiet card (heard card past) (run_wrote card past) ended.0))
 all_over card tuning Fresh (Some ending) past (tuned, ended) = ending_by card tuning past tuned ∙ ended.1
@@ -181,17 +182,17 @@ all_come channel pieces u are leaf =
 
 pub pieces_out : (channel : Channel) (pieces : List Arrival) (u : ℕ) → ArePiecesOf channel pieces →
     u < 2 ^ channel.height →
-    out_from (card_of channel.master channel.ca channel.height u) [] (arriving pieces) ≡ confirmed_from false u pieces
+    out_from (channel_card channel u) [] (arriving pieces) ≡ confirmed_from false u pieces
 pieces_out channel pieces u are leaf = (all_come channel pieces u are leaf).out
 
 pub pieces_break : (channel : Channel) (pieces : List Arrival) (u : ℕ) → ArePiecesOf channel pieces →
     u < 2 ^ channel.height →
-    break_from (card_of channel.master channel.ca channel.height u) [] (arriving pieces) ≡ None
+    break_from (channel_card channel u) [] (arriving pieces) ≡ None
 pieces_break channel pieces u are leaf = (all_come channel pieces u are leaf).none
 
 pub pieces_end : (channel : Channel) (pieces : List Arrival) (u : ℕ) → ArePiecesOf channel pieces →
     u < 2 ^ channel.height →
-    ending_of (card_of channel.master channel.ca channel.height u) (reverse (arriving pieces)) ≡ ending_of_all u pieces
+    ending_of (channel_card channel u) (reverse (arriving pieces)) ≡ ending_of_all u pieces
 pieces_end channel pieces u are leaf =
     ap (ending_of (card_in channel u)) (sym (append-nil (reverse (arriving pieces))) ∙ reversed (arriving pieces) [])
     ∙ (all_come channel pieces u are leaf).ends
@@ -199,7 +200,7 @@ pieces_end channel pieces u are leaf =
 -- how many keys are taken of pieces
 pub pieces_taken : (channel : Channel) (pieces : List Arrival) (u : ℕ) → ArePiecesOf channel pieces →
     u < 2 ^ channel.height →
-    taken_keys (card_of channel.master channel.ca channel.height u) [] (arriving pieces) ≡ keys_from false u pieces
+    taken_keys (channel_card channel u) [] (arriving pieces) ≡ keys_from false u pieces
 pieces_taken channel pieces u are leaf = (all_come channel pieces u are leaf).taken
 
 -- runs of which no two have one name are such pieces
@@ -241,18 +242,18 @@ runs_are_pieces channel runs are = (are_of channel runs are, names_differ channe
 
 -- so the same comes of them
 pub runs_out : (channel : Channel) (runs : List Arrival) (u : ℕ) → AreRunsOf channel runs → u < 2 ^ channel.height →
-    out_from (card_of channel.master channel.ca channel.height u) [] (arriving runs) ≡ confirmed_from false u runs
+    out_from (channel_card channel u) [] (arriving runs) ≡ confirmed_from false u runs
 runs_out channel runs u are leaf = pieces_out channel runs u (runs_are_pieces channel runs are) leaf
 
 pub runs_break : (channel : Channel) (runs : List Arrival) (u : ℕ) → AreRunsOf channel runs → u < 2 ^ channel.height →
-    break_from (card_of channel.master channel.ca channel.height u) [] (arriving runs) ≡ None
+    break_from (channel_card channel u) [] (arriving runs) ≡ None
 runs_break channel runs u are leaf = pieces_break channel runs u (runs_are_pieces channel runs are) leaf
 
 -- how many keys are taken of them
 pub runs_taken : (channel : Channel) (runs : List Arrival) (u : ℕ) → AreRunsOf channel runs → u < 2 ^ channel.height →
-    taken_keys (card_of channel.master channel.ca channel.height u) [] (arriving runs) ≡ keys_from false u runs
+    taken_keys (channel_card channel u) [] (arriving runs) ≡ keys_from false u runs
 runs_taken channel runs u are leaf = pieces_taken channel runs u (runs_are_pieces channel runs are) leaf
 
 pub runs_end : (channel : Channel) (runs : List Arrival) (u : ℕ) → AreRunsOf channel runs → u < 2 ^ channel.height →
-    ending_of (card_of channel.master channel.ca channel.height u) (reverse (arriving runs)) ≡ ending_of_all u runs
+    ending_of (channel_card channel u) (reverse (arriving runs)) ≡ ending_of_all u runs
 runs_end channel runs u are leaf = pieces_end channel runs u (runs_are_pieces channel runs are) leaf

@@ -9,11 +9,11 @@ use Rattle.sd_spec.specs.Tuned.{tuning_of}
 use Rattle.sd_psi.specs.declared.our_cat.Tuning.{Tuning}
 use Rattle.sd_spec.specs.Heard.{Heard, Dropped, Entitles, Controls, BadEmm, BadEcm, Other, hears}
 use Rattle.sd_spec.specs.Stretches.{is_closed}
-use Rattle.sd_spec.specs.Runs.{run_name_heard, name_or, name_in, is_same, are_two, is_turn, of_run}
+use Rattle.sd_spec.specs.Runs.{run_name_heard, name_or, run_name_in, is_same_run, are_two, is_turn, of_run}
 use Rattle.sd_spec.specs.Offered.{heard, heard_more, Offering, no_offering, offered, heard_offering}
 use Rattle.sd_spec.proofs.Runs.{same_run, new_run}
 use Rattle.sd_spec.proofs.Hearing.{tuned_more}
-use Rattle.sd_law_losses.specs.Pieces.{name_at}
+use Rattle.sd_law_losses.specs.Pieces.{packet_run_name}
 use Rattle.sd_law_losses.proofs.NextLater.{thing_later, things_later, hears_later, names_later, closed_later}
 use Rattle.sd_law_losses.proofs.Offerings.{offering_later, open_offering, open_later}
 use Rattle.sd_law_losses.proofs.Leading.{is_quiet, AreQuiet, name_quiet, closed_quiet, names_led, closed_led}
@@ -25,7 +25,7 @@ use Rattle.sd_law_losses.proofs.Agreeing.{name_next}
 -- a packet of the run with this name: no message, or one of it
 abbrev pub IsPacketOf : CardFields → Tuning → Option ℕ → List ℕ → Type 0
 IsPacketOf card tuning name packet =
-    (is_quiet (hears card.height tuning 0 packet) ≡ true) ⊎ (name_at card.height tuning packet ≡ Some name)
+    (is_quiet (hears card.height tuning 0 packet) ≡ true) ⊎ (packet_run_name card.height tuning packet ≡ Some name)
 
 quiet_later : (k : ℕ) (thing : Heard) → is_quiet (thing_later k thing) ≡ is_quiet thing
 quiet_later k Dropped = refl
@@ -81,7 +81,7 @@ not_two_none (Some a) = refl
 pub quiet_stays : (past : List Heard) (thing : Heard) → is_quiet thing ≡ true → is_turn past thing ≡ false
 unfolding is_turn
 quiet_stays past thing quiet =
-    ap (are_two (name_in past)) (quiet_unnamed thing quiet) ∙ not_two_none (name_in past)
+    ap (are_two (run_name_in past)) (quiet_unnamed thing quiet) ∙ not_two_none (run_name_in past)
 
 -- what was heard with one thing more of the same run
 abbrev pub more : List Heard → Heard → List Heard
@@ -103,16 +103,16 @@ quiet_more past thing all quiet =
     (quiet_by past thing (is_closed past) all quiet)
 
 pub name_goes_on : (past : List Heard) (thing : Heard) → is_quiet thing ≡ true →
-    name_in (heard_more past thing) ≡ name_in past
+    run_name_in (heard_more past thing) ≡ run_name_in past
 unfolding is_turn
 name_goes_on past thing quiet =
     name_next past thing (quiet_stays past thing quiet)
-    ∙ ap (λ (name : Option (Option ℕ)). name_or name (name_in past)) (quiet_unnamed thing quiet)
+    ∙ ap (λ (name : Option (Option ℕ)). name_or name (run_name_in past)) (quiet_unnamed thing quiet)
 
 -- The run at hand is none, or one of which this holds of the name.
 abbrev pub IsLast : CardFields → (Option ℕ → Type 0) → List (List ℕ) → Type 0
 IsLast card Fresh past =
-    AreQuiet (heard card past) ⊎ ((a : Option ℕ) × (name_in (heard card past) ≡ Some a) × Fresh a)
+    AreQuiet (heard card past) ⊎ ((a : Option ℕ) × (run_name_in (heard card past) ≡ Some a) × Fresh a)
 
 -- No message of the run came yet.
 pub record Waits (card : CardFields) (tuning : Tuning) (k : ℕ) (Fresh : Option ℕ → Type 0)
@@ -134,7 +134,7 @@ last_more card tuning Fresh past packet tuned quiet (inl all) =
 last_more card tuning Fresh past packet tuned quiet (inr (a, named, fresh)) =
     inr (
       a,
-      ap name_in (heard_by card tuning past packet tuned)
+      ap run_name_in (heard_by card tuning past packet tuned)
           ∙ (name_goes_on (heard card past) (hears card.height tuning (length past) packet)
           (quiet_any card.height (length past) tuning packet quiet) ∙ named),
       fresh,
@@ -164,7 +164,7 @@ pub record Follows (card : CardFields) (tuning : Tuning) (k : ℕ) (name : Optio
   pub alone_is : heard card alone ≡ things ++ own
   pub old_quiet : AreQuiet old
   pub own_quiet : AreQuiet own
-  pub named : name_in things ≡ Some name
+  pub named : run_name_in things ≡ Some name
 
 open_led : (n : ℕ) (card : CardFields) (tuning : Tuning) (past lead : List Heard) (thing : Heard) → AreQuiet lead →
     open_offering card tuning n (past ++ lead) thing ≡ open_offering card tuning n past thing
@@ -198,16 +198,16 @@ mores_later k past thing =
     (closed_later k past)
     ∙ later_by k past thing (is_closed past)
 
-named_by : (name : Option ℕ) (past : List Heard) (thing : Heard) (closed : Bool) → name_in past ≡ Some name →
+named_by : (name : Option ℕ) (past : List Heard) (thing : Heard) (closed : Bool) → run_name_in past ≡ Some name →
     are_two (Some name) (run_name_heard thing) ≡ false →
-    name_in (if closed then past else thing ∷ past) ≡ Some name
-unfolding name_in
+    run_name_in (if closed then past else thing ∷ past) ≡ Some name
+unfolding run_name_in
 named_by name past thing true named one = named
 named_by name past thing false named one =
     ap (name_or (run_name_heard thing)) named ∙ sym (some_kept name (run_name_heard thing) one)
 
 -- no thing of the run turns
-pub led_stays : (name : Option ℕ) (past lead : List Heard) (thing : Heard) → AreQuiet lead → name_in past ≡ Some name →
+pub led_stays : (name : Option ℕ) (past lead : List Heard) (thing : Heard) → AreQuiet lead → run_name_in past ≡ Some name →
     are_two (Some name) (run_name_heard thing) ≡ false → is_turn (past ++ lead) thing ≡ false
 unfolding is_turn
 led_stays name past lead thing quiet named one =
@@ -253,14 +253,14 @@ both_offer card tuning k n m packet things count =
     ∙ open_later k m card tuning things (hears card.height tuning m packet))
 
 pub one_name : (card : CardFields) (tuning : Tuning) (n : ℕ) (name : Option ℕ) (packet : List ℕ) →
-    are_two (Some name) (name_at card.height tuning packet) ≡ false →
+    are_two (Some name) (packet_run_name card.height tuning packet) ≡ false →
     are_two (Some name) (run_name_heard (hears card.height tuning n packet)) ≡ false
 one_name card tuning n name packet one =
     ap (are_two (Some name)) (name_any card.height n tuning packet) ∙ one
 
 pub follows_offered : (card : CardFields) (tuning : Tuning) (k : ℕ) (name : Option ℕ) (past alone : List (List ℕ))
     (packet : List ℕ) (things old own : List Heard) →
-    are_two (Some name) (name_at card.height tuning packet) ≡ false →
+    are_two (Some name) (packet_run_name card.height tuning packet) ≡ false →
     Follows card tuning k name past alone things old own →
     offered card past packet ≡ offering_later k (offered card alone packet)
 follows_offered card tuning k name past alone packet things old own one f =
@@ -274,7 +274,7 @@ follows_offered card tuning k name past alone packet things old own one f =
 
 pub follows_more : (card : CardFields) (tuning : Tuning) (k : ℕ) (name : Option ℕ) (past alone : List (List ℕ))
     (packet : List ℕ) (things old own : List Heard) →
-    are_two (Some name) (name_at card.height tuning packet) ≡ false →
+    are_two (Some name) (packet_run_name card.height tuning packet) ≡ false →
     Follows card tuning k name past alone things old own →
     Follows card tuning k name (packet ∷ past) (packet ∷ alone)
     (more things (hears card.height tuning (length alone) packet)) old own
@@ -304,13 +304,13 @@ unfolding is_turn
 unnamed_stays past thing quiet =
     ap (λ (n : Option (Option ℕ)). are_two n (run_name_heard thing)) (name_quiet past quiet)
 
-two_names : (a b : Option ℕ) → a ≢ b → not (is_same a b) ≡ true
+two_names : (a b : Option ℕ) → a ≢ b → not (is_same_run a b) ≡ true
 two_names a b apart =
-    tested (is_same a b) (λ same. absurd (apart (same_is a b same)))
+    tested (is_same_run a b) (λ same. absurd (apart (same_is a b same)))
     (λ other. ap {B = Bool} (λ (t : Bool). not t) other)
 
 pub turn_there : (card : CardFields) (tuning : Tuning) (past : List (List ℕ)) (packet : List ℕ) (a name : Option ℕ) →
-    name_in (heard card past) ≡ Some a → a ≢ name → name_at card.height tuning packet ≡ Some name →
+    run_name_in (heard card past) ≡ Some a → a ≢ name → packet_run_name card.height tuning packet ≡ Some name →
     is_turn (heard card past) (hears card.height tuning (length past) packet) ≡ true
 unfolding is_turn
 turn_there card tuning past packet a name named apart is =
@@ -324,7 +324,7 @@ pub record Begins (card : CardFields) (tuning : Tuning) (past : List (List ℕ))
   pub quiet : AreQuiet old
 
 pub begun : (card : CardFields) (tuning : Tuning) (name : Option ℕ) (Fresh : Option ℕ → Type 0) (past : List (List ℕ))
-    (packet : List ℕ) → ((a : Option ℕ) → Fresh a → a ≢ name) → name_at card.height tuning packet ≡ Some name →
+    (packet : List ℕ) → ((a : Option ℕ) → Fresh a → a ≢ name) → packet_run_name card.height tuning packet ≡ Some name →
     IsLast card Fresh past → (old : List Heard) × Begins card tuning past packet old
 begun card tuning name Fresh past packet apart is (inl quiet) = (
   heard card past,
@@ -372,14 +372,14 @@ alone_begins card tuning alone packet quiet = record {
 }
 
 one_thing : (card : CardFields) (tuning : Tuning) (n : ℕ) (name : Option ℕ) (packet : List ℕ) →
-    name_at card.height tuning packet ≡ Some name → name_in (hears card.height tuning n packet ∷ []) ≡ Some name
-unfolding name_in
+    packet_run_name card.height tuning packet ≡ Some name → run_name_in (hears card.height tuning n packet ∷ []) ≡ Some name
+unfolding run_name_in
 one_thing card tuning n name packet is =
     ap (λ (m : Option (Option ℕ)). name_or m None) (name_any card.height n tuning packet ∙ is)
 
 pub begun_follows : (card : CardFields) (tuning : Tuning) (k : ℕ) (name : Option ℕ) (Fresh : Option ℕ → Type 0)
     (past alone : List (List ℕ)) (packet : List ℕ) → ((a : Option ℕ) → Fresh a → a ≢ name) →
-    name_at card.height tuning packet ≡ Some name → Waits card tuning k Fresh past alone →
+    packet_run_name card.height tuning packet ≡ Some name → Waits card tuning k Fresh past alone →
     (offered card past packet ≡ offering_later k (offered card alone packet))
     × ((old : List Heard) × Follows card tuning k name (packet ∷ past) (packet ∷ alone)
     (hears card.height tuning (length alone) packet ∷ []) old (heard card alone))

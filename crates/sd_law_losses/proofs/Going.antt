@@ -8,11 +8,11 @@ use Rattle.sd_message.specs.declared.stream_fault.StreamFault.{StreamFault}
 use Rattle.sd_spec.specs.Tuned.{tuning_of}
 use Rattle.sd_psi.specs.declared.our_cat.Tuning.{Tuning}
 use Rattle.sd_spec.specs.Heard.{Heard, hears}
-use Rattle.sd_spec.specs.Runs.{name_in, are_two}
+use Rattle.sd_spec.specs.Runs.{run_name_in, are_two}
 use Rattle.sd_spec.specs.Offered.{heard, Offering, offered, out_from, break_from}
 use Rattle.sd_spec.specs.Taken.{takes_key_at, taken_keys}
 use Rattle.sd_law_losses.proofs.OneRun.{of_named}
-use Rattle.sd_law_losses.specs.Pieces.{name_at}
+use Rattle.sd_law_losses.specs.Pieces.{packet_run_name}
 use Rattle.sd_law_losses.specs.Together.{fault_later}
 use Rattle.sd_law_losses.proofs.NextLater.{things_later, names_later}
 use Rattle.sd_law_losses.proofs.Offerings.{offering_later}
@@ -38,7 +38,7 @@ pub no_heard : (card : CardFields) (past : List (List ℕ)) (packet : List ℕ) 
 no_heard card past packet none = subst AreQuiet (sym (heard_none card past packet none)) tt
 
 pub one_run : (card : CardFields) (tuning : Tuning) (name : Option ℕ) (packet : List ℕ) →
-    IsPacketOf card tuning name packet → are_two (Some name) (name_at card.height tuning packet) ≡ false
+    IsPacketOf card tuning name packet → are_two (Some name) (packet_run_name card.height tuning packet) ≡ false
 one_run card tuning name packet (inl quiet) =
     ap (are_two (Some name)) (quiet_unnamed (hears card.height tuning 0 packet) quiet)
 one_run card tuning name packet (inr is) = ap (are_two (Some name)) is ∙ of_named name name refl
@@ -84,10 +84,10 @@ alike_more card k past alone packets next packet same none takes rest =
 
 pub follows_named : (card : CardFields) (tuning : Tuning) (k : ℕ) (name : Option ℕ) (past alone : List (List ℕ)) →
     (begun : HasBegun card tuning k name past alone) →
-    (tuning_of card.ca past ≡ Some tuning) × (name_in (heard card past) ≡ Some name)
+    (tuning_of card.ca past ≡ Some tuning) × (run_name_in (heard card past) ≡ Some name)
 follows_named card tuning k name past alone (things, old, own, f) = (
   f.tuned,
-  ap name_in f.heard_is ∙ (names_led (things_later k things) old f.old_quiet ∙ (names_later k things ∙ f.named)),
+  ap run_name_in f.heard_is ∙ (names_led (things_later k things) old f.old_quiet ∙ (names_later k things ∙ f.named)),
 )
 
 -- a run that begins where a CAT came before: alone it has the CAT that it begins with

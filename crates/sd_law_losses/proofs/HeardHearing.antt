@@ -6,7 +6,7 @@ use Rattle.std.specs.Prelude.{count_by, Ok}
 use Rattle.std.proofs.lemmas.Bool.Decides.{nat_tests}
 use Rattle.std.proofs.lemmas.List.Elements.{All-contains, All-weaker}
 use Rattle.sd_packet.specs.Header.{pid_of}
-use Rattle.sd_packet.specs.Packing.{packed}
+use Rattle.sd_packet.specs.Packing.{section_packet}
 use Rattle.sd_packet.proofs.Packets.{packed_pid}
 use Rattle.sd_psi.specs.OurCat.{cat_section, is_tuning, cat_tuning}
 use Rattle.sd_psi.proofs.OurCat.{our_cat_is_read}
@@ -15,7 +15,7 @@ use Rattle.sd_message.specs.EmmSpelled.{emm_section}
 use Rattle.sd_message.specs.EmmJudged.{emm_read}
 use Rattle.sd_message.specs.declared.emm.Emm.{Emm}
 use Rattle.sd_message.specs.EcmSpelled.{ecm_section}
-use Rattle.sd_message.specs.EcmForm.{IsEcm, FitsFields}
+use Rattle.sd_message.specs.EcmForm.{IsEcm, FitsEcmFields}
 use Rattle.sd_message.specs.EcmJudged.{ecm_read}
 use Rattle.sd_message.specs.EcmParts.{parts_of}
 use Rattle.sd_message.specs.declared.ecm_part.EcmPart.{EcmPart}
@@ -24,7 +24,7 @@ use Rattle.sd_message.proofs.EcmDeciding.{packed_reads}
 use Rattle.sd_spec.specs.Plan.{Plan, IsPlan}
 use Rattle.sd_spec.specs.Refused.{is_reserved_pid, IsSendable}
 use Rattle.sd_spec.specs.Sent.{Item, Cat, Entitles as SendsEmm, Controls as SendsEcm, Carries, is_alike}
-use Rattle.sd_spec.specs.Sent.{packet_of}
+use Rattle.sd_spec.specs.Sent.{item_packet}
 use Rattle.sd_spec.specs.Items.{IsOfBroadcast}
 use Rattle.sd_law_broadcast.specs.Packets.{IsWholePacket, AreWholePackets, AreLong}
 use Rattle.sd_law_broadcast.proofs.Sections.{IsSaid, said, section_reads, carried_pid}
@@ -43,7 +43,7 @@ site_tunes site r =
 
 -- the CAT is taken
 tuned_by_cat : (site : SiteFields) (counter : ℕ) → AreInRange site → site.ca < 2 ^ 16 →
-    cat_tuning site.ca (packed (cat_section site.ca site.emm site.ecm) 1 (counter % 16)) ≡ Some (tuning_to site)
+    cat_tuning site.ca (section_packet (cat_section site.ca site.emm site.ecm) 1 (counter % 16)) ≡ Some (tuning_to site)
 tuned_by_cat site counter r system =
     let emm = r.emm.1 in
     let ecm = r.ecm.1 in
@@ -53,7 +53,7 @@ tuned_by_cat site counter r system =
     read ∙ rw (own, site_tunes site r) refl
 
 pub cat_taken : (plan : Plan) (earlier : List Item) → IsPlan plan →
-    cat_tuning plan.site.ca (packet_of plan.site earlier Cat) ≡ Some (tuning_to plan.site)
+    cat_tuning plan.site.ca (item_packet plan.site earlier Cat) ≡ Some (tuning_to plan.site)
 cat_taken plan earlier is = tuned_by_cat plan.site (count_by (is_alike Cat) earlier) is.site is.ca
 
 -- a packet on another PID is no CAT
@@ -63,7 +63,7 @@ other_pid ca packet other = rw other refl
 
 -- a section isn't packed on the CAT's PID but on its own
 apart_from_cat : (section : List ℕ) (pid n : ℕ) → 2 ≤ pid → pid < 8192 →
-    (pid_of (packed section pid (n % 16)) == 1) ≡ false
+    (pid_of (section_packet section pid (n % 16)) == 1) ≡ false
 apart_from_cat section pid n low high =
     let same = packed_pid section pid n high in grind (arith, nat_tests, same, low)
 
@@ -71,7 +71,7 @@ module _ (plan : Plan) (clear : List (List ℕ)) (is : IsPlan plan) (all : IsSen
     (long : AreLong clear) where
   -- no other thing is on the CAT's PID
   not_one : (earlier : List Item) (item : Item) → IsSaid plan clear item → is_alike Cat item ≡ false →
-      (pid_of (packet_of plan.site earlier item) == 1) ≡ false
+      (pid_of (item_packet plan.site earlier item) == 1) ≡ false
   not_one earlier Cat said other = absurd (cc)
   not_one earlier (SendsEmm emm) said other =
       apart_from_cat (emm_section emm) plan.site.emm (count_by (is_alike (SendsEmm emm)) earlier)
@@ -84,9 +84,9 @@ module _ (plan : Plan) (clear : List (List ℕ)) (is : IsPlan plan) (all : IsSen
       grind (arith, nat_tests, taken)
 
   others_untaken : (earlier : List Item) (item : Item) → IsOfBroadcast plan clear item → is_alike Cat item ≡ false →
-      cat_tuning plan.site.ca (packet_of plan.site earlier item) ≡ None
+      cat_tuning plan.site.ca (item_packet plan.site earlier item) ≡ None
   others_untaken earlier item of' other =
-      other_pid plan.site.ca (packet_of plan.site earlier item)
+      other_pid plan.site.ca (item_packet plan.site earlier item)
       (not_one earlier item (said plan clear is all item of') other)
 
   -- what a packet is heard as, by its PID
@@ -118,17 +118,17 @@ module _ (plan : Plan) (clear : List (List ℕ)) (is : IsPlan plan) (all : IsSen
 
   -- each thing is heard as what it is
   heard_as : (earlier : List Item) (n : ℕ) (item : Item) → IsSaid plan clear item →
-      hears plan.site.height (tuning_to plan.site) n (packet_of plan.site earlier item) ≡ heard_of n item
+      hears plan.site.height (tuning_to plan.site) n (item_packet plan.site earlier item) ≡ heard_of n item
   heard_as earlier n Cat said =
       let count : ℕ = count_by (is_alike Cat) earlier in
       let section : List ℕ = cat_section plan.site.ca plan.site.emm plan.site.ecm in
       let pid = packed_pid section 1 count (omega arith) in
-      heard_cat n (packed section 1 (count % 16)) (grind (arith, nat_tests, pid))
+      heard_cat n (section_packet section 1 (count % 16)) (grind (arith, nat_tests, pid))
   heard_as earlier n (SendsEmm emm) said =
       let count : ℕ = count_by (is_alike (SendsEmm emm)) earlier in
       let high = is.site.emm.1 in
       let pid = packed_pid (emm_section emm) plan.site.emm count (omega (arith, high)) in
-      heard_section n (packed (emm_section emm) plan.site.emm (count % 16)) emm (not_one earlier
+      heard_section n (section_packet (emm_section emm) plan.site.emm (count % 16)) emm (not_one earlier
       (SendsEmm emm) said refl)
       (grind (arith, nat_tests, pid)) (section_reads plan clear is all emm (count % 16) said (omega arith))
   heard_as earlier n (SendsEcm one) (message, fits, m) =
@@ -136,9 +136,9 @@ module _ (plan : Plan) (clear : List (List ℕ)) (is : IsPlan plan) (all : IsSen
       let high = is.site.ecm.1 in
       let apart = is.site.apart in
       let pid = packed_pid (ecm_section one) plan.site.ecm count (omega (arith, high)) in
-      let form = All-contains (λ (p : EcmPart). IsEcm p × FitsFields p) (parts_of message) one
+      let form = All-contains (λ (p : EcmPart). IsEcm p × FitsEcmFields p) (parts_of message) one
       (all_are_ecms message fits) m in
-      heard_part n (packed (ecm_section one) plan.site.ecm (count % 16)) one
+      heard_part n (section_packet (ecm_section one) plan.site.ecm (count % 16)) one
       (not_one earlier (SendsEcm one) (message, fits, m) refl) (grind (arith, nat_tests, pid, apart))
       (grind (arith, nat_tests, pid))
       (packed_reads one plan.site.ecm (count % 16) form.1 form.0 (omega (arith, high)) (omega arith))
@@ -148,13 +148,13 @@ module _ (plan : Plan) (clear : List (List ℕ)) (is : IsPlan plan) (all : IsSen
 -- no packet but the CAT's is taken for one
 pub others_not_taken : (plan : Plan) (clear : List (List ℕ)) (earlier : List Item) (item : Item) → IsPlan plan →
     IsSendable plan.site clear → AreLong clear → IsOfBroadcast plan clear item → is_alike Cat item ≡ false →
-    cat_tuning plan.site.ca (packet_of plan.site earlier item) ≡ None
+    cat_tuning plan.site.ca (item_packet plan.site earlier item) ≡ None
 others_not_taken plan clear earlier item is all long of' other =
     others_untaken plan clear is all long earlier item of' other
 
 pub things_heard : (plan : Plan) (clear : List (List ℕ)) (earlier : List Item) (n : ℕ) (item : Item) → IsPlan plan →
     IsSendable plan.site clear → AreLong clear → IsOfBroadcast plan clear item →
-    hears plan.site.height (tuning_to plan.site) n (packet_of plan.site earlier item) ≡ heard_of n item
+    hears plan.site.height (tuning_to plan.site) n (item_packet plan.site earlier item) ≡ heard_of n item
 things_heard plan clear earlier n item is all long of' =
     heard_as plan clear is all long earlier n item (said plan clear is all item of')
 
@@ -166,12 +166,12 @@ all_long packets whole =
 -- so this is true of them
 pub no_other_taken : (plan : Plan) (clear : List (List ℕ)) (earlier : List Item) (item : Item) → IsPlan plan →
     IsSendable plan.site clear → AreWholePackets clear → IsOfBroadcast plan clear item → is_alike Cat item ≡ false →
-    cat_tuning plan.site.ca (packet_of plan.site earlier item) ≡ None
+    cat_tuning plan.site.ca (item_packet plan.site earlier item) ≡ None
 no_other_taken plan clear earlier item is all whole of' other =
     others_not_taken plan clear earlier item is all (all_long clear whole) of' other
 
 pub items_heard : (plan : Plan) (clear : List (List ℕ)) (earlier : List Item) (n : ℕ) (item : Item) → IsPlan plan →
     IsSendable plan.site clear → AreWholePackets clear → IsOfBroadcast plan clear item →
-    hears plan.site.height (tuning_to plan.site) n (packet_of plan.site earlier item) ≡ heard_of n item
+    hears plan.site.height (tuning_to plan.site) n (item_packet plan.site earlier item) ≡ heard_of n item
 items_heard plan clear earlier n item is all whole of' =
     things_heard plan clear earlier n item is all (all_long clear whole) of'

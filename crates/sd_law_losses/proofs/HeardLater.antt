@@ -20,7 +20,7 @@ use Rattle.sd_spec.specs.Plan.{Plan, IsPlan, word_of, period_of, closing_number}
 use Rattle.sd_spec.specs.Kinds.{has_moved, positional_pids, moved_pids}
 use Rattle.sd_spec.specs.Messages.{places_after, message_at}
 use Rattle.sd_spec.proofs.Schedule.{words_rise, periods_rise, closing_needed}
-use Rattle.sd_law_broadcast.specs.Numbered.{numbered}
+use Rattle.sd_law_broadcast.specs.Numbered.{numbered_message}
 use Rattle.sd_law_broadcast.proofs.Numbers.{numbered_before, numbered_closing}
 use Rattle.sd_spec.specs.Confirmed.{position_in}
 use Rattle.sd_spec.specs.Offered.{is_before}
@@ -130,7 +130,7 @@ first_of_more clear j k below =
 
 -- a later control message
 pub never_back : (plan : Plan) (clear : List (List ℕ)) (a b : ℕ) → IsPlan plan → a < b →
-    b ≤ closing_number plan.site (length clear) → is_before (numbered plan clear b) (numbered plan clear a) ≡ false
+    b ≤ closing_number plan.site (length clear) → is_before (numbered_message plan clear b) (numbered_message plan clear a) ≡ false
 never_back plan clear a b is below within =
     let e : ℕ = plan.site.every in
     let inner : a < closing_number plan.site (length clear) = omega (arith, below, within) in
@@ -146,7 +146,7 @@ never_back plan clear a b is below within =
           let same : closing_number plan.site (length clear) ≡ b = omega (arith, within, past) in
           let needed = closing_needed plan.site (length clear) a is.site inner in
           let last : ℕ = length clear - 1 in
-          subst (λ (n : ℕ). is_before (numbered plan clear n) (message_at plan (take (a * e) clear) a
+          subst (λ (n : ℕ). is_before (numbered_message plan clear n) (message_at plan (take (a * e) clear) a
           (a * e) false) ≡ false)
           same (rw (numbered_closing plan clear)
           (subst (λ (more : List (List ℕ)). is_before

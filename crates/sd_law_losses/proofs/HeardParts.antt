@@ -14,13 +14,13 @@ use Rattle.std.proofs.lemmas.List.Folds.{list_any_none}
 use Rattle.sd_base.proofs.Lists.{equal_bytes}
 use Rattle.sd_message.specs.Pieces.{pieces_for}
 use Rattle.sd_message.specs.EcmSpelled.{listed_places}
-use Rattle.sd_message.specs.EcmForm.{AreAscending}
+use Rattle.sd_message.specs.EcmForm.{ArePidsAscending}
 use Rattle.sd_message.specs.EcmParts.{Message, message_of, IsMessage, IsOfMessage, ecm_head_of, parts_of}
 use Rattle.sd_message.specs.declared.ecm_part.Place.{Place}
 use Rattle.sd_message.specs.declared.ecm_part.EcmPart.{EcmPart}
 use Rattle.sd_message.proofs.EcmSharing.{all_are_of, as_many, joined_are_all, number_is}
 use Rattle.sd_spec.specs.Stretches.{message_told}
-use Rattle.sd_spec.specs.Runs.{is_same}
+use Rattle.sd_spec.specs.Runs.{is_same_run}
 use Rattle.sd_spec.specs.Offered.{same_header, is_after, part_fault}
 use Rattle.sd_law_losses.specs.Parts.{IsPartBetween}
 use Rattle.sd_law_losses.proofs.Lists.{split_all, reverse_cons, all_reversed, pairs_across}
@@ -32,7 +32,7 @@ same_flags true false e = absurd (cc)
 same_flags false true e = absurd (cc)
 same_flags false false e = refl
 
-same_names : (a b : Option ℕ) → a ≡ b → is_same a b ≡ true
+same_names : (a b : Option ℕ) → a ≡ b → is_same_run a b ≡ true
 same_names None None e = refl
 same_names None (Some n) e = absurd (cc)
 same_names (Some m) None e = absurd (cc)
@@ -84,7 +84,7 @@ after_is message (before ∷ run) part rest is same =
         let less : old.pid < place.pid =
         pairs_across (λ (a b : Place). a.pid < b.pid) prefix (listed_places before) (listed_places part)
         (flat_map listed_places rest) old place
-        (subst AreAscending spread is.ascending) m n in
+        (subst ArePidsAscending spread is.ascending) m n in
         grind (arith, nat_tests, less)
 
 -- turned round, joined lists are as long

@@ -8,7 +8,7 @@ use Rattle.sd_site_cards.specs.SiteFields.{run_name_of as site_name}
 use Rattle.sd_site_cards.specs.CardFields.{CardFields}
 use Rattle.sd_message.specs.declared.emm.Emm.{Emm}
 use Rattle.sd_message.specs.declared.ecm_part.EcmPart.{EcmPart}
-use Rattle.sd_spec.specs.Sent.{Item, Cat, Entitles, Controls, Carries, packet_of, packets_from}
+use Rattle.sd_spec.specs.Sent.{Item, Cat, Entitles, Controls, Carries, item_packet, packets_from}
 use Rattle.sd_spec.specs.Items.{IsOfBroadcast}
 use Rattle.sd_spec.specs.Tuned.{tuning_of}
 use Rattle.sd_psi.specs.OurCat.{cat_tuning}
@@ -42,12 +42,12 @@ heard_from n (item ∷ items) = heard_as n item ∷ heard_from (suc n) items
 -- how the things of a broadcast are heard
 pub record AreHearable (s : Setting) : Type 0 where
   pub heard_is : (n : ℕ) (earlier : List Item) (item : Item) → IsOfBroadcast s.plan s.clear item →
-      hears s.card.height (tuning_at s) n (packet_of s.plan.site earlier item) ≡ heard_as n item
+      hears s.card.height (tuning_at s) n (item_packet s.plan.site earlier item) ≡ heard_as n item
   pub named : (n : ℕ) (item : Item) → IsOfBroadcast s.plan s.clear item →
       IsOfRun (site_name s.plan.site) (heard_as n item)
-  pub tuning : (earlier : List Item) → cat_tuning s.card.ca (packet_of s.plan.site earlier Cat) ≡ Some (tuning_at s)
+  pub tuning : (earlier : List Item) → cat_tuning s.card.ca (item_packet s.plan.site earlier Cat) ≡ Some (tuning_at s)
   pub untuned : (earlier : List Item) (item : Item) → IsOfBroadcast s.plan s.clear item → is_cat_item item ≡ false →
-      cat_tuning s.card.ca (packet_of s.plan.site earlier item) ≡ None
+      cat_tuning s.card.ca (item_packet s.plan.site earlier item) ≡ None
 
 pub heard_append : (n : ℕ) (xs ys : List Item) →
     heard_from n (xs ++ ys) ≡ heard_from n xs ++ heard_from (length xs + n) ys
@@ -163,7 +163,7 @@ packets_come s able (item ∷ items) earlier (false ∷ fs) past more wrote all 
     tuned opened writes
 packets_come s able (item ∷ items) earlier (true ∷ fs) past more wrote all tuned opened
     (first, rest, offers, others, is) =
-    let packet = packet_of s.plan.site earlier item in
+    let packet = item_packet s.plan.site earlier item in
     let here = All-head (IsOfBroadcast s.plan s.clear) item items all in
     let thing = heard_as (length past) item in
     let hears_it = able.heard_is (length past) earlier item here in

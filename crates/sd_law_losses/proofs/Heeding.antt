@@ -13,7 +13,7 @@ use Rattle.sd_spec.specs.Plan.{period_of}
 use Rattle.sd_spec.specs.Messages.{period_at, message_at}
 use Rattle.sd_spec.specs.Sent.{Item, Controls}
 use Rattle.sd_spec.specs.Heard.{Heard, Controls as HeardControls}
-use Rattle.sd_spec.specs.Stretches.{messages, newest, counted, current, seen, is_closed, others, completes}
+use Rattle.sd_spec.specs.Stretches.{messages, newest_message, counted_parts, current, sections_seen, is_closed, others, completes}
 use Rattle.sd_spec.specs.Keys.{key_at, key_in}
 use Rattle.sd_spec.specs.Offered.{heard_offering, message_offering, part_offering}
 use Rattle.sd_law_losses.specs.Kept.{has_arrived, is_entitled_before, is_last_part}
@@ -75,7 +75,7 @@ complete_heard : (s : Setting) (laws : AreLaws s) (p a : ℕ) (last : Option ℕ
     AreKept (start_of s a) a last kept → AreHeard s (start_of s a) p a last kept past → Same past mid →
     completes mid (HeardControls part) ≡ Some (told_by s a) → all_kept fs (parts_of (told_by s a)) ≡ true →
     AreHeard s (start_of s a) p (a + 1) (Some a) (kept ++ map Controls (parts_at s a fs)) (HeardControls part ∷ mid)
-unfolding newest current seen is_closed counted others messages message_at
+unfolding newest_message current sections_seen is_closed counted_parts others messages message_at
 complete_heard s laws p a last fs kept past mid part below period kept_is are same done all = record {
   open_yet = rw (same.closed ∙ are.open_yet) (rw done (ap (λ (m : Message). m.closing) (before_packet s a below)));
   now = rw done (omega (arith, period, same.current, are.now));
@@ -126,8 +126,8 @@ complete_heard s laws p a last fs kept past mid part below period kept_is are sa
 
 -- the number of the message that was newest is below this one's
 earlier_message : (s : Setting) (n a : ℕ) (last : Option ℕ) (kept : List Item) (past : List Heard) → n ≤ a →
-    IsLast n kept last → (newest past).message ≡ option_map (told_by s) last → IsBelow (told_by s a).number
-    (newest past).message
+    IsLast n kept last → (newest_message past).message ≡ option_map (told_by s) last → IsBelow (told_by s a).number
+    (newest_message past).message
 earlier_message s n a last kept past above is same =
     subst (IsBelow (told_by s a).number) (sym same) (by_last last is)
   where

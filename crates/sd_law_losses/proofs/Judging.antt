@@ -19,7 +19,7 @@ use Rattle.sd_spec.specs.Kinds.{kind_of, has_moved, is_scrambled}
 use Rattle.sd_spec.specs.Carried.{place_after}
 use Rattle.sd_spec.specs.Sent.{Item}
 use Rattle.sd_spec.proofs.Schedule.{same_word}
-use Rattle.sd_spec.specs.Confirmed.{Segment, tracked, is_confirmed, judged, is_foreign, position_in}
+use Rattle.sd_spec.specs.Confirmed.{Segment, tracked, is_confirmed, judged_packet, is_foreign, position_in}
 use Rattle.sd_law_losses.specs.Kept.{is_kept, kept_in}
 use Rattle.sd_law_losses.specs.Confirmed.{packet_at, tracked_position, is_traced}
 use Rattle.sd_law_losses.proofs.Places.{told_position}
@@ -121,18 +121,18 @@ segment_at s kept a b = segment_of s kept a b (control_word_of s.plan.site.maste
 -- what a packet that isn't scrambled becomes
 judged_open : (s : Setting) (segment : Segment) (j n : ℕ) (before : List (List ℕ)) → IsOpen s j →
     segment.ca ≡ s.card.ca → segment.ecm ≡ s.plan.site.ecm →
-    judged segment before (n, carried_at s j) ≡ Ok (packet_at s.clear j ∷ [])
-unfolding judged
+    judged_packet segment before (n, carried_at s j) ≡ Ok (packet_at s.clear j ∷ [])
+unfolding judged_packet
 judged_open s segment j n before is ca ecm = rw is.clear (ap (λ (p : List ℕ). Ok (p ∷ [])) (is.again segment ca ecm))
 
 -- and a scrambled one, under these tests
 judged_by : (segment : Segment) (before : List (List ℕ)) (n : ℕ) (packet : List ℕ) (lets : Bool) →
     (scrambling_of packet == 0) ≡ false → is_foreign segment packet ≡ false →
-    is_confirmed segment (pid_of packet) ≡ lets → judged segment before (n, packet)
+    is_confirmed segment (pid_of packet) ≡ lets → judged_packet segment before (n, packet)
     ≡ (if lets then Ok (descrambled packet segment.word (tracked segment.first (pid_of packet)
     (before ++ packet ∷ [])) ∷ [])
     else Ok [])
-unfolding judged
+unfolding judged_packet
 judged_by segment before n packet lets veiled good same = rw veiled (rw good (rw same refl))
 
 not_odd : (s : Setting) (laws : AreLaws s) (kept : List Item) (a b j : ℕ) → IsPair s a b →
@@ -147,7 +147,7 @@ not_odd s laws kept a b j pair since from below is =
 pub judged_is : (s : Setting) (laws : AreLaws s) (kept : List Item) (a b j n : ℕ) → IsPair s a b →
     since_of s.plan.site.messages s.plan.site.cryptos b ≤ a → start_of s a ≤ j → j < end_of s b →
     is_kept kept j ≡ true →
-    judged (segment_at s kept a b) (map (carried_at s) (kept_in kept (start_of s a) j)) (n, carried_at s j)
+    judged_packet (segment_at s kept a b) (map (carried_at s) (kept_in kept (start_of s a) j)) (n, carried_at s j)
     ≡ Ok (let_by s kept a b j)
 judged_is s laws kept a b j n pair since from below is =
     by_kind (cases_Bool (is_scrambled (kind_of (take j s.clear) (packet_at s.clear j))))
@@ -162,7 +162,7 @@ judged_is s laws kept a b j n pair since from below is =
     p = packet_at s.clear j
 
     by_trace : IsVeiled s j → (t : Bool) → is_traced s.plan s.clear kept a b (pid_of p) ≡ t →
-        judged (segment_at s kept a b) held (n, carried_at s j) ≡ Ok (if t then p ∷ [] else [])
+        judged_packet (segment_at s kept a b) held (n, carried_at s j) ≡ Ok (if t then p ∷ [] else [])
     by_trace v true near =
         judged_by (segment_at s kept a b) held n (carried_at s j) true v.veiled
         (not_odd s laws kept a b j pair since from below v)
@@ -183,7 +183,7 @@ judged_is s laws kept a b j n pair since from below is =
         (told_by s a).word) v.clear_placed ∙ far))
 
     by_kind : (is_scrambled (kind_of (take j s.clear) p) ≡ true) ⊎ (is_scrambled (kind_of (take j s.clear) p) ≡ false) →
-        judged (segment_at s kept a b) held (n, carried_at s j) ≡ Ok (let_by s kept a b j)
+        judged_packet (segment_at s kept a b) held (n, carried_at s j) ≡ Ok (let_by s kept a b j)
     by_kind (inl scrambled) =
         rw scrambled (by_trace (laws.veiled j inside scrambled) (is_traced s.plan s.clear kept a b (pid_of p)) refl)
     by_kind (inr opened) =

@@ -13,7 +13,7 @@ use Rattle.sd_tree_keys.specs.declared.set.SetName.{SetName}
 use Rattle.sd_tree_keys.specs.Keys.{key_of, period_key_of, control_word_of, check_value_of}
 use Rattle.sd_cipher.specs.Wrapping.{wrapped as under}
 use Rattle.sd_cipher.proofs.Wrappings.{twice}
-use Rattle.sd_site_cards.specs.CardFields.{CardFields, card_of, card_key}
+use Rattle.sd_site_cards.specs.CardFields.{CardFields, card_of, card_key, site_card}
 use Rattle.sd_site_cards.proofs.Keys.{made_gives_key}
 use Rattle.sd_site_cards.specs.SiteFields.{SiteFields}
 use Rattle.sd_message.specs.EmmSpelled.{listed_entries}
@@ -24,7 +24,7 @@ use Rattle.sd_message.proofs.EmmSharing.{all_are_of, joined_are_all}
 use Rattle.sd_spec.specs.Plan.{Plan, IsPlan, sets_at, word_of, period_of, closing_number}
 use Rattle.sd_spec.specs.Messages.{entry_of, period_at, message_at}
 use Rattle.sd_spec.proofs.Periods.{number_is}
-use Rattle.sd_law_broadcast.specs.Numbered.{numbered}
+use Rattle.sd_law_broadcast.specs.Numbered.{numbered_message}
 use Rattle.sd_law_broadcast.proofs.Fitting.{sets_stand, period_key_length, control_word_length}
 use Rattle.sd_spec.specs.Keys.{key_from}
 use Rattle.sd_law_losses.proofs.Lists.{split_all}
@@ -62,7 +62,7 @@ record IsCardFor (site : SiteFields) (card : CardFields) : Type 0 where
       card_key card name ≡ key_of site.master name
 
 made_for : (site : SiteFields) (u : ℕ) → site.height ≤ 20 → u < 2 ^ site.height →
-    IsCardFor site (card_of site.master site.ca site.height u)
+    IsCardFor site (site_card site u)
 unfolding card_of
 made_for site u high within = record {
   keys = λ name named member. made_gives_key site.master site.ca site.height u name high within named member;
@@ -120,12 +120,12 @@ key_of_card plan q emm card is made m =
 
 pub key_due : (plan : Plan) (q u : ℕ) (emm : Emm) → IsPlan plan → u < 2 ^ plan.site.height →
     Contains (emms_of (period_at plan q)) emm →
-    key_from (card_of plan.site.master plan.site.ca plan.site.height u) emm
+    key_from (site_card plan.site u) emm
     ≡ (if list_any (λ entry. is_member plan.site.height entry.name u) (listed_entries emm)
     then Some (period_key_of plan.site.master q) else None)
 unfolding card_of
 key_due plan q u emm is within m =
-    key_of_card plan q emm (card_of plan.site.master plan.site.ca plan.site.height u) is
+    key_of_card plan q emm (site_card plan.site u) is
     (made_for plan.site u is.site.height.1 within) m
 
 -- a message has its control word under its period's key, and the word's check value
@@ -145,17 +145,17 @@ unfolding message_at
 check_at plan before a k closing = refl
 
 pub word_due : (plan : Plan) (clear : List (List ℕ)) (a : ℕ) →
-    under (period_key_of plan.site.master (numbered plan clear a).period) (numbered plan clear a).word
-    (numbered plan clear a).wrapped ≡ control_word_of plan.site.master (numbered plan clear a).word
-unfolding numbered
+    under (period_key_of plan.site.master (numbered_message plan clear a).period) (numbered_message plan clear a).word
+    (numbered_message plan clear a).wrapped ≡ control_word_of plan.site.master (numbered_message plan clear a).word
+unfolding numbered_message
 word_due plan clear a = elim (cases_Bool (nat_lt a (closing_number plan.site (length clear)))) [
   | inl inner ↦ rw inner (word_at plan (take (a * plan.site.every) clear) a (a * plan.site.every) false)
   | inr last ↦ rw last (word_at plan clear a (length clear - 1) true)
 ]
 
 pub word_check_due : (plan : Plan) (clear : List (List ℕ)) (a : ℕ) →
-    (numbered plan clear a).check ≡ check_value_of (control_word_of plan.site.master (numbered plan clear a).word)
-unfolding numbered
+    (numbered_message plan clear a).check ≡ check_value_of (control_word_of plan.site.master (numbered_message plan clear a).word)
+unfolding numbered_message
 word_check_due plan clear a = elim (cases_Bool (nat_lt a (closing_number plan.site (length clear)))) [
   | inl inner ↦ rw inner (check_at plan (take (a * plan.site.every) clear) a (a * plan.site.every) false)
   | inr last ↦ rw last (check_at plan clear a (length clear - 1) true)

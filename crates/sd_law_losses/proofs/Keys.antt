@@ -8,11 +8,11 @@ use Rattle.sd_site_cards.specs.CardFields.{CardFields}
 use Rattle.sd_spec.specs.Tuned.{tuning_of}
 use Rattle.sd_psi.specs.OurCat.{cat_tuning}
 use Rattle.sd_psi.specs.declared.our_cat.Tuning.{Tuning}
-use Rattle.sd_spec.specs.Runs.{name_in, are_two}
+use Rattle.sd_spec.specs.Runs.{run_name_in, are_two}
 use Rattle.sd_spec.specs.Offered.{heard}
 use Rattle.sd_spec.specs.Taken.{takes_key_at, taken_keys}
-use Rattle.sd_law_losses.specs.Pieces.{Tuned, name_at, with_packet, tuned_or, first_cat, pieces_after, pieces_of}
-use Rattle.sd_law_losses.specs.Keys.{taken_with, taken_of}
+use Rattle.sd_law_losses.specs.Pieces.{Tuned, packet_run_name, with_packet, tuned_or, first_cat, pieces_after, pieces_of}
+use Rattle.sd_law_losses.specs.Keys.{taken_with, count_keys_taken}
 use Rattle.sd_law_losses.proofs.Agreeing.{Agrees, agrees_more, turn_agrees, name_stays, name_turns, turn_is}
 use Rattle.sd_law_losses.proofs.Pieces.{pieces_stay, pieces_turn, IsSome, some_piece, HasCat, turn_count}
 use Rattle.sd_law_losses.proofs.Streams.{IsUntuned, untuned_more, cat_agrees, no_name, nothing_came}
@@ -79,33 +79,33 @@ taken_step card cat packet past alone packets pieces some same rest =
 -- a packet of the run at hand is of the same piece
 taken_stays : (card : CardFields) (tuning : Tuning) (cat packet : List ℕ) (packets : List (List ℕ)) (k : ℕ)
     (past alone : List (List ℕ)) → Agrees card tuning k past alone →
-    are_two (name_in (heard card alone)) (name_at card.height tuning packet) ≡ false →
+    are_two (run_name_in (heard card alone)) (packet_run_name card.height tuning packet) ≡ false →
     taken_keys card (packet ∷ past) packets
     ≡ taken_going card cat (packet ∷ alone)
-    (pieces_after card.height tuning (name_in (heard card (packet ∷ alone))) packets) →
+    (pieces_after card.height tuning (run_name_in (heard card (packet ∷ alone))) packets) →
     taken_keys card past (packet ∷ packets)
-    ≡ taken_going card cat alone (pieces_after card.height tuning (name_in (heard card alone)) (packet ∷ packets))
+    ≡ taken_going card cat alone (pieces_after card.height tuning (run_name_in (heard card alone)) (packet ∷ packets))
 taken_stays card tuning cat packet packets k past alone agrees one rest =
-    let next : Option (Option ℕ) = name_in (heard card (packet ∷ alone)) in
+    let next : Option (Option ℕ) = run_name_in (heard card (packet ∷ alone)) in
     taken_step card cat packet past alone packets (pieces_after card.height tuning next packets)
     (some_piece card.height tuning next packets) (agrees_taken card tuning k past alone packet agrees) rest
-    ∙ ap (taken_going card cat alone) (sym (pieces_stay card.height tuning (name_in (heard card alone)) next packet
+    ∙ ap (taken_going card cat alone) (sym (pieces_stay card.height tuning (run_name_in (heard card alone)) next packet
     packets one (name_stays card tuning alone packet agrees.alone_tuned one)))
 
 -- the first message of another run begins a piece
 taken_turns : (card : CardFields) (tuning : Tuning) (cat packet : List ℕ) (packets : List (List ℕ)) (k : ℕ)
     (past alone : List (List ℕ)) → cat_tuning card.ca cat ≡ Some tuning → HasCat alone →
     Agrees card tuning k past alone →
-    are_two (name_in (heard card alone)) (name_at card.height tuning packet) ≡ true →
+    are_two (run_name_in (heard card alone)) (packet_run_name card.height tuning packet) ≡ true →
     taken_keys card (packet ∷ past) packets
     ≡ taken_going card cat (packet ∷ cat ∷ [])
-    (pieces_after card.height tuning (name_in (heard card (packet ∷ cat ∷ []))) packets) →
+    (pieces_after card.height tuning (run_name_in (heard card (packet ∷ cat ∷ []))) packets) →
     taken_keys card past (packet ∷ packets)
-    ≡ taken_going card cat alone (pieces_after card.height tuning (name_in (heard card alone)) (packet ∷ packets))
+    ≡ taken_going card cat alone (pieces_after card.height tuning (run_name_in (heard card alone)) (packet ∷ packets))
 unfolding taken_keys
 taken_turns card tuning cat packet packets k past alone is some agrees two rest =
-    let last : Option (Option ℕ) = name_in (heard card alone) in
-    let next : Option (Option ℕ) = name_in (heard card (packet ∷ cat ∷ [])) in
+    let last : Option (Option ℕ) = run_name_in (heard card alone) in
+    let next : Option (Option ℕ) = run_name_in (heard card (packet ∷ cat ∷ [])) in
     let these : List (List (List ℕ)) = with_packet packet (pieces_after card.height tuning next packets) in
     let j : ℕ = k + length alone - 1 in
     let count : length past ≡ j + 1 = turn_count k (length past) (length alone) agrees.count some in
@@ -123,13 +123,13 @@ taken_goes : (card : CardFields) (tuning : Tuning) (cat : List ℕ) (packets : L
     (past alone : List (List ℕ)) → cat_tuning card.ca cat ≡ Some tuning → HasCat alone →
     Agrees card tuning k past alone →
     taken_keys card past packets
-    ≡ taken_going card cat alone (pieces_after card.height tuning (name_in (heard card alone)) packets)
+    ≡ taken_going card cat alone (pieces_after card.height tuning (run_name_in (heard card alone)) packets)
 unfolding taken_keys pieces_after
 taken_goes card tuning cat [] k past alone is some agrees = refl
 taken_goes card tuning cat (packet ∷ packets) k past alone is some agrees =
     let j : ℕ = k + length alone - 1 in
     let count : length past ≡ j + 1 = turn_count k (length past) (length alone) agrees.count some in
-    tested (are_two (name_in (heard card alone)) (name_at card.height tuning packet))
+    tested (are_two (run_name_in (heard card alone)) (packet_run_name card.height tuning packet))
     (λ two. taken_turns card tuning cat packet packets k past alone is some agrees two
     (taken_goes card tuning cat packets j (packet ∷ past) (packet ∷ cat ∷ []) is (omega arith)
     (turn_agrees card tuning j past cat packet agrees.tuned is count
@@ -162,11 +162,11 @@ taken_upto card (packet ∷ packets) past n none count =
         taken_goes card tuning packet packets n (packet ∷ past) (packet ∷ []) is (omega arith)
         (cat_agrees card tuning n past packet none count is)
         ∙ (sym (taken_begun card packet
-        (pieces_after card.height tuning (name_in (heard card (packet ∷ []))) packets))
+        (pieces_after card.height tuning (run_name_in (heard card (packet ∷ []))) packets))
         ∙ ap (λ (name : Option (Option ℕ)). taken_with card packet (pieces_after card.height tuning name packets))
         (no_name card packet))
 
 -- the keys of a stream are those of its pieces
-pub taken_is : (card : CardFields) (packets : List (List ℕ)) → taken_keys card [] packets ≡ taken_of card packets
-unfolding taken_of
+pub taken_is : (card : CardFields) (packets : List (List ℕ)) → taken_keys card [] packets ≡ count_keys_taken card packets
+unfolding count_keys_taken
 taken_is card packets = taken_upto card packets [] 0 (nothing_came card) refl

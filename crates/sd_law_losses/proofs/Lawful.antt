@@ -11,7 +11,7 @@ use Rattle.sd_base.proofs.Lists.{equal_bytes}
 use Rattle.sd_tree_keys.specs.Leaves.{is_member}
 use Rattle.sd_packet.specs.Header.{scrambling_of}
 use Rattle.sd_tree_keys.specs.Keys.{period_key_of, control_word_of, check_value_of}
-use Rattle.sd_site_cards.specs.CardFields.{card_of}
+use Rattle.sd_site_cards.specs.CardFields.{card_of, site_card}
 use Rattle.sd_message.specs.EmmSpelled.{listed_entries}
 use Rattle.sd_message.specs.Period.{emms_of}
 use Rattle.sd_message.specs.declared.emm.Emm.{Emm}
@@ -25,7 +25,7 @@ use Rattle.sd_spec.specs.Sent.{Item, Cat, Entitles, Controls, Carries, is_alike}
 use Rattle.sd_spec.specs.declared.kind.Kind.{Kind}
 use Rattle.sd_spec.specs.declared.kind.Kind.TheVariants.{Passed, Pmt, Scrambled}
 use Rattle.sd_law_broadcast.specs.Packets.{IsWholePacket, AreWholePackets}
-use Rattle.sd_law_broadcast.specs.Numbered.{numbered}
+use Rattle.sd_law_broadcast.specs.Numbered.{numbered_message}
 use Rattle.sd_law_broadcast.specs.Headers.{control_in, IsCarriedWith}
 use Rattle.sd_law_broadcast.proofs.Clear.{each_clear, accepted}
 use Rattle.sd_law_broadcast.proofs.Carrying.{carried_keeps, moves_alike, kind_placed}
@@ -54,7 +54,7 @@ use Rattle.sd_law_losses.proofs.Hearing.{AreHearable, heard_as, is_cat_item}
 -- the card of leaf u
 abbrev pub setting : Plan → List (List ℕ) → ℕ → Setting
 setting plan clear u =
-    record { plan = plan; clear = clear; card = card_of plan.site.master plan.site.ca plan.site.height u }
+    record { plan = plan; clear = clear; card = site_card plan.site u }
 
 -- the parts of a message, from some place on
 parts_from : (message : Message) (prior rest : List EcmPart) → IsMessage message →
@@ -97,8 +97,8 @@ unfolding card_of
 ca_is plan clear u = refl
 
 -- messages by their numbers
-told_is : (s : Setting) (a : ℕ) → told_by s a ≡ numbered s.plan s.clear a
-unfolding told_by numbered
+told_is : (s : Setting) (a : ℕ) → told_by s a ≡ numbered_message s.plan s.clear a
+unfolding told_by numbered_message
 told_is s a = refl
 
 -- kinds by the test
@@ -193,15 +193,15 @@ module _ (plan : Plan) (clear : List (List ℕ)) (u : ℕ) (is : IsPlan plan) (a
     height = height_is plan clear u;
     due = section_due;
     same = λ q a b m n. any_two (period_at plan q) a b m n;
-    parts = λ a within. rw (told_is s a) (parts_from (numbered plan clear a) [] (parts_of (numbered plan clear a))
+    parts = λ a within. rw (told_is s a) (parts_from (numbered_message plan clear a) [] (parts_of (numbered_message plan clear a))
         (numbered_fits plan clear a is all within) refl);
-    some = λ a within. rw (told_is s a) (some_nil (parts_of (numbered plan clear a)) (some_part
-        (numbered plan clear a)));
+    some = λ a within. rw (told_is s a) (some_nil (parts_of (numbered_message plan clear a)) (some_part
+        (numbered_message plan clear a)));
     forth = λ a b below within. rw (told_is s a, told_is s b) (never_back plan clear a b is below within);
     word = λ a within. rw (told_is s a) (word_due plan clear a);
     check = λ a within. rw (told_is s a)
-        (equal_bytes (check_value_of (control_word_of plan.site.master (numbered plan clear a).word))
-        (numbered plan clear a).check (sym (word_check_due plan clear a)));
+        (equal_bytes (check_value_of (control_word_of plan.site.master (numbered_message plan clear a).word))
+        (numbered_message plan clear a).check (sym (word_check_due plan clear a)));
     moves = λ j pid x within. moves_alike
         (control_in (kind_of (take j clear) (packet_at clear j)) (word_of plan.site j)) pid x (packet_at clear j)
         (carried_at s j) (keeps j within);

@@ -20,7 +20,7 @@ use Rattle.sd_law_losses.specs.Confirmed.{confirmed}
 use Rattle.sd_law_losses.specs.Endings.{ending_told}
 use Rattle.sd_law_losses.proofs.Setting.{tuning_at}
 use Rattle.sd_law_losses.proofs.Lawful.{setting}
-use Rattle.sd_law_losses.specs.Channel.{Arrival, Channel, IsRunOf}
+use Rattle.sd_law_losses.specs.Channel.{Arrival, Channel, IsRunOf, channel_card}
 use Rattle.sd_law_losses.specs.Many.{kept_of_arrival, has_cat}
 use Rattle.sd_law_losses.specs.Ends.{is_message, is_told}
 use Rattle.sd_law_losses.specs.Keys.{kept_periods}
@@ -40,7 +40,7 @@ use Rattle.sd_law_losses.proofs.Runs.{begins_by, IsGood, good_of}
 
 -- the card of leaf u and the PIDs of the channel
 abbrev pub card_in : Channel → ℕ → CardFields
-card_in channel u = card_of channel.master channel.ca channel.height u
+card_in channel u = channel_card channel u
 
 abbrev pub tuning_in : Channel → Tuning
 tuning_in channel = record { emm = channel.emm; ecm = channel.ecm }

@@ -7,11 +7,11 @@ use Rattle.sd_spec.specs.declared.ending.Ending.TheVariants.{Opened}
 use Rattle.sd_spec.specs.Tuned.{tuning_of}
 use Rattle.sd_psi.specs.declared.our_cat.Tuning.{Tuning}
 use Rattle.sd_spec.specs.Heard.{Heard, hears}
-use Rattle.sd_spec.specs.Runs.{name_in, are_two, is_turn}
+use Rattle.sd_spec.specs.Runs.{run_name_in, are_two, is_turn}
 use Rattle.sd_spec.specs.Offered.{heard, Offering, offered}
-use Rattle.sd_spec.specs.Ending.{run_ending, joined, turns_at, run_wrote, ended_before, ending_of}
+use Rattle.sd_spec.specs.Ending.{run_ending, endings_joined, turns_at, run_wrote, ended_before, ending_of}
 use Rattle.sd_spec.proofs.Runs.{ended_on, ended_now, opened_joins}
-use Rattle.sd_law_losses.specs.Pieces.{name_at}
+use Rattle.sd_law_losses.specs.Pieces.{packet_run_name}
 use Rattle.sd_law_losses.proofs.NextLater.{things_later, names_later}
 use Rattle.sd_law_losses.proofs.Offerings.{offering_later, ending_later}
 use Rattle.sd_law_losses.proofs.Leading.{is_quiet, AreQuiet, ending_led}
@@ -23,14 +23,14 @@ use Rattle.sd_law_losses.proofs.Following.{unnamed_stays, turn_there, led_stays,
 
 -- the runs up to the one at hand end so, together
 abbrev pub ending_here : CardFields → List (List ℕ) → Ending
-ending_here card past = joined (ended_before card past) (run_ending card (heard card past) (run_wrote card past))
+ending_here card past = endings_joined (ended_before card past) (run_ending card (heard card past) (run_wrote card past))
 
 -- how the runs that messages came of end together, after these packets; None where no message came
 abbrev pub HaveEnded : CardFields → (Option ℕ → Type 0) → Option Ending → List (List ℕ) → Type 0
 HaveEnded card Fresh None past =
     AreQuiet (heard card past) × (ended_before card past ≡ Opened) × (run_wrote card past ≡ 0)
 HaveEnded card Fresh (Some ending) past =
-    ((a : Option ℕ) × (name_in (heard card past) ≡ Some a) × Fresh a) × (ending_here card past ≡ ending)
+    ((a : Option ℕ) × (run_name_in (heard card past) ≡ Some a) × Fresh a) × (ending_here card past ≡ ending)
 
 -- the run at hand is none, or one of which this holds of the name
 pub last_of : (card : CardFields) (Fresh : Option ℕ → Type 0) (told : Option Ending) (past : List (List ℕ)) →
@@ -70,13 +70,13 @@ quiet_here : (card : CardFields) (tuning : Tuning) (past : List (List ℕ)) (pac
 quiet_here card tuning past packet tuned quiet =
     let before : Ending = ended_before card past in
     let thing : Heard = hears card.height tuning (length past) packet in
-    ap (λ (e : Ending). joined e (run_ending card (heard card (packet ∷ past)) (run_wrote card (packet ∷ past))))
+    ap (λ (e : Ending). endings_joined e (run_ending card (heard card (packet ∷ past)) (run_wrote card (packet ∷ past))))
     (ended_on card past packet (quiet_turns card tuning past packet tuned quiet))
-    ∙ (ap (λ (n : ℕ). joined before (run_ending card (heard card (packet ∷ past)) n))
+    ∙ (ap (λ (n : ℕ). endings_joined before (run_ending card (heard card (packet ∷ past)) n))
     (quiet_wrote card tuning past packet tuned quiet)
-    ∙ (ap (λ (hs : List Heard). joined before (run_ending card hs (run_wrote card past)))
+    ∙ (ap (λ (hs : List Heard). endings_joined before (run_ending card hs (run_wrote card past)))
     (heard_by card tuning past packet tuned)
-    ∙ ap (joined before) (ending_more card (heard card past) thing (run_wrote card past)
+    ∙ ap (endings_joined before) (ending_more card (heard card past) thing (run_wrote card past)
     (quiet_any card.height (length past) tuning packet quiet))))
 
 pub ended_more : (card : CardFields) (tuning : Tuning) (Fresh : Option ℕ → Type 0) (told : Option Ending)
@@ -93,7 +93,7 @@ ended_more card tuning Fresh None past packet tuned quiet ended = (
 ended_more card tuning Fresh (Some ending) past packet tuned quiet ((a, named, fresh), is) = (
   (
     a,
-    ap name_in (heard_by card tuning past packet tuned)
+    ap run_name_in (heard_by card tuning past packet tuned)
         ∙ (name_goes_on (heard card past) (hears card.height tuning (length past) packet)
         (quiet_any card.height (length past) tuning packet quiet) ∙ named),
     fresh,
@@ -109,7 +109,7 @@ earlier (Some ending) = ending
 -- the first message of a run
 first_before : (card : CardFields) (tuning : Tuning) (name : Option ℕ) (Fresh : Option ℕ → Type 0)
     (told : Option Ending) (past : List (List ℕ)) (packet : List ℕ) → ((a : Option ℕ) → Fresh a → a ≢ name) →
-    name_at card.height tuning packet ≡ Some name → tuning_of card.ca past ≡ Some tuning →
+    packet_run_name card.height tuning packet ≡ Some name → tuning_of card.ca past ≡ Some tuning →
     HaveEnded card Fresh told past → ended_before card (packet ∷ past) ≡ earlier told
 first_before card tuning name Fresh None past packet apart is tuned ended =
     ended_on card past packet (turns_by card tuning past packet tuned
@@ -122,7 +122,7 @@ first_before card tuning name Fresh (Some ending) past packet apart is tuned ((a
 
 first_wrote : (card : CardFields) (tuning : Tuning) (name : Option ℕ) (Fresh : Option ℕ → Type 0)
     (told : Option Ending) (past : List (List ℕ)) (packet : List ℕ) → ((a : Option ℕ) → Fresh a → a ≢ name) →
-    name_at card.height tuning packet ≡ Some name → tuning_of card.ca past ≡ Some tuning →
+    packet_run_name card.height tuning packet ≡ Some name → tuning_of card.ca past ≡ Some tuning →
     HaveEnded card Fresh told past → run_wrote card (packet ∷ past) ≡ 0 + length (offered card past packet).wrote
 first_wrote card tuning name Fresh None past packet apart is tuned ended =
     wrote_on card past packet (turns_by card tuning past packet tuned
@@ -140,7 +140,7 @@ pub record RunsOn (card : CardFields) (told : Option Ending) (past alone : List 
 
 pub run_begins : (card : CardFields) (tuning : Tuning) (k : ℕ) (name : Option ℕ) (Fresh : Option ℕ → Type 0)
     (told : Option Ending) (past alone : List (List ℕ)) (packet : List ℕ) → ((a : Option ℕ) → Fresh a → a ≢ name) →
-    name_at card.height tuning packet ≡ Some name → tuning_of card.ca past ≡ Some tuning →
+    packet_run_name card.height tuning packet ≡ Some name → tuning_of card.ca past ≡ Some tuning →
     tuning_of card.ca alone ≡ Some tuning → HaveEnded card Fresh told past → HaveEnded card Fresh None alone →
     offered card past packet ≡ offering_later k (offered card alone packet) →
     RunsOn card told (packet ∷ past) (packet ∷ alone)
@@ -155,7 +155,7 @@ run_begins card tuning k name Fresh told past alone packet apart is tuned alone_
 -- a packet of a run that is at hand begins no other
 follows_stays : (card : CardFields) (tuning : Tuning) (name : Option ℕ) (past : List (List ℕ)) (packet : List ℕ)
     (things lead : List Heard) → tuning_of card.ca past ≡ Some tuning → heard card past ≡ things ++ lead →
-    AreQuiet lead → name_in things ≡ Some name → are_two (Some name) (name_at card.height tuning packet) ≡ false →
+    AreQuiet lead → run_name_in things ≡ Some name → are_two (Some name) (packet_run_name card.height tuning packet) ≡ false →
     turns_at card past packet ≡ false
 follows_stays card tuning name past packet things lead tuned is quiet named one =
     let thing : Heard = hears card.height tuning (length past) packet in
@@ -165,7 +165,7 @@ follows_stays card tuning name past packet things lead tuned is quiet named one 
 
 pub run_goes_on : (card : CardFields) (tuning : Tuning) (k : ℕ) (name : Option ℕ) (told : Option Ending)
     (past alone : List (List ℕ)) (packet : List ℕ) (things old own : List Heard) →
-    are_two (Some name) (name_at card.height tuning packet) ≡ false →
+    are_two (Some name) (packet_run_name card.height tuning packet) ≡ false →
     Follows card tuning k name past alone things old own → RunsOn card told past alone →
     RunsOn card told (packet ∷ past) (packet ∷ alone)
 run_goes_on card tuning k name told past alone packet things old own one f on =
@@ -187,16 +187,16 @@ run_goes_on card tuning k name told past alone packet things old own one f on =
 pub run_done : (card : CardFields) (tuning : Tuning) (k : ℕ) (name : Option ℕ) (told : Option Ending)
     (past alone : List (List ℕ)) (things old own : List Heard) →
     Follows card tuning k name past alone things old own → RunsOn card told past alone →
-    ending_here card past ≡ joined (earlier told) (ending_of card alone)
+    ending_here card past ≡ endings_joined (earlier told) (ending_of card alone)
 run_done card tuning k name told past alone things old own f on =
     let wrote : ℕ = run_wrote card alone in
-    ap (λ (e : Ending). joined e (run_ending card (heard card past) (run_wrote card past))) on.before
-    ∙ ap (joined (earlier told)) (ap (run_ending card (heard card past)) on.wrote
+    ap (λ (e : Ending). endings_joined e (run_ending card (heard card past) (run_wrote card past))) on.before
+    ∙ ap (endings_joined (earlier told)) (ap (run_ending card (heard card past)) on.wrote
     ∙ (ap (λ (hs : List Heard). run_ending card hs wrote) f.heard_is
     ∙ (ending_led wrote card (things_later k things) old f.old_quiet
     ∙ (ending_later k wrote card things
     ∙ (sym (ending_led wrote card things own f.own_quiet)
     ∙ (ap (λ (hs : List Heard). run_ending card hs wrote) (sym f.alone_is)
     ∙ sym (ending_by card tuning alone f.alone_tuned
-    ∙ (ap (λ (e : Ending). joined e (run_ending card (heard card alone) wrote)) on.alone_before
+    ∙ (ap (λ (e : Ending). endings_joined e (run_ending card (heard card alone) wrote)) on.alone_before
     ∙ opened_joins (run_ending card (heard card alone) wrote)))))))))

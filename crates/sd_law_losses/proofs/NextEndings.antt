@@ -12,11 +12,11 @@ use Rattle.sd_psi.specs.OurCat.{cat_tuning}
 use Rattle.sd_psi.specs.declared.our_cat.Tuning.{Tuning}
 use Rattle.sd_spec.specs.Tuned.{tuning_of}
 use Rattle.sd_spec.specs.Heard.{Heard, hears}
-use Rattle.sd_spec.specs.Runs.{name_in, are_two, is_turn}
+use Rattle.sd_spec.specs.Runs.{run_name_in, are_two, is_turn}
 use Rattle.sd_spec.specs.Offered.{heard, Offering, offered}
-use Rattle.sd_spec.specs.Ending.{run_ending, joined, turns_at, run_wrote, ended_before, ending_of}
+use Rattle.sd_spec.specs.Ending.{run_ending, endings_joined, turns_at, run_wrote, ended_before, ending_of}
 use Rattle.sd_spec.proofs.Runs.{ended_on, ended_now, opened_joins}
-use Rattle.sd_law_losses.specs.Pieces.{name_at, with_packet, pieces_after}
+use Rattle.sd_law_losses.specs.Pieces.{packet_run_name, with_packet, pieces_after}
 use Rattle.sd_law_losses.specs.Together.{joined_to, piece_ending}
 use Rattle.sd_law_losses.proofs.NextLater.{things_later}
 use Rattle.sd_law_losses.proofs.Offerings.{offering_later, ending_later}
@@ -43,11 +43,11 @@ pub record EndsAlike (card : CardFields) (past alone : List (List ℕ)) : Type 0
   pub wrote : run_wrote card past ≡ run_wrote card alone
 
 pub ending_by : (card : CardFields) (tuning : Tuning) (past : List (List ℕ)) → tuning_of card.ca past ≡ Some tuning →
-    ending_of card past ≡ joined (ended_before card past) (run_ending card (heard card past) (run_wrote card past))
+    ending_of card past ≡ endings_joined (ended_before card past) (run_ending card (heard card past) (run_wrote card past))
 unfolding ending_of
 ending_by card tuning past tuned =
     ap (λ (t : Option Tuning). if is_none t then NoCat
-    else joined (ended_before card past) (run_ending card (heard card past) (run_wrote card past))) tuned
+    else endings_joined (ended_before card past) (run_ending card (heard card past) (run_wrote card past))) tuned
 
 -- the run at hand ends as it does by itself
 run_alone : (card : CardFields) (tuning : Tuning) (k : ℕ) (past alone : List (List ℕ)) →
@@ -58,7 +58,7 @@ run_alone card tuning k past alone agrees alike =
     ∙ (ap (run_ending card (things_later k (heard card alone))) alike.wrote
     ∙ (ending_later k (run_wrote card alone) card (heard card alone)
     ∙ sym (ending_by card tuning alone agrees.alone_tuned
-    ∙ (ap (λ (e : Ending). joined e (run_ending card (heard card alone) (run_wrote card alone))) alike.none
+    ∙ (ap (λ (e : Ending). endings_joined e (run_ending card (heard card alone) (run_wrote card alone))) alike.none
     ∙ opened_joins (run_ending card (heard card alone) (run_wrote card alone))))))
 
 pub turns_by : (card : CardFields) (tuning : Tuning) (past : List (List ℕ)) (packet : List ℕ) →
@@ -102,7 +102,7 @@ unfolding ended_before run_wrote turns_at tuning_of
 cat_alike card cat = (refl, ap {B = ℕ} (λ (o : Offering). 0 + length o.wrote) (cat_nothing card cat))
 
 never_first : (thing : Heard) → is_turn [] thing ≡ false
-unfolding is_turn name_in
+unfolding is_turn run_name_in
 never_first thing = refl
 
 cat_stays : (card : CardFields) (tuning : Tuning) (cat packet : List ℕ) → cat_tuning card.ca cat ≡ Some tuning →
@@ -130,7 +130,7 @@ turn_alike card tuning k past cat packet is turns same =
 abbrev pub ending_going : CardFields → List ℕ → Ending → List (List ℕ) → List (List (List ℕ)) → Ending
 ending_going card cat earlier alone [] = earlier
 ending_going card cat earlier alone (first ∷ rest) =
-    joined_to (joined earlier (ending_of card (onto first alone))) (map (piece_ending card cat) rest)
+    joined_to (endings_joined earlier (ending_of card (onto first alone))) (map (piece_ending card cat) rest)
 
 ending_first : (card : CardFields) (cat packet : List ℕ) (earlier : Ending) (alone : List (List ℕ))
     (pieces : List (List (List ℕ))) → IsSome pieces →
@@ -149,47 +149,47 @@ pub ending_begun : (card : CardFields) (cat : List ℕ) (earlier : Ending) (piec
     joined_to earlier (map (piece_ending card cat) pieces) ≡ ending_going card cat earlier (cat ∷ []) pieces
 ending_begun card cat earlier [] = refl
 ending_begun card cat earlier (first ∷ rest) =
-    ap (λ (e : Ending). joined_to (joined earlier e) (map (piece_ending card cat) rest)) (piece_ends card cat first)
+    ap (λ (e : Ending). joined_to (endings_joined earlier e) (map (piece_ending card cat) rest)) (piece_ends card cat first)
 
 -- where a packet is of the run at hand, and where it is the first message of another
 ending_stays : (card : CardFields) (tuning : Tuning) (cat packet : List ℕ) (packets : List (List ℕ)) (k : ℕ)
     (past alone : List (List ℕ)) → Agrees card tuning k past alone → turns_at card past packet ≡ false →
-    are_two (name_in (heard card alone)) (name_at card.height tuning packet) ≡ false →
+    are_two (run_name_in (heard card alone)) (packet_run_name card.height tuning packet) ≡ false →
     ending_of card (onto packets (packet ∷ past))
     ≡ ending_going card cat (ended_before card (packet ∷ past)) (packet ∷ alone)
-    (pieces_after card.height tuning (name_in (heard card (packet ∷ alone))) packets) →
+    (pieces_after card.height tuning (run_name_in (heard card (packet ∷ alone))) packets) →
     ending_of card (onto (packet ∷ packets) past)
     ≡ ending_going card cat (ended_before card past) alone
-    (pieces_after card.height tuning (name_in (heard card alone)) (packet ∷ packets))
+    (pieces_after card.height tuning (run_name_in (heard card alone)) (packet ∷ packets))
 ending_stays card tuning cat packet packets k past alone agrees stays one rest =
-    let next : Option (Option ℕ) = name_in (heard card (packet ∷ alone)) in
+    let next : Option (Option ℕ) = run_name_in (heard card (packet ∷ alone)) in
     let pieces : List (List (List ℕ)) = pieces_after card.height tuning next packets in
     rest
     ∙ (ap (λ (e : Ending). ending_going card cat e (packet ∷ alone) pieces) (ended_on card past packet stays)
     ∙ (sym (ending_first card cat packet (ended_before card past) alone pieces
     (some_piece card.height tuning next packets))
     ∙ ap (ending_going card cat (ended_before card past) alone) (sym (pieces_stay card.height tuning
-    (name_in (heard card alone)) next packet packets one
+    (run_name_in (heard card alone)) next packet packets one
     (name_stays card tuning alone packet agrees.alone_tuned one)))))
 
 ending_turns : (card : CardFields) (tuning : Tuning) (cat packet : List ℕ) (packets : List (List ℕ)) (k : ℕ)
     (past alone : List (List ℕ)) → cat_tuning card.ca cat ≡ Some tuning → Agrees card tuning k past alone →
     EndsAlike card past alone → turns_at card past packet ≡ true →
-    are_two (name_in (heard card alone)) (name_at card.height tuning packet) ≡ true →
+    are_two (run_name_in (heard card alone)) (packet_run_name card.height tuning packet) ≡ true →
     ending_of card (onto packets (packet ∷ past))
     ≡ ending_going card cat (ended_before card (packet ∷ past)) (packet ∷ cat ∷ [])
-    (pieces_after card.height tuning (name_in (heard card (packet ∷ cat ∷ []))) packets) →
+    (pieces_after card.height tuning (run_name_in (heard card (packet ∷ cat ∷ []))) packets) →
     ending_of card (onto (packet ∷ packets) past)
     ≡ ending_going card cat (ended_before card past) alone
-    (pieces_after card.height tuning (name_in (heard card alone)) (packet ∷ packets))
+    (pieces_after card.height tuning (run_name_in (heard card alone)) (packet ∷ packets))
 ending_turns card tuning cat packet packets k past alone is agrees alike turns two rest =
-    let last : Option (Option ℕ) = name_in (heard card alone) in
-    let next : Option (Option ℕ) = name_in (heard card (packet ∷ cat ∷ [])) in
+    let last : Option (Option ℕ) = run_name_in (heard card alone) in
+    let next : Option (Option ℕ) = run_name_in (heard card (packet ∷ cat ∷ [])) in
     let pieces : List (List (List ℕ)) = pieces_after card.height tuning next packets in
-    let before : Ending = joined (ended_before card past) (ending_of card alone) in
+    let before : Ending = endings_joined (ended_before card past) (ending_of card alone) in
     rest
     ∙ (ap (λ (e : Ending). ending_going card cat e (packet ∷ cat ∷ []) pieces) (ended_now card past packet turns
-    ∙ ap (joined (ended_before card past)) (run_alone card tuning k past alone agrees alike))
+    ∙ ap (endings_joined (ended_before card past)) (run_alone card tuning k past alone agrees alike))
     ∙ (sym (ending_first card cat packet before (cat ∷ []) pieces (some_piece card.height tuning next packets))
     ∙ (sym (ending_begun card cat before (with_packet packet pieces))
     ∙ ap (ending_going card cat (ended_before card past) alone) (sym (pieces_turn card.height tuning last next packet
@@ -200,17 +200,17 @@ pub ending_goes : (card : CardFields) (tuning : Tuning) (cat : List ℕ) (packet
     Agrees card tuning k past alone → EndsAlike card past alone →
     ending_of card (onto packets past)
     ≡ ending_going card cat (ended_before card past) alone
-    (pieces_after card.height tuning (name_in (heard card alone)) packets)
+    (pieces_after card.height tuning (run_name_in (heard card alone)) packets)
 unfolding pieces_after
 ending_goes card tuning cat [] k past alone is some agrees alike =
     ending_by card tuning past agrees.tuned
-    ∙ ap (joined (ended_before card past)) (run_alone card tuning k past alone agrees alike)
+    ∙ ap (endings_joined (ended_before card past)) (run_alone card tuning k past alone agrees alike)
 ending_goes card tuning cat (packet ∷ packets) k past alone is some agrees alike =
     let j : ℕ = k + length alone - 1 in
     let count : length past ≡ j + 1 = turn_count k (length past) (length alone) agrees.count some in
     let here = turn_is card tuning k past alone packet agrees in
     let turns_here = turns_by card tuning past packet agrees.tuned ∙ here in
-    tested (are_two (name_in (heard card alone)) (name_at card.height tuning packet))
+    tested (are_two (run_name_in (heard card alone)) (packet_run_name card.height tuning packet))
     (λ two. ending_turns card tuning cat packet packets k past alone is agrees alike (turns_here ∙ two) two
     (ending_goes card tuning cat packets j (packet ∷ past) (packet ∷ cat ∷ []) is (omega arith)
     (turn_agrees card tuning j past cat packet agrees.tuned is count (here ∙ two))

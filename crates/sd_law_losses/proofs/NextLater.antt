@@ -17,13 +17,13 @@ use Rattle.sd_psi.specs.declared.our_cat.Tuning.{Tuning}
 use Rattle.sd_spec.specs.Heard.{Heard, Dropped, Entitles, Controls, BadEmm, BadEcm, Other, heard_emm}
 use Rattle.sd_spec.specs.Heard.{heard_ecm}
 use Rattle.sd_spec.specs.Heard.{hears}
-use Rattle.sd_spec.specs.Stretches.{Stretch, exceeds, counted, run_of, message_told, run_to, completed}
-use Rattle.sd_spec.specs.Stretches.{stretched}
-use Rattle.sd_spec.specs.Stretches.{newest, completes, messages, with_message, is_closed, period_heard}
+use Rattle.sd_spec.specs.Stretches.{Stretch, exceeds, counted_parts, run_of_parts, message_told, message_parts_to, completed}
+use Rattle.sd_spec.specs.Stretches.{stretch_after}
+use Rattle.sd_spec.specs.Stretches.{newest_message, completes, messages, with_message, is_closed, period_heard}
 use Rattle.sd_spec.specs.Stretches.{current}
-use Rattle.sd_spec.specs.Stretches.{seen}
+use Rattle.sd_spec.specs.Stretches.{sections_seen}
 use Rattle.sd_spec.specs.Stretches.{others, held_in}
-use Rattle.sd_spec.specs.Runs.{run_name_heard, name_or, name_in, are_two, is_turn, of_run}
+use Rattle.sd_spec.specs.Runs.{run_name_heard, name_or, run_name_in, are_two, is_turn, of_run}
 use Rattle.sd_spec.specs.Keys.{key_in, key_at}
 
 -- a thing that is heard k packets later
@@ -83,11 +83,11 @@ name_later k (BadEmm fault) = refl
 name_later k (BadEcm fault) = refl
 name_later k (Other n packet) = refl
 
-pub names_later : (k : ℕ) (past : List Heard) → name_in (things_later k past) ≡ name_in past
-unfolding name_in
+pub names_later : (k : ℕ) (past : List Heard) → run_name_in (things_later k past) ≡ run_name_in past
+unfolding run_name_in
 names_later k [] = refl
 names_later k (thing ∷ past) =
-    ap (λ (name : Option (Option ℕ)). name_or name (name_in (things_later k past))) (name_later k thing)
+    ap (λ (name : Option (Option ℕ)). name_or name (run_name_in (things_later k past))) (name_later k thing)
     ∙ ap (name_or (run_name_heard thing)) (names_later k past)
 
 pub turn_later : (k : ℕ) (past : List Heard) (thing : Heard) →
@@ -95,7 +95,7 @@ pub turn_later : (k : ℕ) (past : List Heard) (thing : Heard) →
 unfolding is_turn
 turn_later k past thing =
     ap (λ (name : Option (Option ℕ)). are_two name (run_name_heard (thing_later k thing))) (names_later k past)
-    ∙ ap (are_two (name_in past)) (name_later k thing)
+    ∙ ap (are_two (run_name_in past)) (name_later k thing)
 
 run_by_test : (k : ℕ) (past : List Heard) (turn : Bool) →
     (if turn then [] else things_later k past) ≡ things_later k (if turn then [] else past)
@@ -111,8 +111,8 @@ run_later k past thing =
 
 -- control messages
 counted_later : (k : ℕ) (message : Option Message) (past : List Heard) →
-    counted message (things_later k past) ≡ counted message past
-unfolding counted
+    counted_parts message (things_later k past) ≡ counted_parts message past
+unfolding counted_parts
 counted_later k message [] = refl
 counted_later k message (Dropped ∷ past) = counted_later k message past
 counted_later k message (Entitles emm ∷ past) = counted_later k message past
@@ -123,10 +123,10 @@ counted_later k message (BadEcm fault ∷ past) = counted_later k message past
 counted_later k message (Other n packet ∷ past) = counted_later k message past
 
 pub run_to_later : (k : ℕ) (stretch : Stretch) (part : EcmPart) →
-    run_to (stretch_later k stretch) part ≡ run_to stretch part
-unfolding run_to
+    message_parts_to (stretch_later k stretch) part ≡ message_parts_to stretch part
+unfolding message_parts_to
 run_to_later k stretch part =
-    ap (λ (parts : List EcmPart). if exceeds stretch.message part then run_of (part ∷ parts) else [])
+    ap (λ (parts : List EcmPart). if exceeds stretch.message part then run_of_parts (part ∷ parts) else [])
     (counted_later k stretch.message stretch.after)
 
 completed_later : (k : ℕ) (stretch : Stretch) (thing : Heard) →
@@ -141,26 +141,26 @@ completed_later k stretch (BadEcm fault) = refl
 completed_later k stretch (Other n packet) = refl
 
 stretched_later : (k : ℕ) (past : List Heard) (stretch : Stretch) (thing : Heard) (message : Option Message) →
-    stretched (things_later k past) (stretch_later k stretch) (thing_later k thing) message
-    ≡ stretch_later k (stretched past stretch thing message)
+    stretch_after (things_later k past) (stretch_later k stretch) (thing_later k thing) message
+    ≡ stretch_later k (stretch_after past stretch thing message)
 stretched_later k past stretch thing None = refl
 stretched_later k past stretch thing (Some message) = refl
 
-pub newest_later : (k : ℕ) (past : List Heard) → newest (things_later k past) ≡ stretch_later k (newest past)
-unfolding newest
+pub newest_later : (k : ℕ) (past : List Heard) → newest_message (things_later k past) ≡ stretch_later k (newest_message past)
+unfolding newest_message
 newest_later k [] = refl
 newest_later k (thing ∷ past) =
-    ap (λ (stretch : Stretch). stretched (things_later k past) stretch (thing_later k thing)
+    ap (λ (stretch : Stretch). stretch_after (things_later k past) stretch (thing_later k thing)
     (completed stretch (thing_later k thing))) (newest_later k past)
-    ∙ (ap (stretched (things_later k past) (stretch_later k (newest past)) (thing_later k thing))
-    (completed_later k (newest past) thing)
-    ∙ stretched_later k past (newest past) thing (completed (newest past) thing))
+    ∙ (ap (stretch_after (things_later k past) (stretch_later k (newest_message past)) (thing_later k thing))
+    (completed_later k (newest_message past) thing)
+    ∙ stretched_later k past (newest_message past) thing (completed (newest_message past) thing))
 
 pub completes_later : (k : ℕ) (past : List Heard) (thing : Heard) →
     completes (things_later k past) (thing_later k thing) ≡ completes past thing
 completes_later k past thing =
     ap (λ (stretch : Stretch). completed stretch (thing_later k thing)) (newest_later k past)
-    ∙ completed_later k (newest past) thing
+    ∙ completed_later k (newest_message past) thing
 
 pub messages_later : (k : ℕ) (past : List Heard) → messages (things_later k past) ≡ messages past
 unfolding messages
@@ -198,14 +198,14 @@ current_later k (thing ∷ past) =
     ap (λ (q : ℕ). max q (current (things_later k past))) (period_later k past thing)
     ∙ ap (max (period_heard past thing)) (current_later k past)
 
-pub seen_later : (k q : ℕ) (past : List Heard) → seen q (things_later k past) ≡ seen q past
-unfolding seen
+pub seen_later : (k q : ℕ) (past : List Heard) → sections_seen q (things_later k past) ≡ sections_seen q past
+unfolding sections_seen
 seen_later k q [] = refl
 seen_later k q (Dropped ∷ past) = seen_later k q past
 seen_later k q (Entitles emm ∷ past) =
     ap (λ (sections : List Emm). if (emm.period == q) && nat_le (current (things_later k past)) q
     then emm ∷ sections else sections) (seen_later k q past)
-    ∙ ap (λ (now : ℕ). if (emm.period == q) && nat_le now q then emm ∷ seen q past else seen q past)
+    ∙ ap (λ (now : ℕ). if (emm.period == q) && nat_le now q then emm ∷ sections_seen q past else sections_seen q past)
     (current_later k past)
 seen_later k q (Controls part ∷ past) = seen_later k q past
 seen_later k q (BadEmm fault ∷ past) = seen_later k q past

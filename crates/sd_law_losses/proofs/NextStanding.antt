@@ -13,7 +13,7 @@ use Rattle.sd_psi.specs.OurCat.{cat_tuning}
 use Rattle.sd_psi.specs.declared.our_cat.Tuning.{Tuning}
 use Rattle.sd_spec.specs.Heard.{hears}
 use Rattle.sd_spec.specs.Offered.{heard, offered, out_from, break_from}
-use Rattle.sd_spec.specs.Ending.{joined, ending_of}
+use Rattle.sd_spec.specs.Ending.{endings_joined, ending_of}
 use Rattle.sd_spec.specs.Taken.{takes_key_at, taken_keys}
 use Rattle.sd_law_losses.proofs.Offerings.{offering_later}
 use Rattle.sd_law_losses.proofs.Leading.{is_quiet, AreQuiet}
@@ -222,7 +222,7 @@ StandsBetween card tuning Fresh true told past =
 -- with the ending of one run more, where messages of it came
 abbrev pub told_more : Option Ending → Bool → Ending → Option Ending
 told_more told false ending = told
-told_more told true ending = Some (joined (earlier told) ending)
+told_more told true ending = Some (endings_joined (earlier told) ending)
 
 -- What holds of the name of the run at hand before another run and behind it, by whether a receiver is told of that.
 pub record IsPassed (told : Bool) (name : Option ℕ) (Fresh Next : Option ℕ → Type 0) : Type 0 where

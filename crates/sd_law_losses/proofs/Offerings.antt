@@ -21,13 +21,13 @@ use Rattle.sd_message.specs.declared.stream_fault.StreamFault.{StreamFault}
 use Rattle.sd_message.specs.declared.stream_fault.StreamFault.TheVariants as Fault
 use Rattle.sd_psi.specs.declared.our_cat.Tuning.{Tuning}
 use Rattle.sd_spec.specs.Heard.{Heard, Dropped, Entitles, Controls, BadEmm, BadEcm, Other}
-use Rattle.sd_spec.specs.Stretches.{Stretch, newest, run_to, completes, is_closed, current, seen, held_in}
+use Rattle.sd_spec.specs.Stretches.{Stretch, newest_message, message_parts_to, completes, is_closed, current, sections_seen, held_in}
 use Rattle.sd_spec.specs.Runs.{of_run}
 use Rattle.sd_spec.specs.Keys.{key_from, key_in, key_at}
-use Rattle.sd_spec.specs.Confirmed.{Segment, Wrote, unmarked, is_foreign, is_confirmed, tracked, judged}
-use Rattle.sd_spec.specs.Confirmed.{then_wrote}
+use Rattle.sd_spec.specs.Confirmed.{Segment, WrittenPackets, unmarked, is_foreign, is_confirmed, tracked, judged_packet}
+use Rattle.sd_spec.specs.Confirmed.{then_segment_output}
 use Rattle.sd_spec.specs.Confirmed.{written_from}
-use Rattle.sd_spec.specs.Offered.{most_held, heard_more, Offering, no_offering, refuses, is_mixed}
+use Rattle.sd_spec.specs.Offered.{most_held, heard_more, Offering, no_offering, refused_offering, is_mixed}
 use Rattle.sd_spec.specs.Offered.{key_offering}
 use Rattle.sd_spec.specs.Offered.{key_if_none, emm_offering, part_fault, is_before, is_back, segment_wrote}
 use Rattle.sd_spec.specs.Offered.{stretch_wrote, word_fault, wrote_or, message_offering, part_offering}
@@ -57,19 +57,19 @@ judged_by_tests k n false false true clear opened = refl
 judged_by_tests k n false false false clear opened = refl
 
 judged_later : (k : ℕ) (segment : Segment) (before : List (List ℕ)) (held : ℕ × List ℕ) →
-    judged segment before (packet_later k held) ≡ refused_later k (judged segment before held)
-unfolding judged
+    judged_packet segment before (packet_later k held) ≡ refused_later k (judged_packet segment before held)
+unfolding judged_packet
 judged_later k segment before held =
     judged_by_tests k held.0 (scrambling_of held.1 == 0) (is_foreign segment held.1) (is_confirmed segment (pid_of
     held.1))
     (unmarked segment held.1 ∷ [])
     (descrambled held.1 segment.word (tracked segment.first (pid_of held.1) (before ++ held.1 ∷ [])) ∷ [])
 
-abbrev pub wrote_later : ℕ → Wrote → Wrote
+abbrev pub wrote_later : ℕ → WrittenPackets → WrittenPackets
 wrote_later k wrote = record { packets = wrote.packets; refused = option_map (λ n. k + n) wrote.refused }
 
-then_later : (k : ℕ) (result : Result (List (List ℕ)) ℕ) (rest : Wrote) →
-    then_wrote (refused_later k result) (wrote_later k rest) ≡ wrote_later k (then_wrote result rest)
+then_later : (k : ℕ) (result : Result (List (List ℕ)) ℕ) (rest : WrittenPackets) →
+    then_segment_output (refused_later k result) (wrote_later k rest) ≡ wrote_later k (then_segment_output result rest)
 then_later k (Ok packets) rest = refl
 then_later k (Err n) rest = refl
 
@@ -78,11 +78,11 @@ written_later : (k : ℕ) (segment : Segment) (before : List (List ℕ)) (held :
 unfolding written_from
 written_later k segment before [] = refl
 written_later k segment before (one ∷ held) =
-    ap (λ (result : Result (List (List ℕ)) ℕ). then_wrote result
+    ap (λ (result : Result (List (List ℕ)) ℕ). then_segment_output result
     (written_from segment (before ++ one.1 ∷ []) (map (packet_later k) held))) (judged_later k segment before one)
-    ∙ (ap (then_wrote (refused_later k (judged segment before one)))
+    ∙ (ap (then_segment_output (refused_later k (judged_packet segment before one)))
     (written_later k segment (before ++ one.1 ∷ []) held)
-    ∙ then_later k (judged segment before one) (written_from segment (before ++ one.1 ∷ []) held))
+    ∙ then_later k (judged_packet segment before one) (written_from segment (before ++ one.1 ∷ []) held))
 
 abbrev pub packets_in : List (ℕ × List ℕ) → List (List ℕ)
 packets_in held = map (λ one. one.1) held
@@ -92,7 +92,7 @@ packets_same k [] = refl
 packets_same k (one ∷ held) = ap (λ (packets : List (List ℕ)). one.1 ∷ packets) (packets_same k held)
 
 -- between two messages
-abbrev pub none_wrote : Wrote
+abbrev pub none_wrote : WrittenPackets
 none_wrote = record { packets = []; refused = None }
 
 abbrev pub segment_of : CardFields → Tuning → Message → Message → List ℕ → List (List ℕ) → Segment
@@ -105,17 +105,17 @@ segment_of card tuning a b key packets = record {
   packets = packets;
 }
 
-abbrev pub wrote_of : CardFields → Tuning → Message → Message → List ℕ → List (ℕ × List ℕ) → Wrote
+abbrev pub wrote_of : CardFields → Tuning → Message → Message → List ℕ → List (ℕ × List ℕ) → WrittenPackets
 wrote_of card tuning a b key held =
     if nat_lt most_held (length held) then none_wrote
     else written_from (segment_of card tuning a b key (packets_in held)) [] held
 
-unless_later : (k : ℕ) (test : Bool) (wrote : Wrote) →
+unless_later : (k : ℕ) (test : Bool) (wrote : WrittenPackets) →
     (if test then none_wrote else wrote_later k wrote) ≡ wrote_later k (if test then none_wrote else wrote)
 unless_later k true wrote = refl
 unless_later k false wrote = refl
 
-if_later : (k : ℕ) (test : Bool) (wrote : Wrote) →
+if_later : (k : ℕ) (test : Bool) (wrote : WrittenPackets) →
     (if test then wrote_later k wrote else none_wrote) ≡ wrote_later k (if test then wrote else none_wrote)
 if_later k true wrote = refl
 if_later k false wrote = refl
@@ -129,7 +129,7 @@ wrote_of_later k card tuning a b key held =
     else written_from (segment_of card tuning a b key (packets_in later)) [] later) (length-map held (packet_later k))
     ∙ (ap (λ (packets : List (List ℕ)). if nat_lt most_held (length held) then none_wrote
     else written_from (segment_of card tuning a b key packets) [] later) (packets_same k held)
-    ∙ (ap (λ (wrote : Wrote). if nat_lt most_held (length held) then none_wrote else wrote)
+    ∙ (ap (λ (wrote : WrittenPackets). if nat_lt most_held (length held) then none_wrote else wrote)
     (written_later k (segment_of card tuning a b key (packets_in held)) [] held)
     ∙ unless_later k (nat_lt most_held (length held))
     (written_from (segment_of card tuning a b key (packets_in held)) [] held)))
@@ -152,7 +152,7 @@ stretch_wrote_later k card tuning stretch (Some a) b =
     ap (λ (key : Option (List ℕ)). if nat_le b.since a.number
     then segment_wrote card tuning (stretch_later k stretch) a b key else none_wrote)
     (key_later k a.period card stretch.before)
-    ∙ (ap (λ (wrote : Wrote). if nat_le b.since a.number then wrote else none_wrote)
+    ∙ (ap (λ (wrote : WrittenPackets). if nat_le b.since a.number then wrote else none_wrote)
     (segment_later k card tuning stretch a b (key_at card stretch.before a.period))
     ∙ if_later k (nat_le b.since a.number)
     (segment_wrote card tuning stretch a b (key_at card stretch.before a.period)))
@@ -169,7 +169,7 @@ parity_later : (k : ℕ) (refused : Option ℕ) (fault : Option StreamFault) →
 parity_later k None fault = refl
 parity_later k (Some n) fault = refl
 
-wrote_or_later : (k : ℕ) (wrote : Wrote) (fault : Option StreamFault) →
+wrote_or_later : (k : ℕ) (wrote : WrittenPackets) (fault : Option StreamFault) →
     wrote_or (wrote_later k wrote) (option_map (fault_later k) fault) ≡ offering_later k (wrote_or wrote fault)
 wrote_or_later k wrote fault =
     ap {B = Offering} (λ (f : Option StreamFault). record { wrote = wrote.packets; fault = f })
@@ -196,8 +196,8 @@ nothing_or k true offering = refl
 nothing_or k false offering = refl
 
 refuses_or : (k : ℕ) (test : Bool) (fault : StreamFault) (offering : Offering) →
-    (if test then refuses (fault_later k fault) else offering_later k offering)
-    ≡ offering_later k (if test then refuses fault else offering)
+    (if test then refused_offering (fault_later k fault) else offering_later k offering)
+    ≡ offering_later k (if test then refused_offering fault else offering)
 refuses_or k true fault offering = refl
 refuses_or k false fault offering = refl
 
@@ -206,7 +206,7 @@ key_offered : (k n : ℕ) (emm : Emm) (key : Option (List ℕ)) →
 key_offered k n emm None = refl
 key_offered k n emm (Some key) =
     nothing_or k (bytes_eq (check_value_of key) emm.check)
-    (refuses (Fault.WrongKey n emm.period (check_value_of key) emm.check))
+    (refused_offering (Fault.WrongKey n emm.period (check_value_of key) emm.check))
 
 key_if_later : (k n : ℕ) (emm : Emm) (held found : Option (List ℕ)) →
     key_if_none (k + n) emm held found ≡ offering_later k (key_if_none n emm held found)
@@ -216,36 +216,36 @@ key_if_later k n emm (Some key) found = refl
 abbrev pub emm_of : CardFields → ℕ → ℕ → List Emm → Emm → Offering
 emm_of card n now sections emm =
     if nat_lt emm.period now then no_offering
-    else if is_mixed sections emm then refuses (Fault.BadEmm n Emms.Mixed)
+    else if is_mixed sections emm then refused_offering (Fault.BadEmm n Emms.Mixed)
     else key_if_none n emm (key_in card sections) (key_from card emm)
 
 emm_of_later : (k n now : ℕ) (card : CardFields) (sections : List Emm) (emm : Emm) →
     emm_of card (k + n) now sections emm ≡ offering_later k (emm_of card n now sections emm)
 emm_of_later k n now card sections emm =
     ap (λ (offering : Offering). if nat_lt emm.period now then no_offering
-    else if is_mixed sections emm then refuses (Fault.BadEmm (k + n) Emms.Mixed) else offering)
+    else if is_mixed sections emm then refused_offering (Fault.BadEmm (k + n) Emms.Mixed) else offering)
     (key_if_later k n emm (key_in card sections) (key_from card emm))
     ∙ (ap (λ (offering : Offering). if nat_lt emm.period now then no_offering else offering)
     (refuses_or k (is_mixed sections emm) (Fault.BadEmm n Emms.Mixed)
     (key_if_none n emm (key_in card sections) (key_from card emm)))
     ∙ nothing_or k (nat_lt emm.period now)
-    (if is_mixed sections emm then refuses (Fault.BadEmm n Emms.Mixed)
+    (if is_mixed sections emm then refused_offering (Fault.BadEmm n Emms.Mixed)
     else key_if_none n emm (key_in card sections) (key_from card emm)))
 
 emm_offering_later : (k n : ℕ) (card : CardFields) (past : List Heard) (emm : Emm) →
     emm_offering card (k + n) (things_later k past) emm ≡ offering_later k (emm_offering card n past emm)
 unfolding emm_offering
 emm_offering_later k n card past emm =
-    ap (λ (now : ℕ). emm_of card (k + n) now (seen emm.period (things_later k past)) emm) (current_later k past)
+    ap (λ (now : ℕ). emm_of card (k + n) now (sections_seen emm.period (things_later k past)) emm) (current_later k past)
     ∙ (ap (λ (sections : List Emm). emm_of card (k + n) (current past) sections emm) (seen_later k emm.period past)
-    ∙ emm_of_later k n (current past) card (seen emm.period past) emm)
+    ∙ emm_of_later k n (current past) card (sections_seen emm.period past) emm)
 
 -- control messages
 back_later : (k : ℕ) (past : List Heard) (b : Message) → is_back (things_later k past) b ≡ is_back past b
 unfolding is_back
 back_later k past b =
     ap (λ (now : ℕ). nat_lt b.period now
-    || option_map_or (is_before b) (newest (things_later k past)).message false) (current_later k past)
+    || option_map_or (is_before b) (newest_message (things_later k past)).message false) (current_later k past)
     ∙ ap (λ (stretch : Stretch). nat_lt b.period (current past)
     || option_map_or (is_before b) stretch.message false) (newest_later k past)
 
@@ -255,22 +255,22 @@ message_later : (k n : ℕ) (card : CardFields) (tuning : Tuning) (past : List H
 message_later k n card tuning past None = refl
 message_later k n card tuning past (Some b) =
     let later : List Heard = things_later k past in
-    let wrote : Wrote = stretch_wrote card tuning (newest past) (newest past).message b in
+    let wrote : WrittenPackets = stretch_wrote card tuning (newest_message past) (newest_message past).message b in
     let fault : Option StreamFault = word_fault n b (key_at card past b.period) in
-    ap (λ (back : Bool). if back then refuses (Fault.BadEcm (k + n) Back)
-    else wrote_or (stretch_wrote card tuning (newest later) (newest later).message b)
+    ap (λ (back : Bool). if back then refused_offering (Fault.BadEcm (k + n) Back)
+    else wrote_or (stretch_wrote card tuning (newest_message later) (newest_message later).message b)
     (word_fault (k + n) b (key_at card later b.period))) (back_later k past b)
-    ∙ (ap (λ (stretch : Stretch). if is_back past b then refuses (Fault.BadEcm (k + n) Back)
+    ∙ (ap (λ (stretch : Stretch). if is_back past b then refused_offering (Fault.BadEcm (k + n) Back)
     else wrote_or (stretch_wrote card tuning stretch stretch.message b)
     (word_fault (k + n) b (key_at card later b.period))) (newest_later k past)
-    ∙ (ap (λ (w : Wrote). if is_back past b then refuses (Fault.BadEcm (k + n) Back)
+    ∙ (ap (λ (w : WrittenPackets). if is_back past b then refused_offering (Fault.BadEcm (k + n) Back)
     else wrote_or w (word_fault (k + n) b (key_at card later b.period)))
-    (stretch_wrote_later k card tuning (newest past) (newest past).message b)
-    ∙ (ap (λ (key : Option (List ℕ)). if is_back past b then refuses (Fault.BadEcm (k + n) Back)
+    (stretch_wrote_later k card tuning (newest_message past) (newest_message past).message b)
+    ∙ (ap (λ (key : Option (List ℕ)). if is_back past b then refused_offering (Fault.BadEcm (k + n) Back)
     else wrote_or (wrote_later k wrote) (word_fault (k + n) b key)) (key_later k b.period card past)
-    ∙ (ap (λ (f : Option StreamFault). if is_back past b then refuses (Fault.BadEcm (k + n) Back)
+    ∙ (ap (λ (f : Option StreamFault). if is_back past b then refused_offering (Fault.BadEcm (k + n) Back)
     else wrote_or (wrote_later k wrote) f) (word_later k n b (key_at card past b.period))
-    ∙ (ap (λ (offering : Offering). if is_back past b then refuses (Fault.BadEcm (k + n) Back) else offering)
+    ∙ (ap (λ (offering : Offering). if is_back past b then refused_offering (Fault.BadEcm (k + n) Back) else offering)
     (wrote_or_later k wrote fault)
     ∙ refuses_or k (is_back past b) (Fault.BadEcm n Back) (wrote_or wrote fault))))))
 
@@ -286,16 +286,16 @@ heard_later k n card tuning past Dropped = refl
 heard_later k n card tuning past (Entitles emm) = emm_offering_later k n card past emm
 heard_later k n card tuning past (Controls part) =
     let later : List Heard = things_later k past in
-    ap (λ (stretch : Stretch). part_offering (k + n) (part_fault (run_to stretch part))
+    ap (λ (stretch : Stretch). part_offering (k + n) (part_fault (message_parts_to stretch part))
     (message_offering card tuning (k + n) later (completes later (Controls part)))) (newest_later k past)
     ∙ (ap (λ (parts : List EcmPart). part_offering (k + n) (part_fault parts)
     (message_offering card tuning (k + n) later (completes later (Controls part))))
-    (run_to_later k (newest past) part)
-    ∙ (ap (λ (message : Option Message). part_offering (k + n) (part_fault (run_to (newest past) part))
+    (run_to_later k (newest_message past) part)
+    ∙ (ap (λ (message : Option Message). part_offering (k + n) (part_fault (message_parts_to (newest_message past) part))
     (message_offering card tuning (k + n) later message)) (completes_later k past (Controls part))
-    ∙ (ap (part_offering (k + n) (part_fault (run_to (newest past) part)))
+    ∙ (ap (part_offering (k + n) (part_fault (message_parts_to (newest_message past) part)))
     (message_later k n card tuning past (completes past (Controls part)))
-    ∙ part_later k n (part_fault (run_to (newest past) part))
+    ∙ part_later k n (part_fault (message_parts_to (newest_message past) part))
     (message_offering card tuning n past (completes past (Controls part))))))
 heard_later k n card tuning past (BadEmm fault) = refl
 heard_later k n card tuning past (BadEcm fault) = refl
@@ -367,13 +367,13 @@ closed_ending_later : (k written : ℕ) (card : CardFields) (past : List Heard) 
 closed_ending_later k written card past =
     let later : List Heard = things_later k past in
     ap (λ (told : List ℕ). closed_with (find (λ q. is_unkeyed card later q && is_all_seen later q) told)
-    (find (is_unkeyed card later) told) (newest later) written) (periods_later k past)
+    (find (is_unkeyed card later) told) (newest_message later) written) (periods_later k past)
     ∙ (ap (λ (revoked : Option ℕ). closed_with revoked (find (is_unkeyed card later) (periods_told past))
-    (newest later) written)
+    (newest_message later) written)
     (find_same (λ q. is_unkeyed card later q && is_all_seen later q) (λ q. is_unkeyed card past q && is_all_seen past q)
     (revoked_later k card past) (periods_told past))
     ∙ (ap (λ (unheard : Option ℕ). closed_with
-    (find (λ q. is_unkeyed card past q && is_all_seen past q) (periods_told past)) unheard (newest later) written)
+    (find (λ q. is_unkeyed card past q && is_all_seen past q) (periods_told past)) unheard (newest_message later) written)
     (find_same (is_unkeyed card later) (is_unkeyed card past) (unkeyed_later k card past) (periods_told past))
     ∙ ap (λ (stretch : Stretch). closed_with
     (find (λ q. is_unkeyed card past q && is_all_seen past q) (periods_told past))
@@ -385,9 +385,9 @@ unfolding run_ending
 ending_later k written card past =
     let later : List Heard = things_later k past in
     ap (λ (closed : Bool). if closed then closed_ending card later written
-    else Unclosed (option_map_or (λ (m : Message). m.number + 1) (newest later).message 0)) (closed_later k past)
+    else Unclosed (option_map_or (λ (m : Message). m.number + 1) (newest_message later).message 0)) (closed_later k past)
     ∙ (ap (λ (ending : Ending). if is_closed past then ending
-    else Unclosed (option_map_or (λ (m : Message). m.number + 1) (newest later).message 0))
+    else Unclosed (option_map_or (λ (m : Message). m.number + 1) (newest_message later).message 0))
     (closed_ending_later k written card past)
     ∙ ap (λ (stretch : Stretch). if is_closed past then closed_ending card past written
     else Unclosed (option_map_or (λ (m : Message). m.number + 1) stretch.message 0)) (newest_later k past))

@@ -12,10 +12,10 @@ use Rattle.sd_spec.specs.Tuned.{tuning_of}
 use Rattle.sd_psi.specs.declared.our_cat.Tuning.{Tuning}
 use Rattle.sd_spec.specs.Heard.{Heard, hears}
 use Rattle.sd_spec.specs.Stretches.{is_closed}
-use Rattle.sd_spec.specs.Runs.{run_name_heard, name_or, name_in, is_same, are_two, is_turn}
+use Rattle.sd_spec.specs.Runs.{run_name_heard, name_or, run_name_in, is_same_run, are_two, is_turn}
 use Rattle.sd_spec.specs.Offered.{heard, heard_more, heard_offering, run_offering, offered, out_from}
 use Rattle.sd_spec.specs.Offered.{break_from}
-use Rattle.sd_spec.specs.Ending.{joined, turns_at, run_wrote, run_ending, ended_before}
+use Rattle.sd_spec.specs.Ending.{endings_joined, turns_at, run_wrote, run_ending, ended_before}
 use Rattle.sd_spec.proofs.Runs.{same_run}
 use Rattle.sd_law_losses.proofs.Writing.{onto}
 
@@ -29,21 +29,21 @@ AreOneRun card [] = Unit {0}
 AreOneRun card (packet ∷ past) = (turns_at card past packet ≡ false) × AreOneRun card past
 
 pub of_named : (name run : Option ℕ) → run ≡ name → are_two (Some name) (Some run) ≡ false
-of_named name run is = ap (λ (r : Option ℕ). not (is_same name r)) is ∙ itself name
+of_named name run is = ap (λ (r : Option ℕ). not (is_same_run name r)) is ∙ itself name
   where
-    itself : (name : Option ℕ) → not (is_same name name) ≡ false
+    itself : (name : Option ℕ) → not (is_same_run name name) ≡ false
     itself None = refl
     itself (Some a) = grind (arith, nat_tests)
 
-name_is : (name : Option ℕ) (past : List Heard) → All (IsOfRun name) past → are_two (Some name) (name_in past) ≡ false
-unfolding name_in
+name_is : (name : Option ℕ) (past : List Heard) → All (IsOfRun name) past → are_two (Some name) (run_name_in past) ≡ false
+unfolding run_name_in
 name_is name [] all = refl
 name_is name (thing ∷ past) all =
     by_name (run_name_heard thing) (All-head (IsOfRun name) thing past all)
     (name_is name past (All-tail (IsOfRun name) thing past all))
   where
     by_name : (first : Option (Option ℕ)) → are_two (Some name) first ≡ false →
-        are_two (Some name) (name_in past) ≡ false → are_two (Some name) (name_or first (name_in past)) ≡ false
+        are_two (Some name) (run_name_in past) ≡ false → are_two (Some name) (name_or first (run_name_in past)) ≡ false
     by_name None here before = before
     by_name (Some run) here before = here
 
@@ -53,8 +53,8 @@ both_named name None b first second = refl
 both_named name (Some a) None first second = refl
 both_named name (Some a) (Some b) first second = by_names name a b first second
   where
-    by_names : (name a b : Option ℕ) → not (is_same name a) ≡ false → not (is_same name b) ≡ false →
-        not (is_same a b) ≡ false
+    by_names : (name a b : Option ℕ) → not (is_same_run name a) ≡ false → not (is_same_run name b) ≡ false →
+        not (is_same_run a b) ≡ false
     by_names None None None first second = refl
     by_names None None (Some b) first second = second
     by_names None (Some a) None first second = first
@@ -68,7 +68,7 @@ both_named name (Some a) (Some b) first second = by_names name a b first second
 pub no_turn : (name : Option ℕ) (past : List Heard) (thing : Heard) → All (IsOfRun name) past → IsOfRun name thing →
     is_turn past thing ≡ false
 unfolding is_turn
-no_turn name past thing all is = both_named name (name_in past) (run_name_heard thing) (name_is name past all) is
+no_turn name past thing all is = both_named name (run_name_in past) (run_name_heard thing) (name_is name past all) is
 
 pub no_turn_at : (card : CardFields) (tuning : Tuning) (past : List (List ℕ)) (packet : List ℕ) (thing : Heard) →
     tuning_of card.ca past ≡ Some tuning → hears card.height tuning (length past) packet ≡ thing →
@@ -99,7 +99,7 @@ pub none_ended : (card : CardFields) (past : List (List ℕ)) → AreOneRun card
 unfolding ended_before
 none_ended card [] one = refl
 none_ended card (packet ∷ past) one =
-    ap (λ (turn : Bool). if turn then joined (ended_before card past) (run_ending card (heard card past)
+    ap (λ (turn : Bool). if turn then endings_joined (ended_before card past) (run_ending card (heard card past)
     (run_wrote card past)) else ended_before card past) one.0
     ∙ none_ended card past one.1
 

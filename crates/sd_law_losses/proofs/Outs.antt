@@ -8,9 +8,9 @@ use Rattle.sd_site_cards.specs.CardFields.{CardFields}
 use Rattle.sd_message.specs.declared.stream_fault.StreamFault.{StreamFault}
 use Rattle.sd_psi.specs.OurCat.{cat_tuning}
 use Rattle.sd_psi.specs.declared.our_cat.Tuning.{Tuning}
-use Rattle.sd_spec.specs.Runs.{name_in, are_two}
+use Rattle.sd_spec.specs.Runs.{run_name_in, are_two}
 use Rattle.sd_spec.specs.Offered.{heard, Offering, offered, out_from, break_from}
-use Rattle.sd_law_losses.specs.Pieces.{name_at, with_packet, pieces_after}
+use Rattle.sd_law_losses.specs.Pieces.{packet_run_name, with_packet, pieces_after}
 use Rattle.sd_law_losses.specs.Together.{fault_later, out_with}
 use Rattle.sd_law_losses.proofs.Offerings.{offering_later}
 use Rattle.sd_law_losses.proofs.Agreeing.{Agrees, offered_later, agrees_more, turn_offered, turn_agrees}
@@ -76,32 +76,32 @@ out_step card cat packet k past alone packets pieces some same rest =
 -- where a packet is of the run at hand, and where it is the first message of another
 out_stays : (card : CardFields) (tuning : Tuning) (cat packet : List ℕ) (packets : List (List ℕ)) (k : ℕ)
     (past alone : List (List ℕ)) → Agrees card tuning k past alone →
-    are_two (name_in (heard card alone)) (name_at card.height tuning packet) ≡ false →
+    are_two (run_name_in (heard card alone)) (packet_run_name card.height tuning packet) ≡ false →
     out_from card (packet ∷ past) packets
     ≡ out_going card cat (packet ∷ alone)
-    (pieces_after card.height tuning (name_in (heard card (packet ∷ alone))) packets) →
+    (pieces_after card.height tuning (run_name_in (heard card (packet ∷ alone))) packets) →
     out_from card past (packet ∷ packets)
-    ≡ out_going card cat alone (pieces_after card.height tuning (name_in (heard card alone)) (packet ∷ packets))
+    ≡ out_going card cat alone (pieces_after card.height tuning (run_name_in (heard card alone)) (packet ∷ packets))
 out_stays card tuning cat packet packets k past alone agrees one rest =
-    let next : Option (Option ℕ) = name_in (heard card (packet ∷ alone)) in
+    let next : Option (Option ℕ) = run_name_in (heard card (packet ∷ alone)) in
     out_step card cat packet k past alone packets (pieces_after card.height tuning next packets)
     (some_piece card.height tuning next packets) (offered_later card tuning k past alone packet agrees) rest
-    ∙ ap (out_going card cat alone) (sym (pieces_stay card.height tuning (name_in (heard card alone)) next packet
+    ∙ ap (out_going card cat alone) (sym (pieces_stay card.height tuning (run_name_in (heard card alone)) next packet
     packets one (name_stays card tuning alone packet agrees.alone_tuned one)))
 
 out_turns : (card : CardFields) (tuning : Tuning) (cat packet : List ℕ) (packets : List (List ℕ)) (k : ℕ)
     (past alone : List (List ℕ)) → cat_tuning card.ca cat ≡ Some tuning → HasCat alone →
     Agrees card tuning k past alone →
-    are_two (name_in (heard card alone)) (name_at card.height tuning packet) ≡ true →
+    are_two (run_name_in (heard card alone)) (packet_run_name card.height tuning packet) ≡ true →
     out_from card (packet ∷ past) packets
     ≡ out_going card cat (packet ∷ cat ∷ [])
-    (pieces_after card.height tuning (name_in (heard card (packet ∷ cat ∷ []))) packets) →
+    (pieces_after card.height tuning (run_name_in (heard card (packet ∷ cat ∷ []))) packets) →
     out_from card past (packet ∷ packets)
-    ≡ out_going card cat alone (pieces_after card.height tuning (name_in (heard card alone)) (packet ∷ packets))
+    ≡ out_going card cat alone (pieces_after card.height tuning (run_name_in (heard card alone)) (packet ∷ packets))
 unfolding out_from break_from
 out_turns card tuning cat packet packets k past alone is some agrees two rest =
-    let last : Option (Option ℕ) = name_in (heard card alone) in
-    let next : Option (Option ℕ) = name_in (heard card (packet ∷ cat ∷ [])) in
+    let last : Option (Option ℕ) = run_name_in (heard card alone) in
+    let next : Option (Option ℕ) = run_name_in (heard card (packet ∷ cat ∷ [])) in
     let j : ℕ = k + length alone - 1 in
     let count : length past ≡ j + 1 = turn_count k (length past) (length alone) agrees.count some in
     let turns = turn_is card tuning k past alone packet agrees ∙ two in
@@ -116,13 +116,13 @@ pub out_goes : (card : CardFields) (tuning : Tuning) (cat : List ℕ) (packets :
     (past alone : List (List ℕ)) → cat_tuning card.ca cat ≡ Some tuning → HasCat alone →
     Agrees card tuning k past alone →
     out_from card past packets
-    ≡ out_going card cat alone (pieces_after card.height tuning (name_in (heard card alone)) packets)
+    ≡ out_going card cat alone (pieces_after card.height tuning (run_name_in (heard card alone)) packets)
 unfolding out_from break_from pieces_after
 out_goes card tuning cat [] k past alone is some agrees = refl
 out_goes card tuning cat (packet ∷ packets) k past alone is some agrees =
     let j : ℕ = k + length alone - 1 in
     let count : length past ≡ j + 1 = turn_count k (length past) (length alone) agrees.count some in
-    tested (are_two (name_in (heard card alone)) (name_at card.height tuning packet))
+    tested (are_two (run_name_in (heard card alone)) (packet_run_name card.height tuning packet))
     (λ two. out_turns card tuning cat packet packets k past alone is some agrees two
     (out_goes card tuning cat packets j (packet ∷ past) (packet ∷ cat ∷ []) is (omega arith)
     (turn_agrees card tuning j past cat packet agrees.tuned is count

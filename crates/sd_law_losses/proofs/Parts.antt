@@ -4,22 +4,22 @@ use Rattle.std.proofs.Common.{List, [], ◌∷◌, length, arith, ◌∙◌, ap}
 use Rattle.std.proofs.Math.Dec.{eqb-suc-suc}
 use Rattle.std.proofs.lemmas.Bool.Decides.{nat_tests}
 use Rattle.sd_message.specs.declared.ecm_part.EcmPart.{EcmPart}
-use Rattle.sd_spec.specs.Stretches.{run_of, run_with}
+use Rattle.sd_spec.specs.Stretches.{run_of_parts, message_parts_with}
 
 -- the part follows this one
 abbrev pub follows : EcmPart → EcmPart → Bool
 follows before part = (before.number == part.number) && (before.part + 1 == part.part)
 
 -- part 0 begins a run
-pub run_first : (part : EcmPart) (earlier : List EcmPart) → (part.part == 0) ≡ true → run_of
+pub run_first : (part : EcmPart) (earlier : List EcmPart) → (part.part == 0) ≡ true → run_of_parts
     (part ∷ earlier) ≡ part ∷ []
-unfolding run_of
+unfolding run_of_parts
 run_first part earlier h = rw h refl
 
 -- any other part goes on with one or ends it
 pub run_later : (part : EcmPart) (earlier : List EcmPart) → (part.part == 0) ≡ false →
-    run_of (part ∷ earlier) ≡ run_with part (run_of earlier)
-unfolding run_of
+    run_of_parts (part ∷ earlier) ≡ message_parts_with part (run_of_parts earlier)
+unfolding run_of_parts
 run_later part earlier later = rw later refl
 
 -- the run stands at part x of message a
@@ -45,13 +45,13 @@ follows_is before part a x number later =
 
 -- the next part is put to the run
 pub with_next : (part : EcmPart) (run : List EcmPart) (a x : ℕ) → part.number ≡ a → part.part ≡ suc x →
-    stands_at a x run ≡ true → run_with part run ≡ part ∷ run
+    stands_at a x run ≡ true → message_parts_with part run ≡ part ∷ run
 with_next part [] a x number later h = absurd (grind (arith, h))
 with_next part (before ∷ run) a x number later h = rw (follows_is before part a x number later ∙ h) refl
 
 -- another one ends it
 pub with_other : (part : EcmPart) (run : List EcmPart) (a x : ℕ) → part.number ≡ a → part.part ≡ suc x →
-    stands_at a x run ≡ false → run_with part run ≡ []
+    stands_at a x run ≡ false → message_parts_with part run ≡ []
 with_other part [] a x number later h = refl
 with_other part (before ∷ run) a x number later h = rw (follows_is before part a x number later ∙ h) refl
 
@@ -88,24 +88,24 @@ lost_next false a part (before ∷ parts) run stands = from_next a (length parts
 
 -- a part that comes is put to a run of all parts before it
 pub whole_next : (a : ℕ) (part : EcmPart) (parts earlier : List EcmPart) → part.number ≡ a →
-    part.part ≡ length parts → Stands true a parts (run_of earlier) → run_of (part ∷ earlier) ≡ part ∷ parts
+    part.part ≡ length parts → Stands true a parts (run_of_parts earlier) → run_of_parts (part ∷ earlier) ≡ part ∷ parts
 whole_next a part [] earlier number first stands =
     run_first part earlier (grind (arith, nat_tests, first))
 whole_next a part (before ∷ parts) earlier number later stands =
     run_later part earlier (grind (arith, nat_tests, later))
-    ∙ (ap (run_with part) stands.0 ∙ with_next part (before ∷ parts) a (length parts) number later stands.1)
+    ∙ (ap (message_parts_with part) stands.0 ∙ with_next part (before ∷ parts) a (length parts) number later stands.1)
 
 -- and where one was lost there is no run after it
 pub broken_next : (a : ℕ) (part : EcmPart) (parts earlier : List EcmPart) → part.number ≡ a →
-    part.part ≡ length parts → Stands false a parts (run_of earlier) → run_of (part ∷ earlier) ≡ []
+    part.part ≡ length parts → Stands false a parts (run_of_parts earlier) → run_of_parts (part ∷ earlier) ≡ []
 broken_next a part [] earlier number first stands = absurd stands
 broken_next a part (before ∷ parts) earlier number later stands =
     run_later part earlier (grind (arith, nat_tests, later))
-    ∙ with_other part (run_of earlier) a (length parts) number later (not_at a (length parts) (run_of earlier) stands)
+    ∙ with_other part (run_of_parts earlier) a (length parts) number later (not_at a (length parts) (run_of_parts earlier) stands)
 
 -- where the run stands with a part that comes
 pub kept_next : (all : Bool) (a : ℕ) (part : EcmPart) (parts earlier : List EcmPart) → part.number ≡ a →
-    part.part ≡ length parts → Stands all a parts (run_of earlier) → Stands all a (part ∷ parts) (run_of
+    part.part ≡ length parts → Stands all a parts (run_of_parts earlier) → Stands all a (part ∷ parts) (run_of_parts
     (part ∷ earlier))
 kept_next true a part parts earlier number place stands =
     (whole_next a part parts earlier number place stands, grind (arith, nat_tests, number, place))

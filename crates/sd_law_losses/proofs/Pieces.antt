@@ -8,28 +8,28 @@ use Rattle.sd_spec.specs.Tuned.{tuning_of}
 use Rattle.sd_psi.specs.declared.our_cat.Tuning.{Tuning}
 use Rattle.sd_spec.specs.Runs.{name_or, are_two}
 use Rattle.sd_spec.specs.Offered.{Offering, no_offering, offered, out_from, break_from}
-use Rattle.sd_law_losses.specs.Pieces.{name_at, with_packet, pieces_after}
+use Rattle.sd_law_losses.specs.Pieces.{packet_run_name, with_packet, pieces_after}
 
 -- how a list is cut at its first packet
 pub pieces_stay : (h : ℕ) (tuning : Tuning) (last next : Option (Option ℕ)) (packet : List ℕ)
     (packets : List (List ℕ)) →
-    are_two last (name_at h tuning packet) ≡ false → name_or (name_at h tuning packet) last ≡ next →
+    are_two last (packet_run_name h tuning packet) ≡ false → name_or (packet_run_name h tuning packet) last ≡ next →
     pieces_after h tuning last (packet ∷ packets) ≡ with_packet packet (pieces_after h tuning next packets)
 unfolding pieces_after
 pieces_stay h tuning last next packet packets one named =
     let these : List (List (List ℕ)) =
-    with_packet packet (pieces_after h tuning (name_or (name_at h tuning packet) last) packets) in
+    with_packet packet (pieces_after h tuning (name_or (packet_run_name h tuning packet) last) packets) in
     ap (λ (two : Bool). if two then [] ∷ these else these) one
     ∙ ap (λ (name : Option (Option ℕ)). with_packet packet (pieces_after h tuning name packets)) named
 
 pub pieces_turn : (h : ℕ) (tuning : Tuning) (last next : Option (Option ℕ)) (packet : List ℕ)
     (packets : List (List ℕ)) →
-    are_two last (name_at h tuning packet) ≡ true → name_or (name_at h tuning packet) last ≡ next →
+    are_two last (packet_run_name h tuning packet) ≡ true → name_or (packet_run_name h tuning packet) last ≡ next →
     pieces_after h tuning last (packet ∷ packets) ≡ [] ∷ with_packet packet (pieces_after h tuning next packets)
 unfolding pieces_after
 pieces_turn h tuning last next packet packets two named =
     let these : List (List (List ℕ)) =
-    with_packet packet (pieces_after h tuning (name_or (name_at h tuning packet) last) packets) in
+    with_packet packet (pieces_after h tuning (name_or (packet_run_name h tuning packet) last) packets) in
     ap (λ (two : Bool). if two then [] ∷ these else these) two
     ∙ ap (λ (name : Option (Option ℕ)). [] ∷ with_packet packet (pieces_after h tuning name packets)) named
 
@@ -50,9 +50,9 @@ pub some_piece : (h : ℕ) (tuning : Tuning) (last : Option (Option ℕ)) (packe
 unfolding pieces_after
 some_piece h tuning last [] = ([], [], refl)
 some_piece h tuning last (packet ∷ packets) =
-    cut_some (are_two last (name_at h tuning packet))
-    (with_packet packet (pieces_after h tuning (name_or (name_at h tuning packet) last) packets))
-    (with_some packet (pieces_after h tuning (name_or (name_at h tuning packet) last) packets))
+    cut_some (are_two last (packet_run_name h tuning packet))
+    (with_packet packet (pieces_after h tuning (name_or (packet_run_name h tuning packet) last) packets))
+    (with_some packet (pieces_after h tuning (name_or (packet_run_name h tuning packet) last) packets))
 
 -- nothing comes of the CAT
 pub cat_nothing : (card : CardFields) (cat : List ℕ) → offered card [] cat ≡ no_offering

@@ -8,7 +8,7 @@ use Rattle.sd_site_cards.specs.SiteFields.{run_name_of as site_name}
 use Rattle.sd_site_cards.specs.CardFields.{CardFields}
 use Rattle.sd_spec.specs.Plan.{Plan, IsPlan, crypto_length}
 use Rattle.sd_spec.specs.Sent.{Item, Cat, Entitles, Controls, Carries, tables_at, sent, sent_from, closing_of}
-use Rattle.sd_spec.specs.Sent.{packet_of, packets_from, broadcast, added, message_before}
+use Rattle.sd_spec.specs.Sent.{item_packet, packets_from, broadcast, added, message_before}
 use Rattle.sd_spec.specs.Carried.{carried}
 use Rattle.sd_spec.specs.Items.{IsOfBroadcast}
 use Rattle.sd_spec.specs.Refused.{IsSendable}
@@ -65,7 +65,7 @@ pub record IsGood (card : CardFields) (tuning : Tuning) (u : ℕ) (run : Arrival
 
 module _ (s : Setting) (able : AreHearable s) where
   item_sent : (earlier : List Item) (item : Item) → IsOfBroadcast s.plan s.clear item →
-      IsSentAs s.card (tuning_at s) (site_name s.plan.site) item (packet_of s.plan.site earlier item)
+      IsSentAs s.card (tuning_at s) (site_name s.plan.site) item (item_packet s.plan.site earlier item)
   item_sent earlier Cat of' = (able.tuning earlier, ap is_quiet (able.heard_is 0 earlier Cat of'))
   item_sent earlier (Entitles emm) of' = (
     able.untuned earlier (Entitles emm) of' refl,
@@ -106,7 +106,7 @@ good_of run u plan all whole leaf =
     (subst (All (IsOfBroadcast run.plan run.clear)) begins.1 of_all) in
     let things : List Item = sent run.plan run.clear ++ closing_of run.plan run.clear in
     let as_sent = items_sent s able things [] of_all in (
-      packet_of run.plan.site [] Cat,
+      item_packet run.plan.site [] Cat,
       packets_from run.plan.site (Cat ∷ []) begins.0,
       record {
         sent_is = ap (packets_from run.plan.site []) begins.1;

@@ -16,10 +16,10 @@ use Rattle.sd_message.specs.declared.emm.Emm.{Emm}
 use Rattle.sd_spec.specs.Messages.{period_at}
 use Rattle.sd_spec.specs.Sent.{Item, Entitles}
 use Rattle.sd_spec.specs.Heard.{Heard, Entitles as HeardEntitles}
-use Rattle.sd_spec.specs.Stretches.{messages, newest, counted, current, seen, is_closed, others}
+use Rattle.sd_spec.specs.Stretches.{messages, newest_message, counted_parts, current, sections_seen, is_closed, others}
 use Rattle.sd_spec.specs.Keys.{key_at, key_in, key_from, first_key}
 use Rattle.sd_spec.specs.Offered.{emm_offering, key_if_none, is_mixed, says_same, no_offering, Offering}
-use Rattle.sd_spec.specs.Offered.{refuses}
+use Rattle.sd_spec.specs.Offered.{refused_offering}
 use Rattle.sd_message.specs.declared.emm_fault.EmmFault.TheVariants as Emms
 use Rattle.sd_message.specs.declared.stream_fault.StreamFault.TheVariants as Fault
 use Rattle.sd_law_losses.specs.Kept.{entitles, is_section_item}
@@ -56,7 +56,7 @@ key_more : (s : Setting) (q : ℕ) (emm : Emm) (past : List Heard) (kept : List 
     key_at s.card past q ≡ key_where s q (is_told s q kept) → (at : ℕ) → key_at s.card past at ≡ key_where s at
     (is_told s at kept) →
     key_at s.card (HeardEntitles emm ∷ past) at ≡ key_where s at (is_told s at (kept ++ Entitles emm ∷ []))
-unfolding seen key_in
+unfolding sections_seen key_in
 key_more s q emm past kept due now key at other = by_test (cases_Bool (emm.period == at)) ∙ ap (key_where s at) (sym
     (told_more s at kept emm))
   where
@@ -79,10 +79,10 @@ key_more s q emm past kept due now key at other = by_test (cases_Bool (emm.perio
 
 -- the indexes that are seen with one more
 index_more : (q : ℕ) (emm : Emm) (past : List Heard) (kept : List Item) → emm.period ≡ q → current past ≤ q →
-    (at x : ℕ) → list_any (λ e. e.index == x) (seen at past) ≡ list_any (is_section_item at x) kept →
-    list_any (λ e. e.index == x) (seen at (HeardEntitles emm ∷ past)) ≡ list_any (is_section_item at x)
+    (at x : ℕ) → list_any (λ e. e.index == x) (sections_seen at past) ≡ list_any (is_section_item at x) kept →
+    list_any (λ e. e.index == x) (sections_seen at (HeardEntitles emm ∷ past)) ≡ list_any (is_section_item at x)
     (kept ++ Entitles emm ∷ [])
-unfolding seen
+unfolding sections_seen
 index_more q emm past kept period now at x other =
     by_test (cases_Bool (emm.period == at)) ∙ sym (list_any-append (is_section_item at x) kept (Entitles emm ∷ []))
   where
@@ -97,49 +97,49 @@ index_more q emm past kept period now at x other =
     none a false same = same
 
     by_test : ((emm.period == at) ≡ true) ⊎ ((emm.period == at) ≡ false) →
-        list_any (λ e. e.index == x) (seen at (HeardEntitles emm ∷ past))
+        list_any (λ e. e.index == x) (sections_seen at (HeardEntitles emm ∷ past))
         ≡ (list_any (is_section_item at x) kept || (((emm.period == at) && (emm.index == x)) || false))
     by_test (inl is) =
         let within : nat_le (current past) at ≡ true = grind (arith, nat_tests, is, period, now) in
-        rw is (rw within (turned (list_any (λ e. e.index == x) (seen at past)) (emm.index == x) (list_any
+        rw is (rw within (turned (list_any (λ e. e.index == x) (sections_seen at past)) (emm.index == x) (list_any
         (is_section_item at x) kept) other))
-    by_test (inr is) = rw is (none (list_any (λ e. e.index == x) (seen at past)) (list_any
+    by_test (inr is) = rw is (none (list_any (λ e. e.index == x) (sections_seen at past)) (list_any
         (is_section_item at x) kept) other)
 
 -- the sections seen with one more
 seen_more : (s : Setting) (q : ℕ) (emm : Emm) (past : List Heard) → emm.period ≡ q →
     Contains (emms_of (period_at s.plan q)) emm → (at : ℕ) → All (Contains (emms_of (period_at s.plan at)))
-    (seen at past) →
-    All (Contains (emms_of (period_at s.plan at))) (seen at (HeardEntitles emm ∷ past))
-unfolding seen
+    (sections_seen at past) →
+    All (Contains (emms_of (period_at s.plan at))) (sections_seen at (HeardEntitles emm ∷ past))
+unfolding sections_seen
 seen_more s q emm past period inside at all = by_test (cases_Bool (emm.period == at))
   where
     by_bound : (b : Bool) → emm.period ≡ at →
-        All (Contains (emms_of (period_at s.plan at))) (if b then emm ∷ seen at past else seen at past)
-    by_bound true same = All-cons (Contains (emms_of (period_at s.plan at))) emm (seen at past)
+        All (Contains (emms_of (period_at s.plan at))) (if b then emm ∷ sections_seen at past else sections_seen at past)
+    by_bound true same = All-cons (Contains (emms_of (period_at s.plan at))) emm (sections_seen at past)
         (subst (λ (p : ℕ). Contains (emms_of (period_at s.plan p)) emm) (sym period ∙ same) inside) all
     by_bound false same = all
 
     by_test : ((emm.period == at) ≡ true) ⊎ ((emm.period == at) ≡ false) →
-        All (Contains (emms_of (period_at s.plan at))) (seen at (HeardEntitles emm ∷ past))
+        All (Contains (emms_of (period_at s.plan at))) (sections_seen at (HeardEntitles emm ∷ past))
     by_test (inl is) = rw is (by_bound (nat_le (current past) at) (grind (arith, nat_tests, is)))
     by_test (inr is) = rw is all
 
 -- a section of the current period is none that is refused
 good_section : (s : Setting) (laws : AreLaws s) (q n : ℕ) (emm : Emm) (past : List Heard) (told : Bool) →
-    Contains (emms_of (period_at s.plan q)) emm → All (Contains (emms_of (period_at s.plan q))) (seen q past) →
+    Contains (emms_of (period_at s.plan q)) emm → All (Contains (emms_of (period_at s.plan q))) (sections_seen q past) →
     key_at s.card past q ≡ key_where s q told → current past ≤ q → emm_offering s.card n past emm ≡ no_offering
 unfolding emm_offering
 good_section s laws q n emm past told inside all key now =
     subst (λ (p : ℕ). (if nat_lt p (current past) then no_offering
-    else if is_mixed (seen p past) emm then refusal else key_if_none n emm (key_at s.card past p)
+    else if is_mixed (sections_seen p past) emm then refusal else key_if_none n emm (key_at s.card past p)
     (key_from s.card emm)) ≡ no_offering)
     (sym due.period)
     (rw passed_by (rw alike (ap (λ (k : Option (List ℕ)). key_if_none n emm k (key_from s.card emm)) key
     ∙ (ap (key_if_none n emm (key_where s q told)) due.key ∙ by_keys told (has_leaf s emm)))))
   where
     refusal : Offering
-    refusal = refuses (Fault.BadEmm n Emms.Mixed)
+    refusal = refused_offering (Fault.BadEmm n Emms.Mixed)
 
     due : IsDue s q emm
     due = laws.due q emm inside
@@ -147,10 +147,10 @@ good_section s laws q n emm past told inside all key now =
     passed_by : nat_lt q (current past) ≡ false
     passed_by = grind (arith, nat_tests, now)
 
-    alike : is_mixed (seen q past) emm ≡ false
-    alike = list_any_none (λ other. not (says_same other emm)) (seen q past)
+    alike : is_mixed (sections_seen q past) emm ≡ false
+    alike = list_any_none (λ other. not (says_same other emm)) (sections_seen q past)
         (All-weaker (Contains (emms_of (period_at s.plan q))) (λ other. not (says_same other emm) ≡ false)
-        (λ other there. ap not (laws.same q other emm there inside)) (seen q past) all)
+        (λ other there. ap not (laws.same q other emm there inside)) (sections_seen q past) all)
 
     by_keys : (a b : Bool) → key_if_none n emm (key_where s q a) (key_where s q b) ≡ no_offering
     by_keys true b = refl
@@ -199,7 +199,7 @@ pub section_heard : (s : Setting) (laws : AreLaws s) (k p n : ℕ) (last : Optio
     (past : List Heard)
     (emm : Emm) → Contains (emms_of (period_at s.plan p)) emm → AreHeard s k p n last kept past →
     AreHeard s k p n last (kept ++ Entitles emm ∷ []) (HeardEntitles emm ∷ past)
-unfolding is_closed current newest counted others messages
+unfolding is_closed current newest_message counted_parts others messages
 section_heard s laws k p n last kept past emm inside are = record {
   open_yet = rw (are.open_yet) refl;
   now = omega (arith, are.now, (laws.due p emm inside).period);

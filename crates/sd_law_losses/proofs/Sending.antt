@@ -10,7 +10,7 @@ use Rattle.sd_psi.specs.declared.our_cat.Tuning.{Tuning}
 use Rattle.sd_spec.specs.Heard.{hears}
 use Rattle.sd_law_losses.specs.Chosen.{chosen}
 use Rattle.sd_law_losses.specs.Kept.{after_cat}
-use Rattle.sd_law_losses.specs.Pieces.{name_at}
+use Rattle.sd_law_losses.specs.Pieces.{packet_run_name}
 use Rattle.sd_law_losses.specs.Ends.{is_message}
 use Rattle.sd_law_losses.proofs.Leading.{is_quiet}
 use Rattle.sd_law_losses.proofs.Following.{IsPacketOf}
@@ -23,7 +23,7 @@ IsCatOf card tuning packet =
 -- a message of the run with this name
 abbrev pub IsMessageOf : CardFields → Tuning → Option ℕ → List ℕ → Type 0
 IsMessageOf card tuning name packet =
-    (cat_tuning card.ca packet ≡ None) × (name_at card.height tuning packet ≡ Some name)
+    (cat_tuning card.ca packet ≡ None) × (packet_run_name card.height tuning packet ≡ Some name)
 
 -- or neither
 abbrev pub IsOther : CardFields → Tuning → List ℕ → Type 0

@@ -9,12 +9,12 @@ use Rattle.sd_spec.specs.declared.ending.Ending.TheVariants.{Opened, NoCat}
 use Rattle.sd_spec.specs.Tuned.{tuned_by, tuning_of}
 use Rattle.sd_psi.specs.OurCat.{cat_tuning}
 use Rattle.sd_psi.specs.declared.our_cat.Tuning.{Tuning}
-use Rattle.sd_spec.specs.Runs.{name_in}
+use Rattle.sd_spec.specs.Runs.{run_name_in}
 use Rattle.sd_spec.specs.Offered.{heard, heard_with, Offering, no_offering, offered, tuned_offering, out_from}
 use Rattle.sd_spec.specs.Offered.{break_from}
 use Rattle.sd_spec.specs.Ending.{turns_at, run_wrote, ended_before, ending_of}
 use Rattle.sd_law_losses.specs.Pieces.{Tuned, tuned_or, first_cat, pieces_after, pieces_of}
-use Rattle.sd_law_losses.specs.Together.{out_with, break_with, joined_to, piece_ending, out_of, run_break_of}
+use Rattle.sd_law_losses.specs.Together.{out_with, break_with, joined_to, piece_ending, written_out, run_break_of}
 use Rattle.sd_law_losses.specs.Together.{run_end_of}
 use Rattle.sd_law_losses.proofs.NextLater.{things_later}
 use Rattle.sd_law_losses.proofs.Agreeing.{Agrees, cat_tuned, cat_unheard}
@@ -83,9 +83,9 @@ cat_agrees card tuning n past cat none count is = record {
   heard_is = heard_none card past cat none ∙ ap (things_later n) (sym (cat_unheard card cat));
 }
 
-pub no_name : (card : CardFields) (cat : List ℕ) → name_in (heard card (cat ∷ [])) ≡ None
-unfolding name_in
-no_name card cat = ap name_in (cat_unheard card cat)
+pub no_name : (card : CardFields) (cat : List ℕ) → run_name_in (heard card (cat ∷ [])) ≡ None
+unfolding run_name_in
+no_name card cat = ap run_name_in (cat_unheard card cat)
 
 -- what is written
 out_next : (card : CardFields) (past packets : List (List ℕ)) (packet : List ℕ) → IsUntuned card past →
@@ -115,7 +115,7 @@ out_upto card (packet ∷ packets) past n none count =
     by_cat (Some tuning) is rest =
         out_goes card tuning packet packets n (packet ∷ past) (packet ∷ []) is (omega arith)
         (cat_agrees card tuning n past packet none count is)
-        ∙ (sym (out_begun card packet (pieces_after card.height tuning (name_in (heard card (packet ∷ []))) packets))
+        ∙ (sym (out_begun card packet (pieces_after card.height tuning (run_name_in (heard card (packet ∷ []))) packets))
         ∙ ap (λ (name : Option (Option ℕ)). out_with card packet (pieces_after card.height tuning name packets))
         (no_name card packet))
 
@@ -150,7 +150,7 @@ break_upto card (packet ∷ packets) past n none count =
         break_goes card tuning packet packets n (packet ∷ past) (packet ∷ []) is (omega arith)
         (cat_agrees card tuning n past packet none count is)
         ∙ (sym (break_begun card packet n
-        (pieces_after card.height tuning (name_in (heard card (packet ∷ []))) packets))
+        (pieces_after card.height tuning (run_name_in (heard card (packet ∷ []))) packets))
         ∙ ap (λ (name : Option (Option ℕ)). break_with card packet n (pieces_after card.height tuning name packets))
         (no_name card packet))
 
@@ -185,10 +185,10 @@ end_upto card (packet ∷ packets) past n none count =
           wrote = wrote_none card past packet none ∙ sym (cat_alike card packet).1;
         })
         ∙ (ap (λ (e : Ending). ending_going card packet e (packet ∷ [])
-        (pieces_after card.height tuning (name_in (heard card (packet ∷ []))) packets))
+        (pieces_after card.height tuning (run_name_in (heard card (packet ∷ []))) packets))
         (ended_none card past packet none)
         ∙ (sym (ending_begun card packet Opened
-        (pieces_after card.height tuning (name_in (heard card (packet ∷ []))) packets))
+        (pieces_after card.height tuning (run_name_in (heard card (packet ∷ []))) packets))
         ∙ ap (λ (name : Option (Option ℕ)).
         joined_to Opened (map (piece_ending card packet) (pieces_after card.height tuning name packets)))
         (no_name card packet)))
@@ -197,8 +197,8 @@ pub nothing_came : (card : CardFields) → IsUntuned card []
 unfolding tuning_of heard ended_before run_wrote
 nothing_came card = record { tuned = refl; heard_is = refl; ended = refl; wrote = refl }
 
-pub out_is : (card : CardFields) (packets : List (List ℕ)) → out_from card [] packets ≡ out_of card packets
-unfolding out_of
+pub out_is : (card : CardFields) (packets : List (List ℕ)) → out_from card [] packets ≡ written_out card packets
+unfolding written_out
 out_is card packets = out_upto card packets [] 0 (nothing_came card) refl
 
 pub break_is : (card : CardFields) (packets : List (List ℕ)) → break_from card [] packets ≡ run_break_of card packets

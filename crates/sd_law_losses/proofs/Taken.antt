@@ -9,7 +9,7 @@ use Rattle.sd_spec.specs.Runs.{are_two, is_turn, of_run}
 use Rattle.sd_spec.specs.Offered.{heard}
 use Rattle.sd_spec.specs.Taken.{takes_key_at}
 use Rattle.sd_spec.proofs.Runs.{same_run}
-use Rattle.sd_law_losses.specs.Pieces.{name_at}
+use Rattle.sd_law_losses.specs.Pieces.{packet_run_name}
 use Rattle.sd_law_losses.proofs.NextLater.{things_later, names_later}
 use Rattle.sd_law_losses.proofs.Leading.{is_quiet, AreQuiet}
 use Rattle.sd_law_losses.proofs.NextTaking.{takes_open, taken_later, taken_led, none_taken, taken_by}
@@ -48,7 +48,7 @@ led_takes card tuning past packet things lead tuned is quiet stays =
 -- behind the first message a packet takes a key in both places or in none
 pub follows_taken : (card : CardFields) (tuning : Tuning) (k : ℕ) (name : Option ℕ) (past alone : List (List ℕ))
     (packet : List ℕ) (things old own : List Heard) →
-    are_two (Some name) (name_at card.height tuning packet) ≡ false →
+    are_two (Some name) (packet_run_name card.height tuning packet) ≡ false →
     Follows card tuning k name past alone things old own →
     takes_key_at card past packet ≡ takes_key_at card alone packet
 follows_taken card tuning k name past alone packet things old own one f =
@@ -73,7 +73,7 @@ first_takes card tuning past packet old tuned begins =
 -- so it does in both places or in none
 pub begun_taken : (card : CardFields) (tuning : Tuning) (k : ℕ) (name : Option ℕ) (Fresh : Option ℕ → Type 0)
     (past alone : List (List ℕ)) (packet : List ℕ) → ((a : Option ℕ) → Fresh a → a ≢ name) →
-    name_at card.height tuning packet ≡ Some name → Waits card tuning k Fresh past alone →
+    packet_run_name card.height tuning packet ≡ Some name → Waits card tuning k Fresh past alone →
     takes_key_at card past packet ≡ takes_key_at card alone packet
 begun_taken card tuning k name Fresh past alone packet apart is waits =
     let start = begun card tuning name Fresh past packet apart is waits.last in

@@ -4,7 +4,7 @@ use Rattle.std.proofs.Common.{◌≡◌, refl, ℕ, ◌<◌, ◌^◌, ◌&&◌, 
 use Rattle.std.proofs.Common.{arith}
 use Rattle.std.proofs.Common.{sym, ap, ◌∙◌}
 use Rattle.std.specs.List.{range_with_len}
-use Rattle.sd_site_cards.specs.CardFields.{card_of}
+use Rattle.sd_site_cards.specs.CardFields.{card_of, site_card}
 use Rattle.sd_spec.specs.Plan.{Plan, IsPlan}
 use Rattle.sd_spec.specs.Refused.{IsSendable}
 use Rattle.sd_spec.specs.Sent.{Item, sent, closing_of, broadcast}
@@ -38,21 +38,21 @@ alone plan clear u flags is all whole leaf =
 
 pub confirmed_alone : (plan : Plan) (clear : List (List ℕ)) (u : ℕ) (flags : List Bool) → IsPlan plan →
     IsSendable plan.site clear → AreWholePackets clear → u < 2 ^ plan.site.height →
-    out_from (card_of plan.site.master plan.site.ca plan.site.height u) [] (chosen flags (broadcast plan clear))
+    out_from (site_card plan.site u) [] (chosen flags (broadcast plan clear))
     ≡ confirmed plan u clear (chosen flags (sent plan clear ++ closing_of plan clear))
 unfolding card_of
 confirmed_alone plan clear u flags is all whole leaf = (alone plan clear u flags is all whole leaf).out
 
 pub none_refused : (plan : Plan) (clear : List (List ℕ)) (u : ℕ) (flags : List Bool) → IsPlan plan →
     IsSendable plan.site clear → AreWholePackets clear → u < 2 ^ plan.site.height →
-    break_from (card_of plan.site.master plan.site.ca plan.site.height u) [] (chosen flags
+    break_from (site_card plan.site u) [] (chosen flags
     (broadcast plan clear)) ≡ None
 none_refused plan clear u flags is all whole leaf = (alone plan clear u flags is all whole leaf).none
 
 -- and how it ends
 pub ends_as_told : (plan : Plan) (clear : List (List ℕ)) (u : ℕ) (flags : List Bool) → IsPlan plan →
     IsSendable plan.site clear → AreWholePackets clear → u < 2 ^ plan.site.height →
-    ending_of (card_of plan.site.master plan.site.ca plan.site.height u) (reverse (chosen flags (broadcast plan clear)))
+    ending_of (site_card plan.site u) (reverse (chosen flags (broadcast plan clear)))
     ≡ ending_told plan u clear (chosen flags (sent plan clear ++ closing_of plan clear))
 unfolding card_of
 ends_as_told plan clear u flags is all whole leaf =
@@ -75,10 +75,10 @@ long_broadcast plan clear = packets_many plan.site [] (sent plan clear ++ closin
 -- of a whole broadcast all that the leaf is entitled to is written
 pub whole_opened : (plan : Plan) (clear : List (List ℕ)) (u : ℕ) → IsPlan plan → IsSendable plan.site clear →
     AreWholePackets clear → u < 2 ^ plan.site.height →
-    out_from (card_of plan.site.master plan.site.ca plan.site.height u) []
+    out_from (site_card plan.site u) []
     (broadcast plan clear) ≡ opened_by plan u clear
 whole_opened plan clear u is all whole leaf =
-    ap (out_from (card_of plan.site.master plan.site.ca plan.site.height u) []) (sym (all_chosen
+    ap (out_from (site_card plan.site u) []) (sym (all_chosen
     (broadcast plan clear) n refl))
     ∙ (confirmed_alone plan clear u (all_flags n) is all whole leaf
     ∙ (ap (confirmed plan u clear) (all_chosen (sent plan clear ++ closing_of plan clear) n (sym
@@ -91,19 +91,19 @@ whole_opened plan clear u is all whole leaf =
 -- and nothing of it is refused
 pub whole_refused : (plan : Plan) (clear : List (List ℕ)) (u : ℕ) → IsPlan plan → IsSendable plan.site clear →
     AreWholePackets clear → u < 2 ^ plan.site.height →
-    break_from (card_of plan.site.master plan.site.ca plan.site.height u) [] (broadcast plan clear) ≡ None
+    break_from (site_card plan.site u) [] (broadcast plan clear) ≡ None
 whole_refused plan clear u is all whole leaf =
-    ap (break_from (card_of plan.site.master plan.site.ca plan.site.height u) [])
+    ap (break_from (site_card plan.site u) [])
     (sym (all_chosen (broadcast plan clear) (length (broadcast plan clear)) refl))
     ∙ none_refused plan clear u (all_flags (length (broadcast plan clear))) is all whole leaf
 
 -- and how it ends
 pub whole_ended : (plan : Plan) (clear : List (List ℕ)) (u : ℕ) → IsPlan plan → IsSendable plan.site clear →
     AreWholePackets clear → u < 2 ^ plan.site.height →
-    ending_of (card_of plan.site.master plan.site.ca plan.site.height u) (reverse (broadcast plan clear))
+    ending_of (site_card plan.site u) (reverse (broadcast plan clear))
     ≡ whole_ending (first_revoked plan u clear)
 whole_ended plan clear u is all whole leaf =
-    ap (λ (packets : List (List ℕ)). ending_of (card_of plan.site.master plan.site.ca plan.site.height u)
+    ap (λ (packets : List (List ℕ)). ending_of (site_card plan.site u)
     (reverse packets))
     (sym (all_chosen (broadcast plan clear) n refl))
     ∙ (ends_as_told plan clear u (all_flags n) is all whole leaf
@@ -117,7 +117,7 @@ whole_ended plan clear u is all whole leaf =
 -- how many keys are taken
 pub keys_taken : (plan : Plan) (clear : List (List ℕ)) (u : ℕ) (flags : List Bool) → IsPlan plan →
     IsSendable plan.site clear → AreWholePackets clear → u < 2 ^ plan.site.height →
-    taken_keys (card_of plan.site.master plan.site.ca plan.site.height u) [] (chosen flags (broadcast plan clear))
+    taken_keys (site_card plan.site u) [] (chosen flags (broadcast plan clear))
     ≡ how_many (λ q. list_any (entitles plan.site.height u q) (after_cat (chosen flags
     (sent plan clear ++ closing_of plan clear))))
     (period_of plan (length clear - 1) + 1)
@@ -128,10 +128,10 @@ keys_taken plan clear u flags is all whole leaf =
 
 pub whole_keys_taken : (plan : Plan) (clear : List (List ℕ)) (u : ℕ) → IsPlan plan → IsSendable plan.site clear →
     AreWholePackets clear → u < 2 ^ plan.site.height →
-    taken_keys (card_of plan.site.master plan.site.ca plan.site.height u) [] (broadcast plan clear)
+    taken_keys (site_card plan.site u) [] (broadcast plan clear)
     ≡ how_many (λ q. is_on_air plan q && not (is_revoked_in plan u q)) (period_of plan (length clear - 1) + 1)
 whole_keys_taken plan clear u is all whole leaf =
-    ap (taken_keys (card_of plan.site.master plan.site.ca plan.site.height u) []) (sym (all_chosen
+    ap (taken_keys (site_card plan.site u) []) (sym (all_chosen
     (broadcast plan clear) n refl))
     ∙ (keys_taken plan clear u (all_flags n) is all whole leaf
     ∙ (ap (λ (items : List Item). how_many (λ q. list_any (entitles plan.site.height u q) (after_cat items))

@@ -9,7 +9,7 @@ use Rattle.sd_message.specs.EcmParts.{Message}
 use Rattle.sd_spec.specs.declared.ending.Ending.{Ending}
 use Rattle.sd_spec.specs.declared.ending.Ending.TheVariants.{Unclosed}
 use Rattle.sd_spec.specs.Heard.{Heard, Dropped, Entitles, Controls, BadEmm, BadEcm, Other}
-use Rattle.sd_spec.specs.Stretches.{Stretch, newest, is_closed, messages, seen}
+use Rattle.sd_spec.specs.Stretches.{Stretch, newest_message, is_closed, messages, sections_seen}
 use Rattle.sd_spec.specs.Offered.{heard_more}
 use Rattle.sd_spec.specs.Ending.{periods_told, closed_ending, run_ending}
 use Rattle.sd_law_losses.proofs.Leading.{is_quiet, AreQuiet, closed_quiet, newest_quiet}
@@ -19,12 +19,12 @@ use Rattle.sd_law_losses.proofs.Following.{more_is, quiet_stays}
 abbrev pub ending_if : CardFields → List Heard → ℕ → Bool → Ending
 ending_if card past wrote closed =
     if closed then closed_ending card past wrote
-    else Unclosed (option_map_or (λ (m : Message). m.number + 1) (newest past).message 0)
+    else Unclosed (option_map_or (λ (m : Message). m.number + 1) (newest_message past).message 0)
 
 -- a run with a thing behind it that is no message ends as it does without
 ending_trails : (card : CardFields) (past : List Heard) (thing : Heard) (wrote : ℕ) → is_quiet thing ≡ true →
     run_ending card (thing ∷ past) wrote ≡ run_ending card past wrote
-unfolding run_ending is_closed periods_told messages newest seen
+unfolding run_ending is_closed periods_told messages newest_message sections_seen
 ending_trails card past Dropped wrote quiet = ap (ending_if card past wrote) (chosen_itself (is_closed past))
 ending_trails card past (Entitles emm) wrote quiet = absurd (false≢true quiet)
 ending_trails card past (Controls part) wrote quiet = absurd (false≢true quiet)

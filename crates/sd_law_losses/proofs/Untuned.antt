@@ -17,12 +17,12 @@ use Rattle.sd_message.specs.EcmParts.{parts_of}
 use Rattle.sd_message.specs.declared.ecm_part.EcmPart.{EcmPart}
 use Rattle.sd_spec.specs.Plan.{crypto_length, period_of}
 use Rattle.sd_spec.specs.Messages.{period_at}
-use Rattle.sd_spec.specs.Sent.{Item, Cat, Entitles, Controls, Carries, tables_at, packet_of, packets_from}
+use Rattle.sd_spec.specs.Sent.{Item, Cat, Entitles, Controls, Carries, tables_at, item_packet, packets_from}
 use Rattle.sd_spec.specs.Items.{IsOfBroadcast}
 use Rattle.sd_spec.specs.Tuned.{tuning_of, tuned_by}
 use Rattle.sd_psi.specs.OurCat.{cat_tuning}
 use Rattle.sd_psi.specs.declared.our_cat.Tuning.{Tuning}
-use Rattle.sd_spec.specs.Stretches.{messages, newest, counted, current, seen, is_closed, others}
+use Rattle.sd_spec.specs.Stretches.{messages, newest_message, counted_parts, current, sections_seen, is_closed, others}
 use Rattle.sd_spec.specs.Keys.{key_in}
 use Rattle.sd_spec.specs.Offered.{Offering, heard, heard_with, offered, tuned_offering, out_from, break_from}
 use Rattle.sd_spec.specs.Offered.{no_offering}
@@ -118,7 +118,7 @@ packets_skipped s able (item ∷ items) earlier (false ∷ fs) past more all non
     packets_skipped s able items (earlier ++ item ∷ []) fs past more (All-tail
     (IsOfBroadcast s.plan s.clear) item items all) none no_cat
 packets_skipped s able (item ∷ items) earlier (true ∷ fs) past more all none no_cat =
-    let packet = packet_of s.plan.site earlier item in
+    let packet = item_packet s.plan.site earlier item in
     let parts = or_parts (is_cat_item item) (list_any is_cat_item (chosen fs items)) no_cat in
     skip_first s past (chosen fs (packets_from s.plan.site (earlier ++ item ∷ []) items)) more packet
     (offered_none s.card past packet none)
@@ -203,7 +203,7 @@ none_arrived_yet n = none_of (range_with_len 0 n)
     none_of (n ∷ ns) = none_of ns
 
 pub heard_start : (s : Setting) (k p n : ℕ) → AreHeard s k p n None [] []
-unfolding is_closed current seen key_in newest counted others messages
+unfolding is_closed current sections_seen key_in newest_message counted_parts others messages
 heard_start s k p n = record {
   open_yet = refl;
   now = omega arith;

@@ -3,7 +3,6 @@ use Rattle.std.proofs.Common.{◌≡◌, refl, ℕ, ◌+◌, ◌^◌, ◌<◌, �
 use Rattle.std.proofs.Common.{None, sym, ap, ◌∙◌, arith, subst}
 use Rattle.std.specs.Prelude.{All}
 use Rattle.std.proofs.lemmas.List.Elements.{All-nil, All-cons, All-head, All-tail}
-use Rattle.sd_site_cards.specs.CardFields.{card_of}
 use Rattle.sd_spec.specs.Sent.{Item, Cat, sent, closing_of, broadcast}
 use Rattle.sd_spec.proofs.Bodies.{packets_many}
 use Rattle.sd_spec.specs.Offered.{out_from, break_from}
@@ -14,6 +13,7 @@ use Rattle.sd_law_losses.proofs.Opened.{confirmed_are_opened}
 use Rattle.sd_law_losses.proofs.AllOpened.{all_are_opened}
 use Rattle.sd_law_losses.proofs.WholeEnding.{keys_whole}
 use Rattle.sd_law_losses.specs.Channel.{Arrival, Channel, HaveTwoNames, AreRunsOf, arriving, all_sent}
+use Rattle.sd_law_losses.specs.Channel.{channel_card}
 use Rattle.sd_law_losses.specs.Many.{kept_of_arrival, has_cat, confirmed_from, opened_of_all}
 use Rattle.sd_law_losses.specs.Keys.{kept_periods, keys_from, entitled_periods, keys_of_all}
 use Rattle.sd_law_losses.proofs.Runs.{begins_by}
@@ -158,17 +158,17 @@ whole_confirmed channel (run ∷ runs) u tuned (is, others, rest) leaf =
     (whole_confirmed channel runs u (tuned || has_cat (whole run)) rest leaf))
 
 pub whole_out : (channel : Channel) (runs : List Arrival) (u : ℕ) → AreRunsOf channel runs → u < 2 ^ channel.height →
-    out_from (card_of channel.master channel.ca channel.height u) [] (all_sent runs) ≡ opened_of_all u runs
+    out_from (channel_card channel u) [] (all_sent runs) ≡ opened_of_all u runs
 whole_out channel runs u are leaf =
-    ap (out_from (card_of channel.master channel.ca channel.height u) []) (sym (whole_stream runs))
+    ap (out_from (channel_card channel u) []) (sym (whole_stream runs))
     ∙ (runs_out channel (wholes runs) u (are_whole channel runs are) leaf
     ∙ whole_confirmed channel runs u false are leaf)
 
 pub whole_break : (channel : Channel) (runs : List Arrival) (u : ℕ) → AreRunsOf channel runs →
     u < 2 ^ channel.height →
-    break_from (card_of channel.master channel.ca channel.height u) [] (all_sent runs) ≡ None
+    break_from (channel_card channel u) [] (all_sent runs) ≡ None
 whole_break channel runs u are leaf =
-    ap (break_from (card_of channel.master channel.ca channel.height u) []) (sym (whole_stream runs))
+    ap (break_from (channel_card channel u) []) (sym (whole_stream runs))
     ∙ runs_break channel (wholes runs) u (are_whole channel runs are) leaf
 
 -- of a whole broadcast the kept periods are those in which the leaf isn't revoked
@@ -187,8 +187,8 @@ whole_keys channel (run ∷ runs) u tuned (is, others, rest) leaf =
 -- so many keys are taken of whole broadcasts
 pub whole_taken : (channel : Channel) (runs : List Arrival) (u : ℕ) → AreRunsOf channel runs →
     u < 2 ^ channel.height →
-    taken_keys (card_of channel.master channel.ca channel.height u) [] (all_sent runs) ≡ keys_of_all u runs
+    taken_keys (channel_card channel u) [] (all_sent runs) ≡ keys_of_all u runs
 whole_taken channel runs u are leaf =
-    ap (taken_keys (card_of channel.master channel.ca channel.height u) []) (sym (whole_stream runs))
+    ap (taken_keys (channel_card channel u) []) (sym (whole_stream runs))
     ∙ (runs_taken channel (wholes runs) u (are_whole channel runs are) leaf
     ∙ whole_keys channel runs u false are leaf)

@@ -5,7 +5,6 @@ use Rattle.std.specs.Prelude.{if◌then◌else◌}
 use Rattle.std.specs.List.{list_any}
 use Rattle.std.proofs.lemmas.Bool.{false≢true}
 use Rattle.sd_base.proofs.Bools.{tested}
-use Rattle.sd_site_cards.specs.CardFields.{card_of}
 use Rattle.sd_spec.specs.Plan.{Plan, closing_number}
 use Rattle.sd_spec.specs.Sent.{Item, Cat, Entitles, Controls, Carries, is_cat_item}
 use Rattle.sd_spec.specs.declared.ending.Ending.{Ending}
@@ -18,7 +17,7 @@ use Rattle.sd_law_losses.specs.Endings.{closed_told, next_number, ending_told, f
 use Rattle.sd_law_losses.proofs.Tests.{none_weaker}
 use Rattle.sd_law_losses.proofs.WholeEnding.{whole_ends}
 use Rattle.sd_law_losses.specs.Together.{joined_to}
-use Rattle.sd_law_losses.specs.Channel.{Arrival, Channel, AreRunsOf, IsRunOf, all_sent}
+use Rattle.sd_law_losses.specs.Channel.{Arrival, Channel, AreRunsOf, IsRunOf, all_sent, channel_card}
 use Rattle.sd_law_losses.specs.Many.{kept_of_arrival, has_cat}
 use Rattle.sd_law_losses.specs.Ends.{is_message, is_told, endings_from, all_joined, whole_ending_of}
 use Rattle.sd_law_losses.proofs.Runs.{begins_by}
@@ -104,11 +103,11 @@ whole_endings channel (run ∷ runs) u tuned (is, others, rest) leaf =
 
 pub whole_end : (channel : Channel) (run : Arrival) (runs : List Arrival) (u : ℕ) → AreRunsOf channel (run ∷ runs) →
     u < 2 ^ channel.height →
-    ending_of (card_of channel.master channel.ca channel.height u) (reverse (all_sent (run ∷ runs)))
+    ending_of (channel_card channel u) (reverse (all_sent (run ∷ runs)))
     ≡ joined_to Opened (map (whole_ending_of u) (run ∷ runs))
 whole_end channel run runs u are leaf =
     let es : List Ending = endings_from false u (wholes (run ∷ runs)) in
-    ap (λ (packets : List (List ℕ)). ending_of (card_of channel.master channel.ca channel.height u) (reverse packets))
+    ap (λ (packets : List (List ℕ)). ending_of (channel_card channel u) (reverse packets))
     (sym (whole_stream (run ∷ runs)))
     ∙ (runs_end channel (wholes (run ∷ runs)) u (are_whole channel (run ∷ runs) are) leaf
     ∙ (ap (λ (cat : Bool). if cat || list_any has_cat (wholes runs) then all_joined es else NoCat) (whole_cat run)

@@ -1,7 +1,8 @@
 -- Public meaning: broadcasts of one channel that follow one another, and which of their packets arrive.
 use Rattle.std.specs.Prelude.{◌≡◌, ◌≢◌, List, [], ◌∷◌, ◌++◌, All}
-use Rattle.sd_base.specs.Types.{Packets, Arrived, Pid, SystemId, Key, Height}
+use Rattle.sd_base.specs.Types.{Packets, Arrived, Pid, SystemId, Key, Height, LeafNumber}
 use Rattle.sd_site_cards.specs.SiteFields.{run_name_of}
+use Rattle.sd_site_cards.specs.CardFields.{CardFields, card_of}
 use Rattle.sd_spec.specs.Plan.{Plan, IsPlan}
 use Rattle.sd_spec.specs.Refused.{IsSendable}
 use Rattle.sd_spec.specs.Sent.{broadcast}
@@ -21,6 +22,10 @@ pub record Channel : Type 0 where
   pub ca : SystemId
   pub emm : Pid
   pub ecm : Pid
+
+-- the card of a leaf of a channel
+abbrev pub channel_card : Channel → LeafNumber → CardFields
+channel_card channel = channel_card channel
 
 -- the broadcast is of the channel, and each of its clear packets can be sent
 pub record IsRunOf (channel : Channel) (run : Arrival) : Type 0 where

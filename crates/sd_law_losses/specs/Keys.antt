@@ -21,8 +21,8 @@ taken_with card cat [] = 0
 taken_with card cat (piece ∷ pieces) = taken_keys card [] (cat ∷ piece) + taken_with card cat pieces
 
 -- how many packets of a stream take a key, by its pieces [this project, docs/FORMATS.md, Receiver]
-unfoldable pub taken_of : CardFields → Packets → ℕ
-taken_of card packets =
+unfoldable pub count_keys_taken : CardFields → Packets → ℕ
+count_keys_taken card packets =
     option_map_or (λ tuned. taken_with card tuned.cat (pieces_of card.height tuned)) (first_cat card.ca 0 packets) 0
 
 -- the number of periods of which a section that has a set with leaf u is kept after the CAT

@@ -25,8 +25,8 @@ first_cat ca n [] = None
 first_cat ca n (packet ∷ packets) = tuned_or (cat_tuning ca packet) n packet packets (first_cat ca (suc n) packets)
 
 -- the name of the run to which a packet belongs, if it is a message without a fault
-abbrev pub name_at : Height → Tuning → Packet → Option RunName
-name_at h tuning packet = run_name_heard (hears h tuning 0 packet)
+abbrev pub packet_run_name : Height → Tuning → Packet → Option RunName
+packet_run_name h tuning packet = run_name_heard (hears h tuning 0 packet)
 
 -- a packet put before the first of these pieces
 abbrev pub with_packet : Packet → List Packets → List Packets
@@ -42,8 +42,8 @@ cut_if pieces last name = if are_two last name then [] ∷ pieces else pieces
 unfoldable pub pieces_after : Height → Tuning → Option RunName → Packets → List Packets
 pieces_after h tuning last [] = [] ∷ []
 pieces_after h tuning last (packet ∷ packets) =
-    cut_if (with_packet packet (pieces_after h tuning (name_or (name_at h tuning packet) last) packets)) last
-    (name_at h tuning packet)
+    cut_if (with_packet packet (pieces_after h tuning (name_or (packet_run_name h tuning packet) last) packets)) last
+    (packet_run_name h tuning packet)
 
 -- the pieces of the packets after the CAT: no message was heard before
 abbrev pub pieces_of : Height → Tuned → List Packets

@@ -10,7 +10,7 @@ use Rattle.sd_spec.specs.declared.ending.Ending.TheVariants.{Opened, NoCat}
 use Rattle.sd_message.specs.declared.stream_fault.StreamFault.{StreamFault}
 use Rattle.sd_message.specs.declared.stream_fault.StreamFault.TheVariants as Fault
 use Rattle.sd_spec.specs.Offered.{out_from, break_from}
-use Rattle.sd_spec.specs.Ending.{joined, ending_of}
+use Rattle.sd_spec.specs.Ending.{endings_joined, ending_of}
 use Rattle.sd_law_losses.specs.Pieces.{first_cat, pieces_of}
 
 -- the same fault of a packet that is k packets later
@@ -38,15 +38,15 @@ break_with card cat k (piece ∷ pieces) =
 -- endings joined to an earlier one, the earliest first
 abbrev pub joined_to : Ending → List Ending → Ending
 joined_to earlier [] = earlier
-joined_to earlier (ending ∷ endings) = joined_to (joined earlier ending) endings
+joined_to earlier (ending ∷ endings) = joined_to (endings_joined earlier ending) endings
 
 -- how a piece ends by itself
 abbrev pub piece_ending : CardFields → Packet → Packets → Ending
 piece_ending card cat piece = ending_of card (reverse (cat ∷ piece))
 
 -- what is written of a stream, by its pieces [this project, docs/FORMATS.md, Receiver]
-unfoldable pub out_of : CardFields → Packets → Packets
-out_of card packets =
+unfoldable pub written_out : CardFields → Packets → Packets
+written_out card packets =
     option_map_or (λ tuned. out_with card tuned.cat (pieces_of card.height tuned)) (first_cat card.ca 0 packets) []
 
 -- why a stream is refused, if it is, by its pieces [this project, docs/FORMATS.md, Receiver]

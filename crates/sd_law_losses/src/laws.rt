@@ -6,11 +6,11 @@ ghost use Rattle.std.specs.Prelude.{Contains, if◌then◌else◌, map};
 ghost use Rattle.sd_packet.specs.Positions.{is_moving, moved, moved_by};
 ghost use Rattle.sd_packet.specs.Header.{pid_of};
 ghost use Rattle.sd_site_cards.specs.SiteFields.{AreInRange, SiteFields};
-ghost use Rattle.sd_site_cards.specs.CardFields.{card_of, CardFields};
+ghost use Rattle.sd_site_cards.specs.CardFields.{CardFields, site_card};
 ghost use Rattle.sd_spec.specs.Plan.{Plan, IsPlan, closing_number, period_of, word_of};
 ghost use Rattle.sd_spec.specs.Kinds.{kind_of, is_scrambled};
 ghost use Rattle.sd_spec.specs.Refused.{IsSendable, unsent_at};
-ghost use Rattle.sd_spec.specs.Sent.{Item, sent, closing_of, broadcast, Cat, is_alike, packet_of};
+ghost use Rattle.sd_spec.specs.Sent.{Item, sent, closing_of, broadcast, Cat, is_alike, item_packet};
 ghost use Rattle.sd_law_broadcast.specs.Packets.{AreWholePackets, IsWholePacket, AreLong};
 ghost use Rattle.sd_spec.specs.Offered.{out_from, break_from, is_before, is_mixed, says_same, part_fault};
 ghost use Rattle.sd_spec.specs.Ending.{ending_of};
@@ -38,7 +38,7 @@ ghost use Rattle.sd_spec.specs.Carried.{place_after, carried};
 ghost use Rattle.sd_spec.specs.Messages.{period_at};
 ghost use Rattle.sd_spec.specs.Items.{IsOfBroadcast};
 ghost use Rattle.sd_spec.specs.declared.kind.Kind.TheVariants.{Scrambled};
-ghost use Rattle.sd_law_broadcast.specs.Numbered.{numbered};
+ghost use Rattle.sd_law_broadcast.specs.Numbered.{numbered_message};
 ghost use Rattle.sd_psi.specs.OurCat.{cat_tuning};
 ghost use Rattle.sd_spec.specs.Heard.{hears};
 ghost use Rattle.sd_spec.specs.Stretches.{message_told};
@@ -47,11 +47,11 @@ ghost use Rattle.sd_spec.specs.Confirmed.{Segment, unmarked};
 ghost use Rattle.sd_law_losses.specs.Told.{tuning_to, heard_of};
 ghost use Rattle.sd_law_losses.specs.Parts.{IsPartBetween};
 ghost use Rattle.sd_spec.specs.Taken.{taken_keys};
-ghost use Rattle.sd_law_losses.specs.Together.{out_of, run_break_of, run_end_of, joined_to};
-ghost use Rattle.sd_law_losses.specs.Channel.{Arrival, Channel, AreRunsOf, arriving, all_sent};
+ghost use Rattle.sd_law_losses.specs.Together.{written_out, run_break_of, run_end_of, joined_to};
+ghost use Rattle.sd_law_losses.specs.Channel.{Arrival, Channel, AreRunsOf, arriving, all_sent, channel_card};
 ghost use Rattle.sd_law_losses.specs.Many.{confirmed_from, opened_of_all};
 ghost use Rattle.sd_law_losses.specs.Ends.{ending_of_all, whole_ending_of};
-ghost use Rattle.sd_law_losses.specs.Keys.{taken_of, keys_from, keys_of_all};
+ghost use Rattle.sd_law_losses.specs.Keys.{count_keys_taken, keys_from, keys_of_all};
 ghost use Rattle.sd_law_losses.specs.Switched.{ArePiecesOf};
 
 /// A tracked position is never above the true one. If it is below by a multiple of 16, the difference stays or grows as
@@ -84,11 +84,11 @@ pub fn gaps_are_told()
 pub fn losses_are_confirmed()
     ensures none { (plan : Plan) (clear : Packets) (u : LeafNumber) (flags : Arrived) → IsPlan plan →
         IsSendable plan.site clear → AreWholePackets clear → u < 2 ^ plan.site.height →
-        break_from (card_of plan.site.master plan.site.ca plan.site.height u) [] (chosen flags (broadcast plan clear))
+        break_from (site_card plan.site u) [] (chosen flags (broadcast plan clear))
         ≡ None }
     ensures out { (plan : Plan) (clear : Packets) (u : LeafNumber) (flags : Arrived) → IsPlan plan →
         IsSendable plan.site clear → AreWholePackets clear → u < 2 ^ plan.site.height →
-        out_from (card_of plan.site.master plan.site.ca plan.site.height u) [] (chosen flags (broadcast plan clear))
+        out_from (site_card plan.site u) [] (chosen flags (broadcast plan clear))
         ≡ confirmed plan u clear (chosen flags (sent plan clear ++ closing_of plan clear)) }
 {}
 
@@ -99,7 +99,7 @@ pub fn losses_are_confirmed()
 pub fn losses_are_told()
     ensures ending { (plan : Plan) (clear : Packets) (u : LeafNumber) (flags : Arrived) → IsPlan plan →
         IsSendable plan.site clear → AreWholePackets clear → u < 2 ^ plan.site.height →
-        ending_of (card_of plan.site.master plan.site.ca plan.site.height u)
+        ending_of (site_card plan.site u)
         (reverse (chosen flags (broadcast plan clear)))
         ≡ ending_told plan u clear (chosen flags (sent plan clear ++ closing_of plan clear)) }
     ensures revoked { (plan : Plan) (clear : Packets) (u : LeafNumber) (q : PeriodNumber) (flags : Arrived) →
@@ -142,14 +142,14 @@ pub fn confirmed_packets_are_opened()
 pub fn whole_broadcasts_are_opened()
     ensures none { (plan : Plan) (clear : Packets) (u : LeafNumber) → IsPlan plan → IsSendable plan.site clear →
         AreWholePackets clear → u < 2 ^ plan.site.height →
-        break_from (card_of plan.site.master plan.site.ca plan.site.height u) [] (broadcast plan clear) ≡ None }
+        break_from (site_card plan.site u) [] (broadcast plan clear) ≡ None }
     ensures out { (plan : Plan) (clear : Packets) (u : LeafNumber) → IsPlan plan → IsSendable plan.site clear →
         AreWholePackets clear → u < 2 ^ plan.site.height →
-        out_from (card_of plan.site.master plan.site.ca plan.site.height u) [] (broadcast plan clear)
+        out_from (site_card plan.site u) [] (broadcast plan clear)
         ≡ opened_by plan u clear }
     ensures ending { (plan : Plan) (clear : Packets) (u : LeafNumber) → IsPlan plan → IsSendable plan.site clear →
         AreWholePackets clear → u < 2 ^ plan.site.height →
-        ending_of (card_of plan.site.master plan.site.ca plan.site.height u) (reverse (broadcast plan clear))
+        ending_of (site_card plan.site u) (reverse (broadcast plan clear))
         ≡ whole_ending (first_revoked plan u clear) }
 {}
 
@@ -159,12 +159,12 @@ pub fn whole_broadcasts_are_opened()
 pub fn keys_are_taken_once()
     ensures lost { (plan : Plan) (clear : Packets) (u : LeafNumber) (flags : Arrived) → IsPlan plan →
         IsSendable plan.site clear → AreWholePackets clear → u < 2 ^ plan.site.height →
-        taken_keys (card_of plan.site.master plan.site.ca plan.site.height u) [] (chosen flags (broadcast plan clear))
+        taken_keys (site_card plan.site u) [] (chosen flags (broadcast plan clear))
         ≡ how_many (λ q. list_any (entitles plan.site.height u q)
         (after_cat (chosen flags (sent plan clear ++ closing_of plan clear)))) (period_of plan (length clear - 1) + 1) }
     ensures whole { (plan : Plan) (clear : Packets) (u : LeafNumber) → IsPlan plan → IsSendable plan.site clear →
         AreWholePackets clear → u < 2 ^ plan.site.height →
-        taken_keys (card_of plan.site.master plan.site.ca plan.site.height u) [] (broadcast plan clear)
+        taken_keys (site_card plan.site u) [] (broadcast plan clear)
         ≡ how_many (λ q. is_on_air plan q && not (is_revoked_in plan u q)) (period_of plan (length clear - 1) + 1) }
 {}
 
@@ -172,7 +172,7 @@ pub fn keys_are_taken_once()
 pub fn messages_never_back()
     ensures { (plan : Plan) (clear : Packets) (a b : MessageNumber) → IsPlan plan → a < b →
         b ≤ closing_number plan.site (length clear) →
-        is_before (numbered plan clear b) (numbered plan clear a) ≡ false }
+        is_before (numbered_message plan clear b) (numbered_message plan clear a) ≡ false }
 {}
 
 /// The parts of a message are numbered in their order. None of them is at fault after those before it, and all of them
@@ -190,10 +190,10 @@ pub fn parts_are_right()
 /// A control message has the control word of its number under the key of its period, and that word's check value.
 pub fn words_are_due()
     ensures word { (plan : Plan) (clear : Packets) (a : MessageNumber) →
-        under (period_key_of plan.site.master (numbered plan clear a).period) (numbered plan clear a).word
-        (numbered plan clear a).wrapped ≡ control_word_of plan.site.master (numbered plan clear a).word }
+        under (period_key_of plan.site.master (numbered_message plan clear a).period) (numbered_message plan clear a).word
+        (numbered_message plan clear a).wrapped ≡ control_word_of plan.site.master (numbered_message plan clear a).word }
     ensures check { (plan : Plan) (clear : Packets) (a : MessageNumber) →
-        (numbered plan clear a).check ≡ check_value_of (control_word_of plan.site.master (numbered plan clear a).word) }
+        (numbered_message plan clear a).check ≡ check_value_of (control_word_of plan.site.master (numbered_message plan clear a).word) }
 {}
 
 /// All sections of a period have its number and agree on it.
@@ -211,7 +211,7 @@ pub fn sections_say_same()
 pub fn keys_are_due()
     ensures key { (plan : Plan) (q : PeriodNumber) (u : LeafNumber) (emm : Emm) → IsPlan plan →
         u < 2 ^ plan.site.height → Contains (emms_of (period_at plan q)) emm →
-        key_from (card_of plan.site.master plan.site.ca plan.site.height u) emm ≡
+        key_from (site_card plan.site u) emm ≡
         (if list_any (λ entry. is_member plan.site.height entry.name u) (listed_entries emm)
         then Some (period_key_of plan.site.master q) else None) }
     ensures check { (plan : Plan) (q : PeriodNumber) (emm : Emm) → Contains (emms_of (period_at plan q)) emm →
@@ -221,17 +221,17 @@ pub fn keys_are_due()
 /// A receiver of the site's system takes the broadcast's CAT, and no other of its packets for one.
 pub fn cat_is_taken()
     ensures cat { (plan : Plan) (earlier : List Item) → IsPlan plan →
-        cat_tuning plan.site.ca (packet_of plan.site earlier Cat) ≡ Some (tuning_to plan.site) }
+        cat_tuning plan.site.ca (item_packet plan.site earlier Cat) ≡ Some (tuning_to plan.site) }
     ensures other { (plan : Plan) (clear : Packets) (earlier : List Item) (item : Item) → IsPlan plan →
         IsSendable plan.site clear → AreLong clear → IsOfBroadcast plan clear item → is_alike Cat item ≡ false →
-        cat_tuning plan.site.ca (packet_of plan.site earlier item) ≡ None }
+        cat_tuning plan.site.ca (item_packet plan.site earlier item) ≡ None }
 {}
 
 /// After the CAT is taken, a receiver hears each thing as what was sent.
 pub fn items_are_heard()
     ensures { (plan : Plan) (clear : Packets) (earlier : List Item) (n : PacketNumber) (item : Item) → IsPlan plan →
         IsSendable plan.site clear → AreLong clear → IsOfBroadcast plan clear item →
-        hears plan.site.height (tuning_to plan.site) n (packet_of plan.site earlier item) ≡ heard_of n item }
+        hears plan.site.height (tuning_to plan.site) n (item_packet plan.site earlier item) ≡ heard_of n item }
 {}
 
 /// A packet that was carried is what it was: a clear one without the project's descriptor, and a scrambled one under
@@ -251,13 +251,13 @@ pub fn carried_packets_come_back()
 /// stream's pieces, each behind the CAT by itself: the stream is cut before each message of another run.
 #[tactic(auto, using(crate::proofs::Streams::out_is, crate::proofs::Streams::break_is, crate::proofs::Streams::end_is))]
 pub fn streams_are_their_pieces()
-    ensures out { (card : CardFields) (packets : Packets) → out_from card [] packets ≡ out_of card packets }
+    ensures out { (card : CardFields) (packets : Packets) → out_from card [] packets ≡ written_out card packets }
     ensures refused { (card : CardFields) (packets : Packets) →
         break_from card [] packets ≡ run_break_of card packets }
     ensures ending { (card : CardFields) (packets : Packets) →
         ending_of card (reverse packets) ≡ run_end_of card packets }
     ensures keys { (card : CardFields) (packets : Packets) →
-        taken_keys card [] packets ≡ taken_of card packets }
+        taken_keys card [] packets ≡ count_keys_taken card packets }
 {}
 
 /// Whatever is lost of broadcasts of one channel that follow one another, the receiver of a leaf refuses nothing and
@@ -267,17 +267,17 @@ pub fn streams_are_their_pieces()
 pub fn losses_of_runs_are_confirmed()
     ensures none { (channel : Channel) (runs : List Arrival) (u : LeafNumber) → AreRunsOf channel runs →
         u < 2 ^ channel.height →
-        break_from (card_of channel.master channel.ca channel.height u) [] (arriving runs) ≡ None }
+        break_from (channel_card channel u) [] (arriving runs) ≡ None }
     ensures out { (channel : Channel) (runs : List Arrival) (u : LeafNumber) → AreRunsOf channel runs →
         u < 2 ^ channel.height →
-        out_from (card_of channel.master channel.ca channel.height u) [] (arriving runs)
+        out_from (channel_card channel u) [] (arriving runs)
         ≡ confirmed_from false u runs }
     ensures part { (channel : Channel) (runs : List Arrival) (u : LeafNumber) → AreRunsOf channel runs →
         u < 2 ^ channel.height →
         (parts : List Bool) × (confirmed_from false u runs ≡ chosen parts (opened_of_all u runs)) }
     ensures ending { (channel : Channel) (runs : List Arrival) (u : LeafNumber) → AreRunsOf channel runs →
         u < 2 ^ channel.height →
-        ending_of (card_of channel.master channel.ca channel.height u) (reverse (arriving runs))
+        ending_of (channel_card channel u) (reverse (arriving runs))
         ≡ ending_of_all u runs }
 {}
 
@@ -287,13 +287,13 @@ pub fn losses_of_runs_are_confirmed()
 pub fn whole_runs_are_opened()
     ensures none { (channel : Channel) (runs : List Arrival) (u : LeafNumber) → AreRunsOf channel runs →
         u < 2 ^ channel.height →
-        break_from (card_of channel.master channel.ca channel.height u) [] (all_sent runs) ≡ None }
+        break_from (channel_card channel u) [] (all_sent runs) ≡ None }
     ensures out { (channel : Channel) (runs : List Arrival) (u : LeafNumber) → AreRunsOf channel runs →
         u < 2 ^ channel.height →
-        out_from (card_of channel.master channel.ca channel.height u) [] (all_sent runs) ≡ opened_of_all u runs }
+        out_from (channel_card channel u) [] (all_sent runs) ≡ opened_of_all u runs }
     ensures ending { (channel : Channel) (run : Arrival) (runs : List Arrival) (u : LeafNumber) →
         AreRunsOf channel (run ∷ runs) → u < 2 ^ channel.height →
-        ending_of (card_of channel.master channel.ca channel.height u) (reverse (all_sent (run ∷ runs)))
+        ending_of (channel_card channel u) (reverse (all_sent (run ∷ runs)))
         ≡ joined_to Opened (map (whole_ending_of u) (run ∷ runs)) }
 {}
 
@@ -303,14 +303,14 @@ pub fn whole_runs_are_opened()
 pub fn switches_are_followed()
     ensures none { (channel : Channel) (pieces : List Arrival) (u : LeafNumber) → ArePiecesOf channel pieces →
         u < 2 ^ channel.height →
-        break_from (card_of channel.master channel.ca channel.height u) [] (arriving pieces) ≡ None }
+        break_from (channel_card channel u) [] (arriving pieces) ≡ None }
     ensures out { (channel : Channel) (pieces : List Arrival) (u : LeafNumber) → ArePiecesOf channel pieces →
         u < 2 ^ channel.height →
-        out_from (card_of channel.master channel.ca channel.height u) [] (arriving pieces)
+        out_from (channel_card channel u) [] (arriving pieces)
         ≡ confirmed_from false u pieces }
     ensures ending { (channel : Channel) (pieces : List Arrival) (u : LeafNumber) → ArePiecesOf channel pieces →
         u < 2 ^ channel.height →
-        ending_of (card_of channel.master channel.ca channel.height u) (reverse (arriving pieces))
+        ending_of (channel_card channel u) (reverse (arriving pieces))
         ≡ ending_of_all u pieces }
 {}
 
@@ -322,12 +322,12 @@ pub fn switches_are_followed()
 pub fn keys_of_runs_are_taken_once()
     ensures lost { (channel : Channel) (runs : List Arrival) (u : LeafNumber) → AreRunsOf channel runs →
         u < 2 ^ channel.height →
-        taken_keys (card_of channel.master channel.ca channel.height u) [] (arriving runs) ≡ keys_from false u runs }
+        taken_keys (channel_card channel u) [] (arriving runs) ≡ keys_from false u runs }
     ensures switched { (channel : Channel) (pieces : List Arrival) (u : LeafNumber) → ArePiecesOf channel pieces →
         u < 2 ^ channel.height →
-        taken_keys (card_of channel.master channel.ca channel.height u) [] (arriving pieces)
+        taken_keys (channel_card channel u) [] (arriving pieces)
         ≡ keys_from false u pieces }
     ensures whole { (channel : Channel) (runs : List Arrival) (u : LeafNumber) → AreRunsOf channel runs →
         u < 2 ^ channel.height →
-        taken_keys (card_of channel.master channel.ca channel.height u) [] (all_sent runs) ≡ keys_of_all u runs }
+        taken_keys (channel_card channel u) [] (all_sent runs) ≡ keys_of_all u runs }
 {}

@@ -3,7 +3,7 @@ use Rattle.std.proofs.Common.{arith, ◌≡◌, ℕ, ◌+◌, ◌-◌, ◌^◌, 
 use Rattle.std.proofs.lemmas.Bool.Decides.{nat_tests}
 use Rattle.sd_site_cards.specs.SiteFields.{SiteFields, AreInRange}
 use Rattle.sd_spec.specs.Plan.{Plan, crypto_of, period_in, period_of, word_of}
-use Rattle.sd_spec.specs.Refused.{is_too_long}
+use Rattle.sd_spec.specs.Refused.{is_used_up}
 use Rattle.sd_spec.proofs.Schedule.{period_of_first, periods_rise, words_rise}
 use Rattle.sd_run_books.specs.Air.{cryptos_for, last_period_for, last_word_for}
 
@@ -16,7 +16,7 @@ other_number : (n k : ℕ) → n < k → (n == k) ≡ false
 other_number n k h = grind (arith, nat_tests)
 
 pub streams_have_words : (site : SiteFields) (m k : ℕ) → AreInRange site → m < 2 ^ 32 → k < m →
-    last_word_for site m ≤ site.last_word → is_too_long site k ≡ false
+    last_word_for site m ≤ site.last_word → is_used_up site k ≡ false
 streams_have_words site m k r short low room =
     let up = words_rise site k (m - 1) r (omega (arith, low)) in
     let is = last_word_is site m in

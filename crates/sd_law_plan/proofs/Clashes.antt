@@ -14,7 +14,7 @@ use Rattle.sd_law_broadcast.specs.Known.{AreOneTree}
 use Rattle.sd_law_broadcast.proofs.Words.{used_words}
 use Rattle.sd_command_base.specs.declared.status.Clash.{Clash as ClashKind}
 use Rattle.sd_command_base.specs.declared.status.Clash.TheVariants.{Books}
-use Rattle.sd_run_books.specs.Apart.{books_clash, clash_in, clash_of, differing_in, due_in_both, first_differing}
+use Rattle.sd_run_books.specs.Apart.{books_clash, clash_in, plan_clash, differing_in, due_in_both, first_differing}
 use Rattle.sd_run_books.specs.Apart.{first_of, first_shared, shared_count, sites_clash}
 use Rattle.sd_run_books.specs.Air.{cryptos_for, last_period_for, last_word_for}
 use Rattle.sd_law_plan.specs.Told.{IsDueIn}
@@ -46,7 +46,7 @@ books_agree master a b is more some some_more heights h q used used_more =
     (omega (arith, one.0, two.0)) (omega (arith, one.0, two.0, one.1, two.1)) in
     books_alike a.plan b.plan q heights (no_leaf q (differing_in a.plan b.plan q) none)
 
-pub two_apart : (master : List ℕ) (a b : Run) → IsRun master a → IsRun master b → clash_of a.plan b.plan ≡ None →
+pub two_apart : (master : List ℕ) (a b : Run) → IsRun master a → IsRun master b → plan_clash a.plan b.plan ≡ None →
     (HasWords a.plan.site × HasWords b.plan.site) × (ShareNoWord a.plan.site b.plan.site × AgreeOnPeriods a b)
 two_apart master a b is more h =
     let both = either_none (sites_clash a.plan.site b.plan.site) (books_clash a.plan b.plan) h in
@@ -61,7 +61,7 @@ two_apart master a b is more h =
 -- each two of some runs don't clash
 abbrev pub EachTwo : List Run → Type 0
 EachTwo runs = (i j : ℕ) (a b : Run) → slice_get runs i ≡ Some a → slice_get runs j ≡ Some b → i < j →
-    clash_of a.plan b.plan ≡ None
+    plan_clash a.plan b.plan ≡ None
 
 abbrev pub EachIs : List ℕ → List Run → Type 0
 EachIs master runs = (i : ℕ) (a : Run) → slice_get runs i ≡ Some a → IsRun master a
@@ -76,7 +76,7 @@ there (run ∷ runs) zero d h = refl
 there (run ∷ runs) (suc i) d h = there runs i d (omega (arith, h))
 
 -- they are of one tree, and have one master
-pub one_set : (a b : Plan) → clash_of a b ≡ None → (a.site.height ≡ b.site.height) × (a.site.master ≡ b.site.master)
+pub one_set : (a b : Plan) → plan_clash a b ≡ None → (a.site.height ≡ b.site.height) × (a.site.master ≡ b.site.master)
 one_set a b h =
     let is = sites_apart a.site b.site (either_none (sites_clash a.site b.site) (books_clash a b) h).0 in
     (is.heights, is.masters)
@@ -119,7 +119,7 @@ swapped_in a b q heights none =
     ap (λ (d : ℕ). first_differing other one (2 ^ d)) (sym heights) ∙ swapped_none one other (2 ^ a.site.height) none
 
 -- the other way round
-pub swapped_have_none : (a b : Plan) → clash_of a b ≡ None → clash_of b a ≡ None
+pub swapped_have_none : (a b : Plan) → plan_clash a b ≡ None → plan_clash b a ≡ None
 unfolding books_clash
 swapped_have_none a b h =
     let both = either_none (sites_clash a.site b.site) (books_clash a b) h in
@@ -142,7 +142,7 @@ swapped_have_none a b h =
 pub next_have_none : (plan more : Plan) (m : ℕ) → AreInRange plan.site → plan.site.height ≡ more.site.height →
     plan.site.master ≡ more.site.master → HasWords plan.site → HasWords more.site →
     plan.site.last_word ≤ last_word_for plan.site m → last_word_for plan.site m < more.site.first_word →
-    last_period_for plan (cryptos_for plan.site m) < more.site.first_period → clash_of plan more ≡ None
+    last_period_for plan (cryptos_for plan.site m) < more.site.first_period → plan_clash plan more ≡ None
 unfolding books_clash
 next_have_none plan more m r heights masters some some_more words word period =
     let sites : sites_clash plan.site more.site ≡ None = pairs_have_none plan.site more.site (record {

@@ -5,14 +5,14 @@ use Rattle.std.specs.Prelude.{All, count_by, Ok}
 use Rattle.std.proofs.lemmas.Bool.Decides.{nat_tests}
 use Rattle.std.proofs.lemmas.List.Elements.{All-contains, All-head, All-tail}
 use Rattle.sd_packet.specs.Header.{pid_of}
-use Rattle.sd_packet.specs.Packing.{packed}
+use Rattle.sd_packet.specs.Packing.{section_packet}
 use Rattle.sd_packet.proofs.Packets.{packed_pid}
 use Rattle.sd_psi.specs.OurCat.{cat_section}
 use Rattle.sd_site_cards.specs.SiteFields.{SiteFields}
 use Rattle.sd_message.specs.EmmJudged.{emm_read}
 use Rattle.sd_message.specs.EmmSpelled.{emm_section}
 use Rattle.sd_message.specs.declared.emm.Emm.{Emm}
-use Rattle.sd_message.specs.EcmForm.{FitsFields, IsEcm}
+use Rattle.sd_message.specs.EcmForm.{FitsEcmFields, IsEcm}
 use Rattle.sd_message.specs.EcmJudged.{ecm_read}
 use Rattle.sd_message.specs.EcmParts.{parts_of}
 use Rattle.sd_message.specs.EcmSpelled.{ecm_section}
@@ -23,7 +23,7 @@ use Rattle.sd_spec.specs.Plan.{Plan, IsPlan}
 use Rattle.sd_spec.specs.Refused.{IsSendable}
 use Rattle.sd_spec.specs.Items.{IsOfBroadcast}
 use Rattle.sd_spec.specs.Sent.{Item, Cat, Entitles, Controls, Carries, broadcast, closing_of, is_alike}
-use Rattle.sd_spec.specs.Sent.{packet_of}
+use Rattle.sd_spec.specs.Sent.{item_packet}
 use Rattle.sd_spec.specs.Sent.{packets_from, sent}
 use Rattle.sd_spec.proofs.Items.{all_are_of_broadcast}
 use Rattle.sd_law_broadcast.specs.Packets.{AreLong}
@@ -58,27 +58,27 @@ module _ (plan : Plan) (clear : List (List ℕ)) (is : IsPlan plan) (all : IsSen
     (long : AreLong clear) where
   -- the line of one thing
   one_line : (k : ℕ) (earlier : List Item) (item : Item) → IsSaid plan clear item →
-      message_line plan.site k (packet_of plan.site earlier item) ≡ sent_line plan.site k item
+      message_line plan.site k (item_packet plan.site earlier item) ≡ sent_line plan.site k item
   one_line k earlier Cat told =
       let low = is.site.emm.0 in
       let low_too = is.site.ecm.0 in
       let section = cat_section plan.site.ca plan.site.emm plan.site.ecm in
       let pid = packed_pid section 1 (count_by (is_alike Cat) earlier) (omega arith) in
-      no_line plan.site k (packed section 1 (count_by (is_alike Cat) earlier % 16)) (grind (arith, nat_tests, pid, low))
+      no_line plan.site k (section_packet section 1 (count_by (is_alike Cat) earlier % 16)) (grind (arith, nat_tests, pid, low))
       (grind (arith, nat_tests, pid, low_too))
   one_line k earlier (Entitles emm) told =
       let count = count_by (is_alike (Entitles emm)) earlier in
       let high = is.site.emm.1 in
-      emm_line plan.site k (packed (emm_section emm) plan.site.emm (count % 16)) emm
+      emm_line plan.site k (section_packet (emm_section emm) plan.site.emm (count % 16)) emm
       (packed_pid (emm_section emm) plan.site.emm count (omega (arith, high)))
       (section_reads plan clear is all emm (count % 16) told (omega arith))
   one_line k earlier (Controls one) (message, fits, here) =
       let count = count_by (is_alike (Controls one)) earlier in
       let high = is.site.ecm.1 in
       let apart = is.site.apart in
-      let form = All-contains (λ part. IsEcm part × FitsFields part) (parts_of message) one (all_are_ecms message fits)
+      let form = All-contains (λ part. IsEcm part × FitsEcmFields part) (parts_of message) one (all_are_ecms message fits)
       here in
-      ecm_line plan.site k (packed (ecm_section one) plan.site.ecm (count % 16)) one
+      ecm_line plan.site k (section_packet (ecm_section one) plan.site.ecm (count % 16)) one
       (packed_pid (ecm_section one) plan.site.ecm count (omega (arith, high))) (grind (arith, nat_tests, apart))
       (part_reads one plan.site.ecm (count % 16) form.1 form.0 (omega (arith, high)) (omega arith))
   one_line k earlier (Carries n packet) (at, within, same) =

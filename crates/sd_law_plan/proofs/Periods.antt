@@ -36,7 +36,7 @@ use Rattle.sd_law_broadcast.proofs.Reached.{period_reached}
 use Rattle.sd_law_broadcast.specs.Runs.{last_crypto}
 use Rattle.sd_law_broadcast.proofs.Using.{parts_are_used}
 use Rattle.sd_run_books.specs.Air.{cryptos_for, cryptos_in, entitlements_at, last_word_for, period_count}
-use Rattle.sd_law_plan.specs.Within.{is_entitlement_of, told_periods}
+use Rattle.sd_law_plan.specs.Within.{is_entitlement_of, printed_periods}
 use Rattle.sd_law_plan.proofs.Airs.{last_period_is, last_word_is}
 use Rattle.sd_law_plan.proofs.Counts.{quotient_is, shared, sum_grows, sum_none}
 use Rattle.sd_law_plan.proofs.Sizes.{tables_are, tables_by}
@@ -47,7 +47,7 @@ pub record IsTold (plan : Plan) (m q : ℕ) : Type 0 where
   pub low : plan.site.first_period ≤ q
   pub high : q ≤ period_of plan (m - 1)
 
-pub told_is : (plan : Plan) (m q : ℕ) → AreInRange plan.site → Contains (told_periods plan m) q → IsTold plan m q
+pub told_is : (plan : Plan) (m q : ℕ) → AreInRange plan.site → Contains (printed_periods plan m) q → IsTold plan m q
 told_is plan m q r here =
     let is = in_range plan.site.first_period (period_count plan (cryptos_for plan.site m)) q here in
     let last = last_period_is plan m in
@@ -56,7 +56,7 @@ told_is plan m q r here =
     record { low = is.0; high = omega (arith, is.0, is.1, last, first, up) }
 
 pub packets_told : (plan : Plan) (m k : ℕ) → AreInRange plan.site → k < m →
-    Contains (told_periods plan m) (period_of plan k)
+    Contains (printed_periods plan m) (period_of plan k)
 packets_told plan m k r low =
     let last = last_period_is plan m in
     let first = period_of_first plan in
@@ -65,7 +65,7 @@ packets_told plan m k r low =
     range_has plan.site.first_period (period_count plan (cryptos_for plan.site m)) (period_of plan k)
     (omega (arith, first, up)) (omega (arith, last, first, up, down))
 
-pub told_reached : (plan : Plan) (m q : ℕ) → AreInRange plan.site → 0 < m → Contains (told_periods plan m) q →
+pub told_reached : (plan : Plan) (m q : ℕ) → AreInRange plan.site → 0 < m → Contains (printed_periods plan m) q →
     (k : ℕ) × (k < m) × (period_of plan k ≡ q)
 told_reached plan m q r some here =
     let is = told_is plan m q r here in
@@ -243,7 +243,7 @@ hits_of_one plan n q low high =
         ∙ (let zeros : cryptos_in plan n p * 0 ≡ 0 = omega arith in zeros)
 
 pub sections_told : (plan : Plan) (clear : List (List ℕ)) (q : ℕ) → AreInRange plan.site → 0 < length clear →
-    Contains (told_periods plan (length clear)) q →
+    Contains (printed_periods plan (length clear)) q →
     count_by (is_entitlement_of q) (sent plan clear ++ closing_of plan clear)
     ≡ cryptos_in plan (cryptos_for plan.site (length clear)) q * entitlements_at plan q
 unfolding period_in

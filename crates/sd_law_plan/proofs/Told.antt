@@ -12,9 +12,9 @@ use Rattle.sd_book.specs.Commands.{commands_until, is_revoked, revoked}
 use Rattle.sd_spec.specs.Plan.{Plan}
 use Rattle.sd_command_base.specs.declared.status.Clash.{Clash as ClashKind}
 use Rattle.sd_command_base.specs.declared.status.Clash.TheVariants.{Heights, Masters, NoWords, SharedWord}
-use Rattle.sd_run_books.specs.Apart.{books_clash, clash_in, clash_of, clash_where, differ, differing_in, first_shared}
+use Rattle.sd_run_books.specs.Apart.{books_clash, clash_in, plan_clash, clash_where, differ, differing_in, first_shared}
 use Rattle.sd_run_books.specs.Apart.{shared_count, shares_word, sites_clash}
-use Rattle.sd_law_plan.specs.Told.{IsDueIn, IsFirstApart, IsLeastShared, IsOfOne, IsSo, revoked_by}
+use Rattle.sd_law_plan.specs.Told.{IsDueIn, IsFirstApart, IsLeastShared, IsOfOne, IsSo, book_revokes}
 use Rattle.sd_law_plan.proofs.Found.{both_same, find_least, kept, one_alone, passes, same_filters}
 use Rattle.sd_law_plan.proofs.Ranges.{first_with, leaf_of, no_leaf}
 use Rattle.sd_law_plan.proofs.Sites.{sites_apart}
@@ -125,20 +125,20 @@ site_so a b clash h = by_height (a.site.height == b.site.height) refl h
 -- the period is one of both, and in it the books say another thing of the receiver first
 first_apart : (a b : Plan) (u q : ℕ) → a.site.height ≡ b.site.height → IsDueIn a q → IsDueIn b q →
     differing_in a b q ≡ Some u →
-    ((p : ℕ) → IsDueIn a p → IsDueIn b p → p < q → revoked_by a p ≡ revoked_by b p) → IsFirstApart a b u q
+    ((p : ℕ) → IsDueIn a p → IsDueIn b p → p < q → book_revokes a p ≡ book_revokes b p) → IsFirstApart a b u q
 first_apart a b u q heights due due_more found before =
     let one : ℕ → Bool = is_revoked (commands_until q a.commands) in
     let other : ℕ → Bool = is_revoked (commands_until q b.commands) in
     let d = a.site.height in
     let is = find_least (λ v. differ (one v) (other v)) 0 (2 ^ d) u found in
-    let own : revoked_by b q ≡ filter other (range_with_len 0 (2 ^ d)) =
+    let own : book_revokes b q ≡ filter other (range_with_len 0 (2 ^ d)) =
     ap (λ (h : ℕ). revoked h b.commands q) (sym heights) in
     record {
       due = due;
       due_more = due_more;
-      alone = subst (λ (vs : List ℕ). IsOfOne (revoked_by a q) vs u) (sym own)
+      alone = subst (λ (vs : List ℕ). IsOfOne (book_revokes a q) vs u) (sym own)
           (of_one one other (2 ^ d) u (omega (arith, is.high)) (one_alone (one u) (other u) is.yes));
-      least = λ v below. subst (λ (vs : List ℕ). Contains (revoked_by a q) v ↔ Contains vs v) (sym own)
+      least = λ v below. subst (λ (vs : List ℕ). Contains (book_revokes a q) v ↔ Contains vs v) (sym own)
           (of_both one other (2 ^ d) v (omega (arith, below, is.high))
           (both_same (one v) (other v) (is.least v (omega arith) below)));
       first = before;
@@ -155,7 +155,7 @@ book_so a b clash heights h =
     (λ p due due_more below. books_alike a b p heights (no_leaf p (differing_in a b p) (is.before p
     (omega (arith, due.0, due_more.0)) below))))
 
-pub told_is_so : (a b : Plan) (clash : ClashKind) → clash_of a b ≡ Some clash → IsSo a b clash
+pub told_is_so : (a b : Plan) (clash : ClashKind) → plan_clash a b ≡ Some clash → IsSo a b clash
 told_is_so a b clash h = by_sites (sites_clash a.site b.site) refl h
   where
     by_sites : (o : Option ClashKind) → sites_clash a.site b.site ≡ o →

@@ -10,12 +10,12 @@ use Rattle.sd_command_base.specs.declared.status.Clash.TheVariants.{Heights, Mas
 use Rattle.sd_run_books.specs.Apart.{last_due}
 
 -- the leaves that the book revokes in period q, ascending [this project, docs/FORMATS.md, Book]
-abbrev pub revoked_by : Plan → PeriodNumber → Leaves
-revoked_by plan q = revoked plan.site.height plan.commands q
+abbrev pub book_revokes : Plan → PeriodNumber → Leaves
+book_revokes plan q = revoked plan.site.height plan.commands q
 
 -- the control word is of the site's range
-abbrev pub IsWordOf : Plan → WordNumber → Type 0
-IsWordOf plan t = (plan.site.first_word ≤ t) × (t ≤ plan.site.last_word)
+abbrev pub IsSiteWord : Plan → WordNumber → Type 0
+IsSiteWord plan t = (plan.site.first_word ≤ t) × (t ≤ plan.site.last_word)
 
 -- some broadcast of the site and the book may use the period: its stream is not known
 abbrev pub IsDueIn : Plan → PeriodNumber → Type 0
@@ -29,15 +29,15 @@ IsOfOne us vs u = (Contains us u × (Contains vs u → ⊥)) ⊎ (Contains vs u 
 pub record IsFirstApart (a b : Plan) (u : LeafNumber) (q : PeriodNumber) : Type 0 where
   pub due : IsDueIn a q
   pub due_more : IsDueIn b q
-  pub alone : IsOfOne (revoked_by a q) (revoked_by b q) u
-  pub least : (v : LeafNumber) → v < u → Contains (revoked_by a q) v ↔ Contains (revoked_by b q) v
-  pub first : (p : PeriodNumber) → IsDueIn a p → IsDueIn b p → p < q → revoked_by a p ≡ revoked_by b p
+  pub alone : IsOfOne (book_revokes a q) (book_revokes b q) u
+  pub least : (v : LeafNumber) → v < u → Contains (book_revokes a q) v ↔ Contains (book_revokes b q) v
+  pub first : (p : PeriodNumber) → IsDueIn a p → IsDueIn b p → p < q → book_revokes a p ≡ book_revokes b p
 
 -- the control word is the least that both sites have
 pub record IsLeastShared (a b : Plan) (t : WordNumber) : Type 0 where
-  pub is : IsWordOf a t
-  pub is_more : IsWordOf b t
-  pub least : (s : WordNumber) → IsWordOf a s → IsWordOf b s → t ≤ s
+  pub is : IsSiteWord a t
+  pub is_more : IsSiteWord b t
+  pub least : (s : WordNumber) → IsSiteWord a s → IsSiteWord b s → t ≤ s
 
 -- the site of this number has no control word
 abbrev pub HasNone : Plan → Plan → ℕ → Type 0

@@ -17,8 +17,8 @@ is_entitlement_of q (Controls part) = false
 is_entitlement_of q (Carries k packet) = false
 
 -- the periods that are printed for this number of packets
-abbrev pub told_periods : Plan → ℕ → List PeriodNumber
-told_periods plan m = periods_for plan (cryptos_for plan.site m)
+abbrev pub printed_periods : Plan → ℕ → List PeriodNumber
+printed_periods plan m = periods_for plan (cryptos_for plan.site m)
 
 -- of a clear stream of which at most n PIDs have positions
 pub record IsWithinPlan (plan : Plan) (n : ℕ) (clear : Packets) : Type 0 where
@@ -27,14 +27,14 @@ pub record IsWithinPlan (plan : Plan) (n : ℕ) (clear : Packets) : Type 0 where
   pub exact : n ≤ positions_for plan.site.messages →
       length (broadcast plan clear) ≡ length clear + added_most plan (length clear) n
   -- the periods that are printed are those of the packets, and no others
-  pub told : (k : PacketNumber) → k < length clear → Contains (told_periods plan (length clear)) (period_of plan k)
-  pub reached : (q : PeriodNumber) → Contains (told_periods plan (length clear)) q →
+  pub told : (k : PacketNumber) → k < length clear → Contains (printed_periods plan (length clear)) (period_of plan k)
+  pub reached : (q : PeriodNumber) → Contains (printed_periods plan (length clear)) q →
       (k : PacketNumber) × (k < length clear) × (period_of plan k ≡ q)
   -- each names its sets in what is sent
-  pub names : (q : PeriodNumber) → Contains (told_periods plan (length clear)) q →
+  pub names : (q : PeriodNumber) → Contains (printed_periods plan (length clear)) q →
       NamesPeriod plan q (sets_named plan.site.height plan.site.emm q (broadcast plan clear))
   -- the sections of any period are sent as often as is told
-  pub sections : (q : PeriodNumber) → Contains (told_periods plan (length clear)) q →
+  pub sections : (q : PeriodNumber) → Contains (printed_periods plan (length clear)) q →
       count_by (is_entitlement_of q) (sent plan clear ++ closing_of plan clear)
       ≡ cryptos_in plan (cryptos_for plan.site (length clear)) q * entitlements_at plan q
   -- the control words are those from the first to the last that are printed, each of them, and of the site's range

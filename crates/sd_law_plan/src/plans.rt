@@ -5,7 +5,7 @@ ghost use Rattle.sd_base.specs.Types.{Packets, PacketNumber};
 ghost use Rattle.sd_site_cards.specs.SiteFields.{SiteFields, AreInRange};
 ghost use Rattle.sd_spec.specs.Kinds.{moved_pids};
 ghost use Rattle.sd_spec.specs.Plan.{Plan, IsPlan, period_of, word_of};
-ghost use Rattle.sd_spec.specs.Refused.{IsSendable, is_too_long};
+ghost use Rattle.sd_spec.specs.Refused.{IsSendable, is_used_up};
 ghost use Rattle.sd_law_broadcast.specs.Packets.{AreLong};
 ghost use Rattle.sd_run_books.specs.Air.{cryptos_for, last_period_for, last_word_for};
 ghost use Rattle.sd_law_plan.specs.Within.{IsWithinPlan};
@@ -25,7 +25,7 @@ pub fn broadcasts_are_within_plans()
 #[tactic(auto, using(crate::proofs::Airs::streams_have_words))]
 pub fn planned_streams_have_words()
     ensures { (site : SiteFields) (m : ℕ) (k : PacketNumber) → AreInRange site → m < 2 ^ 32 → k < m →
-        last_word_for site m ≤ site.last_word → is_too_long site k ≡ false }
+        last_word_for site m ≤ site.last_word → is_used_up site k ≡ false }
 {}
 
 /// A broadcast from the next control word and period on has no control word and no period of this one's.

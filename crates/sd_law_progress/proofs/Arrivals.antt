@@ -10,7 +10,7 @@ use Rattle.std.proofs.Math.Nat.{div-lt_iff_lt-mul, le-div_iff_mul-le}
 use Rattle.sd_base.proofs.Ranges.{filter_range}
 use Rattle.sd_packet.specs.Header.{pid_of}
 use Rattle.sd_packet.specs.Positions.{is_moving, position_of}
-use Rattle.sd_site_cards.specs.CardFields.{card_of}
+use Rattle.sd_site_cards.specs.CardFields.{site_card}
 use Rattle.sd_spec.specs.Plan.{Plan, crypto_length, period_of}
 use Rattle.sd_spec.specs.Sent.{Item, Cat, Entitles, Controls, Carries, broadcast}
 use Rattle.sd_spec.specs.Offered.{out_from}
@@ -232,7 +232,7 @@ module _ (plan : Plan) (clear : List (List ℕ)) (u : ℕ) (is : IsSentTo plan c
   -- and so it is written
   pub kept_are_written : (flags : List Bool) → AreMessagesKept plan clear (chosen flags (things plan clear)) →
       HaveNoGaps plan clear (chosen flags (things plan clear)) →
-      out_from (card_of plan.site.master plan.site.ca plan.site.height u) [] (chosen flags (broadcast plan clear))
+      out_from (site_card plan.site u) [] (chosen flags (broadcast plan clear))
       ≡ kept_due plan u clear (chosen flags (things plan clear))
   kept_are_written flags are gaps =
       confirmed_alone plan clear u flags is.plan is.sendable is.whole is.leaf ∙ kept_are_confirmed flags are gaps

@@ -2,7 +2,7 @@
 use Rattle.std.proofs.Common.{◌≡◌, ◌≢◌, ℕ, ◌+◌, ◌-◌, ◌*◌, ◌%◌, ◌<◌, ◌≤◌, Bool, true, false, List, [], ◌++◌, length}
 use Rattle.std.proofs.Common.{inl, inr, ◌⊎◌, arith}
 use Rattle.std.specs.List.{list_any}
-use Rattle.sd_site_cards.specs.CardFields.{card_of}
+use Rattle.sd_site_cards.specs.CardFields.{site_card}
 use Rattle.sd_message.specs.declared.emm.Emm.{Emm}
 use Rattle.sd_message.specs.declared.ecm_part.EcmPart.{EcmPart}
 use Rattle.sd_spec.specs.Plan.{Plan, crypto_length}
@@ -30,7 +30,7 @@ module _ (plan : Plan) (clear : List (List ℕ)) (u : ℕ) (before : List Item) 
   given l = sent_to l.is_plan l.is_sendable l.are_whole l.leaf
 
   pub received_told : (item : Item) (after : List Item) → IsLost plan clear u before item after →
-      out_from (card_of plan.site.master plan.site.ca plan.site.height u) [] (without (length before)
+      out_from (site_card plan.site u) [] (without (length before)
       (broadcast plan clear)) ≡ confirmed plan u clear (before ++ after)
   received_told item after l =
       received_but plan clear u before item after (given l) l.place

@@ -3,10 +3,10 @@ use Rattle.std.proofs.Common.{◌≡◌, ℕ, ◌+◌}
 use Rattle.std.proofs.Common.{List, [], ◌∷◌, ◌++◌, length, drop, arith, sym, ap, ◌∙◌, append_assoc}
 use Rattle.std.proofs.Common.{length-append}
 use Rattle.std.proofs.lemmas.List.{take_at, drop_at}
-use Rattle.sd_site_cards.specs.CardFields.{card_of}
+use Rattle.sd_site_cards.specs.CardFields.{site_card}
 use Rattle.sd_spec.specs.Plan.{Plan}
 use Rattle.sd_spec.specs.Offered.{out_from}
-use Rattle.sd_spec.specs.Sent.{Item, packet_of, packets_from, broadcast}
+use Rattle.sd_spec.specs.Sent.{Item, item_packet, packets_from, broadcast}
 use Rattle.sd_spec.proofs.Bodies.{packets_many}
 use Rattle.sd_spec.proofs.Sending.{packets_in_turn}
 use Rattle.sd_law_losses.specs.Chosen.{chosen}
@@ -19,11 +19,11 @@ use Rattle.sd_law_progress.proofs.CostLists.{all_but, chosen_but, chosen_beside}
 -- so a receiver writes of the packets but this one what is confirmed of the things but this one
 pub received_but : (plan : Plan) (clear : List (List ℕ)) (u : ℕ) (before : List Item) (x : Item) (after : List Item) →
     IsSentTo plan clear u → IsSentBetween plan clear before x after →
-    out_from (card_of plan.site.master plan.site.ca plan.site.height u) [] (without (length before)
+    out_from (site_card plan.site u) [] (without (length before)
     (broadcast plan clear)) ≡ confirmed plan u clear (before ++ after)
 unfolding broadcast packets_from
 received_but plan clear u before x after is lost =
-    ap (out_from (card_of plan.site.master plan.site.ca plan.site.height u) []) (sym left_out)
+    ap (out_from (site_card plan.site u) []) (sym left_out)
     ∙ (confirmed_alone plan clear u (all_but before after) is.plan is.sendable is.whole is.leaf
     ∙ ap (confirmed plan u clear) (ap (chosen (all_but before after)) lost ∙ chosen_but before x after))
   where
@@ -31,7 +31,7 @@ received_but plan clear u before x after is lost =
     ps = packets_from plan.site [] before
 
     p : List ℕ
-    p = packet_of plan.site before x
+    p = item_packet plan.site before x
 
     qs : List (List ℕ)
     qs = packets_from plan.site (before ++ x ∷ []) after

@@ -26,47 +26,47 @@ use Rattle.sd_law_losses.proofs.Carrying.{carrying}
 use Rattle.sd_law_losses.proofs.Remaining.{parts_before, group_at, rest_at}
 use Rattle.sd_law_losses.proofs.Later.{chosen_fails, chosen_all_of}
 use Rattle.sd_law_losses.proofs.Standing.{pre_at, sent_split}
-use Rattle.sd_law_progress.specs.Progress.{AreSetFrom, is_packet, is_part_of}
+use Rattle.sd_law_progress.specs.Progress.{AreSetFrom, is_clear_item, is_part_of}
 use Rattle.sd_law_progress.proofs.Splits.{mid_at, rest_later, fails_both, fails_joined}
 use Rattle.sd_law_progress.proofs.Choices.{chosen_from}
 
-pub counts_joined : (xs ys : List Item) → count_by is_packet (xs ++ ys) ≡ count_by is_packet xs + count_by is_packet ys
-counts_joined xs ys = sum_by-append (λ item. if is_packet item then 1 else 0) xs ys
+pub counts_joined : (xs ys : List Item) → count_by is_clear_item (xs ++ ys) ≡ count_by is_clear_item xs + count_by is_clear_item ys
+counts_joined xs ys = sum_by-append (λ item. if is_clear_item item then 1 else 0) xs ys
 
-no_section : (emms : List Emm) → count_by is_packet (map Entitles emms) ≡ 0
+no_section : (emms : List Emm) → count_by is_clear_item (map Entitles emms) ≡ 0
 no_section [] = refl
 no_section (emm ∷ emms) =
     omega (
       arith,
-      sum_by-cons (λ item. if is_packet item then 1 else 0) (Entitles emm) (map Entitles emms),
+      sum_by-cons (λ item. if is_clear_item item then 1 else 0) (Entitles emm) (map Entitles emms),
       no_section emms,
     )
 
-pub no_part : (parts : List EcmPart) → count_by is_packet (map Controls parts) ≡ 0
+pub no_part : (parts : List EcmPart) → count_by is_clear_item (map Controls parts) ≡ 0
 no_part [] = refl
 no_part (part ∷ parts) =
     omega (
       arith,
-      sum_by-cons (λ item. if is_packet item then 1 else 0) (Controls part) (map Controls parts),
+      sum_by-cons (λ item. if is_clear_item item then 1 else 0) (Controls part) (map Controls parts),
       no_part parts,
     )
 
-pub no_table : (plan : Plan) (k : ℕ) → count_by is_packet (tables_before plan k) ≡ 0
+pub no_table : (plan : Plan) (k : ℕ) → count_by is_clear_item (tables_before plan k) ≡ 0
 unfolding tables_at
 no_table plan k = by_test (k % crypto_length plan.site == 0)
   where
-    by_test : (b : Bool) → count_by is_packet (if b then tables_at plan k else []) ≡ 0
+    by_test : (b : Bool) → count_by is_clear_item (if b then tables_at plan k else []) ≡ 0
     by_test true =
         omega (
           arith,
-          sum_by-cons (λ item. if is_packet item then 1 else 0) Cat (map Entitles (emms_of
+          sum_by-cons (λ item. if is_clear_item item then 1 else 0) Cat (map Entitles (emms_of
               (period_at plan (period_of plan k)))),
           no_section (emms_of (period_at plan (period_of plan k))),
         )
     by_test false = refl
 
 -- one packet in each group
-count_group : (s : Setting) (k : ℕ) → count_by is_packet (group_at s k) ≡ 1
+count_group : (s : Setting) (k : ℕ) → count_by is_clear_item (group_at s k) ≡ 1
 count_group s k =
     omega (
       arith,
@@ -77,15 +77,15 @@ count_group s k =
       alone,
     )
   where
-    alone : count_by is_packet (carrying s k ∷ []) ≡ 1
+    alone : count_by is_clear_item (carrying s k ∷ []) ≡ 1
     alone = refl
 
-    by_test : (b : Bool) → count_by is_packet (if b then map Controls (parts_of (told_by s
+    by_test : (b : Bool) → count_by is_clear_item (if b then map Controls (parts_of (told_by s
         (k / s.plan.site.every))) else []) ≡ 0
     by_test true = no_part (parts_of (told_by s (k / s.plan.site.every)))
     by_test false = refl
 
-count_mid : (s : Setting) (k n : ℕ) → count_by is_packet (mid_at s k n) ≡ n
+count_mid : (s : Setting) (k n : ℕ) → count_by is_clear_item (mid_at s k n) ≡ n
 unfolding mid_at
 count_mid s k zero = refl
 count_mid s k (suc n) =
@@ -93,17 +93,17 @@ count_mid s k (suc n) =
 
 -- k packets before packet k
 pub count_pre : (s : Setting) (k : ℕ) → AreInRange s.plan.site → k ≤ length s.clear →
-    count_by is_packet (pre_at s k) ≡ k
+    count_by is_clear_item (pre_at s k) ≡ k
 count_pre s k range within =
     let all : 0 + k ≡ k = omega arith in
-    ap (count_by is_packet) (append_cancel_right (pre_at s k) (mid_at s 0 k) (rest_at s k)
+    ap (count_by is_clear_item) (append_cancel_right (pre_at s k) (mid_at s 0 k) (rest_at s k)
     (sym (sent_split s k range within)
     ∙ (rest_later s 0 k range (omega (arith, within)) ∙ ap (λ (i : ℕ). mid_at s 0 k ++ rest_at s i) all)))
     ∙ count_mid s 0 k
 
 -- a place with fewer than k packets before it is before packet k's group, or at its begin
 pub place_within : (s : Setting) (k x : ℕ) → AreInRange s.plan.site → k ≤ length s.clear →
-    count_by is_packet (take x (rest_at s 0)) < k → x ≤ length (pre_at s k)
+    count_by is_clear_item (take x (rest_at s 0)) < k → x ≤ length (pre_at s k)
 place_within s k x range within fewer = by_place (cases_lt (length (pre_at s k)) x)
   where
     by_place : (length (pre_at s k) < x) ⊎ (x ≤ length (pre_at s k)) → x ≤ length (pre_at s k)
@@ -114,33 +114,33 @@ place_within s k x range within fewer = by_place (cases_lt (length (pre_at s k))
         ap (λ (i : ℕ). take i (rest_at s 0)) (sym at)
         ∙ (ap (take (length (pre_at s k) + d)) (sent_split s k range within)
         ∙ take-append-add (pre_at s k) (rest_at s k) d) in
-        let counted : count_by is_packet (take x (rest_at s 0)) ≡ k + count_by is_packet (take d (rest_at s k)) =
-        ap (count_by is_packet) taken
+        let counted : count_by is_clear_item (take x (rest_at s 0)) ≡ k + count_by is_clear_item (take d (rest_at s k)) =
+        ap (count_by is_clear_item) taken
         ∙ (counts_joined (pre_at s k) (take d (rest_at s k))
-        ∙ ap (λ (n : ℕ). n + count_by is_packet (take d (rest_at s k))) (count_pre s k range within)) in
+        ∙ ap (λ (n : ℕ). n + count_by is_clear_item (take d (rest_at s k))) (count_pre s k range within)) in
         absurd (omega (arith, counted, fewer))
     by_place (inr inside) = inside
 
 -- a place with more packets before it than some first things have is behind them
 pub place_past : (x : ℕ) (all front rest : List Item) → all ≡ front ++ rest →
-    count_by is_packet front < count_by is_packet (take x all) → length front ≤ x
+    count_by is_clear_item front < count_by is_clear_item (take x all) → length front ≤ x
 place_past x all front rest same more = by_place (cases_lt x (length front))
   where
     by_place : (x < length front) ⊎ (length front ≤ x) → length front ≤ x
     by_place (inl before) =
         let taken : take x all ≡ take x front =
         ap (take x) same ∙ take-append-le x front rest (omega (arith, before)) in
-        let parts : count_by is_packet (take x front) + count_by is_packet (drop x front) ≡ count_by is_packet front =
+        let parts : count_by is_clear_item (take x front) + count_by is_clear_item (drop x front) ≡ count_by is_clear_item front =
         sym (counts_joined (take x front) (drop x front))
-        ∙ ap (count_by is_packet) (take-append-drop x front) in
-        absurd (omega (arith, ap (count_by is_packet) taken, parts, more))
+        ∙ ap (count_by is_clear_item) (take-append-drop x front) in
+        absurd (omega (arith, ap (count_by is_clear_item) taken, parts, more))
     by_place (inr past) = past
 
 -- before a place there are no more packets than in all
-pub fewer_before : (x : ℕ) (all : List Item) → count_by is_packet (take x all) ≤ count_by is_packet all
+pub fewer_before : (x : ℕ) (all : List Item) → count_by is_clear_item (take x all) ≤ count_by is_clear_item all
 fewer_before x all =
-    let parts : count_by is_packet (take x all) + count_by is_packet (drop x all) ≡ count_by is_packet all =
-    sym (counts_joined (take x all) (drop x all)) ∙ ap (count_by is_packet) (take-append-drop x all) in
+    let parts : count_by is_clear_item (take x all) + count_by is_clear_item (drop x all) ≡ count_by is_clear_item all =
+    sym (counts_joined (take x all) (drop x all)) ∙ ap (count_by is_clear_item) (take-append-drop x all) in
     omega (arith, parts)
 
 -- the first part of a message

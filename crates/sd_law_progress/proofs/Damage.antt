@@ -10,7 +10,7 @@ use Rattle.std.proofs.lemmas.List.{length-append, length-map, take-map, take-app
 use Rattle.std.proofs.Math.Seq.{take-append-add}
 use Rattle.std.proofs.Math.Nat.{div-mul-le_self, lt-div-mul-add, div-lt_iff_lt-mul, mul-le-mul_right}
 use Rattle.sd_packet.specs.Header.{pid_of}
-use Rattle.sd_site_cards.specs.CardFields.{card_of}
+use Rattle.sd_site_cards.specs.CardFields.{site_card}
 use Rattle.sd_message.specs.EcmParts.{parts_of}
 use Rattle.sd_message.specs.declared.ecm_part.EcmPart.{EcmPart}
 use Rattle.sd_spec.specs.Plan.{Plan, crypto_length, period_of, closing_number}
@@ -31,7 +31,7 @@ use Rattle.sd_law_losses.proofs.Standing.{pre_at, pre_any, sent_split, any_first
 use Rattle.sd_law_losses.proofs.Standing.{message_stands}
 use Rattle.sd_law_losses.proofs.Theorem.{confirmed_alone}
 use Rattle.sd_law_losses.proofs.Lawful.{setting}
-use Rattle.sd_law_progress.specs.Progress.{things, is_due, is_packet, AreKeptBefore, packets_before, due_in}
+use Rattle.sd_law_progress.specs.Progress.{things, is_due, is_clear_item, AreKeptBefore, packets_before, due_in}
 use Rattle.sd_law_progress.specs.Progress.{confirmed_in}
 use Rattle.sd_law_progress.proofs.Given.{IsSentTo, laws_of}
 use Rattle.sd_law_progress.proofs.Splits.{mid_at, fails_both, fails_joined, after_some, after_fails}
@@ -62,13 +62,13 @@ module _ (plan : Plan) (clear : List (List ℕ)) (u : ℕ) (is : IsSentTo plan c
     pub within : n ≤ final s
     pub same : things plan clear ≡ (pre_at s (end_of s n) ++ middle) ++ (parts_at n ++ later)
     pub none : list_any (is_of n) (pre_at s (end_of s n) ++ middle) ≡ false
-    pub count : count_by is_packet middle ≡ 0
+    pub count : count_by is_clear_item middle ≡ 0
 
-  count_ends : count_by is_packet (ends plan clear u is) ≡ 0
+  count_ends : count_by is_clear_item (ends plan clear u is) ≡ 0
   count_ends = by_test (length clear == 0)
     where
-      by_test : (b : Bool) → count_by is_packet (if b then tables_at plan 0 else []) ≡ 0
-      by_test true = ap (λ (b : Bool). count_by is_packet (if b then tables_at plan 0 else [])) (sym first) ∙ no_table
+      by_test : (b : Bool) → count_by is_clear_item (if b then tables_at plan 0 else []) ≡ 0
+      by_test true = ap (λ (b : Bool). count_by is_clear_item (if b then tables_at plan 0 else [])) (sym first) ∙ no_table
           plan 0
         where
           first : (0 % crypto_length plan.site == 0) ≡ true
@@ -394,10 +394,10 @@ module _ (plan : Plan) (clear : List (List ℕ)) (u : ℕ) (is : IsSentTo plan c
           before_due n place (chosen flags (things plan clear)) rest same j before within
 
   -- a broadcast has as many clear packets as the stream
-  count_things : count_by is_packet (things plan clear) ≡ length clear
+  count_things : count_by is_clear_item (things plan clear) ≡ length clear
   count_things = omega (
     arith,
-    ap (count_by is_packet) closing_stands,
+    ap (count_by is_clear_item) closing_stands,
     counts_joined (pre_at s (length clear) ++ ends plan clear u is) (parts_at (final s)),
     counts_joined (pre_at s (length clear)) (ends plan clear u is),
     count_pre s (length clear) is.plan.site (omega arith),
@@ -406,7 +406,7 @@ module _ (plan : Plan) (clear : List (List ℕ)) (u : ℕ) (is : IsSentTo plan c
   )
 
   -- and up to a message those before it
-  pub count_front : (n : ℕ) (place : IsPlaced n) → count_by is_packet (front_at n place ++ parts_at n) ≡ end_of s n
+  pub count_front : (n : ℕ) (place : IsPlaced n) → count_by is_clear_item (front_at n place ++ parts_at n) ≡ end_of s n
   count_front n place = omega (
     arith,
     counts_joined (front_at n place) (parts_at n),
@@ -443,7 +443,7 @@ module _ (plan : Plan) (clear : List (List ℕ)) (u : ℕ) (is : IsSentTo plan c
   -- and what is written begins with all that is due
   pub before_written : (x : ℕ) (flags : List Bool) (high : ℕ) → AreKeptBefore plan clear x flags →
       high + plan.site.every ≤ packets_before plan clear x →
-      out_from (card_of plan.site.master plan.site.ca plan.site.height u) [] (chosen flags (broadcast plan clear))
+      out_from (site_card plan.site u) [] (chosen flags (broadcast plan clear))
       ≡ due_in plan u clear 0 high ++ confirmed_in plan u clear (chosen flags (things plan clear)) high (length clear)
   before_written x flags high are before =
       confirmed_alone plan clear u flags is.plan is.sendable is.whole is.leaf

@@ -9,7 +9,7 @@ use Rattle.std.proofs.lemmas.List.Elements.{filter-append}
 use Rattle.std.proofs.Math.Nat.{mul-mod_left, div-mul-le_self, lt-div-mul-add, mul_assoc, mul_comm}
 use Rattle.std.proofs.Math.Nat.{le-div_iff_mul-le}
 use Rattle.sd_base.proofs.Ranges.{range_parts, filter_range}
-use Rattle.sd_site_cards.specs.CardFields.{card_of}
+use Rattle.sd_site_cards.specs.CardFields.{site_card}
 use Rattle.sd_message.specs.declared.ecm_part.EcmPart.{EcmPart}
 use Rattle.sd_spec.specs.Plan.{Plan, crypto_length, period_of}
 use Rattle.sd_spec.specs.Sent.{Item, Controls, sent, broadcast, tables_before, is_cat_item}
@@ -262,7 +262,7 @@ module _ (plan : Plan) (clear : List (List ℕ)) (u : ℕ) (is : IsSentTo plan c
   -- and what is written ends with all that is due
   pub soon_written : (x : ℕ) (flags : List Bool) (low : ℕ) → AreKeptFrom plan clear x flags →
       packets_before plan clear x + crypto_length plan.site ≤ low → low ≤ length clear →
-      out_from (card_of plan.site.master plan.site.ca plan.site.height u) [] (chosen flags (broadcast plan clear))
+      out_from (site_card plan.site u) [] (chosen flags (broadcast plan clear))
       ≡ confirmed_in plan u clear (chosen flags (things plan clear)) 0 low ++ due_in plan u clear low (length clear)
   soon_written x flags low are from within =
       confirmed_alone plan clear u flags is.plan is.sendable is.whole is.leaf

@@ -1,11 +1,10 @@
 -- What is written of a broadcast that is cut off, and of another one that is joined after it.
 use Rattle.std.proofs.Common.{◌≡◌, ℕ, ◌<◌, ◌≤◌, ◌^◌, ◌++◌, Bool, true, false, List, [], ◌∷◌, length, sym, ap, ◌∙◌}
 use Rattle.std.proofs.Common.{append-nil, subst}
-use Rattle.sd_site_cards.specs.CardFields.{card_of}
 use Rattle.sd_spec.specs.Plan.{Plan}
 use Rattle.sd_spec.specs.Offered.{out_from}
 use Rattle.sd_law_losses.specs.Confirmed.{confirmed}
-use Rattle.sd_law_losses.specs.Channel.{Channel, AreRunsOf, arriving}
+use Rattle.sd_law_losses.specs.Channel.{Channel, AreRunsOf, arriving, channel_card}
 use Rattle.sd_law_losses.specs.Many.{kept_of_arrival, has_cat, confirmed_from}
 use Rattle.sd_law_losses.proofs.Finishing.{runs_out}
 use Rattle.sd_law_progress.specs.Progress.{due_in}
@@ -38,7 +37,7 @@ switch_confirmed channel a b before after i j u (is_a, apart, (is_b, none, rest)
 pub switch_written : (channel : Channel) (a b : Plan) (before after : List (List ℕ)) (i j u : ℕ) →
     AreRunsOf channel (cut_off a before i ∷ (joined_behind b after j ∷ [])) → u < 2 ^ channel.height → 0 < i →
     i ≤ length before → j ≤ length after →
-    out_from (card_of channel.master channel.ca channel.height u) []
+    out_from (channel_card channel u) []
     (arriving (cut_off a before i ∷ (joined_behind b after j ∷ [])))
     ≡ due_in a u before 0 (last_message_at a.site i) ++ due_in b u after (next_crypto_at b.site j) (length after)
 switch_written channel a b before after i j u are leaf some within inside =

@@ -40,7 +40,7 @@ use Rattle.sd_law_losses.proofs.AllOpened.{sections_entitle, all_are_opened}
 use Rattle.sd_law_losses.proofs.Standing.{pre_at, pre_any, sent_split, any_first, any_second, pre_numbers}
 use Rattle.sd_law_losses.proofs.Runs.{begins_by}
 use Rattle.sd_law_losses.proofs.Lawful.{setting}
-use Rattle.sd_law_progress.specs.Progress.{things, is_due, is_packet, due_in, confirmed_in}
+use Rattle.sd_law_progress.specs.Progress.{things, is_due, is_clear_item, due_in, confirmed_in}
 use Rattle.sd_law_progress.specs.Switches.{place_behind, last_message_at, next_crypto_at}
 use Rattle.sd_law_progress.proofs.Given.{IsSentTo, laws_of}
 use Rattle.sd_law_progress.proofs.Splits.{mid_at, fails_joined, after_fails}
@@ -302,7 +302,7 @@ module _ (plan : Plan) (clear : List (List ℕ)) (u : ℕ) (is : IsSentTo plan c
             arith,
             count_front plan clear u is n place,
             bounds,
-            ap (count_by is_packet) taken,
+            ap (count_by is_clear_item) taken,
             count_pre s i is.plan.site within,
           ))
 
@@ -548,7 +548,7 @@ module _ (plan : Plan) (clear : List (List ℕ)) (u : ℕ) (is : IsSentTo plan c
     arith,
     some,
     ap length (sent_is plan clear u is j within),
-    count_by-le-length is_packet (pre_at s j),
+    count_by-le-length is_clear_item (pre_at s j),
     count_pre s j is.plan.site within,
   )
 

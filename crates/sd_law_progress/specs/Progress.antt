@@ -20,15 +20,15 @@ abbrev pub is_due : Plan → LeafNumber → PacketNumber → Bool
 is_due plan u j = not (is_revoked_in plan u (period_of plan j))
 
 -- the thing is a clear packet
-abbrev pub is_packet : Item → Bool
-is_packet (Carries j packet) = true
-is_packet Cat = false
-is_packet (Entitles emm) = false
-is_packet (Controls part) = false
+abbrev pub is_clear_item : Item → Bool
+is_clear_item (Carries j packet) = true
+is_clear_item Cat = false
+is_clear_item (Entitles emm) = false
+is_clear_item (Controls part) = false
 
 -- the things that aren't clear packets
 abbrev pub messages_in : List Item → List Item
-messages_in items = filter (λ item. not (is_packet item)) items
+messages_in items = filter (λ item. not (is_clear_item item)) items
 
 -- all CATs, all sections and all parts of control messages are kept
 abbrev pub AreMessagesKept : Plan → Packets → List Item → Type 0
@@ -64,7 +64,7 @@ AreKeptBefore plan clear x flags = AreSetFrom 0 (min x (length (things plan clea
 
 -- how many clear packets are among the first x things
 abbrev pub packets_before : Plan → Packets → ℕ → ℕ
-packets_before plan clear x = count_by is_packet (take x (things plan clear))
+packets_before plan clear x = count_by is_clear_item (take x (things plan clear))
 
 -- the due clear packets from number low on, below number high
 unfoldable pub due_in : Plan → LeafNumber → Packets → PacketNumber → PacketNumber → Packets

@@ -3,7 +3,7 @@
 ghost use Rattle.std.specs.Prelude.{◌≡◌, ℕ, ◌+◌, ◌-◌, ◌*◌, ◌%◌, ◌≤◌, ◌≢◌, ◌++◌, [], List, Bool, true, false, length};
 ghost use Rattle.std.specs.List.{list_any};
 ghost use Rattle.sd_base.specs.Types.{Packet, Packets, LeafNumber, CryptoNumber, PacketNumber};
-ghost use Rattle.sd_site_cards.specs.CardFields.{card_of};
+ghost use Rattle.sd_site_cards.specs.CardFields.{site_card};
 ghost use Rattle.sd_message.specs.declared.emm.Emm.{Emm};
 ghost use Rattle.sd_message.specs.declared.ecm_part.EcmPart.{EcmPart};
 ghost use Rattle.sd_spec.specs.Plan.{Plan, crypto_length};
@@ -23,7 +23,7 @@ ghost use Rattle.sd_law_progress.specs.Cost.{RiseNarrowly, cost, without};
 pub fn one_packet_costs()
     ensures received { (plan : Plan) (clear : Packets) (u : LeafNumber) (before : List Item) (item : Item)
         (after : List Item) → IsLost plan clear u before item after →
-        out_from (card_of plan.site.master plan.site.ca plan.site.height u) [] (without (length before)
+        out_from (site_card plan.site u) [] (without (length before)
         (broadcast plan clear)) ≡ confirmed plan u clear (before ++ after) }
     ensures part { (plan : Plan) (clear : Packets) (u : LeafNumber) (before : List Item) (item : Item)
         (after : List Item) → IsLost plan clear u before item after →

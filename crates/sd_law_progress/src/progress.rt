@@ -3,7 +3,7 @@
 ghost use Rattle.std.specs.Prelude.{◌≡◌, ◌+◌, ◌*◌, ◌/◌, ◌%◌, ◌^◌, ◌<◌, ◌≤◌, ◌++◌, [], ℕ, true, false, length, take};
 ghost use Rattle.std.specs.List.{list_any};
 ghost use Rattle.sd_base.specs.Types.{Packets, Arrived, LeafNumber, MessageNumber, PacketNumber};
-ghost use Rattle.sd_site_cards.specs.CardFields.{card_of};
+ghost use Rattle.sd_site_cards.specs.CardFields.{site_card};
 ghost use Rattle.sd_spec.specs.Plan.{Plan, IsPlan, crypto_length};
 ghost use Rattle.sd_spec.specs.Refused.{IsSendable};
 ghost use Rattle.sd_spec.specs.Sent.{sent, broadcast};
@@ -31,7 +31,7 @@ pub fn arrived_packets_are_written()
         IsSendable plan.site clear → AreWholePackets clear → u < 2 ^ plan.site.height →
         AreMessagesKept plan clear (chosen flags (things plan clear)) →
         HaveNoGaps plan clear (chosen flags (things plan clear)) →
-        out_from (card_of plan.site.master plan.site.ca plan.site.height u) [] (chosen flags (broadcast plan clear))
+        out_from (site_card plan.site u) [] (chosen flags (broadcast plan clear))
         ≡ kept_due plan u clear (chosen flags (things plan clear)) }
 {}
 
@@ -66,7 +66,7 @@ pub fn the_picture_is_back()
         IsPlan plan → IsSendable plan.site clear → AreWholePackets clear → u < 2 ^ plan.site.height →
         AreKeptFrom plan clear x flags → packets_before plan clear x + crypto_length plan.site ≤ low →
         low ≤ length clear →
-        out_from (card_of plan.site.master plan.site.ca plan.site.height u) [] (chosen flags (broadcast plan clear))
+        out_from (site_card plan.site u) [] (chosen flags (broadcast plan clear))
         ≡ confirmed_in plan u clear (chosen flags (things plan clear)) 0 low
         ++ due_in plan u clear low (length clear) }
 {}
@@ -87,7 +87,7 @@ pub fn before_damage()
     ensures out { (plan : Plan) (clear : Packets) (u : LeafNumber) (x : ℕ) (flags : Arrived) (high : PacketNumber) →
         IsPlan plan → IsSendable plan.site clear → AreWholePackets clear → u < 2 ^ plan.site.height →
         AreKeptBefore plan clear x flags → high + plan.site.every ≤ packets_before plan clear x →
-        out_from (card_of plan.site.master plan.site.ca plan.site.height u) [] (chosen flags (broadcast plan clear))
+        out_from (site_card plan.site u) [] (chosen flags (broadcast plan clear))
         ≡ due_in plan u clear 0 high
         ++ confirmed_in plan u clear (chosen flags (things plan clear)) high (length clear) }
 {}

@@ -3,10 +3,9 @@
 ghost use Rattle.std.specs.Prelude.{◌≡◌, ◌+◌, ◌^◌, ◌<◌, ◌≤◌, ◌++◌, [], ◌∷◌, ℕ, false, length};
 ghost use Rattle.sd_base.specs.Types.{Packets, LeafNumber, PacketNumber};
 ghost use Rattle.sd_site_cards.specs.SiteFields.{SiteFields, AreInRange};
-ghost use Rattle.sd_site_cards.specs.CardFields.{card_of};
 ghost use Rattle.sd_spec.specs.Plan.{Plan, crypto_length};
 ghost use Rattle.sd_spec.specs.Offered.{out_from};
-ghost use Rattle.sd_law_losses.specs.Channel.{Channel, AreRunsOf, arriving};
+ghost use Rattle.sd_law_losses.specs.Channel.{Channel, AreRunsOf, arriving, channel_card};
 ghost use Rattle.sd_law_losses.specs.Many.{confirmed_from};
 ghost use Rattle.sd_law_progress.specs.Progress.{due_in};
 ghost use Rattle.sd_law_progress.specs.Switches.{cut_off, joined_behind, last_message_at, next_crypto_at};
@@ -27,7 +26,7 @@ pub fn a_switch_costs()
     ensures out { (channel : Channel) (a b : Plan) (before after : Packets) (i j : ℕ) (u : LeafNumber) →
         AreRunsOf channel (cut_off a before i ∷ (joined_behind b after j ∷ [])) → u < 2 ^ channel.height → 0 < i →
         i ≤ length before → j ≤ length after →
-        out_from (card_of channel.master channel.ca channel.height u) []
+        out_from (channel_card channel u) []
         (arriving (cut_off a before i ∷ (joined_behind b after j ∷ [])))
         ≡ due_in a u before 0 (last_message_at a.site i)
         ++ due_in b u after (next_crypto_at b.site j) (length after) }

@@ -6,7 +6,7 @@ use Rattle.std.proofs.lemmas.Bool.{cases_Bool}
 use Rattle.std.proofs.lemmas.Bool.Decides.{nat_tests}
 use Rattle.std.proofs.lemmas.List.Elements.{All-nil, All-cons}
 use Rattle.sd_base.specs.Bits.{field}
-use Rattle.sd_packet.specs.Packing.{packed}
+use Rattle.sd_packet.specs.Packing.{section_packet}
 use Rattle.sd_packet.specs.Positions.{is_moving, moved, moved_by}
 use Rattle.sd_packet.proofs.Positions.{next_is_advanced}
 use Rattle.sd_packet.proofs.Packets.{packet_reads, packet_length}
@@ -17,7 +17,7 @@ use Rattle.sd_law_broadcast.specs.Packets.{IsWholePacket}
 
 -- a packet of stuffing
 abbrev pub made : ℕ → ℕ → List ℕ
-made pid c = packed [] pid c
+made pid c = section_packet [] pid c
 
 -- the position after a packet that raises it by 16, or up to the end
 abbrev pub next_of : ℕ → ℕ → ℕ
@@ -122,7 +122,7 @@ made_no_pmt descriptor pid c low small =
     ]
 
 pub made_whole : (pid c : ℕ) → pid < 8192 → c < 16 → IsWholePacket (made pid c)
-unfolding packed
+unfolding section_packet
 made_whole pid c low small = record { long = packet_length [] pid c (omega arith); bytes = each }
   where
     stuffing : (n i : ℕ) → slice_index (replicate n 255) i < 256

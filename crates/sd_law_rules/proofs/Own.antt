@@ -22,7 +22,7 @@ use Rattle.sd_spec.specs.Carried.{carried}
 use Rattle.sd_spec.specs.Sent.{Item}
 use Rattle.sd_spec.specs.Confirmed.{tracked, position_in}
 use Rattle.sd_law_broadcast.specs.Packets.{IsWholePacket}
-use Rattle.sd_law_broadcast.specs.Numbered.{numbered}
+use Rattle.sd_law_broadcast.specs.Numbered.{numbered_message}
 use Rattle.sd_law_broadcast.proofs.Carrying.{carried_pid}
 use Rattle.sd_law_losses.specs.Kept.{kept_in}
 use Rattle.sd_law_losses.specs.Confirmed.{packet_at, upto, tracked_position, is_traced}
@@ -31,7 +31,7 @@ use Rattle.sd_law_losses.proofs.Pairs.{places_are, tracked_is}
 use Rattle.sd_law_losses.proofs.Places.{told_position}
 use Rattle.sd_law_losses.proofs.Lawful.{setting, laws_hold}
 use Rattle.sd_law_losses.proofs.Tracking.{kept_parts, kept_more, near_at, true_at, near_exact}
-use Rattle.sd_law_rules.specs.Rules.{Sketch, sketch_of, sketches_between, IsBetween, IsSound, told_of, place_in}
+use Rattle.sd_law_rules.specs.Rules.{Sketch, sketch_of, sketches_between, IsBetween, IsSoundRule, rule_told, place_in}
 use Rattle.sd_law_rules.specs.Rules.{tracked_by, is_confirmed_by, tracked_from, receivers_judge}
 use Rattle.sd_law_rules.proofs.Worlds.{within, placed, p_low, p_high, as_sendable}
 
@@ -76,10 +76,10 @@ module _ (plan : Plan) (is : IsPlan plan) (clear : List (List ℕ)) (kept : List
   p = pid_of (packet_at clear j)
 
   abbrev first : Message
-  first = numbered plan clear a
+  first = numbered_message plan clear a
 
   abbrev next : Message
-  next = numbered plan clear (a + 1)
+  next = numbered_message plan clear (a + 1)
 
   abbrev shows : ℕ → Sketch
   shows i = sketch_of (carried plan.site (take i clear) (packet_at clear i))
@@ -94,11 +94,11 @@ module _ (plan : Plan) (is : IsPlan plan) (clear : List (List ℕ)) (kept : List
   high_pid = p_high plan is clear kept a j between
 
   told_first : told_by s a ≡ first
-  unfolding told_by numbered
+  unfolding told_by numbered_message
   told_first = refl
 
   told_next : told_by s (a + 1) ≡ next
-  unfolding told_by numbered
+  unfolding told_by numbered_message
   told_next = refl
 
   -- the headers of the packets kept up to some place lead to the tracked position
@@ -165,9 +165,9 @@ module _ (plan : Plan) (is : IsPlan plan) (clear : List (List ℕ)) (kept : List
   abbrev test : ℕ → Bool
   test = is_confirmed_by first next (sketches_between plan clear kept a)
 
-  told_is : told_of receivers_judge plan clear kept a j
+  told_is : rule_told receivers_judge plan clear kept a j
       ≡ (if is_traced plan clear kept a (a + 1) p then Some (near_at clear kept low p (j + 1)) else None)
-  unfolding told_of receivers_judge
+  unfolding rule_told receivers_judge
   told_is =
       ap (λ (ss : List Sketch). get_or (tracked_from test (place_in first) [] ss) (length (kept_in kept low j)) None)
       sketches_split
@@ -194,7 +194,7 @@ module _ (plan : Plan) (is : IsPlan plan) (clear : List (List ℕ)) (kept : List
       near_end : (x y : ℕ) → (nat_le x y && nat_le y (x + 15)) ≡ true → y ≤ x + 15
       near_end x y is = grind (arith, nat_tests, is)
 
-  pub own_tells : told_of receivers_judge plan clear kept a j
+  pub own_tells : rule_told receivers_judge plan clear kept a j
       ≡ (if is_traced plan clear kept a (a + 1) p then Some (position_of p (take (j + 1) clear)) else None)
   own_tells = told_is ∙ by_test (cases_Bool (is_traced plan clear kept a (a + 1) p))
     where
@@ -210,12 +210,12 @@ some_told true x t told = cc
 some_told false x t told = absurd (cc told)
 
 -- so it is sound
-pub own_sound : (plan : Plan) → IsPlan plan → IsSound IsSendable plan receivers_judge
+pub own_sound : (plan : Plan) → IsPlan plan → IsSoundRule IsSendable plan receivers_judge
 own_sound plan is = λ clear kept a j t between told.
     some_told (is_traced plan clear kept a (a + 1) (pid_of (packet_at clear j)))
     (position_of (pid_of (packet_at clear j)) (take (j + 1) clear)) t
     (sym (own_tells plan is clear kept a j between) ∙ told)
 
-pub own_sound_if_clear : (plan : Plan) → IsPlan plan → IsSound IsClear plan receivers_judge
+pub own_sound_if_clear : (plan : Plan) → IsPlan plan → IsSoundRule IsClear plan receivers_judge
 own_sound_if_clear plan is = λ clear kept a j t between.
     own_sound plan is clear kept a j t (as_sendable plan clear kept a j between)

@@ -20,7 +20,7 @@ use Rattle.sd_spec.specs.Refused.{IsSendable}
 use Rattle.sd_spec.specs.Sent.{Item, Cat, Entitles, Controls, Carries}
 use Rattle.sd_spec.specs.Messages.{message_at, places_after}
 use Rattle.sd_spec.proofs.Schedule.{closing_needed, since_is_below, same_word}
-use Rattle.sd_law_broadcast.specs.Numbered.{numbered}
+use Rattle.sd_law_broadcast.specs.Numbered.{numbered_message}
 use Rattle.sd_law_broadcast.specs.Packets.{IsWholePacket, AreWholePackets}
 use Rattle.sd_law_broadcast.proofs.Clear.{accepted, each_clear}
 use Rattle.sd_law_broadcast.proofs.Numbers.{numbered_before}
@@ -245,8 +245,8 @@ same_message plan xs ys a k closing like long = rw long (rw (same_places xs ys l
 
 -- the last message, or one behind it
 last_is : (plan : Plan) (clear : List (List ℕ)) (a : ℕ) → closing_number plan.site (length clear) ≤ a →
-    numbered plan clear a ≡ message_at plan clear a (length clear - 1) true
-unfolding numbered
+    numbered_message plan clear a ≡ message_at plan clear a (length clear - 1) true
+unfolding numbered_message
 last_is plan clear a above =
     let less : nat_lt a (closing_number plan.site (length clear)) ≡ false = grind (arith, nat_tests, above) in
     rw less refl
@@ -254,7 +254,7 @@ last_is plan clear a above =
 -- message b is the same of two streams that lead to the same positions before it, and at their ends
 pub same_numbered : (plan : Plan) (xs ys : List (List ℕ)) (b : ℕ) → IsPlan plan → length xs ≡ length ys →
     AreLike (take (upto plan ys b) xs) (take (upto plan ys b) ys) → AreLike xs ys →
-    numbered plan xs b ≡ numbered plan ys b
+    numbered_message plan xs b ≡ numbered_message plan ys b
 same_numbered plan xs ys b is long before all = elim (cases_lt b (closing_number plan.site (length ys))) [
   | inl below ↦
       let inside : b * plan.site.every < length ys = closing_needed plan.site (length ys) b is.site below in

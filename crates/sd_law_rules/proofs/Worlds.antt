@@ -25,7 +25,7 @@ use Rattle.sd_spec.specs.declared.kind.Kind.{Kind}
 use Rattle.sd_spec.specs.declared.kind.Kind.TheVariants.{Passed, Pmt, Scrambled}
 use Rattle.sd_spec.proofs.Schedule.{closing_needed}
 use Rattle.sd_law_broadcast.specs.Packets.{IsWholePacket, AreWholePackets}
-use Rattle.sd_law_broadcast.specs.Numbered.{numbered}
+use Rattle.sd_law_broadcast.specs.Numbered.{numbered_message}
 use Rattle.sd_law_broadcast.proofs.Carrying.{kind_placed}
 use Rattle.sd_law_broadcast.proofs.Clear.{accepted, each_clear, clear_short, clear_words, clear_pids}
 use Rattle.sd_law_broadcast.proofs.Numbers.{numbered_before}
@@ -35,7 +35,7 @@ use Rattle.sd_law_losses.specs.Confirmed.{packet_at, upto, tracked_position, is_
 use Rattle.sd_law_losses.proofs.Tracking.{near_below}
 use Rattle.sd_law_losses.proofs.Lists.{split_all}
 use Rattle.sd_law_progress.specs.Progress.{things}
-use Rattle.sd_law_rules.specs.Rules.{Sketch, Judge, IsBetween, IsSound, told_of, sketches_between}
+use Rattle.sd_law_rules.specs.Rules.{Sketch, Judge, IsBetween, IsSoundRule, rule_told, sketches_between}
 use Rattle.sd_law_rules.proofs.Rows.{packets_joined, Row, row_at, rows_in, packets_in, kept_rows, stays, staying, views}
 use Rattle.sd_law_rules.proofs.Rows.{views_stay, pat_after, pat_stays, kind_is, kind_with}
 use Rattle.sd_law_rules.proofs.Telling.{like_joined, same_numbered, kept_packets, many, stretch_rows}
@@ -274,13 +274,13 @@ module _ (plan : Plan) (is : IsPlan plan) (clear : List (List ℕ)) (kept : List
   below_too c fits = subst (λ (k : ℕ). a < closing_number plan.site k) (sym (stream_long c fits)) between.below
 
   -- both messages are the same
-  first_same : (c : ℕ) → IsFit c → numbered plan (stream c) a ≡ numbered plan clear a
+  first_same : (c : ℕ) → IsFit c → numbered_message plan (stream c) a ≡ numbered_message plan clear a
   first_same c fits =
       numbered_before plan (stream c) a (below_too c fits)
       ∙ (ap (λ (xs : List (List ℕ)). message_at plan xs a low false) (begins c)
       ∙ sym (numbered_before plan clear a between.below))
 
-  next_same : (c : ℕ) → IsFit c → numbered plan (stream c) (a + 1) ≡ numbered plan clear (a + 1)
+  next_same : (c : ℕ) → IsFit c → numbered_message plan (stream c) (a + 1) ≡ numbered_message plan clear (a + 1)
   next_same c fits =
       same_numbered plan (stream c) clear (a + 1) is (stream_long c fits) (like_taken c fits) (like_all c fits)
 
@@ -567,8 +567,8 @@ module _ (plan : Plan) (is : IsPlan plan) (clear : List (List ℕ)) (kept : List
       ∙ (ap length (kept_ahead c) ∙ sym (kept_many clear kept low d))))
 
   told_same : (judge : Judge) (c : ℕ) → IsFit c →
-      told_of judge plan (stream c) (arrived_of c) a (place c) ≡ told_of judge plan clear kept a j
-  unfolding told_of
+      rule_told judge plan (stream c) (arrived_of c) a (place c) ≡ rule_told judge plan clear kept a j
+  unfolding rule_told
   told_same judge c fits =
       rw (first_same c fits, next_same c fits, sketches_same c fits, index_same c fits) refl
 
@@ -614,8 +614,8 @@ module _ (plan : Plan) (is : IsPlan plan) (clear : List (List ℕ)) (kept : List
           ∙ append_assoc pre (packets_in (ahead c)) (x ∷ []))
 
   -- so a sound rule tells that
-  told_there : (IsSuch : SiteFields → List (List ℕ) → Type 0) (judge : Judge) (t c : ℕ) → IsSound IsSuch plan judge →
-      told_of judge plan clear kept a j ≡ Some t → IsFit c → IsSuch plan.site (stream c) → t ≡ near + 16 * c
+  told_there : (IsSuch : SiteFields → List (List ℕ) → Type 0) (judge : Judge) (t c : ℕ) → IsSoundRule IsSuch plan judge →
+      rule_told judge plan clear kept a j ≡ Some t → IsFit c → IsSuch plan.site (stream c) → t ≡ near + 16 * c
   told_there IsSuch judge t c sound told fits such =
       sound (stream c) (arrived_of c) a (place c) t (new_between IsSuch c fits such) (told_same judge c fits ∙ told)
       ∙ new_position c
@@ -636,8 +636,8 @@ module _ (plan : Plan) (is : IsPlan plan) (clear : List (List ℕ)) (kept : List
 
   -- a PID that isn't traced would have two positions
   traced_by : (IsSuch : SiteFields → List (List ℕ) → Type 0) →
-      ((c : ℕ) → IsFit c → IsSuch plan.site (stream c)) → (judge : Judge) (t : ℕ) → IsSound IsSuch plan judge →
-      told_of judge plan clear kept a j ≡ Some t → is_traced plan clear kept a (a + 1) p ≡ true
+      ((c : ℕ) → IsFit c → IsSuch plan.site (stream c)) → (judge : Judge) (t : ℕ) → IsSoundRule IsSuch plan judge →
+      rule_told judge plan clear kept a j ≡ Some t → is_traced plan clear kept a (a + 1) p ≡ true
   unfolding is_traced
   traced_by IsSuch such judge t sound told = elim (cases_lt (tracked + 15) ended) [
     | inr close ↦
@@ -653,13 +653,13 @@ module _ (plan : Plan) (is : IsPlan plan) (clear : List (List ℕ)) (kept : List
         absurd (omega (arith, one, two))
   ]
 
-  pub traced_where_told : (judge : Judge) (t : ℕ) → IsSound IsSendable plan judge →
-      told_of judge plan clear kept a j ≡ Some t → is_traced plan clear kept a (a + 1) p ≡ true
+  pub traced_where_told : (judge : Judge) (t : ℕ) → IsSoundRule IsSendable plan judge →
+      rule_told judge plan clear kept a j ≡ Some t → is_traced plan clear kept a (a + 1) p ≡ true
   traced_where_told = traced_by IsSendable new_sendable
 
   -- for a rule that is right on clear streams alone, the other streams have to be clear
-  traced_if_clear : IsClear plan.site clear → (judge : Judge) (t : ℕ) → IsSound IsClear plan judge →
-      told_of judge plan clear kept a j ≡ Some t → is_traced plan clear kept a (a + 1) p ≡ true
+  traced_if_clear : IsClear plan.site clear → (judge : Judge) (t : ℕ) → IsSoundRule IsClear plan judge →
+      rule_told judge plan clear kept a j ≡ Some t → is_traced plan clear kept a (a + 1) p ≡ true
   traced_if_clear all =
       traced_by IsClear (λ c fits. (clear_exactly plan.site (stream c)).1
       (new_sendable c fits, new_right ((clear_exactly plan.site clear).0 all).1 c))
@@ -680,7 +680,7 @@ as_sendable plan clear kept a j between = record {
 }
 
 pub traced_where_clear : (plan : Plan) → IsPlan plan → (clear : List (List ℕ)) (kept : List Item) (a j : ℕ) →
-    IsBetween IsClear plan clear kept a j → (judge : Judge) (t : ℕ) → IsSound IsClear plan judge →
-    told_of judge plan clear kept a j ≡ Some t → is_traced plan clear kept a (a + 1) (pid_of (packet_at clear j)) ≡ true
+    IsBetween IsClear plan clear kept a j → (judge : Judge) (t : ℕ) → IsSoundRule IsClear plan judge →
+    rule_told judge plan clear kept a j ≡ Some t → is_traced plan clear kept a (a + 1) (pid_of (packet_at clear j)) ≡ true
 traced_where_clear plan is clear kept a j between =
     traced_if_clear plan is clear kept a j (as_sendable plan clear kept a j between) between.such

@@ -12,7 +12,7 @@ use Rattle.sd_spec.specs.Carried.{carried}
 use Rattle.sd_spec.specs.Sent.{Item}
 use Rattle.sd_spec.specs.Confirmed.{position_in}
 use Rattle.sd_law_broadcast.specs.Packets.{AreWholePackets}
-use Rattle.sd_law_broadcast.specs.Numbered.{numbered}
+use Rattle.sd_law_broadcast.specs.Numbered.{numbered_message}
 use Rattle.sd_law_losses.specs.Chosen.{chosen}
 use Rattle.sd_law_losses.specs.Kept.{is_kept, kept_in, has_arrived}
 use Rattle.sd_law_losses.specs.Confirmed.{packet_at, upto, kept_between}
@@ -48,9 +48,9 @@ sketches_between plan clear kept a =
     map (λ i. sketch_of (carried plan.site (take i clear) (packet_at clear i))) (kept_between plan clear kept a (a + 1))
 
 -- what the rule tells of kept packet j between them
-unfoldable pub told_of : Judge → Plan → Packets → List Item → MessageNumber → PacketNumber → Option Position
-told_of judge plan clear kept a j =
-    get_or (judge (numbered plan clear a) (numbered plan clear (a + 1)) (sketches_between plan clear kept a))
+unfoldable pub rule_told : Judge → Plan → Packets → List Item → MessageNumber → PacketNumber → Option Position
+rule_told judge plan clear kept a j =
+    get_or (judge (numbered_message plan clear a) (numbered_message plan clear (a + 1)) (sketches_between plan clear kept a))
     (length (kept_in kept (a * plan.site.every) j)) None
 
 -- of the broadcast of a clear stream that is such, as IsClear or IsSendable, these things are kept, messages a and
@@ -70,9 +70,9 @@ pub record IsBetween (IsSuch : SiteFields → Packets → Type 0) (plan : Plan) 
 
 -- the rule is right of every scrambled packet of every broadcast of the plan whose clear stream is such, whatever is
 -- lost. It may know the plan
-abbrev pub IsSound : (SiteFields → Packets → Type 0) → Plan → Judge → Type 0
-IsSound IsSuch plan judge = (clear : Packets) (kept : List Item) (a : MessageNumber) (j : PacketNumber) (p : Position) →
-    IsBetween IsSuch plan clear kept a j → told_of judge plan clear kept a j ≡ Some p →
+abbrev pub IsSoundRule : (SiteFields → Packets → Type 0) → Plan → Judge → Type 0
+IsSoundRule IsSuch plan judge = (clear : Packets) (kept : List Item) (a : MessageNumber) (j : PacketNumber) (p : Position) →
+    IsBetween IsSuch plan clear kept a j → rule_told judge plan clear kept a j ≡ Some p →
     p ≡ position_of (pid_of (packet_at clear j)) (take (j + 1) clear)
 
 -- the position of a PID in a message; one that isn't in it has not moved from its first one

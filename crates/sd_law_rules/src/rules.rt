@@ -8,7 +8,7 @@ ghost use Rattle.sd_spec.specs.Plan.{Plan, IsPlan};
 ghost use Rattle.sd_spec.specs.Refused.{IsClear, IsSendable};
 ghost use Rattle.sd_spec.specs.Sent.{Item};
 ghost use Rattle.sd_law_losses.specs.Confirmed.{packet_at, is_traced};
-ghost use Rattle.sd_law_rules.specs.Rules.{Judge, IsBetween, IsSound, told_of, receivers_judge};
+ghost use Rattle.sd_law_rules.specs.Rules.{Judge, IsBetween, IsSoundRule, rule_told, receivers_judge};
 
 /// A rule that tells positions of the scrambled packets between two neighbouring messages, and that is right whatever
 /// is lost, tells one only where the receiver's rule tells it too: where the PID's position at the later message is at
@@ -17,12 +17,12 @@ ghost use Rattle.sd_law_rules.specs.Rules.{Judge, IsBetween, IsSound, told_of, r
 /// streams, and of those that are right on all that can be sent.
 pub fn no_sound_judge_tells_more()
     ensures clear { (plan : Plan) (judge : Judge) (clear : Packets) (kept : List Item) (a : MessageNumber)
-        (j : PacketNumber) (p : Position) → IsPlan plan → IsSound IsClear plan judge →
-        IsBetween IsClear plan clear kept a j → told_of judge plan clear kept a j ≡ Some p →
+        (j : PacketNumber) (p : Position) → IsPlan plan → IsSoundRule IsClear plan judge →
+        IsBetween IsClear plan clear kept a j → rule_told judge plan clear kept a j ≡ Some p →
         is_traced plan clear kept a (a + 1) (pid_of (packet_at clear j)) ≡ true }
     ensures sendable { (plan : Plan) (judge : Judge) (clear : Packets) (kept : List Item) (a : MessageNumber)
-        (j : PacketNumber) (p : Position) → IsPlan plan → IsSound IsSendable plan judge →
-        IsBetween IsSendable plan clear kept a j → told_of judge plan clear kept a j ≡ Some p →
+        (j : PacketNumber) (p : Position) → IsPlan plan → IsSoundRule IsSendable plan judge →
+        IsBetween IsSendable plan clear kept a j → rule_told judge plan clear kept a j ≡ Some p →
         is_traced plan clear kept a (a + 1) (pid_of (packet_at clear j)) ≡ true }
 {}
 
@@ -30,9 +30,9 @@ pub fn no_sound_judge_tells_more()
 /// PID's position at the later message is at most 15 above the tracked one.
 pub fn receivers_judge_is_sound()
     ensures tells { (plan : Plan) (clear : Packets) (kept : List Item) (a : MessageNumber) (j : PacketNumber) →
-        IsPlan plan → IsBetween IsSendable plan clear kept a j → told_of receivers_judge plan clear kept a j
+        IsPlan plan → IsBetween IsSendable plan clear kept a j → rule_told receivers_judge plan clear kept a j
         ≡ (if is_traced plan clear kept a (a + 1) (pid_of (packet_at clear j))
         then Some (position_of (pid_of (packet_at clear j)) (take (j + 1) clear)) else None) }
-    ensures clear { (plan : Plan) → IsPlan plan → IsSound IsClear plan receivers_judge }
-    ensures sendable { (plan : Plan) → IsPlan plan → IsSound IsSendable plan receivers_judge }
+    ensures clear { (plan : Plan) → IsPlan plan → IsSoundRule IsClear plan receivers_judge }
+    ensures sendable { (plan : Plan) → IsPlan plan → IsSoundRule IsSendable plan receivers_judge }
 {}

@@ -10,7 +10,7 @@ use Rattle.sd_spec.specs.Plan.{Plan}
 use Rattle.sd_command_base.specs.declared.status.Status.TheVariants.{Usage}
 use Rattle.sd_command_base.specs.Made.{unused, used_name}
 use Rattle.sd_command_base.specs.Shown.{word_at}
-use Rattle.sd_command_base.specs.Spec.{FileArgument, Readings, all_of, judged, value, ◌>>=◌}
+use Rattle.sd_command_base.specs.Spec.{FileArgument, Readings, whole_file_bytes, of_result, value, ◌>>=◌}
 use Rattle.sd_command_base.specs.Work.{Mark, Work}
 use Rattle.sd_command_line.specs.declared.command.Command.{Command}
 use Rattle.sd_command_line.specs.declared.command.Command.TheVariants.{Air, Watch}
@@ -93,7 +93,7 @@ pub record IsAirWork (site book clear out : FileArgument) (given : Readings) (wo
   pub new : given (mark_word site) ≡ None
   pub is_work : work ≡ airing plan site out bytes
 
-all_ok : (word : ℕ) (got : Option Bytes) (bytes : Bytes) → (all_of word got).result ≡ Ok bytes → got ≡ Some bytes
+all_ok : (word : ℕ) (got : Option Bytes) (bytes : Bytes) → (whole_file_bytes word got).result ≡ Ok bytes → got ≡ Some bytes
 all_ok word None bytes e = absurd cc
 all_ok word (Some found) bytes e = ap (λ (b : Bytes). Some b) (one_value (Ok found) found bytes refl e)
 
@@ -106,9 +106,9 @@ pub air_found : (site book clear out : FileArgument) (given : Readings) (work : 
 unfolding air_meaning
 air_found site book clear out given work e =
     let (plan, read, after) = then_ok (air_plan_by site.number book.number (given site) (given book))
-    (λ plan. all_of clear.number (given clear)
+    (λ plan. whole_file_bytes clear.number (given clear)
     >>= λ bytes. unused (given (mark_word site)) >>= λ new. value (airing plan site out bytes)) work e in
-    let (bytes, all, then) = then_ok (all_of clear.number (given clear))
+    let (bytes, all, then) = then_ok (whole_file_bytes clear.number (given clear))
     (λ bytes. unused (given (mark_word site)) >>= λ new. value (airing plan site out bytes)) work after in
     let (x, new, last) = then_ok (unused (given (mark_word site))) (λ new. value (airing plan site out bytes)) work then
     in
@@ -129,7 +129,7 @@ pub record IsAir (words : List Bytes) (are : AreAir words) (given : Readings) (w
 pub air_work : (words : List Bytes) (are : AreAir words) (given : Readings) (work : Work) →
     (meaning words given).result ≡ Ok work → IsAir words are given work
 air_work words are given work e =
-    let (order, read, meant) = then_ok (judged (order_of words)) (λ o. order_meaning o given) work e in
+    let (order, read, meant) = then_ok (of_result (order_of words)) (λ o. order_meaning o given) work e in
     let is = air_order are.name are.site are.book are.clear are.out order are.named
     (ap order_of (sym are.words_are) ∙ read) in
     record {

@@ -7,7 +7,7 @@ use Rattle.std.proofs.lemmas.Bool.{cases_lt}
 use Rattle.std.proofs.lemmas.List.{get_or_past}
 use Rattle.std.proofs.lemmas.List.Elements.{All-nil, All-cons, All-head, All-tail, All-take, All-drop}
 use Rattle.sd_base.specs.Types.{Bytes, Packet, Packets}
-use Rattle.sd_engine.specs.Cut.{cut, read_from, readable, skips_few}
+use Rattle.sd_engine.specs.Cut.{cut_packets, read_from, readable, skips_few}
 use Rattle.sd_engine.proofs.Cutting.{cut_end, cut_packet}
 use Rattle.sd_spec.specs.Counting.{is_marked}
 use Rattle.sd_law_broadcast.specs.Packets.{IsWholePacket, AreWholePackets}
@@ -18,11 +18,11 @@ use Rattle.sd_law_formats.proofs.Finds.{all_sound}
 use Rattle.sd_law_air.specs.Sent.{AreUnmarked}
 
 -- the packets that are found in bytes are of bytes
-cut_bytes : (bytes : Bytes) → Course bytes → AreBytes bytes → All AreBytes (cut bytes)
-cut_bytes bytes (course.end none) each = subst (All AreBytes) (sym (ap cut none ∙ cut_end)) (All-nil AreBytes)
+cut_bytes : (bytes : Bytes) → Course bytes → AreBytes bytes → All AreBytes (cut_packets bytes)
+cut_bytes bytes (course.end none) each = subst (All AreBytes) (sym (ap cut_packets none ∙ cut_end)) (All-nil AreBytes)
 cut_bytes bytes (course.packet begins rest) each =
     subst (All AreBytes) (sym (cut_packet bytes begins))
-    (All-cons AreBytes (take 188 bytes) (cut (drop 188 bytes)) (All-take (λ byte. byte < 256) 188 bytes each)
+    (All-cons AreBytes (take 188 bytes) (cut_packets (drop 188 bytes)) (All-take (λ byte. byte < 256) 188 bytes each)
     (cut_bytes (drop 188 bytes) rest (All-drop (λ byte. byte < 256) 188 bytes each)))
 cut_bytes bytes (course.other not some rest) each =
     subst (All AreBytes) (sym (cut_one bytes not some))
@@ -34,13 +34,13 @@ byte_at packet each i = elim (cases_lt i (length packet)) [
   | inr past ↦ rw (get_or_past packet i 0 past) (omega arith)
 ]
 
-cut_whole : (bytes : Bytes) → AreBytes bytes → AreWholePackets (cut bytes)
+cut_whole : (bytes : Bytes) → AreBytes bytes → AreWholePackets (cut_packets bytes)
 cut_whole bytes each = λ k d within. record {
   long = (all_sound bytes k d within).0;
-  bytes = byte_at (get_or (cut bytes) k d) (cut_bytes bytes (course_of bytes) each k d within);
+  bytes = byte_at (get_or (cut_packets bytes) k d) (cut_bytes bytes (course_of bytes) each k d within);
 }
 
-cut_synced : (bytes : Bytes) → AreSynced (cut bytes)
+cut_synced : (bytes : Bytes) → AreSynced (cut_packets bytes)
 cut_synced bytes = λ k d within. record {
   long = (all_sound bytes k d within).0;
   sync = (all_sound bytes k d within).1;
@@ -61,10 +61,10 @@ read_all P bytes k (packet ∷ packets) all =
     by_test false rest = All-nil P
 
 pub readable_whole : (bytes : Bytes) → AreBytes bytes → AreWholePackets (readable bytes)
-readable_whole bytes each = read_all IsWholePacket bytes 0 (cut bytes) (cut_whole bytes each)
+readable_whole bytes each = read_all IsWholePacket bytes 0 (cut_packets bytes) (cut_whole bytes each)
 
 pub readable_synced : (bytes : Bytes) → AreSynced (readable bytes)
-readable_synced bytes = read_all IsSynced bytes 0 (cut bytes) (cut_synced bytes)
+readable_synced bytes = read_all IsSynced bytes 0 (cut_packets bytes) (cut_synced bytes)
 
 -- no packet is marked
 pub none_marked : (packets : Packets) → AreUnmarked packets → list_any is_marked packets ≡ false

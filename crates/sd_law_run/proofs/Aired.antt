@@ -7,7 +7,7 @@ use Rattle.sd_base.specs.Types.{Bytes, FileName, Packets}
 use Rattle.sd_ports.specs.Files.{Files}
 use Rattle.sd_engine.specs.Cut.{readable}
 use Rattle.sd_site_cards.specs.SiteFields.{SiteFields}
-use Rattle.sd_site_cards.specs.Written.{newest_of, none_fewer}
+use Rattle.sd_site_cards.specs.Written.{site_of_chain, none_fewer}
 use Rattle.sd_site_cards.specs.declared.book_line.BookLine.{BookLine}
 use Rattle.sd_site_cards.proofs.Alone.{site_said}
 use Rattle.sd_spec.specs.Plan.{Plan}
@@ -17,11 +17,11 @@ use Rattle.sd_command_base.specs.declared.status.Status.TheVariants.{SiteUsed}
 use Rattle.sd_command_base.specs.declared.status.LimitKind.TheVariants.{SiteBytes}
 use Rattle.sd_command_base.specs.Files.{is_book, most_site_bytes, own_book_of_file}
 use Rattle.sd_command_base.specs.Made.{unused, used_name}
-use Rattle.sd_command_base.specs.Outside.{Outside}
+use Rattle.sd_command_base.specs.Outside.{IoState}
 use Rattle.sd_command_base.specs.Results.{RunResult}
 use Rattle.sd_command_base.specs.Shown.{word_at}
-use Rattle.sd_command_base.specs.Spec.{FileArgument, Readings, all_of, contents_of, judged, value, within, ◌>>=◌}
-use Rattle.sd_command_base.specs.Texts.{line_of}
+use Rattle.sd_command_base.specs.Spec.{FileArgument, Readings, whole_file_bytes, contents_of, of_result, value, within, ◌>>=◌}
+use Rattle.sd_command_base.specs.Texts.{line_of_status}
 use Rattle.sd_command_base.proofs.Follow.{then_is}
 use Rattle.sd_run_broadcasts.specs.Air.{air_line, air_meaning, air_plan_by, air_report, air_site_of_file, airing}
 use Rattle.sd_run_broadcasts.specs.Air.{live_clear, live_sent, mark_word, told_air_site}
@@ -45,11 +45,11 @@ plain_site good = record { bytes = good.bytes; there = good.there; is_site = goo
 air_site_good : (given : Readings) (word : FileArgument) (fields : SiteFields) (line : BookLine) →
     (good : IsGoodAirSite (given word) fields line) →
     (air_site_of_file word.number (given word)).result ≡ Ok (fields, Some line)
-unfolding air_site_of_file newest_of
+unfolding air_site_of_file site_of_chain
 air_site_good given word fields line good =
     ap (λ (got : Option Bytes). (air_site_of_file word.number got).result) good.there
     ∙ then_is (within word.number most_site_bytes SiteBytes (Some good.bytes)) good.bytes
-    (λ bytes. judged (told_air_site word.number bytes (newest_of none_fewer bytes)))
+    (λ bytes. of_result (told_air_site word.number bytes (site_of_chain none_fewer bytes)))
     (file_read word.number most_site_bytes SiteBytes good.bytes (site_fits good.bytes fields good.is_site))
     ∙ rw (
       site_said good.bytes fields good.is_site,
@@ -68,7 +68,7 @@ air_judged : (given : Readings) (site book clear out : FileArgument) (plan : Pla
 unfolding air_meaning air_plan_by
 air_judged given site book clear out plan line bytes good_site good_book own there =
     then_is (air_plan_by site.number book.number (given site) (given book)) plan
-    (λ plan. all_of clear.number (given clear)
+    (λ plan. whole_file_bytes clear.number (given clear)
     >>= λ bytes. unused (given (mark_word site)) >>= λ new. value (airing plan site out bytes))
     (then_is (air_site_of_file site.number (given site)) (plan.site, Some line)
     (λ said. own_book_of_file book.number said.0.height said.1 (given book)
@@ -78,7 +78,7 @@ air_judged given site book clear out plan line bytes good_site good_book own the
     (λ commands. value (record { site = plan.site; commands = commands }))
     (own_good given plan.site.height book (Some line) plan.commands
     (site_low (given site) plan.site (plain_site good_site)) good_book own))
-    ∙ ap (λ (got : Option Bytes). (all_of clear.number got
+    ∙ ap (λ (got : Option Bytes). (whole_file_bytes clear.number got
     >>= λ bytes. unused (given (mark_word site)) >>= λ new. value (airing plan site out bytes)).result) there
 
 -- with no mark there is work
@@ -101,7 +101,7 @@ air_used given site book clear out plan line bytes mark good_site good_book own 
     ∙ ap (λ (got : Option Bytes). (unused got >>= λ new. value (airing plan site out bytes)).result) used
 
 -- so there is over the files
-module _ (names : Names) (plan : Plan) (bytes : Bytes) (a : Outside) (for_air : AreForAir a names plan bytes) where
+module _ (names : Names) (plan : Plan) (bytes : Bytes) (a : IoState) (for_air : AreForAir a names plan bytes) where
   abbrev clear : Packets
   clear = live_clear plan.site bytes
 
@@ -142,7 +142,7 @@ module _ (names : Names) (plan : Plan) (bytes : Bytes) (a : Outside) (for_air : 
       (word_at 4 names.stream) plan for_air.line bytes good_site good_book for_air.own
       (sym (of_told a files names.clear told) ∙ for_air.there) (sym (of_told a files mark told) ∙ for_air.unused)
 
-  pub air_part : (b : Outside) (answer : Status) → names.stream ≢ mark → RunResult (air_meaning (word_at 1 names.site)
+  pub air_part : (b : IoState) (answer : Status) → names.stream ≢ mark → RunResult (air_meaning (word_at 1 names.site)
       (word_at 2 names.book) (word_at 3 names.clear) (word_at 4 names.stream)) a b answer →
       IsUndisturbed a b answer → AirResult names plan bytes a b answer
   unfolding live_sent
@@ -162,7 +162,7 @@ module _ (names : Names) (plan : Plan) (bytes : Bytes) (a : Outside) (for_air : 
         periods = covers_named plan clear sends;
         marked = of_told b (insert marked names.stream sent) mark left
             ∙ (others_stay marked names.stream sent mark (λ e. apart (sym e)) ∙ made_there t.files mark []);
-        told = subst (λ (l : Bytes). Appends a.page.printed b.page.printed (l ++ line_of answer))
+        told = subst (λ (l : Bytes). Appends a.page.printed b.page.printed (l ++ line_of_status answer))
             (append-nil (air_line (air_report plan bytes))) done.printed;
         others = λ name no_out no_mark. of_told b (insert marked names.stream sent) name left
             ∙ (others_stay marked names.stream sent name no_out
@@ -170,7 +170,7 @@ module _ (names : Names) (plan : Plan) (bytes : Bytes) (a : Outside) (for_air : 
       }
 
 -- a used site is told
-pub used_part : (names : Names) (plan : Plan) (a b : Outside) (answer : Status) → AreForUsedAir a names plan →
+pub used_part : (names : Names) (plan : Plan) (a b : IoState) (answer : Status) → AreForUsedAir a names plan →
     RunResult (air_meaning (word_at 1 names.site) (word_at 2 names.book) (word_at 3 names.clear)
     (word_at 4 names.stream)) a b answer → IsUndisturbed a b answer → answer ≡ SiteUsed
 used_part names plan a b answer for_air answers well =

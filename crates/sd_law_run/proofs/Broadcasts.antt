@@ -2,11 +2,11 @@
 use Rattle.std.proofs.Common.{◌≡◌, ℕ, ◌+◌, ◌*◌, ◌^◌, ◌<◌, ◌≤◌, cond, List, [], length, reverse, Option}
 use Rattle.std.proofs.Common.{Some, None, Ok, Err, refl, ap, ◌∙◌, le-ltb, arith}
 use Rattle.std.specs.List.{concat}
-use Rattle.sd_site_cards.specs.CardFields.{CardFields, IsCard, card_of, card_bytes}
+use Rattle.sd_site_cards.specs.CardFields.{CardFields, IsCard, card_of, card_bytes, site_card}
 use Rattle.sd_site_cards.specs.CardFaults.{height_in, length_at}
 use Rattle.sd_site_cards.proofs.Spellings.{written_is_good, good_parts}
 use Rattle.sd_site_cards.proofs.Made.{made_is_card}
-use Rattle.sd_engine.specs.Taken.{Whole, taken_of, end_of}
+use Rattle.sd_engine.specs.Taken.{Whole, packets_taken, end_of}
 use Rattle.sd_spec.specs.Plan.{Plan, IsPlan}
 use Rattle.sd_spec.specs.Refused.{IsSendable}
 use Rattle.sd_spec.specs.Sent.{broadcast}
@@ -19,17 +19,17 @@ use Rattle.sd_law_losses.specs.Endings.{first_revoked, whole_ending}
 use Rattle.sd_law_losses.proofs.Theorem.{whole_refused, whole_opened, whole_ended}
 use Rattle.sd_command_base.specs.declared.status.Status.TheVariants.{Limit}
 use Rattle.sd_command_base.specs.declared.status.LimitKind.TheVariants.{CardBytes}
-use Rattle.sd_command_base.specs.Spec.{FileArgument, Readings, all_of, judged, value, within, ◌>>=◌}
-use Rattle.sd_command_base.specs.Texts.{line_of}
+use Rattle.sd_command_base.specs.Spec.{FileArgument, Readings, whole_file_bytes, of_result, value, within, ◌>>=◌}
+use Rattle.sd_command_base.specs.Texts.{line_of_status}
 use Rattle.sd_command_base.specs.Work.{Work}
 use Rattle.sd_command_base.proofs.Follow.{then_is}
 use Rattle.sd_command_base.specs.Files.{most_card_bytes}
 use Rattle.sd_command_line.specs.Words.{ReceiveOf}
-use Rattle.sd_run_broadcasts.specs.Receive.{told_card, card_of_file, ending_status, ended_status}
-use Rattle.sd_run_broadcasts.specs.Receive.{received_of, received_status, received_steps, receiving, stream_meaning}
+use Rattle.sd_run_broadcasts.specs.Receive.{card_refusal, card_of_file, ending_status, receive_end_status}
+use Rattle.sd_run_broadcasts.specs.Receive.{received_of, received_status, received_steps, receiving, receive_stream_meaning}
 use Rattle.sd_run_broadcasts.specs.Receive.{receive_meaning}
 use Rattle.sd_law_run.specs.Good.{IsGoodReceive}
-use Rattle.sd_law_run.specs.Opened.{entitled_periods, revoked_status, revoked_text, IsBroadcastTo, IsOpened}
+use Rattle.sd_law_run.specs.Opened.{unrevoked_periods, revoked_status, revoked_text, IsBroadcastTo, IsReceivedOut}
 use Rattle.sd_run.specs.Meaning.{meaning}
 use Rattle.sd_run_broadcasts.proofs.Cards.{card_read}
 use Rattle.sd_run_broadcasts.proofs.Received.{none_refused, bytes_are, unrefused_steps, scaled}
@@ -51,7 +51,7 @@ pub card_good : (word : ℕ) (card : CardFields) → IsCard card → (card_of_fi
 unfolding card_of_file
 card_good word card is =
     then_is (within word most_card_bytes CardBytes (Some (card_bytes card))) (card_bytes card)
-    (λ bytes. judged (told_card word bytes))
+    (λ bytes. of_result (card_refusal word bytes))
     (ap (λ b. cond b (Err (Limit CardBytes)) (Ok (card_bytes card)))
     (le-ltb most_card_bytes (length (card_bytes card)) (card_length card is)))
     ∙ card_read word (card_bytes card) card is refl
@@ -62,11 +62,11 @@ pub received : (given : Readings) (card stream out : FileArgument) (fields : Car
     (receive_meaning card stream out given).result ≡ Ok (receiving fields out bytes)
 unfolding receive_meaning
 received given card stream out fields bytes is there stream_there =
-    ap (λ (got : Option (List ℕ)). (card_of_file card.number got >>= λ f. stream_meaning f stream out given).result)
+    ap (λ (got : Option (List ℕ)). (card_of_file card.number got >>= λ f. receive_stream_meaning f stream out given).result)
     there
-    ∙ then_is (card_of_file card.number (Some (card_bytes fields))) fields (λ f. stream_meaning f stream out given)
+    ∙ then_is (card_of_file card.number (Some (card_bytes fields))) fields (λ f. receive_stream_meaning f stream out given)
     (card_good card.number fields is)
-    ∙ ap (λ (got : Option (List ℕ)). (all_of stream.number got >>= λ b. value (receiving fields out b)).result)
+    ∙ ap (λ (got : Option (List ℕ)). (whole_file_bytes stream.number got >>= λ b. value (receiving fields out b)).result)
     stream_there
 
 -- `receive` over a card and any stream
@@ -81,15 +81,15 @@ whole_status u None = refl
 whole_status u (Some q) = refl
 
 -- and its line
-pub whole_line : (u : ℕ) (period : Option ℕ) → line_of (revoked_status u period) ≡ revoked_text u period
-unfolding line_of
+pub whole_line : (u : ℕ) (period : Option ℕ) → line_of_status (revoked_status u period) ≡ revoked_text u period
+unfolding line_of_status
 whole_line u None = refl
 whole_line u (Some q) = refl
 
 module _ (plan : Plan) (u : ℕ) (clear : List (List ℕ)) (is : IsPlan plan) (can : IsSendable plan.site clear)
     (whole : AreWholePackets clear) (leaf : u < 2 ^ plan.site.height) where
   abbrev card : CardFields
-  card = card_of plan.site.master plan.site.ca plan.site.height u
+  card = site_card plan.site u
 
   leaf_is : card.leaf ≡ u
   unfolding card_of
@@ -99,15 +99,15 @@ module _ (plan : Plan) (u : ℕ) (clear : List (List ℕ)) (is : IsPlan plan) (c
   unfolding card_of
   height_is = refl
 
-  pub opened_bytes : (bytes : List ℕ) → taken_of bytes ≡ broadcast plan clear →
+  pub opened_bytes : (bytes : List ℕ) → packets_taken bytes ≡ broadcast plan clear →
       received_of card bytes ≡ concat (opened_by plan u clear)
   opened_bytes bytes packets =
       bytes_are card bytes ∙ ap (λ (ps : List (List ℕ)). concat (out_from card [] ps)) packets
       ∙ ap concat (whole_opened plan clear u is can whole leaf)
 
-  pub opened_status : (bytes : List ℕ) → taken_of bytes ≡ broadcast plan clear → end_of bytes ≡ Whole →
+  pub opened_status : (bytes : List ℕ) → packets_taken bytes ≡ broadcast plan clear → end_of bytes ≡ Whole →
       received_status card bytes ≡ revoked_status u (first_revoked plan u clear)
-  unfolding ended_status
+  unfolding receive_end_status
   opened_status bytes packets end =
       none_refused card bytes Whole (ap (break_from card []) packets ∙ whole_refused plan clear u is can whole leaf) end
       ∙ ap (λ (ps : List (List ℕ)). ending_status card.leaf (ending_of card (reverse ps))) packets
@@ -115,12 +115,12 @@ module _ (plan : Plan) (u : ℕ) (clear : List (List ℕ)) (is : IsPlan plan) (c
       ∙ ap (λ (v : ℕ). ending_status v (whole_ending (first_revoked plan u clear))) leaf_is
       ∙ whole_status u (first_revoked plan u clear)
 
-  pub opened_steps : (bytes : List ℕ) → taken_of bytes ≡ broadcast plan clear →
-      received_steps card bytes ≤ plan.site.height * entitled_periods plan u clear
+  pub opened_steps : (bytes : List ℕ) → packets_taken bytes ≡ broadcast plan clear →
+      received_steps card bytes ≤ plan.site.height * unrevoked_periods plan u clear
   opened_steps bytes packets =
       let most = unrefused_steps card bytes
       (ap (break_from card []) packets ∙ whole_refused plan clear u is can whole leaf)
-      ∙ ap (λ (h : ℕ). h * taken_keys card [] (taken_of bytes)) height_is
+      ∙ ap (λ (h : ℕ). h * taken_keys card [] (packets_taken bytes)) height_is
       ∙ ap (λ (ps : List (List ℕ)). plan.site.height * taken_keys card [] ps) packets in
       let keys = ap (λ (n : ℕ). plan.site.height * n) (keys_taken plan clear u is can whole leaf) in
       omega (arith, most, keys)
@@ -130,9 +130,9 @@ pub broadcast_opened : (plan : Plan) (u : ℕ) (clear : List (List ℕ)) (words 
     IsPlan plan →
     IsSendable plan.site clear → AreWholePackets clear → u < 2 ^ plan.site.height →
     (sent : IsBroadcastTo plan u clear words given) →
-    (work : Work) × ((meaning words given).result ≡ Ok work) × IsOpened plan u clear sent.out work
+    (work : Work) × ((meaning words given).result ≡ Ok work) × IsReceivedOut plan u clear sent.out work
 broadcast_opened plan u clear words given is can whole leaf sent =
-    let fields = card_of plan.site.master plan.site.ca plan.site.height u in
+    let fields = site_card plan.site u in
     let site = is.site in
     let made = made_is_card plan.site.master plan.site.ca plan.site.height u is.ca site.height.0 site.height.1 leaf in (
       receiving fields sent.out sent.bytes,

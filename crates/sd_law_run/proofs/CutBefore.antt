@@ -4,9 +4,9 @@ use Rattle.std.proofs.Common.{List, [], ◌∷◌, length, take, sym, ap, ◌∙
 use Rattle.std.specs.Prelude.{nat_lt, slice_index, ◌&&◌, ◌^◌, if◌then◌else◌}
 use Rattle.std.proofs.lemmas.Bool.{both_ways, cases_Bool, cond-true, cond-false, ne_eqb, cases_lt}
 use Rattle.std.proofs.lemmas.List.{get_or-take, get_or_past, length-take-le}
-use Rattle.sd_engine.specs.Cut.{begins_packet, cut, cut_after, read_from, readable, skipped_before, skips_few}
+use Rattle.sd_engine.specs.Cut.{begins_packet, cut_packets, cut_after, read_from, readable, skipped_before, skips_few}
 use Rattle.sd_engine.proofs.Begins.{followed, parts_of}
-use Rattle.sd_law_formats.specs.Cuts.{place_of}
+use Rattle.sd_law_formats.specs.Cuts.{packet_index}
 use Rattle.sd_law_formats.proofs.Finds.{before_place}
 
 -- how many bytes there are before packet k, or before the end, if the first n are of a packet that was cut
@@ -260,8 +260,8 @@ read_few bytes i (packet ∷ packets) =
     few_if (nat_lt i (2 ^ 48) && skips_few bytes i) packet (read_from bytes (i + 1) packets) packets
     (read_few bytes (i + 1) packets)
 
-pub readable_few : (bytes : List ℕ) → length (readable bytes) ≤ length (cut bytes)
-readable_few bytes = read_few bytes 0 (cut bytes)
+pub readable_few : (bytes : List ℕ) → length (readable bytes) ≤ length (cut_packets bytes)
+readable_few bytes = read_few bytes 0 (cut_packets bytes)
 
 -- packets are read alike of bytes in which as many are in no packet before each of them
 read_alike : (one other : List ℕ) (i : ℕ) (packets : List (List ℕ)) →
@@ -278,25 +278,25 @@ read_alike one other i (packet ∷ packets) same =
     ∙ ap (λ (ps : List (List ℕ)). if nat_lt i (2 ^ 48) && skips_few other i then packet ∷ ps else []) rest
 
 -- it is where packet k begins
-place_at : (k : ℕ) (bytes : List ℕ) → k ≤ length (cut bytes) → before_packet k zero bytes ≡ place_of k bytes
+place_at : (k : ℕ) (bytes : List ℕ) → k ≤ length (cut_packets bytes) → before_packet k zero bytes ≡ packet_index k bytes
 place_at k bytes few = omega (arith, place_is k zero bytes (omega arith) few)
 
-pub place_low : (k : ℕ) (bytes : List ℕ) → k ≤ length (cut bytes) → place_of k bytes ≤ length bytes
+pub place_low : (k : ℕ) (bytes : List ℕ) → k ≤ length (cut_packets bytes) → packet_index k bytes ≤ length bytes
 place_low k bytes few = omega (arith, place_at k bytes few, within k zero bytes)
 
 -- of the bytes before packet k as many are in no packet before each of those before it
-pub skipped_till : (k j : ℕ) (bytes : List ℕ) → k ≤ length (cut bytes) → j ≤ k →
-    skipped_before j zero (take (place_of k bytes) bytes) ≡ skipped_before j zero bytes
+pub skipped_till : (k j : ℕ) (bytes : List ℕ) → k ≤ length (cut_packets bytes) → j ≤ k →
+    skipped_before j zero (take (packet_index k bytes) bytes) ≡ skipped_before j zero bytes
 skipped_till k j bytes few low =
     ap (λ (n : ℕ). skipped_before j zero (take n bytes)) (sym (place_at k bytes few))
     ∙ skipped_part k zero j bytes (omega arith) low
 
 -- and the packets before it are read of them
-pub read_till : (k : ℕ) (bytes : List ℕ) → k ≤ length (cut bytes) →
-    readable (take (place_of k bytes) bytes) ≡ take k (readable bytes)
+pub read_till : (k : ℕ) (bytes : List ℕ) → k ≤ length (cut_packets bytes) →
+    readable (take (packet_index k bytes) bytes) ≡ take k (readable bytes)
 read_till k bytes few =
-    let first : List ℕ = take (place_of k bytes) bytes in
+    let first : List ℕ = take (packet_index k bytes) bytes in
     ap (read_from first 0) (before_place k bytes few)
-    ∙ read_alike first bytes 0 (take k (cut bytes)) (λ j from under.
-    skipped_till k j bytes few (omega (arith, under, length-take k (cut bytes))))
-    ∙ read_first bytes 0 k (cut bytes)
+    ∙ read_alike first bytes 0 (take k (cut_packets bytes)) (λ j from under.
+    skipped_till k j bytes few (omega (arith, under, length-take k (cut_packets bytes))))
+    ∙ read_first bytes 0 k (cut_packets bytes)

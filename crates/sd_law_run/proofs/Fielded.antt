@@ -8,7 +8,7 @@ use Rattle.std.proofs.lemmas.List.Elements.{All-nil, All-append, All-replicate, 
 use Rattle.std.proofs.lemmas.List.Sorted.{All-permutation, IsPermutation-reverse}
 use Rattle.sd_engine.specs.Driving.{most_packets}
 use Rattle.sd_engine.specs.Stream.{break_of, is_packet, packets_of, pieces}
-use Rattle.sd_engine.specs.Taken.{taken_of}
+use Rattle.sd_engine.specs.Taken.{packets_taken}
 use Rattle.sd_engine.specs.declared.fault.StreamBreak.{StreamBreak}
 use Rattle.sd_engine.proofs.Walking.{all_counted}
 use Rattle.sd_site_cards.specs.SiteFields.{SiteFields}
@@ -16,7 +16,7 @@ use Rattle.sd_base.specs.Lines.{lines_of}
 use Rattle.sd_spec.specs.declared.event.Event.{Event}
 use Rattle.sd_spec.specs.Book.{sends}
 use Rattle.sd_spec.specs.Events.{is_of}
-use Rattle.sd_field.specs.Script.{by_run, judged as judged_line, put_before, script_from, script_of, spoken}
+use Rattle.sd_field.specs.Script.{by_run, judged_event as judged_line, put_before, script_from, script_of, script_line_event}
 use Rattle.sd_field.specs.declared.fault.ScriptFault.{ScriptFault}
 use Rattle.sd_field.proofs.Scripts.{IsGood, line_good}
 use Rattle.sd_law_broadcast.specs.Packets.{IsWholePacket, AreWholePackets}
@@ -25,12 +25,12 @@ use Rattle.sd_law_broadcast.proofs.Cut.{taken_synced, taken_whole}
 use Rattle.sd_command_base.specs.declared.status.Status.{Status}
 use Rattle.sd_command_base.specs.declared.status.Status.TheVariants.{Limit}
 use Rattle.sd_command_base.specs.declared.status.LimitKind.TheVariants.{BookBytes, FieldHeight, FieldPackets}
-use Rattle.sd_command_base.specs.Spec.{FileArgument, Readings, judged, value, within, ◌>>=◌}
+use Rattle.sd_command_base.specs.Spec.{FileArgument, Readings, of_result, value, within, ◌>>=◌}
 use Rattle.sd_command_base.proofs.Follow.{then_is}
-use Rattle.sd_command_base.specs.Files.{low_site_of_file, most_book_bytes, site_in, told_low}
+use Rattle.sd_command_base.specs.Files.{low_site_of_file, most_book_bytes, site_in, low_site_or_status}
 use Rattle.sd_command_base.specs.Printed.{printing}
 use Rattle.sd_run_broadcasts.specs.Field.{Inputs, clear_of_file, field_meaning, field_text, inputs_by, inputs_meaning}
-use Rattle.sd_run_broadcasts.specs.Field.{most_clear_bytes, most_height, script_of_file, told_clear, told_script}
+use Rattle.sd_run_broadcasts.specs.Field.{field_clear_bytes, most_field_height, script_of_file, told_clear, script_or_status}
 use Rattle.sd_run_broadcasts.specs.Field.{unbroken}
 use Rattle.sd_law_field.specs.Fielded.{confirmed_lines}
 use Rattle.sd_law_field.specs.Fielded as fielded
@@ -64,7 +64,7 @@ script_fits d k n [] events few e =
     let same : [] ≡ events = cc in
     subst (Fits d n) same (omega (arith, few), All-nil (λ event. is_of d event ≡ true))
 script_fits d k n (line ∷ lines) events few e =
-    by_line (judged_line d k n (spoken line)) refl e
+    by_line (judged_line d k n (script_line_event line)) refl e
     (λ run more few rest. script_fits d (k + 1) (n + run.1) lines more few rest)
   where
     by_rest : (run : Event × ℕ) → IsGood d n run → (r : Result (List Event) ScriptFault) →
@@ -76,7 +76,7 @@ script_fits d k n (line ∷ lines) events few e =
         let same : replicate run.1 run.0 ++ more ≡ events = cc in
         subst (Fits d n) same (line_fits d n run more good (next more t))
 
-    by_line : (r : Result (Event × ℕ) ScriptFault) → judged_line d k n (spoken line) ≡ r →
+    by_line : (r : Result (Event × ℕ) ScriptFault) → judged_line d k n (script_line_event line) ≡ r →
         by_run r (λ run. put_before (replicate run.1 run.0) (script_from d (k + 1) (n + run.1) lines)) ≡ Ok events →
         ((run : Event × ℕ) (more : List Event) → n + run.1 ≤ 524288 →
         script_from d (k + 1) (n + run.1) lines ≡ Ok more → Fits d (n + run.1) more) → Fits d n events
@@ -93,8 +93,8 @@ packets_few bytes =
     let long = all_counted (length bytes / 188) bytes in
     omega (arith, long, length-take (prefix_len is_packet all) all)
 
-all_taken : (bytes : List ℕ) → length bytes ≤ 3080192 → taken_of bytes ≡ packets_of bytes
-unfolding taken_of
+all_taken : (bytes : List ℕ) → length bytes ≤ 3080192 → packets_taken bytes ≡ packets_of bytes
+unfolding packets_taken
 all_taken bytes short =
     let few = packets_few bytes in take_all most_packets (packets_of bytes) (omega (arith, few, short))
 
@@ -120,12 +120,12 @@ limits good are =
 
 -- a site whose tree is low enough is taken
 low_good : (given : Readings) (word : FileArgument) (fields : SiteFields) → IsGoodSite (given word) fields →
-    fields.height ≤ 6 → (low_site_of_file word.number most_height FieldHeight (given word)).result ≡ Ok fields
+    fields.height ≤ 6 → (low_site_of_file word.number most_field_height FieldHeight (given word)).result ≡ Ok fields
 unfolding low_site_of_file
 low_good given word fields good low =
-    then_is (site_in given word) fields (λ site. judged (told_low most_height FieldHeight site))
+    then_is (site_in given word) fields (λ site. of_result (low_site_or_status most_field_height FieldHeight site))
     (site_good given word fields good)
-    ∙ ap (λ b. cond b (Err (Limit FieldHeight)) (Ok fields)) (le-ltb most_height fields.height low)
+    ∙ ap (λ b. cond b (Err (Limit FieldHeight)) (Ok fields)) (le-ltb most_field_height fields.height low)
 
 -- and so is a stream that is whole and short enough
 clear_good : (given : Readings) (word : FileArgument) (bytes : List ℕ) → given word ≡ Some bytes →
@@ -134,8 +134,8 @@ clear_good : (given : Readings) (word : FileArgument) (bytes : List ℕ) → giv
 unfolding clear_of_file
 clear_good given word bytes there short whole =
     ap (λ (got : Option (List ℕ)). (clear_of_file word.number got).result) there
-    ∙ then_is (within word.number most_clear_bytes FieldPackets (Some bytes)) bytes (λ all. judged (told_clear all))
-    (file_read word.number most_clear_bytes FieldPackets bytes short)
+    ∙ then_is (within word.number field_clear_bytes FieldPackets (Some bytes)) bytes (λ all. of_result (told_clear all))
+    (file_read word.number field_clear_bytes FieldPackets bytes short)
     ∙ ap (λ (found : Option StreamBreak). unbroken found (packets_of bytes)) whole
 
 -- and a script for the tree
@@ -147,17 +147,17 @@ unfolding script_of_file
 script_good given word d text events there short says =
     ap (λ (got : Option (List ℕ)). (script_of_file word.number d got).result) there
     ∙ then_is (within word.number most_book_bytes BookBytes (Some text)) text
-    (λ all. judged (told_script word.number d all (script_of d all)))
+    (λ all. of_result (script_or_status word.number d all (script_of d all)))
     (file_read word.number most_book_bytes BookBytes text short)
-    ∙ ap (told_script word.number d text) says
+    ∙ ap (script_or_status word.number d text) says
 
 inputs_good : (given : Readings) (site clear : FileArgument) (fields : SiteFields) (packets : List (List ℕ)) →
-    (low_site_of_file site.number most_height FieldHeight (given site)).result ≡ Ok fields →
+    (low_site_of_file site.number most_field_height FieldHeight (given site)).result ≡ Ok fields →
     (clear_of_file clear.number (given clear)).result ≡ Ok packets →
     (inputs_meaning site clear given).result ≡ Ok (record { site = fields; clear = packets })
 unfolding inputs_by
 inputs_good given site clear fields packets is_site is_clear =
-    then_is (low_site_of_file site.number most_height FieldHeight (given site)) fields
+    then_is (low_site_of_file site.number most_field_height FieldHeight (given site)) fields
     (λ found. clear_of_file clear.number (given clear)
     >>= λ all. value {A = Inputs} (record { site = found; clear = all })) is_site
     ∙ then_is (clear_of_file clear.number (given clear)) packets

@@ -4,7 +4,7 @@ use Rattle.std.specs.List.{concat, flat_map, range_with_len}
 use Rattle.std.proofs.lemmas.List.{take_at, drop_at}
 use Rattle.sha2.proofs.Facts256.{length-sha256}
 use Rattle.sd_tree_keys.specs.Keys.{check_value_of, whole_key_of}
-use Rattle.sd_tree_keys.specs.Names.{given, given_under}
+use Rattle.sd_tree_keys.specs.Names.{names_of_receiver, pair_names_under}
 use Rattle.sd_site_cards.specs.Files.{check_of, file_body, file_bytes}
 use Rattle.sd_site_cards.specs.Secrets.{secret_of}
 use Rattle.sd_site_cards.specs.CardFields.{card_bytes, card_head, card_of}
@@ -36,7 +36,7 @@ first_secret head key secrets head_is key_is =
 
 pub made_fingerprint : (master : List ℕ) (ca d u : ℕ) →
     fingerprint_in (card_bytes (card_of master ca d u)) ≡ fingerprint_of master
-unfolding card_bytes card_of given secret_of whole_key_of
+unfolding card_bytes card_of names_of_receiver secret_of whole_key_of
 made_fingerprint master ca d u =
     ap check_value_of (first_secret (card_head d u ca) (whole_key_of master)
-    (map (secret_of master) (flat_map (given_under d u) (range_with_len 0 d))) (head_long d u ca) (key_long master))
+    (map (secret_of master) (flat_map (pair_names_under d u) (range_with_len 0 d))) (head_long d u ca) (key_long master))

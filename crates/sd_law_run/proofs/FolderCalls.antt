@@ -9,14 +9,14 @@ use Rattle.sd_base.specs.Types.{Bytes, FileName}
 use Rattle.sd_ports.specs.Files.{Files}
 use Rattle.sd_site_cards.specs.SiteFields.{SiteFields}
 use Rattle.sd_site_cards.specs.Text.{◌>>=◌, site_of, book_line_of}
-use Rattle.sd_site_cards.specs.Written.{newest_of, is_first, is_whole, none_fewer}
+use Rattle.sd_site_cards.specs.Written.{site_of_chain, is_first_site, are_lines_whole, none_fewer}
 use Rattle.sd_site_cards.specs.declared.book_line.BookLine.{BookLine}
 use Rattle.sd_site_cards.specs.declared.site_fault.SiteFault.{SiteFault}
 use Rattle.sd_site_cards.specs.declared.site_fault.SiteFault.TheVariants.{Short}
 use Rattle.sd_command_base.specs.Spec.{FileArgument, contents_of}
 use Rattle.sd_command_base.specs.Shown.{NumberArgument}
 use Rattle.sd_command_base.specs.Work.{Work}
-use Rattle.sd_run_books.specs.Chain.{line_of}
+use Rattle.sd_run_books.specs.Chain.{line_of_book}
 use Rattle.sd_run_books.specs.Next.{next_meaning}
 use Rattle.sd_run_books.specs.SiteNames.{follows}
 use Rattle.sd_run_books.specs.Twin.{twin_meaning}
@@ -28,14 +28,14 @@ use Rattle.sd_law_chain.proofs.Found.{next_found, twin_found}
 use Rattle.sd_law_chain.proofs.Links.{first_link}
 use Rattle.sd_law_chain.proofs.Making.{next_alone, next_exactly, twin_alone, twin_exactly}
 use Rattle.sd_law_chain.proofs.Rising.{all_are_sayable}
-use Rattle.sd_law_run.specs.Folders.{number_in, name_at, HasName, text_of_link, HoldsChain}
+use Rattle.sd_law_run.specs.Folders.{last_number_in, site_name_at, HasName, text_of_link, HoldsChain}
 use Rattle.sd_law_run.proofs.FolderFiles.{first_name}
 use Rattle.sd_law_run.proofs.FolderNames.{named_before}
 
 -- what is above a chain makes no site
 abbrev pub IsDead : Option Bytes → Type 0
 IsDead above = (torn : Bytes) (newest : SiteFields × Option BookLine) → above ≡ Some torn →
-    newest_of is_first torn ≡ Ok newest → ⊥
+    site_of_chain is_first_site torn ≡ Ok newest → ⊥
 
 -- a result has one value
 one_newest : (r : Result (SiteFields × Option BookLine) SiteFault) (x y : SiteFields × Option BookLine) →
@@ -44,36 +44,36 @@ one_newest r x y is same = ap (λ (s : Result (SiteFields × Option BookLine) Si
     (sym is ∙ same)
 
 -- what `twin` takes, `next` takes too
-pub taken_by_both : (text : Bytes) (newest : SiteFields × Option BookLine) → newest_of none_fewer text ≡ Ok newest →
-    newest_of is_first text ≡ Ok newest
-unfolding newest_of
-taken_by_both text newest e = by_said (site_of text) (is_whole 13 text) e
+pub taken_by_both : (text : Bytes) (newest : SiteFields × Option BookLine) → site_of_chain none_fewer text ≡ Ok newest →
+    site_of_chain is_first_site text ≡ Ok newest
+unfolding site_of_chain
+taken_by_both text newest e = by_said (site_of text) (are_lines_whole 13 text) e
   where
     by_said : (said : Result SiteFields SiteFault) (thirteen : Bool) →
         (said >>= λ site. cond (thirteen || false) (Ok (site, book_line_of text)) (Err Short)) ≡ Ok newest →
-        (said >>= λ site. cond (thirteen || is_first text site) (Ok (site, book_line_of text)) (Err Short)) ≡ Ok newest
+        (said >>= λ site. cond (thirteen || is_first_site text site) (Ok (site, book_line_of text)) (Err Short)) ≡ Ok newest
     by_said (Err fault) thirteen h = absurd cc
     by_said (Ok site) true h = h
     by_said (Ok site) false h = absurd cc
 
 -- the last site of a chain has its file
 last_file : (files : Files) (name : FileName) (root : Link) (calls : List Call) (above : Option Bytes) (text : Bytes) →
-    HoldsChain files name root calls above → (n : ℕ) → n ≡ length calls → get files (name_at name n) ≡ Some text →
-    IsFileOf is_first (link_at root calls n) text
+    HoldsChain files name root calls above → (n : ℕ) → n ≡ length calls → get files (site_name_at name n) ≡ Some text →
+    IsFileOf is_first_site (link_at root calls n) text
 last_file files name root calls above text holds zero is there =
     let same : holds.bytes ≡ text =
     same_Some holds.bytes text (sym holds.there ∙ (ap (get files) (first_name holds) ∙ there)) in
-    subst (λ (l : Link). IsFileOf is_first l text) (sym (first_link root calls))
-    (subst (IsFileOf is_first root) same holds.first)
+    subst (λ (l : Link). IsFileOf is_first_site l text) (sym (first_link root calls))
+    (subst (IsFileOf is_first_site root) same holds.first)
 last_file files name root calls above text holds (suc k) is there =
     let link = link_at root calls (suc k) in
     let sayable = all_are_sayable root calls (suc k) holds.is_chain (omega (arith, is)) in
     let same : text_of_link link ≡ text =
     same_Some (text_of_link link) text (sym (holds.made (suc k) (omega arith) (omega (arith, is))) ∙ there) in
-    subst (IsFileOf is_first link) same (record {
-      short = omega (arith, short_written link.site (line_of link.book) sayable);
-      line = Some (line_of link.book);
-      says = site_read is_first link.site (line_of link.book) sayable;
+    subst (IsFileOf is_first_site link) same (record {
+      short = omega (arith, short_written link.site (line_of_book link.book) sayable);
+      line = Some (line_of_book link.book);
+      says = site_read is_first_site link.site (line_of_book link.book) sayable;
       book = refl;
     })
 
@@ -85,32 +85,32 @@ nothing_there got bytes none some = let e = sym none ∙ some in cc
 record IsLast (root : Link) (calls : List Call) (above : Option Bytes) (i : ℕ) (text : Bytes) : Type 0 where
   at : i ≡ length calls + 1
   none : above ≡ None
-  is_file : IsFileOf is_first (link_at root calls (length calls)) text
+  is_file : IsFileOf is_first_site (link_at root calls (length calls)) text
 
 last_read : (files : Files) (name : FileName) (root : Link) (calls : List Call) (above : Option Bytes) (i : ℕ)
     (site out text : Bytes) (newest : SiteFields × Option BookLine) → HoldsChain files name root calls above →
-    IsDead above → HasName name i → out ≡ name_at name i → follows site out ≡ true → get files out ≡ None →
-    get files site ≡ Some text → newest_of is_first text ≡ Ok newest → IsLast root calls above i text
+    IsDead above → HasName name i → out ≡ site_name_at name i → follows site out ≡ true → get files out ≡ None →
+    get files site ≡ Some text → site_of_chain is_first_site text ≡ Ok newest → IsLast root calls above i text
 last_read files name root calls above zero site out text newest holds dead named at follow new there says =
     absurd (nothing_there (get files out) holds.bytes new (ap (get files) (at ∙ sym (first_name holds)) ∙ holds.there))
 last_read files name root calls above (suc k) site out text newest holds dead named at follow new there says =
-    let before : site ≡ name_at name k =
-    named_before name site out (number_in name) k holds.numbered named at follow in
-    let is : get files (name_at name k) ≡ Some text = ap (get files) (sym before) ∙ there in
-    let free : get files (name_at name (suc k)) ≡ None = ap (get files) (sym at) ∙ new in
+    let before : site ≡ site_name_at name k =
+    named_before name site out (last_number_in name) k holds.numbered named at follow in
+    let is : get files (site_name_at name k) ≡ Some text = ap (get files) (sym before) ∙ there in
+    let free : get files (site_name_at name (suc k)) ≡ None = ap (get files) (sym at) ∙ new in
     elim (cases_lt k (length calls)) [
       | inl lt ↦
-          absurd (nothing_there (get files (name_at name (suc k))) (text_of_link (link_at root calls (suc k))) free
+          absurd (nothing_there (get files (site_name_at name (suc k))) (text_of_link (link_at root calls (suc k))) free
           (holds.made (suc k) (omega arith) (omega (arith, lt))))
       | inr least ↦ elim (cases_lt (length calls) k) [
         | inl gt ↦ elim (cases_lt (length calls + 1) k) [
-          | inl past ↦ absurd (nothing_there (get files (name_at name k)) text
+          | inl past ↦ absurd (nothing_there (get files (site_name_at name k)) text
               (holds.free k past (omega (arith, named))) is)
           | inr most ↦
               let one : k ≡ length calls + 1 = omega (arith, gt, most) in
               let has : HasName name (length calls + 1) = omega (arith, named, one) in
               absurd (dead text newest (sym (holds.next has)
-              ∙ (ap (λ (j : ℕ). get files (name_at name j)) (sym one) ∙ is)) says)
+              ∙ (ap (λ (j : ℕ). get files (site_name_at name j)) (sym one) ∙ is)) says)
         ]
         | inr most ↦
             let last : k ≡ length calls = omega (arith, least, most) in
@@ -118,8 +118,8 @@ last_read files name root calls above (suc k) site out text newest holds dead na
             record {
               at = one;
               none = sym (holds.next (omega (arith, named, one)))
-                  ∙ (ap (λ (j : ℕ). get files (name_at name j)) (sym one) ∙ free);
-              is_file = subst (λ (j : ℕ). IsFileOf is_first (link_at root calls j) text) last
+                  ∙ (ap (λ (j : ℕ). get files (site_name_at name j)) (sym one) ∙ free);
+              is_file = subst (λ (j : ℕ). IsFileOf is_first_site (link_at root calls j) text) last
                   (last_file files name root calls above text holds k last is);
             }
       ]
@@ -136,7 +136,7 @@ pub record IsCall (root : Link) (calls : List Call) (above : Option Bytes) (i : 
 -- `next` with its BOOK
 pub next_call : (files : Files) (name : FileName) (root : Link) (calls : List Call) (above : Option Bytes) (i : ℕ)
     (site book : FileArgument) (words : NumberArgument) (out : FileArgument) (work : Work) →
-    HoldsChain files name root calls above → IsDead above → HasName name i → out.text ≡ name_at name i →
+    HoldsChain files name root calls above → IsDead above → HasName name i → out.text ≡ site_name_at name i →
     1 ≤ words.value → (next_meaning site book words out (contents_of files)).result ≡ Ok work →
     (bytes : Bytes) × (get files book.text ≡ Some bytes)
     × IsCall root calls above i (Next bytes words.value) out work
@@ -154,17 +154,17 @@ next_call files name root calls above i site book words out work holds dead name
     (bytes, found.longer.there, record { at = last.at; none = last.none; taken = taken.0; makes = same })
 
 -- a file that both read says one thing
-file_of_both : (link : Link) (text : Bytes) (newest : SiteFields × Option BookLine) → IsFileOf is_first link text →
-    newest_of none_fewer text ≡ Ok newest → IsFileOf none_fewer link text
+file_of_both : (link : Link) (text : Bytes) (newest : SiteFields × Option BookLine) → IsFileOf is_first_site link text →
+    site_of_chain none_fewer text ≡ Ok newest → IsFileOf none_fewer link text
 file_of_both link text newest is says =
     let same =
-    one_newest (newest_of is_first text) newest (link.site, is.line) (taken_by_both text newest says) is.says in
+    one_newest (site_of_chain is_first_site text) newest (link.site, is.line) (taken_by_both text newest says) is.says in
     record { short = is.short; line = is.line; says = says ∙ ap Ok same; book = is.book }
 
 -- `twin`
 pub twin_call : (files : Files) (name : FileName) (root : Link) (calls : List Call) (above : Option Bytes) (i : ℕ)
     (site : FileArgument) (words : NumberArgument) (out : FileArgument) (work : Work) →
-    HoldsChain files name root calls above → IsDead above → HasName name i → out.text ≡ name_at name i →
+    HoldsChain files name root calls above → IsDead above → HasName name i → out.text ≡ site_name_at name i →
     1 ≤ words.value → (twin_meaning site words out (contents_of files)).result ≡ Ok work →
     IsCall root calls above i (Twin words.value) out work
 twin_call files name root calls above i site words out work holds dead named at some is =

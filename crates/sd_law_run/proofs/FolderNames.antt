@@ -20,7 +20,7 @@ use Rattle.sd_base.proofs.Digits.{own}
 use Rattle.sd_base.proofs.DecimalNumbers.{number_of_decimal, decimal_of_number}
 use Rattle.sd_site_cards.specs.Chain.{most_word}
 use Rattle.sd_run_books.specs.SiteNames.{after_number, before_number, digits_in, follows, is_one_up}
-use Rattle.sd_law_run.specs.Folders.{name_at}
+use Rattle.sd_law_run.specs.Folders.{site_name_at}
 
 -- a list is empty, or its first element fails a test
 abbrev pub Fails : (ℕ → Bool) → List ℕ → Type 0
@@ -203,11 +203,11 @@ number_cut name n m is low =
 
 -- what stands round the number of a name of the chain, and the number
 pub named_parts : (name : List ℕ) (n i : ℕ) → decimal_value (digits_in name) ≡ Some n → n + i < 2 ^ 64 →
-    (before_number (name_at name i) ≡ before_number name) × (decimal_value (digits_in (name_at name i)) ≡ Some (n + i))
-    × (after_number (name_at name i) ≡ after_number name)
-unfolding name_at
+    (before_number (site_name_at name i) ≡ before_number name) × (decimal_value (digits_in (site_name_at name i)) ≡ Some (n + i))
+    × (after_number (site_name_at name i) ≡ after_number name)
+unfolding site_name_at
 named_parts name n i is low =
-    let shape : name_at name i ≡ before_number name ++ (decimal (n + i) ++ after_number name) =
+    let shape : site_name_at name i ≡ before_number name ++ (decimal (n + i) ++ after_number name) =
     ap (λ (o : Option ℕ). before_number name ++ (decimal (unwrap_or o 0 + i) ++ after_number name)) is in
     let read = cut_read _ _ _ _ (number_cut name n (n + i) is low) in (
       ap before_number shape ∙ read.0,
@@ -218,7 +218,7 @@ named_parts name n i is low =
 
 -- two names of a chain are one if their numbers are
 pub names_differ : (name : List ℕ) (n i j : ℕ) → decimal_value (digits_in name) ≡ Some n → n + i < 2 ^ 64 →
-    n + j < 2 ^ 64 → name_at name i ≡ name_at name j → i ≡ j
+    n + j < 2 ^ 64 → site_name_at name i ≡ site_name_at name j → i ≡ j
 names_differ name n i j is a b same =
     let one = named_parts name n i is a in
     let other = named_parts name n j is b in
@@ -229,11 +229,11 @@ names_differ name n i j is a b same =
 -- a name whose number is that is the one of the chain
 named_so : (name other : List ℕ) (n m i : ℕ) → decimal_value (digits_in name) ≡ Some n →
     decimal_value (digits_in other) ≡ Some m → m ≡ n + i → m < 2 ^ 64 →
-    before_number other ≡ before_number name → after_number other ≡ after_number name → other ≡ name_at name i
-unfolding name_at
+    before_number other ≡ before_number name → after_number other ≡ after_number name → other ≡ site_name_at name i
+unfolding site_name_at
 named_so name other n m i is said number low before after =
     let cut = cut_at_number other m said in
-    let shape : name_at name i ≡ before_number name ++ (decimal (n + i) ++ after_number name) =
+    let shape : site_name_at name i ≡ before_number name ++ (decimal (n + i) ++ after_number name) =
     ap (λ (o : Option ℕ). before_number name ++ (decimal (unwrap_or o 0 + i) ++ after_number name)) is in
     cut.whole
     ∙ (ap (λ (r : List ℕ). r ++ (digits_in other ++ after_number other)) before
@@ -242,7 +242,7 @@ named_so name other n m i is said number low before after =
     ∙ (ap (λ (r : List ℕ). before_number name ++ (decimal (n + i) ++ r)) after ∙ sym shape)))
 
 -- the name itself is the first
-pub named_first : (name : List ℕ) (n : ℕ) → decimal_value (digits_in name) ≡ Some n → n < 2 ^ 64 → name ≡ name_at name 0
+pub named_first : (name : List ℕ) (n : ℕ) → decimal_value (digits_in name) ≡ Some n → n < 2 ^ 64 → name ≡ site_name_at name 0
 named_first name n is low = named_so name name n n 0 is is (omega arith) low refl refl
 
 -- the number before one
@@ -256,7 +256,7 @@ one_up (Some m) (Some found) k e is =
 
 -- if a name of a chain follows a name, that is the name before it
 pub named_before : (name site out : List ℕ) (n k : ℕ) → decimal_value (digits_in name) ≡ Some n →
-    n + suc k ≤ most_word → out ≡ name_at name (suc k) → follows site out ≡ true → site ≡ name_at name k
+    n + suc k ≤ most_word → out ≡ site_name_at name (suc k) → follows site out ≡ true → site ≡ site_name_at name k
 unfolding follows
 named_before name site out n k is low out_is follow =
     let parts = and_parts (bytes_eq (before_number site) (before_number out)) _ follow in
@@ -270,25 +270,25 @@ named_before name site out n k is low out_is follow =
 
 -- a name is one of a chain's, or none of them
 pub find_name : (name out : List ℕ) (n : ℕ) → decimal_value (digits_in name) ≡ Some n →
-    ((i : ℕ) × (n + i ≤ most_word) × (out ≡ name_at name i)) ⊎ ((i : ℕ) → n + i ≤ most_word → out ≢ name_at name i)
+    ((i : ℕ) × (n + i ≤ most_word) × (out ≡ site_name_at name i)) ⊎ ((i : ℕ) → n + i ≤ most_word → out ≢ site_name_at name i)
 find_name name out n is = by_number (decimal_value (digits_in out)) refl
   where
-    number_of : (i : ℕ) → n + i ≤ most_word → out ≡ name_at name i → decimal_value (digits_in out) ≡ Some (n + i)
+    number_of : (i : ℕ) → n + i ≤ most_word → out ≡ site_name_at name i → decimal_value (digits_in out) ≡ Some (n + i)
     number_of i low same = ap (λ (r : List ℕ). decimal_value (digits_in r)) same
         ∙ (named_parts name n i is (omega (arith, low))).1
 
     by_text : (k : ℕ) → decimal_value (digits_in out) ≡ Some k → n ≤ k → k ≤ most_word → (b : Bool) →
-        bytes_eq out (name_at name (k - n)) ≡ b →
-        ((i : ℕ) × (n + i ≤ most_word) × (out ≡ name_at name i)) ⊎ ((i : ℕ) → n + i ≤ most_word → out ≢ name_at name i)
+        bytes_eq out (site_name_at name (k - n)) ≡ b →
+        ((i : ℕ) × (n + i ≤ most_word) × (out ≡ site_name_at name i)) ⊎ ((i : ℕ) → n + i ≤ most_word → out ≢ site_name_at name i)
     by_text k said least most true e = inl (k - n, omega (arith, least, most), (bytes_eq-Decides _ _).0 e)
     by_text k said least most false e = inr (λ i low same.
         let number : k ≡ n + i = same_Some k (n + i) (sym said ∙ number_of i low same) in
         let place : k - n ≡ i = omega (arith, number) in
-        let there : out ≡ name_at name (k - n) = same ∙ ap (name_at name) (sym place) in
-        absurd (let f = sym ((bytes_eq-Decides out (name_at name (k - n))).1 there) ∙ e in cc))
+        let there : out ≡ site_name_at name (k - n) = same ∙ ap (site_name_at name) (sym place) in
+        absurd (let f = sym ((bytes_eq-Decides out (site_name_at name (k - n))).1 there) ∙ e in cc))
 
     by_number : (o : Option ℕ) → decimal_value (digits_in out) ≡ o →
-        ((i : ℕ) × (n + i ≤ most_word) × (out ≡ name_at name i)) ⊎ ((i : ℕ) → n + i ≤ most_word → out ≢ name_at name i)
+        ((i : ℕ) × (n + i ≤ most_word) × (out ≡ site_name_at name i)) ⊎ ((i : ℕ) → n + i ≤ most_word → out ≢ site_name_at name i)
     by_number None said = inr (λ i low same. absurd (let f = sym said ∙ number_of i low same in cc))
     by_number (Some k) said = elim (cases_lt k n) [
       | inl lt ↦ inr (λ i low same.
@@ -296,6 +296,6 @@ find_name name out n is = by_number (decimal_value (digits_in out)) refl
       | inr least ↦ elim (cases_lt most_word k) [
         | inl lt ↦ inr (λ i low same.
             absurd (omega (arith, lt, low, same_Some k (n + i) (sym said ∙ number_of i low same))))
-        | inr most ↦ by_text k said least most (bytes_eq out (name_at name (k - n))) refl
+        | inr most ↦ by_text k said least most (bytes_eq out (site_name_at name (k - n))) refl
       ]
     ]

@@ -10,8 +10,8 @@ use Rattle.sd_command_line.specs.declared.command.Command.{Command}
 use Rattle.sd_command_line.specs.declared.command.Command.TheVariants.{Next, Twin, Watch}
 use Rattle.sd_command_line.specs.Commands.{command_named, operands_of}
 use Rattle.sd_command_line.specs.Words.{Argument, CommandOf, HelpOf, InputOf, NumberOf, Order, OutOf, VersionOf}
-use Rattle.sd_command_line.specs.Words.{arguments_from, before, command_in, counted, help_on, help_words, is_help}
-use Rattle.sd_command_line.specs.Words.{is_version, named_words, number, number_in, numbered, order_after, order_of}
+use Rattle.sd_command_line.specs.Words.{arguments_from, before, command_in, nonzero_count, help_on, help_words, is_help}
+use Rattle.sd_command_line.specs.Words.{is_version, named_words, number, number_of_word, number_argument, order_after, order_of}
 use Rattle.sd_command_line.specs.Words.{asks_help, ordered, out_is_taken, version_words}
 use Rattle.sd_law_chain.proofs.Found.{one_value, unmet}
 
@@ -124,11 +124,11 @@ next_counts [] arguments is = absurd (omega (arith, is.count))
 next_counts (site ∷ []) arguments is = absurd (omega (arith, is.count))
 next_counts (site ∷ book ∷ []) arguments is = absurd (omega (arith, is.count))
 next_counts (site ∷ book ∷ words ∷ []) arguments is = absurd (omega (arith, is.count))
-next_counts (site ∷ book ∷ words ∷ out ∷ []) arguments is = by_count (number_in 3 (2 ^ 32 - 1) words) is.read
+next_counts (site ∷ book ∷ words ∷ out ∷ []) arguments is = by_count (number_of_word 3 (2 ^ 32 - 1) words) is.read
   where
     by_count : (r : Result ℕ Status) →
         before (Ok (InputOf (word_at 1 site))) (before (Ok (InputOf (word_at 2 book)))
-        (before (numbered 3 (counted 3 r)) (before (Ok (OutOf (word_at 4 out))) (Ok [])))) ≡ Ok arguments →
+        (before (number_argument 3 (nonzero_count 3 r)) (before (Ok (OutOf (word_at 4 out))) (Ok [])))) ≡ Ok arguments →
         1 ≤ (number 3 arguments).value
     by_count (Ok zero) h = absurd cc
     by_count (Ok (suc n)) h =
@@ -144,10 +144,10 @@ unfolding operands_of
 twin_counts [] arguments is = absurd (omega (arith, is.count))
 twin_counts (site ∷ []) arguments is = absurd (omega (arith, is.count))
 twin_counts (site ∷ words ∷ []) arguments is = absurd (omega (arith, is.count))
-twin_counts (site ∷ words ∷ out ∷ []) arguments is = by_count (number_in 2 (2 ^ 32 - 1) words) is.read
+twin_counts (site ∷ words ∷ out ∷ []) arguments is = by_count (number_of_word 2 (2 ^ 32 - 1) words) is.read
   where
     by_count : (r : Result ℕ Status) →
-        before (Ok (InputOf (word_at 1 site))) (before (numbered 2 (counted 2 r))
+        before (Ok (InputOf (word_at 1 site))) (before (number_argument 2 (nonzero_count 2 r))
         (before (Ok (OutOf (word_at 3 out))) (Ok []))) ≡ Ok arguments → 1 ≤ (number 2 arguments).value
     by_count (Ok zero) h = absurd cc
     by_count (Ok (suc n)) h =

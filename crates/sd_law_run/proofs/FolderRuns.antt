@@ -12,9 +12,9 @@ use Rattle.sd_ports.specs.Files.{Files}
 use Rattle.sd_ports.specs.Bytes.{IsPrefix}
 use Rattle.sd_command_base.specs.declared.status.Status.{Status}
 use Rattle.sd_command_base.specs.declared.status.Status.TheVariants.{Done}
-use Rattle.sd_command_base.specs.Outside.{DepotState, Outside}
+use Rattle.sd_command_base.specs.Outside.{DepotState, IoState}
 use Rattle.sd_command_base.specs.Results.{RunResult}
-use Rattle.sd_command_base.specs.Spec.{FileArgument, Readings, contents_of, judged}
+use Rattle.sd_command_base.specs.Spec.{FileArgument, Readings, contents_of, of_result}
 use Rattle.sd_command_base.specs.Work.{Mark, Out, Work, files_marked, files_with}
 use Rattle.sd_command_line.specs.declared.command.Command.{Command}
 use Rattle.sd_command_line.specs.declared.command.Command.TheVariants.{Next, Twin}
@@ -23,16 +23,16 @@ use Rattle.sd_run.specs.Meaning.{command_meaning, meaning, order_meaning}
 use Rattle.sd_law_chain.specs.Chain as chain
 use Rattle.sd_law_chain.specs.Chain.{Call, IsChain, IsTaken, Link, link_at, made_by}
 use Rattle.sd_law_chain.specs.Made.{file_made}
-use Rattle.sd_law_run.specs.Left.{HasOut, with_mark}
+use Rattle.sd_law_run.specs.Left.{HasOut, with_mark_file}
 use Rattle.sd_law_run.specs.Outcome.{out_name}
-use Rattle.sd_site_cards.specs.Written.{IsSayable, is_first, newest_of}
-use Rattle.sd_run_books.specs.Chain.{line_of}
+use Rattle.sd_site_cards.specs.Written.{IsSayable, is_first_site, site_of_chain}
+use Rattle.sd_run_books.specs.Chain.{line_of_book}
 use Rattle.sd_law_formats.proofs.TornSites.{torn_sites}
 use Rattle.sd_law_broadcast.specs.Runs.{HasWords}
 use Rattle.sd_law_chain.proofs.Rising.{all_are_sayable, words_are_had}
 use Rattle.sd_law_run.specs.Folders.{AsksFor, FolderOutcome, kept, longer, torn, HasName, HoldsChain, IsFolder, IsTorn}
 use Rattle.sd_law_run.specs.Folders.{SparesNames}
-use Rattle.sd_law_run.specs.Folders.{name_at, number_in, text_of_link}
+use Rattle.sd_law_run.specs.Folders.{site_name_at, last_number_in, text_of_link}
 use Rattle.sd_law_run.proofs.AirOrders.{mark_is}
 use Rattle.sd_law_run.proofs.Left.{known_marked, run_leaves}
 use Rattle.sd_law_run.proofs.Outs.{done_leaves, out_is}
@@ -93,7 +93,7 @@ twin_out arguments given work made is makes =
 next_of : (words : List Bytes) (files : Files) (name : FileName) (root : Link) (calls : List Call)
     (above : Option Bytes) (i : ℕ)
     (arguments : List Argument) (work : Work) (made : Out) → HoldsChain files name root calls above → IsDead above →
-    HasName name i → made.name ≡ name_at name i →
+    HasName name i → made.name ≡ site_name_at name i →
     order_of words ≡ Ok (CommandOf Next arguments) → 1 ≤ (number 3 arguments).value →
     (command_meaning Next arguments (contents_of files)).result ≡ Ok work → work.out ≡ Some made →
     IsCallOf words files root calls above i made
@@ -109,7 +109,7 @@ next_of words files name root calls above i arguments work made holds dead named
 twin_of : (words : List Bytes) (files : Files) (name : FileName) (root : Link) (calls : List Call)
     (above : Option Bytes) (i : ℕ)
     (arguments : List Argument) (work : Work) (made : Out) → HoldsChain files name root calls above → IsDead above →
-    HasName name i → made.name ≡ name_at name i →
+    HasName name i → made.name ≡ site_name_at name i →
     order_of words ≡ Ok (CommandOf Twin arguments) → 1 ≤ (number 2 arguments).value →
     (command_meaning Twin arguments (contents_of files)).result ≡ Ok work → work.out ≡ Some made →
     IsCallOf words files root calls above i made
@@ -123,15 +123,15 @@ twin_of words files name root calls above i arguments work made holds dead named
 -- a run makes a site of a chain by a call of the chain
 pub made_of : (words : List Bytes) (files : Files) (name : FileName) (root : Link) (calls : List Call)
     (above : Option Bytes) (i : ℕ) (work : Work) (made : Out) → HoldsChain files name root calls above → IsDead above →
-    SparesNames name words → HasName name i → made.name ≡ name_at name i →
+    SparesNames name words → HasName name i → made.name ≡ site_name_at name i →
     (meaning words (contents_of files)).result ≡ Ok work → work.out ≡ Some made →
     IsCallOf words files root calls above i made
 made_of words files name root calls above i work made holds dead spares named at is makes =
     let (order, read, meant) =
-    then_ok (judged (order_of words)) (λ o. order_meaning o (contents_of files)) work is in
+    then_ok (of_result (order_of words)) (λ o. order_meaning o (contents_of files)) work is in
     by_order order read meant
   where
-    named_out : out_name words ≡ Some (name_at name i)
+    named_out : out_name words ≡ Some (site_name_at name i)
     named_out = out_is words (contents_of files) work made is makes ∙ ap Some at
 
     by_kind : (command : Command) (arguments : List Argument) → Kind command →
@@ -180,7 +180,7 @@ pub none_dead : IsDead None
 none_dead text newest none read = absurd cc
 
 -- a run that is done has made the whole file
-done_whole : (words : List Bytes) (files : Files) (a b : Outside) (answer : Status) → a.place.files ≡ Some files →
+done_whole : (words : List Bytes) (files : Files) (a b : IoState) (answer : Status) → a.place.files ≡ Some files →
     RunResult (meaning words) a b answer →
     (has : HasOut files (meaning words (contents_of files)).result a.place b.place) → answer ≡ Done →
     has.prefix ≡ has.out.bytes
@@ -188,7 +188,7 @@ done_whole words files a b answer told answers has is =
     let out = has.out in
     let done = done_leaves (meaning words) files a b answer told is answers in
     let work = one_value (meaning words (contents_of files)).result done.work has.work done.is_meant has.is_meant in
-    let marked = with_mark has.work.mark files in
+    let marked = with_mark_file has.work.mark files in
     let whole : b.place.files ≡ Some (insert marked out.name out.bytes) =
     done.made.files
     ∙ (ap (λ (w : Work). files_with w.out (files_marked w.mark a.place.files)) work
@@ -203,14 +203,14 @@ done_whole words files a b answer told answers has is =
 -- a mark that is spared leaves the chain
 mark_spared : (words : List Bytes) (files : Files) (name : FileName) (work : Work) (mark : Mark) →
     SparesNames name words → (meaning words (contents_of files)).result ≡ Ok work → work.mark ≡ Some mark →
-    (i : ℕ) → HasName name i → mark.name ≢ name_at name i
+    (i : ℕ) → HasName name i → mark.name ≢ site_name_at name i
 mark_spared words files name work mark spares is marks i named e =
     (spares i named).1 (mark_is words (contents_of files) work mark is marks ∙ ap (λ (n : FileName). Some n) e)
 
 marked_holds : (words : List Bytes) (files : Files) (name : FileName) (root : Link) (calls : List Call)
     (above : Option Bytes) (work : Work) → SparesNames name words → HoldsChain files name root calls above →
     (meaning words (contents_of files)).result ≡ Ok work → (mark : Option Mark) → work.mark ≡ mark →
-    HoldsChain (with_mark mark files) name root calls above
+    HoldsChain (with_mark_file mark files) name root calls above
 marked_holds words files name root calls above work spares holds is None marks = holds
 marked_holds words files name root calls above work spares holds is (Some mark) marks =
     others_hold files name root calls above mark.name [] holds
@@ -221,17 +221,17 @@ pub folder_made : (words : List Bytes) (answer : Status) (files : Files) (name :
     (calls : List Call) (a b : DepotState) → IsFolder files name root calls → SparesNames name words →
     (has : HasOut files (meaning words (contents_of files)).result a b) →
     (answer ≡ Done → has.prefix ≡ has.out.bytes) →
-    FolderOutcome words answer files (insert (with_mark has.work.mark files) has.out.name has.prefix) name root calls
+    FolderOutcome words answer files (insert (with_mark_file has.work.mark files) has.out.name has.prefix) name root calls
 folder_made words answer files name root calls a b holds spares has whole_if =
-    let marked = with_mark has.work.mark files in
+    let marked = with_mark_file has.work.mark files in
     let still = marked_holds words files name root calls None has.work spares holds has.is_meant has.work.mark refl in
-    elim (find_name name has.out.name (number_in name) holds.numbered) [
+    elim (find_name name has.out.name (last_number_in name) holds.numbered) [
       | inl (i, named, at) ↦
           let made = made_of words files name root calls None i has.work has.out holds none_dead spares named at
           has.is_meant has.makes in
           let next : HasName name (length calls + 1) = subst (HasName name) made.at named in
           let text = text_of_link (made_by (link_at root calls (length calls)) made.call) in
-          let here : has.out.name ≡ name_at name (length calls + 1) = at ∙ ap (name_at name) made.at in
+          let here : has.out.name ≡ site_name_at name (length calls + 1) = at ∙ ap (site_name_at name) made.at in
           let above : HoldsChain (insert marked has.out.name has.prefix) name root calls (Some has.prefix) =
           subst (λ (n : FileName). HoldsChain (insert marked n has.prefix) name root calls (Some has.prefix)) (sym here)
           (next_holds marked name root calls None has.prefix still next) in
@@ -259,7 +259,7 @@ folder_made words answer files name root calls a b holds spares has whole_if =
 
 -- what a run leaves of a folder
 pub folder_kept : (words : List Bytes) (files : Files) (name : FileName) (root : Link) (calls : List Call)
-    (a b : Outside) (answer : Status) → a.place.files ≡ Some files → IsFolder files name root calls →
+    (a b : IoState) (answer : Status) → a.place.files ≡ Some files → IsFolder files name root calls →
     SparesNames name words → RunResult (meaning words) a b answer →
     (now : Files) × (b.place.files ≡ Some now) × FolderOutcome words answer files now name root calls
 folder_kept words files name root calls a b answer told holds spares answers =
@@ -272,7 +272,7 @@ folder_kept words files name root calls a b answer told holds spares answers =
             (mark_spared words files name has.work has.mark spares has.is_meant has.marks)),
       )
       | inr (inr has) ↦ (
-        insert (with_mark has.work.mark files) has.out.name has.prefix,
+        insert (with_mark_file has.work.mark files) has.out.name has.prefix,
         has.left,
         folder_made words answer files name root calls a.place b.place holds spares has
             (done_whole words files a b answer told answers has),
@@ -283,13 +283,13 @@ folder_kept words files name root calls a b answer told holds spares answers =
 pub made_sayable : (root : Link) (calls : List Call) (call : Call) → IsChain root calls →
     IsTaken (link_at root calls (length calls)) call →
     IsSayable (made_by (link_at root calls (length calls)) call).site
-    (line_of (made_by (link_at root calls (length calls)) call).book)
+    (line_of_book (made_by (link_at root calls (length calls)) call).book)
     × HasWords (made_by (link_at root calls (length calls)) call).site
 made_sayable root calls call is taken =
     let more = chain_more root calls call is taken in
     let size = one_more calls call in
     let made = link_made root calls call in (
-      subst (λ (l : Link). IsSayable l.site (line_of l.book)) made
+      subst (λ (l : Link). IsSayable l.site (line_of_book l.book)) made
           (all_are_sayable root (calls ++ call ∷ []) (length calls + 1) more (omega (arith, size))),
       subst (λ (l : Link). HasWords l.site) made
           (words_are_had root (calls ++ call ∷ []) (length calls + 1) more (omega arith) (omega (arith, size))),
@@ -301,8 +301,8 @@ pub torn_dead : (files : Files) (name : FileName) (root : Link) (calls : List Ca
 torn_dead files name root calls is text newest some read =
     let made = made_by (link_at root calls (length calls)) is.call in
     let both = made_sayable root calls is.call is.holds.is_chain is.taken in
-    torn_sites made.site (line_of made.book) is.torn newest both.0 both.1 is.prefix is.proper
-    (ap (newest_of is_first) (same_Some is.torn text some) ∙ read)
+    torn_sites made.site (line_of_book made.book) is.torn newest both.0 both.1 is.prefix is.proper
+    (ap (site_of_chain is_first_site) (same_Some is.torn text some) ∙ read)
 
 -- a torn site above a chain stays as long as the files hold it
 torn_stays : {files now : Files} {name : FileName} {root : Link} {calls : List Call} →
@@ -319,7 +319,7 @@ torn_stays is holds = record {
 
 -- and a run changes nothing of its folder
 pub torn_kept : (words : List Bytes) (files : Files) (name : FileName) (root : Link) (calls : List Call)
-    (a b : Outside) (answer : Status) → a.place.files ≡ Some files → IsTorn files name root calls →
+    (a b : IoState) (answer : Status) → a.place.files ≡ Some files → IsTorn files name root calls →
     SparesNames name words → RunResult (meaning words) a b answer →
     (now : Files) × (b.place.files ≡ Some now) × IsTorn now name root calls
 torn_kept words files name root calls a b answer told is spares answers =
@@ -332,14 +332,14 @@ torn_kept words files name root calls a b answer told is spares answers =
             (mark_spared words files name has.work has.mark spares has.is_meant has.marks)),
       )
       | inr (inr has) ↦ (
-        insert (with_mark has.work.mark files) has.out.name has.prefix,
+        insert (with_mark_file has.work.mark files) has.out.name has.prefix,
         has.left,
-        elim (find_name name has.out.name (number_in name) is.holds.numbered) [
+        elim (find_name name has.out.name (last_number_in name) is.holds.numbered) [
           | inl (i, named, at) ↦
               let made = made_of words files name root calls (Some is.torn) i has.work has.out is.holds
               (torn_dead files name root calls is) spares named at has.is_meant has.makes in
               absurd (let e = made.none in cc)
-          | inr none ↦ torn_stays is (others_hold (with_mark has.work.mark files) name root calls (Some is.torn)
+          | inr none ↦ torn_stays is (others_hold (with_mark_file has.work.mark files) name root calls (Some is.torn)
               has.out.name has.prefix
               (marked_holds words files name root calls (Some is.torn) has.work spares is.holds has.is_meant
               has.work.mark refl) none)

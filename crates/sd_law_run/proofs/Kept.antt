@@ -1,11 +1,11 @@
 -- Good files of accounts and books mean work.
 use Rattle.std.proofs.Common.{◌≡◌, ℕ, List, ◌++◌, Ok, ◌∙◌}
-use Rattle.sd_book.specs.Text.{text_of}
+use Rattle.sd_book.specs.Text.{text_of_book}
 use Rattle.sd_command_base.specs.Spec.{Readings}
 use Rattle.sd_command_base.specs.Work.{NoSteps}
 use Rattle.sd_command_base.specs.Made.{making}
 use Rattle.sd_command_line.specs.Words.{AccountsOf, BookOf}
-use Rattle.sd_run_books.specs.AccountsCommand.{accounts_value, making_then, report_line}
+use Rattle.sd_run_books.specs.AccountsCommand.{accounts_value, making_then, accounts_line}
 use Rattle.sd_run_books.proofs.GoodAccounts.{accounts_good}
 use Rattle.sd_run_books.proofs.Longer.{good_files}
 use Rattle.sd_law_run.specs.Good.{IsGoodAccounts, IsGoodBooks}
@@ -14,8 +14,8 @@ use Rattle.sd_law_run.proofs.Goodness.{site_good, site_low, book_good, both_good
 
 -- accounts make their book, and are reported
 pub accounts_kept : (words : List (List ℕ)) (given : Readings) (good : IsGoodAccounts words given) →
-    (meaning words given).result ≡ Ok (making_then good.out (text_of good.commands)
-    (report_line (accounts_value good.fields.height good.bytes good.commands)))
+    (meaning words given).result ≡ Ok (making_then good.out (text_of_book good.commands)
+    (accounts_line (accounts_value good.fields.height good.bytes good.commands)))
 accounts_kept words given good =
     ordered words given (AccountsOf good.site good.accounts good.out) good.order
     ∙ accounts_good good.site good.accounts good.out given good.fields good.bytes good.commands
@@ -23,7 +23,7 @@ accounts_kept words given good =
 
 -- two books make a longer one
 pub books_joined : (words : List (List ℕ)) (given : Readings) (good : IsGoodBooks words given) →
-    (meaning words given).result ≡ Ok (making NoSteps good.out (text_of (good.before ++ good.added)))
+    (meaning words given).result ≡ Ok (making NoSteps good.out (text_of_book (good.before ++ good.added)))
 books_joined words given good =
     ordered words given (BookOf good.site good.book good.commands good.out) good.order
     ∙ good_files good.site good.book good.commands good.out given

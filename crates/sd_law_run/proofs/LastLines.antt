@@ -6,15 +6,15 @@ use Rattle.std.specs.List.{concat}
 use Rattle.std.proofs.lemmas.List.{map-append}
 use Rattle.sd_base.specs.Types.{Bytes, Packets}
 use Rattle.sd_ports.specs.Bytes.{IsPrefix}
-use Rattle.sd_engine.specs.Cut.{cut, readable}
+use Rattle.sd_engine.specs.Cut.{cut_packets, readable}
 use Rattle.sd_site_cards.specs.CardFields.{CardFields}
 use Rattle.sd_spec.specs.declared.report.Report.{Report}
 use Rattle.sd_spec.specs.Offered.{out_from}
 use Rattle.sd_spec.specs.Counting.{counting}
 use Rattle.sd_spec.specs.Reports.{report_of, reports, turned_reports}
-use Rattle.sd_run_broadcasts.specs.Watch.{lines_of, report_line, skipped_at, watched_lines, watched_of}
+use Rattle.sd_run_broadcasts.specs.Watch.{report_lines, watch_report_line, skipped_at, watched_lines, watched_of}
 use Rattle.sd_law_run.specs.Watched.{IsLastLine}
-use Rattle.sd_law_formats.specs.Cuts.{place_of}
+use Rattle.sd_law_formats.specs.Cuts.{packet_index}
 use Rattle.sd_law_run.proofs.CutBefore.{place_low, read_till, readable_few, skipped_till}
 use Rattle.sd_law_run.proofs.Reported.{last_of, packets_told, same_head, same_tail, told_alike, written_first}
 
@@ -54,22 +54,22 @@ split_map f (thing ∷ things) (one ∷ before) text after e =
 
 -- the line of a report on a stream
 abbrev line_on : CardFields → Bytes → Report → Bytes
-line_on card bytes report = report_line card.leaf (skipped_at bytes report.packets) report
+line_on card bytes report = watch_report_line card.leaf (skipped_at bytes report.packets) report
 
 module _ (card : CardFields) (bytes : Bytes) (k : ℕ) (low : k ≤ length (readable bytes)) where
-  few : k ≤ length (cut bytes)
+  few : k ≤ length (cut_packets bytes)
   few = omega (arith, low, readable_few bytes)
 
   -- the bytes before packet k, and their packets
   abbrev first : Bytes
-  first = take (place_of k bytes) bytes
+  first = take (packet_index k bytes) bytes
 
   abbrev packets : Packets
   packets = take k (readable bytes)
 
   lines_alike : (report : Report) → report.packets ≤ k → line_on card first report ≡ line_on card bytes report
   lines_alike report earlier =
-      ap (λ (n : ℕ). report_line card.leaf (min n (2 ^ 64 - 1)) report) (skipped_till k report.packets bytes few earlier)
+      ap (λ (n : ℕ). watch_report_line card.leaf (min n (2 ^ 64 - 1)) report) (skipped_till k report.packets bytes few earlier)
 
   many : length packets ≡ k
   many = omega (arith, low, length-take k (readable bytes))
@@ -93,13 +93,13 @@ module _ (card : CardFields) (bytes : Bytes) (k : ℕ) (low : k ≤ length (read
   unfolding watched_lines watched_of
   last_is before line reported report here earlier befores is =
       let told : report.packets ≡ k = ap (λ (r : Report). r.packets) (sym here) ∙ (packets_told card packets ∙ many) in
-      let place : place_of report.packets bytes ≡ place_of k bytes = ap (λ (n : ℕ). place_of n bytes) told in
+      let place : packet_index report.packets bytes ≡ packet_index k bytes = ap (λ (n : ℕ). packet_index n bytes) told in
       record {
         report = report;
         told = is;
         within = omega (arith, place, place_low k bytes few);
         lines =
-            ap (λ (n : ℕ). lines_of card (take n bytes) (reports card (readable (take n bytes)))) place
+            ap (λ (n : ℕ). report_lines card (take n bytes) (reports card (readable (take n bytes)))) place
             ∙ ap (λ (ps : Packets). map (line_on card first) (reports card ps)) (read_till k bytes few)
             ∙ first_lines
             ∙ ap (λ (rs : List Report). map (line_on card bytes) rs ++ line_on card bytes (report_of card packets) ∷ [])

@@ -3,7 +3,7 @@ use Rattle.std.proofs.Common.{◌≡◌, ℕ, ◌≤◌, ◌^◌, ◌&&◌, nat_
 use Rattle.std.proofs.lemmas.Bool.{le-leb}
 use Rattle.sd_lsd.specs.Fields.{layer_card_of, layer_bytes}
 use Rattle.sd_command_base.specs.declared.status.Status.TheVariants.{BadWord}
-use Rattle.sd_command_base.specs.Spec.{Readings, judged, value, ◌>>=◌}
+use Rattle.sd_command_base.specs.Spec.{Readings, of_result, value, ◌>>=◌}
 use Rattle.sd_command_base.specs.Work.{Uncounted}
 use Rattle.sd_command_base.proofs.Follow.{then_is}
 use Rattle.sd_command_base.specs.Files.{site_in, book_in}
@@ -29,7 +29,7 @@ layered_good words given good =
     ∙ then_is (layers_of_file good.site.number width (given good.site)) (layers d width.value)
     (λ layers. book_in given layers.height good.book
     >>= λ commands. value (layering layers.height layers.width commands))
-    (then_is (site_in given good.site) good.fields (λ fields. judged (told_layers fields.height width))
+    (then_is (site_in given good.site) good.fields (λ fields. of_result (told_layers fields.height width))
     (site_good given good.site good.fields good.good_site)
     ∙ ap (λ b. cond b (Ok (layers d width.value)) (Err (BadWord width.word)))
     (width_good d width.value good.some good.within))
@@ -47,11 +47,11 @@ lcard_good words given good =
     ordered words given (LcardOf good.site leaf width good.out) good.order
     ∙ then_is (site_in given good.site) f (λ fields. carding fields leaf width good.out)
     (site_good given good.site f good.good_site)
-    ∙ then_is (judged (told_leaf f.height leaf)) leaf.value
-    (λ u. judged (told_width f.height width)
+    ∙ then_is (of_result (told_leaf f.height leaf)) leaf.value
+    (λ u. of_result (told_width f.height width)
     >>= λ w. value (making Uncounted good.out (layer_bytes (layer_card_of f.master f.ca f.height w u))))
     (ap (λ b. cond b (Ok leaf.value) (Err (BadWord leaf.word))) (lt-ltb leaf.value (2 ^ f.height) good.of_tree))
-    ∙ then_is (judged (told_width f.height width)) width.value
+    ∙ then_is (of_result (told_width f.height width)) width.value
     (λ w. value (making Uncounted good.out (layer_bytes (layer_card_of f.master f.ca f.height w leaf.value))))
     (ap (λ b. cond b (Ok width.value) (Err (BadWord width.word)))
     (width_good f.height width.value good.some good.within))

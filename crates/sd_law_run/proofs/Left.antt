@@ -5,16 +5,16 @@ use Rattle.sd_base.specs.Count.{with_added}
 use Rattle.sd_ports.specs.Files.{Files, with_bytes}
 use Rattle.sd_ports.specs.Bytes.{IsPrefix}
 use Rattle.sd_command_base.specs.declared.status.Status.{Status}
-use Rattle.sd_command_base.specs.Outside.{DepotState, Outside}
+use Rattle.sd_command_base.specs.Outside.{DepotState, IoState}
 use Rattle.sd_command_base.specs.Spec.{Readings, contents_of}
 use Rattle.sd_command_base.specs.Work.{Mark, Out, Work, files_marked, made_marked, files_with, made_with}
-use Rattle.sd_command_base.specs.Outcome.{IsUnmade, IsMade, IsMadeShort, marked_by}
+use Rattle.sd_command_base.specs.Outcome.{IsNoOutMade, IsOutMade, IsOutMadeShort, marked_by}
 use Rattle.sd_command_base.specs.Outcome.{Progress, untouched, marking, writing, telling, printing}
 use Rattle.sd_command_base.specs.Outcome.{Outcome, refused, ended, unclosed, exhausted, failed, unmarked, nowhere}
 use Rattle.sd_command_base.specs.Outcome.{cut_off, cut_short}
 use Rattle.sd_command_base.specs.Results.{RunResult, with_page}
 use Rattle.sd_command_base.proofs.RunAnswers.{told_given}
-use Rattle.sd_law_run.specs.Left.{IsAsBefore, HasMark, HasOut, with_mark}
+use Rattle.sd_law_run.specs.Left.{IsAsBefore, HasMark, HasOut, with_mark_file}
 use Rattle.sd_law_run.proofs.AirOrders.{mark_new}
 use Rattle.sd_run.specs.Meaning.{meaning}
 
@@ -39,7 +39,7 @@ pub record MadeOut (meant : Result Work Status) (a b : DepotState) : Type 0 wher
   pub made : b.made ≡ with_added (made_marked work.mark a.made) 1
 
 abbrev pub IsLeft : Result Work Status → DepotState → DepotState → Type 0
-IsLeft meant a b = IsUnmade a b ⊎ (MadeMark meant a b ⊎ MadeOut meant a b)
+IsLeft meant a b = IsNoOutMade a b ⊎ (MadeMark meant a b ⊎ MadeOut meant a b)
 
 -- the mark is made, if there is one
 mark_made : (meant : Result Work Status) (work : Work) (mark : Option Mark) (a b : DepotState) → meant ≡ Ok work →
@@ -55,12 +55,12 @@ mark_made meant work (Some mark) a b is marks left count = inr (inl (record {
 }))
 
 none_more : (meant : Result Work Status) (work : Work) (a b : DepotState) → meant ≡ Ok work →
-    IsUnmade (marked_by work.mark a) b → IsLeft meant a b
+    IsNoOutMade (marked_by work.mark a) b → IsLeft meant a b
 none_more meant work a b is un = mark_made meant work work.mark a b is refl un.files un.made
 
 -- OUT has a prefix
 short_made : (meant : Result Work Status) (work : Work) (out : Out) (a b : DepotState) → meant ≡ Ok work →
-    work.out ≡ Some out → IsMadeShort out (marked_by work.mark a) b → IsLeft meant a b
+    work.out ≡ Some out → IsOutMadeShort out (marked_by work.mark a) b → IsLeft meant a b
 short_made meant work out a b is makes short = inr (inr (record {
   work = work;
   is_meant = is;
@@ -89,18 +89,18 @@ all_made meant work (Some out) a b is makes left count = inr (inr (record {
 }))
 
 whole_made : (meant : Result Work Status) (work : Work) (a b : DepotState) → meant ≡ Ok work →
-    IsMade work.out (marked_by work.mark a) b → IsLeft meant a b
+    IsOutMade work.out (marked_by work.mark a) b → IsLeft meant a b
 whole_made meant work a b is made = all_made meant work work.out a b is refl made.files made.made
 
 -- however far it came
-stood : (meant : Result Work Status) (a b : Outside) → Progress meant a b → IsLeft meant a.place b.place
+stood : (meant : Result Work Status) (a b : IoState) → Progress meant a b → IsLeft meant a.place b.place
 stood meant a b (untouched un k) = inl un
 stood meant a b (marking work is un k) = none_more meant work a.place b.place is un
 stood meant a b (writing work is out makes short k) = short_made meant work out a.place b.place is makes short
 stood meant a b (telling work is live out makes short k) = short_made meant work out a.place b.place is makes short
 stood meant a b (printing work is made k) = whole_made meant work a.place b.place is made
 
-came : (meant : Result Work Status) (a b : Outside) (status : Status) → Outcome meant a b status →
+came : (meant : Result Work Status) (a b : IoState) (status : Status) → Outcome meant a b status →
     IsLeft meant a.place b.place
 came meant a b status (refused e r un k c m) = inl un
 came meant a b status (ended work is s i made k c m) = whole_made meant work a.place b.place is made
@@ -115,7 +115,7 @@ came meant a b status (cut_short work is live s out makes short k r m) =
     short_made meant work out a.place b.place is makes short
 
 -- by what the files gave
-pub answers_leave : (words : List (List ℕ)) (a b : Outside) (answer : Status) →
+pub answers_leave : (words : List (List ℕ)) (a b : IoState) (answer : Status) →
     (answers : RunResult (meaning words) a b answer) →
     IsLeft (meaning words answers.obeyed.given).result a.place b.place
 answers_leave words a b answer answers =
@@ -123,12 +123,12 @@ answers_leave words a b answer answers =
     answers.obeyed.obeyed.comes
 
 -- the files that the model knows, once the mark is made
-pub known_marked : (mark : Option Mark) (files : Files) → files_marked mark (Some files) ≡ Some (with_mark mark files)
+pub known_marked : (mark : Option Mark) (files : Files) → files_marked mark (Some files) ≡ Some (with_mark_file mark files)
 known_marked None files = refl
 known_marked (Some mark) files = refl
 
 -- a run leaves all files as they were; or the mark, new and empty, beside them; or OUT with a prefix too
-pub run_leaves : (words : List (List ℕ)) (files : Files) (a b : Outside) (answer : Status) →
+pub run_leaves : (words : List (List ℕ)) (files : Files) (a b : IoState) (answer : Status) →
     a.place.files ≡ Some files → RunResult (meaning words) a b answer →
     IsAsBefore files a.place b.place
     ⊎ (HasMark files (meaning words (contents_of files)).result a.place b.place

@@ -3,7 +3,7 @@ use Rattle.std.proofs.Common.{◌≡◌, ℕ, ◌+◌, ◌^◌, ◌<◌, ◌≤�
 use Rattle.std.specs.FinMap.{insert}
 use Rattle.std.specs.List.{concat}
 use Rattle.std.specs.Io.KnownBytes.{Appends}
-use Rattle.sd_site_cards.specs.CardFields.{card_of}
+use Rattle.sd_site_cards.specs.CardFields.{site_card}
 use Rattle.sd_site_cards.proofs.Made.{made_is_card}
 use Rattle.sd_spec.specs.Plan.{Plan}
 use Rattle.sd_spec.specs.Sent.{broadcast}
@@ -11,13 +11,13 @@ use Rattle.sd_law_losses.specs.Chosen.{chosen}
 use Rattle.sd_law_losses.specs.Confirmed.{confirmed}
 use Rattle.sd_law_losses.specs.Endings.{ending_told}
 use Rattle.sd_command_base.specs.declared.status.Status.{Status}
-use Rattle.sd_command_base.specs.Texts.{line_of}
+use Rattle.sd_command_base.specs.Texts.{line_of_status}
 use Rattle.sd_command_base.specs.Spec.{contents_of}
-use Rattle.sd_command_base.specs.Outside.{Outside}
+use Rattle.sd_command_base.specs.Outside.{IoState}
 use Rattle.sd_command_base.specs.Results.{RunResult}
 use Rattle.sd_command_base.specs.Shown.{word_at}
 use Rattle.sd_run_broadcasts.specs.Receive.{receiving, received_steps, receive_meaning}
-use Rattle.sd_law_run.specs.Headline.{Names, file_in, IsUndisturbed, card_for}
+use Rattle.sd_law_run.specs.Headline.{Names, file_in, IsUndisturbed, card_file_for}
 use Rattle.sd_law_run.specs.Sendable.{AreSendable}
 use Rattle.sd_law_run.specs.Lost.{kept_items, LossResult}
 use Rattle.sd_law_run.proofs.Broadcasts.{received}
@@ -26,8 +26,8 @@ use Rattle.sd_law_run.proofs.Runs.{runs_work}
 use Rattle.sd_law_run.proofs.Parts.{is_told, of_told, made_in, others_in, card_same}
 
 pub lost_part : (names : Names) (plan : Plan) (clear : List (List ℕ)) (sends : AreSendable plan clear) (u : ℕ)
-    (flags : List Bool) (a b : Outside) (answer : Status) →
-    u < 2 ^ plan.site.height → file_in a names.card ≡ Some (card_for plan.site u) →
+    (flags : List Bool) (a b : IoState) (answer : Status) →
+    u < 2 ^ plan.site.height → file_in a names.card ≡ Some (card_file_for plan.site u) →
     file_in a names.stream ≡ Some (concat (chosen flags (broadcast plan clear))) →
     RunResult (receive_meaning (word_at 1 names.card) (word_at 2 names.stream) (word_at 3 names.out)) a b answer →
     IsUndisturbed a b answer → LossResult names plan u clear (kept_items plan clear flags) a b answer
@@ -36,9 +36,9 @@ lost_part names plan clear sends u flags a b answer leaf card_there stream_there
     let can = sends.sendable in
     let whole = sends.whole in
     let synced = sends.synced in
-    let t = is_told a.place.files names.card (card_for plan.site u) card_there in
+    let t = is_told a.place.files names.card (card_file_for plan.site u) card_there in
     let site = is.site in
-    let fields = card_of plan.site.master plan.site.ca plan.site.height u in
+    let fields = site_card plan.site u in
     let stream = concat (chosen flags (broadcast plan clear)) in
     let out = word_at 3 names.out in
     let made = made_is_card plan.site.master plan.site.ca plan.site.height u is.ca site.height.0 site.height.1 leaf in
@@ -63,5 +63,5 @@ lost_part names plan clear sends u flags a b answer leaf card_there stream_there
       others = others_in a b t.files names.out (concat (confirmed plan u clear (kept_items plan clear flags))) t.told
           left;
       told = subst (λ (l : List ℕ). Appends a.page.printed b.page.printed l)
-          (ap line_of ends ∙ ended_line u (ending_told plan u clear (kept_items plan clear flags))) done.printed;
+          (ap line_of_status ends ∙ ended_line u (ending_told plan u clear (kept_items plan clear flags))) done.printed;
     }

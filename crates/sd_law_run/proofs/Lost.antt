@@ -3,10 +3,10 @@ use Rattle.std.proofs.Common.{◌≡◌, ℕ, ◌*◌, ◌^◌, ◌<◌, ◌≤�
 use Rattle.std.proofs.Common.{refl, sym, ap, ◌∙◌, arith}
 use Rattle.std.specs.Prelude.{Some, Ok}
 use Rattle.std.specs.List.{concat}
-use Rattle.sd_site_cards.specs.CardFields.{CardFields, card_of}
+use Rattle.sd_site_cards.specs.CardFields.{CardFields, card_of, site_card}
 use Rattle.sd_site_cards.proofs.Made.{made_is_card}
 use Rattle.sd_engine.specs.Driving.{most_packets}
-use Rattle.sd_engine.specs.Taken.{Whole, taken_of, end_of}
+use Rattle.sd_engine.specs.Taken.{Whole, packets_taken, end_of}
 use Rattle.sd_spec.specs.Plan.{Plan, IsPlan}
 use Rattle.sd_spec.specs.Refused.{IsSendable}
 use Rattle.sd_spec.specs.Sent.{sent, closing_of, broadcast}
@@ -28,14 +28,14 @@ use Rattle.sd_law_losses.proofs.Revoking.{revoked_truly}
 use Rattle.sd_law_losses.proofs.Opened.{confirmed_are_opened}
 use Rattle.sd_law_losses.proofs.Later.{chosen_all_of}
 use Rattle.sd_command_base.specs.declared.status.Status.TheVariants.{Revoked}
-use Rattle.sd_command_base.specs.Texts.{line_of}
+use Rattle.sd_command_base.specs.Texts.{line_of_status}
 use Rattle.sd_command_base.specs.Spec.{Readings}
 use Rattle.sd_command_base.specs.Work.{Work}
-use Rattle.sd_run_broadcasts.specs.Receive.{ending_status, ended_status, received_of, received_status, received_steps}
+use Rattle.sd_run_broadcasts.specs.Receive.{ending_status, receive_end_status, received_of, received_status, received_steps}
 use Rattle.sd_run_broadcasts.specs.Receive.{receiving}
 use Rattle.sd_law_run.specs.Good.{IsGoodReceive}
 use Rattle.sd_command_base.specs.Turned.{is_break}
-use Rattle.sd_law_run.specs.Lost.{ending_line, kept_items, kept_periods, IsRestTo, IsConfirmed}
+use Rattle.sd_law_run.specs.Lost.{ending_line, kept_items, heard_periods, IsRestTo, IsConfirmed}
 use Rattle.sd_run.specs.Meaning.{meaning}
 use Rattle.sd_run_broadcasts.proofs.Received.{none_refused, bytes_are, unrefused_steps}
 use Rattle.sd_law_run.proofs.Broadcasts.{receive_good}
@@ -58,8 +58,8 @@ never_broken u (end.Unclosed n) = refl
 never_broken u (end.Gaps n) = refl
 
 -- its line
-pub ended_line : (u : ℕ) (ending : Ending) → line_of (ending_status u ending) ≡ ending_line u ending
-unfolding line_of
+pub ended_line : (u : ℕ) (ending : Ending) → line_of_status (ending_status u ending) ≡ ending_line u ending
+unfolding line_of_status
 ended_line u end.Opened = refl
 ended_line u (end.Revoked q) = refl
 ended_line u (end.Unheard q) = refl
@@ -80,7 +80,7 @@ module _ (plan : Plan) (u : ℕ) (clear : List (List ℕ)) (flags : List Bool) (
     (can : IsSendable plan.site clear) (whole : AreWholePackets clear) (synced : AreSynced clear)
     (leaf : u < 2 ^ plan.site.height) where
   abbrev card : CardFields
-  card = card_of plan.site.master plan.site.ca plan.site.height u
+  card = site_card plan.site u
 
   abbrev packets : List (List ℕ)
   packets = chosen flags (broadcast plan clear)
@@ -103,7 +103,7 @@ module _ (plan : Plan) (u : ℕ) (clear : List (List ℕ)) (flags : List Bool) (
   rest_short : length packets ≤ most_packets
   rest_short = omega (arith, chosen_few flags (broadcast plan clear), broadcast_short plan is clear can)
 
-  rest_taken : taken_of bytes ≡ packets
+  rest_taken : packets_taken bytes ≡ packets
   rest_taken = taken_again packets rest_synced rest_short
 
   rest_whole : end_of bytes ≡ Whole
@@ -118,7 +118,7 @@ module _ (plan : Plan) (u : ℕ) (clear : List (List ℕ)) (flags : List Bool) (
 
   pub rest_status : received_status card bytes ≡ ending_status u
       (ending_told plan u clear (kept_items plan clear flags))
-  unfolding ended_status kept_items
+  unfolding receive_end_status kept_items
   rest_status =
       none_refused card bytes Whole
       (ap (break_from card []) rest_taken ∙ lost.none_refused plan clear u flags is can whole leaf) rest_whole
@@ -127,16 +127,16 @@ module _ (plan : Plan) (u : ℕ) (clear : List (List ℕ)) (flags : List Bool) (
       ∙ ap (λ (v : ℕ). ending_status v (ending_told plan u clear (chosen flags
       (sent plan clear ++ closing_of plan clear)))) leaf_is))
 
-  rest_keys : taken_keys card [] packets ≡ kept_periods plan u clear (kept_items plan clear flags)
-  unfolding kept_periods kept_items
+  rest_keys : taken_keys card [] packets ≡ heard_periods plan u clear (kept_items plan clear flags)
+  unfolding heard_periods kept_items
   rest_keys = lost.keys_taken plan clear u flags is can whole leaf
 
-  pub rest_steps : received_steps card bytes ≤ plan.site.height * kept_periods plan u clear
+  pub rest_steps : received_steps card bytes ≤ plan.site.height * heard_periods plan u clear
       (kept_items plan clear flags)
   rest_steps =
       let most = unrefused_steps card bytes
       (ap (break_from card []) rest_taken ∙ lost.none_refused plan clear u flags is can whole leaf)
-      ∙ (ap (λ (h : ℕ). h * taken_keys card [] (taken_of bytes)) height_is
+      ∙ (ap (λ (h : ℕ). h * taken_keys card [] (packets_taken bytes)) height_is
       ∙ (ap (λ (ps : List (List ℕ)). plan.site.height * taken_keys card [] ps) rest_taken
       ∙ ap (λ (n : ℕ). plan.site.height * n) rest_keys)) in
       omega (arith, most)
@@ -164,7 +164,7 @@ pub rest_confirmed : (plan : Plan) (u : ℕ) (clear : List (List ℕ)) (flags : 
     (work : Work) × ((meaning words given).result ≡ Ok work)
     × IsConfirmed plan u clear (kept_items plan clear flags) rest.out work
 rest_confirmed plan u clear flags words given is can whole synced leaf rest =
-    let fields = card_of plan.site.master plan.site.ca plan.site.height u in
+    let fields = site_card plan.site u in
     let bytes = concat (chosen flags (broadcast plan clear)) in
     let site = is.site in
     let good : IsGoodReceive words given = record {

@@ -6,13 +6,13 @@ use Rattle.sd_site_cards.proofs.Spellings.{written_is_good}
 use Rattle.sd_site_cards.specs.Files.{check_in}
 use Rattle.sd_command_base.specs.declared.status.Status.TheVariants.{Done}
 use Rattle.sd_command_base.specs.declared.status.LimitKind.TheVariants.{CardBytes}
-use Rattle.sd_command_base.specs.Spec.{Readings, all_of, judged, value, within, ◌>>=◌}
+use Rattle.sd_command_base.specs.Spec.{Readings, whole_file_bytes, of_result, value, within, ◌>>=◌}
 use Rattle.sd_command_line.specs.Words.{MessagesOf, ShowOf}
 use Rattle.sd_command_base.specs.Work.{work_of_text}
 use Rattle.sd_command_base.proofs.Follow.{then_is}
 use Rattle.sd_command_base.specs.Files.{most_card_bytes, site_in}
 use Rattle.sd_command_base.specs.Streams.{stream_status}
-use Rattle.sd_run_streams.specs.Messages.{messages_meaning, monitoring, stream_meaning}
+use Rattle.sd_run_streams.specs.Messages.{messages_meaning, monitoring, messages_stream_meaning}
 use Rattle.sd_run_books.specs.Fingerprint.{fingerprint_in, fingerprint_of}
 use Rattle.sd_run_books.specs.Show.{line_of_file, shown_line, told_show}
 use Rattle.sd_run_books.proofs.ShownCards.{line_read}
@@ -28,9 +28,9 @@ pub messages_good : (words : List (List ℕ)) (given : Readings) (good : IsGoodM
 unfolding messages_meaning
 messages_good words given good = (
   ordered words given (MessagesOf good.site good.stream) good.order
-      ∙ then_is (site_in given good.site) good.fields (λ fields. stream_meaning fields good.stream given)
+      ∙ then_is (site_in given good.site) good.fields (λ fields. messages_stream_meaning fields good.stream given)
       (site_good given good.site good.fields good.good_site)
-      ∙ ap (λ (got : Option (List ℕ)). (all_of good.stream.number got
+      ∙ ap (λ (got : Option (List ℕ)). (whole_file_bytes good.stream.number got
       >>= λ bytes. value (monitoring good.fields bytes)).result) good.there,
   ap stream_status good.whole,
 )
@@ -43,7 +43,7 @@ unfolding line_of_file
 card_told word card is =
     let bytes = card_bytes card in
     let short = card_length card is in
-    then_is (within word most_card_bytes CardBytes (Some bytes)) bytes (λ bytes. judged (told_show word bytes))
+    then_is (within word most_card_bytes CardBytes (Some bytes)) bytes (λ bytes. of_result (told_show word bytes))
     (file_read word most_card_bytes CardBytes bytes (omega (arith, short)))
     ∙ line_read word bytes (shown_line card.height card.leaf card.ca (check_in bytes) (fingerprint_in bytes)) card is
     refl (written_is_good card is) refl

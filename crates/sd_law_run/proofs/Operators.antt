@@ -3,13 +3,13 @@ use Rattle.std.proofs.Common.{◌≡◌, cond, List, Option, Some, None, Ok, Err
 use Rattle.std.proofs.lemmas.Bool.{le-leb}
 use Rattle.sd_command_base.specs.declared.status.Status.TheVariants.{BadWord, Clash}
 use Rattle.sd_command_base.specs.declared.status.Clash.{Clash as ClashKind}
-use Rattle.sd_command_base.specs.Spec.{Readings, judged, value, ◌>>=◌}
+use Rattle.sd_command_base.specs.Spec.{Readings, of_result, value, ◌>>=◌}
 use Rattle.sd_command_base.specs.Work.{work_of_text}
 use Rattle.sd_command_base.proofs.Follow.{then_is}
 use Rattle.sd_command_base.specs.Both.{SiteBook, both_meaning}
 use Rattle.sd_command_base.specs.Files.{site_in, book_in}
 use Rattle.sd_command_line.specs.Words.{ApartOf, PlanOf}
-use Rattle.sd_run_books.specs.Apart.{apart_text, clash_of, plan_of_both, told_apart, told_clash}
+use Rattle.sd_run_books.specs.Apart.{apart_text, plan_clash, plan_of_both, told_apart, told_clash}
 use Rattle.sd_run_books.specs.Air.{last_word_for, planning, roomy_site_of_file, told_room}
 use Rattle.sd_law_run.specs.Good.{IsGoodApart, IsGoodPlan}
 use Rattle.sd_run.specs.Meaning.{meaning}
@@ -26,7 +26,7 @@ air_good words given good =
     ∙ then_is (roomy_site_of_file good.site.number packets (given good.site)) f
     (λ fields. book_in given fields.height good.book
     >>= λ commands. value (planning (record { site = fields; commands = commands }) packets.value good.pids.value))
-    (then_is (site_in given good.site) f (λ fields. judged (told_room packets fields))
+    (then_is (site_in given good.site) f (λ fields. of_result (told_room packets fields))
     (site_good given good.site f good.good_site)
     ∙ ap (λ b. cond b (Ok f) (Err (BadWord packets.word)))
     (le-leb (last_word_for f packets.value) f.last_word good.room))
@@ -43,8 +43,8 @@ second_plan words given good = record { site = good.other_fields; commands = goo
 
 -- the four files are read, and the two are judged
 judged_so : (words : List (List ℕ)) (given : Readings) (good : IsGoodApart words given) →
-    (meaning words given).result ≡ (judged (told_clash
-    (clash_of (plan_of_both (first_plan words given good)) (plan_of_both (second_plan words given good)))
+    (meaning words given).result ≡ (of_result (told_clash
+    (plan_clash (plan_of_both (first_plan words given good)) (plan_of_both (second_plan words given good)))
     (apart_text (plan_of_both (first_plan words given good)) (plan_of_both (second_plan words given good))))
     >>= λ text. value (work_of_text text)).result
 unfolding told_apart
@@ -54,27 +54,27 @@ judged_so words given good =
     ordered words given (ApartOf good.site good.book good.other good.more) good.order
     ∙ then_is (both_meaning good.site good.book given) one
     (λ first. both_meaning good.other good.more given
-    >>= λ second. judged (told_apart (plan_of_both first) (plan_of_both second)) >>= λ text. value (work_of_text text))
+    >>= λ second. of_result (told_apart (plan_of_both first) (plan_of_both second)) >>= λ text. value (work_of_text text))
     (both_good given good.site good.book good.fields good.commands good.good_site good.good_book)
     ∙ then_is (both_meaning good.other good.more given) two
-    (λ second. judged (told_apart (plan_of_both one) (plan_of_both second)) >>= λ text. value (work_of_text text))
+    (λ second. of_result (told_apart (plan_of_both one) (plan_of_both second)) >>= λ text. value (work_of_text text))
     (both_good given good.other good.more good.other_fields good.more_commands good.good_other good.good_more)
 
 -- both lines are printed where there is no clash
 pub apart_good : (words : List (List ℕ)) (given : Readings) (good : IsGoodApart words given) →
-    clash_of (plan_of_both (first_plan words given good)) (plan_of_both (second_plan words given good)) ≡ None →
+    plan_clash (plan_of_both (first_plan words given good)) (plan_of_both (second_plan words given good)) ≡ None →
     (meaning words given).result ≡ Ok (work_of_text (apart_text (plan_of_both (first_plan words given good))
     (plan_of_both (second_plan words given good))))
 apart_good words given good none =
     judged_so words given good
-    ∙ ap (λ (c : Option ClashKind). (judged (told_clash c (apart_text (plan_of_both (first_plan words given good))
+    ∙ ap (λ (c : Option ClashKind). (of_result (told_clash c (apart_text (plan_of_both (first_plan words given good))
     (plan_of_both (second_plan words given good)))) >>= λ text. value (work_of_text text)).result) none
 
 -- and where there is one it is the refusal
 pub apart_clashes : (words : List (List ℕ)) (given : Readings) (good : IsGoodApart words given) (clash : ClashKind) →
-    clash_of (plan_of_both (first_plan words given good)) (plan_of_both (second_plan words given good)) ≡ Some clash →
+    plan_clash (plan_of_both (first_plan words given good)) (plan_of_both (second_plan words given good)) ≡ Some clash →
     (meaning words given).result ≡ Err (Clash clash)
 apart_clashes words given good clash some =
     judged_so words given good
-    ∙ ap (λ (c : Option ClashKind). (judged (told_clash c (apart_text (plan_of_both (first_plan words given good))
+    ∙ ap (λ (c : Option ClashKind). (of_result (told_clash c (apart_text (plan_of_both (first_plan words given good))
     (plan_of_both (second_plan words given good)))) >>= λ text. value (work_of_text text)).result) some

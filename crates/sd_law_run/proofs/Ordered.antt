@@ -8,15 +8,15 @@ use Rattle.sd_tree_keys.proofs.Powers.{leaves_bounds}
 use Rattle.sd_site_cards.specs.SiteFields.{SiteFields}
 use Rattle.sd_command_base.specs.declared.status.Status.{Status}
 use Rattle.sd_command_base.specs.declared.status.Status.TheVariants.{Usage, BadWord}
-use Rattle.sd_command_base.specs.Spec.{Readings, judged, ◌>>=◌}
-use Rattle.sd_command_base.specs.Outside.{Outside}
+use Rattle.sd_command_base.specs.Spec.{Readings, of_result, ◌>>=◌}
+use Rattle.sd_command_base.specs.Outside.{IoState}
 use Rattle.sd_command_base.specs.Outcome.{OutcomeWithin, Implements}
 use Rattle.sd_command_base.specs.Results.{RunResult, with_page}
 use Rattle.sd_command_line.specs.declared.command.Command.TheVariants.{Card}
 use Rattle.sd_command_line.specs.Commands.{command_named, command_name, operands_of}
 use Rattle.sd_command_line.specs.Words.{AirOf, InputOf, OutOf, Order, HeadOf, CardOf, ReceiveOf, at_most, before}
-use Rattle.sd_command_line.specs.Words.{number_in}
-use Rattle.sd_command_line.specs.Words.{WatchOf, named_words, numbered, order_of, ordered}
+use Rattle.sd_command_line.specs.Words.{number_of_word}
+use Rattle.sd_command_line.specs.Words.{WatchOf, named_words, number_argument, order_of, ordered}
 use Rattle.sd_command_base.specs.Made.{used_name}
 use Rattle.sd_command_base.specs.Shown.{word_at}
 use Rattle.sd_run_books.specs.Card.{card_meaning}
@@ -90,14 +90,14 @@ abbrev leaf_order : Names → Result ℕ Status → Result Order Status
 leaf_order names found =
     ordered Card
     (before (Ok (InputOf (word_at 1 names.site)))
-    (before (numbered 2 found) (Ok (OutOf (word_at 3 names.card) ∷ []))))
+    (before (number_argument 2 found) (Ok (OutOf (word_at 3 names.card) ∷ []))))
 
 card_order : (names : Names) (leaf : List ℕ) (u : ℕ) → names.card ≢ names.site → decimal_value leaf ≡ Some u →
     u < 2 ^ 32 → order_of (card_run names leaf)
     ≡ Ok (CardOf (word_at 1 names.site) (record { word = 2; value = u }) (word_at 3 names.card))
 unfolding named_words command_named command_name operands_of
 card_order names leaf u apart says low =
-    one_apart (bytes_eq names.site names.card) (leaf_order names (number_in 2 (2 ^ 32 - 1) leaf))
+    one_apart (bytes_eq names.site names.card) (leaf_order names (number_of_word 2 (2 ^ 32 - 1) leaf))
     (apart_texts names.site names.card (λ e. apart (sym e)))
     ∙ ap (leaf_order names) (number_fits 2 (2 ^ 32 - 1) u (decimal_value leaf) says (omega (arith, low)))
 
@@ -120,20 +120,20 @@ watch_order names card stream =
     (apart_texts names.card names.out (λ e. card (sym e)))
     (apart_texts names.stream names.out (λ e. stream (sym e)))
 
-own_order : (order : Order) (given : Readings) (a b : Outside) (status : Status) →
-    OutcomeWithin (judged (Ok order) >>= λ o. order_meaning o given) a b status → OutcomeWithin
+own_order : (order : Order) (given : Readings) (a b : IoState) (status : Status) →
+    OutcomeWithin (of_result (Ok order) >>= λ o. order_meaning o given) a b status → OutcomeWithin
     (order_meaning order given) a b status
 own_order order given a b status h =
     record { comes = h.comes; ports = h.ports; calls = let c = h.calls in omega arith; steps = h.steps }
 
 -- a run of words is a run of their order
-order_answers : (words : List (List ℕ)) (order : Order) (a b : Outside) (answer : Status) →
+order_answers : (words : List (List ℕ)) (order : Order) (a b : IoState) (answer : Status) →
     order_of words ≡ Ok order → RunResult (meaning words) a b answer → RunResult (order_meaning order) a b answer
 order_answers words order a b answer read h =
-    let at : Outside = with_page b h.page in
+    let at : IoState = with_page b h.page in
     let f =
     subst (λ (r : Result Order Status).
-    Implements (λ given. judged r >>= λ o. order_meaning o given) a at h.status) read h.obeyed in
+    Implements (λ given. of_result r >>= λ o. order_meaning o given) a at h.status) read h.obeyed in
     record {
       status = h.status;
       page = h.page;
@@ -146,7 +146,7 @@ order_answers words order a b answer read h =
     }
 
 -- and so it is one of its command
-pub head_answers : (names : Names) (a b : Outside) (answer : Status) → names.stream ≢ names.site →
+pub head_answers : (names : Names) (a b : IoState) (answer : Status) → names.stream ≢ names.site →
     names.stream ≢ names.book → names.stream ≢ names.clear → RunResult (meaning (head_run names)) a b answer →
     RunResult (head_meaning (word_at 1 names.site) (word_at 2 names.book) (word_at 3 names.clear)
     (word_at 4 names.stream)) a b answer
@@ -155,7 +155,7 @@ head_answers names a b answer site book clear answers =
     (HeadOf (word_at 1 names.site) (word_at 2 names.book) (word_at 3 names.clear) (word_at 4 names.stream)) a b answer
     (head_order names site book clear) answers
 
-pub card_answers : (names : Names) (leaf : List ℕ) (u : ℕ) (a b : Outside) (answer : Status) →
+pub card_answers : (names : Names) (leaf : List ℕ) (u : ℕ) (a b : IoState) (answer : Status) →
     names.card ≢ names.site → decimal_value leaf ≡ Some u → u < 2 ^ 32 →
     RunResult (meaning (card_run names leaf)) a b answer →
     RunResult (card_meaning (word_at 1 names.site) (record { word = 2; value = u }) (word_at 3 names.card)) a b answer
@@ -164,7 +164,7 @@ card_answers names leaf u a b answer apart says low answers =
     (CardOf (word_at 1 names.site) (record { word = 2; value = u }) (word_at 3 names.card)) a b answer
     (card_order names leaf u apart says low) answers
 
-pub receive_answers : (names : Names) (a b : Outside) (answer : Status) → names.out ≢ names.card →
+pub receive_answers : (names : Names) (a b : IoState) (answer : Status) → names.out ≢ names.card →
     names.out ≢ names.stream → RunResult (meaning (receive_run names)) a b answer →
     RunResult (receive_meaning (word_at 1 names.card) (word_at 2 names.stream) (word_at 3 names.out)) a b answer
 receive_answers names a b answer card stream answers =
@@ -172,7 +172,7 @@ receive_answers names a b answer card stream answers =
     (ReceiveOf (word_at 1 names.card) (word_at 2 names.stream) (word_at 3 names.out)) a b answer
     (receive_order names card stream) answers
 
-pub watch_answers : (names : Names) (a b : Outside) (answer : Status) → names.out ≢ names.card →
+pub watch_answers : (names : Names) (a b : IoState) (answer : Status) → names.out ≢ names.card →
     names.out ≢ names.stream → RunResult (meaning (watch_run names)) a b answer →
     RunResult (watch_meaning (word_at 1 names.card) (word_at 2 names.stream) (word_at 3 names.out)) a b answer
 watch_answers names a b answer card stream answers =
@@ -180,7 +180,7 @@ watch_answers names a b answer card stream answers =
     (WatchOf (word_at 1 names.card) (word_at 2 names.stream) (word_at 3 names.out)) a b answer
     (watch_order names card stream) answers
 
-pub air_answers : (names : Names) (a b : Outside) (answer : Status) → names.stream ≢ names.site →
+pub air_answers : (names : Names) (a b : IoState) (answer : Status) → names.stream ≢ names.site →
     names.stream ≢ names.book → names.stream ≢ names.clear → names.stream ≢ used_name names.site →
     RunResult (meaning (air_run names)) a b answer →
     RunResult (air_meaning (word_at 1 names.site) (word_at 2 names.book) (word_at 3 names.clear)

@@ -5,7 +5,7 @@ use Rattle.std.proofs.Common.{refl, sym, ap, subst, ◌∙◌}
 use Rattle.std.specs.Prelude.{if◌then◌else◌, ◌||◌}
 use Rattle.sd_command_base.specs.declared.status.Status.{Status}
 use Rattle.sd_command_base.specs.declared.status.Status.TheVariants.{Usage}
-use Rattle.sd_command_base.specs.Spec.{Readings, judged, ◌>>=◌}
+use Rattle.sd_command_base.specs.Spec.{Readings, of_result, ◌>>=◌}
 use Rattle.sd_command_base.specs.Work.{Work, work_of_text}
 use Rattle.sd_command_base.specs.Shown.{word_at}
 use Rattle.sd_command_line.specs.Pages.{help_text, version_text}
@@ -16,7 +16,7 @@ use Rattle.sd_command_line.specs.declared.operand.Kind.{Kind}
 use Rattle.sd_command_line.specs.declared.operand.Kind.TheVariants as kind
 use Rattle.sd_command_line.specs.Commands.{command_named, operands_of}
 use Rattle.sd_command_line.specs.Operands.{operand_kind}
-use Rattle.sd_command_line.specs.Words.{Argument, InputOf, OutOf, Order, CommandOf, HelpOf, VersionOf, file, file_of}
+use Rattle.sd_command_line.specs.Words.{Argument, InputOf, OutOf, Order, CommandOf, HelpOf, VersionOf, file, named_file}
 use Rattle.sd_command_line.specs.Words.{before}
 use Rattle.sd_command_line.specs.Words.{out_text, or_output}
 use Rattle.sd_command_line.specs.Words.{argument_of, arguments_from, out_is_taken, ordered, command_words, order_after}
@@ -90,7 +90,7 @@ or_same : (k : Kind) (at : ℕ) (text : List ℕ) (argument : Argument) (all : L
 or_same kind.Input at text argument all later other e there same = same
 or_same kind.Output at text argument all later other e there same =
     let is : argument ≡ OutOf (word_at at text) = out_read at kind.Output text argument refl e in
-    sym (ap (λ (a : Option Argument). Some (file_of at a).text) (there ∙ ap (λ (a : Argument). Some a) is))
+    sym (ap (λ (a : Option Argument). Some (named_file at a).text) (there ∙ ap (λ (a : Argument). Some a) is))
 or_same (kind.Number most) at text argument all later other e there same = same
 or_same (kind.Count most) at text argument all later other e there same = same
 
@@ -227,6 +227,6 @@ pub words_orderly : (words : List (List ℕ)) (given : Readings) →
 words_orderly words given = by_order (order_of words) (order_names words)
   where
     by_order : (r : Result Order Status) → NamesOut words r →
-        AreOrderly (out_name words) (used_by words) (judged r >>= λ order. order_meaning order given).result
+        AreOrderly (out_name words) (used_by words) (of_result r >>= λ order. order_meaning order given).result
     by_order (Ok order) names = widened words order (order_meaning order given).result names (order_orderly order given)
     by_order (Err status) names = tt

@@ -12,11 +12,11 @@ use Rattle.std.specs.Option.{option_and_then}
 use Rattle.std.proofs.lemmas.Option.{same_Some}
 use Rattle.sd_command_base.specs.declared.status.Status.{Status}
 use Rattle.sd_command_base.specs.declared.status.Status.TheVariants.{Done, Missing}
-use Rattle.sd_command_base.specs.Texts.{line_of}
-use Rattle.sd_command_base.specs.Outside.{PageState, Outside}
+use Rattle.sd_command_base.specs.Texts.{line_of_status}
+use Rattle.sd_command_base.specs.Outside.{PageState, IoState}
 use Rattle.sd_command_base.specs.Spec.{Spec, Readings, contents_of}
 use Rattle.sd_command_base.specs.Work.{Mark, Out, Work, files_marked, files_with, made_marked, made_with}
-use Rattle.sd_command_base.specs.Outcome.{Outcome, IsRefusal, IsMade, IsUnmade, marked_by}
+use Rattle.sd_command_base.specs.Outcome.{Outcome, IsRefusal, IsOutMade, IsNoOutMade, marked_by}
 use Rattle.sd_command_base.specs.Outcome.{refused, ended, unclosed, exhausted, failed, unmarked, nowhere, cut_off}
 use Rattle.sd_command_base.specs.Outcome.{cut_short}
 use Rattle.sd_command_base.specs.Results.{RunResult, PrintsStatusLine, with_page}
@@ -28,7 +28,7 @@ use Rattle.sd_law_run.specs.Outcome.{out_name, used_by}
 use Rattle.sd_run.specs.Refusals.{RefusesFirst}
 use Rattle.sd_law_run.proofs.Shelf.{others_stay}
 use Rattle.sd_law_run.proofs.Parts.{of_told}
-use Rattle.sd_law_run.specs.Left.{with_mark}
+use Rattle.sd_law_run.specs.Left.{with_mark_file}
 use Rattle.sd_law_run.proofs.AirOrders.{air_work, mark_is, marked_air, used_words}
 use Rattle.sd_law_run.proofs.Left.{MadeMark, MadeOut, answers_leave, run_leaves}
 use Rattle.sd_run.proofs.Works.{IsOrderly, AreOrderly}
@@ -43,13 +43,13 @@ silent : (a b : PageState) (status : Status) → PrintsStatusLine a b status Don
 silent a b status tells =
     elim tells.says [
       | inl said ↦ record {
-        printed = subst (λ (l : List ℕ). Appends a.printed b.printed l) (ap line_of (sym said.0) ∙ done_line) said.1;
+        printed = subst (λ (l : List ℕ). Appends a.printed b.printed l) (ap line_of_status (sym said.0) ∙ done_line) said.1;
         faults = said.2;
       }
       | inr cut ↦ absurd (let x = cut.0 in cc)
     ]
 
-came_done : (meant : Result Work Status) (a b : Outside) (status : Status) → Outcome meant a b status → status ≡ Done →
+came_done : (meant : Result Work Status) (a b : IoState) (status : Status) → Outcome meant a b status → status ≡ Done →
     IsDone meant a b
 came_done meant a b status (refused e r h k c m) is = absurd (subst IsRefusal is r)
 came_done meant a b status (ended work e s i h k c m) is =
@@ -63,7 +63,7 @@ came_done meant a b status (cut_off work e s h k r c m) is = absurd (let x = sym
 came_done meant a b status (cut_short work e live s out f h k r m) is = absurd (let x = sym s ∙ is in cc)
 
 -- a run that answers `Done` has done the work that is meant
-pub done_leaves : (meant : Readings → Spec Work) (files : Files) (a b : Outside) (answer : Status) →
+pub done_leaves : (meant : Readings → Spec Work) (files : Files) (a b : IoState) (answer : Status) →
     a.place.files ≡ Some files → answer ≡ Done → RunResult meant a b answer →
     IsDone (meant (contents_of files)).result a b
 done_leaves meant files a b answer told is answers =
@@ -96,7 +96,7 @@ out_is words given work out is makes =
     orderly.makes out makes
 
 -- so no other file changes but the mark
-pub file_stays : (words : List (List ℕ)) (files : Files) (a b : Outside) (answer : Status) →
+pub file_stays : (words : List (List ℕ)) (files : Files) (a b : IoState) (answer : Status) →
     a.place.files ≡ Some files → RunResult (meaning words) a b answer → (name : List ℕ) →
     out_name words ≢ Some name → used_by words ≢ Some name → file_in b name ≡ get files name
 file_stays words files a b answer told answers name no_out no_mark =
@@ -106,8 +106,8 @@ file_stays words files a b answer told answers name no_out no_mark =
           of_told b (insert files has.mark.name []) name has.left
           ∙ others_stay files has.mark.name [] name (not_mark has.work has.mark has.is_meant has.marks)
       | inr (inr has) ↦
-          of_told b (insert (with_mark has.work.mark files) has.out.name has.prefix) name has.left
-          ∙ (others_stay (with_mark has.work.mark files) has.out.name has.prefix name
+          of_told b (insert (with_mark_file has.work.mark files) has.out.name has.prefix) name has.left
+          ∙ (others_stay (with_mark_file has.work.mark files) has.out.name has.prefix name
           (λ e. no_out (out_is words (contents_of files) has.work has.out has.is_meant has.makes
           ∙ ap (λ (n : List ℕ). Some n) (sym e)))
           ∙ mark_apart has.work.mark (λ mark marks. not_mark has.work mark has.is_meant marks))
@@ -119,18 +119,18 @@ file_stays words files a b answer told answers name no_out no_mark =
         no_mark (mark_is words (contents_of files) work mark is marks ∙ ap (λ (n : List ℕ). Some n) (sym e))
 
     mark_apart : (mark : Option Mark) → ((m : Mark) → mark ≡ Some m → name ≢ m.name) →
-        get (with_mark mark files) name ≡ get files name
+        get (with_mark_file mark files) name ≡ get files name
     mark_apart None apart = refl
     mark_apart (Some mark) apart = others_stay files mark.name [] name (apart mark refl)
 
 -- if the model doesn't know the files, it doesn't know them afterwards
-unknown_stay : (a b : Outside) (name : List ℕ) → a.place.files ≡ None → b.place.files ≡ None →
+unknown_stay : (a b : IoState) (name : List ℕ) → a.place.files ≡ None → b.place.files ≡ None →
     file_in b name ≡ file_in a name
 unknown_stay a b name before after =
     ap (λ (o : Option Files). option_and_then (λ (fs : Files). get fs name) o) (after ∙ sym before)
 
 -- the mark alone leaves the other files
-mark_alone : (words : List (List ℕ)) (given : Readings) (a b : Outside) →
+mark_alone : (words : List (List ℕ)) (given : Readings) (a b : IoState) →
     (has : MadeMark (meaning words given).result a.place b.place) → (known : Option Files) → a.place.files ≡ known →
     (name : List ℕ) → used_by words ≢ Some name → file_in b name ≡ file_in a name
 mark_alone words given a b has None told name other =
@@ -151,7 +151,7 @@ is_some : (name : Option (List ℕ)) (text : List ℕ) → name ≡ Some text �
 is_some name text e = subst IsSome (sym e) refl
 
 -- how many files are made
-out_made : (words : List (List ℕ)) (given : Readings) (a b : Outside) →
+out_made : (words : List (List ℕ)) (given : Readings) (a b : IoState) →
     (has : MadeOut (meaning words given).result a.place b.place) → (mark : Option Mark) → has.work.mark ≡ mark →
     (name : Option (List ℕ)) → used_by words ≡ name → FilesMade words a b
 out_made words given a b has (Some mark) marks name used =
@@ -165,7 +165,7 @@ out_made words given a b has None marks (Some name) used =
     let air = air_work words (used_words words name used).0 given has.work has.is_meant in
     absurd (let e = sym marks ∙ ap (λ (w : Work). w.mark) air.found.is_work in cc)
 
-pub files_made : (words : List (List ℕ)) (a b : Outside) (answer : Status) → RunResult (meaning words) a b answer →
+pub files_made : (words : List (List ℕ)) (a b : IoState) (answer : Status) → RunResult (meaning words) a b answer →
     FilesMade words a b
 files_made words a b answer answers =
     elim (answers_leave words a b answer answers) [
@@ -178,8 +178,8 @@ files_made words a b answer answers =
     ]
 
 -- what refused words or files leave before the line of the refusal
-record IsQuiet (words : List (List ℕ)) (a b : Outside) (status : Status) : Type 0 where
-  unmade : IsUnmade a.place b.place ⊎ IsMarkedAlone words a.place b.place status
+record IsQuiet (words : List (List ℕ)) (a b : IoState) (status : Status) : Type 0 where
+  unmade : IsNoOutMade a.place b.place ⊎ IsMarkedAlone words a.place b.place status
   printed : Appends a.page.printed b.page.printed []
 
 none_printed : (a b : Option (List ℕ)) → b ≡ a → Appends a b []
@@ -187,8 +187,8 @@ none_printed None b e = subst (λ (l : Option (List ℕ)). Appends None l []) (s
 none_printed (Some bytes) b e =
     subst (λ (l : Option (List ℕ)). Appends (Some bytes) l []) (sym e) (sym (append-nil bytes))
 
-nothing_made : (out : Option Out) (mark : Option Mark) (a b : Outside) → out ≡ None → mark ≡ None →
-    IsMade out (marked_by mark a.place) b.place → IsUnmade a.place b.place
+nothing_made : (out : Option Out) (mark : Option Mark) (a b : IoState) → out ≡ None → mark ≡ None →
+    IsOutMade out (marked_by mark a.place) b.place → IsNoOutMade a.place b.place
 nothing_made out mark a b none bare made = record {
   files = made.files ∙ (ap (λ (o : Option Out). files_with o (files_marked mark a.place.files)) none
       ∙ ap (λ (m : Option Mark). files_marked m a.place.files) bare);
@@ -197,10 +197,10 @@ nothing_made out mark a b none bare made = record {
 }
 
 -- if there is no folder for OUT, nothing is made, or of `air` the mark alone
-nowhere_left : (words : List (List ℕ)) (given : Readings) (work : Work) (out : Out) (a b : Outside) (status : Status) →
+nowhere_left : (words : List (List ℕ)) (given : Readings) (work : Work) (out : Out) (a b : IoState) (status : Status) →
     (meaning words given).result ≡ Ok work → work.out ≡ Some out → status ≡ Missing out.word →
-    a.place.files ≡ None → (mark : Option Mark) → work.mark ≡ mark → IsUnmade (marked_by mark a.place) b.place →
-    IsUnmade a.place b.place ⊎ IsMarkedAlone words a.place b.place status
+    a.place.files ≡ None → (mark : Option Mark) → work.mark ≡ mark → IsNoOutMade (marked_by mark a.place) b.place →
+    IsNoOutMade a.place b.place ⊎ IsMarkedAlone words a.place b.place status
 nowhere_left words given work out a b status is makes s unknown None marks un =
     inl (record { files = un.files; made = un.made })
 nowhere_left words given work out a b status is makes s unknown (Some mark) marks un =
@@ -214,7 +214,7 @@ nowhere_left words given work out a b status is makes s unknown (Some mark) mark
       made = un.made;
     })
 
-came_quiet : (words : List (List ℕ)) (given : Readings) (a b : Outside) (status : Status) → RefusesFirst status →
+came_quiet : (words : List (List ℕ)) (given : Readings) (a b : IoState) (status : Status) → RefusesFirst status →
     Outcome (meaning words given).result a b status → IsQuiet words a b status
 came_quiet words given a b status refuses (refused e r un k c m) =
     record { unmade = inl un; printed = none_printed a.page.printed b.page.printed k }
@@ -245,7 +245,7 @@ came_quiet words given a b status refuses (cut_short work is live s made makes s
 
 -- the line of a refusal is its own, and was printed
 line_told : (a b : PageState) (status answer : Status) → RefusesFirst answer → PrintsStatusLine a b status answer →
-    (answer ≡ status) × Appends a.printed b.printed (line_of answer)
+    (answer ≡ status) × Appends a.printed b.printed (line_of_status answer)
 line_told a b status answer refuses tells =
     elim tells.says [
       | inl said ↦ (
@@ -253,21 +253,21 @@ line_told a b status answer refuses tells =
           | inl own ↦ own
           | inr wanting ↦ absurd (subst RefusesFirst (said.0 ∙ wanting.1) refuses)
         ],
-        subst (λ (s : Status). Appends a.printed b.printed (line_of s)) (sym said.0) said.1,
+        subst (λ (s : Status). Appends a.printed b.printed (line_of_status s)) (sym said.0) said.1,
       )
       | inr cut ↦ absurd (subst RefusesFirst cut.0 refuses)
     ]
 
 -- refused words or files leave nothing but the line of the refusal, and of `air`, if there is no folder for OUT, the
 -- mark
-pub refusal_leaves : (words : List (List ℕ)) (a b : Outside) (answer : Status) → RefusesFirst answer →
-    RunResult (meaning words) a b answer → (IsUnmade a.place b.place ⊎ IsMarkedAlone words a.place b.place answer)
-    × Appends a.page.printed b.page.printed (line_of answer)
+pub refusal_leaves : (words : List (List ℕ)) (a b : IoState) (answer : Status) → RefusesFirst answer →
+    RunResult (meaning words) a b answer → (IsNoOutMade a.place b.place ⊎ IsMarkedAlone words a.place b.place answer)
+    × Appends a.page.printed b.page.printed (line_of_status answer)
 refusal_leaves words a b answer refuses answers =
     let told = line_told answers.page b.page answers.status answer refuses answers.told in
     let quiet = came_quiet words answers.obeyed.given a (with_page b answers.page) answers.status
     (subst RefusesFirst told.0 refuses) answers.obeyed.obeyed.comes in (
-      subst (λ (s : Status). IsUnmade a.place b.place ⊎ IsMarkedAlone words a.place b.place s) (sym told.0)
+      subst (λ (s : Status). IsNoOutMade a.place b.place ⊎ IsMarkedAlone words a.place b.place s) (sym told.0)
           quiet.unmade,
-      Appends-trans a.page.printed answers.page.printed b.page.printed [] (line_of answer) quiet.printed told.1,
+      Appends-trans a.page.printed answers.page.printed b.page.printed [] (line_of_status answer) quiet.printed told.1,
     )

@@ -15,13 +15,13 @@ use Rattle.sd_law_plan.proofs.Clashes.{EachIs, EachTwo, all_agree, all_words, on
 use Rattle.sd_command_base.specs.declared.status.Status.{Status}
 use Rattle.sd_command_base.specs.declared.status.Status.TheVariants.{Done}
 use Rattle.sd_command_base.specs.declared.status.Clash.{Clash as ClashKind}
-use Rattle.sd_command_base.specs.Spec.{FileArgument, Readings, contents_of, judged, value, ◌>>=◌}
+use Rattle.sd_command_base.specs.Spec.{FileArgument, Readings, contents_of, of_result, value, ◌>>=◌}
 use Rattle.sd_command_base.specs.Both.{both_meaning}
-use Rattle.sd_command_base.specs.Outside.{Outside}
+use Rattle.sd_command_base.specs.Outside.{IoState}
 use Rattle.sd_command_base.specs.Work.{Work, work_of_text}
 use Rattle.sd_command_base.specs.Results.{RunResult}
 use Rattle.sd_command_line.specs.Words.{Order, ApartOf, order_of}
-use Rattle.sd_run_books.specs.Apart.{apart_text, clash_of, plan_of_both, told_apart, told_clash}
+use Rattle.sd_run_books.specs.Apart.{apart_text, plan_clash, plan_of_both, told_apart, told_clash}
 use Rattle.sd_run.specs.Meaning.{order_meaning, meaning}
 use Rattle.sd_law_run.specs.Good.{IsGoodSite, IsGoodBook, IsGoodApart}
 use Rattle.sd_law_run.specs.Pairs.{ArePremisesMet, IsApart, first_told, second_told}
@@ -32,7 +32,7 @@ use Rattle.sd_law_run.proofs.Sent.{then_ok, value_is}
 
 -- two broadcasts of plans that don't clash
 module _ (master : List ℕ) (a b : Run) (first : IsRun master a) (second : IsRun master b)
-    (apart : clash_of a.plan b.plan ≡ None) where
+    (apart : plan_clash a.plan b.plan ≡ None) where
   abbrev two : List Run
   two = a ∷ b ∷ []
 
@@ -46,8 +46,8 @@ module _ (master : List ℕ) (a b : Run) (first : IsRun master a) (second : IsRu
   each_two zero (suc zero) c d e f low =
       let one : a ≡ c = cc in
       let other : b ≡ d = cc in
-      subst (λ (r : Run). clash_of r.plan d.plan ≡ None) one
-      (subst (λ (r : Run). clash_of a.plan r.plan ≡ None) other apart)
+      subst (λ (r : Run). plan_clash r.plan d.plan ≡ None) one
+      (subst (λ (r : Run). plan_clash a.plan r.plan ≡ None) other apart)
   each_two zero (suc (suc j)) c d e f low = absurd (cc)
   each_two (suc zero) zero c d e f low = absurd (omega (arith, low))
   each_two (suc zero) (suc zero) c d e f low = absurd (omega (arith, low))
@@ -77,12 +77,12 @@ told_none : (clash : Option ClashKind) (text told : List ℕ) → told_clash cla
 told_none None text told e = (refl, let same : text ≡ told = cc in same)
 told_none (Some clash) text told e = absurd (cc)
 
-none_told : (a b : Plan) (told : List ℕ) → told_apart a b ≡ Ok told → (clash_of a b ≡ None) × (apart_text a b ≡ told)
+none_told : (a b : Plan) (told : List ℕ) → told_apart a b ≡ Ok told → (plan_clash a b ≡ None) × (apart_text a b ≡ told)
 unfolding told_apart
-none_told a b told e = told_none (clash_of a b) (apart_text a b) told e
+none_told a b told e = told_none (plan_clash a b) (apart_text a b) told e
 
 good_met : {words : List (List ℕ)} {given : Readings} (good : IsGoodApart words given) →
-    clash_of (first_told good) (second_told good) ≡ None → (clear more : List (List ℕ)) →
+    plan_clash (first_told good) (second_told good) ≡ None → (clear more : List (List ℕ)) →
     IsClear good.fields clear → IsClear good.other_fields more →
     ArePremisesMet good.fields.master good.fields.height
     (record { plan = first_told good; clear = clear } ∷ record { plan = second_told good; clear = more } ∷ [])
@@ -98,22 +98,22 @@ good_met good none clear more is_clear more_clear =
       is_sendable = clear_sendable good.other_fields more more_clear;
     }) none
 
-pub apart_done : (words : List (List ℕ)) (site book other more : FileArgument) (files : Files) (a b : Outside) →
+pub apart_done : (words : List (List ℕ)) (site book other more : FileArgument) (files : Files) (a b : IoState) →
     order_of words ≡ Ok (ApartOf site book other more) → a.place.files ≡ Some files →
     RunResult (meaning words) a b Done → IsApart words files a b
 apart_done words site book other more files a b order known answers =
     let given = contents_of files in
     let done = done_leaves (meaning words) files a b Done known refl answers in
-    let meant = sym (ap (λ (r : Result Order Status). (judged r >>= λ o. order_meaning o given).result) order)
+    let meant = sym (ap (λ (r : Result Order Status). (of_result r >>= λ o. order_meaning o given).result) order)
     ∙ done.is_meant in
     let first = then_ok (both_meaning site book given)
     (λ first. both_meaning other more given
-    >>= λ second. judged (told_apart (plan_of_both first) (plan_of_both second)) >>= λ text. value (work_of_text text))
+    >>= λ second. of_result (told_apart (plan_of_both first) (plan_of_both second)) >>= λ text. value (work_of_text text))
     done.work meant in
     let second = then_ok (both_meaning other more given)
-    (λ second. judged (told_apart (plan_of_both first.from) (plan_of_both second))
+    (λ second. of_result (told_apart (plan_of_both first.from) (plan_of_both second))
     >>= λ text. value (work_of_text text)) done.work first.next_is in
-    let text = then_ok (judged (told_apart (plan_of_both first.from) (plan_of_both second.from)))
+    let text = then_ok (of_result (told_apart (plan_of_both first.from) (plan_of_both second.from)))
     (λ text. value (work_of_text text)) done.work second.next_is in
     let same = value_is (work_of_text text.from) done.work text.next_is in
     let none = none_told (plan_of_both first.from) (plan_of_both second.from) text.from text.first_is in

@@ -7,10 +7,10 @@ use Rattle.std.specs.Option.{option_and_then}
 use Rattle.std.specs.Io.KnownBytes.{Appends}
 use Rattle.std.proofs.lemmas.List.Elements.{All-weaker}
 use Rattle.sd_site_cards.specs.SiteFields.{SiteFields}
-use Rattle.sd_site_cards.specs.CardFields.{card_of, card_bytes}
+use Rattle.sd_site_cards.specs.CardFields.{card_of, card_bytes, site_card}
 use Rattle.sd_site_cards.proofs.Made.{made_is_card}
 use Rattle.sd_ports.specs.Files.{Files}
-use Rattle.sd_engine.specs.Taken.{Whole, taken_of, end_of}
+use Rattle.sd_engine.specs.Taken.{Whole, packets_taken, end_of}
 use Rattle.sd_spec.specs.Plan.{Plan, period_of}
 use Rattle.sd_spec.specs.Refused.{whole_refusal}
 use Rattle.sd_spec.specs.Sent.{broadcast}
@@ -25,9 +25,9 @@ use Rattle.sd_law_losses.specs.Confirmed.{opened_by}
 use Rattle.sd_law_losses.specs.Endings.{first_revoked}
 use Rattle.sd_command_base.specs.declared.status.Status.{Status}
 use Rattle.sd_command_base.specs.declared.status.Status.TheVariants.{Done, BadWord}
-use Rattle.sd_command_base.specs.Texts.{line_of}
-use Rattle.sd_command_base.specs.Spec.{contents_of, judged, value, ◌>>=◌}
-use Rattle.sd_command_base.specs.Outside.{Outside}
+use Rattle.sd_command_base.specs.Texts.{line_of_status}
+use Rattle.sd_command_base.specs.Spec.{contents_of, of_result, value, ◌>>=◌}
+use Rattle.sd_command_base.specs.Outside.{IoState}
 use Rattle.sd_command_base.specs.Work.{Uncounted}
 use Rattle.sd_command_base.specs.Results.{RunResult}
 use Rattle.sd_command_base.proofs.Follow.{then_is}
@@ -35,13 +35,13 @@ use Rattle.sd_command_base.specs.Shown.{NumberArgument, word_at}
 use Rattle.sd_command_base.specs.Files.{site_in}
 use Rattle.sd_command_base.specs.Made.{making}
 use Rattle.sd_command_base.specs.Turned.{turning}
-use Rattle.sd_run_books.specs.Card.{told_card, card_meaning}
-use Rattle.sd_run_broadcasts.specs.Head.{plan_meaning, sending_of, sent_status, head_meaning}
+use Rattle.sd_run_books.specs.Card.{made_card, card_meaning}
+use Rattle.sd_run_broadcasts.specs.Head.{head_plan_meaning, sending_of, sent_status, head_meaning}
 use Rattle.sd_run_broadcasts.proofs.HeadSending.{sent_whole}
 use Rattle.sd_run_broadcasts.proofs.Refusals.{none_whole}
 use Rattle.sd_run_broadcasts.specs.Receive.{receiving, received_steps, receive_meaning}
 use Rattle.sd_law_run.specs.Good.{IsGoodSite, IsGoodBook}
-use Rattle.sd_law_run.specs.Headline.{Names, file_in, AreGiven, IsUndisturbed, card_for}
+use Rattle.sd_law_run.specs.Headline.{Names, file_in, AreGiven, IsUndisturbed, card_file_for}
 use Rattle.sd_law_run.specs.Headline.{HeadResult, CardResult, ReceiveResult}
 use Rattle.sd_law_run.specs.Sendable.{AreSendable}
 use Rattle.sd_law_run.proofs.Goodness.{site_good, plan_good}
@@ -66,33 +66,33 @@ is_told None name bytes e = absurd (cc)
 is_told (Some files) name bytes e = record { files = files; told = refl; there = e }
 
 -- what told files have of a name
-pub of_told : (at : Outside) (files : Files) (name : List ℕ) → at.place.files ≡ Some files →
+pub of_told : (at : IoState) (files : Files) (name : List ℕ) → at.place.files ≡ Some files →
     file_in at name ≡ get files name
 of_told at files name told = ap (option_and_then (λ (f : Files). get f name)) told
 
 -- what stands after work that makes a file
-pub made_in : (at : Outside) (files : Files) (name bytes : List ℕ) → at.place.files ≡ Some (insert files name bytes) →
+pub made_in : (at : IoState) (files : Files) (name bytes : List ℕ) → at.place.files ≡ Some (insert files name bytes) →
     file_in at name ≡ Some bytes
 made_in at files name bytes told =
     of_told at (insert files name bytes) name told ∙ made_there files name bytes
 
 -- and the other files are as they were
-abbrev OthersStay : List ℕ → Outside → Outside → Type 0
+abbrev OthersStay : List ℕ → IoState → IoState → Type 0
 OthersStay made a b = (name : List ℕ) → name ≢ made → file_in b name ≡ file_in a name
 
-pub others_in : (a b : Outside) (files : Files) (name bytes : List ℕ) → a.place.files ≡ Some files →
+pub others_in : (a b : IoState) (files : Files) (name bytes : List ℕ) → a.place.files ≡ Some files →
     b.place.files ≡ Some (insert files name bytes) → OthersStay name a b
 others_in a b files name bytes before after other apart =
     of_told b (insert files name bytes) other after
     ∙ (others_stay files name bytes other apart ∙ sym (of_told a files other before))
 
 -- the card of a leaf as a file
-pub card_same : (site : SiteFields) (u : ℕ) → card_bytes (card_of site.master site.ca site.height u) ≡ card_for site u
+pub card_same : (site : SiteFields) (u : ℕ) → card_bytes (site_card site u) ≡ card_file_for site u
 unfolding card_bytes card_of
 card_same site u = refl
 
 -- a good site and a good book, and a clear stream, can be sent
-pub all_sendable : (names : Names) (plan : Plan) (clear : List (List ℕ)) (at : Outside) →
+pub all_sendable : (names : Names) (plan : Plan) (clear : List (List ℕ)) (at : IoState) →
     AreGiven at names plan clear → AreSendable plan clear
 all_sendable names plan clear at given = record {
   is_plan = good_plan (λ word. file_in at word.text) (word_at 1 names.site) (word_at 2 names.book) plan given.site
@@ -108,24 +108,24 @@ module _ (plan : Plan) (clear : List (List ℕ)) (sends : AreSendable plan clear
   sends_long =
       All-weaker IsWholePacket (λ (packet : List ℕ). length packet ≡ 188) (λ packet is. is.long) clear sends.whole
 
-  taken : (taken_of (stream_of plan clear) ≡ broadcast plan clear) × (end_of (stream_of plan clear) ≡ Whole)
+  taken : (packets_taken (stream_of plan clear) ≡ broadcast plan clear) × (end_of (stream_of plan clear) ≡ Whole)
   taken = broadcast_taken plan clear sends.is_plan sends.sendable sends.whole sends.synced
 
   pub covers_named : (q : ℕ) → plan.site.first_period ≤ q → q ≤ period_of plan (length clear - 1) →
-      NamesPeriod plan q (sets_named plan.site.height plan.site.emm q (taken_of (stream_of plan clear)))
+      NamesPeriod plan q (sets_named plan.site.height plan.site.emm q (packets_taken (stream_of plan clear)))
   covers_named q from within =
       subst (λ (ps : List (List ℕ)). NamesPeriod plan q (sets_named plan.site.height plan.site.emm q ps))
       (sym taken.0) (period_named plan clear q sends.is_plan sends.sendable sends_long from within)
 
-  pub receive_part : (names : Names) (u : ℕ) (a b : Outside) (answer : Status) → u < 2 ^ plan.site.height →
-      file_in a names.card ≡ Some (card_for plan.site u) → file_in a names.stream ≡ Some (stream_of plan clear) →
+  pub receive_part : (names : Names) (u : ℕ) (a b : IoState) (answer : Status) → u < 2 ^ plan.site.height →
+      file_in a names.card ≡ Some (card_file_for plan.site u) → file_in a names.stream ≡ Some (stream_of plan clear) →
       RunResult (receive_meaning (word_at 1 names.card) (word_at 2 names.stream) (word_at 3 names.out)) a b answer →
       IsUndisturbed a b answer → ReceiveResult names plan u clear a b answer
   receive_part names u a b answer leaf card_there stream_there answers well =
-      let t = is_told a.place.files names.card (card_for plan.site u) card_there in
+      let t = is_told a.place.files names.card (card_file_for plan.site u) card_there in
       let is_plan = sends.is_plan in
       let site = is_plan.site in
-      let fields = card_of plan.site.master plan.site.ca plan.site.height u in
+      let fields = site_card plan.site u in
       let stream = stream_of plan clear in
       let out = word_at 3 names.out in
       let made = made_is_card plan.site.master plan.site.ca plan.site.height u is_plan.ca site.height.0 site.height.1
@@ -147,10 +147,10 @@ module _ (plan : Plan) (clear : List (List ℕ)) (sends : AreSendable plan clear
         steps = omega (arith, few, most);
         others = others_in a b t.files names.out (concat (opened_by plan u clear)) t.told left;
         told = subst (λ (l : List ℕ). Appends a.page.printed b.page.printed l)
-            (ap line_of ends ∙ whole_line u (first_revoked plan u clear)) done.printed;
+            (ap line_of_status ends ∙ whole_line u (first_revoked plan u clear)) done.printed;
       }
 
-module _ (names : Names) (plan : Plan) (clear : List (List ℕ)) (at : Outside) (given : AreGiven at names plan clear)
+module _ (names : Names) (plan : Plan) (clear : List (List ℕ)) (at : IoState) (given : AreGiven at names plan clear)
   where
     head_work : (files : Files) → at.place.files ≡ Some files →
         (head_meaning (word_at 1 names.site) (word_at 2 names.book) (word_at 3 names.clear) (word_at 4 names.stream)
@@ -174,7 +174,7 @@ module _ (names : Names) (plan : Plan) (clear : List (List ℕ)) (at : Outside) 
         let is_clear = subst (λ (ps : List (List ℕ)). whole_refusal plan.site ps ≡ None) (sym given.clear.packets)
         given.clear.is_clear in
         let sent = sent_whole plan bytes is_clear given.clear.whole in
-        then_is (plan_meaning (word_at 1 names.site) (word_at 2 names.book) (contents_of files)) plan
+        then_is (head_plan_meaning (word_at 1 names.site) (word_at 2 names.book) (contents_of files)) plan
         (sending_of (word_at 3 names.clear) out (get files names.clear))
         (plan_good (contents_of files) (word_at 1 names.site) (word_at 2 names.book) plan.site plan.commands site book
         given.own)
@@ -183,7 +183,7 @@ module _ (names : Names) (plan : Plan) (clear : List (List ℕ)) (at : Outside) 
         (sym sent.0 ∙ ap (λ (ps : List (List ℕ)). concat (broadcast plan ps)) given.clear.packets)
         ∙ ap (λ (s : Status). Ok (turning Uncounted out (stream_of plan clear) s)) (sym sent.1)))
 
-    pub head_part : (b : Outside) (answer : Status) → RunResult (head_meaning (word_at 1 names.site)
+    pub head_part : (b : IoState) (answer : Status) → RunResult (head_meaning (word_at 1 names.site)
         (word_at 2 names.book) (word_at 3 names.clear) (word_at 4 names.stream)) at b answer →
         IsUndisturbed at b answer →
         HeadResult names plan clear at b answer
@@ -200,7 +200,7 @@ module _ (names : Names) (plan : Plan) (clear : List (List ℕ)) (at : Outside) 
           silent = none_said at.page b.page answer done.printed done.ends;
         }
 
-pub card_part : (names : Names) (site : SiteFields) (u : ℕ) (a b : Outside) (answer : Status) →
+pub card_part : (names : Names) (site : SiteFields) (u : ℕ) (a b : IoState) (answer : Status) →
     IsGoodSite (file_in a names.site) site → u < 2 ^ site.height →
     RunResult (card_meaning (word_at 1 names.site) (record { word = 2; value = u }) (word_at 3 names.card)) a b answer →
     IsUndisturbed a b answer → CardResult names site u a b answer
@@ -208,12 +208,12 @@ card_part names site u a b answer good leaf answers well =
     let t = is_told a.place.files names.site good.bytes good.there in
     let number : NumberArgument = record { word = 2; value = u } in
     let out = word_at 3 names.card in
-    let bytes = card_bytes (card_of site.master site.ca site.height u) in
+    let bytes = card_bytes (site_card site u) in
     let own = subst (λ (got : Option (List ℕ)). IsGoodSite got site) (of_told a t.files names.site t.told) good in
     let work = then_is (site_in (contents_of t.files) (word_at 1 names.site)) site
-    (λ fields. judged (told_card fields number) >>= λ bytes. value (making Uncounted out bytes))
+    (λ fields. of_result (made_card fields number) >>= λ bytes. value (making Uncounted out bytes))
     (site_good (contents_of t.files) (word_at 1 names.site) site own)
-    ∙ then_is (judged (told_card site number)) bytes (λ bytes. value (making Uncounted out bytes))
+    ∙ then_is (of_result (made_card site number)) bytes (λ bytes. value (making Uncounted out bytes))
     (ap (λ (b : Bool). cond b (Ok bytes) (Err (BadWord 2))) (lt-ltb u (2 ^ site.height) leaf)) in
     let done = runs_work (card_meaning (word_at 1 names.site) number out) (making Uncounted out bytes) t.files a b
     answer work t.told answers well in

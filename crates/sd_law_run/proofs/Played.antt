@@ -17,16 +17,16 @@ use Rattle.sd_law_broadcast.specs.Synced.{AreBytes}
 use Rattle.sd_command_base.specs.declared.status.Status.{Status}
 use Rattle.sd_command_base.specs.declared.status.Status.TheVariants.{Done}
 use Rattle.sd_command_base.specs.declared.status.LimitKind.TheVariants.{BookBytes, FieldHeight, FieldPackets}
-use Rattle.sd_command_base.specs.Spec.{FileArgument, Readings, contents_of, judged, value, within, ◌>>=◌}
-use Rattle.sd_command_base.specs.Files.{low_site_of_file, most_book_bytes, site_in, told_low}
-use Rattle.sd_command_base.specs.Outside.{Outside}
+use Rattle.sd_command_base.specs.Spec.{FileArgument, Readings, contents_of, of_result, value, within, ◌>>=◌}
+use Rattle.sd_command_base.specs.Files.{low_site_of_file, most_book_bytes, site_in, low_site_or_status}
+use Rattle.sd_command_base.specs.Outside.{IoState}
 use Rattle.sd_command_base.specs.Printed.{printing}
 use Rattle.sd_command_base.specs.Results.{RunResult}
 use Rattle.sd_command_base.specs.Work.{Work}
 use Rattle.sd_command_line.specs.Words.{Order, FieldOf, order_of}
 use Rattle.sd_run_broadcasts.specs.Field.{Inputs, clear_of_file, done_field, field_meaning, field_text, inputs_by}
-use Rattle.sd_run_broadcasts.specs.Field.{inputs_meaning, lines_to, most_clear_bytes, most_height, script_of_file}
-use Rattle.sd_run_broadcasts.specs.Field.{text_in, told_clear, told_script, unbroken, unrefused}
+use Rattle.sd_run_broadcasts.specs.Field.{inputs_meaning, lines_of_field, field_clear_bytes, most_field_height, script_of_file}
+use Rattle.sd_run_broadcasts.specs.Field.{text_in, told_clear, script_or_status, unbroken, unrefused}
 use Rattle.sd_law_field.specs.Fielded.{confirmed_lines}
 use Rattle.sd_law_field.proofs.Fielded.{done_is_clear, text_is_confirmed}
 use Rattle.sd_run.specs.Meaning.{order_meaning, meaning}
@@ -47,8 +47,8 @@ text_refused : (site : SiteFields) (clear : List (List ℕ)) (events : List Even
     field_text site clear events ≡ Err Done → ⊥
 unfolding text_in
 text_refused site clear events e =
-    unrefused_done (refusal_from site [] (field.taken (done_field site clear events)))
-    (lines_to (done_field site clear events) (2 ^ site.height)) e
+    unrefused_done (refusal_from site [] (field.field_clear_packets (done_field site clear events)))
+    (lines_of_field (done_field site clear events) (2 ^ site.height)) e
 
 -- a low site
 record IsLowSite (got : Option (List ℕ)) (fields : SiteFields) : Type 0 where
@@ -56,12 +56,12 @@ record IsLowSite (got : Option (List ℕ)) (fields : SiteFields) : Type 0 where
   low : fields.height ≤ 6
 
 low_site : (given : Readings) (word : FileArgument) (fields : SiteFields) →
-    (low_site_of_file word.number most_height FieldHeight (given word)).result ≡ Ok fields →
+    (low_site_of_file word.number most_field_height FieldHeight (given word)).result ≡ Ok fields →
     IsLowSite (given word) fields
 unfolding low_site_of_file
 low_site given word fields e =
-    let any = then_ok (site_in given word) (λ site. judged (told_low most_height FieldHeight site)) fields e in
-    let low = low_taken most_height FieldHeight any.from fields any.next_is in
+    let any = then_ok (site_in given word) (λ site. of_result (low_site_or_status most_field_height FieldHeight site)) fields e in
+    let low = low_taken most_field_height FieldHeight any.from fields any.next_is in
     record {
       good = subst (IsGoodSite (given word)) low.0 (site_taken given word any.from any.first_is);
       low = low.1;
@@ -83,12 +83,12 @@ clear_taken : (given : Readings) (word : FileArgument) (packets : List (List ℕ
     (clear_of_file word.number (given word)).result ≡ Ok packets → IsUnbroken (given word) packets
 unfolding clear_of_file
 clear_taken given word packets e =
-    let read = then_ok (within word.number most_clear_bytes FieldPackets (given word))
-    (λ bytes. judged (told_clear bytes)) packets e in
+    let read = then_ok (within word.number field_clear_bytes FieldPackets (given word))
+    (λ bytes. of_result (told_clear bytes)) packets e in
     let told = unbroken_is (break_of read.from) (packets_of read.from) packets read.next_is in
     record {
       bytes = read.from;
-      is = file_taken word.number most_clear_bytes FieldPackets (given word) read.from read.first_is;
+      is = file_taken word.number field_clear_bytes FieldPackets (given word) read.from read.first_is;
       whole = told.0;
       same = told.1;
     }
@@ -100,7 +100,7 @@ record IsScript (got : Option (List ℕ)) (d : ℕ) (events : List Event) : Type
   says : script_of d text ≡ Ok events
 
 script_told : (word d : ℕ) (bytes : List ℕ) (r : Result (List Event) ScriptFault) (events : List Event) →
-    told_script word d bytes r ≡ Ok events → r ≡ Ok events
+    script_or_status word d bytes r ≡ Ok events → r ≡ Ok events
 script_told word d bytes (Ok found) events e = cc
 script_told word d bytes (Err fault) events e = absurd (cc)
 
@@ -109,7 +109,7 @@ script_taken : (given : Readings) (word : FileArgument) (d : ℕ) (events : List
 unfolding script_of_file
 script_taken given word d events e =
     let read = then_ok (within word.number most_book_bytes BookBytes (given word))
-    (λ bytes. judged (told_script word.number d bytes (script_of d bytes))) events e in
+    (λ bytes. of_result (script_or_status word.number d bytes (script_of d bytes))) events e in
     record {
       text = read.from;
       is = file_taken word.number most_book_bytes BookBytes (given word) read.from read.first_is;
@@ -125,7 +125,7 @@ inputs_taken : (given : Readings) (site clear : FileArgument) (inputs : Inputs) 
     (inputs_meaning site clear given).result ≡ Ok inputs → AreInputs given site clear inputs
 unfolding inputs_by
 inputs_taken given site clear inputs e =
-    let fields = then_ok (low_site_of_file site.number most_height FieldHeight (given site))
+    let fields = then_ok (low_site_of_file site.number most_field_height FieldHeight (given site))
     (λ found. clear_of_file clear.number (given clear)
     >>= λ all. value {A = Inputs} (record { site = found; clear = all })) inputs e in
     let packets = then_ok (clear_of_file clear.number (given clear))
@@ -143,7 +143,7 @@ text_lines : {words : List (List ℕ)} {given : Readings} (good : IsGoodFieldRun
 text_lines good text e are =
     let both = sym e ∙ text_is_confirmed good.fields (packets_of good.bytes) good.events (limits good are) in cc
 
-module _ (words : List (List ℕ)) (site clear script : FileArgument) (files : Files) (a b : Outside)
+module _ (words : List (List ℕ)) (site clear script : FileArgument) (files : Files) (a b : IoState)
     (order : order_of words ≡ Ok (FieldOf site clear script)) where
   -- by what the files gave and the text that was told
   fielded_by : (inputs : Inputs) (events : List Event) (text : List ℕ) →
@@ -184,7 +184,7 @@ module _ (words : List (List ℕ)) (site clear script : FileArgument) (files : F
   field_done known answers =
       let given = contents_of files in
       let done = done_leaves (meaning words) files a b Done known refl answers in
-      let meant = sym (ap (λ (r : Result Order Status). (judged r >>= λ o. order_meaning o given).result) order)
+      let meant = sym (ap (λ (r : Result Order Status). (of_result r >>= λ o. order_meaning o given).result) order)
       ∙ done.is_meant in
       let inputs = then_ok (inputs_meaning site clear given)
       (λ inputs. script_of_file script.number inputs.site.height (given script)

@@ -11,10 +11,10 @@ use Rattle.sd_book.specs.Text.{SpellsBook, book_of}
 use Rattle.sd_command_base.specs.declared.status.Status.TheVariants.{Limit}
 use Rattle.sd_command_base.specs.declared.status.LimitKind.{LimitKind}
 use Rattle.sd_command_base.specs.declared.status.LimitKind.TheVariants.{SiteBytes, BookBytes}
-use Rattle.sd_command_base.specs.Spec.{FileArgument, Readings, judged, value, within, ◌>>=◌}
+use Rattle.sd_command_base.specs.Spec.{FileArgument, Readings, of_result, value, within, ◌>>=◌}
 use Rattle.sd_command_base.specs.Both.{SiteBook, both_by, both_meaning}
-use Rattle.sd_command_base.specs.Files.{most_site_bytes, most_book_bytes, told_site, told_book, site_in, book_in}
-use Rattle.sd_command_base.specs.Files.{site_of_file, book_of_file, told_low}
+use Rattle.sd_command_base.specs.Files.{most_site_bytes, most_book_bytes, site_or_status, book_or_status, site_in, book_in}
+use Rattle.sd_command_base.specs.Files.{site_of_file, book_of_file, low_site_or_status}
 use Rattle.sd_run_books.proofs.OwnBook.{book_said}
 use Rattle.sd_law_run.specs.Good.{IsGoodSite, IsGoodBook}
 use Rattle.sd_law_run.proofs.Sent.{then_ok, value_is, site_right, book_right}
@@ -41,7 +41,7 @@ pub site_taken : (given : Readings) (word : FileArgument) (fields : SiteFields) 
 unfolding site_of_file
 site_taken given word fields e =
     let read = then_ok (within word.number most_site_bytes SiteBytes (given word))
-    (λ bytes. judged (told_site word.number bytes (site_of bytes))) fields e in
+    (λ bytes. of_result (site_or_status word.number bytes (site_of bytes))) fields e in
     let is = file_taken word.number most_site_bytes SiteBytes (given word) read.from read.first_is in
     record {
       bytes = read.from;
@@ -51,10 +51,10 @@ site_taken given word fields e =
 
 -- the lines of a book that is told are its commands
 told_spells : (word d : ℕ) (bytes : List ℕ) (commands : List Command) →
-    told_book word d bytes (book_of d bytes) ≡ Ok commands → SpellsBook (lines_of bytes) commands
+    book_or_status word d bytes (book_of d bytes) ≡ Ok commands → SpellsBook (lines_of bytes) commands
 told_spells word d bytes commands e = by_answer (book_of d bytes) refl e
   where
-    by_answer : (r : Result (List Command) BookFault) → book_of d bytes ≡ r → told_book word d bytes r ≡ Ok commands →
+    by_answer : (r : Result (List Command) BookFault) → book_of d bytes ≡ r → book_or_status word d bytes r ≡ Ok commands →
         SpellsBook (lines_of bytes) commands
     by_answer (Ok found) f e =
         let same : found ≡ commands = cc in
@@ -66,7 +66,7 @@ pub book_taken : (given : Readings) (d : ℕ) (word : FileArgument) (commands : 
 unfolding book_of_file
 book_taken given d word commands e =
     let read = then_ok (within word.number most_book_bytes BookBytes (given word))
-    (λ bytes. judged (told_book word.number d bytes (book_of d bytes))) commands e in
+    (λ bytes. of_result (book_or_status word.number d bytes (book_of d bytes))) commands e in
     let is = file_taken word.number most_book_bytes BookBytes (given word) read.from read.first_is in
     record {
       bytes = read.from;
@@ -96,7 +96,7 @@ both_taken given site book both e =
     })
 
 -- a site whose tree is low enough
-pub low_taken : (most : ℕ) (kind : LimitKind) (site found : SiteFields) → told_low most kind site ≡ Ok found →
+pub low_taken : (most : ℕ) (kind : LimitKind) (site found : SiteFields) → low_site_or_status most kind site ≡ Ok found →
     (site ≡ found) × (found.height ≤ most)
 low_taken most kind site found e = by_test (nat_lt most site.height) refl e
   where

@@ -9,8 +9,8 @@ use Rattle.sd_base.proofs.Arithmetic.{still_or_rose}
 use Rattle.sd_ports.specs.Files.{Files}
 use Rattle.sd_command_base.specs.declared.status.Status.{Status}
 use Rattle.sd_command_base.specs.declared.status.Status.TheVariants.{Done, PrintFault, NoMemory}
-use Rattle.sd_command_base.specs.Texts.{line_of}
-use Rattle.sd_command_base.specs.Outside.{PageState, Outside}
+use Rattle.sd_command_base.specs.Texts.{line_of_status}
+use Rattle.sd_command_base.specs.Outside.{PageState, IoState}
 use Rattle.sd_command_base.specs.Spec.{Spec, Readings, contents_of}
 use Rattle.sd_command_base.specs.Work.{Work, files_marked, files_with, IsWithinSteps, TakesSteps}
 use Rattle.sd_command_base.specs.Outcome.{PrintsAll}
@@ -21,17 +21,17 @@ use Rattle.sd_command_base.proofs.RunAnswers.{own_line, done_line, causes, told_
 use Rattle.sd_law_run.specs.Headline.{IsUndisturbed}
 
 -- work that was done
-pub record IsWorked (work : Work) (files : Files) (a b : Outside) (answer : Status) : Type 0 where
+pub record IsWorked (work : Work) (files : Files) (a b : IoState) (answer : Status) : Type 0 where
   pub ends : answer ≡ work.ends
   pub left : b.place.files ≡ files_with work.out (files_marked work.mark (Some files))
   pub steps : IsWithinSteps work.steps a.steps b.steps
-  pub printed : Appends a.page.printed b.page.printed (concat work.pieces ++ line_of answer)
+  pub printed : Appends a.page.printed b.page.printed (concat work.pieces ++ line_of_status answer)
 
 same_work : (meant : Result Work Status) (work other : Work) → meant ≡ Ok work → meant ≡ Ok other → other ≡ work
 same_work meant work other e f = let both = sym f ∙ e in cc
 
 -- it came to its end
-ended_with : (meant : Result Work Status) (work : Work) (files : Files) (a b : Outside) (status : Status) →
+ended_with : (meant : Result Work Status) (work : Work) (files : Files) (a b : IoState) (status : Status) →
     meant ≡ Ok work → a.place.files ≡ Some files → HasNotRisen a.place.faults b.place.faults → status ≢ PrintFault →
     status ≢ NoMemory → Outcome meant a b status → (status ≡ work.ends)
     × (b.place.files ≡ files_with work.out (files_marked work.mark (Some files))) × PrintsAll work a.page b.page
@@ -58,7 +58,7 @@ ended_with meant work files a b status is told depot print memory (cut_short oth
     absurd (print s)
 
 -- what is refused is answered so
-ended_refused : (meant : Result Work Status) (due : Status) (files : Files) (a b : Outside) (status : Status) →
+ended_refused : (meant : Result Work Status) (due : Status) (files : Files) (a b : IoState) (status : Status) →
     meant ≡ Err due → a.place.files ≡ Some files → HasNotRisen a.place.faults b.place.faults → status ≢ PrintFault →
     status ≢ NoMemory → Outcome meant a b status → status ≡ due
 ended_refused meant due files a b status is told depot print memory (refused e r h k c m) = let both = sym e ∙ is in cc
@@ -83,21 +83,21 @@ steps_of meant work before now is h = subst (λ (r : Result Work Status). TakesS
 
 -- the line of the answer was printed, if printing didn't fail
 line_said : (a b : PageState) (status answer : Status) → PrintsStatusLine a b status answer → answer ≢ PrintFault →
-    Appends a.printed b.printed (line_of answer)
+    Appends a.printed b.printed (line_of_status answer)
 line_said a b status answer tells print =
     elim tells.says [
-      | inl said ↦ subst (λ (s : Status). Appends a.printed b.printed (line_of s)) (sym said.0) said.1
+      | inl said ↦ subst (λ (s : Status). Appends a.printed b.printed (line_of_status s)) (sym said.0) said.1
       | inr cut ↦ absurd (print cut.0)
     ]
 
 -- work that is done has no line
-pub none_said : (a b : PageState) (answer : Status) → Appends a.printed b.printed (line_of answer) → answer ≡ Done →
+pub none_said : (a b : PageState) (answer : Status) → Appends a.printed b.printed (line_of_status answer) → answer ≡ Done →
     Appends a.printed b.printed []
 none_said a b answer said is =
-    subst (λ (l : List ℕ). Appends a.printed b.printed l) (ap line_of is ∙ done_line) said
+    subst (λ (l : List ℕ). Appends a.printed b.printed l) (ap line_of_status is ∙ done_line) said
 
 -- a run does the work that is meant
-pub runs_work : (meant : Readings → Spec Work) (work : Work) (files : Files) (a b : Outside) (answer : Status) →
+pub runs_work : (meant : Readings → Spec Work) (work : Work) (files : Files) (a b : IoState) (answer : Status) →
     (meant (contents_of files)).result ≡ Ok work → a.place.files ≡ Some files → RunResult meant a b answer →
     IsUndisturbed a b answer → IsWorked work files a b answer
 runs_work meant work files a b answer due told answers well =
@@ -116,12 +116,12 @@ runs_work meant work files a b answer due told answers well =
       ends = sym own ∙ done.0;
       left = done.1;
       steps = steps_of (meant answers.obeyed.given).result work a.steps b.steps is obeys.steps;
-      printed = Appends-trans a.page.printed answers.page.printed b.page.printed (concat work.pieces) (line_of answer)
+      printed = Appends-trans a.page.printed answers.page.printed b.page.printed (concat work.pieces) (line_of_status answer)
           done.2 (line_said answers.page b.page answers.status answer answers.told print);
     }
 
 -- a run answers what is refused
-pub runs_refused : (meant : Readings → Spec Work) (due : Status) (files : Files) (a b : Outside) (answer : Status) →
+pub runs_refused : (meant : Readings → Spec Work) (due : Status) (files : Files) (a b : IoState) (answer : Status) →
     (meant (contents_of files)).result ≡ Err due → a.place.files ≡ Some files → RunResult meant a b answer →
     IsUndisturbed a b answer → answer ≡ due
 runs_refused meant due files a b answer refuses told answers well =

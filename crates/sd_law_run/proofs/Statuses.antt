@@ -12,7 +12,7 @@ use Rattle.sd_base.proofs.Ranges.{in_range}
 use Rattle.sd_book.specs.Commands.{last_period}
 use Rattle.sd_lsd.proofs.Filters.{from_filter}
 use Rattle.sd_ports.specs.Files.{Files}
-use Rattle.sd_site_cards.specs.CardFields.{card_bytes, card_of}
+use Rattle.sd_site_cards.specs.CardFields.{card_bytes, card_of, site_card}
 use Rattle.sd_site_cards.specs.Files.{check_in}
 use Rattle.sd_site_cards.specs.SiteFields.{SiteFields}
 use Rattle.sd_site_cards.proofs.Made.{made_is_card}
@@ -21,10 +21,10 @@ use Rattle.sd_law_losses.specs.Confirmed.{is_revoked_in}
 use Rattle.sd_command_base.specs.declared.status.Status.{Status}
 use Rattle.sd_command_base.specs.declared.status.Status.TheVariants.{BadWord, Done}
 use Rattle.sd_command_base.specs.Files.{book_in, site_in}
-use Rattle.sd_command_base.specs.Outside.{Outside, PageState}
+use Rattle.sd_command_base.specs.Outside.{IoState, PageState}
 use Rattle.sd_command_base.specs.Results.{RunResult}
-use Rattle.sd_command_base.specs.Spec.{FileArgument, Readings, contents_of, judged, value, ◌>>=◌}
-use Rattle.sd_command_base.specs.Texts.{line_of}
+use Rattle.sd_command_base.specs.Spec.{FileArgument, Readings, contents_of, of_result, value, ◌>>=◌}
+use Rattle.sd_command_base.specs.Texts.{line_of_status}
 use Rattle.sd_command_base.specs.Work.{work_of_text}
 use Rattle.sd_command_base.proofs.Follow.{then_is}
 use Rattle.sd_command_base.proofs.RunAnswers.{done_line}
@@ -37,7 +37,7 @@ use Rattle.sd_run_books.specs.Status.{change_periods, is_change, is_entitled, st
 use Rattle.sd_run_books.proofs.Changes.{ascending, first_is_told, same_until}
 use Rattle.sd_run.specs.Meaning.{meaning}
 use Rattle.sd_law_run.specs.Good.{IsGoodShow}
-use Rattle.sd_law_run.specs.Headline.{IsUndisturbed, card_for, file_in}
+use Rattle.sd_law_run.specs.Headline.{IsUndisturbed, card_file_for, file_in}
 use Rattle.sd_law_run.specs.Told.{AreChanges, IsGoodStatus, ShowResult, StatusResult, plan_asked}
 use Rattle.sd_law_run.proofs.Fingerprints.{made_fingerprint}
 use Rattle.sd_law_run.proofs.Goodness.{book_good, ordered, site_good, site_low}
@@ -55,7 +55,7 @@ status_good words given good =
     ∙ then_is (tree_of_file good.site.number leaf (given good.site)) f
     (λ fields. book_in given fields.height good.book
     >>= λ commands. value (work_of_text (status_text fields commands leaf.value)))
-    (then_is (site_in given good.site) f (λ fields. judged (told_tree leaf fields))
+    (then_is (site_in given good.site) f (λ fields. of_result (told_tree leaf fields))
     (site_good given good.site f good.good_site)
     ∙ ap (λ b. cond b (Ok f) (Err (BadWord leaf.word))) (lt-ltb leaf.value (2 ^ f.height) good.of_tree))
     ∙ then_is (book_in given f.height good.book) good.commands
@@ -70,17 +70,17 @@ not_same false false e = refl
 
 -- what is printed of work that only prints, and ends well
 text_alone : (a b : PageState) (text : List ℕ) (answer : Status) →
-    Appends a.printed b.printed (concat (text ∷ []) ++ line_of answer) → answer ≡ Done →
+    Appends a.printed b.printed (concat (text ∷ []) ++ line_of_status answer) → answer ≡ Done →
     Appends a.printed b.printed text
 text_alone a b text answer said is =
     subst (λ (l : List ℕ). Appends a.printed b.printed l)
-    (ap (λ (s : Status). concat (text ∷ []) ++ line_of s) is
+    (ap (λ (s : Status). concat (text ∷ []) ++ line_of_status s) is
     ∙ ap (λ (l : List ℕ). concat (text ∷ []) ++ l) done_line
     ∙ append-nil (concat (text ∷ []))
     ∙ append-nil text) said
 
 -- and no file changes
-files_stay : (files : Files) (a b : Outside) → a.place.files ≡ Some files → b.place.files ≡ Some files →
+files_stay : (files : Files) (a b : IoState) → a.place.files ≡ Some files → b.place.files ≡ Some files →
     (name : FileName) → file_in b name ≡ file_in a name
 files_stay files a b before after name =
     ap (option_and_then (λ (f : Files). get f name)) (after ∙ sym before)
@@ -123,7 +123,7 @@ are_changes plan u = record {
 }
 
 pub status_part : (words : List (List ℕ)) (files : Files) (good : IsGoodStatus words (contents_of files))
-    (a b : Outside) (answer : Status) → a.place.files ≡ Some files → RunResult (meaning words) a b answer →
+    (a b : IoState) (answer : Status) → a.place.files ≡ Some files → RunResult (meaning words) a b answer →
     IsUndisturbed a b answer → StatusResult (plan_asked good) good.leaf.value a b answer
 unfolding status_text
 status_part words files good a b answer told answers well =
@@ -140,24 +140,24 @@ status_part words files good a b answer told answers well =
 
 -- the line of a leaf's card has the fingerprint of the master
 pub line_made : (site : SiteFields) (u : ℕ) →
-    let card = card_of site.master site.ca site.height u in
+    let card = site_card site u in
     shown_line card.height card.leaf card.ca (check_in (card_bytes card)) (fingerprint_in (card_bytes card))
-    ≡ shown_line site.height u site.ca (check_in (card_for site u)) (fingerprint_of site.master)
+    ≡ shown_line site.height u site.ca (check_in (card_file_for site u)) (fingerprint_of site.master)
 unfolding card_of
 line_made site u =
-    let bytes = card_bytes (card_of site.master site.ca site.height u) in
+    let bytes = card_bytes (site_card site u) in
     ap (λ (m : List ℕ). shown_line site.height u site.ca (check_in bytes) m)
     (made_fingerprint site.master site.ca site.height u)
     ∙ ap (λ (bs : List ℕ). shown_line site.height u site.ca (check_in bs) (fingerprint_of site.master))
     (card_same site u)
 
 pub show_part : (words : List (List ℕ)) (card : FileArgument) (site : SiteFields) (u : ℕ) (files : Files)
-    (a b : Outside) (answer : Status) → order_of words ≡ Ok (ShowOf card) → a.place.files ≡ Some files →
+    (a b : IoState) (answer : Status) → order_of words ≡ Ok (ShowOf card) → a.place.files ≡ Some files →
     site.ca < 2 ^ 16 → 1 ≤ site.height → site.height ≤ 20 → u < 2 ^ site.height →
-    get files card.text ≡ Some (card_for site u) → RunResult (meaning words) a b answer → IsUndisturbed a b answer →
+    get files card.text ≡ Some (card_file_for site u) → RunResult (meaning words) a b answer → IsUndisturbed a b answer →
     ShowResult site u a b answer
 show_part words card site u files a b answer order told system some low leaf there answers well =
-    let fields = card_of site.master site.ca site.height u in
+    let fields = site_card site u in
     let good : IsGoodShow words (contents_of files) = record {
       card = card;
       order = order;

@@ -2,8 +2,8 @@
 use Rattle.std.proofs.Common.{◌≡◌, ℕ, List, Option, Some, Ok, sym, ap, ◌∙◌}
 use Rattle.sd_site_cards.specs.CardFields.{CardFields, IsCard, card_bytes}
 use Rattle.sd_command_base.specs.declared.status.Status.{Status}
-use Rattle.sd_command_base.specs.Spec.{FileArgument, Readings, all_of, contents_of, value, ◌>>=◌}
-use Rattle.sd_command_base.specs.Outside.{Outside}
+use Rattle.sd_command_base.specs.Spec.{FileArgument, Readings, whole_file_bytes, contents_of, value, ◌>>=◌}
+use Rattle.sd_command_base.specs.Outside.{IoState}
 use Rattle.sd_command_base.specs.Results.{RunResult}
 use Rattle.sd_command_base.specs.Shown.{word_at}
 use Rattle.sd_command_base.proofs.Follow.{then_is}
@@ -26,11 +26,11 @@ watched given card stream out fields bytes is there stream_there =
     there
     ∙ then_is (card_of_file card.number (Some (card_bytes fields))) fields (λ f. watched_meaning f stream out given)
     (card_good card.number fields is)
-    ∙ ap (λ (got : Option (List ℕ)). (all_of stream.number got >>= λ b. value (watching fields out b)).result)
+    ∙ ap (λ (got : Option (List ℕ)). (whole_file_bytes stream.number got >>= λ b. value (watching fields out b)).result)
     stream_there
 
 -- and what is left
-pub watch_part : (names : Names) (card : CardFields) (bytes : List ℕ) (a b : Outside) (answer : Status) → IsCard card →
+pub watch_part : (names : Names) (card : CardFields) (bytes : List ℕ) (a b : IoState) (answer : Status) → IsCard card →
     file_in a names.card ≡ Some (card_bytes card) → file_in a names.stream ≡ Some bytes →
     RunResult (watch_meaning (word_at 1 names.card) (word_at 2 names.stream) (word_at 3 names.out)) a b answer →
     IsUndisturbed a b answer → WatchResult names card bytes a b answer

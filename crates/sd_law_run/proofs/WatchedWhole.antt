@@ -5,9 +5,9 @@ use Rattle.std.specs.Prelude.{min, if◌then◌else◌}
 use Rattle.std.specs.List.{concat, list_any}
 use Rattle.std.specs.Io.KnownBytes.{Appends}
 use Rattle.sd_base.specs.Types.{Bytes, Packets}
-use Rattle.sd_site_cards.specs.CardFields.{CardFields, card_of}
+use Rattle.sd_site_cards.specs.CardFields.{CardFields, card_of, site_card}
 use Rattle.sd_site_cards.proofs.Made.{made_is_card}
-use Rattle.sd_engine.specs.Cut.{is_too_long, readable}
+use Rattle.sd_engine.specs.Cut.{is_stream_too_long, readable}
 use Rattle.sd_spec.specs.Plan.{Plan, IsPlan}
 use Rattle.sd_spec.specs.Refused.{IsSendable}
 use Rattle.sd_spec.specs.Sent.{broadcast}
@@ -32,16 +32,16 @@ use Rattle.sd_law_watch.proofs.Trying.{few_refused, tried_are}
 use Rattle.sd_command_base.specs.declared.status.Status.{Status}
 use Rattle.sd_command_base.specs.declared.status.Status.TheVariants.{BadStream}
 use Rattle.sd_command_base.specs.declared.stream_refusal.StreamRefusal.TheVariants.{TooLong}
-use Rattle.sd_command_base.specs.Texts.{line_of}
-use Rattle.sd_command_base.specs.Outside.{Outside}
+use Rattle.sd_command_base.specs.Texts.{line_of_status}
+use Rattle.sd_command_base.specs.Outside.{IoState}
 use Rattle.sd_command_base.specs.Results.{RunResult}
 use Rattle.sd_command_base.specs.Shown.{word_at}
 use Rattle.sd_run_broadcasts.specs.Receive.{ending_status}
-use Rattle.sd_run_broadcasts.specs.Watch.{lines_of, report_line, watch_meaning, watched_lines, watched_of}
+use Rattle.sd_run_broadcasts.specs.Watch.{report_lines, watch_report_line, watch_meaning, watched_lines, watched_of}
 use Rattle.sd_run_broadcasts.specs.Watch.{watched_status}
 use Rattle.sd_run_broadcasts.proofs.Found.{all_readable}
-use Rattle.sd_law_run.specs.Headline.{Names, file_in, IsUndisturbed, card_for}
-use Rattle.sd_law_run.specs.Opened.{entitled_periods, revoked_status}
+use Rattle.sd_law_run.specs.Headline.{Names, file_in, IsUndisturbed, card_file_for}
+use Rattle.sd_law_run.specs.Opened.{unrevoked_periods, revoked_status}
 use Rattle.sd_law_run.specs.Sendable.{AreSendable}
 use Rattle.sd_law_run.specs.Watched.{WholeResult, all_count_tally}
 use Rattle.sd_law_run.proofs.Broadcasts.{whole_line, whole_status}
@@ -55,7 +55,7 @@ module _ (plan : Plan) (clear : List (List ℕ)) (sends : AreSendable plan clear
     (steady : are_steady clear ≡ true) (unmarked : list_any is_marked clear ≡ false) (u : ℕ)
     (leaf : u < 2 ^ plan.site.height) where
   abbrev card : CardFields
-  card = card_of plan.site.master plan.site.ca plan.site.height u
+  card = site_card plan.site u
 
   abbrev packets : Packets
   packets = broadcast plan clear
@@ -87,7 +87,7 @@ module _ (plan : Plan) (clear : List (List ℕ)) (sends : AreSendable plan clear
   height_is = refl
 
   -- all packets of the stream are read
-  read : (readable stream ≡ packets) × (is_too_long stream ≡ false)
+  read : (readable stream ≡ packets) × (is_stream_too_long stream ≡ false)
   read =
       all_readable stream packets (joined_cut packets synced)
       (omega (arith, broadcast_short plan is clear can))
@@ -121,14 +121,14 @@ module _ (plan : Plan) (clear : List (List ℕ)) (sends : AreSendable plan clear
       ∙ ap (λ (v : ℕ). ending_status v (whole_ending (first_revoked plan u clear))) leaf_is
       ∙ whole_status u (first_revoked plan u clear)
 
-  lines_are : watched_lines card stream ≡ report_line u 0 (report_of card packets) ∷ []
+  lines_are : watched_lines card stream ≡ watch_report_line u 0 (report_of card packets) ∷ []
   unfolding watched_lines
   lines_are =
-      ap (λ (ps : Packets). lines_of card stream (reports card ps)) read.0
-      ∙ ap (lines_of card stream) (one_report card packets all one)
-      ∙ ap (λ (n : ℕ). report_line card.leaf (min n (2 ^ 64 - 1)) (report_of card packets) ∷ [])
+      ap (λ (ps : Packets). report_lines card stream (reports card ps)) read.0
+      ∙ ap (report_lines card stream) (one_report card packets all one)
+      ∙ ap (λ (n : ℕ). watch_report_line card.leaf (min n (2 ^ 64 - 1)) (report_of card packets) ∷ [])
       (joined_skips (report_of card packets).packets packets synced)
-      ∙ ap (λ (v : ℕ). report_line v 0 (report_of card packets) ∷ []) leaf_is
+      ∙ ap (λ (v : ℕ). watch_report_line v 0 (report_of card packets) ∷ []) leaf_is
 
   tally_is : (report_of card packets).tally ≡ all_count_tally
   unfolding report_of
@@ -147,7 +147,7 @@ module _ (plan : Plan) (clear : List (List ℕ)) (sends : AreSendable plan clear
       ∙ run_ends card packets one
       ∙ ended
 
-  keys_are : tried_keys card [] (readable stream) ≡ entitled_periods plan u clear
+  keys_are : tried_keys card [] (readable stream) ≡ unrevoked_periods plan u clear
   unfolding report_of
   keys_are =
       let tried = ap (tried_keys card []) read.0 in
@@ -155,8 +155,8 @@ module _ (plan : Plan) (clear : List (List ℕ)) (sends : AreSendable plan clear
       let taken = ap (taken_keys card []) all ∙ keys_taken plan clear u is can whole leaf in
       omega (arith, tried, tried_are card packets, few_refused card packets, refused, taken)
 
-  pub whole_part : (names : Names) (a b : Outside) (answer : Status) →
-      file_in a names.card ≡ Some (card_for plan.site u) →
+  pub whole_part : (names : Names) (a b : IoState) (answer : Status) →
+      file_in a names.card ≡ Some (card_file_for plan.site u) →
       file_in a names.stream ≡ Some stream →
       RunResult (watch_meaning (word_at 1 names.card) (word_at 2 names.stream) (word_at 3 names.out)) a b answer →
       IsUndisturbed a b answer → WholeResult names plan u clear a b answer
@@ -168,7 +168,7 @@ module _ (plan : Plan) (clear : List (List ℕ)) (sends : AreSendable plan clear
       let ends = left.ends ∙ status_is in
       let steps = left.steps in
       let most : card.height * tried_keys card [] (readable stream)
-      ≡ plan.site.height * entitled_periods plan u clear =
+      ≡ plan.site.height * unrevoked_periods plan u clear =
       ap (λ (h : ℕ). h * tried_keys card [] (readable stream)) height_is
       ∙ ap (λ (n : ℕ). plan.site.height * n) keys_are in
       record {
@@ -176,10 +176,10 @@ module _ (plan : Plan) (clear : List (List ℕ)) (sends : AreSendable plan clear
         ends = ends;
         report = report_of card packets;
         told = subst (λ (l : Bytes). Appends a.page.printed b.page.printed l)
-            (ap (λ (ls : List Bytes). concat ls ++ line_of answer) lines_are
-            ∙ ap (λ (l : Bytes). l ++ line_of answer) (append-nil (report_line u 0 (report_of card packets)))
-            ∙ ap (λ (l : Bytes). report_line u 0 (report_of card packets) ++ l)
-            (ap line_of ends ∙ whole_line u (first_revoked plan u clear))) left.told;
+            (ap (λ (ls : List Bytes). concat ls ++ line_of_status answer) lines_are
+            ∙ ap (λ (l : Bytes). l ++ line_of_status answer) (append-nil (watch_report_line u 0 (report_of card packets)))
+            ∙ ap (λ (l : Bytes). watch_report_line u 0 (report_of card packets) ++ l)
+            (ap line_of_status ends ∙ whole_line u (first_revoked plan u clear))) left.told;
         packets = packets_told card packets;
         wrote = wrote_is;
         tally = tally_is;

@@ -7,8 +7,8 @@ use Rattle.std.specs.List.{concat, list_any, range_with_len}
 use Rattle.std.proofs.lemmas.List.{get_or_append_left, get_or-append-add, take_at, drop_at}
 use Rattle.std.proofs.lemmas.List.Elements.{All-head, All-tail}
 use Rattle.sd_base.specs.Types.{Packet, Packets}
-use Rattle.sd_site_cards.specs.CardFields.{CardFields, card_of}
-use Rattle.sd_engine.specs.Cut.{begins_packet, cut, skipped_before}
+use Rattle.sd_site_cards.specs.CardFields.{CardFields, card_of, site_card}
+use Rattle.sd_engine.specs.Cut.{begins_packet, cut_packets, skipped_before}
 use Rattle.sd_engine.proofs.Begins.{followed}
 use Rattle.sd_engine.proofs.Cutting.{cut_end, cut_packet, skipped_end, skipped_none, skipped_packet}
 use Rattle.sd_spec.specs.declared.report.Report.{Report}
@@ -22,7 +22,7 @@ use Rattle.sd_spec.specs.Offered.{heard, offered}
 use Rattle.sd_spec.specs.Counting.{counting, counts, is_doubled, is_marked, is_stray_at}
 use Rattle.sd_spec.specs.declared.ending.Ending.{Ending}
 use Rattle.sd_spec.specs.declared.ending.Ending.TheVariants.{NoCat}
-use Rattle.sd_spec.specs.Ending.{ended_before, ending_of, joined, run_ending, run_wrote, turns_at}
+use Rattle.sd_spec.specs.Ending.{ended_before, ending_of, endings_joined, run_ending, run_wrote, turns_at}
 use Rattle.sd_spec.specs.Reports.{refused_or, report_of, reports, run_end, tally_from, turned_reports, turns_after}
 use Rattle.sd_spec.proofs.Runs.{opened_joins}
 use Rattle.sd_law_broadcast.specs.Packets.{AreWholePackets}
@@ -65,13 +65,13 @@ packet_first packet packets all =
         inr (seam packet (other ++ concat packets) 188 here
         ∙ get_or_append_left other (concat packets) 0 0 (omega (arith, size)) ∙ two.sync)
 
-pub joined_cut : (packets : Packets) → AreSynced packets → cut (concat packets) ≡ packets
+pub joined_cut : (packets : Packets) → AreSynced packets → cut_packets (concat packets) ≡ packets
 joined_cut [] all = cut_end
 joined_cut (packet ∷ packets) all =
     let here = (All-head IsSynced packet packets all).long in
     cut_packet (packet ++ concat packets) (packet_first packet packets all)
-    ∙ ap (λ (p : Packet). p ∷ cut (drop 188 (packet ++ concat packets))) (take_at packet (concat packets) 188 here)
-    ∙ ap (λ (bytes : List ℕ). packet ∷ cut bytes) (drop_at packet (concat packets) 188 here)
+    ∙ ap (λ (p : Packet). p ∷ cut_packets (drop 188 (packet ++ concat packets))) (take_at packet (concat packets) 188 here)
+    ∙ ap (λ (bytes : List ℕ). packet ∷ cut_packets bytes) (drop_at packet (concat packets) 188 here)
     ∙ ap (λ (ps : Packets). packet ∷ ps) (joined_cut packets (All-tail IsSynced packet packets all))
 
 -- and none of these is in no packet
@@ -200,9 +200,9 @@ unfolding ending_of
 run_ends card packets one =
     let round : reverse packets ≡ onto packets [] = reversed_onto packets in
     let past : Packets = onto packets [] in
-    let ends : joined (ended_before card past) (run_ending card (heard card past) (run_wrote card past))
+    let ends : endings_joined (ended_before card past) (run_ending card (heard card past) (run_wrote card past))
     ≡ run_ending card (heard card past) (run_wrote card past) =
-    ap (λ (e : Ending). joined e (run_ending card (heard card past) (run_wrote card past))) (none_ended card past one)
+    ap (λ (e : Ending). endings_joined e (run_ending card (heard card past) (run_wrote card past))) (none_ended card past one)
     ∙ opened_joins (run_ending card (heard card past) (run_wrote card past)) in
     ap (λ (ps : Packets). run_end card ps) round
     ∙ ap (λ (e : Ending). if is_none (tuning_of card.ca past) then NoCat else e) (sym ends)
@@ -211,7 +211,7 @@ run_ends card packets one =
 -- a whole broadcast is of one run
 pub whole_one_run : (plan : Plan) (clear : Packets) (u : ℕ) → IsPlan plan → IsSendable plan.site clear →
     AreWholePackets clear → u < 2 ^ plan.site.height →
-    AreOneRun (card_of plan.site.master plan.site.ca plan.site.height u) (onto (broadcast plan clear) [])
+    AreOneRun (site_card plan.site u) (onto (broadcast plan clear) [])
 unfolding card_of
 whole_one_run plan clear u is all whole leaf =
     let s = setting plan clear u in

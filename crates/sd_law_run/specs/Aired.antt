@@ -3,10 +3,10 @@ use Rattle.std.specs.Prelude.{◌≡◌, ◌≢◌, ◌-◌, ◌≤◌, true, fa
 use Rattle.std.specs.List.{concat, list_any}
 use Rattle.std.specs.Io.KnownBytes.{Appends}
 use Rattle.sd_base.specs.Types.{Bytes, FileName, PeriodNumber}
-use Rattle.sd_engine.specs.Taken.{taken_of}
+use Rattle.sd_engine.specs.Taken.{packets_taken}
 use Rattle.sd_site_cards.specs.SiteFields.{SiteFields}
 use Rattle.sd_site_cards.specs.Text.{IsSite, book_line_of}
-use Rattle.sd_site_cards.specs.Written.{is_whole}
+use Rattle.sd_site_cards.specs.Written.{are_lines_whole}
 use Rattle.sd_site_cards.specs.declared.book_line.BookLine.{BookLine}
 use Rattle.sd_spec.specs.Counting.{is_marked}
 use Rattle.sd_spec.specs.Plan.{Plan, period_of}
@@ -16,8 +16,8 @@ use Rattle.sd_law_broadcast.specs.Synced.{AreBytes}
 use Rattle.sd_command_base.specs.declared.status.Status.{Status}
 use Rattle.sd_command_base.specs.Files.{is_book}
 use Rattle.sd_command_base.specs.Made.{used_name}
-use Rattle.sd_command_base.specs.Outside.{Outside}
-use Rattle.sd_command_base.specs.Texts.{line_of}
+use Rattle.sd_command_base.specs.Outside.{IoState}
+use Rattle.sd_command_base.specs.Texts.{line_of_status}
 use Rattle.sd_run_broadcasts.specs.Air.{air_line, air_report, live_clear, live_status}
 use Rattle.sd_law_run.specs.Good.{IsGoodBook}
 use Rattle.sd_law_run.specs.Headline.{Names, file_in}
@@ -34,14 +34,14 @@ pub record IsGoodAirSite (got : Option Bytes) (site : SiteFields) (line : BookLi
   pub bytes : Bytes
   pub there : got ≡ Some bytes
   pub is_site : IsSite bytes site
-  pub whole : is_whole 13 bytes ≡ true
+  pub whole : are_lines_whole 13 bytes ≡ true
   pub said : book_line_of bytes ≡ Some line
   pub version : site.messages ≡ 3
   pub word : site.first_word ≤ site.last_word
 
 -- SITE and BOOK are a site for `air` and its own book, within their limits; CLEAR has these bytes, whatever they are;
 -- and the site was not used
-pub record AreForAir (at : Outside) (names : Names) (plan : Plan) (bytes : Bytes) : Type 0 where
+pub record AreForAir (at : IoState) (names : Names) (plan : Plan) (bytes : Bytes) : Type 0 where
   pub line : BookLine
   pub site : IsGoodAirSite (file_in at names.site) plan.site line
   pub book : IsGoodBook (file_in at names.book) plan.site.height plan.commands
@@ -52,7 +52,7 @@ pub record AreForAir (at : Outside) (names : Names) (plan : Plan) (bytes : Bytes
   pub unused : file_in at (used_name names.site) ≡ None
 
 -- the same, but the site was used
-pub record AreForUsedAir (at : Outside) (names : Names) (plan : Plan) : Type 0 where
+pub record AreForUsedAir (at : IoState) (names : Names) (plan : Plan) : Type 0 where
   pub line : BookLine
   pub site : IsGoodAirSite (file_in at names.site) plan.site line
   pub book : IsGoodBook (file_in at names.book) plan.site.height plan.commands
@@ -63,7 +63,7 @@ pub record AreForUsedAir (at : Outside) (names : Names) (plan : Plan) : Type 0 w
   pub used : file_in at (used_name names.site) ≡ Some mark
 
 -- The result of `air SITE BOOK CLEAR STREAM`
-pub record AirResult (names : Names) (plan : Plan) (bytes : Bytes) (a b : Outside) (answer : Status) : Type 0 where
+pub record AirResult (names : Names) (plan : Plan) (bytes : Bytes) (a b : IoState) (answer : Status) : Type 0 where
   -- the answer is `Done`, or that the site is used up
   pub ends : answer ≡ live_status plan.site bytes
   -- STREAM is the whole broadcast of the packets of CLEAR that are sent
@@ -76,14 +76,14 @@ pub record AirResult (names : Names) (plan : Plan) (bytes : Bytes) (a b : Outsid
   pub periods : (q : PeriodNumber) → plan.site.first_period ≤ q →
       q ≤ period_of plan (length (live_clear plan.site bytes) - 1) →
       NamesPeriod plan q (sets_named plan.site.height plan.site.emm q
-      (taken_of (concat (broadcast plan (live_clear plan.site bytes)))))
+      (packets_taken (concat (broadcast plan (live_clear plan.site bytes)))))
   -- the mark of the site is there, and empty
   pub marked : file_in b (used_name names.site) ≡ Some []
   -- the line of the report is printed, and that of the answer
-  pub told : Appends a.page.printed b.page.printed (air_line (air_report plan bytes) ++ line_of answer)
+  pub told : Appends a.page.printed b.page.printed (air_line (air_report plan bytes) ++ line_of_status answer)
   -- all other files are as they were
   pub others : (name : FileName) → name ≢ names.stream → name ≢ used_name names.site → file_in b name ≡ file_in a name
 
 -- a run leaves OUT, if its arguments name one, as it was
-abbrev pub LeavesOut : List Bytes → Outside → Outside → Type 0
-LeavesOut words a b = (out : FileName) → out_name words ≡ Some out → file_in b out ≡ file_in a out
+abbrev pub LeavesOutFile : List Bytes → IoState → IoState → Type 0
+LeavesOutFile words a b = (out : FileName) → out_name words ≡ Some out → file_in b out ≡ file_in a out

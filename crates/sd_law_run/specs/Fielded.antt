@@ -9,7 +9,7 @@ use Rattle.sd_spec.specs.Refused.{IsClear}
 use Rattle.sd_law_broadcast.specs.Synced.{AreBytes}
 use Rattle.sd_spec.specs.declared.event.Event.{Event}
 use Rattle.sd_field.specs.Script.{script_of}
-use Rattle.sd_command_base.specs.Outside.{Outside}
+use Rattle.sd_command_base.specs.Outside.{IoState}
 use Rattle.sd_command_base.specs.Spec.{FileArgument, Readings, contents_of}
 use Rattle.sd_law_field.specs.Fielded.{confirmed_lines, sent_for}
 use Rattle.sd_command_line.specs.Words.{FieldOf, order_of}
@@ -39,7 +39,7 @@ pub record IsGoodFieldRun (words : List Bytes) (given : Readings) : Type 0 where
 
 -- What a `field` that is done says: its files were good. If each number of the clear stream is a byte's, exactly the
 -- lines of what is confirmed to each receiver were printed.
-pub record IsFielded (words : List Bytes) (files : Files) (a b : Outside) : Type 0 where
+pub record IsFielded (words : List Bytes) (files : Files) (a b : IoState) : Type 0 where
   pub good : IsGoodFieldRun words (contents_of files)
   pub printed : AreBytes good.bytes → Appends a.page.printed b.page.printed
       (confirmed_lines good.fields (packets_of good.bytes) good.events (2 ^ good.fields.height))

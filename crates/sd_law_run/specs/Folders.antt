@@ -8,12 +8,12 @@ use Rattle.sd_base.specs.Types.{Bytes, FileName}
 use Rattle.sd_base.specs.Number.{decimal_value}
 use Rattle.sd_ports.specs.Files.{Files}
 use Rattle.sd_ports.specs.Bytes.{IsPrefix}
-use Rattle.sd_site_cards.specs.Written.{is_first, site_text}
+use Rattle.sd_site_cards.specs.Written.{is_first_site, site_text}
 use Rattle.sd_site_cards.specs.Chain.{most_word}
 use Rattle.sd_command_base.specs.declared.status.Status.{Status}
 use Rattle.sd_command_base.specs.declared.status.Status.TheVariants.{Done}
 use Rattle.sd_run_books.specs.SiteNames.{after_number, before_number, digits_in}
-use Rattle.sd_run_books.specs.Chain.{line_of}
+use Rattle.sd_run_books.specs.Chain.{line_of_book}
 use Rattle.sd_command_line.specs.declared.command.Command.TheVariants as commands
 use Rattle.sd_command_line.specs.Words.{Argument, CommandOf, command_in, file, number, order_of}
 use Rattle.sd_law_chain.specs.Chain.{Call, IsChain, IsTaken, Link, Next, Twin, link_at, made_by}
@@ -21,35 +21,35 @@ use Rattle.sd_law_chain.specs.Made.{IsFileOf}
 use Rattle.sd_law_run.specs.Outcome.{out_name, used_by}
 
 -- the last number of a name, if it has one
-abbrev pub number_in : FileName → ℕ
-number_in name = unwrap_or (decimal_value (digits_in name)) 0
+abbrev pub last_number_in : FileName → ℕ
+last_number_in name = unwrap_or (decimal_value (digits_in name)) 0
 
 -- the name with its last number so much higher
-unfoldable pub name_at : FileName → ℕ → FileName
-name_at name i = before_number name ++ (decimal (number_in name + i) ++ after_number name)
+unfoldable pub site_name_at : FileName → ℕ → FileName
+site_name_at name i = before_number name ++ (decimal (last_number_in name + i) ++ after_number name)
 
 -- a site that is so many links behind the first one has a name
 abbrev pub HasName : FileName → ℕ → Type 0
-HasName name i = number_in name + i ≤ most_word
+HasName name i = last_number_in name + i ≤ most_word
 
 -- the file of a link: all lines of its site, with its book
 abbrev pub text_of_link : Link → Bytes
-text_of_link link = site_text link.site (line_of link.book)
+text_of_link link = site_text link.site (line_of_book link.book)
 
 -- What the files have whose names follow the name of a chain's first site: that site, those that the calls made one
 -- after the other, one thing above them, and nothing above that
 pub record HoldsChain (files : Files) (name : FileName) (root : Link) (calls : List Call) (above : Option Bytes) :
     Type 0 where
   pub is_chain : IsChain root calls
-  pub numbered : decimal_value (digits_in name) ≡ Some (number_in name)
+  pub numbered : decimal_value (digits_in name) ≡ Some (last_number_in name)
   pub named : HasName name (length calls)
   pub bytes : Bytes
   pub there : get files name ≡ Some bytes
-  pub first : IsFileOf is_first root bytes
+  pub first : IsFileOf is_first_site root bytes
   pub made : (i : ℕ) → 1 ≤ i → i ≤ length calls →
-      get files (name_at name i) ≡ Some (text_of_link (link_at root calls i))
-  pub next : HasName name (length calls + 1) → get files (name_at name (length calls + 1)) ≡ above
-  pub free : (i : ℕ) → length calls + 1 < i → HasName name i → get files (name_at name i) ≡ None
+      get files (site_name_at name i) ≡ Some (text_of_link (link_at root calls i))
+  pub next : HasName name (length calls + 1) → get files (site_name_at name (length calls + 1)) ≡ above
+  pub free : (i : ℕ) → length calls + 1 < i → HasName name i → get files (site_name_at name i) ≡ None
 
 -- a folder with a chain of sites: the first one has this name, and no file has the name that is to come next
 abbrev pub IsFolder : Files → FileName → Link → List Call → Type 0
@@ -71,8 +71,8 @@ MakeSites words = (command_in words ≡ Some commands.Next) ⊎ (command_in word
 
 -- neither OUT, unless `next` or `twin` makes it, nor the mark of `air` has one of the names of a chain's sites
 abbrev pub SparesNames : FileName → List Bytes → Type 0
-SparesNames name words = (i : ℕ) → HasName name i → (¬ MakeSites words → out_name words ≢ Some (name_at name i))
-    × (used_by words ≢ Some (name_at name i))
+SparesNames name words = (i : ℕ) → HasName name i → (¬ MakeSites words → out_name words ≢ Some (site_name_at name i))
+    × (used_by words ≢ Some (site_name_at name i))
 
 -- the arguments ask for this call of a chain, with the BOOK that these files have
 abbrev pub AsksFor : List Bytes → Files → Call → Type 0

@@ -5,9 +5,9 @@ use Rattle.sd_command_base.specs.Spec.{FileArgument, Readings}
 use Rattle.sd_command_line.specs.Words.{SampleOf, order_of, ReceiveOf, CoverOf, CardOf, TablesOf, HeadOf}
 use Rattle.sd_command_line.specs.Words.{AccountsOf, ApartOf, BookOf, LayeredOf, LcardOf, MessagesOf, OpensOf, PlanOf}
 use Rattle.sd_command_line.specs.Words.{NextOf, ShowOf, TraceOf, TwinOf}
-use Rattle.sd_engine.specs.Taken.{Whole, taken_of, end_of}
+use Rattle.sd_engine.specs.Taken.{Whole, packets_taken, end_of}
 use Rattle.sd_site_cards.specs.CardFields.{CardFields, IsCard, card_bytes}
-use Rattle.sd_run_books.specs.Judged.{book_of}
+use Rattle.sd_run_books.specs.Judged.{accounts_book}
 use Rattle.sd_book.specs.declared.command.Command.{Command}
 use Rattle.sd_site_cards.specs.SiteFields.{SiteFields}
 use Rattle.sd_command_base.specs.Shown.{NumberArgument}
@@ -15,7 +15,7 @@ use Rattle.sd_spec.specs.Plan.{Plan}
 use Rattle.sd_spec.specs.Refused.{whole_refusal}
 use Rattle.sd_law_broadcast.specs.Synced.{AreBytes}
 use Rattle.sd_site_cards.specs.Text.{IsSite, book_line_of}
-use Rattle.sd_site_cards.specs.Written.{is_first, is_whole}
+use Rattle.sd_site_cards.specs.Written.{is_first_site, are_lines_whole}
 use Rattle.sd_site_cards.specs.Chain.{most_word}
 use Rattle.sd_site_cards.specs.declared.book_line.BookLine.{BookLine}
 use Rattle.sd_command_base.specs.Text.{leaves_of_text}
@@ -56,7 +56,7 @@ pub record IsGoodClear (got : Option Bytes) (site : SiteFields) (clear : Packets
   -- each number of a file is a byte's
   pub are_bytes : AreBytes bytes
   pub whole : end_of bytes ≡ Whole
-  pub packets : taken_of bytes ≡ clear
+  pub packets : packets_taken bytes ≡ clear
   pub is_clear : whole_refusal site clear ≡ None
 
 -- the arguments are `cover SITE BOOK`, and the two files are there, in their grammars and within their limits
@@ -130,7 +130,7 @@ pub record IsGoodHead (words : List Bytes) (given : Readings) : Type 0 where
   pub bytes : Bytes
   pub there : given clear ≡ Some bytes
   pub whole : end_of bytes ≡ Whole
-  pub is_clear : whole_refusal fields (taken_of bytes) ≡ None
+  pub is_clear : whole_refusal fields (packets_taken bytes) ≡ None
 
 -- the plan that they say
 abbrev pub plan_told : {words : List Bytes} {given : Readings} → IsGoodHead words given → Plan
@@ -161,7 +161,7 @@ pub record IsGoodAccounts (words : List Bytes) (given : Readings) : Type 0 where
   pub there : given accounts ≡ Some bytes
   pub short : length bytes ≤ most_book_bytes
   pub commands : List Command
-  pub is_book : book_of fields.height bytes ≡ Ok commands
+  pub is_book : accounts_book fields.height bytes ≡ Ok commands
 
 -- the arguments are `apart SITE BOOK SITE BOOK`, and the four files are good
 pub record IsGoodApart (words : List Bytes) (given : Readings) : Type 0 where
@@ -285,7 +285,7 @@ pub record IsGoodNext (words : List Bytes) (given : Readings) : Type 0 where
   pub free : given out ≡ None
   pub fields : SiteFields
   pub good_site : IsGoodSite (given site) fields
-  pub newest : (is_whole 13 good_site.bytes || is_first good_site.bytes fields) ≡ true
+  pub newest : (are_lines_whole 13 good_site.bytes || is_first_site good_site.bytes fields) ≡ true
   pub period : fields.first_period < most_word
   pub left : fields.last_word + count.value ≤ most_word
   pub commands : List Command
@@ -313,7 +313,7 @@ pub record IsGoodTwin (words : List Bytes) (given : Readings) : Type 0 where
   pub free : given out ≡ None
   pub fields : SiteFields
   pub good_site : IsGoodSite (given site) fields
-  pub whole : is_whole 13 good_site.bytes ≡ true
+  pub whole : are_lines_whole 13 good_site.bytes ≡ true
   pub line : BookLine
   pub said : book_line_of good_site.bytes ≡ Some line
   pub left : fields.last_word + count.value ≤ most_word

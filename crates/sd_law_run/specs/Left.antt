@@ -15,9 +15,9 @@ pub record IsAsBefore (files : Files) (a b : DepotState) : Type 0 where
   pub made : b.made ≡ a.made
 
 -- the files once the mark is made, if there is one: an empty file
-abbrev pub with_mark : Option Mark → Files → Files
-with_mark None files = files
-with_mark (Some mark) files = insert files mark.name []
+abbrev pub with_mark_file : Option Mark → Files → Files
+with_mark_file None files = files
+with_mark_file (Some mark) files = insert files mark.name []
 
 -- the mark of the work was made, new and empty, and all other files are as they were
 pub record HasMark (files : Files) (meant : Result Work Status) (a b : DepotState) : Type 0 where
@@ -39,5 +39,5 @@ pub record HasOut (files : Files) (meant : Result Work Status) (a b : DepotState
   pub prefix : Bytes
   pub is_prefix : IsPrefix prefix out.bytes
   pub new : (mark : Mark) → work.mark ≡ Some mark → get files mark.name ≡ None
-  pub left : b.files ≡ Some (insert (with_mark work.mark files) out.name prefix)
+  pub left : b.files ≡ Some (insert (with_mark_file work.mark files) out.name prefix)
   pub made : b.made ≡ with_added (made_marked work.mark a.made) 1

@@ -4,7 +4,7 @@ use Rattle.std.specs.Prelude.{◌≡◌, ◌≢◌, ℕ, ◌+◌, ◌-◌, ◌*�
 use Rattle.std.specs.List.{concat, list_any}
 use Rattle.std.specs.Io.KnownBytes.{Appends}
 use Rattle.sd_base.specs.Types.{Bytes, FileName, Packets, Arrived, LeafNumber, PeriodNumber}
-use Rattle.sd_site_cards.specs.CardFields.{card_of, card_bytes}
+use Rattle.sd_site_cards.specs.CardFields.{card_bytes, site_card}
 use Rattle.sd_spec.specs.Plan.{Plan, period_of}
 use Rattle.sd_spec.specs.Sent.{Item, sent, closing_of, broadcast}
 use Rattle.sd_spec.specs.declared.ending.Ending.{Ending}
@@ -17,7 +17,7 @@ use Rattle.sd_law_losses.specs.Taken.{how_many}
 use Rattle.sd_command_base.specs.declared.status.Status.{Status}
 use Rattle.sd_command_base.specs.declared.status.Status.TheVariants.{Revoked}
 use Rattle.sd_command_base.specs.Texts.{gaps_line, revoked_line, unclosed_line, unheard_line}
-use Rattle.sd_command_base.specs.Outside.{Outside}
+use Rattle.sd_command_base.specs.Outside.{IoState}
 use Rattle.sd_command_base.specs.Spec.{FileArgument, Readings}
 use Rattle.sd_command_base.specs.Work.{UpTo, Work}
 use Rattle.sd_command_line.specs.Words.{ReceiveOf, order_of}
@@ -29,8 +29,8 @@ unfoldable pub kept_items : Plan → Packets → Arrived → List Item
 kept_items plan clear flags = chosen flags (sent plan clear ++ closing_of plan clear)
 
 -- the number of periods of which a section that has a set with leaf u is kept after the CAT
-unfoldable pub kept_periods : Plan → LeafNumber → Packets → List Item → ℕ
-kept_periods plan u clear kept =
+unfoldable pub heard_periods : Plan → LeafNumber → Packets → List Item → ℕ
+heard_periods plan u clear kept =
     how_many (λ q. list_any (entitles plan.site.height u q) (after_cat kept)) (period_of plan (length clear - 1) + 1)
 
 -- the line of how a stream ends for leaf u [this project, docs/FORMATS.md, Exits]
@@ -50,7 +50,7 @@ pub record IsRestTo (plan : Plan) (u : LeafNumber) (clear : Packets) (flags : Ar
   pub stream : FileArgument
   pub out : FileArgument
   pub order : order_of words ≡ Ok (ReceiveOf card stream out)
-  pub card_there : given card ≡ Some (card_bytes (card_of plan.site.master plan.site.ca plan.site.height u))
+  pub card_there : given card ≡ Some (card_bytes (site_card plan.site u))
   pub there : given stream ≡ Some (concat (chosen flags (broadcast plan clear)))
 
 -- OUT is the clear packets that are confirmed to leaf u if these things are kept, a part of what it is entitled to, in
@@ -69,11 +69,11 @@ pub record IsConfirmed (plan : Plan) (u : LeafNumber) (clear : Packets) (kept : 
   pub revoked : (q : PeriodNumber) → work.ends ≡ Revoked u q → is_revoked_in plan u q ≡ true
   pub most : ℕ
   pub counted : work.steps ≡ UpTo most
-  pub few : most ≤ plan.site.height * kept_periods plan u clear kept
+  pub few : most ≤ plan.site.height * heard_periods plan u clear kept
 
 -- The result of `receive CARD STREAM OUT`, if CARD is the card of leaf u and STREAM is what is kept of the broadcast.
 pub record LossResult (names : Names) (plan : Plan) (u : LeafNumber) (clear : Packets) (kept : List Item)
-    (a b : Outside) (answer : Status) : Type 0 where
+    (a b : IoState) (answer : Status) : Type 0 where
   -- OUT is the clear packets that the kept messages confirm to the leaf
   pub written : file_in b names.out ≡ Some (concat (confirmed plan u clear kept))
   -- they are a part of what the leaf is entitled to, in its order
@@ -84,7 +84,7 @@ pub record LossResult (names : Names) (plan : Plan) (u : LeafNumber) (clear : Pa
   pub revoked : (q : PeriodNumber) → answer ≡ Revoked u q → is_revoked_in plan u q ≡ true
   -- at most as many steps of the generator as the tree is high, for each period of which a section with a set of the
   -- leaf arrived
-  pub steps : b.steps ≤ a.steps + plan.site.height * kept_periods plan u clear kept
+  pub steps : b.steps ≤ a.steps + plan.site.height * heard_periods plan u clear kept
   pub others : (name : FileName) → name ≢ names.out → file_in b name ≡ file_in a name
   -- the line of the answer is printed, and nothing else
   pub told : Appends a.page.printed b.page.printed (ending_line u (ending_told plan u clear kept))

@@ -9,9 +9,9 @@ use Rattle.sd_command_line.specs.Words.{out_text}
 use Rattle.sd_command_base.specs.declared.status.Status.{Status}
 use Rattle.sd_command_base.specs.declared.status.Status.TheVariants.{Done, Missing}
 use Rattle.sd_command_base.specs.Made.{used_name}
-use Rattle.sd_command_base.specs.Outside.{DepotState, Outside}
+use Rattle.sd_command_base.specs.Outside.{DepotState, IoState}
 use Rattle.sd_command_base.specs.Work.{Work}
-use Rattle.sd_command_base.specs.Outcome.{IsMade, IsFaultless, PrintsAll, marked_by}
+use Rattle.sd_command_base.specs.Outcome.{IsOutMade, IsFaultless, PrintsAll, marked_by}
 use Rattle.sd_law_run.specs.Headline.{file_in}
 
 -- the word at the place of OUT in the row of a command
@@ -42,7 +42,7 @@ used_by (name ∷ texts) = mark_in_row (command_named name) texts
 
 -- How many files a run made: none; OUT, if the command makes it and no mark; or of `air` the mark alone, and no other
 -- file changed; or of `air` the mark and OUT.
-pub data FilesMade (words : List Bytes) (a b : Outside) : Type 0 where
+pub data FilesMade (words : List Bytes) (a b : IoState) : Type 0 where
   made_none : b.place.made ≡ a.place.made → FilesMade words a b
   made_out : b.place.made ≡ with_added a.place.made 1 → IsSome (out_name words) → used_by words ≡ None →
       FilesMade words a b
@@ -60,10 +60,10 @@ pub record IsMarkedAlone (words : List Bytes) (a b : DepotState) (answer : Statu
   pub made : b.made ≡ with_added a.made 1
 
 -- the work that is meant was done: its mark is made, OUT is whole, all is printed, and no I/O error occurred
-pub record IsDone (meant : Result Work Status) (a b : Outside) : Type 0 where
+pub record IsDone (meant : Result Work Status) (a b : IoState) : Type 0 where
   pub work : Work
   pub is_meant : meant ≡ Ok work
   pub ends : work.ends ≡ Done
-  pub made : IsMade work.out (marked_by work.mark a.place) b.place
+  pub made : IsOutMade work.out (marked_by work.mark a.place) b.place
   pub printed : PrintsAll work a.page b.page
   pub calm : IsFaultless a b

@@ -7,7 +7,7 @@ use Rattle.sd_spec.specs.Plan.{Plan}
 use Rattle.sd_spec.specs.Refused.{IsClear}
 use Rattle.sd_law_broadcast.specs.Runs.{Run, IsRun, HaveOwnWords, AllAgree}
 use Rattle.sd_law_broadcast.specs.Known.{AreOneTree}
-use Rattle.sd_command_base.specs.Outside.{Outside}
+use Rattle.sd_command_base.specs.Outside.{IoState}
 use Rattle.sd_command_base.specs.Spec.{Readings, contents_of}
 use Rattle.sd_run_books.specs.Apart.{apart_text}
 use Rattle.sd_law_run.specs.Good.{IsGoodApart}
@@ -33,7 +33,7 @@ runs_told good clear more =
 
 -- What an `apart` that is done says: its files were two sites and their books. Whatever clear streams the two
 -- broadcast, the premises of the laws on several broadcasts are met. Exactly both lines were printed.
-pub record IsApart (words : List Bytes) (files : Files) (a b : Outside) : Type 0 where
+pub record IsApart (words : List Bytes) (files : Files) (a b : IoState) : Type 0 where
   pub good : IsGoodApart words (contents_of files)
   pub apart : (clear more : Packets) → IsClear good.fields clear → IsClear good.other_fields more →
       ArePremisesMet good.fields.master good.fields.height (runs_told good clear more)

@@ -11,15 +11,15 @@ use Rattle.sd_spec.specs.Plan.{Plan}
 use Rattle.sd_law_losses.specs.Confirmed.{is_revoked_in}
 use Rattle.sd_command_base.specs.declared.status.Status.{Status}
 use Rattle.sd_command_base.specs.declared.status.Status.TheVariants.{Done}
-use Rattle.sd_command_base.specs.Outside.{Outside}
+use Rattle.sd_command_base.specs.Outside.{IoState}
 use Rattle.sd_command_base.specs.Shown.{NumberArgument}
 use Rattle.sd_command_base.specs.Spec.{FileArgument, Readings}
 use Rattle.sd_command_line.specs.Words.{StatusOf, order_of}
 use Rattle.sd_run_books.specs.Fingerprint.{fingerprint_of}
 use Rattle.sd_run_books.specs.Show.{shown_line}
-use Rattle.sd_run_books.specs.Status.{entitled_line, master_line}
+use Rattle.sd_run_books.specs.Status.{entitled_line, fingerprint_line}
 use Rattle.sd_law_run.specs.Good.{IsGoodBook, IsGoodSite}
-use Rattle.sd_law_run.specs.Headline.{card_for, file_in}
+use Rattle.sd_law_run.specs.Headline.{card_file_for, file_in}
 
 -- the arguments are `status SITE BOOK LEAF`, the two files are good, and the site's tree has the leaf
 pub record IsGoodStatus (words : List Bytes) (given : Readings) : Type 0 where
@@ -48,21 +48,21 @@ pub record AreChanges (plan : Plan) (u : LeafNumber) (periods : List PeriodNumbe
       ((r : PeriodNumber) → p < r → r ≤ q → ¬ Contains periods r) → is_revoked_in plan u q ≡ is_revoked_in plan u p
 
 -- The result of `status SITE BOOK LEAF`, if SITE and BOOK say this plan and LEAF is u.
-pub record StatusResult (plan : Plan) (u : LeafNumber) (a b : Outside) (answer : Status) : Type 0 where
+pub record StatusResult (plan : Plan) (u : LeafNumber) (a b : IoState) (answer : Status) : Type 0 where
   pub done : answer ≡ Done
   pub periods : List PeriodNumber
   pub changes : AreChanges plan u periods
   -- the line of the fingerprint of the site's master is printed, and of each of these periods the line that says
   -- whether the leaf is entitled in it: it is, unless it is revoked
   pub told : Appends a.page.printed b.page.printed
-      (master_line plan.site.master ++ flat_map (λ q. entitled_line u (not (is_revoked_in plan u q)) q) periods)
+      (fingerprint_line plan.site.master ++ flat_map (λ q. entitled_line u (not (is_revoked_in plan u q)) q) periods)
   -- all files are as they were
   pub others : (name : FileName) → file_in b name ≡ file_in a name
 
 -- The result of `show CARD`, if CARD is the card of leaf u of a site.
-pub record ShowResult (site : SiteFields) (u : LeafNumber) (a b : Outside) (answer : Status) : Type 0 where
+pub record ShowResult (site : SiteFields) (u : LeafNumber) (a b : IoState) (answer : Status) : Type 0 where
   pub done : answer ≡ Done
   -- the card's line is printed: it has the fingerprint of the site's master, as the first line of `status` has it
   pub told : Appends a.page.printed b.page.printed
-      (shown_line site.height u site.ca (check_in (card_for site u)) (fingerprint_of site.master))
+      (shown_line site.height u site.ca (check_in (card_file_for site u)) (fingerprint_of site.master))
   pub others : (name : FileName) → file_in b name ≡ file_in a name

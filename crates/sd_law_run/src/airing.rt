@@ -11,12 +11,12 @@ ghost use Rattle.sd_spec.specs.Counting.{is_marked};
 ghost use Rattle.sd_law_losses.specs.Chosen.{chosen};
 ghost use Rattle.sd_law_watch.specs.Steady.{are_steady};
 ghost use Rattle.sd_command_base.specs.Made.{used_name};
-ghost use Rattle.sd_command_base.specs.Outcome.{IsUnmade};
-ghost use Rattle.sd_command_base.specs.Outside.{Outside, outside, page_state, depot_state};
+ghost use Rattle.sd_command_base.specs.Outcome.{IsNoOutMade};
+ghost use Rattle.sd_command_base.specs.Outside.{IoState, depot_state, io_state_at};
 ghost use Rattle.sd_command_base.specs.Results.{RunResult};
 ghost use Rattle.sd_run.specs.Meaning.{meaning};
-ghost use Rattle.sd_law_run.specs.Aired.{AirResult, AreForAir, AreForUsedAir, LeavesOut};
-ghost use Rattle.sd_law_run.specs.Headline.{Names, ReceiveResult, file_in, IsUndisturbed, card_for};
+ghost use Rattle.sd_law_run.specs.Aired.{AirResult, AreForAir, AreForUsedAir, LeavesOutFile};
+ghost use Rattle.sd_law_run.specs.Headline.{Names, ReceiveResult, file_in, IsUndisturbed, card_file_for};
 ghost use Rattle.sd_law_run.specs.Lost.{kept_items, LossResult};
 ghost use Rattle.sd_law_run.specs.Outcome.{out_name, used_by};
 ghost use Rattle.sd_law_run.specs.Sendable.{AreSendable};
@@ -48,38 +48,38 @@ pub fn air<D: Depot, P: Sink, N: Sink, L: Ledger>(
         map string_bytes words.now ≡ codes "air" ∷ names.site ∷ names.book ∷ names.clear ∷ names.stream ∷ [] →
         names.stream ≢ names.site → names.stream ≢ names.book → names.stream ≢ names.clear →
         names.stream ≢ used_name names.site →
-        AreForAir (outside (depot_state D.Depot depot.old) (page_state P.Sink print.old) steps.old) names plan bytes →
-        IsUndisturbed (outside (depot_state D.Depot depot.old) (page_state P.Sink print.old) steps.old)
-        (outside (depot_state D.Depot depot.new) (page_state P.Sink print.new) steps.new) result →
+        AreForAir (io_state_at D.Depot P.Sink depot.old print.old steps.old) names plan bytes →
+        IsUndisturbed (io_state_at D.Depot P.Sink depot.old print.old steps.old)
+        (io_state_at D.Depot P.Sink depot.new print.new steps.new) result →
         AirResult names plan bytes
-        (outside (depot_state D.Depot depot.old) (page_state P.Sink print.old) steps.old)
-        (outside (depot_state D.Depot depot.new) (page_state P.Sink print.new) steps.new) result }
+        (io_state_at D.Depot P.Sink depot.old print.old steps.old)
+        (io_state_at D.Depot P.Sink depot.new print.new steps.new) result }
     // If the mark is there, nothing is made, and the answer isn't `Done`.
     ensures once { (files : Files) (mark : FileName) → D.files depot.old ≡ Some files →
         used_by (map string_bytes words.now) ≡ Some mark → IsSome (get files mark) →
-        IsUnmade (depot_state D.Depot depot.old) (depot_state D.Depot depot.new) × (result ≢ Status.Done) }
+        IsNoOutMade (depot_state D.Depot depot.old) (depot_state D.Depot depot.new) × (result ≢ Status.Done) }
     // If all else is as it is to be for `air`, the answer is that the site is used.
     ensures used { (names : Names) (plan : Plan) →
         map string_bytes words.now ≡ codes "air" ∷ names.site ∷ names.book ∷ names.clear ∷ names.stream ∷ [] →
         names.stream ≢ names.site → names.stream ≢ names.book → names.stream ≢ names.clear →
         names.stream ≢ used_name names.site →
-        AreForUsedAir (outside (depot_state D.Depot depot.old) (page_state P.Sink print.old) steps.old) names plan →
-        IsUndisturbed (outside (depot_state D.Depot depot.old) (page_state P.Sink print.old) steps.old)
-        (outside (depot_state D.Depot depot.new) (page_state P.Sink print.new) steps.new) result →
+        AreForUsedAir (io_state_at D.Depot P.Sink depot.old print.old steps.old) names plan →
+        IsUndisturbed (io_state_at D.Depot P.Sink depot.old print.old steps.old)
+        (io_state_at D.Depot P.Sink depot.new print.new steps.new) result →
         result ≡ Status.SiteUsed }
     // If OUT has changed, the mark is there, and empty.
     ensures marked_first { (files : Files) (mark out : FileName) → D.files depot.old ≡ Some files →
         used_by (map string_bytes words.now) ≡ Some mark → out_name (map string_bytes words.now) ≡ Some out →
-        file_in (outside (depot_state D.Depot depot.new) (page_state P.Sink print.new) steps.new) out
+        file_in (io_state_at D.Depot P.Sink depot.new print.new steps.new) out
         ≢ get files out →
-        file_in (outside (depot_state D.Depot depot.new) (page_state P.Sink print.new) steps.new) mark ≡ Some [] }
+        file_in (io_state_at D.Depot P.Sink depot.new print.new steps.new) mark ≡ Some [] }
     // The mark is as it was; or it was not there, and is empty.
     ensures mark { (files : Files) (mark : FileName) → D.files depot.old ≡ Some files →
         used_by (map string_bytes words.now) ≡ Some mark →
-        (file_in (outside (depot_state D.Depot depot.new) (page_state P.Sink print.new) steps.new) mark
+        (file_in (io_state_at D.Depot P.Sink depot.new print.new steps.new) mark
         ≡ get files mark)
         ⊎ ((get files mark ≡ None)
-        × (file_in (outside (depot_state D.Depot depot.new) (page_state P.Sink print.new) steps.new) mark
+        × (file_in (io_state_at D.Depot P.Sink depot.new print.new steps.new) mark
         ≡ Some [])) }
     // Over the card of a leaf and a broadcast of packets that can be sent, `receive` makes what the leaf is entitled
     // to.
@@ -87,29 +87,29 @@ pub fn air<D: Depot, P: Sink, N: Sink, L: Ledger>(
         map string_bytes words.now ≡ codes "receive" ∷ names.card ∷ names.stream ∷ names.out ∷ [] →
         names.out ≢ names.card → names.out ≢ names.stream →
         AreSendable plan clear → u < 2 ^ plan.site.height →
-        file_in (outside (depot_state D.Depot depot.old) (page_state P.Sink print.old) steps.old) names.card
-        ≡ Some (card_for plan.site u) →
-        file_in (outside (depot_state D.Depot depot.old) (page_state P.Sink print.old) steps.old) names.stream
+        file_in (io_state_at D.Depot P.Sink depot.old print.old steps.old) names.card
+        ≡ Some (card_file_for plan.site u) →
+        file_in (io_state_at D.Depot P.Sink depot.old print.old steps.old) names.stream
         ≡ Some (concat (broadcast plan clear)) →
-        IsUndisturbed (outside (depot_state D.Depot depot.old) (page_state P.Sink print.old) steps.old)
-        (outside (depot_state D.Depot depot.new) (page_state P.Sink print.new) steps.new) result →
+        IsUndisturbed (io_state_at D.Depot P.Sink depot.old print.old steps.old)
+        (io_state_at D.Depot P.Sink depot.new print.new steps.new) result →
         ReceiveResult names plan u clear
-        (outside (depot_state D.Depot depot.old) (page_state P.Sink print.old) steps.old)
-        (outside (depot_state D.Depot depot.new) (page_state P.Sink print.new) steps.new) result }
+        (io_state_at D.Depot P.Sink depot.old print.old steps.old)
+        (io_state_at D.Depot P.Sink depot.new print.new steps.new) result }
     // Over any choice of the packets of that broadcast it makes what the messages that arrived confirm.
     ensures lost { (names : Names) (plan : Plan) (u : LeafNumber) (clear : Packets) (flags : Arrived) →
         map string_bytes words.now ≡ codes "receive" ∷ names.card ∷ names.stream ∷ names.out ∷ [] →
         names.out ≢ names.card → names.out ≢ names.stream →
         AreSendable plan clear → u < 2 ^ plan.site.height →
-        file_in (outside (depot_state D.Depot depot.old) (page_state P.Sink print.old) steps.old) names.card
-        ≡ Some (card_for plan.site u) →
-        file_in (outside (depot_state D.Depot depot.old) (page_state P.Sink print.old) steps.old) names.stream
+        file_in (io_state_at D.Depot P.Sink depot.old print.old steps.old) names.card
+        ≡ Some (card_file_for plan.site u) →
+        file_in (io_state_at D.Depot P.Sink depot.old print.old steps.old) names.stream
         ≡ Some (concat (chosen flags (broadcast plan clear))) →
-        IsUndisturbed (outside (depot_state D.Depot depot.old) (page_state P.Sink print.old) steps.old)
-        (outside (depot_state D.Depot depot.new) (page_state P.Sink print.new) steps.new) result →
+        IsUndisturbed (io_state_at D.Depot P.Sink depot.old print.old steps.old)
+        (io_state_at D.Depot P.Sink depot.new print.new steps.new) result →
         LossResult names plan u clear (kept_items plan clear flags)
-        (outside (depot_state D.Depot depot.old) (page_state P.Sink print.old) steps.old)
-        (outside (depot_state D.Depot depot.new) (page_state P.Sink print.new) steps.new) result }
+        (io_state_at D.Depot P.Sink depot.old print.old steps.old)
+        (io_state_at D.Depot P.Sink depot.new print.new steps.new) result }
     // Over the whole broadcast, `watch` makes what the leaf is entitled to and prints one line, if the clear stream is
     // steady and no packet of it is marked.
     ensures watched { (names : Names) (plan : Plan) (u : LeafNumber) (clear : Packets) →
@@ -117,15 +117,15 @@ pub fn air<D: Depot, P: Sink, N: Sink, L: Ledger>(
         names.out ≢ names.card → names.out ≢ names.stream →
         AreSendable plan clear → are_steady clear ≡ true → list_any is_marked clear ≡ false →
         u < 2 ^ plan.site.height →
-        file_in (outside (depot_state D.Depot depot.old) (page_state P.Sink print.old) steps.old) names.card
-        ≡ Some (card_for plan.site u) →
-        file_in (outside (depot_state D.Depot depot.old) (page_state P.Sink print.old) steps.old) names.stream
+        file_in (io_state_at D.Depot P.Sink depot.old print.old steps.old) names.card
+        ≡ Some (card_file_for plan.site u) →
+        file_in (io_state_at D.Depot P.Sink depot.old print.old steps.old) names.stream
         ≡ Some (concat (broadcast plan clear)) →
-        IsUndisturbed (outside (depot_state D.Depot depot.old) (page_state P.Sink print.old) steps.old)
-        (outside (depot_state D.Depot depot.new) (page_state P.Sink print.new) steps.new) result →
+        IsUndisturbed (io_state_at D.Depot P.Sink depot.old print.old steps.old)
+        (io_state_at D.Depot P.Sink depot.new print.new steps.new) result →
         WholeResult names plan u clear
-        (outside (depot_state D.Depot depot.old) (page_state P.Sink print.old) steps.old)
-        (outside (depot_state D.Depot depot.new) (page_state P.Sink print.new) steps.new) result }
+        (io_state_at D.Depot P.Sink depot.old print.old steps.old)
+        (io_state_at D.Depot P.Sink depot.new print.new steps.new) result }
 {
     sd_run::run(alloc, &CommandLine::read(words), depot, print, notes, steps)
 }
@@ -133,8 +133,8 @@ pub fn air<D: Depot, P: Sink, N: Sink, L: Ledger>(
 /// Of two runs of `air` with one SITE, one after the other, at most one changes its OUT. The second one may begin in a
 /// file system that other runs have changed, if the mark is as the first one left it.
 pub fn a_site_is_sent_once()
-    ensures { (first second : List Bytes) (mark : FileName) (files later : Files) (a b c d : Outside)
+    ensures { (first second : List Bytes) (mark : FileName) (files later : Files) (a b c d : IoState)
         (one two : Status) → used_by first ≡ Some mark → used_by second ≡ Some mark → a.place.files ≡ Some files →
         c.place.files ≡ Some later → get later mark ≡ file_in b mark → RunResult (meaning first) a b one →
-        RunResult (meaning second) c d two → LeavesOut first a b ⊎ LeavesOut second c d }
+        RunResult (meaning second) c d two → LeavesOutFile first a b ⊎ LeavesOutFile second c d }
 {}

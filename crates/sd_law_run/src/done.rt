@@ -6,7 +6,7 @@ ghost use Rattle.sd_ports.specs.Files.{Files};
 ghost use Rattle.sd_engine.specs.Stream.{packets_of};
 ghost use Rattle.sd_law_broadcast.specs.Synced.{AreBytes};
 ghost use Rattle.sd_law_field.specs.Fielded.{IsGoodField};
-ghost use Rattle.sd_command_base.specs.Outside.{Outside};
+ghost use Rattle.sd_command_base.specs.Outside.{IoState};
 ghost use Rattle.sd_command_base.specs.Results.{RunResult};
 ghost use Rattle.sd_command_base.specs.Spec.{FileArgument, Readings};
 ghost use Rattle.sd_command_line.specs.Words.{ApartOf, FieldOf, order_of};
@@ -21,7 +21,7 @@ use sd_command_base::Status;
 /// they are of one master and one tree, no control word is of both, and in each period that both use their books revoke
 /// the same leaves.
 pub fn done_pairs_are_apart()
-    ensures { (words : List Bytes) (site book other more : FileArgument) (files : Files) (a b : Outside) →
+    ensures { (words : List Bytes) (site book other more : FileArgument) (files : Files) (a b : IoState) →
         order_of words ≡ Ok (ApartOf site book other more) → a.place.files ≡ Some files →
         RunResult (meaning words) a b Status.Done → IsApart words files a b }
 {}
@@ -30,7 +30,7 @@ pub fn done_pairs_are_apart()
 /// a clear stream and a script within their limits. If each number of the clear stream is a byte's, it printed exactly
 /// the lines of what is confirmed to its receivers.
 pub fn done_fields_had_good_files()
-    ensures { (words : List Bytes) (site clear script : FileArgument) (files : Files) (a b : Outside) →
+    ensures { (words : List Bytes) (site clear script : FileArgument) (files : Files) (a b : IoState) →
         order_of words ≡ Ok (FieldOf site clear script) → a.place.files ≡ Some files →
         RunResult (meaning words) a b Status.Done → IsFielded words files a b }
 {}

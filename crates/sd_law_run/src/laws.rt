@@ -1,9 +1,9 @@
 //! Good arguments and good files mean work. `run` does that work if no I/O error occurs and memory suffices.
 ghost use Rattle.std.specs.Prelude.{◌≡◌, ◌⊎◌, ◌≤◌, ◌<◌, ◌^◌, ◌++◌, ℕ, List, [], Some, None, Ok, Err, length};
-ghost use Rattle.sd_book.specs.Text.{text_of};
+ghost use Rattle.sd_book.specs.Text.{text_of_book};
 ghost use Rattle.sd_lsd.specs.Fields.{layer_bytes, layer_card_of};
-ghost use Rattle.sd_run_books.specs.AccountsCommand.{accounts_value, making_then, report_line};
-ghost use Rattle.sd_run_books.specs.Apart.{apart_text, clash_of};
+ghost use Rattle.sd_run_books.specs.AccountsCommand.{accounts_value, making_then, accounts_line};
+ghost use Rattle.sd_run_books.specs.Apart.{apart_text, plan_clash};
 ghost use Rattle.sd_run_books.specs.Layered.{layering};
 ghost use Rattle.sd_cover_tracing.specs.Trace.{trace_of};
 ghost use Rattle.sd_run_books.specs.Opens.{opening};
@@ -26,14 +26,14 @@ ghost use Rattle.sd_book.specs.declared.command.Command.{Command};
 ghost use Rattle.sd_cover_tracing.specs.Cover.{cover_of};
 ghost use Rattle.sd_cover_tracing.specs.Partition.{IsPartition, IsSmall};
 ghost use Rattle.sd_tree_keys.specs.Leaves.{unrevoked};
-ghost use Rattle.sd_site_cards.specs.CardFields.{card_bytes, card_of};
+ghost use Rattle.sd_site_cards.specs.CardFields.{card_bytes, card_of, site_card};
 ghost use Rattle.sd_ports.specs.Files.{Files};
 ghost use Rattle.sd_engine.specs.Sample.{sample_of};
 ghost use Rattle.sd_command_base.specs.declared.status.Clash.{Clash as ClashKind};
 ghost use Rattle.sd_command_base.specs.declared.status.Status.TheVariants.{Clash};
 ghost use Rattle.sd_command_base.specs.Results.{RunResult};
 ghost use Rattle.sd_command_base.specs.Spec.{FileArgument, contents_of};
-ghost use Rattle.sd_command_base.specs.Outside.{Outside};
+ghost use Rattle.sd_command_base.specs.Outside.{IoState};
 ghost use Rattle.sd_command_base.specs.Work.{NoSteps, Uncounted, Work, work_of_text};
 ghost use Rattle.sd_run_books.specs.Cover.{covering};
 ghost use Rattle.sd_law_run.specs.Good.{IsGoodCover, IsGoodCard, IsGoodSample, IsGoodTables, plan_told, IsGoodHead};
@@ -49,7 +49,7 @@ ghost use Rattle.sd_law_run.specs.Good.{IsGoodMessages, IsGoodShow};
 ghost use Rattle.sd_run_streams.specs.Tables.{inspecting};
 ghost use Rattle.std.specs.List.{concat};
 ghost use Rattle.sd_base.specs.Types.{Bytes, Packets, SystemId, Key, Height, LeafNumber, PeriodNumber};
-ghost use Rattle.sd_engine.specs.Taken.{taken_of};
+ghost use Rattle.sd_engine.specs.Taken.{packets_taken};
 ghost use Rattle.sd_spec.specs.Sent.{broadcast};
 ghost use Rattle.sd_run_broadcasts.specs.Head.{sending, sent_of, sent_status};
 ghost use Rattle.sd_run.specs.Meaning.{meaning};
@@ -59,7 +59,7 @@ ghost use Rattle.sd_law_broadcast.specs.Packets.{AreWholePackets};
 ghost use Rattle.sd_law_broadcast.specs.Synced.{AreBytes};
 ghost use Rattle.sd_run_broadcasts.specs.Receive.{receiving};
 ghost use Rattle.sd_law_run.specs.Good.{IsGoodReceive};
-ghost use Rattle.sd_law_run.specs.Opened.{IsBroadcastTo, IsOpened};
+ghost use Rattle.sd_law_run.specs.Opened.{IsBroadcastTo, IsReceivedOut};
 
 use sd_command_base::Status;
 
@@ -74,7 +74,7 @@ pub fn good_covers_are_printed()
 pub fn good_cards_are_made()
     ensures { (words : List Bytes) (files : Files) (good : IsGoodCard words (contents_of files)) →
         (meaning words (contents_of files)).result ≡ Ok (making Uncounted good.out
-        (card_bytes (card_of good.fields.master good.fields.ca good.fields.height good.leaf.value))) }
+        (card_bytes (site_card good.fields good.leaf.value))) }
 {}
 
 /// `sample NUMBER PACKETS OUT` makes the sample stream.
@@ -122,7 +122,7 @@ pub fn made_cards_are_shown()
 pub fn good_streams_are_broadcast()
     ensures { (words : List Bytes) (files : Files) (good : IsGoodHead words (contents_of files)) →
         ((meaning words (contents_of files)).result ≡ Ok (sending (plan_told good) good.out good.bytes))
-        × (concat (broadcast (plan_told good) (taken_of good.bytes)) ≡ sent_of (plan_told good) good.bytes)
+        × (concat (broadcast (plan_told good) (packets_taken good.bytes)) ≡ sent_of (plan_told good) good.bytes)
         × (Status.Done ≡ sent_status (plan_told good) good.bytes) }
 {}
 
@@ -130,8 +130,8 @@ pub fn good_streams_are_broadcast()
 #[tactic(auto, using(crate::proofs::Kept::accounts_kept))]
 pub fn good_accounts_are_kept()
     ensures { (words : List Bytes) (files : Files) (good : IsGoodAccounts words (contents_of files)) →
-        (meaning words (contents_of files)).result ≡ Ok (making_then good.out (text_of good.commands)
-        (report_line (accounts_value good.fields.height good.bytes good.commands))) }
+        (meaning words (contents_of files)).result ≡ Ok (making_then good.out (text_of_book good.commands)
+        (accounts_line (accounts_value good.fields.height good.bytes good.commands))) }
 {}
 
 /// `book SITE BOOK COMMANDS OUT` over a site and two books makes the book of the first's commands and then the
@@ -140,14 +140,14 @@ pub fn good_accounts_are_kept()
 pub fn good_books_are_joined()
     ensures { (words : List Bytes) (files : Files) (good : IsGoodBooks words (contents_of files)) →
         (meaning words (contents_of files)).result
-        ≡ Ok (making NoSteps good.out (text_of (good.before ++ good.added))) }
+        ≡ Ok (making NoSteps good.out (text_of_book (good.before ++ good.added))) }
 {}
 
 /// The book that `accounts` or `book` makes is one that each other command reads, as the same commands.
 #[tactic(auto, using(crate::proofs::Goodness::made_good))]
 pub fn made_books_are_read()
     ensures { (d : Height) (commands : List Command) → d ≤ 20 → IsWithinLimits d commands →
-        IsGoodBook (Some (text_of commands)) d commands }
+        IsGoodBook (Some (text_of_book commands)) d commands }
 {}
 
 /// `layered SITE BOOK WIDTH` over a site and a book prints the useful sets of each period.
@@ -171,14 +171,14 @@ pub fn good_plans_are_printed()
 #[tactic(auto, using(crate::proofs::Operators::apart_good, crate::proofs::Operators::apart_clashes))]
 pub fn good_sites_are_judged()
     ensures apart { (words : List Bytes) (files : Files) (good : IsGoodApart words (contents_of files)) →
-        clash_of (record { site = good.fields; commands = good.commands })
+        plan_clash (record { site = good.fields; commands = good.commands })
         (record { site = good.other_fields; commands = good.more_commands }) ≡ None →
         (meaning words (contents_of files)).result ≡ Ok (work_of_text (apart_text
         (record { site = good.fields; commands = good.commands })
         (record { site = good.other_fields; commands = good.more_commands }))) }
     ensures clash { (words : List Bytes) (files : Files) (good : IsGoodApart words (contents_of files))
         (clash : ClashKind) →
-        clash_of (record { site = good.fields; commands = good.commands })
+        plan_clash (record { site = good.fields; commands = good.commands })
         (record { site = good.other_fields; commands = good.more_commands }) ≡ Some clash →
         (meaning words (contents_of files)).result ≡ Err (Clash clash) }
 {}
@@ -228,7 +228,7 @@ pub fn good_traces_are_printed()
 pub fn good_trials_are_printed()
     ensures { (words : List Bytes) (files : Files) (good : IsGoodTrial words (contents_of files)) →
         (meaning words (contents_of files)).result ≡ Ok (printing (Ok
-        (opened_lines (plan_tried good) (taken_of good.bytes) (2 ^ good.fields.height)))) }
+        (opened_lines (plan_tried good) (packets_taken good.bytes) (2 ^ good.fields.height)))) }
 {}
 
 /// `field SITE CLEAR SCRIPT` over a good site, a clear stream and a script prints the lines of what is confirmed to its
@@ -245,7 +245,7 @@ pub fn good_fields_are_printed()
 /// clear stream. It printed exactly the lines of what is opened.
 #[tactic(auto, using(crate::proofs::Trials::trial_tried))]
 pub fn done_trials_had_good_files()
-    ensures { (site book clear : FileArgument) (files : Files) (a b : Outside) → a.place.files ≡ Some files →
+    ensures { (site book clear : FileArgument) (files : Files) (a b : IoState) → a.place.files ≡ Some files →
         RunResult (trial_meaning site book clear) a b Status.Done → IsTried site book clear files a b }
 {}
 
@@ -254,7 +254,7 @@ pub fn done_trials_had_good_files()
 /// `air` has, was made new and empty. Or OUT of the work was made, with a prefix of its due contents, after the mark if
 /// there is one. All other files are as they were.
 pub fn no_file_changes_but_out()
-    ensures { (words : List Bytes) (files : Files) (a b : Outside) (answer : Status) →
+    ensures { (words : List Bytes) (files : Files) (a b : IoState) (answer : Status) →
         a.place.files ≡ Some files → RunResult (meaning words) a b answer →
         IsAsBefore files a.place b.place
         ⊎ (HasMark files (meaning words (contents_of files)).result a.place b.place
@@ -285,5 +285,5 @@ pub fn broadcasts_are_opened_by_the_entitled()
     ensures { (plan : Plan) (u : LeafNumber) (clear : Packets) (words : List Bytes) (files : Files) → IsPlan plan →
         IsSendable plan.site clear → AreWholePackets clear → u < 2 ^ plan.site.height →
         (sent : IsBroadcastTo plan u clear words (contents_of files)) →
-        (work : Work) × ((meaning words (contents_of files)).result ≡ Ok work) × IsOpened plan u clear sent.out work }
+        (work : Work) × ((meaning words (contents_of files)).result ≡ Ok work) × IsReceivedOut plan u clear sent.out work }
 {}

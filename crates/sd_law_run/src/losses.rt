@@ -11,13 +11,13 @@ ghost use Rattle.sd_law_broadcast.specs.Synced.{AreSynced};
 ghost use Rattle.sd_law_losses.specs.Chosen.{chosen};
 ghost use Rattle.sd_ports.specs.Files.{Files};
 ghost use Rattle.sd_command_base.specs.Spec.{contents_of};
-ghost use Rattle.sd_command_base.specs.Outside.{Outside};
+ghost use Rattle.sd_command_base.specs.Outside.{IoState};
 ghost use Rattle.sd_command_base.specs.Work.{Work};
 ghost use Rattle.sd_command_base.specs.Results.{RunResult};
 ghost use Rattle.sd_command_base.specs.Shown.{word_at};
 ghost use Rattle.sd_run_broadcasts.specs.Receive.{receive_meaning};
 ghost use Rattle.sd_run.specs.Meaning.{meaning};
-ghost use Rattle.sd_law_run.specs.Headline.{Names, file_in, AreGiven, IsUndisturbed, card_for};
+ghost use Rattle.sd_law_run.specs.Headline.{Names, file_in, AreGiven, IsUndisturbed, card_file_for};
 ghost use Rattle.sd_law_run.specs.Lost.{kept_items, IsRestTo, IsConfirmed, LossResult};
 
 use sd_command_base::Status;
@@ -35,9 +35,9 @@ pub fn losses_are_received()
         (work : Work) × ((meaning words (contents_of files)).result ≡ Ok work)
         × IsConfirmed plan u clear (kept_items plan clear flags) rest.out work }
     // By what a run leaves, if no I/O error occurs and memory suffices.
-    ensures receive { (names : Names) (plan : Plan) (u : LeafNumber) (clear : Packets) (z a b : Outside)
+    ensures receive { (names : Names) (plan : Plan) (u : LeafNumber) (clear : Packets) (z a b : IoState)
         (flags : Arrived) (answer : Status) → AreGiven z names plan clear → u < 2 ^ plan.site.height →
-        file_in a names.card ≡ Some (card_for plan.site u) →
+        file_in a names.card ≡ Some (card_file_for plan.site u) →
         file_in a names.stream ≡ Some (concat (chosen flags (broadcast plan clear))) →
         RunResult (receive_meaning (word_at 1 names.card) (word_at 2 names.stream) (word_at 3 names.out)) a b answer →
         IsUndisturbed a b answer → LossResult names plan u clear (kept_items plan clear flags) a b answer }

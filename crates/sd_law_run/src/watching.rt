@@ -7,8 +7,8 @@ ghost use Rattle.sd_spec.specs.Plan.{Plan};
 ghost use Rattle.sd_spec.specs.Sent.{broadcast};
 ghost use Rattle.sd_spec.specs.Counting.{is_marked};
 ghost use Rattle.sd_law_watch.specs.Steady.{are_steady};
-ghost use Rattle.sd_command_base.specs.Outside.{Outside, outside, page_state, depot_state};
-ghost use Rattle.sd_law_run.specs.Headline.{Names, file_in, AreGiven, IsUndisturbed, card_for};
+ghost use Rattle.sd_command_base.specs.Outside.{IoState, io_state_at};
+ghost use Rattle.sd_law_run.specs.Headline.{Names, file_in, AreGiven, IsUndisturbed, card_file_for};
 ghost use Rattle.sd_law_run.specs.Watched.{WatchResult, WholeResult};
 
 use sd_base::Steps;
@@ -34,31 +34,31 @@ pub fn watch<D: Depot, P: Sink, N: Sink, L: Ledger>(
     ensures goes_on { (names : Names) (card : CardFields) (bytes : Bytes) →
         map string_bytes words.now ≡ codes "watch" ∷ names.card ∷ names.stream ∷ names.out ∷ [] →
         names.out ≢ names.card → names.out ≢ names.stream → IsCard card →
-        file_in (outside (depot_state D.Depot depot.old) (page_state P.Sink print.old) steps.old) names.card
+        file_in (io_state_at D.Depot P.Sink depot.old print.old steps.old) names.card
         ≡ Some (card_bytes card) →
-        file_in (outside (depot_state D.Depot depot.old) (page_state P.Sink print.old) steps.old) names.stream
+        file_in (io_state_at D.Depot P.Sink depot.old print.old steps.old) names.stream
         ≡ Some bytes →
-        IsUndisturbed (outside (depot_state D.Depot depot.old) (page_state P.Sink print.old) steps.old)
-        (outside (depot_state D.Depot depot.new) (page_state P.Sink print.new) steps.new) result →
+        IsUndisturbed (io_state_at D.Depot P.Sink depot.old print.old steps.old)
+        (io_state_at D.Depot P.Sink depot.new print.new steps.new) result →
         WatchResult names card bytes
-        (outside (depot_state D.Depot depot.old) (page_state P.Sink print.old) steps.old)
-        (outside (depot_state D.Depot depot.new) (page_state P.Sink print.new) steps.new) result }
+        (io_state_at D.Depot P.Sink depot.old print.old steps.old)
+        (io_state_at D.Depot P.Sink depot.new print.new steps.new) result }
     // Over the card of a leaf and the broadcast of a steady clear stream of which no packet is marked, it makes exactly
     // what the leaf is entitled to, and prints one line.
-    ensures watched { (names : Names) (plan : Plan) (u : LeafNumber) (clear : Packets) (z : Outside) →
+    ensures watched { (names : Names) (plan : Plan) (u : LeafNumber) (clear : Packets) (z : IoState) →
         map string_bytes words.now ≡ codes "watch" ∷ names.card ∷ names.stream ∷ names.out ∷ [] →
         names.out ≢ names.card → names.out ≢ names.stream →
         AreGiven z names plan clear → are_steady clear ≡ true → list_any is_marked clear ≡ false →
         u < 2 ^ plan.site.height →
-        file_in (outside (depot_state D.Depot depot.old) (page_state P.Sink print.old) steps.old) names.card
-        ≡ Some (card_for plan.site u) →
-        file_in (outside (depot_state D.Depot depot.old) (page_state P.Sink print.old) steps.old) names.stream
+        file_in (io_state_at D.Depot P.Sink depot.old print.old steps.old) names.card
+        ≡ Some (card_file_for plan.site u) →
+        file_in (io_state_at D.Depot P.Sink depot.old print.old steps.old) names.stream
         ≡ Some (concat (broadcast plan clear)) →
-        IsUndisturbed (outside (depot_state D.Depot depot.old) (page_state P.Sink print.old) steps.old)
-        (outside (depot_state D.Depot depot.new) (page_state P.Sink print.new) steps.new) result →
+        IsUndisturbed (io_state_at D.Depot P.Sink depot.old print.old steps.old)
+        (io_state_at D.Depot P.Sink depot.new print.new steps.new) result →
         WholeResult names plan u clear
-        (outside (depot_state D.Depot depot.old) (page_state P.Sink print.old) steps.old)
-        (outside (depot_state D.Depot depot.new) (page_state P.Sink print.new) steps.new) result }
+        (io_state_at D.Depot P.Sink depot.old print.old steps.old)
+        (io_state_at D.Depot P.Sink depot.new print.new steps.new) result }
 {
     sd_run::run(alloc, &CommandLine::read(words), depot, print, notes, steps)
 }

@@ -6,18 +6,18 @@ use Rattle.std.proofs.lemmas.Bool.{cases_Bool}
 use Rattle.std.proofs.lemmas.List.Elements.{All-get_or}
 use Rattle.sd_base.specs.Bits.{field}
 use Rattle.sd_tree_keys.specs.Keys.{control_word_of}
-use Rattle.sd_packet.specs.Header.{error_of, scrambling_of, counter_of, payload_start_of}
-use Rattle.sd_packet.specs.Packing.{packed}
+use Rattle.sd_packet.specs.Header.{transport_error, scrambling_of, counter_of, payload_start_of}
+use Rattle.sd_packet.specs.Packing.{section_packet}
 use Rattle.sd_packet.proofs.Packets.{packet_reads, start_within}
 use Rattle.sd_psi.specs.Rewriting.{rewrite_fault}
 use Rattle.sd_psi.proofs.Keeping.{rewritten_packet_keeps}
-use Rattle.sd_cipher.specs.Scrambling.{control_of, payload_under, laid_under}
+use Rattle.sd_cipher.specs.Scrambling.{control_of, payload_under, packet_under_keystream}
 use Rattle.sd_cipher.proofs.Scramblings.{prefix_is}
 use Rattle.sd_site_cards.specs.SiteFields.{SiteFields}
 use Rattle.sd_spec.specs.Plan.{Plan, word_of}
 use Rattle.sd_spec.specs.Kinds.{kind_of}
 use Rattle.sd_spec.specs.Refused.{IsSendable}
-use Rattle.sd_spec.specs.Carried.{parity_of, place_after, pmt_carried, veiled, carried_as, carried}
+use Rattle.sd_spec.specs.Carried.{parity_of, place_after, pmt_carried, packet_under_word, carried_as, carried}
 use Rattle.sd_spec.specs.declared.kind.Kind.{Kind}
 use Rattle.sd_spec.specs.declared.kind.Kind.TheVariants.{Passed, Pmt, Scrambled}
 use Rattle.sd_law_broadcast.specs.Packets.{IsWholePacket, AreWholePackets}
@@ -29,30 +29,30 @@ use Rattle.sd_law_losses.proofs.Lawful.{setting}
 
 -- a packet that is neither marked nor scrambled
 pub record IsPlain (packet : List ℕ) : Type 0 where
-  pub error : error_of packet ≡ 0
+  pub error : transport_error packet ≡ 0
   pub control : scrambling_of packet ≡ 0
 
-pub packed_plain : (section : List ℕ) (pid n : ℕ) → pid < 8192 → IsPlain (packed section pid (n % 16))
+pub packed_plain : (section : List ℕ) (pid n : ℕ) → pid < 8192 → IsPlain (section_packet section pid (n % 16))
 packed_plain section pid n low =
     let reads = packet_reads section pid (n % 16) low (omega arith) in
     record { error = reads.error; control = reads.scrambling }
 
 -- the error bit stays as the packet is carried
-error_by_byte : (x y : List ℕ) → slice_index x 1 ≡ slice_index y 1 → error_of x ≡ error_of y
+error_by_byte : (x y : List ℕ) → slice_index x 1 ≡ slice_index y 1 → transport_error x ≡ transport_error y
 unfolding field
 error_by_byte x y same = rw same refl
 
 veiled_error : (site : SiteFields) (t position : ℕ) (packet : List ℕ) → length packet ≡ 188 →
-    error_of (veiled site t position packet) ≡ error_of packet
-unfolding veiled laid_under
+    transport_error (packet_under_word site t position packet) ≡ transport_error packet
+unfolding packet_under_word packet_under_keystream
 veiled_error site t position packet long =
     let word : List ℕ = control_word_of site.master t in
     let prefix = prefix_is packet (payload_under packet word position) (payload_start_of packet)
     (control_of (parity_of t) * 64 + slice_index packet 3 % 64) (start_within packet).0 (omega (arith, long)) in
-    error_by_byte (veiled site t position packet) packet prefix.second
+    error_by_byte (packet_under_word site t position packet) packet prefix.second
 
 pmt_error : (site : SiteFields) (before : List (List ℕ)) (packet : List ℕ) → IsWholePacket packet →
-    kind_of before packet ≡ Pmt → error_of (pmt_carried site packet) ≡ error_of packet
+    kind_of before packet ≡ Pmt → transport_error (pmt_carried site packet) ≡ transport_error packet
 unfolding pmt_carried
 pmt_error site before packet whole is = elim (cases_Bool (is_none (rewrite_fault packet))) [
   | inr full ↦ rw full refl
@@ -61,12 +61,12 @@ pmt_error site before packet whole is = elim (cases_Bool (is_none (rewrite_fault
 ]
 
 carried_error : (site : SiteFields) (before : List (List ℕ)) (packet : List ℕ) → IsWholePacket packet →
-    error_of (carried site before packet) ≡ error_of packet
+    transport_error (carried site before packet) ≡ transport_error packet
 unfolding carried
 carried_error site before packet whole = by_kind (kind_of before packet) refl
   where
     by_kind : (kind : Kind) → kind_of before packet ≡ kind →
-        error_of (carried_as kind site before packet) ≡ error_of packet
+        transport_error (carried_as kind site before packet) ≡ transport_error packet
     by_kind Passed is = refl
     by_kind Pmt is = pmt_error site before packet whole is
     by_kind Scrambled is =
@@ -74,7 +74,7 @@ carried_error site before packet whole = by_kind (kind_of before packet) refl
 
 -- clear packet k on air
 pub record IsOnAir (clear : List (List ℕ)) (k : ℕ) (packet : List ℕ) : Type 0 where
-  pub error : error_of packet ≡ error_of (packet_at clear k)
+  pub error : transport_error packet ≡ transport_error (packet_at clear k)
   pub counter : counter_of packet ≡ counter_of (packet_at clear k)
 
 pub on_air : (plan : Plan) (clear : List (List ℕ)) (u k : ℕ) → IsSendable plan.site clear → AreWholePackets clear →

@@ -12,8 +12,8 @@ use Rattle.sd_message.specs.declared.emm_fault.EmmFault.{EmmFault}
 use Rattle.sd_message.specs.declared.ecm_part.EcmPart.{EcmPart}
 use Rattle.sd_message.specs.declared.ecm_fault.EcmFault.{EcmFault}
 use Rattle.sd_spec.specs.Heard.{Heard, Dropped, Entitles, Controls, BadEmm, BadEcm, Other}
-use Rattle.sd_spec.specs.Stretches.{Stretch, newest, completes, is_closed, others, run_to, current}
-use Rattle.sd_spec.specs.Runs.{name_in, run_name_heard, are_two, is_turn, of_run}
+use Rattle.sd_spec.specs.Stretches.{Stretch, newest_message, completes, is_closed, others, message_parts_to, current}
+use Rattle.sd_spec.specs.Runs.{run_name_in, run_name_heard, are_two, is_turn, of_run}
 use Rattle.sd_spec.specs.Keys.{key_at}
 use Rattle.sd_spec.specs.Confirmed.{is_foreign_under}
 use Rattle.sd_spec.specs.Offered.{heard_more}
@@ -27,13 +27,13 @@ use Rattle.sd_law_watch.proofs.Said.{said, stretch_said, turn_said, run_to_said,
 use Rattle.sd_law_watch.proofs.Said.{closed_said, current_said, key_said}
 
 -- two that heard the same of messages
-newest_same : (a b : List Heard) → said a ≡ said b → stretch_said (newest a) ≡ stretch_said (newest b)
-newest_same a b same = sym (newest_said a) ∙ (ap newest same ∙ newest_said b)
+newest_same : (a b : List Heard) → said a ≡ said b → stretch_said (newest_message a) ≡ stretch_said (newest_message b)
+newest_same a b same = sym (newest_said a) ∙ (ap newest_message same ∙ newest_said b)
 
-pub message_same : (a b : List Heard) → said a ≡ said b → (newest a).message ≡ (newest b).message
+pub message_same : (a b : List Heard) → said a ≡ said b → (newest_message a).message ≡ (newest_message b).message
 message_same a b same = ap (λ (s : Stretch). s.message) (newest_same a b same)
 
-pub before_same : (a b : List Heard) → said a ≡ said b → said (newest a).before ≡ said (newest b).before
+pub before_same : (a b : List Heard) → said a ≡ said b → said (newest_message a).before ≡ said (newest_message b).before
 before_same a b same = ap (λ (s : Stretch). s.before) (newest_same a b same)
 
 pub key_same : (card : CardFields) (a b : List Heard) (q : ℕ) → said a ≡ said b → key_at card a q ≡ key_at card b q
@@ -51,30 +51,30 @@ completes_same a b thing same =
     sym (completes_said a thing) ∙ (ap (λ (p : List Heard). completes p thing) same ∙ completes_said b thing)
 
 pub run_to_same : (a b : List Heard) (part : EcmPart) → said a ≡ said b →
-    run_to (newest a) part ≡ run_to (newest b) part
+    message_parts_to (newest_message a) part ≡ message_parts_to (newest_message b) part
 run_to_same a b part same =
-    sym (run_to_said (newest a) part)
-    ∙ (ap (λ (s : Stretch). run_to s part) (newest_same a b same) ∙ run_to_said (newest b) part)
+    sym (run_to_said (newest_message a) part)
+    ∙ (ap (λ (s : Stretch). message_parts_to s part) (newest_same a b same) ∙ run_to_said (newest_message b) part)
 
 pub back_same : (a b : List Heard) (message : Message) → said a ≡ said b → is_back a message ≡ is_back b message
 unfolding is_back
 back_same a b message same =
-    ap (λ (now : ℕ). nat_lt message.period now || option_map_or (is_before message) (newest a).message false)
+    ap (λ (now : ℕ). nat_lt message.period now || option_map_or (is_before message) (newest_message a).message false)
     (sym (current_said a) ∙ (ap current same ∙ current_said b))
     ∙ ap (λ (m : Option Message). nat_lt message.period (current b) || option_map_or (is_before message) m false)
     (message_same a b same)
 
 -- the first two hold the same packets, the third none
 pub record HoldSame (all counted bare : List Heard) : Type 0 where
-  pub same : packets_of (others (newest all).after) ≡ packets_of (others (newest counted).after)
-  pub none : others (newest bare).after ≡ []
+  pub same : packets_of (others (newest_message all).after) ≡ packets_of (others (newest_message counted).after)
+  pub none : others (newest_message bare).after ≡ []
 
 -- the third holds a packet alone, which is odd
 pub record HoldsOdd (all bare : List Heard) : Type 0 where
   pub number : ℕ
   pub packet : List ℕ
-  pub alone : others (newest bare).after ≡ (number, packet) ∷ []
-  pub odd : option_map_or (λ message. is_odd_held message.word (number, packet)) (newest all).message false ≡ true
+  pub alone : others (newest_message bare).after ≡ (number, packet) ∷ []
+  pub odd : option_map_or (λ message. is_odd_held message.word (number, packet)) (newest_message all).message false ≡ true
 
 -- all three heard the same of messages
 pub record Like (all counted bare : List Heard) : Type 0 where
@@ -83,7 +83,7 @@ pub record Like (all counted bare : List Heard) : Type 0 where
   pub holds : HoldSame all counted bare ⊎ HoldsOdd all bare
 
 pub like_none : Like [] [] []
-unfolding newest others
+unfolding newest_message others
 like_none = record { counted_says = refl; bare_says = refl; holds = inl (record { same = refl; none = refl }) }
 
 -- a thing that is heard is of a message
@@ -121,16 +121,16 @@ like_run a b c thing like =
 
 -- one thing more of a message
 after_waits : (past : List Heard) (thing : Heard) → Speaks thing → completes past thing ≡ None →
-    others (newest (thing ∷ past)).after ≡ others (newest past).after
+    others (newest_message (thing ∷ past)).after ≡ others (newest_message past).after
 after_waits past thing speaks waits =
-    ap (λ (s : Stretch). others s.after) (newest_waits past thing waits) ∙ speaks.holds (newest past).after
+    ap (λ (s : Stretch). others s.after) (newest_waits past thing waits) ∙ speaks.holds (newest_message past).after
 
 message_waits : (past : List Heard) (thing : Heard) → completes past thing ≡ None →
-    (newest (thing ∷ past)).message ≡ (newest past).message
+    (newest_message (thing ∷ past)).message ≡ (newest_message past).message
 message_waits past thing waits = ap (λ (s : Stretch). s.message) (newest_waits past thing waits)
 
 after_completes : (past : List Heard) (thing : Heard) (message : Message) → completes past thing ≡ Some message →
-    others (newest (thing ∷ past)).after ≡ []
+    others (newest_message (thing ∷ past)).after ≡ []
 unfolding others
 after_completes past thing message done =
     ap (λ (s : Stretch). others s.after) (newest_completes past thing message done)
@@ -206,7 +206,7 @@ never_two (Some name) = refl
 
 pub quiet_turn : (past : List Heard) (thing : Heard) → run_name_heard thing ≡ None → is_turn past thing ≡ false
 unfolding is_turn
-quiet_turn past thing quiet = ap (are_two (name_in past)) quiet ∙ never_two (name_in past)
+quiet_turn past thing quiet = ap (are_two (run_name_in past)) quiet ∙ never_two (run_name_in past)
 
 quiet_run : (past : List Heard) (thing : Heard) → run_name_heard thing ≡ None → of_run past thing ≡ past
 quiet_run past thing quiet = same_run past thing (quiet_turn past thing quiet)
@@ -285,12 +285,12 @@ like_dropped a b c like =
 -- one that is odd: the first holds it, the second doesn't, and the third holds one
 stray_parts : (past : List Heard) (n m : ℕ) (packet : List ℕ) → is_stray past (Other n packet) ≡ true →
     (is_closed past ≡ false)
-    × (option_map_or (λ message. is_odd_held message.word (m, packet)) (newest past).message false ≡ true)
+    × (option_map_or (λ message. is_odd_held message.word (m, packet)) (newest_message past).message false ≡ true)
 unfolding is_stray
 stray_parts past n m packet stray =
     let both = and_parts (not (is_closed past)) (is_scrambled_packet packet
-    && option_map_or (λ message. is_foreign_under message.word packet) (newest past).message false) stray in
-    (not-true (is_closed past) both.0, by_message (newest past).message both.1)
+    && option_map_or (λ message. is_foreign_under message.word packet) (newest_message past).message false) stray in
+    (not-true (is_closed past) both.0, by_message (newest_message past).message both.1)
   where
     by_message : (message : Option Message) →
         (is_scrambled_packet packet && option_map_or (λ message. is_foreign_under message.word packet) message false)
@@ -303,12 +303,12 @@ stray_parts past n m packet stray =
     by_message (Some message) is = is
 
 stray_next : (a b c : List Heard) (n k : ℕ) (packet : List ℕ) →
-    option_map_or (λ message. is_odd_held message.word (k, packet)) (newest b).message false ≡ true →
+    option_map_or (λ message. is_odd_held message.word (k, packet)) (newest_message b).message false ≡ true →
     Like a b c → Like (Other n packet ∷ a) b (Other k packet ∷ c) ⊎ Like (Other n packet ∷ a) b c
 unfolding others
 stray_next a b c n k packet odd like = by_state like.holds
   where
-    told : (newest (Other n packet ∷ a)).message ≡ (newest a).message
+    told : (newest_message (Other n packet ∷ a)).message ≡ (newest_message a).message
     told = message_waits a (Other n packet) refl
 
     by_state : HoldSame a b c ⊎ HoldsOdd a c →

@@ -11,7 +11,7 @@ use Rattle.std.proofs.lemmas.List.Folds.{list_any_at}
 use Rattle.sd_base.proofs.Bools.{tested, and_false}
 use Rattle.sd_base.proofs.Lists.{all_first}
 use Rattle.sd_packet.specs.Header.{scrambling_of}
-use Rattle.sd_site_cards.specs.CardFields.{card_of}
+use Rattle.sd_site_cards.specs.CardFields.{site_card}
 use Rattle.sd_message.specs.EcmParts.{Message, parts_of}
 use Rattle.sd_message.specs.Period.{emms_of}
 use Rattle.sd_message.specs.declared.emm.Emm.{Emm}
@@ -19,7 +19,7 @@ use Rattle.sd_spec.specs.Plan.{Plan, IsPlan, closing_number, crypto_length}
 use Rattle.sd_spec.specs.Kinds.{kind_of, is_scrambled}
 use Rattle.sd_spec.specs.Refused.{IsSendable}
 use Rattle.sd_spec.specs.Heard.{Heard, Other}
-use Rattle.sd_spec.specs.Stretches.{newest, is_closed}
+use Rattle.sd_spec.specs.Stretches.{newest_message, is_closed}
 use Rattle.sd_spec.specs.Confirmed.{is_foreign_under}
 use Rattle.sd_spec.specs.Offered.{heard, out_from}
 use Rattle.sd_spec.specs.Ending.{ending_of}
@@ -116,7 +116,7 @@ both_false true false = refl
 both_false false b = refl
 
 veiled_even : (s : Setting) (laws : AreLaws s) (k n : ℕ) (past : List Heard) → k < length s.clear → IsVeiled s k →
-    (newest past).message ≡ Some (told_by s (k / s.plan.site.every)) →
+    (newest_message past).message ≡ Some (told_by s (k / s.plan.site.every)) →
     is_stray past (Other n (carried_at s k)) ≡ false
 unfolding is_stray
 veiled_even s laws k n past within is told =
@@ -426,10 +426,10 @@ none_marked clear k none within =
 -- all of the broadcast counts
 pub steady_counts : (plan : Plan) (clear : List (List ℕ)) (u : ℕ) → IsPlan plan → IsSendable plan.site clear →
     AreWholePackets clear → u < 2 ^ plan.site.height → are_steady clear ≡ true → list_any is_marked clear ≡ false →
-    counting (card_of plan.site.master plan.site.ca plan.site.height u) [] (broadcast plan clear)
+    counting (site_card plan.site u) [] (broadcast plan clear)
     ≡ broadcast plan clear
 steady_counts plan clear u is all whole leaf steady none =
-    fine_count (card_of plan.site.master plan.site.ca plan.site.height u) [] (broadcast plan clear)
+    fine_count (site_card plan.site u) [] (broadcast plan clear)
     (whole_refused plan clear u is all whole leaf)
     (all_fine (setting plan clear u) (laws_hold plan clear u is all whole leaf) (can_be_heard plan clear u is all whole)
     (record {
@@ -439,20 +439,20 @@ steady_counts plan clear u is all whole leaf steady none =
 
 pub steady_out : (plan : Plan) (clear : List (List ℕ)) (u : ℕ) → IsPlan plan → IsSendable plan.site clear →
     AreWholePackets clear → u < 2 ^ plan.site.height → are_steady clear ≡ true → list_any is_marked clear ≡ false →
-    out_from (card_of plan.site.master plan.site.ca plan.site.height u) []
-    (counting (card_of plan.site.master plan.site.ca plan.site.height u) [] (broadcast plan clear))
+    out_from (site_card plan.site u) []
+    (counting (site_card plan.site u) [] (broadcast plan clear))
     ≡ opened_by plan u clear
 steady_out plan clear u is all whole leaf steady none =
-    ap (out_from (card_of plan.site.master plan.site.ca plan.site.height u) [])
+    ap (out_from (site_card plan.site u) [])
     (steady_counts plan clear u is all whole leaf steady none)
     ∙ whole_opened plan clear u is all whole leaf
 
 pub steady_ending : (plan : Plan) (clear : List (List ℕ)) (u : ℕ) → IsPlan plan → IsSendable plan.site clear →
     AreWholePackets clear → u < 2 ^ plan.site.height → are_steady clear ≡ true → list_any is_marked clear ≡ false →
-    ending_of (card_of plan.site.master plan.site.ca plan.site.height u)
-    (reverse (counting (card_of plan.site.master plan.site.ca plan.site.height u) [] (broadcast plan clear)))
+    ending_of (site_card plan.site u)
+    (reverse (counting (site_card plan.site u) [] (broadcast plan clear)))
     ≡ whole_ending (first_revoked plan u clear)
 steady_ending plan clear u is all whole leaf steady none =
-    ap (λ (packets : List (List ℕ)). ending_of (card_of plan.site.master plan.site.ca plan.site.height u)
+    ap (λ (packets : List (List ℕ)). ending_of (site_card plan.site u)
     (reverse packets)) (steady_counts plan clear u is all whole leaf steady none)
     ∙ whole_ended plan clear u is all whole leaf

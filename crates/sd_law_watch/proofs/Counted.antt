@@ -11,7 +11,7 @@ use Rattle.sd_message.specs.declared.stream_fault.StreamFault.{StreamFault}
 use Rattle.sd_spec.specs.Tuned.{tuning_of}
 use Rattle.sd_spec.specs.Offered.{heard, offered, tuned_offering, break_from}
 use Rattle.sd_spec.specs.Counting.{is_marked, is_doubled, is_stray_at, counts, counting}
-use Rattle.sd_spec.specs.Reports.{tally_from, one_marked, one_doubled, one_odd, refused_or}
+use Rattle.sd_spec.specs.Reports.{tally_from, tally_marked, one_doubled, one_odd, refused_or}
 use Rattle.sd_spec.specs.declared.report.Tally.{Tally}
 use Rattle.sd_law_watch.specs.LeftOut.{counting_and}
 
@@ -183,7 +183,7 @@ abbrev pub IsUndamaged : Tally → Type 0
 IsUndamaged tally = (tally.marked ≡ 0) × (tally.doubled ≡ 0) × (tally.odd ≡ 0)
 
 calm_first : (marked doubled odd : Bool) (fault : Option StreamFault) (m d o counted refused : Tally) →
-    IsUndamaged (if marked then one_marked m else if doubled then one_doubled d else if odd then one_odd o
+    IsUndamaged (if marked then tally_marked m else if doubled then one_doubled d else if odd then one_odd o
     else refused_or fault counted refused) → fault ≡ None →
     (marked ≡ false) × (doubled ≡ false) × (odd ≡ false) × IsUndamaged counted
 calm_first true doubled odd fault m d o counted refused calm none = absurd (omega (arith, calm.0))

@@ -18,9 +18,9 @@ use Rattle.sd_spec.specs.Heard.{Heard, Dropped, Entitles, Controls, BadEmm, BadE
 use Rattle.sd_spec.specs.Runs.{is_turn, run_name_heard}
 use Rattle.sd_spec.specs.Offered.{heard, heard_with, heard_more, offered, tuned_offering, run_offering, heard_offering}
 use Rattle.sd_spec.specs.Offered.{out_from, break_from}
-use Rattle.sd_spec.specs.Ending.{joined, turns_at, run_wrote, ended_before, run_ending, ending_of}
+use Rattle.sd_spec.specs.Ending.{endings_joined, turns_at, run_wrote, ended_before, run_ending, ending_of}
 use Rattle.sd_spec.specs.Counting.{is_marked, is_doubled, is_stray, is_stray_at, counts, counting}
-use Rattle.sd_spec.specs.Reports.{tally_from, one_marked, one_doubled, one_odd, refused_or}
+use Rattle.sd_spec.specs.Reports.{tally_from, tally_marked, one_doubled, one_odd, refused_or}
 use Rattle.sd_spec.proofs.Hearing.{tuned_more}
 use Rattle.sd_law_losses.specs.Chosen.{chosen}
 use Rattle.sd_law_losses.proofs.Agreeing.{heard_by}
@@ -66,7 +66,7 @@ pub record OnceMore (marked doubled odd : Bool) (fault : Option StreamFault) (o 
   pub if_even : odd ≡ false → fault ≡ None → IsOnce counted
 
 once_by : (marked doubled odd : Bool) (fault : Option StreamFault) (m d o counted refused : Tally) →
-    IsOnce (if marked then one_marked m else if doubled then one_doubled d else if odd then one_odd o
+    IsOnce (if marked then tally_marked m else if doubled then one_doubled d else if odd then one_odd o
     else refused_or fault counted refused) → OnceMore marked doubled odd fault o counted
 once_by true doubled odd fault m d o counted refused once = absurd (omega (arith, once.0))
 once_by false true odd fault m d o counted refused once = absurd (omega (arith, once.1))
@@ -181,11 +181,11 @@ ended_kept : (card : CardFields) (past counted : List (List ℕ)) (packet : List
     ended_before card (packet ∷ counted) ≡ ended_before card (packet ∷ past)
 unfolding ended_before
 ended_kept card past counted packet turns same wrote before =
-    ap (λ (t : Bool). if t then joined (ended_before card counted) (run_ending card (heard card counted)
+    ap (λ (t : Bool). if t then endings_joined (ended_before card counted) (run_ending card (heard card counted)
     (run_wrote card counted)) else ended_before card counted) turns
-    ∙ (ap (λ (e : Ending). if turns_at card past packet then joined e (run_ending card (heard card counted)
+    ∙ (ap (λ (e : Ending). if turns_at card past packet then endings_joined e (run_ending card (heard card counted)
     (run_wrote card counted)) else e) before
-    ∙ (ap (λ (e : Ending). if turns_at card past packet then joined (ended_before card past) e
+    ∙ (ap (λ (e : Ending). if turns_at card past packet then endings_joined (ended_before card past) e
     else ended_before card past)
     (ending_same card past counted (run_wrote card counted) same
     ∙ ap (run_ending card (heard card past)) wrote)))
@@ -562,12 +562,12 @@ ends : (card : CardFields) (tuning : Tuning) (past counted bare : List (List ℕ
 unfolding out_from counting ending_of
 ends card tuning past counted bare going = record {
   out = refl;
-  ending = ap (λ (t : Option Tuning). if is_none t then NoCat else joined (ended_before card counted)
+  ending = ap (λ (t : Option Tuning). if is_none t then NoCat else endings_joined (ended_before card counted)
       (run_ending card (heard card counted) (run_wrote card counted))) (going.counted_tuned ∙ sym going.tuned)
-      ∙ (ap (λ (e : Ending). if is_none (tuning_of card.ca past) then NoCat else joined e
+      ∙ (ap (λ (e : Ending). if is_none (tuning_of card.ca past) then NoCat else endings_joined e
       (run_ending card (heard card counted) (run_wrote card counted))) going.ended
       ∙ ap (λ (e : Ending). if is_none (tuning_of card.ca past) then NoCat
-      else joined (ended_before card past) e)
+      else endings_joined (ended_before card past) e)
       (ending_same card past counted (run_wrote card counted) going.like.counted_says
       ∙ ap (run_ending card (heard card past)) going.wrote));
 }

@@ -10,8 +10,8 @@ use Rattle.sd_psi.specs.declared.our_cat.Tuning.{Tuning}
 use Rattle.sd_site_cards.specs.CardFields.{CardFields}
 use Rattle.sd_message.specs.EcmParts.{Message}
 use Rattle.sd_spec.specs.Stretches.{Stretch, others, held_in}
-use Rattle.sd_spec.specs.Confirmed.{Segment, Wrote, judged, is_foreign, is_confirmed, unmarked, tracked, written_from}
-use Rattle.sd_spec.specs.Confirmed.{then_wrote}
+use Rattle.sd_spec.specs.Confirmed.{Segment, WrittenPackets, judged_packet, is_foreign, is_confirmed, unmarked, tracked, written_from}
+use Rattle.sd_spec.specs.Confirmed.{then_segment_output}
 use Rattle.sd_spec.specs.Offered.{segment_wrote, most_held}
 
 -- the packets without their numbers
@@ -27,19 +27,19 @@ packets_reversed (one ∷ held) =
     ∙ sym (reverse-append (one.1 ∷ []) (packets_of held))))
 
 -- the first packet
-first_same : (segment : Segment) (before : List (List ℕ)) (n m : ℕ) (packet : List ℕ) (a b : Wrote) →
+first_same : (segment : Segment) (before : List (List ℕ)) (n m : ℕ) (packet : List ℕ) (a b : WrittenPackets) →
     a.packets ≡ b.packets →
-    (then_wrote (judged segment before (n, packet)) a).packets
-    ≡ (then_wrote (judged segment before (m, packet)) b).packets
-unfolding judged
+    (then_segment_output (judged_packet segment before (n, packet)) a).packets
+    ≡ (then_segment_output (judged_packet segment before (m, packet)) b).packets
+unfolding judged_packet
 first_same segment before n m packet a b same =
     by_tests (scrambling_of packet == 0) (is_foreign segment packet) (is_confirmed segment (pid_of packet))
     (unmarked segment packet ∷ [])
     (descrambled packet segment.word (tracked segment.first (pid_of packet) (before ++ packet ∷ [])) ∷ [])
   where
     by_tests : (clear odd confirmed : Bool) (x y : List (List ℕ)) →
-        (then_wrote (if clear then Ok x else if odd then Err n else if confirmed then Ok y else Ok []) a).packets
-        ≡ (then_wrote (if clear then Ok x else if odd then Err m else if confirmed then Ok y else Ok []) b).packets
+        (then_segment_output (if clear then Ok x else if odd then Err n else if confirmed then Ok y else Ok []) a).packets
+        ≡ (then_segment_output (if clear then Ok x else if odd then Err m else if confirmed then Ok y else Ok []) b).packets
     by_tests true odd confirmed x y = ap (λ (rest : List (List ℕ)). x ++ rest) same
     by_tests false true confirmed x y = refl
     by_tests false false true x y = ap (λ (rest : List (List ℕ)). y ++ rest) same
@@ -61,7 +61,7 @@ written_same segment before (x ∷ xs) (y ∷ ys) same =
     let rest : packets_of xs ≡ packets_of ys = ap rest_of same in
     first_same segment before x.0 y.0 x.1 (written_from segment (before ++ x.1 ∷ []) xs)
     (written_from segment (before ++ x.1 ∷ []) ys) (written_same segment (before ++ x.1 ∷ []) xs ys rest)
-    ∙ ap (λ (packet : List ℕ). (then_wrote (judged segment before (y.0, packet))
+    ∙ ap (λ (packet : List ℕ). (then_segment_output (judged_packet segment before (y.0, packet))
     (written_from segment (before ++ packet ∷ []) ys)).packets) first
 
 -- a segment between two messages, if the key is known
@@ -76,13 +76,13 @@ keyed_segment card tuning a b key packets = record {
 }
 
 -- what is written of held packets, if they aren't too many
-abbrev pub wrote_unless : Bool → Segment → List (ℕ × List ℕ) → Wrote
+abbrev pub wrote_unless : Bool → Segment → List (ℕ × List ℕ) → WrittenPackets
 wrote_unless many segment held =
     if many then (record { packets = []; refused = None }) else written_from segment [] held
 
 -- what is written if the key is known
 abbrev pub keyed_wrote : CardFields → Tuning → Message → Message → List ℕ → List (List ℕ) → List (ℕ × List ℕ) → ℕ →
-    Wrote
+    WrittenPackets
 keyed_wrote card tuning a b key packets held many =
     wrote_unless (nat_lt most_held many) (keyed_segment card tuning a b key packets) held
 

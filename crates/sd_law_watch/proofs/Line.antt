@@ -5,7 +5,7 @@ use Rattle.std.specs.Prelude.{if◌then◌else◌}
 use Rattle.std.specs.List.{list_any}
 use Rattle.std.proofs.lemmas.List.{reverse-append}
 use Rattle.sd_base.proofs.Bools.{and_false}
-use Rattle.sd_site_cards.specs.CardFields.{CardFields, card_of}
+use Rattle.sd_site_cards.specs.CardFields.{CardFields, site_card}
 use Rattle.sd_message.specs.declared.stream_fault.StreamFault.{StreamFault}
 use Rattle.sd_spec.specs.declared.report.Report.{Report}
 use Rattle.sd_spec.specs.declared.report.Tally.{Tally}
@@ -16,7 +16,7 @@ use Rattle.sd_spec.specs.Tuned.{tuning_of}
 use Rattle.sd_spec.specs.Offered.{heard, offered, tuned_offering, break_from}
 use Rattle.sd_spec.specs.Ending.{turns_at}
 use Rattle.sd_spec.specs.Counting.{is_marked, is_doubled, is_stray_at, counts, counting}
-use Rattle.sd_spec.specs.Reports.{tally_from, one_marked, one_doubled, one_odd, refused_or, report_of, turns_after}
+use Rattle.sd_spec.specs.Reports.{tally_from, tally_marked, one_doubled, one_odd, refused_or, report_of, turns_after}
 use Rattle.sd_spec.specs.Reports.{turned_reports, reports}
 use Rattle.sd_law_broadcast.specs.Packets.{AreWholePackets}
 use Rattle.sd_law_losses.proofs.OneRun.{AreOneRun, one_before}
@@ -41,7 +41,7 @@ no_tally = record { marked = 0; doubled = 0; odd = 0; refused = 0; first = None 
 
 told_by_tests : (marked doubled odd : Bool) (fault : Option StreamFault) (m d o counted refused : Tally) →
     marked ≡ false → doubled ≡ false → odd ≡ false → fault ≡ None →
-    (if marked then one_marked m else if doubled then one_doubled d else if odd then one_odd o
+    (if marked then tally_marked m else if doubled then one_doubled d else if odd then one_odd o
     else refused_or fault counted refused) ≡ counted
 told_by_tests false false false None m d o counted refused a b c e = refl
 told_by_tests false false false (Some f) m d o counted refused a b c e = absurd (cc e)
@@ -109,7 +109,7 @@ one_run s laws able =
 
 fine_broadcast : (plan : Plan) (clear : List (List ℕ)) (u : ℕ) → IsPlan plan → IsSendable plan.site clear →
     AreWholePackets clear → u < 2 ^ plan.site.height → are_steady clear ≡ true → list_any is_marked clear ≡ false →
-    AllFine (card_of plan.site.master plan.site.ca plan.site.height u) [] (broadcast plan clear)
+    AllFine (site_card plan.site u) [] (broadcast plan clear)
 fine_broadcast plan clear u is all whole leaf steady none =
     all_fine (setting plan clear u) (laws_hold plan clear u is all whole leaf) (can_be_heard plan clear u is all whole)
     (record {
@@ -120,23 +120,23 @@ fine_broadcast plan clear u is all whole leaf steady none =
 -- the tally of the broadcast
 pub steady_tally : (plan : Plan) (clear : List (List ℕ)) (u : ℕ) → IsPlan plan → IsSendable plan.site clear →
     AreWholePackets clear → u < 2 ^ plan.site.height → are_steady clear ≡ true → list_any is_marked clear ≡ false →
-    tally_from (card_of plan.site.master plan.site.ca plan.site.height u) 0 [] (broadcast plan clear)
+    tally_from (site_card plan.site u) 0 [] (broadcast plan clear)
     ≡ record { marked = 0; doubled = 0; odd = 0; refused = 0; first = None }
 steady_tally plan clear u is all whole leaf steady none =
-    fine_tally (card_of plan.site.master plan.site.ca plan.site.height u) 0 [] (broadcast plan clear)
+    fine_tally (site_card plan.site u) 0 [] (broadcast plan clear)
     (whole_refused plan clear u is all whole leaf) (fine_broadcast plan clear u is all whole leaf steady none)
 
 -- the one line
 pub steady_line : (plan : Plan) (clear : List (List ℕ)) (u : ℕ) → IsPlan plan → IsSendable plan.site clear →
     AreWholePackets clear → u < 2 ^ plan.site.height → are_steady clear ≡ true → list_any is_marked clear ≡ false →
-    reports (card_of plan.site.master plan.site.ca plan.site.height u) (broadcast plan clear)
-    ≡ report_of (card_of plan.site.master plan.site.ca plan.site.height u) (broadcast plan clear) ∷ []
+    reports (site_card plan.site u) (broadcast plan clear)
+    ≡ report_of (site_card plan.site u) (broadcast plan clear) ∷ []
 unfolding reports
 steady_line plan clear u is all whole leaf steady none =
     ap (λ (these : List Report).
-    these ++ report_of (card_of plan.site.master plan.site.ca plan.site.height u) (broadcast plan clear) ∷ [])
-    (no_turns (card_of plan.site.master plan.site.ca plan.site.height u) [] [] (broadcast plan clear)
-    (ap reverse (nothing_counts (card_of plan.site.master plan.site.ca plan.site.height u) []))
+    these ++ report_of (site_card plan.site u) (broadcast plan clear) ∷ [])
+    (no_turns (site_card plan.site u) [] [] (broadcast plan clear)
+    (ap reverse (nothing_counts (site_card plan.site u) []))
     (whole_refused plan clear u is all whole leaf) (fine_broadcast plan clear u is all whole leaf steady none)
     (one_run (setting plan clear u) (laws_hold plan clear u is all whole leaf)
     (can_be_heard plan clear u is all whole)))

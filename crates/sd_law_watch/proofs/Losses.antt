@@ -1,12 +1,12 @@
 -- What is written of what counts of broadcasts.
 use Rattle.std.proofs.Common.{◌≡◌, ℕ, ◌<◌, ◌^◌, Bool, false, List, [], ◌∷◌, map, reverse, None, sym, ap, ◌∙◌}
-use Rattle.sd_site_cards.specs.CardFields.{CardFields, card_of}
+use Rattle.sd_site_cards.specs.CardFields.{CardFields}
 use Rattle.sd_spec.specs.Offered.{out_from, break_from}
 use Rattle.sd_spec.specs.Ending.{ending_of}
 use Rattle.sd_spec.specs.Counting.{counting}
 use Rattle.sd_spec.specs.Reports.{tally_from}
 use Rattle.sd_law_losses.specs.Chosen.{chosen}
-use Rattle.sd_law_losses.specs.Channel.{Arrival, Channel, AreRunsOf, arriving, all_sent}
+use Rattle.sd_law_losses.specs.Channel.{Arrival, Channel, AreRunsOf, arriving, all_sent, channel_card}
 use Rattle.sd_law_losses.specs.Many.{confirmed_from, opened_of_all}
 use Rattle.sd_law_losses.specs.Ends.{ending_of_all, whole_ending_of}
 use Rattle.sd_law_losses.specs.Together.{joined_to}
@@ -22,7 +22,7 @@ use Rattle.sd_law_watch.proofs.Unrefused.{none_refused}
 
 -- the card of a leaf
 abbrev pub card_for : Channel → ℕ → CardFields
-card_for channel u = card_of channel.master channel.ca channel.height u
+card_for channel u = channel_card channel u
 
 -- what counts, as broadcasts of which fewer packets arrive
 pub counted_of : CardFields → List Arrival → List Arrival
@@ -59,9 +59,9 @@ counted_out channel runs u are leaf =
 pub counts_as_fewer : (channel : Channel) (runs : List Arrival) (u : ℕ) → AreRunsOf channel runs →
     u < 2 ^ channel.height →
     (fewer : List Arrival) × AreFewerOf runs fewer
-    × (counting (card_of channel.master channel.ca channel.height u) [] (arriving runs) ≡ arriving fewer)
-    × (out_from (card_of channel.master channel.ca channel.height u) []
-    (counting (card_of channel.master channel.ca channel.height u) [] (arriving runs))
+    × (counting (channel_card channel u) [] (arriving runs) ≡ arriving fewer)
+    × (out_from (channel_card channel u) []
+    (counting (channel_card channel u) [] (arriving runs))
     ≡ confirmed_from false u fewer)
 counts_as_fewer channel runs u are leaf = (
   counted_of (card_for channel u) runs,
@@ -73,8 +73,8 @@ counts_as_fewer channel runs u are leaf = (
 pub true_packets : (channel : Channel) (runs : List Arrival) (u : ℕ) → AreRunsOf channel runs →
     u < 2 ^ channel.height →
     (parts : List Bool)
-    × (out_from (card_of channel.master channel.ca channel.height u) []
-    (counting (card_of channel.master channel.ca channel.height u) [] (arriving runs))
+    × (out_from (channel_card channel u) []
+    (counting (channel_card channel u) [] (arriving runs))
     ≡ chosen parts (opened_of_all u runs))
 true_packets channel runs u are leaf =
     let fewer : List Arrival = counted_of (card_for channel u) runs in
@@ -94,10 +94,10 @@ none_refused_of channel runs u are leaf flags =
 
 pub written_as_ever : (channel : Channel) (runs : List Arrival) (u : ℕ) → AreRunsOf channel runs →
     u < 2 ^ channel.height →
-    (tally_from (card_of channel.master channel.ca channel.height u) 0 [] (arriving runs)).marked ≡ 0 →
-    (tally_from (card_of channel.master channel.ca channel.height u) 0 [] (arriving runs)).doubled ≡ 0 →
-    out_from (card_of channel.master channel.ca channel.height u) []
-    (counting (card_of channel.master channel.ca channel.height u) [] (arriving runs))
+    (tally_from (channel_card channel u) 0 [] (arriving runs)).marked ≡ 0 →
+    (tally_from (channel_card channel u) 0 [] (arriving runs)).doubled ≡ 0 →
+    out_from (channel_card channel u) []
+    (counting (channel_card channel u) [] (arriving runs))
     ≡ confirmed_from false u runs
 written_as_ever channel runs u are leaf unmarked once =
     same_out (card_for channel u) (arriving runs) (none_refused_of channel runs u are leaf) unmarked once
@@ -105,10 +105,10 @@ written_as_ever channel runs u are leaf unmarked once =
 
 pub ends_as_ever : (channel : Channel) (runs : List Arrival) (u : ℕ) → AreRunsOf channel runs →
     u < 2 ^ channel.height →
-    (tally_from (card_of channel.master channel.ca channel.height u) 0 [] (arriving runs)).marked ≡ 0 →
-    (tally_from (card_of channel.master channel.ca channel.height u) 0 [] (arriving runs)).doubled ≡ 0 →
-    ending_of (card_of channel.master channel.ca channel.height u)
-    (reverse (counting (card_of channel.master channel.ca channel.height u) [] (arriving runs)))
+    (tally_from (channel_card channel u) 0 [] (arriving runs)).marked ≡ 0 →
+    (tally_from (channel_card channel u) 0 [] (arriving runs)).doubled ≡ 0 →
+    ending_of (channel_card channel u)
+    (reverse (counting (channel_card channel u) [] (arriving runs)))
     ≡ ending_of_all u runs
 ends_as_ever channel runs u are leaf unmarked once =
     same_ending (card_for channel u) (arriving runs) (none_refused_of channel runs u are leaf) unmarked once
@@ -116,7 +116,7 @@ ends_as_ever channel runs u are leaf unmarked once =
 
 pub none_is_refused : (channel : Channel) (runs : List Arrival) (u : ℕ) → AreRunsOf channel runs →
     u < 2 ^ channel.height →
-    (tally_from (card_of channel.master channel.ca channel.height u) 0 [] (arriving runs)).refused ≡ 0
+    (tally_from (channel_card channel u) 0 [] (arriving runs)).refused ≡ 0
 none_is_refused channel runs u are leaf =
     none_refused (card_for channel u) (arriving runs) (none_refused_of channel runs u are leaf)
 
@@ -130,10 +130,10 @@ whole_sound channel runs u are leaf flags =
 
 pub wholes_written : (channel : Channel) (runs : List Arrival) (u : ℕ) → AreRunsOf channel runs →
     u < 2 ^ channel.height →
-    (tally_from (card_of channel.master channel.ca channel.height u) 0 [] (all_sent runs)).marked ≡ 0 →
-    (tally_from (card_of channel.master channel.ca channel.height u) 0 [] (all_sent runs)).doubled ≡ 0 →
-    out_from (card_of channel.master channel.ca channel.height u) []
-    (counting (card_of channel.master channel.ca channel.height u) [] (all_sent runs))
+    (tally_from (channel_card channel u) 0 [] (all_sent runs)).marked ≡ 0 →
+    (tally_from (channel_card channel u) 0 [] (all_sent runs)).doubled ≡ 0 →
+    out_from (channel_card channel u) []
+    (counting (channel_card channel u) [] (all_sent runs))
     ≡ opened_of_all u runs
 wholes_written channel runs u are leaf unmarked once =
     same_out (card_for channel u) (all_sent runs) (whole_sound channel runs u are leaf) unmarked once
@@ -141,10 +141,10 @@ wholes_written channel runs u are leaf unmarked once =
 
 pub wholes_end : (channel : Channel) (run : Arrival) (runs : List Arrival) (u : ℕ) → AreRunsOf channel (run ∷ runs) →
     u < 2 ^ channel.height →
-    (tally_from (card_of channel.master channel.ca channel.height u) 0 [] (all_sent (run ∷ runs))).marked ≡ 0 →
-    (tally_from (card_of channel.master channel.ca channel.height u) 0 [] (all_sent (run ∷ runs))).doubled ≡ 0 →
-    ending_of (card_of channel.master channel.ca channel.height u)
-    (reverse (counting (card_of channel.master channel.ca channel.height u) [] (all_sent (run ∷ runs))))
+    (tally_from (channel_card channel u) 0 [] (all_sent (run ∷ runs))).marked ≡ 0 →
+    (tally_from (channel_card channel u) 0 [] (all_sent (run ∷ runs))).doubled ≡ 0 →
+    ending_of (channel_card channel u)
+    (reverse (counting (channel_card channel u) [] (all_sent (run ∷ runs))))
     ≡ joined_to Opened (map (whole_ending_of u) (run ∷ runs))
 wholes_end channel run runs u are leaf unmarked once =
     same_ending (card_for channel u) (all_sent (run ∷ runs)) (whole_sound channel (run ∷ runs) u are leaf) unmarked once

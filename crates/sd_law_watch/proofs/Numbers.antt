@@ -16,13 +16,13 @@ use Rattle.sd_message.specs.declared.stream_fault.StreamFault.{StreamFault}
 use Rattle.sd_message.specs.declared.stream_fault.StreamFault.TheVariants as Fault
 use Rattle.sd_spec.specs.Tuned.{tuning_of}
 use Rattle.sd_spec.specs.Heard.{Heard, Dropped, Entitles, Controls, BadEmm, BadEcm, Other, hears}
-use Rattle.sd_spec.specs.Stretches.{newest, completes, is_closed, run_to, current, seen}
+use Rattle.sd_spec.specs.Stretches.{newest_message, completes, is_closed, message_parts_to, current, sections_seen}
 use Rattle.sd_spec.specs.Runs.{is_turn, of_run}
 use Rattle.sd_spec.specs.Keys.{key_from, key_at}
-use Rattle.sd_spec.specs.Confirmed.{Wrote}
+use Rattle.sd_spec.specs.Confirmed.{WrittenPackets}
 use Rattle.sd_spec.specs.Offered.{heard, Offering, offered, tuned_offering, run_offering, heard_offering, emm_offering}
 use Rattle.sd_spec.specs.Offered.{key_offering, key_if_none, part_offering, part_fault, message_offering}
-use Rattle.sd_spec.specs.Offered.{stretch_wrote, word_fault, wrote_or, is_back, is_mixed, no_offering, refuses}
+use Rattle.sd_spec.specs.Offered.{stretch_wrote, word_fault, wrote_or, is_back, is_mixed, no_offering, refused_offering}
 use Rattle.sd_law_losses.proofs.NextLater.{thing_later, hears_later}
 
 -- two results: both are refused, or none is
@@ -38,8 +38,8 @@ alike_key : (n m : ℕ) (emm : Emm) (key : Option (List ℕ)) → AreAlike (key_
 alike_key n m emm None = refl
 alike_key n m emm (Some key) =
     alike_if (bytes_eq (check_value_of key) emm.check)
-    no_offering (refuses (Fault.WrongKey n emm.period (check_value_of key) emm.check))
-    no_offering (refuses (Fault.WrongKey m emm.period (check_value_of key) emm.check)) refl refl
+    no_offering (refused_offering (Fault.WrongKey n emm.period (check_value_of key) emm.check))
+    no_offering (refused_offering (Fault.WrongKey m emm.period (check_value_of key) emm.check)) refl refl
 
 alike_known : (n m : ℕ) (emm : Emm) (known found : Option (List ℕ)) →
     AreAlike (key_if_none n emm known found) (key_if_none m emm known found)
@@ -51,11 +51,11 @@ alike_emm : (card : CardFields) (n m : ℕ) (past : List Heard) (emm : Emm) →
 unfolding emm_offering
 alike_emm card n m past emm =
     let known : ℕ → Offering = λ k. key_if_none k emm (key_at card past emm.period) (key_from card emm) in
-    let mixed : ℕ → Offering = λ k. refuses (Fault.BadEmm k Emms.Mixed) in
+    let mixed : ℕ → Offering = λ k. refused_offering (Fault.BadEmm k Emms.Mixed) in
     alike_if (nat_lt emm.period (current past)) no_offering
-    (if is_mixed (seen emm.period past) emm then mixed n else known n) no_offering
-    (if is_mixed (seen emm.period past) emm then mixed m else known m) refl
-    (alike_if (is_mixed (seen emm.period past) emm) (mixed n) (known n) (mixed m) (known m) refl
+    (if is_mixed (sections_seen emm.period past) emm then mixed n else known n) no_offering
+    (if is_mixed (sections_seen emm.period past) emm then mixed m else known m) refl
+    (alike_if (is_mixed (sections_seen emm.period past) emm) (mixed n) (known n) (mixed m) (known m) refl
     (alike_known n m emm (key_at card past emm.period) (key_from card emm)))
 
 alike_word : (n m : ℕ) (b : Message) (key : Option (List ℕ)) →
@@ -71,7 +71,7 @@ alike_word n m b (Some key) =
     by_test true a c = refl
     by_test false a c = refl
 
-alike_wrote : (wrote : Wrote) (a b : Option StreamFault) → is_none a ≡ is_none b →
+alike_wrote : (wrote : WrittenPackets) (a b : Option StreamFault) → is_none a ≡ is_none b →
     AreAlike (wrote_or wrote a) (wrote_or wrote b)
 alike_wrote wrote a b same = by_refused wrote.refused
   where
@@ -85,10 +85,10 @@ alike_message : (card : CardFields) (tuning : Tuning) (n m : ℕ) (past : List H
     AreAlike (message_offering card tuning n past message) (message_offering card tuning m past message)
 alike_message card tuning n m past None = refl
 alike_message card tuning n m past (Some b) =
-    let wrote : Wrote = stretch_wrote card tuning (newest past) (newest past).message b in
+    let wrote : WrittenPackets = stretch_wrote card tuning (newest_message past) (newest_message past).message b in
     let fault : ℕ → Option StreamFault = λ k. word_fault k b (key_at card past b.period) in
-    alike_if (is_back past b) (refuses (Fault.BadEcm n Ecms.Back)) (wrote_or wrote (fault n))
-    (refuses (Fault.BadEcm m Ecms.Back)) (wrote_or wrote (fault m)) refl
+    alike_if (is_back past b) (refused_offering (Fault.BadEcm n Ecms.Back)) (wrote_or wrote (fault n))
+    (refused_offering (Fault.BadEcm m Ecms.Back)) (wrote_or wrote (fault m)) refl
     (alike_wrote wrote (fault n) (fault m) (alike_word n m b (key_at card past b.period)))
 
 alike_part : (n m : ℕ) (fault : Option EcmFault) (a b : Offering) → AreAlike a b →
@@ -102,7 +102,7 @@ alike_heard : (card : CardFields) (tuning : Tuning) (n m : ℕ) (past : List Hea
 alike_heard card tuning n m past Dropped = refl
 alike_heard card tuning n m past (Entitles emm) = alike_emm card n m past emm
 alike_heard card tuning n m past (Controls part) =
-    alike_part n m (part_fault (run_to (newest past) part))
+    alike_part n m (part_fault (message_parts_to (newest_message past) part))
     (message_offering card tuning n past (completes past (Controls part)))
     (message_offering card tuning m past (completes past (Controls part)))
     (alike_message card tuning n m past (completes past (Controls part)))

@@ -22,10 +22,10 @@ use Rattle.sd_message.specs.declared.stream_fault.StreamFault.{StreamFault}
 use Rattle.sd_message.specs.declared.stream_fault.StreamFault.TheVariants as Fault
 use Rattle.sd_spec.specs.Tuned.{tuning_of}
 use Rattle.sd_spec.specs.Heard.{Heard, Dropped, Entitles, Controls, BadEmm, BadEcm, Other, hears}
-use Rattle.sd_spec.specs.Stretches.{Stretch, newest, completes, is_closed, others, held_in, run_to, current, seen}
+use Rattle.sd_spec.specs.Stretches.{Stretch, newest_message, completes, is_closed, others, held_in, message_parts_to, current, sections_seen}
 use Rattle.sd_spec.specs.Runs.{is_turn, of_run}
 use Rattle.sd_spec.specs.Keys.{key_from, key_at}
-use Rattle.sd_spec.specs.Confirmed.{Segment, judged, is_foreign_under, is_confirmed, written_from, then_wrote}
+use Rattle.sd_spec.specs.Confirmed.{Segment, judged_packet, is_foreign_under, is_confirmed, written_from, then_segment_output}
 use Rattle.sd_spec.specs.Confirmed.{unmarked, tracked}
 use Rattle.sd_cipher.specs.Scrambling.{descrambled}
 use Rattle.sd_spec.specs.Offered.{heard, heard_with, heard_more, Offering, offered, tuned_offering, run_offering}
@@ -74,7 +74,7 @@ one_more message before after (Other n packet) none even =
 
 -- what isn't odd when it comes isn't odd once it is held
 even_held : (past : List Heard) (thing : Heard) (message : Message) → is_closed past ≡ false →
-    (newest past).message ≡ Some message → is_stray past thing ≡ false →
+    (newest_message past).message ≡ Some message → is_stray past thing ≡ false →
     list_any (is_odd_held message.word) (others (thing ∷ [])) ≡ false
 unfolding others is_stray
 even_held past Dropped message opened is even = refl
@@ -87,17 +87,17 @@ even_held past (Other n packet) message opened is even =
     ∙ (ap (λ (m : Option Message). is_scrambled_packet packet
     && option_map_or (λ (a : Message). is_foreign_under a.word packet) m false) (sym is)
     ∙ (ap (λ (closed : Bool). not closed && (is_scrambled_packet packet
-    && option_map_or (λ (a : Message). is_foreign_under a.word packet) (newest past).message false)) (sym opened)
+    && option_map_or (λ (a : Message). is_foreign_under a.word packet) (newest_message past).message false)) (sym opened)
     ∙ even))
 
 -- one thing more that isn't odd
-even_waits : (past : List Heard) (thing : Heard) (stretch : Stretch) → newest past ≡ stretch →
+even_waits : (past : List Heard) (thing : Heard) (stretch : Stretch) → newest_message past ≡ stretch →
     is_closed past ≡ false → is_stray past thing ≡ false → has_odd stretch ≡ false →
     has_odd (record { message = stretch.message; before = stretch.before; after = thing ∷ stretch.after }) ≡ false
 even_waits past thing stretch is opened even none =
     by_message stretch.message (ap (λ (s : Stretch). s.message) is) none
   where
-    by_message : (message : Option Message) → (newest past).message ≡ message →
+    by_message : (message : Option Message) → (newest_message past).message ≡ message →
         option_map_or (λ (m : Message). list_any (is_odd_held m.word) (held_in stretch)) message false ≡ false →
         option_map_or (λ (m : Message). list_any (is_odd_held m.word) (reverse (others (thing ∷ stretch.after))))
         message false ≡ false
@@ -110,17 +110,17 @@ even_next : (past : List Heard) (thing : Heard) → is_closed past ≡ false →
 unfolding holds_stray others
 even_next past thing opened even none = by_message (completes past thing) refl
   where
-    by_message : (message : Option Message) → completes past thing ≡ message → has_odd (newest (thing ∷ past)) ≡ false
+    by_message : (message : Option Message) → completes past thing ≡ message → has_odd (newest_message (thing ∷ past)) ≡ false
     by_message None waits =
-        ap has_odd (newest_waits past thing waits) ∙ even_waits past thing (newest past) refl opened even none
+        ap has_odd (newest_waits past thing waits) ∙ even_waits past thing (newest_message past) refl opened even none
     by_message (Some message) done = ap has_odd (newest_completes past thing message done)
 
 even_start : holds_stray [] ≡ false
-unfolding holds_stray newest
+unfolding holds_stray newest_message
 even_start = refl
 
 never_stray : (thing : Heard) → is_stray [] thing ≡ false
-unfolding is_stray is_closed newest
+unfolding is_stray is_closed newest_message
 never_stray Dropped = refl
 never_stray (Entitles emm) = refl
 never_stray (Controls part) = refl
@@ -197,8 +197,8 @@ nothing_odd card packets =
 -- so none of the held packets is refused
 judged_even : (segment : Segment) (before : List (List ℕ)) (held : ℕ × List ℕ) →
     is_odd_held segment.first.word held ≡ false →
-    (written : List (List ℕ)) × (judged segment before held ≡ Ok written)
-unfolding judged
+    (written : List (List ℕ)) × (judged_packet segment before held ≡ Ok written)
+unfolding judged_packet
 judged_even segment before held even =
     by_tests (scrambling_of held.1 == 0) (is_foreign_under segment.first.word held.1)
     (is_confirmed segment (pid_of held.1)) (unmarked segment held.1 ∷ [])
@@ -219,7 +219,7 @@ unrefused segment before [] even = refl
 unrefused segment before (one ∷ held) even =
     let parts = or_parts (is_odd_held segment.first.word one) (list_any (is_odd_held segment.first.word) held) even in
     let good = judged_even segment before one parts.0 in
-    ap (λ r. (then_wrote r (written_from segment (before ++ one.1 ∷ []) held)).refused) good.1
+    ap (λ r. (then_segment_output r (written_from segment (before ++ one.1 ∷ []) held)).refused) good.1
     ∙ unrefused segment (before ++ one.1 ∷ []) held parts.1
   where
     or_parts : (a b : Bool) → (a || b) ≡ false → (a ≡ false) × (b ≡ false)
@@ -285,8 +285,8 @@ no_parity_emm card n past emm =
     let known : Offering = key_if_none n emm (key_at card past emm.period) (key_from card emm) in
     let mixed : Offering = record { wrote = []; fault = Some (Fault.BadEmm n Emms.Mixed) } in
     if_no (nat_lt emm.period (current past)) (record { wrote = []; fault = None })
-    (if is_mixed (seen emm.period past) emm then mixed else known) tt
-    (if_no (is_mixed (seen emm.period past) emm) mixed known tt
+    (if is_mixed (sections_seen emm.period past) emm then mixed else known) tt
+    (if_no (is_mixed (sections_seen emm.period past) emm) mixed known tt
     (no_parity_known n emm (key_at card past emm.period) (key_from card emm)))
 
 no_parity_word : (n : ℕ) (b : Message) (key : Option (List ℕ)) → IsNoParity (word_fault n b key)
@@ -301,15 +301,15 @@ no_parity_wrote None fault none fine = fine
 no_parity_wrote (Some n) fault none fine = absurd (cc none)
 
 no_parity_message : (card : CardFields) (tuning : Tuning) (n : ℕ) (past : List Heard) (message : Option Message) →
-    has_odd (newest past) ≡ false → IsNoParity (message_offering card tuning n past message).fault
+    has_odd (newest_message past) ≡ false → IsNoParity (message_offering card tuning n past message).fault
 no_parity_message card tuning n past None even = tt
 no_parity_message card tuning n past (Some b) even =
     if_no (is_back past b) (record { wrote = []; fault = Some (Fault.BadEcm n Ecms.Back) })
-    (wrote_or (stretch_wrote card tuning (newest past) (newest past).message b)
+    (wrote_or (stretch_wrote card tuning (newest_message past) (newest_message past).message b)
     (word_fault n b (key_at card past b.period))) tt
-    (no_parity_wrote (stretch_wrote card tuning (newest past) (newest past).message b).refused
+    (no_parity_wrote (stretch_wrote card tuning (newest_message past) (newest_message past).message b).refused
     (word_fault n b (key_at card past b.period))
-    (wrote_unrefused card tuning (newest past) (newest past).message b even)
+    (wrote_unrefused card tuning (newest_message past) (newest_message past).message b even)
     (no_parity_word n b (key_at card past b.period)))
 
 no_parity_part : (n : ℕ) (fault : Option EcmFault) (next : Offering) → IsNoParity next.fault →
@@ -318,11 +318,11 @@ no_parity_part n None next fine = fine
 no_parity_part n (Some fault) next fine = tt
 
 no_parity_heard : (card : CardFields) (tuning : Tuning) (n : ℕ) (past : List Heard) (thing : Heard) →
-    has_odd (newest past) ≡ false → IsNoParity (heard_offering card tuning n past thing).fault
+    has_odd (newest_message past) ≡ false → IsNoParity (heard_offering card tuning n past thing).fault
 no_parity_heard card tuning n past Dropped even = tt
 no_parity_heard card tuning n past (Entitles emm) even = no_parity_emm card n past emm
 no_parity_heard card tuning n past (Controls part) even =
-    no_parity_part n (part_fault (run_to (newest past) part))
+    no_parity_part n (part_fault (message_parts_to (newest_message past) part))
     (message_offering card tuning n past (completes past (Controls part)))
     (no_parity_message card tuning n past (completes past (Controls part)) even)
 no_parity_heard card tuning n past (BadEmm fault) even = tt

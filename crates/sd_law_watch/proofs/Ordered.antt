@@ -10,7 +10,7 @@ use Rattle.sd_message.specs.EcmSpelled.{listed_places}
 use Rattle.sd_message.specs.EcmParts.{Message}
 use Rattle.sd_message.specs.declared.ecm_part.EcmPart.{EcmPart}
 use Rattle.sd_spec.specs.Heard.{Heard, Dropped, Entitles, Controls, BadEmm, BadEcm, Other}
-use Rattle.sd_spec.specs.Stretches.{Stretch, exceeds, counted, run_of, run_with, newest, completes, is_closed}
+use Rattle.sd_spec.specs.Stretches.{Stretch, exceeds, counted_parts, run_of_parts, message_parts_with, newest_message, completes, is_closed}
 use Rattle.sd_spec.specs.Runs.{is_turn, of_run}
 use Rattle.sd_spec.specs.Offered.{heard_more, same_header}
 use Rattle.sd_spec.specs.Counting.{is_equal_place, says_nothing_new, is_part_again}
@@ -79,8 +79,8 @@ AllParts a x [] = Unit {0}
 AllParts a x (part ∷ parts) = IsBefore a x part × AllParts a x parts
 
 counted_before : (a x : ℕ) (message : Option Message) (past : List Heard) → AreBefore a x past →
-    AllParts a x (counted message past)
-unfolding counted
+    AllParts a x (counted_parts message past)
+unfolding counted_parts
 counted_before a x message [] all = tt
 counted_before a x message (Dropped ∷ past) all = counted_before a x message past all
 counted_before a x message (Entitles emm ∷ past) all = counted_before a x message past all
@@ -92,8 +92,8 @@ counted_before a x message (BadEmm fault ∷ past) all = counted_before a x mess
 counted_before a x message (BadEcm fault ∷ past) all = counted_before a x message past all
 counted_before a x message (Other n packet ∷ past) all = counted_before a x message past all
 
-after_before : (a x : ℕ) (past : List Heard) → AreBefore a x past → AreBefore a x (newest past).after
-unfolding newest
+after_before : (a x : ℕ) (past : List Heard) → AreBefore a x past → AreBefore a x (newest_message past).after
+unfolding newest_message
 after_before a x [] all = tt
 after_before a x (thing ∷ past) all =
     by_message (completes past thing) refl (after_before a x past (rest thing all))
@@ -106,25 +106,25 @@ after_before a x (thing ∷ past) all =
     rest (BadEcm fault) all = all
     rest (Other n packet) all = all
 
-    by_message : (message : Option Message) → completes past thing ≡ message → AreBefore a x (newest past).after →
-        AreBefore a x (newest (thing ∷ past)).after
+    by_message : (message : Option Message) → completes past thing ≡ message → AreBefore a x (newest_message past).after →
+        AreBefore a x (newest_message (thing ∷ past)).after
     by_message None waits before =
         subst (λ (s : Stretch). AreBefore a x s.after) (sym (newest_waits past thing waits))
-        (onto_all a x thing past (newest past).after all before)
+        (onto_all a x thing past (newest_message past).after all before)
     by_message (Some message) done before =
         subst (λ (s : Stretch). AreBefore a x s.after) (sym (newest_completes past thing message done)) tt
 
 -- and so is the first of a run
 first_part : (part : EcmPart) (parts : List EcmPart) →
-    (run_of (part ∷ parts) ≡ []) ⊎ ((rest : List EcmPart) × (run_of (part ∷ parts) ≡ part ∷ rest))
-unfolding run_of
+    (run_of_parts (part ∷ parts) ≡ []) ⊎ ((rest : List EcmPart) × (run_of_parts (part ∷ parts) ≡ part ∷ rest))
+unfolding run_of_parts
 first_part part parts =
     tested (part.part == 0)
     (λ is. rw is (inr ([], refl)))
-    (λ is. rw is (by_run (run_of parts)))
+    (λ is. rw is (by_run (run_of_parts parts)))
   where
     by_run : (run : List EcmPart) →
-        (run_with part run ≡ []) ⊎ ((rest : List EcmPart) × (run_with part run ≡ part ∷ rest))
+        (message_parts_with part run ≡ []) ⊎ ((rest : List EcmPart) × (message_parts_with part run ≡ part ∷ rest))
     by_run [] = inl refl
     by_run (before ∷ run) = by_test ((before.number == part.number) && (before.part + 1 == part.part))
       where
@@ -161,8 +161,8 @@ new_part part last rest before =
     by_header true number = rw (far (number refl) before) refl
 
 by_parts : (part : EcmPart) (parts : List EcmPart) → AllParts part.number part.part parts →
-    says_nothing_new part (run_of parts) ≡ false
-unfolding run_of
+    says_nothing_new part (run_of_parts parts) ≡ false
+unfolding run_of_parts
 by_parts part [] all = refl
 by_parts part (last ∷ parts) all = elim (first_part last parts) [
   | inl none ↦ ap (says_nothing_new part) none
@@ -174,6 +174,6 @@ pub never_again : (past : List Heard) (part : EcmPart) → AreBefore part.number
     is_part_again past (Controls part) ≡ false
 unfolding is_part_again
 never_again past part all =
-    by_parts part (counted (newest past).message (newest past).after)
-    (counted_before part.number part.part (newest past).message (newest past).after
+    by_parts part (counted_parts (newest_message past).message (newest_message past).after)
+    (counted_before part.number part.part (newest_message past).message (newest_message past).after
     (after_before part.number part.part past all))

@@ -13,9 +13,9 @@ use Rattle.sd_message.specs.EcmParts.{parts_of}
 use Rattle.sd_message.specs.declared.ecm_part.EcmPart.{EcmPart}
 use Rattle.sd_spec.specs.Plan.{closing_number, word_of, since_of}
 use Rattle.sd_spec.specs.Sent.{Item, Cat, Entitles, Controls, Carries, sent, closing_of, broadcast, packets_from}
-use Rattle.sd_spec.specs.Sent.{is_cat_item, tables_before, packet_of}
+use Rattle.sd_spec.specs.Sent.{is_cat_item, tables_before, item_packet}
 use Rattle.sd_spec.specs.Offered.{heard}
-use Rattle.sd_spec.specs.Stretches.{newest}
+use Rattle.sd_spec.specs.Stretches.{newest_message}
 use Rattle.sd_spec.proofs.Schedule.{closing_needed, same_word}
 use Rattle.sd_law_losses.specs.Chosen.{chosen}
 use Rattle.sd_law_losses.specs.Kept.{after_cat, has_parts, has_arrived}
@@ -45,7 +45,7 @@ first_packets : (s : Setting) (earlier xs ys : List Item) →
 unfolding chosen packets_from
 first_packets s earlier [] ys = refl
 first_packets s earlier (x ∷ xs) ys =
-    ap (λ (zs : List (List ℕ)). packet_of s.plan.site earlier x ∷ zs) (first_packets s (earlier ++ x ∷ []) xs ys)
+    ap (λ (zs : List (List ℕ)). item_packet s.plan.site earlier x ∷ zs) (first_packets s (earlier ++ x ∷ []) xs ys)
 
 -- the packets of these things, the newest first
 abbrev pub past_of : Setting → List Item → List (List ℕ)
@@ -98,7 +98,7 @@ last_known s n a kept (Some c) is there none = elim (cases_order a c) [
 -- a receiver is tuned, and the newest message is this one
 pub record StandsAt (s : Setting) (past : List (List ℕ)) (a : ℕ) : Type 0 where
   pub tuned : IsTuned s past
-  pub message : (newest (heard s.card past)).message ≡ Some (told_by s a)
+  pub message : (newest_message (heard s.card past)).message ≡ Some (told_by s a)
 
 by_last : (s : Setting) (a : ℕ) (kept : List Item) (past : List (List ℕ)) → StandsEnded s kept past →
     has_arrived kept a ≡ true → ((b : ℕ) → a < b → has_arrived kept b ≡ false) → StandsAt s past a

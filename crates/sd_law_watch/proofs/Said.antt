@@ -9,10 +9,10 @@ use Rattle.sd_message.specs.declared.emm.Emm.{Emm}
 use Rattle.sd_message.specs.EcmParts.{Message}
 use Rattle.sd_message.specs.declared.ecm_part.EcmPart.{EcmPart}
 use Rattle.sd_spec.specs.Heard.{Heard, Dropped, Entitles, Controls, BadEmm, BadEcm, Other}
-use Rattle.sd_spec.specs.Stretches.{Stretch, exceeds, counted, run_of, message_told, run_to, completed, stretched}
-use Rattle.sd_spec.specs.Stretches.{newest}
-use Rattle.sd_spec.specs.Stretches.{completes, messages, with_message, is_closed, period_heard, current, seen}
-use Rattle.sd_spec.specs.Runs.{run_name_heard, name_in, are_two, is_turn}
+use Rattle.sd_spec.specs.Stretches.{Stretch, exceeds, counted_parts, run_of_parts, message_told, message_parts_to, completed, stretch_after}
+use Rattle.sd_spec.specs.Stretches.{newest_message}
+use Rattle.sd_spec.specs.Stretches.{completes, messages, with_message, is_closed, period_heard, current, sections_seen}
+use Rattle.sd_spec.specs.Runs.{run_name_heard, run_name_in, are_two, is_turn}
 use Rattle.sd_spec.specs.Keys.{key_in, key_at}
 use Rattle.sd_spec.specs.Ending.{periods_told, is_unkeyed, is_all_seen, are_all, closed_ending, run_ending}
 use Rattle.sd_spec.specs.declared.ending.Ending.{Ending}
@@ -37,8 +37,8 @@ stretch_said stretch = record {
 }
 
 -- the names of runs
-pub names_said : (past : List Heard) → name_in (said past) ≡ name_in past
-unfolding name_in
+pub names_said : (past : List Heard) → run_name_in (said past) ≡ run_name_in past
+unfolding run_name_in
 names_said [] = refl
 names_said (Dropped ∷ past) = names_said past
 names_said (Entitles emm ∷ past) = refl
@@ -53,8 +53,8 @@ turn_said past thing =
     ap (λ (name : Option (Option ℕ)). are_two name (run_name_heard thing)) (names_said past)
 
 -- control messages
-counted_said : (message : Option Message) (past : List Heard) → counted message (said past) ≡ counted message past
-unfolding counted
+counted_said : (message : Option Message) (past : List Heard) → counted_parts message (said past) ≡ counted_parts message past
+unfolding counted_parts
 counted_said message [] = refl
 counted_said message (Dropped ∷ past) = counted_said message past
 counted_said message (Entitles emm ∷ past) = counted_said message past
@@ -64,10 +64,10 @@ counted_said message (BadEmm fault ∷ past) = counted_said message past
 counted_said message (BadEcm fault ∷ past) = counted_said message past
 counted_said message (Other n packet ∷ past) = counted_said message past
 
-pub run_to_said : (stretch : Stretch) (part : EcmPart) → run_to (stretch_said stretch) part ≡ run_to stretch part
-unfolding run_to
+pub run_to_said : (stretch : Stretch) (part : EcmPart) → message_parts_to (stretch_said stretch) part ≡ message_parts_to stretch part
+unfolding message_parts_to
 run_to_said stretch part =
-    ap (λ (parts : List EcmPart). if exceeds stretch.message part then run_of (part ∷ parts) else [])
+    ap (λ (parts : List EcmPart). if exceeds stretch.message part then run_of_parts (part ∷ parts) else [])
     (counted_said stretch.message stretch.after)
 
 completed_said : (stretch : Stretch) (thing : Heard) → completed (stretch_said stretch) thing ≡ completed stretch thing
@@ -83,7 +83,7 @@ completed_said stretch (Other n packet) = refl
 -- a thing more of a message
 stretched_said : (past : List Heard) (stretch : Stretch) (thing : Heard) (message : Option Message) →
     said (thing ∷ stretch.after) ≡ thing ∷ said stretch.after →
-    stretched (said past) (stretch_said stretch) thing message ≡ stretch_said (stretched past stretch thing message)
+    stretch_after (said past) (stretch_said stretch) thing message ≡ stretch_said (stretch_after past stretch thing message)
 stretched_said past stretch thing None speaks =
     ap {B = Stretch} (λ (after : List Heard). record {
       message = stretch.message;
@@ -92,17 +92,17 @@ stretched_said past stretch thing None speaks =
     }) (sym speaks)
 stretched_said past stretch thing (Some message) speaks = refl
 
-more_said : (past : List Heard) (thing : Heard) → newest (said past) ≡ stretch_said (newest past) →
-    said (thing ∷ (newest past).after) ≡ thing ∷ said (newest past).after →
-    newest (thing ∷ said past) ≡ stretch_said (newest (thing ∷ past))
-unfolding newest
+more_said : (past : List Heard) (thing : Heard) → newest_message (said past) ≡ stretch_said (newest_message past) →
+    said (thing ∷ (newest_message past).after) ≡ thing ∷ said (newest_message past).after →
+    newest_message (thing ∷ said past) ≡ stretch_said (newest_message (thing ∷ past))
+unfolding newest_message
 more_said past thing before speaks =
-    ap (λ (stretch : Stretch). stretched (said past) stretch thing (completed stretch thing)) before
-    ∙ (ap (stretched (said past) (stretch_said (newest past)) thing) (completed_said (newest past) thing)
-    ∙ stretched_said past (newest past) thing (completed (newest past) thing) speaks)
+    ap (λ (stretch : Stretch). stretch_after (said past) stretch thing (completed stretch thing)) before
+    ∙ (ap (stretch_after (said past) (stretch_said (newest_message past)) thing) (completed_said (newest_message past) thing)
+    ∙ stretched_said past (newest_message past) thing (completed (newest_message past) thing) speaks)
 
-pub newest_said : (past : List Heard) → newest (said past) ≡ stretch_said (newest past)
-unfolding newest
+pub newest_said : (past : List Heard) → newest_message (said past) ≡ stretch_said (newest_message past)
+unfolding newest_message
 newest_said [] = refl
 newest_said (Dropped ∷ past) = newest_said past
 newest_said (Entitles emm ∷ past) = more_said past (Entitles emm) (newest_said past) refl
@@ -113,7 +113,7 @@ newest_said (Other n packet ∷ past) = newest_said past
 
 pub completes_said : (past : List Heard) (thing : Heard) → completes (said past) thing ≡ completes past thing
 completes_said past thing =
-    ap (λ (stretch : Stretch). completed stretch thing) (newest_said past) ∙ completed_said (newest past) thing
+    ap (λ (stretch : Stretch). completed stretch thing) (newest_said past) ∙ completed_said (newest_message past) thing
 
 messages_more : (past : List Heard) (thing : Heard) → messages (said past) ≡ messages past →
     messages (thing ∷ said past) ≡ messages (thing ∷ past)
@@ -181,14 +181,14 @@ current_said (BadEmm fault ∷ past) = current_more past (BadEmm fault) (current
 current_said (BadEcm fault ∷ past) = current_more past (BadEcm fault) (current_said past)
 current_said (Other n packet ∷ past) = current_said past ∙ none_above (current past)
 
-pub seen_said : (q : ℕ) (past : List Heard) → seen q (said past) ≡ seen q past
-unfolding seen
+pub seen_said : (q : ℕ) (past : List Heard) → sections_seen q (said past) ≡ sections_seen q past
+unfolding sections_seen
 seen_said q [] = refl
 seen_said q (Dropped ∷ past) = seen_said q past
 seen_said q (Entitles emm ∷ past) =
     ap (λ (sections : List Emm). if (emm.period == q) && nat_le (current (said past)) q
     then emm ∷ sections else sections) (seen_said q past)
-    ∙ ap (λ (now : ℕ). if (emm.period == q) && nat_le now q then emm ∷ seen q past else seen q past)
+    ∙ ap (λ (now : ℕ). if (emm.period == q) && nat_le now q then emm ∷ sections_seen q past else sections_seen q past)
     (current_said past)
 seen_said q (Controls part ∷ past) = seen_said q past
 seen_said q (BadEmm fault ∷ past) = seen_said q past
@@ -219,13 +219,13 @@ closed_ending_said : (written : ℕ) (card : CardFields) (past : List Heard) →
     closed_ending card (said past) written ≡ closed_ending card past written
 closed_ending_said written card past =
     ap (λ (told : List ℕ). closed_with (find (λ q. is_unkeyed card (said past) q && is_all_seen (said past) q) told)
-    (find (is_unkeyed card (said past)) told) (newest (said past)) written) (periods_said past)
+    (find (is_unkeyed card (said past)) told) (newest_message (said past)) written) (periods_said past)
     ∙ (ap (λ (revoked : Option ℕ). closed_with revoked (find (is_unkeyed card (said past)) (periods_told past))
-    (newest (said past)) written)
+    (newest_message (said past)) written)
     (find_same (λ q. is_unkeyed card (said past) q && is_all_seen (said past) q)
     (λ q. is_unkeyed card past q && is_all_seen past q) (revoked_said card past) (periods_told past))
     ∙ (ap (λ (unheard : Option ℕ). closed_with
-    (find (λ q. is_unkeyed card past q && is_all_seen past q) (periods_told past)) unheard (newest (said past)) written)
+    (find (λ q. is_unkeyed card past q && is_all_seen past q) (periods_told past)) unheard (newest_message (said past)) written)
     (find_same (is_unkeyed card (said past)) (is_unkeyed card past) (unkeyed_said card past) (periods_told past))
     ∙ ap (λ (stretch : Stretch). closed_with
     (find (λ q. is_unkeyed card past q && is_all_seen past q) (periods_told past))
@@ -236,9 +236,9 @@ pub ending_said : (written : ℕ) (card : CardFields) (past : List Heard) →
 unfolding run_ending
 ending_said written card past =
     ap (λ (closed : Bool). if closed then closed_ending card (said past) written
-    else Unclosed (option_map_or (λ (m : Message). m.number + 1) (newest (said past)).message 0)) (closed_said past)
+    else Unclosed (option_map_or (λ (m : Message). m.number + 1) (newest_message (said past)).message 0)) (closed_said past)
     ∙ (ap (λ (ending : Ending). if is_closed past then ending
-    else Unclosed (option_map_or (λ (m : Message). m.number + 1) (newest (said past)).message 0))
+    else Unclosed (option_map_or (λ (m : Message). m.number + 1) (newest_message (said past)).message 0))
     (closed_ending_said written card past)
     ∙ ap (λ (stretch : Stretch). if is_closed past then closed_ending card past written
     else Unclosed (option_map_or (λ (m : Message). m.number + 1) stretch.message 0)) (newest_said past))

@@ -18,7 +18,7 @@ use Rattle.sd_message.specs.declared.ecm_part.EcmPart.{EcmPart}
 use Rattle.sd_spec.specs.Tuned.{tuning_of}
 use Rattle.sd_spec.specs.Heard.{Heard, hears}
 use Rattle.sd_spec.specs.Offered.{heard, heard_more, offered, break_from}
-use Rattle.sd_spec.specs.Sent.{Item, Cat, Entitles, Controls, Carries, is_cat_item, packet_of, packets_from}
+use Rattle.sd_spec.specs.Sent.{Item, Cat, Entitles, Controls, Carries, is_cat_item, item_packet, packets_from}
 use Rattle.sd_spec.specs.Items.{IsOfBroadcast}
 use Rattle.sd_spec.specs.Counting.{is_marked, is_scrambled_packet, is_copy, is_part_again, is_doubled, is_stray}
 use Rattle.sd_spec.specs.Counting.{is_stray_at, counting}
@@ -154,32 +154,32 @@ pub parts_on : (s : Setting) (able : AreHearable s) (past : List (List ℕ)) (ea
     (a x : ℕ) →
     IsOfBroadcast s.plan s.clear item → Tunes s past → AreBefore a x (heard_as (length past) item ∷ []) →
     AreBefore a x (heard s.card past) →
-    AreBefore a x (heard s.card (packet_of s.plan.site earlier item ∷ past))
+    AreBefore a x (heard s.card (item_packet s.plan.site earlier item ∷ past))
 parts_on s able past earlier item a x of' (inl tuned) one all =
     subst (AreBefore a x)
-    (sym (heard_by s.card (tuning_at s) past (packet_of s.plan.site earlier item) tuned
+    (sym (heard_by s.card (tuning_at s) past (item_packet s.plan.site earlier item) tuned
     ∙ ap (heard_more (heard s.card past)) (able.heard_is (length past) earlier item of')))
     (all_more a x (heard s.card past) (heard_as (length past) item) one all)
 parts_on s able past earlier item a x of' (inr untuned) one all =
     subst (AreBefore a x)
-    (sym (unheard_more s.card past (packet_of s.plan.site earlier item) untuned.0 ∙ untuned.1)) tt
+    (sym (unheard_more s.card past (item_packet s.plan.site earlier item) untuned.0 ∙ untuned.1)) tt
 
 pub tunes_on : (s : Setting) (able : AreHearable s) (past : List (List ℕ)) (earlier : List Item) (item : Item) →
-    IsOfBroadcast s.plan s.clear item → Tunes s past → Tunes s (packet_of s.plan.site earlier item ∷ past)
+    IsOfBroadcast s.plan s.clear item → Tunes s past → Tunes s (item_packet s.plan.site earlier item ∷ past)
 tunes_on s able past earlier item of' (inl tuned) =
-    inl (tuned_more s.card (tuning_at s) past (packet_of s.plan.site earlier item) tuned)
+    inl (tuned_more s.card (tuning_at s) past (item_packet s.plan.site earlier item) tuned)
 tunes_on s able past earlier item of' (inr untuned) = by_item item of'
   where
     still : (it : Item) → IsOfBroadcast s.plan s.clear it → is_cat_item it ≡ false →
-        Tunes s (packet_of s.plan.site earlier it ∷ past)
+        Tunes s (item_packet s.plan.site earlier it ∷ past)
     still it of' other = inr (
-      tuned_now s.card past (packet_of s.plan.site earlier it) untuned.0 ∙ able.untuned earlier it of' other,
-      unheard_more s.card past (packet_of s.plan.site earlier it) untuned.0 ∙ untuned.1,
+      tuned_now s.card past (item_packet s.plan.site earlier it) untuned.0 ∙ able.untuned earlier it of' other,
+      unheard_more s.card past (item_packet s.plan.site earlier it) untuned.0 ∙ untuned.1,
     )
 
-    by_item : (it : Item) → IsOfBroadcast s.plan s.clear it → Tunes s (packet_of s.plan.site earlier it ∷ past)
+    by_item : (it : Item) → IsOfBroadcast s.plan s.clear it → Tunes s (item_packet s.plan.site earlier it ∷ past)
     by_item Cat of' =
-        inl (tuned_now s.card past (packet_of s.plan.site earlier Cat) untuned.0 ∙ able.tuning earlier)
+        inl (tuned_now s.card past (item_packet s.plan.site earlier Cat) untuned.0 ∙ able.tuning earlier)
     by_item (Entitles emm) of' = still (Entitles emm) of' refl
     by_item (Controls part) of' = still (Controls part) of' refl
     by_item (Carries j packet) of' = still (Carries j packet) of' refl
@@ -224,8 +224,8 @@ unfolding packets_from
 goes_none s earlier past scrambled a x steady = record { fine = tt; steady = steady }
 
 pub goes_one : (s : Setting) (earlier : List Item) (item : Item) (items : List Item) (past scrambled : List (List ℕ))
-    (a x : ℕ) → Fine s.card past (packet_of s.plan.site earlier item) →
-    Goes s (earlier ++ item ∷ []) items (packet_of s.plan.site earlier item ∷ past) scrambled a x →
+    (a x : ℕ) → Fine s.card past (item_packet s.plan.site earlier item) →
+    Goes s (earlier ++ item ∷ []) items (item_packet s.plan.site earlier item ∷ past) scrambled a x →
     Goes s earlier (item ∷ items) past scrambled a x
 unfolding packets_from
 goes_one s earlier item items past scrambled a x fine rest =
@@ -240,12 +240,12 @@ AreTables (Controls part ∷ items) = ⊥
 AreTables (Carries j packet ∷ items) = ⊥
 
 plain_step : (s : Setting) (able : AreHearable s) (past scrambled : List (List ℕ)) (earlier : List Item) (item : Item)
-    (a x : ℕ) → IsOfBroadcast s.plan s.clear item → IsPlain (packet_of s.plan.site earlier item) →
+    (a x : ℕ) → IsOfBroadcast s.plan s.clear item → IsPlain (item_packet s.plan.site earlier item) →
     is_part_again (heard s.card past) (heard_as (length past) item) ≡ false →
     is_stray (heard s.card past) (heard_as (length past) item) ≡ false →
-    Steady s past scrambled a x → Fine s.card past (packet_of s.plan.site earlier item)
+    Steady s past scrambled a x → Fine s.card past (item_packet s.plan.site earlier item)
 plain_step s able past scrambled earlier item a x of' plain again stray steady =
-    let packet : List ℕ = packet_of s.plan.site earlier item in
+    let packet : List ℕ = item_packet s.plan.site earlier item in
     let is = able.heard_is (length past) earlier item of' in
     record {
       unmarked = plain_unmarked packet plain;
@@ -256,14 +256,14 @@ plain_step s able past scrambled earlier item a x of' plain again stray steady =
 
 steady_on : (s : Setting) (able : AreHearable s) (past scrambled : List (List ℕ)) (earlier : List Item) (item : Item)
     (a x b y : ℕ) → IsOfBroadcast s.plan s.clear item →
-    is_scrambled_packet (packet_of s.plan.site earlier item) ≡ false → (a < b) ⊎ ((a ≡ b) × (x ≤ y)) →
+    is_scrambled_packet (item_packet s.plan.site earlier item) ≡ false → (a < b) ⊎ ((a ≡ b) × (x ≤ y)) →
     AreBefore b y (heard_as (length past) item ∷ []) → Steady s past scrambled a x →
-    Steady s (packet_of s.plan.site earlier item ∷ past) scrambled b y
+    Steady s (item_packet s.plan.site earlier item ∷ past) scrambled b y
 steady_on s able past scrambled earlier item a x b y of' clear up one steady =
     let next = steady_upto s past scrambled a x b y up steady in
     record {
       tuned = tunes_on s able past earlier item of' steady.tuned;
-      like = like_on past scrambled (packet_of s.plan.site earlier item) clear steady.like;
+      like = like_on past scrambled (item_packet s.plan.site earlier item) clear steady.like;
       parts = parts_on s able past earlier item b y of' steady.tuned one next.parts;
     }
 
@@ -274,8 +274,8 @@ unfolding is_part_again is_stray
 tables_go s laws able [] earlier past scrambled a x all are steady = goes_none s earlier past scrambled a x steady
 tables_go s laws able (Cat ∷ items) earlier past scrambled a x all are steady =
     let of' = All-head (IsOfBroadcast s.plan s.clear) Cat items all in
-    let plain : IsPlain (packet_of s.plan.site earlier Cat) = packed_plain _ 1 _ (omega arith) in
-    let packet : List ℕ = packet_of s.plan.site earlier Cat in
+    let plain : IsPlain (item_packet s.plan.site earlier Cat) = packed_plain _ 1 _ (omega arith) in
+    let packet : List ℕ = item_packet s.plan.site earlier Cat in
     goes_one s earlier Cat items past scrambled a x
     (plain_step s able past scrambled earlier Cat a x of' plain refl refl steady)
     (tables_go s laws able items (earlier ++ Cat ∷ []) (packet ∷ past) scrambled a x
@@ -284,9 +284,9 @@ tables_go s laws able (Cat ∷ items) earlier past scrambled a x all are steady 
     steady))
 tables_go s laws able (Entitles emm ∷ items) earlier past scrambled a x all are steady =
     let of' = All-head (IsOfBroadcast s.plan s.clear) (Entitles emm) items all in
-    let plain : IsPlain (packet_of s.plan.site earlier (Entitles emm)) =
+    let plain : IsPlain (item_packet s.plan.site earlier (Entitles emm)) =
     packed_plain _ s.plan.site.emm _ (omega (arith, laws.range.emm.1)) in
-    let packet : List ℕ = packet_of s.plan.site earlier (Entitles emm) in
+    let packet : List ℕ = item_packet s.plan.site earlier (Entitles emm) in
     goes_one s earlier (Entitles emm) items past scrambled a x
     (plain_step s able past scrambled earlier (Entitles emm) a x of' plain refl refl steady)
     (tables_go s laws able items (earlier ++ Entitles emm ∷ []) (packet ∷ past) scrambled a x
@@ -308,9 +308,9 @@ parts_go s laws able message prior [] earlier past scrambled are all steady =
     (steady_upto s past scrambled message.number (length prior) (message.number + 1) 0 (inl (omega arith)) steady)
 parts_go s laws able message prior (part ∷ rest) earlier past scrambled are all steady =
     let of' = All-head (IsOfBroadcast s.plan s.clear) (Controls part) (map Controls rest) all in
-    let plain : IsPlain (packet_of s.plan.site earlier (Controls part)) =
+    let plain : IsPlain (item_packet s.plan.site earlier (Controls part)) =
     packed_plain _ s.plan.site.ecm _ (omega (arith, laws.range.ecm.1)) in
-    let packet : List ℕ = packet_of s.plan.site earlier (Controls part) in
+    let packet : List ℕ = item_packet s.plan.site earlier (Controls part) in
     let before : AreBefore part.number part.part (heard s.card past) =
     all_upto message.number (length prior) part.number part.part (heard s.card past)
     (inr (sym are.0.number, omega (arith, are.0.place))) steady.parts in

@@ -10,7 +10,7 @@ use Rattle.sd_spec.specs.Tuned.{tuning_of}
 use Rattle.sd_spec.specs.Offered.{heard, offered, tuned_offering}
 use Rattle.sd_spec.specs.Taken.{takes_key_at, taken_keys}
 use Rattle.sd_spec.specs.Counting.{is_marked, is_doubled, is_stray_at, counts, counting, tried_keys}
-use Rattle.sd_spec.specs.Reports.{tally_from, one_marked, one_doubled, one_odd, refused_or}
+use Rattle.sd_spec.specs.Reports.{tally_from, tally_marked, one_doubled, one_odd, refused_or}
 use Rattle.sd_law_watch.specs.Tried.{is_refused, refused_keys}
 use Rattle.sd_law_watch.proofs.Numbers.{refused_alike}
 
@@ -69,7 +69,7 @@ few_by : (marked doubled odd takes : Bool) (fault : Option StreamFault) (counted
     uncounted ≤ o.refused → uncounted ≤ u.refused →
     (if ((not marked && (not doubled && (not odd && not (is_none fault)))) && takes) then 1 else 0)
     + (if (not marked && (not doubled && (not odd && is_none fault))) then counted else uncounted)
-    ≤ (if marked then one_marked m else if doubled then one_doubled d else if odd then one_odd o
+    ≤ (if marked then tally_marked m else if doubled then one_doubled d else if odd then one_odd o
     else refused_or fault c u).refused
 few_by true doubled odd takes fault counted uncounted m d o c u a b e f g = omega (arith, b)
 few_by false true odd takes fault counted uncounted m d o c u a b e f g = omega (arith, e)

@@ -10,7 +10,7 @@ use Rattle.sd_spec.specs.Tuned.{tuning_of}
 use Rattle.sd_spec.specs.Offered.{heard, offered, tuned_offering, break_from}
 use Rattle.sd_spec.specs.Taken.{takes_key_at, taken_keys}
 use Rattle.sd_spec.specs.Counting.{is_marked, is_doubled, is_stray_at, counts, counting, tried_keys}
-use Rattle.sd_spec.specs.Reports.{tally_from, one_marked, one_doubled, one_odd, refused_or}
+use Rattle.sd_spec.specs.Reports.{tally_from, tally_marked, one_doubled, one_odd, refused_or}
 use Rattle.sd_law_losses.specs.Chosen.{chosen}
 use Rattle.sd_law_watch.specs.Tried.{is_refused, refused_keys}
 use Rattle.sd_law_watch.proofs.Going.{IsSound, sound_here, sound_without, fault_at}
@@ -18,7 +18,7 @@ use Rattle.sd_law_watch.proofs.Trying.{tried_are}
 
 refused_by : (marked doubled odd : Bool) (fault : Option StreamFault) (m d o counted refused : Tally) →
     fault ≡ None → m.refused ≡ 0 → d.refused ≡ 0 → o.refused ≡ 0 → counted.refused ≡ 0 →
-    (if marked then one_marked m else if doubled then one_doubled d else if odd then one_odd o
+    (if marked then tally_marked m else if doubled then one_doubled d else if odd then one_odd o
     else refused_or fault counted refused).refused ≡ 0
 refused_by true doubled odd fault m d o counted refused none a b c e = a
 refused_by false true odd fault m d o counted refused none a b c e = b

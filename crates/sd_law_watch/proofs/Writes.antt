@@ -20,13 +20,13 @@ use Rattle.sd_message.specs.declared.ecm_fault.EcmFault.TheVariants as Ecms
 use Rattle.sd_message.specs.declared.stream_fault.StreamFault.{StreamFault}
 use Rattle.sd_message.specs.declared.stream_fault.StreamFault.TheVariants as Fault
 use Rattle.sd_spec.specs.Heard.{Heard, Entitles, Controls, BadEmm, BadEcm}
-use Rattle.sd_spec.specs.Stretches.{Stretch, newest, completes, is_closed, others, run_to, current, seen}
+use Rattle.sd_spec.specs.Stretches.{Stretch, newest_message, completes, is_closed, others, message_parts_to, current, sections_seen}
 use Rattle.sd_spec.specs.Runs.{of_run}
 use Rattle.sd_spec.specs.Keys.{key_at, key_from}
-use Rattle.sd_spec.specs.Confirmed.{Segment, Wrote, judged, is_foreign_under, written_from, then_wrote}
+use Rattle.sd_spec.specs.Confirmed.{Segment, WrittenPackets, judged_packet, is_foreign_under, written_from, then_segment_output}
 use Rattle.sd_spec.specs.Offered.{Offering, run_offering, heard_offering, part_offering, part_fault, is_mixed}
 use Rattle.sd_spec.specs.Offered.{message_offering, stretch_wrote, segment_wrote, wrote_or, word_fault, is_back}
-use Rattle.sd_spec.specs.Offered.{emm_offering, key_offering, key_if_none, no_offering, refuses, most_held}
+use Rattle.sd_spec.specs.Offered.{emm_offering, key_offering, key_if_none, no_offering, refused_offering, most_held}
 use Rattle.sd_spec.specs.Counting.{is_scrambled_packet}
 use Rattle.sd_law_watch.proofs.Odd.{is_odd_held}
 use Rattle.sd_law_watch.proofs.Held.{segment_same}
@@ -34,10 +34,10 @@ use Rattle.sd_law_watch.proofs.Alike.{Like, HoldSame, HoldsOdd, like_run, messag
 use Rattle.sd_law_watch.proofs.Alike.{closed_same, completes_same, run_to_same, back_same}
 
 -- the odd packet is refused
-odd_first : (segment : Segment) (before : List (List ℕ)) (n : ℕ) (packet : List ℕ) (rest : Wrote) →
+odd_first : (segment : Segment) (before : List (List ℕ)) (n : ℕ) (packet : List ℕ) (rest : WrittenPackets) →
     is_odd_held segment.first.word (n, packet) ≡ true →
-    (then_wrote (judged segment before (n, packet)) rest).refused ≡ Some n
-unfolding judged
+    (then_segment_output (judged_packet segment before (n, packet)) rest).refused ≡ Some n
+unfolding judged_packet
 odd_first segment before n packet rest odd =
     let parts = and_parts (is_scrambled_packet packet) (is_foreign_under segment.first.word packet) odd in
     rw (not-true (scrambling_of packet == 0) parts.0) (rw (parts.1) refl)
@@ -73,71 +73,71 @@ odd_refused card tuning stretch a b key n packet alone odd =
 
 -- between two messages
 keyed_same : (card : CardFields) (tuning : Tuning) (all counted bare : List Heard) (f m : Message)
-    (key : Option (List ℕ)) → HoldSame all counted bare ⊎ HoldsOdd all bare → (newest all).message ≡ Some f →
-    (segment_wrote card tuning (newest bare) f m key).refused ≡ None →
-    (segment_wrote card tuning (newest all) f m key).packets
-    ≡ (segment_wrote card tuning (newest counted) f m key).packets
+    (key : Option (List ℕ)) → HoldSame all counted bare ⊎ HoldsOdd all bare → (newest_message all).message ≡ Some f →
+    (segment_wrote card tuning (newest_message bare) f m key).refused ≡ None →
+    (segment_wrote card tuning (newest_message all) f m key).packets
+    ≡ (segment_wrote card tuning (newest_message counted) f m key).packets
 keyed_same card tuning all counted bare f m None holds told none = refl
 keyed_same card tuning all counted bare f m (Some key) (inl it) told none =
-    segment_same card tuning (newest all) (newest counted) f m key it.same
+    segment_same card tuning (newest_message all) (newest_message counted) f m key it.same
 keyed_same card tuning all counted bare f m (Some key) (inr it) told none =
     let odd : is_odd_held f.word (it.number, it.packet) ≡ true
     = ap (λ (message : Option Message). option_map_or (λ message. is_odd_held message.word
     (it.number, it.packet)) message false) (sym told) ∙ it.odd in
-    absurd (cc (sym (odd_refused card tuning (newest bare) f m key it.number it.packet it.alone odd) ∙ none))
+    absurd (cc (sym (odd_refused card tuning (newest_message bare) f m key it.number it.packet it.alone odd) ∙ none))
 
 since_same : (card : CardFields) (tuning : Tuning) (all counted bare : List Heard) (f m : Message) →
-    Like all counted bare → (newest all).message ≡ Some f →
-    (stretch_wrote card tuning (newest bare) (Some f) m).refused ≡ None →
-    (stretch_wrote card tuning (newest all) (Some f) m).packets
-    ≡ (stretch_wrote card tuning (newest counted) (Some f) m).packets
+    Like all counted bare → (newest_message all).message ≡ Some f →
+    (stretch_wrote card tuning (newest_message bare) (Some f) m).refused ≡ None →
+    (stretch_wrote card tuning (newest_message all) (Some f) m).packets
+    ≡ (stretch_wrote card tuning (newest_message counted) (Some f) m).packets
 since_same card tuning all counted bare f m like told none = by_since (nat_le m.since f.number) none
   where
     key_all : Option (List ℕ)
-    key_all = key_at card (newest all).before f.period
+    key_all = key_at card (newest_message all).before f.period
 
-    key_counted : key_at card (newest counted).before f.period ≡ key_all
-    key_counted = sym (key_same card (newest all).before (newest counted).before f.period
+    key_counted : key_at card (newest_message counted).before f.period ≡ key_all
+    key_counted = sym (key_same card (newest_message all).before (newest_message counted).before f.period
         (before_same all counted like.counted_says))
 
-    key_bare : key_at card (newest bare).before f.period ≡ key_all
-    key_bare = sym (key_same card (newest all).before (newest bare).before f.period
+    key_bare : key_at card (newest_message bare).before f.period ≡ key_all
+    key_bare = sym (key_same card (newest_message all).before (newest_message bare).before f.period
         (before_same all bare like.bare_says))
 
-    nothing : Wrote
+    nothing : WrittenPackets
     nothing = record { packets = []; refused = None }
 
     by_since : (near : Bool) →
-        (if near then segment_wrote card tuning (newest bare) f m (key_at card (newest bare).before f.period)
+        (if near then segment_wrote card tuning (newest_message bare) f m (key_at card (newest_message bare).before f.period)
         else nothing).refused ≡ None →
-        (if near then segment_wrote card tuning (newest all) f m key_all else nothing).packets
-        ≡ (if near then segment_wrote card tuning (newest counted) f m
-        (key_at card (newest counted).before f.period) else nothing).packets
+        (if near then segment_wrote card tuning (newest_message all) f m key_all else nothing).packets
+        ≡ (if near then segment_wrote card tuning (newest_message counted) f m
+        (key_at card (newest_message counted).before f.period) else nothing).packets
     by_since false none = refl
     by_since true none =
         keyed_same card tuning all counted bare f m key_all like.holds told
-        (ap (λ (key : Option (List ℕ)). (segment_wrote card tuning (newest bare) f m key).refused) (sym key_bare)
+        (ap (λ (key : Option (List ℕ)). (segment_wrote card tuning (newest_message bare) f m key).refused) (sym key_bare)
         ∙ none)
-        ∙ ap (λ (key : Option (List ℕ)). (segment_wrote card tuning (newest counted) f m key).packets)
+        ∙ ap (λ (key : Option (List ℕ)). (segment_wrote card tuning (newest_message counted) f m key).packets)
         (sym key_counted)
 
 stretch_same : (card : CardFields) (tuning : Tuning) (all counted bare : List Heard) (m : Message) →
     Like all counted bare →
-    (stretch_wrote card tuning (newest bare) (newest bare).message m).refused ≡ None →
-    (stretch_wrote card tuning (newest all) (newest all).message m).packets
-    ≡ (stretch_wrote card tuning (newest counted) (newest counted).message m).packets
+    (stretch_wrote card tuning (newest_message bare) (newest_message bare).message m).refused ≡ None →
+    (stretch_wrote card tuning (newest_message all) (newest_message all).message m).packets
+    ≡ (stretch_wrote card tuning (newest_message counted) (newest_message counted).message m).packets
 stretch_same card tuning all counted bare m like none =
-    by_message (newest all).message refl
-    ∙ ap (λ (message : Option Message). (stretch_wrote card tuning (newest counted) message m).packets)
+    by_message (newest_message all).message refl
+    ∙ ap (λ (message : Option Message). (stretch_wrote card tuning (newest_message counted) message m).packets)
     (message_same all counted like.counted_says)
   where
-    by_message : (message : Option Message) → (newest all).message ≡ message →
-        (stretch_wrote card tuning (newest all) message m).packets
-        ≡ (stretch_wrote card tuning (newest counted) message m).packets
+    by_message : (message : Option Message) → (newest_message all).message ≡ message →
+        (stretch_wrote card tuning (newest_message all) message m).packets
+        ≡ (stretch_wrote card tuning (newest_message counted) message m).packets
     by_message None told = refl
     by_message (Some f) told =
         since_same card tuning all counted bare f m like told
-        (ap (λ (message : Option Message). (stretch_wrote card tuning (newest bare) message m).refused)
+        (ap (λ (message : Option Message). (stretch_wrote card tuning (newest_message bare) message m).refused)
         (sym told ∙ message_same all bare like.bare_says)
         ∙ none)
 
@@ -157,20 +157,20 @@ message_writes card tuning n m k all counted bare (Some b) like none =
     (sym (back_same all counted b like.counted_says)) (sym (back_same all bare b like.bare_says)) none
   where
     at : (past : List Heard) (j : ℕ) → Offering
-    at past j = wrote_or (stretch_wrote card tuning (newest past) (newest past).message b)
+    at past j = wrote_or (stretch_wrote card tuning (newest_message past) (newest_message past).message b)
         (word_fault j b (key_at card past b.period))
 
     by_back : (a c d : Bool) → c ≡ a → d ≡ a →
-        (if d then refuses (Fault.BadEcm k Ecms.Back) else at bare k).fault ≡ None →
-        (if a then refuses (Fault.BadEcm n Ecms.Back) else at all n).wrote
-        ≡ (if c then refuses (Fault.BadEcm m Ecms.Back) else at counted m).wrote
+        (if d then refused_offering (Fault.BadEcm k Ecms.Back) else at bare k).fault ≡ None →
+        (if a then refused_offering (Fault.BadEcm n Ecms.Back) else at all n).wrote
+        ≡ (if c then refused_offering (Fault.BadEcm m Ecms.Back) else at counted m).wrote
     by_back true true d c_is d_is none = refl
     by_back true false d c_is d_is none = absurd (false≢true c_is)
     by_back false true d c_is d_is none = absurd (false≢true (sym c_is))
     by_back false false true c_is d_is none = absurd (false≢true (sym d_is))
     by_back false false false c_is d_is none =
         stretch_same card tuning all counted bare b like
-        (unrefused_wrote (stretch_wrote card tuning (newest bare) (newest bare).message b).refused
+        (unrefused_wrote (stretch_wrote card tuning (newest_message bare) (newest_message bare).message b).refused
         (word_fault k b (key_at card bare b.period)) none)
 
 part_writes : (n m k : ℕ) (a b c : Option EcmFault) (x y z : Offering) → b ≡ a → c ≡ a →
@@ -187,8 +187,8 @@ controls_write : (card : CardFields) (tuning : Tuning) (n m k : ℕ) (all counte
     (heard_offering card tuning n all (Controls part)).wrote
     ≡ (heard_offering card tuning m counted (Controls part)).wrote
 controls_write card tuning n m k all counted bare part like none =
-    part_writes n m k (part_fault (run_to (newest all) part)) (part_fault (run_to (newest counted) part))
-    (part_fault (run_to (newest bare) part))
+    part_writes n m k (part_fault (message_parts_to (newest_message all) part)) (part_fault (message_parts_to (newest_message counted) part))
+    (part_fault (message_parts_to (newest_message bare) part))
     (message_offering card tuning n all (completes all (Controls part)))
     (message_offering card tuning m counted (completes counted (Controls part)))
     (message_offering card tuning k bare (completes bare (Controls part)))
@@ -210,7 +210,7 @@ key_nothing : (n : ℕ) (emm : Emm) (key : Option (List ℕ)) → (key_offering 
 key_nothing n emm None = refl
 key_nothing n emm (Some key) =
     if_nothing (bytes_eq (check_value_of key) emm.check) no_offering
-    (refuses (Fault.WrongKey n emm.period (check_value_of key) emm.check)) refl refl
+    (refused_offering (Fault.WrongKey n emm.period (check_value_of key) emm.check)) refl refl
 
 known_nothing : (n : ℕ) (emm : Emm) (known found : Option (List ℕ)) → (key_if_none n emm known found).wrote ≡ []
 known_nothing n emm (Some key) found = refl
@@ -220,10 +220,10 @@ emm_nothing : (card : CardFields) (n : ℕ) (past : List Heard) (emm : Emm) → 
 unfolding emm_offering
 emm_nothing card n past emm =
     let known : Offering = key_if_none n emm (key_at card past emm.period) (key_from card emm) in
-    let mixed : Offering = refuses (Fault.BadEmm n Emms.Mixed) in
+    let mixed : Offering = refused_offering (Fault.BadEmm n Emms.Mixed) in
     if_nothing (nat_lt emm.period (current past)) no_offering
-    (if is_mixed (seen emm.period past) emm then mixed else known) refl
-    (if_nothing (is_mixed (seen emm.period past) emm) mixed known refl
+    (if is_mixed (sections_seen emm.period past) emm then mixed else known) refl
+    (if_nothing (is_mixed (sections_seen emm.period past) emm) mixed known refl
     (known_nothing n emm (key_at card past emm.period) (key_from card emm)))
 
 -- what is written of a thing that is heard, but for one that completes a message

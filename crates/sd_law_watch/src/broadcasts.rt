@@ -3,7 +3,7 @@
 ghost use Rattle.std.specs.Prelude.{◌≡◌, ◌^◌, ◌<◌, Bool, true, false, List, [], ◌∷◌, map, reverse, None};
 ghost use Rattle.std.specs.List.{list_any};
 ghost use Rattle.sd_base.specs.Types.{LeafNumber, Packets};
-ghost use Rattle.sd_site_cards.specs.CardFields.{card_of};
+ghost use Rattle.sd_site_cards.specs.CardFields.{site_card};
 ghost use Rattle.sd_spec.specs.Plan.{Plan, IsPlan};
 ghost use Rattle.sd_spec.specs.Refused.{IsSendable};
 ghost use Rattle.sd_spec.specs.Sent.{broadcast};
@@ -16,7 +16,7 @@ ghost use Rattle.sd_law_losses.specs.Chosen.{chosen};
 ghost use Rattle.sd_law_losses.specs.Confirmed.{opened_by};
 ghost use Rattle.sd_law_losses.specs.Endings.{whole_ending, first_revoked};
 ghost use Rattle.sd_spec.specs.declared.ending.Ending.TheVariants.{Opened};
-ghost use Rattle.sd_law_losses.specs.Channel.{Arrival, Channel, AreRunsOf, arriving, all_sent};
+ghost use Rattle.sd_law_losses.specs.Channel.{Arrival, Channel, AreRunsOf, arriving, all_sent, channel_card};
 ghost use Rattle.sd_law_losses.specs.Many.{confirmed_from, opened_of_all};
 ghost use Rattle.sd_law_losses.specs.Ends.{ending_of_all, whole_ending_of};
 ghost use Rattle.sd_law_losses.specs.Together.{joined_to};
@@ -32,33 +32,33 @@ pub fn losses_of_runs_are_watched()
     ensures lost { (channel : Channel) (runs : List Arrival) (u : LeafNumber) → AreRunsOf channel runs →
         u < 2 ^ channel.height →
         (fewer : List Arrival) × AreFewerOf runs fewer
-        × (counting (card_of channel.master channel.ca channel.height u) [] (arriving runs) ≡ arriving fewer)
-        × (out_from (card_of channel.master channel.ca channel.height u) []
-        (counting (card_of channel.master channel.ca channel.height u) [] (arriving runs))
+        × (counting (channel_card channel u) [] (arriving runs) ≡ arriving fewer)
+        × (out_from (channel_card channel u) []
+        (counting (channel_card channel u) [] (arriving runs))
         ≡ confirmed_from false u fewer) }
     ensures part { (channel : Channel) (runs : List Arrival) (u : LeafNumber) → AreRunsOf channel runs →
         u < 2 ^ channel.height →
         (parts : List Bool)
-        × (out_from (card_of channel.master channel.ca channel.height u) []
-        (counting (card_of channel.master channel.ca channel.height u) [] (arriving runs))
+        × (out_from (channel_card channel u) []
+        (counting (channel_card channel u) [] (arriving runs))
         ≡ chosen parts (opened_of_all u runs)) }
     ensures same { (channel : Channel) (runs : List Arrival) (u : LeafNumber) → AreRunsOf channel runs →
         u < 2 ^ channel.height →
-        (tally_from (card_of channel.master channel.ca channel.height u) 0 [] (arriving runs)).marked ≡ 0 →
-        (tally_from (card_of channel.master channel.ca channel.height u) 0 [] (arriving runs)).doubled ≡ 0 →
-        out_from (card_of channel.master channel.ca channel.height u) []
-        (counting (card_of channel.master channel.ca channel.height u) [] (arriving runs))
+        (tally_from (channel_card channel u) 0 [] (arriving runs)).marked ≡ 0 →
+        (tally_from (channel_card channel u) 0 [] (arriving runs)).doubled ≡ 0 →
+        out_from (channel_card channel u) []
+        (counting (channel_card channel u) [] (arriving runs))
         ≡ confirmed_from false u runs }
     ensures ending { (channel : Channel) (runs : List Arrival) (u : LeafNumber) → AreRunsOf channel runs →
         u < 2 ^ channel.height →
-        (tally_from (card_of channel.master channel.ca channel.height u) 0 [] (arriving runs)).marked ≡ 0 →
-        (tally_from (card_of channel.master channel.ca channel.height u) 0 [] (arriving runs)).doubled ≡ 0 →
-        ending_of (card_of channel.master channel.ca channel.height u)
-        (reverse (counting (card_of channel.master channel.ca channel.height u) [] (arriving runs)))
+        (tally_from (channel_card channel u) 0 [] (arriving runs)).marked ≡ 0 →
+        (tally_from (channel_card channel u) 0 [] (arriving runs)).doubled ≡ 0 →
+        ending_of (channel_card channel u)
+        (reverse (counting (channel_card channel u) [] (arriving runs)))
         ≡ ending_of_all u runs }
     ensures refused { (channel : Channel) (runs : List Arrival) (u : LeafNumber) → AreRunsOf channel runs →
         u < 2 ^ channel.height →
-        (tally_from (card_of channel.master channel.ca channel.height u) 0 [] (arriving runs)).refused ≡ 0 }
+        (tally_from (channel_card channel u) 0 [] (arriving runs)).refused ≡ 0 }
 {}
 
 /// Of whole broadcasts of one channel of which no packet is marked or doubled, exactly the clear packets are written
@@ -68,17 +68,17 @@ pub fn losses_of_runs_are_watched()
 pub fn whole_runs_are_watched()
     ensures out { (channel : Channel) (runs : List Arrival) (u : LeafNumber) → AreRunsOf channel runs →
         u < 2 ^ channel.height →
-        (tally_from (card_of channel.master channel.ca channel.height u) 0 [] (all_sent runs)).marked ≡ 0 →
-        (tally_from (card_of channel.master channel.ca channel.height u) 0 [] (all_sent runs)).doubled ≡ 0 →
-        out_from (card_of channel.master channel.ca channel.height u) []
-        (counting (card_of channel.master channel.ca channel.height u) [] (all_sent runs))
+        (tally_from (channel_card channel u) 0 [] (all_sent runs)).marked ≡ 0 →
+        (tally_from (channel_card channel u) 0 [] (all_sent runs)).doubled ≡ 0 →
+        out_from (channel_card channel u) []
+        (counting (channel_card channel u) [] (all_sent runs))
         ≡ opened_of_all u runs }
     ensures ending { (channel : Channel) (run : Arrival) (runs : List Arrival) (u : LeafNumber) →
         AreRunsOf channel (run ∷ runs) → u < 2 ^ channel.height →
-        (tally_from (card_of channel.master channel.ca channel.height u) 0 [] (all_sent (run ∷ runs))).marked ≡ 0 →
-        (tally_from (card_of channel.master channel.ca channel.height u) 0 [] (all_sent (run ∷ runs))).doubled ≡ 0 →
-        ending_of (card_of channel.master channel.ca channel.height u)
-        (reverse (counting (card_of channel.master channel.ca channel.height u) [] (all_sent (run ∷ runs))))
+        (tally_from (channel_card channel u) 0 [] (all_sent (run ∷ runs))).marked ≡ 0 →
+        (tally_from (channel_card channel u) 0 [] (all_sent (run ∷ runs))).doubled ≡ 0 →
+        ending_of (channel_card channel u)
+        (reverse (counting (channel_card channel u) [] (all_sent (run ∷ runs))))
         ≡ joined_to Opened (map (whole_ending_of u) (run ∷ runs)) }
 {}
 
@@ -90,28 +90,28 @@ pub fn steady_broadcasts_are_watched()
     ensures counts { (plan : Plan) (clear : Packets) (u : LeafNumber) → IsPlan plan → IsSendable plan.site clear →
         AreWholePackets clear → u < 2 ^ plan.site.height → are_steady clear ≡ true →
         list_any is_marked clear ≡ false →
-        counting (card_of plan.site.master plan.site.ca plan.site.height u) [] (broadcast plan clear)
+        counting (site_card plan.site u) [] (broadcast plan clear)
         ≡ broadcast plan clear }
     ensures out { (plan : Plan) (clear : Packets) (u : LeafNumber) → IsPlan plan → IsSendable plan.site clear →
         AreWholePackets clear → u < 2 ^ plan.site.height → are_steady clear ≡ true →
         list_any is_marked clear ≡ false →
-        out_from (card_of plan.site.master plan.site.ca plan.site.height u) []
-        (counting (card_of plan.site.master plan.site.ca plan.site.height u) [] (broadcast plan clear))
+        out_from (site_card plan.site u) []
+        (counting (site_card plan.site u) [] (broadcast plan clear))
         ≡ opened_by plan u clear }
     ensures ending { (plan : Plan) (clear : Packets) (u : LeafNumber) → IsPlan plan → IsSendable plan.site clear →
         AreWholePackets clear → u < 2 ^ plan.site.height → are_steady clear ≡ true →
         list_any is_marked clear ≡ false →
-        ending_of (card_of plan.site.master plan.site.ca plan.site.height u)
-        (reverse (counting (card_of plan.site.master plan.site.ca plan.site.height u) [] (broadcast plan clear)))
+        ending_of (site_card plan.site u)
+        (reverse (counting (site_card plan.site u) [] (broadcast plan clear)))
         ≡ whole_ending (first_revoked plan u clear) }
     ensures tally { (plan : Plan) (clear : Packets) (u : LeafNumber) → IsPlan plan → IsSendable plan.site clear →
         AreWholePackets clear → u < 2 ^ plan.site.height → are_steady clear ≡ true →
         list_any is_marked clear ≡ false →
-        tally_from (card_of plan.site.master plan.site.ca plan.site.height u) 0 [] (broadcast plan clear)
+        tally_from (site_card plan.site u) 0 [] (broadcast plan clear)
         ≡ record { marked = 0; doubled = 0; odd = 0; refused = 0; first = None } }
     ensures line { (plan : Plan) (clear : Packets) (u : LeafNumber) → IsPlan plan → IsSendable plan.site clear →
         AreWholePackets clear → u < 2 ^ plan.site.height → are_steady clear ≡ true →
         list_any is_marked clear ≡ false →
-        reports (card_of plan.site.master plan.site.ca plan.site.height u) (broadcast plan clear)
-        ≡ report_of (card_of plan.site.master plan.site.ca plan.site.height u) (broadcast plan clear) ∷ [] }
+        reports (site_card plan.site u) (broadcast plan clear)
+        ≡ report_of (site_card plan.site u) (broadcast plan clear) ∷ [] }
 {}

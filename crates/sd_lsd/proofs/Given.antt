@@ -18,7 +18,7 @@ use Rattle.sd_tree_keys.proofs.Ancestors.{above_le, above_parent, properly_above
 use Rattle.sd_tree_keys.proofs.Paths.{path_depth, path_level, path_is_node, sibling_half}
 use Rattle.sd_tree_keys.specs.declared.name.Name.{Name}
 use Rattle.sd_tree_keys.specs.declared.name.Name.TheVariants.{Whole, Pair}
-use Rattle.sd_tree_keys.specs.Names.{given, given_under, IsGivenPair}
+use Rattle.sd_tree_keys.specs.Names.{names_of_receiver, pair_names_under, IsGivenPair}
 use Rattle.sd_tree_keys.proofs.NameCounts.{length_given_under}
 use Rattle.sd_tree_keys.proofs.Descents.{child_level}
 use Rattle.sd_tree_keys.proofs.Pairs.{given_is_hanging}
@@ -47,20 +47,20 @@ given_is_pair d u i x leaf pair =
     }
 
 -- and each name that it is given
-pub given_of_height : (d u : ℕ) → u < 2 ^ d → (name : Name) → Contains (given d u) name → IsOfHeight d (set_of name)
+pub given_of_height : (d u : ℕ) → u < 2 ^ d → (name : Name) → Contains (names_of_receiver d u) name → IsOfHeight d (set_of name)
 given_of_height d u leaf Whole m = tt
 given_of_height d u leaf (Pair i x) m = given_is_pair d u i x leaf (given_is_hanging d u i x leaf m)
 
 -- so all are
-pub all_of_height : (d u : ℕ) → u < 2 ^ d → All (λ name. IsOfHeight d (set_of name)) (given d u)
+pub all_of_height : (d u : ℕ) → u < 2 ^ d → All (λ name. IsOfHeight d (set_of name)) (names_of_receiver d u)
 all_of_height d u leaf = λ k x within.
-    given_of_height d u leaf (get_or (given d u) k x) (Contains-get_or (given d u) k x within)
+    given_of_height d u leaf (get_or (names_of_receiver d u) k x) (Contains-get_or (names_of_receiver d u) k x within)
 
 -- of width 1, and of the tree's height, a leaf is given all names
-pub all_given : (d w u : ℕ) → d ≤ 20 → u < 2 ^ d → (w ≡ 1) ⊎ (w ≡ d) → layer_given d w u ≡ given d u
+pub all_given : (d w u : ℕ) → d ≤ 20 → u < 2 ^ d → (w ≡ 1) ⊎ (w ≡ d) → layer_given d w u ≡ names_of_receiver d u
 unfolding layer_given
 all_given d w u low leaf wide =
-    all_kept (is_useful_name w) (given d u)
+    all_kept (is_useful_name w) (names_of_receiver d u)
     (λ name m. useful_everywhere d w (set_of name) low (given_of_height d u leaf name m) wide)
 
 -- ---- the pairs of an ancestor
@@ -96,7 +96,7 @@ pair_useful d w u a b low leaf less le =
 
 -- the pairs of an ancestor that are of useful sets are the first
 abbrev pub useful_under : ℕ → ℕ → ℕ → ℕ → List Name
-useful_under d w u a = take (pairs_under d w a) (given_under d u a)
+useful_under d w u a = take (pairs_under d w a) (pair_names_under d u a)
 
 useful_by : (d w u a : ℕ) (t : Bool) → (a % w == 0) ≡ t → d ≤ 20 → u < 2 ^ d → a < d
     → filter (is_useful_name w) (map (pair_of d u a) (range_with_len (a + 1) (d - a)))
@@ -121,8 +121,8 @@ useful_by d w u a false e low leaf less =
         (cases_lt end b)
 
 pub useful_are : (d w u a : ℕ) → d ≤ 20 → u < 2 ^ d → a < d
-    → filter (is_useful_name w) (given_under d u a) ≡ useful_under d w u a
-unfolding given_under pairs_under
+    → filter (is_useful_name w) (pair_names_under d u a) ≡ useful_under d w u a
+unfolding pair_names_under pairs_under
 useful_are d w u a low leaf less = useful_by d w u a (a % w == 0) refl low leaf less
 
 -- what a leaf is given in layers under its first k ancestors, and the whole set
@@ -131,17 +131,17 @@ layer_first d w u k = Whole ∷ flat_map (useful_under d w u) (range_with_len 0 
 
 -- under all ancestors it is all
 pub layer_given_parts : (d w u : ℕ) → d ≤ 20 → u < 2 ^ d → layer_given d w u ≡ layer_first d w u d
-unfolding layer_given given is_useful
+unfolding layer_given names_of_receiver is_useful
 layer_given_parts d w u low leaf =
     ap (λ (names : List Name). Whole ∷ names)
-    (lists_kept (is_useful_name w) (given_under d u) (useful_under d w u) 0 d
+    (lists_kept (is_useful_name w) (pair_names_under d u) (useful_under d w u) 0 d
     (λ a from to. useful_are d w u a low leaf (omega arith)))
 
 -- ---- their number
 
 length_useful : (d w u a : ℕ) → length (useful_under d w u a) ≡ pairs_under d w a
 length_useful d w u a =
-    length-take-le (pairs_under d w a) (given_under d u a)
+    length-take-le (pairs_under d w a) (pair_names_under d u a)
     (omega (arith, under_within d w a, length_given_under d u a))
 
 length_first : (d w u k : ℕ) → length (flat_map (useful_under d w u) (range_with_len 0 k)) ≡ pairs_above d w k

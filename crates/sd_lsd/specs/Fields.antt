@@ -2,7 +2,7 @@
 use Rattle.std.specs.Prelude.{◌≡◌, ℕ, ◌+◌, ◌^◌, ◌<◌, ◌≤◌, List, [], ◌∷◌, length, map, codes}
 use Rattle.sd_tree_keys.specs.Limits.{highest}
 use Rattle.sd_tree_keys.specs.declared.set.SetName.{SetName}
-use Rattle.sd_site_cards.specs.Files.{AreSecrets, head_of, file_bytes}
+use Rattle.sd_site_cards.specs.Files.{AreSecrets, card_file_head, file_bytes}
 use Rattle.sd_site_cards.specs.Secrets.{secret_of, key_held}
 use Rattle.sd_lsd.specs.LayerNames.{layer_given, layer_count}
 use Rattle.sd_lsd.specs.declared.card.LayerCard.{LayerCard}
@@ -24,12 +24,12 @@ pub record LayerFields : Type 0 where
   pub secrets : List (List ℕ)
 
 -- a layer card that says this
-abbrev pub saying : ℕ → ℕ → ℕ → ℕ → List (List ℕ) → LayerFields
-saying d w u ca secrets = record { height = d; width = w; leaf = u; ca = ca; secrets = secrets }
+abbrev pub layer_card_saying : ℕ → ℕ → ℕ → ℕ → List (List ℕ) → LayerFields
+layer_card_saying d w u ca secrets = record { height = d; width = w; leaf = u; ca = ca; secrets = secrets }
 
 -- the same of a layer card as the program keeps it
-abbrev pub fields_of : LayerCard → LayerFields
-fields_of card = saying card.height card.width card.leaf card.ca card.secrets.items
+abbrev pub layer_fields_of : LayerCard → LayerFields
+layer_fields_of card = layer_card_saying card.height card.width card.leaf card.ca card.secrets.items
 
 -- the numbers are in their ranges, and there are as many secrets as a leaf is given names in layers
 -- [this project, docs/FORMATS.md, Layer card]
@@ -44,11 +44,11 @@ pub record IsLayerCard (card : LayerFields) : Type 0 where
 -- the layer card of a leaf: the secrets of the names that it is given in layers, in their order
 -- [Halevy, Shamir 2002, 3]
 unfoldable pub layer_card_of : List ℕ → ℕ → ℕ → ℕ → ℕ → LayerFields
-layer_card_of master ca d w u = saying d w u ca (map (secret_of master) (layer_given d w u))
+layer_card_of master ca d w u = layer_card_saying d w u ca (map (secret_of master) (layer_given d w u))
 
 -- a layer card's file before its secrets [this project, docs/FORMATS.md, Layer card]
 unfoldable pub layer_head : ℕ → ℕ → ℕ → ℕ → List ℕ
-layer_head d w u ca = head_of layer_magic (layer_version ∷ d ∷ w ∷ []) u ca
+layer_head d w u ca = card_file_head layer_magic (layer_version ∷ d ∷ w ∷ []) u ca
 
 -- a layer card's file: its head, its secrets, and the check at its end [this project, docs/FORMATS.md, Layer card]
 unfoldable pub layer_bytes : LayerFields → List ℕ

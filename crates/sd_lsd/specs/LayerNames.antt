@@ -7,7 +7,7 @@ use Rattle.sd_tree_keys.specs.declared.set.SetName.{SetName}
 use Rattle.sd_tree_keys.specs.declared.set.SetName.TheVariants.{Whole as WholeSet, Diff}
 use Rattle.sd_tree_keys.specs.declared.name.Name.{Name}
 use Rattle.sd_tree_keys.specs.declared.name.Name.TheVariants.{Whole, Pair}
-use Rattle.sd_tree_keys.specs.Names.{given}
+use Rattle.sd_tree_keys.specs.Names.{names_of_receiver}
 use Rattle.sd_cover_tracing.specs.Reach.{Named, Key, IsReached, source_of}
 use Rattle.sd_lsd.specs.Layers.{is_useful, layer_end}
 
@@ -23,7 +23,7 @@ is_useful_name w name = is_useful w (set_of name)
 -- what leaf u is given secrets of: of the names that it is given without layers those of useful sets, in their order
 -- [Halevy, Shamir 2002, 3]
 unfoldable pub layer_given : ℕ → ℕ → ℕ → List Name
-layer_given d w u = filter (is_useful_name w) (given d u)
+layer_given d w u = filter (is_useful_name w) (names_of_receiver d u)
 
 -- how many pairs of its ancestor at depth a it is given: down to the leaf where a layer ends there, else to the end of
 -- the ancestor's layer

@@ -2,7 +2,7 @@ ghost use Rattle.std.specs.Prelude.{◌≡◌, ◌+◌, ◌^◌, ◌<◌, ◌≤
 ghost use Rattle.sd_tree_keys.specs.declared.height.TheConstants.{HIGHEST};
 ghost use Rattle.sd_site_cards.specs.Secrets.{secret_of};
 ghost use Rattle.sd_lsd.specs.LayerNames.{layer_given, layer_count};
-ghost use Rattle.sd_lsd.specs.Fields.{fields_of, layer_card_of};
+ghost use Rattle.sd_lsd.specs.Fields.{layer_fields_of, layer_card_of};
 
 use crate::Width;
 use crate::card::LayerCard;
@@ -26,7 +26,7 @@ impl LayerCard {
         requires width { w ≤ site.now.height }
         requires leaf { u < 2 ^ site.now.height }
         ensures { IfOk result (λ card.
-            fields_of card ≡ layer_card_of site.now.master site.now.ca site.now.height w u) }
+            layer_fields_of card ≡ layer_card_of site.now.master site.now.ca site.now.height w u) }
     {
         let secrets = secrets(alloc, site, w, u, steps)?;
         Ok(LayerCard {

@@ -8,7 +8,7 @@ use Rattle.std.proofs.lemmas.Slice.Eq.{bytes_eq-Decides}
 use Rattle.sd_packet.specs.Header.{unit_start_of, payload_of}
 use Rattle.sd_section.specs.Judged.{section_fault}
 use Rattle.sd_section.specs.declared.fault.SectionFault.{SectionFault}
-use Rattle.sd_message.specs.Framed.{HasSection, is_plain, is_zero, has_section, section_of}
+use Rattle.sd_message.specs.Framed.{HasSection, is_plain, is_zero, frames_section, section_of}
 
 -- a fault is none
 tells_none : (fault : Option SectionFault) → Decides (is_none fault) (fault ≡ None)
@@ -21,8 +21,8 @@ tells_zero None = (λ yes. absurd (false≢true yes), λ same. absurd (false≢t
 tells_zero (Some byte) = (λ yes. ap (λ (n : ℕ). Some n) ((Decides-eqb byte 0).0 yes), λ same. ap is_zero same)
 
 -- the packet begins with a section of this project
-pub tells_section : (packet : List ℕ) → Decides (has_section packet) (HasSection packet)
-unfolding has_section
+pub tells_section : (packet : List ℕ) → Decides (frames_section packet) (HasSection packet)
+unfolding frames_section
 tells_section packet =
     let fault : Option SectionFault = section_fault (drop 1 (payload_of packet)) in
     let pointer : Option ℕ = slice_get (payload_of packet) 0 in

@@ -16,8 +16,8 @@ use Rattle.sd_message.specs.EcmVersions.{IsVersion, IsNamed, IsSince, flags_at}
 use Rattle.sd_message.specs.EcmSpelled.{listed_places, place_bytes, flags_for, numbers_bytes, since_bytes, word_bytes}
 use Rattle.sd_message.specs.EcmSpelled.{ecm_head_bytes}
 use Rattle.sd_message.specs.EcmSpelled.{ecm_body}
-use Rattle.sd_message.specs.EcmForm.{IsEcm, FitsFields, FitsHead, no_place}
-use Rattle.sd_message.specs.EcmFields.{place_of, places_in, padded_places, from_flags, flags_of, since_in, ecm_run_in, ecm_in}
+use Rattle.sd_message.specs.EcmForm.{IsEcm, FitsEcmFields, FitsEcmHead, no_place}
+use Rattle.sd_message.specs.EcmFields.{ecm_position_in, ecm_positions_in, padded_places, from_flags, body_flags, since_in, ecm_run_in, ecm_in}
 use Rattle.sd_message.specs.declared.ecm_part.Place.{Place}
 use Rattle.sd_message.specs.declared.ecm_part.EcmPart.{EcmPart}
 use Rattle.sd_message.proofs.Versions.{few_positions, by_version}
@@ -36,8 +36,8 @@ same_placed : (p p' q q' : ℕ) → p ≡ p' → q ≡ q' → placed p q ≡ pla
 same_placed p p' q q' e f = rw (e, f) refl
 
 -- a position alone
-place_alone : (place : Place) → IsSpellable place → place_of (place_bytes place) ≡ place
-unfolding place_of place_bytes
+place_alone : (place : Place) → IsSpellable place → ecm_position_in (place_bytes place) ≡ place
+unfolding ecm_position_in place_bytes
 place_alone place fits =
     let xs : List ℕ = place_bytes place in
     same_placed _ place.pid _ place.position (half_again xs 0 place.pid fits.pid refl refl)
@@ -81,7 +81,7 @@ all_spellable part form k d below =
     record { pid = omega (arith, leb-true pid 0x1FEF parts.1); position = form.positions k d below }
 
 -- how many there are
-pub listed_long : (part : EcmPart) → FitsFields part → IsEcm part → length (listed_places part) ≡ part.count
+pub listed_long : (part : EcmPart) → FitsEcmFields part → IsEcm part → length (listed_places part) ≡ part.count
 listed_long part fits form =
     length-take-le part.count part.positions
     (omega (arith, fits.positions, form.counted.few, few_positions part.version))
@@ -175,7 +175,7 @@ record IsTail (part : EcmPart) (tail : List ℕ) : Type 0 where
   count : slice_index tail 49 ≡ part.count
   rest : drop 50 tail ≡ flat_map place_bytes (listed_places part)
 
-tail_read : (part : EcmPart) → FitsHead part →
+tail_read : (part : EcmPart) → FitsEcmHead part →
     IsTail part (word_bytes part ++ flat_map place_bytes (listed_places part))
 unfolding word_bytes
 tail_read part fits =
@@ -208,7 +208,7 @@ record IsNumbered (part : EcmPart) (body : List ℕ) : Type 0 where
   since : since_in part.version part.number body ≡ part.since
   run : ecm_run_in part.version body ≡ part.run
 
-numbers_read : (part : EcmPart) (rest : List ℕ) → FitsHead part → IsVersion part.version →
+numbers_read : (part : EcmPart) (rest : List ℕ) → FitsEcmHead part → IsVersion part.version →
     IsNamed part.version part.run →
     IsSince part.version part.number part.since →
     IsNumbered part (numbers_bytes part ++ (since_bytes part.version part.since part.run ++ rest))
@@ -226,7 +226,7 @@ numbers_read part rest fits version named since =
     }
 
 -- the body is read as what it spells
-pub body_again : (part : EcmPart) → FitsFields part → IsEcm part → ecm_in part.version part.part part.last_part
+pub body_again : (part : EcmPart) → FitsEcmFields part → IsEcm part → ecm_in part.version part.part part.last_part
     (ecm_body part) ≡ part
 unfolding ecm_in
 body_again part fits form =
@@ -237,11 +237,11 @@ body_again part fits form =
     let tail : IsTail part (from_flags part.version xs) = subst (IsTail part) (sym (tail_again part))
     (tail_read part fits.head) in
     let long = listed_long part fits form in
-    let places : places_in (slice_index (from_flags part.version xs) 49) (drop 50 (from_flags part.version xs))
+    let places : ecm_positions_in (slice_index (from_flags part.version xs) 49) (drop 50 (from_flags part.version xs))
     ≡ listed_places part =
-    ap (λ (n : ℕ). places_in n (drop 50 (from_flags part.version xs))) (tail.count ∙ sym long)
-    ∙ (ap (places_in (length (listed_places part))) tail.rest
-    ∙ items_again place_of place_bytes IsSpellable 8 (listed_places part) long_place place_alone
+    ap (λ (n : ℕ). ecm_positions_in n (drop 50 (from_flags part.version xs))) (tail.count ∙ sym long)
+    ∙ (ap (ecm_positions_in (length (listed_places part))) tail.rest
+    ∙ items_again ecm_position_in place_bytes IsSpellable 8 (listed_places part) long_place place_alone
     (all_spellable part form)) in
     same_made part.version _ part.number _ part.period _ part.word _ part.clear _ part.since _ part.run _ part.closing
     part.part part.last_part _ part.wrapped _ part.check _ part.count _
@@ -263,7 +263,7 @@ long_since v since run rest =
     ≡ (if three then 24 else if two then 20 else 16) + length rest) v (λ _. omega arith) (λ _.
     omega arith) (omega arith)
 
-long_word : (part : EcmPart) → FitsHead part → length (word_bytes part) ≡ 50
+long_word : (part : EcmPart) → FitsEcmHead part → length (word_bytes part) ≡ 50
 unfolding word_bytes
 long_word part fits =
     let end : List ℕ = part.check ++ part.count ∷ [] in
@@ -273,7 +273,7 @@ long_numbers : (part : EcmPart) → length (numbers_bytes part) ≡ 16
 unfolding numbers_bytes
 long_numbers part = refl
 
-pub long_body : (part : EcmPart) → FitsFields part → IsEcm part → length (ecm_body part) ≡ flags_at part.version + 50
+pub long_body : (part : EcmPart) → FitsEcmFields part → IsEcm part → length (ecm_body part) ≡ flags_at part.version + 50
     + 8 * part.count
 long_body part fits form =
     let ps : List ℕ = flat_map place_bytes (listed_places part) in
@@ -299,5 +299,5 @@ unfolding word_bytes
 first_few part ps = flags_few part.closing
 
 -- the flags in it
-pub few_flags : (part : EcmPart) → flags_of part.version (ecm_body part) ≤ 1
+pub few_flags : (part : EcmPart) → body_flags part.version (ecm_body part) ≤ 1
 few_flags part = rw (tail_again part) (first_few part (flat_map place_bytes (listed_places part)))

@@ -6,18 +6,18 @@ use Rattle.std.specs.Bool.{Decides}
 use Rattle.std.specs.List.{list_all}
 use Rattle.std.proofs.lemmas.Bool.Decides.{Decides-and, Decides-or, Decides-eqb, Decides-ltb, Decides-like}
 use Rattle.std.proofs.lemmas.Bool.Decides.{Decides-by_and}
-use Rattle.sd_packet.specs.Packing.{packed}
+use Rattle.sd_packet.specs.Packing.{section_packet}
 use Rattle.sd_packet.specs.Positions.{is_positional}
 use Rattle.sd_section.specs.Header.{least_length, table_id_of, section_length_of, extension_of, section_number_of}
 use Rattle.sd_section.specs.Header.{last_number_of, body_of}
-use Rattle.sd_message.specs.Framed.{has_section, section_of}
+use Rattle.sd_message.specs.Framed.{frames_section, section_of}
 use Rattle.sd_message.proofs.Deciding.{tells_section, is_false, tells_le}
 use Rattle.sd_message.proofs.Ascending.{tells_pairs}
 use Rattle.sd_message.specs.EcmVersions.{positions_for, ecm_head_length, even_table_id, version_for}
 use Rattle.sd_message.specs.EcmSpelled.{listed_places, ecm_section, SpellsPart}
-use Rattle.sd_message.specs.EcmForm.{ArePositioned, IsPositioned, AreAscending, IsEcm, FitsFields}
-use Rattle.sd_message.specs.EcmFields.{version_of, flags_of, ecm_in, ecm_of, HasCount, IsMatched, IsEcmSection, IsEcmPacket}
-use Rattle.sd_message.specs.EcmFields.{IsGoodIn, BreaksIn, BreaksFirst}
+use Rattle.sd_message.specs.EcmForm.{ArePositioned, IsPositioned, ArePidsAscending, IsEcm, FitsEcmFields}
+use Rattle.sd_message.specs.EcmFields.{ecm_version_of, body_flags, ecm_in, ecm_of, HasEcmCount, IsMatched, IsEcmSection, IsEcmPacket}
+use Rattle.sd_message.specs.EcmFields.{IsGoodEcm, BreaksEcmRule, BreaksEcmFirst}
 use Rattle.sd_message.specs.EcmJudged.{is_count_due, are_positioned, is_ascending_by_pid, is_matched, ecm_judged}
 use Rattle.sd_message.specs.EcmJudged.{is_ecm_section}
 use Rattle.sd_message.specs.EcmJudged.{has_ecm, ecm_read}
@@ -29,7 +29,7 @@ use Rattle.sd_message.proofs.EcmReading.{IsParted, at_section, breaks_first, goo
 use Rattle.sd_message.proofs.EcmReading.{spelled_is_read, spelled_is_good, written_spells}
 
 -- the count is what it is to be
-tells_counted : (length : ℕ) (part : EcmPart) → Decides (is_count_due length part) (HasCount length part)
+tells_counted : (length : ℕ) (part : EcmPart) → Decides (is_count_due length part) (HasEcmCount length part)
 tells_counted length part =
     let most : ℕ = positions_for part.version in
     Decides-like _
@@ -54,7 +54,7 @@ tells_positioned places =
     (λ place. tells_same (is_positional place.pid)) refl (λ _ _. refl) places
 
 -- they ascend
-tells_ascending : (places : List Place) → Decides (is_ascending_by_pid places) (AreAscending places)
+tells_ascending : (places : List Place) → Decides (is_ascending_by_pid places) (ArePidsAscending places)
 tells_ascending places =
     tells_pairs (λ (a b : Place). nat_lt a.pid b.pid) (λ a b. a.pid < b.pid) (λ a b. Decides-ltb a.pid b.pid) places
 
@@ -77,8 +77,8 @@ tells_matched table_id flags part =
 tells_ecm_section : (section : List ℕ) → Decides (is_ecm_section section) (IsEcmSection section)
 tells_ecm_section section =
     let table : ℕ = table_id_of section in
-    let even : ℕ = even_table_id (version_of section) in
-    let room : ℕ = ecm_head_length (version_of section) + least_length in
+    let even : ℕ = even_table_id (ecm_version_of section) in
+    let room : ℕ = ecm_head_length (ecm_version_of section) + least_length in
     Decides-like _
     (λ all. record { table_id = all.0; extension = all.1.0; numbered = all.1.1.0; room = all.1.1.1 })
     (λ is. (is.table_id, (is.extension, (is.numbered, is.room))))
@@ -93,11 +93,11 @@ tells_ecm : (packet : List ℕ) → Decides (has_ecm packet) (IsEcmPacket packet
 unfolding has_ecm
 tells_ecm packet =
     Decides-like _ (λ both. record { has = both.0; ecm = both.1 }) (λ is. (is.has, is.ecm))
-    (Decides-and (has_section packet) (is_ecm_section (section_of packet)) (tells_section packet)
+    (Decides-and (frames_section packet) (is_ecm_section (section_of packet)) (tells_section packet)
     (tells_ecm_section (section_of packet)))
 
 -- what breaks no rule is taken
-judged_good : (table_id : ℕ) (body : List ℕ) (part : EcmPart) → IsGoodIn table_id body part →
+judged_good : (table_id : ℕ) (body : List ℕ) (part : EcmPart) → IsGoodEcm table_id body part →
     ecm_judged table_id body part ≡ Ok (Some part)
 unfolding ecm_judged
 judged_good table_id body part good =
@@ -105,13 +105,13 @@ judged_good table_id body part good =
       (tells_counted (length body) part).1 good.has_count,
       (tells_positioned (listed_places part)).1 good.places,
       (tells_ascending (listed_places part)).1 good.ascending,
-      (tells_matched table_id (flags_of part.version body) part).1
+      (tells_matched table_id (body_flags part.version body) part).1
           good.matched,
     )
     refl
 
 -- the rule that is broken first is the fault
-judged_bad : (table_id : ℕ) (body : List ℕ) (part : EcmPart) (fault : EcmFault) → BreaksIn table_id body part fault →
+judged_bad : (table_id : ℕ) (body : List ℕ) (part : EcmPart) (fault : EcmFault) → BreaksEcmRule table_id body part fault →
     ecm_judged table_id body part ≡ Err fault
 unfolding ecm_judged
 judged_bad table_id body part Count breaks = rw (is_false _ (tells_counted (length body) part) breaks) refl
@@ -130,7 +130,7 @@ judged_bad table_id body part Mixed breaks =
       (tells_counted (length body) part).1 breaks.0,
       (tells_positioned (listed_places part)).1 breaks.1.0,
       (tells_ascending (listed_places part)).1 breaks.1.1.0,
-      is_false _ (tells_matched table_id (flags_of part.version body)
+      is_false _ (tells_matched table_id (body_flags part.version body)
           part) breaks.1.1.1,
     )
     refl
@@ -156,18 +156,18 @@ taken false read part is = absurd (cc)
 
 -- what is taken breaks no rule
 good_judged : (table_id : ℕ) (body : List ℕ) (part read : EcmPart) → ecm_judged table_id body part ≡ Ok (Some read) →
-    (part ≡ read) × IsGoodIn table_id body part
+    (part ≡ read) × IsGoodEcm table_id body part
 unfolding ecm_judged
 good_judged table_id body part read is =
     let all = all_passed (is_count_due (length body) part) (are_positioned (listed_places part))
     (is_ascending_by_pid (listed_places part))
-    (is_matched table_id (flags_of part.version body) part) part read is in (
+    (is_matched table_id (body_flags part.version body) part) part read is in (
       all.1.1.1,
       record {
         has_count = (tells_counted (length body) part).0 all.0.0;
         places = (tells_positioned (listed_places part)).0 all.0.1;
         ascending = (tells_ascending (listed_places part)).0 all.1.0;
-        matched = (tells_matched table_id (flags_of part.version body) part).0 all.1.1.0;
+        matched = (tells_matched table_id (body_flags part.version body) part).0 all.1.1.0;
       },
     )
 
@@ -177,7 +177,7 @@ unfolding ecm_read
 other_reads packet other = rw (is_false _ (tells_ecm packet) other) refl
 
 -- one that breaks a rule as the first that it breaks
-pub broken_reads : (packet : List ℕ) (fault : EcmFault) → IsEcmPacket packet → BreaksFirst (section_of packet) fault →
+pub broken_reads : (packet : List ℕ) (fault : EcmFault) → IsEcmPacket packet → BreaksEcmFirst (section_of packet) fault →
     ecm_read packet ≡ Err fault
 unfolding ecm_read
 broken_reads packet fault is breaks =
@@ -186,7 +186,7 @@ broken_reads packet fault is breaks =
 
 -- one that breaks none as what it says
 pub good_reads : (packet : List ℕ) → IsEcmPacket packet →
-    IsGoodIn (table_id_of (section_of packet)) (body_of (section_of packet)) (ecm_of (section_of packet)) →
+    IsGoodEcm (table_id_of (section_of packet)) (body_of (section_of packet)) (ecm_of (section_of packet)) →
     ecm_read packet ≡ Ok (Some (ecm_of (section_of packet)))
 unfolding ecm_read
 good_reads packet is good =
@@ -196,14 +196,14 @@ good_reads packet is good =
 -- what is known of the parts of a packet's section, by themselves
 pub broken_at : (packet section body : List ℕ) (table_id number last : ℕ) (fault : EcmFault) → IsEcmPacket packet →
     section ≡ section_of packet → IsParted section body table_id number last →
-    BreaksIn table_id body (ecm_in (version_for table_id) number last body) fault → ecm_read packet ≡ Err fault
+    BreaksEcmRule table_id body (ecm_in (version_for table_id) number last body) fault → ecm_read packet ≡ Err fault
 broken_at packet section body table_id number last fault is is_section are breaks =
     broken_reads packet fault is (breaks_first packet section body table_id number last fault is_section are breaks)
 
 pub good_at : (packet section body : List ℕ) (table_id number last : ℕ) (part : EcmPart) → IsEcmPacket packet →
     section ≡ section_of packet → IsParted section body table_id number last → part ≡ ecm_in (version_for table_id)
     number last body →
-    IsGoodIn table_id body (ecm_in (version_for table_id) number last body) → ecm_read packet ≡ Ok (Some part)
+    IsGoodEcm table_id body (ecm_in (version_for table_id) number last body) → ecm_read packet ≡ Ok (Some part)
 good_at packet section body table_id number last part is is_section are is_part good =
     let same : part ≡ ecm_of section = at_section (λ (t : ℕ) (b : List ℕ) (p : EcmPart). part ≡ p) section body table_id
     number last are is_part in
@@ -211,7 +211,7 @@ good_at packet section body table_id number last part is is_section are is_part 
     ∙ ap (λ (p : EcmPart). Ok (Some p)) (sym (same ∙ ap ecm_of is_section))
 
 -- a packet that spells a part is read as it
-pub spelled_reads : (part : EcmPart) (packet : List ℕ) → FitsFields part → IsEcm part → SpellsPart part packet →
+pub spelled_reads : (part : EcmPart) (packet : List ℕ) → FitsEcmFields part → IsEcm part → SpellsPart part packet →
     ecm_read packet
     ≡ Ok (Some part)
 spelled_reads part packet fits form spells =
@@ -219,16 +219,16 @@ spelled_reads part packet fits form spells =
     (spelled_is_good part packet (section_of packet) fits form spells refl)
     ∙ ap (λ (p : EcmPart). Ok (Some p)) (spelled_is_read part packet (section_of packet) fits form spells refl)
 
-pub packed_reads : (part : EcmPart) (pid counter : ℕ) → FitsFields part → IsEcm part → pid < 8192 → counter < 16 →
-    ecm_read (packed (ecm_section part) pid counter) ≡ Ok (Some part)
+pub packed_reads : (part : EcmPart) (pid counter : ℕ) → FitsEcmFields part → IsEcm part → pid < 8192 → counter < 16 →
+    ecm_read (section_packet (ecm_section part) pid counter) ≡ Ok (Some part)
 packed_reads part pid counter fits form p c =
-    spelled_reads part (packed (ecm_section part) pid counter) fits form (written_spells part pid counter p c)
+    spelled_reads part (section_packet (ecm_section part) pid counter) fits form (written_spells part pid counter p c)
 
 -- what is read is in its form, and its table_id has the parity of its control word
 record IsTaken (packet : List ℕ) (part : EcmPart) : Type 0 where
   same : ecm_of (section_of packet) ≡ part
   ecm : IsEcmSection (section_of packet)
-  good : IsGoodIn (table_id_of (section_of packet)) (body_of (section_of packet)) (ecm_of (section_of packet))
+  good : IsGoodEcm (table_id_of (section_of packet)) (body_of (section_of packet)) (ecm_of (section_of packet))
 
 is_taken : (packet : List ℕ) (part : EcmPart) → ecm_read packet ≡ Ok (Some part) → IsTaken packet part
 unfolding ecm_read

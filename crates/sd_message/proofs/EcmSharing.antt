@@ -9,7 +9,7 @@ use Rattle.sd_message.proofs.Pieces.{full_or_last, some_or_first, long_piece, ea
 use Rattle.sd_message.proofs.Pieces.{filled_items, filled_rest, filled_length}
 use Rattle.sd_message.specs.EcmVersions.{IsVersion, IsNamed, IsSince, positions_for}
 use Rattle.sd_message.specs.EcmSpelled.{listed_places}
-use Rattle.sd_message.specs.EcmForm.{IsCounted, IsPositioned, ArePositioned, AreAscending, AreShort, IsEcm, FitsFields}
+use Rattle.sd_message.specs.EcmForm.{IsEcmCounted, IsPositioned, ArePositioned, ArePidsAscending, AreShort, IsEcm, FitsEcmFields}
 use Rattle.sd_message.specs.EcmForm.{no_place}
 use Rattle.sd_message.specs.EcmFields.{padded_places}
 use Rattle.sd_message.specs.EcmParts.{Message, parts_for, part_count_of, places_at, part_at, parts_of, IsMessage, IsOfMessage}
@@ -60,9 +60,9 @@ joined_are_all message =
     (some_fit message.version) (listed_at message)
 
 -- so those ascend over all parts
-pub all_ascend : (message : Message) → AreAscending message.places →
-    AreAscending (flat_map listed_places (parts_of message))
-all_ascend message up = subst AreAscending (sym (joined_are_all message)) up
+pub all_ascend : (message : Message) → ArePidsAscending message.places →
+    ArePidsAscending (flat_map listed_places (parts_of message))
+all_ascend message up = subst ArePidsAscending (sym (joined_are_all message)) up
 
 -- how many parts there are
 pub as_many : (message : Message) → length (parts_of message) ≡ part_count_of message
@@ -114,7 +114,7 @@ place_stands message q r k place few within =
 
 -- the counts of a part are good
 counted_at : (message : Message) (x : ℕ) → x < part_count_of message →
-    IsCounted (positions_for message.version) x (part_count_of message - 1) (length (places_at message x))
+    IsEcmCounted (positions_for message.version) x (part_count_of message - 1) (length (places_at message x))
 counted_at message x within =
     let n : ℕ = positions_for message.version in
     let long = long_piece n message.places x in
@@ -133,7 +133,7 @@ record AreRight (part : EcmPart) : Type 0 where
   named : IsNamed part.version part.run
   since : IsSince part.version part.number part.since
   numbered : part.part ≤ part.last_part
-  counted : IsCounted (positions_for part.version) part.part part.last_part part.count
+  counted : IsEcmCounted (positions_for part.version) part.part part.last_part part.count
   rest : drop part.count part.positions ≡ replicate (13 - part.count) no_place
 
 are_right : (message : Message) (x : ℕ) → x < part_count_of message → IsVersion message.version →
@@ -152,7 +152,7 @@ are_right message x within version named since = record {
 -- a part of the message is one that this project writes
 pub is_ecm : (message : Message) (x : ℕ) → x < part_count_of message → IsVersion message.version →
     IsNamed message.version message.run → IsSince message.version message.number message.since →
-    ArePositioned message.places → AreAscending message.places → AreShort message.places → IsEcm (part_at message x)
+    ArePositioned message.places → ArePidsAscending message.places → AreShort message.places → IsEcm (part_at message x)
 is_ecm message x within version named since places up positions =
     let n : ℕ = positions_for message.version in
     let parts = are_right message x within version named since in
@@ -178,7 +178,7 @@ few_parts version places few = elim (cases_eq version 1) [
 ]
 
 -- and each fits its fields
-fits_at : (message : Message) (x : ℕ) → x < part_count_of message → IsMessage message → FitsFields (part_at message x)
+fits_at : (message : Message) (x : ℕ) → x < part_count_of message → IsMessage message → FitsEcmFields (part_at message x)
 unfolding part_at
 fits_at message x within is =
     let few = few_parts message.version (length message.places) is.count in
@@ -208,9 +208,9 @@ fits_at message x within is =
 
 -- each part of the message is one that this project writes, and fits its fields
 pub all_are_ecms : (message : Message) → IsMessage message →
-    All (λ part. IsEcm part × FitsFields part) (parts_of message)
+    All (λ part. IsEcm part × FitsEcmFields part) (parts_of message)
 all_are_ecms message is =
-    each_part (λ part. IsEcm part × FitsFields part) message
+    each_part (λ part. IsEcm part × FitsEcmFields part) message
     (λ x within. (
       is_ecm message x within is.version is.named is.since is.places is.ascending is.positions,
       fits_at message x

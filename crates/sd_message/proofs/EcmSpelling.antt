@@ -14,7 +14,7 @@ use Rattle.sd_message.specs.EcmVersions.{flags_at}
 use Rattle.sd_message.specs.EcmSpelled.{listed_places, place_bytes, flags_for, numbers_bytes, since_bytes, word_bytes}
 use Rattle.sd_message.specs.EcmSpelled.{ecm_head_bytes}
 use Rattle.sd_message.specs.EcmSpelled.{ecm_body}
-use Rattle.sd_message.specs.EcmFields.{place_of, from_flags, flags_of, since_in, ecm_run_in, ecm_in}
+use Rattle.sd_message.specs.EcmFields.{ecm_position_in, from_flags, body_flags, since_in, ecm_run_in, ecm_in}
 use Rattle.sd_message.specs.declared.ecm_part.Place.{Place}
 use Rattle.sd_message.proofs.Versions.{flags_after}
 use Rattle.sd_message.proofs.EcmJudging.{listed_in}
@@ -26,8 +26,8 @@ pub one_put : (head body : List ℕ) (places : List Place) (k : ℕ) (d : Place)
 one_put head body places k d within is = Items.one_put place_bytes head body places k d within is
 
 -- a position is spelled as it was read
-place_spelled : (bytes : List ℕ) → IsBytes bytes → length bytes ≡ 8 → place_bytes (place_of bytes) ≡ bytes
-unfolding place_bytes place_of
+place_spelled : (bytes : List ℕ) → IsBytes bytes → length bytes ≡ 8 → place_bytes (ecm_position_in bytes) ≡ bytes
+unfolding place_bytes ecm_position_in
 place_spelled bytes each long =
     let pid : to_be_bytes w16 (field bytes 0 16) ≡ take 2 bytes = half_spelled bytes 0 each (omega arith) in
     let position : drop 2 (to_be_bytes w64 (field bytes 16 48)) ≡ take 6 (drop 2 bytes) = long_spelled bytes 2 each
@@ -90,13 +90,13 @@ since_spelled v number body each long = elim (cases_eq v 3) [
 ]
 
 -- so is what stands between them and the positions
-word_again : (v number last : ℕ) (body : List ℕ) → 50 ≤ length (from_flags v body) → flags_of v body ≤ 1 →
+word_again : (v number last : ℕ) (body : List ℕ) → 50 ≤ length (from_flags v body) → body_flags v body ≤ 1 →
     word_bytes (ecm_in v number last body) ≡ take 50 (from_flags v body)
 unfolding word_bytes ecm_in
 word_again v number last body long few =
     let tail : List ℕ = from_flags v body in
-    let flags : flags_for (flags_of v body == 1) ∷ [] ≡ take 1 tail =
-    ap (λ (n : ℕ). n ∷ []) (flags_spelled (flags_of v body) few) ∙ sym (ap (take 1) (drop_more tail 0 0 (omega arith)))
+    let flags : flags_for (body_flags v body == 1) ∷ [] ≡ take 1 tail =
+    ap (λ (n : ℕ). n ∷ []) (flags_spelled (body_flags v body) few) ∙ sym (ap (take 1) (drop_more tail 0 0 (omega arith)))
     in
     let count : slice_index tail 49 ∷ [] ≡ take 1 (drop 49 tail) = sym (ap (take 1) (drop_more tail 49 0 (omega arith)))
     in
@@ -130,7 +130,7 @@ body_is numbers since word places =
 
 -- so is the whole body
 pub body_spelled : (v number last : ℕ) (body : List ℕ) → IsBytes body →
-    length body ≡ flags_at v + 50 + 8 * (ecm_in v number last body).count → flags_of v body ≤ 1 →
+    length body ≡ flags_at v + 50 + 8 * (ecm_in v number last body).count → body_flags v body ≤ 1 →
     ecm_body (ecm_in v number last body) ≡ body
 unfolding ecm_body ecm_head_bytes
 body_spelled v number last body each long few =
@@ -141,7 +141,7 @@ body_spelled v number last body each long few =
     let long_tail : length tail ≡ 50 + 8 * part.count = omega (arith, length-drop (flags_at v) body) in
     let places : ps ≡ drop 50 tail =
     ap (flat_map place_bytes) (listed_in v number last body)
-    ∙ items_spelled place_of place_bytes 8 part.count (drop 50 tail) place_spelled
+    ∙ items_spelled ecm_position_in place_bytes 8 part.count (drop 50 tail) place_spelled
     (bytes_drop 50 tail (bytes_drop (flags_at v) body each))
     (omega (arith, length-drop 50 tail)) in
     let word : word_bytes part ++ ps ≡ tail =

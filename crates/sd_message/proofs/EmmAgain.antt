@@ -11,8 +11,8 @@ use Rattle.sd_message.proofs.Numbers.{half_again, word_again}
 use Rattle.sd_message.proofs.Items.{items_again, long_items}
 use Rattle.sd_message.proofs.Pieces.{filled_again}
 use Rattle.sd_message.specs.EmmSpelled.{listed_entries, name_bytes, entry_bytes, run_bytes, emm_head_bytes, emm_body}
-use Rattle.sd_message.specs.EmmForm.{AreSets, IsEmm, FitsFields, no_entry}
-use Rattle.sd_message.specs.EmmFields.{set_name_of, entry_in, entries_in, padded_entries, count_at, emm_head_length}
+use Rattle.sd_message.specs.EmmForm.{AreSets, IsEmm, FitsEmmFields, no_entry}
+use Rattle.sd_message.specs.EmmFields.{set_name_of, emm_entry_in, entries_in, padded_entries, count_at, emm_head_length}
 use Rattle.sd_message.specs.EmmFields.{emm_run_in, emm_in}
 use Rattle.sd_message.specs.declared.emm.Entry.{Entry}
 use Rattle.sd_message.specs.declared.emm.Emm.{Emm}
@@ -38,8 +38,8 @@ long_entry entry fits = omega (
 )
 
 -- an entry alone
-entry_alone : (entry : Entry) → IsSpellable entry → entry_in (entry_bytes entry) ≡ entry
-unfolding entry_in entry_bytes
+entry_alone : (entry : Entry) → IsSpellable entry → emm_entry_in (entry_bytes entry) ≡ entry
+unfolding emm_entry_in entry_bytes
 entry_alone entry fits =
     let after : drop 8 (name_bytes entry.name ++ entry.wrapped) ≡ entry.wrapped =
     drop_at (name_bytes entry.name) entry.wrapped 8 (long_name entry.name) in
@@ -70,7 +70,7 @@ pub few_entries : (emm : Emm) → IsEmm emm → emm.count ≤ 3
 few_entries emm form = omega (arith, form.counted.count_is)
 
 -- each that there is can be spelled
-all_spellable : (h : ℕ) (emm : Emm) → h ≤ 20 → FitsFields emm → IsEmm emm → AreSets h emm.sets (listed_entries emm) →
+all_spellable : (h : ℕ) (emm : Emm) → h ≤ 20 → FitsEmmFields emm → IsEmm emm → AreSets h emm.sets (listed_entries emm) →
     All IsSpellable (listed_entries emm)
 all_spellable h emm high fits form sets k d below =
     record {
@@ -79,7 +79,7 @@ all_spellable h emm high fits form sets k d below =
     }
 
 -- filled up, they are all entries
-padded_again : (emm : Emm) → FitsFields emm → IsEmm emm → padded_entries (listed_entries emm) ≡ emm.entries
+padded_again : (emm : Emm) → FitsEmmFields emm → IsEmm emm → padded_entries (listed_entries emm) ≡ emm.entries
 padded_again emm fits form =
     let few = few_entries emm form in
     filled_again 3 emm.count no_entry emm.entries (length-take-le emm.count emm.entries (omega (arith, fits.entries)))
@@ -109,7 +109,7 @@ tail_read (Some run) count entries xs fits is =
     }
 
 -- the body is read as what it spells
-pub body_again : (h : ℕ) (emm : Emm) → h ≤ 20 → FitsFields emm → IsEmm emm → AreSets h emm.sets (listed_entries emm) →
+pub body_again : (h : ℕ) (emm : Emm) → h ≤ 20 → FitsEmmFields emm → IsEmm emm → AreSets h emm.sets (listed_entries emm) →
     emm_in (is_some emm.run) emm.index (emm_body emm) ≡ emm
 unfolding emm_in emm_body emm_head_bytes
 body_again h emm high fits form sets =
@@ -128,7 +128,7 @@ body_again h emm high fits form sets =
     let entries : entries_in (slice_index xs (count_at (is_some emm.run))) (drop (emm_head_length (is_some emm.run)) xs)
     ≡ listed_entries emm =
     ap (λ (n : ℕ). entries_in n (drop (emm_head_length (is_some emm.run)) xs)) (tail.count ∙ long)
-    ∙ (ap (entries_in (length (listed_entries emm))) tail.rest ∙ items_again entry_in
+    ∙ (ap (entries_in (length (listed_entries emm))) tail.rest ∙ items_again emm_entry_in
     entry_bytes IsSpellable 40 (listed_entries emm)
     long_entry entry_alone (all_spellable h emm high fits form sets)) in
     same_made _ emm.period _ emm.sets _ emm.sections emm.index _ emm.check _ emm.run _ emm.count _ emm.entries
@@ -160,7 +160,7 @@ long_body emm check =
       long_end emm.run emm.count,
     )
 
-pub long_whole : (h : ℕ) (emm : Emm) → h ≤ 20 → FitsFields emm → IsEmm emm → AreSets h emm.sets (listed_entries emm) →
+pub long_whole : (h : ℕ) (emm : Emm) → h ≤ 20 → FitsEmmFields emm → IsEmm emm → AreSets h emm.sets (listed_entries emm) →
     length (emm_body emm) ≡ emm_head_length (is_some emm.run) + 40 * emm.count
 unfolding emm_body
 long_whole h emm high fits form sets =

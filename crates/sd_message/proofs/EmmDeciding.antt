@@ -15,20 +15,20 @@ use Rattle.std.proofs.lemmas.Bool.{cases_lt, false≢true}
 use Rattle.std.proofs.lemmas.Bool.Decides.{Decides-and, Decides-or, Decides-eqb, Decides-ltb, Decides-like}
 use Rattle.std.proofs.lemmas.Bool.Decides.{Decides-by_and}
 use Rattle.std.proofs.lemmas.Bool.Decides.{Decides-below_or}
-use Rattle.sd_packet.specs.Packing.{packed}
+use Rattle.sd_packet.specs.Packing.{section_packet}
 use Rattle.sd_tree_keys.specs.SetNames.{IsPair, set_cmp, AreAscending}
 use Rattle.sd_tree_keys.specs.Node.{IsProperlyAbove}
 use Rattle.sd_tree_keys.specs.declared.set.SetName.{SetName}
 use Rattle.sd_tree_keys.specs.declared.set.SetName.TheVariants.{Whole, Diff}
 use Rattle.sd_section.specs.Header.{least_length, extension_of, body_of, section_length_of, table_id_of}
 use Rattle.sd_section.specs.Header.{section_number_of, last_number_of}
-use Rattle.sd_message.specs.Framed.{has_section, section_of}
+use Rattle.sd_message.specs.Framed.{frames_section, section_of}
 use Rattle.sd_message.proofs.Deciding.{tells_section, is_false, tells_le}
 use Rattle.sd_message.proofs.Ascending.{tells_pairs}
 use Rattle.sd_message.specs.EmmSpelled.{listed_entries, names_in, emm_section, SpellsEmm}
-use Rattle.sd_message.specs.EmmForm.{IsSetBeside, AreSets, IsEmm, FitsFields, sections_for}
+use Rattle.sd_message.specs.EmmForm.{IsSetBeside, AreSets, IsEmm, FitsEmmFields, sections_for}
 use Rattle.sd_message.specs.EmmFields.{is_named, emm_head_length}
-use Rattle.sd_message.specs.EmmFields.{HasCount, IsEmmSection, IsEmmPacket, IsGoodIn, BreaksIn, BreaksFirst, emm_in}
+use Rattle.sd_message.specs.EmmFields.{HasEmmCount, IsEmmSection, IsEmmPacket, IsGoodEmm, BreaksEmmRule, BreaksEmmFirst, emm_in}
 use Rattle.sd_message.specs.EmmFields.{emm_of}
 use Rattle.sd_message.specs.EmmJudged.{is_halved, is_pair, is_set_beside, are_sets, is_ascending_by_set, is_counted}
 use Rattle.sd_message.specs.EmmJudged.{emm_judged}
@@ -115,7 +115,7 @@ tells_ascending names =
     names
 
 -- the numbers come to one another
-tells_counted : (length : ℕ) (emm : Emm) → Decides (is_counted length emm) (HasCount length emm)
+tells_counted : (length : ℕ) (emm : Emm) → Decides (is_counted length emm) (HasEmmCount length emm)
 tells_counted length emm =
     Decides-like _
     (λ all. (all.0, record { sections_are = all.1.0; index_is = all.1.1.0; count_is = all.1.1.1 }))
@@ -147,11 +147,11 @@ tells_emm : (packet : List ℕ) → Decides (has_emm packet) (IsEmmPacket packet
 unfolding has_emm
 tells_emm packet =
     Decides-like _ (λ both. record { has = both.0; emm = both.1 }) (λ is. (is.has, is.emm))
-    (Decides-and (has_section packet) (is_emm_section (section_of packet)) (tells_section packet)
+    (Decides-and (frames_section packet) (is_emm_section (section_of packet)) (tells_section packet)
     (tells_emm_section (section_of packet)))
 
 -- what breaks no rule is taken
-judged_good : (h length : ℕ) (emm : Emm) → IsGoodIn h length emm → emm_judged h length emm ≡ Ok (Some emm)
+judged_good : (h length : ℕ) (emm : Emm) → IsGoodEmm h length emm → emm_judged h length emm ≡ Ok (Some emm)
 unfolding emm_judged
 judged_good h length emm good =
     rw (
@@ -162,7 +162,7 @@ judged_good h length emm good =
     refl
 
 -- the rule that is broken first is the fault
-judged_bad : (h length : ℕ) (emm : Emm) (fault : EmmFault) → BreaksIn h length emm fault → emm_judged h length emm
+judged_bad : (h length : ℕ) (emm : Emm) (fault : EmmFault) → BreaksEmmRule h length emm fault → emm_judged h length emm
     ≡ Err fault
 unfolding emm_judged
 judged_bad h length emm Count breaks = rw (is_false _ (tells_counted length emm) breaks) refl
@@ -196,7 +196,7 @@ taken false read emm is = absurd (cc)
 
 -- what is taken breaks no rule
 good_judged : (h length : ℕ) (emm read : Emm) → emm_judged h length emm ≡ Ok (Some read) →
-    (emm ≡ read) × IsGoodIn h length emm
+    (emm ≡ read) × IsGoodEmm h length emm
 unfolding emm_judged
 good_judged h length emm read is =
     let all = all_passed (is_counted length emm) (are_sets h emm.sets (listed_entries emm))
@@ -215,7 +215,7 @@ unfolding emm_read
 other_reads h packet other = rw (is_false _ (tells_emm packet) other) refl
 
 -- one that breaks a rule as the first that it breaks
-pub broken_reads : (h : ℕ) (packet : List ℕ) (fault : EmmFault) → IsEmmPacket packet → BreaksFirst h (section_of packet)
+pub broken_reads : (h : ℕ) (packet : List ℕ) (fault : EmmFault) → IsEmmPacket packet → BreaksEmmFirst h (section_of packet)
     fault →
     emm_read h packet ≡ Err fault
 unfolding emm_read
@@ -224,7 +224,7 @@ broken_reads h packet fault is breaks = rw ((tells_emm packet).1 is) (judged_bad
 
 -- one that breaks none as what it says
 pub good_reads : (h : ℕ) (packet : List ℕ) → IsEmmPacket packet →
-    IsGoodIn h (length (body_of (section_of packet))) (emm_of (section_of packet)) → emm_read h packet
+    IsGoodEmm h (length (body_of (section_of packet))) (emm_of (section_of packet)) → emm_read h packet
     ≡ Ok (Some (emm_of (section_of packet)))
 unfolding emm_read
 good_reads h packet is good = rw ((tells_emm packet).1 is) (judged_good h _ (emm_of (section_of packet)) good)
@@ -241,18 +241,18 @@ at_section P packet section body named index is_section are known =
 
 pub broken_at : (h : ℕ) (packet section body : List ℕ) (named : Bool) (index : ℕ) (fault : EmmFault) →
     IsEmmPacket packet → section ≡ section_of packet → IsParted section body named index →
-    BreaksIn h (length body) (emm_in named index body) fault → emm_read h packet ≡ Err fault
+    BreaksEmmRule h (length body) (emm_in named index body) fault → emm_read h packet ≡ Err fault
 broken_at h packet section body named index fault is is_section are breaks =
     broken_reads h packet fault is
-    (at_section (λ (m : Bool) (n : ℕ) (b : List ℕ). BreaksIn h (length b) (emm_in m n b) fault) packet section body
+    (at_section (λ (m : Bool) (n : ℕ) (b : List ℕ). BreaksEmmRule h (length b) (emm_in m n b) fault) packet section body
     named index is_section are breaks)
 
 pub good_at : (h : ℕ) (packet section body : List ℕ) (named : Bool) (index : ℕ) (emm : Emm) → IsEmmPacket packet →
     section ≡ section_of packet → IsParted section body named index → emm ≡ emm_in named index body →
-    IsGoodIn h (length body) (emm_in named index body) → emm_read h packet ≡ Ok (Some emm)
+    IsGoodEmm h (length body) (emm_in named index body) → emm_read h packet ≡ Ok (Some emm)
 good_at h packet section body named index emm is is_section are is_emm good =
     good_reads h packet is
-    (at_section (λ (m : Bool) (n : ℕ) (b : List ℕ). IsGoodIn h (length b) (emm_in m n b)) packet section body named
+    (at_section (λ (m : Bool) (n : ℕ) (b : List ℕ). IsGoodEmm h (length b) (emm_in m n b)) packet section body named
     index is_section are good)
     ∙ ap (λ (e : Emm). Ok (Some e))
     (sym (at_section (λ (m : Bool) (n : ℕ) (b : List ℕ). emm ≡ emm_in m n b) packet section body named index is_section
@@ -261,21 +261,21 @@ good_at h packet section body named index emm is is_section are is_emm good =
 -- what is found of the parts is so of the section: the rule that it breaks first, or that it breaks none
 pub breaks_first : (h : ℕ) (packet section body : List ℕ) (named : Bool) (index : ℕ) (fault : EmmFault) →
     section ≡ section_of packet → IsParted section body named index →
-    BreaksIn h (length body) (emm_in named index body) fault → BreaksFirst h (section_of packet) fault
+    BreaksEmmRule h (length body) (emm_in named index body) fault → BreaksEmmFirst h (section_of packet) fault
 breaks_first h packet section body named index fault is_section are breaks =
-    at_section (λ (m : Bool) (n : ℕ) (b : List ℕ). BreaksIn h (length b) (emm_in m n b) fault) packet section body
+    at_section (λ (m : Bool) (n : ℕ) (b : List ℕ). BreaksEmmRule h (length b) (emm_in m n b) fault) packet section body
     named index is_section are breaks
 
 pub never_first : (h : ℕ) (packet section body : List ℕ) (named : Bool) (index : ℕ) (fault : EmmFault) →
     section ≡ section_of packet → IsParted section body named index →
-    IsGoodIn h (length body) (emm_in named index body) → ¬ BreaksFirst h (section_of packet) fault
+    IsGoodEmm h (length body) (emm_in named index body) → ¬ BreaksEmmFirst h (section_of packet) fault
 never_first h packet section body named index fault is_section are good breaks =
     good_never _ _ _ fault
-    (at_section (λ (m : Bool) (n : ℕ) (b : List ℕ). IsGoodIn h (length b) (emm_in m n b)) packet section body named
+    (at_section (λ (m : Bool) (n : ℕ) (b : List ℕ). IsGoodEmm h (length b) (emm_in m n b)) packet section body named
     index is_section are good) breaks
 
 -- a packet that spells entitlements is read as them
-pub spelled_reads : (h : ℕ) (emm : Emm) (packet : List ℕ) → h ≤ 20 → FitsFields emm → IsEmm emm →
+pub spelled_reads : (h : ℕ) (emm : Emm) (packet : List ℕ) → h ≤ 20 → FitsEmmFields emm → IsEmm emm →
     AreSets h emm.sets (listed_entries emm) →
     SpellsEmm emm packet → emm_read h packet ≡ Ok (Some emm)
 spelled_reads h emm packet high fits form sets spells =
@@ -291,11 +291,11 @@ spelled_reads h emm packet high fits form sets spells =
     ∙ ap (λ (e : Emm). Ok (Some e)) (spelled_is_read h emm packet section (body_of section) _ (extension_of section)
     high fits form sets spells refl are)
 
-pub packed_reads : (h : ℕ) (emm : Emm) (pid counter : ℕ) → h ≤ 20 → FitsFields emm → IsEmm emm →
+pub packed_reads : (h : ℕ) (emm : Emm) (pid counter : ℕ) → h ≤ 20 → FitsEmmFields emm → IsEmm emm →
     AreSets h emm.sets (listed_entries emm) →
-    pid < 8192 → counter < 16 → emm_read h (packed (emm_section emm) pid counter) ≡ Ok (Some emm)
+    pid < 8192 → counter < 16 → emm_read h (section_packet (emm_section emm) pid counter) ≡ Ok (Some emm)
 packed_reads h emm pid counter high fits form sets p c =
-    spelled_reads h emm (packed (emm_section emm) pid counter) high fits form sets (written_spells emm pid counter p c)
+    spelled_reads h emm (section_packet (emm_section emm) pid counter) high fits form sets (written_spells emm pid counter p c)
 
 -- what is read is in its form
 pub read_form : (h : ℕ) (packet : List ℕ) (emm : Emm) → emm_read h packet ≡ Ok (Some emm) →

@@ -5,9 +5,9 @@ use Rattle.std.proofs.lemmas.List.{take_at, take_rest, drop_at}
 use Rattle.sd_tree_keys.specs.SetNames.{AreAscending}
 use Rattle.sd_message.specs.EmmSpelled.{listed_entries, names_in}
 use Rattle.sd_message.specs.EmmForm.{no_entry, AreSets, IsEmm}
-use Rattle.sd_message.specs.EmmFields.{entry_in, entries_in, padded_entries, emm_head_length, emm_in, with_entries, HasCount}
-use Rattle.sd_message.specs.EmmFields.{IsGoodIn}
-use Rattle.sd_message.specs.EmmFields.{BreaksIn}
+use Rattle.sd_message.specs.EmmFields.{emm_entry_in, entries_in, padded_entries, emm_head_length, emm_in, with_entries, HasEmmCount}
+use Rattle.sd_message.specs.EmmFields.{IsGoodEmm}
+use Rattle.sd_message.specs.EmmFields.{BreaksEmmRule}
 use Rattle.sd_message.specs.declared.emm.Entry.{Entry}
 use Rattle.sd_message.specs.declared.emm.Emm.{Emm}
 use Rattle.sd_message.specs.declared.emm_fault.EmmFault.{EmmFault}
@@ -26,7 +26,7 @@ listed_in named index body =
     let count : ℕ = (emm_in named index body).count in
     take_at (entries_in count (drop (emm_head_length named) body))
     (replicate (3 - length (entries_in count (drop (emm_head_length named) body))) no_entry) count
-    (length_items entry_in 40 count (drop (emm_head_length named) body))
+    (length_items emm_entry_in 40 count (drop (emm_head_length named) body))
 
 entries_are : (named : Bool) (index : ℕ) (body : List ℕ) → (emm_in named index body).entries
     ≡ padded_entries (entries_in (emm_in named index body).count (drop (emm_head_length named) body))
@@ -43,15 +43,15 @@ same_entries named index body head count is counted =
 
 -- the numbers don't come to one another
 pub count_breaks : (h : ℕ) (named : Bool) (index : ℕ) (body : List ℕ) (head : Emm) → IsPrefix named index body head →
-    ¬ HasCount (length body) head →
-    BreaksIn h (length body) (emm_in named index body) Count
-count_breaks h named index body head is unless has = unless (subst (HasCount (length body)) (sym is) has)
+    ¬ HasEmmCount (length body) head →
+    BreaksEmmRule h (length body) (emm_in named index body) Count
+count_breaks h named index body head is unless has = unless (subst (HasEmmCount (length body)) (sym is) has)
 
 -- they do
 has_count : (named : Bool) (index : ℕ) (body : List ℕ) (head : Emm) → IsPrefix named index body head →
-    HasCount (length body) head →
-    HasCount (length body) (emm_in named index body)
-has_count named index body head is has = subst (HasCount (length body)) is has
+    HasEmmCount (length body) head →
+    HasEmmCount (length body) (emm_in named index body)
+has_count named index body head is has = subst (HasEmmCount (length body)) is has
 
 -- the entries are sets by the number that was read where they are
 same_sets : (h : ℕ) (named : Bool) (index : ℕ) (body : List ℕ) (head : Emm) (count : ℕ) →
@@ -70,9 +70,9 @@ same_sets h named index body head count is counted =
 -- an entry is no set that may stand there
 pub node_breaks : (h : ℕ) (named : Bool) (index : ℕ) (body : List ℕ) (head : Emm) (count : ℕ) →
     IsPrefix named index body head →
-    HasCount (length body) head →
+    HasEmmCount (length body) head →
     count ≡ head.count → ¬ AreSets h head.sets (entries_in count (drop (emm_head_length named) body)) →
-    BreaksIn h (length body) (emm_in named index body) Node
+    BreaksEmmRule h (length body) (emm_in named index body) Node
 node_breaks h named index body head count is has counted unless =
     (has_count named index body head is has, λ all. unless ((same_sets h named index body head count is counted).1 all))
 
@@ -103,14 +103,14 @@ same_listed named index body head count entries is counted read =
 pub record AreRead (h : ℕ) (named : Bool) (index : ℕ) (body : List ℕ) (head : Emm) (count : ℕ) (entries : List Entry)
     : Type 0 where
   pub is : IsPrefix named index body head
-  pub has : HasCount (length body) head
+  pub has : HasEmmCount (length body) head
   pub counted : count ≡ head.count
   pub sets : AreSets h head.sets (entries_in count (drop (emm_head_length named) body))
   pub read : entries ≡ padded_entries (entries_in count (drop (emm_head_length named) body))
 
 -- so it is where they were read of what stands after the head
 pub are_read : (h : ℕ) (named : Bool) (index : ℕ) (body : List ℕ) (head : Emm) (count at : ℕ) (entries : List Entry) →
-    IsPrefix named index body head → HasCount (length body) head → count ≡ head.count → at ≡ emm_head_length named →
+    IsPrefix named index body head → HasEmmCount (length body) head → count ≡ head.count → at ≡ emm_head_length named →
     AreSets h head.sets (entries_in count (take (length body - at) (drop at body))) →
     entries ≡ padded_entries (entries_in count (take (length body - at) (drop at body))) →
     AreRead h named index body head count entries
@@ -126,7 +126,7 @@ are_read h named index body head count at entries is has counted starts sets rea
 -- the entries don't ascend
 pub order_breaks : (h : ℕ) (named : Bool) (index : ℕ) (body : List ℕ) (head : Emm) (count : ℕ) (entries : List Entry) →
     AreRead h named index body head count entries → ¬ AreAscending (names_in (take count entries)) →
-    BreaksIn h (length body) (emm_in named index body) Order
+    BreaksEmmRule h (length body) (emm_in named index body) Order
 order_breaks h named index body head count entries are unless = (
   has_count named index body head are.is are.has,
   (
@@ -139,7 +139,7 @@ order_breaks h named index body head count entries are unless = (
 -- nothing is wrong
 pub is_good : (h : ℕ) (named : Bool) (index : ℕ) (body : List ℕ) (head : Emm) (count : ℕ) (entries : List Entry) →
     AreRead h named index body head count entries → AreAscending (names_in (take count entries)) →
-    IsGoodIn h (length body) (emm_in named index body)
+    IsGoodEmm h (length body) (emm_in named index body)
 is_good h named index body head count entries are up = record {
   has_count = has_count named index body head are.is are.has;
   are_sets = (same_sets h named index body head count are.is are.counted).0 are.sets;
@@ -155,13 +155,13 @@ past_entries named index body =
     let count : ℕ = (emm_in named index body).count in
     let entries : List Entry = entries_in count (drop (emm_head_length named) body) in
     ap (drop count) (entries_are named index body)
-    ∙ (drop_at entries (replicate (3 - length entries) no_entry) count (length_items entry_in
+    ∙ (drop_at entries (replicate (3 - length entries) no_entry) count (length_items emm_entry_in
     40 count (drop (emm_head_length named) body))
-    ∙ ap (λ (n : ℕ). replicate (3 - n) no_entry) (length_items entry_in 40 count (drop (emm_head_length named) body)))
+    ∙ ap (λ (n : ℕ). replicate (3 - n) no_entry) (length_items emm_entry_in 40 count (drop (emm_head_length named) body)))
 
 -- what breaks no rule is in its form
 pub good_is_emm : (h : ℕ) (named : Bool) (index : ℕ) (body : List ℕ) →
-    IsGoodIn h (length body) (emm_in named index body) →
+    IsGoodEmm h (length body) (emm_in named index body) →
     IsEmm (emm_in named index body)
 good_is_emm h named index body good = record {
   counted = good.has_count.1;
@@ -170,7 +170,7 @@ good_is_emm h named index body good = record {
 }
 
 -- and none where nothing is wrong
-pub good_never : (h length : ℕ) (emm : Emm) (f : EmmFault) → IsGoodIn h length emm → ¬ BreaksIn h length emm f
+pub good_never : (h length : ℕ) (emm : Emm) (f : EmmFault) → IsGoodEmm h length emm → ¬ BreaksEmmRule h length emm f
 good_never h length emm Count good b = b good.has_count
 good_never h length emm Node good b = b.1 good.are_sets
 good_never h length emm Order good b = b.1.1 good.ascending

@@ -1,18 +1,18 @@
 -- Packets of entitlements and what they spell.
 use Rattle.std.proofs.Common.{◌≡◌, inl, inr, ℕ, ◌+◌, ◌*◌, ◌<◌, ◌≤◌, List, length, arith, refl, sym, ap, ◌∙◌, subst}
 use Rattle.std.specs.Prelude.{Bool, Option, Some, None, is_some}
-use Rattle.sd_packet.specs.Packing.{packed}
+use Rattle.sd_packet.specs.Packing.{section_packet}
 use Rattle.sd_section.specs.Header.{table_id_of, extension_of, body_of}
-use Rattle.sd_section.specs.Written.{section_bytes, FitsFields as FitsHeader}
+use Rattle.sd_section.specs.Written.{section_bytes, FitsHeaderFields as FitsHeader}
 use Rattle.sd_section.specs.declared.write.Header.{Header}
 use Rattle.sd_section.proofs.Spelling.{fields_are_read}
 use Rattle.sd_message.specs.Framed.{section_of, BeginsWithSection}
 use Rattle.sd_message.proofs.Numbers.{IsBytes}
 use Rattle.sd_message.proofs.Framing.{packed_begins, begun_is_there, begun_is_read}
 use Rattle.sd_message.specs.EmmSpelled.{listed_entries, table_id_for, emm_header, emm_body, emm_section, SpellsEmm}
-use Rattle.sd_message.specs.EmmForm.{AreSets, IsEmm, FitsFields}
-use Rattle.sd_message.specs.EmmFields.{is_named, IsTable, emm_head_length, emm_run_in, emm_in, IsEmmSection, IsEmmPacket}
-use Rattle.sd_message.specs.EmmFields.{IsGoodIn}
+use Rattle.sd_message.specs.EmmForm.{AreSets, IsEmm, FitsEmmFields}
+use Rattle.sd_message.specs.EmmFields.{is_named, IsEmmTable, emm_head_length, emm_run_in, emm_in, IsEmmSection, IsEmmPacket}
+use Rattle.sd_message.specs.EmmFields.{IsGoodEmm}
 use Rattle.sd_message.specs.declared.emm.Emm.{Emm}
 use Rattle.sd_message.proofs.EmmAgain.{body_again, long_whole, few_entries, few_head}
 use Rattle.sd_message.proofs.EmmJudging.{good_is_emm}
@@ -27,7 +27,7 @@ table_fits : (run : Option ℕ) → table_id_for run < 256
 table_fits None = omega arith
 table_fits (Some run) = omega arith
 
-table_is : (run : Option ℕ) → IsTable (table_id_for run)
+table_is : (run : Option ℕ) → IsEmmTable (table_id_for run)
 table_is None = inl refl
 table_is (Some run) = inr refl
 
@@ -36,7 +36,7 @@ names_again None = refl
 names_again (Some run) = refl
 
 -- the header's numbers fit
-header_fits : (emm : Emm) → FitsFields emm → FitsHeader (headed emm)
+header_fits : (emm : Emm) → FitsEmmFields emm → FitsHeader (headed emm)
 header_fits emm fits = record {
   table_id = table_fits emm.run;
   extension = fits.index;
@@ -45,13 +45,13 @@ header_fits emm fits = record {
 }
 
 -- a body is short
-short_body : (h : ℕ) (emm : Emm) → h ≤ 20 → FitsFields emm → IsEmm emm → AreSets h emm.sets (listed_entries emm) →
+short_body : (h : ℕ) (emm : Emm) → h ≤ 20 → FitsEmmFields emm → IsEmm emm → AreSets h emm.sets (listed_entries emm) →
     length (emm_body emm) ≤ 4084
 short_body h emm high fits form sets =
     omega (arith, few_entries emm form, few_head emm.run, long_whole h emm high fits form sets)
 
 -- the section of a packet that spells entitlements
-spelled_section : (h : ℕ) (emm : Emm) (packet : List ℕ) → h ≤ 20 → FitsFields emm → IsEmm emm →
+spelled_section : (h : ℕ) (emm : Emm) (packet : List ℕ) → h ≤ 20 → FitsEmmFields emm → IsEmm emm →
     AreSets h emm.sets (listed_entries emm) → SpellsEmm emm packet →
     section_of packet ≡ section_bytes (headed emm) (emm_body emm)
 unfolding emm_section
@@ -60,7 +60,7 @@ spelled_section h emm packet high fits form sets spells =
     spells
 
 -- such a packet is one of entitlements
-pub spelled_is_packet : (h : ℕ) (emm : Emm) (packet : List ℕ) → h ≤ 20 → FitsFields emm → IsEmm emm →
+pub spelled_is_packet : (h : ℕ) (emm : Emm) (packet : List ℕ) → h ≤ 20 → FitsEmmFields emm → IsEmm emm →
     AreSets h emm.sets (listed_entries emm) → SpellsEmm emm packet → IsEmmPacket packet
 unfolding emm_section
 spelled_is_packet h emm packet high fits form sets spells =
@@ -70,7 +70,7 @@ spelled_is_packet h emm packet high fits form sets spells =
     let read = fields_are_read (headed emm) (emm_body emm) (header_fits emm fits) short in
     let named : is_named (table_id_of section) ≡ is_some emm.run = ap is_named read.table_id ∙ names_again emm.run in
     let is_emm : IsEmmSection section = record {
-      table_id = subst IsTable (sym read.table_id) (table_is emm.run);
+      table_id = subst IsEmmTable (sym read.table_id) (table_is emm.run);
       number = read.number;
       last_number = read.last_number;
       room = rw named (omega (arith, read.section_length, long));
@@ -92,7 +92,7 @@ record IsSpelled (emm : Emm) (body : List ℕ) (named : Bool) (index : ℕ) : Ty
   index_is : index ≡ emm.index
   body_is : body ≡ emm_body emm
 
-is_spelled : (h : ℕ) (emm : Emm) (packet section body : List ℕ) (named : Bool) (index : ℕ) → h ≤ 20 → FitsFields emm →
+is_spelled : (h : ℕ) (emm : Emm) (packet section body : List ℕ) (named : Bool) (index : ℕ) → h ≤ 20 → FitsEmmFields emm →
     IsEmm emm → AreSets h emm.sets (listed_entries emm) → SpellsEmm emm packet → section ≡ section_of packet →
     IsParted section body named index → IsSpelled emm body named index
 is_spelled h emm packet section body named index high fits form sets spells is_section are =
@@ -108,7 +108,7 @@ is_spelled h emm packet section body named index high fits form sets spells is_s
 
 -- what is read of it is what it spells
 pub spelled_is_read : (h : ℕ) (emm : Emm) (packet section body : List ℕ) (named : Bool) (index : ℕ) → h ≤ 20 →
-    FitsFields emm → IsEmm emm → AreSets h emm.sets (listed_entries emm) → SpellsEmm emm packet →
+    FitsEmmFields emm → IsEmm emm → AreSets h emm.sets (listed_entries emm) → SpellsEmm emm packet →
     section ≡ section_of packet →
     IsParted section body named index → emm_in named index body ≡ emm
 spelled_is_read h emm packet section body named index high fits form sets spells is_section are =
@@ -119,14 +119,14 @@ spelled_is_read h emm packet section body named index high fits form sets spells
 
 -- and nothing is wrong with it
 pub spelled_is_good : (h : ℕ) (emm : Emm) (packet section body : List ℕ) (named : Bool) (index : ℕ) → h ≤ 20 →
-    FitsFields emm → IsEmm emm → AreSets h emm.sets (listed_entries emm) → SpellsEmm emm packet →
+    FitsEmmFields emm → IsEmm emm → AreSets h emm.sets (listed_entries emm) → SpellsEmm emm packet →
     section ≡ section_of packet →
-    IsParted section body named index → IsGoodIn h (length body) (emm_in named index body)
+    IsParted section body named index → IsGoodEmm h (length body) (emm_in named index body)
 spelled_is_good h emm packet section body named index high fits form sets spells is_section are =
     let is = is_spelled h emm packet section body named index high fits form sets spells is_section are in
     let long = long_whole h emm high fits form sets in
     let same = spelled_is_read h emm packet section body named index high fits form sets spells is_section are in
-    subst (λ (e : Emm). IsGoodIn h (length body) e) (sym same)
+    subst (λ (e : Emm). IsGoodEmm h (length body) e) (sym same)
     (record { has_count = (ap length is.body_is ∙ long, form.counted); are_sets = sets; ascending = form.ascending })
 
 -- what is read of a body, by its fields
@@ -140,8 +140,8 @@ run_of named index body = refl
 
 -- the packet spells what was read of it
 read_spells : (h : ℕ) (packet section body : List ℕ) (named : Bool) (index : ℕ) → IsBytes body →
-    IsGoodIn h (length body) (emm_in named index body) → IsParted section body named index →
-    IsTable (table_id_of section) → BeginsWithSection section packet →
+    IsGoodEmm h (length body) (emm_in named index body) → IsParted section body named index →
+    IsEmmTable (table_id_of section) → BeginsWithSection section packet →
     section ≡ section_bytes (emm_header (table_id_of section) (extension_of section)) (body_of section) →
     SpellsEmm (emm_in named index body) packet
 unfolding emm_section
@@ -167,8 +167,8 @@ abbrev pub IsRead : ℕ → List ℕ → Emm → Type 0
 IsRead h packet emm = SpellsEmm emm packet × (IsEmm emm × AreSets h emm.sets (listed_entries emm))
 
 pub read_is_right : (h : ℕ) (packet section body : List ℕ) (named : Bool) (index : ℕ) (emm : Emm) →
-    emm ≡ emm_in named index body → IsBytes body → IsGoodIn h (length body) (emm_in named index body) →
-    IsParted section body named index → IsTable (table_id_of section) → BeginsWithSection section packet →
+    emm ≡ emm_in named index body → IsBytes body → IsGoodEmm h (length body) (emm_in named index body) →
+    IsParted section body named index → IsEmmTable (table_id_of section) → BeginsWithSection section packet →
     section ≡ section_bytes (emm_header (table_id_of section) (extension_of section)) (body_of section) →
     IsRead h packet emm
 read_is_right h packet section body named index emm is each good are table begins spelled =
@@ -179,5 +179,5 @@ read_is_right h packet section body named index emm is each good are table begin
 
 -- the packet of entitlements begins with their section
 pub written_spells : (emm : Emm) (pid counter : ℕ) → pid < 8192 → counter < 16 →
-    SpellsEmm emm (packed (emm_section emm) pid counter)
+    SpellsEmm emm (section_packet (emm_section emm) pid counter)
 written_spells emm pid counter h k = packed_begins (emm_section emm) pid counter h k

@@ -10,7 +10,7 @@ use Rattle.sd_message.proofs.Pieces as Pieces
 use Rattle.sd_message.proofs.Pieces.{long_piece, each_of_piece, pairs_of_piece, filled_items, filled_rest}
 use Rattle.sd_message.proofs.Pieces.{filled_length}
 use Rattle.sd_message.specs.EmmSpelled.{listed_entries, names_in}
-use Rattle.sd_message.specs.EmmForm.{sections_for, IsSetBeside, AreSets, AreWrapped, IsEmm, FitsFields, no_entry}
+use Rattle.sd_message.specs.EmmForm.{sections_for, IsSetBeside, AreSets, AreWrapped, IsEmm, FitsEmmFields, no_entry}
 use Rattle.sd_message.specs.EmmFields.{padded_entries}
 use Rattle.sd_message.specs.Period.{Period, entries_at, emm_at, emms_of, IsPeriod, IsOfPeriod, SaysSame}
 use Rattle.sd_message.specs.declared.emm.Entry.{Entry}
@@ -124,7 +124,7 @@ wrapped_at period x wrapped =
 
 -- and it fits its fields
 fits_at : (period : Period) (x : ℕ) → x < sections_for (length period.entries) → IsPeriod period →
-    FitsFields (emm_at period x)
+    FitsEmmFields (emm_at period x)
 unfolding emm_at pieces_for
 fits_at period x within is =
     let few = is.sets in
@@ -143,9 +143,9 @@ fits_at period x within is =
     }
 
 -- each section of the period is one that this project writes, and fits its fields
-pub all_are_emms : (period : Period) → IsPeriod period → All (λ emm. IsEmm emm × FitsFields emm) (emms_of period)
+pub all_are_emms : (period : Period) → IsPeriod period → All (λ emm. IsEmm emm × FitsEmmFields emm) (emms_of period)
 all_are_emms period is =
-    each_section (λ emm. IsEmm emm × FitsFields emm) period
+    each_section (λ emm. IsEmm emm × FitsEmmFields emm) period
     (λ x within. (is_emm period x within is.ascending, fits_at period x within is))
 
 -- its sets may stand where the period's may

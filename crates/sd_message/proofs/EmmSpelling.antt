@@ -20,7 +20,7 @@ use Rattle.sd_message.specs.EmmSpelled.{listed_entries, emm_body, name_bytes, ru
 use Rattle.sd_message.specs.EmmSpelled.{emm_header}
 use Rattle.sd_message.specs.EmmSpelled.{table_id_for}
 use Rattle.sd_message.specs.EmmForm.{AreWrapped}
-use Rattle.sd_message.specs.EmmFields.{set_name_of, entry_in, is_named, IsTable, count_at, emm_head_length, emm_run_in, emm_in}
+use Rattle.sd_message.specs.EmmFields.{set_name_of, emm_entry_in, is_named, IsEmmTable, count_at, emm_head_length, emm_run_in, emm_in}
 use Rattle.sd_message.specs.EmmFields.{IsEmmSection}
 use Rattle.sd_message.specs.declared.emm.Entry.{Entry}
 use Rattle.sd_message.specs.declared.emm.Emm.{Emm}
@@ -59,7 +59,7 @@ unfolding header_of
 emm_headed section emm is = rw (emm.number, emm.last_number) at is
 
 -- its table_id tells whether the broadcast is named
-pub table_again : (table_id : ℕ) (body : List ℕ) → IsTable table_id →
+pub table_again : (table_id : ℕ) (body : List ℕ) → IsEmmTable table_id →
     table_id_for (emm_run_in (is_named table_id) body) ≡ table_id
 unfolding emm_run_in
 table_again table_id body (inl e) = rw e refl
@@ -84,8 +84,8 @@ name_spelled i j = elim (name_cases i j) [
 ]
 
 -- an entry is spelled as it was read
-entry_spelled : (bytes : List ℕ) → IsBytes bytes → length bytes ≡ 40 → entry_bytes (entry_in bytes) ≡ bytes
-unfolding entry_bytes entry_in
+entry_spelled : (bytes : List ℕ) → IsBytes bytes → length bytes ≡ 40 → entry_bytes (emm_entry_in bytes) ≡ bytes
+unfolding entry_bytes emm_entry_in
 entry_spelled bytes each long =
     let first : to_be_bytes w32 (field bytes 0 32) ≡ take 4 bytes = word_spelled bytes 0 each (omega arith) in
     let second : to_be_bytes w32 (field bytes 32 32) ≡ take 4 (drop 4 bytes) = word_spelled bytes 4 each (omega arith)
@@ -164,7 +164,7 @@ body_spelled named index body each long =
     let n : ℕ = emm_head_length named in
     let entries : flat_map entry_bytes (listed_entries (emm_in named index body)) ≡ drop n body =
     ap (flat_map entry_bytes) (listed_in named index body)
-    ∙ items_spelled entry_in entry_bytes 40 count (drop n body) entry_spelled (bytes_drop n body each)
+    ∙ items_spelled emm_entry_in entry_bytes 40 count (drop n body) entry_spelled (bytes_drop n body each)
     (omega (arith, length-drop n body)) in
     ap (λ (l : List ℕ). l ++ flat_map entry_bytes (listed_entries (emm_in named index body)))
     (head_spelled named index body each (omega arith))

@@ -9,20 +9,20 @@ use Rattle.std.specs.Int.{w32, to_be_bytes}
 use Rattle.std.proofs.lemmas.List.{take_at, take-append-drop}
 use Rattle.sd_section.specs.Header.{crc_of}
 use Rattle.sd_packet.specs.Header.{payload_of}
-use Rattle.sd_packet.specs.Packing.{packed}
+use Rattle.sd_packet.specs.Packing.{section_packet}
 use Rattle.sd_packet.proofs.Packets.{packet_reads}
 use Rattle.sd_section.specs.Header.{whole_of}
 use Rattle.sd_section.specs.Judged.{section_fault}
-use Rattle.sd_section.specs.Written.{header_bytes, section_bytes, FitsFields}
+use Rattle.sd_section.specs.Written.{header_bytes, section_bytes, FitsHeaderFields}
 use Rattle.sd_section.specs.declared.write.Header.{Header}
 use Rattle.sd_section.specs.declared.section.Section.{Section}
 use Rattle.sd_section.specs.declared.fault.SectionFault.{SectionFault}
 use Rattle.sd_section.proofs.Spelling.{whole_is_read, none_is_wrong, fields_are_read}
-use Rattle.sd_message.specs.Framed.{header_of, IsPlain, HasPointer, HasSection, BeginsWithSection, section_of}
+use Rattle.sd_message.specs.Framed.{header_of, IsPlainHeader, HasPointer, HasSection, BeginsWithSection, section_of}
 
 -- a packet that is packed of a section begins with it
 pub packed_begins : (section : List ℕ) (pid counter : ℕ) → pid < 8192 → counter < 16 →
-    BeginsWithSection section (packed section pid counter)
+    BeginsWithSection section (section_packet section pid counter)
 packed_begins section pid counter h k =
     let read = packet_reads section pid counter h k in
     let stuffing : List ℕ = replicate (183 - length section) 0xFF in
@@ -48,13 +48,13 @@ after_split : (section packet : List ℕ) → BeginsWithSection section packet �
 after_split section packet begins = ap (drop 1) (payload_split section packet begins)
 
 -- the section is what a packet that begins with it is read as
-pub begun_is_read : (header : Header) (body packet : List ℕ) → FitsFields header → length body ≤ 4084 →
+pub begun_is_read : (header : Header) (body packet : List ℕ) → FitsHeaderFields header → length body ≤ 4084 →
     BeginsWithSection (section_bytes header body) packet → section_of packet ≡ section_bytes header body
 begun_is_read header body packet fits few begins =
     ap whole_of (after_split (section_bytes header body) packet begins) ∙ whole_is_read header body _ fits few
 
 -- what is read from the header of a section is what was written
-pub header_again : (header : Header) (body : List ℕ) → FitsFields header → length body ≤ 4084 →
+pub header_again : (header : Header) (body : List ℕ) → FitsHeaderFields header → length body ≤ 4084 →
     header_of (section_bytes header body) ≡ header
 unfolding header_of
 header_again header body fits few =
@@ -71,13 +71,13 @@ head_is : (header : Header) (body : List ℕ) → take 8 (section_bytes header b
 unfolding section_bytes
 head_is header body = refl
 
-written_is_plain : (header : Header) (body : List ℕ) → FitsFields header → length body ≤ 4084 →
-    IsPlain (section_bytes header body)
+written_is_plain : (header : Header) (body : List ℕ) → FitsHeaderFields header → length body ≤ 4084 →
+    IsPlainHeader (section_bytes header body)
 written_is_plain header body fits few =
     rw (header_again header body fits few, section_long header body) (head_is header body)
 
 -- and it is one of this project
-pub begun_is_there : (header : Header) (body packet : List ℕ) → FitsFields header → length body ≤ 4084 →
+pub begun_is_there : (header : Header) (body packet : List ℕ) → FitsHeaderFields header → length body ≤ 4084 →
     BeginsWithSection (section_bytes header body) packet → HasSection packet
 begun_is_there header body packet fits few begins =
     record {
@@ -87,7 +87,7 @@ begun_is_there header body packet fits few begins =
             (payload_split _ packet begins);
       };
       good = ap section_fault (after_split _ packet begins) ∙ none_is_wrong header body _ fits few;
-      plain = subst IsPlain (sym (begun_is_read header body packet fits few begins))
+      plain = subst IsPlainHeader (sym (begun_is_read header body packet fits few begins))
           (written_is_plain header body fits few);
     }
 

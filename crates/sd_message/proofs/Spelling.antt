@@ -5,14 +5,14 @@ use Rattle.std.specs.Int.{w32, to_be_bytes}
 use Rattle.std.proofs.lemmas.List.{take_at, take_all, take-append-drop}
 use Rattle.sd_section.specs.Header.{crc_of}
 use Rattle.sd_section.specs.Header.{section_length_of, body_of, crc_in, crc_due}
-use Rattle.sd_section.specs.Written.{header_bytes, sealed, section_bytes}
+use Rattle.sd_section.specs.Written.{header_bytes, with_crc, section_bytes}
 use Rattle.sd_section.specs.declared.write.Header.{Header}
 use Rattle.sd_section.proofs.Cutting.{body_long}
-use Rattle.sd_message.specs.Framed.{header_of, IsPlain}
+use Rattle.sd_message.specs.Framed.{header_of, IsPlainHeader}
 use Rattle.sd_message.proofs.Numbers.{IsBytes, word_spelled}
 
 -- what stands before the CRC is the header and the body
-prefix_spelled : (section : List ℕ) → 12 ≤ length section → IsPlain section →
+prefix_spelled : (section : List ℕ) → 12 ≤ length section → IsPlainHeader section →
     take (length section - 4) section ≡ header_bytes (header_of section) (length (body_of section)) ++ body_of section
 prefix_spelled section long plain =
     let e : length section - 4 ≡ 8 + (length section - 4 - 8) = omega arith in
@@ -39,7 +39,7 @@ back_spelled section bytes long =
 -- a section with a plain header and a right CRC is the section of what its header says, and of its body
 pub plain_spelled : (section : List ℕ) → IsBytes section → length section ≡ 3 + section_length_of section →
     9 ≤ section_length_of section →
-    IsPlain section → crc_in section ≡ crc_due section → section ≡ section_bytes (header_of section) (body_of section)
+    IsPlainHeader section → crc_in section ≡ crc_due section → section ≡ section_bytes (header_of section) (body_of section)
 unfolding section_bytes crc_due
 plain_spelled section bytes whole low plain right =
     let prefix : List ℕ = header_bytes (header_of section) (length (body_of section)) ++ body_of section in
@@ -56,7 +56,7 @@ pub section_laid : (header : Header) (body old head first second new : List ℕ)
     head ≡ header_bytes header (length body) → first ≡ take 0 old ++ (head ++ drop (0 + length head) old) →
     second ≡ take 8 first ++ (body ++ drop (8 + length body) first) → length second ≡ length first → length first
     ≡ length old →
-    new ≡ sealed (take (length second - 4) second) → new ≡ section_bytes header body
+    new ≡ with_crc (take (length second - 4) second) → new ≡ section_bytes header body
 unfolding section_bytes
 section_laid header body old head first second new room is_head is_first is_second same_second same_first is_new =
     let eight : length head ≡ 8 = ap length is_head in
@@ -66,5 +66,5 @@ section_laid header body old head first second new room is_head is_first is_seco
     is_second ∙ (ap (λ (l : List ℕ). l ++ (body ++ rest)) prefix ∙ sym (append_assoc head body rest)) in
     let count : length (head ++ body) ≡ length second - 4 = omega (arith, length-append head body) in
     is_new
-    ∙ ap sealed (ap (take (length second - 4)) all ∙ (take_at (head ++ body) rest (length second - 4) count
+    ∙ ap with_crc (ap (take (length second - 4)) all ∙ (take_at (head ++ body) rest (length second - 4) count
     ∙ ap (λ (l : List ℕ). l ++ body) is_head))

@@ -8,9 +8,9 @@ use Rattle.sd_section.specs.Header.{last_number_of, body_of}
 use Rattle.sd_message.specs.Framed.{HasSection, section_of}
 use Rattle.sd_message.specs.Items.{items_in}
 use Rattle.sd_message.specs.Pieces.{filled}
-use Rattle.sd_message.specs.EcmVersions.{IsBefore, positions_for, flags_at, ecm_head_length, even_table_id, version_for}
+use Rattle.sd_message.specs.EcmVersions.{IsBeforeMessage, positions_for, flags_at, ecm_head_length, even_table_id, version_for}
 use Rattle.sd_message.specs.EcmSpelled.{listed_places}
-use Rattle.sd_message.specs.EcmForm.{IsCounted, ArePositioned, AreAscending, no_place}
+use Rattle.sd_message.specs.EcmForm.{IsEcmCounted, ArePositioned, ArePidsAscending, no_place}
 use Rattle.sd_message.specs.declared.ecm_part.Place.{Place}
 use Rattle.sd_message.specs.declared.ecm_part.EcmPart.{EcmPart}
 use Rattle.sd_message.specs.declared.ecm_fault.EcmFault.{EcmFault}
@@ -18,20 +18,20 @@ use Rattle.sd_message.specs.declared.ecm_fault.EcmFault.TheVariants.{Count, Orde
 use Rattle.sd_message.specs.EcmVersions.{most_positions}
 
 -- the version of a section, if it is a part of a control message [this project, docs/FORMATS.md, Messages]
-abbrev pub version_of : List ℕ → ℕ
-version_of section = version_for (table_id_of section)
+abbrev pub ecm_version_of : List ℕ → ℕ
+ecm_version_of section = version_for (table_id_of section)
 
 -- the table_id is the version's for an even or for an odd control word [this project, docs/FORMATS.md, Messages]
-abbrev pub IsTableOf : ℕ → ℕ → Type 0
-IsTableOf version table_id = (table_id ≡ even_table_id version) ⊎ (table_id ≡ even_table_id version + 1)
+abbrev pub IsEcmTable : ℕ → ℕ → Type 0
+IsEcmTable version table_id = (table_id ≡ even_table_id version) ⊎ (table_id ≡ even_table_id version + 1)
 
 -- the section is a part of a control message, and has room for all that stands before the positions
 -- [this project, docs/FORMATS.md, Messages]
 pub record IsEcmSection (section : List ℕ) : Type 0 where
-  pub table_id : IsTableOf (version_of section) (table_id_of section)
+  pub table_id : IsEcmTable (ecm_version_of section) (table_id_of section)
   pub extension : extension_of section ≡ 0
   pub numbered : section_number_of section ≤ last_number_of section
-  pub room : ecm_head_length (version_of section) + least_length ≤ section_length_of section
+  pub room : ecm_head_length (ecm_version_of section) + least_length ≤ section_length_of section
 
 -- the packet begins with such a section
 pub record IsEcmPacket (packet : List ℕ) : Type 0 where
@@ -39,12 +39,12 @@ pub record IsEcmPacket (packet : List ℕ) : Type 0 where
   pub ecm : IsEcmSection (section_of packet)
 
 -- a position in 8 bytes [this project, docs/FORMATS.md, Messages]
-unfoldable pub place_of : List ℕ → Place
-place_of bytes = record { pid = field bytes 0 16; position = field bytes 16 48 }
+unfoldable pub ecm_position_in : List ℕ → Place
+ecm_position_in bytes = record { pid = field bytes 0 16; position = field bytes 16 48 }
 
 -- so many positions, one after the other
-abbrev pub places_in : ℕ → List ℕ → List Place
-places_in n bytes = items_in place_of 8 n bytes
+abbrev pub ecm_positions_in : ℕ → List ℕ → List Place
+ecm_positions_in n bytes = items_in ecm_position_in 8 n bytes
 
 -- filled up to 13
 abbrev pub padded_places : List Place → List Place
@@ -55,8 +55,8 @@ abbrev pub from_flags : ℕ → List ℕ → List ℕ
 from_flags version body = drop (flags_at version) body
 
 -- the flags in a body [this project, docs/FORMATS.md, Messages]
-abbrev pub flags_of : ℕ → List ℕ → ℕ
-flags_of version body = slice_index (from_flags version body) 0
+abbrev pub body_flags : ℕ → List ℕ → ℕ
+body_flags version body = slice_index (from_flags version body) 0
 
 -- `since` in a body: version 1 doesn't write it [this project, docs/FORMATS.md, Messages]
 unfoldable pub since_in : ℕ → ℕ → List ℕ → ℕ
@@ -76,13 +76,13 @@ ecm_in version number last_number body = record {
   clear = field body 96 32;
   since = since_in version (field body 0 32) body;
   run = ecm_run_in version body;
-  closing = flags_of version body == 1;
+  closing = body_flags version body == 1;
   part = number;
   last_part = last_number;
   wrapped = slice_range (from_flags version body) 1 33;
   check = slice_range (from_flags version body) 33 49;
   count = slice_index (from_flags version body) 49;
-  positions = padded_places (places_in (slice_index (from_flags version body) 49)
+  positions = padded_places (ecm_positions_in (slice_index (from_flags version body) 49)
       (drop 50 (from_flags version body)));
 }
 
@@ -92,40 +92,40 @@ with_places part places = record part { positions = places }
 
 -- what a section says
 abbrev pub ecm_of : List ℕ → EcmPart
-ecm_of section = ecm_in (version_of section) (section_number_of section) (last_number_of section) (body_of section)
+ecm_of section = ecm_in (ecm_version_of section) (section_number_of section) (last_number_of section) (body_of section)
 
 -- the count is what the part is to have and what the length of the body comes to [this project, docs/FORMATS.md,
 -- Messages]
-abbrev pub HasCount : ℕ → EcmPart → Type 0
-HasCount length part =
+abbrev pub HasEcmCount : ℕ → EcmPart → Type 0
+HasEcmCount length part =
     (length ≡ ecm_head_length part.version + 8 * part.count)
-    × IsCounted (positions_for part.version) part.part part.last_part part.count
+    × IsEcmCounted (positions_for part.version) part.part part.last_part part.count
 
 -- the flags are 0 or 1, the table_id is odd where the number of the control word is, and `since` is below the number of
 -- the message, unless both are 0 [this project, docs/FORMATS.md, Messages]
 pub record IsMatched (table_id flags : ℕ) (part : EcmPart) : Type 0 where
   pub flags_are : flags ≤ 1
   pub parity : table_id % 2 ≡ part.word % 2
-  pub since : IsBefore part.since part.number
+  pub since : IsBeforeMessage part.since part.number
 
 -- no rule is broken
-pub record IsGoodIn (table_id : ℕ) (body : List ℕ) (part : EcmPart) : Type 0 where
-  pub has_count : HasCount (length body) part
+pub record IsGoodEcm (table_id : ℕ) (body : List ℕ) (part : EcmPart) : Type 0 where
+  pub has_count : HasEcmCount (length body) part
   pub places : ArePositioned (listed_places part)
-  pub ascending : AreAscending (listed_places part)
-  pub matched : IsMatched table_id (flags_of part.version body) part
+  pub ascending : ArePidsAscending (listed_places part)
+  pub matched : IsMatched table_id (body_flags part.version body) part
 
 -- the rule that a body under this table_id, and what it says, break first [this project, docs/FORMATS.md, Messages]
-abbrev pub BreaksIn : ℕ → List ℕ → EcmPart → EcmFault → Type 0
-BreaksIn table_id body part Count = ¬ HasCount (length body) part
-BreaksIn table_id body part Pid = HasCount (length body) part × (¬ ArePositioned (listed_places part))
-BreaksIn table_id body part Order = HasCount (length body) part
-    × (ArePositioned (listed_places part) × (¬ AreAscending (listed_places part)))
-BreaksIn table_id body part Mixed =
-    HasCount (length body) part × (ArePositioned (listed_places part) × (AreAscending (listed_places part)
-    × (¬ IsMatched table_id (flags_of part.version body) part)))
-BreaksIn table_id body part Back = ⊥
+abbrev pub BreaksEcmRule : ℕ → List ℕ → EcmPart → EcmFault → Type 0
+BreaksEcmRule table_id body part Count = ¬ HasEcmCount (length body) part
+BreaksEcmRule table_id body part Pid = HasEcmCount (length body) part × (¬ ArePositioned (listed_places part))
+BreaksEcmRule table_id body part Order = HasEcmCount (length body) part
+    × (ArePositioned (listed_places part) × (¬ ArePidsAscending (listed_places part)))
+BreaksEcmRule table_id body part Mixed =
+    HasEcmCount (length body) part × (ArePositioned (listed_places part) × (ArePidsAscending (listed_places part)
+    × (¬ IsMatched table_id (body_flags part.version body) part)))
+BreaksEcmRule table_id body part Back = ⊥
 
 -- and that a section breaks first
-abbrev pub BreaksFirst : List ℕ → EcmFault → Type 0
-BreaksFirst section fault = BreaksIn (table_id_of section) (body_of section) (ecm_of section) fault
+abbrev pub BreaksEcmFirst : List ℕ → EcmFault → Type 0
+BreaksEcmFirst section fault = BreaksEcmRule (table_id_of section) (body_of section) (ecm_of section) fault

@@ -9,7 +9,7 @@ use Rattle.sd_message.specs.declared.ecm_part.EcmPart.{EcmPart}
 
 -- each part has as many positions as fit but the last, which has one or more, or none where it is part 0
 -- [this project, docs/FORMATS.md, Messages]
-pub record IsCounted (most part last count : ℕ) : Type 0 where
+pub record IsEcmCounted (most part last count : ℕ) : Type 0 where
   pub few : count ≤ most
   pub full : (part ≡ last) ⊎ (count ≡ most)
   pub some : (part ≡ 0) ⊎ (0 < count)
@@ -23,8 +23,8 @@ abbrev pub ArePositioned : List Place → Type 0
 ArePositioned places = All IsPositioned places
 
 -- the PIDs are strictly ascending [this project, docs/FORMATS.md, Messages]
-abbrev pub AreAscending : List Place → Type 0
-AreAscending places = AllPairs (λ a b. a.pid < b.pid) places
+abbrev pub ArePidsAscending : List Place → Type 0
+ArePidsAscending places = AllPairs (λ a b. a.pid < b.pid) places
 
 -- each position has 48 bits
 abbrev pub AreShort : List Place → Type 0
@@ -35,7 +35,7 @@ AreShort places = All (λ place. place.position < 2 ^ 48) places
 pub record ArePlaces (places : List Place) : Type 0 where
   pub few : length places ≤ most_places
   pub positioned : ArePositioned places
-  pub ascending : AreAscending places
+  pub ascending : ArePidsAscending places
   pub short : AreShort places
 
 -- what stands past the positions
@@ -48,14 +48,14 @@ pub record IsEcm (part : EcmPart) : Type 0 where
   pub named : IsNamed part.version part.run
   pub since : IsSince part.version part.number part.since
   pub numbered : part.part ≤ part.last_part
-  pub counted : IsCounted (positions_for part.version) part.part part.last_part part.count
+  pub counted : IsEcmCounted (positions_for part.version) part.part part.last_part part.count
   pub places : ArePositioned (listed_places part)
-  pub ascending : AreAscending (listed_places part)
+  pub ascending : ArePidsAscending (listed_places part)
   pub positions : AreShort (listed_places part)
   pub rest : drop part.count part.positions ≡ replicate (most_positions - part.count) no_place
 
 -- what stands before the positions fits its fields
-pub record FitsHead (part : EcmPart) : Type 0 where
+pub record FitsEcmHead (part : EcmPart) : Type 0 where
   pub number : part.number < 2 ^ 32
   pub period : part.period < 2 ^ 32
   pub word : part.word < 2 ^ 32
@@ -66,8 +66,8 @@ pub record FitsHead (part : EcmPart) : Type 0 where
   pub check : length part.check ≡ 16
 
 -- the numbers and the bytes fit their fields, as those of each value of the type do
-pub record FitsFields (part : EcmPart) : Type 0 where
-  pub head : FitsHead part
+pub record FitsEcmFields (part : EcmPart) : Type 0 where
+  pub head : FitsEcmHead part
   pub part_fits : part.part < 2 ^ 8
   pub last_part : part.last_part < 2 ^ 8
   pub positions : length part.positions ≡ most_positions

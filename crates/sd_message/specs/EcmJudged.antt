@@ -5,11 +5,11 @@ use Rattle.std.specs.List.{list_all}
 use Rattle.sd_packet.specs.Positions.{is_positional}
 use Rattle.sd_section.specs.Header.{least_length, table_id_of, section_length_of, extension_of, section_number_of}
 use Rattle.sd_section.specs.Header.{last_number_of, body_of}
-use Rattle.sd_message.specs.Framed.{has_section, section_of}
+use Rattle.sd_message.specs.Framed.{frames_section, section_of}
 use Rattle.sd_message.specs.Items.{all_pairs}
 use Rattle.sd_message.specs.EcmVersions.{positions_for, ecm_head_length, even_table_id}
 use Rattle.sd_message.specs.EcmSpelled.{listed_places}
-use Rattle.sd_message.specs.EcmFields.{version_of, flags_of, ecm_of}
+use Rattle.sd_message.specs.EcmFields.{ecm_version_of, body_flags, ecm_of}
 use Rattle.sd_message.specs.declared.ecm_part.Place.{Place}
 use Rattle.sd_message.specs.declared.ecm_part.EcmPart.{EcmPart}
 use Rattle.sd_message.specs.declared.ecm_fault.EcmFault.{EcmFault}
@@ -46,21 +46,21 @@ ecm_judged table_id body part =
     if not (is_count_due (length body) part) then Err Count
     else if not (are_positioned (listed_places part)) then Err Pid
     else if not (is_ascending_by_pid (listed_places part)) then Err Order
-    else if not (is_matched table_id (flags_of part.version body) part) then Err Mixed
+    else if not (is_matched table_id (body_flags part.version body) part) then Err Mixed
     else Ok (Some part)
 
 -- whether a section is a part of a control message
 abbrev pub is_ecm_section : List ℕ → Bool
 is_ecm_section section =
-    ((table_id_of section == even_table_id (version_of section))
-    || (table_id_of section == even_table_id (version_of section) + 1))
+    ((table_id_of section == even_table_id (ecm_version_of section))
+    || (table_id_of section == even_table_id (ecm_version_of section) + 1))
     && ((extension_of section == 0)
     && (nat_le (section_number_of section) (last_number_of section)
-    && nat_le (ecm_head_length (version_of section) + least_length) (section_length_of section)))
+    && nat_le (ecm_head_length (ecm_version_of section) + least_length) (section_length_of section)))
 
 -- whether a packet begins with such a section
 unfoldable pub has_ecm : List ℕ → Bool
-has_ecm packet = has_section packet && is_ecm_section (section_of packet)
+has_ecm packet = frames_section packet && is_ecm_section (section_of packet)
 
 -- what a packet is read as: nothing where it is of another kind [this project, docs/FORMATS.md, Messages]
 unfoldable pub ecm_read : List ℕ → Result (Option EcmPart) EcmFault

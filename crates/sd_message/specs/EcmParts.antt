@@ -2,7 +2,7 @@
 use Rattle.std.specs.Prelude.{◌≡◌, ℕ, ◌-◌, ◌^◌, ◌<◌, ◌≤◌, Bool, List, length, Option, IfSome}
 use Rattle.sd_message.specs.Pieces.{pieces_for, piece_at, each_below}
 use Rattle.sd_message.specs.EcmVersions.{IsVersion, IsNamed, IsSince, positions_for, most_places}
-use Rattle.sd_message.specs.EcmForm.{ArePositioned, AreAscending, AreShort}
+use Rattle.sd_message.specs.EcmForm.{ArePositioned, ArePidsAscending, AreShort}
 use Rattle.sd_message.specs.EcmFields.{padded_places}
 use Rattle.sd_message.specs.declared.ecm_part.Place.{Place}
 use Rattle.sd_message.specs.declared.ecm_part.EcmPart.{EcmPart}
@@ -90,7 +90,7 @@ pub record IsMessage (message : Message) : Type 0 where
   pub check : length message.check ≡ 16
   pub count : length message.places ≤ most_places
   pub places : ArePositioned message.places
-  pub ascending : AreAscending message.places
+  pub ascending : ArePidsAscending message.places
   pub positions : AreShort message.places
 
 -- what a part says of its message, beside the number of parts

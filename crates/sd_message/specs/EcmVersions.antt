@@ -40,11 +40,11 @@ version_for table_id = if nat_lt table_id 0x84 then 1 else if nat_lt table_id 0x
 
 -- each packet from message `since` up to this message has the control word of message `since`, which is below the
 -- number, unless both are 0 [this project, docs/FORMATS.md, Messages]
-abbrev pub IsBefore : ℕ → ℕ → Type 0
-IsBefore since number = (since < number) ⊎ ((since ≡ 0) × (number ≡ 0))
+abbrev pub IsBeforeMessage : ℕ → ℕ → Type 0
+IsBeforeMessage since number = (since < number) ⊎ ((since ≡ 0) × (number ≡ 0))
 
 -- version 1 doesn't write it: there it is the message before, or 0 for message 0 [this project, docs/FORMATS.md,
 -- Messages]
 pub record IsSince (version number since : ℕ) : Type 0 where
-  pub before : IsBefore since number
+  pub before : IsBeforeMessage since number
   pub fixed : version ≡ 1 → since ≡ number - 1

@@ -9,7 +9,7 @@ use Rattle.sd_section.specs.Header.{least_length, table_id_of, section_length_of
 use Rattle.sd_section.specs.Header.{last_number_of, body_of}
 use Rattle.sd_message.specs.Framed.{HasSection, section_of}
 use Rattle.sd_message.specs.EmmSpelled.{listed_entries, names_in}
-use Rattle.sd_message.specs.EmmForm.{IsCounted, no_entry, AreSets, most_entries}
+use Rattle.sd_message.specs.EmmForm.{IsEmmCounted, no_entry, AreSets, most_entries}
 use Rattle.sd_message.specs.declared.emm.Entry.{Entry}
 use Rattle.sd_message.specs.declared.emm.Emm.{Emm}
 use Rattle.sd_message.specs.declared.emm_fault.EmmFault.{EmmFault}
@@ -22,8 +22,8 @@ abbrev pub is_named : ℕ → Bool
 is_named table_id = table_id == 0x8A
 
 -- it is that of a section of entitlements [this project, docs/FORMATS.md, Messages]
-abbrev pub IsTable : ℕ → Type 0
-IsTable table_id = (table_id ≡ 0x82) ⊎ (table_id ≡ 0x8A)
+abbrev pub IsEmmTable : ℕ → Type 0
+IsEmmTable table_id = (table_id ≡ 0x82) ⊎ (table_id ≡ 0x8A)
 
 -- where the count of entries stands: after the broadcast's name, where there is one [this project, docs/FORMATS.md,
 -- Messages]
@@ -37,7 +37,7 @@ emm_head_length named = count_at named + 1
 -- the section is one of entitlements, and has room for all that stands before the entries [this project,
 -- docs/FORMATS.md, Messages]
 pub record IsEmmSection (section : List ℕ) : Type 0 where
-  pub table_id : IsTable (table_id_of section)
+  pub table_id : IsEmmTable (table_id_of section)
   pub number : section_number_of section ≡ 0
   pub last_number : last_number_of section ≡ 0
   pub room : emm_head_length (is_named (table_id_of section)) + least_length ≤ section_length_of section
@@ -52,15 +52,15 @@ abbrev pub set_name_of : ℕ → ℕ → SetName
 set_name_of i j = if (i == 0) && (j == 0) then Whole else Diff i j
 
 -- an entry of 40 bytes [this project, docs/FORMATS.md, Messages]
-unfoldable pub entry_in : List ℕ → Entry
-entry_in bytes = record {
+unfoldable pub emm_entry_in : List ℕ → Entry
+emm_entry_in bytes = record {
   name = set_name_of (field bytes 0 32) (field bytes 32 32);
   wrapped = slice_range bytes 8 40;
 }
 
 -- so many entries, one after the other
 abbrev pub entries_in : ℕ → List ℕ → List Entry
-entries_in n bytes = items_in entry_in 40 n bytes
+entries_in n bytes = items_in emm_entry_in 40 n bytes
 
 -- filled up to three
 abbrev pub padded_entries : List Entry → List Entry
@@ -94,25 +94,25 @@ with_entries emm entries = record emm { entries = entries }
 
 -- the numbers come to one another and to the length of the body: section_length is 36, or 40 where the broadcast is
 -- named, and 40 for each entry [this project, docs/FORMATS.md, Messages]
-abbrev pub HasCount : ℕ → Emm → Type 0
-HasCount length emm =
+abbrev pub HasEmmCount : ℕ → Emm → Type 0
+HasEmmCount length emm =
     (length ≡ emm_head_length (is_some emm.run) + 40 * emm.count)
-    × IsCounted emm.sets emm.sections emm.index emm.count
+    × IsEmmCounted emm.sets emm.sections emm.index emm.count
 
 -- no rule is broken
-pub record IsGoodIn (h length : ℕ) (emm : Emm) : Type 0 where
-  pub has_count : HasCount length emm
+pub record IsGoodEmm (h length : ℕ) (emm : Emm) : Type 0 where
+  pub has_count : HasEmmCount length emm
   pub are_sets : AreSets h emm.sets (listed_entries emm)
   pub ascending : AreAscending (names_in (listed_entries emm))
 
 -- the rule that a body of this length and its entitlements break first [this project, docs/FORMATS.md, Messages]
-abbrev pub BreaksIn : ℕ → ℕ → Emm → EmmFault → Type 0
-BreaksIn h length emm Count = ¬ HasCount length emm
-BreaksIn h length emm Node = HasCount length emm × (¬ AreSets h emm.sets (listed_entries emm))
-BreaksIn h length emm Order = HasCount length emm
+abbrev pub BreaksEmmRule : ℕ → ℕ → Emm → EmmFault → Type 0
+BreaksEmmRule h length emm Count = ¬ HasEmmCount length emm
+BreaksEmmRule h length emm Node = HasEmmCount length emm × (¬ AreSets h emm.sets (listed_entries emm))
+BreaksEmmRule h length emm Order = HasEmmCount length emm
     × (AreSets h emm.sets (listed_entries emm) × (¬ AreAscending (names_in (listed_entries emm))))
-BreaksIn h length emm Mixed = ⊥
+BreaksEmmRule h length emm Mixed = ⊥
 
 -- and that a section breaks first
-abbrev pub BreaksFirst : ℕ → List ℕ → EmmFault → Type 0
-BreaksFirst h section fault = BreaksIn h (length (body_of section)) (emm_of section) fault
+abbrev pub BreaksEmmFirst : ℕ → List ℕ → EmmFault → Type 0
+BreaksEmmFirst h section fault = BreaksEmmRule h (length (body_of section)) (emm_of section) fault

@@ -19,7 +19,7 @@ sections_for sets = pieces_for most_entries sets
 
 -- the numbers come to one another: section x has the sets 3x to 3x + 2, as far as they are there
 -- [this project, docs/FORMATS.md, Messages]
-pub record IsCounted (sets sections index count : ℕ) : Type 0 where
+pub record IsEmmCounted (sets sections index count : ℕ) : Type 0 where
   pub sections_are : sections ≡ sections_for sets
   pub index_is : index < sections
   pub count_is : count ≡ min most_entries (sets - most_entries * index)
@@ -30,7 +30,7 @@ no_entry = record { name = Whole; wrapped = replicate 32 0 }
 
 -- a section's entitlements, for whatever tree [this project, docs/FORMATS.md, Messages]
 pub record IsEmm (emm : Emm) : Type 0 where
-  pub counted : IsCounted emm.sets emm.sections emm.index emm.count
+  pub counted : IsEmmCounted emm.sets emm.sections emm.index emm.count
   pub ascending : AreAscending (names_in (listed_entries emm))
   pub rest : drop emm.count emm.entries ≡ replicate (most_entries - emm.count) no_entry
 
@@ -48,7 +48,7 @@ abbrev pub AreWrapped : List Entry → Type 0
 AreWrapped entries = All (λ entry. length entry.wrapped ≡ 32) entries
 
 -- what stands before the entries fits its fields
-pub record FitsHead (emm : Emm) : Type 0 where
+pub record FitsEmmHead (emm : Emm) : Type 0 where
   pub period : emm.period < 2 ^ 32
   pub sets : emm.sets < 2 ^ 32
   pub sections : emm.sections < 2 ^ 16
@@ -56,8 +56,8 @@ pub record FitsHead (emm : Emm) : Type 0 where
   pub check : length emm.check ≡ 16
 
 -- the numbers and the bytes fit their fields, as those of each value of the type do
-pub record FitsFields (emm : Emm) : Type 0 where
-  pub head : FitsHead emm
+pub record FitsEmmFields (emm : Emm) : Type 0 where
+  pub head : FitsEmmHead emm
   pub index : emm.index < 2 ^ 16
   pub entries : length emm.entries ≡ most_entries
   pub wrapped : AreWrapped (listed_entries emm)

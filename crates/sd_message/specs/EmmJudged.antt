@@ -8,7 +8,7 @@ use Rattle.sd_tree_keys.specs.declared.set.SetName.{SetName}
 use Rattle.sd_tree_keys.specs.declared.set.SetName.TheVariants.{Whole, Diff}
 use Rattle.sd_section.specs.Header.{least_length, table_id_of, section_length_of, section_number_of, last_number_of}
 use Rattle.sd_section.specs.Header.{body_of}
-use Rattle.sd_message.specs.Framed.{has_section, section_of}
+use Rattle.sd_message.specs.Framed.{frames_section, section_of}
 use Rattle.sd_message.specs.Items.{all_pairs}
 use Rattle.sd_message.specs.EmmSpelled.{listed_entries, names_in}
 use Rattle.sd_message.specs.EmmForm.{sections_for, most_entries}
@@ -65,7 +65,7 @@ is_emm_section section =
 
 -- whether a packet begins with such a section
 unfoldable pub has_emm : List ℕ → Bool
-has_emm packet = has_section packet && is_emm_section (section_of packet)
+has_emm packet = frames_section packet && is_emm_section (section_of packet)
 
 -- what a packet is read as, by a receiver of a tree of height h: nothing where it is of another kind
 -- [this project, docs/FORMATS.md, Messages]

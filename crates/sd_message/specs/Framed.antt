@@ -28,8 +28,8 @@ header_of section = record {
 -- each other bit of the header is as this project writes it: the syntax indicator is 1, the bit after it 0,
 -- reserved bits are 1, the version is 0, the section is current [ISO/IEC 13818-1, 2.4.4; this project,
 -- docs/FORMATS.md, Sections]
-abbrev pub IsPlain : List ℕ → Type 0
-IsPlain section = take 8 section ≡ header_bytes (header_of section) (length section - 12)
+abbrev pub IsPlainHeader : List ℕ → Type 0
+IsPlainHeader section = take 8 section ≡ header_bytes (header_of section) (length section - 12)
 
 -- whether it is
 abbrev pub is_plain : List ℕ → Bool
@@ -44,11 +44,11 @@ is_zero (Some byte) = byte == 0
 pub record HasSection (packet : List ℕ) : Type 0 where
   pub starts : HasPointer packet
   pub good : section_fault (drop 1 (payload_of packet)) ≡ None
-  pub plain : IsPlain (section_of packet)
+  pub plain : IsPlainHeader (section_of packet)
 
 -- whether it does, by tests [this project, docs/FORMATS.md, Messages]
-unfoldable pub has_section : List ℕ → Bool
-has_section packet =
+unfoldable pub frames_section : List ℕ → Bool
+frames_section packet =
     (unit_start_of packet == 1)
     && (is_zero (slice_get (payload_of packet) 0)
     && (is_none (section_fault (drop 1 (payload_of packet))) && is_plain (section_of packet)))

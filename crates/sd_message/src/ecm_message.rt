@@ -1,7 +1,7 @@
 ghost use Rattle.std.specs.Prelude.{◌≡◌, ◌<◌, ◌≤◌, Some, length, slice_get};
 ghost use Rattle.sd_message.specs.Pieces.{piece_at};
 ghost use Rattle.sd_message.specs.EcmVersions.{IsVersion, IsNamed, IsSince, positions_for};
-ghost use Rattle.sd_message.specs.EcmForm.{ArePositioned, AreAscending, AreShort, IsEcm};
+ghost use Rattle.sd_message.specs.EcmForm.{ArePositioned, ArePidsAscending, AreShort, IsEcm};
 ghost use Rattle.sd_message.specs.EcmFields.{padded_places};
 ghost use Rattle.sd_message.specs.EcmParts.{message_of, parts_for, parts_of};
 ghost use Rattle.sd_message.specs.declared.ecm_format.TheConstants.{POSITIONS, MOST_PLACES};
@@ -60,7 +60,7 @@ impl EcmPart {
         ensures value { slice_get (parts_of (message_of head.now places.now)) part ≡ Some result }
         ensures form { IsVersion head.now.version → IsNamed head.now.version head.now.run →
             IsSince head.now.version head.now.number head.now.since → ArePositioned places.now →
-            AreAscending places.now → AreShort places.now → IsEcm result }
+            ArePidsAscending places.now → AreShort places.now → IsEcm result }
     {
         let own = places_of(head.version, places, part);
         EcmPart {

@@ -1,11 +1,11 @@
 ghost use Rattle.std.specs.Prelude.{◌↔◌, ◌<◌, IsTrue};
-ghost use Rattle.sd_message.specs.EcmForm.{AreAscending};
+ghost use Rattle.sd_message.specs.EcmForm.{ArePidsAscending};
 
 use crate::ecm_part::Place;
 
 /// Whether each PID is above all before it.
 pub fn are_ascending(places: &[Place]) -> bool
-    ensures { IsTrue result ↔ AreAscending places.now }
+    ensures { IsTrue result ↔ ArePidsAscending places.now }
 {
     for k in 1..places.len() {
         if !is_before(&places[k - 1], &places[k]) {

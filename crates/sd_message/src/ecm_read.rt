@@ -6,12 +6,12 @@ ghost use Rattle.sd_message.specs.Framed.{section_of, header_of, BeginsWithSecti
 ghost use Rattle.sd_message.specs.EcmVersions.{IsVersion, flags_at as flags_place, ecm_head_length};
 ghost use Rattle.sd_message.specs.EcmVersions.{version_for};
 ghost use Rattle.sd_message.specs.EcmSpelled.{SpellsPart};
-ghost use Rattle.sd_message.specs.EcmForm.{FitsFields, IsPositioned, ArePositioned, IsEcm, no_place};
-ghost use Rattle.sd_message.specs.EcmFields.{IsEcmSection, IsEcmPacket, HasCount, version_of, place_of, places_in};
+ghost use Rattle.sd_message.specs.EcmForm.{FitsEcmFields, IsPositioned, ArePositioned, IsEcm, no_place};
+ghost use Rattle.sd_message.specs.EcmFields.{IsEcmSection, IsEcmPacket, HasEcmCount, ecm_version_of, ecm_position_in, ecm_positions_in};
 ghost use Rattle.sd_message.specs.EcmFields.{padded_places};
 ghost use Rattle.sd_message.specs.EcmFields.{from_flags, since_in as since_of, ecm_run_in as run_of, ecm_in, with_places};
-ghost use Rattle.sd_message.specs.EcmFields.{IsMatched, IsGoodIn};
-ghost use Rattle.sd_message.specs.EcmFields.{BreaksIn, BreaksFirst};
+ghost use Rattle.sd_message.specs.EcmFields.{IsMatched, IsGoodEcm};
+ghost use Rattle.sd_message.specs.EcmFields.{BreaksEcmRule, BreaksEcmFirst};
 ghost use Rattle.sd_message.specs.EcmJudged.{ecm_read};
 ghost use Rattle.sd_message.specs.declared.ecm_part.EcmPart.{EcmPart};
 ghost use Rattle.sd_message.specs.declared.ecm_format.TheConstants.{POSITIONS, PLACES_AT, PLACE_BYTES};
@@ -34,9 +34,9 @@ pub fn read_ecm(packet: &Packet) -> Result<Option<EcmPart>, EcmFault>
     ensures value { result ≡ ecm_read packet.now }
     ensures none { (result ≡ Ok None) ↔ ¬ IsEcmPacket packet.now }
     ensures fault { (fault : EcmFault) →
-        (result ≡ Err fault) ↔ (IsEcmPacket packet.now × BreaksFirst (section_of packet.now) fault) }
+        (result ≡ Err fault) ↔ (IsEcmPacket packet.now × BreaksEcmFirst (section_of packet.now) fault) }
     ensures sound { IfOk result (λ read. IfSome read (λ part. SpellsPart part packet.now × IsEcm part)) }
-    ensures complete { (part : EcmPart) → FitsFields part → IsEcm part → SpellsPart part packet.now →
+    ensures complete { (part : EcmPart) → FitsEcmFields part → IsEcm part → SpellsPart part packet.now →
         result ≡ Ok (Some part) }
 {
     let Some(section) = ecm_section_in(packet) else {
@@ -60,7 +60,7 @@ fn ecm_section_in(packet: &Packet) -> Option<Section<'_>>
         section.bytes.now ≡ section_bytes (header_of section.bytes.now) (body_of section.bytes.now)) }
     ensures is { IfSome result (λ section. IsEcmSection section.bytes.now) }
     ensures room { IfSome result (λ section.
-        ecm_head_length (version_of section.bytes.now) ≤ length (body_of section.bytes.now)) }
+        ecm_head_length (ecm_version_of section.bytes.now) ≤ length (body_of section.bytes.now)) }
 {
     let section = section_in(packet)?;
     if is_ecm(&section) {
@@ -73,7 +73,7 @@ fn ecm_section_in(packet: &Packet) -> Option<Section<'_>>
 // Whether the section is a part of a control message.
 fn is_ecm(section: &Section<'_>) -> bool
     ensures value { IsTrue result ↔ IsEcmSection section.now.bytes.now }
-    ensures room { IsTrue result → ecm_head_length (version_of section.now.bytes.now)
+    ensures room { IsTrue result → ecm_head_length (ecm_version_of section.now.bytes.now)
         ≤ length (body_of section.now.bytes.now) }
 {
     let table_id = section.table_id();
@@ -106,9 +106,9 @@ fn read_body(table_id: u8, number: u8, last_number: u8, body: &[u8]) -> Result<E
     requires { ecm_head_length (version_for table_id) ≤ length body.now }
     ensures value { IfOk result (λ part. part ≡ ecm_in (version_for table_id) number last_number body.now) }
     ensures good { IfOk result (λ _.
-        IsGoodIn table_id body.now (ecm_in (version_for table_id) number last_number body.now)) }
+        IsGoodEcm table_id body.now (ecm_in (version_for table_id) number last_number body.now)) }
     ensures fault { IfErr result (λ fault.
-        BreaksIn table_id body.now (ecm_in (version_for table_id) number last_number body.now) fault) }
+        BreaksEcmRule table_id body.now (ecm_in (version_for table_id) number last_number body.now) fault) }
     ensures bytes { (i : ℕ) → slice_index body.now i < 256 }
 {
     let version = version_in(table_id);
@@ -201,7 +201,7 @@ fn run_in(version: u8, body: &[u8]) -> Option<u32>
 
 // Whether the count is what the body's length comes to, and what the part is to have.
 fn is_counted(part: &EcmPart, length: usize) -> bool
-    ensures value { IsTrue result ↔ HasCount length part.now }
+    ensures value { IsTrue result ↔ HasEcmCount length part.now }
     ensures few { IsTrue result → part.now.count ≤ POSITIONS }
 {
     let most = positions_a_part(part.version);
@@ -225,8 +225,8 @@ fn is_matched(table_id: u8, flags: u8, part: &EcmPart) -> bool
 fn read_places(count: usize, bytes: &[u8]) -> Option<[Place; POSITIONS]>
     requires few { count ≤ POSITIONS }
     requires room { length bytes.now ≡ PLACE_BYTES * count }
-    ensures value { IfSome result (λ places. places ≡ padded_places (places_in count bytes.now)) }
-    ensures places { IsSome result ↔ ArePositioned (places_in count bytes.now) }
+    ensures value { IfSome result (λ places. places ≡ padded_places (ecm_positions_in count bytes.now)) }
+    ensures places { IsSome result ↔ ArePositioned (ecm_positions_in count bytes.now) }
 {
     let mut places = [NOTHING; POSITIONS];
     for k in 0..count {
@@ -236,11 +236,11 @@ fn read_places(count: usize, bytes: &[u8]) -> Option<[Place; POSITIONS]>
 }
 
 // A position, where it is that of a PID that has positions.
-#[tactic(auto, using(crate::proofs::Numbers::long_read), unfolding(crate::specs::EcmFields::place_of))]
+#[tactic(auto, using(crate::proofs::Numbers::long_read), unfolding(crate::specs::EcmFields::ecm_position_in))]
 fn read_place(bytes: &[u8]) -> Option<Place>
     requires { length bytes.now ≡ PLACE_BYTES }
-    ensures value { IfSome result (λ place. place ≡ place_of bytes.now) }
-    ensures place { IsSome result ↔ IsPositioned (place_of bytes.now) }
+    ensures value { IfSome result (λ place. place ≡ ecm_position_in bytes.now) }
+    ensures place { IsSome result ↔ IsPositioned (ecm_position_in bytes.now) }
 {
     fields! { bytes; pid: 0, 16; high: 16, 16; low: 32, 32; }
     let position = high << 32 | low;

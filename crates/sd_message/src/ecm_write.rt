@@ -1,9 +1,9 @@
 ghost use Rattle.std.specs.Prelude.{◌≡◌, ◌^◌, ◌<◌, ◌≤◌, ◌+◌, ◌*◌, ◌++◌, length, IfSome};
-ghost use Rattle.sd_packet.specs.Packing.{packed};
+ghost use Rattle.sd_packet.specs.Packing.{section_packet};
 ghost use Rattle.sd_message.specs.EcmVersions.{positions_for, flags_at as flags_place, ecm_head_length};
 ghost use Rattle.sd_message.specs.EcmSpelled.{place_bytes, numbers_bytes, since_bytes, word_bytes, ecm_head_bytes, ecm_body};
 ghost use Rattle.sd_message.specs.EcmSpelled.{ecm_section, ecm_header};
-ghost use Rattle.sd_message.specs.EcmForm.{FitsHead, FitsFields, IsEcm};
+ghost use Rattle.sd_message.specs.EcmForm.{FitsEcmHead, FitsEcmFields, IsEcm};
 ghost use Rattle.sd_message.specs.declared.ecm_format.TheConstants.{POSITIONS, PLACE_BYTES, PLACES_AT};
 
 use crate::body::Body;
@@ -19,8 +19,8 @@ pub fn write_ecm(part: &EcmPart, pid: u16, counter: u8) -> Packet
     requires form { IsEcm part.now }
     requires pid { pid < 8192 }
     requires counter { counter < 16 }
-    ensures value { result ≡ packed (ecm_section part.now) pid counter }
-    ensures fits { FitsFields part.now }
+    ensures value { result ≡ section_packet (ecm_section part.now) pid counter }
+    ensures fits { FitsEcmFields part.now }
 {
     pack(&header_of(part), body_of(part).bytes(), pid, counter)
 }
@@ -46,7 +46,7 @@ fn body_of(part: &EcmPart) -> Body
     ensures value { result ≡ ecm_body part.now }
     ensures length { length result ≡ ecm_head_length part.now.version + PLACE_BYTES * part.now.count }
     ensures few { length result ≤ 171 }
-    ensures fits { FitsHead part.now }
+    ensures fits { FitsEcmHead part.now }
     ensures positions { length part.now.positions ≡ POSITIONS }
 {
     let mut body = head_of(part);
@@ -61,7 +61,7 @@ fn body_of(part: &EcmPart) -> Body
 fn head_of(part: &EcmPart) -> Body
     ensures value { result ≡ ecm_head_bytes part.now }
     ensures length { length result ≡ ecm_head_length part.now.version }
-    ensures fits { FitsHead part.now }
+    ensures fits { FitsEcmHead part.now }
 {
     let mut body = numbers_of(part);
     put_since(&mut body, part.version, part.since, part.run);

@@ -4,13 +4,13 @@ ghost use Rattle.sd_section.specs.Header.{table_id_of, extension_of, body_of};
 ghost use Rattle.sd_section.specs.Written.{section_bytes};
 ghost use Rattle.sd_message.specs.Framed.{section_of, BeginsWithSection};
 ghost use Rattle.sd_message.specs.EmmSpelled.{listed_entries, emm_header, SpellsEmm};
-ghost use Rattle.sd_message.specs.EmmForm.{FitsFields, IsCounted, IsSetBeside, AreSets, IsEmm, no_entry};
-ghost use Rattle.sd_message.specs.EmmFields.{IsTable, IsEmmSection, IsEmmPacket, set_name_of, entry_in, entries_in};
+ghost use Rattle.sd_message.specs.EmmForm.{FitsEmmFields, IsEmmCounted, IsSetBeside, AreSets, IsEmm, no_entry};
+ghost use Rattle.sd_message.specs.EmmFields.{IsEmmTable, IsEmmSection, IsEmmPacket, set_name_of, emm_entry_in, entries_in};
 ghost use Rattle.sd_message.specs.EmmFields.{padded_entries};
 ghost use Rattle.sd_message.specs.EmmFields.{is_named as is_named_table, emm_head_length as length_of_head};
 ghost use Rattle.sd_message.specs.EmmFields.{emm_run_in as run_of};
 ghost use Rattle.sd_message.specs.EmmFields.{emm_in};
-ghost use Rattle.sd_message.specs.EmmFields.{with_entries, IsGoodIn, BreaksIn, BreaksFirst};
+ghost use Rattle.sd_message.specs.EmmFields.{with_entries, IsGoodEmm, BreaksEmmRule, BreaksEmmFirst};
 ghost use Rattle.sd_message.specs.EmmJudged.{emm_read};
 ghost use Rattle.sd_message.specs.declared.emm.Emm.{Emm};
 ghost use Rattle.sd_message.specs.declared.emm_format.TheConstants.{MOST_ENTRIES, ENTRY_BYTES};
@@ -34,11 +34,11 @@ use sd_tree_keys::{Height, SetName};
 pub fn read_emm(h: Height, packet: &Packet) -> Result<Option<Emm>, EmmFault>
     ensures none { (result ≡ Ok None) ↔ ¬ IsEmmPacket packet.now }
     ensures fault { (fault : EmmFault) →
-        (result ≡ Err fault) ↔ (IsEmmPacket packet.now × BreaksFirst h (section_of packet.now) fault) }
+        (result ≡ Err fault) ↔ (IsEmmPacket packet.now × BreaksEmmFirst h (section_of packet.now) fault) }
     ensures value { result ≡ emm_read h packet.now }
     ensures sound { IfOk result (λ read. IfSome read (λ emm.
         SpellsEmm emm packet.now × (IsEmm emm × AreSets h emm.sets (listed_entries emm)))) }
-    ensures complete { (emm : Emm) → FitsFields emm → IsEmm emm → AreSets h emm.sets (listed_entries emm) →
+    ensures complete { (emm : Emm) → FitsEmmFields emm → IsEmm emm → AreSets h emm.sets (listed_entries emm) →
         SpellsEmm emm packet.now →
         result ≡ Ok (Some emm) }
 {
@@ -58,7 +58,7 @@ fn emm_section_in(packet: &Packet) -> Option<Section<'_>>
     ensures spelled { IfSome result (λ section.
         section.bytes.now ≡ section_bytes
         (emm_header (table_id_of section.bytes.now) (extension_of section.bytes.now)) (body_of section.bytes.now)) }
-    ensures table { IfSome result (λ section. IsTable (table_id_of section.bytes.now)) }
+    ensures table { IfSome result (λ section. IsEmmTable (table_id_of section.bytes.now)) }
     ensures room { IfSome result (λ section.
         length_of_head (is_named_table (table_id_of section.bytes.now)) ≤ length (body_of section.bytes.now)) }
 {
@@ -96,8 +96,8 @@ fn is_named(section: &Section<'_>) -> bool
 fn read_body(h: Height, named: bool, index: u16, body: &[u8]) -> Result<Emm, EmmFault>
     requires { length_of_head named ≤ length body.now }
     ensures value { IfOk result (λ emm. emm ≡ emm_in named index body.now) }
-    ensures good { IfOk result (λ _. IsGoodIn h (length body.now) (emm_in named index body.now)) }
-    ensures fault { IfErr result (λ fault. BreaksIn h (length body.now) (emm_in named index body.now) fault) }
+    ensures good { IfOk result (λ _. IsGoodEmm h (length body.now) (emm_in named index body.now)) }
+    ensures fault { IfErr result (λ fault. BreaksEmmRule h (length body.now) (emm_in named index body.now) fault) }
     ensures bytes { (i : ℕ) → slice_index body.now i < 256 }
 {
     let mut emm = read_head(named, index, body);
@@ -156,7 +156,7 @@ fn run_in(named: bool, body: &[u8]) -> Option<u32>
 fn is_counted(emm: &Emm, length: usize) -> bool
     ensures { IsTrue result ↔
         ((length ≡ length_of_head (is_some emm.now.run) + ENTRY_BYTES * emm.now.count)
-        × IsCounted emm.now.sets emm.now.sections emm.now.index emm.now.count) }
+        × IsEmmCounted emm.now.sets emm.now.sections emm.now.index emm.now.count) }
 {
     let most = MOST_ENTRIES as u32;
     let sections = emm.sets.div_ceil(most).max(1);
@@ -195,11 +195,11 @@ fn read_entries(
 }
 
 // An entry, where it is a set that may stand there.
-#[tactic(auto, unfolding(crate::specs::EmmFields::entry_in))]
+#[tactic(auto, unfolding(crate::specs::EmmFields::emm_entry_in))]
 fn read_entry(h: Height, sets: u32, bytes: &[u8]) -> Option<Entry>
     requires { length bytes.now ≡ ENTRY_BYTES }
-    ensures value { IfSome result (λ entry. entry ≡ entry_in bytes.now) }
-    ensures set { IsSome result ↔ IsSetBeside h sets (entry_in bytes.now).name }
+    ensures value { IfSome result (λ entry. entry ≡ emm_entry_in bytes.now) }
+    ensures set { IsSome result ↔ IsSetBeside h sets (emm_entry_in bytes.now).name }
 {
     fields! { bytes; i: 0, 32; j: 32, 32; }
     let name = name_in(h, sets, i as u32, j as u32)?;

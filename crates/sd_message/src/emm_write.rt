@@ -1,11 +1,11 @@
 ghost use Rattle.std.specs.Prelude.{◌≡◌, ◌^◌, ◌<◌, ◌≤◌, ◌+◌, ◌*◌, ◌++◌, length, is_some, IfSome};
 ghost use Rattle.std.specs.Int.{w32, to_be_bytes};
-ghost use Rattle.sd_packet.specs.Packing.{packed};
+ghost use Rattle.sd_packet.specs.Packing.{section_packet};
 ghost use Rattle.sd_message.specs.EmmSpelled.{listed_entries, entry_bytes, name_bytes, run_bytes, emm_head_bytes};
 ghost use Rattle.sd_message.specs.EmmSpelled.{emm_body, emm_section, table_id_for};
 ghost use Rattle.sd_message.specs.EmmFields.{emm_head_length, count_at as count_place};
 ghost use Rattle.sd_message.specs.declared.emm_format.TheConstants.{MOST_ENTRIES, ENTRY_BYTES};
-ghost use Rattle.sd_message.specs.EmmForm.{AreWrapped, FitsHead, FitsFields, IsEmm};
+ghost use Rattle.sd_message.specs.EmmForm.{AreWrapped, FitsEmmHead, FitsEmmFields, IsEmm};
 
 use crate::body::Body;
 use crate::emm::{Emm, Entry};
@@ -21,8 +21,8 @@ pub fn write_emm(emm: &Emm, pid: u16, counter: u8) -> Packet
     requires form { IsEmm emm.now }
     requires pid { pid < 8192 }
     requires counter { counter < 16 }
-    ensures value { result ≡ packed (emm_section emm.now) pid counter }
-    ensures fits { FitsFields emm.now }
+    ensures value { result ≡ section_packet (emm_section emm.now) pid counter }
+    ensures fits { FitsEmmFields emm.now }
 {
     let header = Header {
         table_id: table_id_of(emm.run),
@@ -50,7 +50,7 @@ fn body_of(emm: &Emm) -> Body
     ensures value { result ≡ emm_body emm.now }
     ensures length { length result ≡ emm_head_length (is_some emm.now.run) + ENTRY_BYTES * emm.now.count }
     ensures few { length result ≤ 151 }
-    ensures head { FitsHead emm.now }
+    ensures head { FitsEmmHead emm.now }
     ensures wrapped { AreWrapped (listed_entries emm.now) }
 {
     let mut body = head_of(emm);
@@ -66,7 +66,7 @@ fn head_of(emm: &Emm) -> Body
     ensures value { result ≡ emm_head_bytes emm.now }
     ensures length { length result ≡ emm_head_length (is_some emm.now.run) }
     ensures few { length result ≤ 31 }
-    ensures fits { FitsHead emm.now }
+    ensures fits { FitsEmmHead emm.now }
 {
     let mut body = Body::new();
     body.put(&emm.period.to_be_bytes());

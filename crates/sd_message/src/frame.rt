@@ -1,10 +1,10 @@
 ghost use Rattle.std.specs.Prelude.{ℕ, slice_index, ◌≡◌, ◌<◌, ◌≤◌, ◌↔◌, IsNone, IsSome, IsTrue, IfSome, length, take};
 ghost use Rattle.std.specs.Prelude.{drop, ◌+◌, ◌++◌};
 ghost use Rattle.sd_packet.specs.Header.{payload_of};
-ghost use Rattle.sd_packet.specs.Packing.{packed};
+ghost use Rattle.sd_packet.specs.Packing.{section_packet};
 ghost use Rattle.sd_section.specs.Header.{body_of};
 ghost use Rattle.sd_section.specs.Written.{section_bytes};
-ghost use Rattle.sd_message.specs.Framed.{HasPointer, IsPlain, HasSection, BeginsWithSection, section_of};
+ghost use Rattle.sd_message.specs.Framed.{HasPointer, IsPlainHeader, HasSection, BeginsWithSection, section_of};
 ghost use Rattle.sd_message.specs.Framed.{header_of as header_of_bytes};
 
 use sd_packet::{Packet, pack_section};
@@ -42,7 +42,7 @@ fn after_pointer(packet: &Packet) -> Option<&[u8]>
 // Whether each bit of the header is as this project writes it.
 #[tactic(auto, using(crate::proofs::Spelling::plain_spelled))]
 fn is_plain(section: &Section<'_>) -> bool
-    ensures plain { IsTrue result ↔ IsPlain section.now.bytes.now }
+    ensures plain { IsTrue result ↔ IsPlainHeader section.now.bytes.now }
     ensures spelled { IsTrue result →
         section.now.bytes.now ≡ section_bytes (header_of_bytes section.now.bytes.now) (body_of section.now.bytes.now) }
 {
@@ -77,7 +77,7 @@ pub fn pack(header: &Header, body: &[u8], pid: u16, counter: u8) -> Packet
     requires room { length body.now ≤ 171 }
     requires pid { pid < 8192 }
     requires counter { counter < 16 }
-    ensures { result ≡ packed (section_bytes header.now body.now) pid counter }
+    ensures { result ≡ section_packet (section_bytes header.now body.now) pid counter }
 {
     let mut bytes = [0; 183];
     let length = body.len() + 12;

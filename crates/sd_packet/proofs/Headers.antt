@@ -5,13 +5,13 @@ use Rattle.std.specs.Prelude.{slice_index}
 use Rattle.sd_base.specs.Bits.{field, KeepsOthers}
 use Rattle.sd_base.proofs.Fields.{field_split, apart_stays}
 use Rattle.sd_base.proofs.Words.{byte_field}
-use Rattle.sd_packet.specs.Header.{error_of, unit_start_of, priority_of, pid_of, scrambling_of, adaptation_of}
+use Rattle.sd_packet.specs.Header.{transport_error, unit_start_of, priority_of, pid_of, scrambling_of, adaptation_of}
 use Rattle.sd_packet.specs.Header.{counter_of}
 use Rattle.sd_packet.specs.Packing.{section_header}
 
 -- the second and third bytes are three flags and the PID
 pub flags_and_pid : (packet : List ℕ) → slice_index packet 1 < 256 → slice_index packet 2 < 256 →
-    slice_index packet 1 * 256 + slice_index packet 2 ≡ ((error_of packet * 2 + unit_start_of packet) * 2
+    slice_index packet 1 * 256 + slice_index packet 2 ≡ ((transport_error packet * 2 + unit_start_of packet) * 2
     + priority_of packet) * 8192 + pid_of packet
 flags_and_pid packet h k =
     omega (
@@ -32,7 +32,7 @@ controls_and_counter packet h =
 
 -- four bytes are the header of a section's packet where their fields are
 pub header_by_fields : (xs : List ℕ) (pid counter : ℕ) → length xs ≡ 4 → ((i : ℕ) → get_or xs i 0 < 256) →
-    field xs 0 8 ≡ 0x47 → error_of xs ≡ 0 → unit_start_of xs ≡ 1 → priority_of xs ≡ 0 → pid_of xs ≡ pid →
+    field xs 0 8 ≡ 0x47 → transport_error xs ≡ 0 → unit_start_of xs ≡ 1 → priority_of xs ≡ 0 → pid_of xs ≡ pid →
     scrambling_of xs ≡ 0 → adaptation_of xs ≡ 1 → counter_of xs ≡ counter → xs ≡ section_header pid counter
 header_by_fields [] pid counter long bytes sync error start priority is_pid scrambling adaptation is_counter = absurd
     (omega arith)

@@ -6,9 +6,9 @@ use Rattle.std.proofs.Math.Seq.{drop-append-add}
 use Rattle.std.proofs.lemmas.Bool.{and_parts, leb-true}
 use Rattle.std.proofs.lemmas.List.{drop-replicate, length-replicate, drop_all, append-nil}
 use Rattle.sd_base.proofs.Fields.{field_below}
-use Rattle.sd_packet.specs.Header.{error_of, unit_start_of, priority_of, pid_of, scrambling_of, adaptation_of}
+use Rattle.sd_packet.specs.Header.{transport_error, unit_start_of, priority_of, pid_of, scrambling_of, adaptation_of}
 use Rattle.sd_packet.specs.Header.{counter_of, payload_start_of}
-use Rattle.sd_packet.specs.Packing.{section_header, packed, IsSectionPacket}
+use Rattle.sd_packet.specs.Packing.{section_header, section_packet, IsSectionPacket}
 use Rattle.sd_packet.proofs.Headers.{flags_and_pid, controls_and_counter}
 
 -- the header, the pointer and the section laid over stuffing are the packet
@@ -16,8 +16,8 @@ pub packet_laid : (section head first second : List ℕ) (pid counter : ℕ) →
     head ≡ section_header pid counter →
     first ≡ take 0 (replicate 188 255) ++ (head ++ drop (0 + length head) (replicate 188 255)) →
     second ≡ take 5 (slice_set first 4 0) ++ (section ++ drop (5 + length section) (slice_set first 4 0)) →
-    second ≡ packed section pid counter
-unfolding packed
+    second ≡ section_packet section pid counter
+unfolding section_packet
 packet_laid section head first second pid counter h is_head is_first is_second =
     let start : slice_set first 4 0 ≡ section_header pid counter ++ 0 ∷ replicate 183 255 = rw (is_first, is_head)
     refl in
@@ -29,11 +29,11 @@ packet_laid section head first second pid counter h is_head is_first is_second =
 
 -- what is read from the packet
 pub packet_reads : (section : List ℕ) (pid counter : ℕ) → pid < 8192 → counter < 16 →
-    IsSectionPacket section pid counter (packed section pid counter)
-unfolding packed payload_start_of
+    IsSectionPacket section pid counter (section_packet section pid counter)
+unfolding section_packet payload_start_of
 packet_reads section pid counter h k =
-    let packet : List ℕ = packed section pid counter in
-    let pids : (0x40 + pid / 256) * 256 + pid % 256 ≡ ((error_of packet * 2 + unit_start_of packet) * 2
+    let packet : List ℕ = section_packet section pid counter in
+    let pids : (0x40 + pid / 256) * 256 + pid % 256 ≡ ((transport_error packet * 2 + unit_start_of packet) * 2
     + priority_of packet) * 8192 + pid_of packet = flags_and_pid packet (omega arith) (omega arith) in
     let controls : 0x10 + counter ≡ (scrambling_of packet * 4 + adaptation_of packet) * 16
     + counter_of packet = controls_and_counter packet (omega arith) in
@@ -58,14 +58,14 @@ packet_reads section pid counter h k =
     }
 
 -- a packet that is the section's is read so
-pub packed_reads : (packet section : List ℕ) (pid counter : ℕ) → packet ≡ packed section pid counter → pid < 8192 →
+pub packed_reads : (packet section : List ℕ) (pid counter : ℕ) → packet ≡ section_packet section pid counter → pid < 8192 →
     counter < 16 → IsSectionPacket section pid counter packet
 packed_reads packet section pid counter e h k = rw e (packet_reads section pid counter h k)
 
 -- a packet of a section has 188 bytes
-pub packet_length : (section : List ℕ) (pid counter : ℕ) → length section ≤ 183 → length (packed section pid counter)
+pub packet_length : (section : List ℕ) (pid counter : ℕ) → length section ≤ 183 → length (section_packet section pid counter)
     ≡ 188
-unfolding packed
+unfolding section_packet
 packet_length section pid counter h = omega (
   arith,
   length-append section (replicate (183 - length section) 255),
@@ -73,14 +73,14 @@ packet_length section pid counter h = omega (
 )
 
 -- and begins with the sync byte
-pub packet_sync : (section : List ℕ) (pid counter : ℕ) → slice_index (packed section pid counter) 0 ≡ 0x47
-unfolding packed
+pub packet_sync : (section : List ℕ) (pid counter : ℕ) → slice_index (section_packet section pid counter) 0 ≡ 0x47
+unfolding section_packet
 packet_sync section pid counter = refl
 
 -- the counter is the low half of the fourth byte
 pub packet_counted : (section : List ℕ) (pid counter : ℕ) →
-    packed section pid counter ≡ slice_set (packed section pid 0) 3 (0x10 + counter)
-unfolding packed
+    section_packet section pid counter ≡ slice_set (section_packet section pid 0) 3 (0x10 + counter)
+unfolding section_packet
 packet_counted section pid counter = refl
 
 start_by : (alone both : Bool) (n : ℕ) → (both ≡ true → n ≤ 182) →
@@ -113,5 +113,5 @@ sync_stays (x ∷ packet) rest zero low some = absurd (omega arith)
 sync_stays (x ∷ packet) rest (suc n) low some = refl
 
 -- the PID of a packed section
-pub packed_pid : (section : List ℕ) (pid counter : ℕ) → pid < 8192 → pid_of (packed section pid (counter % 16)) ≡ pid
+pub packed_pid : (section : List ℕ) (pid counter : ℕ) → pid < 8192 → pid_of (section_packet section pid (counter % 16)) ≡ pid
 packed_pid section pid counter low = (packet_reads section pid (counter % 16) low (omega arith)).pid_is

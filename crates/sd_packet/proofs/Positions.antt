@@ -8,16 +8,16 @@ use Rattle.std.proofs.lemmas.Bool.Decides.{nat_tests}
 use Rattle.std.proofs.lemmas.List.{take_more}
 use Rattle.sd_base.proofs.Fields.{field_below}
 use Rattle.sd_packet.specs.Header.{counter_of, pid_of, has_payload}
-use Rattle.sd_packet.specs.Positions.{advanced, IsNext, is_moving, moved, moved_by, position_of}
+use Rattle.sd_packet.specs.Positions.{advanced, IsNextPosition, is_moving, moved, moved_by, position_of}
 use Rattle.sd_packet.specs.Positions.{is_positional, is_placed}
 
 -- a position rises by 1 to 16, to a number that equals the counter mod 16
-pub advanced_is_next : (position counter : ℕ) → counter < 16 → IsNext position counter (advanced position counter)
+pub advanced_is_next : (position counter : ℕ) → counter < 16 → IsNextPosition position counter (advanced position counter)
 unfolding advanced
 advanced_is_next position counter h = record { above = omega arith; near = omega arith; counter_is = omega arith }
 
 -- and no other number is so
-pub next_is_advanced : (position counter next : ℕ) → counter < 16 → IsNext position counter next →
+pub next_is_advanced : (position counter next : ℕ) → counter < 16 → IsNextPosition position counter next →
     next ≡ advanced position counter
 unfolding advanced
 next_is_advanced position counter next h is = omega (arith, is.above, is.near, is.counter_is)
@@ -28,7 +28,7 @@ counter_below packet = field_below packet 28 4
 
 -- a packet that moves a position leads to its next
 pub moving_rises : (pid position : ℕ) (packet : List ℕ) → is_moving pid packet ≡ true →
-    IsNext position (counter_of packet) (moved pid position packet)
+    IsNextPosition position (counter_of packet) (moved pid position packet)
 moving_rises pid position packet h = rw h (advanced_is_next position (counter_of packet) (counter_below packet))
 
 near_by : (b : Bool) (position next : ℕ) → position ≤ next → next ≤ position + 16 →

@@ -4,8 +4,8 @@ use Rattle.std.specs.Prelude.{if◌then◌else◌}
 use Rattle.sd_base.specs.Bits.{field}
 
 -- transport_error_indicator [ISO/IEC 13818-1, 2.4.3.2]
-abbrev pub error_of : List ℕ → ℕ
-error_of packet = field packet 8 1
+abbrev pub transport_error : List ℕ → ℕ
+transport_error packet = field packet 8 1
 
 -- payload_unit_start_indicator [ISO/IEC 13818-1, 2.4.3.2]
 abbrev pub unit_start_of : List ℕ → ℕ

@@ -1,6 +1,6 @@
 -- Public meaning: packets that are one section by itself.
 use Rattle.std.specs.Prelude.{◌≡◌, ℕ, ◌+◌, ◌-◌, ◌/◌, ◌%◌, List, [], ◌∷◌, ◌++◌, length, replicate}
-use Rattle.sd_packet.specs.Header.{error_of, unit_start_of, priority_of, pid_of, scrambling_of, adaptation_of}
+use Rattle.sd_packet.specs.Header.{transport_error, unit_start_of, priority_of, pid_of, scrambling_of, adaptation_of}
 use Rattle.sd_packet.specs.Header.{counter_of}
 use Rattle.sd_packet.specs.Header.{payload_start_of, payload_of}
 
@@ -14,12 +14,12 @@ abbrev pub section_payload : List ℕ → List ℕ
 section_payload section = 0 ∷ (section ++ replicate (183 - length section) 0xFF)
 
 -- the packet [ISO/IEC 13818-1, 2.4.4]
-unfoldable pub packed : List ℕ → ℕ → ℕ → List ℕ
-packed section pid counter = section_header pid counter ++ section_payload section
+unfoldable pub section_packet : List ℕ → ℕ → ℕ → List ℕ
+section_packet section pid counter = section_header pid counter ++ section_payload section
 
 -- the packet by what is read from it
 pub record IsSectionPacket (section : List ℕ) (pid counter : ℕ) (packet : List ℕ) : Type 0 where
-  pub error : error_of packet ≡ 0
+  pub error : transport_error packet ≡ 0
   pub unit_start : unit_start_of packet ≡ 1
   pub priority : priority_of packet ≡ 0
   pub pid_is : pid_of packet ≡ pid

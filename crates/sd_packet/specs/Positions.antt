@@ -16,7 +16,7 @@ abbrev pub first_position : ℕ
 first_position = 15
 
 -- the next position is 1 to 16 above and equals the counter mod 16 [this project, docs/FORMATS.md, Positions]
-pub record IsNext (position counter next : ℕ) : Type 0 where
+pub record IsNextPosition (position counter next : ℕ) : Type 0 where
   pub above : position < next
   pub near : next ≤ position + 16
   pub counter_is : next % 16 ≡ counter

@@ -1,5 +1,5 @@
 ghost use Rattle.std.specs.Prelude.{◌≡◌, ◌^◌, ◌<◌};
-ghost use Rattle.sd_packet.specs.Positions.{is_positional as is_positional_pid, advanced, IsNext};
+ghost use Rattle.sd_packet.specs.Positions.{is_positional as is_positional_pid, advanced, IsNextPosition};
 
 /// The lowest PID whose packets have positions.
 pub const LOWEST_POSITIONAL: u16 = 0x0020;
@@ -20,7 +20,7 @@ pub fn advance(position: u64, counter: u8) -> u64
     requires counter { counter < 16 }
     requires position { position < 2 ^ 63 }
     ensures value { result ≡ advanced position counter }
-    ensures next { IsNext position counter result }
+    ensures next { IsNextPosition position counter result }
 {
     let next = position + 1;
     next + u64::from(counter).wrapping_sub(next) % 16

@@ -1,5 +1,5 @@
 ghost use Rattle.std.specs.Prelude.{◌≡◌, ◌+◌, ◌<◌, ◌≤◌, ◌++◌, length, take, drop};
-ghost use Rattle.sd_packet.specs.Packing.{section_header, packed, IsSectionPacket};
+ghost use Rattle.sd_packet.specs.Packing.{section_header, section_packet, IsSectionPacket};
 
 use crate::packet::{Packet, SIZE};
 use sd_base::fields;
@@ -14,7 +14,7 @@ pub fn pack_section(section: &[u8], pid: u16, counter: u8) -> Packet
     requires room { length section.now ≤ 183 }
     requires pid { pid < 8192 }
     requires counter { counter < 16 }
-    ensures value { result ≡ packed section.now pid counter }
+    ensures value { result ≡ section_packet section.now pid counter }
     ensures fields { IsSectionPacket section.now pid counter result }
     ensures length { length result ≡ 188 }
 {

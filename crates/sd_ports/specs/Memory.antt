@@ -31,12 +31,12 @@ abbrev pub write_fails : Store → ℕ → Bool
 write_fails s count = is_listed s.fails s.writes || nat_lt (s.room - length s.held) count
 
 -- how many bytes of so many a write takes
-abbrev pub taken : Store → ℕ → ℕ
-taken s count = min s.most count
+abbrev pub bytes_taken : Store → ℕ → ℕ
+bytes_taken s count = min s.most count
 
 -- a sink after a write of a piece
 abbrev pub after_write : Store → List ℕ → Store
 after_write s piece =
     if write_fails s (length piece)
     then record s { writes = with_added s.writes 1; faults = with_added s.faults 1 }
-    else record s { held = s.held ++ take (taken s (length piece)) piece; writes = with_added s.writes 1 }
+    else record s { held = s.held ++ take (bytes_taken s (length piece)) piece; writes = with_added s.writes 1 }

@@ -2,7 +2,7 @@ ghost use Rattle.std.specs.Prelude.{◌≡◌, ◌<◌, ◌≤◌, ◌↔◌, If
 ghost use Rattle.std.specs.Io.{WritesAtMost};
 ghost use Rattle.std.specs.Io.KnownBytes.{WriteAppends};
 ghost use Rattle.sd_base.specs.Count.{HasCause};
-ghost use Rattle.sd_ports.specs.Memory.{after_write, is_listed, room_in, taken, write_fails};
+ghost use Rattle.sd_ports.specs.Memory.{after_write, is_listed, room_in, bytes_taken, write_fails};
 ghost use Rattle.sd_ports.specs.Rooms.{TakesRoom};
 
 use crate::fault::PortFault;
@@ -115,7 +115,7 @@ impl Sink for MemSink {
         ensures cause { HasCause self.old.faults self.new.faults result }
         ensures room { TakesRoom (room_in self.old) (room_in self.new) (length piece.now) result }
         ensures fails { IsErr result ↔ (write_fails self.old (length piece.now) ≡ true) }
-        ensures count { IfOk result (λ k. k ≡ taken self.old (length piece.now)) }
+        ensures count { IfOk result (λ k. k ≡ bytes_taken self.old (length piece.now)) }
         ensures after { self.new ≡ after_write self.old piece.now }
     {
         let number = self.writes;

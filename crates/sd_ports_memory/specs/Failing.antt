@@ -28,16 +28,16 @@ abbrev pub no_failures : Failures
 no_failures = record { calls = []; ports = []; numbered = 0 }
 
 -- one more, of which the last 16 stay
-abbrev pub newest : {X : Type 0} → List X → X → List X
-newest xs x = keep_last 16 (xs ++ x ∷ [])
+abbrev pub newest_sixteen : {X : Type 0} → List X → X → List X
+newest_sixteen xs x = keep_last 16 (xs ++ x ∷ [])
 
 -- the depot's call of this number is to fail, too
 abbrev pub with_failing_call : Failures → ℕ → Failures
-with_failing_call f number = record f { calls = newest f.calls number }
+with_failing_call f number = record f { calls = newest_sixteen f.calls number }
 
 -- on ports of this name the call of this number is to fail, too
 abbrev pub with_failing_port : Failures → List ℕ → ℕ → Failures
-with_failing_port f name number = record f { ports = newest f.ports (name, number) }
+with_failing_port f name number = record f { ports = newest_sixteen f.ports (name, number) }
 
 -- whether the depot's next call fails
 abbrev pub next_fails : Failures → Bool

@@ -142,15 +142,15 @@ abbrev pub left_at_close : Shelf → List ℕ → List ℕ
 left_at_close s held = if call_fails s then take (length held / 2) held else held
 
 -- so many faults a numbered call adds: none, or one where it fails
-abbrev pub fault_of : Shelf → ℕ
-fault_of s = if call_fails s then 1 else 0
+abbrev pub faults_at_call : Shelf → ℕ
+faults_at_call s = if call_fails s then 1 else 0
 
 -- the depot after a numbered call that closed a file's port
 abbrev pub with_closed : Shelf → List ℕ → Store → ℕ → Shelf
 with_closed s name port opened = record s {
   files = insert s.files name (left_at_close s port.held);
   failing = after_call s.failing;
-  faults = with_added (with_added s.faults port.faults) (fault_of s);
+  faults = with_added (with_added s.faults port.faults) (faults_at_call s);
   stops = with_added s.stops port.faults;
   opened = opened;
   calls = with_added s.calls 1;

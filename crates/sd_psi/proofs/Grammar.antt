@@ -8,55 +8,55 @@ use Rattle.std.proofs.lemmas.Bool.{and_parts, eqb-true, cases_lt}
 use Rattle.sd_section.proofs.Cutting.{field_append}
 use Rattle.sd_psi.specs.declared.items.Kind.{Kind}
 use Rattle.sd_psi.specs.declared.items.Kind.TheVariants.{Program, Descriptor, Stream}
-use Rattle.sd_psi.specs.Items.{size_of, cut, items_of, is_whole_item, are_whole, joined}
+use Rattle.sd_psi.specs.Items.{item_size, cut_items, items_of, is_whole_item, are_whole, items_joined}
 use Rattle.sd_psi.proofs.Cutting.{some_size, left_less, first_cut, none_cut, none_off, first_whole, first_off}
 
 -- bytes are the items into which they are cut
-cut_spells : (kind : Kind) (n : ℕ) (bytes : List ℕ) → length bytes ≤ n → joined (cut kind n bytes) ≡ bytes
-unfolding cut
+cut_spells : (kind : Kind) (n : ℕ) (bytes : List ℕ) → length bytes ≤ n → items_joined (cut_items kind n bytes) ≡ bytes
+unfolding cut_items
 cut_spells kind zero [] h = refl
 cut_spells kind (suc n) [] h = refl
 cut_spells kind zero (b ∷ bs) h = absurd (omega arith)
 cut_spells kind (suc n) (b ∷ bs) h =
-    let size : ℕ = size_of kind (b ∷ bs) in
+    let size : ℕ = item_size kind (b ∷ bs) in
     let less = left_less kind b bs in
     ap (λ (l : List ℕ). take size (b ∷ bs) ++ l) (cut_spells kind n (drop size (b ∷ bs)) (omega arith)) ∙
     take-append-drop size (b ∷ bs)
 
-pub items_spell : (kind : Kind) (bytes : List ℕ) → joined (items_of kind bytes) ≡ bytes
+pub items_spell : (kind : Kind) (bytes : List ℕ) → items_joined (items_of kind bytes) ≡ bytes
 unfolding items_of
 items_spell kind bytes = cut_spells kind (length bytes) bytes (le_refl (length bytes))
 
-size_before : (kind : Kind) (item rest : List ℕ) → length item ≡ size_of kind item → size_of kind (item ++ rest)
+size_before : (kind : Kind) (item rest : List ℕ) → length item ≡ item_size kind item → item_size kind (item ++ rest)
     ≡ length item
-unfolding size_of
+unfolding item_size
 size_before Program item rest h = sym h
 size_before Descriptor item rest h = ap (λ (n : ℕ). 2 + n) (field_append item rest 8 8 (omega arith)) ∙ sym h
 size_before Stream item rest h = ap (λ (n : ℕ). 5 + n) (field_append item rest 28 12 (omega arith)) ∙ sym h
 
 -- so whole items are those of their bytes
 pub spelled_items : (kind : Kind) (items : List (List ℕ)) → list_all (is_whole_item kind) items ≡ true →
-    items_of kind (joined items) ≡ items
+    items_of kind (items_joined items) ≡ items
 spelled_items kind [] h = none_cut kind [] refl
 spelled_items kind (x ∷ xs) h =
     let tests = and_parts (is_whole_item kind x) (list_all (is_whole_item kind) xs) h in
-    let long : length x ≡ size_of kind x = eqb-true (length x) (size_of kind x) tests.0 in
-    let size = size_before kind x (joined xs) long in
-    first_cut kind (x ++ joined xs) (omega (arith, long, some_size kind x, length-append x (joined xs)))
-    ∙ (ap (λ (n : ℕ). take n (x ++ joined xs) ∷ items_of kind (drop n (x ++ joined xs))) size
-    ∙ (ap (λ (l : List ℕ). l ∷ items_of kind (drop (length x) (x ++ joined xs))) (take_at x (joined xs) (length x) refl)
-    ∙ (ap (λ (l : List ℕ). x ∷ items_of kind l) (drop_at x (joined xs) (length x) refl) ∙
+    let long : length x ≡ item_size kind x = eqb-true (length x) (item_size kind x) tests.0 in
+    let size = size_before kind x (items_joined xs) long in
+    first_cut kind (x ++ items_joined xs) (omega (arith, long, some_size kind x, length-append x (items_joined xs)))
+    ∙ (ap (λ (n : ℕ). take n (x ++ items_joined xs) ∷ items_of kind (drop n (x ++ items_joined xs))) size
+    ∙ (ap (λ (l : List ℕ). l ∷ items_of kind (drop (length x) (x ++ items_joined xs))) (take_at x (items_joined xs) (length x) refl)
+    ∙ (ap (λ (l : List ℕ). x ∷ items_of kind l) (drop_at x (items_joined xs) (length x) refl) ∙
     ap (λ (l : List (List ℕ)). x ∷ l) (spelled_items kind xs tests.1))))
 
 pub spelled_whole : (kind : Kind) (items : List (List ℕ)) → list_all (is_whole_item kind) items ≡ true →
-    are_whole kind (joined items) ≡ true
+    are_whole kind (items_joined items) ≡ true
 unfolding are_whole
 spelled_whole kind items h = ap (list_all (is_whole_item kind)) (spelled_items kind items h) ∙ h
 
 -- programs have four bytes each
 fours : (n : ℕ) (bytes : List ℕ) → length bytes ≤ n → (are_whole Program bytes ≡ true → length bytes % 4 ≡ 0)
     × (length bytes % 4 ≡ 0 → are_whole Program bytes ≡ true)
-unfolding size_of
+unfolding item_size
 fours n [] h = (λ is. refl, λ is. none_off Program [] refl)
 fours zero (b ∷ bs) h = absurd (omega arith)
 fours (suc n) (b ∷ bs) h = elim (cases_lt (length (b ∷ bs)) 4) [

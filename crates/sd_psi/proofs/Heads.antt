@@ -10,7 +10,7 @@ use Rattle.sd_base.specs.Bits.{field}
 use Rattle.sd_base.proofs.Fields.{field_below, field_split}
 use Rattle.sd_base.proofs.Words.{byte_field}
 use Rattle.sd_section.specs.Header.{crc_in, crc_due}
-use Rattle.sd_section.specs.Written.{sealed}
+use Rattle.sd_section.specs.Written.{with_crc}
 use Rattle.sd_psi.specs.Rewriting.{with_twelve, with_lengths}
 
 -- a list of bytes
@@ -192,7 +192,7 @@ four_again bytes long h =
 
 -- a section whose CRC is right is sealed
 pub sealed_again : (section : List ℕ) → 4 ≤ length section → AreBytes section → crc_in section ≡ crc_due section →
-    sealed (take (length section - 4) section) ≡ section
+    with_crc (take (length section - 4) section) ≡ section
 unfolding crc_in crc_due
 sealed_again section long h right =
     let four : length (drop (length section - 4) section)

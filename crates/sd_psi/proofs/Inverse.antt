@@ -18,10 +18,10 @@ use Rattle.sd_psi.specs.declared.fault.FormFault.{FormFault}
 use Rattle.sd_psi.specs.declared.fault.FormFault.TheVariants as Fault
 use Rattle.sd_psi.specs.declared.form.Table.TheVariants.{Pmt}
 use Rattle.sd_psi.specs.Tables.{info_length_of, has_info, is_pmt}
-use Rattle.sd_psi.specs.Forms.{fault_unless, or_next, after_pointer, section_in, after_section, has_pointer, has_table}
+use Rattle.sd_psi.specs.Forms.{fault_unless, fault_or_next, after_pointer, section_in, after_section, has_pointer, has_table}
 use Rattle.sd_psi.specs.Forms.{has_body, has_length, table_crc_fault, is_stuffing, bytes_fault, outer_fault}
-use Rattle.sd_psi.specs.Rewriting.{ca_descriptor, inserted, removed, before_section, rewritten, restored, loops_fault}
-use Rattle.sd_psi.specs.Rewriting.{has_room, is_first, rewrite_fault, removal_fault}
+use Rattle.sd_psi.specs.Rewriting.{ca_descriptor, section_with_descriptor, section_without_descriptor, before_section, pmt_with_descriptor, pmt_without_descriptor, loops_fault}
+use Rattle.sd_psi.specs.Rewriting.{has_pmt_room, is_first_descriptor, rewrite_fault, removal_fault}
 use Rattle.sd_psi.specs.Undone.{IsPacket}
 use Rattle.sd_psi.proofs.Listing.{pmt_has, pmt_info}
 use Rattle.sd_psi.proofs.Heads.{bytes_after, bytes_before}
@@ -87,7 +87,7 @@ packet_parts packet =
     take-append-drop (payload_start_of packet + 1) packet)
 
 -- where nothing is wrong, each test holds
-pub none_parts : (a b : Option FormFault) → or_next a b ≡ None → (a ≡ None) × (b ≡ None)
+pub none_parts : (a b : Option FormFault) → fault_or_next a b ≡ None → (a ≡ None) × (b ≡ None)
 none_parts None b h = (refl, h)
 none_parts (Some f) b h = absurd (cc)
 
@@ -108,11 +108,11 @@ outer_good packet h =
     let pointers = none_parts (fault_unless (has_pointer packet) Fault.Pointer) (bytes_fault Pmt (after_pointer packet))
     h in
     let tables = none_parts (fault_unless (has_table Pmt (after_pointer packet)) Fault.Table)
-    (or_next (fault_unless (has_length Pmt (after_pointer packet)) Fault.Length)
-    (or_next (table_crc_fault (section_in packet)) (fault_unless (is_stuffing (after_section packet)) Fault.Trailing)))
+    (fault_or_next (fault_unless (has_length Pmt (after_pointer packet)) Fault.Length)
+    (fault_or_next (table_crc_fault (section_in packet)) (fault_unless (is_stuffing (after_section packet)) Fault.Trailing)))
     pointers.1 in
     let lengths = none_parts (fault_unless (has_length Pmt (after_pointer packet)) Fault.Length)
-    (or_next (table_crc_fault (section_in packet)) (fault_unless (is_stuffing (after_section packet)) Fault.Trailing))
+    (fault_or_next (table_crc_fault (section_in packet)) (fault_unless (is_stuffing (after_section packet)) Fault.Trailing))
     tables.1 in
     let crcs = none_parts (table_crc_fault (section_in packet))
     (fault_unless (is_stuffing (after_section packet)) Fault.Trailing) lengths.1 in
@@ -185,14 +185,14 @@ pub may_rewrite : (packet : List ℕ) → IsPacket packet → rewrite_fault pack
 unfolding rewrite_fault
 may_rewrite packet is h =
     let outers = none_parts (outer_fault Pmt packet)
-    (or_next (fault_unless (has_room packet) Fault.NoRoom) (loops_fault (section_in packet))) h in
-    let rooms = none_parts (fault_unless (has_room packet) Fault.NoRoom) (loops_fault (section_in packet)) outers.1 in
+    (fault_or_next (fault_unless (has_pmt_room packet) Fault.NoRoom) (loops_fault (section_in packet))) h in
+    let rooms = none_parts (fault_unless (has_pmt_room packet) Fault.NoRoom) (loops_fault (section_in packet)) outers.1 in
     let good = outer_good packet outers.0 in
     let form = none_true (is_pmt (section_in packet)) Fault.Descriptor rooms.1 in
     record {
       good = good;
       is_right = right_pmt packet is good form;
-      room = leb-true 6 (length (after_section packet)) (none_true (has_room packet) Fault.NoRoom rooms.0);
+      room = leb-true 6 (length (after_section packet)) (none_true (has_pmt_room packet) Fault.NoRoom rooms.0);
       form = form;
     }
 
@@ -224,13 +224,13 @@ bytes_good bytes table lengths right stuffing =
     let crc : table_crc_fault (whole_of bytes) ≡ None =
     ap (λ (t : Bool). fault_unless t (Fault.Crc (crc_in (whole_of bytes)) (crc_due (whole_of bytes))))
     (eq-eqb (crc_in (whole_of bytes)) (crc_due (whole_of bytes)) right) in
-    ap (λ (t : Bool). or_next (fault_unless t Fault.Table) (or_next (fault_unless (has_length Pmt bytes) Fault.Length)
-    (or_next (table_crc_fault (whole_of bytes)) (fault_unless (is_stuffing (drop (3 + section_length_of bytes) bytes))
+    ap (λ (t : Bool). fault_or_next (fault_unless t Fault.Table) (fault_or_next (fault_unless (has_length Pmt bytes) Fault.Length)
+    (fault_or_next (table_crc_fault (whole_of bytes)) (fault_unless (is_stuffing (drop (3 + section_length_of bytes) bytes))
     Fault.Trailing)))) table
-    ∙ (ap (λ (t : Bool). or_next (fault_unless t Fault.Length)
-    (or_next (table_crc_fault (whole_of bytes)) (fault_unless (is_stuffing (drop (3 + section_length_of bytes) bytes))
+    ∙ (ap (λ (t : Bool). fault_or_next (fault_unless t Fault.Length)
+    (fault_or_next (table_crc_fault (whole_of bytes)) (fault_unless (is_stuffing (drop (3 + section_length_of bytes) bytes))
     Fault.Trailing))) lengths
-    ∙ (ap (λ (f : Option FormFault). or_next f (fault_unless (is_stuffing (drop (3 + section_length_of bytes) bytes))
+    ∙ (ap (λ (f : Option FormFault). fault_or_next f (fault_unless (is_stuffing (drop (3 + section_length_of bytes) bytes))
     Fault.Trailing)) crc
     ∙ ap (λ (t : Bool). fault_unless t Fault.Trailing) stuffing))
 
@@ -297,7 +297,7 @@ outer_kept packet is section rest good is_right shape stuffing =
     (3 + section_length_of (section ++ rest)) count in
     let right : crc_in (whole_of (section ++ rest)) ≡ crc_due (whole_of (section ++ rest)) = ap crc_in whole ∙
     (shape.right ∙ ap crc_due (sym whole)) in
-    ap (λ (t : Bool). or_next (fault_unless t Fault.Pointer)
+    ap (λ (t : Bool). fault_or_next (fault_unless t Fault.Pointer)
     (bytes_fault Pmt (after_pointer (before_section packet ++ (section ++ rest)))))
     (pointer_kept packet is section rest shape.long some ∙ good.pointer)
     ∙ (ap (bytes_fault Pmt) after
@@ -325,16 +325,16 @@ parts_long packet is =
     )
 
 rewritten_section : (ca pid : ℕ) (packet : List ℕ) → IsPacket packet → MayRewrite packet →
-    IsInserted ca pid (section_in packet) (inserted (ca_descriptor ca pid) (section_in packet))
+    IsInserted ca pid (section_in packet) (section_with_descriptor (ca_descriptor ca pid) (section_in packet))
 rewritten_section ca pid packet is may = inserted_shape ca pid (section_in packet) may.is_right may.form
     (omega (arith, parts_long packet is, may.room))
 
 pub restorable : (ca pid : ℕ) (packet : List ℕ) → IsPacket packet → rewrite_fault packet ≡ None →
-    removal_fault (ca_descriptor ca pid) (rewritten ca pid packet) ≡ None
-unfolding rewritten removal_fault
+    removal_fault (ca_descriptor ca pid) (pmt_with_descriptor ca pid packet) ≡ None
+unfolding pmt_with_descriptor removal_fault
 restorable ca pid packet is h =
     let may = may_rewrite packet is h in
-    let section : List ℕ = inserted (ca_descriptor ca pid) (section_in packet) in
+    let section : List ℕ = section_with_descriptor (ca_descriptor ca pid) (section_in packet) in
     let new = rewritten_section ca pid packet is may in
     let rest : List ℕ = drop 6 (after_section packet) in
     let some : 12 ≤ length section = omega (arith, new.shape.low) in
@@ -343,26 +343,26 @@ restorable ca pid packet is h =
     let there : section_in (before_section packet ++ (section ++ rest)) ≡ section = section_of packet is section rest
     new.shape.long some in
     let form : is_pmt (section_in (before_section packet ++ (section ++ rest))) ≡ true = ap is_pmt there ∙ new.form in
-    let first : is_first (ca_descriptor ca pid) (section_in (before_section packet ++ (section ++ rest)))
-    ≡ true = ap (is_first (ca_descriptor ca pid)) there ∙ new.first in
+    let first : is_first_descriptor (ca_descriptor ca pid) (section_in (before_section packet ++ (section ++ rest)))
+    ≡ true = ap (is_first_descriptor (ca_descriptor ca pid)) there ∙ new.first in
     rw (before, form, first) refl
 
 pub restored_again : (ca pid : ℕ) (packet : List ℕ) → IsPacket packet → rewrite_fault packet ≡ None →
-    restored (rewritten ca pid packet) ≡ packet
-unfolding rewritten restored
+    pmt_without_descriptor (pmt_with_descriptor ca pid packet) ≡ packet
+unfolding pmt_with_descriptor pmt_without_descriptor
 restored_again ca pid packet is h =
     let may = may_rewrite packet is h in
-    let section : List ℕ = inserted (ca_descriptor ca pid) (section_in packet) in
+    let section : List ℕ = section_with_descriptor (ca_descriptor ca pid) (section_in packet) in
     let new = rewritten_section ca pid packet is may in
     let rest : List ℕ = drop 6 (after_section packet) in
     let some : 12 ≤ length section = omega (arith, new.shape.low) in
-    ap (λ (l : List ℕ). l ++ (removed (section_in (before_section packet ++ (section ++ rest)))
+    ap (λ (l : List ℕ). l ++ (section_without_descriptor (section_in (before_section packet ++ (section ++ rest)))
     ++ (replicate 6 255 ++ after_section (before_section packet ++ (section ++ rest)))))
     (before_of packet is section rest new.shape.long some)
     ∙ (ap (λ (l : List ℕ). before_section packet
-    ++ (removed l ++ (replicate 6 255 ++ after_section (before_section packet ++ (section ++ rest)))))
+    ++ (section_without_descriptor l ++ (replicate 6 255 ++ after_section (before_section packet ++ (section ++ rest)))))
     (section_of packet is section rest new.shape.long some)
-    ∙ (ap (λ (l : List ℕ). before_section packet ++ (removed section ++ (replicate 6 255 ++ l)))
+    ∙ (ap (λ (l : List ℕ). before_section packet ++ (section_without_descriptor section ++ (replicate 6 255 ++ l)))
     (rest_of packet is section rest new.shape.long some)
     ∙ (ap (λ (l : List ℕ). before_section packet ++ (l ++ (replicate 6 255 ++ rest)))
     (removed_inserted (section_in packet) may.is_right (ca_descriptor ca pid) (six_long ca pid))
@@ -374,14 +374,14 @@ pub record MayRestore (descriptor packet : List ℕ) : Type 0 where
   pub good : IsGood packet
   pub is_right : IsRightPmt (section_in packet)
   pub form : is_pmt (section_in packet) ≡ true
-  pub first : is_first descriptor (section_in packet) ≡ true
+  pub first : is_first_descriptor descriptor (section_in packet) ≡ true
 
 may_restore : (descriptor packet : List ℕ) → IsPacket packet → removal_fault descriptor packet ≡ None →
     MayRestore descriptor packet
 unfolding removal_fault
 may_restore descriptor packet is h =
-    let ours : Option FormFault = fault_unless (is_first descriptor (section_in packet)) Fault.Descriptor in
-    let outers = none_parts (outer_fault Pmt packet) (or_next (loops_fault (section_in packet)) ours) h in
+    let ours : Option FormFault = fault_unless (is_first_descriptor descriptor (section_in packet)) Fault.Descriptor in
+    let outers = none_parts (outer_fault Pmt packet) (fault_or_next (loops_fault (section_in packet)) ours) h in
     let loops = none_parts (loops_fault (section_in packet)) ours outers.1 in
     let good = outer_good packet outers.0 in
     let form = none_true (is_pmt (section_in packet)) Fault.Descriptor loops.0 in
@@ -389,7 +389,7 @@ may_restore descriptor packet is h =
       good = good;
       is_right = right_pmt packet is good form;
       form = form;
-      first = none_true (is_first descriptor (section_in packet)) Fault.Descriptor loops.1;
+      first = none_true (is_first_descriptor descriptor (section_in packet)) Fault.Descriptor loops.1;
     }
 
 ours_six : (ca pid : ℕ) (packet : List ℕ) → MayRestore (ca_descriptor ca pid) packet →
@@ -404,11 +404,11 @@ more_stuffing zero bytes h = h
 more_stuffing (suc n) bytes h = more_stuffing n bytes h
 
 pub rewritable : (ca pid : ℕ) (packet : List ℕ) → IsPacket packet → removal_fault (ca_descriptor ca pid) packet ≡ None →
-    rewrite_fault (restored packet) ≡ None
-unfolding restored rewrite_fault
+    rewrite_fault (pmt_without_descriptor packet) ≡ None
+unfolding pmt_without_descriptor rewrite_fault
 rewritable ca pid packet is h =
     let may = may_restore (ca_descriptor ca pid) packet is h in
-    let section : List ℕ = removed (section_in packet) in
+    let section : List ℕ = section_without_descriptor (section_in packet) in
     let new = removed_shape (ca_descriptor ca pid) (section_in packet) may.is_right may.form
     (ours_six ca pid packet may) in
     let rest : List ℕ = replicate 6 255 ++ after_section packet in
@@ -417,7 +417,7 @@ rewritable ca pid packet is h =
     (more_stuffing 6 (after_section packet) may.good.stuffing) in
     let left : after_section (before_section packet ++ (section ++ rest)) ≡ rest = rest_of packet is section rest
     new.shape.long some in
-    let room : has_room (before_section packet ++ (section ++ rest)) ≡ true = ap (λ (l : List ℕ). nat_le 6 (length l))
+    let room : has_pmt_room (before_section packet ++ (section ++ rest)) ≡ true = ap (λ (l : List ℕ). nat_le 6 (length l))
     left ∙ le-leb 6 (length rest) (omega (arith, length-append (replicate 6 255) (after_section packet))) in
     let form : is_pmt (section_in (before_section packet ++ (section ++ rest))) ≡ true = ap is_pmt
     (section_of packet is section rest new.shape.long some) ∙ new.form in
@@ -425,23 +425,23 @@ rewritable ca pid packet is h =
 
 pub rewritten_again : (ca pid : ℕ) (packet : List ℕ) → IsPacket packet → removal_fault (ca_descriptor ca pid) packet
     ≡ None →
-    rewritten ca pid (restored packet) ≡ packet
-unfolding rewritten restored
+    pmt_with_descriptor ca pid (pmt_without_descriptor packet) ≡ packet
+unfolding pmt_with_descriptor pmt_without_descriptor
 rewritten_again ca pid packet is h =
     let may = may_restore (ca_descriptor ca pid) packet is h in
     let ours = ours_six ca pid packet may in
-    let section : List ℕ = removed (section_in packet) in
+    let section : List ℕ = section_without_descriptor (section_in packet) in
     let new = removed_shape (ca_descriptor ca pid) (section_in packet) may.is_right may.form ours in
     let rest : List ℕ = replicate 6 255 ++ after_section packet in
     let some : 12 ≤ length section = omega (arith, new.shape.low) in
     let descriptor : List ℕ = ca_descriptor ca pid in
-    ap (λ (l : List ℕ). l ++ (inserted descriptor (section_in (before_section packet ++ (section ++ rest)))
+    ap (λ (l : List ℕ). l ++ (section_with_descriptor descriptor (section_in (before_section packet ++ (section ++ rest)))
     ++ drop 6 (after_section (before_section packet ++ (section ++ rest)))))
     (before_of packet is section rest new.shape.long some)
     ∙ (ap (λ (l : List ℕ). before_section packet
-    ++ (inserted descriptor l ++ drop 6 (after_section (before_section packet ++ (section ++ rest)))))
+    ++ (section_with_descriptor descriptor l ++ drop 6 (after_section (before_section packet ++ (section ++ rest)))))
     (section_of packet is section rest new.shape.long some)
-    ∙ (ap (λ (l : List ℕ). before_section packet ++ (inserted descriptor section ++ drop 6 l))
+    ∙ (ap (λ (l : List ℕ). before_section packet ++ (section_with_descriptor descriptor section ++ drop 6 l))
     (rest_of packet is section rest new.shape.long some)
     ∙ (ap (λ (l : List ℕ). before_section packet ++ (l ++ after_section packet))
     (inserted_removed (section_in packet) may.is_right descriptor ours.is ours.counted)

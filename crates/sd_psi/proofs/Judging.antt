@@ -10,13 +10,13 @@ use Rattle.sd_packet.proofs.Packets.{start_within}
 use Rattle.sd_section.specs.declared.fault.SectionFault.TheVariants as SectionFault
 use Rattle.sd_section.specs.Header.{table_id_of, syntax_of, section_length_of, section_number_of, last_number_of}
 use Rattle.sd_section.specs.Header.{whole_of}
-use Rattle.sd_section.specs.Judged.{section_fault, unless}
+use Rattle.sd_section.specs.Judged.{section_fault, section_fault_unless}
 use Rattle.sd_section.specs.Judged.{crc_fault as section_crc_fault}
 use Rattle.sd_psi.specs.declared.fault.FormFault.{FormFault}
 use Rattle.sd_psi.specs.declared.fault.FormFault.TheVariants as Fault
 use Rattle.sd_psi.specs.declared.form.Table.{Table}
 use Rattle.sd_psi.specs.declared.form.Table.TheVariants.{Pat, Cat, Pmt}
-use Rattle.sd_psi.specs.Forms.{fault_unless, or_next, id_of, least_of, section_in, has_table, has_body, has_length}
+use Rattle.sd_psi.specs.Forms.{fault_unless, fault_or_next, id_of, least_section_length, section_in, has_table, has_body, has_length}
 use Rattle.sd_psi.specs.Forms.{table_crc_fault, outer_fault, has_form, form_fault, bytes_fault, after_pointer}
 
 -- a payload has at most 184 bytes
@@ -52,7 +52,7 @@ record IsFitting (table : Table) (bytes : List ℕ) : Type 0 where
   there : 3 + section_length_of bytes ≤ length bytes
   low : 9 ≤ section_length_of bytes
 
-least_low : (table : Table) → 9 ≤ least_of table
+least_low : (table : Table) → 9 ≤ least_section_length table
 least_low Pat = omega arith
 least_low Cat = omega arith
 least_low Pmt = omega arith
@@ -69,13 +69,13 @@ fitting table bytes t l =
     1) ((section_number_of bytes == 0) && (last_number_of bytes == 0)) forms.1 in
     let threes = and_parts (nat_le 3 (length bytes))
     (nat_le (3 + section_length_of bytes) (length bytes) &&
-    (nat_le (least_of table) (section_length_of bytes) && has_body table (whole_of bytes))) l in
+    (nat_le (least_section_length table) (section_length_of bytes) && has_body table (whole_of bytes))) l in
     let wholes = and_parts (nat_le (3 + section_length_of bytes) (length bytes))
-    (nat_le (least_of table) (section_length_of bytes) && has_body table (whole_of bytes)) threes.1 in
-    let lows = and_parts (nat_le (least_of table) (section_length_of bytes)) (has_body table (whole_of bytes))
+    (nat_le (least_section_length table) (section_length_of bytes) && has_body table (whole_of bytes)) threes.1 in
+    let lows = and_parts (nat_le (least_section_length table) (section_length_of bytes)) (has_body table (whole_of bytes))
     wholes.1 in
     let least = least_low table in
-    let low : least_of table ≤ section_length_of bytes = leb-true (least_of table) (section_length_of bytes) lows.0 in
+    let low : least_section_length table ≤ section_length_of bytes = leb-true (least_section_length table) (section_length_of bytes) lows.0 in
     record {
       syntax = eqb-true (syntax_of bytes) 1 syntax.0;
       three = leb-true 3 (length bytes) threes.0;
@@ -95,12 +95,12 @@ judged table bytes short t l =
     (rw (le-leb (3 + section_length_of bytes) (length bytes) is.there) refl))))
 
 -- which is then the same fault
-right_test : (test : Bool) (a b : ℕ) → unless test (SectionFault.Crc a b) None ≡ None →
+right_test : (test : Bool) (a b : ℕ) → section_fault_unless test (SectionFault.Crc a b) None ≡ None →
     fault_unless test (Fault.Crc a b) ≡ None
 right_test true a b h = refl
 right_test false a b h = absurd (cc)
 
-wrong_test : (test : Bool) (a b found due : ℕ) → unless test (SectionFault.Crc a b) None
+wrong_test : (test : Bool) (a b found due : ℕ) → section_fault_unless test (SectionFault.Crc a b) None
     ≡ Some (SectionFault.Crc found due) →
     fault_unless test (Fault.Crc a b) ≡ Some (Fault.Crc found due)
 wrong_test true a b found due h = absurd (cc)
@@ -109,12 +109,12 @@ wrong_test false a b found due h =
     let second : b ≡ due = (cc) in
     rw (first, second) refl
 
-short_test : (test : Bool) (a b : ℕ) (next : Option FormFault) → unless test (SectionFault.Crc a b) None
+short_test : (test : Bool) (a b : ℕ) (next : Option FormFault) → section_fault_unless test (SectionFault.Crc a b) None
     ≡ Some SectionFault.Short → fault_unless test (Fault.Crc a b) ≡ next
 short_test true a b next h = absurd (cc)
 short_test false a b next h = absurd (cc)
 
-length_test : (test : Bool) (a b : ℕ) (next : Option FormFault) → unless test (SectionFault.Crc a b) None
+length_test : (test : Bool) (a b : ℕ) (next : Option FormFault) → section_fault_unless test (SectionFault.Crc a b) None
     ≡ Some SectionFault.Length → fault_unless test (Fault.Crc a b) ≡ next
 length_test true a b next h = absurd (cc)
 length_test false a b next h = absurd (cc)
@@ -145,14 +145,14 @@ pub outer_first : (table : Table) (packet : List ℕ) (fault : FormFault) → ou
     form_fault table packet ≡ Some fault
 unfolding form_fault
 outer_first table packet fault h = ap
-    (λ (f : Option FormFault). or_next f (fault_unless (has_form table (section_in packet)) Fault.Descriptor)) h
+    (λ (f : Option FormFault). fault_or_next f (fault_unless (has_form table (section_in packet)) Fault.Descriptor)) h
 
 form_is : (table : Table) (packet : List ℕ) (test : Bool) → outer_fault table packet ≡ None →
     has_form table (section_in packet) ≡ test →
     form_fault table packet ≡ fault_unless test Fault.Descriptor
 unfolding form_fault
 form_is table packet test h e =
-    ap (λ (f : Option FormFault). or_next f (fault_unless (has_form table (section_in packet)) Fault.Descriptor)) h
+    ap (λ (f : Option FormFault). fault_or_next f (fault_unless (has_form table (section_in packet)) Fault.Descriptor)) h
     ∙ ap (λ (b : Bool). fault_unless b Fault.Descriptor) e
 
 pub then_good : (table : Table) (packet : List ℕ) → outer_fault table packet ≡ None → has_form table (section_in packet)

@@ -11,9 +11,9 @@ use Rattle.sd_section.proofs.Cutting.{field_append}
 use Rattle.sd_psi.specs.declared.fault.FormFault.{FormFault}
 use Rattle.sd_psi.specs.declared.fault.FormFault.TheVariants as Fault
 use Rattle.sd_psi.specs.declared.form.Table.TheVariants.{Pmt}
-use Rattle.sd_psi.specs.Forms.{fault_unless, or_next, section_in, after_section, outer_fault}
-use Rattle.sd_psi.specs.Rewriting.{ca_descriptor, inserted, removed, before_section, rewritten, restored, loops_fault}
-use Rattle.sd_psi.specs.Rewriting.{has_room, is_first, rewrite_fault, removal_fault, restore_fault}
+use Rattle.sd_psi.specs.Forms.{fault_unless, fault_or_next, section_in, after_section, outer_fault}
+use Rattle.sd_psi.specs.Rewriting.{ca_descriptor, section_with_descriptor, section_without_descriptor, before_section, pmt_with_descriptor, pmt_without_descriptor, loops_fault}
+use Rattle.sd_psi.specs.Rewriting.{has_pmt_room, is_first_descriptor, rewrite_fault, removal_fault, restore_fault}
 use Rattle.sd_psi.specs.Undone.{IsPacket, KeepsHeader}
 use Rattle.sd_psi.proofs.Inverse.{same_start, none_parts}
 
@@ -48,28 +48,28 @@ module _ (packet rest : List ℕ) (long : length packet ≡ 188) (some : payload
 
 -- so has one that is rewritten, or restored
 pub rewritten_keeps : (packet : List ℕ) (ca pid : ℕ) → length packet ≡ 188 → payload_start_of packet < 188 →
-    KeepsHeader packet (rewritten ca pid packet)
-unfolding rewritten
+    KeepsHeader packet (pmt_with_descriptor ca pid packet)
+unfolding pmt_with_descriptor
 rewritten_keeps packet ca pid long some =
-    head_keeps packet (inserted (ca_descriptor ca pid) (section_in packet) ++ drop 6 (after_section packet)) long some
+    head_keeps packet (section_with_descriptor (ca_descriptor ca pid) (section_in packet) ++ drop 6 (after_section packet)) long some
 
 pub restored_keeps : (packet : List ℕ) → length packet ≡ 188 → payload_start_of packet < 188 →
-    KeepsHeader packet (restored packet)
-unfolding restored
+    KeepsHeader packet (pmt_without_descriptor packet)
+unfolding pmt_without_descriptor
 restored_keeps packet long some =
-    head_keeps packet (removed (section_in packet) ++ (replicate 6 255 ++ after_section packet)) long some
+    head_keeps packet (section_without_descriptor (section_in packet) ++ (replicate 6 255 ++ after_section packet)) long some
 
 pub rewritten_packet_keeps : (ca pid : ℕ) (packet : List ℕ) → IsPacket packet →
-    KeepsHeader packet (rewritten ca pid packet)
+    KeepsHeader packet (pmt_with_descriptor ca pid packet)
 rewritten_packet_keeps ca pid packet is = rewritten_keeps packet ca pid is.long is.payload
 
-pub restored_packet_keeps : (packet : List ℕ) → IsPacket packet → KeepsHeader packet (restored packet)
+pub restored_packet_keeps : (packet : List ℕ) → IsPacket packet → KeepsHeader packet (pmt_without_descriptor packet)
 restored_packet_keeps packet is = restored_keeps packet is.long is.payload
 
 -- where the loops are right, a packet that isn't rewritten has no room
 room_by : (room : Bool) (outer loops : Option FormFault) → outer ≡ None → loops ≡ None →
-    (or_next outer (or_next (fault_unless room Fault.NoRoom) loops) ≡ None → ⊥) →
-    or_next outer (or_next (fault_unless room Fault.NoRoom) loops) ≡ Some Fault.NoRoom
+    (fault_or_next outer (fault_or_next (fault_unless room Fault.NoRoom) loops) ≡ None → ⊥) →
+    fault_or_next outer (fault_or_next (fault_unless room Fault.NoRoom) loops) ≡ Some Fault.NoRoom
 room_by true outer loops h k isnt = absurd (isnt (rw (h, k) refl))
 room_by false outer loops h k isnt = rw h refl
 
@@ -79,9 +79,9 @@ pub full_is_told_apart : (ca pid : ℕ) (packet : List ℕ) → restore_fault ca
 unfolding rewrite_fault removal_fault
 full_is_told_apart ca pid packet good isnt =
     let outer = none_parts (outer_fault Pmt packet)
-    (or_next (loops_fault (section_in packet)) (fault_unless (is_first (ca_descriptor ca pid) (section_in packet))
+    (fault_or_next (loops_fault (section_in packet)) (fault_unless (is_first_descriptor (ca_descriptor ca pid) (section_in packet))
     Fault.Descriptor))
     good in
     let loops = none_parts (loops_fault (section_in packet))
-    (fault_unless (is_first (ca_descriptor ca pid) (section_in packet)) Fault.Descriptor) outer.1 in
-    room_by (has_room packet) (outer_fault Pmt packet) (loops_fault (section_in packet)) outer.0 loops.0 isnt
+    (fault_unless (is_first_descriptor (ca_descriptor ca pid) (section_in packet)) Fault.Descriptor) outer.1 in
+    room_by (has_pmt_room packet) (outer_fault Pmt packet) (loops_fault (section_in packet)) outer.0 loops.0 isnt

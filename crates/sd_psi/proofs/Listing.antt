@@ -8,7 +8,7 @@ use Rattle.std.proofs.lemmas.Bool.{and_parts, eqb-true, ne_eqb, false_from_ne_tr
 use Rattle.sd_base.specs.Bits.{field}
 use Rattle.sd_section.specs.Header.{table_id_of, body_of}
 use Rattle.sd_psi.specs.declared.items.Kind.TheVariants.{Program, Descriptor, Stream}
-use Rattle.sd_psi.specs.Items.{size_of, items_of, is_whole_item, are_whole}
+use Rattle.sd_psi.specs.Items.{item_size, items_of, is_whole_item, are_whole}
 use Rattle.sd_psi.specs.Tables.{are_descriptors, program_of, programs_in, pmt_pids_in, is_pat, is_cat, has_info}
 use Rattle.sd_psi.specs.Tables.{info_of, loop_of, stream_of, streams_in, is_stream, are_streams, is_pmt}
 use Rattle.sd_psi.proofs.Cutting.{items_after, size_itself, off_after, none_cut}
@@ -81,8 +81,8 @@ pub no_pmt : (section : List ℕ) → (IsPmt section → ⊥) → is_pmt section
 no_pmt section h = false_from_ne_true (is_pmt section) (λ is. h (pmt_parts section is))
 
 -- a stream has five bytes before its descriptors
-pub stream_head : (bytes : List ℕ) → 5 ≤ size_of Stream bytes
-unfolding size_of
+pub stream_head : (bytes : List ℕ) → 5 ≤ item_size Stream bytes
+unfolding item_size
 stream_head bytes = omega arith
 
 -- streams that are filled are as long as they say
@@ -126,13 +126,13 @@ streams_left bytes rest item whole cut = (first_parts bytes rest item whole cut)
 
 -- the streams after a place where one of so many bytes stands
 streams_first : (bytes : List ℕ) (at size : ℕ) → at < length bytes →
-    size ≡ size_of Stream (take (length bytes - at) (drop at bytes)) →
+    size ≡ item_size Stream (take (length bytes - at) (drop at bytes)) →
     size ≤ length bytes - at →
     are_streams (drop at bytes)
     ≡ (are_descriptors (drop 5 (take size (drop at bytes))) && are_streams (drop (at + size) bytes))
 unfolding are_streams
 streams_first bytes at size within is there =
-    let long : length (take size (drop at bytes)) ≡ size_of Stream (take size (drop at bytes)) =
+    let long : length (take size (drop at bytes)) ≡ item_size Stream (take size (drop at bytes)) =
     length-take-le size (drop at bytes) (omega (arith, length-drop at bytes)) ∙
     sym (size_itself Stream bytes at size is) in
     ap (list_all is_stream) (items_after Stream bytes at size within is)
@@ -150,7 +150,7 @@ stream_part bytes at size h =
     (ap (take (size - 5)) (drop-drop 5 at bytes) ∙ ap (λ (n : ℕ). take n (drop (at + 5) bytes)) (sym same)))
 
 streams_after : (bytes : List ℕ) (at size : ℕ) (test : Bool) → at < length bytes →
-    size ≡ size_of Stream (take (length bytes - at) (drop at bytes)) →
+    size ≡ item_size Stream (take (length bytes - at) (drop at bytes)) →
     size ≤ length bytes - at → are_descriptors (take (at + size - (at + 5)) (drop (at + 5) bytes)) ≡ test →
     are_streams (drop at bytes) ≡ (test && are_streams (drop (at + size) bytes))
 streams_after bytes at size test within is there filled =
@@ -160,13 +160,13 @@ streams_after bytes at size test within is there filled =
     (ap are_descriptors (stream_part bytes at size head) ∙ filled)
 
 pub streams_on : (bytes : List ℕ) (at size : ℕ) → at < length bytes →
-    size ≡ size_of Stream (take (length bytes - at) (drop at bytes)) →
+    size ≡ item_size Stream (take (length bytes - at) (drop at bytes)) →
     size ≤ length bytes - at → are_descriptors (take (at + size - (at + 5)) (drop (at + 5) bytes)) ≡ true →
     are_streams (drop at bytes) ≡ are_streams (drop (at + size) bytes)
 streams_on bytes at size within is there filled = streams_after bytes at size true within is there filled
 
 pub streams_bad : (bytes : List ℕ) (at size : ℕ) → at < length bytes →
-    size ≡ size_of Stream (take (length bytes - at) (drop at bytes)) →
+    size ≡ item_size Stream (take (length bytes - at) (drop at bytes)) →
     size ≤ length bytes - at → are_descriptors (take (at + size - (at + 5)) (drop (at + 5) bytes)) ≡ false →
     are_streams (drop at bytes) ≡ false
 streams_bad bytes at size within is there filled = streams_after bytes at size false within is there filled
@@ -176,7 +176,7 @@ untrue : (test : Bool) → test ≡ true → (test ≡ false) → ⊥
 untrue true h e = absurd (cc)
 untrue false h e = absurd (cc)
 
-pub streams_off : (bytes : List ℕ) (at : ℕ) → at < length bytes → length bytes - at < size_of Stream
+pub streams_off : (bytes : List ℕ) (at : ℕ) → at < length bytes → length bytes - at < item_size Stream
     (take (length bytes - at) (drop at bytes)) →
     are_streams (drop at bytes) ≡ false
 streams_off bytes at within off =
@@ -190,17 +190,17 @@ left_long bytes at = ap (λ (l : List ℕ). length l) (take_rest bytes at) ∙ l
 
 -- where what is left is no stream, it is cut off
 pub streams_short : (bytes : List ℕ) (at : ℕ) → at < length bytes → length (take (length bytes - at) (drop at bytes))
-    < size_of Stream (take (length bytes - at) (drop at bytes)) → are_streams (drop at bytes) ≡ false
+    < item_size Stream (take (length bytes - at) (drop at bytes)) → are_streams (drop at bytes) ≡ false
 streams_short bytes at within off = streams_off bytes at within (omega (arith, off, left_long bytes at))
 
 -- a stream's descriptors stand after its head, and it ends within the bytes, nearer to their end
-pub past_head : (rest : List ℕ) (at size : ℕ) → size ≡ size_of Stream rest → at + 5 ≤ at + size
+pub past_head : (rest : List ℕ) (at size : ℕ) → size ≡ item_size Stream rest → at + 5 ≤ at + size
 past_head rest at size is = omega (arith, is, stream_head rest)
 
 pub ends_within : (at size count : ℕ) → at < count → size ≤ count - at → at + size ≤ count
 ends_within at size count within there = omega (arith, within, there)
 
-pub fewer_left : (rest : List ℕ) (at size count : ℕ) → at < count → size ≡ size_of Stream rest →
+pub fewer_left : (rest : List ℕ) (at size count : ℕ) → at < count → size ≡ item_size Stream rest →
     count - (at + size) < count - at
 fewer_left rest at size count within is = omega (arith, within, is, stream_head rest)
 

@@ -7,9 +7,9 @@ use Rattle.std.proofs.lemmas.List.{take-take}
 use borrow.Rule.Slice.PartMut.{put_mid}
 use Rattle.sd_section.proofs.Judging.{field_take}
 use Rattle.sd_section.specs.Header.{section_length_of}
-use Rattle.sd_section.specs.Written.{sealed}
+use Rattle.sd_section.specs.Written.{with_crc}
 use Rattle.sd_psi.specs.Tables.{info_length_of}
-use Rattle.sd_psi.specs.Rewriting.{with_lengths, inserted, removed}
+use Rattle.sd_psi.specs.Rewriting.{with_lengths, section_with_descriptor, section_without_descriptor}
 
 -- what is taken of a list goes on after its prefix
 pub take_after : (p q : List ℕ) (k : ℕ) → length p ≤ k → take k (p ++ q) ≡ p ++ take (k - length p) q
@@ -100,10 +100,10 @@ module _ (old head descriptor turned : List ℕ) (twelve : length head ≡ 12) (
 
 -- a section with the descriptor, by the bytes of it and of six more
 pub inserted_is : (old descriptor : List ℕ) → 22 ≤ length old →
-    inserted descriptor (take (length old - 6) old)
-    ≡ sealed (with_lengths (section_length_of old + 6) (info_length_of old + 6) (take 12 old)
+    section_with_descriptor descriptor (take (length old - 6) old)
+    ≡ with_crc (with_lengths (section_length_of old + 6) (info_length_of old + 6) (take 12 old)
     ++ (descriptor ++ take (length old - 22) (drop 12 old)))
-unfolding inserted
+unfolding section_with_descriptor
 inserted_is old descriptor long =
     let section : List ℕ = take (length old - 6) old in
     let count : length section ≡ length old - 6 = length-take-le (length old - 6) old (omega arith) in
@@ -130,11 +130,11 @@ pub insert_laid : (old head descriptor turned laid section : List ℕ) (section_
     ++ take (length (take (length (head ++ drop 12 old) - 12) (drop 12 (head ++ drop 12 old))) - 6)
     (take (length (head ++ drop 12 old) - 12) (drop 12 (head ++ drop 12 old))) →
     laid ≡ descriptor →
-    section ≡ sealed
+    section ≡ with_crc
     (take (length (put_mid 12 6 (put_mid 12 (length (head ++ drop 12 old) - 12) (head ++ drop 12 old) turned)
     laid) - 4)
     (put_mid 12 6 (put_mid 12 (length (head ++ drop 12 old) - 12) (head ++ drop 12 old) turned) laid)) →
-    section ≡ inserted descriptor (take (length old - 6) old)
+    section ≡ section_with_descriptor descriptor (take (length old - 6) old)
 insert_laid old head descriptor turned laid section section_length info_length long twelve six is_length is_info is_head
     turn is_laid is_section =
     let right = right_is old head twelve long turned turn in
@@ -147,11 +147,11 @@ insert_laid old head descriptor turned laid section section_length info_length l
     ap (λ (n : ℕ). with_lengths (n + 6) (info_length_of old + 6) (take 12 old)) (sym is_length)
     ∙ (ap (λ (n : ℕ). with_lengths (section_length + 6) (n + 6) (take 12 old)) (sym is_info) ∙ sym is_head) in
     is_section
-    ∙ (ap (λ (l : List ℕ). sealed (take (length l - 4) l)) whole
-    ∙ (ap (λ (n : ℕ). sealed (take (n - 4) (head ++ (descriptor ++ take (length old - 18) (drop 12 old)))))
+    ∙ (ap (λ (l : List ℕ). with_crc (take (length l - 4) l)) whole
+    ∙ (ap (λ (n : ℕ). with_crc (take (n - 4) (head ++ (descriptor ++ take (length old - 18) (drop 12 old)))))
     (laid_long old head descriptor turned twelve long six right)
-    ∙ (ap (λ (l : List ℕ). sealed l) (sealed_part old head descriptor turned twelve long six right)
-    ∙ (ap (λ (l : List ℕ). sealed (l ++ (descriptor ++ take (length old - 22) (drop 12 old)))) (sym headed)
+    ∙ (ap (λ (l : List ℕ). with_crc l) (sealed_part old head descriptor turned twelve long six right)
+    ∙ (ap (λ (l : List ℕ). with_crc (l ++ (descriptor ++ take (length old - 22) (drop 12 old)))) (sym headed)
     ∙ sym (inserted_is old descriptor long)))))
 
 -- what is sealed without the six bytes is the section that is left
@@ -161,10 +161,10 @@ pub remove_laid : (old head turned closed : List ℕ) (section_length info_lengt
     head ≡ with_lengths (section_length - 6) (info_length - 6) (take 12 old) →
     turned ≡ drop 6 (take (length (head ++ drop 12 old) - 12) (drop 12 (head ++ drop 12 old)))
     ++ take 6 (take (length (head ++ drop 12 old) - 12) (drop 12 (head ++ drop 12 old))) →
-    closed ≡ sealed (take (length (put_mid 12 (length (head ++ drop 12 old) - 12) (head ++ drop 12 old) turned) - 10)
+    closed ≡ with_crc (take (length (put_mid 12 (length (head ++ drop 12 old) - 12) (head ++ drop 12 old) turned) - 10)
     (put_mid 12 (length (head ++ drop 12 old) - 12) (head ++ drop 12 old) turned)) ++ replicate 6 255 →
-    closed ≡ removed old ++ replicate 6 255
-unfolding removed
+    closed ≡ section_without_descriptor old ++ replicate 6 255
+unfolding section_without_descriptor
 remove_laid old head turned closed section_length info_length long twelve is_length is_info is_head turn is_closed =
     let left = left_is old head twelve long turned turn in
     let whole : put_mid 12 (length (head ++ drop 12 old) - 12) (head ++ drop 12 old) turned ≡ head
@@ -193,7 +193,7 @@ remove_laid old head turned closed section_length info_length long twelve is_len
     ap (λ (n : ℕ). with_lengths (n - 6) (info_length_of old - 6) (take 12 old)) (sym is_length)
     ∙ (ap (λ (n : ℕ). with_lengths (section_length - 6) (n - 6) (take 12 old)) (sym is_info) ∙ sym is_head) in
     is_closed
-    ∙ (ap (λ (l : List ℕ). sealed (take (length l - 10) l) ++ replicate 6 255) whole
-    ∙ (ap (λ (n : ℕ). sealed (take (n - 10) (head ++ (drop 18 old ++ take 6 (drop 12 old)))) ++ replicate 6 255) count
-    ∙ (ap (λ (l : List ℕ). sealed l ++ replicate 6 255) part
-    ∙ ap (λ (l : List ℕ). sealed (l ++ slice_range old 18 (length old - 4)) ++ replicate 6 255) (sym headed))))
+    ∙ (ap (λ (l : List ℕ). with_crc (take (length l - 10) l) ++ replicate 6 255) whole
+    ∙ (ap (λ (n : ℕ). with_crc (take (n - 10) (head ++ (drop 18 old ++ take 6 (drop 12 old)))) ++ replicate 6 255) count
+    ∙ (ap (λ (l : List ℕ). with_crc l ++ replicate 6 255) part
+    ∙ ap (λ (l : List ℕ). with_crc (l ++ slice_range old 18 (length old - 4)) ++ replicate 6 255) (sym headed))))

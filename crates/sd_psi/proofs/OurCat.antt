@@ -9,16 +9,16 @@ use Rattle.sd_base.specs.Bits.{field}
 use Rattle.sd_base.proofs.Fields.{field_split, field_below}
 use Rattle.sd_base.proofs.Words.{byte_field}
 use Rattle.sd_packet.specs.Header.{has_payload}
-use Rattle.sd_packet.specs.Packing.{packed}
+use Rattle.sd_packet.specs.Packing.{section_packet}
 use Rattle.sd_packet.proofs.Packets.{packet_reads}
 use Rattle.sd_section.specs.Header.{whole_of, body_of, crc_in, crc_due}
-use Rattle.sd_section.specs.Written.{header_bytes, section_bytes, FitsFields}
+use Rattle.sd_section.specs.Written.{header_bytes, section_bytes, FitsHeaderFields}
 use Rattle.sd_section.specs.declared.write.Header.{Header}
 use Rattle.sd_section.proofs.Spelling.{all_headed, section_long, whole_is_read, fields_are_read}
 use Rattle.sd_psi.specs.declared.form.Table.{Table}
 use Rattle.sd_psi.specs.declared.form.Table.TheVariants.{Cat}
 use Rattle.sd_psi.specs.declared.items.Kind.TheVariants.{Descriptor}
-use Rattle.sd_psi.specs.Items.{size_of, is_whole_item, are_whole}
+use Rattle.sd_psi.specs.Items.{item_size, is_whole_item, are_whole}
 use Rattle.sd_psi.specs.Tables.{descriptors_of, tag_of, content_of, is_cat}
 use Rattle.sd_psi.specs.Access.{is_ca}
 use Rattle.sd_psi.specs.OurCat.{cat_descriptor, cat_header, cat_section, IsCatDescriptor}
@@ -37,19 +37,19 @@ only_stuffing (suc n) = only_stuffing n
 
 -- a packed section is found after the pointer, and what stands after it is stuffing
 after_packed : (section : List ℕ) (pid counter : ℕ) → pid < 8192 → counter < 16 →
-    after_pointer (packed section pid counter) ≡ section ++ replicate (183 - length section) 255
+    after_pointer (section_packet section pid counter) ≡ section ++ replicate (183 - length section) 255
 after_packed section pid counter h k = ap (drop 1) (packet_reads section pid counter h k).payload
 
 -- where nothing is wrong with the section, nothing is with the packet up to its loops
 packed_good : (table : Table) (section : List ℕ) (pid counter : ℕ) → pid < 8192 → counter < 16 →
     bytes_fault table (section ++ replicate (183 - length section) 255) ≡ None →
-    outer_fault table (packed section pid counter) ≡ None
+    outer_fault table (section_packet section pid counter) ≡ None
 unfolding outer_fault
 packed_good table section pid counter h k good =
     let read = packet_reads section pid counter h k in
     rw (read.unit_start, read.payload) good
 
-cat_fits : FitsFields cat_header
+cat_fits : FitsHeaderFields cat_header
 cat_fits = record { table_id = omega arith; extension = omega arith; number = omega arith; last_number = omega arith }
 
 section_right : (header : Header) (body : List ℕ) → crc_in (section_bytes header body)
@@ -95,7 +95,7 @@ module _ (body : List ℕ) (few : length body ≤ 171) where
 
 -- the descriptor of the project's CAT fills its body
 descriptor_whole : (ca emm ecm : ℕ) → is_whole_item Descriptor (cat_descriptor ca emm ecm) ≡ true
-unfolding size_of field
+unfolding item_size field
 descriptor_whole ca emm ecm = refl
 
 cat_descriptors : (ca emm ecm : ℕ) → descriptors_of (cat_descriptor ca emm ecm) ≡ cat_descriptor ca emm ecm ∷ []
@@ -108,7 +108,7 @@ descriptors_fill ca emm ecm =
 
 -- the section is found in its packet
 module _ (ca emm ecm n : ℕ) (few : n < 16) where
-  found : section_in (packed (cat_section ca emm ecm) 1 n) ≡ cat_section ca emm ecm
+  found : section_in (section_packet (cat_section ca emm ecm) 1 n) ≡ cat_section ca emm ecm
   unfolding cat_section
   found =
       ap whole_of (after_packed (cat_section ca emm ecm) 1 n (omega arith) few)
@@ -124,14 +124,14 @@ module _ (ca emm ecm n : ℕ) (few : n < 16) where
       let written = fields_are_read cat_header (cat_descriptor ca emm ecm) cat_fits (omega arith) in
       rw (written.table_id, written.inner, descriptors_fill ca emm ecm) refl
 
-  pub our_cat_is_good : cat_fault (packed (cat_section ca emm ecm) 1 n) ≡ None
+  pub our_cat_is_good : cat_fault (section_packet (cat_section ca emm ecm) 1 n) ≡ None
   unfolding form_fault cat_section
   our_cat_is_good =
       let outer = packed_good Cat (cat_section ca emm ecm) 1 n (omega arith) few
       (cat_good (cat_descriptor ca emm ecm) (omega arith) (183 - length (cat_section ca emm ecm))) in
       rw (outer, found, is_one) refl
 
-  pub our_cat_has_one : descriptors_of (body_of (section_in (packed (cat_section ca emm ecm) 1 n))) ≡ cat_descriptor ca
+  pub our_cat_has_one : descriptors_of (body_of (section_in (section_packet (cat_section ca emm ecm) 1 n))) ≡ cat_descriptor ca
       emm ecm ∷ []
   our_cat_has_one = ap (λ (l : List ℕ). descriptors_of (body_of l)) found ∙
       (ap descriptors_of body_found ∙ cat_descriptors ca emm ecm)
@@ -206,13 +206,13 @@ read_if false descriptor tuning is = refl
 -- a reader takes the two PIDs that were written, if they are good and the system is its own
 pub our_cat_is_read : (ca reader counter : ℕ) (tuning : Tuning) → ca < 2 ^ 16 → tuning.emm < 8192 →
     tuning.ecm < 8192 → counter < 16 →
-    cat_tuning reader (packed (cat_section ca tuning.emm tuning.ecm) 1 counter)
+    cat_tuning reader (section_packet (cat_section ca tuning.emm tuning.ecm) 1 counter)
     ≡ (if (ca == reader) && is_tuning tuning then Some tuning else None)
 unfolding cat_tuning
 our_cat_is_read ca reader counter tuning system emm ecm few =
     let packet = packet_reads (cat_section ca tuning.emm tuning.ecm) 1 counter (omega arith) few in
     let start = packet.start in
-    let some : has_payload (packed (cat_section ca tuning.emm tuning.ecm) 1 counter) ≡ true =
+    let some : has_payload (section_packet (cat_section ca tuning.emm tuning.ecm) 1 counter) ≡ true =
     grind (arith, nat_tests, start) in
     let good = our_cat_is_good ca tuning.emm tuning.ecm counter few in
     let has = our_cat_has_one ca tuning.emm tuning.ecm counter few in

@@ -16,10 +16,10 @@ use Rattle.sd_psi.specs.declared.fault.FormFault.{FormFault}
 use Rattle.sd_psi.specs.declared.fault.FormFault.TheVariants as Fault
 use Rattle.sd_psi.specs.declared.form.Table.TheVariants.{Pmt}
 use Rattle.sd_psi.specs.declared.items.Kind.TheVariants.{Descriptor}
-use Rattle.sd_psi.specs.Items.{size_of, items_of}
+use Rattle.sd_psi.specs.Items.{item_size, items_of}
 use Rattle.sd_psi.specs.Tables.{descriptors_of, info_length_of, info_of, has_info, is_pmt}
 use Rattle.sd_psi.specs.Forms.{fault_unless, after_pointer, section_in, after_section, outer_fault}
-use Rattle.sd_psi.specs.Rewriting.{ca_descriptor, inserted, removed, rewritten, restored, has_room, is_first}
+use Rattle.sd_psi.specs.Rewriting.{ca_descriptor, section_with_descriptor, section_without_descriptor, pmt_with_descriptor, pmt_without_descriptor, has_pmt_room, is_first_descriptor}
 use Rattle.sd_psi.specs.Rewriting.{rewrite_fault, removal_fault}
 use Rattle.sd_psi.proofs.Listing.{pmt_has}
 use Rattle.sd_psi.proofs.Cutting.{none_cut, first_cut}
@@ -83,7 +83,7 @@ pub rewrite_room : (packet section : List ℕ) → outer_fault Pmt packet ≡ No
     length (payload_of packet) < 1 + length section + 6 → rewrite_fault packet ≡ Some Fault.NoRoom
 unfolding rewrite_fault
 rewrite_room packet section h is long over =
-    let room : has_room packet ≡ false = above_fails 6 (length (after_section packet)) _ refl
+    let room : has_pmt_room packet ≡ false = above_fails 6 (length (after_section packet)) _ refl
     (omega (arith, room_is packet section is long)) in
     rw (h, room) refl
 
@@ -93,7 +93,7 @@ rewrite_is : (packet section : List ℕ) (test : Bool) → outer_fault Pmt packe
     ≡ fault_unless test Fault.Descriptor
 unfolding rewrite_fault
 rewrite_is packet section test h is long under pmt =
-    let room : has_room packet ≡ true = le-leb 6 (length (after_section packet))
+    let room : has_pmt_room packet ≡ true = le-leb 6 (length (after_section packet))
     (omega (arith, room_is packet section is long)) in
     let form : is_pmt (section_in packet) ≡ test = ap is_pmt (sym is) ∙ pmt in
     rw (h, room, form) refl
@@ -125,21 +125,21 @@ restore_loops descriptor packet section h is pmt =
 
 restore_is : (descriptor packet section : List ℕ) (test : Bool) → outer_fault Pmt packet ≡ None →
     section ≡ section_in packet → is_pmt section ≡ true →
-    is_first descriptor section ≡ test → removal_fault descriptor packet ≡ fault_unless test Fault.Descriptor
+    is_first_descriptor descriptor section ≡ test → removal_fault descriptor packet ≡ fault_unless test Fault.Descriptor
 unfolding removal_fault
 restore_is descriptor packet section test h is pmt first =
     let form : is_pmt (section_in packet) ≡ true = ap is_pmt (sym is) ∙ pmt in
-    let ours : is_first descriptor (section_in packet) ≡ test = ap (is_first descriptor) (sym is) ∙ first in
+    let ours : is_first_descriptor descriptor (section_in packet) ≡ test = ap (is_first_descriptor descriptor) (sym is) ∙ first in
     rw (h, form, ours) refl
 
 pub restore_first : (descriptor packet section : List ℕ) → outer_fault Pmt packet ≡ None → section ≡ section_in packet →
     is_pmt section ≡ true →
-    is_first descriptor section ≡ false → removal_fault descriptor packet ≡ Some Fault.Descriptor
+    is_first_descriptor descriptor section ≡ false → removal_fault descriptor packet ≡ Some Fault.Descriptor
 restore_first descriptor packet section h is pmt first = restore_is descriptor packet section false h is pmt first
 
 pub restore_good : (descriptor packet section : List ℕ) → outer_fault Pmt packet ≡ None → section ≡ section_in packet →
     is_pmt section ≡ true →
-    is_first descriptor section ≡ true → removal_fault descriptor packet ≡ None
+    is_first_descriptor descriptor section ≡ true → removal_fault descriptor packet ≡ None
 restore_good descriptor packet section h is pmt first = restore_is descriptor packet section true h is pmt first
 
 not_nothing : (descriptor : List ℕ) → 0 < length descriptor → bytes_eq [] descriptor ≡ false
@@ -149,29 +149,29 @@ not_nothing (x ∷ xs) h = refl
 -- the first descriptor of program_info
 pub first_is : (descriptor section first rest : List ℕ) (test : Bool) →
     descriptors_of (info_of section) ≡ first ∷ descriptors_of rest → test ≡ bytes_eq first descriptor →
-    test ≡ is_first descriptor section
+    test ≡ is_first_descriptor descriptor section
 first_is descriptor section first rest test cut e =
     e ∙ ap (λ (l : List (List ℕ)). bytes_eq (get_or l 0 []) descriptor) (sym cut)
 
 pub none_is_first : (descriptor section : List ℕ) → 0 < length descriptor → descriptors_of (info_of section) ≡ [] →
-    is_first descriptor section ≡ false
+    is_first_descriptor descriptor section ≡ false
 none_is_first descriptor section some none =
     ap (λ (l : List (List ℕ)). bytes_eq (get_or l 0 []) descriptor) none ∙ not_nothing descriptor some
 
 -- it is the first six bytes of them where it has six
 pub record BeginsInfo (descriptor info : List ℕ) : Type 0 where
   pub some : 6 ≤ length info
-  pub size : 6 ≤ size_of Descriptor info
-  pub is : take (size_of Descriptor info) info ≡ descriptor
+  pub size : 6 ≤ item_size Descriptor info
+  pub is : take (item_size Descriptor info) info ≡ descriptor
 
 begins_by : (descriptor info : List ℕ) → get_or (items_of Descriptor info) 0 [] ≡ descriptor → length descriptor ≡ 6 →
     BeginsInfo descriptor info
 begins_by descriptor info h six = elim (cases_lt 0 (length info)) [
   | inl some ↦
-      let first : take (size_of Descriptor info) info ≡ descriptor = ap (λ (l : List (List ℕ)). get_or l 0 [])
+      let first : take (item_size Descriptor info) info ≡ descriptor = ap (λ (l : List (List ℕ)). get_or l 0 [])
       (sym (first_cut Descriptor info some)) ∙ h in
-      let count : length (take (size_of Descriptor info) info) ≡ 6 = ap (λ (l : List ℕ). length l) first ∙ six in
-      let taken = length-take (size_of Descriptor info) info in
+      let count : length (take (item_size Descriptor info) info) ≡ 6 = ap (λ (l : List ℕ). length l) first ∙ six in
+      let taken = length-take (item_size Descriptor info) info in
       record { some = omega arith; size = omega arith; is = first }
   | inr none ↦
       let nothing : get_or (items_of Descriptor info) 0 [] ≡ [] = ap (λ (l : List (List ℕ)). get_or l 0 [])
@@ -179,14 +179,14 @@ begins_by descriptor info h six = elim (cases_lt 0 (length info)) [
       absurd (omega (arith, six, ap (λ (l : List ℕ). length l) (sym nothing ∙ h)))
 ]
 
-pub info_begins : (descriptor section : List ℕ) → is_first descriptor section ≡ true → length descriptor ≡ 6 →
+pub info_begins : (descriptor section : List ℕ) → is_first_descriptor descriptor section ≡ true → length descriptor ≡ 6 →
     BeginsInfo descriptor (info_of section)
 info_begins descriptor section h six =
     begins_by descriptor (info_of section)
     ((bytes_eq-Decides (get_or (descriptors_of (info_of section)) 0 []) descriptor).0 h) six
 
 -- so program_info_length counts at least six
-pub first_within : (descriptor bytes section : List ℕ) → is_first descriptor section ≡ true → length descriptor ≡ 6 →
+pub first_within : (descriptor bytes section : List ℕ) → is_first_descriptor descriptor section ≡ true → length descriptor ≡ 6 →
     section ≡ whole_of bytes →
     12 ≤ length section → 6 ≤ info_length_of bytes
 unfolding info_of
@@ -219,10 +219,10 @@ sync_stays (x ∷ xs) piece (suc start) k h l = refl
 -- the packet with the section that was written
 pub rewritten_laid : (packet piece : List ℕ) (ca pid start count : ℕ) → start ≡ payload_start_of packet + 1 →
     count ≡ 3 + section_length_of (after_pointer packet) → start + count + 6 ≤ length packet →
-    piece ≡ inserted (ca_descriptor ca pid) (take (length (take (start + count + 6 - start) (drop start packet)) - 6)
+    piece ≡ section_with_descriptor (ca_descriptor ca pid) (take (length (take (start + count + 6 - start) (drop start packet)) - 6)
     (take (start + count + 6 - start) (drop start packet))) →
-    put_mid start (start + count + 6 - start) packet piece ≡ rewritten ca pid packet
-unfolding rewritten
+    put_mid start (start + count + 6 - start) packet piece ≡ pmt_with_descriptor ca pid packet
+unfolding pmt_with_descriptor
 rewritten_laid packet piece ca pid start count is_start is_count within is_piece =
     let after = after_is packet start is_start in
     let width : start + count + 6 - start ≡ count + 6 = omega arith in
@@ -244,16 +244,16 @@ rewritten_laid packet piece ca pid start count is_start is_count within is_piece
     ∙ (ap (λ (n : ℕ). drop 6 (drop n (drop start packet))) is_count ∙
     ap (λ (l : List ℕ). drop 6 (drop (3 + section_length_of (after_pointer packet)) l)) (sym after))) in
     ap (λ (l : List ℕ). take start packet ++ (l ++ drop (start + count + 6 - start) (drop start packet)))
-    (is_piece ∙ ap (inserted (ca_descriptor ca pid)) section)
-    ∙ (ap (λ (l : List ℕ). take start packet ++ (inserted (ca_descriptor ca pid) (section_in packet) ++ l)) rest
+    (is_piece ∙ ap (section_with_descriptor (ca_descriptor ca pid)) section)
+    ∙ (ap (λ (l : List ℕ). take start packet ++ (section_with_descriptor (ca_descriptor ca pid) (section_in packet) ++ l)) rest
     ∙ ap (λ (n : ℕ). take n packet
-    ++ (inserted (ca_descriptor ca pid) (section_in packet) ++ drop 6 (after_section packet))) is_start)
+    ++ (section_with_descriptor (ca_descriptor ca pid) (section_in packet) ++ drop 6 (after_section packet))) is_start)
 
 pub restored_laid : (packet piece : List ℕ) (start count : ℕ) → start ≡ payload_start_of packet + 1 →
     count ≡ 3 + section_length_of (after_pointer packet) → start + count ≤ length packet →
-    piece ≡ removed (take (start + count - start) (drop start packet)) ++ replicate 6 255 →
-    put_mid start (start + count - start) packet piece ≡ restored packet
-unfolding restored
+    piece ≡ section_without_descriptor (take (start + count - start) (drop start packet)) ++ replicate 6 255 →
+    put_mid start (start + count - start) packet piece ≡ pmt_without_descriptor packet
+unfolding pmt_without_descriptor
 restored_laid packet piece start count is_start is_count within is_piece =
     let after = after_is packet start is_start in
     let width : start + count - start ≡ count = omega arith in
@@ -264,11 +264,11 @@ restored_laid packet piece start count is_start is_count within is_piece =
     ap (λ (n : ℕ). drop n (drop start packet)) (width ∙ is_count) ∙
     ap (drop (3 + section_length_of (after_pointer packet))) (sym after) in
     ap (λ (l : List ℕ). take start packet ++ (l ++ drop (start + count - start) (drop start packet)))
-    (is_piece ∙ ap (λ (l : List ℕ). removed l ++ replicate 6 255) section)
-    ∙ (ap (λ (l : List ℕ). take start packet ++ ((removed (section_in packet) ++ replicate 6 255) ++ l)) rest
-    ∙ (ap (λ (l : List ℕ). take start packet ++ l) (append_assoc (removed (section_in packet)) (replicate 6 255)
+    (is_piece ∙ ap (λ (l : List ℕ). section_without_descriptor l ++ replicate 6 255) section)
+    ∙ (ap (λ (l : List ℕ). take start packet ++ ((section_without_descriptor (section_in packet) ++ replicate 6 255) ++ l)) rest
+    ∙ (ap (λ (l : List ℕ). take start packet ++ l) (append_assoc (section_without_descriptor (section_in packet)) (replicate 6 255)
     (after_section packet))
-    ∙ ap (λ (n : ℕ). take n packet ++ (removed (section_in packet) ++ (replicate 6 255 ++ after_section packet)))
+    ∙ ap (λ (n : ℕ). take n packet ++ (section_without_descriptor (section_in packet) ++ (replicate 6 255 ++ after_section packet)))
     is_start))
 
 -- the lengths are read after the pointer

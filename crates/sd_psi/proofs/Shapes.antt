@@ -11,14 +11,14 @@ use Rattle.sd_base.proofs.Words.{byte_field}
 use Rattle.sd_section.specs.Header.{table_id_of, syntax_of, section_length_of, section_number_of, last_number_of}
 use Rattle.sd_section.specs.Header.{body_of}
 use Rattle.sd_section.specs.Header.{crc_in, crc_due}
-use Rattle.sd_section.specs.Written.{sealed}
+use Rattle.sd_section.specs.Written.{with_crc}
 use Rattle.sd_section.proofs.Judging.{field_take}
 use Rattle.sd_section.proofs.Spelling.{crc_is_read, crc_is_due}
 use Rattle.sd_section.proofs.Cutting.{body_long}
 use Rattle.sd_psi.specs.declared.items.Kind.TheVariants.{Descriptor}
-use Rattle.sd_psi.specs.Items.{size_of, items_of}
+use Rattle.sd_psi.specs.Items.{item_size, items_of}
 use Rattle.sd_psi.specs.Tables.{are_descriptors, info_length_of, info_of, loop_of, has_info, are_streams, is_pmt}
-use Rattle.sd_psi.specs.Rewriting.{ca_descriptor, with_lengths, inserted, removed, is_first}
+use Rattle.sd_psi.specs.Rewriting.{ca_descriptor, with_lengths, section_with_descriptor, section_without_descriptor, is_first_descriptor}
 use Rattle.sd_psi.proofs.Cutting.{first_cut, first_whole, first_off}
 use Rattle.sd_psi.proofs.Listing.{pmt_by_parts, pmt_parts, IsPmt}
 use Rattle.sd_psi.proofs.Packets.{info_begins}
@@ -27,7 +27,7 @@ use Rattle.sd_psi.proofs.Heads.{IsHead}
 use Rattle.sd_psi.proofs.Undoing.{sealed_field, sealed_long, sealed_between, IsRightPmt, other_head}
 
 -- the CRC of sealed bytes is the one due
-pub sealed_right : (bytes : List ℕ) → crc_in (sealed bytes) ≡ crc_due (sealed bytes)
+pub sealed_right : (bytes : List ℕ) → crc_in (with_crc bytes) ≡ crc_due (with_crc bytes)
 sealed_right bytes = crc_is_read bytes ∙ sym (crc_is_due bytes)
 
 -- what stands between the first twelve bytes and the CRC
@@ -73,25 +73,25 @@ pub record IsShaped (old new : List ℕ) : Type 0 where
 module _ (section rest : List ℕ) (a b : ℕ) (is_right : IsRightPmt section) (long : a ≡ 13 + length rest)
     (few : a < 4096) (low : b ≤ length rest) where
   other : List ℕ
-  other = sealed (with_lengths a b (take 12 section) ++ rest)
+  other = with_crc (with_lengths a b (take 12 section) ++ rest)
 
   head : IsHead a b (take 12 section) (with_lengths a b (take 12 section))
   head = other_head section is_right a b few (omega arith)
 
-  same_field : (at width : ℕ) → at + width ≤ 96 → field (sealed (with_lengths a b (take 12 section) ++ rest)) at width
+  same_field : (at width : ℕ) → at + width ≤ 96 → field (with_crc (with_lengths a b (take 12 section) ++ rest)) at width
       ≡ field (with_lengths a b (take 12 section)) at width
   same_field at width h = sealed_field (with_lengths a b (take 12 section)) rest at width head.long h
 
-  pub other_loops : loops_of (sealed (with_lengths a b (take 12 section) ++ rest)) ≡ rest
+  pub other_loops : loops_of (with_crc (with_lengths a b (take 12 section) ++ rest)) ≡ rest
   other_loops = sealed_between (with_lengths a b (take 12 section)) rest 12 head.long
 
-  pub other_info_length : info_length_of (sealed (with_lengths a b (take 12 section) ++ rest)) ≡ b
+  pub other_info_length : info_length_of (with_crc (with_lengths a b (take 12 section) ++ rest)) ≡ b
   other_info_length = same_field 84 12 (omega arith) ∙ head.info
 
-  pub shaped : IsShaped section (sealed (with_lengths a b (take 12 section) ++ rest))
+  pub shaped : IsShaped section (with_crc (with_lengths a b (take 12 section) ++ rest))
   shaped =
       let count = sealed_long (with_lengths a b (take 12 section)) rest head.long in
-      let lengths : section_length_of (sealed (with_lengths a b (take 12 section) ++ rest)) ≡ a = same_field 12 12
+      let lengths : section_length_of (with_crc (with_lengths a b (take 12 section) ++ rest)) ≡ a = same_field 12 12
       (omega arith) ∙ head.section in
       let was : (at width : ℕ) → at + width ≤ 96 → field (take 12 section) at width ≡ field section at width = λ at
       width h. field_take section 12 at width h in
@@ -103,8 +103,8 @@ module _ (section rest : List ℕ) (a b : ℕ) (is_right : IsRightPmt section) (
         number = same_field 48 8 (omega arith) ∙ (head.number ∙ was 48 8 (omega arith));
         last_number = same_field 56 8 (omega arith) ∙ (head.last_number ∙ was 56 8 (omega arith));
         right = sealed_right (with_lengths a b (take 12 section) ++ rest);
-        info = info_is (sealed (with_lengths a b (take 12 section) ++ rest)) (omega arith);
-        streams = loop_is (sealed (with_lengths a b (take 12 section) ++ rest)) (omega arith);
+        info = info_is (with_crc (with_lengths a b (take 12 section) ++ rest)) (omega arith);
+        streams = loop_is (with_crc (with_lengths a b (take 12 section) ++ rest)) (omega arith);
       }
 
 -- a section that is shaped so has its program_info
@@ -121,8 +121,8 @@ shaped_pmt old new is pmt descriptors streams =
     pmt_by_parts new (is.id ∙ pmt.id) (shaped_has old new is) descriptors (ap are_streams streams ∙ pmt.streams)
 
 -- the project's descriptor says that it has six bytes
-six_bytes : (ca pid : ℕ) (rest : List ℕ) → size_of Descriptor (ca_descriptor ca pid ++ rest) ≡ 6
-unfolding ca_descriptor size_of
+six_bytes : (ca pid : ℕ) (rest : List ℕ) → item_size Descriptor (ca_descriptor ca pid ++ rest) ≡ 6
+unfolding ca_descriptor item_size
 six_bytes ca pid rest = omega (
   arith,
   byte_field (9 ∷ 4 ∷ ca / 256 ∷ ca % 256 ∷ (0xE0 + pid / 256) ∷ pid % 256 ∷ rest) 1
@@ -137,18 +137,18 @@ six_long ca pid = refl
 pub record IsInserted (ca pid : ℕ) (section new : List ℕ) : Type 0 where
   pub shape : IsShaped section new
   pub form : is_pmt new ≡ true
-  pub first : is_first (ca_descriptor ca pid) new ≡ true
+  pub first : is_first_descriptor (ca_descriptor ca pid) new ≡ true
 
 pub inserted_shape : (ca pid : ℕ) (section : List ℕ) → IsRightPmt section → is_pmt section ≡ true →
     length section ≤ 177 →
-    IsInserted ca pid section (inserted (ca_descriptor ca pid) section)
-unfolding inserted
+    IsInserted ca pid section (section_with_descriptor (ca_descriptor ca pid) section)
+unfolding section_with_descriptor
 inserted_shape ca pid section is_right pmt room =
     let descriptor : List ℕ = ca_descriptor ca pid in
     let rest : List ℕ = descriptor ++ loops_of section in
     let a : ℕ = section_length_of section + 6 in
     let b : ℕ = info_length_of section + 6 in
-    let new : List ℕ = sealed (with_lengths a b (take 12 section) ++ rest) in
+    let new : List ℕ = with_crc (with_lengths a b (take 12 section) ++ rest) in
     let count = loops_long section (omega (arith, is_right.info)) in
     let six = six_long ca pid in
     let long : a ≡ 13 + length rest = omega (
@@ -197,23 +197,23 @@ inserted_shape ca pid section is_right pmt room =
 -- the first descriptor has six bytes where it is one of six
 pub record IsSix (descriptor section : List ℕ) : Type 0 where
   pub counted : 6 ≤ info_length_of section
-  pub size : size_of Descriptor (info_of section) ≡ 6
+  pub size : item_size Descriptor (info_of section) ≡ 6
   pub some : 6 ≤ length (info_of section)
   pub is : take 6 (drop 12 section) ≡ descriptor
 
-pub first_six : (descriptor section : List ℕ) → IsRightPmt section → is_first descriptor section ≡ true →
+pub first_six : (descriptor section : List ℕ) → IsRightPmt section → is_first_descriptor descriptor section ≡ true →
     length descriptor ≡ 6 →
     are_descriptors (info_of section) ≡ true → IsSix descriptor section
 first_six descriptor section is_right first six whole =
     let info : List ℕ = info_of section in
     let before = info_begins descriptor section first six in
     let some : 6 ≤ length info = before.some in
-    let there : size_of Descriptor info ≤ length info = elim (cases_lt (length info) (size_of Descriptor info)) [
+    let there : item_size Descriptor info ≤ length info = elim (cases_lt (length info) (item_size Descriptor info)) [
       | inl over ↦ let off : are_descriptors info ≡ false = first_off Descriptor info (omega arith) over in absurd (cc)
       | inr within ↦ within
     ] in
-    let size : size_of Descriptor info ≡ 6 =
-    sym (length-take-le (size_of Descriptor info) info there) ∙ (ap (λ (l : List ℕ). length l) before.is ∙ six) in
+    let size : item_size Descriptor info ≡ 6 =
+    sym (length-take-le (item_size Descriptor info) info there) ∙ (ap (λ (l : List ℕ). length l) before.is ∙ six) in
     let info_there : info ≡ take (info_length_of section) (loops_of section) = info_is section
     (omega (arith, is_right.info)) in
     let counted : 6 ≤ info_length_of section =
@@ -235,13 +235,13 @@ pub record IsRemoved (section new : List ℕ) : Type 0 where
   pub form : is_pmt new ≡ true
 
 pub removed_shape : (descriptor section : List ℕ) → IsRightPmt section → is_pmt section ≡ true →
-    IsSix descriptor section → IsRemoved section (removed section)
-unfolding removed
+    IsSix descriptor section → IsRemoved section (section_without_descriptor section)
+unfolding section_without_descriptor
 removed_shape descriptor section is_right pmt six =
     let rest : List ℕ = slice_range section 18 (length section - 4) in
     let a : ℕ = section_length_of section - 6 in
     let b : ℕ = info_length_of section - 6 in
-    let new : List ℕ = sealed (with_lengths a b (take 12 section) ++ rest) in
+    let new : List ℕ = with_crc (with_lengths a b (take 12 section) ++ rest) in
     let width : length section - 4 - 12 ≡ 6 + (length section - 4 - 18) = omega (arith, is_right.info, six.counted) in
     let after : drop 6 (loops_of section) ≡ rest =
     ap (λ (n : ℕ). drop 6 (take n (drop 12 section))) width

@@ -6,9 +6,9 @@ use Rattle.std.proofs.lemmas.List.{take_at, drop_at, drop-drop}
 use Rattle.sd_base.specs.Bits.{field}
 use Rattle.sd_section.proofs.Judging.{field_take}
 use Rattle.sd_section.specs.Header.{section_length_of, crc_in, crc_due}
-use Rattle.sd_section.specs.Written.{sealed}
+use Rattle.sd_section.specs.Written.{with_crc}
 use Rattle.sd_psi.specs.Tables.{info_length_of}
-use Rattle.sd_psi.specs.Rewriting.{with_lengths, inserted, removed}
+use Rattle.sd_psi.specs.Rewriting.{with_lengths, section_with_descriptor, section_without_descriptor}
 use Rattle.sd_psi.proofs.Heads.{AreBytes, bytes_before, lengths_back, IsHead, head_is, sealed_again}
 
 -- what stands between a prefix and the last four bytes
@@ -39,18 +39,18 @@ module _ (head rest tail : List ℕ) (twelve : length head ≡ 12) (four : lengt
       ap (λ (l : List ℕ). field l at width) head_of
 
 -- the same where the four are the CRC
-sealed_head : (head rest : List ℕ) → length head ≡ 12 → take 12 (sealed (head ++ rest)) ≡ head
+sealed_head : (head rest : List ℕ) → length head ≡ 12 → take 12 (with_crc (head ++ rest)) ≡ head
 sealed_head head rest twelve = head_of head rest _ twelve refl
 
 pub sealed_field : (head rest : List ℕ) (at width : ℕ) → length head ≡ 12 → at + width ≤ 96 →
-    field (sealed (head ++ rest)) at width ≡ field head at width
+    field (with_crc (head ++ rest)) at width ≡ field head at width
 sealed_field head rest at width twelve h = head_field head rest _ twelve refl at width h
 
-pub sealed_long : (head rest : List ℕ) → length head ≡ 12 → length (sealed (head ++ rest)) ≡ 16 + length rest
+pub sealed_long : (head rest : List ℕ) → length head ≡ 12 → length (with_crc (head ++ rest)) ≡ 16 + length rest
 sealed_long head rest twelve = all_long head rest _ twelve refl
 
 pub sealed_between : (before middle : List ℕ) (k : ℕ) → length before ≡ k →
-    slice_range (sealed (before ++ middle)) k (length (sealed (before ++ middle)) - 4) ≡ middle
+    slice_range (with_crc (before ++ middle)) k (length (with_crc (before ++ middle)) - 4) ≡ middle
 sealed_between before middle k h = between before middle _ k h refl
 
 -- a PMT's section
@@ -89,16 +89,16 @@ module _ (section : List ℕ) (is_right : IsRightPmt section) where
       ∙ lengths_back (take 12 section) a b head_long (bytes_before section 12 is_right.bytes) ha hb)
 
   -- the head and what stands after it up to the CRC are the section again
-  whole_again : sealed (take 12 section ++ take (length section - 16) (drop 12 section)) ≡ section
+  whole_again : with_crc (take 12 section ++ take (length section - 16) (drop 12 section)) ≡ section
   whole_again =
       let count : 12 + (length section - 16) ≡ length section - 4 = omega (arith, sixteen) in
-      ap (λ (l : List ℕ). sealed l) (sym (take-add 12 (length section - 16) section) ∙ ap (λ (n : ℕ). take n section)
+      ap (λ (l : List ℕ). with_crc l) (sym (take-add 12 (length section - 16) section) ∙ ap (λ (n : ℕ). take n section)
       count)
       ∙ sealed_again section (omega (arith, sixteen)) is_right.bytes is_right.right
 
   -- the section without the six bytes that were put into it
-  pub removed_inserted : (descriptor : List ℕ) → length descriptor ≡ 6 → removed (inserted descriptor section) ≡ section
-  unfolding removed inserted
+  pub removed_inserted : (descriptor : List ℕ) → length descriptor ≡ 6 → section_without_descriptor (section_with_descriptor descriptor section) ≡ section
+  unfolding section_without_descriptor section_with_descriptor
   removed_inserted descriptor six =
       let a : ℕ = section_length_of section + 6 in
       let b : ℕ = info_length_of section + 6 in
@@ -106,31 +106,31 @@ module _ (section : List ℕ) (is_right : IsRightPmt section) where
       let head = other_head a b (omega (arith, is_right.long, is_right.few))
       (omega (arith, is_right.info, is_right.few)) in
       let inner : List ℕ = slice_range section 12 (length section - 4) in
-      let all : List ℕ = sealed (new ++ (descriptor ++ inner)) in
+      let all : List ℕ = with_crc (new ++ (descriptor ++ inner)) in
       let before : take 12 all ≡ new = sealed_head new (descriptor ++ inner) head.long in
       let count : section_length_of all - 6 ≡ section_length_of section = omega
       (arith, sealed_field new (descriptor ++ inner) 12 12 head.long (omega arith), head.section) in
       let infos : info_length_of all - 6 ≡ info_length_of section = omega
       (arith, sealed_field new (descriptor ++ inner) 84 12 head.long (omega arith), head.info) in
       let part : slice_range all 18 (length all - 4) ≡ inner =
-      ap (λ (l : List ℕ). slice_range (sealed l) 18 (length (sealed l) - 4)) (sym (append_assoc new descriptor inner))
+      ap (λ (l : List ℕ). slice_range (with_crc l) 18 (length (with_crc l) - 4)) (sym (append_assoc new descriptor inner))
       ∙ sealed_between (new ++ descriptor) inner 18 (omega (arith, length-append new descriptor, head.long)) in
       let same : length section - 4 - 12 ≡ length section - 16 = omega arith in
-      ap (λ (n : ℕ). sealed (with_lengths n (info_length_of all - 6) (take 12 all) ++ slice_range all 18
+      ap (λ (n : ℕ). with_crc (with_lengths n (info_length_of all - 6) (take 12 all) ++ slice_range all 18
       (length all - 4))) count
-      ∙ (ap (λ (n : ℕ). sealed (with_lengths (section_length_of section) n (take 12 all) ++ slice_range all 18
+      ∙ (ap (λ (n : ℕ). with_crc (with_lengths (section_length_of section) n (take 12 all) ++ slice_range all 18
       (length all - 4))) infos
-      ∙ (ap (λ (l : List ℕ). sealed (with_lengths (section_length_of section) (info_length_of section) l
+      ∙ (ap (λ (l : List ℕ). with_crc (with_lengths (section_length_of section) (info_length_of section) l
       ++ slice_range all 18 (length all - 4))) before
-      ∙ (ap (λ (l : List ℕ). sealed (with_lengths (section_length_of section) (info_length_of section) new ++ l)) part
-      ∙ (ap (λ (l : List ℕ). sealed (l ++ inner)) (own_head a b (omega (arith, is_right.long, is_right.few))
+      ∙ (ap (λ (l : List ℕ). with_crc (with_lengths (section_length_of section) (info_length_of section) new ++ l)) part
+      ∙ (ap (λ (l : List ℕ). with_crc (l ++ inner)) (own_head a b (omega (arith, is_right.long, is_right.few))
       (omega (arith, is_right.info, is_right.few)))
-      ∙ (ap (λ (n : ℕ). sealed (take 12 section ++ take n (drop 12 section))) same ∙ whole_again)))))
+      ∙ (ap (λ (n : ℕ). with_crc (take 12 section ++ take n (drop 12 section))) same ∙ whole_again)))))
 
   -- the section with the six bytes that were removed from it
   pub inserted_removed : (descriptor : List ℕ) → take 6 (drop 12 section) ≡ descriptor → 6 ≤ info_length_of section →
-      inserted descriptor (removed section) ≡ section
-  unfolding removed inserted
+      section_with_descriptor descriptor (section_without_descriptor section) ≡ section
+  unfolding section_without_descriptor section_with_descriptor
   inserted_removed descriptor is some =
       let a : ℕ = section_length_of section - 6 in
       let b : ℕ = info_length_of section - 6 in
@@ -138,7 +138,7 @@ module _ (section : List ℕ) (is_right : IsRightPmt section) where
       let head = other_head a b (omega (arith, is_right.long, is_right.few))
       (omega (arith, is_right.info, is_right.few)) in
       let inner : List ℕ = slice_range section 18 (length section - 4) in
-      let all : List ℕ = sealed (new ++ inner) in
+      let all : List ℕ = with_crc (new ++ inner) in
       let before : take 12 all ≡ new = sealed_head new inner head.long in
       let count : section_length_of all + 6 ≡ section_length_of section = omega
       (arith, sealed_field new inner 12 12 head.long (omega arith), head.section, is_right.long, is_right.info) in
@@ -152,14 +152,14 @@ module _ (section : List ℕ) (is_right : IsRightPmt section) where
       (sym (drop-drop 6 12 section))
       ∙ (sym (take-add 6 (length section - 4 - 18) (drop 12 section)) ∙ ap (λ (n : ℕ). take n (drop 12 section))
       same)) in
-      ap (λ (n : ℕ). sealed (with_lengths n (info_length_of all + 6) (take 12 all)
+      ap (λ (n : ℕ). with_crc (with_lengths n (info_length_of all + 6) (take 12 all)
       ++ (descriptor ++ slice_range all 12 (length all - 4)))) count
-      ∙ (ap (λ (n : ℕ). sealed (with_lengths (section_length_of section) n (take 12 all)
+      ∙ (ap (λ (n : ℕ). with_crc (with_lengths (section_length_of section) n (take 12 all)
       ++ (descriptor ++ slice_range all 12 (length all - 4)))) infos
-      ∙ (ap (λ (l : List ℕ). sealed (with_lengths (section_length_of section) (info_length_of section) l
+      ∙ (ap (λ (l : List ℕ). with_crc (with_lengths (section_length_of section) (info_length_of section) l
       ++ (descriptor ++ slice_range all 12 (length all - 4)))) before
-      ∙ (ap (λ (l : List ℕ). sealed (with_lengths (section_length_of section) (info_length_of section) new
+      ∙ (ap (λ (l : List ℕ). with_crc (with_lengths (section_length_of section) (info_length_of section) new
       ++ (descriptor ++ l))) part
-      ∙ (ap (λ (l : List ℕ). sealed (l ++ (descriptor ++ inner)))
+      ∙ (ap (λ (l : List ℕ). with_crc (l ++ (descriptor ++ inner)))
       (own_head a b (omega (arith, is_right.long, is_right.few)) (omega (arith, is_right.info, is_right.few)))
-      ∙ (ap (λ (l : List ℕ). sealed (take 12 section ++ l)) joined ∙ whole_again)))))
+      ∙ (ap (λ (l : List ℕ). with_crc (take 12 section ++ l)) joined ∙ whole_again)))))

@@ -17,5 +17,5 @@ abbrev pub ca_pid_of : List ℕ → ℕ
 ca_pid_of descriptor = field descriptor 35 13
 
 -- private_data_byte: what stands after CA_PID [ISO/IEC 13818-1, 2.6.16]
-abbrev pub private_of : List ℕ → List ℕ
-private_of descriptor = drop 6 descriptor
+abbrev pub private_data : List ℕ → List ℕ
+private_data descriptor = drop 6 descriptor

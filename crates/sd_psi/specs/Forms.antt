@@ -18,9 +18,9 @@ fault_unless true fault = None
 fault_unless false fault = Some fault
 
 -- a fault, or else the next
-abbrev pub or_next : Option FormFault → Option FormFault → Option FormFault
-or_next None next = next
-or_next (Some fault) next = Some fault
+abbrev pub fault_or_next : Option FormFault → Option FormFault → Option FormFault
+fault_or_next None next = next
+fault_or_next (Some fault) next = Some fault
 
 -- table_id [ISO/IEC 13818-1, 2.4.4.4]
 abbrev pub id_of : Table → ℕ
@@ -30,10 +30,10 @@ id_of Pmt = 2
 
 -- section_length of an empty table: what stands after it up to the body and after the body, and for a PMT up to
 -- program_info_length [ISO/IEC 13818-1, 2.4.4.3, 2.4.4.6 and 2.4.4.8]
-abbrev pub least_of : Table → ℕ
-least_of Pat = 9
-least_of Cat = 9
-least_of Pmt = 13
+abbrev pub least_section_length : Table → ℕ
+least_section_length Pat = 9
+least_section_length Cat = 9
+least_section_length Pmt = 13
 
 -- the bytes after the pointer [ISO/IEC 13818-1, 2.4.4]
 abbrev pub after_pointer : List ℕ → List ℕ
@@ -71,7 +71,7 @@ has_body Pmt section = has_info section
 abbrev pub has_length : Table → List ℕ → Bool
 has_length table bytes =
     nat_le 3 (length bytes) && (nat_le (3 + section_length_of bytes) (length bytes)
-    && (nat_le (least_of table) (section_length_of bytes) && has_body table (whole_of bytes)))
+    && (nat_le (least_section_length table) (section_length_of bytes) && has_body table (whole_of bytes)))
 
 -- the section ends with the CRC that is due [ISO/IEC 13818-1, 2.4.4 and annex A]
 abbrev pub table_crc_fault : List ℕ → Option FormFault
@@ -86,14 +86,14 @@ is_stuffing bytes = list_all (λ byte. byte == 255) bytes
 -- [this project, docs/FORMATS.md, Tables]
 abbrev pub bytes_fault : Table → List ℕ → Option FormFault
 bytes_fault table bytes =
-    or_next (fault_unless (has_table table bytes) Fault.Table)
-    (or_next (fault_unless (has_length table bytes) Fault.Length)
-    (or_next (table_crc_fault (whole_of bytes))
+    fault_or_next (fault_unless (has_table table bytes) Fault.Table)
+    (fault_or_next (fault_unless (has_length table bytes) Fault.Length)
+    (fault_or_next (table_crc_fault (whole_of bytes))
     (fault_unless (is_stuffing (drop (3 + section_length_of bytes) bytes)) Fault.Trailing)))
 
 -- the first thing that is wrong with the packet but its loops [this project, docs/FORMATS.md, Tables]
 unfoldable pub outer_fault : Table → List ℕ → Option FormFault
-outer_fault table packet = or_next (fault_unless (has_pointer packet) Fault.Pointer)
+outer_fault table packet = fault_or_next (fault_unless (has_pointer packet) Fault.Pointer)
     (bytes_fault table (after_pointer packet))
 
 -- the section is one of the table
@@ -105,7 +105,7 @@ has_form Pmt section = is_pmt section
 -- the first thing that is wrong with a packet that is to be one section of the table by itself
 -- [this project, docs/FORMATS.md, Tables]
 unfoldable pub form_fault : Table → List ℕ → Option FormFault
-form_fault table packet = or_next (outer_fault table packet)
+form_fault table packet = fault_or_next (outer_fault table packet)
     (fault_unless (has_form table (section_in packet)) Fault.Descriptor)
 
 -- of a PAT and a CAT

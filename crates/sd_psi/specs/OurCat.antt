@@ -9,7 +9,7 @@ use Rattle.sd_section.specs.Written.{section_bytes}
 use Rattle.sd_section.specs.declared.write.Header.{Header}
 use Rattle.sd_psi.specs.Tables.{descriptors_of, tag_of}
 use Rattle.sd_psi.specs.Forms.{cat_fault, section_in}
-use Rattle.sd_psi.specs.Access.{is_ca, system_of, ca_pid_of, private_of}
+use Rattle.sd_psi.specs.Access.{is_ca, system_of, ca_pid_of, private_data}
 use Rattle.sd_psi.specs.declared.our_cat.Tuning.{Tuning}
 
 -- two bytes of reserved bits, which are 1, and a PID [ISO/IEC 13818-1, 2.6.16]
@@ -36,7 +36,7 @@ pub record IsCatDescriptor (ca emm ecm : ℕ) (descriptor : List ℕ) : Type 0 w
   pub shown : is_ca descriptor ≡ true
   pub system : system_of descriptor ≡ ca
   pub ca_pid : ca_pid_of descriptor ≡ emm
-  pub private : field (private_of descriptor) 3 13 ≡ ecm
+  pub private : field (private_data descriptor) 3 13 ≡ ecm
 
 -- what a descriptor of the CAT says [ISO/IEC 13818-1, 2.6.16; this project, docs/FORMATS.md, Tables]
 unfoldable pub tuning_in : List ℕ → Tuning

@@ -5,7 +5,7 @@ use Rattle.sd_base.specs.Bits.{field}
 use Rattle.sd_section.specs.Header.{table_id_of, body_of}
 use Rattle.sd_psi.specs.declared.items.Kind.TheVariants.{Program, Descriptor}
 use Rattle.sd_psi.specs.declared.items.Kind.TheVariants as Item
-use Rattle.sd_psi.specs.Items.{size_of, items_of, is_whole_item, are_whole}
+use Rattle.sd_psi.specs.Items.{item_size, items_of, is_whole_item, are_whole}
 
 -- the descriptors that stand in some bytes, each by its own bytes [ISO/IEC 13818-1, 2.6]
 abbrev pub descriptors_of : List ℕ → List (List ℕ)
@@ -25,7 +25,7 @@ content_of descriptor = drop 2 descriptor
 
 -- a descriptor is as long as it says [ISO/IEC 13818-1, 2.6]
 abbrev pub IsDescriptor : List ℕ → Type 0
-IsDescriptor bytes = length bytes ≡ size_of Descriptor bytes
+IsDescriptor bytes = length bytes ≡ item_size Descriptor bytes
 
 -- program_number, and the PID of the program's PMT, or of the network for program 0 [ISO/IEC 13818-1, 2.4.4.3]
 abbrev pub program_of : List ℕ → ℕ × ℕ

@@ -1,6 +1,6 @@
 -- Public meaning: what rewriting and restoring a PMT are to each other.
 use Rattle.std.specs.Prelude.{◌≡◌, ℕ, ◌<◌, List, length, slice_index}
-use Rattle.sd_packet.specs.Header.{error_of, unit_start_of, priority_of, pid_of, scrambling_of, adaptation_of}
+use Rattle.sd_packet.specs.Header.{transport_error, unit_start_of, priority_of, pid_of, scrambling_of, adaptation_of}
 use Rattle.sd_packet.specs.Header.{counter_of}
 use Rattle.sd_packet.specs.Header.{payload_start_of}
 
@@ -12,7 +12,7 @@ pub record IsPacket (packet : List ℕ) : Type 0 where
 
 -- the header of a packet is as it was, and its payload starts where it did [ISO/IEC 13818-1, 2.4.3.2]
 pub record KeepsHeader (old new : List ℕ) : Type 0 where
-  pub error : error_of new ≡ error_of old
+  pub error : transport_error new ≡ transport_error old
   pub unit_start : unit_start_of new ≡ unit_start_of old
   pub priority : priority_of new ≡ priority_of old
   pub same_pid : pid_of new ≡ pid_of old

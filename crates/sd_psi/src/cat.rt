@@ -1,5 +1,5 @@
 ghost use Rattle.std.specs.Prelude.{◌≡◌, ◌<◌, ◌↔◌, true, false, Some, None, IfOk, MatchResult, IsNone, IfSome, IsTrue};
-ghost use Rattle.sd_section.specs.Header.{body_of, version_of, current_of};
+ghost use Rattle.sd_section.specs.Header.{body_of, section_version_number, current_of};
 ghost use Rattle.sd_packet.specs.Header.{payload_start_of};
 ghost use Rattle.sd_psi.specs.Forms.{section_in, cat_fault};
 ghost use Rattle.sd_psi.specs.Tables.{is_cat};
@@ -44,7 +44,7 @@ pub fn cat_of<'a>(packet: &'a Packet) -> Result<Cat<'a>, FormFault>
 impl<'a> Cat<'a> {
     /// version_number.
     pub fn version(&self) -> u8
-        ensures { result ≡ version_of self.now.section.bytes.now }
+        ensures { result ≡ section_version_number self.now.section.bytes.now }
     {
         self.section.version()
     }

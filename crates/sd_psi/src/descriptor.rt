@@ -1,6 +1,6 @@
 ghost use Rattle.std.specs.Prelude.{◌≡◌, ◌<◌, ◌↔◌, [], ◌∷◌, true, false, IsNone, IfSome};
 ghost use Rattle.sd_psi.specs.Tables.{descriptors_of, are_descriptors, tag_of, content_of, IsDescriptor};
-ghost use Rattle.sd_psi.specs.Access.{is_ca, system_of, ca_pid_of, private_of};
+ghost use Rattle.sd_psi.specs.Access.{is_ca, system_of, ca_pid_of, private_data};
 
 use crate::items::{Kind, first};
 use sd_base::fields;
@@ -17,7 +17,7 @@ pub struct Descriptor<'a> {
 
 impl<'a> Descriptor<'a> {
     /// descriptor_tag.
-    #[tactic(auto, unfolding(crate::specs::Items::size_of))]
+    #[tactic(auto, unfolding(crate::specs::Items::item_size))]
     pub fn tag(&self) -> u8
         ensures { result ≡ tag_of self.now.bytes.now }
     {
@@ -26,7 +26,7 @@ impl<'a> Descriptor<'a> {
     }
 
     /// The bytes after descriptor_length.
-    #[tactic(auto, unfolding(crate::specs::Items::size_of))]
+    #[tactic(auto, unfolding(crate::specs::Items::item_size))]
     pub fn body(&self) -> &'a [u8]
         ensures { result.now ≡ content_of self.now.bytes.now }
     {
@@ -77,7 +77,7 @@ impl<'a> CaDescriptor<'a> {
     /// The bytes after CA_PID.
     #[tactic(auto, using(crate::proofs::OurCat::ca_is_long))]
     pub fn private(&self) -> &'a [u8]
-        ensures { result.now ≡ private_of self.now.bytes.now }
+        ensures { result.now ≡ private_data self.now.bytes.now }
     {
         &self.bytes[6..]
     }

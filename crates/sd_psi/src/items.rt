@@ -1,5 +1,5 @@
 ghost use Rattle.std.specs.Prelude.{◌≡◌, ◌<◌, ◌≤◌, ◌↔◌, [], ◌∷◌, true, false, IsNone, IfSome, length};
-ghost use Rattle.sd_psi.specs.Items.{size_of, items_of, are_whole};
+ghost use Rattle.sd_psi.specs.Items.{item_size, items_of, are_whole};
 
 use sd_base::fields;
 
@@ -16,8 +16,8 @@ pub enum Kind {
 
 /// How long the item is with which the bytes begin, where all of it is there.
 pub fn size(kind: Kind, bytes: &[u8]) -> Option<usize>
-    ensures none { IsNone result → length bytes.now < size_of kind bytes.now }
-    ensures value { IfSome result (λ size. size ≡ size_of kind bytes.now) }
+    ensures none { IsNone result → length bytes.now < item_size kind bytes.now }
+    ensures value { IfSome result (λ size. size ≡ item_size kind bytes.now) }
     ensures fits { IfSome result (λ size. size ≤ length bytes.now) }
 {
     let size = stated(kind, bytes)?;
@@ -25,10 +25,10 @@ pub fn size(kind: Kind, bytes: &[u8]) -> Option<usize>
 }
 
 // How long it says that it is, where it has room to say it.
-#[tactic(auto, unfolding(crate::specs::Items::size_of))]
+#[tactic(auto, unfolding(crate::specs::Items::item_size))]
 fn stated(kind: Kind, bytes: &[u8]) -> Option<usize>
-    ensures none { IsNone result → length bytes.now < size_of kind bytes.now }
-    ensures value { IfSome result (λ size. size ≡ size_of kind bytes.now) }
+    ensures none { IsNone result → length bytes.now < item_size kind bytes.now }
+    ensures value { IfSome result (λ size. size ≡ item_size kind bytes.now) }
 {
     match kind {
         Kind::Program => Some(4),
@@ -65,7 +65,7 @@ pub fn first<'a>(kind: Kind, bytes: &'a [u8]) -> Option<(&'a [u8], &'a [u8])>
     requires { are_whole kind bytes.now ≡ true }
     ensures none { IsNone result ↔ (items_of kind bytes.now ≡ []) }
     ensures value { IfSome result (λ cut. items_of kind bytes.now ≡ cut.0.now ∷ items_of kind cut.1.now) }
-    ensures length { IfSome result (λ cut. length cut.0.now ≡ size_of kind cut.0.now) }
+    ensures length { IfSome result (λ cut. length cut.0.now ≡ item_size kind cut.0.now) }
     ensures rest { IfSome result (λ cut. are_whole kind cut.1.now ≡ true) }
 {
     if bytes.is_empty() {

@@ -1,6 +1,6 @@
 ghost use Rattle.std.specs.Prelude.{◌≡◌, ◌<◌, ◌↔◌, true, false, Some, None, IfOk, MatchResult, IsNone, IfSome};
 ghost use Rattle.std.specs.Prelude.{IsTrue};
-ghost use Rattle.sd_section.specs.Header.{extension_of, version_of, current_of};
+ghost use Rattle.sd_section.specs.Header.{extension_of, section_version_number, current_of};
 ghost use Rattle.sd_packet.specs.Header.{payload_start_of};
 ghost use Rattle.sd_psi.specs.Forms.{section_in, pat_fault};
 ghost use Rattle.sd_psi.specs.Tables.{programs_in, programs_of, pmt_pids_in, pmt_pids_of, is_pat};
@@ -45,7 +45,7 @@ pub fn pat_of<'a>(packet: &'a Packet) -> Result<Pat<'a>, FormFault>
 impl<'a> Pat<'a> {
     /// version_number.
     pub fn version(&self) -> u8
-        ensures { result ≡ version_of self.now.section.bytes.now }
+        ensures { result ≡ section_version_number self.now.section.bytes.now }
     {
         self.section.version()
     }

@@ -1,7 +1,7 @@
 ghost use Rattle.std.specs.Prelude.{◌≡◌, ◌+◌, ◌<◌, ◌↔◌, true, false, IsNone};
 ghost use Rattle.std.specs.Prelude.{IfSome, IsTrue, length};
-ghost use Rattle.sd_section.specs.Header.{extension_of, version_of, current_of};
-ghost use Rattle.sd_psi.specs.Rewriting.{is_first};
+ghost use Rattle.sd_section.specs.Header.{extension_of, section_version_number, current_of};
+ghost use Rattle.sd_psi.specs.Rewriting.{is_first_descriptor};
 ghost use Rattle.sd_psi.specs.Tables.{are_descriptors, pcr_of, has_info, info_of, loop_of, streams_in};
 ghost use Rattle.sd_psi.specs.Tables.{streams_of, are_streams as are_streams_of, is_pmt};
 
@@ -74,7 +74,7 @@ fn are_streams(bytes: &[u8]) -> bool
 impl<'a> Pmt<'a> {
     /// version_number.
     pub fn version(&self) -> u8
-        ensures { result ≡ version_of self.now.section.bytes.now }
+        ensures { result ≡ section_version_number self.now.section.bytes.now }
     {
         self.section.version()
     }
@@ -122,7 +122,7 @@ impl<'a> Pmt<'a> {
     #[tactic(auto, using(crate::proofs::Packets::first_is, crate::proofs::Packets::none_is_first))]
     pub(crate) fn begins_with(&self, descriptor: &[u8]) -> bool
         requires { 0 < length descriptor.now }
-        ensures { result ≡ is_first descriptor.now self.now.section.bytes.now }
+        ensures { result ≡ is_first_descriptor descriptor.now self.now.section.bytes.now }
     {
         match self.descriptors().next() {
             Some(first) => first.bytes == descriptor,

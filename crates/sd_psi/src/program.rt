@@ -23,7 +23,7 @@ impl<'a> Programs<'a> {
     }
 
     /// The number of the next program, and the PID of its PMT, or of the network for number 0.
-    #[tactic(auto, using(crate::proofs::Listing::program_first, crate::proofs::Listing::no_program), unfolding(crate::specs::Items::size_of))]
+    #[tactic(auto, using(crate::proofs::Listing::program_first, crate::proofs::Listing::no_program), unfolding(crate::specs::Items::item_size))]
     pub fn next(&mut self) -> Option<(u16, u16)>
         ensures none { IsNone result ↔ (programs_in self.old.bytes.now ≡ []) }
         ensures value { IfSome result (λ program.

@@ -3,11 +3,11 @@ ghost use Rattle.std.specs.Prelude.{replicate};
 ghost use Rattle.std.specs.Result.{OnOk, OnErr};
 ghost use Rattle.sd_packet.specs.Header.{payload_start_of, payload_of};
 ghost use Rattle.sd_section.specs.Header.{section_length_of};
-ghost use Rattle.sd_section.specs.Written.{sealed};
+ghost use Rattle.sd_section.specs.Written.{with_crc};
 ghost use Rattle.sd_psi.specs.Tables.{info_length_of};
 ghost use Rattle.sd_psi.specs.Forms.{after_pointer};
-ghost use Rattle.sd_psi.specs.Rewriting.{ca_descriptor as ca_descriptor_of, with_lengths, inserted, removed, rewritten};
-ghost use Rattle.sd_psi.specs.Rewriting.{restored, rewrite_fault, restore_fault, removal_fault};
+ghost use Rattle.sd_psi.specs.Rewriting.{ca_descriptor as ca_descriptor_of, with_lengths, section_with_descriptor, section_without_descriptor, pmt_with_descriptor};
+ghost use Rattle.sd_psi.specs.Rewriting.{pmt_without_descriptor, rewrite_fault, restore_fault, removal_fault};
 ghost use Rattle.sd_psi.specs.Undone.{KeepsHeader};
 
 use crate::descriptor::CA_TAG;
@@ -28,7 +28,7 @@ const SIZE: usize = 6;
 pub fn rewrite_pmt(packet: &mut Packet, ca: u16, pid: u16) -> Result<(), FormFault>
     requires payload { payload_start_of packet.old < 188 }
     requires pid { pid < 8192 }
-    ensures value { OnOk result (packet.new ≡ rewritten ca pid packet.old) }
+    ensures value { OnOk result (packet.new ≡ pmt_with_descriptor ca pid packet.old) }
     ensures fault { MatchResult result (λ _. rewrite_fault packet.old ≡ None)
         (λ fault. rewrite_fault packet.old ≡ Some fault) }
     ensures unchanged { OnErr result (packet.new ≡ packet.old) }
@@ -50,7 +50,7 @@ pub fn rewrite_pmt(packet: &mut Packet, ca: u16, pid: u16) -> Result<(), FormFau
 pub fn restore_pmt(packet: &mut Packet, ca: u16, pid: u16) -> Result<(), FormFault>
     requires payload { payload_start_of packet.old < 188 }
     requires pid { pid < 8192 }
-    ensures value { OnOk result (packet.new ≡ restored packet.old) }
+    ensures value { OnOk result (packet.new ≡ pmt_without_descriptor packet.old) }
     ensures fault { MatchResult result (λ _. restore_fault ca pid packet.old ≡ None)
         (λ fault. restore_fault ca pid packet.old ≡ Some fault) }
     ensures unchanged { OnErr result (packet.new ≡ packet.old) }
@@ -152,7 +152,7 @@ fn insert(bytes: &mut [u8], descriptor: &[u8; SIZE])
     requires section { section_length_of bytes.old < 4090 }
     requires info { info_length_of bytes.old < 4090 }
     requires descriptor { length descriptor.now ≡ 6 }
-    ensures { bytes.new ≡ inserted descriptor.now (take (length bytes.old - 6) bytes.old) }
+    ensures { bytes.new ≡ section_with_descriptor descriptor.now (take (length bytes.old - 6) bytes.old) }
 {
     fields! { bytes; section_length: 12, 12; program_info_length: 84, 12; }
     set_lengths(
@@ -170,7 +170,7 @@ fn remove(bytes: &mut [u8])
     requires long { 22 ≤ length bytes.old }
     requires section { 6 ≤ section_length_of bytes.old }
     requires info { 6 ≤ info_length_of bytes.old }
-    ensures { bytes.new ≡ removed bytes.old ++ replicate 6 255 }
+    ensures { bytes.new ≡ section_without_descriptor bytes.old ++ replicate 6 255 }
 {
     fields! { bytes; section_length: 12, 12; program_info_length: 84, 12; }
     set_lengths(
@@ -185,7 +185,7 @@ fn remove(bytes: &mut [u8])
 // Seals all but the last six bytes, which become stuffing.
 fn close(bytes: &mut [u8])
     requires { 10 ≤ length bytes.old }
-    ensures { bytes.new ≡ sealed (take (length bytes.old - 10) bytes.old) ++ replicate 6 255 }
+    ensures { bytes.new ≡ with_crc (take (length bytes.old - 10) bytes.old) ++ replicate 6 255 }
 {
     let (section, after) = bytes.split_at_mut(bytes.len() - SIZE);
     seal(section);

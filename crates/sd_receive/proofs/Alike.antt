@@ -8,7 +8,7 @@ use Rattle.std.proofs.lemmas.Slice.Eq.{bytes_eq-Decides}
 use Rattle.sd_message.specs.EcmParts.{SaySame}
 use Rattle.sd_message.specs.declared.ecm_part.EcmPart.{EcmPart}
 use Rattle.sd_message.specs.declared.ecm_message.EcmHead.{EcmHead}
-use Rattle.sd_spec.specs.Runs.{is_same}
+use Rattle.sd_spec.specs.Runs.{is_same_run}
 use Rattle.sd_spec.specs.Offered.{same_header}
 
 -- two flags are the same
@@ -19,7 +19,7 @@ same_flag false true = (λ e. absurd (false≢true e), λ e. absurd (false≢tru
 same_flag false false = (λ _. refl, λ _. refl)
 
 -- two names are the same
-same_name : (a b : Option ℕ) → Decides (is_same a b) (a ≡ b)
+same_name : (a b : Option ℕ) → Decides (is_same_run a b) (a ≡ b)
 same_name None None = (λ _. refl, λ _. refl)
 same_name None (Some n) = (λ e. absurd (false≢true e), λ e. absurd (cc))
 same_name (Some m) None = (λ e. absurd (false≢true e), λ e. absurd (cc))

@@ -21,13 +21,13 @@ use Rattle.sd_spec.specs.Confirmed.{is_foreign_under}
 use Rattle.sd_spec.specs.Counting.{is_equal_place, is_part_again, is_stray, is_stray_at, says_nothing_new}
 use Rattle.sd_spec.specs.Heard.{Heard, Dropped, Other, hears, heard_emm, heard_ecm}
 use Rattle.sd_spec.specs.Offered.{heard, same_header}
-use Rattle.sd_spec.specs.Stretches.{newest, is_closed}
+use Rattle.sd_spec.specs.Stretches.{newest_message, is_closed}
 use Rattle.sd_spec.specs.Tuned.{tuning_of}
 use Rattle.sd_receive.specs.Again.{has_all_of}
 use Rattle.sd_receive.specs.EcmAssembler.{parts_collected}
-use Rattle.sd_receive.specs.PartialEcm.{IsGathered, places_of}
+use Rattle.sd_receive.specs.PartialEcm.{IsGathered, part_positions}
 use Rattle.sd_receive.specs.Session.{IsListenerAfter}
-use Rattle.sd_receive.specs.Receiving.{IsAfter, card_in}
+use Rattle.sd_receive.specs.Receiving.{HasReceived, receiver_card}
 use Rattle.sd_receive.specs.declared.session.Session.{Session}
 use Rattle.sd_receive.specs.declared.receiver.Receiver.{Receiver}
 use Rattle.sd_receive.proofs.Alike.{headers_told}
@@ -42,13 +42,13 @@ either false false = refl
 
 -- one of the positions of some parts passes, in whichever order the parts are
 any_of_parts : (p : Place → Bool) (run : List EcmPart) →
-    list_any p (places_of run) ≡ list_any p (flat_map listed_places run)
-unfolding places_of
+    list_any p (part_positions run) ≡ list_any p (flat_map listed_places run)
+unfolding part_positions
 any_of_parts p [] = refl
 any_of_parts p (part ∷ run) =
     ap (list_any p) (one_more part run)
-    ∙ (list_any-append p (places_of run) (listed_places part)
-    ∙ (either (list_any p (places_of run)) (list_any p (listed_places part))
+    ∙ (list_any-append p (part_positions run) (listed_places part)
+    ∙ (either (list_any p (part_positions run)) (list_any p (listed_places part))
     ∙ (ap (λ (b : Bool). list_any p (listed_places part) || b) (any_of_parts p run)
     ∙ sym (list_any-append p (listed_places part) (flat_map listed_places run)))))
 
@@ -127,7 +127,7 @@ unfolding is_stray
 clear_unstray past n packet clear =
     let test : (scrambling_of packet == 0) ≡ true = eq-eqb (scrambling_of packet) 0 clear in
     rw test (scrambled_no (is_closed past)
-    (option_map_or (λ message. is_foreign_under message.word packet) (newest past).message false))
+    (option_map_or (λ message. is_foreign_under message.word packet) (newest_message past).message false))
 
 -- without a message nothing is stray
 wordless : (closed scrambled : Bool) → false ≡ (not closed && (scrambled && false))
@@ -140,7 +140,7 @@ pub wordless_unstray : (card : CardFields) (past : List Heard) (state : Session)
     IsListenerAfter card past state → state.assembler.last ≡ None → false ≡ is_stray past (Other n packet)
 unfolding is_stray
 wordless_unstray card past state n packet follows none =
-    let message : (newest past).message ≡ None = follows.assembler.last.says
+    let message : (newest_message past).message ≡ None = follows.assembler.last.says
     ∙ ap (option_map (λ kept. message_of kept state.assembler.places.items)) none in
     wordless (is_closed past) (not (scrambling_of packet == 0))
     ∙ ap (λ (m : Option Message). not (is_closed past) && (not (scrambling_of packet == 0)
@@ -156,7 +156,7 @@ pub closed_unstray : (card : CardFields) (past : List Heard) (state : Session) (
 unfolding is_stray
 closed_unstray card past state n packet follows is =
     let rest : Bool = not (scrambling_of packet == 0)
-    && option_map_or (λ message. is_foreign_under message.word packet) (newest past).message false in
+    && option_map_or (λ message. is_foreign_under message.word packet) (newest_message past).message false in
     shut state.closed rest is ∙ ap (λ (closed : Bool). not closed && rest) follows.closed
 
 -- with a message its control word tells
@@ -166,7 +166,7 @@ pub stray_under : (card : CardFields) (past : List Heard) (state : Session) (hea
     foreign ≡ is_stray past (Other n packet)
 unfolding is_stray
 stray_under card past state head n packet foreign follows some scrambled unclosed is =
-    let message : (newest past).message ≡ Some (message_of head state.assembler.places.items) =
+    let message : (newest_message past).message ≡ Some (message_of head state.assembler.places.items) =
     follows.assembler.last.says
     ∙ ap (option_map (λ kept. message_of kept state.assembler.places.items)) some in
     let test : (scrambling_of packet == 0) ≡ false = ne_eqb (scrambling_of packet) 0 scrambled in
@@ -181,20 +181,20 @@ unfolding is_stray_at
 stray_at card past packet tuning is = rw is refl
 
 -- before a CAT was taken nothing is stray
-pub untuned_unstray : (past : List (List ℕ)) (receiver : Receiver) (packet : List ℕ) → IsAfter past receiver →
-    receiver.tuning ≡ None → false ≡ is_stray_at (card_in receiver) past packet
+pub untuned_unstray : (past : List (List ℕ)) (receiver : Receiver) (packet : List ℕ) → HasReceived past receiver →
+    receiver.tuning ≡ None → false ≡ is_stray_at (receiver_card receiver) past packet
 unfolding is_stray_at
 untuned_unstray past receiver packet after none =
     let e : tuning_of receiver.card.ca past ≡ None = sym after.tuning ∙ none in rw e refl
 
 -- a packet that is heard as this is judged as this
 pub stray_heard : (past : List (List ℕ)) (receiver : Receiver) (packet : List ℕ) (tuning : Tuning) (thing : Heard)
-    (b : Bool) → IsAfter past receiver → receiver.tuning ≡ Some tuning →
-    hears (card_in receiver).height tuning (length past) packet ≡ thing →
-    b ≡ is_stray (heard (card_in receiver) past) thing → b ≡ is_stray_at (card_in receiver) past packet
+    (b : Bool) → HasReceived past receiver → receiver.tuning ≡ Some tuning →
+    hears (receiver_card receiver).height tuning (length past) packet ≡ thing →
+    b ≡ is_stray (heard (receiver_card receiver) past) thing → b ≡ is_stray_at (receiver_card receiver) past packet
 stray_heard past receiver packet tuning thing b after some is judged =
-    judged ∙ (ap (is_stray (heard (card_in receiver) past)) (sym is)
-    ∙ sym (stray_at (card_in receiver) past packet tuning (sym after.tuning ∙ some)))
+    judged ∙ (ap (is_stray (heard (receiver_card receiver) past)) (sym is)
+    ∙ sym (stray_at (receiver_card receiver) past packet tuning (sym after.tuning ∙ some)))
 
 -- no message is stray
 pub dropped_unstray : (past : List Heard) → false ≡ is_stray past Dropped
@@ -232,17 +232,17 @@ emm_unsaid past (Err fault) = refl
 
 -- what is asked of a part once a CAT was taken, and before
 pub again_heard : (past : List (List ℕ)) (receiver : Receiver) (packet : List ℕ) (tuning : Tuning) (thing : Heard)
-    (b : Bool) → IsAfter past receiver → receiver.tuning ≡ Some tuning →
-    hears (card_in receiver).height tuning (length past) packet ≡ thing →
-    b ≡ is_part_again (heard (card_in receiver) past) thing →
-    b ≡ option_map_or (λ t. is_part_again (heard (card_in receiver) past)
-    (hears (card_in receiver).height t (length past) packet)) (tuning_of (card_in receiver).ca past) false
+    (b : Bool) → HasReceived past receiver → receiver.tuning ≡ Some tuning →
+    hears (receiver_card receiver).height tuning (length past) packet ≡ thing →
+    b ≡ is_part_again (heard (receiver_card receiver) past) thing →
+    b ≡ option_map_or (λ t. is_part_again (heard (receiver_card receiver) past)
+    (hears (receiver_card receiver).height t (length past) packet)) (tuning_of (receiver_card receiver).ca past) false
 again_heard past receiver packet tuning thing b after some is judged =
     let e : tuning_of receiver.card.ca past ≡ Some tuning = sym after.tuning ∙ some in
-    judged ∙ (ap (is_part_again (heard (card_in receiver) past)) (sym is) ∙ sym (rw e refl))
+    judged ∙ (ap (is_part_again (heard (receiver_card receiver) past)) (sym is) ∙ sym (rw e refl))
 
-pub untuned_unsaid : (past : List (List ℕ)) (receiver : Receiver) (packet : List ℕ) → IsAfter past receiver →
-    receiver.tuning ≡ None → false ≡ option_map_or (λ t. is_part_again (heard (card_in receiver) past)
-    (hears (card_in receiver).height t (length past) packet)) (tuning_of (card_in receiver).ca past) false
+pub untuned_unsaid : (past : List (List ℕ)) (receiver : Receiver) (packet : List ℕ) → HasReceived past receiver →
+    receiver.tuning ≡ None → false ≡ option_map_or (λ t. is_part_again (heard (receiver_card receiver) past)
+    (hears (receiver_card receiver).height t (length past) packet)) (tuning_of (receiver_card receiver).ca past) false
 untuned_unsaid past receiver packet after none =
     let e : tuning_of receiver.card.ca past ≡ None = sym after.tuning ∙ none in rw e refl

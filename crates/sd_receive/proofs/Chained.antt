@@ -13,7 +13,7 @@ use Rattle.sd_engine.specs.Stage.{Chain}
 use Rattle.sd_message.specs.declared.stream_fault.StreamFault.{StreamFault}
 use Rattle.sd_spec.specs.Offered.{offered, out_from, break_from}
 use Rattle.sd_spec.proofs.Turns.{one_more}
-use Rattle.sd_receive.specs.Receiving.{card_in, IsAfter, takes_key_at, steps_at, taken_keys, RefusesPacket}
+use Rattle.sd_receive.specs.Receiving.{receiver_card, HasReceived, takes_key_at, steps_at, taken_keys, RefusesReceivedPacket}
 use Rattle.sd_receive.specs.Receiving.{receiver_does, Refusing, OutcomeAfter, OutcomeOf, BreakAt}
 use Rattle.sd_receive.specs.declared.receiver.Receiver.{Receiver}
 
@@ -54,28 +54,28 @@ joined_out : (first rest : List ℕ) (wrote more : List (List ℕ)) → first �
 joined_out first rest wrote more p q = ap (λ (x : List ℕ). x ++ rest) p ∙
     (ap (λ (y : List ℕ). concat wrote ++ y) q ∙ sym (concat-append wrote more))
 
-pub came_to : (past packets : List (List ℕ)) (s t : Receiver) (bytes : List ℕ) (n : ℕ) → IsAfter past s →
+pub came_to : (past packets : List (List ℕ)) (s t : Receiver) (bytes : List ℕ) (n : ℕ) → HasReceived past s →
     length past + length packets ≤ 2 ^ 64 - 1 → Chain receiver_does s packets t bytes n →
-    OutcomeAfter (card_in s) past packets t bytes n
+    OutcomeAfter (receiver_card s) past packets t bytes n
 unfolding out_from break_from taken_keys
 came_to past [] s t bytes n after few (same, none, none_taken) = record {
   written = none;
   unbroken = refl;
-  after = subst (λ (u : Receiver). IsAfter past u) same after;
+  after = subst (λ (u : Receiver). HasReceived past u) same after;
   few = omega (arith, none_taken);
-  same = ap card_in (sym same);
+  same = ap receiver_card (sym same);
 }
 came_to past (packet ∷ packets) s t bytes n after few (mid, first, rest, m, k, one, more, joined, counted) =
     let here = one past after (omega (arith, few)) in
-    let card = card_in s in
-    let kept : card_in mid ≡ card = ap (λ (c : Card). card_fields_of c) here.same in
+    let card = receiver_card s in
+    let kept : receiver_card mid ≡ card = ap (λ (c : Card). card_fields_of c) here.same in
     let there = subst (λ (c : CardFields). OutcomeAfter c (packet ∷ past) packets t rest k) kept
     (came_to (packet ∷ past) packets mid t rest k here.after (omega (arith, few)) more) in
     record {
       written = joined ∙ (joined_out first rest (offered card past packet).wrote (out_from card (packet ∷ past) packets)
           here.bytes_are there.written ∙ ap concat (sym (one_more card past packet packets here.fault)));
       unbroken = break_first card past packet packets here.fault ∙ there.unbroken;
-      after = subst (λ (ps : List (List ℕ)). IsAfter ps t) (sym (reversed packet packets past)) there.after;
+      after = subst (λ (ps : List (List ℕ)). HasReceived ps t) (sym (reversed packet packets past)) there.after;
       few = subst (λ (x : ℕ). x ≤ card.height * taken_keys card past (packet ∷ packets)) (sym counted)
           (steps_of (takes_key_at card past packet) card.height (taken_keys card (packet ∷ past) packets) m k here.few
           there.few);
@@ -103,14 +103,14 @@ out_joined card past (packet ∷ packets) more none =
           ∙ (there.1 ∙ ap (λ (b : List (List ℕ)). break_from card b more) (sym turned)),
     )
 
-pub came_to_all : (packets : List (List ℕ)) (s t : Receiver) (bytes : List ℕ) (n : ℕ) → IsAfter [] s →
-    length packets ≤ 2 ^ 64 - 1 → Chain receiver_does s packets t bytes n → OutcomeOf (card_in s) packets t bytes n
+pub came_to_all : (packets : List (List ℕ)) (s t : Receiver) (bytes : List ℕ) (n : ℕ) → HasReceived [] s →
+    length packets ≤ 2 ^ 64 - 1 → Chain receiver_does s packets t bytes n → OutcomeOf (receiver_card s) packets t bytes n
 came_to_all packets s t bytes n after few chain =
     let came = came_to [] packets s t bytes n after (omega (arith, few)) chain in
     record {
       written = came.written;
       unbroken = came.unbroken;
-      after = subst (λ (ps : List (List ℕ)). IsAfter ps t) (append-nil (reverse packets)) came.after;
+      after = subst (λ (ps : List (List ℕ)). HasReceived ps t) (append-nil (reverse packets)) came.after;
       few = came.few;
       same = came.same;
     }
@@ -123,7 +123,7 @@ record RefusedBy (card : CardFields) (past : List (List ℕ)) (packet : List ℕ
   few : steps ≤ steps_at card past packet
 
 refused_by : (past : List (List ℕ)) (s : Receiver) (packet : List ℕ) (why : StreamFault) (bytes : List ℕ) (steps : ℕ) →
-    RefusesPacket true past s packet why bytes steps → RefusedBy (card_in s) past packet why bytes steps
+    RefusesReceivedPacket true past s packet why bytes steps → RefusedBy (receiver_card s) past packet why bytes steps
 refused_by past s packet why bytes steps is = record { fault = is.fault; bytes_are = is.bytes_are; few = is.few }
 
 -- one packet more takes one key more or none
@@ -155,12 +155,12 @@ steps_more card packets packet m k few one =
     one)
 
 pub broke_at : (packets : List (List ℕ)) (s mid : Receiver) (packet : List ℕ) (more : List (List ℕ)) (why : StreamFault)
-    (first last : List ℕ) (m k : ℕ) → IsAfter [] s → length packets < 2 ^ 64 - 1 →
+    (first last : List ℕ) (m k : ℕ) → HasReceived [] s → length packets < 2 ^ 64 - 1 →
     Chain receiver_does s packets mid first m →
     Refusing mid packet why last k →
-    BreakAt (card_in s) packets packet more why (first ++ last) (m + k)
+    BreakAt (receiver_card s) packets packet more why (first ++ last) (m + k)
 broke_at packets s mid packet more why first last m k after few chain refuses =
-    let card = card_in s in
+    let card = receiver_card s in
     let came = came_to [] packets s mid first m after (omega (arith, few)) chain in
     let before : List (List ℕ) = reverse packets ++ [] in
     let long : length before ≡ length packets =

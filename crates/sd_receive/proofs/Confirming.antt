@@ -8,7 +8,7 @@ use Rattle.sd_message.specs.declared.ecm_part.Place.{Place}
 use Rattle.sd_spec.specs.Confirmed.{position_in}
 use Rattle.sd_receive.specs.PidSet.{has_pid}
 use Rattle.sd_spec.specs.Confirmed.{is_near_to}
-use Rattle.sd_receive.specs.Writing.{AreNear}
+use Rattle.sd_receive.specs.Writing.{AreNearPids}
 use Rattle.sd_receive.specs.declared.buffer.pid_set.PidSet.{PidSet}
 
 -- a position that isn't below is near by its distance
@@ -25,7 +25,7 @@ below t p low = rw (lt-leb t p low) refl
 
 -- without places no PID is near
 pub none_near : (tracked : List ℕ) (pids : PidSet) → ((pid : ℕ) → pid < 8192 → has_pid pids pid ≡ false) →
-    AreNear tracked [] pids
+    AreNearPids tracked [] pids
 unfolding position_in
 none_near tracked pids none = record { at = λ pid small. none pid small }
 
@@ -44,7 +44,7 @@ found_later place places pid other = rw other refl
 near_more : (tracked : List ℕ) (place : Place) (places : List Place) (old new : PidSet) →
     has_pid new place.pid ≡ is_near_to (get_or tracked place.pid 0) place.position →
     ((other : ℕ) → other < 8192 → other ≢ place.pid → has_pid new other ≡ has_pid old other) →
-    AreNear tracked places old → AreNear tracked (place ∷ places) new
+    AreNearPids tracked places old → AreNearPids tracked (place ∷ places) new
 near_more tracked place places old new own others before = record {
   at = λ pid small. elim (cases_Bool (place.pid == pid)) [
     | inl same ↦ rw (found_first place places pid same) (subst (λ (q : ℕ). has_pid new q
@@ -56,7 +56,7 @@ near_more tracked place places old new own others before = record {
 
 -- one whose PID is none changes nothing
 near_still : (tracked : List ℕ) (place : Place) (places : List Place) (pids : PidSet) → 8192 ≤ place.pid →
-    AreNear tracked places pids → AreNear tracked (place ∷ places) pids
+    AreNearPids tracked places pids → AreNearPids tracked (place ∷ places) pids
 near_still tracked place places pids far before = record {
   at = λ pid small. elim (cases_Bool (place.pid == pid)) [
     | inl same ↦ absurd (omega (arith, eqb-true place.pid pid same, small, far))
@@ -69,18 +69,18 @@ pub one_nearer : (tracked : List ℕ) (places : List Place) (i : ℕ) (d : Place
     i ≤ length places → has_pid new (get_or places (i - 1) d).pid
     ≡ is_near_to (get_or tracked (get_or places (i - 1) d).pid 0) (get_or places (i - 1) d).position →
     ((other : ℕ) → other < 8192 → other ≢ (get_or places (i - 1) d).pid → has_pid new other ≡ has_pid old other) →
-    AreNear tracked (drop i places) old → AreNear tracked (drop (i - 1) places) new
+    AreNearPids tracked (drop i places) old → AreNearPids tracked (drop (i - 1) places) new
 one_nearer tracked places i d old new some within own others before =
     let next : i ≡ i - 1 + 1 = omega (arith, some) in
     rw (drop_more places (i - 1) d (omega (arith, some, within)))
     (near_more tracked (get_or places (i - 1) d) (drop (i - 1 + 1) places) old new own others
-    (subst (λ (j : ℕ). AreNear tracked (drop j places) old) next before))
+    (subst (λ (j : ℕ). AreNearPids tracked (drop j places) old) next before))
 
 pub none_nearer : (tracked : List ℕ) (places : List Place) (i : ℕ) (d : Place) (pids : PidSet) → 0 < i →
-    i ≤ length places → 8192 ≤ (get_or places (i - 1) d).pid → AreNear tracked (drop i places) pids →
-    AreNear tracked (drop (i - 1) places) pids
+    i ≤ length places → 8192 ≤ (get_or places (i - 1) d).pid → AreNearPids tracked (drop i places) pids →
+    AreNearPids tracked (drop (i - 1) places) pids
 none_nearer tracked places i d pids some within far before =
     let next : i ≡ i - 1 + 1 = omega (arith, some) in
     rw (drop_more places (i - 1) d (omega (arith, some, within)))
     (near_still tracked (get_or places (i - 1) d) (drop (i - 1 + 1) places) pids far
-    (subst (λ (j : ℕ). AreNear tracked (drop j places) pids) next before))
+    (subst (λ (j : ℕ). AreNearPids tracked (drop j places) pids) next before))

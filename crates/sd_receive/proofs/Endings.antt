@@ -10,35 +10,35 @@ use Rattle.sd_site_cards.specs.CardFields.{CardFields}
 use Rattle.sd_spec.specs.declared.ending.Ending.{Ending}
 use Rattle.sd_spec.specs.declared.ending.Ending.TheVariants.{Opened, Revoked, Unheard, NoCat, Unclosed, Gaps}
 use Rattle.sd_spec.specs.Tuned.{tuning_of}
-use Rattle.sd_spec.specs.Stretches.{newest, is_closed}
+use Rattle.sd_spec.specs.Stretches.{newest_message, is_closed}
 use Rattle.sd_spec.specs.Heard.{Heard}
 use Rattle.sd_spec.specs.Offered.{heard}
-use Rattle.sd_spec.specs.Ending.{periods_told, is_unkeyed, ending_with, run_ending, joined, run_wrote}
+use Rattle.sd_spec.specs.Ending.{periods_told, is_unkeyed, ending_with, run_ending, endings_joined, run_wrote}
 use Rattle.sd_spec.specs.Ending.{ended_before, ending_of}
 use Rattle.sd_receive.specs.EcmAssembler.{IsMessageKept}
 use Rattle.sd_receive.specs.PeriodKeys.{is_told_revoked}
 use Rattle.sd_receive.specs.Session.{IsListenerAfter}
-use Rattle.sd_receive.specs.Receiving.{card_in, IsAfter}
+use Rattle.sd_receive.specs.Receiving.{receiver_card, HasReceived}
 use Rattle.sd_receive.specs.declared.session.Session.{Session}
 use Rattle.sd_receive.specs.declared.receiver.Receiver.{Receiver}
 
-tuned_or_not : (r : Receiver) (past : List (List ℕ)) → IsAfter past r →
+tuned_or_not : (r : Receiver) (past : List (List ℕ)) → HasReceived past r →
     is_none (tuning_of r.card.ca past) ≡ is_none r.tuning
 tuned_or_not r past after = ap is_none (sym after.tuning)
 
-pub no_cat : (r : Receiver) (past : List (List ℕ)) → IsAfter past r → is_none r.tuning ≡ true →
-    NoCat ≡ ending_of (card_in r) past
+pub no_cat : (r : Receiver) (past : List (List ℕ)) → HasReceived past r → is_none r.tuning ≡ true →
+    NoCat ≡ ending_of (receiver_card r) past
 unfolding ending_of
 no_cat r past after none = rw (tuned_or_not r past after ∙ none) refl
 
 -- the endings of the runs together
-pub all_runs : (r : Receiver) (past : List (List ℕ)) (last : Ending) → IsAfter past r → is_none r.tuning ≡ false →
-    last ≡ run_ending (card_in r) (heard (card_in r) past) (run_wrote (card_in r) past) →
-    joined r.ended.so_far last ≡ ending_of (card_in r) past
+pub all_runs : (r : Receiver) (past : List (List ℕ)) (last : Ending) → HasReceived past r → is_none r.tuning ≡ false →
+    last ≡ run_ending (receiver_card r) (heard (receiver_card r) past) (run_wrote (receiver_card r) past) →
+    endings_joined r.ended.so_far last ≡ ending_of (receiver_card r) past
 unfolding ending_of
 all_runs r past last after some is =
-    rw (tuned_or_not r past after ∙ some) (ap (λ (e : Ending). joined e last) after.so_far
-    ∙ ap (joined (ended_before (card_in r) past)) is)
+    rw (tuned_or_not r past after ∙ some) (ap (λ (e : Ending). endings_joined e last) after.so_far
+    ∙ ap (endings_joined (ended_before (receiver_card r) past)) is)
 
 -- what is told of the newest message is told by what is kept of it
 number_kept : (message : Option Message) (last : Option EcmHead) (places : List Place) →
@@ -63,7 +63,7 @@ pub unclosed : (card : CardFields) (past : List Heard) (total : ℕ) (l : Sessio
 unfolding run_ending
 unclosed card past total l follows open_yet =
     let there : is_closed past ≡ false = sym follows.closed ∙ open_yet in
-    rw there (ap Unclosed (sym (number_kept (newest past).message l.assembler.last l.assembler.places.items
+    rw there (ap Unclosed (sym (number_kept (newest_message past).message l.assembler.last l.assembler.places.items
     follows.assembler.last)))
 
 -- the ending of a run that was closed
@@ -77,7 +77,7 @@ closed card past total l follows yes_closed =
     let there : is_closed past ≡ true = sym follows.closed ∙ yes_closed in
     rw there (ap (λ (n : ℕ). ending_with (find (is_told_revoked card past) (periods_told past))
     (find (is_unkeyed card past) (periods_told past)) (n - total))
-    (sym (clear_kept (newest past).message l.assembler.last l.assembler.places.items follows.assembler.last)))
+    (sym (clear_kept (newest_message past).message l.assembler.last l.assembler.places.items follows.assembler.last)))
 
 pub revoked_ending : (first second : Option ℕ) (gaps q : ℕ) → first ≡ Some q → Revoked q ≡ ending_with first second gaps
 revoked_ending first second gaps q is = rw is refl

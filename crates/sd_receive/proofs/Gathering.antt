@@ -10,15 +10,15 @@ use Rattle.std.proofs.lemmas.List.Folds.{list_any_none, list_any_at}
 use Rattle.std.proofs.lemmas.Bool.{cases_lt, false≢true, lt-leb, le-leb, le-ltb, lt-ltb, or_parts, not-false}
 use Rattle.std.proofs.lemmas.Bool.{false_from_ne_true, eq-eqb, ne_eqb}
 use Rattle.sd_message.specs.EcmSpelled.{listed_places}
-use Rattle.sd_message.specs.EcmForm.{IsPositioned, AreAscending, IsEcm, ArePlaces}
+use Rattle.sd_message.specs.EcmForm.{IsPositioned, ArePidsAscending, IsEcm, ArePlaces}
 use Rattle.sd_message.specs.EcmParts.{SaySame}
 use Rattle.sd_message.specs.declared.ecm_part.Place.{Place}
 use Rattle.sd_message.specs.declared.ecm_part.EcmPart.{EcmPart}
 use Rattle.sd_message.specs.declared.ecm_fault.EcmFault.TheVariants.{Count, Order, Mixed}
 use Rattle.sd_message.proofs.Versions.{few_positions, some_positions}
-use Rattle.sd_spec.specs.Stretches.{run_with}
+use Rattle.sd_spec.specs.Stretches.{message_parts_with}
 use Rattle.sd_spec.specs.Offered.{same_header, is_after, part_fault}
-use Rattle.sd_receive.specs.PartialEcm.{places_of, newest_of, next_run, IsPart, IsNext, AreAlike, IsRun}
+use Rattle.sd_receive.specs.PartialEcm.{part_positions, newest_ecm_part, next_run, IsPart, IsNextPart, AreOfOneMessage, IsPartialEcm}
 use Rattle.sd_receive.specs.PartialEcm.{IsGathered}
 use Rattle.sd_receive.proofs.Pairs.{pairs_append, after_all}
 use Rattle.sd_receive.proofs.Alike.{headers_told, all_same}
@@ -34,7 +34,7 @@ no_places = record {
 
 -- no part
 pub none_gathered : IsGathered [] None []
-unfolding places_of
+unfolding part_positions
 none_gathered = record {
   part = refl;
   places = refl;
@@ -42,16 +42,16 @@ none_gathered = record {
 }
 
 -- the positions of one part more stand after those of the others
-pub one_more : (part : EcmPart) (run : List EcmPart) → places_of (part ∷ run) ≡ places_of run ++ listed_places part
-unfolding places_of
+pub one_more : (part : EcmPart) (run : List EcmPart) → part_positions (part ∷ run) ≡ part_positions run ++ listed_places part
+unfolding part_positions
 one_more part run =
     ap (flat_map listed_places) (reverse-append (part ∷ []) run)
     ∙ (flat_map-append listed_places (reverse run) (part ∷ [])
     ∙ ap (λ (l : List Place). flat_map listed_places (reverse run) ++ l) (append-nil (listed_places part)))
 
 -- they are as many, in whatever order the parts stand
-pub as_many : (run : List EcmPart) → length (flat_map listed_places run) ≡ length (places_of run)
-unfolding places_of
+pub as_many : (run : List EcmPart) → length (flat_map listed_places run) ≡ length (part_positions run)
+unfolding part_positions
 as_many [] = refl
 as_many (part ∷ run) =
     let rest = as_many run in
@@ -61,7 +61,7 @@ as_many (part ∷ run) =
       rest,
       more,
       length-append (listed_places part) (flat_map listed_places run),
-      length-append (places_of run) (listed_places part),
+      length-append (part_positions run) (listed_places part),
     )
 
 -- a part has no more positions than a part may have
@@ -106,24 +106,24 @@ in_order before part after i j d within below =
     ]
 
 -- the positions of a run with one part more
-pub placed_more : (part : EcmPart) (run : List EcmPart) → IsRun run → IsPart part →
-    length (places_of run) + length (listed_places part) ≤ 256 →
-    ((i j : ℕ) (d : Place) → i < length (places_of run) → j < length (listed_places part) →
-    (get_or (places_of run) i d).pid < (get_or (listed_places part) j d).pid) → ArePlaces (places_of (part ∷ run))
+pub placed_more : (part : EcmPart) (run : List EcmPart) → IsPartialEcm run → IsPart part →
+    length (part_positions run) + length (listed_places part) ≤ 256 →
+    ((i j : ℕ) (d : Place) → i < length (part_positions run) → j < length (listed_places part) →
+    (get_or (part_positions run) i d).pid < (get_or (listed_places part) j d).pid) → ArePlaces (part_positions (part ∷ run))
 placed_more part run good is few cross =
     subst ArePlaces (sym (one_more part run)) (record {
-      few = omega (arith, few, length-append (places_of run) (listed_places part));
-      positioned = All-append IsPositioned (places_of run) (listed_places part) good.places.positioned is.form.places;
+      few = omega (arith, few, length-append (part_positions run) (listed_places part));
+      positioned = All-append IsPositioned (part_positions run) (listed_places part) good.places.positioned is.form.places;
       ascending = pairs_append (λ (a b : Place).
-          a.pid < b.pid) (places_of run) (listed_places part) good.places.ascending is.form.ascending cross;
+          a.pid < b.pid) (part_positions run) (listed_places part) good.places.ascending is.form.ascending cross;
       short = All-append (λ (place : Place).
-          place.position < 2 ^ 48) (places_of run) (listed_places part) good.places.short is.form.positions;
+          place.position < 2 ^ 48) (part_positions run) (listed_places part) good.places.short is.form.positions;
     })
 
 -- no list is below none
-none_below : (part : EcmPart) (i j : ℕ) (d : Place) → i < length (places_of []) → j < length (listed_places part) →
-    (get_or (places_of []) i d).pid < (get_or (listed_places part) j d).pid
-unfolding places_of
+none_below : (part : EcmPart) (i j : ℕ) (d : Place) → i < length (part_positions []) → j < length (listed_places part) →
+    (get_or (part_positions []) i d).pid < (get_or (listed_places part) j d).pid
+unfolding part_positions
 none_below part i j d within below = absurd (omega arith)
 
 -- nothing is wrong where no test tells a fault
@@ -150,7 +150,7 @@ told_good part before run none =
     (not-false (same_header before part) first.0, not-false (is_after part (before ∷ run)) tests.1.0)
 
 -- the tests of a part that goes on with a run
-pub mixed : (part before : EcmPart) (run : List EcmPart) → newest_of run ≡ Some before →
+pub mixed : (part before : EcmPart) (run : List EcmPart) → newest_ecm_part run ≡ Some before →
     same_header before part ≡ false →
     part_fault (part ∷ run) ≡ Some Mixed
 unfolding part_fault
@@ -166,7 +166,7 @@ alike_not_mixed part run same =
     (λ k d within. ap not ((headers_told (get_or run k d) part).1 (same k d within)))
 
 -- none before says otherwise where the newest doesn't
-pub not_mixed : (part before : EcmPart) (run : List EcmPart) → newest_of run ≡ Some before → AreAlike run →
+pub not_mixed : (part before : EcmPart) (run : List EcmPart) → newest_ecm_part run ≡ Some before → AreOfOneMessage run →
     SaySame before part → is_mixed_with part run ≡ false
 not_mixed part before [] is alike same = refl
 not_mixed part before (newest ∷ run) is alike same =
@@ -178,7 +178,7 @@ not_mixed part before (newest ∷ run) is alike same =
     (λ (other : EcmPart). SaySame other part)
     (λ other h. all_same other newest part h first) run alike))
 
-pub after_newest : (part before : EcmPart) (run : List EcmPart) → newest_of run ≡ Some before →
+pub after_newest : (part before : EcmPart) (run : List EcmPart) → newest_ecm_part run ≡ Some before →
     is_after part run ≡ is_after part (before ∷ [])
 after_newest part before [] is = absurd cc
 after_newest part before (newest ∷ run) is = let e : newest ≡ before = cc in rw e refl
@@ -189,7 +189,7 @@ unfolding part_fault
 out_of_order part run same out = rw (same, out) refl
 
 pub too_many : (part : EcmPart) (run : List EcmPart) → is_mixed_with part run ≡ false → is_after part run ≡ true →
-    256 < length (places_of run) + length (listed_places part) → part_fault (part ∷ run) ≡ Some Count
+    256 < length (part_positions run) + length (listed_places part) → part_fault (part ∷ run) ≡ Some Count
 unfolding part_fault
 too_many part run same after more =
     let many : nat_lt 256 (length (flat_map listed_places (part ∷ run))) ≡ true =
@@ -198,7 +198,7 @@ too_many part run same after more =
     rw (same, after, many) refl
 
 pub none_wrong : (part : EcmPart) (run : List EcmPart) → is_mixed_with part run ≡ false → is_after part run ≡ true →
-    length (places_of run) + length (listed_places part) ≤ 256 → part_fault (part ∷ run) ≡ None
+    length (part_positions run) + length (listed_places part) ≤ 256 → part_fault (part ∷ run) ≡ None
 unfolding part_fault
 none_wrong part run same after few =
     let not_many : nat_lt 256 (length (flat_map listed_places (part ∷ run))) ≡ false =
@@ -207,7 +207,7 @@ none_wrong part run same after few =
     rw (same, after, not_many) refl
 
 -- of ascending places none is above the last, and none below the first
-below_last : (all : List Place) → AreAscending all → (k : ℕ) (d : Place) → k < length all →
+below_last : (all : List Place) → ArePidsAscending all → (k : ℕ) (d : Place) → k < length all →
     (get_or all k d).pid ≤ (get_or all (length all - 1) d).pid
 below_last all up k d within =
     elim (cases_lt k (length all - 1)) [
@@ -215,7 +215,7 @@ below_last all up k d within =
       | inr h ↦ let e : k ≡ length all - 1 = omega arith in rw e (omega arith)
     ]
 
-above_first : (all : List Place) → AreAscending all → (k : ℕ) (d : Place) → k < length all →
+above_first : (all : List Place) → ArePidsAscending all → (k : ℕ) (d : Place) → k < length all →
     (get_or all 0 d).pid ≤ (get_or all k d).pid
 above_first all up zero d within = omega arith
 above_first all up (suc k) d within = let r = up 0 (suc k) d (omega arith) within in omega (arith, r)
@@ -290,8 +290,8 @@ none_in before part run none =
     (nil_from_length (listed_places part) none)
 
 -- one good part more goes on with a good run
-pub grows : (part : EcmPart) (run : List EcmPart) → IsRun run → IsPart part → IsNext run part →
-    length (places_of run) + length (listed_places part) ≤ 256 → part_fault (part ∷ run) ≡ None → IsRun (part ∷ run)
+pub grows : (part : EcmPart) (run : List EcmPart) → IsPartialEcm run → IsPart part → IsNextPart run part →
+    length (part_positions run) + length (listed_places part) ≤ 256 → part_fault (part ∷ run) ≡ None → IsPartialEcm (part ∷ run)
 grows part [] good is next few none = record {
   form = All-cons IsPart part [] is (All-nil IsPart);
   alike = All-nil (λ (other : EcmPart). SaySame other part);
@@ -309,19 +309,19 @@ grows part (before ∷ run) good is next few none =
       places = placed_more part (before ∷ run) good is few (
           λ i j d within below. subst (λ (all : List Place).
           (get_or all i d).pid < (get_or (listed_places part) j d).pid) (sym (one_more before run))
-          (after_all (places_of run) (listed_places before) (listed_places part)
-          (subst AreAscending (one_more before run) good.places.ascending) some (in_order before part told.1) i j d
+          (after_all (part_positions run) (listed_places before) (listed_places part)
+          (subst ArePidsAscending (one_more before run) good.places.ascending) some (in_order before part told.1) i j d
           (subst (λ (all : List Place). i < length all) (one_more before run) within) below));
     }
 
 -- the newest part is one of them, or there is none
-pub newest_is_part : (run : List EcmPart) (before : EcmPart) → newest_of run ≡ Some before → All IsPart run →
+pub newest_is_part : (run : List EcmPart) (before : EcmPart) → newest_ecm_part run ≡ Some before → All IsPart run →
     IsPart before
 newest_is_part [] before is all = absurd cc
 newest_is_part (newest ∷ run) before is all = let e : newest ≡ before =
     cc in subst IsPart e (All-head IsPart newest run all)
 
-pub none_newest : (run : List EcmPart) → newest_of run ≡ None → run ≡ []
+pub none_newest : (run : List EcmPart) → newest_ecm_part run ≡ None → run ≡ []
 none_newest [] none = refl
 none_newest (newest ∷ run) none = absurd cc
 
@@ -364,7 +364,7 @@ is_unordered_part part before run all gathered same out =
 -- what is kept of a run with one good part more
 pub gathers_more : (part : EcmPart) (run : List EcmPart) (kept : Option EcmPart) (all more : List Place) →
     IsGathered run kept all →
-    IsPart part → IsNext run part → more ≡ all ++ listed_places part → length all + length (listed_places part) ≤ 256 →
+    IsPart part → IsNextPart run part → more ≡ all ++ listed_places part → length all + length (listed_places part) ≤ 256 →
     part_fault (part ∷ run) ≡ None → IsGathered (part ∷ run) (Some part) more
 gathers_more part run kept all more gathered is next joined few none =
     let same = ap (λ (l : List Place). length l) gathered.places in
@@ -400,13 +400,13 @@ begins part run first = rw (eq-eqb part.part 0 first) refl
 pub begun : (part : EcmPart) (run : List EcmPart) (kept : Option EcmPart) (all : List Place) → part.part ≡ 0 →
     IsEcm part → (part_fault (part ∷ []) ≡ None → IsGathered (part ∷ []) kept all) →
     (part_fault (next_run run part) ≡ None) × IsGathered (next_run run part) kept all
-unfolding places_of
+unfolding part_positions
 begun part run kept all first form gathered =
     let good = none_wrong part [] refl refl (omega (arith, few_listed part form)) in
     subst (λ (more : List EcmPart). (part_fault more ≡ None) × IsGathered more kept all)
     (sym (begins part run first)) (good, gathered good)
 
-pub goes_on : (part : EcmPart) (run more : List EcmPart) → (part.part ≡ 0 → ⊥) → run_with part run ≡ more →
+pub goes_on : (part : EcmPart) (run more : List EcmPart) → (part.part ≡ 0 → ⊥) → message_parts_with part run ≡ more →
     next_run run part ≡ more
 unfolding next_run
 goes_on part run more later is = rw (ne_eqb part.part 0 later) is

@@ -14,7 +14,7 @@ use Rattle.sd_spec.specs.Confirmed.{position_or_first, position_in}
 use Rattle.sd_spec.specs.Offered.{most_held}
 use Rattle.sd_message.specs.declared.ecm_part.Place.{Place}
 use Rattle.sd_message.specs.EcmVersions.{most_places}
-use Rattle.sd_receive.specs.Tracking.{packets_in, led_to, HasFirstPositions, IsTracked, IsKept}
+use Rattle.sd_receive.specs.Tracking.{packets_in, led_to, HasFirstPositions, IsTracked, AreTracksKept}
 use Rattle.sd_receive.specs.declared.buffer.tracked.TrackedPackets.{TrackedPackets}
 use Rattle.sd_receive.specs.declared.buffer.tracked.HeldPacket.{HeldPacket}
 use Rattle.sd_receive.proofs.Tables.{none_started, tracked_more, own_more, led_within}
@@ -28,7 +28,7 @@ all_first = record {
 
 -- nothing is held
 pub kept_none : (u : TrackedPackets) → u.places.items ≡ [] → u.held.items ≡ [] → most_held ≤ vec_capacity u.held →
-    most_places ≤ vec_capacity u.places → HasFirstPositions u.table.items → IsKept u
+    most_places ≤ vec_capacity u.places → HasFirstPositions u.table.items → AreTracksKept u
 kept_none u places held room space clear = record {
   few = omega (arith, ap (λ (hs : List HeldPacket). length hs) held);
   room = room;
@@ -40,7 +40,7 @@ kept_none u places held room space clear = record {
 }
 
 -- where nothing is held and no place is kept the table is one of first positions
-pub clear_again : (t : TrackedPackets) → IsKept t → t.places.items ≡ [] → t.held.items ≡ [] → HasFirstPositions
+pub clear_again : (t : TrackedPackets) → AreTracksKept t → t.places.items ≡ [] → t.held.items ≡ [] → HasFirstPositions
     t.table.items
 unfolding led_to position_in moved_by
 clear_again t is places held =
@@ -52,7 +52,7 @@ pub pid_within : (packet : List ℕ) → pid_of packet < 8192
 pid_within packet = field_below packet 11 13
 
 -- the position of a packet's PID is far from its greatest
-pub position_within : (t : TrackedPackets) (packet : List ℕ) → IsKept t → get_or t.table.items (pid_of packet) 0 < 2 ^
+pub position_within : (t : TrackedPackets) (packet : List ℕ) → AreTracksKept t → get_or t.table.items (pid_of packet) 0 < 2 ^
     63
 position_within t packet is =
     let count = length-map t.held.items (λ (h : HeldPacket). h.packet) in
@@ -63,12 +63,12 @@ position_within t packet is =
     )
 
 -- one packet more is held
-pub kept_more : (t : TrackedPackets) (held : Vec HeldPacket) (table : Vec ℕ) (one : HeldPacket) → IsKept t →
+pub kept_more : (t : TrackedPackets) (held : Vec HeldPacket) (table : Vec ℕ) (one : HeldPacket) → AreTracksKept t →
     length t.held.items < most_held →
     held.items ≡ t.held.items ++ one ∷ [] → most_held ≤ vec_capacity held →
     one.position ≡ moved (pid_of one.packet) (get_or t.table.items (pid_of one.packet) 0) one.packet →
     table.items ≡ set t.table.items (pid_of one.packet) one.position →
-    IsKept (record { places = t.places; held = held; table = table })
+    AreTracksKept (record { places = t.places; held = held; table = table })
 unfolding led_to
 kept_more t held table one is few same room position written =
     let pid = pid_of one.packet in

@@ -10,31 +10,31 @@ use Rattle.sd_packet.specs.Header.{pid_of}
 use Rattle.sd_engine.specs.Stage.{SinkState, TookBytes}
 use Rattle.sd_engine.proofs.Chains.{took_none, took_more}
 use Rattle.sd_message.specs.EcmParts.{Message}
-use Rattle.sd_spec.specs.Confirmed.{Segment, Wrote, then_wrote, judged, written_from, tracked, is_confirmed}
+use Rattle.sd_spec.specs.Confirmed.{Segment, WrittenPackets, then_segment_output, judged_packet, written_from, tracked, is_confirmed}
 use Rattle.sd_spec.specs.Confirmed.{unmarked}
 use Rattle.sd_receive.specs.declared.buffer.BufferFault.TheVariants as Fault
 use Rattle.sd_receive.specs.declared.buffer.release.Release.{Release}
 use Rattle.sd_receive.specs.declared.buffer.tracked.HeldPacket.{HeldPacket}
 use Rattle.sd_receive.specs.PacketBuffer.{held_pair, after_message}
-use Rattle.sd_receive.specs.Tracking.{packets_in, HaveOwn, IsKept}
+use Rattle.sd_receive.specs.Tracking.{packets_in, HavePositionsLedTo, AreTracksKept}
 use Rattle.sd_receive.specs.Writing.{HasStopped, WriteOutcome, holding_in, segment_in, segment_of, bare}
 use Rattle.sd_receive.specs.Writing.{first_wrote}
-use Rattle.sd_receive.specs.Writing.{IsWritten, IsOwn}
+use Rattle.sd_receive.specs.Writing.{ArePacketsWritten, HasPositionLedTo}
 use Rattle.sd_receive.proofs.Sinks.{cut_after}
 use Rattle.sd_receive.proofs.Tables.{led_further}
 use Rattle.sd_receive.proofs.HoldKeeping.{pid_within}
 use Rattle.sd_receive.proofs.HoldJudging.{packets_are}
 
 -- what was written, and then more
-joined : Wrote → Wrote → Wrote
+joined : WrittenPackets → WrittenPackets → WrittenPackets
 joined a b = record { packets = a.packets ++ b.packets; refused = b.refused }
 
-then_calm : (r : Result (List (List ℕ)) ℕ) (a : Wrote) → (then_wrote r a).refused ≡ None → a.refused ≡ None
+then_calm : (r : Result (List (List ℕ)) ℕ) (a : WrittenPackets) → (then_segment_output r a).refused ≡ None → a.refused ≡ None
 then_calm (Err n) a calm = absurd (cc calm)
 then_calm (Ok ps) a calm = calm
 
-then_joined : (r : Result (List (List ℕ)) ℕ) (a b : Wrote) → (then_wrote r a).refused ≡ None →
-    then_wrote r (joined a b) ≡ joined (then_wrote r a) b
+then_joined : (r : Result (List (List ℕ)) ℕ) (a b : WrittenPackets) → (then_segment_output r a).refused ≡ None →
+    then_segment_output r (joined a b) ≡ joined (then_segment_output r a) b
 unfolding joined
 then_joined (Err n) a b calm = absurd (cc calm)
 then_joined (Ok ps) a b calm = ap (λ (xs : List (List ℕ)). record { packets = xs; refused = b.refused })
@@ -52,10 +52,10 @@ in_turn s before (x ∷ xs) ys calm =
     let there : (before ++ x.1 ∷ []) ++ map (λ (e : ℕ × List ℕ). e.1) xs ≡ before ++
     (x.1 ∷ map (λ (e : ℕ × List ℕ). e.1) xs) =
     append_assoc before (x.1 ∷ []) (map (λ (e : ℕ × List ℕ). e.1) xs) in
-    ap (λ (w : Wrote). then_wrote (judged s before x) w)
-    (in_turn s (before ++ x.1 ∷ []) xs ys (then_calm (judged s before x) rest calm)
+    ap (λ (w : WrittenPackets). then_segment_output (judged_packet s before x) w)
+    (in_turn s (before ++ x.1 ∷ []) xs ys (then_calm (judged_packet s before x) rest calm)
     ∙ ap (λ (b : List (List ℕ)). joined rest (written_from s b ys)) there)
-    ∙ then_joined (judged s before x) rest (written_from s (before ++ (x.1 ∷ map (λ (e : ℕ × List ℕ). e.1) xs)) ys) calm
+    ∙ then_joined (judged_packet s before x) rest (written_from s (before ++ (x.1 ∷ map (λ (e : ℕ × List ℕ). e.1) xs)) ys) calm
 
 -- the packets before one
 pub before_in : Release → ℕ → List (List ℕ)
@@ -85,7 +85,7 @@ entry_found c k d within = mapped_at c.tracks.now.held.items k d within
 first_more : (c : Release) (k : ℕ) (d : HeldPacket) → k < length c.tracks.now.held.items →
     (first_wrote c k).refused ≡ None →
     first_wrote c (k + 1) ≡ joined (first_wrote c k)
-    (then_wrote (judged (segment_in c) (before_in c k) (held_pair (get_or c.tracks.now.held.items k d)))
+    (then_segment_output (judged_packet (segment_in c) (before_in c k) (held_pair (get_or c.tracks.now.held.items k d)))
     (record { packets = []; refused = None }))
 unfolding first_wrote written_from before_in
 first_more c k d within calm =
@@ -101,53 +101,53 @@ all_first c k calm =
     ap (λ (es : List (ℕ × List ℕ)). written_from (segment_in c) [] es) (sym (take-append-drop k (holding_in c).held))
     ∙ in_turn (segment_in c) [] (take k (holding_in c).held) (drop k (holding_in c).held) calm
 
-pub written_none : (c : Release) (u : SinkState) → IsWritten c 0 u u 0
+pub written_none : (c : Release) (u : SinkState) → ArePacketsWritten c 0 u u 0
 unfolding first_wrote written_from
 written_none c u = record { calm = refl; counted = refl; took = took_none u }
 
 step_by : (c : Release) (k : ℕ) (ps : List (List ℕ)) (d : HeldPacket) → k < length c.tracks.now.held.items →
     (first_wrote c k).refused ≡ None →
-    judged (segment_in c) (before_in c k) (held_pair (get_or c.tracks.now.held.items k d)) ≡ Ok ps →
+    judged_packet (segment_in c) (before_in c k) (held_pair (get_or c.tracks.now.held.items k d)) ≡ Ok ps →
     first_wrote c (k + 1) ≡ record { packets = (first_wrote c k).packets ++ ps; refused = None }
 unfolding joined
 step_by c k ps d within calm is =
     first_more c k d within calm
     ∙ (ap (λ (r : Result (List (List ℕ)) ℕ). joined (first_wrote c k)
-    (then_wrote r (record { packets = []; refused = None }))) is
+    (then_segment_output r (record { packets = []; refused = None }))) is
     ∙ ap (λ (xs : List (List ℕ)). record { packets = (first_wrote c k).packets ++ xs; refused = None }) (append-nil ps))
 
 -- a packet of which nothing is written
 pub written_still : (c : Release) (k : ℕ) (d : HeldPacket) (u v : SinkState) (n : ℕ) → k < length
     c.tracks.now.held.items →
-    IsWritten c k u v n →
-    judged (segment_in c) (before_in c k) (held_pair (get_or c.tracks.now.held.items k d)) ≡ Ok [] →
-    IsWritten c (k + 1) u v n
+    ArePacketsWritten c k u v n →
+    judged_packet (segment_in c) (before_in c k) (held_pair (get_or c.tracks.now.held.items k d)) ≡ Ok [] →
+    ArePacketsWritten c (k + 1) u v n
 written_still c k d u v n within is far =
     let next : first_wrote c (k + 1) ≡ record { packets = (first_wrote c k).packets; refused = None } =
     step_by c k [] d within is.calm far ∙ ap (λ (xs : List (List ℕ)). record { packets = xs; refused = None })
     (append-nil (first_wrote c k).packets) in
     record {
-      calm = ap (λ (w : Wrote). w.refused) next;
-      counted = is.counted ∙ sym (ap (λ (w : Wrote). length w.packets) next);
+      calm = ap (λ (w : WrittenPackets). w.refused) next;
+      counted = is.counted ∙ sym (ap (λ (w : WrittenPackets). length w.packets) next);
       took = rw next is.took;
     }
 
 -- a packet that is written
 pub written_more : (c : Release) (k : ℕ) (d : HeldPacket) (p : List ℕ) (u v w : SinkState) (n : ℕ) →
-    k < length c.tracks.now.held.items → IsWritten c k u v n →
-    judged (segment_in c) (before_in c k) (held_pair (get_or c.tracks.now.held.items k d)) ≡ Ok (p ∷ []) →
+    k < length c.tracks.now.held.items → ArePacketsWritten c k u v n →
+    judged_packet (segment_in c) (before_in c k) (held_pair (get_or c.tracks.now.held.items k d)) ≡ Ok (p ∷ []) →
     TookBytes v w p →
-    IsWritten c (k + 1) u w (n + 1)
+    ArePacketsWritten c (k + 1) u w (n + 1)
 written_more c k d p u v w n within is close took =
     let next = step_by c k (p ∷ []) d within is.calm close in
     let more : concat ((first_wrote c k).packets ++ p ∷ []) ≡ concat (first_wrote c k).packets ++ p =
     concat_one (first_wrote c k).packets p in
     record {
-      calm = ap (λ (w : Wrote). w.refused) next;
+      calm = ap (λ (w : WrittenPackets). w.refused) next;
       counted = omega (
         arith,
         is.counted,
-        ap (λ (w : Wrote). length w.packets) next,
+        ap (λ (w : WrittenPackets). length w.packets) next,
         length-append (first_wrote c k).packets (p ∷ []),
       );
       took = rw next (rw more (took_more u v w (concat (first_wrote c k).packets) p is.took took));
@@ -156,8 +156,8 @@ written_more c k d p u v w n within is close took =
 -- all, where the next comes to this
 all_by : (c : Release) (k : ℕ) (r : Result (List (List ℕ)) ℕ) (d : HeldPacket) → k < length c.tracks.now.held.items →
     (first_wrote c k).refused ≡ None →
-    judged (segment_in c) (before_in c k) (held_pair (get_or c.tracks.now.held.items k d)) ≡ r →
-    (rest : Wrote) × (written_from (segment_in c) [] (holding_in c).held ≡ joined (first_wrote c k) (then_wrote r rest))
+    judged_packet (segment_in c) (before_in c k) (held_pair (get_or c.tracks.now.held.items k d)) ≡ r →
+    (rest : WrittenPackets) × (written_from (segment_in c) [] (holding_in c).held ≡ joined (first_wrote c k) (then_segment_output r rest))
 unfolding written_from
 all_by c k r d within calm is =
     let held = c.tracks.now.held.items in
@@ -171,13 +171,13 @@ all_by c k r d within calm is =
       all_first c k calm
           ∙ (ap (λ (es : List (ℕ × List ℕ)). joined (first_wrote c k) (written_from (segment_in c) (before_in c k) es))
           left
-          ∙ ap (λ (q : Result (List (List ℕ)) ℕ). joined (first_wrote c k) (then_wrote q rest)) is),
+          ∙ ap (λ (q : Result (List (List ℕ)) ℕ). joined (first_wrote c k) (then_segment_output q rest)) is),
     )
 
 -- a packet that is refused ends all
 pub written_refused : (c : Release) (k m : ℕ) (d : HeldPacket) (u v : SinkState) (n : ℕ) →
-    k < length c.tracks.now.held.items → IsWritten c k u v n →
-    judged (segment_in c) (before_in c k) (held_pair (get_or c.tracks.now.held.items k d)) ≡ Err m →
+    k < length c.tracks.now.held.items → ArePacketsWritten c k u v n →
+    judged_packet (segment_in c) (before_in c k) (held_pair (get_or c.tracks.now.held.items k d)) ≡ Err m →
     WriteOutcome (written_from (segment_in c) [] (holding_in c).held) u v (Err (Fault.Parity m))
 unfolding joined
 written_refused c k m d u v n within is foreign =
@@ -193,8 +193,8 @@ written_refused c k m d u v n within is foreign =
 
 -- and so does a write that fails
 pub written_short : (c : Release) (k : ℕ) (d : HeldPacket) (p : List ℕ) (u v w : SinkState) (n : ℕ) →
-    k < length c.tracks.now.held.items → IsWritten c k u v n →
-    judged (segment_in c) (before_in c k) (held_pair (get_or c.tracks.now.held.items k d)) ≡ Ok (p ∷ []) →
+    k < length c.tracks.now.held.items → ArePacketsWritten c k u v n →
+    judged_packet (segment_in c) (before_in c k) (held_pair (get_or c.tracks.now.held.items k d)) ≡ Ok (p ∷ []) →
     HasStopped v w p →
     WriteOutcome (written_from (segment_in c) [] (holding_in c).held) u w (Err Fault.Write)
 unfolding joined
@@ -207,7 +207,7 @@ written_short c k d p u v w n within is close stopped =
 
 -- at the end all is written
 pub written_all : (c : Release) (k : ℕ) (u v : SinkState) (n : ℕ) → length c.tracks.now.held.items ≤ k →
-    IsWritten c k u v n →
+    ArePacketsWritten c k u v n →
     WriteOutcome (written_from (segment_in c) [] (holding_in c).held) u v (Ok n)
 unfolding first_wrote
 written_all c k u v n end is =
@@ -222,8 +222,8 @@ written_all c k u v n end is =
 
 -- a held packet has the position to which it led its PID after those before it
 pub own_at : (c : Release) (k : ℕ) (d : HeldPacket) → k < length c.tracks.now.held.items →
-    HaveOwn c.tracks.now.places.items c.tracks.now.held.items →
-    IsOwn c (before_in c k) (get_or c.tracks.now.held.items k d)
+    HavePositionsLedTo c.tracks.now.places.items c.tracks.now.held.items →
+    HasPositionLedTo c (before_in c k) (get_or c.tracks.now.held.items k d)
 unfolding before_in
 own_at c k d within own =
     let held = c.tracks.now.held.items in
@@ -239,12 +239,12 @@ own_at c k d within own =
 
 -- so a packet at this place has
 pub own_here : (c : Release) (k : ℕ) (h : HeldPacket) → k < length c.tracks.now.held.items →
-    HaveOwn c.tracks.now.places.items c.tracks.now.held.items →
-    h ≡ get_or c.tracks.now.held.items k h → IsOwn c (before_in c k) h
-own_here c k h within own is = subst (λ (x : HeldPacket). IsOwn c (before_in c k) x) (sym is) (own_at c k h within own)
+    HavePositionsLedTo c.tracks.now.places.items c.tracks.now.held.items →
+    h ≡ get_or c.tracks.now.held.items k h → HasPositionLedTo c (before_in c k) h
+own_here c k h within own is = subst (λ (x : HeldPacket). HasPositionLedTo c (before_in c k) x) (sym is) (own_at c k h within own)
 
 -- which is no further than all packets lead
-pub own_within : (c : Release) (k : ℕ) (h : HeldPacket) → k < length c.tracks.now.held.items → IsKept c.tracks.now →
+pub own_within : (c : Release) (k : ℕ) (h : HeldPacket) → k < length c.tracks.now.held.items → AreTracksKept c.tracks.now →
     h ≡ get_or c.tracks.now.held.items k h → h.position ≤ get_or c.tracks.now.table.items (pid_of h.packet) 0
 own_within c k h within kept is =
     let x = get_or c.tracks.now.held.items k h in
@@ -260,13 +260,13 @@ own_within c k h within kept is =
 -- what a packet at this place comes to
 pub at_place : (c : Release) (k : ℕ) (h : HeldPacket) (r : Result (List (List ℕ)) ℕ) →
     h ≡ get_or c.tracks.now.held.items k h →
-    judged (segment_in c) (before_in c k) (h.number, h.packet) ≡ r →
-    judged (segment_in c) (before_in c k) (held_pair (get_or c.tracks.now.held.items k h)) ≡ r
-at_place c k h r is j = subst (λ (x : HeldPacket). judged (segment_in c) (before_in c k) (held_pair x) ≡ r) is j
+    judged_packet (segment_in c) (before_in c k) (h.number, h.packet) ≡ r →
+    judged_packet (segment_in c) (before_in c k) (held_pair (get_or c.tracks.now.held.items k h)) ≡ r
+at_place c k h r is j = subst (λ (x : HeldPacket). judged_packet (segment_in c) (before_in c k) (held_pair x) ≡ r) is j
 
 -- one packet comes to the same between two messages that say no more than is asked of them
 alike : (a b : Message) (word : List ℕ) (ca ecm : ℕ) (packets before : List (List ℕ)) (e : ℕ × List ℕ) →
-    judged (record {
+    judged_packet (record {
       first = bare a.word a.places;
       last = bare 0 b.places;
       word = word;
@@ -275,8 +275,8 @@ alike : (a b : Message) (word : List ℕ) (ca ecm : ℕ) (packets before : List 
       packets =
           packets;
     }) before e
-    ≡ judged (record { first = a; last = b; word = word; ca = ca; ecm = ecm; packets = packets }) before e
-unfolding judged tracked is_confirmed unmarked
+    ≡ judged_packet (record { first = a; last = b; word = word; ca = ca; ecm = ecm; packets = packets }) before e
+unfolding judged_packet tracked is_confirmed unmarked
 alike a b word ca ecm packets before e = refl
 
 all_alike : (a b : Message) (word : List ℕ) (ca ecm : ℕ) (packets before : List (List ℕ)) (es : List (ℕ × List ℕ)) →
@@ -303,9 +303,9 @@ all_alike a b word ca ecm packets before (e ∷ es) =
       packets = packets;
     } in
     let t : Segment = record { first = a; last = b; word = word; ca = ca; ecm = ecm; packets = packets } in
-    ap (λ (r : Result (List (List ℕ)) ℕ). then_wrote r (written_from s (before ++ e.1 ∷ []) es))
+    ap (λ (r : Result (List (List ℕ)) ℕ). then_segment_output r (written_from s (before ++ e.1 ∷ []) es))
     (alike a b word ca ecm packets before e)
-    ∙ ap (λ (w : Wrote). then_wrote (judged t before e) w) (all_alike a b word ca ecm packets (before ++ e.1 ∷ []) es)
+    ∙ ap (λ (w : WrittenPackets). then_segment_output (judged_packet t before e) w) (all_alike a b word ca ecm packets (before ++ e.1 ∷ []) es)
 
 -- all packets do
 pub between_messages : (a b : Message) (word : List ℕ) (ca ecm : ℕ) (held : List (ℕ × List ℕ)) →

@@ -10,9 +10,9 @@ use Rattle.sd_message.specs.declared.ecm_part.Place.{Place}
 use Rattle.sd_message.specs.declared.ecm_message.EcmHead.{EcmHead}
 use Rattle.sd_psi.specs.declared.our_cat.Tuning.{Tuning}
 use Rattle.sd_spec.specs.Heard.{Heard, Other}
-use Rattle.sd_spec.specs.Stretches.{Stretch, newest, completes, others, other_with, held_in}
+use Rattle.sd_spec.specs.Stretches.{Stretch, newest_message, completes, others, other_with, held_in}
 use Rattle.sd_spec.specs.Keys.{key_at}
-use Rattle.sd_spec.specs.Confirmed.{Wrote}
+use Rattle.sd_spec.specs.Confirmed.{WrittenPackets}
 use Rattle.sd_spec.specs.Offered.{segment_wrote, stretch_wrote}
 use Rattle.sd_spec.proofs.Hearing.{newest_waits, newest_completes}
 use Rattle.sd_receive.specs.PacketBuffer.{after_message, held_more}
@@ -23,7 +23,7 @@ use Rattle.sd_receive.proofs.Stretching.{holds_more, holds_same}
 
 -- nothing was heard
 pub nothing_held : (card : CardFields) → holding_after card [] ≡ None
-unfolding holding_after newest
+unfolding holding_after newest_message
 nothing_held card = refl
 
 same_under : (a b : Stretch) (message : Message) (word : Option (List ℕ)) → held_in a ≡ held_in b →
@@ -48,11 +48,11 @@ same_after card a b message before held =
 
 -- what is no other packet, and completes nothing, changes nothing
 pub held_same : (card : CardFields) (past : List Heard) (heard : Heard) → completes past heard ≡ None →
-    other_with heard (others (newest past).after) ≡ others (newest past).after →
+    other_with heard (others (newest_message past).after) ≡ others (newest_message past).after →
     holding_after card (heard ∷ past) ≡ holding_after card past
 unfolding holding_after
 held_same card past heard none same =
-    same_after card (newest (heard ∷ past)) (newest past) (ap (λ (st : Stretch). st.message)
+    same_after card (newest_message (heard ∷ past)) (newest_message past) (ap (λ (st : Stretch). st.message)
     (newest_waits past heard none))
     (ap (λ (st : Stretch). st.before) (newest_waits past heard none)) (holds_same past heard none same)
 
@@ -102,9 +102,9 @@ pub held_other : (card : CardFields) (past : List Heard) (n : ℕ) (packet : Lis
 unfolding holding_after
 held_other card past n packet =
     let is = newest_waits past (Other n packet) refl in
-    ap (λ (m : Option Message). held_after card (newest (Other n packet ∷ past)) m)
+    ap (λ (m : Option Message). held_after card (newest_message (Other n packet ∷ past)) m)
     (ap (λ (st : Stretch). st.message) is)
-    ∙ more_after card (newest past) (newest past).message n packet (newest (Other n packet ∷ past))
+    ∙ more_after card (newest_message past) (newest_message past).message n packet (newest_message (Other n packet ∷ past))
     (ap (λ (st : Stretch). st.before) is) (holds_more past n packet)
 
 -- after a message nothing is held yet
@@ -145,5 +145,5 @@ pub wrote_is : (card : CardFields) (tuning : Tuning) (stretch : Stretch) (last :
     ≡ pair_wrote last (held_after card stretch stretch.message) b.since card.ca tuning.ecm b.places
 wrote_is card tuning stretch None old b is = rw is refl
 wrote_is card tuning stretch (Some last) old b is =
-    rw is (ap (λ (w : Wrote). if nat_le b.since last.number then w else unwritten)
+    rw is (ap (λ (w : WrittenPackets). if nat_le b.since last.number then w else unwritten)
     (pair_of card tuning stretch (message_of last old) b (key_at card stretch.before last.period)))

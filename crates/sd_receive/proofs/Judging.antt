@@ -15,7 +15,7 @@ use Rattle.std.proofs.lemmas.Bool.{false≢true, true≢false, cases_lt, ne_eqb,
 use Rattle.sd_site_cards.specs.CardFields.{CardFields}
 use Rattle.sd_message.specs.declared.emm.Emm.{Emm}
 use Rattle.sd_spec.specs.Heard.{Heard}
-use Rattle.sd_spec.specs.Stretches.{current, seen}
+use Rattle.sd_spec.specs.Stretches.{current, sections_seen}
 use Rattle.sd_spec.specs.Keys.{first_key, key_in, key_at, key_from}
 use Rattle.sd_spec.specs.Offered.{says_same, is_mixed, Offering, key_if_none, key_offering, emm_offering}
 use Rattle.sd_message.specs.declared.stream_fault.StreamFault.{StreamFault}
@@ -24,9 +24,9 @@ use Rattle.sd_message.specs.declared.emm_fault.EmmFault.TheVariants as Emms
 use Rattle.sd_spec.specs.Ending.{periods_told, is_unkeyed, is_all_seen, are_all}
 use Rattle.sd_receive.specs.declared.emm.header.PeriodHeader.{PeriodHeader}
 use Rattle.sd_receive.specs.declared.emm.PeriodKeys.{PeriodKeys}
-use Rattle.sd_receive.specs.PeriodKeys.{says_in, said, SayAlike, is_said_otherwise, key_kept, has_index, all_marked}
+use Rattle.sd_receive.specs.PeriodKeys.{says_in, says_of_newest_emm, SayAlike, is_said_otherwise, key_kept, has_index, all_marked}
 use Rattle.sd_spec.specs.Taken.{takes_key}
-use Rattle.sd_receive.specs.PeriodKeys.{cleared, is_told_revoked, told_below, IsEntitled, IsJudged, HasFault}
+use Rattle.sd_receive.specs.PeriodKeys.{cleared, is_told_revoked, told_below, IsEntitled, IsEmmJudged, HasFault}
 use Rattle.sd_receive.proofs.Periods.{closes, ahead_none}
 
 -- all marks up to a place are set where all tests up to it hold
@@ -41,7 +41,7 @@ all_tests P a (suc n) (mark ∷ marks) long same =
     (λ x h. same (suc x) (omega (arith, h)) ∙ ap P (omega arith)) in
     rw (first, rest) refl
 
-all_by : (sections : List Emm) (header : Option PeriodHeader) (marks : List Bool) → length marks ≡ 65536 → header ≡ said
+all_by : (sections : List Emm) (header : Option PeriodHeader) (marks : List Bool) → length marks ≡ 65536 → header ≡ says_of_newest_emm
     sections →
     SayAlike header sections → ((x : ℕ) → x < 2 ^ 16 → get_or marks x false ≡ has_index x sections) →
     all_marked header marks ≡ are_all sections
@@ -85,7 +85,7 @@ or_all : (b : Bool) (P : Emm → Bool) (sections : List Emm) → All (λ other. 
 or_all true P sections same = refl
 or_all false P sections same = list_any_none P sections same
 
-otherwise_is : (header : Option PeriodHeader) (sections : List Emm) (emm : Emm) → header ≡ said sections → SayAlike
+otherwise_is : (header : Option PeriodHeader) (sections : List Emm) (emm : Emm) → header ≡ says_of_newest_emm sections → SayAlike
     header sections →
     is_said_otherwise header emm ≡ is_mixed sections emm
 otherwise_is header [] emm is alike = rw is refl
@@ -94,7 +94,7 @@ otherwise_is header (first ∷ sections) emm is alike =
     (λ k d h. same_test first (get_or sections k d) emm (sym is ∙ (alike (suc k) d (omega (arith, h))).0))))
 
 -- where the marks are cleared none is set
-cleared_by : (sections : List Emm) (header : Option PeriodHeader) (marks : List Bool) (x : ℕ) → header ≡ said sections →
+cleared_by : (sections : List Emm) (header : Option PeriodHeader) (marks : List Bool) (x : ℕ) → header ≡ says_of_newest_emm sections →
     SayAlike header sections → get_or marks x false ≡ has_index x sections → get_or (cleared header marks) x false ≡
     false
 cleared_by [] header marks x is alike same = rw is same
@@ -114,7 +114,7 @@ module _ (card : CardFields) (tr : List Heard) (state : PeriodKeys) (is : IsEnti
   -- all marks are set where all sections were seen
   pub all_seen : length state.marks.items ≡ 65536 → all_marked state.header state.marks.items
       ≡ is_all_seen tr (current tr)
-  all_seen long = all_by (seen (current tr) tr) state.header state.marks.items long is.header is.alike is.marks
+  all_seen long = all_by (sections_seen (current tr) tr) state.header state.marks.items long is.header is.alike is.marks
 
   -- the first period without a key, and the first that is revoked, of all that were told of
   first_of_all : (P : ℕ → Bool) (test : Bool) (first : Option ℕ) → test ≡ P (current tr) →
@@ -156,7 +156,7 @@ module _ (card : CardFields) (tr : List Heard) (state : PeriodKeys) (is : IsEnti
 
   pub differs_is : (emm : Emm) → current tr ≤ emm.period →
       (if state.period == emm.period then is_said_otherwise state.header emm else false)
-      ≡ is_mixed (seen emm.period tr) emm
+      ≡ is_mixed (sections_seen emm.period tr) emm
   differs_is emm h = ⊎_elim
       (λ (g : current tr < emm.period).
       rw (
@@ -166,8 +166,8 @@ module _ (card : CardFields) (tr : List Heard) (state : PeriodKeys) (is : IsEnti
       (λ (g : emm.period ≤ current tr).
       let same : emm.period ≡ current tr = omega (arith, g, h) in
       let here : state.period ≡ emm.period = omega (arith, is.period, same) in
-      rw (eq-eqb state.period emm.period here) (otherwise_is state.header (seen (current tr) tr) emm is.header is.alike
-      ∙ ap (λ (q : ℕ). is_mixed (seen q tr) emm) (sym same)))
+      rw (eq-eqb state.period emm.period here) (otherwise_is state.header (sections_seen (current tr) tr) emm is.header is.alike
+      ∙ ap (λ (q : ℕ). is_mixed (sections_seen q tr) emm) (sym same)))
       (cases_lt (current tr) emm.period)
 
   -- the marks of the period's sections are all there are; so many marks are written back
@@ -177,7 +177,7 @@ module _ (card : CardFields) (tr : List Heard) (state : PeriodKeys) (is : IsEnti
       ap (λ (l : List Bool). get_or l x false)
       (take-append-le n marks (drop (length marks) state.marks.items) (omega (arith, long))
       ∙ (take_all n marks (omega (arith, long)) ∙ written))
-      ∙ cleared_by (seen (current tr) tr) state.header state.marks.items x is.header is.alike (is.marks x h)
+      ∙ cleared_by (sections_seen (current tr) tr) state.header state.marks.items x is.header is.alike (is.marks x h)
 
 -- what a section comes to
 module _ (card : CardFields) (n : ℕ) (tr : List Heard) (emm : Emm) where
@@ -185,12 +185,12 @@ module _ (card : CardFields) (n : ℕ) (tr : List Heard) (emm : Emm) where
   unfolding emm_offering
   past_offering h = rw (lt-ltb emm.period (current tr) h) refl
 
-  pub mixed_offering : current tr ≤ emm.period → is_mixed (seen emm.period tr) emm ≡ true →
+  pub mixed_offering : current tr ≤ emm.period → is_mixed (sections_seen emm.period tr) emm ≡ true →
       (emm_offering card n tr emm).fault ≡ Some (Fault.BadEmm n Emms.Mixed)
   unfolding emm_offering
   mixed_offering h mixed = rw (le-ltb emm.period (current tr) h, mixed) refl
 
-  pub offering_is : current tr ≤ emm.period → is_mixed (seen emm.period tr) emm ≡ false →
+  pub offering_is : current tr ≤ emm.period → is_mixed (sections_seen emm.period tr) emm ≡ false →
       key_if_none n emm (key_at card tr emm.period) (key_from card emm) ≡ emm_offering card n tr emm
   unfolding emm_offering
   offering_is h same = rw (le-ltb emm.period (current tr) h, same) refl
@@ -287,7 +287,7 @@ steps_counted kept (Some key) before after most none within same = rw none withi
 
 -- a section of a past period is right, whatever key comes with it
 pub judged_past : (card : CardFields) (n : ℕ) (tr : List Heard) (emm : Emm) (key : Option (List ℕ)) →
-    emm.period < current tr → IsJudged card n tr emm key
+    emm.period < current tr → IsEmmJudged card n tr emm key
 judged_past card n tr emm key past = record {
   fault = past_offering card n tr emm past;
   unmixed = λ h. absurd (omega (arith, past, h));
@@ -302,7 +302,7 @@ module _ (card : CardFields) (n : ℕ) (tr : List Heard) (emm : Emm) (state : Pe
     (h : current tr ≤ emm.period)
     (same : (if state.period == emm.period then is_said_otherwise state.header emm else false) ≡ false) where
   -- so is one that says the same of a period whose key is known
-  pub judged_known : (key : Option (List ℕ)) → is_some (key_kept state emm.period) ≡ true → IsJudged card n tr emm key
+  pub judged_known : (key : Option (List ℕ)) → is_some (key_kept state emm.period) ≡ true → IsEmmJudged card n tr emm key
   judged_known key known = record {
     fault = good_offering card n tr emm state is h same
         (known_offers n emm (key_kept state emm.period) (key_from card emm) known);
@@ -313,7 +313,7 @@ module _ (card : CardFields) (n : ℕ) (tr : List Heard) (emm : Emm) (state : Pe
 
   -- and one of another period, if its key is right
   pub judged_new : (key : Option (List ℕ)) → key_kept state emm.period ≡ None → key ≡ key_from card emm →
-      (key_offering n emm (key_from card emm)).fault ≡ None → IsJudged card n tr emm key
+      (key_offering n emm (key_from card emm)).fault ≡ None → IsEmmJudged card n tr emm key
   judged_new key none gives good = record {
     fault = good_offering card n tr emm state is h same
         (ap (λ (o : Option (List ℕ)). (key_if_none n emm o (key_from card emm)).fault) none ∙ good);
@@ -337,7 +337,7 @@ pub judged_key : (card : CardFields) (n : ℕ) (emm : Emm) (state : PeriodKeys)
     (if state.period == emm.period then is_said_otherwise state.header emm else false) ≡ false →
     key_kept state emm.period ≡ None → OnOk result (key ≡ key_from card emm) →
     HasFault result (key_offering n emm (key_from card emm)).fault →
-    OnOk result ((tr : List Heard) → IsEntitled card tr state → IsJudged card n tr emm key)
+    OnOk result ((tr : List Heard) → IsEntitled card tr state → IsEmmJudged card n tr emm key)
 judged_key card n emm state key (Ok done) ahead same none gives good = λ tr is.
     judged_new card n tr emm state is (ahead tr is) same key none gives good
 judged_key card n emm state key (Err fault) ahead same none gives bad = tt

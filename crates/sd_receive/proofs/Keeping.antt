@@ -18,13 +18,13 @@ use Rattle.sd_message.specs.declared.emm.Emm.{Emm}
 use Rattle.sd_message.specs.EcmParts.{Message}
 use Rattle.sd_message.specs.declared.ecm_part.EcmPart.{EcmPart}
 use Rattle.sd_spec.specs.Heard.{Heard, Dropped, Entitles, Controls, BadEmm, BadEcm, Other}
-use Rattle.sd_spec.specs.Stretches.{completes, messages, current, seen}
+use Rattle.sd_spec.specs.Stretches.{completes, messages, current, sections_seen}
 use Rattle.sd_spec.specs.Keys.{key_in, key_at, key_from, first_key}
 use Rattle.sd_spec.specs.Offered.{says_same, is_mixed}
 use Rattle.sd_spec.specs.Ending.{periods_told, is_unkeyed, are_all}
 use Rattle.sd_receive.specs.declared.emm.header.PeriodHeader.{PeriodHeader}
 use Rattle.sd_receive.specs.declared.emm.PeriodKeys.{PeriodKeys}
-use Rattle.sd_receive.specs.PeriodKeys.{says_in, said, SayAlike, has_index, is_told_revoked, told_below, is_in_turn}
+use Rattle.sd_receive.specs.PeriodKeys.{says_in, says_of_newest_emm, SayAlike, has_index, is_told_revoked, told_below, is_in_turn}
 use Rattle.sd_receive.specs.PeriodKeys.{IsStateAt, IsEntitled, tells_nothing}
 use Rattle.sd_receive.proofs.Periods.{past_stands, other_period, ahead_none, one_told, none_told, same_below}
 use Rattle.sd_receive.proofs.Periods.{told_before, not_told}
@@ -35,8 +35,8 @@ none_is (Some message) h = absurd (grind (arith, h))
 
 -- a section of the current period, or of a later one, is seen
 seen_more : (q : ℕ) (emm : Emm) (tr : List Heard) → emm.period ≡ q → current tr ≤ q →
-    seen q (Entitles emm ∷ tr) ≡ emm ∷ seen q tr
-unfolding seen
+    sections_seen q (Entitles emm ∷ tr) ≡ emm ∷ sections_seen q tr
+unfolding sections_seen
 seen_more q emm tr is h = rw (eq-eqb emm.period q is, le-leb (current tr) q h) refl
 
 now_at : (emm : Emm) (tr : List Heard) → current tr ≤ emm.period → current (Entitles emm ∷ tr) ≡ emm.period
@@ -87,7 +87,7 @@ marked marks sections emm x small before =
 -- no key
 module _ (card : CardFields) (q : ℕ) (heard : Heard) (tr : List Heard) (told : told_below q (heard ∷ tr)
     ≡ told_below q tr)
-    (sections : (p : ℕ) → p < q → seen p (heard ∷ tr) ≡ seen p tr) where
+    (sections : (p : ℕ) → p < q → sections_seen p (heard ∷ tr) ≡ sections_seen p tr) where
   first_revoked : find (is_told_revoked card (heard ∷ tr)) (told_below q (heard ∷ tr))
       ≡ find (is_told_revoked card tr) (told_below q tr)
   unfolding told_below
@@ -116,16 +116,16 @@ turn_kept heard tr none turn = rw (none, turn) refl
 
 -- what completes no message and leaves the sections up to the current period leaves what is kept
 stays : (card : CardFields) (heard : Heard) (tr : List Heard) (state : PeriodKeys) → completes tr heard ≡ None →
-    current (heard ∷ tr) ≡ current tr → ((p : ℕ) → p ≤ current tr → seen p (heard ∷ tr) ≡ seen p tr) →
+    current (heard ∷ tr) ≡ current tr → ((p : ℕ) → p ≤ current tr → sections_seen p (heard ∷ tr) ≡ sections_seen p tr) →
     IsEntitled card tr state → IsEntitled card (heard ∷ tr) state
 stays card heard tr state none same sections is =
     let q : ℕ = current tr in
-    let here : seen q (heard ∷ tr) ≡ seen q tr = sections q (omega arith) in
+    let here : sections_seen q (heard ∷ tr) ≡ sections_seen q tr = sections q (omega arith) in
     let below : told_below q (heard ∷ tr) ≡ told_below q tr = told_same q heard tr none in
-    let past : (p : ℕ) → p < q → seen p (heard ∷ tr) ≡ seen p tr = λ p h. sections p (omega (arith, h)) in
+    let past : (p : ℕ) → p < q → sections_seen p (heard ∷ tr) ≡ sections_seen p tr = λ p h. sections p (omega (arith, h)) in
     subst (λ (n : ℕ). IsStateAt card (heard ∷ tr) n state) (sym same) (record {
       period = is.period;
-      header = is.header ∙ ap said (sym here);
+      header = is.header ∙ ap says_of_newest_emm (sym here);
       alike = subst (SayAlike state.header) (sym here) is.alike;
       marks = λ x h. is.marks x h ∙ ap (has_index x) (sym here);
       told = is.told ∙ ap (list_any (λ p. p == q)) (sym (none_told heard tr none));
@@ -143,7 +143,7 @@ untold part tr none = rw none (omega arith)
 pub nothing_told : (card : CardFields) (heard : Heard) (tr : List Heard) (state : PeriodKeys) →
     tells_nothing tr heard ≡ true →
     IsEntitled card tr state → IsEntitled card (heard ∷ tr) state
-unfolding seen current
+unfolding sections_seen current
 nothing_told card Dropped tr state h is = stays card Dropped tr state refl (omega arith) (λ p g. refl) is
 nothing_told card (Entitles emm) tr state h is = absurd (grind (arith, h))
 nothing_told card (Controls part) tr state h is =
@@ -159,14 +159,14 @@ unfolding current
 past_at emm tr h = omega (arith, h)
 
 past_by : (emm : Emm) (tr : List Heard) (p : ℕ) (b : Bool) → (emm.period == p) ≡ b → emm.period < current tr →
-    seen p (Entitles emm ∷ tr) ≡ seen p tr
-unfolding seen
+    sections_seen p (Entitles emm ∷ tr) ≡ sections_seen p tr
+unfolding sections_seen
 past_by emm tr p true is h =
     let same : p ≡ emm.period = sym (eqb-true emm.period p is) in
     past_stands p (Entitles emm) tr (omega (arith, same, h))
 past_by emm tr p false is h = other_period p emm tr is
 
-past_seen : (emm : Emm) (tr : List Heard) (p : ℕ) → emm.period < current tr → seen p (Entitles emm ∷ tr) ≡ seen p tr
+past_seen : (emm : Emm) (tr : List Heard) (p : ℕ) → emm.period < current tr → sections_seen p (Entitles emm ∷ tr) ≡ sections_seen p tr
 past_seen emm tr p h = past_by emm tr p (emm.period == p) refl h
 
 -- a section of a past period leaves what is kept
@@ -177,7 +177,7 @@ past_section card emm tr state h is =
 
 -- a section that counts is kept
 pub counted : (card : CardFields) (emm : Emm) (tr : List Heard) (s t : PeriodKeys) → IsStateAt card tr emm.period s →
-    current tr ≤ emm.period → is_mixed (seen emm.period tr) emm ≡ false → emm.index < emm.sections →
+    current tr ≤ emm.period → is_mixed (sections_seen emm.period tr) emm ≡ false → emm.index < emm.sections →
     emm.sections < 2 ^ 16 → length s.marks.items ≡ 65536 →
     t.period ≡ s.period → t.header ≡ Some (says_in emm) → t.marks.items ≡ slice_set s.marks.items emm.index true →
     t.told ≡ s.told → t.key ≡ first_key (key_at card tr emm.period) (key_from card emm) → t.revoked ≡ s.revoked →
@@ -186,18 +186,18 @@ unfolding key_in
 counted card emm tr s t is h same inside short long period header marks told key revoked unkeyed =
     let q : ℕ = emm.period in
     let one : Heard = Entitles emm in
-    let here : seen q (one ∷ tr) ≡ emm ∷ seen q tr = seen_more q emm tr refl h in
+    let here : sections_seen q (one ∷ tr) ≡ emm ∷ sections_seen q tr = seen_more q emm tr refl h in
     let below : told_below q (one ∷ tr) ≡ told_below q tr = told_same q one tr refl in
-    let past : (p : ℕ) → p < q → seen p (one ∷ tr) ≡ seen p tr =
+    let past : (p : ℕ) → p < q → sections_seen p (one ∷ tr) ≡ sections_seen p tr =
     λ p g. other_period p emm tr (ne_eqb q p (λ (e : q ≡ p). absurd (omega (arith, e, g)))) in
     subst (λ (n : ℕ). IsStateAt card (one ∷ tr) n t) (sym (now_at emm tr h)) (record {
       period = period ∙ is.period;
-      header = header ∙ ap said (sym here);
-      alike = subst (SayAlike t.header) (sym here) (subst (λ (w : Option PeriodHeader). SayAlike w (emm ∷ seen q tr))
+      header = header ∙ ap says_of_newest_emm (sym here);
+      alike = subst (SayAlike t.header) (sym here) (subst (λ (w : Option PeriodHeader). SayAlike w (emm ∷ sections_seen q tr))
           (sym header)
-          (alike_more s.header (seen q tr) emm is.alike same inside short));
+          (alike_more s.header (sections_seen q tr) emm is.alike same inside short));
       marks = λ x g. ap (λ (l : List Bool). get_or l x false) marks
-          ∙ (marked s.marks.items (seen q tr) emm x (omega (arith, long, g)) (is.marks x g)
+          ∙ (marked s.marks.items (sections_seen q tr) emm x (omega (arith, long, g)) (is.marks x g)
           ∙ ap (has_index x) (sym here));
       told = told ∙ (is.told ∙ ap (list_any (λ p. p == q)) (sym (none_told one tr refl)));
       key = key ∙ ap (key_in card) (sym here);
@@ -240,7 +240,7 @@ pub message_told : (card : CardFields) (part : EcmPart) (message : Message) (tr 
     completes tr (Controls part) ≡ Some message → IsStateAt card tr message.period s → current tr ≤ message.period →
     t.period ≡ s.period → t.header ≡ s.header → t.marks.items ≡ s.marks.items → t.told ≡ true → t.key ≡ s.key →
     t.revoked ≡ s.revoked → t.unkeyed ≡ s.unkeyed → IsEntitled card (Controls part ∷ tr) t
-unfolding seen
+unfolding sections_seen
 message_told card part message tr s t done is h period header marks told key revoked unkeyed =
     let q : ℕ = message.period in
     let one : Heard = Controls part in
@@ -248,7 +248,7 @@ message_told card part message tr s t done is h period header marks told key rev
     subst (λ (n : ℕ). IsStateAt card (one ∷ tr) n t) (sym (now_told part tr message done h)) (record {
       period = period ∙ is.period;
       header = header ∙ is.header;
-      alike = subst (λ (w : Option PeriodHeader). SayAlike w (seen q tr)) (sym header) is.alike;
+      alike = subst (λ (w : Option PeriodHeader). SayAlike w (sections_seen q tr)) (sym header) is.alike;
       marks = λ x g. ap (λ (l : List Bool). get_or l x false) marks ∙ is.marks x g;
       told = told ∙ sym (has_told one tr message done);
       key = key ∙ is.key;
@@ -267,10 +267,10 @@ pub moved : (card : CardFields) (q : ℕ) (tr : List Heard) (s t : PeriodKeys) �
     IsStateAt card tr q t
 unfolding key_in
 moved card q tr s t is h period header marks told key revoked unkeyed =
-    let here : seen q tr ≡ [] = ahead_none q tr h in
+    let here : sections_seen q tr ≡ [] = ahead_none q tr h in
     record {
       period = period;
-      header = header ∙ ap said (sym here);
+      header = header ∙ ap says_of_newest_emm (sym here);
       alike = subst (SayAlike t.header) (sym here) (λ k d g. absurd (omega (arith, g)));
       marks = λ x g. marks x g ∙ ap (has_index x) (sym here);
       told = told ∙ sym (not_told q tr h);
@@ -289,7 +289,7 @@ none_marked n marks is x g = ap (λ (l : List Bool). get_or l x false) is ∙ un
 pub first : (card : CardFields) (t : PeriodKeys) → t.period ≡ 0 → t.header ≡ None →
     ((x : ℕ) → x < 2 ^ 16 → get_or t.marks.items x false ≡ false) → t.told ≡ false →
     t.key ≡ None → t.revoked ≡ None → t.unkeyed ≡ None → IsEntitled card [] t
-unfolding current seen key_in periods_told messages told_below is_in_turn
+unfolding current sections_seen key_in periods_told messages told_below is_in_turn
 first card t period header marks told key revoked unkeyed = record {
   period = period;
   header = header;

@@ -21,23 +21,23 @@ use Rattle.sd_message.specs.declared.stream_fault.StreamFault.{StreamFault}
 use Rattle.sd_message.specs.declared.stream_fault.StreamFault.TheVariants as Fault
 use Rattle.sd_psi.specs.declared.our_cat.Tuning.{Tuning}
 use Rattle.sd_spec.specs.Heard.{Heard, Dropped, Entitles, Controls, BadEmm, BadEcm, Other}
-use Rattle.sd_spec.specs.Stretches.{completes, current, seen, is_closed}
+use Rattle.sd_spec.specs.Stretches.{completes, current, sections_seen, is_closed}
 use Rattle.sd_spec.specs.Keys.{key_from, key_at, key_in}
 use Rattle.sd_spec.specs.Taken.{takes_key}
-use Rattle.sd_spec.specs.Offered.{Offering, no_offering, refuses, key_offering, key_if_none, is_mixed}
+use Rattle.sd_spec.specs.Offered.{Offering, no_offering, refused_offering, key_offering, key_if_none, is_mixed}
 use Rattle.sd_spec.specs.Offered.{emm_offering}
 use Rattle.sd_spec.specs.Offered.{heard_offering}
-use Rattle.sd_receive.specs.PeriodKeys.{IsEntitled, IsJudged, HasFault}
+use Rattle.sd_receive.specs.PeriodKeys.{IsEntitled, IsEmmJudged, HasFault}
 use Rattle.sd_receive.specs.declared.emm.PeriodKeys.{PeriodKeys}
 use Rattle.sd_receive.proofs.Keeping.{nothing_told}
 use Rattle.sd_receive.proofs.Judging.{steps_of}
-use Rattle.sd_receive.specs.EcmAssembler.{IsCollected, IsWaiting, IsComplete, fault_of}
+use Rattle.sd_receive.specs.EcmAssembler.{IsCollected, IsWaiting, IsComplete, part_fault_of}
 use Rattle.sd_receive.specs.declared.ecm.EcmAssembler.{EcmAssembler}
 use Rattle.sd_receive.proofs.Collecting as Collecting
 use Rattle.sd_receive.specs.PacketBuffer.{Holding, held_more}
 use Rattle.sd_receive.specs.Session.{IsListenerAfter, IsListenerAtMessage, CountsMore, PassesOffering}
 use Rattle.sd_receive.specs.Session.{StopsAtOffering, TakesHeard, RefusesHeard, TookSome}
-use Rattle.sd_receive.specs.Session.{IsStill, Judgement, PacketOutcome}
+use Rattle.sd_receive.specs.Session.{IsStill, Judgement, SessionOutcome}
 use Rattle.sd_receive.specs.declared.session.Session.{Session}
 use Rattle.sd_receive.proofs.Stretching.{stays_open}
 use Rattle.sd_receive.proofs.Holding.{nothing_held, held_same, held_other}
@@ -116,7 +116,7 @@ key_writes_none : (n : ℕ) (emm : Emm) (key : Option (List ℕ)) → (key_offer
 key_writes_none n emm None = refl
 key_writes_none n emm (Some key) =
     wrote_none (bytes_eq (check_value_of key) emm.check) no_offering
-    (refuses (Fault.WrongKey n emm.period (check_value_of key) emm.check)) refl refl
+    (refused_offering (Fault.WrongKey n emm.period (check_value_of key) emm.check)) refl refl
 
 keys_write_none : (n : ℕ) (emm : Emm) (key found : Option (List ℕ)) → (key_if_none n emm key found).wrote ≡ []
 keys_write_none n emm (Some key) found = refl
@@ -127,15 +127,15 @@ pub section_writes_none : (card : CardFields) (n : ℕ) (past : List Heard) (emm
 unfolding emm_offering
 section_writes_none card n past emm =
     wrote_none (nat_lt emm.period (current past)) no_offering
-    (if is_mixed (seen emm.period past) emm then refuses (Fault.BadEmm n Emms.Mixed)
+    (if is_mixed (sections_seen emm.period past) emm then refused_offering (Fault.BadEmm n Emms.Mixed)
     else key_if_none n emm (key_at card past emm.period) (key_from card emm)) refl
-    (wrote_none (is_mixed (seen emm.period past) emm) (refuses (Fault.BadEmm n Emms.Mixed))
+    (wrote_none (is_mixed (sections_seen emm.period past) emm) (refused_offering (Fault.BadEmm n Emms.Mixed))
     (key_if_none n emm (key_at card past emm.period) (key_from card emm)) refl
     (keys_write_none n emm (key_at card past emm.period) (key_from card emm)))
 
 -- an offering that writes nothing and has this fault refuses the packet
 refusal_is : (offering : Offering) (why : StreamFault) → offering.wrote ≡ [] → offering.fault ≡ Some why →
-    offering ≡ refuses why
+    offering ≡ refused_offering why
 refusal_is offering why wrote fault =
     ap (λ (w : List (List ℕ)). record { wrote = w; fault = offering.fault }) wrote
     ∙ ap (λ (f : Option StreamFault). record { wrote = []; fault = f }) fault
@@ -143,7 +143,7 @@ refusal_is offering why wrote fault =
 -- what was found of a section after what was heard
 pub section_judged : (card : CardFields) (n : ℕ) (past : List Heard) (emm : Emm) (state : PeriodKeys)
     (key : Option (List ℕ)) (result : Result (Unit {0}) StreamFault) → IsEntitled card past state →
-    OnOk result ((tr : List Heard) → IsEntitled card tr state → IsJudged card n tr emm key) →
+    OnOk result ((tr : List Heard) → IsEntitled card tr state → IsEmmJudged card n tr emm key) →
     ((tr : List Heard) → IsEntitled card tr state → HasFault result (emm_offering card n tr emm).fault) →
     Judgement card n past (Entitles emm) key result
 section_judged card n past emm state key (Ok done) is good found = good past is
@@ -153,11 +153,11 @@ section_judged card n past emm state key (Err why) is good found = λ tuning.
 -- before anything was heard a section's key alone is judged
 first_offering : (card : CardFields) (n : ℕ) (emm : Emm) →
     emm_offering card n [] emm ≡ key_offering n emm (key_from card emm)
-unfolding emm_offering current seen key_in
+unfolding emm_offering current sections_seen key_in
 first_offering card n emm = rw (le-ltb emm.period 0 (omega arith)) refl
 
-none_seen : (q : ℕ) (emm : Emm) → is_mixed (seen q []) emm ≡ false
-unfolding seen
+none_seen : (q : ℕ) (emm : Emm) → is_mixed (sections_seen q []) emm ≡ false
+unfolding sections_seen
 none_seen q emm = refl
 
 pub first_judged : (card : CardFields) (n : ℕ) (emm : Emm) (key : Option (List ℕ))
@@ -175,7 +175,7 @@ first_judged card n emm key (Err why) is found = λ tuning.
 
 -- it takes a key if it gives one
 first_takes : (card : CardFields) (emm : Emm) → not (is_none (key_from card emm)) ≡ takes_key card [] emm
-unfolding takes_key current seen key_in
+unfolding takes_key current sections_seen key_in
 first_takes card emm = rw (le-leb 0 emm.period (omega arith)) refl
 
 pub first_steps : (card : CardFields) (emm : Emm) (before after most : ℕ) → after ≤ before + most →
@@ -188,7 +188,7 @@ first_steps card emm before after most within same =
 pub section_taken : (card : CardFields) (tuning : Tuning) (n : ℕ) (emm : Emm) (s t : Session) → t.closed ≡ s.closed →
     t.buffer ≡ s.buffer → t.assembler ≡ s.assembler → t.written ≡ s.written →
     (key : Option (List ℕ)) → ((past : List Heard) → IsEntitled card past s.keys →
-    IsJudged card n past emm key → IsEntitled card (Entitles emm ∷ past) t.keys) →
+    IsEmmJudged card n past emm key → IsEntitled card (Entitles emm ∷ past) t.keys) →
     TakesHeard true card tuning n (Entitles emm) key s t []
 section_taken card tuning n emm s t closed buffer assembler written key keys =
     λ past follows unclosed judged calm. (
@@ -235,7 +235,7 @@ part_waiting card tuning n part s t closed keys buffer written waits = λ past f
 pub part_bad : (strict : Bool) (card : CardFields) (tuning : Tuning) (n : ℕ) (part : EcmPart) (s : Session)
     (fault : EcmFault) →
     ((past : List Heard) → IsCollected past s.assembler → current past ≡ s.keys.period →
-    fault_of past part ≡ Some fault) →
+    part_fault_of past part ≡ Some fault) →
     RefusesHeard strict card tuning n (Controls part) s (Fault.BadEcm n fault) []
 part_bad strict card tuning n part s fault bad = λ past follows unclosed calm.
     let offers = part_refused card tuning n past part fault (bad past follows.assembler (sym follows.keys.period)) in
@@ -247,24 +247,24 @@ part_bad strict card tuning n part s fault bad = λ past follows unclosed calm.
 pub bad_section : (strict : Bool) (card : CardFields) (tuning : Tuning) (n : ℕ) (fault : EmmFault) (s : Session) →
     RefusesHeard strict card tuning n (BadEmm fault) s (Fault.BadEmm n fault) []
 bad_section strict card tuning n fault s = λ past follows unclosed calm.
-    stops_none strict (refuses (Fault.BadEmm n fault)) (Fault.BadEmm n fault) refl refl
+    stops_none strict (refused_offering (Fault.BadEmm n fault)) (Fault.BadEmm n fault) refl refl
 
 pub bad_part : (strict : Bool) (card : CardFields) (tuning : Tuning) (n : ℕ) (fault : EcmFault) (s : Session) →
     RefusesHeard strict card tuning n (BadEcm fault) s (Fault.BadEcm n fault) []
 bad_part strict card tuning n fault s = λ past follows unclosed calm.
-    stops_none strict (refuses (Fault.BadEcm n fault)) (Fault.BadEcm n fault) refl refl
+    stops_none strict (refused_offering (Fault.BadEcm n fault)) (Fault.BadEcm n fault) refl refl
 
 -- what more is said of what comes
 pub comes_weaker : (T S : Session → List ℕ → Type 0) (R Q : StreamFault → List ℕ → Type 0) (C D : List ℕ → Type 0)
     (u v : SinkState) (t : Session)
     (result : Result (Unit {0}) (StageFault StreamFault)) → ((x : Session) (bytes : List ℕ) → T x bytes → S x bytes) →
     ((fault : StreamFault) (bytes : List ℕ) → R fault bytes → Q fault bytes) →
-    ((bytes : List ℕ) → C bytes → D bytes) → PacketOutcome T R C u v t result → PacketOutcome S Q D u v t result
-comes_weaker T S R Q C D u v t (Ok done) takes refuses cuts comes =
+    ((bytes : List ℕ) → C bytes → D bytes) → SessionOutcome T R C u v t result → SessionOutcome S Q D u v t result
+comes_weaker T S R Q C D u v t (Ok done) takes refused_offering cuts comes =
     record { bytes = comes.bytes; says = takes t comes.bytes comes.says; took = comes.took }
-comes_weaker T S R Q C D u v t (Err (Refused fault)) takes refuses cuts comes =
-    record { bytes = comes.bytes; says = refuses fault comes.bytes comes.says; took = comes.took }
-comes_weaker T S R Q C D u v t (Err Write) takes refuses cuts comes = record {
+comes_weaker T S R Q C D u v t (Err (Refused fault)) takes refused_offering cuts comes =
+    record { bytes = comes.bytes; says = refused_offering fault comes.bytes comes.says; took = comes.took }
+comes_weaker T S R Q C D u v t (Err Write) takes refused_offering cuts comes = record {
   bytes = comes.bytes;
   says = cuts comes.bytes comes.says;
   prefix = comes.prefix;

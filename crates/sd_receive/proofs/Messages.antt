@@ -15,17 +15,17 @@ use Rattle.sd_message.specs.declared.stream_fault.StreamFault.{StreamFault}
 use Rattle.sd_message.specs.declared.stream_fault.StreamFault.TheVariants as Fault
 use Rattle.sd_psi.specs.declared.our_cat.Tuning.{Tuning}
 use Rattle.sd_spec.specs.Heard.{Heard, Controls}
-use Rattle.sd_spec.specs.Stretches.{newest}
+use Rattle.sd_spec.specs.Stretches.{newest_message}
 use Rattle.sd_spec.specs.Keys.{key_at}
-use Rattle.sd_spec.specs.Confirmed.{Wrote}
+use Rattle.sd_spec.specs.Confirmed.{WrittenPackets}
 use Rattle.sd_spec.specs.Offered.{Offering, word_fault, wrote_or, heard_offering}
 use Rattle.sd_receive.specs.PeriodKeys.{IsEntitled, key_kept}
 use Rattle.sd_receive.specs.EcmAssembler.{IsCollected}
 use Rattle.sd_receive.specs.PacketBuffer.{Holding, after_message}
 use Rattle.sd_receive.specs.Buffered.{word_under, holding_after, pair_wrote}
-use Rattle.sd_receive.specs.Session.{IsListenerAfter, IsListenerAtMessage, capped, CountsMore, PassesOffering}
+use Rattle.sd_receive.specs.Session.{IsListenerAfter, IsListenerAtMessage, capped_count, CountsMore, PassesOffering}
 use Rattle.sd_receive.specs.Session.{TookSome, StopsAtOffering, TakesMessage}
-use Rattle.sd_receive.specs.Session.{RefusesMessage, CutsMessage}
+use Rattle.sd_receive.specs.Session.{RefusesHeardMessage, CutsMessage}
 use Rattle.sd_receive.specs.declared.session.Session.{Session}
 use Rattle.sd_receive.proofs.Stretching.{closes}
 use Rattle.sd_receive.proofs.Judging.{kept_is}
@@ -60,15 +60,15 @@ offering_is card tuning n past part head state done =
     let message = message_of head state.assembler.coming.places.items in
     let fault = word_fault n message (key_at card past head.period) in
     part_completes card tuning n past part message done.assembler.fault done.assembler.complete
-    ∙ ap (λ (w : Wrote). wrote_or w fault)
-    (wrote_is card tuning (newest past) state.assembler.last state.assembler.places.items message
+    ∙ ap (λ (w : WrittenPackets). wrote_or w fault)
+    (wrote_is card tuning (newest_message past) state.assembler.last state.assembler.places.items message
     done.follows.assembler.last.says
     ∙ ap (λ (held : Option Holding). pair_wrote state.assembler.last held head.since card.ca tuning.ecm
     state.assembler.coming.places.items)
     (sym done.follows.buffer))
 
 -- what the message offers where a held packet is refused, where its word is, and where nothing is
-pub refuses_parity : (offering : Offering) (wrote : Wrote) (fault : Option StreamFault) (k : ℕ) (bytes : List ℕ) →
+pub refuses_parity : (offering : Offering) (wrote : WrittenPackets) (fault : Option StreamFault) (k : ℕ) (bytes : List ℕ) →
     offering ≡ wrote_or wrote fault → wrote.refused ≡ Some k → bytes ≡ concat wrote.packets →
     StopsAtOffering true offering (Fault.Parity k) bytes
 refuses_parity offering wrote fault k bytes is refused written = record {
@@ -77,7 +77,7 @@ refuses_parity offering wrote fault k bytes is refused written = record {
   bytes_are = written ∙ ap (λ (o : Offering). concat o.wrote) (sym is);
 }
 
-pub refuses_word : (offering : Offering) (wrote : Wrote) (fault : Option StreamFault) (why : StreamFault)
+pub refuses_word : (offering : Offering) (wrote : WrittenPackets) (fault : Option StreamFault) (why : StreamFault)
     (bytes : List ℕ) →
     offering ≡ wrote_or wrote fault → wrote.refused ≡ None → fault ≡ Some why → bytes ≡ concat wrote.packets →
     StopsAtOffering true offering why bytes
@@ -87,7 +87,7 @@ refuses_word offering wrote fault why bytes is refused bad written = record {
   bytes_are = written ∙ ap (λ (o : Offering). concat o.wrote) (sym is);
 }
 
-pub passes_all : (offering : Offering) (wrote : Wrote) (fault : Option StreamFault) (before after : ℕ)
+pub passes_all : (offering : Offering) (wrote : WrittenPackets) (fault : Option StreamFault) (before after : ℕ)
     (bytes : List ℕ) →
     offering ≡ wrote_or wrote fault → wrote.refused ≡ None → fault ≡ None → bytes ≡ concat wrote.packets →
     CountsMore before after (length wrote.packets) → PassesOffering offering before after bytes
@@ -99,7 +99,7 @@ passes_all offering wrote fault before after bytes is refused good written count
 }
 
 -- a count that is added to counts
-pub added_counts : (before more total : ℕ) → before ≡ capped total → with_added before more ≡ capped (total + more)
+pub added_counts : (before more total : ℕ) → before ≡ capped_count total → with_added before more ≡ capped_count (total + more)
 added_counts before more total h = omega (arith, h)
 
 -- what is kept after the message
@@ -158,7 +158,7 @@ Begins card n head s t result = (past : List Heard) (part : EcmPart) → IsListe
     fault)
 
 -- all bytes that the message may write are of what it comes to
-allowed : (card : CardFields) (tuning : Tuning) (n : ℕ) (head : EcmHead) (s t : Session) (wrote : Wrote)
+allowed : (card : CardFields) (tuning : Tuning) (n : ℕ) (head : EcmHead) (s t : Session) (wrote : WrittenPackets)
     (refused : Option ℕ)
     (result : Result (Unit {0}) StreamFault) (bytes : List ℕ) →
     wrote ≡ pair_wrote s.assembler.last s.buffer head.since card.ca tuning.ecm s.assembler.coming.places.items →
@@ -173,7 +173,7 @@ allowed card tuning n head s t wrote (Some k) result bytes is told begins writte
           refuses_parity (heard_offering card tuning n past (Controls part)) wrote
           (word_fault n (message_of head s.assembler.coming.places.items) (key_at card past head.period)) k bytes
           (offering_is card tuning n past part head s done
-          ∙ ap (λ (w : Wrote). wrote_or w (word_fault n (message_of head s.assembler.coming.places.items)
+          ∙ ap (λ (w : WrittenPackets). wrote_or w (word_fault n (message_of head s.assembler.coming.places.items)
           (key_at card past head.period))) (sym is))
           told written,
     )
@@ -185,7 +185,7 @@ allowed card tuning n head s t wrote None (Err fault) bytes is told begins writt
           refuses_word (heard_offering card tuning n past (Controls part)) wrote
           (word_fault n (message_of head s.assembler.coming.places.items) (key_at card past head.period)) fault bytes
           (offering_is card tuning n past part head s done
-          ∙ ap (λ (w : Wrote). wrote_or w (word_fault n (message_of head s.assembler.coming.places.items)
+          ∙ ap (λ (w : WrittenPackets). wrote_or w (word_fault n (message_of head s.assembler.coming.places.items)
           (key_at card past head.period))) (sym is))
           told (begins past part done) written,
     )
@@ -197,7 +197,7 @@ allowed card tuning n head s t wrote None (Ok done) bytes is told begins written
             (word_fault n (message_of head s.assembler.coming.places.items) (key_at card past head.period)) s.written
             (counting t (with_added s.written (length wrote.packets))).written bytes
             (offering_is card tuning n past part head s completes
-            ∙ ap (λ (w : Wrote). wrote_or w (word_fault n (message_of head s.assembler.coming.places.items)
+            ∙ ap (λ (w : WrittenPackets). wrote_or w (word_fault n (message_of head s.assembler.coming.places.items)
             (key_at card past head.period))) (sym is))
             told (begins past part completes).0 written
             (λ total h. counting_is t (with_added s.written (length wrote.packets)) ∙
@@ -208,7 +208,7 @@ allowed card tuning n head s t wrote None (Ok done) bytes is told begins written
     )
 
 -- a write that failed amid them
-pub cut_message : (card : CardFields) (tuning : Tuning) (n : ℕ) (head : EcmHead) (s t : Session) (wrote : Wrote)
+pub cut_message : (card : CardFields) (tuning : Tuning) (n : ℕ) (head : EcmHead) (s t : Session) (wrote : WrittenPackets)
     (result : Result (Unit {0}) StreamFault) (u v : SinkState) →
     wrote ≡ pair_wrote s.assembler.last s.buffer head.since card.ca tuning.ecm s.assembler.coming.places.items →
     Begins card n head s t result → IsCutShort u v (λ bytes. bytes ≡ concat wrote.packets) →
@@ -223,11 +223,11 @@ cut_message card tuning n head s t wrote result u v is begins cut = record {
 }
 
 -- what the message comes to where a held packet is refused, where its word is, and where nothing is
-pub parity_message : (card : CardFields) (tuning : Tuning) (n : ℕ) (head : EcmHead) (s : Session) (wrote : Wrote)
+pub parity_message : (card : CardFields) (tuning : Tuning) (n : ℕ) (head : EcmHead) (s : Session) (wrote : WrittenPackets)
     (k : ℕ) (u v : SinkState) →
     wrote ≡ pair_wrote s.assembler.last s.buffer head.since card.ca tuning.ecm s.assembler.coming.places.items →
     (wrote.refused ≡ Some k) × TookBytes u v (concat wrote.packets) →
-    TookSome u v (RefusesMessage true card tuning n head s (Fault.Parity k))
+    TookSome u v (RefusesHeardMessage true card tuning n head s (Fault.Parity k))
 parity_message card tuning n head s wrote k u v is told = record {
   bytes = concat wrote.packets;
   says = λ past part done calm.
@@ -235,18 +235,18 @@ parity_message card tuning n head s wrote k u v is told = record {
       (word_fault n (message_of head s.assembler.coming.places.items) (key_at card past head.period)) k
       (concat wrote.packets)
       (offering_is card tuning n past part head s done
-      ∙ ap (λ (w : Wrote). wrote_or w (word_fault n (message_of head s.assembler.coming.places.items)
+      ∙ ap (λ (w : WrittenPackets). wrote_or w (word_fault n (message_of head s.assembler.coming.places.items)
       (key_at card past head.period))) (sym is))
       told.0 refl;
   took = told.1;
 }
 
-pub word_message : (card : CardFields) (tuning : Tuning) (n : ℕ) (head : EcmHead) (s t : Session) (wrote : Wrote)
+pub word_message : (card : CardFields) (tuning : Tuning) (n : ℕ) (head : EcmHead) (s t : Session) (wrote : WrittenPackets)
     (fault : StreamFault)
     (count : ℕ) (u v : SinkState) →
     wrote ≡ pair_wrote s.assembler.last s.buffer head.since card.ca tuning.ecm s.assembler.coming.places.items →
     (wrote.refused ≡ None) × (count ≡ length wrote.packets) × TookBytes u v (concat wrote.packets) →
-    Begins card n head s t (Err fault) → TookSome u v (RefusesMessage true card tuning n head s fault)
+    Begins card n head s t (Err fault) → TookSome u v (RefusesHeardMessage true card tuning n head s fault)
 word_message card tuning n head s t wrote fault count u v is told begins = record {
   bytes = concat wrote.packets;
   says = λ past part done calm.
@@ -254,13 +254,13 @@ word_message card tuning n head s t wrote fault count u v is told begins = recor
       (word_fault n (message_of head s.assembler.coming.places.items) (key_at card past head.period)) fault
       (concat wrote.packets)
       (offering_is card tuning n past part head s done
-      ∙ ap (λ (w : Wrote). wrote_or w (word_fault n (message_of head s.assembler.coming.places.items)
+      ∙ ap (λ (w : WrittenPackets). wrote_or w (word_fault n (message_of head s.assembler.coming.places.items)
       (key_at card past head.period))) (sym is))
       told.0 (begins past part done) refl;
   took = told.2;
 }
 
-pub taken_message : (card : CardFields) (tuning : Tuning) (n : ℕ) (head : EcmHead) (s t x : Session) (wrote : Wrote)
+pub taken_message : (card : CardFields) (tuning : Tuning) (n : ℕ) (head : EcmHead) (s t x : Session) (wrote : WrittenPackets)
     (count : ℕ) (u v : SinkState) →
     wrote ≡ pair_wrote s.assembler.last s.buffer head.since card.ca tuning.ecm s.assembler.coming.places.items →
     (wrote.refused ≡ None) × (count ≡ length wrote.packets) × TookBytes u v (concat wrote.packets) →
@@ -273,7 +273,7 @@ taken_message card tuning n head s t x wrote count u v is told begins same = rec
         (word_fault n (message_of head s.assembler.coming.places.items) (key_at card past head.period)) s.written
         x.written (concat wrote.packets)
         (offering_is card tuning n past part head s done
-        ∙ ap (λ (w : Wrote). wrote_or w (word_fault n (message_of head s.assembler.coming.places.items)
+        ∙ ap (λ (w : WrittenPackets). wrote_or w (word_fault n (message_of head s.assembler.coming.places.items)
         (key_at card past head.period))) (sym is))
         told.0 (begins past part done).0 refl
         (λ total h. ap (λ (l : Session). l.written) same ∙ (counting_is t (with_added s.written count)

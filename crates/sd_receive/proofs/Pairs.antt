@@ -4,7 +4,7 @@ use Rattle.std.proofs.Common.{sym, subst}
 use Rattle.std.specs.Prelude.{AllPairs}
 use Rattle.std.proofs.lemmas.Bool.{cases_lt}
 use Rattle.std.proofs.lemmas.List.{get_or_append_left, get_or-append_right}
-use Rattle.sd_message.specs.EcmForm.{AreAscending}
+use Rattle.sd_message.specs.EcmForm.{ArePidsAscending}
 use Rattle.sd_message.specs.declared.ecm_part.Place.{Place}
 
 -- an element of two lists is one of the first, or one of the second
@@ -32,7 +32,7 @@ pairs_append R xs ys up rises cross i j d below within =
     ]
 
 -- what stands after the last of ascending places stands after all of them
-pub after_all : (rest last more : List Place) → AreAscending (rest ++ last) → 0 < length last →
+pub after_all : (rest last more : List Place) → ArePidsAscending (rest ++ last) → 0 < length last →
     ((i j : ℕ) (d : Place) → i < length last → j < length more → (get_or last i d).pid < (get_or more j d).pid) →
     (i j : ℕ) (d : Place) → i < length (rest ++ last) → j < length more →
     (get_or (rest ++ last) i d).pid < (get_or more j d).pid

@@ -11,13 +11,13 @@ use Rattle.std.proofs.lemmas.Bool.{lt-leb, lt-ltb, le-ltb, ne_eqb, and_parts, an
 use Rattle.sd_message.specs.declared.emm.Emm.{Emm}
 use Rattle.sd_message.specs.EcmParts.{Message}
 use Rattle.sd_spec.specs.Heard.{Heard, Dropped, Entitles, Controls, BadEmm, BadEcm, Other}
-use Rattle.sd_spec.specs.Stretches.{completes, messages, current, seen}
+use Rattle.sd_spec.specs.Stretches.{completes, messages, current, sections_seen}
 use Rattle.sd_spec.specs.Ending.{periods_told}
 use Rattle.sd_receive.specs.PeriodKeys.{told_below, is_in_turn}
 
 -- the sections seen of a past period stay
-pub past_stands : (q : ℕ) (heard : Heard) (tr : List Heard) → q < current tr → seen q (heard ∷ tr) ≡ seen q tr
-unfolding seen
+pub past_stands : (q : ℕ) (heard : Heard) (tr : List Heard) → q < current tr → sections_seen q (heard ∷ tr) ≡ sections_seen q tr
+unfolding sections_seen
 past_stands q Dropped tr h = refl
 past_stands q (Entitles emm) tr h = rw (lt-leb (current tr) q h, and_right (emm.period == q) false refl) refl
 past_stands q (Controls part) tr h = refl
@@ -27,13 +27,13 @@ past_stands q (Other n packet) tr h = refl
 
 -- nor do those of another period change those of this one
 pub other_period : (q : ℕ) (emm : Emm) (tr : List Heard) → (emm.period == q) ≡ false →
-    seen q (Entitles emm ∷ tr) ≡ seen q tr
-unfolding seen
+    sections_seen q (Entitles emm ∷ tr) ≡ sections_seen q tr
+unfolding sections_seen
 other_period q emm tr h = rw h refl
 
 -- no section of a period to come was seen
-pub ahead_none : (q : ℕ) (tr : List Heard) → current tr < q → seen q tr ≡ []
-unfolding seen current
+pub ahead_none : (q : ℕ) (tr : List Heard) → current tr < q → sections_seen q tr ≡ []
+unfolding sections_seen current
 ahead_none q [] h = refl
 ahead_none q (Dropped ∷ tr) h = ahead_none q tr (omega (arith, h))
 ahead_none q (Entitles emm ∷ tr) h =

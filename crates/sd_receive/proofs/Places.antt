@@ -6,7 +6,7 @@ use Rattle.std.specs.List.{list_any}
 use Rattle.std.proofs.lemmas.Bool.{cases_Bool, eqb-true, eq-eqb}
 use Rattle.std.proofs.lemmas.List.{get_or-take, length-take}
 use Rattle.std.proofs.lemmas.List.Elements.{All-head, All-tail, All-from_get_or}
-use Rattle.sd_message.specs.EcmForm.{AreShort, AreAscending}
+use Rattle.sd_message.specs.EcmForm.{AreShort, ArePidsAscending}
 use Rattle.sd_message.specs.declared.ecm_part.Place.{Place}
 use Rattle.sd_spec.specs.Confirmed.{position_or_first, position_in}
 use Rattle.sd_receive.specs.Tracking.{pids_in}
@@ -31,7 +31,7 @@ none_above (p ∷ ps) pid h = elim (cases_Bool (p.pid == pid)) [
 ]
 
 -- so where the PIDs ascend, none before a place has its PID
-pub none_before : (places : List Place) (i : ℕ) (d : Place) → i < length places → AreAscending places →
+pub none_before : (places : List Place) (i : ℕ) (d : Place) → i < length places → ArePidsAscending places →
     position_in (take i places) (get_or places i d).pid ≡ None
 none_before places i d within up =
     none_above (take i places) (get_or places i d).pid (All-from_get_or (λ (q : Place). q.pid < (get_or places i d).pid)

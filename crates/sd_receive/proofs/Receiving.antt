@@ -30,26 +30,26 @@ use Rattle.sd_message.specs.declared.ecm_fault.EcmFault.{EcmFault}
 use Rattle.sd_spec.specs.Heard.{Heard, Controls, hears}
 use Rattle.sd_spec.specs.declared.ending.Ending.{Ending}
 use Rattle.sd_spec.specs.declared.ending.Ending.TheVariants.{Opened}
-use Rattle.sd_spec.specs.Stretches.{is_closed, current, seen, newest, completes, run_to, run_of}
-use Rattle.sd_spec.specs.Stretches.{counted as counted_of}
+use Rattle.sd_spec.specs.Stretches.{is_closed, current, sections_seen, newest_message, completes, message_parts_to, run_of_parts}
+use Rattle.sd_spec.specs.Stretches.{counted_parts as counted_of}
 use Rattle.sd_spec.specs.Keys.{key_in}
-use Rattle.sd_spec.specs.Runs.{run_name_heard, name_in, are_two, is_turn, of_run}
-use Rattle.sd_spec.specs.Offered.{Offering, no_offering, refuses, heard, offered, heard_offering, break_from}
+use Rattle.sd_spec.specs.Runs.{run_name_heard, run_name_in, are_two, is_turn, of_run}
+use Rattle.sd_spec.specs.Offered.{Offering, no_offering, refused_offering, heard, offered, heard_offering, break_from}
 use Rattle.sd_spec.specs.Offered.{out_from}
 use Rattle.sd_spec.specs.Offered.{part_offering, part_fault, message_offering, is_back}
 use Rattle.sd_spec.proofs.Hearing.{no_fault_in_none}
-use Rattle.sd_spec.specs.Ending.{run_ending, joined, turns_at, run_wrote, ended_before}
+use Rattle.sd_spec.specs.Ending.{run_ending, endings_joined, turns_at, run_wrote, ended_before}
 use Rattle.sd_spec.proofs.Runs.{same_run, new_run, never_turns, ended_on, ended_now}
 use Rattle.sd_receive.specs.Filter.{heard_as, IsFormed}
 use Rattle.sd_receive.specs.declared.filter.kind.PacketKind.{PacketKind as Kept}
 use Rattle.sd_receive.specs.declared.filter.kind.PacketKind.TheVariants as Kinds
-use Rattle.sd_receive.specs.PartialEcm.{places_of}
+use Rattle.sd_receive.specs.PartialEcm.{part_positions}
 use Rattle.sd_receive.proofs.Gathering.{few_listed, none_wrong}
-use Rattle.sd_receive.specs.Session.{IsListenerAfter, capped, heard_of_run, IsJudgedAs, Judgement, TakesHeard}
-use Rattle.sd_receive.specs.Session.{RefusesHeard, IsCalm, IsStill, PacketOutcome}
-use Rattle.sd_receive.specs.Receiving.{card_in, IsAfter, TurnsBy, takes_key_of, takes_key_at, steps_at}
-use Rattle.sd_receive.specs.Receiving.{IsCountable, TakesPacket, RefusesPacket, TakesBy, RefusesBy, CutsBy, ended_at}
-use Rattle.sd_receive.specs.Receiving.{receiver_does, Refusing, IsFit}
+use Rattle.sd_receive.specs.Session.{IsListenerAfter, capped_count, heard_of_run, IsJudgedAs, Judgement, TakesHeard}
+use Rattle.sd_receive.specs.Session.{RefusesHeard, IsCalm, IsStill, SessionOutcome}
+use Rattle.sd_receive.specs.Receiving.{receiver_card, HasReceived, TurnsBy, takes_key_of, takes_key_at, steps_at}
+use Rattle.sd_receive.specs.Receiving.{IsCountable, TakesReceivedPacket, RefusesReceivedPacket, TakesBy, RefusesBy, CutsBy, ended_at}
+use Rattle.sd_receive.specs.Receiving.{receiver_does, Refusing, IsSoundReceiver}
 use Rattle.sd_receive.specs.declared.receiver.ended.EndedRuns.{EndedRuns}
 use Rattle.sd_spec.specs.Reports.{run_end}
 use Rattle.sd_spec.specs.Counting.{holds_stray}
@@ -115,14 +115,14 @@ out_with card past packet none =
 
 -- a packet that offers nothing, of which nothing is heard, and which ends no run
 pub idle : (past : List (List ℕ)) (s : Receiver) (packet : List ℕ) (tuning : Option Tuning) (count : ℕ) →
-    IsAfter past s →
-    offered (card_in s) past packet ≡ no_offering → heard (card_in s) (packet ∷ past) ≡ heard (card_in s) past →
-    turns_at (card_in s) past packet ≡ false →
+    HasReceived past s →
+    offered (receiver_card s) past packet ≡ no_offering → heard (receiver_card s) (packet ∷ past) ≡ heard (receiver_card s) past →
+    turns_at (receiver_card s) past packet ≡ false →
     count ≡ length past + 1 →
     tuning ≡ tuning_of s.card.ca (packet ∷ past) →
-    TakesPacket past s packet (counted s count tuning) [] 0
+    TakesReceivedPacket past s packet (counted s count tuning) [] 0
 idle past s packet tuning count after offers same stays is tuned_is =
-    let card = card_in s in
+    let card = receiver_card s in
     let good = ap (λ (o : Offering). o.fault) offers in
     let wrote : run_wrote card (packet ∷ past) ≡ run_wrote card past =
     let w = wrote_now card past packet in
@@ -136,10 +136,10 @@ idle past s packet tuning count after offers same stays is tuned_is =
       after = record {
         count = is ∙ plus_one (length past);
         tuning = tuned_is;
-        name = after.name ∙ ap name_in (sym same);
+        name = after.name ∙ ap run_name_in (sym same);
         so_far = after.so_far ∙ sym (ended_on card past packet stays);
         follows = subst (λ (h : List Heard). IsListenerAfter card h s.session) (sym same) after.follows;
-        written = after.written ∙ ap capped (sym wrote);
+        written = after.written ∙ ap capped_count (sym wrote);
         total = let out = out_with card past packet after.unbroken in
             let none = ap (λ (o : Offering). length o.wrote) offers in
             let before = after.total in omega (arith, out, none, before);
@@ -152,13 +152,13 @@ idle past s packet tuning count after offers same stays is tuned_is =
 
 -- a packet before the CAT is taken
 pub idle_untuned : (s : Receiver) (packet : List ℕ) (tuning : Option Tuning) (count : ℕ) → s.tuning ≡ None →
-    tuning ≡ cat_tuning s.card.ca packet → count ≡ capped (s.count + 1) →
+    tuning ≡ cat_tuning s.card.ca packet → count ≡ capped_count (s.count + 1) →
     receiver_does s packet (counted s count tuning) [] 0
 unfolding tuning_of
 idle_untuned s packet tuning count none is added = λ past after countable.
     let untuned : tuning_of s.card.ca past ≡ None = sym after.tuning ∙ none in
-    let rests = not_tuned (card_in s) past packet untuned in
-    idle past s packet tuning count after rests.0 rests.1 (never_turns (card_in s) past packet untuned)
+    let rests = not_tuned (receiver_card s) past packet untuned in
+    idle past s packet tuning count after rests.0 rests.1 (never_turns (receiver_card s) past packet untuned)
     (omega (arith, added, after.count, countable))
     (is ∙ sym (ap (λ (t : Option Tuning). tuned_by t (cat_tuning s.card.ca packet)) untuned))
 
@@ -178,26 +178,26 @@ thing_of s kept packet = hears s.card.height kept s.count packet
 -- what is kept of the run that is at hand with a packet, before it
 record Stands (past : List (List ℕ)) (s : Receiver) (packet : List ℕ) (thing : Heard) (ended : EndedRuns)
     (u : Session) : Type 0 where
-  follows : IsListenerAfter (card_in s) (of_run (heard (card_in s) past) thing) u
-  written : u.written ≡ capped (wrote_before (card_in s) past packet)
-  so_far_is : ended.so_far ≡ ended_before (card_in s) (packet ∷ past)
-  last_is : ended.last ≡ ended_at (card_in s) past packet s.ended.last
-  total : (more : ℕ) → capped (ended.written + capped (wrote_before (card_in s) past packet + more))
-      ≡ capped (length (out_from (card_in s) [] (reverse past)) + more)
+  follows : IsListenerAfter (receiver_card s) (of_run (heard (receiver_card s) past) thing) u
+  written : u.written ≡ capped_count (wrote_before (receiver_card s) past packet)
+  so_far_is : ended.so_far ≡ ended_before (receiver_card s) (packet ∷ past)
+  last_is : ended.last ≡ ended_at (receiver_card s) past packet s.ended.last
+  total : (more : ℕ) → capped_count (ended.written + capped_count (wrote_before (receiver_card s) past packet + more))
+      ≡ capped_count (length (out_from (receiver_card s) [] (reverse past)) + more)
 
 -- whether the packet ends the run at hand
-ends_run : (past : List (List ℕ)) (s : Receiver) (packet : List ℕ) (kept : Tuning) → IsAfter past s →
+ends_run : (past : List (List ℕ)) (s : Receiver) (packet : List ℕ) (kept : Tuning) → HasReceived past s →
     s.tuning ≡ Some kept →
-    turns_at (card_in s) past packet ≡ are_two s.name (run_name_heard (thing_of s kept packet))
+    turns_at (receiver_card s) past packet ≡ are_two s.name (run_name_heard (thing_of s kept packet))
 unfolding is_turn
 ends_run past s packet kept after some =
     let told : tuning_of s.card.ca past ≡ Some kept = sym after.tuning ∙ some in
-    turns_is (card_in s) past packet kept told
-    ∙ (ap (λ (n : ℕ). is_turn (heard (card_in s) past) (hears s.card.height kept n packet)) (sym after.count)
+    turns_is (receiver_card s) past packet kept told
+    ∙ (ap (λ (n : ℕ). is_turn (heard (receiver_card s) past) (hears s.card.height kept n packet)) (sym after.count)
     ∙ ap (λ (name : Option (Option ℕ)). are_two name (run_name_heard (thing_of s kept packet))) (sym after.name))
 
-is_ended : (past : List (List ℕ)) (s : Receiver) (thing : Heard) → IsAfter past s →
-    is_turn (heard (card_in s) past) thing ≡ are_two s.name (run_name_heard thing)
+is_ended : (past : List (List ℕ)) (s : Receiver) (thing : Heard) → HasReceived past s →
+    is_turn (heard (receiver_card s) past) thing ≡ are_two s.name (run_name_heard thing)
 unfolding is_turn
 is_ended past s thing after = ap (λ (name : Option (Option ℕ)). are_two name (run_name_heard thing)) (sym after.name)
 
@@ -207,11 +207,11 @@ ends_so : (card : CardFields) (past : List (List ℕ)) (tuning : Tuning) → tun
 ends_so card past tuning is = sym (rw is refl)
 
 stands : (past : List (List ℕ)) (s : Receiver) (packet : List ℕ) (kept : Tuning) (ended : EndedRuns) (u : Session) →
-    IsAfter past s → s.tuning ≡ Some kept →
+    HasReceived past s → s.tuning ≡ Some kept →
     TurnsBy (are_two s.name (run_name_heard (thing_of s kept packet))) s.name s.ended s.session u ended →
     Stands past s packet (thing_of s kept packet) ended u
 stands past s packet kept ended u after some turned =
-    let card = card_in s in
+    let card = receiver_card s in
     let thing = thing_of s kept packet in
     let ends = ends_run past s packet kept after some in
     let ends_too = is_ended past s thing after in
@@ -225,7 +225,7 @@ stands past s packet kept ended u after some turned =
           (now.follows card (heard card past) after.follows);
       written = now.written ∙ sym (rw turns refl);
       so_far_is = now.so_far card (heard card past) (run_wrote card past) after.follows after.written
-          ∙ (ap (λ (e : Ending). joined e (run_ending card (heard card past) (run_wrote card past))) after.so_far
+          ∙ (ap (λ (e : Ending). endings_joined e (run_ending card (heard card past) (run_wrote card past))) after.so_far
           ∙ sym (ended_now card past packet turns));
       last_is = now.last card (heard card past) (run_wrote card past) after.follows after.written
           ∙ (ap (λ (e : Ending). Some (record { run = s.name; ending = e }))
@@ -258,9 +258,9 @@ none_closed = refl
 -- a packet after the closing message of its run
 pub idle_closed : (s : Receiver) (packet : List ℕ) (kept : Tuning) (count : ℕ) → s.tuning ≡ Some kept →
     are_two s.name (run_name_heard (thing_of s kept packet)) ≡ false → s.session.closed ≡ true →
-    count ≡ capped (s.count + 1) → receiver_does s packet (counted s count s.tuning) [] 0
+    count ≡ capped_count (s.count + 1) → receiver_does s packet (counted s count s.tuning) [] 0
 idle_closed s packet kept count some one closed added = λ past after countable.
-    let card = card_in s in
+    let card = receiver_card s in
     let thing = thing_of s kept packet in
     let told : tuning_of s.card.ca past ≡ Some kept = sym after.tuning ∙ some in
     let shut : is_closed (of_run (heard card past) thing) ≡ true =
@@ -289,17 +289,17 @@ pub record Found (s : Receiver) (packet : List ℕ) (kept : Tuning) (begins : Bo
   pub tuned : s.tuning ≡ Some kept
   pub begins_is : begins ≡ are_two s.name (run_name_heard (thing_of s kept packet))
   pub goes_on : (s.session.closed && not begins) ≡ false
-  pub few : (past : List Heard) → IsListenerAfter (card_in s) past s.session →
-      to ≤ from + (if takes_key_of (card_in s) (heard_of_run begins past) (thing_of s kept packet) then s.card.height
+  pub few : (past : List Heard) → IsListenerAfter (receiver_card s) past s.session →
+      to ≤ from + (if takes_key_of (receiver_card s) (heard_of_run begins past) (thing_of s kept packet) then s.card.height
       else 0)
 
 -- what was heard of the run at hand with a packet
 run_heard : (past : List (List ℕ)) (s : Receiver) (packet : List ℕ) (kept : Tuning) (begins : Bool) →
-    IsAfter past s → begins ≡ are_two s.name (run_name_heard (thing_of s kept packet)) →
-    of_run (heard (card_in s) past) (thing_of s kept packet) ≡ heard_of_run begins (heard (card_in s) past)
+    HasReceived past s → begins ≡ are_two s.name (run_name_heard (thing_of s kept packet)) →
+    of_run (heard (receiver_card s) past) (thing_of s kept packet) ≡ heard_of_run begins (heard (receiver_card s) past)
 unfolding of_run
 run_heard past s packet kept begins after is =
-    ap (λ (b : Bool). heard_of_run b (heard (card_in s) past))
+    ap (λ (b : Bool). heard_of_run b (heard (receiver_card s) past))
     (is_ended past s (thing_of s kept packet) after ∙ sym is)
 
 -- it isn't closed
@@ -310,26 +310,26 @@ open_of true false past is on = absurd (true≢false on)
 open_of false false past is on = sym is
 
 run_open : (past : List (List ℕ)) (s : Receiver) (packet : List ℕ) (kept : Tuning) (begins : Bool) (from to : ℕ) →
-    IsAfter past s → Found s packet kept begins from to →
-    is_closed (of_run (heard (card_in s) past) (thing_of s kept packet)) ≡ false
+    HasReceived past s → Found s packet kept begins from to →
+    is_closed (of_run (heard (receiver_card s) past) (thing_of s kept packet)) ≡ false
 run_open past s packet kept begins from to after found =
     ap is_closed (run_heard past s packet kept begins after found.begins_is)
-    ∙ open_of s.session.closed begins (heard (card_in s) past) after.follows.closed found.goes_on
+    ∙ open_of s.session.closed begins (heard (receiver_card s) past) after.follows.closed found.goes_on
 
 -- what is known of a packet that is heard before the closing message of its run
 record Hears (past : List (List ℕ)) (s : Receiver) (packet : List ℕ) (kept : Tuning) : Type 0 where
-  offers : offered (card_in s) past packet ≡ heard_offering (card_in s) kept s.count
-      (of_run (heard (card_in s) past) (thing_of s kept packet)) (thing_of s kept packet)
-  hearing : heard (card_in s) (packet ∷ past)
-      ≡ thing_of s kept packet ∷ of_run (heard (card_in s) past) (thing_of s kept packet)
-  few : steps_at (card_in s) past packet ≡ (if takes_key_of (card_in s)
-      (of_run (heard (card_in s) past) (thing_of s kept packet)) (thing_of s kept packet) then s.card.height else 0)
+  offers : offered (receiver_card s) past packet ≡ heard_offering (receiver_card s) kept s.count
+      (of_run (heard (receiver_card s) past) (thing_of s kept packet)) (thing_of s kept packet)
+  hearing : heard (receiver_card s) (packet ∷ past)
+      ≡ thing_of s kept packet ∷ of_run (heard (receiver_card s) past) (thing_of s kept packet)
+  few : steps_at (receiver_card s) past packet ≡ (if takes_key_of (receiver_card s)
+      (of_run (heard (receiver_card s) past) (thing_of s kept packet)) (thing_of s kept packet) then s.card.height else 0)
 
-was_known : (past : List (List ℕ)) (s : Receiver) (packet : List ℕ) (kept : Tuning) → IsAfter past s →
+was_known : (past : List (List ℕ)) (s : Receiver) (packet : List ℕ) (kept : Tuning) → HasReceived past s →
     s.tuning ≡ Some kept →
-    is_closed (of_run (heard (card_in s) past) (thing_of s kept packet)) ≡ false → Hears past s packet kept
+    is_closed (of_run (heard (receiver_card s) past) (thing_of s kept packet)) ≡ false → Hears past s packet kept
 was_known past s packet kept after some unclosed =
-    let card = card_in s in
+    let card = receiver_card s in
     let told : tuning_of s.card.ca past ≡ Some kept = sym after.tuning ∙ some in
     let thing_at : ℕ → Heard = λ n. hears s.card.height kept n packet in
     let open_yet = subst (λ (n : ℕ). is_closed (of_run (heard card past) (thing_at n)) ≡ false) after.count unclosed in
@@ -345,9 +345,9 @@ was_known past s packet kept after some unclosed =
 
 -- how many steps were taken, by what is kept
 steps_known : (past : List (List ℕ)) (s : Receiver) (packet : List ℕ) (kept : Tuning) (begins : Bool) (from to : ℕ) →
-    IsAfter past s → Found s packet kept begins from to → to - from ≤ steps_at (card_in s) past packet
+    HasReceived past s → Found s packet kept begins from to → to - from ≤ steps_at (receiver_card s) past packet
 steps_known past s packet kept begins from to after found =
-    let card = card_in s in
+    let card = receiver_card s in
     let thing = thing_of s kept packet in
     let known = was_known past s packet kept after found.tuned (run_open past s packet kept begins from to after found)
     in
@@ -358,7 +358,7 @@ steps_known past s packet kept begins from to after found =
 
 -- no stray packet is held before anything was heard
 calm_none : (strict : Bool) → IsCalm strict []
-unfolding holds_stray newest
+unfolding holds_stray newest_message
 calm_none true = tt
 calm_none false = refl
 
@@ -372,16 +372,16 @@ calm_run strict past false calm = calm
 heard_opens : (strict : Bool) (s : Receiver) (packet : List ℕ) (kept : Tuning) (begins : Bool) (key : Option (List ℕ))
     (count : ℕ) (name : Option (Option ℕ)) (ended : EndedRuns) (u t : Session) (bytes : List ℕ) (from to : ℕ) →
     Found s packet kept begins from to → TurnsBy begins s.name s.ended s.session u ended →
-    ((past : List Heard) → IsListenerAfter (card_in s) past s.session →
-    IsJudgedAs (card_in s) s.count (heard_of_run begins past) (thing_of s kept packet) key) →
-    count ≡ capped (s.count + 1) →
+    ((past : List Heard) → IsListenerAfter (receiver_card s) past s.session →
+    IsJudgedAs (receiver_card s) s.count (heard_of_run begins past) (thing_of s kept packet) key) →
+    count ≡ capped_count (s.count + 1) →
     name ≡ option_or (run_name_heard (thing_of s kept packet)) s.name →
-    TakesHeard strict (card_in s) kept s.count (thing_of s kept packet) key u t bytes →
-    (past : List (List ℕ)) → IsAfter past s → IsCountable past → IsCalm strict (heard (card_in s) past) →
-    TakesPacket past s packet (listening s count name ended t) bytes (to - from)
+    TakesHeard strict (receiver_card s) kept s.count (thing_of s kept packet) key u t bytes →
+    (past : List (List ℕ)) → HasReceived past s → IsCountable past → IsCalm strict (heard (receiver_card s) past) →
+    TakesReceivedPacket past s packet (listening s count name ended t) bytes (to - from)
 heard_opens strict s packet kept begins key count name ended u t bytes from to found turned judged added named takes =
     λ past after countable calm.
-    let card = card_in s in
+    let card = receiver_card s in
     let thing = thing_of s kept packet in
     let run_is = run_heard past s packet kept begins after found.begins_is in
     let stood = stands past s packet kept ended u after found.tuned
@@ -394,11 +394,11 @@ heard_opens strict s packet kept begins key count name ended u t bytes from to f
     (subst (λ (run : List Heard). IsCalm strict run) (sym run_is) (calm_run strict (heard card past) begins calm)) in
     let good = ap (λ (o : Offering). o.fault) known.offers ∙ taken.0.fault in
     let steps = steps_known past s packet kept begins from to after found in
-    let counts : t.written ≡ capped (wrote_before card past packet + length (offered card past packet).wrote) =
+    let counts : t.written ≡ capped_count (wrote_before card past packet + length (offered card past packet).wrote) =
     taken.0.counted (wrote_before card past packet) stood.written
-    ∙ ap capped (ap (λ (o : Offering). wrote_before card past packet + length o.wrote) (sym known.offers)) in
-    let wrote : t.written ≡ capped (run_wrote card (packet ∷ past)) =
-    counts ∙ ap capped (sym (wrote_now card past packet)) in
+    ∙ ap capped_count (ap (λ (o : Offering). wrote_before card past packet + length o.wrote) (sym known.offers)) in
+    let wrote : t.written ≡ capped_count (run_wrote card (packet ∷ past)) =
+    counts ∙ ap capped_count (sym (wrote_now card past packet)) in
     record {
       fault = good;
       bytes_are = taken.0.bytes_are ∙ ap (λ (o : Offering). concat o.wrote) (sym known.offers);
@@ -407,13 +407,13 @@ heard_opens strict s packet kept begins key count name ended u t bytes from to f
         count = omega (arith, added, after.count, countable, plus_one (length past));
         tuning = kept_tuning s.card.ca past packet s.tuning kept found.tuned after.tuning;
         name = named ∙ (ap (option_or (run_name_heard thing)) after.name
-            ∙ (name_now (heard card past) thing (run_name_heard thing) refl ∙ ap name_in (sym known.hearing)));
+            ∙ (name_now (heard card past) thing (run_name_heard thing) refl ∙ ap run_name_in (sym known.hearing)));
         so_far = stood.so_far_is;
         follows = subst (λ (h : List Heard). IsListenerAfter card h t) (sym known.hearing) taken.1;
         written = wrote;
-        total = ap (λ (n : ℕ). capped (ended.written + n)) counts
+        total = ap (λ (n : ℕ). capped_count (ended.written + n)) counts
             ∙ (stood.total (length (offered card past packet).wrote)
-            ∙ ap capped (sym (out_with card past packet after.unbroken)));
+            ∙ ap capped_count (sym (out_with card past packet after.unbroken)));
         unbroken = unbroken_more card past packet after.unbroken good;
         unrefused = after.unrefused;
       };
@@ -425,11 +425,11 @@ pub heard_does : (strict : Bool) (s : Receiver) (packet : List ℕ) (kept : Tuni
     (key : Option (List ℕ)) (count : ℕ)
     (name : Option (Option ℕ)) (ended : EndedRuns) (u t : Session) (bytes : List ℕ) (from to : ℕ) →
     Found s packet kept begins from to → TurnsBy begins s.name s.ended s.session u ended →
-    ((past : List Heard) → IsListenerAfter (card_in s) past s.session →
-    IsJudgedAs (card_in s) s.count (heard_of_run begins past) (thing_of s kept packet) key) →
-    count ≡ capped (s.count + 1) →
+    ((past : List Heard) → IsListenerAfter (receiver_card s) past s.session →
+    IsJudgedAs (receiver_card s) s.count (heard_of_run begins past) (thing_of s kept packet) key) →
+    count ≡ capped_count (s.count + 1) →
     name ≡ option_or (run_name_heard (thing_of s kept packet)) s.name →
-    TakesHeard strict (card_in s) kept s.count (thing_of s kept packet) key u t bytes →
+    TakesHeard strict (receiver_card s) kept s.count (thing_of s kept packet) key u t bytes →
     TakesBy strict s packet (listening s count name ended t) bytes (to - from)
 heard_does true s packet kept begins key count name ended u t bytes from to found turned judged added named takes =
     λ past after countable. heard_opens true s packet kept begins key count name ended u t bytes from to found turned
@@ -445,26 +445,26 @@ stopped_bytes strict a b bytes is written =
 
 -- a refusal, whichever receiver it is
 refuses_by : (strict : Bool) (s : Receiver) (packet : List ℕ) (why : StreamFault) (bytes : List ℕ) (steps : ℕ) →
-    ((past : List (List ℕ)) → IsAfter past s → IsCountable past → IsCalm strict (heard (card_in s) past) →
-    RefusesPacket strict past s packet why bytes steps) → RefusesBy strict s packet why bytes steps
-refuses_by true s packet why bytes steps refuses = λ past after countable. refuses past after countable tt
-refuses_by false s packet why bytes steps refuses = refuses
+    ((past : List (List ℕ)) → HasReceived past s → IsCountable past → IsCalm strict (heard (receiver_card s) past) →
+    RefusesReceivedPacket strict past s packet why bytes steps) → RefusesBy strict s packet why bytes steps
+refuses_by true s packet why bytes steps refused_offering = λ past after countable. refused_offering past after countable tt
+refuses_by false s packet why bytes steps refused_offering = refused_offering
 
 pub heard_refuses : (strict : Bool) (s : Receiver) (packet : List ℕ) (kept : Tuning) (begins : Bool)
     (ended : EndedRuns) (u : Session) (why : StreamFault) (bytes : List ℕ) (from to : ℕ) →
     Found s packet kept begins from to → TurnsBy begins s.name s.ended s.session u ended →
-    RefusesHeard strict (card_in s) kept s.count (thing_of s kept packet) u why bytes →
+    RefusesHeard strict (receiver_card s) kept s.count (thing_of s kept packet) u why bytes →
     RefusesBy strict s packet why bytes (to - from)
-heard_refuses strict s packet kept begins ended u why bytes from to found turned refuses =
+heard_refuses strict s packet kept begins ended u why bytes from to found turned refused_offering =
     refuses_by strict s packet why bytes (to - from) (λ past after countable calm.
-    let card = card_in s in
+    let card = receiver_card s in
     let thing = thing_of s kept packet in
     let run_is = run_heard past s packet kept begins after found.begins_is in
     let stood = stands past s packet kept ended u after found.tuned
     (subst (λ (b : Bool). TurnsBy b s.name s.ended s.session u ended) found.begins_is turned) in
     let open_yet = run_open past s packet kept begins from to after found in
     let known = was_known past s packet kept after found.tuned open_yet in
-    let stopped = refuses (of_run (heard card past) thing) stood.follows open_yet
+    let stopped = refused_offering (of_run (heard card past) thing) stood.follows open_yet
     (subst (λ (run : List Heard). IsCalm strict run) (sym run_is) (calm_run strict (heard card past) begins calm)) in
     record {
       fault = ap (λ (o : Offering). o.fault) known.offers ∙ stopped.fault;
@@ -475,22 +475,22 @@ heard_refuses strict s packet kept begins ended u why bytes from to found turned
 
 pub judged_refuses : (strict : Bool) (s : Receiver) (packet : List ℕ) (kept : Tuning) (begins : Bool)
     (key : Option (List ℕ)) (why : StreamFault) (from to : ℕ) → Found s packet kept begins from to →
-    ((past : List Heard) → IsListenerAfter (card_in s) past s.session →
-    Judgement (card_in s) s.count (heard_of_run begins past) (thing_of s kept packet) key (Err why)) →
+    ((past : List Heard) → IsListenerAfter (receiver_card s) past s.session →
+    Judgement (receiver_card s) s.count (heard_of_run begins past) (thing_of s kept packet) key (Err why)) →
     RefusesBy strict s packet why [] (to - from)
 judged_refuses strict s packet kept begins key why from to found judged =
     refuses_by strict s packet why [] (to - from) (λ past after countable calm.
-    let card = card_in s in
+    let card = receiver_card s in
     let thing = thing_of s kept packet in
     let run_is = run_heard past s packet kept begins after found.begins_is in
     let known = was_known past s packet kept after found.tuned (run_open past s packet kept begins from to after found)
     in
-    let offers : offered card past packet ≡ refuses why = known.offers
+    let offers : offered card past packet ≡ refused_offering why = known.offers
     ∙ (ap (λ (run : List Heard). heard_offering card kept s.count run thing) run_is
     ∙ judged (heard card past) after.follows kept) in
     record {
       fault = ap (λ (o : Offering). o.fault) offers;
-      bytes_are = stopped_bytes strict (offered card past packet) (refuses why) [] offers (if_none strict);
+      bytes_are = stopped_bytes strict (offered card past packet) (refused_offering why) [] offers (if_none strict);
       few = steps_known past s packet kept begins from to after found;
     })
   where
@@ -515,8 +515,8 @@ turned_open card begins name before ended l u turned (past, follows) goes_on =
 
 -- a refused packet leaves what is kept, if it begins no run
 stands_still : (s : Receiver) (ended : EndedRuns) (u t : Session) → TurnsBy false s.name s.ended s.session u ended →
-    IsStill (card_in s) u t → (past : List (List ℕ)) → IsAfter past s →
-    IsAfter past (listening s s.count s.name ended t)
+    IsStill (receiver_card s) u t → (past : List (List ℕ)) → HasReceived past s →
+    HasReceived past (listening s s.count s.name ended t)
 stands_still s ended u t turned still past after =
     let is = turned.0 refl in
     let wrote : t.written ≡ s.session.written = still.written ∙ ap (λ (l : Session). l.written) is.0 in
@@ -525,11 +525,11 @@ stands_still s ended u t turned still past after =
       tuning = after.tuning;
       name = after.name;
       so_far = ap (λ (e : EndedRuns). e.so_far) is.1 ∙ after.so_far;
-      follows = still.follows (heard (card_in s) past)
-          (subst (λ (l : Session). IsListenerAfter (card_in s) (heard (card_in s) past) l) (sym is.0) after.follows);
+      follows = still.follows (heard (receiver_card s) past)
+          (subst (λ (l : Session). IsListenerAfter (receiver_card s) (heard (receiver_card s) past) l) (sym is.0) after.follows);
       written = wrote ∙ after.written;
-      total = ap (λ (e : EndedRuns). capped (e.written + t.written)) is.1
-          ∙ (ap (λ (n : ℕ). capped (s.ended.written + n)) wrote ∙ after.total);
+      total = ap (λ (e : EndedRuns). capped_count (e.written + t.written)) is.1
+          ∙ (ap (λ (n : ℕ). capped_count (s.ended.written + n)) wrote ∙ after.total);
       unbroken = after.unbroken;
       unrefused = after.unrefused;
     }
@@ -544,7 +544,7 @@ of_taken (Err fault) taken says = absurd (taken fault refl)
 pub grew_of : (T : Session → List ℕ → Type 0) (R : StreamFault → List ℕ → Type 0) (C : List ℕ → Type 0)
     (u v : SinkState) (t : Session)
     (result : Result (Unit {0}) (StageFault StreamFault)) (from to : ℕ) (Says : List ℕ → ℕ → Type 0) →
-    PacketOutcome T R C u v t result →
+    SessionOutcome T R C u v t result →
     ((bytes : List ℕ) → T t bytes → Says bytes (to - from)) → OnOk result (HasGrown u v from to Says)
 grew_of T R C u v t (Ok done) from to Says comes says = record {
   bytes = comes.bytes;
@@ -560,10 +560,10 @@ pub refused_of : (T : Session → List ℕ → Type 0) (R : StreamFault → List
     (u v : SinkState) (t : Session)
     (result : Result (Unit {0}) (StageFault StreamFault)) (from to : ℕ) (fault : StreamFault)
     (Says : List ℕ → ℕ → Type 0) →
-    result ≡ Err (Refused fault) → PacketOutcome T R C u v t result →
+    result ≡ Err (Refused fault) → SessionOutcome T R C u v t result →
     ((bytes : List ℕ) → R fault bytes → Says bytes (to - from)) → HasGrown u v from to Says
 refused_of T R C u v t result from to fault Says is comes says =
-    let some = subst (λ (r : Result (Unit {0}) (StageFault StreamFault)). PacketOutcome T R C u v t r) is comes in
+    let some = subst (λ (r : Result (Unit {0}) (StageFault StreamFault)). SessionOutcome T R C u v t r) is comes in
     record {
       bytes = some.bytes;
       steps = to - from;
@@ -575,7 +575,7 @@ refused_of T R C u v t result from to fault Says is comes says =
 
 pub cut_of : (strict : Bool) (T : Session → List ℕ → Type 0) (R : StreamFault → List ℕ → Type 0) (u v : SinkState)
     (t : Session) (result : Result (Unit {0}) (StageFault StreamFault)) (from to : ℕ) (s : Receiver) (packet : List ℕ)
-    (C : List ℕ → Type 0) → IsErrOf result Write → PacketOutcome T R C u v t result →
+    (C : List ℕ → Type 0) → IsErrOf result Write → SessionOutcome T R C u v t result →
     ((bytes : List ℕ) → C bytes → CutsBy strict s packet from to bytes) →
     IsCutShort u v (CutsBy strict s packet from to)
 cut_of strict T R u v t (Ok done) from to s packet C is comes cuts = absurd (grind (arith, is))
@@ -596,22 +596,22 @@ pub cuts_by : (strict : Bool) (s : Receiver) (packet : List ℕ) (from to : ℕ)
     ((fault : StreamFault) → Refuses fault → RefusesBy strict s packet fault bytes (to - from)) →
     ((x : Session) × Takes x) ⊎ ((strict ≡ true) × (fault : StreamFault) × Refuses fault) →
     CutsBy strict s packet from to bytes
-cuts_by true s packet from to bytes Takes Refuses takes refuses (inl h) =
+cuts_by true s packet from to bytes Takes Refuses takes refused_offering (inl h) =
     (to - from, omega arith, inl (takes h.0 h.1))
-cuts_by true s packet from to bytes Takes Refuses takes refuses (inr h) =
-    (to - from, omega arith, inr (h.1, s, refuses h.1 h.2))
-cuts_by false s packet from to bytes Takes Refuses takes refuses (inl h) =
+cuts_by true s packet from to bytes Takes Refuses takes refused_offering (inr h) =
+    (to - from, omega arith, inr (h.1, s, refused_offering h.1 h.2))
+cuts_by false s packet from to bytes Takes Refuses takes refused_offering (inl h) =
     let y = takes h.0 h.1 in (to - from, omega arith, y.0, y.1)
-cuts_by false s packet from to bytes Takes Refuses takes refuses (inr h) = absurd (true≢false (sym h.0))
+cuts_by false s packet from to bytes Takes Refuses takes refused_offering (inr h) = absurd (true≢false (sym h.0))
 
 -- it may be offered a packet still, where this one isn't refused
 pub fit_after : (s : Receiver) (count : ℕ) (name : Option (Option ℕ)) (ended : EndedRuns) (u t : Session)
     (tuning : Tuning) (n : ℕ) (thing : Heard) (key : Option (List ℕ)) (R : StreamFault → List ℕ → Type 0)
     (C : List ℕ → Type 0) (v w : SinkState) (result : Result (Unit {0}) (StageFault StreamFault)) →
-    (past : List Heard) × IsListenerAfter (card_in s) past u × IsJudgedAs (card_in s) n past thing key →
+    (past : List Heard) × IsListenerAfter (receiver_card s) past u × IsJudgedAs (receiver_card s) n past thing key →
     u.closed ≡ false → IfSome s.tuning (λ kept. kept.ecm < 8192) →
-    PacketOutcome (TakesHeard true (card_in s) tuning n thing key u) R C v w t result →
-    OnOk result (IsFit (listening s count name ended t))
+    SessionOutcome (TakesHeard true (receiver_card s) tuning n thing key u) R C v w t result →
+    OnOk result (IsSoundReceiver (listening s count name ended t))
 fit_after s count name ended u t tuning n thing key R C v w (Ok done) (past, follows, judged) unclosed ecm comes =
     record {
       ecm = ecm;
@@ -623,15 +623,15 @@ fit_after s count name ended u t tuning n thing key R C v w (Err fault) live unc
 pub found_of : (s : Receiver) (packet : List ℕ) (kept : Tuning) (thing : Heard) (name : Option (Option ℕ))
     (begins : Bool) (from to : ℕ) → s.tuning ≡ Some kept → thing ≡ thing_of s kept packet →
     name ≡ run_name_heard thing → begins ≡ are_two s.name name → (s.session.closed && not begins) ≡ false →
-    ((past : List Heard) → IsListenerAfter (card_in s) past s.session →
-    to ≤ from + (if takes_key_of (card_in s) (heard_of_run begins past) thing then s.card.height else 0)) →
+    ((past : List Heard) → IsListenerAfter (receiver_card s) past s.session →
+    to ≤ from + (if takes_key_of (receiver_card s) (heard_of_run begins past) thing then s.card.height else 0)) →
     Found s packet kept begins from to
 found_of s packet kept thing name begins from to tuned is named begins_is goes_on few = record {
   tuned = tuned;
   begins_is = begins_is ∙ ap (are_two s.name) (named ∙ ap run_name_heard is);
   goes_on = goes_on;
-  few = subst (λ (h : Heard). (past : List Heard) → IsListenerAfter (card_in s) past s.session →
-      to ≤ from + (if takes_key_of (card_in s) (heard_of_run begins past) h then s.card.height else 0)) is few;
+  few = subst (λ (h : Heard). (past : List Heard) → IsListenerAfter (receiver_card s) past s.session →
+      to ≤ from + (if takes_key_of (receiver_card s) (heard_of_run begins past) h then s.card.height else 0)) is few;
 }
 
 -- what has no name begins no run
@@ -640,12 +640,12 @@ nameless None two = true≢false (sym two)
 nameless (Some name) two = true≢false (sym two)
 
 -- before anything was heard nothing is wrong with a part, nor with the message that it completes
-first_run : (part : EcmPart) → run_to (newest []) part ≡ (if part.part == 0 then part ∷ [] else [])
-unfolding run_to newest run_of counted_of
+first_run : (part : EcmPart) → message_parts_to (newest_message []) part ≡ (if part.part == 0 then part ∷ [] else [])
+unfolding message_parts_to newest_message run_of_parts counted_of
 first_run part = refl
 
-first_fault : (part : EcmPart) → IsEcm part → part_fault (run_to (newest []) part) ≡ None
-unfolding places_of
+first_fault : (part : EcmPart) → IsEcm part → part_fault (message_parts_to (newest_message []) part) ≡ None
+unfolding part_positions
 first_fault part form =
     ap part_fault (first_run part)
     ∙ elim (cases_Bool (part.part == 0)) [
@@ -655,7 +655,7 @@ first_fault part form =
 
 first_message : (card : CardFields) (tuning : Tuning) (n : ℕ) (message : Option Message) →
     (message_offering card tuning n [] message).fault ≡ None
-unfolding newest is_back current key_in seen
+unfolding newest_message is_back current key_in sections_seen
 first_message card tuning n None = refl
 first_message card tuning n (Some message) = rw (le-ltb message.period 0 (omega arith)) refl
 
@@ -688,20 +688,20 @@ pub begins_none : (strict : Bool) (s : Receiver) (packet : List ℕ) (kept : Tun
     (fault : StreamFault) → IsFormed s.card.height h →
     begins ≡ are_two s.name (run_name_heard (heard_as s.count packet h)) →
     TurnsBy begins s.name s.ended s.session u ended →
-    ((past : List Heard) → IsListenerAfter (card_in s) past s.session →
-    IsJudgedAs (card_in s) s.count (heard_of_run begins past) (heard_as s.count packet h) key) →
+    ((past : List Heard) → IsListenerAfter (receiver_card s) past s.session →
+    IsJudgedAs (receiver_card s) s.count (heard_of_run begins past) (heard_as s.count packet h) key) →
     result ≡ Err (Refused fault) →
-    PacketOutcome (TakesHeard true (card_in s) kept s.count (heard_as s.count packet h) key u)
-    (RefusesHeard strict (card_in s) kept s.count (heard_as s.count packet h) u) C v w t result →
-    (past : List Heard) → IsListenerAfter (card_in s) past s.session → begins ≡ false
+    SessionOutcome (TakesHeard true (receiver_card s) kept s.count (heard_as s.count packet h) key u)
+    (RefusesHeard strict (receiver_card s) kept s.count (heard_as s.count packet h) u) C v w t result →
+    (past : List Heard) → IsListenerAfter (receiver_card s) past s.session → begins ≡ false
 begins_none strict s packet kept h false key ended u t C v w result fault form is turned judged bad comes past
     follows = refl
 begins_none strict s packet kept h true key ended u t C v w result fault form is turned judged bad comes past
     follows =
-    let card = card_in s in
+    let card = receiver_card s in
     let thing = heard_as s.count packet h in
     let says = (subst (λ (r : Result (Unit {0}) (StageFault StreamFault)).
-    PacketOutcome (TakesHeard true card kept s.count thing key u) (RefusesHeard strict card kept s.count thing u) C v w
+    SessionOutcome (TakesHeard true card kept s.count thing key u) (RefusesHeard strict card kept s.count thing u) C v w
     t r) bad comes).says in
     let stops = says [] ((turned.1 refl).follows card past follows) none_closed (calm_none strict) in
     let passes = first_passes card kept s.count s.count s.card.height packet h s.name key form (sym is)
@@ -710,8 +710,8 @@ begins_none strict s packet kept h true key ended u t C v w result fault form is
 
 -- after it the receiver is after the same packets as before it
 pub stands_after : (begins : Bool) (s : Receiver) (ended : EndedRuns) (u t : Session) → begins ≡ false →
-    TurnsBy begins s.name s.ended s.session u ended → IsStill (card_in s) u t →
-    (past : List (List ℕ)) → IsAfter past s → IsAfter past (listening s s.count s.name ended t)
+    TurnsBy begins s.name s.ended s.session u ended → IsStill (receiver_card s) u t →
+    (past : List (List ℕ)) → HasReceived past s → HasReceived past (listening s s.count s.name ended t)
 stands_after begins s ended u t none turned still past after =
     stands_still s ended u t (subst (λ (b : Bool). TurnsBy b s.name s.ended s.session u ended) none turned) still past
     after
@@ -763,7 +763,7 @@ ecm_fits ca packet (Some kept) is =
 -- before the first packet
 pub first_after : (card : Card) (session : Session) → session.written ≡ 0 →
     ((fields : CardFields) → IsListenerAfter fields [] session) →
-    IsAfter [] (record {
+    HasReceived [] (record {
       card = card;
       count = 0;
       tuning = None;
@@ -772,7 +772,7 @@ pub first_after : (card : Card) (session : Session) → session.written ≡ 0 �
       session = session;
       refusal = None;
     })
-unfolding tuning_of heard break_from name_in ended_before run_wrote out_from
+unfolding tuning_of heard break_from run_name_in ended_before run_wrote out_from
 first_after card session none follows = record {
   count = refl;
   tuning = refl;

@@ -18,26 +18,26 @@ use Rattle.sd_psi.specs.declared.our_cat.Tuning.{Tuning}
 use Rattle.sd_engine.specs.Stage.{SinkState}
 use Rattle.sd_engine.specs.declared.stage.StageFault.{StageFault}
 use Rattle.sd_spec.specs.Heard.{Heard, Controls}
-use Rattle.sd_spec.specs.Stretches.{Stretch, newest, held_in}
+use Rattle.sd_spec.specs.Stretches.{Stretch, newest_message, held_in}
 use Rattle.sd_spec.specs.Keys.{key_at}
-use Rattle.sd_spec.specs.Confirmed.{Segment, Wrote, written_from, judged, then_wrote, tracked, is_confirmed, is_foreign}
+use Rattle.sd_spec.specs.Confirmed.{Segment, WrittenPackets, written_from, judged_packet, then_segment_output, tracked, is_confirmed, is_foreign}
 use Rattle.sd_spec.specs.Confirmed.{unmarked, is_foreign_under}
 use Rattle.sd_spec.specs.Counting.{holds_stray, is_scrambled_packet}
 use Rattle.sd_spec.specs.Offered.{Offering, most_held, segment_wrote, stretch_wrote, word_fault}
 use Rattle.sd_spec.specs.Offered.{heard_offering}
 use Rattle.sd_receive.specs.PeriodKeys.{key_kept}
-use Rattle.sd_receive.specs.Session.{IsListenerAtMessage, IsWordOf, TakesMessage, RefusesMessage, CutsMessage}
+use Rattle.sd_receive.specs.Session.{IsListenerAtMessage, IsWordTold, TakesMessage, RefusesHeardMessage, CutsMessage}
 use Rattle.sd_receive.specs.Session.{fault_first}
-use Rattle.sd_receive.specs.Session.{TookSome, PacketOutcome}
+use Rattle.sd_receive.specs.Session.{TookSome, SessionOutcome}
 use Rattle.sd_receive.specs.declared.session.Session.{Session}
 use Rattle.sd_receive.proofs.Listening.{took_nothing, comes_weaker}
 use Rattle.sd_receive.proofs.Messages.{key_ahead}
 use Rattle.sd_receive.proofs.Offering.{part_completes}
 
 -- a packet that isn't stray is judged right
-right_then : (clear foreign confirmed : Bool) (a b : List (List ℕ)) (n : ℕ) (rest : Wrote) →
+right_then : (clear foreign confirmed : Bool) (a b : List (List ℕ)) (n : ℕ) (rest : WrittenPackets) →
     (not clear && foreign) ≡ false → rest.refused ≡ None →
-    (then_wrote (if clear then Ok a else if foreign then Err n else if confirmed then Ok b else Ok []) rest).refused
+    (then_segment_output (if clear then Ok a else if foreign then Err n else if confirmed then Ok b else Ok []) rest).refused
     ≡ None
 right_then true foreign confirmed a b n rest calm none = none
 right_then false true confirmed a b n rest calm none = absurd (true≢false calm)
@@ -48,7 +48,7 @@ right_then false false false a b n rest calm none = none
 none_refused : (segment : Segment) (before : List (List ℕ)) (held : List (ℕ × List ℕ)) →
     list_any (λ h. is_scrambled_packet h.1 && is_foreign_under segment.first.word h.1) held ≡ false →
     (written_from segment before held).refused ≡ None
-unfolding written_from judged
+unfolding written_from judged_packet
 none_refused segment before [] calm = refl
 none_refused segment before (h ∷ more) calm =
     let parts = or_parts (is_scrambled_packet h.1 && is_foreign_under segment.first.word h.1)
@@ -59,12 +59,12 @@ none_refused segment before (h ∷ more) calm =
     (written_from segment (before ++ h.1 ∷ []) more) parts.0
     (none_refused segment (before ++ h.1 ∷ []) more parts.1)
 
-either_calm : (test : Bool) (a b : Wrote) → a.refused ≡ None → b.refused ≡ None →
+either_calm : (test : Bool) (a b : WrittenPackets) → a.refused ≡ None → b.refused ≡ None →
     (if test then a else b).refused ≡ None
 either_calm true a b p q = p
 either_calm false a b p q = q
 
-abbrev nothing : Wrote
+abbrev nothing : WrittenPackets
 nothing = record { packets = []; refused = None }
 
 -- what is held after message a, which no stray packet is
@@ -106,17 +106,17 @@ word_alone card tuning n past part head s done calm =
     ap (λ (o : Offering). o.fault) (part_completes card tuning n past part message done.assembler.fault
     done.assembler.complete)
     ∙ ap (λ (r : Option ℕ). option_map_or (λ m. Some (Fault.Parity m)) r bad)
-    (stretch_calm card tuning (newest past) (newest past).message message calm)
+    (stretch_calm card tuning (newest_message past) (newest_message past).message message calm)
 
 -- a message whose word is wrong is refused before anything is written
 pub word_first : (strict : Bool) (card : CardFields) (tuning : Tuning) (n : ℕ) (head : EcmHead) (s : Session)
     (found : Result (Option (List ℕ)) StreamFault) (fault : StreamFault) (u : SinkState) →
-    fault_first strict found ≡ Some fault → IsWordOf n head (key_kept s.keys head.period) found →
-    TookSome u u (RefusesMessage strict card tuning n head s fault)
+    fault_first strict found ≡ Some fault → IsWordTold n head (key_kept s.keys head.period) found →
+    TookSome u u (RefusesHeardMessage strict card tuning n head s fault)
 word_first true card tuning n head s found fault u first told = absurd cc
 word_first false card tuning n head s (Ok word) fault u first told = absurd cc
 word_first false card tuning n head s (Err why) fault u first told =
-    took_nothing u (RefusesMessage false card tuning n head s fault) (λ past part done calm. record {
+    took_nothing u (RefusesHeardMessage false card tuning n head s fault) (λ past part done calm. record {
       fault = word_alone card tuning n past part head s done calm
           ∙ (subst (λ (k : Option (List ℕ)).
           word_fault n (message_of head s.assembler.coming.places.items) k ≡ Some why)
@@ -130,10 +130,10 @@ no_fault fault why none some = cc
 -- one whose word is right isn't refused
 word_right : (card : CardFields) (tuning : Tuning) (n : ℕ) (head : EcmHead) (s t : Session)
     (word : Option (List ℕ)) (u v : SinkState) (result : Result (Unit {0}) (StageFault StreamFault)) →
-    IsWordOf n head (key_kept s.keys head.period) (Ok word) →
-    PacketOutcome (TakesMessage true card tuning n head s) (RefusesMessage true card tuning n head s)
+    IsWordTold n head (key_kept s.keys head.period) (Ok word) →
+    SessionOutcome (TakesMessage true card tuning n head s) (RefusesHeardMessage true card tuning n head s)
     (CutsMessage true card tuning n head s) u v t result →
-    PacketOutcome (TakesMessage true card tuning n head s) (RefusesMessage false card tuning n head s)
+    SessionOutcome (TakesMessage true card tuning n head s) (RefusesHeardMessage false card tuning n head s)
     (CutsMessage false card tuning n head s) u v t result
 word_right card tuning n head s t word u v result right comes =
     let good : (past : List Heard) (part : EcmPart) → IsListenerAtMessage card past part head s →
@@ -142,7 +142,7 @@ word_right card tuning n head s t word u v result right comes =
     ∙ subst (λ (k : Option (List ℕ)). word_fault n (message_of head s.assembler.coming.places.items) k ≡ None)
     (key_ahead card past part head s done) right.1 in
     comes_weaker (TakesMessage true card tuning n head s) (TakesMessage true card tuning n head s)
-    (RefusesMessage true card tuning n head s) (RefusesMessage false card tuning n head s)
+    (RefusesHeardMessage true card tuning n head s) (RefusesHeardMessage false card tuning n head s)
     (CutsMessage true card tuning n head s) (CutsMessage false card tuning n head s) u v t result
     (λ x bytes takes. takes)
     (λ fault bytes refuses past part done calm. absurd (no_fault
@@ -163,10 +163,10 @@ word_right card tuning n head s t word u v result right comes =
 pub word_not_first : (strict : Bool) (card : CardFields) (tuning : Tuning) (n : ℕ) (head : EcmHead) (s t : Session)
     (found : Result (Option (List ℕ)) StreamFault) (u v : SinkState)
     (result : Result (Unit {0}) (StageFault StreamFault)) → fault_first strict found ≡ None →
-    IsWordOf n head (key_kept s.keys head.period) found →
-    PacketOutcome (TakesMessage true card tuning n head s) (RefusesMessage true card tuning n head s)
+    IsWordTold n head (key_kept s.keys head.period) found →
+    SessionOutcome (TakesMessage true card tuning n head s) (RefusesHeardMessage true card tuning n head s)
     (CutsMessage true card tuning n head s) u v t result →
-    PacketOutcome (TakesMessage true card tuning n head s) (RefusesMessage strict card tuning n head s)
+    SessionOutcome (TakesMessage true card tuning n head s) (RefusesHeardMessage strict card tuning n head s)
     (CutsMessage strict card tuning n head s) u v t result
 word_not_first true card tuning n head s t found u v result first told comes = comes
 word_not_first false card tuning n head s t (Err why) u v result first told comes = absurd cc

@@ -13,12 +13,12 @@ use Rattle.std.proofs.lemmas.List.Folds.{list_any-append}
 use Rattle.sd_packet.specs.Header.{pid_of}
 use Rattle.sd_packet.specs.Positions.{is_moving, moved, moved_by, first_position}
 use Rattle.sd_packet.proofs.Positions.{one_more, none_moves, more_packets, moved_by_near}
-use Rattle.sd_message.specs.EcmForm.{AreShort, AreAscending}
+use Rattle.sd_message.specs.EcmForm.{AreShort, ArePidsAscending}
 use Rattle.sd_message.specs.declared.ecm_part.Place.{Place}
 use Rattle.sd_spec.specs.Confirmed.{position_or_first, position_in}
 use Rattle.sd_receive.specs.declared.buffer.tracked.HeldPacket.{HeldPacket}
-use Rattle.sd_receive.specs.Tracking.{pids_in, packets_in, led_to, IsTracked, IsClearBut, AreKnown}
-use Rattle.sd_receive.specs.Tracking.{HaveOwn}
+use Rattle.sd_receive.specs.Tracking.{pids_in, packets_in, led_to, IsTracked, IsClearBut, ArePositionPids}
+use Rattle.sd_receive.specs.Tracking.{HavePositionsLedTo}
 use Rattle.sd_receive.proofs.Places.{none_found, none_before, same_found, other_found, start_short}
 
 -- a table of first positions is one of no place
@@ -52,8 +52,8 @@ started places place table none known is = record {
 
 -- the next place in a table
 pub next_started : (places : List Place) (i : ℕ) (d : Place) (table : List ℕ) → i < length places →
-    AreAscending places →
-    AreKnown places → IsTracked (take i places) [] table →
+    ArePidsAscending places →
+    ArePositionPids places → IsTracked (take i places) [] table →
     IsTracked (take (i + 1) places) [] (set table (get_or places i d).pid (get_or places i d).position)
 next_started places i d table within up known is =
     rw (take_more places i d within) (started (take i places) (get_or places i d) table
@@ -74,7 +74,7 @@ cleared pid pids table known is = record {
 
 -- one place less to clear
 pub place_cleared : (places : List Place) (i : ℕ) (d : Place) (pids table : List ℕ) → i < length places →
-    AreKnown places → IsClearBut (pids_in (drop i places) ++ pids) table →
+    ArePositionPids places → IsClearBut (pids_in (drop i places) ++ pids) table →
     IsClearBut (pids_in (drop (i + 1) places) ++ pids) (set table (get_or places i d).pid first_position)
 place_cleared places i d pids table within known is =
     cleared (get_or places i d).pid (pids_in (drop (i + 1) places) ++ pids) table (known i d within)
@@ -153,9 +153,9 @@ led_further places packets k pid =
     omega (arith, same, moved_by_near pid (moved_by pid (position_or_first places pid) (take k packets)) (drop k packets))
 
 -- one held packet more, with the position to which it leads its PID
-pub own_more : (places : List Place) (held : List HeldPacket) (one : HeldPacket) → HaveOwn places held →
+pub own_more : (places : List Place) (held : List HeldPacket) (one : HeldPacket) → HavePositionsLedTo places held →
     one.position ≡ led_to places (packets_in held ++ one.packet ∷ []) (pid_of one.packet) →
-    HaveOwn places (held ++ one ∷ [])
+    HavePositionsLedTo places (held ++ one ∷ [])
 own_more places held one own is k d within =
     let packets = packets_in held in
     let all : packets_in (held ++ one ∷ []) ≡ packets ++ one.packet ∷ [] =

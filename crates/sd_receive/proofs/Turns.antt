@@ -12,7 +12,7 @@ use Rattle.sd_spec.specs.Tuned.{tuning_of}
 use Rattle.sd_psi.specs.declared.our_cat.Tuning.{Tuning}
 use Rattle.sd_spec.specs.Heard.{Heard, hears}
 use Rattle.sd_spec.specs.Stretches.{is_closed}
-use Rattle.sd_spec.specs.Runs.{run_name_heard, name_or, name_in, are_two, is_turn, of_run}
+use Rattle.sd_spec.specs.Runs.{run_name_heard, name_or, run_name_in, are_two, is_turn, of_run}
 use Rattle.sd_spec.specs.Offered.{no_offering, heard, offered, heard_offering, out_from, break_from}
 use Rattle.sd_spec.specs.Ending.{turns_at, run_wrote}
 use Rattle.sd_spec.proofs.Runs.{same_run}
@@ -95,13 +95,13 @@ or_any (Some n) None b c two = absurd (false≢true two)
 
 -- the name of the run at hand, once a thing is heard
 pub name_now : (past : List Heard) (thing : Heard) (name : Option (Option ℕ)) → name ≡ run_name_heard thing →
-    option_or name (name_in past) ≡ name_in (thing ∷ of_run past thing)
-unfolding name_in is_turn
+    option_or name (run_name_in past) ≡ run_name_in (thing ∷ of_run past thing)
+unfolding run_name_in is_turn
 name_now past thing name is =
-    or_same name (name_in past) ∙ (ap (λ (n : Option (Option ℕ)). name_or n (name_in past)) is
+    or_same name (run_name_in past) ∙ (ap (λ (n : Option (Option ℕ)). name_or n (run_name_in past)) is
     ∙ tested (is_turn past thing)
-    (λ turns. or_any (name_in past) (run_name_heard thing) (name_in past) (name_in (of_run past thing)) turns)
-    (λ stays. ap (λ (p : List Heard). name_or (run_name_heard thing) (name_in p)) (sym (same_run past thing stays))))
+    (λ turns. or_any (run_name_in past) (run_name_heard thing) (run_name_in past) (run_name_in (of_run past thing)) turns)
+    (λ stays. ap (λ (p : List Heard). name_or (run_name_heard thing) (run_name_in p)) (sym (same_run past thing stays))))
 
 -- how many packets were written of the run that is at hand with a packet, before it
 abbrev pub wrote_before : CardFields → List (List ℕ) → List ℕ → ℕ

@@ -7,7 +7,7 @@ use Rattle.std.specs.Option.{option_map_or}
 use Rattle.std.proofs.lemmas.Bool.{cases_lt, eq-eqb, ne_eqb, le-ltb, lt-ltb}
 use Rattle.std.proofs.lemmas.List.{take_all, get_or_default}
 use Rattle.std.proofs.lemmas.List.Folds.{list_any_at, list_any_more}
-use Rattle.sd_message.specs.EcmForm.{AreAscending}
+use Rattle.sd_message.specs.EcmForm.{ArePidsAscending}
 use Rattle.sd_message.specs.declared.ecm_part.Place.{Place}
 use Rattle.sd_spec.specs.Confirmed.{position_in}
 
@@ -72,7 +72,7 @@ lower coming places met i d walked some within same below =
     sym (list_any_at (lacks coming) places met d some here)
 
 -- one place more was seen, which is the next that is to be met
-pub met_more : (coming places : List Place) (met i : ℕ) (d : Place) → AreAscending coming → AreAscending places →
+pub met_more : (coming places : List Place) (met i : ℕ) (d : Place) → ArePidsAscending coming → ArePidsAscending places →
     IsWalked coming places met i → met < length places → i < length coming →
     (get_or coming i d).pid ≡ (get_or places met d).pid → (get_or places met d).position ≤
     (get_or coming i d).position →

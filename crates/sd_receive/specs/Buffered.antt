@@ -6,9 +6,9 @@ use Rattle.sd_message.specs.EcmParts.{Message}
 use Rattle.sd_message.specs.declared.ecm_part.Place.{Place}
 use Rattle.sd_message.specs.declared.ecm_message.EcmHead.{EcmHead}
 use Rattle.sd_spec.specs.Heard.{Heard}
-use Rattle.sd_spec.specs.Stretches.{Stretch, newest, held_in}
+use Rattle.sd_spec.specs.Stretches.{Stretch, newest_message, held_in}
 use Rattle.sd_spec.specs.Keys.{key_at}
-use Rattle.sd_spec.specs.Confirmed.{Wrote}
+use Rattle.sd_spec.specs.Confirmed.{WrittenPackets}
 use Rattle.sd_receive.specs.PacketBuffer.{Holding, after_message}
 use Rattle.sd_receive.specs.Writing.{wrote_of}
 use Rattle.sd_spec.specs.Offered.{most_held}
@@ -32,15 +32,15 @@ held_after card stretch (Some message) =
 -- the packets that are buffered after what was heard: those after the newest complete message [this project,
 -- docs/FORMATS.md, Receiver]
 unfoldable pub holding_after : CardFields → List Heard → Option Holding
-holding_after card past = held_after card (newest past) (newest past).message
+holding_after card past = held_after card (newest_message past) (newest_message past).message
 
 -- nothing is written
-abbrev pub unwritten : Wrote
+abbrev pub unwritten : WrittenPackets
 unwritten = record { packets = []; refused = None }
 
 -- what is written of the buffered packets with a complete message of these positions, if its `since` is at most the
 -- number of the one before it
-abbrev pub pair_wrote : Option EcmHead → Option Holding → ℕ → ℕ → ℕ → List Place → Wrote
+abbrev pub pair_wrote : Option EcmHead → Option Holding → ℕ → ℕ → ℕ → List Place → WrittenPackets
 pair_wrote None held since ca ecm places = unwritten
 pair_wrote (Some last) held since ca ecm places = if nat_le since last.number then wrote_of held ca ecm places else
     unwritten

@@ -8,7 +8,7 @@ use Rattle.sd_message.specs.declared.ecm_message.EcmHead.{EcmHead}
 use Rattle.sd_message.specs.declared.ecm_fault.EcmFault.{EcmFault}
 use Rattle.sd_message.specs.declared.ecm_fault.EcmFault.TheVariants.{Back}
 use Rattle.sd_spec.specs.Heard.{Heard, Controls}
-use Rattle.sd_spec.specs.Stretches.{counted, run_of, run_to, newest, completes}
+use Rattle.sd_spec.specs.Stretches.{counted_parts, run_of_parts, message_parts_to, newest_message, completes}
 use Rattle.sd_spec.specs.Offered.{part_fault, is_back}
 use Rattle.sd_message.specs.EcmForm.{ArePlaces}
 use Rattle.sd_receive.specs.PartialEcm.{IsGathered}
@@ -18,7 +18,7 @@ use Rattle.sd_receive.specs.declared.ecm.EcmProgress.TheVariants.{Waits, Complet
 
 -- the parts that are being collected, the newest first
 unfoldable pub parts_collected : List Heard → List EcmPart
-parts_collected past = run_of (counted (newest past).message (newest past).after)
+parts_collected past = run_of_parts (counted_parts (newest_message past).message (newest_message past).after)
 
 -- what a message says and its positions are kept, or that there is no message
 pub record IsMessageKept (message : Option Message) (head : Option EcmHead) (all : List Place) : Type 0 where
@@ -28,7 +28,7 @@ pub record IsMessageKept (message : Option Message) (head : Option EcmHead) (all
 -- the newest complete message and the parts of the next one that arrived are kept
 pub record IsCollected (past : List Heard) (state : EcmAssembler) : Type 0 where
   pub run : IsGathered (parts_collected past) state.partial.part state.partial.places.items
-  pub last : IsMessageKept (newest past).message state.last state.places.items
+  pub last : IsMessageKept (newest_message past).message state.last state.places.items
 
 -- why the complete message is refused, if there is one and it goes back
 abbrev pub back_fault : List Heard → Option Message → Option EcmFault
@@ -36,20 +36,20 @@ back_fault past None = None
 back_fault past (Some message) = if is_back past message then Some Back else None
 
 -- why a part is refused: by itself, or as the last of its message [this project, docs/FORMATS.md, Receiver]
-unfoldable pub fault_of : List Heard → EcmPart → Option EcmFault
-fault_of past part =
-    option_map_or Some (part_fault (run_to (newest past) part)) (back_fault past (completes past (Controls part)))
+unfoldable pub part_fault_of : List Heard → EcmPart → Option EcmFault
+part_fault_of past part =
+    option_map_or Some (part_fault (message_parts_to (newest_message past) part)) (back_fault past (completes past (Controls part)))
 
 -- Nothing is wrong with a part, and it completes no message.
 pub record IsWaiting (past : List Heard) (part : EcmPart) (state : EcmAssembler) : Type 0 where
-  pub fault : fault_of past part ≡ None
+  pub fault : part_fault_of past part ≡ None
   pub incomplete : completes past (Controls part) ≡ None
   pub after : IsCollected (Controls part ∷ past) state
 
 -- Nothing is wrong with a part, and it completes the message that says this. Its positions are at hand, and what was
 -- kept before the part still is.
 pub record IsComplete (past : List Heard) (part : EcmPart) (head : EcmHead) (state : EcmAssembler) : Type 0 where
-  pub fault : fault_of past part ≡ None
+  pub fault : part_fault_of past part ≡ None
   pub complete : completes past (Controls part) ≡ Some (message_of head state.coming.places.items)
   pub ends : state.coming.part ≡ Some part
   pub says : head ≡ ecm_head_of part
@@ -60,4 +60,4 @@ pub record IsComplete (past : List Heard) (part : EcmPart) (head : EcmHead) (sta
 abbrev pub PartOutcome : List Heard → EcmPart → EcmAssembler → Result EcmProgress EcmFault → Type 0
 PartOutcome past part state (Ok Waits) = IsWaiting past part state
 PartOutcome past part state (Ok (Complete head)) = IsComplete past part head state
-PartOutcome past part state (Err fault) = (fault_of past part ≡ Some fault) × IsCollected past state
+PartOutcome past part state (Err fault) = (part_fault_of past part ≡ Some fault) × IsCollected past state

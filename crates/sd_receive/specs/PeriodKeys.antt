@@ -11,7 +11,7 @@ use Rattle.sd_site_cards.specs.CardFields.{CardFields}
 use Rattle.sd_message.specs.declared.emm.Emm.{Emm}
 use Rattle.sd_message.specs.declared.stream_fault.StreamFault.{StreamFault}
 use Rattle.sd_spec.specs.Heard.{Heard, Dropped, Entitles, Controls, BadEmm, BadEcm, Other}
-use Rattle.sd_spec.specs.Stretches.{completes, current, seen}
+use Rattle.sd_spec.specs.Stretches.{completes, current, sections_seen}
 use Rattle.sd_spec.specs.Keys.{key_at, key_from}
 use Rattle.sd_spec.specs.Offered.{emm_offering, is_mixed}
 use Rattle.sd_spec.specs.Ending.{periods_told, is_unkeyed, is_all_seen}
@@ -23,9 +23,9 @@ abbrev pub says_in : Emm → PeriodHeader
 says_in emm = record { sets = emm.sets; sections = emm.sections; check = emm.check }
 
 -- what the newest of some sections says
-abbrev pub said : List Emm → Option PeriodHeader
-said [] = None
-said (emm ∷ sections) = Some (says_in emm)
+abbrev pub says_of_newest_emm : List Emm → Option PeriodHeader
+says_of_newest_emm [] = None
+says_of_newest_emm (emm ∷ sections) = Some (says_in emm)
 
 -- each of these sections says this of its period, and its index is below the number of sections that it says
 abbrev pub SayAlike : Option PeriodHeader → List Emm → Type 0
@@ -70,9 +70,9 @@ is_in_turn (heard ∷ tr) = option_map_or (λ message. nat_le (current tr) messa
 -- Receiver]
 pub record IsStateAt (card : CardFields) (tr : List Heard) (q : ℕ) (state : PeriodKeys) : Type 0 where
   pub period : state.period ≡ q
-  pub header : state.header ≡ said (seen q tr)
-  pub alike : SayAlike state.header (seen q tr)
-  pub marks : (x : ℕ) → x < 2 ^ 16 → get_or state.marks.items x false ≡ has_index x (seen q tr)
+  pub header : state.header ≡ says_of_newest_emm (sections_seen q tr)
+  pub alike : SayAlike state.header (sections_seen q tr)
+  pub marks : (x : ℕ) → x < 2 ^ 16 → get_or state.marks.items x false ≡ has_index x (sections_seen q tr)
   pub told : state.told ≡ list_any (λ p. p == q) (periods_told tr)
   pub key : state.key ≡ key_at card tr q
   pub revoked : state.revoked ≡ find (is_told_revoked card tr) (told_below q tr)
@@ -102,9 +102,9 @@ with_key state key = record {
 
 -- Nothing is wrong with a section in packet n after what was heard, and this is the key that it gives, if that of its
 -- period isn't known [this project, docs/FORMATS.md, Receiver].
-pub record IsJudged (card : CardFields) (n : ℕ) (tr : List Heard) (emm : Emm) (key : Option (List ℕ)) : Type 0 where
+pub record IsEmmJudged (card : CardFields) (n : ℕ) (tr : List Heard) (emm : Emm) (key : Option (List ℕ)) : Type 0 where
   pub fault : (emm_offering card n tr emm).fault ≡ None
-  pub unmixed : current tr ≤ emm.period → is_mixed (seen emm.period tr) emm ≡ false
+  pub unmixed : current tr ≤ emm.period → is_mixed (sections_seen emm.period tr) emm ≡ false
   pub gives : current tr ≤ emm.period → key_at card tr emm.period ≡ None → key ≡ key_from card emm
 
 -- the result is this fault if there is one, and no fault else

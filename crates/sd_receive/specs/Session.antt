@@ -15,9 +15,9 @@ use Rattle.sd_message.specs.declared.stream_fault.StreamFault.{StreamFault}
 use Rattle.sd_psi.specs.declared.our_cat.Tuning.{Tuning}
 use Rattle.sd_spec.specs.Heard.{Heard, Dropped, Entitles, Controls, BadEmm, BadEcm, Other}
 use Rattle.sd_spec.specs.Stretches.{is_closed}
-use Rattle.sd_spec.specs.Offered.{Offering, heard_offering, refuses, word_fault}
+use Rattle.sd_spec.specs.Offered.{Offering, heard_offering, refused_offering, word_fault}
 use Rattle.sd_spec.specs.Counting.{holds_stray}
-use Rattle.sd_receive.specs.PeriodKeys.{IsEntitled, IsJudged}
+use Rattle.sd_receive.specs.PeriodKeys.{IsEntitled, IsEmmJudged}
 use Rattle.sd_receive.specs.EcmAssembler.{IsCollected, IsComplete}
 use Rattle.sd_receive.specs.Buffered.{holding_after, word_under}
 use Rattle.sd_receive.specs.declared.session.Session.{Session}
@@ -37,12 +37,12 @@ pub record IsListenerAtMessage (card : CardFields) (past : List Heard) (part : E
   pub assembler : IsComplete past part head state.assembler
 
 -- a number as a count of 64 bits, which is at most 2^64 - 1
-abbrev pub capped : ℕ → ℕ
-capped n = min n (2 ^ 64 - 1)
+abbrev pub capped_count : ℕ → ℕ
+capped_count n = min n (2 ^ 64 - 1)
 
 -- a capped count rises by this number
 abbrev pub CountsMore : ℕ → ℕ → ℕ → Type 0
-CountsMore before after more = (total : ℕ) → before ≡ capped total → after ≡ capped (total + more)
+CountsMore before after more = (total : ℕ) → before ≡ capped_count total → after ≡ capped_count (total + more)
 
 -- these bytes are what an offering writes, its packets are counted, and it refuses nothing
 pub record PassesOffering (offering : Offering) (before after : ℕ) (bytes : List ℕ) : Type 0 where
@@ -67,7 +67,7 @@ heard_of_run begins past = if begins then [] else past
 
 -- if a section is heard as packet n, nothing is wrong with it and it gives this key
 abbrev pub IsJudgedAs : CardFields → ℕ → List Heard → Heard → Option (List ℕ) → Type 0
-IsJudgedAs card n past (Entitles emm) key = IsJudged card n past emm key
+IsJudgedAs card n past (Entitles emm) key = IsEmmJudged card n past emm key
 IsJudgedAs card n past Dropped key = Unit {0}
 IsJudgedAs card n past (Controls part) key = Unit {0}
 IsJudgedAs card n past (BadEmm fault) key = Unit {0}
@@ -78,7 +78,7 @@ IsJudgedAs card n past (Other k packet) key = Unit {0}
 abbrev pub Judgement : CardFields → ℕ → List Heard → Heard → Option (List ℕ) → Result Unit StreamFault → Type 0
 Judgement card n past heard key (Ok done) = IsJudgedAs card n past heard key
 Judgement card n past heard key (Err fault) =
-    (tuning : Tuning) → heard_offering card tuning n past heard ≡ refuses fault
+    (tuning : Tuning) → heard_offering card tuning n past heard ≡ refused_offering fault
 
 -- a thing that is heard as packet n, of which this key was judged, is taken, with these bytes written
 abbrev pub TakesHeard : Bool → CardFields → Tuning → ℕ → Heard → Option (List ℕ) → Session → Session → List ℕ → Type 0
@@ -112,8 +112,8 @@ TakesMessage strict card tuning n head s t bytes = (past : List Heard) (part : E
     IsListenerAfter card (Controls part ∷ past) t
 
 -- the message that the part in packet n completes is refused, with these bytes written
-abbrev pub RefusesMessage : Bool → CardFields → Tuning → ℕ → EcmHead → Session → StreamFault → List ℕ → Type 0
-RefusesMessage strict card tuning n head s fault bytes = (past : List Heard) (part : EcmPart) →
+abbrev pub RefusesHeardMessage : Bool → CardFields → Tuning → ℕ → EcmHead → Session → StreamFault → List ℕ → Type 0
+RefusesHeardMessage strict card tuning n head s fault bytes = (past : List Heard) (part : EcmPart) →
     IsListenerAtMessage card past part head s → IsCalm strict past →
     StopsAtOffering strict (heard_offering card tuning n past (Controls part)) fault bytes
 
@@ -121,7 +121,7 @@ RefusesMessage strict card tuning n head s fault bytes = (past : List Heard) (pa
 abbrev pub CutsMessage : Bool → CardFields → Tuning → ℕ → EcmHead → Session → List ℕ → Type 0
 CutsMessage strict card tuning n head s bytes =
     ((t : Session) × TakesMessage strict card tuning n head s t bytes)
-    ⊎ ((strict ≡ true) × (fault : StreamFault) × RefusesMessage strict card tuning n head s fault bytes)
+    ⊎ ((strict ≡ true) × (fault : StreamFault) × RefusesHeardMessage strict card tuning n head s fault bytes)
 
 -- a sink took some bytes that have a property
 pub record TookSome (old new : SinkState) (Says : List ℕ → Type 0) : Type 0 where
@@ -130,16 +130,16 @@ pub record TookSome (old new : SinkState) (Says : List ℕ → Type 0) : Type 0 
   pub took : TookBytes old new bytes
 
 -- the result of a packet: it is taken or refused and all that it writes went into the sink, or a write failed
-abbrev pub PacketOutcome : (Session → List ℕ → Type 0) → (StreamFault → List ℕ → Type 0) → (List ℕ → Type 0) →
+abbrev pub SessionOutcome : (Session → List ℕ → Type 0) → (StreamFault → List ℕ → Type 0) → (List ℕ → Type 0) →
     SinkState → SinkState → Session → Result Unit (StageFault StreamFault) → Type 0
-PacketOutcome Takes Refuses Cuts old new t (Ok done) = TookSome old new (Takes t)
-PacketOutcome Takes Refuses Cuts old new t (Err (Refused fault)) = TookSome old new (Refuses fault)
-PacketOutcome Takes Refuses Cuts old new t (Err Write) = IsCutShort old new Cuts
+SessionOutcome Takes Refuses Cuts old new t (Ok done) = TookSome old new (Takes t)
+SessionOutcome Takes Refuses Cuts old new t (Err (Refused fault)) = TookSome old new (Refuses fault)
+SessionOutcome Takes Refuses Cuts old new t (Err Write) = IsCutShort old new Cuts
 
 -- what is told of the control word of the message that packet n completes, under this key of its period: the word, or
 -- why it is wrong
-abbrev pub IsWordOf : ℕ → EcmHead → Option (List ℕ) → Result (Option (List ℕ)) StreamFault → Type 0
-IsWordOf n head key found = MatchResult found
+abbrev pub IsWordTold : ℕ → EcmHead → Option (List ℕ) → Result (Option (List ℕ)) StreamFault → Type 0
+IsWordTold n head key found = MatchResult found
     (λ word. (word ≡ word_under (message_of head []) key) × (word_fault n (message_of head []) key ≡ None))
     (λ fault. word_fault n (message_of head []) key ≡ Some fault)
 

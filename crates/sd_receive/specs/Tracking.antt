@@ -40,21 +40,21 @@ abbrev pub HasFirstPositions : List ℕ → Type 0
 HasFirstPositions table = IsClearBut [] table
 
 -- the PID of each place is one of 13 bits
-abbrev pub AreKnown : List Place → Type 0
-AreKnown places = All (λ place. place.pid < PIDS) places
+abbrev pub ArePositionPids : List Place → Type 0
+ArePositionPids places = All (λ place. place.pid < PIDS) places
 
 -- each buffered packet has the position to which it led its PID
-abbrev pub HaveOwn : List Place → List HeldPacket → Type 0
-HaveOwn places held =
+abbrev pub HavePositionsLedTo : List Place → List HeldPacket → Type 0
+HavePositionsLedTo places held =
     (k : ℕ) (d : HeldPacket) → k < length held
     → (get_or held k d).position ≡ led_to places (take (k + 1) (packets_in held)) (pid_of (get_or held k d).packet)
 
 -- what is kept: places and packets within their room, and the positions to which the packets lead
-pub record IsKept (tracks : TrackedPackets) : Type 0 where
+pub record AreTracksKept (tracks : TrackedPackets) : Type 0 where
   pub few : length tracks.held.items ≤ most_held
   pub room : most_held ≤ vec_capacity tracks.held
   pub space : most_places ≤ vec_capacity tracks.places
-  pub known : AreKnown tracks.places.items
+  pub known : ArePositionPids tracks.places.items
   pub short : AreShort tracks.places.items
-  pub own : HaveOwn tracks.places.items tracks.held.items
+  pub own : HavePositionsLedTo tracks.places.items tracks.held.items
   pub tracked : IsTracked tracks.places.items (packets_in tracks.held.items) tracks.table.items

@@ -9,9 +9,9 @@ use Rattle.sd_engine.specs.Stage.{SinkState, TookBytes, IsCutShort, IsTooShort}
 use Rattle.sd_message.specs.EcmForm.{AreShort}
 use Rattle.sd_message.specs.EcmParts.{Message}
 use Rattle.sd_message.specs.declared.ecm_part.Place.{Place}
-use Rattle.sd_spec.specs.Confirmed.{Segment, Wrote, written_from, position_in, is_near_to, is_confirmed}
+use Rattle.sd_spec.specs.Confirmed.{Segment, WrittenPackets, written_from, position_in, is_near_to, is_confirmed}
 use Rattle.sd_receive.specs.PacketBuffer.{Holding, held_pair}
-use Rattle.sd_receive.specs.Tracking.{led_to, IsKept}
+use Rattle.sd_receive.specs.Tracking.{led_to, AreTracksKept}
 use Rattle.sd_receive.specs.PidSet.{has_pid}
 use Rattle.sd_receive.specs.declared.buffer.pid_set.PidSet.{PidSet}
 use Rattle.sd_receive.specs.declared.buffer.tracked.TheConstants.{PIDS}
@@ -48,7 +48,7 @@ segment_of h ca ecm places = record {
 }
 
 -- what is written of what is buffered, if the next message has these places [this project, docs/FORMATS.md, Receiver]
-abbrev pub wrote_of : Option Holding → ℕ → ℕ → List Place → Wrote
+abbrev pub wrote_of : Option Holding → ℕ → ℕ → List Place → WrittenPackets
 wrote_of None ca ecm places = record { packets = []; refused = None }
 wrote_of (Some h) ca ecm places = written_from (segment_of h ca ecm places) [] h.held
 
@@ -58,7 +58,7 @@ pub record HasStopped (old new : SinkState) (bytes : List ℕ) : Type 0 where
   pub room : IsTooShort old.room (length bytes)
 
 -- a sink took what is written, up to the packet that is refused or the write that failed, with this answer
-abbrev pub WriteOutcome : Wrote → SinkState → SinkState → Result ℕ BufferFault → Type 0
+abbrev pub WriteOutcome : WrittenPackets → SinkState → SinkState → Result ℕ BufferFault → Type 0
 WriteOutcome wrote old new (Ok n) = (wrote.refused ≡ None) × (n ≡ length wrote.packets) ×
     TookBytes old new (concat wrote.packets)
 WriteOutcome wrote old new (Err (Fault.Parity k)) = (wrote.refused ≡ Some k) × TookBytes old new (concat wrote.packets)
@@ -78,27 +78,27 @@ unfoldable pub segment_in : Release → Segment
 segment_in c = segment_of (holding_in c) c.ca c.ecm c.last.now
 
 -- what is written of the first k packets of the segment
-unfoldable pub first_wrote : Release → ℕ → Wrote
+unfoldable pub first_wrote : Release → ℕ → WrittenPackets
 first_wrote c k = written_from (segment_in c) [] (take k (holding_in c).held)
 
 -- a sink took what is written of the first k packets, which is this number of packets, and none is refused
-pub record IsWritten (c : Release) (k : ℕ) (old new : SinkState) (count : ℕ) : Type 0 where
+pub record ArePacketsWritten (c : Release) (k : ℕ) (old new : SinkState) (count : ℕ) : Type 0 where
   pub calm : (first_wrote c k).refused ≡ None
   pub counted : count ≡ length (first_wrote c k).packets
   pub took : TookBytes old new (concat (first_wrote c k).packets)
 
 -- the PID of control messages has 13 bits, and the positions of the next one 48
-pub record IsReady (c : Release) : Type 0 where
+pub record IsReleaseReady (c : Release) : Type 0 where
   pub ecm : c.ecm < 8192
   pub short : AreShort c.last.now
-  pub kept : IsKept c.tracks.now
+  pub kept : AreTracksKept c.tracks.now
 
 -- a buffered packet after others has the position to which it led its PID
-pub record IsOwn (c : Release) (before : List (List ℕ)) (held : HeldPacket) : Type 0 where
+pub record HasPositionLedTo (c : Release) (before : List (List ℕ)) (held : HeldPacket) : Type 0 where
   pub position : held.position ≡ led_to c.tracks.now.places.items (before ++ held.packet ∷ []) (pid_of held.packet)
 
 -- the PIDs with a position among these places that is near to the one in this table by PID
-pub record AreNear (tracked : List ℕ) (places : List Place) (pids : PidSet) : Type 0 where
+pub record AreNearPids (tracked : List ℕ) (places : List Place) (pids : PidSet) : Type 0 where
   pub at : (pid : ℕ) → pid < PIDS → has_pid pids pid
       ≡ option_map_or (is_near_to (get_or tracked pid 0)) (position_in places pid) false
 

@@ -5,10 +5,10 @@ ghost use Rattle.sd_engine.specs.Stage.{Chain};
 ghost use Rattle.sd_message.specs.declared.stream_fault.StreamFault.{StreamFault};
 ghost use Rattle.sd_site_cards.specs.CardFields.{CardFields};
 ghost use Rattle.sd_spec.specs.Heard.{Heard};
-ghost use Rattle.sd_spec.specs.Stretches.{current, seen};
+ghost use Rattle.sd_spec.specs.Stretches.{current, sections_seen};
 ghost use Rattle.sd_message.specs.EcmParts.{Message};
 ghost use Rattle.sd_spec.specs.Confirmed.{written_from};
-ghost use Rattle.sd_receive.specs.Receiving.{card_in, IsAfter, receiver_does, Refusing, OutcomeOf, BreakAt};
+ghost use Rattle.sd_receive.specs.Receiving.{receiver_card, HasReceived, receiver_does, Refusing, OutcomeOf, BreakAt};
 ghost use Rattle.sd_receive.specs.declared.receiver.Receiver.{Receiver};
 ghost use Rattle.sd_receive.specs.PeriodKeys.{IsEntitled, tells_nothing};
 ghost use Rattle.sd_receive.specs.declared.emm.PeriodKeys.{PeriodKeys};
@@ -20,30 +20,30 @@ ghost use Rattle.sd_receive.specs.Writing.{wrote_of};
 /// that take a key.
 #[tactic(auto, using(crate::proofs::Chained::came_to_all))]
 pub fn packets_are_opened()
-    ensures { (packets : List (List ℕ)) (s t : Receiver) (bytes : List ℕ) (n : ℕ) → IsAfter [] s →
+    ensures { (packets : List (List ℕ)) (s t : Receiver) (bytes : List ℕ) (n : ℕ) → HasReceived [] s →
         length packets ≤ 2 ^ 64 - 1 → Chain receiver_does s packets t bytes n →
-        OutcomeOf (card_in s) packets t bytes n }
+        OutcomeOf (receiver_card s) packets t bytes n }
 {}
 
 /// If a receiver refuses a packet, it is the first that the specification refuses, and for the same reason. What was
 /// written is what the specification says of the packets up to it, whatever comes after it.
 pub fn refusals_come_first()
     ensures { (packets : List (List ℕ)) (s mid : Receiver) (packet : List ℕ) (more : List (List ℕ)) (why : StreamFault)
-        (first last : List ℕ) (m k : ℕ) → IsAfter [] s → length packets < 2 ^ 64 - 1 →
+        (first last : List ℕ) (m k : ℕ) → HasReceived [] s → length packets < 2 ^ 64 - 1 →
         Chain receiver_does s packets mid first m → Refusing mid packet why last k →
-        BreakAt (card_in s) packets packet more why (first ++ last) (m + k) }
+        BreakAt (receiver_card s) packets packet more why (first ++ last) (m + k) }
 {}
 
 /// The sections that were seen of an earlier period than the current one stay as they are.
 #[tactic(auto, using(crate::proofs::Periods::past_stands))]
 pub fn past_periods_stand()
-    ensures { (q : ℕ) (heard : Heard) (tr : List Heard) → q < current tr → seen q (heard ∷ tr) ≡ seen q tr }
+    ensures { (q : ℕ) (heard : Heard) (tr : List Heard) → q < current tr → sections_seen q (heard ∷ tr) ≡ sections_seen q tr }
 {}
 
 /// No section of a later period than the current one was seen.
 #[tactic(auto, using(crate::proofs::Periods::ahead_none))]
 pub fn nothing_ahead()
-    ensures { (q : ℕ) (tr : List Heard) → current tr < q → seen q tr ≡ [] }
+    ensures { (q : ℕ) (tr : List Heard) → current tr < q → sections_seen q tr ≡ [] }
 {}
 
 /// A packet that is no section and completes no message changes nothing that is kept.

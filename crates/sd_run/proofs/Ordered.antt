@@ -2,8 +2,8 @@
 use Rattle.std.proofs.Common.{◌≡◌, ◌≤◌, ℕ, List, [], ◌∷◌, Result, Ok, Err, refl, sym, ap, subst, ◌∙◌, inl, inr, arith}
 use Rattle.sd_command_base.specs.declared.status.Status.{Status}
 use Rattle.sd_command_base.specs.declared.status.Status.TheVariants.{Usage, Missing}
-use Rattle.sd_command_base.specs.Outside.{Outside}
-use Rattle.sd_command_base.specs.Spec.{Spec, Readings, judged, ◌>>=◌}
+use Rattle.sd_command_base.specs.Outside.{IoState}
+use Rattle.sd_command_base.specs.Spec.{Spec, Readings, of_result, ◌>>=◌}
 use Rattle.sd_command_base.specs.Work.{Work}
 use Rattle.sd_command_base.specs.Outcome.{IsRefusal, refused, OutcomeWithin, Implements}
 use Rattle.sd_command_base.specs.Results.{RunResult}
@@ -24,16 +24,16 @@ err_is a b r e f = cc
 
 -- the meaning of words that were read so
 abbrev read_meaning : Result Order Status → Readings → Spec Work
-read_meaning read given = judged read >>= λ order. order_meaning order given
+read_meaning read given = of_result read >>= λ order. order_meaning order given
 
-same_order : (order : Order) (given : Readings) (a b : Outside) (status : Status) → OutcomeWithin
+same_order : (order : Order) (given : Readings) (a b : IoState) (status : Status) → OutcomeWithin
     (order_meaning order given) a b status →
     OutcomeWithin (read_meaning (Ok order) given) a b status
 same_order order given a b status h =
     record { comes = h.comes; ports = h.ports; calls = let c = h.calls in omega arith; steps = h.steps }
 
 -- an order that is followed is the words'
-pub order_follows : (words : List (List ℕ)) (order : Order) (a b : Outside) (status : Status) →
+pub order_follows : (words : List (List ℕ)) (order : Order) (a b : IoState) (status : Status) →
     Ok order ≡ order_of words →
     Implements (order_meaning order) a b status → Implements (meaning words) a b status
 order_follows words order a b status read h =
@@ -49,7 +49,7 @@ none_missing status word (inl e) is = absurd (let x = sym e ∙ is in cc)
 none_missing status word (inr e) is = absurd (let x = sym e.1 ∙ is in cc)
 
 -- words that are refused are followed by the refusal
-pub words_follow : (words : List (List ℕ)) (status : Status) (a : Outside) → Err status ≡ order_of words →
+pub words_follow : (words : List (List ℕ)) (status : Status) (a : IoState) → Err status ≡ order_of words →
     RefusesWords status →
     Implements (meaning words) a a status
 words_follow words status a read h =
@@ -127,7 +127,7 @@ only_words (Ok order) given e = absurd (other_is (order_meaning order given).res
 only_words (Err status) given e = ap Err (err_is {A = Work} status Usage (Err status) refl e)
 
 -- `Usage` is answered to words that are no order
-pub usage_said : (words : List (List ℕ)) (a b : Outside) (answer : Status) → RunResult (meaning words) a b answer →
+pub usage_said : (words : List (List ℕ)) (a b : IoState) (answer : Status) → RunResult (meaning words) a b answer →
     answer ≡ Usage → order_of words ≡ Err Usage
 usage_said words a b answer answers is =
     let meant = usage_meant (meaning words) a b answer answers is in only_words (order_of words) meant.0 meant.1

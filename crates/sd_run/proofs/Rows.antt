@@ -3,49 +3,49 @@ use Rattle.std.proofs.Common.{◌≡◌, ℕ, ◌+◌, List, [], ◌∷◌, Opti
 use Rattle.sd_engine.specs.Taken.{end_of}
 use Rattle.sd_command_base.specs.declared.status.Status.{Status}
 use Rattle.sd_command_base.specs.Outcome.{Implements}
-use Rattle.sd_command_base.specs.Outside.{Outside}
-use Rattle.sd_command_base.specs.Spec.{FileArgument, Readings, all_of, judged, value, ◌>>=◌}
+use Rattle.sd_command_base.specs.Outside.{IoState}
+use Rattle.sd_command_base.specs.Spec.{FileArgument, Readings, whole_file_bytes, of_result, value, ◌>>=◌}
 use Rattle.sd_command_base.specs.Work.{Uncounted, NoSteps, UpTo, work_of_text}
 use Rattle.sd_command_base.specs.Shown.{NumberArgument}
 use Rattle.sd_command_base.specs.Both.{both_meaning}
 use Rattle.sd_command_base.specs.Files.{site_in, book_in}
 use Rattle.sd_command_base.specs.Leaves.{leaves_in}
 use Rattle.sd_command_base.specs.Made.{making, making_new, unused, used_name}
-use Rattle.sd_run_books.specs.AccountsCommand.{accounts_in, making_then, report_line, accounts_meaning}
+use Rattle.sd_run_books.specs.AccountsCommand.{accounts_in, making_then, accounts_line, accounts_meaning}
 use Rattle.sd_run_books.specs.Apart.{apart_meaning, plan_of_both, told_apart}
 use Rattle.sd_run_books.specs.Book.{longer_book, book_meaning}
-use Rattle.sd_run_books.specs.Card.{told_card, card_meaning}
+use Rattle.sd_run_books.specs.Card.{made_card, card_meaning}
 use Rattle.sd_run_books.specs.Cover.{covering, cover_meaning}
 use Rattle.sd_run_broadcasts.specs.Air.{air_meaning, air_plan_by, airing, mark_word}
-use Rattle.sd_run_broadcasts.specs.Head.{plan_meaning as head_plan, sent_of, sent_status, sending}
+use Rattle.sd_run_broadcasts.specs.Head.{head_plan_meaning as head_plan, sent_of, sent_status, sending}
 use Rattle.sd_run_broadcasts.specs.Head.{sending_of, head_meaning}
 use Rattle.sd_run_books.specs.Layered.{layers_of_file, layering, layered_meaning}
 use Rattle.sd_run_books.specs.Lcard.{told_leaf, told_width, carding, lcard_meaning}
-use Rattle.sd_run_streams.specs.Messages.{messages_meaning, monitoring, stream_meaning as monitor_meaning}
+use Rattle.sd_run_streams.specs.Messages.{messages_meaning, monitoring, messages_stream_meaning as monitor_meaning}
 use Rattle.sd_run_books.specs.Chain.{newest_of_file, told_name}
 use Rattle.sd_run_books.specs.Next.{next_made, next_meaning, origin_of_files}
 use Rattle.sd_run_books.specs.Twin.{twin_made, twin_meaning}
 use Rattle.sd_run_books.specs.Opens.{opening, opens_meaning}
-use Rattle.sd_run_books.specs.Air.{plan_meaning, planning, roomy_site_of_file}
+use Rattle.sd_run_books.specs.Air.{plan_command_meaning, planning, roomy_site_of_file}
 use Rattle.sd_run_broadcasts.specs.Receive.{received_status}
-use Rattle.sd_run_broadcasts.specs.Receive.{card_in, received_of, received_steps, receiving, stream_meaning}
+use Rattle.sd_run_broadcasts.specs.Receive.{card_argument, received_of, received_steps, receiving, receive_stream_meaning}
 use Rattle.sd_run_broadcasts.specs.Receive.{receive_meaning}
 use Rattle.sd_run_streams.specs.Sample.{sample_meaning}
 use Rattle.sd_run_books.specs.Show.{line_of_file, show_meaning}
 use Rattle.sd_run_streams.specs.Tables.{inspecting, tables_meaning}
 use Rattle.sd_run_books.specs.Status.{status_meaning, status_text, tree_of_file}
-use Rattle.sd_run_books.specs.Trace.{traced, trace_meaning}
+use Rattle.sd_run_books.specs.Trace.{trace_outcome, trace_meaning}
 use Rattle.sd_command_base.specs.Printed.{printing}
 use Rattle.sd_run_broadcasts.specs.Field.{field_meaning, field_text, inputs_meaning, script_of_file}
 use Rattle.sd_run_broadcasts.specs.Prefixes.{prefix_of_file}
-use Rattle.sd_run_broadcasts.specs.Trial.{plan_meaning as trial_plan, trial_text, trying, trial_meaning}
-use Rattle.sd_run_broadcasts.specs.Trial.{most_clear_bytes}
+use Rattle.sd_run_broadcasts.specs.Trial.{trial_plan_meaning as trial_plan, trial_text, trying, trial_meaning}
+use Rattle.sd_run_broadcasts.specs.Trial.{trial_clear_bytes}
 use Rattle.sd_run_broadcasts.specs.Watch.{watch_meaning, watched_meaning, watching}
 use Rattle.sd_engine.specs.Sample.{sample_of}
 use Rattle.sd_site_cards.specs.Chain.{most_word}
 use Rattle.sd_site_cards.specs.SiteFields.{SiteFields}
 use Rattle.sd_site_cards.specs.Written.{none_fewer}
-use Rattle.sd_book.specs.Text.{text_of}
+use Rattle.sd_book.specs.Text.{text_of_book}
 use Rattle.sd_lsd.specs.Fields.{layer_card_of, layer_bytes}
 use Rattle.sd_command_line.specs.declared.command.Command.{Command}
 use Rattle.sd_command_line.specs.declared.command.Command.TheVariants.{Accounts, Air, Book, Card, Cover, Field}
@@ -88,12 +88,12 @@ accounts_orderly : (site accounts out : FileArgument) (given : Readings) →
     AreOrderly (Some out.text) None (accounts_meaning site accounts out given).result
 accounts_orderly site accounts out given =
     orderly_after (Some out.text) None (accounts_in site accounts given)
-    (λ found. value (making_then out (text_of found.book.commands) (report_line found)))
+    (λ found. value (making_then out (text_of_book found.book.commands) (accounts_line found)))
     (λ found. record {
       makes = λ made e. same_name (record {
         word = out.number;
         name = out.text;
-        bytes = text_of found.book.commands;
+        bytes = text_of_book found.book.commands;
       }) made e;
       marks = λ made e. absurd (cc);
       keeps = λ refusal. absurd refusal;
@@ -105,22 +105,22 @@ unfolding book_meaning
 book_orderly site book commands out given =
     orderly_after (Some out.text) None (both_meaning site book given)
     (λ both. book_in given both.site.height commands
-    >>= λ added. judged (longer_book commands.number both.site.height both.commands added)
-    >>= λ longer. value (making NoSteps out (text_of longer)))
+    >>= λ added. of_result (longer_book commands.number both.site.height both.commands added)
+    >>= λ longer. value (making NoSteps out (text_of_book longer)))
     (λ both. orderly_after (Some out.text) None (book_in given both.site.height commands)
-    (λ added. judged (longer_book commands.number both.site.height both.commands added)
-    >>= λ longer. value (making NoSteps out (text_of longer)))
+    (λ added. of_result (longer_book commands.number both.site.height both.commands added)
+    >>= λ longer. value (making NoSteps out (text_of_book longer)))
     (λ added. orderly_after (Some out.text) None
-    (judged (longer_book commands.number both.site.height both.commands added))
-    (λ longer. value (making NoSteps out (text_of longer)))
-    (λ longer. made_whole NoSteps out (text_of longer))))
+    (of_result (longer_book commands.number both.site.height both.commands added))
+    (λ longer. value (making NoSteps out (text_of_book longer)))
+    (λ longer. made_whole NoSteps out (text_of_book longer))))
 
 card_orderly : (site : FileArgument) (leaf : NumberArgument) (out : FileArgument) (given : Readings) →
     AreOrderly (Some out.text) None (card_meaning site leaf out given).result
 card_orderly site leaf out given =
     orderly_after (Some out.text) None (site_in given site)
-    (λ fields. judged (told_card fields leaf) >>= λ bytes. value (making Uncounted out bytes))
-    (λ fields. orderly_after (Some out.text) None (judged (told_card fields leaf))
+    (λ fields. of_result (made_card fields leaf) >>= λ bytes. value (making Uncounted out bytes))
+    (λ fields. orderly_after (Some out.text) None (of_result (made_card fields leaf))
     (λ bytes. value (making Uncounted out bytes)) (λ bytes. made_whole Uncounted out bytes))
 
 sample_orderly : (number packets : ℕ) (out : FileArgument) (given : Readings) →
@@ -133,9 +133,9 @@ lcard_orderly site leaf width out given =
     let bytes : SiteFields → ℕ → ℕ → List ℕ =
     λ fields u w. layer_bytes (layer_card_of fields.master fields.ca fields.height w u) in
     orderly_after (Some out.text) None (site_in given site) (λ fields. carding fields leaf width out)
-    (λ fields. orderly_after (Some out.text) None (judged (told_leaf fields.height leaf))
-    (λ u. judged (told_width fields.height width) >>= λ w. value (making Uncounted out (bytes fields u w)))
-    (λ u. orderly_after (Some out.text) None (judged (told_width fields.height width))
+    (λ fields. orderly_after (Some out.text) None (of_result (told_leaf fields.height leaf))
+    (λ u. of_result (told_width fields.height width) >>= λ w. value (making Uncounted out (bytes fields u w)))
+    (λ u. orderly_after (Some out.text) None (of_result (told_width fields.height width))
     (λ w. value (making Uncounted out (bytes fields u w))) (λ w. made_whole Uncounted out (bytes fields u w))))
 
 head_orderly : (site book clear out : FileArgument) (given : Readings) →
@@ -143,7 +143,7 @@ head_orderly : (site book clear out : FileArgument) (given : Readings) →
 unfolding head_meaning
 head_orderly site book clear out given =
     orderly_after (Some out.text) None (head_plan site book given) (sending_of clear out (given clear))
-    (λ plan. orderly_after (Some out.text) None (all_of clear.number (given clear))
+    (λ plan. orderly_after (Some out.text) None (whole_file_bytes clear.number (given clear))
     (λ bytes. value (sending plan out bytes))
     (λ bytes. turned Uncounted out (sent_of plan bytes) (sent_status plan bytes) (sent_apart plan bytes)))
 
@@ -153,9 +153,9 @@ unfolding air_meaning
 air_orderly site book clear out given =
     let mark = Some (used_name site.text) in
     orderly_after (Some out.text) mark (air_plan_by site.number book.number (given site) (given book))
-    (λ plan. all_of clear.number (given clear)
+    (λ plan. whole_file_bytes clear.number (given clear)
     >>= λ bytes. unused (given (mark_word site)) >>= λ new. value (airing plan site out bytes))
-    (λ plan. orderly_after (Some out.text) mark (all_of clear.number (given clear))
+    (λ plan. orderly_after (Some out.text) mark (whole_file_bytes clear.number (given clear))
     (λ bytes. unused (given (mark_word site)) >>= λ new. value (airing plan site out bytes))
     (λ bytes. orderly_after (Some out.text) mark (unused (given (mark_word site)))
     (λ new. value (airing plan site out bytes)) (λ new. aired plan site out bytes)))
@@ -164,8 +164,8 @@ receive_orderly : (card stream out : FileArgument) (given : Readings) →
     AreOrderly (Some out.text) None (receive_meaning card stream out given).result
 unfolding receive_meaning
 receive_orderly card stream out given =
-    orderly_after (Some out.text) None (card_in given card) (λ fields. stream_meaning fields stream out given)
-    (λ fields. orderly_after (Some out.text) None (all_of stream.number (given stream))
+    orderly_after (Some out.text) None (card_argument given card) (λ fields. receive_stream_meaning fields stream out given)
+    (λ fields. orderly_after (Some out.text) None (whole_file_bytes stream.number (given stream))
     (λ bytes. value (receiving fields out bytes))
     (λ bytes. turned (UpTo (received_steps fields bytes)) out (received_of fields bytes)
     (received_status fields bytes) (stream_received fields bytes)))
@@ -174,8 +174,8 @@ watch_orderly : (card stream out : FileArgument) (given : Readings) →
     AreOrderly (Some out.text) None (watch_meaning card stream out given).result
 unfolding watch_meaning
 watch_orderly card stream out given =
-    orderly_after (Some out.text) None (card_in given card) (λ fields. watched_meaning fields stream out given)
-    (λ fields. orderly_after (Some out.text) None (all_of stream.number (given stream))
+    orderly_after (Some out.text) None (card_argument given card) (λ fields. watched_meaning fields stream out given)
+    (λ fields. orderly_after (Some out.text) None (whole_file_bytes stream.number (given stream))
     (λ bytes. value (watching fields out bytes)) (λ bytes. watched fields out bytes))
 
 next_orderly : (site book : FileArgument) (words : NumberArgument) (out : FileArgument) (given : Readings) →
@@ -183,7 +183,7 @@ next_orderly : (site book : FileArgument) (words : NumberArgument) (out : FileAr
 unfolding next_meaning
 next_orderly site book words out given =
     let origin = origin_of_files site.number book.number words (given site) (given book) in
-    orderly_after (Some out.text) None (judged (told_name site out))
+    orderly_after (Some out.text) None (of_result (told_name site out))
     (λ named. origin >>= λ found. making_new (next_made found words.value) out (given out))
     (λ named. orderly_after (Some out.text) None origin (λ found. making_new (next_made found words.value) out (given out))
     (λ found. made_new (next_made found words.value) out (given out)))
@@ -193,7 +193,7 @@ twin_orderly : (site : FileArgument) (words : NumberArgument) (out : FileArgumen
 unfolding twin_meaning
 twin_orderly site words out given =
     let newest = newest_of_file none_fewer site.number most_word words (given site) in
-    orderly_after (Some out.text) None (judged (told_name site out))
+    orderly_after (Some out.text) None (of_result (told_name site out))
     (λ named. newest >>= λ found. making_new (twin_made found.0 found.1 words.value) out (given out))
     (λ named. orderly_after (Some out.text) None newest
     (λ found. making_new (twin_made found.0 found.1 words.value) out (given out))
@@ -210,7 +210,7 @@ cover_orderly site book given =
 tables_orderly : (stream : FileArgument) (given : Readings) → AreOrderly None None (tables_meaning stream given).result
 unfolding tables_meaning
 tables_orderly stream given =
-    orderly_after None None (all_of stream.number (given stream)) (λ bytes. value (inspecting bytes))
+    orderly_after None None (whole_file_bytes stream.number (given stream)) (λ bytes. value (inspecting bytes))
     (λ bytes. none_made (inspecting bytes) refl refl (λ refusal. absurd (stream_apart (end_of bytes) refusal)))
 
 messages_orderly : (site stream : FileArgument) (given : Readings) →
@@ -218,7 +218,7 @@ messages_orderly : (site stream : FileArgument) (given : Readings) →
 unfolding messages_meaning
 messages_orderly site stream given =
     orderly_after None None (site_in given site) (λ fields. monitor_meaning fields stream given)
-    (λ fields. orderly_after None None (all_of stream.number (given stream))
+    (λ fields. orderly_after None None (whole_file_bytes stream.number (given stream))
     (λ bytes. value (monitoring fields bytes))
     (λ bytes. none_made (monitoring fields bytes) refl refl
     (λ refusal. absurd (stream_apart (end_of bytes) refusal))))
@@ -254,14 +254,14 @@ apart_orderly : (site book other more : FileArgument) (given : Readings) →
 apart_orderly site book other more given =
     orderly_after None None (both_meaning site book given)
     (λ first. both_meaning other more given
-    >>= λ second. judged (told_apart (plan_of_both first) (plan_of_both second)) >>= λ text. value (work_of_text text))
+    >>= λ second. of_result (told_apart (plan_of_both first) (plan_of_both second)) >>= λ text. value (work_of_text text))
     (λ first. orderly_after None None (both_meaning other more given)
-    (λ second. judged (told_apart (plan_of_both first) (plan_of_both second)) >>= λ text. value (work_of_text text))
-    (λ second. orderly_after None None (judged (told_apart (plan_of_both first) (plan_of_both second)))
+    (λ second. of_result (told_apart (plan_of_both first) (plan_of_both second)) >>= λ text. value (work_of_text text))
+    (λ second. orderly_after None None (of_result (told_apart (plan_of_both first) (plan_of_both second)))
     (λ text. value (work_of_text text)) (λ text. none_made (work_of_text text) refl refl (λ refusal. absurd refusal))))
 
 plan_orderly : (site book : FileArgument) (packets : NumberArgument) (pids : ℕ) (given : Readings) →
-    AreOrderly None None (plan_meaning site book packets pids given).result
+    AreOrderly None None (plan_command_meaning site book packets pids given).result
 plan_orderly site book packets pids given =
     orderly_after None None (roomy_site_of_file site.number packets (given site))
     (λ fields. book_in given fields.height book
@@ -288,10 +288,10 @@ unfolding trace_meaning
 trace_orderly site book leaves given =
     orderly_after None None (both_meaning site book given)
     (λ both. leaves_in given both.site.height leaves
-    >>= λ coalition. judged (traced both.site.height coalition both.commands) >>= λ text. value (work_of_text text))
+    >>= λ coalition. of_result (trace_outcome both.site.height coalition both.commands) >>= λ text. value (work_of_text text))
     (λ both. orderly_after None None (leaves_in given both.site.height leaves)
-    (λ coalition. judged (traced both.site.height coalition both.commands) >>= λ text. value (work_of_text text))
-    (λ coalition. orderly_after None None (judged (traced both.site.height coalition both.commands))
+    (λ coalition. of_result (trace_outcome both.site.height coalition both.commands) >>= λ text. value (work_of_text text))
+    (λ coalition. orderly_after None None (of_result (trace_outcome both.site.height coalition both.commands))
     (λ text. value (work_of_text text)) (λ text. none_made (work_of_text text) refl refl (λ refusal. absurd refusal))))
 
 trial_orderly : (site book clear : FileArgument) (given : Readings) →
@@ -299,8 +299,8 @@ trial_orderly : (site book clear : FileArgument) (given : Readings) →
 unfolding trial_meaning
 trial_orderly site book clear given =
     orderly_after None None (trial_plan site book given)
-    (λ plan. prefix_of_file clear.number most_clear_bytes (given clear) >>= λ prefix. value (trying plan prefix))
-    (λ plan. orderly_after None None (prefix_of_file clear.number most_clear_bytes (given clear))
+    (λ plan. prefix_of_file clear.number trial_clear_bytes (given clear) >>= λ prefix. value (trying plan prefix))
+    (λ plan. orderly_after None None (prefix_of_file clear.number trial_clear_bytes (given clear))
     (λ prefix. value (trying plan prefix)) (λ prefix. text_quiet (trial_text plan prefix)))
 
 field_orderly : (site clear script : FileArgument) (given : Readings) →
@@ -415,27 +415,27 @@ example Watch = (refl, refl)
 -- What a command does with the words at its places is the work of its row.
 
 -- `accounts`
-pub accounts_works : (words : List Argument) {one two three : FileArgument} {a b : Outside}
+pub accounts_works : (words : List Argument) {one two three : FileArgument} {a b : IoState}
     {status : Status} → one ≡ file 1 words → two ≡ file 2 words → three ≡ file 3 words →
     Implements (accounts_meaning one two three) a b status → Implements (command_meaning Accounts words) a b status
 accounts_works words at_one at_two at_three done = rw (at_one, at_two, at_three) at done
 
 -- `air`
-pub air_works : (words : List Argument) {one two three four : FileArgument} {a b : Outside}
+pub air_works : (words : List Argument) {one two three four : FileArgument} {a b : IoState}
     {status : Status} → one ≡ file 1 words → two ≡ file 2 words → three ≡ file 3 words →
     four ≡ file 4 words → Implements (air_meaning one two three four) a b status →
     Implements (command_meaning Air words) a b status
 air_works words at_one at_two at_three at_four done = rw (at_one, at_two, at_three, at_four) at done
 
 -- `apart`
-pub apart_works : (words : List Argument) {one two three four : FileArgument} {a b : Outside}
+pub apart_works : (words : List Argument) {one two three four : FileArgument} {a b : IoState}
     {status : Status} → one ≡ file 1 words → two ≡ file 2 words → three ≡ file 3 words →
     four ≡ file 4 words → Implements (apart_meaning one two three four) a b status →
     Implements (command_meaning Apart words) a b status
 apart_works words at_one at_two at_three at_four done = rw (at_one, at_two, at_three, at_four) at done
 
 -- `book`
-pub book_works : (words : List Argument) {one two three four : FileArgument} {a b : Outside}
+pub book_works : (words : List Argument) {one two three four : FileArgument} {a b : IoState}
     {status : Status} → one ≡ file 1 words → two ≡ file 2 words → three ≡ file 3 words →
     four ≡ file 4 words → Implements (book_meaning one two three four) a b status →
     Implements (command_meaning Book words) a b status
@@ -443,19 +443,19 @@ book_works words at_one at_two at_three at_four done = rw (at_one, at_two, at_th
 
 -- `card`
 pub card_works : (words : List Argument) {one three : FileArgument} {two : NumberArgument}
-    {a b : Outside} {status : Status} → one ≡ file 1 words → two ≡ number 2 words →
+    {a b : IoState} {status : Status} → one ≡ file 1 words → two ≡ number 2 words →
     three ≡ file 3 words → Implements (card_meaning one two three) a b status →
     Implements (command_meaning Card words) a b status
 card_works words at_one at_two at_three done = rw (at_one, at_two, at_three) at done
 
 -- `cover`
-pub cover_works : (words : List Argument) {one two : FileArgument} {a b : Outside}
+pub cover_works : (words : List Argument) {one two : FileArgument} {a b : IoState}
     {status : Status} → one ≡ file 1 words → two ≡ file 2 words →
     Implements (cover_meaning one two) a b status → Implements (command_meaning Cover words) a b status
 cover_works words at_one at_two done = rw (at_one, at_two) at done
 
 -- `head`
-pub head_works : (words : List Argument) {one two three four : FileArgument} {a b : Outside}
+pub head_works : (words : List Argument) {one two three four : FileArgument} {a b : IoState}
     {status : Status} → one ≡ file 1 words → two ≡ file 2 words → three ≡ file 3 words →
     four ≡ file 4 words → Implements (head_meaning one two three four) a b status →
     Implements (command_meaning Head words) a b status
@@ -463,91 +463,91 @@ head_works words at_one at_two at_three at_four done = rw (at_one, at_two, at_th
 
 -- `layered`
 pub layered_works : (words : List Argument) {one two : FileArgument} {three : NumberArgument}
-    {a b : Outside} {status : Status} → one ≡ file 1 words → two ≡ file 2 words →
+    {a b : IoState} {status : Status} → one ≡ file 1 words → two ≡ file 2 words →
     three ≡ number 3 words → Implements (layered_meaning one two three) a b status →
     Implements (command_meaning Layered words) a b status
 layered_works words at_one at_two at_three done = rw (at_one, at_two, at_three) at done
 
 -- `lcard`
 pub lcard_works : (words : List Argument) {one four : FileArgument} {two three : NumberArgument}
-    {a b : Outside} {status : Status} → one ≡ file 1 words → two ≡ number 2 words →
+    {a b : IoState} {status : Status} → one ≡ file 1 words → two ≡ number 2 words →
     three ≡ number 3 words → four ≡ file 4 words → Implements (lcard_meaning one two three four) a b status →
     Implements (command_meaning Lcard words) a b status
 lcard_works words at_one at_two at_three at_four done = rw (at_one, at_two, at_three, at_four) at done
 
 -- `messages`
-pub messages_works : (words : List Argument) {one two : FileArgument} {a b : Outside}
+pub messages_works : (words : List Argument) {one two : FileArgument} {a b : IoState}
     {status : Status} → one ≡ file 1 words → two ≡ file 2 words →
     Implements (messages_meaning one two) a b status → Implements (command_meaning Messages words) a b status
 messages_works words at_one at_two done = rw (at_one, at_two) at done
 
 -- `next`
 pub next_works : (words : List Argument) {one two four : FileArgument} {three : NumberArgument}
-    {a b : Outside} {status : Status} → one ≡ file 1 words → two ≡ file 2 words →
+    {a b : IoState} {status : Status} → one ≡ file 1 words → two ≡ file 2 words →
     three ≡ number 3 words → four ≡ file 4 words → Implements (next_meaning one two three four) a b status →
     Implements (command_meaning Next words) a b status
 next_works words at_one at_two at_three at_four done = rw (at_one, at_two, at_three, at_four) at done
 
 -- `opens`
-pub opens_works : (words : List Argument) {one two three : FileArgument} {a b : Outside}
+pub opens_works : (words : List Argument) {one two three : FileArgument} {a b : IoState}
     {status : Status} → one ≡ file 1 words → two ≡ file 2 words → three ≡ file 3 words →
     Implements (opens_meaning one two three) a b status → Implements (command_meaning Opens words) a b status
 opens_works words at_one at_two at_three done = rw (at_one, at_two, at_three) at done
 
 -- `plan`
 pub plan_works : (words : List Argument) {one two : FileArgument} {three four : NumberArgument}
-    {a b : Outside} {status : Status} → one ≡ file 1 words → two ≡ file 2 words →
-    three ≡ number 3 words → four ≡ number 4 words → Implements (plan_meaning one two three four.value) a b status →
+    {a b : IoState} {status : Status} → one ≡ file 1 words → two ≡ file 2 words →
+    three ≡ number 3 words → four ≡ number 4 words → Implements (plan_command_meaning one two three four.value) a b status →
     Implements (command_meaning Plan words) a b status
 plan_works words at_one at_two at_three at_four done = rw (at_one, at_two, at_three, at_four) at done
 
 -- `receive`
-pub receive_works : (words : List Argument) {one two three : FileArgument} {a b : Outside}
+pub receive_works : (words : List Argument) {one two three : FileArgument} {a b : IoState}
     {status : Status} → one ≡ file 1 words → two ≡ file 2 words → three ≡ file 3 words →
     Implements (receive_meaning one two three) a b status → Implements (command_meaning Receive words) a b status
 receive_works words at_one at_two at_three done = rw (at_one, at_two, at_three) at done
 
 -- `sample`
 pub sample_works : (words : List Argument) {three : FileArgument} {one two : NumberArgument}
-    {a b : Outside} {status : Status} → one ≡ number 1 words → two ≡ number 2 words →
+    {a b : IoState} {status : Status} → one ≡ number 1 words → two ≡ number 2 words →
     three ≡ file 3 words → Implements (sample_meaning one.value two.value three) a b status →
     Implements (command_meaning Sample words) a b status
 sample_works words at_one at_two at_three done = rw (at_one, at_two, at_three) at done
 
 -- `show`
-pub show_works : (words : List Argument) {one : FileArgument} {a b : Outside}
+pub show_works : (words : List Argument) {one : FileArgument} {a b : IoState}
     {status : Status} → one ≡ file 1 words → Implements (show_meaning one) a b status →
     Implements (command_meaning Show words) a b status
 show_works words at_one done = rw at_one at done
 
 -- `status`
 pub status_works : (words : List Argument) {one two : FileArgument} {three : NumberArgument}
-    {a b : Outside} {status : Status} → one ≡ file 1 words → two ≡ file 2 words →
+    {a b : IoState} {status : Status} → one ≡ file 1 words → two ≡ file 2 words →
     three ≡ number 3 words → Implements (status_meaning one two three) a b status →
     Implements (command_meaning StatusOf words) a b status
 status_works words at_one at_two at_three done = rw (at_one, at_two, at_three) at done
 
 -- `tables`
-pub tables_works : (words : List Argument) {one : FileArgument} {a b : Outside}
+pub tables_works : (words : List Argument) {one : FileArgument} {a b : IoState}
     {status : Status} → one ≡ file 1 words → Implements (tables_meaning one) a b status →
     Implements (command_meaning Tables words) a b status
 tables_works words at_one done = rw at_one at done
 
 -- `trace`
-pub trace_works : (words : List Argument) {one two three : FileArgument} {a b : Outside}
+pub trace_works : (words : List Argument) {one two three : FileArgument} {a b : IoState}
     {status : Status} → one ≡ file 1 words → two ≡ file 2 words → three ≡ file 3 words →
     Implements (trace_meaning one two three) a b status → Implements (command_meaning Trace words) a b status
 trace_works words at_one at_two at_three done = rw (at_one, at_two, at_three) at done
 
 -- `twin`
 pub twin_works : (words : List Argument) {one three : FileArgument} {two : NumberArgument}
-    {a b : Outside} {status : Status} → one ≡ file 1 words → two ≡ number 2 words →
+    {a b : IoState} {status : Status} → one ≡ file 1 words → two ≡ number 2 words →
     three ≡ file 3 words → Implements (twin_meaning one two three) a b status →
     Implements (command_meaning Twin words) a b status
 twin_works words at_one at_two at_three done = rw (at_one, at_two, at_three) at done
 
 -- `watch`
-pub watch_works : (words : List Argument) {one two three : FileArgument} {a b : Outside}
+pub watch_works : (words : List Argument) {one two three : FileArgument} {a b : IoState}
     {status : Status} → one ≡ file 1 words → two ≡ file 2 words → three ≡ file 3 words →
     Implements (watch_meaning one two three) a b status → Implements (command_meaning Watch words) a b status
 watch_works words at_one at_two at_three done = rw (at_one, at_two, at_three) at done

@@ -2,8 +2,8 @@
 use Rattle.std.proofs.Common.{◌≡◌, ℕ, Bool, true, false, if◌then◌else◌, List, [], length, reverse, Option, Some, None, Result, Ok}
 use Rattle.std.proofs.Common.{Err, refl, sym, ap, ◌∙◌}
 use Rattle.std.specs.Option.{option_map}
-use Rattle.sd_engine.specs.Cut.{is_too_long, readable}
-use Rattle.sd_engine.specs.Taken.{StreamEnd, Whole, Breaks, RunsOn, taken_of, end_of}
+use Rattle.sd_engine.specs.Cut.{is_stream_too_long, readable}
+use Rattle.sd_engine.specs.Taken.{StreamEnd, Whole, Breaks, RunsOn, packets_taken, end_of}
 use Rattle.sd_site_cards.specs.CardFields.{CardFields}
 use Rattle.sd_site_cards.specs.SiteFields.{SiteFields}
 use Rattle.sd_spec.specs.Plan.{Plan}
@@ -19,12 +19,12 @@ use Rattle.sd_command_base.specs.declared.status.Status.TheVariants.{BadStream}
 use Rattle.sd_command_base.specs.declared.stream_refusal.StreamRefusal.TheVariants.{TooLong}
 use Rattle.sd_command_base.specs.Spec.{Spec, FileArgument, and_then, ◌>>=◌}
 use Rattle.sd_command_base.specs.Work.{StepBound, Out, Mark, Work}
-use Rattle.sd_command_base.specs.Made.{NewFile, making, making_new, out_of, used_name}
+use Rattle.sd_command_base.specs.Made.{NewFile, making, making_new, out_file, used_name}
 use Rattle.sd_command_base.specs.Turned.{turning}
 use Rattle.sd_command_base.specs.Streams.{stream_status}
-use Rattle.sd_run_broadcasts.specs.Air.{airing, ended_status as ended_by, live_end, live_sent, live_status}
+use Rattle.sd_run_broadcasts.specs.Air.{airing, aired_status as ended_by, live_end, live_sent, live_status}
 use Rattle.sd_run_broadcasts.specs.Head.{status_where, sent_status, stream_refusal}
-use Rattle.sd_run_broadcasts.specs.Receive.{ended_status, ending_status, status_at, unless_refused, received_status}
+use Rattle.sd_run_broadcasts.specs.Receive.{receive_end_status, ending_status, received_status_at, unless_refused, received_status}
 use Rattle.sd_run_broadcasts.specs.Watch.{watched_of, watched_status, watching}
 use Rattle.sd_command_base.specs.Printed.{printing}
 use Rattle.sd_command_line.specs.Words.{number}
@@ -65,7 +65,7 @@ made_whole steps out bytes = record {
 pub made_new : (made : NewFile) (out : FileArgument) (got : Option (List ℕ)) →
     AreOrderly (Some out.text) None (making_new made out got).result
 made_new made out None = record {
-  makes = λ found e. same_name (out_of out made.bytes) found e;
+  makes = λ found e. same_name (out_file out made.bytes) found e;
   marks = λ made e. absurd (cc);
   keeps = λ refusal. absurd refusal;
 }
@@ -96,7 +96,7 @@ clear_apart end (Some fault) e = e
 
 pub sent_apart : (plan : Plan) (bytes : List ℕ) → RefusesFirst (sent_status plan bytes) → ⊥
 unfolding sent_status
-sent_apart plan bytes e = clear_apart (end_of bytes) (stream_refusal plan.site (taken_of bytes) (end_of bytes)) e
+sent_apart plan bytes e = clear_apart (end_of bytes) (stream_refusal plan.site (packets_taken bytes) (end_of bytes)) e
 
 pub stream_apart : (end : StreamEnd) → RefusesFirst (stream_status end) → ⊥
 stream_apart Whole e = e
@@ -111,12 +111,12 @@ ending_apart leaf end.NoCat e = e
 ending_apart leaf (end.Unclosed number) e = e
 ending_apart leaf (end.Gaps packets) e = e
 
-pub ended_apart : (card : CardFields) (packets : List (List ℕ)) → RefusesFirst (ended_status card packets) → ⊥
-unfolding ended_status
+pub ended_apart : (card : CardFields) (packets : List (List ℕ)) → RefusesFirst (receive_end_status card packets) → ⊥
+unfolding receive_end_status
 ended_apart card packets e = ending_apart card.leaf _ e
 
 pub received_apart : (card : CardFields) (packets : List (List ℕ)) (refusal : Option StreamFault) (end : StreamEnd) →
-    RefusesFirst (unless_refused refusal (status_at card packets end)) → ⊥
+    RefusesFirst (unless_refused refusal (received_status_at card packets end)) → ⊥
 received_apart card packets None Whole e = ended_apart card packets e
 received_apart card packets None (Breaks found) e = e
 received_apart card packets None RunsOn e = e
@@ -125,13 +125,13 @@ received_apart card packets (Some fault) end e = e
 pub stream_received : (card : CardFields) (bytes : List ℕ) → RefusesFirst (received_status card bytes) → ⊥
 unfolding received_status
 stream_received card bytes e =
-    received_apart card (taken_of bytes) (break_from card [] (taken_of bytes)) (end_of bytes) e
+    received_apart card (packets_taken bytes) (break_from card [] (packets_taken bytes)) (end_of bytes) e
 
 -- nor do those of a stream that is watched
 pub watched_apart : (card : CardFields) (bytes : List ℕ) → RefusesFirst (watched_status card bytes) → ⊥
 unfolding watched_status
 watched_apart card bytes e =
-    by_length (is_too_long bytes) (ending_of card (reverse (counting card [] (readable bytes)))) e
+    by_length (is_stream_too_long bytes) (ending_of card (reverse (counting card [] (readable bytes)))) e
   where
     by_length : (over : Bool) (ending : Ending) →
         RefusesFirst (if over then BadStream TooLong else ending_status card.leaf ending) → ⊥
@@ -149,7 +149,7 @@ watched card out bytes = record {
 -- nor do those of a broadcast on air
 live_apart : (site : SiteFields) (bytes : List ℕ) → RefusesFirst (live_status site bytes) → ⊥
 unfolding live_status
-live_apart site bytes e = by_end (live_end site bytes) (is_too_long bytes) (length (readable bytes)) e
+live_apart site bytes e = by_end (live_end site bytes) (is_stream_too_long bytes) (length (readable bytes)) e
   where
     by_end : (end : Option ℕ) (longer : Bool) (count : ℕ) → RefusesFirst (ended_by end longer count) → ⊥
     by_end (Some n) longer count e = e

@@ -1,6 +1,6 @@
 -- Public meaning: the work that the program's arguments and files ask for.
 use Rattle.std.specs.Prelude.{List, ℕ}
-use Rattle.sd_command_base.specs.Spec.{Spec, Readings, judged, ◌>>=◌}
+use Rattle.sd_command_base.specs.Spec.{Spec, Readings, of_result, ◌>>=◌}
 use Rattle.sd_command_base.specs.Work.{Work}
 use Rattle.sd_command_line.specs.declared.command.Command.{Command}
 use Rattle.sd_command_line.specs.declared.command.Command.TheVariants.{Accounts, Air, Book, Card, Cover, Field}
@@ -27,7 +27,7 @@ use Rattle.sd_run_books.specs.Lcard.{lcard_meaning}
 use Rattle.sd_run_streams.specs.Messages.{messages_meaning}
 use Rattle.sd_run_books.specs.Next.{next_meaning}
 use Rattle.sd_run_books.specs.Opens.{opens_meaning}
-use Rattle.sd_run_books.specs.Air.{plan_meaning}
+use Rattle.sd_run_books.specs.Air.{plan_command_meaning}
 use Rattle.sd_run_books.specs.Show.{show_meaning}
 use Rattle.sd_run_books.specs.Status.{status_meaning}
 use Rattle.sd_run_books.specs.Trace.{trace_meaning}
@@ -52,7 +52,7 @@ command_meaning Messages words given = messages_meaning (file 1 words) (file 2 w
 command_meaning Next words given = next_meaning (file 1 words) (file 2 words) (number 3 words) (file 4 words) given
 command_meaning Opens words given = opens_meaning (file 1 words) (file 2 words) (file 3 words) given
 command_meaning Plan words given =
-    plan_meaning (file 1 words) (file 2 words) (number 3 words) (number 4 words).value given
+    plan_command_meaning (file 1 words) (file 2 words) (number 3 words) (number 4 words).value given
 command_meaning Receive words given = receive_meaning (file 1 words) (file 2 words) (file 3 words) given
 command_meaning Sample words given = sample_meaning (number 1 words).value (number 2 words).value (file 3 words) given
 command_meaning Show words given = show_meaning (file 1 words) given
@@ -71,4 +71,4 @@ order_meaning VersionOf given = version_meaning given
 
 -- the work that the arguments ask for, or the status of their refusal
 abbrev pub meaning : List (List ℕ) → Readings → Spec Work
-meaning words given = judged (order_of words) >>= λ order. order_meaning order given
+meaning words given = of_result (order_of words) >>= λ order. order_meaning order given

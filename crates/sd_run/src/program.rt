@@ -1,7 +1,7 @@
 ghost use Rattle.std.specs.Prelude.{◌≡◌, ◌<◌, ℕ, List, Err, IfErr, IfOk, map, string_bytes};
 ghost use Rattle.std.specs.Process.{exit_status};
 ghost use Rattle.sd_command_base.specs.Exits.{code_of};
-ghost use Rattle.sd_command_base.specs.Outside.{outside, depot_state, PageState};
+ghost use Rattle.sd_command_base.specs.Outside.{io_state, depot_state, PageState};
 ghost use Rattle.sd_command_base.specs.Results.{RunResult, IsToldAs};
 ghost use Rattle.sd_command_line.specs.CommandLine.{words_of};
 ghost use Rattle.sd_command_line.specs.Words.{order_of};
@@ -113,8 +113,8 @@ fn counted<L: Ledger, D: Depot, W: Write + Drop, E: Write + Drop>(
     requires parts { blank.parts ≡ L.parts }
     requires some { 0 < blank.parts }
     ensures value { (before after : PageState) × ((steps : ℕ) × RunResult (meaning (words_of line.now))
-        (outside (depot_state D.Depot depot.old) before 0)
-        (outside (depot_state D.Depot depot.new) after steps) result) }
+        (io_state (depot_state D.Depot depot.old) before 0)
+        (io_state (depot_state D.Depot depot.new) after steps) result) }
     ensures words { (status : Status) → order_of (words_of line.now) ≡ Err status → IsToldAs status result }
 {
     let mut print = StdPrint::new(lines);

@@ -1,7 +1,7 @@
 ghost use Rattle.std.specs.Prelude.{◌≡◌, Some, Err, IsErrOf};
 ghost use Rattle.sd_base.specs.Count.{HasNotRisen};
 ghost use Rattle.sd_ports.specs.Files.{Files};
-ghost use Rattle.sd_command_base.specs.Outside.{outside, page_state, depot_state};
+ghost use Rattle.sd_command_base.specs.Outside.{depot_state, io_state_at};
 ghost use Rattle.sd_command_base.specs.Spec.{contents_of};
 ghost use Rattle.sd_command_base.specs.Outcome.{Implements, status_of};
 ghost use Rattle.sd_command_base.specs.Results.{RunResult, HasAnswerCause, IsMeant, IsToldAs};
@@ -10,7 +10,7 @@ ghost use Rattle.sd_command_line.specs.Words.{order_of};
 ghost use Rattle.sd_run_broadcasts.specs.Said.{IsSaid};
 ghost use Rattle.sd_run.specs.Meaning.{meaning, order_meaning};
 ghost use Rattle.sd_run.specs.Notes.{order_says, says};
-ghost use Rattle.sd_command_line.specs.Orders.{order_said, IsSound};
+ghost use Rattle.sd_command_line.specs.Orders.{order_said, IsSoundOrder};
 
 use crate::work::work;
 use sd_base::Steps;
@@ -32,16 +32,16 @@ pub fn run<D: Depot, P: Sink, N: Sink, L: Ledger>(
 ) -> Status
     // The work that the arguments and files ask for is done: text is printed, a file made, and the status returned.
     ensures value { RunResult (meaning (words_of line.now))
-        (outside (depot_state D.Depot depot.old) (page_state P.Sink print.old) steps.old)
-        (outside (depot_state D.Depot depot.new) (page_state P.Sink print.new) steps.new) result }
+        (io_state_at D.Depot P.Sink depot.old print.old steps.old)
+        (io_state_at D.Depot P.Sink depot.new print.new steps.new) result }
     // Nothing is said while a command runs but the warning of `head` and the reports of `air`.
     ensures notes { IsSaid (says (words_of line.now)) (D.files depot.old) (N.held notes.old) (N.held notes.new) }
     // Each port that was opened is closed.
     ensures ports { (depot_state D.Depot depot.new).opened ≡ (depot_state D.Depot depot.old).opened }
     // Each answer on the outside has its cause.
     ensures cause { HasAnswerCause
-        (outside (depot_state D.Depot depot.old) (page_state P.Sink print.old) steps.old)
-        (outside (depot_state D.Depot depot.new) (page_state P.Sink print.new) steps.new) result }
+        (io_state_at D.Depot P.Sink depot.old print.old steps.old)
+        (io_state_at D.Depot P.Sink depot.new print.new steps.new) result }
     // Refused arguments are answered at once, and `Usage` is returned for them alone.
     ensures words { (status : Status) → order_of (words_of line.now) ≡ Err status → IsToldAs status result }
     ensures usage { result ≡ Status.Usage → order_of (words_of line.now) ≡ Err Status.Usage }
@@ -68,8 +68,8 @@ fn obey<D: Depot, P: Sink, N: Sink, L: Ledger>(
     steps: &mut Steps<L>,
 ) -> Result<(), Status>
     ensures value { Implements (meaning (words_of line.now))
-        (outside (depot_state D.Depot depot.old) (page_state P.Sink print.old) steps.old)
-        (outside (depot_state D.Depot depot.new) (page_state P.Sink print.new) steps.new) (status_of result) }
+        (io_state_at D.Depot P.Sink depot.old print.old steps.old)
+        (io_state_at D.Depot P.Sink depot.new print.new steps.new) (status_of result) }
     ensures notes { IsSaid (says (words_of line.now)) (D.files depot.old) (N.held notes.old) (N.held notes.new) }
     ensures words { (status : Status) → order_of (words_of line.now) ≡ Err status → IsErrOf result status }
 {
@@ -88,10 +88,10 @@ fn follow<D: Depot, P: Sink, N: Sink, L: Ledger>(
     notes: &mut N,
     steps: &mut Steps<L>,
 ) -> Result<(), Status>
-    requires { IsSound (order_said order.now) }
+    requires { IsSoundOrder (order_said order.now) }
     ensures value { Implements (order_meaning (order_said order.now))
-        (outside (depot_state D.Depot depot.old) (page_state P.Sink print.old) steps.old)
-        (outside (depot_state D.Depot depot.new) (page_state P.Sink print.new) steps.new) (status_of result) }
+        (io_state_at D.Depot P.Sink depot.old print.old steps.old)
+        (io_state_at D.Depot P.Sink depot.new print.new steps.new) (status_of result) }
     ensures notes { IsSaid (order_says (order_said order.now)) (D.files depot.old) (N.held notes.old)
         (N.held notes.new) }
 {

@@ -1,7 +1,7 @@
 //! The work of a command: each command is a row, which picks its arguments by their places.
 
 ghost use Rattle.std.specs.Prelude.{ℕ};
-ghost use Rattle.sd_command_base.specs.Outside.{outside, page_state, depot_state, PageState};
+ghost use Rattle.sd_command_base.specs.Outside.{io_state, depot_state, PageState, io_state_at};
 ghost use Rattle.sd_command_base.specs.Outcome.{Implements, status_of};
 ghost use Rattle.sd_command_line.specs.Commands.{operands_of};
 ghost use Rattle.sd_command_line.specs.Orders.{arguments_said, AreOf};
@@ -35,8 +35,8 @@ pub(crate) fn work<D: Depot, P: Sink, N: Sink, L: Ledger>(
 ) -> Result<(), Status>
     requires { AreOf 1 (operands_of command) (arguments_said 1 row.now.list.items) }
     ensures value { Implements (command_meaning command (arguments_said 1 row.now.list.items))
-        (outside (depot_state D.Depot depot.old) (page_state P.Sink print.old) steps.old)
-        (outside (depot_state D.Depot depot.new) (page_state P.Sink print.new) steps.new) (status_of result) }
+        (io_state_at D.Depot P.Sink depot.old print.old steps.old)
+        (io_state_at D.Depot P.Sink depot.new print.new steps.new) (status_of result) }
     ensures notes { IsSaid (says_of command (arguments_said 1 row.now.list.items)) (D.files depot.old)
         (N.held notes.old) (N.held notes.new) }
 {
@@ -76,8 +76,8 @@ fn accounts_row<D: Depot, P: Sink>(
     print: &mut P,
 ) -> Result<(), Status>
     ensures { (steps : ℕ) → Implements (command_meaning Command.Accounts (arguments_said 1 row.now.list.items))
-        (outside (depot_state D.Depot depot.old) (page_state P.Sink print.old) steps)
-        (outside (depot_state D.Depot depot.new) (page_state P.Sink print.new) steps) (status_of result) }
+        (io_state_at D.Depot P.Sink depot.old print.old steps)
+        (io_state_at D.Depot P.Sink depot.new print.new steps) (status_of result) }
 {
     accounts(alloc, depot, print, row.file(1), row.file(2), row.file(3))
 }
@@ -93,8 +93,8 @@ fn air_row<D: Depot, P: Sink, N: Sink, L: Ledger>(
     steps: &mut Steps<L>,
 ) -> Result<(), Status>
     ensures value { Implements (command_meaning Command.Air (arguments_said 1 row.now.list.items))
-        (outside (depot_state D.Depot depot.old) (page_state P.Sink print.old) steps.old)
-        (outside (depot_state D.Depot depot.new) (page_state P.Sink print.new) steps.new) (status_of result) }
+        (io_state_at D.Depot P.Sink depot.old print.old steps.old)
+        (io_state_at D.Depot P.Sink depot.new print.new steps.new) (status_of result) }
     ensures notes { IsSaid (says_of Command.Air (arguments_said 1 row.now.list.items)) (D.files depot.old)
         (N.held notes.old) (N.held notes.new) }
 {
@@ -120,8 +120,8 @@ fn apart_row<D: Depot, P: Sink>(
     print: &mut P,
 ) -> Result<(), Status>
     ensures { (steps : ℕ) → Implements (command_meaning Command.Apart (arguments_said 1 row.now.list.items))
-        (outside (depot_state D.Depot depot.old) (page_state P.Sink print.old) steps)
-        (outside (depot_state D.Depot depot.new) (page_state P.Sink print.new) steps) (status_of result) }
+        (io_state_at D.Depot P.Sink depot.old print.old steps)
+        (io_state_at D.Depot P.Sink depot.new print.new steps) (status_of result) }
 {
     apart(
         alloc,
@@ -139,8 +139,8 @@ fn apart_row<D: Depot, P: Sink>(
 fn book_row<D: Depot>(alloc: Global, row: &Arguments<'_>, depot: &mut D) -> Result<(), Status>
     ensures { (page : PageState) (steps : ℕ) →
         Implements (command_meaning Command.Book (arguments_said 1 row.now.list.items))
-        (outside (depot_state D.Depot depot.old) page steps)
-        (outside (depot_state D.Depot depot.new) page steps) (status_of result) }
+        (io_state (depot_state D.Depot depot.old) page steps)
+        (io_state (depot_state D.Depot depot.new) page steps) (status_of result) }
 {
     book(
         alloc,
@@ -161,8 +161,8 @@ fn card_row<D: Depot, L: Ledger>(
     steps: &mut Steps<L>,
 ) -> Result<(), Status>
     ensures { (page : PageState) → Implements (command_meaning Command.Card (arguments_said 1 row.now.list.items))
-        (outside (depot_state D.Depot depot.old) page steps.old)
-        (outside (depot_state D.Depot depot.new) page steps.new) (status_of result) }
+        (io_state (depot_state D.Depot depot.old) page steps.old)
+        (io_state (depot_state D.Depot depot.new) page steps.new) (status_of result) }
 {
     card(alloc, depot, row.file(1), row.number(2), row.file(3), steps)
 }
@@ -176,8 +176,8 @@ fn cover_row<D: Depot, P: Sink>(
     print: &mut P,
 ) -> Result<(), Status>
     ensures { (steps : ℕ) → Implements (command_meaning Command.Cover (arguments_said 1 row.now.list.items))
-        (outside (depot_state D.Depot depot.old) (page_state P.Sink print.old) steps)
-        (outside (depot_state D.Depot depot.new) (page_state P.Sink print.new) steps) (status_of result) }
+        (io_state_at D.Depot P.Sink depot.old print.old steps)
+        (io_state_at D.Depot P.Sink depot.new print.new steps) (status_of result) }
 {
     cover(alloc, depot, print, row.file(1), row.file(2))
 }
@@ -191,8 +191,8 @@ fn field_row<D: Depot, P: Sink, L: Ledger>(
     steps: &mut Steps<L>,
 ) -> Result<(), Status>
     ensures { Implements (command_meaning Command.Field (arguments_said 1 row.now.list.items))
-        (outside (depot_state D.Depot depot.old) (page_state P.Sink print.old) steps.old)
-        (outside (depot_state D.Depot depot.new) (page_state P.Sink print.new) steps.new) (status_of result) }
+        (io_state_at D.Depot P.Sink depot.old print.old steps.old)
+        (io_state_at D.Depot P.Sink depot.new print.new steps.new) (status_of result) }
 {
     field(
         alloc,
@@ -216,8 +216,8 @@ fn head_row<D: Depot, N: Sink, L: Ledger>(
 ) -> Result<(), Status>
     ensures value { (page : PageState) →
         Implements (command_meaning Command.Head (arguments_said 1 row.now.list.items))
-        (outside (depot_state D.Depot depot.old) page steps.old)
-        (outside (depot_state D.Depot depot.new) page steps.new) (status_of result) }
+        (io_state (depot_state D.Depot depot.old) page steps.old)
+        (io_state (depot_state D.Depot depot.new) page steps.new) (status_of result) }
     ensures notes { IsSaid (says_of Command.Head (arguments_said 1 row.now.list.items)) (D.files depot.old)
         (N.held notes.old) (N.held notes.new) }
 {
@@ -242,8 +242,8 @@ fn layered_row<D: Depot, P: Sink>(
     print: &mut P,
 ) -> Result<(), Status>
     ensures { (steps : ℕ) → Implements (command_meaning Command.Layered (arguments_said 1 row.now.list.items))
-        (outside (depot_state D.Depot depot.old) (page_state P.Sink print.old) steps)
-        (outside (depot_state D.Depot depot.new) (page_state P.Sink print.new) steps) (status_of result) }
+        (io_state_at D.Depot P.Sink depot.old print.old steps)
+        (io_state_at D.Depot P.Sink depot.new print.new steps) (status_of result) }
 {
     layered(alloc, depot, print, row.file(1), row.file(2), row.number(3))
 }
@@ -257,8 +257,8 @@ fn lcard_row<D: Depot, L: Ledger>(
     steps: &mut Steps<L>,
 ) -> Result<(), Status>
     ensures { (page : PageState) → Implements (command_meaning Command.Lcard (arguments_said 1 row.now.list.items))
-        (outside (depot_state D.Depot depot.old) page steps.old)
-        (outside (depot_state D.Depot depot.new) page steps.new) (status_of result) }
+        (io_state (depot_state D.Depot depot.old) page steps.old)
+        (io_state (depot_state D.Depot depot.new) page steps.new) (status_of result) }
 {
     lcard(
         alloc,
@@ -280,8 +280,8 @@ fn messages_row<D: Depot, P: Sink>(
     print: &mut P,
 ) -> Result<(), Status>
     ensures { (steps : ℕ) → Implements (command_meaning Command.Messages (arguments_said 1 row.now.list.items))
-        (outside (depot_state D.Depot depot.old) (page_state P.Sink print.old) steps)
-        (outside (depot_state D.Depot depot.new) (page_state P.Sink print.new) steps) (status_of result) }
+        (io_state_at D.Depot P.Sink depot.old print.old steps)
+        (io_state_at D.Depot P.Sink depot.new print.new steps) (status_of result) }
 {
     messages(alloc, depot, print, row.file(1), row.file(2))
 }
@@ -296,8 +296,8 @@ fn next_row<D: Depot, P: Sink>(
 ) -> Result<(), Status>
     requires { AreOf 1 (operands_of Command.Next) (arguments_said 1 row.now.list.items) }
     ensures { (steps : ℕ) → Implements (command_meaning Command.Next (arguments_said 1 row.now.list.items))
-        (outside (depot_state D.Depot depot.old) (page_state P.Sink print.old) steps)
-        (outside (depot_state D.Depot depot.new) (page_state P.Sink print.new) steps) (status_of result) }
+        (io_state_at D.Depot P.Sink depot.old print.old steps)
+        (io_state_at D.Depot P.Sink depot.new print.new steps) (status_of result) }
 {
     next(
         alloc,
@@ -319,8 +319,8 @@ fn opens_row<D: Depot, P: Sink>(
     print: &mut P,
 ) -> Result<(), Status>
     ensures { (steps : ℕ) → Implements (command_meaning Command.Opens (arguments_said 1 row.now.list.items))
-        (outside (depot_state D.Depot depot.old) (page_state P.Sink print.old) steps)
-        (outside (depot_state D.Depot depot.new) (page_state P.Sink print.new) steps) (status_of result) }
+        (io_state_at D.Depot P.Sink depot.old print.old steps)
+        (io_state_at D.Depot P.Sink depot.new print.new steps) (status_of result) }
 {
     opens(alloc, depot, print, row.file(1), row.file(2), row.file(3))
 }
@@ -335,8 +335,8 @@ fn plan_row<D: Depot, P: Sink>(
 ) -> Result<(), Status>
     requires { AreOf 1 (operands_of Command.Plan) (arguments_said 1 row.now.list.items) }
     ensures { (steps : ℕ) → Implements (command_meaning Command.Plan (arguments_said 1 row.now.list.items))
-        (outside (depot_state D.Depot depot.old) (page_state P.Sink print.old) steps)
-        (outside (depot_state D.Depot depot.new) (page_state P.Sink print.new) steps) (status_of result) }
+        (io_state_at D.Depot P.Sink depot.old print.old steps)
+        (io_state_at D.Depot P.Sink depot.new print.new steps) (status_of result) }
 {
     let pids = row.number(4);
     plan(
@@ -359,8 +359,8 @@ fn receive_row<D: Depot, L: Ledger>(
     steps: &mut Steps<L>,
 ) -> Result<(), Status>
     ensures { (page : PageState) → Implements (command_meaning Command.Receive (arguments_said 1 row.now.list.items))
-        (outside (depot_state D.Depot depot.old) page steps.old)
-        (outside (depot_state D.Depot depot.new) page steps.new) (status_of result) }
+        (io_state (depot_state D.Depot depot.old) page steps.old)
+        (io_state (depot_state D.Depot depot.new) page steps.new) (status_of result) }
 {
     receive(alloc, depot, row.file(1), row.file(2), row.file(3), steps)
 }
@@ -371,8 +371,8 @@ fn sample_row<D: Depot>(alloc: Global, row: &Arguments<'_>, depot: &mut D) -> Re
     requires { AreOf 1 (operands_of Command.Sample) (arguments_said 1 row.now.list.items) }
     ensures { (page : PageState) (steps : ℕ) →
         Implements (command_meaning Command.Sample (arguments_said 1 row.now.list.items))
-        (outside (depot_state D.Depot depot.old) page steps)
-        (outside (depot_state D.Depot depot.new) page steps) (status_of result) }
+        (io_state (depot_state D.Depot depot.old) page steps)
+        (io_state (depot_state D.Depot depot.new) page steps) (status_of result) }
 {
     let seed = row.number(1);
     let packets = row.number(2);
@@ -388,8 +388,8 @@ fn show_row<D: Depot, P: Sink>(
     print: &mut P,
 ) -> Result<(), Status>
     ensures { (steps : ℕ) → Implements (command_meaning Command.Show (arguments_said 1 row.now.list.items))
-        (outside (depot_state D.Depot depot.old) (page_state P.Sink print.old) steps)
-        (outside (depot_state D.Depot depot.new) (page_state P.Sink print.new) steps) (status_of result) }
+        (io_state_at D.Depot P.Sink depot.old print.old steps)
+        (io_state_at D.Depot P.Sink depot.new print.new steps) (status_of result) }
 {
     show(alloc, depot, print, row.file(1))
 }
@@ -403,8 +403,8 @@ fn status_row<D: Depot, P: Sink>(
     print: &mut P,
 ) -> Result<(), Status>
     ensures { (steps : ℕ) → Implements (command_meaning Command.Status (arguments_said 1 row.now.list.items))
-        (outside (depot_state D.Depot depot.old) (page_state P.Sink print.old) steps)
-        (outside (depot_state D.Depot depot.new) (page_state P.Sink print.new) steps) (status_of result) }
+        (io_state_at D.Depot P.Sink depot.old print.old steps)
+        (io_state_at D.Depot P.Sink depot.new print.new steps) (status_of result) }
 {
     status(alloc, depot, print, row.file(1), row.file(2), row.number(3))
 }
@@ -418,8 +418,8 @@ fn tables_row<D: Depot, P: Sink>(
     print: &mut P,
 ) -> Result<(), Status>
     ensures { (steps : ℕ) → Implements (command_meaning Command.Tables (arguments_said 1 row.now.list.items))
-        (outside (depot_state D.Depot depot.old) (page_state P.Sink print.old) steps)
-        (outside (depot_state D.Depot depot.new) (page_state P.Sink print.new) steps) (status_of result) }
+        (io_state_at D.Depot P.Sink depot.old print.old steps)
+        (io_state_at D.Depot P.Sink depot.new print.new steps) (status_of result) }
 {
     tables(alloc, depot, print, row.file(1))
 }
@@ -433,8 +433,8 @@ fn trace_row<D: Depot, P: Sink>(
     print: &mut P,
 ) -> Result<(), Status>
     ensures { (steps : ℕ) → Implements (command_meaning Command.Trace (arguments_said 1 row.now.list.items))
-        (outside (depot_state D.Depot depot.old) (page_state P.Sink print.old) steps)
-        (outside (depot_state D.Depot depot.new) (page_state P.Sink print.new) steps) (status_of result) }
+        (io_state_at D.Depot P.Sink depot.old print.old steps)
+        (io_state_at D.Depot P.Sink depot.new print.new steps) (status_of result) }
 {
     trace(alloc, depot, print, row.file(1), row.file(2), row.file(3))
 }
@@ -448,8 +448,8 @@ fn trial_row<D: Depot, P: Sink, L: Ledger>(
     steps: &mut Steps<L>,
 ) -> Result<(), Status>
     ensures { Implements (command_meaning Command.Trial (arguments_said 1 row.now.list.items))
-        (outside (depot_state D.Depot depot.old) (page_state P.Sink print.old) steps.old)
-        (outside (depot_state D.Depot depot.new) (page_state P.Sink print.new) steps.new) (status_of result) }
+        (io_state_at D.Depot P.Sink depot.old print.old steps.old)
+        (io_state_at D.Depot P.Sink depot.new print.new steps.new) (status_of result) }
 {
     trial(
         alloc,
@@ -468,8 +468,8 @@ fn twin_row<D: Depot>(alloc: Global, row: &Arguments<'_>, depot: &mut D) -> Resu
     requires { AreOf 1 (operands_of Command.Twin) (arguments_said 1 row.now.list.items) }
     ensures { (page : PageState) (steps : ℕ) →
         Implements (command_meaning Command.Twin (arguments_said 1 row.now.list.items))
-        (outside (depot_state D.Depot depot.old) page steps)
-        (outside (depot_state D.Depot depot.new) page steps) (status_of result) }
+        (io_state (depot_state D.Depot depot.old) page steps)
+        (io_state (depot_state D.Depot depot.new) page steps) (status_of result) }
 {
     twin(alloc, depot, row.file(1), row.number(2), row.file(3))
 }
@@ -484,8 +484,8 @@ fn watch_row<D: Depot, P: Sink, L: Ledger>(
     steps: &mut Steps<L>,
 ) -> Result<(), Status>
     ensures { Implements (command_meaning Command.Watch (arguments_said 1 row.now.list.items))
-        (outside (depot_state D.Depot depot.old) (page_state P.Sink print.old) steps.old)
-        (outside (depot_state D.Depot depot.new) (page_state P.Sink print.new) steps.new) (status_of result) }
+        (io_state_at D.Depot P.Sink depot.old print.old steps.old)
+        (io_state_at D.Depot P.Sink depot.new print.new steps.new) (status_of result) }
 {
     watch(
         alloc,

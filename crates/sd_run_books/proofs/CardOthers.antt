@@ -4,7 +4,7 @@ use Rattle.std.specs.Prelude.{nat_le, ◌&&◌, nat_lt, if◌then◌else◌}
 use Rattle.sd_tree_keys.specs.Limits.{most_revoked}
 use Rattle.sd_book.specs.declared.command.Command.{Command}
 use Rattle.sd_cover_tracing.specs.Trace.{not_among, trace_of}
-use Rattle.sd_command_base.specs.Spec.{FileArgument, Readings, value, judged, ◌>>=◌, within}
+use Rattle.sd_command_base.specs.Spec.{FileArgument, Readings, value, of_result, ◌>>=◌, within}
 use Rattle.sd_command_base.specs.declared.status.Status.TheVariants.{BadWord, Limit}
 use Rattle.sd_command_base.specs.declared.status.LimitKind.TheVariants.{Traced, CardBytes}
 use Rattle.sd_command_base.specs.Work.{work_of_text, Uncounted}
@@ -18,15 +18,15 @@ use Rattle.sd_command_base.specs.Leaves.{leaves_of_file}
 use Rattle.sd_run_books.specs.Cover.{covering, cover_meaning}
 use Rattle.sd_run_books.specs.Layered.{told_layers, layers_of_file, layering, layered_meaning}
 use Rattle.sd_run_books.specs.Opens.{opening, opens_meaning}
-use Rattle.sd_run_books.specs.Trace.{revoked_last, trace_text, traced, trace_meaning}
+use Rattle.sd_run_books.specs.Trace.{revoked_last, trace_text, trace_outcome, trace_meaning}
 use Rattle.sd_site_cards.specs.SiteFields.{SiteFields}
 use Rattle.sd_site_cards.specs.CardFields.{card_of, card_bytes}
 use Rattle.sd_site_cards.specs.CardFaults.{fault_in}
 use Rattle.sd_lsd.specs.Fields.{layer_card_of, layer_bytes}
 use Rattle.sd_command_base.specs.Made.{making}
-use Rattle.sd_run_books.specs.Card.{told_card, card_meaning}
+use Rattle.sd_run_books.specs.Card.{made_card, card_meaning}
 use Rattle.sd_run_books.specs.Lcard.{told_leaf, told_width, carding, lcard_meaning}
-use Rattle.sd_run_books.specs.Show.{card_line, line_of_file, show_meaning, told_show}
+use Rattle.sd_run_books.specs.Show.{shown_card_line, line_of_file, show_meaning, told_show}
 use Rattle.sd_run_books.specs.Status.{status_meaning, status_text, told_tree, tree_of_file}
 
 -- what a word says, or its refusal
@@ -46,7 +46,7 @@ other_layers : (word : ℕ) (width : NumberArgument) (got : Option (List ℕ)) �
     IsOther (layers_of_file word width got).result
 other_layers word width got =
     other_after (site_of_file word got).calls (site_of_file word got).result
-    (λ fields. judged (told_layers fields.height width)) (other_site_file word got)
+    (λ fields. of_result (told_layers fields.height width)) (other_site_file word got)
     (λ fields. other_word (nat_le 1 width.value && nat_le width.value fields.height)
     (record { height = fields.height; width = width.value }) width.word)
 
@@ -81,8 +81,8 @@ other_limit : (b : Bool) (text : List ℕ) → IsOther (if b then Err (Limit Tra
 other_limit true text = λ e. cc
 other_limit false text = tt
 
-other_traced : (d : ℕ) (coalition : List ℕ) (commands : List Command) → IsOther (traced d coalition commands)
-unfolding traced
+other_traced : (d : ℕ) (coalition : List ℕ) (commands : List Command) → IsOther (trace_outcome d coalition commands)
+unfolding trace_outcome
 other_traced d coalition commands =
     let gone = revoked_last d commands in
     other_limit (nat_lt most_revoked (length gone + length (not_among d gone coalition)))
@@ -95,16 +95,16 @@ other_trace site book leaves given =
     other_after (both_by site.number book.number (given site) (given book)).calls
     (both_by site.number book.number (given site) (given book)).result
     (λ both. leaves_of_file leaves.number both.site.height (given leaves)
-    >>= λ coalition. judged (traced both.site.height coalition both.commands) >>= λ text. value (work_of_text text))
+    >>= λ coalition. of_result (trace_outcome both.site.height coalition both.commands) >>= λ text. value (work_of_text text))
     (other_both site.number book.number (given site) (given book))
     (λ both. other_after (leaves_of_file leaves.number both.site.height (given leaves)).calls
     (leaves_of_file leaves.number both.site.height (given leaves)).result
-    (λ coalition. judged (traced both.site.height coalition both.commands) >>= λ text. value (work_of_text text))
+    (λ coalition. of_result (trace_outcome both.site.height coalition both.commands) >>= λ text. value (work_of_text text))
     (other_leaves_file leaves.number both.site.height (given leaves))
-    (λ coalition. other_after 0 (traced both.site.height coalition both.commands) (λ text. value (work_of_text text))
+    (λ coalition. other_after 0 (trace_outcome both.site.height coalition both.commands) (λ text. value (work_of_text text))
     (other_traced both.site.height coalition both.commands) (λ text. tt)))
 
-other_card : (fields : SiteFields) (leaf : NumberArgument) → IsOther (told_card fields leaf)
+other_card : (fields : SiteFields) (leaf : NumberArgument) → IsOther (made_card fields leaf)
 other_card fields leaf =
     other_word (nat_lt leaf.value (2 ^ fields.height))
     (card_bytes (card_of fields.master fields.ca fields.height leaf.value)) leaf.word
@@ -113,9 +113,9 @@ pub other_card_order : (site : FileArgument) (leaf : NumberArgument) (out : File
     IsOther (card_meaning site leaf out given).result
 other_card_order site leaf out given =
     other_after (site_of_file site.number (given site)).calls (site_of_file site.number (given site)).result
-    (λ fields. judged (told_card fields leaf) >>= λ bytes. value (making Uncounted out bytes))
+    (λ fields. of_result (made_card fields leaf) >>= λ bytes. value (making Uncounted out bytes))
     (other_site_file site.number (given site))
-    (λ fields. other_after 0 (told_card fields leaf) (λ bytes. value (making Uncounted out bytes))
+    (λ fields. other_after 0 (made_card fields leaf) (λ bytes. value (making Uncounted out bytes))
     (other_card fields leaf) (λ bytes. tt))
 
 pub other_lcard : (site : FileArgument) (leaf width : NumberArgument) (out : FileArgument) (given : Readings) →
@@ -124,7 +124,7 @@ other_lcard site leaf width out given =
     other_after (site_of_file site.number (given site)).calls (site_of_file site.number (given site)).result
     (λ fields. carding fields leaf width out) (other_site_file site.number (given site))
     (λ fields. other_after 0 (told_leaf fields.height leaf)
-    (λ u. judged (told_width fields.height width)
+    (λ u. of_result (told_width fields.height width)
     >>= λ w. value (making Uncounted out (layer_bytes (layer_card_of fields.master fields.ca fields.height w u))))
     (other_word (nat_lt leaf.value (2 ^ fields.height)) leaf.value leaf.word)
     (λ u. other_after 0 (told_width fields.height width)
@@ -133,13 +133,13 @@ other_lcard site leaf width out given =
 
 other_line : (word : ℕ) (bytes : List ℕ) → IsOther (told_show word bytes)
 unfolding told_show
-other_line word bytes = other_unless word (fault_in bytes) (card_line bytes)
+other_line word bytes = other_unless word (fault_in bytes) (shown_card_line bytes)
 
 other_line_file : (word : ℕ) (got : Option (List ℕ)) → IsOther (line_of_file word got).result
 unfolding line_of_file
 other_line_file word got =
     other_after (within word most_card_bytes CardBytes got).calls (within word most_card_bytes CardBytes got).result
-    (λ bytes. judged (told_show word bytes)) (other_file word most_card_bytes CardBytes got) (other_line word)
+    (λ bytes. of_result (told_show word bytes)) (other_file word most_card_bytes CardBytes got) (other_line word)
 
 pub other_show : (card : FileArgument) (given : Readings) → IsOther (show_meaning card given).result
 other_show card given =
@@ -148,7 +148,7 @@ other_show card given =
 
 other_tree : (word : ℕ) (leaf : NumberArgument) (got : Option (List ℕ)) → IsOther (tree_of_file word leaf got).result
 other_tree word leaf got =
-    other_after (site_of_file word got).calls (site_of_file word got).result (λ site. judged (told_tree leaf site))
+    other_after (site_of_file word got).calls (site_of_file word got).result (λ site. of_result (told_tree leaf site))
     (other_site_file word got) (λ site. other_word (nat_lt leaf.value (2 ^ site.height)) site leaf.word)
 
 pub other_status : (site book : FileArgument) (leaf : NumberArgument) (given : Readings) →

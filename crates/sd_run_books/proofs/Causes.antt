@@ -21,20 +21,20 @@ use Rattle.sd_book.specs.declared.fault.BookLimit.{BookLimit}
 use Rattle.sd_book.specs.declared.fault.BookLimit.TheVariants.{Lines, Periods, Revoked}
 use Rattle.sd_book.specs.declared.limits.TheConstants.{MOST_COMMANDS, MOST_PERIODS}
 use Rattle.sd_book.specs.Commands.{is_within, last_period, revoked_after}
-use Rattle.sd_book.specs.Faults.{BreaksLimit, IsBroken}
+use Rattle.sd_book.specs.Faults.{BreaksLimit, IsBrokenLimit}
 use Rattle.sd_book.specs.Limits.{IsDraft, IsWithinLimits}
-use Rattle.sd_book.specs.Text.{command_fits, ended}
+use Rattle.sd_book.specs.Text.{command_fits, period_end_check}
 use Rattle.sd_book.proofs.Causes.{command_broken, end_broken}
 use Rattle.sd_book.proofs.Judged.{command_again, ended_ok, fits_same, judged_none, judged_one_more}
 use Rattle.sd_run_books.specs.declared.account_fault.AccountFault.{AccountFault}
 use Rattle.sd_run_books.specs.declared.account_fault.AccountFault.TheVariants.{Line, Unknown, Taken, NoMemory}
-use Rattle.sd_run_books.specs.Bound.{leaf_on, leaf_of, first_there, is_held}
+use Rattle.sd_run_books.specs.Bound.{leaf_on, leaf_of, first_number_there, is_held}
 use Rattle.sd_run_books.specs.Fault.{as_fault}
-use Rattle.sd_run_books.specs.Faults.{AddsCommand, IsWrong, AreGood, NextIsWrong, NextMakes, NextBreaks, IsCauseOf}
-use Rattle.sd_run_books.specs.Judged.{◌>>=◌, on_leaf, command_after, allowed, judged_line, judged, book_of}
+use Rattle.sd_run_books.specs.Faults.{AddsCommand, IsWrong, AreGoodAccountLines, NextIsWrong, NextMakes, NextBreaks, IsAccountFaultOf}
+use Rattle.sd_run_books.specs.Judged.{◌>>=◌, on_leaf, command_after, allowed, judged_account_line, account_commands, accounts_book}
 use Rattle.sd_run_books.specs.Kept.{IsBelow}
-use Rattle.sd_run_books.specs.Line.{Entry, Assigns, Drops, Restores, Ends, assigned, by_word, entry_on, leaf_numbered}
-use Rattle.sd_run_books.specs.Line.{name_in, said_by}
+use Rattle.sd_run_books.specs.Line.{Entry, Assigns, Drops, Restores, Ends, assigned, entry_by_word, entry_on, leaf_numbered}
+use Rattle.sd_run_books.specs.Line.{account_name_in, said_by_accounts}
 use Rattle.sd_run_books.proofs.Kept.{leaf_more}
 use Rattle.sd_run_books.proofs.Limits.{book_ends, end_by}
 
@@ -117,13 +117,13 @@ get_next [] y = refl
 get_next (x ∷ xs) y = get_next xs y
 
 -- no line is good
-none_good : (d : ℕ) → AreGood d [] []
+none_good : (d : ℕ) → AreGoodAccountLines d [] []
 none_good d = record { same = refl; each = λ k h. absurd (omega (arith, h)); draft = judged_none d }
 
 -- good lines and a good one
 good_more : (d : ℕ) (before : List (Option Entry)) (entry : Entry) (commands : List Command) (command : Command) →
-    AreGood d before commands → AddsCommand before entry command → IsDraft d (commands ++ command ∷ []) →
-    AreGood d (before ++ Some entry ∷ []) (commands ++ command ∷ [])
+    AreGoodAccountLines d before commands → AddsCommand before entry command → IsDraft d (commands ++ command ∷ []) →
+    AreGoodAccountLines d (before ++ Some entry ∷ []) (commands ++ command ∷ [])
 good_more d before entry commands command good makes draft = record {
   same = length_push commands command ∙ ap (λ n. n + 1) good.same ∙ sym (length_push before (Some entry));
   each = λ k h. each k (omega (arith, h, length_push before (Some entry)));
@@ -193,7 +193,7 @@ within_more d before entry low within name u e =
     of_line (Restores other) low e = absurd cc
     of_line Ends low e = absurd cc
 
-    go : (o p : Option ℕ) → leaf_of name before ≡ o → leaf_on name (Some entry) ≡ p → first_there o p ≡ Some u →
+    go : (o p : Option ℕ) → leaf_of name before ≡ o → leaf_on name (Some entry) ≡ p → first_number_there o p ≡ Some u →
         u < 2 ^ d
     go (Some leaf) p is on e = within name u (is ∙ e)
     go None p is on e = of_line entry low (on ∙ e)
@@ -232,11 +232,11 @@ assigned_below d text entry e = by_cut (cut_at_space text) e
 
     by_cut : (cut : Option (List ℕ × List ℕ)) →
         option_and_then (λ parts. option_and_then
-        (λ name. option_map (Assigns name) (leaf_numbered d (decimal_value parts.1))) (name_in parts.0)) cut ≡ Some
+        (λ name. option_map (Assigns name) (leaf_numbered d (decimal_value parts.1))) (account_name_in parts.0)) cut ≡ Some
         entry →
         IsBelow (2 ^ d) entry
     by_cut None e = absurd cc
-    by_cut (Some parts) e = by_name (name_in parts.0) (decimal_value parts.1) e
+    by_cut (Some parts) e = by_name (account_name_in parts.0) (decimal_value parts.1) e
 
 -- each line says a leaf of the tree, if it says one
 entry_below : (d : ℕ) (line : List ℕ) (entry : Entry) → entry_on d line ≡ Some entry → IsBelow (2 ^ d) entry
@@ -254,53 +254,53 @@ entry_below d line entry e =
     restores (Some name) e = let same : Restores name ≡ entry = cc in subst (IsBelow (2 ^ d)) same tt
 
     go : (b : Bool) (assign drop restore : Option (List ℕ)) →
-        (if b then Some Ends else by_word assign (assigned d) (by_word drop (λ text. option_map Drops (name_in text))
-        (by_word restore (λ text. option_map Restores (name_in text)) None))) ≡ Some entry → IsBelow (2 ^ d) entry
+        (if b then Some Ends else entry_by_word assign (assigned d) (entry_by_word drop (λ text. option_map Drops (account_name_in text))
+        (entry_by_word restore (λ text. option_map Restores (account_name_in text)) None))) ≡ Some entry → IsBelow (2 ^ d) entry
     go true assign drop restore e = let same : Ends ≡ entry = cc in subst (IsBelow (2 ^ d)) same tt
     go false (Some text) drop restore e = assigned_below d text entry e
-    go false None (Some text) restore e = drops (name_in text) e
-    go false None None (Some text) e = restores (name_in text) e
+    go false None (Some text) restore e = drops (account_name_in text) e
+    go false None None (Some text) e = restores (account_name_in text) e
     go false None None None e = absurd cc
 
 -- a limit that is broken is the fault
 broken_fault : (d : ℕ) (before : List (Option Entry)) (commands : List Command) (rest : List (Option Entry))
-    (next : List (Option Command)) (fault : BookFault) → NextMakes before rest next → IsBroken d commands next fault →
+    (next : List (Option Command)) (fault : BookFault) → NextMakes before rest next → IsBrokenLimit d commands next fault →
     NextBreaks d before commands rest (as_fault fault)
 broken_fault d before commands rest next fault makes broken =
     (broken.0, next, makes, ap as_fault broken.1, broken.2)
 
 -- what lines come to: good lines, or a fault
 abbrev pub ComesTo : ℕ → List (Option Entry) → Result (List Command) AccountFault → Type 0
-ComesTo d said result = MatchResult result (AreGood d said) (IsCauseOf d said)
+ComesTo d said result = MatchResult result (AreGoodAccountLines d said) (IsAccountFaultOf d said)
 
 -- at the end of good lines
-end_comes : (d : ℕ) (before : List (Option Entry)) (commands : List Command) → AreGood d before commands →
-    ComesTo d (before ++ []) (judged d before commands [])
-end_comes d before commands good = by (ended d commands commands) refl
+end_comes : (d : ℕ) (before : List (Option Entry)) (commands : List Command) → AreGoodAccountLines d before commands →
+    ComesTo d (before ++ []) (account_commands d before commands [])
+end_comes d before commands good = by (period_end_check d commands commands) refl
   where
-    by : (r : Result (List Command) BookFault) → ended d commands commands ≡ r → ComesTo d (before ++ []) (allowed r)
+    by : (r : Result (List Command) BookFault) → period_end_check d commands commands ≡ r → ComesTo d (before ++ []) (allowed r)
     by (Ok got) e =
-        subst (λ cs. AreGood d (before ++ []) cs) (ended_ok d commands commands got e).1
-        (subst (λ said. AreGood d said commands) (sym (append-nil before)) good)
+        subst (λ cs. AreGoodAccountLines d (before ++ []) cs) (ended_ok d commands commands got e).1
+        (subst (λ said. AreGoodAccountLines d said commands) (sym (append-nil before)) good)
     by (Err fault) e =
         let broken = end_broken d commands fault (end_by {B = Unit {0}} d commands commands tt fault e) in
         (before, [], commands, refl, good, inr (broken_fault d before commands [] [] fault refl broken))
 
 module _ (d : ℕ) (before : List (Option Entry)) (commands : List Command) (rest : List (Option Entry))
-    (good : AreGood d before commands) (within : AreWithin d before) where
+    (good : AreGoodAccountLines d before commands) (within : AreWithin d before) where
   -- at a wrong line
   wrong_comes : (said : Option Entry) (fault : AccountFault) → command_after before said ≡ Err fault →
-      ComesTo d (before ++ said ∷ rest) (judged d before commands (said ∷ rest))
+      ComesTo d (before ++ said ∷ rest) (account_commands d before commands (said ∷ rest))
   wrong_comes said fault e =
       rw e (before, said ∷ rest, commands, refl, good, inl (said, rest, refl, fault_wrong before said fault e))
 
   -- at a line that makes a command, if what comes after it is known
   made_comes : (entry : Entry) (command : Command) → IsBelow (2 ^ d) entry →
       command_after before (Some entry) ≡ Ok command →
-      (AreGood d (before ++ Some entry ∷ []) (commands ++ command ∷ []) → AreWithin d (before ++ Some entry ∷ []) →
+      (AreGoodAccountLines d (before ++ Some entry ∷ []) (commands ++ command ∷ []) → AreWithin d (before ++ Some entry ∷ []) →
       ComesTo d (before ++ Some entry ∷ rest)
-      (judged d (before ++ Some entry ∷ []) (commands ++ command ∷ []) rest)) →
-      ComesTo d (before ++ Some entry ∷ rest) (judged d before commands (Some entry ∷ rest))
+      (account_commands d (before ++ Some entry ∷ []) (commands ++ command ∷ []) rest)) →
+      ComesTo d (before ++ Some entry ∷ rest) (account_commands d before commands (Some entry ∷ rest))
   made_comes entry command low e next = rw e (by (command_fits d commands command) refl)
     where
       makes : AddsCommand before entry command
@@ -308,13 +308,13 @@ module _ (d : ℕ) (before : List (Option Entry)) (commands : List Command) (res
 
       by : (r : Result Command BookFault) → command_fits d commands command ≡ r →
           ComesTo d (before ++ Some entry ∷ rest) (allowed r >>= λ command.
-          judged d (before ++ Some entry ∷ []) (commands ++ command ∷ []) rest)
+          account_commands d (before ++ Some entry ∷ []) (commands ++ command ∷ []) rest)
       by (Ok got) fits =
           let same : command ≡ got = fits_same d commands command got fits in
           let draft = judged_one_more d commands command good.draft
           (makes_within d before entry command low within makes) (fits ∙ ap Ok (sym same)) in
           subst (λ c. ComesTo d (before ++ Some entry ∷ rest)
-          (judged d (before ++ Some entry ∷ []) (commands ++ c ∷ []) rest)) same
+          (account_commands d (before ++ Some entry ∷ []) (commands ++ c ∷ []) rest)) same
           (next (good_more d before entry commands command good makes draft) (within_more d before entry low within))
       by (Err fault) fits =
           let broken = command_broken d commands command [] fault good.draft fits in
@@ -324,56 +324,56 @@ module _ (d : ℕ) (before : List (Option Entry)) (commands : List Command) (res
 
 -- at a line, if what comes after it is known
 line_comes : (d : ℕ) (line : List ℕ) (before : List (Option Entry)) (commands : List Command)
-    (rest : List (Option Entry)) → AreGood d before commands → AreWithin d before →
-    ((more : List (Option Entry)) (longer : List Command) → AreGood d more longer → AreWithin d more →
-    ComesTo d (more ++ rest) (judged d more longer rest)) →
-    ComesTo d (before ++ entry_on d line ∷ rest) (judged d before commands (entry_on d line ∷ rest))
+    (rest : List (Option Entry)) → AreGoodAccountLines d before commands → AreWithin d before →
+    ((more : List (Option Entry)) (longer : List Command) → AreGoodAccountLines d more longer → AreWithin d more →
+    ComesTo d (more ++ rest) (account_commands d more longer rest)) →
+    ComesTo d (before ++ entry_on d line ∷ rest) (account_commands d before commands (entry_on d line ∷ rest))
 line_comes d line before commands rest good within next = by_line (entry_on d line) refl
   where
     by_line : (said : Option Entry) → entry_on d line ≡ said →
-        ComesTo d (before ++ said ∷ rest) (judged d before commands (said ∷ rest))
+        ComesTo d (before ++ said ∷ rest) (account_commands d before commands (said ∷ rest))
     by_line None none = wrong_comes d before commands rest good within None (Line (length before + 1)) refl
     by_line (Some entry) says = by_command (command_after before (Some entry)) refl
       where
         by_command : (r : Result Command AccountFault) → command_after before (Some entry) ≡ r →
-            ComesTo d (before ++ Some entry ∷ rest) (judged d before commands (Some entry ∷ rest))
+            ComesTo d (before ++ Some entry ∷ rest) (account_commands d before commands (Some entry ∷ rest))
         by_command (Err fault) e = wrong_comes d before commands rest good within (Some entry) fault e
         by_command (Ok command) e = made_comes d before commands rest good within entry command
             (entry_below d line entry says) e (λ more low.
-            subst (λ said. ComesTo d said (judged d (before ++ Some entry ∷ []) (commands ++ command ∷ []) rest))
+            subst (λ said. ComesTo d said (account_commands d (before ++ Some entry ∷ []) (commands ++ command ∷ []) rest))
             (append_assoc before (Some entry ∷ []) rest)
             (next (before ++ Some entry ∷ []) (commands ++ command ∷ []) more low))
 
 -- after good lines
 rest_comes : (d : ℕ) (lines : List (List ℕ)) (before : List (Option Entry)) (commands : List Command) →
-    AreGood d before commands → AreWithin d before →
-    ComesTo d (before ++ map (entry_on d) lines) (judged d before commands (map (entry_on d) lines))
+    AreGoodAccountLines d before commands → AreWithin d before →
+    ComesTo d (before ++ map (entry_on d) lines) (account_commands d before commands (map (entry_on d) lines))
 rest_comes d [] before commands good within = end_comes d before commands good
 rest_comes d (line ∷ lines) before commands good within =
     line_comes d line before commands (map (entry_on d) lines) good within (rest_comes d lines)
 
 -- what an accounts file comes to
-pub file_comes : (d : ℕ) (bytes : List ℕ) → ComesTo d (said_by d bytes) (book_of d bytes)
-unfolding book_of
+pub file_comes : (d : ℕ) (bytes : List ℕ) → ComesTo d (said_by_accounts d bytes) (accounts_book d bytes)
+unfolding accounts_book
 file_comes d bytes = rest_comes d (lines_of bytes) [] [] (none_good d) (λ name u e. absurd cc)
 
 -- the commands of these lines are good, of whatever answer is the book of the bytes
-pub read_sound : (d : ℕ) (bytes : List ℕ) (commands : List Command) → book_of d bytes ≡ Ok commands →
-    AreGood d (said_by d bytes) commands
-read_sound d bytes commands e = subst (ComesTo d (said_by d bytes)) e (file_comes d bytes)
+pub read_sound : (d : ℕ) (bytes : List ℕ) (commands : List Command) → accounts_book d bytes ≡ Ok commands →
+    AreGoodAccountLines d (said_by_accounts d bytes) commands
+read_sound d bytes commands e = subst (ComesTo d (said_by_accounts d bytes)) e (file_comes d bytes)
 
 -- and the fault has its cause
-pub read_fault : (d : ℕ) (bytes : List ℕ) (fault : AccountFault) → (fault ≡ NoMemory) ⊎ (book_of d bytes ≡ Err fault) →
-    (fault ≡ NoMemory) ⊎ IsCauseOf d (said_by d bytes) fault
+pub read_fault : (d : ℕ) (bytes : List ℕ) (fault : AccountFault) → (fault ≡ NoMemory) ⊎ (accounts_book d bytes ≡ Err fault) →
+    (fault ≡ NoMemory) ⊎ IsAccountFaultOf d (said_by_accounts d bytes) fault
 read_fault d bytes fault (inl none) = inl none
-read_fault d bytes fault (inr e) = inr (subst (ComesTo d (said_by d bytes)) e (file_comes d bytes))
+read_fault d bytes fault (inr e) = inr (subst (ComesTo d (said_by_accounts d bytes)) e (file_comes d bytes))
 
 -- good lines are judged to their end
 good_judged : (d : ℕ) (before : List (Option Entry)) (commands : List Command) (said : List (Option Entry))
     (more : List Command) (rest : List (Option Entry)) → length more ≡ length said →
     ((k : ℕ) → k < length said → (entry : Entry) × (command : Command) × (slice_get said k ≡ Some (Some entry))
     × (slice_get more k ≡ Some command) × AddsCommand (before ++ take k said) entry command) →
-    IsDraft d (commands ++ more) → judged d before commands (said ++ rest) ≡ judged d (before ++ said)
+    IsDraft d (commands ++ more) → account_commands d before commands (said ++ rest) ≡ account_commands d (before ++ said)
     (commands ++ more) rest
 good_judged d before commands [] [] rest same each draft =
     rw (append-nil before, append-nil commands) refl
@@ -388,7 +388,7 @@ good_judged d before commands (one ∷ said) (command ∷ more) rest same each d
     let gives : command_after before one ≡ Ok command =
     ap (command_after before) is_entry ∙ makes_command before first.0 first.1 makes ∙ ap Ok (sym is_command) in
     let fits = command_again d commands command more draft in
-    let line : judged_line d before commands one ≡ Ok command = rw (gives, fits) refl in
+    let line : judged_account_line d before commands one ≡ Ok command = rw (gives, fits) refl in
     let others = good_judged d (before ++ one ∷ []) (commands ++ command ∷ []) said more rest (omega (arith, same))
     (λ k h. let next = each (suc k) (omega (arith, h)) in (
       next.0,
@@ -402,13 +402,13 @@ good_judged d before commands (one ∷ said) (command ∷ more) rest same each d
 
 -- from the first line on
 all_judged : (d : ℕ) (before : List (Option Entry)) (commands : List Command) (rest : List (Option Entry)) →
-    AreGood d before commands → judged d [] [] (before ++ rest) ≡ judged d before commands rest
+    AreGoodAccountLines d before commands → account_commands d [] [] (before ++ rest) ≡ account_commands d before commands rest
 all_judged d before commands rest good = good_judged d [] [] before commands rest good.same good.each good.draft
 
 -- a period that may not end
 crowded : {A : Type 0} (d : ℕ) (commands : List Command) (value : A) →
     MOST_REVOKED < length (revoked_after d commands) →
-    ended d commands value ≡ Err (book.Limit (Revoked (last_period commands)))
+    period_end_check d commands value ≡ Err (book.Limit (Revoked (last_period commands)))
 crowded d commands value many =
     let more : nat_lt MOST_REVOKED (length (revoked_after d commands)) ≡ true = grind (arith, common_steps, many) in
     rw more refl
@@ -435,14 +435,14 @@ command_breaks d commands command (Revoked q) (inr period, many) =
 -- a limit that the end breaks
 end_breaks : {A : Type 0} (d : ℕ) (commands : List Command) (value : A) (limit : BookLimit) →
     BreaksLimit d commands [] limit →
-    ended d commands value ≡ Err (book.Limit limit)
+    period_end_check d commands value ≡ Err (book.Limit limit)
 end_breaks d commands value Lines h = let here : [] ≡ h.1 ∷ h.2.0 = h.2.1 in absurd cc
 end_breaks d commands value Periods h = let here : [] ≡ Some Period ∷ h.1.0 = h.1.1 in absurd cc
 end_breaks d commands value (Revoked q) (ends, many) = rw many.0 (crowded d commands value many.1)
 
 -- what is judged where a limit is broken
 breaks_judged : (d : ℕ) (before : List (Option Entry)) (commands : List Command) (rest : List (Option Entry))
-    (fault : AccountFault) → NextBreaks d before commands rest fault → judged d before commands rest ≡ Err fault
+    (fault : AccountFault) → NextBreaks d before commands rest fault → account_commands d before commands rest ≡ Err fault
 breaks_judged d before commands [] fault (limit, next, none, is, breaks) =
     let broken = end_breaks d commands commands limit (subst (λ rest. BreaksLimit d commands rest limit) none breaks) in
     rw (broken, is) refl
@@ -454,54 +454,54 @@ breaks_judged d before commands (Some entry ∷ others) fault (limit, next, make
 
 -- and where a line is wrong
 wrong_judged : (d : ℕ) (before : List (Option Entry)) (commands : List Command) (rest : List (Option Entry))
-    (fault : AccountFault) → NextIsWrong before rest fault → judged d before commands rest ≡ Err fault
+    (fault : AccountFault) → NextIsWrong before rest fault → account_commands d before commands rest ≡ Err fault
 wrong_judged d before commands rest fault (said, others, is, wrong) =
     rw (is, wrong_command before said fault wrong) refl
 
 -- the fault of lines is what is judged of them
-cause_judged : (d : ℕ) (said : List (Option Entry)) (fault : AccountFault) → IsCauseOf d said fault →
-    judged d [] [] said ≡ Err fault
+cause_judged : (d : ℕ) (said : List (Option Entry)) (fault : AccountFault) → IsAccountFaultOf d said fault →
+    account_commands d [] [] said ≡ Err fault
 cause_judged d said fault (before, rest, commands, is, good, cause) =
-    ap (judged d [] []) is ∙ all_judged d before commands rest good ∙ elim cause [
+    ap (account_commands d [] []) is ∙ all_judged d before commands rest good ∙ elim cause [
       | inl wrong ↦ wrong_judged d before commands rest fault wrong
       | inr breaks ↦ breaks_judged d before commands rest fault breaks
     ]
 
 -- good lines whose commands are within the limits are judged to be these commands
-within_judged : (d : ℕ) (said : List (Option Entry)) (commands : List Command) → AreGood d said commands →
-    IsWithinLimits d commands → judged d [] [] said ≡ Ok commands
+within_judged : (d : ℕ) (said : List (Option Entry)) (commands : List Command) → AreGoodAccountLines d said commands →
+    IsWithinLimits d commands → account_commands d [] [] said ≡ Ok commands
 within_judged d said commands good all =
-    ap (judged d [] []) (sym (append-nil said)) ∙ all_judged d said commands [] good ∙ book_ends d commands all
+    ap (account_commands d [] []) (sym (append-nil said)) ∙ all_judged d said commands [] good ∙ book_ends d commands all
 
 -- lines have one fault
-pub one_cause : (d : ℕ) (said : List (Option Entry)) (a b : AccountFault) → IsCauseOf d said a → IsCauseOf d said b →
+pub one_cause : (d : ℕ) (said : List (Option Entry)) (a b : AccountFault) → IsAccountFaultOf d said a → IsAccountFaultOf d said b →
     a ≡ b
 one_cause d said a b x y =
     let same : Err a ≡ Err b = sym (cause_judged d said a x) ∙ cause_judged d said b y in cc
 
 -- and none if they are good and their commands within the limits
 pub no_cause : (d : ℕ) (said : List (Option Entry)) (commands : List Command) (fault : AccountFault) →
-    AreGood d said commands → IsWithinLimits d commands → IsCauseOf d said fault → ⊥
+    AreGoodAccountLines d said commands → IsWithinLimits d commands → IsAccountFaultOf d said fault → ⊥
 no_cause d said commands fault good all x =
     let same : Ok commands ≡ Err fault = sym (within_judged d said commands good all) ∙ cause_judged d said fault x in
     absurd cc
 
 -- such lines are read as these commands
-pub read_again : (d : ℕ) (bytes : List ℕ) (commands : List Command) → AreGood d (said_by d bytes) commands →
-    IsWithinLimits d commands → book_of d bytes ≡ Ok commands
-unfolding book_of
-read_again d bytes commands good all = within_judged d (said_by d bytes) commands good all
+pub read_again : (d : ℕ) (bytes : List ℕ) (commands : List Command) → AreGoodAccountLines d (said_by_accounts d bytes) commands →
+    IsWithinLimits d commands → accounts_book d bytes ≡ Ok commands
+unfolding accounts_book
+read_again d bytes commands good all = within_judged d (said_by_accounts d bytes) commands good all
 
 -- and are refused only where memory was out
 pub read_wanting : (d : ℕ) (bytes : List ℕ) (commands : List Command) (fault : AccountFault) →
-    AreGood d (said_by d bytes) commands → IsWithinLimits d commands →
-    (fault ≡ NoMemory) ⊎ (book_of d bytes ≡ Err fault) → fault ≡ NoMemory
+    AreGoodAccountLines d (said_by_accounts d bytes) commands → IsWithinLimits d commands →
+    (fault ≡ NoMemory) ⊎ (accounts_book d bytes ≡ Err fault) → fault ≡ NoMemory
 read_wanting d bytes commands fault good all (inl none) = none
 read_wanting d bytes commands fault good all (inr e) =
     let same : Ok commands ≡ Err fault = sym (read_again d bytes commands good all) ∙ e in absurd cc
 
 -- what they are read as is these commands
-pub read_same : (d : ℕ) (bytes : List ℕ) (commands got : List Command) → AreGood d (said_by d bytes) commands →
-    IsWithinLimits d commands → book_of d bytes ≡ Ok got → got ≡ commands
+pub read_same : (d : ℕ) (bytes : List ℕ) (commands got : List Command) → AreGoodAccountLines d (said_by_accounts d bytes) commands →
+    IsWithinLimits d commands → accounts_book d bytes ≡ Ok got → got ≡ commands
 read_same d bytes commands got good all e =
     let same : Ok commands ≡ Ok got = sym (read_again d bytes commands good all) ∙ e in cc

@@ -2,15 +2,15 @@
 use Rattle.std.proofs.Common.{ℕ, ◌-◌, Bool, true, false, List, Option, Result, Ok, Err}
 use Rattle.std.specs.Prelude.{nat_lt, if◌then◌else◌}
 use Rattle.sd_site_cards.specs.SiteFields.{SiteFields}
-use Rattle.sd_site_cards.specs.Written.{is_first, newest_of, none_fewer}
-use Rattle.sd_site_cards.specs.Chain.{has_room, most_word}
+use Rattle.sd_site_cards.specs.Written.{is_first_site, site_of_chain, none_fewer}
+use Rattle.sd_site_cards.specs.Chain.{has_word_room, most_word}
 use Rattle.sd_site_cards.specs.declared.book_line.BookLine.{BookLine}
 use Rattle.sd_site_cards.specs.declared.site_fault.SiteFault.{SiteFault}
 use Rattle.sd_site_cards.specs.declared.site_fault.SiteFault.TheVariants.{Range}
 use Rattle.sd_command_base.specs.declared.status.Status.TheVariants.{BadOut, BadWord}
 use Rattle.sd_command_base.specs.declared.status.OutCause.TheVariants.{Name}
 use Rattle.sd_command_base.specs.declared.status.LimitKind.TheVariants.{SiteBytes}
-use Rattle.sd_command_base.specs.Spec.{FileArgument, Readings, judged, value, within, ◌>>=◌}
+use Rattle.sd_command_base.specs.Spec.{FileArgument, Readings, of_result, value, within, ◌>>=◌}
 use Rattle.sd_command_base.specs.Shown.{NumberArgument}
 use Rattle.sd_command_base.specs.Files.{most_site_bytes, refused_site}
 use Rattle.sd_command_base.specs.Made.{making_new}
@@ -32,7 +32,7 @@ other_newest_of : (word : ℕ) (bytes : List ℕ) (most : ℕ) (words : NumberAr
     (r : Result (SiteFields × Option BookLine) SiteFault) → IsOther (told_newest word bytes most words r)
 other_newest_of word bytes most words (Err fault) = λ e. cc
 other_newest_of word bytes most words (Ok newest) =
-    by (nat_lt most newest.0.first_period) (has_room words.value newest.0)
+    by (nat_lt most newest.0.first_period) (has_word_room words.value newest.0)
   where
     by : (past room : Bool) → IsOther {A = SiteFields × Option BookLine} (if past then Err (refused_site word bytes (Range 12))
         else if room then Ok newest else Err (BadWord words.word))
@@ -45,18 +45,18 @@ other_newest : (fewer : List ℕ → SiteFields → Bool) (word most : ℕ) (wor
 unfolding newest_of_file
 other_newest fewer word most words got =
     other_after (within word most_site_bytes SiteBytes got).calls (within word most_site_bytes SiteBytes got).result
-    (λ bytes. judged (told_newest word bytes most words (newest_of fewer bytes)))
+    (λ bytes. of_result (told_newest word bytes most words (site_of_chain fewer bytes)))
     (other_file word most_site_bytes SiteBytes got)
-    (λ bytes. other_newest_of word bytes most words (newest_of fewer bytes))
+    (λ bytes. other_newest_of word bytes most words (site_of_chain fewer bytes))
 
 other_origin : (site book : ℕ) (words : NumberArgument) (site_got book_got : Option (List ℕ)) →
     IsOther (origin_of_files site book words site_got book_got).result
 unfolding origin_of_files
 other_origin site book words site_got book_got =
-    let newest = newest_of_file is_first site (most_word - 1) words site_got in
+    let newest = newest_of_file is_first_site site (most_word - 1) words site_got in
     other_after newest.calls newest.result
     (λ newest. text_after book newest book_got >>= λ text. value (origin_of newest text))
-    (other_newest is_first site (most_word - 1) words site_got)
+    (other_newest is_first_site site (most_word - 1) words site_got)
     (λ newest. other_after (text_after book newest book_got).calls (text_after book newest book_got).result
     (λ text. value (origin_of newest text)) (other_longer_book_file book newest.0.height newest.1 book_got)
     (λ text. tt))

@@ -5,8 +5,8 @@ use Rattle.std.specs.Io.KnownBytes.{Appends}
 use Rattle.sd_ports.specs.Bytes.{AppendsPrefix}
 use Rattle.sd_command_base.specs.declared.status.Status.{Status}
 use Rattle.sd_command_base.specs.declared.status.Status.TheVariants.{NoMemory}
-use Rattle.sd_command_base.specs.Outside.{DepotState, PageState, Outside, outside}
-use Rattle.sd_command_base.specs.Spec.{Spec, FileArgument, Readings, judged, ◌>>=◌}
+use Rattle.sd_command_base.specs.Outside.{DepotState, PageState, IoState, io_state}
+use Rattle.sd_command_base.specs.Spec.{Spec, FileArgument, Readings, of_result, ◌>>=◌}
 use Rattle.sd_command_base.specs.Work.{Work}
 use Rattle.sd_command_base.specs.Outcome.{Implements}
 use Rattle.sd_command_base.specs.Reads.{SureOutcome, StepOutcome, FileOutcome, FilesOutcome}
@@ -21,7 +21,7 @@ use Rattle.sd_run_books.specs.Next.{origin_of_files}
 -- what is judged before a file is read was refused
 pub first_refused : {X Z : Type 0} (view : X → Z) (meant : Result Z Status) (next : Z → Readings → Spec Work)
     (p : DepotState) (page : PageState) (steps : ℕ) (status : Status) → SureOutcome view meant (Err status) →
-    Implements (λ given. judged meant >>= λ z. next z given) (outside p page steps) (outside p page steps) status
+    Implements (λ given. of_result meant >>= λ z. next z given) (io_state p page steps) (io_state p page steps) status
 first_refused view meant next p page steps status h =
     let g = any_given p.files in record {
       given = g.given;
@@ -30,9 +30,9 @@ first_refused view meant next p page steps status h =
     }
 
 -- or it gave a value, and then what is meant by the value was done
-pub first_then : {Z : Type 0} (meant : Result Z Status) (z : Z) (next : Z → Readings → Spec Work) (a b : Outside)
+pub first_then : {Z : Type 0} (meant : Result Z Status) (z : Z) (next : Z → Readings → Spec Work) (a b : IoState)
     (status : Status) → meant ≡ Ok z → Implements (next z) a b status →
-    Implements (λ given. judged meant >>= λ z. next z given) a b status
+    Implements (λ given. of_result meant >>= λ z. next z given) a b status
 first_then meant z next a b status is h = record {
   given = h.given;
   is_given = h.is_given;
@@ -42,7 +42,7 @@ first_then meant z next a b status is h = record {
 -- memory was out before OUT was made
 pub new_wanting : (made : NewFile) (out : FileArgument) (q : DepotState) (page : PageState) (steps : ℕ)
     (status : Status) → status ≡ NoMemory →
-    NewOutcome made out (outside q page steps) (outside q page steps) status
+    NewOutcome made out (io_state q page steps) (io_state q page steps) status
 new_wanting made out q page steps status is =
     let got = some_got q.files out.text in record {
       got = got.0;

@@ -13,7 +13,7 @@ use Rattle.sd_cover_tracing.proofs.Listed.{there_is_a_trace, trace_new, trace_on
 use Rattle.sd_command_base.specs.declared.status.Status.{Status}
 use Rattle.sd_command_base.specs.declared.status.Status.TheVariants.{Limit}
 use Rattle.sd_command_base.specs.declared.status.LimitKind.TheVariants.{Traced}
-use Rattle.sd_run_books.specs.Trace.{revoked_last, trace_text, traced}
+use Rattle.sd_run_books.specs.Trace.{revoked_last, trace_text, trace_outcome}
 
 told_text : (b : Bool) (limit : Status) (x y : List ℕ) → (if b then Err limit else Ok x) ≡ Ok y → y ≡ x
 told_text true limit x y e = absurd (cc)
@@ -21,8 +21,8 @@ told_text false limit x y e = cc
 
 -- a text is that of the trace
 pub text_is : (d : ℕ) (coalition : List ℕ) (commands : List Command) (text : List ℕ) →
-    traced d coalition commands ≡ Ok text → text ≡ trace_text (trace_of d coalition (revoked_last d commands))
-unfolding traced
+    trace_outcome d coalition commands ≡ Ok text → text ≡ trace_text (trace_of d coalition (revoked_last d commands))
+unfolding trace_outcome
 text_is d coalition commands text e =
     let gone = revoked_last d commands in
     told_text (nat_lt most_revoked (length gone + length (not_among d gone coalition))) (Limit Traced)

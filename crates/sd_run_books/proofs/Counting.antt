@@ -11,7 +11,7 @@ use Rattle.sd_book.proofs.Cuts.{same_revoked}
 use Rattle.sd_cover_tracing.specs.Cover.{cover_of}
 use Rattle.sd_message.specs.EmmForm.{sections_for}
 use Rattle.sd_spec.specs.Plan.{Plan, sets_at}
-use Rattle.sd_run_books.specs.Air.{cryptos_in, line_at, period_line, tables_in}
+use Rattle.sd_run_books.specs.Air.{cryptos_in, line_at, plan_period_line, tables_in}
 
 -- what is told of one period more
 pub record OneMore (plan : Plan) (n before share : ℕ) (leaves : List ℕ) : Type 0 where
@@ -30,13 +30,13 @@ one_more plan n before share leaves within are is = record {
 
 -- its line
 line_of : (plan : Plan) (n before share : ℕ) (leaves : List ℕ) → OneMore plan n before share leaves →
-    period_line (plan.site.first_period + before) (length leaves) (length (cover_of plan.site.height leaves))
+    plan_period_line (plan.site.first_period + before) (length leaves) (length (cover_of plan.site.height leaves))
     (sections_for (length (cover_of plan.site.height leaves))) share ≡ line_at plan n (plan.site.first_period + before)
 unfolding sets_at
 line_of plan n before share leaves one =
-    ap (λ (xs : List ℕ). period_line (plan.site.first_period + before) (length xs)
+    ap (λ (xs : List ℕ). plan_period_line (plan.site.first_period + before) (length xs)
     (length (cover_of plan.site.height xs)) (sections_for (length (cover_of plan.site.height xs))) share) one.leaves_are
-    ∙ ap (period_line (plan.site.first_period + before)
+    ∙ ap (plan_period_line (plan.site.first_period + before)
     (length (revoked plan.site.height plan.commands (plan.site.first_period + before)))
     (length (sets_at plan (plan.site.first_period + before)))
     (sections_for (length (sets_at plan (plan.site.first_period + before))))) one.share_is
@@ -44,7 +44,7 @@ line_of plan n before share leaves one =
 -- the text after it
 pub text_more : (plan : Plan) (n before share : ℕ) (leaves text more : List ℕ) → OneMore plan n before share leaves →
     text ≡ concat (map (line_at plan n) (range_with_len plan.site.first_period before)) →
-    more ≡ text ++ period_line (plan.site.first_period + before) (length leaves)
+    more ≡ text ++ plan_period_line (plan.site.first_period + before) (length leaves)
     (length (cover_of plan.site.height leaves)) (sections_for (length (cover_of plan.site.height leaves))) share →
     more ≡ concat (map (line_at plan n) (range_with_len plan.site.first_period (before + 1)))
 text_more plan n before share leaves text more one is pushed =

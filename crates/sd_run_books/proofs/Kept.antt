@@ -10,17 +10,17 @@ use Rattle.std.specs.Cmp.Lexicographic.{bytes_decides, nat_list_eq_equiv}
 use Rattle.sd_base.proofs.Bools.{or_true, or_false}
 use Rattle.sd_base.proofs.Lists.{unmarked}
 use Rattle.sd_run_books.specs.Line.{Entry, Assigns, Drops, Restores, Ends}
-use Rattle.sd_run_books.specs.Bound.{leaf_on, leaf_of, first_there, holds, is_held}
-use Rattle.sd_run_books.specs.Kept.{IsBelow, leaf_after, marks_after, mark_of, IsKept}
+use Rattle.sd_run_books.specs.Bound.{leaf_on, leaf_of, first_number_there, holds, is_held}
+use Rattle.sd_run_books.specs.Kept.{IsBelow, leaf_of_name_after, marks_after, mark_of, AreAccountsKept}
 
 -- of one that is there or nothing
-none_after : (o : Option ℕ) → first_there o None ≡ o
+none_after : (o : Option ℕ) → first_number_there o None ≡ o
 none_after None = refl
 none_after (Some u) = refl
 
 -- no line binds nothing
 pub kept_none : (d : ℕ) (leaf_for : List ℕ → Option ℕ) (marks : List Bool) → ((name : List ℕ) → leaf_for name ≡ None) →
-    marks ≡ replicate (2 ^ d) false → IsKept d [] leaf_for marks
+    marks ≡ replicate (2 ^ d) false → AreAccountsKept d [] leaf_for marks
 kept_none d leaf_for marks none is = record {
   full = rw is (length-replicate (2 ^ d) false);
   leaves = none;
@@ -30,12 +30,12 @@ kept_none d leaf_for marks none is = record {
 
 -- the leaf of a name, with one line more
 pub leaf_more : (name : List ℕ) (before : List (Option Entry)) (said : Option Entry) →
-    leaf_of name (before ++ said ∷ []) ≡ first_there (leaf_of name before) (leaf_on name said)
+    leaf_of name (before ++ said ∷ []) ≡ first_number_there (leaf_of name before) (leaf_on name said)
 leaf_more name [] said = none_after (leaf_on name said)
 leaf_more name (one ∷ before) said = rw (leaf_more name before said) (shifted (leaf_on name one))
   where
-    shifted : (o : Option ℕ) → first_there o (first_there (leaf_of name before) (leaf_on name said)) ≡
-        first_there (first_there o (leaf_of name before)) (leaf_on name said)
+    shifted : (o : Option ℕ) → first_number_there o (first_number_there (leaf_of name before) (leaf_on name said)) ≡
+        first_number_there (first_number_there o (leaf_of name before)) (leaf_on name said)
     shifted None = refl
     shifted (Some u) = refl
 
@@ -48,8 +48,8 @@ held_more u before said = list_any-append (holds u) before (said ∷ []) ∙
 -- a line that binds nothing
 same_more : (d : ℕ) (before : List (Option Entry)) (said : Option Entry) (leaf_for new : List ℕ → Option ℕ)
     (marks : List Bool) → ((name : List ℕ) → leaf_on name said ≡ None) → ((u : ℕ) → holds u said ≡ false) →
-    ((name : List ℕ) → new name ≡ leaf_for name) → IsKept d before leaf_for marks →
-    IsKept d (before ++ said ∷ []) new marks
+    ((name : List ℕ) → new name ≡ leaf_for name) → AreAccountsKept d before leaf_for marks →
+    AreAccountsKept d (before ++ said ∷ []) new marks
 same_more d before said leaf_for new marks none free same kept = record {
   full = kept.full;
   leaves = λ name. same name ∙ kept.leaves name ∙ sym (one name);
@@ -58,7 +58,7 @@ same_more d before said leaf_for new marks none free same kept = record {
 }
   where
     one : (name : List ℕ) → leaf_of name (before ++ said ∷ []) ≡ leaf_of name before
-    one name = leaf_more name before said ∙ ap (first_there (leaf_of name before)) (none name) ∙
+    one name = leaf_more name before said ∙ ap (first_number_there (leaf_of name before)) (none name) ∙
         none_after (leaf_of name before)
 
     still : (u : ℕ) → is_held u (before ++ said ∷ []) ≡ is_held u before
@@ -67,8 +67,8 @@ same_more d before said leaf_for new marks none free same kept = record {
 -- a line that binds a free name to a leaf of the tree
 bound_more : (d : ℕ) (before : List (Option Entry)) (other : List ℕ) (leaf : ℕ) (leaf_for new : List ℕ → Option ℕ)
     (marks : List Bool) → leaf < 2 ^ d → leaf_for other ≡ None →
-    ((name : List ℕ) → new name ≡ leaf_after (Assigns other leaf) leaf_for name) → IsKept d before leaf_for marks →
-    IsKept d (before ++ Some (Assigns other leaf) ∷ []) new (slice_set marks leaf true)
+    ((name : List ℕ) → new name ≡ leaf_of_name_after (Assigns other leaf) leaf_for name) → AreAccountsKept d before leaf_for marks →
+    AreAccountsKept d (before ++ Some (Assigns other leaf) ∷ []) new (slice_set marks leaf true)
 bound_more d before other leaf leaf_for new marks low free is kept = record {
   full = length-set marks leaf true ∙ kept.full;
   leaves = λ name. is name ∙ found name (bytes_eq other name) refl ∙
@@ -79,8 +79,8 @@ bound_more d before other leaf leaf_for new marks low free is kept = record {
 }
   where
     found : (name : List ℕ) (b : Bool) → bytes_eq other name ≡ b →
-        leaf_after (Assigns other leaf) leaf_for name ≡
-        first_there (leaf_of name before) (leaf_on name (Some (Assigns other leaf)))
+        leaf_of_name_after (Assigns other leaf) leaf_for name ≡
+        first_number_there (leaf_of name before) (leaf_on name (Some (Assigns other leaf)))
     found name true e =
         let same : other ≡ name = (bytes_decides other name).0 e in
         let unbound : leaf_of name before ≡ None = sym (kept.leaves name) ∙ ap leaf_for (sym same) ∙ free in
@@ -98,7 +98,7 @@ bound_more d before other leaf leaf_for new marks low free is kept = record {
         sym (ap (λ b. is_held u before || b) e ∙ or_false (is_held u before))
 
     low_leaf : (name : List ℕ) (u : ℕ) (b : Bool) (o : Option ℕ) → leaf_of name before ≡ o →
-        first_there o (if b then Some leaf else None) ≡ Some u → u < 2 ^ d
+        first_number_there o (if b then Some leaf else None) ≡ Some u → u < 2 ^ d
     low_leaf name u b (Some w) is e = kept.within name u (is ∙ e)
     low_leaf name u true None is e = let same : leaf ≡ u = cc in rw same at low
     low_leaf name u false None is e = absurd cc
@@ -107,8 +107,8 @@ bound_more d before other leaf leaf_for new marks low free is kept = record {
 pub kept_more : (d : ℕ) (before : List (Option Entry)) (entry : Entry) (leaf_for new : List ℕ → Option ℕ)
     (marks : List Bool) → IsBelow (2 ^ d) entry →
     ((other : List ℕ) (u : ℕ) → entry ≡ Assigns other u → leaf_for other ≡ None) →
-    ((name : List ℕ) → new name ≡ leaf_after entry leaf_for name) → IsKept d before leaf_for marks →
-    IsKept d (before ++ Some entry ∷ []) new (marks_after entry marks)
+    ((name : List ℕ) → new name ≡ leaf_of_name_after entry leaf_for name) → AreAccountsKept d before leaf_for marks →
+    AreAccountsKept d (before ++ Some entry ∷ []) new (marks_after entry marks)
 kept_more d before (Assigns other leaf) leaf_for new marks low free is kept =
     bound_more d before other leaf leaf_for new marks low (free other leaf refl) is kept
 kept_more d before (Drops other) leaf_for new marks low free is kept =

@@ -9,9 +9,9 @@ use Rattle.sd_book.specs.declared.fault.BookLimit.{BookLimit}
 use Rattle.sd_book.specs.declared.fault.BookLimit.TheVariants.{Revoked}
 use Rattle.sd_tree_keys.specs.Limits.{most_revoked}
 use Rattle.sd_book.specs.Commands.{is_within, last_period, revoked_after}
-use Rattle.sd_book.specs.Faults.{BreaksLimit, IsBroken, IsCauseOf}
+use Rattle.sd_book.specs.Faults.{BreaksLimit, IsBrokenLimit, IsBookFaultOf}
 use Rattle.sd_book.specs.Limits.{IsDraft, IsWithinLimits}
-use Rattle.sd_book.specs.Text.{command_fits, ended}
+use Rattle.sd_book.specs.Text.{command_fits, period_end_check}
 use Rattle.sd_run_books.specs.Fault.{as_fault}
 use Rattle.sd_run_books.specs.Judged.{allowed}
 use Rattle.sd_book.proofs.Causes.{one_cause, command_broken, end_broken}
@@ -19,16 +19,16 @@ use Rattle.sd_book.proofs.Judged.{command_again, fits_same, judged_one_more, wit
 
 -- a limit that is broken after commands is the fault of a file of them and what comes next
 broken_cause : (d : ℕ) (before : List Command) (rest : List (Option Command)) (fault : BookFault) → IsDraft d before →
-    IsBroken d before rest fault → IsCauseOf d (map Some before ++ rest) fault
+    IsBrokenLimit d before rest fault → IsBookFaultOf d (map Some before ++ rest) fault
 broken_cause d before rest fault all broken =
     let why : (limit : BookLimit) (fault : BookFault) → fault ≡ Limit limit → BreaksLimit d before rest limit →
-    IsCauseOf d (map Some before ++ rest) fault =
+    IsBookFaultOf d (map Some before ++ rest) fault =
     λ limit fault is breaks. rw is (before, rest, refl, all, breaks) in
     why broken.0 fault broken.1 broken.2
 
 -- one point has one broken limit
 one_broken : (d : ℕ) (before : List Command) (rest : List (Option Command)) (a b : BookFault) → IsDraft d before →
-    IsBroken d before rest a → IsBroken d before rest b → a ≡ b
+    IsBrokenLimit d before rest a → IsBrokenLimit d before rest b → a ≡ b
 one_broken d before rest a b all x y = one_cause d (map Some before ++ rest) a b
     (broken_cause d before rest a all x) (broken_cause d before rest b all y)
 
@@ -40,7 +40,7 @@ taken_fits d before command all = command_again d before command [] all
 -- a command that it refuses, unless memory ran out
 pub refused_fits : (d : ℕ) (before : List Command) (command : Command) (fault : BookFault) → IsDraft d before →
     is_within d command ≡ true → (fault ≡ NoMemory → ⊥) →
-    (IsDraft d (before ++ command ∷ []) → fault ≡ NoMemory) → IsBroken d before (Some command ∷ []) fault →
+    (IsDraft d (before ++ command ∷ []) → fault ≡ NoMemory) → IsBrokenLimit d before (Some command ∷ []) fault →
     command_fits d before command ≡ Err fault
 refused_fits d before command fault all leaf none complete broken = by (command_fits d before command) refl
   where
@@ -53,27 +53,27 @@ refused_fits d before command fault all leaf none complete broken = by (command_
 
 -- commands that may end as a book
 pub book_ends : (d : ℕ) (commands : List Command) → IsWithinLimits d commands →
-    allowed (ended d commands commands) ≡ Ok commands
+    allowed (period_end_check d commands commands) ≡ Ok commands
 book_ends d commands all = ap allowed (end_again d commands all)
 
 -- the end of commands, whatever it gives
 pub end_by : {A B : Type 0} (d : ℕ) (commands : List Command) (x : A) (y : B) (fault : BookFault) →
-    ended d commands x ≡ Err fault → ended d commands y ≡ Err fault
+    period_end_check d commands x ≡ Err fault → period_end_check d commands y ≡ Err fault
 end_by d commands x y fault e = by_test (nat_lt most_revoked (length (revoked_after d commands))) refl e
   where
     by_test : (b : Bool) → nat_lt most_revoked (length (revoked_after d commands)) ≡ b →
         (if b then Err (Limit (Revoked (last_period commands))) else Ok x) ≡ Err fault →
-        ended d commands y ≡ Err fault
+        period_end_check d commands y ≡ Err fault
     by_test true is same = let why : Limit (Revoked (last_period commands)) ≡ fault = cc in rw (is, why) refl
     by_test false is same = absurd cc
 
 -- commands that may not
 pub book_ends_not : (d : ℕ) (commands : List Command) (fault : BookFault) → IsDraft d commands →
-    (IsWithinLimits d commands → ⊥) → IsBroken d commands [] fault →
-    allowed (ended d commands commands) ≡ Err (as_fault fault)
+    (IsWithinLimits d commands → ⊥) → IsBrokenLimit d commands [] fault →
+    allowed (period_end_check d commands commands) ≡ Err (as_fault fault)
 book_ends_not d commands fault all none broken =
-    ap allowed (end_by {A = Unit {0}} d commands tt commands fault (by (ended {A = Unit {0}} d commands tt) refl))
+    ap allowed (end_by {A = Unit {0}} d commands tt commands fault (by (period_end_check {A = Unit {0}} d commands tt) refl))
   where
-    by : (r : Result (Unit {0}) BookFault) → ended {A = Unit {0}} d commands tt ≡ r → r ≡ Err fault
+    by : (r : Result (Unit {0}) BookFault) → period_end_check {A = Unit {0}} d commands tt ≡ r → r ≡ Err fault
     by (Ok u) e = absurd (none (within_by_end d commands u all e))
     by (Err other) e = ap Err (one_broken d commands [] other fault all (end_broken d commands other e) broken)

@@ -15,13 +15,13 @@ use Rattle.std.specs.FinMap.Entries.{below_all, find, is_sorted, same_entries}
 use Rattle.std.proofs.lemmas.Cmp.{nat_list_cmp_total}
 use Rattle.std.proofs.lemmas.Map.Text.{is_eq-slice_cmp}
 use Rattle.sd_run_books.specs.Accounts.{Account, AccountsValue, IsListOf}
-use Rattle.sd_run_books.specs.Bound.{first_there, leaf_of}
-use Rattle.sd_run_books.specs.Judged.{book_of}
-use Rattle.sd_run_books.specs.Line.{Entry, Assigns, Drops, Restores, Ends, said_by}
+use Rattle.sd_run_books.specs.Bound.{first_number_there, leaf_of}
+use Rattle.sd_run_books.specs.Judged.{accounts_book}
+use Rattle.sd_run_books.specs.Line.{Entry, Assigns, Drops, Restores, Ends, said_by_accounts}
 use Rattle.sd_run_books.specs.declared.account_fault.AccountFault.{AccountFault}
 use Rattle.sd_run_books.specs.declared.account_fault.AccountFault.TheVariants.{Line, Unknown, Taken, Limit, NoMemory}
 use Rattle.sd_command_base.specs.Reads.{JudgedOutcome}
-use Rattle.sd_run_books.specs.AccountsCommand.{account_on, bound_by, refused_accounts, told_accounts}
+use Rattle.sd_run_books.specs.AccountsCommand.{account_on, bound_by, refused_accounts, accounts_or_status}
 
 -- a name below those of some accounts
 above : (name : List ℕ) (xs : List Account) →
@@ -46,7 +46,7 @@ finds name (x ∷ xs) =
     ap (λ (b : Bool). cond b (Some x.1) (find (slice_cmp nat_cmp) name xs)) (is_eq-slice_cmp name x.0)
     ∙ ap (cond (bytes_eq name x.0) (Some x.1)) (finds name xs)
 
-chosen : (b : Bool) (u : ℕ) (o p : Option ℕ) → o ≡ p → cond b (Some u) o ≡ first_there (cond b (Some u) None) p
+chosen : (b : Bool) (u : ℕ) (o p : Option ℕ) → o ≡ p → cond b (Some u) o ≡ first_number_there (cond b (Some u) None) p
 chosen true u o p e = refl
 chosen false u o p e = e
 
@@ -77,25 +77,25 @@ one_list said xs is =
 
 -- the accounts were read
 pub are_told : (word d : ℕ) (bytes : List ℕ) (found : AccountsValue) → found.book.height ≡ d →
-    book_of d bytes ≡ Ok found.book.commands → IsListOf (said_by d bytes) found.accounts →
-    told_accounts word d bytes (book_of d bytes) ≡ Ok found
+    accounts_book d bytes ≡ Ok found.book.commands → IsListOf (said_by_accounts d bytes) found.accounts →
+    accounts_or_status word d bytes (accounts_book d bytes) ≡ Ok found
 are_told word d bytes found height book listed =
-    ap (told_accounts word d bytes) book
+    ap (accounts_or_status word d bytes) book
     ∙ ap (λ (n : ℕ). Ok (record {
       book = record { height = n; commands = found.book.commands };
-      accounts = bound_by (said_by d bytes);
+      accounts = bound_by (said_by_accounts d bytes);
     })) (sym height)
     ∙ ap (λ (xs : List Account). Ok (record { book = found.book; accounts = xs }))
-    (sym (one_list (said_by d bytes) found.accounts listed))
+    (sym (one_list (said_by_accounts d bytes) found.accounts listed))
 
 -- the accounts were refused, or memory was out
 pub are_refused : (word d : ℕ) (bytes : List ℕ) (fault : AccountFault) →
-    (fault ≡ NoMemory) ⊎ (book_of d bytes ≡ Err fault) →
+    (fault ≡ NoMemory) ⊎ (accounts_book d bytes ≡ Err fault) →
     JudgedOutcome {X = AccountsValue} (λ accounts. accounts)
-    (told_accounts word d bytes (book_of d bytes)) (Err (refused_accounts word d bytes fault))
+    (accounts_or_status word d bytes (accounts_book d bytes)) (Err (refused_accounts word d bytes fault))
 are_refused word d bytes fault (inl e) = inr (ap (refused_accounts word d bytes) e)
-are_refused word d bytes (Line k) (inr e) = inl (ap (told_accounts word d bytes) e, tt, tt)
-are_refused word d bytes (Unknown k) (inr e) = inl (ap (told_accounts word d bytes) e, tt, tt)
-are_refused word d bytes (Taken k) (inr e) = inl (ap (told_accounts word d bytes) e, tt, tt)
-are_refused word d bytes (Limit limit) (inr e) = inl (ap (told_accounts word d bytes) e, tt, tt)
+are_refused word d bytes (Line k) (inr e) = inl (ap (accounts_or_status word d bytes) e, tt, tt)
+are_refused word d bytes (Unknown k) (inr e) = inl (ap (accounts_or_status word d bytes) e, tt, tt)
+are_refused word d bytes (Taken k) (inr e) = inl (ap (accounts_or_status word d bytes) e, tt, tt)
+are_refused word d bytes (Limit limit) (inr e) = inl (ap (accounts_or_status word d bytes) e, tt, tt)
 are_refused word d bytes NoMemory (inr e) = inr refl

@@ -11,10 +11,10 @@ use Rattle.sd_ports.specs.Causes.{HasFileCause}
 use Rattle.sd_ports.specs.declared.file.FileFault.{FileFault}
 use Rattle.sd_ports.specs.declared.file.FileFault.TheVariants as file
 use Rattle.sd_command_base.specs.declared.status.Status.{Status}
-use Rattle.sd_command_base.specs.Outside.{DepotState, PageState, Outside, outside}
+use Rattle.sd_command_base.specs.Outside.{DepotState, PageState, IoState, io_state}
 use Rattle.sd_command_base.specs.Spec.{Spec, FileArgument, Readings, value, ◌>>=◌}
 use Rattle.sd_command_base.specs.Work.{Out, Work}
-use Rattle.sd_command_base.specs.Outcome.{IsEnding, IsMade, Progress, untouched, writing, Outcome, ended, exhausted}
+use Rattle.sd_command_base.specs.Outcome.{IsEnding, IsOutMade, Progress, untouched, writing, Outcome, ended, exhausted}
 use Rattle.sd_command_base.specs.Outcome.{failed}
 use Rattle.sd_command_base.specs.Outcome.{nowhere, cut_off, OutcomeWithin, Implements, status_of}
 use Rattle.sd_command_base.specs.Prints.{PrintsText}
@@ -35,7 +35,7 @@ out_of word bytes = record { word = word.number; name = word.text; bytes = bytes
 module _ (word : FileArgument) (bytes text : List ℕ) (a b : DepotState) (page : PageState) (steps : ℕ) where
   -- the device failed at the file
   stands_short : IsNoFile a.files b.files a.made b.made ⊎ IsShortFile a.files b.files a.made b.made word.text bytes →
-      Progress (Ok (making_then word bytes text)) (outside a page steps) (outside b page steps)
+      Progress (Ok (making_then word bytes text)) (io_state a page steps) (io_state b page steps)
   stands_short (inl none) = untouched (record { files = none.0; made = none.1 }) refl
   stands_short (inr cut) =
       writing (making_then word bytes text) refl (out_of word bytes) refl
@@ -46,7 +46,7 @@ module _ (word : FileArgument) (bytes text : List ℕ) (a b : DepotState) (page 
       WritesFile {T = Unit {0}} a.files b.files a.made b.made word.text bytes (Err fault) →
       HasFileCause {T = Unit {0}} a.faults b.faults a.misses b.misses (Err fault) →
       (¬ IsErrOf {T = Unit {0}} (Err fault) file.Failed → b.stops ≡ a.stops) →
-      Outcome (Ok (making_then word bytes text)) (outside a page steps) (outside b page steps)
+      Outcome (Ok (making_then word bytes text)) (io_state a page steps) (io_state b page steps)
       (status_of (making_told word.number (Err fault)))
   not_whole file.Missing file cause stops =
       nowhere (making_then word bytes text) refl (out_of word bytes) refl refl (file.missing refl).1
@@ -66,11 +66,11 @@ module _ (word : FileArgument) (bytes text : List ℕ) (a b : DepotState) (page 
       HasFileCause a.faults b.faults a.misses b.misses written →
       (¬ IsErrOf written file.Failed → b.stops ≡ a.stops) → b.opened ≡ a.opened →
       b.calls ≤ with_added a.calls 2 →
-      OutcomeWithin (value (making_then word bytes text)) (outside a page steps) (outside b page steps) status
+      OutcomeWithin (value (making_then word bytes text)) (io_state a page steps) (io_state b page steps) status
   not_made (Ok done) status told file cause stops ports calls = absurd (let h = told in cc)
   not_made (Err fault) status told file cause stops ports calls = record {
-    comes = subst (λ (s : Status). Outcome (Ok (making_then word bytes text)) (outside a page steps)
-        (outside b page steps) s) (sym (ap status_of told)) (not_whole fault file cause stops);
+    comes = subst (λ (s : Status). Outcome (Ok (making_then word bytes text)) (io_state a page steps)
+        (io_state b page steps) s) (sym (ap status_of told)) (not_whole fault file cause stops);
     ports = ports;
     calls = omega arith;
     steps = refl;
@@ -82,7 +82,7 @@ module _ (word : FileArgument) (bytes text : List ℕ) (a b : DepotState) (page 
       WritesFile a.files b.files a.made b.made word.text bytes written →
       HasFileCause a.faults b.faults a.misses b.misses written → b.opened ≡ a.opened →
       b.calls ≤ with_added a.calls 2 → PrintsText text page now status →
-      OutcomeWithin (value (making_then word bytes text)) (outside a page steps) (outside b now steps) status
+      OutcomeWithin (value (making_then word bytes text)) (io_state a page steps) (io_state b now steps) status
   made_then (Ok done) now status told file cause ports calls printed = record {
     comes = elim printed [
       | inl all ↦ ended (making_then word bytes text) refl all.0 (subst IsEnding (sym all.0) tt) made
@@ -97,7 +97,7 @@ module _ (word : FileArgument) (bytes text : List ℕ) (a b : DepotState) (page 
     steps = refl;
   }
     where
-      made : IsMade (making_then word bytes text).out a b
+      made : IsOutMade (making_then word bytes text).out a b
       made = record { files = file.made.0; made = file.made.1 }
   made_then (Err file.Missing) now status told file cause ports calls printed = absurd (let h = told in cc)
   made_then (Err file.TooBig) now status told file cause ports calls printed = absurd (let h = told in cc)
@@ -108,7 +108,7 @@ module _ {X Y : Type 0} (view : X → Y) (meant : Readings → Spec Y) (next : Y
     Work) (p q : DepotState) (page : PageState) (steps : ℕ) where
   -- files that were refused, or not read
   pub not_read : (status : Status) → FilesOutcome view meant p q (Err status) →
-      Implements (λ given. meant given >>= λ y. value (next y)) (outside p page steps) (outside q page steps) status
+      Implements (λ given. meant given >>= λ y. value (next y)) (io_state p page steps) (io_state q page steps) status
   not_read status h = record {
     given = h.given;
     is_given = h.is_given;
@@ -116,9 +116,9 @@ module _ {X Y : Type 0} (view : X → Y) (meant : Readings → Spec Y) (next : Y
   }
 
   -- files that were read, and then the work that they mean
-  pub read_then : (b : Outside) (x : X) (status : Status) → FilesOutcome view meant p q (Ok x) →
-      OutcomeWithin (value (next (view x))) (outside q page steps) b status →
-      Implements (λ given. meant given >>= λ y. value (next y)) (outside p page steps) b status
+  pub read_then : (b : IoState) (x : X) (status : Status) → FilesOutcome view meant p q (Ok x) →
+      OutcomeWithin (value (next (view x))) (io_state q page steps) b status →
+      Implements (λ given. meant given >>= λ y. value (next y)) (io_state p page steps) b status
   read_then b x status h obeys = record {
     given = h.given;
     is_given = h.is_given;

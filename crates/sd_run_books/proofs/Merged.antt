@@ -7,9 +7,9 @@ use Rattle.std.proofs.lemmas.Bool.Decides.{nat_tests}
 use Rattle.std.proofs.lemmas.List.Folds.{flat_map-map}
 use Rattle.sd_book.specs.declared.command.Command.{Command}
 use Rattle.sd_book.specs.declared.command.Command.TheVariants.{Subscribe, Revoke}
-use Rattle.sd_book.specs.Text.{command_line}
+use Rattle.sd_book.specs.Text.{book_command_line}
 use Rattle.sd_run_books.specs.Apart.{differ}
-use Rattle.sd_run_books.specs.Told.{least_of}
+use Rattle.sd_run_books.specs.Told.{least_leaf}
 
 -- the changes from the list that begins with u to another, if these are those from the rest of it
 abbrev merged_onto : ℕ → (List ℕ → List Command) → List ℕ → List Command
@@ -42,7 +42,7 @@ below_right u v us vs below =
     rw (other, more) refl
 
 -- the first alone has the least number
-pub merged_left : (u : ℕ) (us vs : List ℕ) → Some u ≡ least_of (u ∷ us) vs → ((rest : List ℕ) → vs ≢ u ∷ rest) →
+pub merged_left : (u : ℕ) (us vs : List ℕ) → Some u ≡ least_leaf (u ∷ us) vs → ((rest : List ℕ) → vs ≢ u ∷ rest) →
     merged (u ∷ us) vs ≡ Subscribe u ∷ merged us vs
 merged_left u us [] least other = refl
 merged_left u us (v ∷ vs) least other =
@@ -51,7 +51,7 @@ merged_left u us (v ∷ vs) least other =
     below_left u v us vs (omega (arith, is, apart))
 
 -- the second alone has it
-pub merged_right : (v : ℕ) (us vs : List ℕ) → Some v ≡ least_of us (v ∷ vs) → ((rest : List ℕ) → us ≢ v ∷ rest) →
+pub merged_right : (v : ℕ) (us vs : List ℕ) → Some v ≡ least_leaf us (v ∷ vs) → ((rest : List ℕ) → us ≢ v ∷ rest) →
     merged us (v ∷ vs) ≡ Revoke v ∷ merged us vs
 merged_right v [] vs least other = refl
 merged_right v (u ∷ us) vs least other =
@@ -122,21 +122,21 @@ merged_from one other a (suc n) = by_tests (merged_from one other (a + 1) n) (on
 
 -- the lines of some commands
 abbrev pub lines : List Command → List ℕ
-lines commands = flat_map (λ command. command_line command ++ 10 ∷ []) commands
+lines commands = flat_map (λ command. book_command_line command ++ 10 ∷ []) commands
 
 -- the lines of all changes
 pub lines_are : (one other : ℕ → Bool) (n : ℕ) (us vs : List ℕ) → us ≡ filter one (range_with_len 0 n) →
     vs ≡ filter other (range_with_len 0 n) →
-    lines (merged us vs) ≡ flat_map (λ u. command_line (change other u) ++ 10 ∷ [])
+    lines (merged us vs) ≡ flat_map (λ u. book_command_line (change other u) ++ 10 ∷ [])
     (filter (λ u. differ (one u) (other u)) (range_with_len 0 n))
 lines_are one other n us vs left right =
     ap lines (ap (λ (xs : List ℕ). merged xs vs) left ∙ ap (merged (filter one (range_with_len 0 n))) right
     ∙ merged_from one other 0 n)
-    ∙ flat_map-map (λ (command : Command). command_line command ++ 10 ∷ []) (change other)
+    ∙ flat_map-map (λ (command : Command). book_command_line command ++ 10 ∷ []) (change other)
     (filter (λ u. differ (one u) (other u)) (range_with_len 0 n))
 
 -- nothing is left
-pub merged_none : (us vs : List ℕ) → None ≡ least_of us vs → merged us vs ≡ []
+pub merged_none : (us vs : List ℕ) → None ≡ least_leaf us vs → merged us vs ≡ []
 merged_none [] [] none = refl
 merged_none [] (v ∷ vs) none = absurd cc
 merged_none (u ∷ us) [] none = absurd cc

@@ -14,12 +14,12 @@ use Rattle.sd_run_books.specs.declared.account_fault.AccountFault.TheVariants.{T
 use Rattle.sd_run_books.specs.Fault.{as_fault}
 use Rattle.sd_run_books.specs.Line.{Entry, Assigns, Drops, Restores, Ends}
 use Rattle.sd_run_books.specs.Bound.{leaf_of, is_held}
-use Rattle.sd_run_books.specs.Judged.{on_leaf, command_by, command_after, judged_line, judged}
-use Rattle.sd_run_books.specs.Kept.{IsBelow, mark_of, IsKept}
+use Rattle.sd_run_books.specs.Judged.{on_leaf, command_by, command_after, judged_account_line, account_commands}
+use Rattle.sd_run_books.specs.Kept.{IsBelow, mark_of, AreAccountsKept}
 
 -- what is kept of the lines gives the command that one more makes
 pub same_command : (d : ℕ) (before : List (Option Entry)) (entry : Entry) (leaf_for : List ℕ → Option ℕ)
-    (marks : List Bool) (k : ℕ) → IsKept d before leaf_for marks → IsBelow (2 ^ d) entry → k ≡ length before + 1 →
+    (marks : List Bool) (k : ℕ) → AreAccountsKept d before leaf_for marks → IsBelow (2 ^ d) entry → k ≡ length before + 1 →
     command_by leaf_for (mark_of marks) k (Some entry) ≡ command_after before (Some entry)
 same_command d before (Assigns name u) leaf_for marks k kept low e = rw (kept.leaves name, kept.held u low, e) refl
 same_command d before (Drops name) leaf_for marks k kept low e = rw (kept.leaves name, e) refl
@@ -47,7 +47,7 @@ on_leaf_within d k makes (Some u) command makes_within low e =
 
 -- and so is each command that a line makes
 pub command_within : (d : ℕ) (before : List (Option Entry)) (entry : Entry) (leaf_for : List ℕ → Option ℕ)
-    (marks : List Bool) (command : Command) → IsKept d before leaf_for marks → IsBelow (2 ^ d) entry →
+    (marks : List Bool) (command : Command) → AreAccountsKept d before leaf_for marks → IsBelow (2 ^ d) entry →
     command_after before (Some entry) ≡ Ok command → is_within d command ≡ true
 command_within d before (Assigns name u) leaf_for marks command kept low e =
     subscribed (is_some (leaf_of name before) || is_held u before) e
@@ -70,29 +70,29 @@ command_within d before Ends leaf_for marks command kept low e =
 
 -- a line that makes no command
 pub command_refused : (d : ℕ) (before : List (Option Entry)) (commands : List Command) (said : Option Entry)
-    (fault : AccountFault) → command_after before said ≡ Err fault → judged_line d before commands said ≡ Err fault
+    (fault : AccountFault) → command_after before said ≡ Err fault → judged_account_line d before commands said ≡ Err fault
 command_refused d before commands said fault e = rw e refl
 
 -- a command that breaks a limit
 pub limit_refused : (d : ℕ) (before : List (Option Entry)) (commands : List Command) (said : Option Entry)
     (command : Command) (fault : BookFault) → command_after before said ≡ Ok command →
-    command_fits d commands command ≡ Err fault → judged_line d before commands said ≡ Err (as_fault fault)
+    command_fits d commands command ≡ Err fault → judged_account_line d before commands said ≡ Err (as_fault fault)
 limit_refused d before commands said command fault e broken = rw (e, broken) refl
 
 -- a line that is taken
 pub line_taken : (d : ℕ) (before : List (Option Entry)) (commands : List Command) (said : Option Entry)
     (command : Command) → command_after before said ≡ Ok command →
-    command_fits d commands command ≡ Ok command → judged_line d before commands said ≡ Ok command
+    command_fits d commands command ≡ Ok command → judged_account_line d before commands said ≡ Ok command
 line_taken d before commands said command e fits = rw (e, fits) refl
 
 -- what is judged after a line that is taken
 pub judged_taken : (d : ℕ) (before : List (Option Entry)) (commands : List Command) (said : Option Entry)
-    (rest : List (Option Entry)) (command : Command) → judged_line d before commands said ≡ Ok command →
-    judged d before commands (said ∷ rest) ≡ judged d (before ++ said ∷ []) (commands ++ command ∷ []) rest
+    (rest : List (Option Entry)) (command : Command) → judged_account_line d before commands said ≡ Ok command →
+    account_commands d before commands (said ∷ rest) ≡ account_commands d (before ++ said ∷ []) (commands ++ command ∷ []) rest
 judged_taken d before commands said rest command e = rw e refl
 
 -- what is judged where a line is refused
 pub judged_refused : (d : ℕ) (before : List (Option Entry)) (commands : List Command) (said : Option Entry)
-    (rest : List (Option Entry)) (fault : AccountFault) → judged_line d before commands said ≡ Err fault →
-    judged d before commands (said ∷ rest) ≡ Err fault
+    (rest : List (Option Entry)) (fault : AccountFault) → judged_account_line d before commands said ≡ Err fault →
+    account_commands d before commands (said ∷ rest) ≡ Err fault
 judged_refused d before commands said rest fault e = rw e refl

@@ -1,6 +1,6 @@
 -- What a next site is made from, as the code has it and as it is meant.
 use Rattle.std.proofs.Common.{ℕ, List, Option}
-use Rattle.sd_site_cards.specs.SiteFields.{SiteFields, fields_of}
+use Rattle.sd_site_cards.specs.SiteFields.{SiteFields, site_fields_of}
 use Rattle.sd_site_cards.specs.declared.site.Site.{Site}
 use Rattle.sd_site_cards.specs.declared.book_line.BookLine.{BookLine}
 use Rattle.sd_command_base.specs.declared.own_book.BookFile.{BookFile}
@@ -10,7 +10,7 @@ use Rattle.sd_run_books.specs.Chain.{own_commands}
 use Rattle.sd_run_books.specs.Next.{Origin}
 
 abbrev pub shown_newest : Site × Option BookLine → SiteFields × Option BookLine
-shown_newest newest = (fields_of newest.0, newest.1)
+shown_newest newest = (site_fields_of newest.0, newest.1)
 
 abbrev pub shown_text : BookFile → BookText
 shown_text file = record { bytes = file.bytes.items; commands = file.book.commands }

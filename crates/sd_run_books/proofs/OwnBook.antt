@@ -14,23 +14,23 @@ use Rattle.sd_book.specs.declared.fault.BookFault.{BookFault}
 use Rattle.sd_book.specs.declared.fault.BookFault.TheVariants.{Limit}
 use Rattle.sd_book.specs.declared.fault.BookLimit.TheVariants.{Lines}
 use Rattle.sd_book.specs.Limits.{most_commands}
-use Rattle.sd_book.specs.Text.{in_tree, period_fits, judged as judged_from, judged_line, book_of, command_of}
-use Rattle.sd_book.specs.Text.{said_by, ◌>>=◌}
+use Rattle.sd_book.specs.Text.{in_tree, period_fits, book_commands as judged_from, judged_book_line, book_of, command_of}
+use Rattle.sd_book.specs.Text.{said_by_book, ◌>>=◌}
 use Rattle.sd_book.proofs.Judged.{bind_ok, ended_ok, fits_same, guard_ok, line_command}
 use Rattle.sd_command_base.specs.declared.status.Status.{Status}
 use Rattle.sd_command_base.specs.declared.status.Status.TheVariants.{BadBook, Limit as OverLimit, OtherBook}
 use Rattle.sd_command_base.specs.declared.status.LimitKind.TheVariants.{BookBytes}
-use Rattle.sd_command_base.specs.Spec.{and_then, judged}
+use Rattle.sd_command_base.specs.Spec.{and_then, of_result}
 use Rattle.sd_command_base.specs.Files.{BookText, begins_with_book, ends_lines, longer_book_of_file, most_book_bytes}
 use Rattle.sd_command_base.specs.declared.bad_line.LineCause.TheVariants.{Unended}
 use Rattle.sd_command_base.specs.BadLines.{bad_line}
-use Rattle.sd_command_base.specs.Files.{told_book, told_longer, told_whole}
+use Rattle.sd_command_base.specs.Files.{book_or_status, longer_book_or_status, whole_book_or_status}
 use Rattle.sd_run_books.specs.Chain.{own_commands}
 use Rattle.sd_run_books.proofs.WholeLines.{lines_joined, feeds_are_lines}
 
 -- what a line that was judged says
 line_said : (d : ℕ) (before : List Command) (said : Option Command) (command : Command) →
-    judged_line d before said ≡ Ok command → said ≡ Some command
+    judged_book_line d before said ≡ Ok command → said ≡ Some command
 line_said d before said command e =
     let long = guard_ok (nat_le most_commands (length before)) (Limit Lines)
     (in_tree d (length before + 1) said >>= λ c. period_fits d before c) command e in
@@ -48,7 +48,7 @@ all_said d before [] commands e =
     let ends = ended_ok d before before commands e in
     ap (map Some) (sym ends.1) ∙ sym (append-nil (map Some before))
 all_said d before (said ∷ rest) commands e =
-    let step = bind_ok (judged_line d before said) (λ command. judged_from d (before ++ command ∷ []) rest) commands
+    let step = bind_ok (judged_book_line d before said) (λ command. judged_from d (before ++ command ∷ []) rest) commands
     e in
     let is = line_said d before said step.0 step.1 in
     all_said d (before ++ step.0 ∷ []) rest commands step.2
@@ -58,9 +58,9 @@ all_said d before (said ∷ rest) commands e =
 
 -- a book's lines say its commands
 pub book_said : (d : ℕ) (bytes : List ℕ) (commands : List Command) → book_of d bytes ≡ Ok commands →
-    map Some commands ≡ said_by bytes
+    map Some commands ≡ said_by_book bytes
 unfolding book_of
-book_said d bytes commands e = all_said d [] (said_by bytes) commands e
+book_said d bytes commands e = all_said d [] (said_by_book bytes) commands e
 
 -- the first of commands that are said in two parts
 first_said : (first rest : List (Option Command)) (commands : List Command) → map Some commands ≡ first ++ rest →
@@ -104,12 +104,12 @@ own_are_first d (Some line) bytes commands begins is =
     let own = take line.size bytes in
     let rest = drop line.size bytes in
     let whole = begins_whole line bytes begins in
-    let parts : said_by bytes ≡ said_by own ++ said_by rest =
-    ap said_by (sym (take-append-drop line.size bytes))
+    let parts : said_by_book bytes ≡ said_by_book own ++ said_by_book rest =
+    ap said_by_book (sym (take-append-drop line.size bytes))
     ∙ ap (map command_of) (lines_joined own rest whole)
     ∙ map-append command_of (lines_of own) (lines_of rest) in
-    let first = first_said (said_by own) (said_by rest) commands (book_said d bytes commands is ∙ parts) in
-    let count : length (said_by own) ≡ own_count (Some line) bytes =
+    let first = first_said (said_by_book own) (said_by_book rest) commands (book_said d bytes commands is ∙ parts) in
+    let count : length (said_by_book own) ≡ own_count (Some line) bytes =
     length-map (lines_of own) command_of ∙ sym (feeds_are_lines own whole) in
     rw (sym count) first
 
@@ -120,7 +120,7 @@ pub record IsLonger (d : ℕ) (line : Option BookLine) (text : BookText) : Type 
   pub says : book_of d text.bytes ≡ Ok text.commands
 
 whole_says : (word : ℕ) (bytes : List ℕ) (r : Result (List Command) Status) (text : BookText) →
-    told_whole word bytes r ≡ Ok text → (text.bytes ≡ bytes) × (r ≡ Ok text.commands)
+    whole_book_or_status word bytes r ≡ Ok text → (text.bytes ≡ bytes) × (r ≡ Ok text.commands)
 whole_says word bytes (Err status) text e = absurd cc
 whole_says word bytes (Ok commands) text e = by (ends_lines bytes) e
   where
@@ -136,20 +136,20 @@ whole_says word bytes (Ok commands) text e = by (ends_lines bytes) e
 
 -- what a book's file says was judged
 book_told : (word d : ℕ) (bytes : List ℕ) (r : Result (List Command) BookFault) (commands : List Command) →
-    told_book word d bytes r ≡ Ok commands → r ≡ Ok commands
+    book_or_status word d bytes r ≡ Ok commands → r ≡ Ok commands
 book_told word d bytes (Ok found) commands e = let same : found ≡ commands = cc in ap Ok same
 book_told word d bytes (Err fault) commands e = absurd cc
 
 longer_says : (word d : ℕ) (line : Option BookLine) (bytes : List ℕ) (text : BookText) →
-    length bytes ≤ most_book_bytes → told_longer word d line bytes ≡ Ok text → IsLonger d line text
+    length bytes ≤ most_book_bytes → longer_book_or_status word d line bytes ≡ Ok text → IsLonger d line text
 longer_says word d line bytes text size e = by (begins_with_book line bytes) refl e
   where
     by : (begins : Bool) → begins_with_book line bytes ≡ begins →
-        (if begins then told_whole word bytes (told_book word d bytes (book_of d bytes)) else Err OtherBook) ≡ Ok text
+        (if begins then whole_book_or_status word bytes (book_or_status word d bytes (book_of d bytes)) else Err OtherBook) ≡ Ok text
         →
         IsLonger d line text
     by true begins e =
-        let says = whole_says word bytes (told_book word d bytes (book_of d bytes)) text e in
+        let says = whole_says word bytes (book_or_status word d bytes (book_of d bytes)) text e in
         let told = book_told word d bytes (book_of d bytes) text.commands says.1 in
         record {
           size = rw says.0 size;
@@ -167,6 +167,6 @@ is_longer word d line (Some bytes) text e = by (nat_lt most_book_bytes (length b
   where
     by : (over : Bool) → nat_lt most_book_bytes (length bytes) ≡ over →
         (and_then 2 (if over then Err (OverLimit BookBytes) else Ok bytes)
-        (λ bytes. judged (told_longer word d line bytes))).result ≡ Ok text → IsLonger d line text
+        (λ bytes. of_result (longer_book_or_status word d line bytes))).result ≡ Ok text → IsLonger d line text
     by true over e = absurd cc
     by false over e = longer_says word d line bytes text (grind (arith, nat_tests, over)) e

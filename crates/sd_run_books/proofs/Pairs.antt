@@ -7,8 +7,8 @@ use Rattle.sd_base.proofs.Arithmetic.{same_number, other_number_back}
 use Rattle.sd_ports.specs.Bytes.{AppendsPrefix}
 use Rattle.sd_ports.specs.Files.{Files}
 use Rattle.sd_command_base.specs.declared.status.Status.{Status}
-use Rattle.sd_command_base.specs.Outside.{DepotState, PageState, Outside, outside}
-use Rattle.sd_command_base.specs.Spec.{Spec, FileArgument, Readings, IsGiven, value, ◌>>=◌}
+use Rattle.sd_command_base.specs.Outside.{DepotState, PageState, IoState, io_state}
+use Rattle.sd_command_base.specs.Spec.{Spec, FileArgument, Readings, AreReadingsOfFiles, value, ◌>>=◌}
 use Rattle.sd_command_base.specs.Work.{Work, work_of_text}
 use Rattle.sd_command_base.specs.Outcome.{IsEnding, ended, cut_off, OutcomeWithin, Implements}
 use Rattle.sd_command_base.specs.Prints.{PrintsText}
@@ -23,13 +23,13 @@ either_same false got = refl
 -- what two files gave at first, and two others then
 pub record FourGiven (files : Option Files) (g h : Readings) (a b c d : FileArgument) : Type 0 where
   pub given : Readings
-  pub is_given : IsGiven files given
+  pub is_given : AreReadingsOfFiles files given
   pub first : given a ≡ g a
   pub second : given b ≡ g b
   pub third : given c ≡ h c
   pub fourth : given d ≡ h d
 
-pub four_given : (files : Option Files) (g h : Readings) (a b c d : FileArgument) → IsGiven files g → IsGiven files h →
+pub four_given : (files : Option Files) (g h : Readings) (a b c d : FileArgument) → AreReadingsOfFiles files g → AreReadingsOfFiles files h →
     a.number ≢ c.number → a.number ≢ d.number → b.number ≢ c.number → b.number ≢ d.number →
     FourGiven files g h a b c d
 four_given None g h a b c d is more ac ad bc bd = record {
@@ -58,15 +58,15 @@ four_given (Some files) g h a b c d is more ac ad bc bd = record {
 pub pair_follows : {X Y : Type 0} (view : X → Y) (by : Option (List ℕ) → Option (List ℕ) → Spec Y)
     (next : Y → Option (List ℕ) → Option (List ℕ) →
     Spec Work) (a b c d : FileArgument) (h : Readings) (p q : DepotState)
-    (page : PageState) (steps : ℕ) (out : Outside) (x : X) (status : Status) → a.number ≢ c.number →
+    (page : PageState) (steps : ℕ) (out : IoState) (x : X) (status : Status) → a.number ≢ c.number →
     a.number ≢ d.number → b.number ≢ c.number → b.number ≢ d.number →
-    FilesOutcome view (λ given. by (given a) (given b)) p q (Ok x) → IsGiven q.files h →
-    OutcomeWithin (next (view x) (h c) (h d)) (outside q page steps) out status →
-    Implements (λ given. by (given a) (given b) >>= λ y. next y (given c) (given d)) (outside p page steps) out status
+    FilesOutcome view (λ given. by (given a) (given b)) p q (Ok x) → AreReadingsOfFiles q.files h →
+    OutcomeWithin (next (view x) (h c) (h d)) (io_state q page steps) out status →
+    Implements (λ given. by (given a) (given b) >>= λ y. next y (given c) (given d)) (io_state p page steps) out status
 pair_follows {Y = Y} view by next a b c d h p q page steps out x status ac ad bc bd read is_given obeys =
     let same : q.files ≡ p.files = ap (λ (z : DepotState). z.files) read.gives.1 in
     let g = four_given p.files read.given h a b c d read.is_given
-    (subst (λ (f : Option Files). IsGiven f h) same is_given) ac ad bc bd in
+    (subst (λ (f : Option Files). AreReadingsOfFiles f h) same is_given) ac ad bc bd in
     let one : by (read.given a) (read.given b) ≡ by (g.given a) (g.given b) =
     ap (λ (o : Option (List ℕ)). by o (read.given b)) (sym g.first)
     ∙ ap (λ (o : Option (List ℕ)). by (g.given a) o) (sym g.second) in
@@ -75,10 +75,10 @@ pair_follows {Y = Y} view by next a b c d h p q page steps out x status ac ad bc
       is_given = g.is_given;
       obeyed =
           subst (λ (o : Option (List ℕ)). OutcomeWithin (by (g.given a) (g.given b) >>= λ y. next y o (g.given d))
-          (outside p page steps) out status) (sym g.third)
+          (io_state p page steps) out status) (sym g.third)
           (subst (λ (o : Option (List ℕ)). OutcomeWithin (by (g.given a) (g.given b) >>= λ y. next y (h c) o)
-          (outside p page steps) out status) (sym g.fourth)
-          (subst (λ (m : Spec Y). OutcomeWithin (m >>= λ y. next y (h c) (h d)) (outside p page steps) out status) one
+          (io_state p page steps) out status) (sym g.fourth)
+          (subst (λ (m : Spec Y). OutcomeWithin (m >>= λ y. next y (h c) (h d)) (io_state p page steps) out status) one
           (then_obeys (by (read.given a) (read.given b)) (view x) (λ y. next y (h c) (h d)) p q page steps out status
           read.gives.0 read.gives.1 obeys)));
     }
@@ -88,8 +88,8 @@ pub pair_refused : {X Y : Type 0} (view : X → Y) (by : Option (List ℕ) → O
     (next : Y → Option (List ℕ) → Option (List ℕ) → Spec Work) (a b c d : FileArgument) (p q : DepotState)
     (page : PageState) (steps : ℕ) (status : Status) →
     FilesOutcome view (λ given. by (given a) (given b)) p q (Err status) →
-    Implements (λ given. by (given a) (given b) >>= λ y. next y (given c) (given d)) (outside p page steps)
-    (outside q page steps) status
+    Implements (λ given. by (given a) (given b) >>= λ y. next y (given c) (given d)) (io_state p page steps)
+    (io_state q page steps) status
 pair_refused view by next a b c d p q page steps status read = record {
   given = read.given;
   is_given = read.is_given;
@@ -100,7 +100,7 @@ pair_refused view by next a b c d p q page steps status read = record {
 -- a text was printed, or a prefix of it
 pub text_said : (text : List ℕ) (q : DepotState) (page now : PageState) (steps : ℕ) (status : Status) →
     PrintsText text page now status →
-    OutcomeWithin (value (work_of_text text)) (outside q page steps) (outside q now steps) status
+    OutcomeWithin (value (work_of_text text)) (io_state q page steps) (io_state q now steps) status
 text_said text q page now steps status (inl all) = record {
   comes = ended (work_of_text text) refl all.0 (subst IsEnding (sym all.0) tt) (record { files = refl; made = refl })
       (subst (λ (xs : List ℕ). Appends page.printed now.printed xs) (sym (append-nil text)) all.1)

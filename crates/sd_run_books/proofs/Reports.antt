@@ -22,7 +22,7 @@ use Rattle.sd_base.proofs.Arithmetic.{same_number}
 use Rattle.sd_book.specs.Commands.{last_period, revoked}
 use Rattle.sd_run_books.specs.Accounts.{AccountsValue}
 use Rattle.sd_run_books.specs.Kept.{kept_accounts}
-use Rattle.sd_run_books.specs.Report.{is_active, account_data, report_data}
+use Rattle.sd_run_books.specs.Report.{is_active, account_data, accounts_data}
 
 -- a list that ascends doesn't fall
 rising : (xs : List ℕ) → IsStrictlyIncreasing xs → (i j : ℕ) → i ≤ j → j < length xs → get_or xs i 0 ≤ get_or xs j 0
@@ -86,8 +86,8 @@ pub report_joined : (leaves : List ℕ) (value : AccountsValue) (h last : ℕ) (
     d ≡ c ++ json_tokens (outline (array (items_of (map (account_data leaves) value.accounts)))) →
     e ≡ d ++ key_token (codes "height") ∷ number_token (decimal h) ∷ [] →
     f ≡ e ++ key_token (codes "period") ∷ number_token (decimal last) ∷ [] →
-    f ++ end_object ∷ [] ≡ a ++ json_tokens (outline (report_data value))
-unfolding report_data
+    f ++ end_object ∷ [] ≡ a ++ json_tokens (outline (accounts_data value))
+unfolding accounts_data
 report_joined leaves value h last a b c d e f up high late to_b to_c to_d to_e to_f =
     let shown = to_d ∙ ap (λ (xs : List ℕ). c ++ json_tokens (outline (array (items_of (map (account_data xs)
     value.accounts))))) up in

@@ -13,7 +13,7 @@ use Rattle.sd_book.specs.Commands.{last_period, revoked}
 use Rattle.sd_book.proofs.Cuts.{same_revoked}
 use Rattle.sd_run_books.specs.Apart.{differ}
 use Rattle.sd_run_books.specs.Report.{is_active}
-use Rattle.sd_run_books.specs.Same.{is_same}
+use Rattle.sd_run_books.specs.Same.{is_same_state}
 use Rattle.sd_run_books.specs.Status.{entitled_line, is_change, is_entitled}
 
 -- what is known of the period before the one that is so many after the first
@@ -28,7 +28,7 @@ not_not false = refl
 -- a period is a change unless it has the same as the one before
 is_new : (entitled : ℕ → Bool) (first turn : ℕ) →
     is_change first entitled (first + turn)
-    ≡ not (is_same (before_at entitled first turn) (entitled (first + turn)))
+    ≡ not (is_same_state (before_at entitled first turn) (entitled (first + turn)))
 is_new entitled first zero =
     let here : (first + 0 == first) ≡ true = grind (arith, nat_tests) in
     rw here refl
@@ -52,7 +52,7 @@ more_if line head ks q false =
 -- the lines after one period more
 lines_more : (entitled : ℕ → Bool) (line : ℕ → List ℕ) (head : List ℕ) (first turn : ℕ) (text more : List ℕ) →
     text ≡ head ++ flat_map line (filter (is_change first entitled) (range_with_len first turn)) →
-    more ≡ text ++ (if is_same (before_at entitled first turn) (entitled (first + turn)) then []
+    more ≡ text ++ (if is_same_state (before_at entitled first turn) (entitled (first + turn)) then []
     else line (first + turn)) →
     more ≡ head ++ flat_map line (filter (is_change first entitled) (range_with_len first (turn + 1)))
 lines_more entitled line head first turn text more told pushed =
@@ -60,7 +60,7 @@ lines_more entitled line head first turn text more told pushed =
     let p = is_change first entitled in
     let qs = range_with_len first turn in
     pushed
-    ∙ ap (λ (r : List ℕ). text ++ r) (swapped (is_same (before_at entitled first turn) (entitled q)) (line q))
+    ∙ ap (λ (r : List ℕ). text ++ r) (swapped (is_same_state (before_at entitled first turn) (entitled q)) (line q))
     ∙ ap (λ (b : Bool). text ++ (if b then line q else [])) (sym (is_new entitled first turn))
     ∙ ap (λ (r : List ℕ). r ++ (if p q then line q else [])) told
     ∙ more_if line head (filter p qs) q (p q)
@@ -83,7 +83,7 @@ pub text_more : (site : SiteFields) (commands : List Command) (u turn : ℕ) (he
     before ≡ before_at (is_entitled site.height commands u) site.first_period turn →
     text ≡ head ++ flat_map (λ q. entitled_line u (is_entitled site.height commands u q) q)
     (filter (is_change site.first_period (is_entitled site.height commands u)) (range_with_len site.first_period turn)) →
-    more ≡ text ++ (if is_same before now then [] else entitled_line u now (site.first_period + turn)) →
+    more ≡ text ++ (if is_same_state before now then [] else entitled_line u now (site.first_period + turn)) →
     more ≡ head ++ flat_map (λ q. entitled_line u (is_entitled site.height commands u q) q)
     (filter (is_change site.first_period (is_entitled site.height commands u))
     (range_with_len site.first_period (turn + 1)))
@@ -92,8 +92,8 @@ text_more site commands u turn head text more before now is was told pushed =
     let first = site.first_period in
     lines_more entitled (λ q. entitled_line u (entitled q) q) head first turn text more told
     (pushed
-    ∙ ap (λ (b : Option Bool). text ++ (if is_same b now then [] else entitled_line u now (first + turn))) was
-    ∙ ap (λ (b : Bool). text ++ (if is_same (before_at entitled first turn) b then []
+    ∙ ap (λ (b : Option Bool). text ++ (if is_same_state b now then [] else entitled_line u now (first + turn))) was
+    ∙ ap (λ (b : Bool). text ++ (if is_same_state (before_at entitled first turn) b then []
     else entitled_line u b (first + turn))) is)
 
 -- and what is known before the next one

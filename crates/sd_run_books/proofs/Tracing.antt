@@ -13,14 +13,14 @@ use Rattle.sd_cover_tracing.proofs.Listed.{there_is_a_trace}
 use Rattle.sd_command_base.specs.declared.status.Status.TheVariants.{Limit}
 use Rattle.sd_command_base.specs.declared.status.LimitKind.TheVariants.{Traced}
 use Rattle.sd_command_base.specs.Reads.{JudgedOutcome}
-use Rattle.sd_run_books.specs.Trace.{revoked_last, trace_text, traced, unended}
+use Rattle.sd_run_books.specs.Trace.{revoked_last, trace_text, trace_outcome, unended}
 
 -- the text of a trace that keeps to the limit
 pub is_traced : (d : ℕ) (coalition : List ℕ) (commands : List Command) (found : List Found) → 1 ≤ d → d ≤ 20 →
     All (λ u. u < 2 ^ d) (revoked_last d commands) → IsTrace d coalition (revoked_last d commands) found →
     length (revoked_last d commands) + length (not_among d (revoked_last d commands) coalition) ≤ most_revoked →
-    traced d coalition commands ≡ Ok (trace_text found)
-unfolding traced
+    trace_outcome d coalition commands ≡ Ok (trace_text found)
+unfolding trace_outcome
 is_traced d coalition commands found some low leaves trace few =
     let gone = revoked_last d commands in
     rw (le-ltb most_revoked (length gone + length (not_among d gone coalition)) few)
@@ -31,8 +31,8 @@ is_traced d coalition commands found some low leaves trace few =
 -- more leaves than may be revoked
 pub is_too_many : (d : ℕ) (coalition : List ℕ) (commands : List Command) →
     most_revoked < length (revoked_last d commands) + length (not_among d (revoked_last d commands) coalition) →
-    traced d coalition commands ≡ Err (Limit Traced)
-unfolding traced
+    trace_outcome d coalition commands ≡ Err (Limit Traced)
+unfolding trace_outcome
 is_too_many d coalition commands many =
     let gone = revoked_last d commands in
     rw (lt-ltb most_revoked (length gone + length (not_among d gone coalition)) many) refl
@@ -41,6 +41,6 @@ is_too_many d coalition commands many =
 pub is_unended : (d : ℕ) (coalition : List ℕ) (commands : List Command) (fault : TraceFault) →
     (fault ≡ TooMany →
     most_revoked < length (revoked_last d commands) + length (not_among d (revoked_last d commands) coalition)) →
-    JudgedOutcome (λ (text : List ℕ). text) (traced d coalition commands) (Err (unended fault))
+    JudgedOutcome (λ (text : List ℕ). text) (trace_outcome d coalition commands) (Err (unended fault))
 is_unended d coalition commands TooMany many = inl (is_too_many d coalition commands (many refl), tt, tt)
 is_unended d coalition commands NoMemory many = inr refl

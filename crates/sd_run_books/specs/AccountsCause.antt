@@ -7,7 +7,7 @@ use Rattle.sd_command_base.specs.declared.bad_line.LineCause.{LineCause}
 use Rattle.sd_command_base.specs.declared.bad_line.LineCause.TheVariants.{Form, Held, Leaf, Named, Unknown}
 use Rattle.sd_command_base.specs.declared.bad_line.BadLine.{BadLine}
 use Rattle.sd_command_base.specs.BadLines.{bad_line, line_numbered, malformed}
-use Rattle.sd_run_books.specs.Line.{Entry, Assigns, Drops, Restores, Ends, entry_on, is_name, said_by}
+use Rattle.sd_run_books.specs.Line.{Entry, Assigns, Drops, Restores, Ends, entry_on, is_name, said_by_accounts}
 
 -- a name and a decimal, however large
 abbrev pub has_number : Option (List ℕ × List ℕ) → Bool
@@ -38,17 +38,17 @@ clash_from k name u (Some (Restores other) ∷ said) = clash_from (k + 1) name u
 clash_from k name u (Some Ends ∷ said) = clash_from (k + 1) name u said
 
 -- the line before with which a line clashes that says this after those lines
-abbrev pub clash_of : Option Entry → List (Option Entry) → LineCause
-clash_of None before = Form
-clash_of (Some (Assigns name u)) before = clash_from 1 name u before
-clash_of (Some (Drops name)) before = Form
-clash_of (Some (Restores name)) before = Form
-clash_of (Some Ends) before = Form
+abbrev pub entry_clash : Option Entry → List (Option Entry) → LineCause
+entry_clash None before = Form
+entry_clash (Some (Assigns name u)) before = clash_from 1 name u before
+entry_clash (Some (Drops name)) before = Form
+entry_clash (Some (Restores name)) before = Form
+entry_clash (Some Ends) before = Form
 
 -- line k, whose name or leaf is bound by a line before
 unfoldable pub taken_entry : ℕ → ℕ → List ℕ → BadLine
 taken_entry d k bytes =
-    bad_line (clash_of (entry_on d (line_numbered k bytes)) (take (k - 1) (said_by d bytes))) k bytes
+    bad_line (entry_clash (entry_on d (line_numbered k bytes)) (take (k - 1) (said_by_accounts d bytes))) k bytes
 
 -- line k, whose name is bound by no line before
 abbrev pub unknown_entry : ℕ → List ℕ → BadLine

@@ -6,18 +6,18 @@ use Rattle.std.specs.Cmp.Lexicographic.{slice_cmp}
 use Rattle.std.specs.FinMap.{entries, from_entries}
 use Rattle.serde_json.specs.Written.{compact_text}
 use Rattle.sd_book.specs.declared.command.Command.{Command}
-use Rattle.sd_book.specs.Text.{text_of}
-use Rattle.sd_run_books.specs.Line.{Entry, Assigns, Drops, Restores, Ends, said_by}
+use Rattle.sd_book.specs.Text.{text_of_book}
+use Rattle.sd_run_books.specs.Line.{Entry, Assigns, Drops, Restores, Ends, said_by_accounts}
 use Rattle.sd_run_books.specs.Accounts.{Account, AccountsValue}
 use Rattle.sd_run_books.specs.AccountsCause.{bad_entry, taken_entry, unknown_entry}
-use Rattle.sd_run_books.specs.Judged.{book_of}
-use Rattle.sd_run_books.specs.Report.{report_data}
+use Rattle.sd_run_books.specs.Judged.{accounts_book}
+use Rattle.sd_run_books.specs.Report.{accounts_data}
 use Rattle.sd_run_books.specs.declared.account_fault.AccountFault.{AccountFault}
 use Rattle.sd_run_books.specs.declared.account_fault.AccountFault.TheVariants as account
 use Rattle.sd_command_base.specs.declared.status.Status.{Status}
 use Rattle.sd_command_base.specs.declared.status.Status.TheVariants.{Done, BadBook, Limit, NoMemory}
 use Rattle.sd_command_base.specs.declared.status.LimitKind.TheVariants.{BookBytes, Book}
-use Rattle.sd_command_base.specs.Spec.{Spec, FileArgument, Readings, value, judged, within, ◌>>=◌}
+use Rattle.sd_command_base.specs.Spec.{Spec, FileArgument, Readings, value, of_result, within, ◌>>=◌}
 use Rattle.sd_command_base.specs.Work.{NoSteps, Work}
 use Rattle.sd_command_base.specs.Files.{site_in, most_book_bytes}
 
@@ -36,7 +36,7 @@ bound_by said = entries (from_entries {R = slice_cmp nat_cmp} (filter_map accoun
 -- an accounts file whose lines make these commands for a tree of height d
 abbrev pub accounts_value : ℕ → List ℕ → List Command → AccountsValue
 accounts_value d bytes commands =
-    record { book = record { height = d; commands = commands }; accounts = bound_by (said_by d bytes) }
+    record { book = record { height = d; commands = commands }; accounts = bound_by (said_by_accounts d bytes) }
 
 -- what is answered to accounts for a tree of height d that are refused, which this word's file of these bytes says
 abbrev pub refused_accounts : ℕ → ℕ → List ℕ → AccountFault → Status
@@ -47,15 +47,15 @@ refused_accounts word d bytes (account.Limit limit) = Limit (Book limit)
 refused_accounts word d bytes account.NoMemory = NoMemory
 
 -- the accounts for a tree of height d that a file's bytes say
-abbrev pub told_accounts : ℕ → ℕ → List ℕ → Result (List Command) AccountFault → Result AccountsValue Status
-told_accounts word d bytes (Ok commands) = Ok (accounts_value d bytes commands)
-told_accounts word d bytes (Err fault) = Err (refused_accounts word d bytes fault)
+abbrev pub accounts_or_status : ℕ → ℕ → List ℕ → Result (List Command) AccountFault → Result AccountsValue Status
+accounts_or_status word d bytes (Ok commands) = Ok (accounts_value d bytes commands)
+accounts_or_status word d bytes (Err fault) = Err (refused_accounts word d bytes fault)
 
 -- the accounts, for a tree of height d, of what the file of this word gave
 unfoldable pub accounts_of_file : ℕ → ℕ → Option (List ℕ) → Spec AccountsValue
 accounts_of_file word d got =
     within word most_book_bytes BookBytes got
-    >>= λ bytes. judged (told_accounts word d bytes (book_of d bytes))
+    >>= λ bytes. of_result (accounts_or_status word d bytes (accounts_book d bytes))
 
 -- the accounts that the two files say
 unfoldable pub accounts_in : FileArgument → FileArgument → Readings → Spec AccountsValue
@@ -65,8 +65,8 @@ accounts_in site accounts given = do
   value found
 
 -- the report: compact JSON and a line feed
-unfoldable pub report_line : AccountsValue → List ℕ
-report_line accounts = compact_text (report_data accounts) ++ 10 ∷ []
+unfoldable pub accounts_line : AccountsValue → List ℕ
+accounts_line accounts = compact_text (accounts_data accounts) ++ 10 ∷ []
 
 -- makes a file of these bytes, and then prints a text
 abbrev pub making_then : FileArgument → List ℕ → List ℕ → Work
@@ -84,4 +84,4 @@ making_then out bytes text = record {
 abbrev pub accounts_meaning : FileArgument → FileArgument → FileArgument → Readings → Spec Work
 accounts_meaning site accounts out given = do
   found ← accounts_in site accounts given
-  value (making_then out (text_of found.book.commands) (report_line found))
+  value (making_then out (text_of_book found.book.commands) (accounts_line found))

@@ -11,7 +11,7 @@ use Rattle.sd_message.specs.EcmParts.{parts_for}
 use Rattle.sd_spec.specs.Plan.{Plan, closing_number, crypto_of, period_in, sets_at, word_in}
 use Rattle.sd_command_base.specs.declared.status.Status.{Status}
 use Rattle.sd_command_base.specs.declared.status.Status.TheVariants.{BadWord, Done}
-use Rattle.sd_command_base.specs.Spec.{Spec, FileArgument, Readings, judged, value, ◌>>=◌}
+use Rattle.sd_command_base.specs.Spec.{Spec, FileArgument, Readings, of_result, value, ◌>>=◌}
 use Rattle.sd_command_base.specs.Work.{NoSteps, Work}
 use Rattle.sd_command_base.specs.Shown.{NumberArgument}
 use Rattle.sd_command_base.specs.Files.{site_of_file, book_in}
@@ -68,8 +68,8 @@ abbrev pub per_thousand : ℕ → ℕ → ℕ
 per_thousand added m = div_ceil (1000 * added) m
 
 -- the line of a period
-unfoldable pub period_line : ℕ → ℕ → ℕ → ℕ → ℕ → List ℕ
-period_line q revoked sets entitlements cryptos =
+unfoldable pub plan_period_line : ℕ → ℕ → ℕ → ℕ → ℕ → List ℕ
+plan_period_line q revoked sets entitlements cryptos =
     codes "period "
     ++ (decimal q
     ++ (codes " revoked "
@@ -81,7 +81,7 @@ period_line q revoked sets entitlements cryptos =
 -- the line of period q of n crypto periods
 abbrev pub line_at : Plan → ℕ → ℕ → List ℕ
 line_at plan n q =
-    period_line q (length (revoked plan.site.height plan.commands q)) (length (sets_at plan q)) (entitlements_at plan q)
+    plan_period_line q (length (revoked plan.site.height plan.commands q)) (length (sets_at plan q)) (entitlements_at plan q)
     (cryptos_in plan n q)
 
 -- the line of these messages, each of so many parts
@@ -90,8 +90,8 @@ message_count_line messages parts =
     codes "messages " ++ (decimal messages ++ (codes " parts " ++ (decimal parts ++ codes "\n")))
 
 -- the line of so many packets added to m
-unfoldable pub clear_line : ℕ → ℕ → List ℕ
-clear_line m added =
+unfoldable pub plan_clear_line : ℕ → ℕ → List ℕ
+plan_clear_line m added =
     codes "clear "
     ++ (decimal m ++ (codes " added " ++
     (decimal added ++ (codes " broadcast " ++ (decimal (m + added) ++ codes "\n")))))
@@ -109,7 +109,7 @@ place_line which period word =
 -- the lines of these messages, each of so many parts, and of so many packets added to m
 abbrev pub total_lines : ℕ → ℕ → ℕ → ℕ → List ℕ
 total_lines messages parts m added =
-    (message_count_line messages parts ++ clear_line m added) ++ rate_line (per_thousand added m)
+    (message_count_line messages parts ++ plan_clear_line m added) ++ rate_line (per_thousand added m)
 
 -- the lines of the first period and word, of the last ones, and of the next ones
 abbrev pub end_lines : ℕ → ℕ → ℕ → ℕ → List ℕ
@@ -144,11 +144,11 @@ told_room packets fields =
 
 -- so it is of the site that the file of this word gave
 abbrev pub roomy_site_of_file : ℕ → NumberArgument → Option (List ℕ) → Spec SiteFields
-roomy_site_of_file word packets got = site_of_file word got >>= λ fields. judged (told_room packets fields)
+roomy_site_of_file word packets got = site_of_file word got >>= λ fields. of_result (told_room packets fields)
 
 -- the work that the words and the two files say
-abbrev pub plan_meaning : FileArgument → FileArgument → NumberArgument → ℕ → Readings → Spec Work
-plan_meaning site book packets pids given = do
+abbrev pub plan_command_meaning : FileArgument → FileArgument → NumberArgument → ℕ → Readings → Spec Work
+plan_command_meaning site book packets pids given = do
   fields ← roomy_site_of_file site.number packets (given site)
   commands ← book_in given fields.height book
   value (planning (record { site = fields; commands = commands }) packets.value pids)

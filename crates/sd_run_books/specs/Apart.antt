@@ -11,7 +11,7 @@ use Rattle.sd_command_base.specs.declared.status.Status.{Status}
 use Rattle.sd_command_base.specs.declared.status.Status.TheVariants.{Clash}
 use Rattle.sd_command_base.specs.declared.status.Clash.{Clash as ClashKind}
 use Rattle.sd_command_base.specs.declared.status.Clash.TheVariants.{Heights, Masters, NoWords, SharedWord, Books}
-use Rattle.sd_command_base.specs.Spec.{Spec, FileArgument, Readings, judged, value, ◌>>=◌}
+use Rattle.sd_command_base.specs.Spec.{Spec, FileArgument, Readings, of_result, value, ◌>>=◌}
 use Rattle.sd_command_base.specs.Work.{Work, work_of_text}
 use Rattle.sd_command_base.specs.Both.{SiteBook, both_meaning}
 
@@ -77,12 +77,12 @@ sites_clash a b =
     (clash_where (shares_word a b) (SharedWord (max a.first_word b.first_word)) None))))
 
 -- why two broadcasts may not go out under one set of cards
-abbrev pub clash_of : Plan → Plan → Option ClashKind
-clash_of a b = option_or (sites_clash a.site b.site) (books_clash a b)
+abbrev pub plan_clash : Plan → Plan → Option ClashKind
+plan_clash a b = option_or (sites_clash a.site b.site) (books_clash a b)
 
 -- the line of a site: its control words, and the periods that a broadcast of it may use
-unfoldable pub site_line : ℕ → ℕ → ℕ → ℕ → ℕ → List ℕ
-site_line number first_word last_word first_period last_period =
+unfoldable pub apart_site_line : ℕ → ℕ → ℕ → ℕ → ℕ → List ℕ
+apart_site_line number first_word last_word first_period last_period =
     codes "site "
     ++ (decimal number
     ++ (codes " words "
@@ -91,13 +91,13 @@ site_line number first_word last_word first_period last_period =
     ++ (decimal last_word
     ++ (codes " periods " ++ (decimal first_period ++ (codes " to " ++ (decimal last_period ++ codes "\n")))))))))
 
-abbrev pub line_of : ℕ → Plan → List ℕ
-line_of number plan =
-    site_line number plan.site.first_word plan.site.last_word plan.site.first_period (last_due plan)
+abbrev pub apart_line : ℕ → Plan → List ℕ
+apart_line number plan =
+    apart_site_line number plan.site.first_word plan.site.last_word plan.site.first_period (last_due plan)
 
 -- both lines
 abbrev pub apart_text : Plan → Plan → List ℕ
-apart_text a b = line_of 1 a ++ line_of 2 b
+apart_text a b = apart_line 1 a ++ apart_line 2 b
 
 -- the lines, if the two may go out under one set of cards
 abbrev pub told_clash : Option ClashKind → List ℕ → Result (List ℕ) Status
@@ -105,7 +105,7 @@ told_clash None text = Ok text
 told_clash (Some clash) text = Err (Clash clash)
 
 unfoldable pub told_apart : Plan → Plan → Result (List ℕ) Status
-told_apart a b = told_clash (clash_of a b) (apart_text a b)
+told_apart a b = told_clash (plan_clash a b) (apart_text a b)
 
 abbrev pub plan_of_both : SiteBook → Plan
 plan_of_both both = record { site = both.site; commands = both.commands }
@@ -115,5 +115,5 @@ abbrev pub apart_meaning : FileArgument → FileArgument → FileArgument → Fi
 apart_meaning site book other more given = do
   first ← both_meaning site book given
   second ← both_meaning other more given
-  text ← judged (told_apart (plan_of_both first) (plan_of_both second))
+  text ← of_result (told_apart (plan_of_both first) (plan_of_both second))
   value (work_of_text text)

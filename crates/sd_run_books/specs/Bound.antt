@@ -13,14 +13,14 @@ leaf_on name (Some (Restores other)) = None
 leaf_on name (Some Ends) = None
 
 -- the first of two that is there
-abbrev pub first_there : Option ℕ → Option ℕ → Option ℕ
-first_there (Some u) other = Some u
-first_there None other = other
+abbrev pub first_number_there : Option ℕ → Option ℕ → Option ℕ
+first_number_there (Some u) other = Some u
+first_number_there None other = other
 
 -- the leaf to which these lines bind the name: that of the first that assigns it
 abbrev pub leaf_of : List ℕ → List (Option Entry) → Option ℕ
 leaf_of name [] = None
-leaf_of name (said ∷ others) = first_there (leaf_on name said) (leaf_of name others)
+leaf_of name (said ∷ others) = first_number_there (leaf_on name said) (leaf_of name others)
 
 -- this line binds a name to the leaf
 abbrev pub holds : ℕ → Option Entry → Bool

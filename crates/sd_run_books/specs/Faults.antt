@@ -30,7 +30,7 @@ IsWrong before (Some (Restores name)) fault = (fault ≡ Unknown (length before 
 IsWrong before (Some Ends) fault = ⊥
 
 -- each of these lines makes its command, and a book of the tree may begin with these commands
-pub record AreGood (d : ℕ) (said : List (Option Entry)) (commands : List Command) : Type 0 where
+pub record AreGoodAccountLines (d : ℕ) (said : List (Option Entry)) (commands : List Command) : Type 0 where
   pub same : length commands ≡ length said
   pub each : (k : ℕ) → k < length said →
       (entry : Entry) × (command : Command) × (slice_get said k ≡ Some (Some entry))
@@ -56,7 +56,7 @@ NextBreaks d before commands rest fault =
     × BreaksLimit d commands next limit
 
 -- The fault of lines that say this: after good lines the next one is wrong, or a limit of a book is broken
-abbrev pub IsCauseOf : ℕ → List (Option Entry) → AccountFault → Type 0
-IsCauseOf d said fault =
+abbrev pub IsAccountFaultOf : ℕ → List (Option Entry) → AccountFault → Type 0
+IsAccountFaultOf d said fault =
     (before rest : List (Option Entry)) × (commands : List Command) × (said ≡ before ++ rest)
-    × AreGood d before commands × (NextIsWrong before rest fault ⊎ NextBreaks d before commands rest fault)
+    × AreGoodAccountLines d before commands × (NextIsWrong before rest fault ⊎ NextBreaks d before commands rest fault)

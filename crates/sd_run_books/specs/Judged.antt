@@ -5,11 +5,11 @@ use Rattle.std.specs.Prelude.{Result, Ok, Err}
 use Rattle.sd_book.specs.declared.command.Command.{Command}
 use Rattle.sd_book.specs.declared.command.Command.TheVariants.{Subscribe, Revoke, Period}
 use Rattle.sd_book.specs.declared.fault.BookFault.{BookFault}
-use Rattle.sd_book.specs.Text.{command_fits, ended}
+use Rattle.sd_book.specs.Text.{command_fits, period_end_check}
 use Rattle.sd_run_books.specs.declared.account_fault.AccountFault.{AccountFault}
 use Rattle.sd_run_books.specs.declared.account_fault.AccountFault.TheVariants.{Line, Unknown, Taken}
 use Rattle.sd_run_books.specs.Fault.{as_fault}
-use Rattle.sd_run_books.specs.Line.{Entry, Assigns, Drops, Restores, Ends, said_by}
+use Rattle.sd_run_books.specs.Line.{Entry, Assigns, Drops, Restores, Ends, said_by_accounts}
 use Rattle.sd_run_books.specs.Bound.{leaf_of, is_held}
 
 -- the command on the leaf that a name is bound to, or that line k names none that is bound
@@ -46,16 +46,16 @@ allowed (Err fault) = Err (as_fault fault)
 -- The command that a line makes after those lines with their commands, or what is wrong with it. On one line the form
 -- and the leaf come first, then names that are unknown, then what is taken, then the limits of the book [this project,
 -- docs/FORMATS.md, Accounts]
-abbrev pub judged_line : ℕ → List (Option Entry) → List Command → Option Entry → Result Command AccountFault
-judged_line d before commands said =
+abbrev pub judged_account_line : ℕ → List (Option Entry) → List Command → Option Entry → Result Command AccountFault
+judged_account_line d before commands said =
     command_after before said >>= λ command. allowed (command_fits d commands command)
 
 -- the commands with those that the lines after them make: the first bad line decides, and the last period comes last
-abbrev pub judged : ℕ → List (Option Entry) → List Command → List (Option Entry) → Result (List Command) AccountFault
-judged d before commands [] = allowed (ended d commands commands)
-judged d before commands (said ∷ rest) =
-    judged_line d before commands said >>= λ command. judged d (before ++ said ∷ []) (commands ++ command ∷ []) rest
+abbrev pub account_commands : ℕ → List (Option Entry) → List Command → List (Option Entry) → Result (List Command) AccountFault
+account_commands d before commands [] = allowed (period_end_check d commands commands)
+account_commands d before commands (said ∷ rest) =
+    judged_account_line d before commands said >>= λ command. account_commands d (before ++ said ∷ []) (commands ++ command ∷ []) rest
 
 -- the commands that an accounts file makes for a tree of height d, one a line, or its first fault
-unfoldable pub book_of : ℕ → List ℕ → Result (List Command) AccountFault
-book_of d bytes = judged d [] [] (said_by d bytes)
+unfoldable pub accounts_book : ℕ → List ℕ → Result (List Command) AccountFault
+accounts_book d bytes = account_commands d [] [] (said_by_accounts d bytes)

@@ -7,10 +7,10 @@ use Rattle.std.specs.Ordering.{nat_cmp}
 use Rattle.std.specs.declared.cmp.Ordering.{Ordering}
 use Rattle.arrayvec.specs.ArrayString.{ArrayString}
 use Rattle.sd_book.specs.declared.command.Command.{Command}
-use Rattle.sd_run_books.specs.Line.{Entry, Assigns, Drops, Restores, Ends, said_by}
+use Rattle.sd_run_books.specs.Line.{Entry, Assigns, Drops, Restores, Ends, said_by_accounts}
 use Rattle.sd_run_books.specs.Bound.{leaf_of, is_held}
 use Rattle.sd_run_books.specs.Accounts.{Account}
-use Rattle.sd_run_books.specs.Judged.{judged}
+use Rattle.sd_run_books.specs.Judged.{account_commands}
 
 -- the leaf that a line assigns is one of the first n
 abbrev pub IsBelow : ℕ → Entry → Type 0
@@ -20,11 +20,11 @@ IsBelow n (Restores name) = Unit {0}
 IsBelow n Ends = Unit {0}
 
 -- the leaf of each name, after one more line
-abbrev pub leaf_after : Entry → (List ℕ → Option ℕ) → List ℕ → Option ℕ
-leaf_after (Assigns other u) leaf_for name = if bytes_eq other name then Some u else leaf_for name
-leaf_after (Drops other) leaf_for name = leaf_for name
-leaf_after (Restores other) leaf_for name = leaf_for name
-leaf_after Ends leaf_for name = leaf_for name
+abbrev pub leaf_of_name_after : Entry → (List ℕ → Option ℕ) → List ℕ → Option ℕ
+leaf_of_name_after (Assigns other u) leaf_for name = if bytes_eq other name then Some u else leaf_for name
+leaf_of_name_after (Drops other) leaf_for name = leaf_for name
+leaf_of_name_after (Restores other) leaf_for name = leaf_for name
+leaf_of_name_after Ends leaf_for name = leaf_for name
 
 -- the marks after one more line
 abbrev pub marks_after : Entry → List Bool → List Bool
@@ -38,7 +38,7 @@ abbrev pub mark_of : List Bool → ℕ → Bool
 mark_of marks u = get_or marks u false
 
 -- what is kept of these lines for a tree of height d
-pub record IsKept (d : ℕ) (said : List (Option Entry)) (leaf_for : List ℕ → Option ℕ) (marks : List Bool) : Type 0 where
+pub record AreAccountsKept (d : ℕ) (said : List (Option Entry)) (leaf_for : List ℕ → Option ℕ) (marks : List Bool) : Type 0 where
   pub full : length marks ≡ 2 ^ d
   pub leaves : (name : List ℕ) → leaf_for name ≡ leaf_of name said
   pub held : (u : ℕ) → u < 2 ^ d → mark_of marks u ≡ is_held u said
@@ -48,10 +48,10 @@ pub record IsKept (d : ℕ) (said : List (Option Entry)) (leaf_for : List ℕ �
 pub record IsRead (d : ℕ) (bytes rest : List ℕ) (commands : List Command) (leaf_for : List ℕ → Option ℕ)
     (marks : List Bool) : Type 0 where
   pub before : List (Option Entry)
-  pub all : said_by d bytes ≡ before ++ said_by d rest
+  pub all : said_by_accounts d bytes ≡ before ++ said_by_accounts d rest
   pub count : length before ≡ length commands
-  pub kept : IsKept d before leaf_for marks
-  pub same : judged d [] [] (said_by d bytes) ≡ judged d before commands (said_by d rest)
+  pub kept : AreAccountsKept d before leaf_for marks
+  pub same : account_commands d [] [] (said_by_accounts d bytes) ≡ account_commands d before commands (said_by_accounts d rest)
 
 -- names in the order of their bytes
 abbrev pub name_cmp : ArrayString → ArrayString → Ordering

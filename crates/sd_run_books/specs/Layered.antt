@@ -4,7 +4,7 @@ use Rattle.sd_book.specs.declared.command.Command.{Command}
 use Rattle.sd_lsd.specs.Cover.{layer_cover_of}
 use Rattle.sd_command_base.specs.declared.status.Status.{Status}
 use Rattle.sd_command_base.specs.declared.status.Status.TheVariants.{BadWord}
-use Rattle.sd_command_base.specs.Spec.{Spec, FileArgument, Readings, judged, value, ◌>>=◌}
+use Rattle.sd_command_base.specs.Spec.{Spec, FileArgument, Readings, of_result, value, ◌>>=◌}
 use Rattle.sd_command_base.specs.Work.{Work}
 use Rattle.sd_command_base.specs.Periods.{bare_end, listing}
 use Rattle.sd_command_base.specs.Shown.{NumberArgument}
@@ -28,7 +28,7 @@ told_layers d width =
 
 -- the layers of the site that the file of this word gave
 abbrev pub layers_of_file : ℕ → NumberArgument → Option (List ℕ) → Spec Layers
-layers_of_file word width got = site_of_file word got >>= λ fields. judged (told_layers fields.height width)
+layers_of_file word width got = site_of_file word got >>= λ fields. of_result (told_layers fields.height width)
 
 -- prints the useful sets of each period of a book for a tree of this height and layers of this width
 -- [Halevy, Shamir 2002, 3]

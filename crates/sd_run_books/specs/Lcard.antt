@@ -4,7 +4,7 @@ use Rattle.sd_site_cards.specs.SiteFields.{SiteFields}
 use Rattle.sd_lsd.specs.Fields.{layer_card_of, layer_bytes}
 use Rattle.sd_command_base.specs.declared.status.Status.{Status}
 use Rattle.sd_command_base.specs.declared.status.Status.TheVariants.{BadWord}
-use Rattle.sd_command_base.specs.Spec.{Spec, FileArgument, Readings, value, judged, ◌>>=◌}
+use Rattle.sd_command_base.specs.Spec.{Spec, FileArgument, Readings, value, of_result, ◌>>=◌}
 use Rattle.sd_command_base.specs.Work.{Uncounted, Work}
 use Rattle.sd_command_base.specs.Shown.{NumberArgument}
 use Rattle.sd_command_base.specs.Files.{site_in}
@@ -22,8 +22,8 @@ told_width d width =
 -- makes the layer card of a site's leaf for layers of this width
 abbrev pub carding : SiteFields → NumberArgument → NumberArgument → FileArgument → Spec Work
 carding site leaf width out = do
-  u ← judged (told_leaf site.height leaf)
-  w ← judged (told_width site.height width)
+  u ← of_result (told_leaf site.height leaf)
+  w ← of_result (told_width site.height width)
   value (making Uncounted out (layer_bytes (layer_card_of site.master site.ca site.height w u)))
 
 -- the work that the words and the site's file say

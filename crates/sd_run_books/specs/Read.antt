@@ -4,8 +4,8 @@ use Rattle.sd_run_books.specs.declared.account_line.Line.TheVariants.{Assign, Dr
 use Rattle.sd_run_books.specs.Line.{Entry, Assigns, Drops, Restores, Ends}
 
 -- what it says
-abbrev pub entry_in : Line → Entry
-entry_in (Assign name leaf) = Assigns name.bytes leaf
-entry_in (Drop name) = Drops name.bytes
-entry_in (Restore name) = Restores name.bytes
-entry_in Period = Ends
+abbrev pub line_entry : Line → Entry
+line_entry (Assign name leaf) = Assigns name.bytes leaf
+line_entry (Drop name) = Drops name.bytes
+line_entry (Restore name) = Restores name.bytes
+line_entry Period = Ends

@@ -19,8 +19,8 @@ account_data revoked account = object
     no_members)))
 
 -- the accounts, the height of the tree and the number of the last period
-unfoldable pub report_data : AccountsValue → Data
-report_data value =
+unfoldable pub accounts_data : AccountsValue → Data
+accounts_data value =
     let last = last_period value.book.commands in
     let revoked_last = revoked value.book.height value.book.commands last in
     object

@@ -3,6 +3,6 @@ use Rattle.std.specs.Prelude.{Bool, false, not, Option, Some, None}
 use Rattle.sd_run_books.specs.Apart.{differ}
 
 -- there is a period before, and it has the same
-abbrev pub is_same : Option Bool → Bool → Bool
-is_same None now = false
-is_same (Some before) now = not (differ before now)
+abbrev pub is_same_state : Option Bool → Bool → Bool
+is_same_state None now = false
+is_same_state (Some before) now = not (differ before now)

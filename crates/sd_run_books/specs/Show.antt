@@ -3,11 +3,11 @@ use Rattle.std.specs.Prelude.{ℕ, ◌+◌, ◌*◌, ◌/◌, List, [], ◌∷�
 use Rattle.hex.specs.Hex.{encode_lower}
 use Rattle.serde_json.specs.Data.{Data, number, unsigned, string, object, member, no_members}
 use Rattle.serde_json.specs.Written.{compact_text}
-use Rattle.sd_site_cards.specs.CardFaults.{height_in, leaf_in, ca_in, fault_in}
+use Rattle.sd_site_cards.specs.CardFaults.{height_in, card_leaf, ca_in, fault_in}
 use Rattle.sd_site_cards.specs.Files.{check_in}
 use Rattle.sd_command_base.specs.declared.status.Status.{Status}
 use Rattle.sd_command_base.specs.declared.status.LimitKind.TheVariants.{CardBytes}
-use Rattle.sd_command_base.specs.Spec.{Spec, FileArgument, Readings, within, judged, value, ◌>>=◌}
+use Rattle.sd_command_base.specs.Spec.{Spec, FileArgument, Readings, within, of_result, value, ◌>>=◌}
 use Rattle.sd_command_base.specs.Work.{Work, work_of_text}
 use Rattle.sd_command_base.specs.Files.{card_unless, most_card_bytes}
 use Rattle.sd_run_books.specs.Fingerprint.{fingerprint_in}
@@ -34,17 +34,17 @@ unfoldable pub shown_line : ℕ → ℕ → ℕ → List ℕ → List ℕ → Li
 shown_line height leaf ca check master = compact_text (shown_data height leaf ca check master) ++ 10 ∷ []
 
 -- the line of a card's file [this project, docs/FORMATS.md, Card]
-abbrev pub card_line : List ℕ → List ℕ
-card_line bytes =
-    shown_line (height_in bytes) (leaf_in bytes) (ca_in bytes) (check_in bytes) (fingerprint_in bytes)
+abbrev pub shown_card_line : List ℕ → List ℕ
+shown_card_line bytes =
+    shown_line (height_in bytes) (card_leaf bytes) (ca_in bytes) (check_in bytes) (fingerprint_in bytes)
 
 -- the line of the card that the bytes of this word's file are
 unfoldable pub told_show : ℕ → List ℕ → Result (List ℕ) Status
-told_show word bytes = card_unless word (fault_in bytes) (card_line bytes)
+told_show word bytes = card_unless word (fault_in bytes) (shown_card_line bytes)
 
 -- the line of what the file of this word gave
 unfoldable pub line_of_file : ℕ → Option (List ℕ) → Spec (List ℕ)
-line_of_file word got = within word most_card_bytes CardBytes got >>= λ bytes. judged (told_show word bytes)
+line_of_file word got = within word most_card_bytes CardBytes got >>= λ bytes. of_result (told_show word bytes)
 
 -- the work that the card's file says
 abbrev pub show_meaning : FileArgument → Readings → Spec Work

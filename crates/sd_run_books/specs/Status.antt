@@ -8,7 +8,7 @@ use Rattle.sd_book.specs.declared.command.Command.{Command}
 use Rattle.sd_book.specs.Commands.{revoked}
 use Rattle.sd_command_base.specs.declared.status.Status.{Status as Answer}
 use Rattle.sd_command_base.specs.declared.status.Status.TheVariants.{BadWord}
-use Rattle.sd_command_base.specs.Spec.{Spec, FileArgument, Readings, judged, value, ◌>>=◌}
+use Rattle.sd_command_base.specs.Spec.{Spec, FileArgument, Readings, of_result, value, ◌>>=◌}
 use Rattle.sd_command_base.specs.Work.{Work, work_of_text}
 use Rattle.sd_command_base.specs.Shown.{NumberArgument}
 use Rattle.sd_command_base.specs.Files.{site_of_file, book_in}
@@ -42,8 +42,8 @@ entitled_line u entitled q =
     codes "period " ++ (decimal q ++ (codes " receiver " ++ (decimal u ++ entitled_end entitled)))
 
 -- the line of the fingerprint of a master
-unfoldable pub master_line : List ℕ → List ℕ
-master_line master = codes "master " ++ (encode_lower (fingerprint_of master) ++ codes "\n")
+unfoldable pub fingerprint_line : List ℕ → List ℕ
+fingerprint_line master = codes "master " ++ (encode_lower (fingerprint_of master) ++ codes "\n")
 
 -- the lines of the periods
 abbrev pub change_lines : SiteFields → List Command → ℕ → List ℕ
@@ -52,7 +52,7 @@ change_lines site commands u =
 
 -- all lines for receiver u
 unfoldable pub status_text : SiteFields → List Command → ℕ → List ℕ
-status_text site commands u = master_line site.master ++ change_lines site commands u
+status_text site commands u = fingerprint_line site.master ++ change_lines site commands u
 
 -- the site, whose tree must have a leaf of this number
 abbrev pub told_tree : NumberArgument → SiteFields → Result SiteFields Answer
@@ -60,7 +60,7 @@ told_tree leaf site = if nat_lt leaf.value (2 ^ site.height) then Ok site else E
 
 -- the site of what the file of this word gave
 abbrev pub tree_of_file : ℕ → NumberArgument → Option (List ℕ) → Spec SiteFields
-tree_of_file word leaf got = site_of_file word got >>= λ site. judged (told_tree leaf site)
+tree_of_file word leaf got = site_of_file word got >>= λ site. of_result (told_tree leaf site)
 
 -- the work that the words and the two files say
 abbrev pub status_meaning : FileArgument → FileArgument → NumberArgument → Readings → Spec Work

@@ -5,7 +5,7 @@ use Rattle.sd_site_cards.specs.SiteFields.{SiteFields}
 use Rattle.sd_site_cards.specs.Written.{site_text, none_fewer}
 use Rattle.sd_site_cards.specs.Chain.{most_word, twin_site}
 use Rattle.sd_site_cards.specs.declared.book_line.BookLine.{BookLine}
-use Rattle.sd_command_base.specs.Spec.{Spec, FileArgument, Readings, judged, ◌>>=◌}
+use Rattle.sd_command_base.specs.Spec.{Spec, FileArgument, Readings, of_result, ◌>>=◌}
 use Rattle.sd_command_base.specs.Work.{Work}
 use Rattle.sd_command_base.specs.Shown.{NumberArgument}
 use Rattle.sd_command_base.specs.Made.{NewFile, making_new}
@@ -18,6 +18,6 @@ twin_made site line words = record { bytes = option_map_or (site_text (twin_site
 -- the work that the words and the site's file say
 unfoldable pub twin_meaning : FileArgument → NumberArgument → FileArgument → Readings → Spec Work
 twin_meaning site words out given = do
-  named ← judged (told_name site out)
+  named ← of_result (told_name site out)
   newest ← newest_of_file none_fewer site.number most_word words (given site)
   making_new (twin_made newest.0 newest.1 words.value) out (given out)

@@ -4,9 +4,9 @@ ghost use Rattle.std.specs.Prelude.{◌≡◌, ◌+◌, ◌-◌, ◌∷◌, List
 ghost use Rattle.sd_base.specs.Number.{decimal_value};
 ghost use Rattle.sd_command_base.specs.BadLines.{line_numbered as numbered};
 ghost use Rattle.sd_run_books.specs.AccountsCause.{assigns_number as assigns, bad_entry as entry_refused};
-ghost use Rattle.sd_run_books.specs.AccountsCause.{clash_from, clash_of as clash, taken_entry as entry_taken};
-ghost use Rattle.sd_run_books.specs.Line.{Entry, Assigns, entry_on, said_by};
-ghost use Rattle.sd_run_books.specs.Read.{entry_in};
+ghost use Rattle.sd_run_books.specs.AccountsCause.{clash_from, entry_clash as clash, taken_entry as entry_taken};
+ghost use Rattle.sd_run_books.specs.Line.{Entry, Assigns, entry_on, said_by_accounts};
+ghost use Rattle.sd_run_books.specs.Read.{line_entry};
 
 use crate::account_line::{Line, line_in};
 use crate::account_name::{Name, is_name};
@@ -37,7 +37,7 @@ pub(crate) fn taken_entry(h: Height, k: u32, bytes: &[u8]) -> BadLine
 /// The line before line k with which it clashes.
 #[tactic(auto, unfolding(crate::specs::Line::entry_on))]
 fn clash_of(h: Height, k: u32, bytes: &[u8]) -> LineCause
-    ensures { result ≡ clash (entry_on h (numbered k bytes.now)) (take (k - 1) (said_by h bytes.now)) }
+    ensures { result ≡ clash (entry_on h (numbered k bytes.now)) (take (k - 1) (said_by_accounts h bytes.now)) }
 {
     match line_in(line_numbered(k, bytes), h) {
         Some(line) => clash_before(h, k, bytes, line),
@@ -47,7 +47,7 @@ fn clash_of(h: Height, k: u32, bytes: &[u8]) -> LineCause
 
 /// The line before line k with which one clashes that says this.
 fn clash_before(h: Height, k: u32, bytes: &[u8], line: Line) -> LineCause
-    ensures { result ≡ clash (Some (entry_in line)) (take (k - 1) (said_by h bytes.now)) }
+    ensures { result ≡ clash (Some (line_entry line)) (take (k - 1) (said_by_accounts h bytes.now)) }
 {
     match line {
         Line::Assign(name, leaf) => clash_with(h, k, bytes, name, leaf),
@@ -57,7 +57,7 @@ fn clash_before(h: Height, k: u32, bytes: &[u8], line: Line) -> LineCause
 
 /// The first line before line k that binds the name or the leaf.
 fn clash_with(h: Height, k: u32, bytes: &[u8], name: Name, leaf: Leaf) -> LineCause
-    ensures { result ≡ clash_from 1 name.bytes leaf (take (k - 1) (said_by h bytes.now)) }
+    ensures { result ≡ clash_from 1 name.bytes leaf (take (k - 1) (said_by_accounts h bytes.now)) }
 {
     let mut rest = bytes;
     for line in 1..k {
@@ -89,9 +89,9 @@ fn clash_on(h: Height, k: u32, text: &[u8], name: Name, leaf: Leaf) -> Option<Li
 /// Why a line of this number that says this clashes with one that binds the name and the leaf, if it does.
 fn clash_line(k: u32, line: Line, name: Name, leaf: Leaf) -> Option<LineCause>
     ensures some { IfSome result (λ cause. (said : List (Option Entry)) →
-        clash_from k name.bytes leaf (Some (entry_in line) ∷ said) ≡ cause) }
+        clash_from k name.bytes leaf (Some (line_entry line) ∷ said) ≡ cause) }
     ensures none { IsNone result → (said : List (Option Entry)) →
-        clash_from k name.bytes leaf (Some (entry_in line) ∷ said)
+        clash_from k name.bytes leaf (Some (line_entry line) ∷ said)
         ≡ clash_from (k + 1) name.bytes leaf said }
 {
     match line {

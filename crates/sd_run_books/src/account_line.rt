@@ -1,7 +1,7 @@
 ghost use Rattle.std.specs.Prelude.{◌≡◌, ◌<◌, ◌^◌, IfSome, option_map};
 ghost use Rattle.sd_run_books.specs.Kept.{IsBelow};
-ghost use Rattle.sd_run_books.specs.Line.{assigned, entry_on, leaf_in, leaf_numbered};
-ghost use Rattle.sd_run_books.specs.Read.{entry_in};
+ghost use Rattle.sd_run_books.specs.Line.{assigned, entry_on, account_leaf, leaf_numbered};
+ghost use Rattle.sd_run_books.specs.Read.{line_entry};
 
 use crate::account_name::{Name, name_in};
 use sd_base::{cut_at_space, number_after};
@@ -23,8 +23,8 @@ pub(crate) enum Line {
 /// What a line says for a tree of this height, where it is in the grammar and its leaf in the tree.
 #[tactic(auto, unfolding(crate::specs::Line::entry_on, sd_base::specs::Number::rest_after))]
 pub(crate) fn line_in(text: &[u8], h: Height) -> Option<Line>
-    ensures value { option_map entry_in result ≡ entry_on h text.now }
-    ensures leaf { IfSome result (λ line. IsBelow (2 ^ h) (entry_in line)) }
+    ensures value { option_map line_entry result ≡ entry_on h text.now }
+    ensures leaf { IfSome result (λ line. IsBelow (2 ^ h) (line_entry line)) }
 {
     if text == b"period".as_slice() {
         return Some(Line::Period);
@@ -42,8 +42,8 @@ pub(crate) fn line_in(text: &[u8], h: Height) -> Option<Line>
 /// A name, a space and a leaf.
 #[tactic(auto, unfolding(crate::specs::Line::assigned))]
 fn assign_in(text: &[u8], h: Height) -> Option<Line>
-    ensures value { option_map entry_in result ≡ assigned h text.now }
-    ensures leaf { IfSome result (λ line. IsBelow (2 ^ h) (entry_in line)) }
+    ensures value { option_map line_entry result ≡ assigned h text.now }
+    ensures leaf { IfSome result (λ line. IsBelow (2 ^ h) (line_entry line)) }
 {
     let (name, leaf) = cut_at_space(text)?;
     let name = name_in(name)?;
@@ -54,7 +54,7 @@ fn assign_in(text: &[u8], h: Height) -> Option<Line>
 /// The decimal of a leaf of the tree.
 #[tactic(auto, using(crate::proofs::Leaves::said, crate::proofs::Leaves::unsaid))]
 fn leaf_in(text: &[u8], h: Height) -> Option<Leaf>
-    ensures value { result ≡ leaf_in h text.now }
+    ensures value { result ≡ account_leaf h text.now }
     ensures low { IfSome result (λ leaf. leaf < 2 ^ h) }
 {
     match number_after(b"", text) {

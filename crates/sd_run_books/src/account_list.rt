@@ -3,10 +3,10 @@ ghost use Rattle.serde_json.specs.Written.{compact_text};
 ghost use Rattle.sd_book.specs.declared.command.Command.{Command as Commands};
 ghost use Rattle.sd_book.specs.Limits.{IsWithinLimits};
 ghost use Rattle.sd_run_books.specs.Accounts.{IsListOf};
-ghost use Rattle.sd_run_books.specs.Faults.{AreGood, IsCauseOf};
-ghost use Rattle.sd_run_books.specs.Judged.{book_of};
-ghost use Rattle.sd_run_books.specs.Line.{said_by};
-ghost use Rattle.sd_run_books.specs.Report.{report_data};
+ghost use Rattle.sd_run_books.specs.Faults.{AreGoodAccountLines, IsAccountFaultOf};
+ghost use Rattle.sd_run_books.specs.Judged.{accounts_book};
+ghost use Rattle.sd_run_books.specs.Line.{said_by_accounts};
+ghost use Rattle.sd_run_books.specs.Report.{accounts_data};
 
 use crate::account_fault::AccountFault;
 use crate::account_name::Name;
@@ -43,17 +43,17 @@ impl Accounts {
     pub fn read(alloc: Global, bytes: &[u8], h: Height) -> Result<Accounts, AccountFault>
         ensures height { IfOk result (λ accounts. accounts.book.height ≡ h) }
         ensures fits { IfOk result (λ accounts. IsWithinLimits h accounts.book.commands) }
-        ensures accounts { IfOk result (λ accounts. IsListOf (said_by h bytes.now) accounts.accounts) }
-        ensures sound { IfOk result (λ accounts. AreGood h (said_by h bytes.now) accounts.book.commands) }
+        ensures accounts { IfOk result (λ accounts. IsListOf (said_by_accounts h bytes.now) accounts.accounts) }
+        ensures sound { IfOk result (λ accounts. AreGoodAccountLines h (said_by_accounts h bytes.now) accounts.book.commands) }
         ensures complete { (commands : List Commands) →
-            AreGood h (said_by h bytes.now) commands → IsWithinLimits h commands →
+            AreGoodAccountLines h (said_by_accounts h bytes.now) commands → IsWithinLimits h commands →
             MatchResult result (λ accounts. accounts.book.commands ≡ commands)
             (λ fault. fault ≡ AccountFault.NoMemory) }
         ensures fault { IfErr result (λ fault.
-            (fault ≡ AccountFault.NoMemory) ⊎ IsCauseOf h (said_by h bytes.now) fault) }
+            (fault ≡ AccountFault.NoMemory) ⊎ IsAccountFaultOf h (said_by_accounts h bytes.now) fault) }
         // The book, or the first fault.
-        ensures value { MatchResult result (λ accounts. book_of h bytes.now ≡ Ok accounts.book.commands)
-            (λ fault. (fault ≡ AccountFault.NoMemory) ⊎ (book_of h bytes.now ≡ Err fault)) }
+        ensures value { MatchResult result (λ accounts. accounts_book h bytes.now ≡ Ok accounts.book.commands)
+            (λ fault. (fault ≡ AccountFault.NoMemory) ⊎ (accounts_book h bytes.now ≡ Err fault)) }
     {
         let register = Register::read(alloc, bytes, h)?;
         let (book, leaves) = register.finish()?;
@@ -70,7 +70,7 @@ impl Accounts {
     /// The report as compact JSON: each account by name with its leaf and whether the leaf is active, not revoked, in
     /// the last period; the height of the tree; the number of the last period.
     pub fn report(&self, alloc: Global) -> Result<Vec<u8>, NoMemory>
-        ensures { IfOk result (λ text. text.items ≡ compact_text (report_data self.now)) }
+        ensures { IfOk result (λ text. text.items ≡ compact_text (accounts_data self.now)) }
     {
         Ok(report(alloc, &self.book, &self.leaves)?)
     }

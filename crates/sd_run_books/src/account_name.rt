@@ -1,6 +1,6 @@
 ghost use Rattle.std.specs.Prelude.{◌≡◌, option_map};
 ghost use Rattle.std.specs.List.{list_all};
-ghost use Rattle.sd_run_books.specs.Line.{is_name, is_name_byte, name_in};
+ghost use Rattle.sd_run_books.specs.Line.{is_name, is_name_byte, account_name_in};
 
 use arrayvec::ArrayString;
 use std::str;
@@ -14,7 +14,7 @@ pub(crate) type Name = ArrayString<LONGEST_NAME>;
 /// The name that a text is.
 #[tactic(auto, using(crate::proofs::Spellings::name_is_utf8, crate::proofs::Spellings::name_fits))]
 pub(crate) fn name_in(text: &[u8]) -> Option<Name>
-    ensures { option_map (λ name. name.bytes) result ≡ name_in text.now }
+    ensures { option_map (λ name. name.bytes) result ≡ account_name_in text.now }
 {
     if !is_name(text) {
         return None;

@@ -1,15 +1,15 @@
 //! `accounts SITE ACCOUNTS OUT`: the book that accounts make, and their report.
 
 ghost use Rattle.std.specs.Prelude.{◌≡◌, ◌≢◌, ℕ, IfOk, IfErr};
-ghost use Rattle.sd_book.specs.Text.{text_of};
-ghost use Rattle.sd_run_books.specs.Judged.{book_of};
+ghost use Rattle.sd_book.specs.Text.{text_of_book};
+ghost use Rattle.sd_run_books.specs.Judged.{accounts_book};
 ghost use Rattle.sd_command_base.specs.Spec.{value};
-ghost use Rattle.sd_command_base.specs.Outside.{outside, page_state, depot_state};
+ghost use Rattle.sd_command_base.specs.Outside.{depot_state, io_state_at};
 ghost use Rattle.sd_command_base.specs.Reads.{JudgedOutcome, FileOutcome, FilesOutcome};
 ghost use Rattle.sd_command_base.specs.Outcome.{Implements, OutcomeWithin, status_of};
 ghost use Rattle.sd_command_base.specs.Shown.{shown_word};
 ghost use Rattle.sd_run_books.specs.AccountsCommand.{accounts_in, accounts_meaning, accounts_of_file};
-ghost use Rattle.sd_run_books.specs.AccountsCommand.{making_then, refused_accounts, report_line, told_accounts};
+ghost use Rattle.sd_run_books.specs.AccountsCommand.{making_then, refused_accounts, accounts_line, accounts_or_status};
 
 use crate::account_cause::{bad_entry, taken_entry};
 use crate::{AccountFault, Accounts};
@@ -34,8 +34,8 @@ pub fn accounts<D: Depot, P: Sink>(
     requires { site.number ≢ accounts.number }
     ensures { (steps : ℕ) →
         Implements (accounts_meaning (shown_word site.entry) (shown_word accounts.entry) (shown_word out.entry))
-        (outside (depot_state D.Depot depot.old) (page_state P.Sink print.old) steps)
-        (outside (depot_state D.Depot depot.new) (page_state P.Sink print.new) steps) (status_of result) }
+        (io_state_at D.Depot P.Sink depot.old print.old steps)
+        (io_state_at D.Depot P.Sink depot.new print.new steps) (status_of result) }
 {
     let accounts = accounts_of_site(alloc, depot, site, accounts)?;
     make_book(alloc, depot, print, out, &accounts)
@@ -50,9 +50,9 @@ fn make_book<D: Depot, P: Sink>(
     accounts: &Accounts,
 ) -> Result<(), Status>
     ensures { (steps : ℕ) → OutcomeWithin
-        (value (making_then (shown_word out.entry) (text_of accounts.now.book.commands) (report_line accounts.now)))
-        (outside (depot_state D.Depot depot.old) (page_state P.Sink print.old) steps)
-        (outside (depot_state D.Depot depot.new) (page_state P.Sink print.new) steps) (status_of result) }
+        (value (making_then (shown_word out.entry) (text_of_book accounts.now.book.commands) (accounts_line accounts.now)))
+        (io_state_at D.Depot P.Sink depot.old print.old steps)
+        (io_state_at D.Depot P.Sink depot.new print.new steps) (status_of result) }
 {
     let book = accounts.book().write(alloc)?;
     let report = report_text(alloc, accounts)?;
@@ -92,7 +92,7 @@ fn read_accounts<D: Depot>(
 #[tactic(auto, using(crate::proofs::ListedAccounts::are_told, crate::proofs::ListedAccounts::are_refused))]
 fn judge_accounts(alloc: Global, word: u8, bytes: &[u8], h: Height) -> Result<Accounts, Status>
     ensures { JudgedOutcome (λ accounts. accounts)
-        (told_accounts word h bytes.now (book_of h bytes.now)) result }
+        (accounts_or_status word h bytes.now (accounts_book h bytes.now)) result }
 {
     match Accounts::read(alloc, bytes, h) {
         Ok(accounts) => Ok(accounts),
@@ -115,9 +115,9 @@ fn refused(word: u8, h: Height, bytes: &[u8], fault: AccountFault) -> Status
 }
 
 /// The report as a line.
-#[tactic(auto, unfolding(crate::specs::AccountsCommand::report_line))]
+#[tactic(auto, unfolding(crate::specs::AccountsCommand::accounts_line))]
 fn report_text(alloc: Global, accounts: &Accounts) -> Result<Vec<u8>, Status>
-    ensures value { IfOk result (λ text. text.items ≡ report_line accounts.now) }
+    ensures value { IfOk result (λ text. text.items ≡ accounts_line accounts.now) }
     ensures fault { IfErr result (λ status. status ≡ Status.NoMemory) }
 {
     let mut text = accounts.report(alloc)?;
@@ -135,8 +135,8 @@ fn make_and_print<D: Depot, P: Sink>(
     text: &[u8],
 ) -> Result<(), Status>
     ensures { (steps : ℕ) → OutcomeWithin (value (making_then (shown_word out.entry) bytes.now text.now))
-        (outside (depot_state D.Depot depot.old) (page_state P.Sink print.old) steps)
-        (outside (depot_state D.Depot depot.new) (page_state P.Sink print.new) steps) (status_of result) }
+        (io_state_at D.Depot P.Sink depot.old print.old steps)
+        (io_state_at D.Depot P.Sink depot.new print.new steps) (status_of result) }
 {
     told(out.number, write_file(alloc, depot, out.text, bytes))?;
     print_text(print, text)

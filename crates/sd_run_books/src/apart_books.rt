@@ -3,7 +3,7 @@
 ghost use Rattle.std.specs.Prelude.{◌≡◌, ◌≤◌, ◌+◌, ℕ, Bool, filter, IfOk, OnOk};
 ghost use Rattle.std.specs.List.{range_with_len};
 ghost use Rattle.sd_book.specs.Commands.{last_period, revoked};
-ghost use Rattle.sd_site_cards.specs.SiteFields.{fields_of};
+ghost use Rattle.sd_site_cards.specs.SiteFields.{site_fields_of};
 ghost use Rattle.sd_run_books.specs.Apart.{books_clash, first_differing};
 
 use crate::apart_sites::last_due;
@@ -26,8 +26,8 @@ pub(crate) fn clash_of_books(
     requires second { more.now.height ≡ other.now.height }
     requires heights { site.now.height ≡ other.now.height }
     ensures { IfOk result (λ clash. clash ≡ books_clash
-        (record { site = fields_of site.now; commands = book.now.commands })
-        (record { site = fields_of other.now; commands = more.now.commands })) }
+        (record { site = site_fields_of site.now; commands = book.now.commands })
+        (record { site = site_fields_of other.now; commands = more.now.commands })) }
 {
     let last = book.last_period();
     let last_more = more.last_period();

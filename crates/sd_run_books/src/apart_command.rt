@@ -1,8 +1,8 @@
 //! `apart SITE BOOK SITE BOOK`: whether two broadcasts may go out under one set of cards.
 
 ghost use Rattle.std.specs.Prelude.{◌≡◌, ◌≢◌, ℕ, string_bytes};
-ghost use Rattle.sd_site_cards.specs.SiteFields.{fields_of};
-ghost use Rattle.sd_command_base.specs.Outside.{outside, page_state, depot_state};
+ghost use Rattle.sd_site_cards.specs.SiteFields.{site_fields_of};
+ghost use Rattle.sd_command_base.specs.Outside.{io_state_at};
 ghost use Rattle.sd_command_base.specs.Reads.{JudgedOutcome};
 ghost use Rattle.sd_command_base.specs.Outcome.{Implements, status_of};
 ghost use Rattle.sd_command_base.specs.Shown.{shown_word};
@@ -35,8 +35,8 @@ pub fn apart<D: Depot, P: Sink>(
     ensures { (steps : ℕ) → Implements
         (apart_meaning (shown_word site.entry) (shown_word book.entry) (shown_word other.entry)
         (shown_word more.entry))
-        (outside (depot_state D.Depot depot.old) (page_state P.Sink print.old) steps)
-        (outside (depot_state D.Depot depot.new) (page_state P.Sink print.new) steps) (status_of result) }
+        (io_state_at D.Depot P.Sink depot.old print.old steps)
+        (io_state_at D.Depot P.Sink depot.new print.new steps) (status_of result) }
 {
     let (site, book) = read_both(alloc, depot, site, book)?;
     let (other, more) = read_both(alloc, depot, other, more)?;
@@ -56,8 +56,8 @@ fn judge(
     requires first { book.now.height ≡ site.now.height }
     requires second { more.now.height ≡ other.now.height }
     ensures { JudgedOutcome (λ text. string_bytes text)
-        (told_apart (record { site = fields_of site.now; commands = book.now.commands })
-        (record { site = fields_of other.now; commands = more.now.commands })) result }
+        (told_apart (record { site = site_fields_of site.now; commands = book.now.commands })
+        (record { site = site_fields_of other.now; commands = more.now.commands })) result }
 {
     if let Some(clash) = clash_of_sites(site, other) {
         return Err(Status::Clash(clash));

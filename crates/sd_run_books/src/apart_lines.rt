@@ -3,8 +3,8 @@
 ghost use Rattle.std.specs.Prelude.{◌≡◌, ◌≤◌, ◌++◌, List, OnOk, string_bytes};
 ghost use Rattle.sd_book.specs.declared.command.Command.{Command};
 ghost use Rattle.sd_book.specs.Commands.{last_period as last_of};
-ghost use Rattle.sd_site_cards.specs.SiteFields.{fields_of};
-ghost use Rattle.sd_run_books.specs.Apart.{line_of};
+ghost use Rattle.sd_site_cards.specs.SiteFields.{site_fields_of};
+ghost use Rattle.sd_run_books.specs.Apart.{apart_line};
 
 use crate::apart_sites::last_due;
 use sd_site_cards::Site;
@@ -12,7 +12,7 @@ use std::alloc::AllocError;
 use std::fmt::Write;
 
 /// Puts the line of a site after the text, whose book has this last period.
-#[tactic(auto, unfolding(crate::specs::Apart::site_line))]
+#[tactic(auto, unfolding(crate::specs::Apart::apart_site_line))]
 pub(crate) fn push_site(
     text: &mut String,
     number: u8,
@@ -22,7 +22,7 @@ pub(crate) fn push_site(
     requires { last_period ≤ 1023 }
     ensures { (commands : List Command) → last_period ≡ last_of commands →
         OnOk result (string_bytes text.new ≡ string_bytes text.old
-        ++ line_of number (record { site = fields_of site.now; commands = commands })) }
+        ++ apart_line number (record { site = site_fields_of site.now; commands = commands })) }
 {
     let last = last_due(site, last_period);
     let first_word = site.first_word;

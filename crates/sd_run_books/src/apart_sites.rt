@@ -3,7 +3,7 @@
 ghost use Rattle.std.specs.Prelude.{◌≡◌, ◌≤◌, ◌+◌, ◌-◌, List, IsNone};
 ghost use Rattle.sd_book.specs.declared.command.Command.{Command};
 ghost use Rattle.sd_book.specs.Commands.{last_period as last_of};
-ghost use Rattle.sd_site_cards.specs.SiteFields.{fields_of};
+ghost use Rattle.sd_site_cards.specs.SiteFields.{site_fields_of};
 ghost use Rattle.sd_run_books.specs.Apart.{last_due as due_of, sites_clash};
 
 use sd_command_base::Clash;
@@ -12,7 +12,7 @@ use sd_site_cards::Site;
 /// Why the sites don't go together.
 #[tactic(auto, unfolding(crate::specs::Apart::sites_clash))]
 pub(crate) fn clash_of_sites(a: &Site, b: &Site) -> Option<Clash>
-    ensures value { result ≡ sites_clash (fields_of a.now) (fields_of b.now) }
+    ensures value { result ≡ sites_clash (site_fields_of a.now) (site_fields_of b.now) }
     ensures heights { IsNone result → a.now.height ≡ b.now.height }
 {
     let least = a.first_word.max(b.first_word);
@@ -36,7 +36,7 @@ pub(crate) fn clash_of_sites(a: &Site, b: &Site) -> Option<Clash>
 pub(crate) fn last_due(site: &Site, last_period: u32) -> u64
     requires { last_period ≤ 1023 }
     ensures value { (commands : List Command) → last_period ≡ last_of commands →
-        result ≡ due_of (record { site = fields_of site.now; commands = commands }) }
+        result ≡ due_of (record { site = site_fields_of site.now; commands = commands }) }
     ensures inside { result ≤ site.now.first_period + (last_period - site.now.first_period) }
 {
     let cryptos = site.last_word.saturating_sub(site.first_word);

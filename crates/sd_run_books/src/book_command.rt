@@ -1,7 +1,7 @@
 //! `book SITE BOOK COMMANDS OUT`: a book with the commands of another file after its own.
 
 ghost use Rattle.std.specs.Prelude.{◌≡◌, ◌≢◌, ℕ};
-ghost use Rattle.sd_command_base.specs.Outside.{PageState, outside, depot_state};
+ghost use Rattle.sd_command_base.specs.Outside.{PageState, io_state, depot_state};
 ghost use Rattle.sd_command_base.specs.Reads.{JudgedOutcome};
 ghost use Rattle.sd_command_base.specs.Outcome.{Implements, status_of};
 ghost use Rattle.sd_command_base.specs.Shown.{shown_word};
@@ -26,7 +26,7 @@ pub fn book<D: Depot>(
     ensures { (page : PageState) (steps : ℕ) →
         Implements (book_meaning (shown_word site.entry) (shown_word book.entry) (shown_word commands.entry)
         (shown_word out.entry))
-        (outside (depot_state D.Depot depot.old) page steps) (outside (depot_state D.Depot depot.new) page steps)
+        (io_state (depot_state D.Depot depot.old) page steps) (io_state (depot_state D.Depot depot.new) page steps)
         (status_of result) }
 {
     let (site, book) = read_both(alloc, depot, site, book)?;

@@ -1,10 +1,10 @@
 //! `card SITE LEAF OUT`: the card of a site's leaf.
 
-ghost use Rattle.sd_site_cards.specs.SiteFields.{fields_of};
-ghost use Rattle.sd_command_base.specs.Outside.{PageState, depot_state, outside};
+ghost use Rattle.sd_site_cards.specs.SiteFields.{site_fields_of};
+ghost use Rattle.sd_command_base.specs.Outside.{PageState, depot_state, io_state};
 ghost use Rattle.sd_command_base.specs.Reads.{JudgedOutcome, TakesFor};
 ghost use Rattle.sd_command_base.specs.Outcome.{Implements, status_of};
-ghost use Rattle.sd_run_books.specs.Card.{card_meaning, told_card};
+ghost use Rattle.sd_run_books.specs.Card.{card_meaning, made_card};
 ghost use Rattle.sd_command_base.specs.Shown.{shown_word, shown_number};
 
 use sd_base::Steps;
@@ -27,8 +27,8 @@ pub fn card<D: Depot, L: Ledger>(
 ) -> Result<(), Status>
     ensures { (page : PageState) →
         Implements (card_meaning (shown_word site.entry) (shown_number leaf) (shown_word out.entry))
-        (outside (depot_state D.Depot depot.old) page steps.old)
-        (outside (depot_state D.Depot depot.new) page steps.new)
+        (io_state (depot_state D.Depot depot.old) page steps.old)
+        (io_state (depot_state D.Depot depot.new) page steps.new)
         (status_of result) }
 {
     let site = read_site(alloc, depot, site)?;
@@ -43,8 +43,8 @@ fn card_of<L: Ledger>(
     leaf: Number,
     steps: &mut Steps<L>,
 ) -> Result<Vec<u8>, Status>
-    ensures value { JudgedOutcome (λ bytes. bytes.items) (told_card (fields_of site.now) (shown_number leaf)) result }
-    ensures steps { TakesFor (told_card (fields_of site.now) (shown_number leaf)) steps.old steps.new }
+    ensures value { JudgedOutcome (λ bytes. bytes.items) (made_card (site_fields_of site.now) (shown_number leaf)) result }
+    ensures steps { TakesFor (made_card (site_fields_of site.now) (shown_number leaf)) steps.old steps.new }
 {
     let Some(of_tree) = Leaf::new(site.height, leaf.value) else {
         return Err(Status::BadWord(leaf.word));

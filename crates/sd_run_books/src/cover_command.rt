@@ -1,7 +1,7 @@
 //! `cover SITE BOOK`: the sets of each period of a book.
 
 ghost use Rattle.std.specs.Prelude.{◌≢◌, ℕ};
-ghost use Rattle.sd_command_base.specs.Outside.{outside, page_state, depot_state};
+ghost use Rattle.sd_command_base.specs.Outside.{io_state_at};
 ghost use Rattle.sd_command_base.specs.Outcome.{Implements, status_of};
 ghost use Rattle.sd_run_books.specs.Cover.{cover_meaning};
 ghost use Rattle.sd_command_base.specs.Shown.{shown_word};
@@ -22,8 +22,8 @@ pub fn cover<D: Depot, P: Sink>(
 ) -> Result<(), Status>
     requires { site.number ≢ book.number }
     ensures { (steps : ℕ) → Implements (cover_meaning (shown_word site.entry) (shown_word book.entry))
-        (outside (depot_state D.Depot depot.old) (page_state P.Sink print.old) steps)
-        (outside (depot_state D.Depot depot.new) (page_state P.Sink print.new) steps) (status_of result) }
+        (io_state_at D.Depot P.Sink depot.old print.old steps)
+        (io_state_at D.Depot P.Sink depot.new print.new steps) (status_of result) }
 {
     let (_, book) = read_both(alloc, depot, site, book)?;
     print_periods(alloc, print, &book, &Bare)

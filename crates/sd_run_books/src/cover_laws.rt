@@ -11,7 +11,7 @@ ghost use Rattle.sd_cover_tracing.specs.Partition.{IsPartition};
 ghost use Rattle.sd_lsd.specs.Layers.{is_useful};
 ghost use Rattle.sd_lsd.specs.Cover.{IsDoubleSmall, layer_cover_of};
 ghost use Rattle.sd_cover_tracing.specs.Trace.{IsTrace, trace_of};
-ghost use Rattle.sd_run_books.specs.Trace.{revoked_last, trace_text, traced};
+ghost use Rattle.sd_run_books.specs.Trace.{revoked_last, trace_text, trace_outcome};
 
 /// The sets that `layered` prints of a period are useful and of the tree's height. They are disjoint and unite to the
 /// leaves that aren't revoked in it. They are the whole set alone if none is revoked, and at most 4r - 2 if r are.
@@ -29,7 +29,7 @@ pub fn printed_useful_sets_unite()
 /// revoked in the last period of the book, each once.
 pub fn printed_leaves_are_the_coalition()
     ensures text { (d : ℕ) (coalition : List ℕ) (commands : List Command) (text : List ℕ) →
-        traced d coalition commands ≡ Ok text → text ≡ trace_text (trace_of d coalition (revoked_last d commands)) }
+        trace_outcome d coalition commands ≡ Ok text → text ≡ trace_text (trace_of d coalition (revoked_last d commands)) }
     ensures trace { (d : ℕ) (coalition : List ℕ) (commands : List Command) → 1 ≤ d → d ≤ highest →
         IsTrace d coalition (revoked_last d commands) (trace_of d coalition (revoked_last d commands)) }
     ensures leaves { (d : ℕ) (coalition : List ℕ) (commands : List Command) (u : ℕ) → 1 ≤ d → d ≤ highest →

@@ -1,7 +1,7 @@
 //! `layered SITE BOOK WIDTH`: the useful sets of each period of a book.
 
 ghost use Rattle.std.specs.Prelude.{◌≢◌, ◌≤◌, ℕ, IfOk};
-ghost use Rattle.sd_command_base.specs.Outside.{outside, page_state, depot_state};
+ghost use Rattle.sd_command_base.specs.Outside.{depot_state, io_state_at};
 ghost use Rattle.sd_command_base.specs.Reads.{SureOutcome, FileOutcome};
 ghost use Rattle.sd_command_base.specs.Outcome.{Implements, status_of};
 ghost use Rattle.sd_command_base.specs.Shown.{shown_number, shown_word};
@@ -27,8 +27,8 @@ pub fn layered<D: Depot, P: Sink>(
     requires { site.number ≢ book.number }
     ensures { (steps : ℕ) → Implements
         (layered_meaning (shown_word site.entry) (shown_word book.entry) (shown_number width))
-        (outside (depot_state D.Depot depot.old) (page_state P.Sink print.old) steps)
-        (outside (depot_state D.Depot depot.new) (page_state P.Sink print.new) steps) (status_of result) }
+        (io_state_at D.Depot P.Sink depot.old print.old steps)
+        (io_state_at D.Depot P.Sink depot.new print.new steps) (status_of result) }
 {
     let layers = layers_of(alloc, depot, site, width)?;
     let book = read_book(alloc, depot, book, layers.0)?;

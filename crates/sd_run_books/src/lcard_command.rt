@@ -2,7 +2,7 @@
 
 ghost use Rattle.std.specs.Prelude.{◌≡◌, ◌^◌, ◌<◌, ◌≤◌, IfOk, IfErr};
 ghost use Rattle.sd_lsd.specs.Fields.{layer_card_of, layer_bytes};
-ghost use Rattle.sd_command_base.specs.Outside.{PageState, depot_state, outside};
+ghost use Rattle.sd_command_base.specs.Outside.{PageState, depot_state, io_state};
 ghost use Rattle.sd_command_base.specs.Reads.{SureOutcome};
 ghost use Rattle.sd_command_base.specs.Outcome.{Implements, status_of};
 ghost use Rattle.sd_command_base.specs.Shown.{shown_word, shown_number};
@@ -30,8 +30,8 @@ pub fn lcard<D: Depot, L: Ledger>(
 ) -> Result<(), Status>
     ensures { (page : PageState) → Implements
         (lcard_meaning (shown_word site.entry) (shown_number leaf) (shown_number width) (shown_word out.entry))
-        (outside (depot_state D.Depot depot.old) page steps.old)
-        (outside (depot_state D.Depot depot.new) page steps.new)
+        (io_state (depot_state D.Depot depot.old) page steps.old)
+        (io_state (depot_state D.Depot depot.new) page steps.new)
         (status_of result) }
 {
     let site = read_site(alloc, depot, site)?;

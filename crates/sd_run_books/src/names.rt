@@ -3,9 +3,9 @@ ghost use Rattle.std.specs.Prelude.{MatchResult};
 ghost use Rattle.std.specs.Prelude.{slice_set, vec_len};
 ghost use Rattle.std.specs.BTreeMap.{IsOrdered};
 ghost use Rattle.sd_run_books.specs.Judged.{command_by};
-ghost use Rattle.sd_run_books.specs.Kept.{IsBelow, IsKept, leaf_after, leaf_named, marks_after, mark_of, name_cmp};
+ghost use Rattle.sd_run_books.specs.Kept.{IsBelow, AreAccountsKept, leaf_of_name_after, leaf_named, marks_after, mark_of, name_cmp};
 ghost use Rattle.sd_run_books.specs.Line.{Assigns};
-ghost use Rattle.sd_run_books.specs.Read.{entry_in};
+ghost use Rattle.sd_run_books.specs.Read.{line_entry};
 
 use crate::account_fault::AccountFault;
 use crate::account_line::Line;
@@ -26,7 +26,7 @@ impl Names {
     /// No name.
     #[tactic(auto, using(crate::proofs::Kept::kept_none))]
     pub(crate) fn new(alloc: Global, h: Height) -> Result<Names, AllocError>
-        ensures kept { IfOk result (λ names. IsKept h [] (leaf_named names.leaves) names.marks.items) }
+        ensures kept { IfOk result (λ names. AreAccountsKept h [] (leaf_named names.leaves) names.marks.items) }
     {
         Ok(Names {
             leaves: BTreeMap::new(alloc),
@@ -36,17 +36,17 @@ impl Names {
 
     /// The command that line k makes. A name that it assigns is bound.
     pub(crate) fn command(&mut self, line: Line, k: u32) -> Result<Command, AccountFault>
-        requires leaf { IsBelow (vec_len self.old.marks) (entry_in line) }
+        requires leaf { IsBelow (vec_len self.old.marks) (line_entry line) }
         ensures value { MatchResult result
             (λ command.
-            command_by (leaf_named self.old.leaves) (mark_of self.old.marks.items) k (Some (entry_in line))
+            command_by (leaf_named self.old.leaves) (mark_of self.old.marks.items) k (Some (line_entry line))
             ≡ Ok command)
             (λ fault. (fault ≡ AccountFault.NoMemory) ⊎
-            (command_by (leaf_named self.old.leaves) (mark_of self.old.marks.items) k (Some (entry_in line))
+            (command_by (leaf_named self.old.leaves) (mark_of self.old.marks.items) k (Some (line_entry line))
             ≡ Err fault)) }
         ensures leaves { OnOk result ((name : List ℕ) →
-            leaf_named self.new.leaves name ≡ leaf_after (entry_in line) (leaf_named self.old.leaves) name) }
-        ensures marks { OnOk result (self.new.marks.items ≡ marks_after (entry_in line) self.old.marks.items) }
+            leaf_named self.new.leaves name ≡ leaf_of_name_after (line_entry line) (leaf_named self.old.leaves) name) }
+        ensures marks { OnOk result (self.new.marks.items ≡ marks_after (line_entry line) self.old.marks.items) }
     {
         match line {
             Line::Assign(name, leaf) => self.assign(name, leaf, k),
@@ -87,7 +87,7 @@ impl Names {
             (Some (Assigns name.bytes leaf)) ≡ Err fault)) }
         ensures leaves { OnOk result ((other : List ℕ) →
             leaf_named self.new.leaves other
-            ≡ leaf_after (Assigns name.bytes leaf) (leaf_named self.old.leaves) other) }
+            ≡ leaf_of_name_after (Assigns name.bytes leaf) (leaf_named self.old.leaves) other) }
         ensures marks { OnOk result (self.new.marks.items ≡ slice_set self.old.marks.items leaf true) }
     {
         if self.marks[leaf.get() as usize] {

@@ -1,8 +1,8 @@
 //! The site that another one is made from.
 
 ghost use Rattle.std.specs.Prelude.{◌≡◌, ◌≤◌, ◌+◌, IfOk, IsSome, false};
-ghost use Rattle.sd_site_cards.specs.SiteFields.{fields_of};
-ghost use Rattle.sd_site_cards.specs.Written.{fewer_taken, newest_of};
+ghost use Rattle.sd_site_cards.specs.SiteFields.{site_fields_of};
+ghost use Rattle.sd_site_cards.specs.Written.{fewer_taken, site_of_chain};
 ghost use Rattle.sd_site_cards.specs.Chain.{most_word};
 ghost use Rattle.sd_command_base.specs.Outside.{depot_state};
 ghost use Rattle.sd_command_base.specs.Reads.{SureOutcome, FileOutcome};
@@ -41,7 +41,7 @@ pub(crate) fn newest_site<D: Depot>(
     most: u32,
     words: Number,
 ) -> Result<(Site, Option<BookLine>), Status>
-    ensures value { FileOutcome (λ newest. (fields_of newest.0, newest.1))
+    ensures value { FileOutcome (λ newest. (site_fields_of newest.0, newest.1))
         (newest_of_file (fewer_taken first) word.entry.number most (shown_number words)) word.entry.text.now
         (depot_state D.Depot depot.old) (depot_state D.Depot depot.new) result }
     ensures period { IfOk result (λ newest. newest.0.first_period ≤ most) }
@@ -60,8 +60,8 @@ fn judge_newest(
     most: u32,
     words: Number,
 ) -> Result<(Site, Option<BookLine>), Status>
-    ensures value { SureOutcome (λ newest. (fields_of newest.0, newest.1))
-        (told_newest word bytes.now most (shown_number words) (newest_of (fewer_taken first) bytes.now)) result }
+    ensures value { SureOutcome (λ newest. (site_fields_of newest.0, newest.1))
+        (told_newest word bytes.now most (shown_number words) (site_of_chain (fewer_taken first) bytes.now)) result }
     ensures period { IfOk result (λ newest. newest.0.first_period ≤ most) }
     ensures room { IfOk result (λ newest. newest.0.last_word + words.value ≤ most_word) }
     ensures book { first ≡ false → IfOk result (λ newest. IsSome newest.1) }

@@ -2,12 +2,12 @@
 
 ghost use Rattle.std.specs.Prelude.{◌≡◌, ◌≢◌, ◌<◌, ◌≤◌, ◌+◌, ◌∷◌, [], ℕ, length, IfOk, IfErr, string_bytes};
 ghost use Rattle.sd_site_cards.specs.Chain.{most_word};
-ghost use Rattle.sd_command_base.specs.Outside.{outside, page_state, depot_state};
+ghost use Rattle.sd_command_base.specs.Outside.{io_state_at};
 ghost use Rattle.sd_command_base.specs.Outcome.{Implements, status_of};
 ghost use Rattle.sd_command_base.specs.Files.{most_book_bytes};
 ghost use Rattle.sd_command_base.specs.Made.{NewOutcome};
 ghost use Rattle.sd_command_base.specs.Shown.{shown_word, shown_number};
-ghost use Rattle.sd_run_books.specs.Chain.{line_of as line_said};
+ghost use Rattle.sd_run_books.specs.Chain.{line_of_book as line_said};
 ghost use Rattle.sd_run_books.specs.Next.{next_made as made_of, next_meaning, shown_origin};
 
 use crate::newest_site::judge_name;
@@ -36,8 +36,8 @@ pub fn next<D: Depot, P: Sink>(
     requires some { 1 ≤ words.value }
     ensures { (steps : ℕ) → Implements
         (next_meaning (shown_word site.entry) (shown_word book.entry) (shown_number words) (shown_word out.entry))
-        (outside (depot_state D.Depot depot.old) (page_state P.Sink print.old) steps)
-        (outside (depot_state D.Depot depot.new) (page_state P.Sink print.new) steps) (status_of result) }
+        (io_state_at D.Depot P.Sink depot.old print.old steps)
+        (io_state_at D.Depot P.Sink depot.new print.new steps) (status_of result) }
 {
     judge_name(site, out)?;
     let origin = read_origin(alloc, depot, site, book, words)?;
@@ -60,8 +60,8 @@ fn make_next<D: Depot, P: Sink>(
     requires some { 1 ≤ words }
     requires room { origin.now.site.last_word + words ≤ most_word }
     ensures { (steps : ℕ) → NewOutcome (made_of (shown_origin origin.now) words) (shown_word out.entry)
-        (outside (depot_state D.Depot depot.old) (page_state P.Sink print.old) steps)
-        (outside (depot_state D.Depot depot.new) (page_state P.Sink print.new) steps) (status_of result) }
+        (io_state_at D.Depot P.Sink depot.old print.old steps)
+        (io_state_at D.Depot P.Sink depot.new print.new steps) (status_of result) }
 {
     let (bytes, lines) = next_made(alloc, origin, words)?;
     make_new(alloc, depot, out, &bytes)?;

@@ -1,7 +1,7 @@
 //! `opens SITE BOOK LEAVES`: which sets of each period of a book the pooled cards of some leaves open.
 
 ghost use Rattle.std.specs.Prelude.{◌≢◌, ℕ};
-ghost use Rattle.sd_command_base.specs.Outside.{outside, page_state, depot_state};
+ghost use Rattle.sd_command_base.specs.Outside.{io_state_at};
 ghost use Rattle.sd_command_base.specs.Outcome.{Implements, status_of};
 ghost use Rattle.sd_command_base.specs.Shown.{shown_word};
 ghost use Rattle.sd_run_books.specs.Opens.{opens_meaning};
@@ -24,8 +24,8 @@ pub fn opens<D: Depot, P: Sink>(
     requires { (site.number ≢ book.number) × (site.number ≢ leaves.number) × (book.number ≢ leaves.number) }
     ensures { (steps : ℕ) →
         Implements (opens_meaning (shown_word site.entry) (shown_word book.entry) (shown_word leaves.entry))
-        (outside (depot_state D.Depot depot.old) (page_state P.Sink print.old) steps)
-        (outside (depot_state D.Depot depot.new) (page_state P.Sink print.new) steps) (status_of result) }
+        (io_state_at D.Depot P.Sink depot.old print.old steps)
+        (io_state_at D.Depot P.Sink depot.new print.new steps) (status_of result) }
 {
     let (site, book) = read_both(alloc, depot, site, book)?;
     let leaves = read_leaves(alloc, depot, leaves, site.height)?;

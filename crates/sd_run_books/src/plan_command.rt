@@ -1,12 +1,12 @@
 //! `plan SITE BOOK PACKETS PIDS`: what a broadcast takes on air, before it is sent.
 
 ghost use Rattle.std.specs.Prelude.{◌≡◌, ◌≢◌, ◌≤◌, ℕ, IfOk, IfErr, string_bytes};
-ghost use Rattle.sd_site_cards.specs.SiteFields.{fields_of};
-ghost use Rattle.sd_command_base.specs.Outside.{outside, page_state, depot_state};
+ghost use Rattle.sd_site_cards.specs.SiteFields.{site_fields_of};
+ghost use Rattle.sd_command_base.specs.Outside.{depot_state, io_state_at};
 ghost use Rattle.sd_command_base.specs.Reads.{SureOutcome, FileOutcome};
 ghost use Rattle.sd_command_base.specs.Outcome.{Implements, status_of};
 ghost use Rattle.sd_command_base.specs.Shown.{shown_number, shown_word};
-ghost use Rattle.sd_run_books.specs.Air.{air_text as air_of, plan_meaning, roomy_site_of_file, told_room};
+ghost use Rattle.sd_run_books.specs.Air.{air_text as air_of, plan_command_meaning, roomy_site_of_file, told_room};
 
 use crate::plan_lines::{push_ends, push_totals};
 use crate::plan_periods::periods_text;
@@ -33,9 +33,9 @@ pub fn plan<D: Depot, P: Sink>(
     requires packets { 1 ≤ packets.value }
     requires pids { pids ≤ 256 }
     ensures { (steps : ℕ) → Implements
-        (plan_meaning (shown_word site.entry) (shown_word book.entry) (shown_number packets) pids)
-        (outside (depot_state D.Depot depot.old) (page_state P.Sink print.old) steps)
-        (outside (depot_state D.Depot depot.new) (page_state P.Sink print.new) steps) (status_of result) }
+        (plan_command_meaning (shown_word site.entry) (shown_word book.entry) (shown_number packets) pids)
+        (io_state_at D.Depot P.Sink depot.old print.old steps)
+        (io_state_at D.Depot P.Sink depot.new print.new steps) (status_of result) }
 {
     let site = read_roomy_site(alloc, depot, site, packets)?;
     let book = read_book(alloc, depot, book, site.height)?;
@@ -51,7 +51,7 @@ fn read_roomy_site<D: Depot>(
     packets: Number,
 ) -> Result<Site, Status>
     requires { 1 ≤ packets.value }
-    ensures { FileOutcome fields_of (roomy_site_of_file word.entry.number (shown_number packets)) word.entry.text.now
+    ensures { FileOutcome site_fields_of (roomy_site_of_file word.entry.number (shown_number packets)) word.entry.text.now
         (depot_state D.Depot depot.old) (depot_state D.Depot depot.new) result }
 {
     let site = read_site(alloc, depot, word)?;
@@ -61,7 +61,7 @@ fn read_roomy_site<D: Depot>(
 /// The site, if its range of control words is long enough for this number of packets.
 fn judge_room(site: Site, packets: Number) -> Result<Site, Status>
     requires { 1 ≤ packets.value }
-    ensures { SureOutcome fields_of (told_room (shown_number packets) (fields_of site)) result }
+    ensures { SureOutcome site_fields_of (told_room (shown_number packets) (site_fields_of site)) result }
 {
     let cryptos = cryptos_for(&site, packets.value);
     if last_word(&site, cryptos) > u64::from(site.last_word) {
@@ -83,7 +83,7 @@ fn air_text(
     requires packets { 1 ≤ packets }
     requires pids { pids ≤ 256 }
     ensures value { IfOk result (λ text. string_bytes text
-        ≡ air_of (record { site = fields_of site.now; commands = book.now.commands }) packets pids) }
+        ≡ air_of (record { site = site_fields_of site.now; commands = book.now.commands }) packets pids) }
     ensures fault { IfErr result (λ status. status ≡ Status.NoMemory) }
 {
     let cryptos = cryptos_for(site, packets);

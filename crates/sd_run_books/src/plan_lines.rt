@@ -1,7 +1,7 @@
 //! The lines that are printed.
 
 ghost use Rattle.std.specs.Prelude.{◌≡◌, ◌^◌, ◌<◌, ◌≤◌, ◌++◌, OnOk, string_bytes};
-ghost use Rattle.sd_run_books.specs.Air.{clear_line, end_lines, message_count_line, period_line, place_line, rate_line};
+ghost use Rattle.sd_run_books.specs.Air.{plan_clear_line, end_lines, message_count_line, plan_period_line, place_line, rate_line};
 ghost use Rattle.sd_run_books.specs.Air.{total_lines};
 
 use std::alloc::AllocError;
@@ -18,10 +18,10 @@ pub(crate) struct PeriodNumbers {
 }
 
 /// Puts the line of a period after the text.
-#[tactic(auto, unfolding(crate::specs::Air::period_line))]
+#[tactic(auto, unfolding(crate::specs::Air::plan_period_line))]
 pub(crate) fn push_period(text: &mut String, numbers: PeriodNumbers) -> Result<(), AllocError>
     ensures { OnOk result (string_bytes text.new ≡ string_bytes text.old
-        ++ period_line numbers.period numbers.revoked numbers.sets numbers.entitlements
+        ++ plan_period_line numbers.period numbers.revoked numbers.sets numbers.entitlements
         numbers.cryptos) }
 {
     let period = numbers.period;
@@ -63,10 +63,10 @@ fn push_messages(text: &mut String, messages: u64, parts: u8) -> Result<(), Allo
 }
 
 /// Appends the line of the packets that are added to the clear ones.
-#[tactic(auto, unfolding(crate::specs::Air::clear_line))]
+#[tactic(auto, unfolding(crate::specs::Air::plan_clear_line))]
 fn push_clear(text: &mut String, packets: u32, added: u64) -> Result<(), AllocError>
     requires { added < 2 ^ 60 }
-    ensures { OnOk result (string_bytes text.new ≡ string_bytes text.old ++ clear_line packets added) }
+    ensures { OnOk result (string_bytes text.new ≡ string_bytes text.old ++ plan_clear_line packets added) }
 {
     let broadcast = u64::from(packets) + added;
     write!(

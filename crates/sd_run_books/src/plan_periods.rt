@@ -4,10 +4,10 @@ ghost use Rattle.std.specs.Prelude.{◌≡◌, ◌^◌, ◌<◌, ◌≤◌, ◌+
 ghost use Rattle.std.specs.List.{concat, sum_by};
 ghost use Rattle.std.specs.List.Sorted.{IsStrictlyIncreasing};
 ghost use Rattle.sd_tree_keys.specs.declared.leaf.TheConstants.{MOST_REVOKED};
-ghost use Rattle.sd_site_cards.specs.SiteFields.{fields_of};
+ghost use Rattle.sd_site_cards.specs.SiteFields.{site_fields_of};
 ghost use Rattle.sd_cover_tracing.specs.Cover.{cover_of};
 ghost use Rattle.sd_message.specs.EmmForm.{sections_for};
-ghost use Rattle.sd_run_books.specs.Air.{line_at, period_line, periods_for, tables_in};
+ghost use Rattle.sd_run_books.specs.Air.{line_at, plan_period_line, periods_for, tables_in};
 
 use crate::plan_lines::{PeriodNumbers, push_period};
 use crate::plan_schedule::{cryptos_in, period_count};
@@ -29,11 +29,11 @@ pub(crate) fn periods_text(
     requires height { book.now.height ≡ site.now.height }
     requires some { 1 ≤ cryptos }
     ensures text { IfOk result (λ found. string_bytes found.0 ≡ concat (map
-        (line_at (record { site = fields_of site.now; commands = book.now.commands }) cryptos)
-        (periods_for (record { site = fields_of site.now; commands = book.now.commands }) cryptos))) }
+        (line_at (record { site = site_fields_of site.now; commands = book.now.commands }) cryptos)
+        (periods_for (record { site = site_fields_of site.now; commands = book.now.commands }) cryptos))) }
     ensures tables { IfOk result (λ found. found.1 ≡ sum_by
-        (tables_in (record { site = fields_of site.now; commands = book.now.commands }) cryptos)
-        (periods_for (record { site = fields_of site.now; commands = book.now.commands }) cryptos)) }
+        (tables_in (record { site = site_fields_of site.now; commands = book.now.commands }) cryptos)
+        (periods_for (record { site = site_fields_of site.now; commands = book.now.commands }) cryptos)) }
     ensures fits { IfOk result (λ found. found.1 ≤ 2 ^ 59) }
 {
     let last = book.last_period();
@@ -67,7 +67,7 @@ fn push_numbers(
     requires ascending { IsStrictlyIncreasing revoked.now }
     requires few { length revoked.now ≤ MOST_REVOKED }
     ensures text { IfOk result (λ tables. string_bytes text.new ≡ string_bytes text.old
-        ++ period_line period (length revoked.now) (length (cover_of h revoked.now))
+        ++ plan_period_line period (length revoked.now) (length (cover_of h revoked.now))
         (sections_for (length (cover_of h revoked.now))) cryptos) }
     ensures tables { IfOk result (λ tables.
         tables ≡ cryptos * (1 + sections_for (length (cover_of h revoked.now)))) }

@@ -1,11 +1,11 @@
 ghost use Rattle.std.specs.Prelude.{◌≡◌, ◌⊎◌, ℕ, List, Option, [], ◌∷◌, ◌++◌, IfOk, Ok, Err, MatchResult, length};
 ghost use Rattle.sd_book.specs.declared.command.Command.{Command as Commands};
 ghost use Rattle.sd_book.specs.Limits.{IsWithinLimits};
-ghost use Rattle.sd_book.specs.Text.{ended};
+ghost use Rattle.sd_book.specs.Text.{period_end_check};
 ghost use Rattle.sd_run_books.specs.Accounts.{IsListOf};
-ghost use Rattle.sd_run_books.specs.Judged.{allowed, book_of, judged_line};
-ghost use Rattle.sd_run_books.specs.Kept.{IsKept, kept_accounts, leaf_named};
-ghost use Rattle.sd_run_books.specs.Line.{Entry, entry_on, said_by};
+ghost use Rattle.sd_run_books.specs.Judged.{allowed, accounts_book, judged_account_line};
+ghost use Rattle.sd_run_books.specs.Kept.{AreAccountsKept, kept_accounts, leaf_named};
+ghost use Rattle.sd_run_books.specs.Line.{Entry, entry_on, said_by_accounts};
 
 use crate::account_fault::AccountFault;
 use crate::account_line::line_in;
@@ -29,10 +29,10 @@ impl Register {
     pub(crate) fn read(alloc: Global, bytes: &[u8], h: Height) -> Result<Register, AccountFault>
         ensures height { IfOk result (λ register. register.draft.height ≡ h) }
         ensures kept { IfOk result (λ register.
-            IsKept h (said_by h bytes.now) (leaf_named register.names.leaves) register.names.marks.items) }
+            AreAccountsKept h (said_by_accounts h bytes.now) (leaf_named register.names.leaves) register.names.marks.items) }
         ensures value { MatchResult result
-            (λ register. book_of h bytes.now ≡ allowed (ended h register.draft.commands register.draft.commands))
-            (λ fault. (fault ≡ AccountFault.NoMemory) ⊎ (book_of h bytes.now ≡ Err fault)) }
+            (λ register. accounts_book h bytes.now ≡ allowed (period_end_check h register.draft.commands register.draft.commands))
+            (λ fault. (fault ≡ AccountFault.NoMemory) ⊎ (accounts_book h bytes.now ≡ Err fault)) }
     {
         let mut register = Register {
             draft: Draft::new(alloc, h)?,
@@ -51,20 +51,20 @@ impl Register {
     fn take(&mut self, text: &[u8], h: Height) -> Result<(), AccountFault>
         requires height { self.old.draft.height ≡ h }
         requires kept { (before : List (Option Entry)) ×
-            IsKept h before (leaf_named self.old.names.leaves) self.old.names.marks.items ×
+            AreAccountsKept h before (leaf_named self.old.names.leaves) self.old.names.marks.items ×
             (length before ≡ length self.old.draft.commands) }
         ensures height { self.new.draft.height ≡ h }
         ensures value { (before : List (Option Entry)) →
-            IsKept h before (leaf_named self.old.names.leaves) self.old.names.marks.items →
+            AreAccountsKept h before (leaf_named self.old.names.leaves) self.old.names.marks.items →
             length before ≡ length self.old.draft.commands →
             MatchResult result
-            (λ _. IsKept h (before ++ entry_on h text.now ∷ []) (leaf_named self.new.names.leaves)
+            (λ _. AreAccountsKept h (before ++ entry_on h text.now ∷ []) (leaf_named self.new.names.leaves)
             self.new.names.marks.items
             × ((command : Commands) ×
-            (judged_line h before self.old.draft.commands (entry_on h text.now) ≡ Ok command)
+            (judged_account_line h before self.old.draft.commands (entry_on h text.now) ≡ Ok command)
             × (self.new.draft.commands ≡ self.old.draft.commands ++ command ∷ [])))
             (λ fault. (fault ≡ AccountFault.NoMemory) ⊎
-            (judged_line h before self.old.draft.commands (entry_on h text.now) ≡ Err fault)) }
+            (judged_account_line h before self.old.draft.commands (entry_on h text.now) ≡ Err fault)) }
     {
         let k = self.draft.commands().len() as u32 + 1;
         let Some(line) = line_in(text, h) else {
@@ -80,12 +80,12 @@ impl Register {
         ensures height { IfOk result (λ parts. parts.0.height ≡ self.draft.height) }
         ensures fits { IfOk result (λ parts. IsWithinLimits self.draft.height parts.0.commands) }
         ensures leaves { (d : ℕ) (said : List (Option Entry)) →
-            IsKept d said (leaf_named self.names.leaves) self.names.marks.items →
+            AreAccountsKept d said (leaf_named self.names.leaves) self.names.marks.items →
             IfOk result (λ parts. IsListOf said (kept_accounts parts.1.entries)) }
         ensures value { MatchResult result
-            (λ parts. allowed (ended self.draft.height self.draft.commands self.draft.commands)
+            (λ parts. allowed (period_end_check self.draft.height self.draft.commands self.draft.commands)
             ≡ Ok parts.0.commands)
-            (λ fault. allowed (ended self.draft.height self.draft.commands self.draft.commands) ≡ Err fault) }
+            (λ fault. allowed (period_end_check self.draft.height self.draft.commands self.draft.commands) ≡ Err fault) }
     {
         prove!(self.draft.commands().len() <= MOST_COMMANDS);
         let leaves = self.names.into_leaves();

@@ -7,7 +7,7 @@ ghost use Rattle.serde_json.specs.View.{items_of};
 ghost use Rattle.serde_json.specs.Written.{compact_text, outline};
 ghost use Rattle.sd_book.specs.Commands.{last_period, revoked as revoked_in};
 ghost use Rattle.sd_run_books.specs.Kept.{kept_accounts};
-ghost use Rattle.sd_run_books.specs.Report.{account_data, is_active, report_data};
+ghost use Rattle.sd_run_books.specs.Report.{account_data, is_active, accounts_data};
 
 use crate::account_name::Name;
 use json::Writer;
@@ -24,7 +24,7 @@ pub(crate) fn report(
     leaves: &BTreeMap<Name, Leaf>,
 ) -> Result<Vec<u8>, AllocError>
     ensures { IfOk result (λ text. text.items ≡ compact_text
-        (report_data (record { book = book.now; accounts = kept_accounts leaves.now.entries }))) }
+        (accounts_data (record { book = book.now; accounts = kept_accounts leaves.now.entries }))) }
 {
     let revoked = book
         .revoked(alloc, book.last_period())
@@ -45,7 +45,7 @@ fn write_report(
         revoked_in book.now.height book.now.commands (last_period book.now.commands) }
     requires ascending { IsStrictlyIncreasing revoked.now }
     ensures tokens { OnOk result (out.new.tokens ≡ out.old.tokens ++ json_tokens (outline
-        (report_data (record { book = book.now; accounts = kept_accounts leaves.now.entries })))) }
+        (accounts_data (record { book = book.now; accounts = kept_accounts leaves.now.entries })))) }
     ensures before { out.new.before ≡ out.old.before }
 {
     out.begin_object()?;

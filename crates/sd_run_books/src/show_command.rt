@@ -1,7 +1,7 @@
 //! `show CARD`: what a card's file is, without its keys.
 
 ghost use Rattle.std.specs.Prelude.{ℕ, string_bytes};
-ghost use Rattle.sd_command_base.specs.Outside.{outside, page_state, depot_state};
+ghost use Rattle.sd_command_base.specs.Outside.{depot_state, io_state_at};
 ghost use Rattle.sd_command_base.specs.Reads.{JudgedOutcome, FileOutcome};
 ghost use Rattle.sd_command_base.specs.Outcome.{Implements, status_of};
 ghost use Rattle.sd_command_base.specs.Shown.{shown_word};
@@ -22,8 +22,8 @@ pub fn show<D: Depot, P: Sink>(
     card: Word<'_>,
 ) -> Result<(), Status>
     ensures { (steps : ℕ) → Implements (show_meaning (shown_word card.entry))
-        (outside (depot_state D.Depot depot.old) (page_state P.Sink print.old) steps)
-        (outside (depot_state D.Depot depot.new) (page_state P.Sink print.new) steps) (status_of result) }
+        (io_state_at D.Depot P.Sink depot.old print.old steps)
+        (io_state_at D.Depot P.Sink depot.new print.new steps) (status_of result) }
 {
     let line = read_line(alloc, depot, card)?;
     print_text(print, line.as_bytes())

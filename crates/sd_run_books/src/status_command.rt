@@ -1,8 +1,8 @@
 //! `status SITE BOOK LEAF`: whether a receiver is entitled, and when that changes.
 
 ghost use Rattle.std.specs.Prelude.{◌≡◌, ◌≢◌, ℕ, IfOk};
-ghost use Rattle.sd_site_cards.specs.SiteFields.{fields_of};
-ghost use Rattle.sd_command_base.specs.Outside.{outside, page_state, depot_state};
+ghost use Rattle.sd_site_cards.specs.SiteFields.{site_fields_of};
+ghost use Rattle.sd_command_base.specs.Outside.{depot_state, io_state_at};
 ghost use Rattle.sd_command_base.specs.Reads.{SureOutcome, FileOutcome};
 ghost use Rattle.sd_command_base.specs.Outcome.{Implements, status_of};
 ghost use Rattle.sd_command_base.specs.Shown.{shown_number, shown_word};
@@ -28,8 +28,8 @@ pub fn status<D: Depot, P: Sink>(
     requires { site.number ≢ book.number }
     ensures { (steps : ℕ) → Implements
         (status_meaning (shown_word site.entry) (shown_word book.entry) (shown_number leaf))
-        (outside (depot_state D.Depot depot.old) (page_state P.Sink print.old) steps)
-        (outside (depot_state D.Depot depot.new) (page_state P.Sink print.new) steps) (status_of result) }
+        (io_state_at D.Depot P.Sink depot.old print.old steps)
+        (io_state_at D.Depot P.Sink depot.new print.new steps) (status_of result) }
 {
     let (site, leaf) = read_tree(alloc, depot, site, leaf)?;
     let book = read_book(alloc, depot, book, site.height)?;
@@ -44,7 +44,7 @@ fn read_tree<D: Depot>(
     word: Word<'_>,
     leaf: Number,
 ) -> Result<(Site, Leaf), Status>
-    ensures value { FileOutcome (λ found. fields_of found.0) (tree_of_file word.entry.number (shown_number leaf))
+    ensures value { FileOutcome (λ found. site_fields_of found.0) (tree_of_file word.entry.number (shown_number leaf))
         word.entry.text.now (depot_state D.Depot depot.old) (depot_state D.Depot depot.new) result }
     ensures leaf { IfOk result (λ found. found.1 ≡ leaf.value) }
 {
@@ -54,7 +54,7 @@ fn read_tree<D: Depot>(
 
 /// The site and the leaf of this number, which its tree must have.
 fn judge_leaf(site: Site, leaf: Number) -> Result<(Site, Leaf), Status>
-    ensures value { SureOutcome (λ found. fields_of found.0) (told_tree (shown_number leaf) (fields_of site)) result }
+    ensures value { SureOutcome (λ found. site_fields_of found.0) (told_tree (shown_number leaf) (site_fields_of site)) result }
     ensures leaf { IfOk result (λ found. found.1 ≡ leaf.value) }
 {
     match Leaf::new(site.height, leaf.value) {

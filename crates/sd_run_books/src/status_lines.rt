@@ -1,9 +1,9 @@
 //! The lines of `status`.
 
 ghost use Rattle.std.specs.Prelude.{◌≡◌, ◌≤◌, ◌+◌, ◌++◌, [], if◌then◌else◌, IfOk, OnOk, string_bytes};
-ghost use Rattle.sd_site_cards.specs.SiteFields.{fields_of};
-ghost use Rattle.sd_run_books.specs.Status.{entitled_line, master_line, status_text as status_of};
-ghost use Rattle.sd_run_books.specs.Same.{is_same};
+ghost use Rattle.sd_site_cards.specs.SiteFields.{site_fields_of};
+ghost use Rattle.sd_run_books.specs.Status.{entitled_line, fingerprint_line, status_text as status_of};
+ghost use Rattle.sd_run_books.specs.Same.{is_same_state};
 
 use crate::report::is_active;
 use sd_base::NoMemory;
@@ -23,7 +23,7 @@ pub(crate) fn status_text(
     leaf: Leaf,
 ) -> Result<String, NoMemory>
     requires { book.now.height ≡ site.now.height }
-    ensures { IfOk result (λ text. string_bytes text ≡ status_of (fields_of site.now) book.now.commands leaf) }
+    ensures { IfOk result (λ text. string_bytes text ≡ status_of (site_fields_of site.now) book.now.commands leaf) }
 {
     let last = book.last_period();
     let count = last.saturating_sub(site.first_period) + 1;
@@ -42,9 +42,9 @@ pub(crate) fn status_text(
 }
 
 /// The line of the fingerprint of a master.
-#[tactic(auto, unfolding(crate::specs::Status::master_line))]
+#[tactic(auto, unfolding(crate::specs::Status::fingerprint_line))]
 fn master_text(alloc: Global, master: &[u8; 32]) -> Result<String, AllocError>
-    ensures { IfOk result (λ text. string_bytes text ≡ master_line master.now) }
+    ensures { IfOk result (λ text. string_bytes text ≡ fingerprint_line master.now) }
 {
     let fingerprint = hex::encode(alloc, &check_value(&whole_key(master)))?;
     format!(in alloc; "master {fingerprint}\n")
@@ -62,7 +62,7 @@ fn push_change(
 ) -> Result<(), AllocError>
     requires { turn ≤ 1023 }
     ensures { OnOk result (string_bytes text.new ≡ string_bytes text.old
-        ++ (if is_same before entitled then [] else entitled_line leaf entitled (site.now.first_period + turn))) }
+        ++ (if is_same_state before entitled then [] else entitled_line leaf entitled (site.now.first_period + turn))) }
 {
     if before == Some(entitled) {
         return Ok(());

@@ -3,8 +3,8 @@
 ghost use Rattle.std.specs.Prelude.{◌≡◌, ◌≤◌, ◌+◌, ◌*◌, ◌++◌, true, All, List, IfOk, OnOk, string_bytes};
 ghost use Rattle.sd_book.specs.declared.command.Command.{Command as Commands};
 ghost use Rattle.sd_book.specs.Commands.{is_within, revoked_after};
-ghost use Rattle.sd_site_cards.specs.SiteFields.{fields_of};
-ghost use Rattle.sd_run_books.specs.Told.{period_text, told_next as next_text, told_of};
+ghost use Rattle.sd_site_cards.specs.SiteFields.{site_fields_of};
+ghost use Rattle.sd_run_books.specs.Told.{chain_period_text, told_next as next_text, told_of_period};
 
 use crate::told_changes::push_changes;
 use sd_base::NoMemory;
@@ -24,7 +24,7 @@ pub(crate) fn told_next(
 ) -> Result<String, NoMemory>
     requires height { book.now.height ≡ site.now.height }
     requires own { All (λ command. is_within site.now.height command ≡ true) own.now }
-    ensures { IfOk result (λ text. string_bytes text ≡ next_text (fields_of site.now) own.now book.now.commands) }
+    ensures { IfOk result (λ text. string_bytes text ≡ next_text (site_fields_of site.now) own.now book.now.commands) }
 {
     let last = book.last_period();
     let count = last.saturating_sub(site.first_period) + 1;
@@ -54,18 +54,18 @@ fn push_period(
     ensures { (was is : List Commands) → before.now ≡ revoked_after site.now.height was →
         now.now ≡ revoked_after site.now.height is →
         OnOk result (string_bytes text.new ≡ string_bytes text.old
-        ++ told_of (fields_of site.now) (site.now.first_period + turn) was is) }
+        ++ told_of_period (site_fields_of site.now) (site.now.first_period + turn) was is) }
 {
     push_head(text, site, turn, now.len())?;
     push_changes(text, before, now)
 }
 
 /// Puts the line of a period after the text.
-#[tactic(auto, unfolding(crate::specs::Told::period_text))]
+#[tactic(auto, unfolding(crate::specs::Told::chain_period_text))]
 fn push_head(text: &mut String, site: &Site, turn: u32, revoked: usize) -> Result<(), AllocError>
     requires { turn ≤ 1023 }
     ensures { OnOk result (string_bytes text.new ≡ string_bytes text.old
-        ++ period_text (site.now.first_period + turn) (turn * site.now.span * site.now.cryptos * site.now.every)
+        ++ chain_period_text (site.now.first_period + turn) (turn * site.now.span * site.now.cryptos * site.now.every)
         revoked) }
 {
     let period = u64::from(site.first_period) + u64::from(turn);

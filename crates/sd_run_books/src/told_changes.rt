@@ -5,9 +5,9 @@ ghost use Rattle.std.specs.Prelude.{IfSome, IsNone, if◌then◌else◌};
 ghost use Rattle.std.specs.Prelude.{string_bytes};
 ghost use Rattle.std.specs.List.{range_with_len};
 ghost use Rattle.sd_book.specs.declared.command.Command.TheVariants.{Subscribe, Revoke};
-ghost use Rattle.sd_book.specs.Text.{command_line};
+ghost use Rattle.sd_book.specs.Text.{book_command_line};
 ghost use Rattle.sd_run_books.specs.Apart.{differ};
-ghost use Rattle.sd_run_books.specs.Told.{least_of};
+ghost use Rattle.sd_run_books.specs.Told.{least_leaf};
 
 use sd_book::{Command, write_line};
 use sd_tree_keys::Leaf;
@@ -23,7 +23,7 @@ pub(crate) fn push_changes(
     ensures { (one other : ℕ → Bool) (n : ℕ) → before.now ≡ filter one (range_with_len 0 n) →
         now.now ≡ filter other (range_with_len 0 n) →
         OnOk result (string_bytes text.new ≡ string_bytes text.old
-        ++ flat_map (λ u. command_line (if other u then Revoke u else Subscribe u) ++ 10 ∷ [])
+        ++ flat_map (λ u. book_command_line (if other u then Revoke u else Subscribe u) ++ 10 ∷ [])
         (filter (λ u. differ (one u) (other u)) (range_with_len 0 n))) }
 {
     let mut old = before;
@@ -50,7 +50,7 @@ pub(crate) fn push_changes(
 
 /// The least leaf of two ascending lists.
 fn least(old: &[Leaf], new: &[Leaf]) -> Option<Leaf>
-    ensures { result ≡ least_of old.now new.now }
+    ensures { result ≡ least_leaf old.now new.now }
 {
     match (old.first(), new.first()) {
         (Some(u), Some(v)) => Some(*u.min(v)),

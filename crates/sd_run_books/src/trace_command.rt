@@ -1,11 +1,11 @@
 //! `trace SITE BOOK LEAVES`: the leaves that a box with some cards still opens for in the last period of a book.
 
 ghost use Rattle.std.specs.Prelude.{◌≡◌, ◌≢◌, ◌^◌, ◌<◌, ℕ, All, string_bytes};
-ghost use Rattle.sd_command_base.specs.Outside.{outside, page_state, depot_state};
+ghost use Rattle.sd_command_base.specs.Outside.{io_state_at};
 ghost use Rattle.sd_command_base.specs.Outcome.{Implements, status_of};
 ghost use Rattle.sd_command_base.specs.Reads.{JudgedOutcome};
 ghost use Rattle.sd_command_base.specs.Shown.{shown_word};
-ghost use Rattle.sd_run_books.specs.Trace.{trace_meaning, traced, unended};
+ghost use Rattle.sd_run_books.specs.Trace.{trace_meaning, trace_outcome, unended};
 
 use crate::trace_text::trace_text;
 use sd_book::Book;
@@ -28,8 +28,8 @@ pub fn trace<D: Depot, P: Sink>(
     requires { (site.number ≢ book.number) × (site.number ≢ leaves.number) × (book.number ≢ leaves.number) }
     ensures { (steps : ℕ) →
         Implements (trace_meaning (shown_word site.entry) (shown_word book.entry) (shown_word leaves.entry))
-        (outside (depot_state D.Depot depot.old) (page_state P.Sink print.old) steps)
-        (outside (depot_state D.Depot depot.new) (page_state P.Sink print.new) steps) (status_of result) }
+        (io_state_at D.Depot P.Sink depot.old print.old steps)
+        (io_state_at D.Depot P.Sink depot.new print.new steps) (status_of result) }
 {
     let (site, book) = read_both(alloc, depot, site, book)?;
     let leaves = read_leaves(alloc, depot, leaves, site.height)?;
@@ -40,7 +40,7 @@ pub fn trace<D: Depot, P: Sink>(
 /// The text of what a box with the cards of these leaves makes a trace find in the last period of the book.
 fn found_text(alloc: Global, book: &Book, leaves: Vec<Leaf>) -> Result<String, Status>
     requires { All (λ u. u < 2 ^ book.now.height) leaves.items }
-    ensures { JudgedOutcome string_bytes (traced book.now.height leaves.items book.now.commands) result }
+    ensures { JudgedOutcome string_bytes (trace_outcome book.now.height leaves.items book.now.commands) result }
 {
     let h = book.height();
     let revoked = book.revoked(alloc, book.last_period())?;

@@ -1,5 +1,5 @@
 ghost use Rattle.std.specs.Prelude.{◌≡◌, ◌++◌, IfOk, OnOk, string_bytes};
-ghost use Rattle.sd_run_books.specs.Trace.{found_line, silent_line, trace_text as text_of};
+ghost use Rattle.sd_run_books.specs.Trace.{traced_line, silent_line, trace_text as text_of};
 
 use sd_cover_tracing::Found;
 use std::alloc::{AllocError, Global};
@@ -19,9 +19,9 @@ pub(crate) fn trace_text(alloc: Global, found: &[Found]) -> Result<String, Alloc
 }
 
 /// The line of a leaf that was found, after the text.
-#[tactic(auto, unfolding(crate::specs::Trace::found_line))]
+#[tactic(auto, unfolding(crate::specs::Trace::traced_line))]
 fn push_found(text: &mut String, found: Found) -> Result<(), AllocError>
-    ensures { OnOk result (string_bytes text.new ≡ string_bytes text.old ++ found_line found) }
+    ensures { OnOk result (string_bytes text.new ≡ string_bytes text.old ++ traced_line found) }
 {
     let leaf = found.leaf.get();
     let trials = found.trials;

@@ -1,9 +1,9 @@
 //! `twin SITE WORDS OUT`: the site of a broadcast that is on air at the same time as that of a site.
 
 ghost use Rattle.std.specs.Prelude.{◌≡◌, ◌≢◌, ◌≤◌, ◌+◌, ℕ, IsSome};
-ghost use Rattle.sd_site_cards.specs.SiteFields.{fields_of};
+ghost use Rattle.sd_site_cards.specs.SiteFields.{site_fields_of};
 ghost use Rattle.sd_site_cards.specs.Chain.{most_word};
-ghost use Rattle.sd_command_base.specs.Outside.{PageState, outside, depot_state};
+ghost use Rattle.sd_command_base.specs.Outside.{PageState, io_state, depot_state};
 ghost use Rattle.sd_command_base.specs.Outcome.{Implements, status_of};
 ghost use Rattle.sd_command_base.specs.Made.{NewOutcome};
 ghost use Rattle.sd_command_base.specs.Shown.{shown_word, shown_number};
@@ -29,7 +29,7 @@ pub fn twin<D: Depot>(
     requires some { 1 ≤ words.value }
     ensures { (page : PageState) (steps : ℕ) →
         Implements (twin_meaning (shown_word site.entry) (shown_number words) (shown_word out.entry))
-        (outside (depot_state D.Depot depot.old) page steps) (outside (depot_state D.Depot depot.new) page steps)
+        (io_state (depot_state D.Depot depot.old) page steps) (io_state (depot_state D.Depot depot.new) page steps)
         (status_of result) }
 {
     judge_name(site, out)?;
@@ -50,8 +50,8 @@ fn make_twin<D: Depot>(
     requires some { 1 ≤ words }
     requires room { site.now.last_word + words ≤ most_word }
     ensures { (page : PageState) (steps : ℕ) →
-        NewOutcome (twin_made (fields_of site.now) line words) (shown_word out.entry)
-        (outside (depot_state D.Depot depot.old) page steps) (outside (depot_state D.Depot depot.new) page steps)
+        NewOutcome (twin_made (site_fields_of site.now) line words) (shown_word out.entry)
+        (io_state (depot_state D.Depot depot.old) page steps) (io_state (depot_state D.Depot depot.new) page steps)
         (status_of result) }
 {
     let Some(line) = line else {

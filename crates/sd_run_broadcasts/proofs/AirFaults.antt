@@ -9,10 +9,10 @@ use Rattle.sd_ports.specs.Bytes.{IsPrefix, AppendsPrefix}
 use Rattle.sd_engine.specs.Stage.{IsCutShort, SinkState}
 use Rattle.sd_engine.specs.declared.seeking.SeekFault.{SeekFault}
 use Rattle.sd_engine.specs.declared.seeking.SeekFault.TheVariants as seek
-use Rattle.sd_spec.specs.Aired.{Verdict, following, aired}
+use Rattle.sd_spec.specs.Aired.{Verdict, by_verdict, aired}
 use Rattle.sd_spec.specs.Plan.{Plan}
 use Rattle.sd_spec.specs.Sent.{bytes_added}
-use Rattle.sd_head.specs.Live.{live_breaks, live_stops, IsLive}
+use Rattle.sd_head.specs.Live.{live_breaks, live_stops, IsLiveAfter}
 use Rattle.sd_head.specs.declared.fault.LiveFault.{LiveFault}
 use Rattle.sd_head.specs.declared.fault.LiveFault.TheVariants as live
 use Rattle.sd_head.specs.declared.live.Live.{Live}
@@ -35,7 +35,7 @@ cut_off old new bytes h is = (h.prefix, subst (IsPrefix h.prefix) is h.short, h.
 pub closing_stopped : {T : Type 0} (fault : LiveFault) (status : Status) (old new : SinkState) (from to : ℕ)
     (s : Live) → status ≡ fault_status fault → (IsErrOf {T = T} (Err fault) live.NoMemory → new ≡ old) →
     (IsErrOf {T = T} (Err fault) live.Write → IsCutShort old new (live_breaks s from to)) →
-    (plan : Plan) (past : Packets) → IsLive plan past s →
+    (plan : Plan) (past : Packets) → IsLiveAfter plan past s →
     IsStop status × AppendsPrefix old.held new.held (closing_bytes plan past)
 closing_stopped live.Write status old new from to s is memory prefix plan past keeps =
     let cut = prefix refl in (inr is, cut_off old new (closing_bytes plan past) cut (cut.says.2 plan past keeps))
@@ -46,7 +46,7 @@ closing_stopped live.NoMemory status old new from to s is memory prefix plan pas
 pub packet_stopped : {T : Type 0} (fault : LiveFault) (status : Status) (old new : SinkState) (from to : ℕ) (s : Live)
     (packet : Packet) → status ≡ fault_status fault → (IsErrOf {T = T} (Err fault) live.NoMemory → new ≡ old) →
     (IsErrOf {T = T} (Err fault) live.Write → IsCutShort old new (live_stops s packet from to)) →
-    (plan : Plan) (past : Packets) → IsLive plan past s →
+    (plan : Plan) (past : Packets) → IsLiveAfter plan past s →
     IsStop status × AppendsPrefix old.held new.held (bytes_for plan past packet)
 packet_stopped live.Write status old new from to s packet is memory prefix plan past keeps =
     let cut = prefix refl in
@@ -54,7 +54,7 @@ packet_stopped live.Write status old new from to s packet is memory prefix plan 
       inr is,
       cut_off old new (bytes_for plan past packet) cut
           (says.1
-          ∙ sym (ap (λ (v : Verdict). following v (bytes_added plan (aired plan.site past) packet) [] []) says.0)),
+          ∙ sym (ap (λ (v : Verdict). by_verdict v (bytes_added plan (aired plan.site past) packet) [] []) says.0)),
     )
 packet_stopped live.NoMemory status old new from to s packet is memory prefix plan past keeps =
     (inl is, nothing_written old new (bytes_for plan past packet) (memory refl))

@@ -8,10 +8,10 @@ use Rattle.sd_ports.specs.Files.{Files}
 use Rattle.sd_spec.specs.Plan.{Plan}
 use Rattle.sd_command_base.specs.declared.status.Status.{Status}
 use Rattle.sd_command_base.specs.declared.status.Status.TheVariants.{SiteUsed}
-use Rattle.sd_command_base.specs.Outside.{DepotState, PageState, Outside, outside}
+use Rattle.sd_command_base.specs.Outside.{DepotState, PageState, IoState, io_state}
 use Rattle.sd_command_base.specs.Work.{Work, all_calls}
-use Rattle.sd_command_base.specs.Spec.{Spec, FileArgument, Readings, IsGiven, IsGot, all_of, value, ◌>>=◌}
-use Rattle.sd_command_base.specs.Made.{out_of, unused, used_name}
+use Rattle.sd_command_base.specs.Spec.{Spec, FileArgument, Readings, AreReadingsOfFiles, IsReadingOfFile, whole_file_bytes, value, ◌>>=◌}
+use Rattle.sd_command_base.specs.Made.{out_file, unused, used_name}
 use Rattle.sd_command_base.specs.Outcome.{IsRefusal, Outcome, refused, exhausted, failed, nowhere}
 use Rattle.sd_command_base.specs.Outcome.{unmarked as unmarkable}
 use Rattle.sd_command_base.specs.Outcome.{untouched, marking, StopsFirst, OutcomeWithin, Implements}
@@ -23,14 +23,14 @@ use Rattle.sd_command_base.proofs.Moves.{then_obeys}
 use Rattle.sd_command_base.proofs.News.{free_got, there_got}
 use Rattle.sd_run_broadcasts.specs.Air.{air_meaning, air_plan_by, air_plan_meaning, aired_by, aired_meaning, airing}
 use Rattle.sd_run_broadcasts.specs.Air.{live_sent, mark_word}
-use Rattle.sd_run_broadcasts.specs.Marked.{mark_at, with_mark, Unmarked, used, no_mark, stopped_first, no_folder}
+use Rattle.sd_run_broadcasts.specs.Marked.{mark_at, with_mark_made, Unmarked, used, no_mark, stopped_first, no_folder}
 use Rattle.sd_run_broadcasts.specs.Marked.{stopped_then, IsOpenedMarked, NotOpenedMarked, no_input, stopped_open}
 use Rattle.sd_run_broadcasts.specs.Marked.{unmarked}
 
 -- what is meant by what the files of the live stream and of the mark gave
-pub aired_follows : (plan : Plan) (site clear out : FileArgument) (a b : Outside) (status : Status)
-    (got more : Option (List ℕ)) → site.number ≢ clear.number → IsGot a.place.files clear.text got →
-    IsGot a.place.files (used_name site.text) more →
+pub aired_follows : (plan : Plan) (site clear out : FileArgument) (a b : IoState) (status : Status)
+    (got more : Option (List ℕ)) → site.number ≢ clear.number → IsReadingOfFile a.place.files clear.text got →
+    IsReadingOfFile a.place.files (used_name site.text) more →
     OutcomeWithin (aired_by plan site clear.number out got more) a b status →
     Implements (aired_meaning plan site clear out) a b status
 aired_follows plan site clear out a b status got more apart is is_more obeys =
@@ -44,8 +44,8 @@ aired_follows plan site clear out a b status got more apart is is_more obeys =
     }
 
 -- nothing says whether a file is there whose depot doesn't tell its files
-untold_got : (files : Option Files) (name : List ℕ) → files ≡ None → IsGot files name None
-untold_got files name is = subst (λ (f : Option Files). IsGot f name None) (sym is) tt
+untold_got : (files : Option Files) (name : List ℕ) → files ≡ None → IsReadingOfFile files name None
+untold_got files name is = subst (λ (f : Option Files). IsReadingOfFile f name None) (sym is) tt
 
 -- as many calls as are made if the live stream was opened
 calls_open : (plan : Plan) (site out : FileArgument) (clear : ℕ) (bytes : List ℕ) (more : Option (List ℕ)) (n : ℕ) →
@@ -63,19 +63,19 @@ module _ (plan : Plan) (site clear out : FileArgument) (a b : DepotState) (page 
     (apart : site.number ≢ clear.number) where
   abbrev Comes : Option (List ℕ) → Option (List ℕ) → Status → Type 0
   Comes got more status =
-      Outcome (aired_by plan site clear.number out got more).result (outside a page steps) (outside b page steps) status
+      Outcome (aired_by plan site clear.number out got more).result (io_state a page steps) (io_state b page steps) status
 
   abbrev Obeys : Status → Type 0
   Obeys status =
-      Implements (aired_meaning plan site clear out) (outside a page steps) (outside b page steps) status
+      Implements (aired_meaning plan site clear out) (io_state a page steps) (io_state b page steps) status
 
   -- the mark or OUT wasn't made
-  module _ (bytes : List ℕ) (is_got : IsGot a.files clear.text (Some bytes)) where
+  module _ (bytes : List ℕ) (is_got : IsReadingOfFile a.files clear.text (Some bytes)) where
     -- nothing was made
-    unmade_obeys : (more : Option (List ℕ)) (status : Status) → IsGot a.files (used_name site.text) more →
+    unmade_obeys : (more : Option (List ℕ)) (status : Status) → IsReadingOfFile a.files (used_name site.text) more →
         IsAsked 4 a b → Comes (Some bytes) more status → Obeys status
     unmade_obeys more status is_more asked comes =
-        aired_follows plan site clear out (outside a page steps) (outside b page steps) status (Some bytes) more apart
+        aired_follows plan site clear out (io_state a page steps) (io_state b page steps) status (Some bytes) more apart
         is_got is_more (record {
           comes = comes;
           ports = asked.ports;
@@ -86,10 +86,10 @@ module _ (plan : Plan) (site clear out : FileArgument) (a b : DepotState) (page 
         })
 
     -- the mark was made
-    marked_obeys : (status : Status) → IsGot a.files (used_name site.text) None →
-        IsAsked (4 + 2) (with_mark (mark_word site) a) b → Comes (Some bytes) None status → Obeys status
+    marked_obeys : (status : Status) → IsReadingOfFile a.files (used_name site.text) None →
+        IsAsked (4 + 2) (with_mark_made (mark_word site) a) b → Comes (Some bytes) None status → Obeys status
     marked_obeys status is_more asked comes =
-        aired_follows plan site clear out (outside a page steps) (outside b page steps) status (Some bytes) None apart
+        aired_follows plan site clear out (io_state a page steps) (io_state b page steps) status (Some bytes) None apart
         is_got is_more (record {
           comes = comes;
           ports = asked.ports;
@@ -118,24 +118,24 @@ module _ (plan : Plan) (site clear out : FileArgument) (a b : DepotState) (page 
         (stops_any plan site out clear.number bytes got.0 a b) refl misses)
     not_marked status (no_folder is none asked calm rose) =
         marked_obeys status (untold_got a.files (used_name site.text) none) asked
-        (nowhere (airing plan site out bytes) refl (out_of out (live_sent plan bytes)) refl is none
-        (unmade (4 + 2) (with_mark (mark_word site) a) b asked) refl (record { depot = calm; print = refl }) rose)
+        (nowhere (airing plan site out bytes) refl (out_file out (live_sent plan bytes)) refl is none
+        (unmade (4 + 2) (with_mark_made (mark_word site) a) b asked) refl (record { depot = calm; print = refl }) rose)
     not_marked status (stopped_then new (inl memory) asked misses) =
         marked_obeys status (free_got a.files (used_name site.text) new) asked
         (exhausted memory.0 (marking (airing plan site out bytes) refl
-        (unmade (4 + 2) (with_mark (mark_word site) a) b asked) refl) memory.2 refl misses)
+        (unmade (4 + 2) (with_mark_made (mark_word site) a) b asked) refl) memory.2 refl misses)
     not_marked status (stopped_then new (inr device) asked misses) =
         marked_obeys status (free_got a.files (used_name site.text) new) asked
         (failed device.0 (marking (airing plan site out bytes) refl
-        (unmade (4 + 2) (with_mark (mark_word site) a) b asked) refl) device.1 (λ breaks. cc) refl misses)
+        (unmade (4 + 2) (with_mark_made (mark_word site) a) b asked) refl) device.1 (λ breaks. cc) refl misses)
 
   -- the live stream wasn't opened, or the mark or OUT wasn't made
   pub not_opened : (status : Status) → NotOpenedMarked clear (mark_word site) out a b status → Obeys status
   not_opened status (no_input is none asked calm rose) =
       let more = some_got a.files (used_name site.text) in
-      aired_follows plan site clear out (outside a page steps) (outside b page steps) status None more.0 apart
+      aired_follows plan site clear out (io_state a page steps) (io_state b page steps) status None more.0 apart
       (none_got a.files clear.text none) more.1
-      (first_obeys (all_of clear.number None) (λ bytes. unused more.0 >>= λ new. value (airing plan site out bytes)) a b
+      (first_obeys (whole_file_bytes clear.number None) (λ bytes. unused more.0 >>= λ new. value (airing plan site out bytes)) a b
       page steps status (inl (record {
         value = ap Err (sym is);
         refusal = subst IsRefusal (sym is) tt;
@@ -146,9 +146,9 @@ module _ (plan : Plan) (site clear out : FileArgument) (a b : DepotState) (page 
   not_opened status (stopped_open stopped) =
       let got = some_got a.files clear.text in
       let more = some_got a.files (used_name site.text) in
-      aired_follows plan site clear out (outside a page steps) (outside b page steps) status got.0 more.0 apart got.1
+      aired_follows plan site clear out (io_state a page steps) (io_state b page steps) status got.0 more.0 apart got.1
       more.1
-      (first_obeys (all_of clear.number got.0) (λ bytes. unused more.0 >>= λ new. value (airing plan site out bytes)) a
+      (first_obeys (whole_file_bytes clear.number got.0) (λ bytes. unused more.0 >>= λ new. value (airing plan site out bytes)) a
       b page steps status (inr (record {
         cause = stopped.cause;
         asked = record {
@@ -165,7 +165,7 @@ module _ (plan : Plan) (site clear out : FileArgument) (a b : DepotState) (page 
 -- what two files gave, and what others did
 record FourGiven (files : Option Files) (given other : Readings) (site book clear : FileArgument) : Type 0 where
   all : Readings
-  is_all : IsGiven files all
+  is_all : AreReadingsOfFiles files all
   first : all site ≡ given site
   second : all book ≡ given book
   third : all clear ≡ other clear
@@ -178,7 +178,7 @@ longer name =
     (λ same. let sum = length-append name (codes ".used") in omega (arith, same, sum))
 
 four_given : (files : Option Files) (given other : Readings) (site book clear : FileArgument) →
-    IsGiven files given → IsGiven files other → site.number ≢ book.number → site.number ≢ clear.number →
+    AreReadingsOfFiles files given → AreReadingsOfFiles files other → site.number ≢ book.number → site.number ≢ clear.number →
     book.number ≢ clear.number → FourGiven files given other site book clear
 four_given None given other site book clear is is_other sb sc bc = record {
   all = λ w. cond (nat_eq w.number book.number
@@ -200,16 +200,16 @@ four_given (Some files) given other site book clear is is_other sb sc bc = recor
 
 -- a plan that was read, and then what is meant by it
 pub plan_aired : {X : Type 0} (view : X → Plan) (site book clear out : FileArgument) (p q : DepotState)
-    (page : PageState) (steps : ℕ) (b : Outside) (x : X) (status : Status) → site.number ≢ book.number →
+    (page : PageState) (steps : ℕ) (b : IoState) (x : X) (status : Status) → site.number ≢ book.number →
     site.number ≢ clear.number → book.number ≢ clear.number →
     FilesOutcome view (air_plan_meaning site book) p q (Ok x) →
-    Implements (aired_meaning (view x) site clear out) (outside q page steps) b status →
-    Implements (air_meaning site book clear out) (outside p page steps) b status
+    Implements (aired_meaning (view x) site clear out) (io_state q page steps) b status →
+    Implements (air_meaning site book clear out) (io_state p page steps) b status
 unfolding air_meaning
 plan_aired view site book clear out p q page steps b x status sb sc bc read f =
     let same : q.files ≡ p.files = ap (λ (z : DepotState). z.files) read.gives.1 in
     let g = four_given p.files read.given f.given site book clear read.is_given
-    (subst (λ (files : Option Files). IsGiven files f.given) same f.is_given) sb sc bc in
+    (subst (λ (files : Option Files). AreReadingsOfFiles files f.given) same f.is_given) sb sc bc in
     let one : air_plan_meaning site book read.given ≡ air_plan_meaning site book g.all =
     ap (λ (o : Option (List ℕ)). air_plan_by site.number book.number o (read.given book)) (sym g.first)
     ∙ ap (λ (o : Option (List ℕ)). air_plan_by site.number book.number (g.all site) o) (sym g.second) in
@@ -220,16 +220,16 @@ plan_aired view site book clear out p q page steps b x status sb sc bc read f =
       given = g.all;
       is_given = g.is_all;
       obeyed = subst (λ (m : Spec Plan). OutcomeWithin (m >>= λ plan. aired_meaning plan site clear out g.all)
-          (outside p page steps) b status) one
+          (io_state p page steps) b status) one
           (then_obeys (air_plan_meaning site book read.given) (view x)
           (λ plan. aired_meaning plan site clear out g.all) p q page steps b status read.gives.0 read.gives.1
-          (subst (λ (m : Spec Work). OutcomeWithin m (outside q page steps) b status) (next (view x)) f.obeyed));
+          (subst (λ (m : Spec Work). OutcomeWithin m (io_state q page steps) b status) (next (view x)) f.obeyed));
     }
 
 -- a plan that was not read
 pub no_plan : {X : Type 0} (view : X → Plan) (site book clear out : FileArgument) (p q : DepotState) (page : PageState)
     (steps : ℕ) (status : Status) → FilesOutcome view (air_plan_meaning site book) p q (Err status) →
-    Implements (air_meaning site book clear out) (outside p page steps) (outside q page steps) status
+    Implements (air_meaning site book clear out) (io_state p page steps) (io_state q page steps) status
 unfolding air_meaning
 no_plan view site book clear out p q page steps status read = record {
   given = read.given;

@@ -9,7 +9,7 @@ use Rattle.sd_message.specs.ClearFaults.{clear_packet}
 use Rattle.sd_message.specs.declared.clear_fault.ClearFault.{ClearFault}
 use Rattle.sd_command_base.specs.declared.status.Status.TheVariants.{BadClear}
 use Rattle.sd_command_base.specs.declared.stream_refusal.StreamRefusal.TheVariants.{Packet}
-use Rattle.sd_command_base.specs.Texts.{line_of, clear_line, clear_text}
+use Rattle.sd_command_base.specs.Texts.{line_of_status, clear_refusal_line, clear_text}
 use Rattle.sd_run_broadcasts.specs.Air.{air_data, broken_text}
 use Rattle.sd_run_broadcasts.specs.Members.{num_member}
 use Rattle.sd_run_broadcasts.specs.MemberTokens.{text_tokens, HasFeed}
@@ -18,7 +18,7 @@ use Rattle.sd_run_broadcasts.proofs.Members.{behind, fed, line_feed, num_tokens,
 
 -- the line of a packet that breaks a rule ends with a line feed
 pub broken_feed : (fault : ClearFault) → HasFeed (BadClear (Packet fault))
-unfolding line_of clear_line
+unfolding line_of_status clear_refusal_line
 broken_feed fault = fed (behind (codes "clear packet ") (behind (decimal (clear_packet fault)) (behind (codes ": ")
     (behind (clear_text fault) line_feed))))
 

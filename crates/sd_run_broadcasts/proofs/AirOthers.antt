@@ -2,12 +2,12 @@
 use Rattle.std.proofs.Common.{ℕ, ◌==◌, not, nat_lt, Bool, true, false, if◌then◌else◌, List, Option, Some, None, Result}
 use Rattle.std.proofs.Common.{Ok, Err}
 use Rattle.sd_site_cards.specs.SiteFields.{SiteFields}
-use Rattle.sd_site_cards.specs.Written.{newest_of, none_fewer}
+use Rattle.sd_site_cards.specs.Written.{site_of_chain, none_fewer}
 use Rattle.sd_site_cards.specs.declared.book_line.BookLine.{BookLine}
 use Rattle.sd_site_cards.specs.declared.site_fault.SiteFault.{SiteFault}
 use Rattle.sd_site_cards.specs.declared.site_fault.SiteFault.TheVariants.{Range}
 use Rattle.sd_command_base.specs.declared.status.LimitKind.TheVariants.{SiteBytes}
-use Rattle.sd_command_base.specs.Spec.{FileArgument, Readings, all_of, judged, value, within, ◌>>=◌}
+use Rattle.sd_command_base.specs.Spec.{FileArgument, Readings, whole_file_bytes, of_result, value, within, ◌>>=◌}
 use Rattle.sd_command_base.specs.Files.{most_site_bytes, own_book_of_file, refused_site}
 use Rattle.sd_command_base.specs.Made.{unused}
 use Rattle.sd_command_base.proofs.Others.{IsOther, other_after, other_file, other_own_book_file, other_stream}
@@ -29,9 +29,9 @@ other_site : (word : ℕ) (got : Option (List ℕ)) → IsOther (air_site_of_fil
 unfolding air_site_of_file
 other_site word got =
     other_after (within word most_site_bytes SiteBytes got).calls (within word most_site_bytes SiteBytes got).result
-    (λ bytes. judged (told_air_site word bytes (newest_of none_fewer bytes)))
+    (λ bytes. of_result (told_air_site word bytes (site_of_chain none_fewer bytes)))
     (other_file word most_site_bytes SiteBytes got)
-    (λ bytes. other_told word bytes (newest_of none_fewer bytes))
+    (λ bytes. other_told word bytes (site_of_chain none_fewer bytes))
 
 other_plan : (site book : ℕ) (site_got book_got : Option (List ℕ)) →
     IsOther (air_plan_by site book site_got book_got).result
@@ -55,10 +55,10 @@ unfolding air_meaning
 other_air site book clear out given =
     other_after (air_plan_by site.number book.number (given site) (given book)).calls
     (air_plan_by site.number book.number (given site) (given book)).result
-    (λ plan. all_of clear.number (given clear)
+    (λ plan. whole_file_bytes clear.number (given clear)
     >>= λ bytes. unused (given (mark_word site)) >>= λ new. value (airing plan site out bytes))
     (other_plan site.number book.number (given site) (given book))
-    (λ plan. other_after (all_of clear.number (given clear)).calls (all_of clear.number (given clear)).result
+    (λ plan. other_after (whole_file_bytes clear.number (given clear)).calls (whole_file_bytes clear.number (given clear)).result
     (λ bytes. unused (given (mark_word site)) >>= λ new. value (airing plan site out bytes))
     (other_stream clear.number (given clear))
     (λ bytes. other_after (unused (given (mark_word site))).calls (unused (given (mark_word site))).result

@@ -8,28 +8,28 @@ use Rattle.std.specs.Io.KnownBytes.{Appends, Consumes, IsAtEnd}
 use Rattle.std.proofs.KnownBytes.{Appends-nil, Appends-trans, Consumes-nil, Consumes-trans}
 use Rattle.sd_base.specs.Types.{Packet, Packets, PacketNumber}
 use Rattle.sd_ports.specs.Bytes.{IsPrefix, LosesPrefix}
-use Rattle.sd_engine.specs.Cut.{cut, skipped_before, read_from, readable, is_too_long}
+use Rattle.sd_engine.specs.Cut.{cut_packets, skipped_before, read_from, readable, is_stream_too_long}
 use Rattle.sd_engine.specs.Seeking.{MayCome, SeekOutcome, SeekStop, SkipsTooMany}
 use Rattle.sd_engine.specs.Stage.{SinkState}
-use Rattle.sd_engine.specs.Taken.{IsLeft}
+use Rattle.sd_engine.specs.Taken.{AreBytesLeft}
 use Rattle.sd_engine.specs.declared.seeking.SeekFault.{SeekFault}
 use Rattle.sd_engine.specs.declared.seeking.SeekFault.TheVariants as seek
 use Rattle.sd_site_cards.specs.SiteFields.{SiteFields}
-use Rattle.sd_spec.specs.Aired.{Verdict, Marked, Refused, Sent, Ends, verdict_of, following, aired, aired_from}
-use Rattle.sd_spec.specs.Aired.{ended_from, left_by, left_from, none_left, one_marked, one_refused, one_sent}
+use Rattle.sd_spec.specs.Aired.{Verdict, Marked, Refused, Sent, Ends, verdict_of, by_verdict, aired, aired_from}
+use Rattle.sd_spec.specs.Aired.{ended_from, left_by, left_from, none_left, left_out_marked, left_out_refused, left_out_with_sent}
 use Rattle.sd_spec.specs.Plan.{Plan}
-use Rattle.sd_spec.specs.Sent.{body, broadcast, bytes_added, bytes_from, closing_of, packets_from, sent}
+use Rattle.sd_spec.specs.Sent.{body, broadcast, bytes_added, sent_bytes_from, closing_of, packets_from, sent}
 use Rattle.sd_spec.proofs.Bodies.{body_bytes as bytes_of_body, closed_bytes}
-use Rattle.sd_head.specs.Live.{IsLive, verdict_after}
+use Rattle.sd_head.specs.Live.{IsLiveAfter, verdict_after}
 use Rattle.sd_head.specs.declared.live.Live.{Live}
 use Rattle.sd_head.proofs.Airing.{aired_alone, aired_end, aired_more, ended_alone, ended_end, ended_more}
 use Rattle.sd_command_base.specs.declared.status.Status.{Status}
 use Rattle.sd_command_base.specs.declared.status.Status.TheVariants.{DepotFault, SiteUsedUp}
-use Rattle.sd_run_broadcasts.specs.Air.{air_report, ended_status, live_clear, live_end, live_sent, live_status}
+use Rattle.sd_run_broadcasts.specs.Air.{air_report, aired_status, live_clear, live_end, live_sent, live_status}
 use Rattle.sd_run_broadcasts.specs.Found.{HasFound, IsReadable}
 use Rattle.sd_run_broadcasts.specs.OnAir.{body_bytes, bytes_for, closing_bytes, finished_status, report_after}
-use Rattle.sd_run_broadcasts.specs.OnAir.{status_at}
-use Rattle.sd_run_broadcasts.specs.OnAir.{Finishes, IsSending, SendsBytes, SendsLive, SendsPacket, Stops}
+use Rattle.sd_run_broadcasts.specs.OnAir.{sent_status_at}
+use Rattle.sd_run_broadcasts.specs.OnAir.{Finishes, IsSending, SendsLiveStream, SendsLive, SendsPacket, Stops}
 use Rattle.sd_run_broadcasts.specs.Watch.{skipped_at}
 use Rattle.sd_run_broadcasts.specs.declared.air_send.Finished.{Finished}
 use Rattle.sd_run_broadcasts.proofs.Found.{all_readable, far_readable, found_all, found_before, found_last, found_many}
@@ -40,14 +40,14 @@ use Rattle.sd_run_broadcasts.proofs.Left.{left_behind, prefix_of_all, short_of_a
 
 -- a body and what other packets add to it
 body_more : (plan : Plan) (before more : Packets) →
-    concat (body plan (before ++ more)) ≡ concat (body plan before) ++ bytes_from plan before more
+    concat (body plan (before ++ more)) ≡ concat (body plan before) ++ sent_bytes_from plan before more
 body_more plan before more =
     bytes_of_body plan (before ++ more) ∙ bytes_in_turn plan [] before more
-    ∙ ap (λ (bytes : List ℕ). bytes ++ bytes_from plan before more) (sym (bytes_of_body plan before))
+    ∙ ap (λ (bytes : List ℕ). bytes ++ sent_bytes_from plan before more) (sym (bytes_of_body plan before))
 
 body_one : (plan : Plan) (before : Packets) (packet : Packet) →
     concat (body plan (before ++ packet ∷ [])) ≡ concat (body plan before) ++ bytes_added plan before packet
-unfolding bytes_from
+unfolding sent_bytes_from
 body_one plan before packet =
     body_more plan before (packet ∷ [])
     ∙ ap (λ (bytes : List ℕ). concat (body plan before) ++ bytes) (append-nil (bytes_added plan before packet))
@@ -55,7 +55,7 @@ body_one plan before packet =
 -- the packets that are sent, with one packet more
 aired_one : (site : SiteFields) (past : Packets) (packet : Packet) → ended_from site [] 0 past ≡ None →
     aired site (past ++ packet ∷ [])
-    ≡ aired site past ++ following (verdict_of site (aired site past) (length past) packet) (packet ∷ []) [] []
+    ≡ aired site past ++ by_verdict (verdict_of site (aired site past) (length past) packet) (packet ∷ []) [] []
 aired_one site past packet goes =
     let same : 0 + length past ≡ length past = omega arith in
     rw same at (aired_more site (packet ∷ []) [] 0 past goes
@@ -75,8 +75,8 @@ body_step plan past packet goes =
     same = ap (λ (ps : Packets). concat (body plan ps)) (append-nil before)
         ∙ sym (append-nil (concat (body plan before)))
 
-    by : (v : Verdict) → concat (body plan (before ++ following v (packet ∷ []) [] []))
-        ≡ concat (body plan before) ++ following v (bytes_added plan before packet) [] []
+    by : (v : Verdict) → concat (body plan (before ++ by_verdict v (packet ∷ []) [] []))
+        ≡ concat (body plan before) ++ by_verdict v (bytes_added plan before packet) [] []
     by Marked = same
     by (Refused fault) = same
     by Sent = body_one plan before packet
@@ -92,15 +92,15 @@ sent_begins plan bytes past more is goes =
     let all : live_clear plan.site bytes ≡ before ++ after =
     ap (aired plan.site) is ∙ aired_more plan.site more [] 0 past goes in
     let closing = concat (packets_from plan.site (sent plan (before ++ after)) (closing_of plan (before ++ after))) in (
-      bytes_from plan before after ++ closing,
-      sym (append_assoc (concat (body plan before)) (bytes_from plan before after) closing)
+      sent_bytes_from plan before after ++ closing,
+      sym (append_assoc (concat (body plan before)) (sent_bytes_from plan before after) closing)
           ∙ ap (λ (xs : List ℕ). xs ++ closing) (sym (body_more plan before after))
           ∙ sym (closed_bytes plan (before ++ after))
           ∙ ap (λ (ps : Packets). concat (broadcast plan ps)) (sym all),
     )
 
 -- the broadcast goes on behind one packet more, or ends before it
-goes_by : (v : Verdict) (n : PacketNumber) → (following v None None (Some n) ≡ None) ⊎ (v ≡ Ends)
+goes_by : (v : Verdict) (n : PacketNumber) → (by_verdict v None None (Some n) ≡ None) ⊎ (v ≡ Ends)
 goes_by Marked n = inl refl
 goes_by (Refused fault) n = inl refl
 goes_by Sent n = inl refl
@@ -113,7 +113,7 @@ one_begins : (plan : Plan) (bytes : List ℕ) (past more : Packets) (packet : Pa
 one_begins plan bytes past more packet is goes =
     let same : 0 + length past ≡ length past = omega arith in
     let one : ended_from plan.site [] 0 (past ++ packet ∷ [])
-    ≡ following (verdict_after plan past packet) None None (Some (length past)) =
+    ≡ by_verdict (verdict_after plan past packet) None None (Some (length past)) =
     rw same at (ended_more plan.site (packet ∷ []) [] 0 past goes
     ∙ ended_alone plan.site (aired plan.site past) (0 + length past) packet) in
     elim (goes_by (verdict_after plan past packet) (length past)) [
@@ -121,7 +121,7 @@ one_begins plan bytes past more packet is goes =
           (sent_begins plan bytes (past ++ packet ∷ []) more is (one ∙ on))
       | inr ends ↦
           let none : bytes_for plan past packet ≡ [] =
-          ap (λ (v : Verdict). following v (bytes_added plan (aired plan.site past) packet) [] []) ends in
+          ap (λ (v : Verdict). by_verdict v (bytes_added plan (aired plan.site past) packet) [] []) ends in
           subst (λ (xs : List ℕ). IsPrefix xs (live_sent plan bytes))
           (sym (ap (λ (xs : List ℕ). body_bytes plan past ++ xs) none ∙ append-nil (body_bytes plan past)))
           (sent_begins plan bytes past (packet ∷ more) (is ∙ append_assoc past (packet ∷ []) more) goes)
@@ -130,9 +130,9 @@ one_begins plan bytes past more packet is goes =
 -- nothing more is left out from a packet on before which the broadcast ends
 module _ (site : SiteFields) (packet : Packet) (rest : Packets) where
   left_step : (v : Verdict) (before : Packets) (n : PacketNumber) (first : Packet) (past : Packets) →
-      following v (ended_from site (before ++ first ∷ []) (n + 1) past) (ended_from site before (n + 1) past) (Some n)
+      by_verdict v (ended_from site (before ++ first ∷ []) (n + 1) past) (ended_from site before (n + 1) past) (Some n)
       ≡ None →
-      verdict_of site (before ++ following v (first ∷ aired_from site (before ++ first ∷ []) (n + 1) past)
+      verdict_of site (before ++ by_verdict v (first ∷ aired_from site (before ++ first ∷ []) (n + 1) past)
       (aired_from site before (n + 1) past) []) ((n + 1) + length past) packet ≡ Ends →
       (ended_from site (before ++ first ∷ []) (n + 1) past ≡ None →
       verdict_of site ((before ++ first ∷ []) ++ aired_from site (before ++ first ∷ []) (n + 1) past)
@@ -146,10 +146,10 @@ module _ (site : SiteFields) (packet : Packet) (rest : Packets) where
       (left_from site before (n + 1) (past ++ packet ∷ rest)) none_left
       ≡ left_by v first (left_from site (before ++ first ∷ []) (n + 1) past)
       (left_from site before (n + 1) past) none_left
-  left_step Marked before n first past goes ends sent left = ap one_marked (left goes ends)
-  left_step (Refused fault) before n first past goes ends sent left = ap (one_refused fault) (left goes ends)
+  left_step Marked before n first past goes ends sent left = ap left_out_marked (left goes ends)
+  left_step (Refused fault) before n first past goes ends sent left = ap (left_out_refused fault) (left goes ends)
   left_step Sent before n first past goes ends sent left =
-      ap (one_sent first) (sent goes (ap (λ (ps : Packets). verdict_of site ps ((n + 1) + length past) packet)
+      ap (left_out_with_sent first) (sent goes (ap (λ (ps : Packets). verdict_of site ps ((n + 1) + length past) packet)
       (append_assoc before (first ∷ []) (aired_from site (before ++ first ∷ []) (n + 1) past)) ∙ ends))
   left_step Ends before n first past goes ends sent left = refl
 
@@ -168,16 +168,16 @@ module _ (site : SiteFields) (packet : Packet) (rest : Packets) where
       (left_end (before ++ first ∷ []) (n + 1) past) (left_end before (n + 1) past)
 
 -- the status at the end of a stream of which nothing more is sent
-status_longer : (longer : Bool) (count : ℕ) → status_at longer count ≡ ended_status None longer count
+status_longer : (longer : Bool) (count : ℕ) → sent_status_at longer count ≡ aired_status None longer count
 status_longer true count = refl
 status_longer false count = refl
 
 -- these packets are all that is read of what is left, and so many bytes are in none
 record ReadsAll (left : Option (List ℕ)) (packets : Packets) (last : ℕ) (longer : Bool) : Type 0 where
   bytes : List ℕ
-  is_left : IsLeft left bytes
+  is_left : AreBytesLeft left bytes
   is : readable bytes ≡ packets
-  longer_is : is_too_long bytes ≡ longer
+  longer_is : is_stream_too_long bytes ≡ longer
   last_is : skipped_at bytes (length packets) ≡ last
 
 -- the count of bytes that are in no packet, of few
@@ -198,12 +198,12 @@ module _ (plan : Plan) (left held held' held2 : Option (List ℕ)) (past : Packe
   unfolding air_report
   report_is = rw (reads.is, goes, reads.last_is) refl
 
-  status_is : status_at longer (length past) ≡ live_status plan.site reads.bytes
+  status_is : sent_status_at longer (length past) ≡ live_status plan.site reads.bytes
   unfolding live_status
   status_is = rw (reads.is, goes, reads.longer_is) (status_longer longer (length past))
 
   finishes : (result : Result Finished Status) → Finishes plan past last longer held' held2 result →
-      SendsBytes plan reads.bytes held held2 result
+      SendsLiveStream plan reads.bytes held held2 result
   finishes (Ok finished) h = (
     ap (λ (f : Finished). f.report) h.0 ∙ report_is,
     ap finished_status h.0 ∙ status_is,
@@ -220,8 +220,8 @@ module _ (plan : Plan) (left held held' held2 : Option (List ℕ)) (past : Packe
 
 -- nothing was read yet
 pub not_begun : (plan : Plan) (left held : Option (List ℕ)) (live : Live) (waiting : List ℕ) → waiting ≡ [] →
-    IsLive plan [] live → IsSending plan left left held held live waiting false 0 0
-unfolding bytes_from aired_from
+    IsLiveAfter plan [] live → IsSending plan left left held held live waiting false 0 0
+unfolding sent_bytes_from aired_from
 not_begun plan left held live waiting none keeps = record {
   bytes = [];
   packets = [];
@@ -250,7 +250,7 @@ module _ (plan : Plan) (left left' now held held' : Option (List ℕ)) (live : L
       let end : IsAtEnd now = sought.reads.end way.end sought.finds.0 in
       let sum = sought.skipped in
       let few : more_skipped < 2 ^ 64 - 1 = sought.few way.found.low in
-      let cuts : cut bytes ≡ way.packets =
+      let cuts : cut_packets bytes ≡ way.packets =
       found_all way.bytes sought.bytes waiting way.packets was skipped sought.passed way.found sought.reads.nothing
       none in
       let before : skipped_before (length way.packets) zero bytes ≡ skipped + sought.passed =
@@ -261,7 +261,7 @@ module _ (plan : Plan) (left left' now held held' : Option (List ℕ)) (live : L
       (omega (arith, before, sum, few)) in
       record {
         bytes = bytes;
-        is_left = subst (IsLeft left) (ap (λ (xs : List ℕ). bytes ++ xs) (behind.none end) ∙ append-nil bytes)
+        is_left = subst (AreBytesLeft left) (ap (λ (xs : List ℕ). bytes ++ xs) (behind.none end) ∙ append-nil bytes)
             behind.is_left;
         is = all.0;
         longer_is = all.1;
@@ -286,13 +286,13 @@ module _ (plan : Plan) (left left' now held held' : Option (List ℕ)) (live : L
       (skipped + sought.passed) =
       found_more way.bytes sought.bytes waiting next packet way.packets was ended skipped sought.passed way.found
       nothing still sought.finds (omega (arith, few, sum)) in
-      let cuts : cut bytes ≡ way.packets ++ packet ∷ cut (next ++ rest) =
-      found.cuts rest may ∙ append_assoc way.packets (packet ∷ []) (cut (next ++ rest)) in
+      let cuts : cut_packets bytes ≡ way.packets ++ packet ∷ cut_packets (next ++ rest) =
+      found.cuts rest may ∙ append_assoc way.packets (packet ∷ []) (cut_packets (next ++ rest)) in
       let before : skipped_before (length way.packets) zero bytes ≡ skipped + sought.passed =
       found_before way.bytes sought.bytes waiting next packet rest way.packets was ended skipped sought.passed
       way.found nothing still may sought.finds in
       let long : length way.packets ≡ 2 ^ 48 = way.counted ∙ most in
-      let all = most_readable bytes way.packets packet (cut (next ++ rest)) cuts long
+      let all = most_readable bytes way.packets packet (cut_packets (next ++ rest)) cuts long
       (λ n under. found.few rest may n (omega (arith, under, length-append way.packets (packet ∷ [])))) in
       record {
         bytes = bytes;
@@ -373,7 +373,7 @@ module _ (plan : Plan) (left left' now held held' : Option (List ℕ)) (live : L
       let can = found_readable way.bytes waiting all way.packets was skipped way.found may long in
       record {
         bytes = bytes;
-        is_left = subst (IsLeft left) (append_assoc way.bytes lost.0 behind.rest) behind.is_left;
+        is_left = subst (AreBytesLeft left) (append_assoc way.bytes lost.0 behind.rest) behind.is_left;
         sends = (
           inr refl,
           short_of_all held held' _ (live_sent plan bytes) way.wrote
@@ -408,7 +408,7 @@ pub record IsFound (plan : Plan) (left now held held' : Option (List ℕ)) (live
   pub found : HasFound bytes (packets ++ packet ∷ []) waiting ended skipped
   pub before : (more : List ℕ) → MayCome ended more → skipped_at (bytes ++ more) (length packets) ≡ skipped
   pub counted : length packets ≡ count
-  pub keeps : IsLive plan packets live
+  pub keeps : IsLiveAfter plan packets live
   pub wrote : Appends held held' (body_bytes plan packets)
 
 -- a search that found a packet
@@ -450,7 +450,7 @@ module _ (plan : Plan) (left now held held' held2 : Option (List ℕ)) (live lat
 
   -- a packet with which the broadcast goes on
   pub packet_passed : (on : Bool) → on ≡ true →
-      ((past : Packets) → IsLive plan past live → length past < 2 ^ 48 →
+      ((past : Packets) → IsLiveAfter plan past live → length past < 2 ^ 48 →
       SendsPacket plan past packet held' held2 live later (Ok on)) →
       IsSending plan left now held held2 later waiting ended skipped (count + 1)
   packet_passed on is sends =
@@ -472,7 +472,7 @@ module _ (plan : Plan) (left now held held' held2 : Option (List ℕ)) (live lat
   -- all the bytes, and the packets that are read of them
   record Behind : Type 0 where
     bytes : List ℕ
-    is_left : IsLeft left bytes
+    is_left : AreBytesLeft left bytes
     more : Packets
     is : readable bytes ≡ (h.packets ++ packet ∷ []) ++ more
     before : skipped_at bytes (length h.packets) ≡ skipped
@@ -495,7 +495,7 @@ module _ (plan : Plan) (left now held held' held2 : Option (List ℕ)) (live lat
 
   -- a packet at which the outside stopped it
   pub packet_stopped : (status : Status) →
-      ((past : Packets) → IsLive plan past live → length past < 2 ^ 48 →
+      ((past : Packets) → IsLiveAfter plan past live → length past < 2 ^ 48 →
       SendsPacket plan past packet held' held2 live later (Err status)) →
       SendsLive plan left held held2 (Err status)
   packet_stopped status sends =
@@ -556,7 +556,7 @@ module _ (plan : Plan) (left now held held' held2 : Option (List ℕ)) (live lat
         (Appends-trans held held' held2 _ [] h.wrote none)
 
     full_finishes : (held3 : Option (List ℕ)) (result : Result Finished Status) → Appends held' held2 [] →
-        Finishes plan h.packets skipped true held2 held3 result → SendsBytes plan behind.bytes held held3 result
+        Finishes plan h.packets skipped true held2 held3 result → SendsLiveStream plan behind.bytes held held3 result
     full_finishes held3 (Ok finished) none f = (
       ap (λ (x : Finished). x.report) f.0 ∙ full_report,
       ap finished_status f.0 ∙ full_status,
@@ -570,9 +570,9 @@ module _ (plan : Plan) (left now held held' held2 : Option (List ℕ)) (live lat
 
   -- the broadcast ends before the packet
   pub full_sent : (on : Bool) (held3 : Option (List ℕ)) (result : Result Finished Status) → on ≡ false →
-      ((past : Packets) → IsLive plan past live → length past < 2 ^ 48 →
+      ((past : Packets) → IsLiveAfter plan past live → length past < 2 ^ 48 →
       SendsPacket plan past packet held' held2 live later (Ok on)) →
-      ((past : Packets) → IsLive plan past later → Finishes plan past skipped true held2 held3 result) →
+      ((past : Packets) → IsLiveAfter plan past later → Finishes plan past skipped true held2 held3 result) →
       SendsLive plan left held held3 result
   full_sent on held3 result is sends f =
       let sent : SendsPacket plan h.packets packet held' held2 live later (Ok false) =
@@ -582,7 +582,7 @@ module _ (plan : Plan) (left now held held' held2 : Option (List ℕ)) (live lat
         bytes = behind.bytes;
         is_left = behind.is_left;
         sends = full_finishes sent.0 held3 result sent.2
-            (f h.packets (subst (IsLive plan h.packets) (sym sent.1) h.keeps));
+            (f h.packets (subst (IsLiveAfter plan h.packets) (sym sent.1) h.keeps));
       }
 
 -- what waits in the sink was handed on, and no more

@@ -10,7 +10,7 @@ use Rattle.sd_site_cards.specs.CardFaults.{height_in, fault_in}
 use Rattle.sd_site_cards.specs.CardFields.{CardFields, IsCard, card_head, card_bytes}
 use Rattle.sd_site_cards.proofs.Spellings.{height_written, leaf_written, ca_written, written_is_good}
 use Rattle.sd_command_base.specs.Files.{card_unless}
-use Rattle.sd_run_broadcasts.specs.Receive.{secrets_of, card_said, told_card}
+use Rattle.sd_run_broadcasts.specs.Receive.{secrets_of, card_said, card_refusal}
 
 -- secrets that were joined are found again
 secrets_again : (secrets : List (List ℕ)) (rest : List ℕ) → AreSecrets secrets →
@@ -45,8 +45,8 @@ said_again card is =
 
 -- so the card that was read is the one that is told
 pub card_read : (word : ℕ) (bytes : List ℕ) (card : CardFields) → IsCard card → bytes ≡ card_bytes card →
-    told_card word bytes ≡ Ok card
-unfolding told_card
+    card_refusal word bytes ≡ Ok card
+unfolding card_refusal
 card_read word bytes card is e =
     ap (λ (f : Option CardFault). card_unless word f (card_said bytes)) (ap fault_in e ∙ written_is_good card is)
     ∙ ap Ok (ap card_said e ∙ said_again card is)

@@ -13,7 +13,7 @@ use Rattle.sd_command_base.specs.declared.status.Status.TheVariants.{Limit}
 use Rattle.sd_command_base.specs.declared.status.LimitKind.{LimitKind}
 use Rattle.sd_command_base.specs.Spec.{within}
 use Rattle.sd_run_broadcasts.specs.FieldClear.{BeginsWithPacket, broken_status}
-use Rattle.sd_run_broadcasts.specs.Field.{most_clear_bytes, told_clear, unbroken}
+use Rattle.sd_run_broadcasts.specs.Field.{field_clear_bytes, told_clear, unbroken}
 
 -- these packets stand before the rest of some bytes, which break where it does
 pub record IsCut (bytes : List ℕ) (first : List (List ℕ)) (rest : List ℕ) : Type 0 where
@@ -87,5 +87,5 @@ bytes_within word most kind (Some all) bytes h = by_test (nat_lt most (length al
     by_test false test is =
         let same : all ≡ bytes = cc in subst (λ (xs : List ℕ). length xs ≤ most) same (ltb-false most (length all) test)
 
-pub packets_within : (packets bytes : ℕ) → 188 * packets ≤ bytes → bytes ≤ most_clear_bytes → packets ≤ 16384
+pub packets_within : (packets bytes : ℕ) → 188 * packets ≤ bytes → bytes ≤ field_clear_bytes → packets ≤ 16384
 packets_within packets bytes h k = omega (arith, h, k)

@@ -7,12 +7,12 @@ use Rattle.sd_field.specs.Script.{script_of}
 use Rattle.sd_field.specs.declared.fault.ScriptFault.{ScriptFault}
 use Rattle.sd_field.specs.declared.fault.ScriptFault.TheVariants as script
 use Rattle.sd_command_base.specs.declared.status.LimitKind.TheVariants.{BookBytes, FieldHeight, FieldPackets}
-use Rattle.sd_command_base.specs.Spec.{FileArgument, Readings, judged, value, within, ◌>>=◌}
+use Rattle.sd_command_base.specs.Spec.{FileArgument, Readings, of_result, value, within, ◌>>=◌}
 use Rattle.sd_command_base.specs.Files.{low_site_of_file, most_book_bytes}
 use Rattle.sd_command_base.specs.Printed.{printing}
 use Rattle.sd_command_base.proofs.Others.{IsOther, other_after, other_file, other_low_site}
-use Rattle.sd_run_broadcasts.specs.Field.{clear_of_file, field_meaning, field_text, inputs_by, most_clear_bytes}
-use Rattle.sd_run_broadcasts.specs.Field.{most_height, script_of_file, told_clear, told_script, unbroken}
+use Rattle.sd_run_broadcasts.specs.Field.{clear_of_file, field_meaning, field_text, inputs_by, field_clear_bytes}
+use Rattle.sd_run_broadcasts.specs.Field.{most_field_height, script_of_file, told_clear, script_or_status, unbroken}
 
 other_unbroken : (found : Option StreamBreak) (packets : List (List ℕ)) → IsOther (unbroken found packets)
 other_unbroken None packets = tt
@@ -21,11 +21,11 @@ other_unbroken (Some found) packets = λ e. cc
 other_clear : (word : ℕ) (got : Option (List ℕ)) → IsOther (clear_of_file word got).result
 unfolding clear_of_file
 other_clear word got =
-    other_after (within word most_clear_bytes FieldPackets got).calls
-    (within word most_clear_bytes FieldPackets got).result (λ bytes. judged (told_clear bytes))
-    (other_file word most_clear_bytes FieldPackets got) (λ bytes. other_unbroken (break_of bytes) (packets_of bytes))
+    other_after (within word field_clear_bytes FieldPackets got).calls
+    (within word field_clear_bytes FieldPackets got).result (λ bytes. of_result (told_clear bytes))
+    (other_file word field_clear_bytes FieldPackets got) (λ bytes. other_unbroken (break_of bytes) (packets_of bytes))
 
-other_told : (word d : ℕ) (bytes : List ℕ) (r : Result (List Event) ScriptFault) → IsOther (told_script word d bytes r)
+other_told : (word d : ℕ) (bytes : List ℕ) (r : Result (List Event) ScriptFault) → IsOther (script_or_status word d bytes r)
 other_told word d bytes (Ok events) = tt
 other_told word d bytes (Err (script.Line k)) = λ e. cc
 other_told word d bytes (Err (script.Leaf k)) = λ e. cc
@@ -36,17 +36,17 @@ other_script : (word d : ℕ) (got : Option (List ℕ)) → IsOther (script_of_f
 unfolding script_of_file
 other_script word d got =
     other_after (within word most_book_bytes BookBytes got).calls (within word most_book_bytes BookBytes got).result
-    (λ bytes. judged (told_script word d bytes (script_of d bytes))) (other_file word most_book_bytes BookBytes got)
+    (λ bytes. of_result (script_or_status word d bytes (script_of d bytes))) (other_file word most_book_bytes BookBytes got)
     (λ bytes. other_told word d bytes (script_of d bytes))
 
 other_inputs : (site clear : ℕ) (site_got clear_got : Option (List ℕ)) →
     IsOther (inputs_by site clear site_got clear_got).result
 unfolding inputs_by
 other_inputs site clear site_got clear_got =
-    other_after (low_site_of_file site most_height FieldHeight site_got).calls
-    (low_site_of_file site most_height FieldHeight site_got).result
+    other_after (low_site_of_file site most_field_height FieldHeight site_got).calls
+    (low_site_of_file site most_field_height FieldHeight site_got).result
     (λ fields. clear_of_file clear clear_got >>= λ packets. value (record { site = fields; clear = packets }))
-    (other_low_site site most_height FieldHeight site_got)
+    (other_low_site site most_field_height FieldHeight site_got)
     (λ fields. other_after (clear_of_file clear clear_got).calls (clear_of_file clear clear_got).result
     (λ packets. value (record { site = fields; clear = packets })) (other_clear clear clear_got) (λ packets. tt))
 

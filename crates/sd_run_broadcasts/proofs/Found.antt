@@ -5,7 +5,7 @@ use Rattle.std.proofs.Common.{refl, sym, ap, arith, append_assoc, append-nil, le
 use Rattle.std.specs.Prelude.{nat_lt, ◌&&◌, ◌||◌, if◌then◌else◌}
 use Rattle.std.proofs.lemmas.Bool.{lt-ltb, le-ltb, ltb-true, ltb-false}
 use Rattle.sd_base.specs.Types.{Packets}
-use Rattle.sd_engine.specs.Cut.{cut, skipped_before, read_from, readable, is_too_long}
+use Rattle.sd_engine.specs.Cut.{cut_packets, skipped_before, read_from, readable, is_stream_too_long}
 use Rattle.sd_engine.specs.Seeking.{MayCome, CutsOff, CutsNone}
 use Rattle.sd_run_broadcasts.specs.Found.{HasFound, IsReadable}
 
@@ -60,10 +60,10 @@ pub found_more : (r b w left p : List ℕ) (s : Packets) (was now : Bool) (passe
 found_more r b w left p s was now passed more_passed found nothing stays off low = record {
   cuts = λ more may.
       let both = may_both b more was now nothing stays may in
-      ap cut (append_assoc r b more) ∙ found.cuts (b ++ more) both
-      ∙ ap (λ (xs : List ℕ). s ++ cut xs) (sym (append_assoc w b more))
+      ap cut_packets (append_assoc r b more) ∙ found.cuts (b ++ more) both
+      ∙ ap (λ (xs : List ℕ). s ++ cut_packets xs) (sym (append_assoc w b more))
       ∙ ap (λ (ps : Packets). s ++ ps) (off.first more may)
-      ∙ sym (append_assoc s (p ∷ []) (cut (left ++ more)));
+      ∙ sym (append_assoc s (p ∷ []) (cut_packets (left ++ more)));
   behind = λ more may k.
       let both = may_both b more was now nothing stays may in
       let next : length (s ++ p ∷ []) + k ≡ length s + suc k = omega (arith, length-append s (p ∷ [])) in
@@ -86,7 +86,7 @@ found_more r b w left p s was now passed more_passed found nothing stays off low
 
 -- at the end all packets were found
 pub found_all : (r b w : List ℕ) (s : Packets) (was : Bool) (passed more_passed : ℕ) →
-    HasFound r s w was passed → (was ≡ true → b ≡ []) → CutsNone (w ++ b) more_passed → cut (r ++ b) ≡ s
+    HasFound r s w was passed → (was ≡ true → b ≡ []) → CutsNone (w ++ b) more_passed → cut_packets (r ++ b) ≡ s
 found_all r b w s was passed more_passed found nothing none =
     found.cuts b nothing ∙ ap (λ (ps : Packets). s ++ ps) none.none ∙ append-nil s
 
@@ -120,7 +120,7 @@ found_many r b w more s was now passed k found nothing stays may many =
 pub found_readable : (r w more : List ℕ) (s : Packets) (ended : Bool) (passed : ℕ) →
     HasFound r s w ended passed → MayCome ended more → length s ≤ 2 ^ 48 → IsReadable (r ++ more) s
 found_readable r w more s ended passed found may low = record {
-  rest = cut (w ++ more);
+  rest = cut_packets (w ++ more);
   cuts = found.cuts more may;
   low = low;
   few = found.few more may;
@@ -171,10 +171,10 @@ readable_begins bytes s h =
     ∙ ap (λ (n : ℕ). s ++ read_from bytes n h.rest) same
 
 -- at the end all is read
-pub all_readable : (bytes : List ℕ) (s : Packets) → cut bytes ≡ s → length s ≤ 2 ^ 48 →
+pub all_readable : (bytes : List ℕ) (s : Packets) → cut_packets bytes ≡ s → length s ≤ 2 ^ 48 →
     ((n : ℕ) → n < length s → skipped_before n zero bytes < 2 ^ 64 - 1) →
-    skipped_before (length s) zero bytes < 2 ^ 64 - 1 → (readable bytes ≡ s) × (is_too_long bytes ≡ false)
-unfolding is_too_long read_from
+    skipped_before (length s) zero bytes < 2 ^ 64 - 1 → (readable bytes ≡ s) × (is_stream_too_long bytes ≡ false)
+unfolding is_stream_too_long read_from
 all_readable bytes s is low few last = (
   readable_begins bytes s (record { rest = []; cuts = is ∙ sym (append-nil s); low = low; few = few }) ∙ append-nil s,
   rw is (rw (le-ltb (2 ^ 48) (length s) low, lt-ltb (skipped_before (length s) zero bytes) (2 ^ 64 - 1) last) refl),
@@ -182,27 +182,27 @@ all_readable bytes s is low few last = (
 
 -- no more than the most
 pub most_readable : (bytes : List ℕ) (s : Packets) (p : List ℕ) (rest : Packets) →
-    cut bytes ≡ s ++ p ∷ rest → length s ≡ 2 ^ 48 →
+    cut_packets bytes ≡ s ++ p ∷ rest → length s ≡ 2 ^ 48 →
     ((n : ℕ) → n < length s → skipped_before n zero bytes < 2 ^ 64 - 1) →
-    (readable bytes ≡ s) × (is_too_long bytes ≡ true)
-unfolding is_too_long
+    (readable bytes ≡ s) × (is_stream_too_long bytes ≡ true)
+unfolding is_stream_too_long
 most_readable bytes s p rest is most few =
-    let long : length (cut bytes) ≡ length s + suc (length rest) = ap length is ∙ length-append s (p ∷ rest) in (
+    let long : length (cut_packets bytes) ≡ length s + suc (length rest) = ap length is ∙ length-append s (p ∷ rest) in (
       readable_begins bytes s (record { rest = p ∷ rest; cuts = is; low = omega (arith, most); few = few })
           ∙ ap (λ (n : ℕ). s ++ read_from bytes n (p ∷ rest)) most
           ∙ ap (λ (ps : Packets). s ++ ps) (none_behind bytes (p ∷ rest)) ∙ append-nil s,
-      rw (lt-ltb (2 ^ 48) (length (cut bytes)) (omega (arith, most, long))) refl,
+      rw (lt-ltb (2 ^ 48) (length (cut_packets bytes)) (omega (arith, most, long))) refl,
     )
 
 -- none behind too many bytes that are in no packet
 pub far_readable : (bytes : List ℕ) (s : Packets) → (h : IsReadable bytes s) →
     ((k : ℕ) → 2 ^ 64 - 1 ≤ skipped_before (length s + k) zero bytes) →
-    (readable bytes ≡ s) × (is_too_long bytes ≡ true)
-unfolding is_too_long
+    (readable bytes ≡ s) × (is_stream_too_long bytes ≡ true)
+unfolding is_stream_too_long
 far_readable bytes s h many =
     let same : length s + 0 ≡ length s = omega arith in
     let here : 2 ^ 64 - 1 ≤ skipped_before (length s) zero bytes = rw same at (many 0) in
-    let long : length (cut bytes) ≡ length s + length h.rest = ap length h.cuts ∙ length-append s h.rest in (
+    let long : length (cut_packets bytes) ≡ length s + length h.rest = ap length h.cuts ∙ length-append s h.rest in (
       readable_begins bytes s h
           ∙ ap (λ (ps : Packets). s ++ ps) (none_far bytes (length s) h.rest here) ∙ append-nil s,
       rw long (rw (le-ltb (skipped_before (length s + length h.rest) zero bytes) (2 ^ 64 - 1) (many (length h.rest)))

@@ -19,7 +19,7 @@ use Rattle.sd_psi.specs.declared.fault.FormFault.{FormFault}
 use Rattle.sd_psi.specs.declared.fault.FormFault.TheVariants as Form
 use Rattle.sd_engine.specs.Stage.{Chain}
 use Rattle.sd_engine.specs.Driving.{DriveState, ChainToEnd, ChainToRefusal, IsAllowedAt, PassesPackets}
-use Rattle.sd_engine.specs.Taken.{StreamEnd, Whole, Breaks, RunsOn, taken_of, end_of, IsAt, DriveOutcomeOver}
+use Rattle.sd_engine.specs.Taken.{StreamEnd, Whole, Breaks, RunsOn, packets_taken, end_of, IsReachedPacket, DriveOutcomeOver}
 use Rattle.sd_engine.specs.declared.fault.StreamBreak.{StreamBreak}
 use Rattle.sd_engine.specs.declared.driver.DriveFault.{DriveFault}
 use Rattle.sd_engine.specs.declared.driver.DriveFault.TheVariants as drive
@@ -27,18 +27,18 @@ use Rattle.sd_spec.specs.Plan.{Plan}
 use Rattle.sd_spec.specs.Kinds.{kind_of}
 use Rattle.sd_spec.specs.Refused.{fault_where, form_where, is_reserved_pid, pat_wrong, is_full_own}
 use Rattle.sd_spec.specs.Refused.{is_one_too_many}
-use Rattle.sd_spec.specs.Refused.{end_refusal, is_too_long, refusal_of, refusal_from, whole_refusal}
-use Rattle.sd_spec.specs.Sent.{sent, closing_of, packets_from, body, broadcast, bytes_added, bytes_from}
+use Rattle.sd_spec.specs.Refused.{end_refusal, is_used_up, refusal_of, refusal_from, whole_refusal}
+use Rattle.sd_spec.specs.Sent.{sent, closing_of, packets_from, body, broadcast, bytes_added, sent_bytes_from}
 use Rattle.sd_spec.proofs.Bodies.{body_bytes, closed_bytes}
 use Rattle.sd_message.specs.declared.clear_fault.ClearFault.{ClearFault}
 use Rattle.sd_message.specs.declared.clear_fault.ClearFault.TheVariants.{AlreadyScrambled, PidTaken, PatForm, PmtForm}
 use Rattle.sd_message.specs.declared.clear_fault.ClearFault.TheVariants.{TooManyPids, TooLong}
 use Rattle.sd_command_base.specs.declared.status.Status.TheVariants.{Done, BadClear, DepotFault}
-use Rattle.sd_command_base.specs.Turned.{Wrote, all_written, some_written}
+use Rattle.sd_command_base.specs.Turned.{StreamWritten, all_written, some_written}
 use Rattle.sd_message.specs.ClearFaults.{clear_packet}
 use Rattle.sd_command_base.specs.declared.stream_refusal.StreamRefusal.TheVariants.{Packet}
-use Rattle.sd_run_broadcasts.specs.Head.{clear_status, status_where, sent_by, sent_where}
-use Rattle.sd_run_broadcasts.specs.Head.{sent_of, sent_status, sent_told, stop_status, stream_refusal}
+use Rattle.sd_run_broadcasts.specs.Head.{clear_status, status_where, head_sent, sent_where}
+use Rattle.sd_run_broadcasts.specs.Head.{sent_of, sent_status, sent_told, head_stop_status, stream_refusal}
 use Rattle.sd_run_broadcasts.proofs.Refusals.{end_names, none_first, refused_sent, whole_ended, whole_none}
 
 -- A refusal in its packet's turn.
@@ -66,7 +66,7 @@ names_own site before packet =
     let k : ℕ = length before in
     let pid : ℕ = pid_of packet in
     let own : Bool = is_full_own site (kind_of before packet) packet in
-    let long : Option ClearFault = fault_where (is_too_long site k) (TooLong k) None in
+    let long : Option ClearFault = fault_where (is_used_up site k) (TooLong k) None in
     let many : Option ClearFault = fault_where (is_one_too_many before packet) (TooManyPids k) long in
     let full : Option ClearFault = fault_where own (PmtForm k Form.NoRoom) many in
     let form : Option ClearFault = form_where (pat_wrong packet) (PatForm k) full in
@@ -76,7 +76,7 @@ names_own site before packet =
     (names_form (pat_wrong packet) k (PatForm k) full (λ wrong. refl)
     (names_where own k (PmtForm k Form.NoRoom) many refl
     (names_where (is_one_too_many before packet) k (TooManyPids k) long refl
-    (names_where (is_too_long site k) k (TooLong k) None refl tt)))))
+    (names_where (is_used_up site k) k (TooLong k) None refl tt)))))
 
 named : (k : ℕ) (o : Option ClearFault) (fault : ClearFault) → Names k o → o ≡ Some fault → clear_packet fault ≡ k
 named k o fault h is = subst (Names k) is h
@@ -116,21 +116,21 @@ later site before (y ∷ ys) fault h =
 
 -- what packets add after others, in turn
 pub bytes_in_turn : (plan : Plan) (before xs ys : List (List ℕ)) →
-    bytes_from plan before (xs ++ ys) ≡ bytes_from plan before xs ++ bytes_from plan (before ++ xs) ys
-unfolding bytes_from
-bytes_in_turn plan before [] ys = ap (λ (b : List (List ℕ)). bytes_from plan b ys) (sym (append-nil before))
+    sent_bytes_from plan before (xs ++ ys) ≡ sent_bytes_from plan before xs ++ sent_bytes_from plan (before ++ xs) ys
+unfolding sent_bytes_from
+bytes_in_turn plan before [] ys = ap (λ (b : List (List ℕ)). sent_bytes_from plan b ys) (sym (append-nil before))
 bytes_in_turn plan before (x ∷ xs) ys =
     ap (λ (rest : List ℕ). bytes_added plan before x ++ rest)
     (bytes_in_turn plan (before ++ x ∷ []) xs ys
-    ∙ ap (λ (b : List (List ℕ)). bytes_from plan (before ++ x ∷ []) xs ++ bytes_from plan b ys)
+    ∙ ap (λ (b : List (List ℕ)). sent_bytes_from plan (before ++ x ∷ []) xs ++ sent_bytes_from plan b ys)
     (append_assoc before (x ∷ []) xs))
-    ∙ sym (append_assoc (bytes_added plan before x) (bytes_from plan (before ++ x ∷ []) xs)
-    (bytes_from plan (before ++ (x ∷ xs)) ys))
+    ∙ sym (append_assoc (bytes_added plan before x) (sent_bytes_from plan (before ++ x ∷ []) xs)
+    (sent_bytes_from plan (before ++ (x ∷ xs)) ys))
 
 body_first : (plan : Plan) (xs ys : List (List ℕ)) → IsPrefix (concat (body plan xs)) (concat (body plan (xs ++ ys)))
 body_first plan xs ys = (
-  bytes_from plan ([] ++ xs) ys,
-  ap (λ (b : List ℕ). b ++ bytes_from plan ([] ++ xs) ys) (body_bytes plan xs)
+  sent_bytes_from plan ([] ++ xs) ys,
+  ap (λ (b : List ℕ). b ++ sent_bytes_from plan ([] ++ xs) ys) (body_bytes plan xs)
       ∙ sym (bytes_in_turn plan [] xs ys) ∙ sym (body_bytes plan (xs ++ ys)),
 )
 
@@ -142,7 +142,7 @@ body_taken plan k clear =
     (body_first plan (take k clear) (drop k clear))
 
 body_of_all : (plan : Plan) (clear : List (List ℕ)) (end : StreamEnd) → IsPrefix (concat (body plan clear))
-    (concat (sent_by plan clear end))
+    (concat (head_sent plan clear end))
 body_of_all plan clear Whole =
     (concat (packets_from plan.site (sent plan clear) (closing_of plan clear)), sym (closed_bytes plan clear))
 body_of_all plan clear (Breaks found) = ([], append-nil (concat (body plan clear)))
@@ -181,7 +181,7 @@ sent_begins : (plan : Plan) (clear : List (List ℕ)) (end : StreamEnd) (k : ℕ
     refusal_from plan.site [] (take k clear) ≡ None → stream_refusal plan.site clear end ≡ first →
     IsPrefix (concat (body plan (take k clear))) (concat (sent_where plan clear end first))
 sent_begins plan clear end k None within none is =
-    prefix_of_prefix (concat (body plan (take k clear))) (concat (body plan clear)) (concat (sent_by plan clear end))
+    prefix_of_prefix (concat (body plan (take k clear))) (concat (body plan clear)) (concat (head_sent plan clear end))
     (body_taken plan k clear)
     (body_of_all plan clear end)
 sent_begins plan clear end k (Some fault) within none is =
@@ -190,12 +190,12 @@ sent_begins plan clear end k (Some fault) within none is =
     (concat (body plan (take (clear_packet fault) clear))))
     (take-take k (clear_packet fault) clear high) (body_taken plan k (take (clear_packet fault) clear))
 
-begins : (plan : Plan) (bytes : List ℕ) (k : ℕ) → k ≤ length (taken_of bytes) → refusal_from plan.site []
-    (take k (taken_of bytes)) ≡ None →
-    IsPrefix (concat (body plan (take k (taken_of bytes)))) (sent_of plan bytes)
+begins : (plan : Plan) (bytes : List ℕ) (k : ℕ) → k ≤ length (packets_taken bytes) → refusal_from plan.site []
+    (take k (packets_taken bytes)) ≡ None →
+    IsPrefix (concat (body plan (take k (packets_taken bytes)))) (sent_of plan bytes)
 unfolding sent_of
 begins plan bytes k within none =
-    sent_begins plan (taken_of bytes) (end_of bytes) k (stream_refusal plan.site (taken_of bytes) (end_of bytes)) within
+    sent_begins plan (packets_taken bytes) (end_of bytes) k (stream_refusal plan.site (packets_taken bytes) (end_of bytes)) within
     none refl
 
 -- What a head end is, as far as this goes.
@@ -227,7 +227,7 @@ pub record IsHeadEnd {S F : Type 0} (plan : Plan) (does : S → List ℕ → S �
 record WentOn {S : Type 0} (plan : Plan) (After : List (List ℕ) → S → Type 0) (before packets : List (List ℕ)) (t : S)
     (bytes : List ℕ) :
     Type 0 where
-  wrote : bytes ≡ bytes_from plan before packets
+  wrote : bytes ≡ sent_bytes_from plan before packets
   unrefused : refusal_from plan.site before packets ≡ None
   after : After (before ++ packets) t
 
@@ -238,7 +238,7 @@ went_on : {S F : Type 0} (plan : Plan) (does : S → List ℕ → S → List ℕ
     (head : IsHeadEnd plan does ends refuses told After) (before packets : List (List ℕ)) (s t : S) (bytes : List ℕ)
     (n : ℕ) →
     After before s → Chain does s packets t bytes n → WentOn plan After before packets t bytes
-unfolding bytes_from refusal_from
+unfolding sent_bytes_from refusal_from
 went_on plan does ends refuses told After head before [] s t bytes n a (same, none, counted) = record {
   wrote = none;
   unrefused = refl;
@@ -263,60 +263,60 @@ went_on plan does ends refuses told After head before (packet ∷ packets) s t b
 
 -- of a stream that isn't refused
 pub sent_unrefused : (plan : Plan) (bytes : List ℕ) (end : StreamEnd) →
-    stream_refusal plan.site (taken_of bytes) end ≡ None → end_of bytes ≡ end →
-    (concat (sent_by plan (taken_of bytes) end) ≡ sent_of plan bytes) × (clear_status end ≡ sent_status plan bytes)
+    stream_refusal plan.site (packets_taken bytes) end ≡ None → end_of bytes ≡ end →
+    (concat (head_sent plan (packets_taken bytes) end) ≡ sent_of plan bytes) × (clear_status end ≡ sent_status plan bytes)
 unfolding sent_of sent_status
 sent_unrefused plan bytes end none is =
-    let own : stream_refusal plan.site (taken_of bytes) (end_of bytes) ≡ None =
-    ap (stream_refusal plan.site (taken_of bytes)) is ∙ none in (
-      sym (ap (λ (first : Option ClearFault). concat (sent_where plan (taken_of bytes) (end_of bytes) first)) own
-          ∙ ap (λ (e : StreamEnd). concat (sent_by plan (taken_of bytes) e)) is),
+    let own : stream_refusal plan.site (packets_taken bytes) (end_of bytes) ≡ None =
+    ap (stream_refusal plan.site (packets_taken bytes)) is ∙ none in (
+      sym (ap (λ (first : Option ClearFault). concat (sent_where plan (packets_taken bytes) (end_of bytes) first)) own
+          ∙ ap (λ (e : StreamEnd). concat (head_sent plan (packets_taken bytes) e)) is),
       sym (ap (λ (first : Option ClearFault). status_where (end_of bytes) first) own ∙ ap clear_status is),
     )
 
-pub sent_whole : (plan : Plan) (bytes : List ℕ) → whole_refusal plan.site (taken_of bytes) ≡ None →
+pub sent_whole : (plan : Plan) (bytes : List ℕ) → whole_refusal plan.site (packets_taken bytes) ≡ None →
     end_of bytes ≡ Whole →
-    (concat (broadcast plan (taken_of bytes)) ≡ sent_of plan bytes) × (Done ≡ sent_status plan bytes)
+    (concat (broadcast plan (packets_taken bytes)) ≡ sent_of plan bytes) × (Done ≡ sent_status plan bytes)
 unfolding stream_refusal
 sent_whole plan bytes none is = sent_unrefused plan bytes Whole none is
 
 -- by its packets and its end
-whole_unrefused : (plan : Plan) (bytes : List ℕ) → refusal_from plan.site [] (taken_of bytes) ≡ None →
-    end_refusal plan.site (taken_of bytes) ≡ None → end_of bytes ≡ Whole →
-    (concat (broadcast plan (taken_of bytes)) ≡ sent_of plan bytes) × (Done ≡ sent_status plan bytes)
-whole_unrefused plan bytes none end is = sent_whole plan bytes (whole_none plan.site (taken_of bytes) none end) is
+whole_unrefused : (plan : Plan) (bytes : List ℕ) → refusal_from plan.site [] (packets_taken bytes) ≡ None →
+    end_refusal plan.site (packets_taken bytes) ≡ None → end_of bytes ≡ Whole →
+    (concat (broadcast plan (packets_taken bytes)) ≡ sent_of plan bytes) × (Done ≡ sent_status plan bytes)
+whole_unrefused plan bytes none end is = sent_whole plan bytes (whole_none plan.site (packets_taken bytes) none end) is
 
 broken_unrefused : (plan : Plan) (bytes : List ℕ) (found : StreamBreak) →
-    refusal_from plan.site [] (taken_of bytes) ≡ None → end_of bytes ≡ Breaks found →
-    (concat (body plan (taken_of bytes)) ≡ sent_of plan bytes)
+    refusal_from plan.site [] (packets_taken bytes) ≡ None → end_of bytes ≡ Breaks found →
+    (concat (body plan (packets_taken bytes)) ≡ sent_of plan bytes)
     × (clear_status (Breaks found) ≡ sent_status plan bytes)
 unfolding stream_refusal
 broken_unrefused plan bytes found none is = sent_unrefused plan bytes (Breaks found) none is
 
-long_unrefused : (plan : Plan) (bytes : List ℕ) → refusal_from plan.site [] (taken_of bytes) ≡ None →
+long_unrefused : (plan : Plan) (bytes : List ℕ) → refusal_from plan.site [] (packets_taken bytes) ≡ None →
     end_of bytes ≡ RunsOn →
-    (concat (body plan (taken_of bytes)) ≡ sent_of plan bytes) × (clear_status RunsOn ≡ sent_status plan bytes)
+    (concat (body plan (packets_taken bytes)) ≡ sent_of plan bytes) × (clear_status RunsOn ≡ sent_status plan bytes)
 unfolding stream_refusal
 long_unrefused plan bytes none is = sent_unrefused plan bytes RunsOn none is
 
 -- and of one that is
 pub sent_refused : (plan : Plan) (bytes : List ℕ) (fault : ClearFault) →
-    stream_refusal plan.site (taken_of bytes) (end_of bytes) ≡ Some fault →
-    (concat (body plan (take (clear_packet fault) (taken_of bytes))) ≡ sent_of plan bytes)
+    stream_refusal plan.site (packets_taken bytes) (end_of bytes) ≡ Some fault →
+    (concat (body plan (take (clear_packet fault) (packets_taken bytes))) ≡ sent_of plan bytes)
     × (BadClear (Packet fault) ≡ sent_status plan bytes)
 unfolding sent_of sent_status
 sent_refused plan bytes fault is = (
-  sym (ap (λ (first : Option ClearFault). concat (sent_where plan (taken_of bytes) (end_of bytes) first)) is),
+  sym (ap (λ (first : Option ClearFault). concat (sent_where plan (packets_taken bytes) (end_of bytes) first)) is),
   sym (ap (λ (first : Option ClearFault). status_where (end_of bytes) first) is),
 )
 
 -- at its end
-end_refused : (plan : Plan) (bytes : List ℕ) (fault : ClearFault) → refusal_from plan.site [] (taken_of bytes) ≡ None →
-    end_refusal plan.site (taken_of bytes) ≡ Some fault → end_of bytes ≡ Whole →
-    stream_refusal plan.site (taken_of bytes) (end_of bytes) ≡ Some fault
+end_refused : (plan : Plan) (bytes : List ℕ) (fault : ClearFault) → refusal_from plan.site [] (packets_taken bytes) ≡ None →
+    end_refusal plan.site (packets_taken bytes) ≡ Some fault → end_of bytes ≡ Whole →
+    stream_refusal plan.site (packets_taken bytes) (end_of bytes) ≡ Some fault
 unfolding stream_refusal
 end_refused plan bytes fault none end is =
-    ap (stream_refusal plan.site (taken_of bytes)) is ∙ whole_ended plan.site (taken_of bytes) fault none end
+    ap (stream_refusal plan.site (packets_taken bytes)) is ∙ whole_ended plan.site (packets_taken bytes) fault none end
 
 -- the packet at a place, and those before and from it on
 here_is : (clear : List (List ℕ)) (count : ℕ) (packet : List ℕ) → slice_get clear count ≡ Some packet →
@@ -363,11 +363,11 @@ one_written : (plan : Plan) (clear : List (List ℕ)) (count : ℕ) (packet : Li
     ≡ Some packet →
     concat (body plan (take count clear)) ++ bytes_added plan (take count clear) packet
     ≡ concat (body plan (take (count + 1) clear))
-unfolding bytes_from
+unfolding sent_bytes_from
 one_written plan clear count packet at =
     let before = take count clear in
     ap (λ (xs : List ℕ). xs ++ bytes_added plan before packet) (body_bytes plan before)
-    ∙ ap (λ (xs : List ℕ). bytes_from plan [] before ++ xs) (sym (append-nil (bytes_added plan before packet)))
+    ∙ ap (λ (xs : List ℕ). sent_bytes_from plan [] before ++ xs) (sym (append-nil (bytes_added plan before packet)))
     ∙ sym (bytes_in_turn plan [] before (packet ∷ []))
     ∙ sym (body_bytes plan (before ++ packet ∷ []))
     ∙ ap (λ (ps : List (List ℕ)). concat (body plan ps)) (sym (here_is clear count packet at).0)
@@ -387,12 +387,12 @@ may_write : {S F : Type 0} (plan : Plan) (does : S → List ℕ → S → List �
     (refuses : S → Option (List ℕ) → F → S → List ℕ → ℕ → Type 0) (told : F → Option ClearFault)
     (After : List (List ℕ) → S → Type 0)
     (head : IsHeadEnd plan does ends refuses told After) (bytes : List ℕ) (count : ℕ) (mid : S) (first more : List ℕ)
-    (from to : ℕ) (here : Option (List ℕ)) → IsAt bytes count →
-    WentOn plan After [] (take count (taken_of bytes)) mid first → slice_get (taken_of bytes) count ≡ here →
+    (from to : ℕ) (here : Option (List ℕ)) → IsReachedPacket bytes count →
+    WentOn plan After [] (take count (packets_taken bytes)) mid first → slice_get (packets_taken bytes) count ≡ here →
     IsAllowedAt does ends refuses mid here from to more → IsPrefix (first ++ more) (sent_of plan bytes)
 may_write plan does ends refuses told After head bytes count mid first more from to None place went at
     (n, within, inl (t, last)) =
-    let clear = taken_of bytes in
+    let clear = packets_taken bytes in
     let all = all_there clear count place.within at in
     let closes = head.last (take count clear) mid t more n went.after last in
     let sent = whole_unrefused plan bytes (subst (λ (ps : List (List ℕ)). refusal_from plan.site [] ps ≡ None)
@@ -409,14 +409,14 @@ may_write plan does ends refuses told After head bytes count mid first more from
     )
 may_write plan does ends refuses told After head bytes count mid first more from to None place went at
     (n, within, inr (fault, t, refuse)) =
-    nothing_after first more (sent_of plan bytes) (head.refusal (take count (taken_of bytes)) mid None fault t more n
+    nothing_after first more (sent_of plan bytes) (head.refusal (take count (packets_taken bytes)) mid None fault t more n
     went.after refuse).0
     (subst (λ (xs : List ℕ). IsPrefix xs (sent_of plan bytes))
-    (sym (went.wrote ∙ sym (body_bytes plan (take count (taken_of bytes)))))
+    (sym (went.wrote ∙ sym (body_bytes plan (take count (packets_taken bytes)))))
     (begins plan bytes count place.within went.unrefused))
 may_write plan does ends refuses told After head bytes count mid first more from to (Some packet) place went at
     (n, within, inl (t, done)) =
-    let clear = taken_of bytes in
+    let clear = packets_taken bytes in
     let step = head.step (take count clear) mid packet t more n went.after done in
     let inside = (here_is clear count packet at).2 in
     subst (λ (xs : List ℕ). IsPrefix xs (sent_of plan bytes))
@@ -428,19 +428,19 @@ may_write plan does ends refuses told After head bytes count mid first more from
 may_write plan does ends refuses told After head bytes count mid first more from to (Some packet) place went at
     (n, within, inr (fault, t, refuse)) =
     nothing_after first more (sent_of plan bytes)
-    (head.refusal (take count (taken_of bytes)) mid (Some packet) fault t more n went.after refuse).0
+    (head.refusal (take count (packets_taken bytes)) mid (Some packet) fault t more n went.after refuse).0
     (subst (λ (xs : List ℕ). IsPrefix xs (sent_of plan bytes))
-    (sym (went.wrote ∙ sym (body_bytes plan (take count (taken_of bytes)))))
+    (sym (went.wrote ∙ sym (body_bytes plan (take count (packets_taken bytes)))))
     (begins plan bytes count place.within went.unrefused))
 
 -- what was written up to a refusal
 stopped_at : (plan : Plan) (bytes : List ℕ) (count : ℕ) (first : List ℕ) (before now : Option (List ℕ))
     (due : Option ClearFault)
-    (here : Option (List ℕ)) → IsAt bytes count →
-    first ≡ concat (body plan (take count (taken_of bytes))) →
-    refusal_from plan.site [] (take count (taken_of bytes)) ≡ None → slice_get (taken_of bytes) count ≡ here →
-    IsDueAt plan (take count (taken_of bytes)) here due → Appends before now first →
-    Wrote (sent_of plan bytes) (sent_status plan bytes) before now (stop_status due)
+    (here : Option (List ℕ)) → IsReachedPacket bytes count →
+    first ≡ concat (body plan (take count (packets_taken bytes))) →
+    refusal_from plan.site [] (take count (packets_taken bytes)) ≡ None → slice_get (packets_taken bytes) count ≡ here →
+    IsDueAt plan (take count (packets_taken bytes)) here due → Appends before now first →
+    StreamWritten (sent_of plan bytes) (sent_status plan bytes) before now (head_stop_status due)
 stopped_at plan bytes count first before now None here place wrote none at due taken =
     some_written (inl refl) (
       first,
@@ -448,22 +448,22 @@ stopped_at plan bytes count first before now None here place wrote none at due t
       taken,
     )
 stopped_at plan bytes count first before now (Some fault) None place wrote none at due taken =
-    let all = all_there (taken_of bytes) count place.within at in
+    let all = all_there (packets_taken bytes) count place.within at in
     let ends = subst (λ (ps : List (List ℕ)). end_refusal plan.site ps ≡ Some fault) all.1 due in
-    let last = end_names plan.site (taken_of bytes) fault ends in
+    let last = end_names plan.site (packets_taken bytes) fault ends in
     let is = end_refused plan bytes fault
     (subst (λ (ps : List (List ℕ)). refusal_from plan.site [] ps ≡ None) all.1 none) ends (place.end all.0) in
     let sent = sent_refused plan bytes fault is in
     let same : clear_packet fault ≡ count = last.1 ∙ sym (all.0 ∙ ap length last.0) in
     all_written sent.1 tt
     (subst (λ (xs : List ℕ). Appends before now xs)
-    (wrote ∙ ap (λ (k : ℕ). concat (body plan (take k (taken_of bytes)))) (sym same) ∙ sent.0) taken)
+    (wrote ∙ ap (λ (k : ℕ). concat (body plan (take k (packets_taken bytes)))) (sym same) ∙ sent.0) taken)
 stopped_at plan bytes count first before now (Some fault) (Some packet) place wrote none at due taken =
-    let is = first_refused plan.site (taken_of bytes) count packet fault none at due in
-    let sent = sent_refused plan bytes fault (refused_sent plan.site (taken_of bytes) (end_of bytes) fault is.0) in
+    let is = first_refused plan.site (packets_taken bytes) count packet fault none at due in
+    let sent = sent_refused plan bytes fault (refused_sent plan.site (packets_taken bytes) (end_of bytes) fault is.0) in
     all_written sent.1 tt
     (subst (λ (xs : List ℕ). Appends before now xs)
-    (wrote ∙ ap (λ (k : ℕ). concat (body plan (take k (taken_of bytes)))) (sym is.1) ∙ sent.0) taken)
+    (wrote ∙ ap (λ (k : ℕ). concat (body plan (take k (packets_taken bytes)))) (sym is.1) ∙ sent.0) taken)
 
 -- what was written of the first packets alone
 some_sent : {S F : Type 0} (plan : Plan) (does : S → List ℕ → S → List ℕ → ℕ → Type 0) (ends : S → S → List ℕ → ℕ →
@@ -471,10 +471,10 @@ some_sent : {S F : Type 0} (plan : Plan) (does : S → List ℕ → S → List �
     (refuses : S → Option (List ℕ) → F → S → List ℕ → ℕ → Type 0) (told : F → Option ClearFault)
     (After : List (List ℕ) → S → Type 0)
     (head : IsHeadEnd plan does ends refuses told After) (bytes : List ℕ) (a b : DriveState S) (count : ℕ) →
-    After [] a.stage → count ≤ length (taken_of bytes) → PassesPackets does a (take count (taken_of bytes)) b →
-    Wrote (sent_of plan bytes) (sent_status plan bytes) a.sink.held b.sink.held DepotFault
+    After [] a.stage → count ≤ length (packets_taken bytes) → PassesPackets does a (take count (packets_taken bytes)) b →
+    StreamWritten (sent_of plan bytes) (sent_status plan bytes) a.sink.held b.sink.held DepotFault
 some_sent plan does ends refuses told After head bytes a b count stands within grew =
-    let first = take count (taken_of bytes) in
+    let first = take count (packets_taken bytes) in
     let went = went_on plan does ends refuses told After head [] first a.stage b.stage grew.bytes grew.steps stands
     grew.says in
     some_written (inr refl) (
@@ -492,15 +492,15 @@ pub wrote_sent : {S F : Type 0} (plan : Plan) (does : S → List ℕ → S → L
     (head : IsHeadEnd plan does ends refuses told After) (bytes : List ℕ) (a b : DriveState S)
     (result : Result ℕ (DriveFault F)) →
     After [] a.stage → DriveOutcomeOver does ends refuses bytes a b result →
-    Wrote (sent_of plan bytes) (sent_status plan bytes) a.sink.held b.sink.held (sent_told told result)
+    StreamWritten (sent_of plan bytes) (sent_status plan bytes) a.sink.held b.sink.held (sent_told told result)
 wrote_sent plan does ends refuses told After head bytes a b (Ok count) stands (whole, counted, grew) =
     wrote_all grew.bytes grew.says grew.taken
   where
-    wrote_all : (xs : List ℕ) → ChainToEnd does ends a.stage (taken_of bytes) b.stage xs grew.steps →
+    wrote_all : (xs : List ℕ) → ChainToEnd does ends a.stage (packets_taken bytes) b.stage xs grew.steps →
         Appends a.sink.held b.sink.held xs →
-        Wrote (sent_of plan bytes) (sent_status plan bytes) a.sink.held b.sink.held Done
+        StreamWritten (sent_of plan bytes) (sent_status plan bytes) a.sink.held b.sink.held Done
     wrote_all xs (mid, first, last, m, k, chain, end, joined, number) taken =
-        let clear = taken_of bytes in
+        let clear = packets_taken bytes in
         let went = went_on plan does ends refuses told After head [] clear a.stage mid first m stands chain in
         let closes = head.last clear mid b.stage last k went.after end in
         let sent = whole_unrefused plan bytes went.unrefused closes.0 whole in
@@ -510,7 +510,7 @@ wrote_sent plan does ends refuses told After head bytes a b (Ok count) stands (w
         (joined ∙ ap (λ (ys : List ℕ). ys ++ last) (went.wrote ∙ sym (body_bytes plan clear))
         ∙ ap (λ (ys : List ℕ). concat (body plan clear) ++ ys) closing ∙ sym (closed_bytes plan clear) ∙ sent.0) taken)
 wrote_sent plan does ends refuses told After head bytes a b (Err (drive.Broken found)) stands (end, grew) =
-    let clear = taken_of bytes in
+    let clear = packets_taken bytes in
     let went = went_on plan does ends refuses told After head [] clear a.stage b.stage grew.bytes grew.steps stands
     grew.says in
     let sent = broken_unrefused plan bytes found went.unrefused end in
@@ -518,7 +518,7 @@ wrote_sent plan does ends refuses told After head bytes a b (Err (drive.Broken f
     (subst (λ (xs : List ℕ). Appends a.sink.held b.sink.held xs) (went.wrote ∙ sym (body_bytes plan clear) ∙ sent.0)
     grew.taken)
 wrote_sent plan does ends refuses told After head bytes a b (Err drive.TooLong) stands (end, grew) =
-    let clear = taken_of bytes in
+    let clear = packets_taken bytes in
     let went = went_on plan does ends refuses told After head [] clear a.stage b.stage grew.bytes grew.steps stands
     grew.says in
     let sent = long_unrefused plan bytes went.unrefused end in
@@ -530,11 +530,11 @@ wrote_sent plan does ends refuses told After head bytes a b (Err drive.ReadFault
 wrote_sent plan does ends refuses told After head bytes a b (Err drive.WriteFault) stands (inr h) =
     some_sent plan does ends refuses told After head bytes a b h.count stands h.within h.passed
 wrote_sent plan does ends refuses told After head bytes a b (Err drive.WriteFault) stands (inl h) =
-    let first = take h.count (taken_of bytes) in
+    let first = take h.count (packets_taken bytes) in
     let went = went_on plan does ends refuses told After head [] first a.stage h.mid.stage h.passed.bytes h.passed.steps
     stands h.passed.says in
     let part = may_write plan does ends refuses told After head bytes h.count h.mid.stage h.passed.bytes h.cut.bytes
-    h.mid.steps b.steps (slice_get (taken_of bytes) h.count) h.place went refl h.cut.says in
+    h.mid.steps b.steps (slice_get (packets_taken bytes) h.count) h.place went refl h.cut.says in
     some_written (inr refl) (
       h.passed.bytes ++ h.cut.prefix,
       prefix_of_prefix (h.passed.bytes ++ h.cut.prefix) (h.passed.bytes ++ h.cut.bytes) (sent_of plan bytes)
@@ -544,13 +544,13 @@ wrote_sent plan does ends refuses told After head bytes a b (Err drive.WriteFaul
 wrote_sent plan does ends refuses told After head bytes a b (Err (drive.Refused fault)) stands h =
     refused_so h.passed.bytes h.passed.says h.passed.taken
   where
-    refused_so : (xs : List ℕ) → ChainToRefusal does refuses a.stage (take h.count (taken_of bytes))
-        (slice_get (taken_of bytes) h.count) fault b.stage
+    refused_so : (xs : List ℕ) → ChainToRefusal does refuses a.stage (take h.count (packets_taken bytes))
+        (slice_get (packets_taken bytes) h.count) fault b.stage
         xs h.passed.steps → Appends a.sink.held b.sink.held xs →
-        Wrote (sent_of plan bytes) (sent_status plan bytes) a.sink.held b.sink.held (stop_status (told fault))
+        StreamWritten (sent_of plan bytes) (sent_status plan bytes) a.sink.held b.sink.held (head_stop_status (told fault))
     refused_so xs (mid, first, last, m, k, chain, refuse, joined, number) taken =
-        let before = take h.count (taken_of bytes) in
-        let here = slice_get (taken_of bytes) h.count in
+        let before = take h.count (packets_taken bytes) in
+        let here = slice_get (packets_taken bytes) h.count in
         let went = went_on plan does ends refuses told After head [] before a.stage mid first m stands chain in
         let due = head.refusal before mid here fault b.stage last k went.after refuse in
         stopped_at plan bytes h.count xs a.sink.held b.sink.held (told fault) here h.place

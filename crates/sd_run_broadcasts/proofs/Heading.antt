@@ -14,18 +14,18 @@ use Rattle.sd_head.specs.declared.fault.HeadFault.{HeadFault}
 use Rattle.sd_head.specs.declared.fault.HeadFault.TheVariants as head
 use Rattle.sd_head.specs.declared.head.Head.{Head}
 use Rattle.sd_head.specs.Schedule.{IsDue}
-use Rattle.sd_head.specs.Staged.{IsAfter, head_does, head_ends, head_refuses, RefusesPacket}
+use Rattle.sd_head.specs.Staged.{IsHeadEndAfter, head_does, head_ends, head_refuses, RefusesClearPacket}
 use Rattle.sd_command_base.specs.declared.status.Status.{Status}
 use Rattle.sd_command_base.specs.declared.status.Status.TheVariants.{DepotFault}
-use Rattle.sd_command_base.specs.Outside.{DepotState, PageState, Outside, outside}
-use Rattle.sd_command_base.specs.Spec.{Spec, FileArgument, IsGot, ◌>>=◌}
+use Rattle.sd_command_base.specs.Outside.{DepotState, PageState, IoState, io_state}
+use Rattle.sd_command_base.specs.Spec.{Spec, FileArgument, IsReadingOfFile, ◌>>=◌}
 use Rattle.sd_command_base.specs.Outcome.{OutcomeWithin, Implements}
 use Rattle.sd_command_base.specs.Reads.{FilesOutcome}
 use Rattle.sd_command_base.proofs.Firsts.{first_obeys}
 use Rattle.sd_command_base.proofs.Moves.{then_obeys}
-use Rattle.sd_command_base.specs.Turned.{HasPortCause, Wrote}
+use Rattle.sd_command_base.specs.Turned.{HasPortCause, StreamWritten}
 use Rattle.sd_command_base.proofs.Thirds.{more_given}
-use Rattle.sd_run_broadcasts.specs.Head.{plan_by, plan_meaning, sending_of, head_meaning, refusal_in, stop_status}
+use Rattle.sd_run_broadcasts.specs.Head.{head_plan_by, head_plan_meaning, sending_of, head_meaning, refusal_in, head_stop_status}
 use Rattle.sd_run_broadcasts.specs.Head.{sent_told}
 use Rattle.sd_run_broadcasts.specs.Head.{SendsLeft, sent_of, sent_status}
 use Rattle.sd_run_broadcasts.proofs.HeadSending.{IsHeadEnd, IsDueAt, wrote_sent}
@@ -41,14 +41,14 @@ due_at plan before (Some packet) head.NoMemory h = tt
 
 kept_or_due : (plan : Plan) (before : List (List ℕ)) (s : Head) (packet : Option (List ℕ)) (fault : HeadFault)
     (bytes : List ℕ) →
-    IsAfter plan before s → RefusesPacket s packet fault bytes → IsDueAt plan before packet (refusal_in fault)
+    IsHeadEndAfter plan before s → RefusesClearPacket s packet fault bytes → IsDueAt plan before packet (refusal_in fault)
 kept_or_due plan before s packet fault bytes a h = elim h.cause [
   | inl kept ↦ let none : None ≡ Some fault = sym a.unrefused ∙ kept in absurd (cc)
   | inr due ↦ due_at plan before packet fault (due plan before a)
 ]
 
 -- the head end is one
-is_head_end : (plan : Plan) → IsHeadEnd plan head_does head_ends head_refuses refusal_in (IsAfter plan)
+is_head_end : (plan : Plan) → IsHeadEnd plan head_does head_ends head_refuses refusal_in (IsHeadEndAfter plan)
 is_head_end plan = record {
   step = λ before s packet t bytes n a does. does plan before a;
   last = λ before s t bytes n a ends. (ends.0 plan before a, (ends.1 plan before a).0);
@@ -61,28 +61,28 @@ is_head_end plan = record {
 
 -- what was sent for the stream that was left
 pub sends_left : (plan : Plan) (a b : DriveState Head) (result : Result ℕ (DriveFault HeadFault)) (status : Status) →
-    IsAfter plan [] a.stage →
+    IsHeadEndAfter plan [] a.stage →
     DriveOutcome head_does head_ends head_refuses a b result → status ≡ sent_told refusal_in result →
     SendsLeft plan a.left a.sink.held b.sink.held status
 sends_left plan a b result status stands drives is =
     let over = is_over head_does head_ends head_refuses a b result drives in record {
       bytes = over.bytes;
       is_left = over.left;
-      wrote = subst (λ (s : Status). Wrote (sent_of plan over.bytes) (sent_status plan over.bytes) a.sink.held
+      wrote = subst (λ (s : Status). StreamWritten (sent_of plan over.bytes) (sent_status plan over.bytes) a.sink.held
           b.sink.held s) (sym is)
-          (wrote_sent plan head_does head_ends head_refuses refusal_in (IsAfter plan) (is_head_end plan) over.bytes a b
+          (wrote_sent plan head_does head_ends head_refuses refusal_in (IsHeadEndAfter plan) (is_head_end plan) over.bytes a b
           result stands over.drives);
     }
 
 -- the head end keeps to its plan
 pub by_plan : (own plan : Plan) (bytes : List ℕ) (before now : Option (List ℕ)) (status : Status) → own ≡ plan →
-    Wrote (sent_of own bytes) (sent_status own bytes) before now status → Wrote (sent_of plan bytes)
+    StreamWritten (sent_of own bytes) (sent_status own bytes) before now status → StreamWritten (sent_of plan bytes)
     (sent_status plan bytes) before now status
 by_plan own plan bytes before now status is h =
-    subst (λ (p : Plan). Wrote (sent_of p bytes) (sent_status p bytes) before now status) is h
+    subst (λ (p : Plan). StreamWritten (sent_of p bytes) (sent_status p bytes) before now status) is h
 
 -- no refusal is the device's fault
-refused_apart : (o : Option ClearFault) → stop_status o ≢ DepotFault
+refused_apart : (o : Option ClearFault) → head_stop_status o ≢ DepotFault
 refused_apart None = λ e. cc
 refused_apart (Some fault) = λ e. cc
 
@@ -115,27 +115,27 @@ port_caused f g i j (Err (drive.Refused fault)) status is read written = record 
 -- a plan that was read, and then what is meant by it and the third file
 pub plan_follows : {X : Type 0} (view : X →
     Plan) (site book clear out : FileArgument) (got : Option (List ℕ)) (p q : DepotState) (page : PageState) (steps : ℕ)
-    (b : Outside) (x : X) (status : Status) → site.number ≢ clear.number → book.number ≢ clear.number →
-    FilesOutcome view (plan_meaning site book) p q (Ok x) → IsGot q.files clear.text got →
-    OutcomeWithin (sending_of clear out got (view x)) (outside q page steps) b status →
-    Implements (head_meaning site book clear out) (outside p page steps) b status
+    (b : IoState) (x : X) (status : Status) → site.number ≢ clear.number → book.number ≢ clear.number →
+    FilesOutcome view (head_plan_meaning site book) p q (Ok x) → IsReadingOfFile q.files clear.text got →
+    OutcomeWithin (sending_of clear out got (view x)) (io_state q page steps) b status →
+    Implements (head_meaning site book clear out) (io_state p page steps) b status
 unfolding head_meaning
 plan_follows {X} view site book clear out got p q page steps b x status sc bc read is_got obeys =
     let same : q.files ≡ p.files = ap (λ (z : DepotState). z.files) read.gives.1 in
     let g = more_given p.files read.given site book clear got read.is_given
-    (subst (λ (f : Option Files). IsGot f clear.text got) same is_got) sc bc in
-    let one : plan_by site.number book.number (read.given site) (read.given book) ≡ plan_meaning site book g.more =
-    ap (λ (o : Option (List ℕ)). plan_by site.number book.number o (read.given book)) (sym g.first)
-    ∙ ap (λ (o : Option (List ℕ)). plan_by site.number book.number (g.more site) o) (sym g.second) in
+    (subst (λ (f : Option Files). IsReadingOfFile f clear.text got) same is_got) sc bc in
+    let one : head_plan_by site.number book.number (read.given site) (read.given book) ≡ head_plan_meaning site book g.more =
+    ap (λ (o : Option (List ℕ)). head_plan_by site.number book.number o (read.given book)) (sym g.first)
+    ∙ ap (λ (o : Option (List ℕ)). head_plan_by site.number book.number (g.more site) o) (sym g.second) in
     record {
       given = g.more;
       is_given = g.is_more;
       obeyed =
-          subst (λ (o : Option (List ℕ)). OutcomeWithin (plan_meaning site book g.more >>= sending_of clear out o)
-          (outside p page steps) b status)
+          subst (λ (o : Option (List ℕ)). OutcomeWithin (head_plan_meaning site book g.more >>= sending_of clear out o)
+          (io_state p page steps) b status)
           (sym g.gave)
-          (subst (λ (m : Spec Plan). OutcomeWithin (m >>= sending_of clear out got) (outside p page steps) b status) one
-          (then_obeys (plan_meaning site book read.given) (view x) (sending_of clear out got) p q page steps b status
+          (subst (λ (m : Spec Plan). OutcomeWithin (m >>= sending_of clear out got) (io_state p page steps) b status) one
+          (then_obeys (head_plan_meaning site book read.given) (view x) (sending_of clear out got) p q page steps b status
           read.gives.0 read.gives.1
           obeys));
     }
@@ -143,12 +143,12 @@ plan_follows {X} view site book clear out got p q page steps b x status sc bc re
 -- a plan that was not read
 pub no_plan : {X : Type 0} (view : X →
     Plan) (site book clear out : FileArgument) (p q : DepotState) (page : PageState) (steps : ℕ) (status : Status) →
-    FilesOutcome view (plan_meaning site book) p q (Err status) →
-    Implements (head_meaning site book clear out) (outside p page steps) (outside q page steps) status
+    FilesOutcome view (head_plan_meaning site book) p q (Err status) →
+    Implements (head_meaning site book clear out) (io_state p page steps) (io_state q page steps) status
 unfolding head_meaning
 no_plan view site book clear out p q page steps status read = record {
   given = read.given;
   is_given = read.is_given;
-  obeyed = first_obeys (plan_meaning site book read.given) (sending_of clear out (read.given clear)) p q page steps
+  obeyed = first_obeys (head_plan_meaning site book read.given) (sending_of clear out (read.given clear)) p q page steps
       status read.gives;
 }

@@ -4,7 +4,7 @@ use Rattle.std.specs.Io.KnownBytes.{Appends, Consumes, IsAtEnd}
 use Rattle.std.proofs.KnownBytes.{Appends-trans}
 use Rattle.sd_ports.specs.Bytes.{IsPrefix, AppendsPrefix}
 use Rattle.sd_ports.proofs.Starts.{prefix_of_prefix, after_first}
-use Rattle.sd_engine.specs.Taken.{IsLeft}
+use Rattle.sd_engine.specs.Taken.{AreBytesLeft}
 
 -- what was written is a prefix of all
 pub prefix_of_all : (held mid held' : Option (List ℕ)) (first part whole : List ℕ) → Appends held mid first →
@@ -23,7 +23,7 @@ short_of_all held held' first whole wrote all = (first, all, wrote)
 -- what is left of a source behind what was read
 pub record LeftBehind (left now : Option (List ℕ)) (bytes : List ℕ) : Type 0 where
   pub rest : List ℕ
-  pub is_left : IsLeft left (bytes ++ rest)
+  pub is_left : AreBytesLeft left (bytes ++ rest)
   pub none : IsAtEnd now → rest ≡ []
 
 pub left_behind : (left now : Option (List ℕ)) (bytes : List ℕ) → Consumes left now bytes → LeftBehind left now bytes

@@ -19,20 +19,20 @@ use Rattle.sd_command_base.specs.declared.status.Status.TheVariants.{Limit}
 use Rattle.sd_command_base.specs.declared.status.Status.TheVariants.{NoMemory, Unheard, Unclosed, Gaps, NoCat}
 use Rattle.sd_command_base.specs.declared.status.Status.TheVariants.{BadWord, Clash, BadOut, OtherBook, SiteUsed}
 use Rattle.sd_command_base.specs.declared.status.Status.TheVariants.{SiteUsedUp}
-use Rattle.sd_command_base.specs.Outside.{DepotState, PageState, outside}
-use Rattle.sd_command_base.specs.Spec.{FileArgument, all_of, value, ◌>>=◌}
+use Rattle.sd_command_base.specs.Outside.{DepotState, PageState, io_state}
+use Rattle.sd_command_base.specs.Spec.{FileArgument, whole_file_bytes, value, ◌>>=◌}
 use Rattle.sd_command_base.specs.Work.{StepBound, Mark, Work, TakesSteps}
-use Rattle.sd_command_base.specs.Outcome.{IsEnding, IsRefusal, IsMadeShort, Progress, telling, Outcome, ended}
+use Rattle.sd_command_base.specs.Outcome.{IsEnding, IsRefusal, IsOutMadeShort, Progress, telling, Outcome, ended}
 use Rattle.sd_command_base.specs.Outcome.{unclosed, exhausted, failed, nowhere, cut_short, OutcomeWithin}
-use Rattle.sd_command_base.specs.Outcome.{status_of, IsUnmade, marked_by}
+use Rattle.sd_command_base.specs.Outcome.{status_of, IsNoOutMade, marked_by}
 use Rattle.sd_command_base.proofs.Firsts.{takes_none, stopped_comes, first_obeys, unmade as unmade_files}
 use Rattle.sd_command_base.proofs.Givens.{some_got as any_got}
 use Rattle.sd_command_base.proofs.Streams.{is_other}
 use Rattle.sd_command_base.proofs.Looked.{none_got, all_calls as opening_calls}
 use Rattle.sd_command_base.proofs.Turning.{added_later, all_prefix, both_closed, still, rises, unclosed_told}
 use Rattle.sd_command_base.proofs.Turning.{there_got, untold_got, NotTurned}
-use Rattle.sd_command_base.specs.Turned.{IsOpened, NotOpened, no_input, no_folder, stopped_first, stopped_then}
-use Rattle.sd_command_base.specs.Turned.{unclosed_status, IsClosed, is_break, HasPortCause}
+use Rattle.sd_command_base.specs.Turned.{ArePortsOpened, NotOpened, no_input, no_folder, stopped_first, stopped_then}
+use Rattle.sd_command_base.specs.Turned.{unclosed_status, ArePortsClosed, is_break, HasPortCause}
 use Rattle.sd_run_broadcasts.specs.Live.{living, Lived, all_lived, some_lived, unprinted, is_outside}
 use Rattle.sd_run_broadcasts.specs.Live.{TellsEnd, untold, told, unmade, cut}
 
@@ -131,10 +131,10 @@ pub record IsLive (steps : StepBound) (out : FileArgument) (bytes : List ℕ) (f
     (ends : Status) (p q r : DepotState) (a b c : PageState) (i j : ℕ)
     (left held held' : Option (List ℕ)) (from : List ℕ) (f f' o o' : ℕ) (over closed : Result (Unit {0}) Status)
     (status : Status) : Type 0 where
-  pub opened : IsOpened p q from out.text left held f o
+  pub opened : ArePortsOpened p q from out.text left held f o
   pub cause : HasPortCause f f' o o' (status_of over)
   pub lived : Lived bytes (first ++ line ∷ []) first ends held held' a b (status_of over)
-  pub closes : IsClosed q r out.text held' f' o' over closed
+  pub closes : ArePortsClosed q r out.text held' f' o' over closed
   pub tells : TellsEnd line (status_of closed) b c status
 
 module _ (steps : StepBound) (out : FileArgument) (bytes : List ℕ) (first : List (List ℕ)) (line : List ℕ)
@@ -149,11 +149,11 @@ module _ (steps : StepBound) (out : FileArgument) (bytes : List ℕ) (first : Li
   work = living steps out bytes pieces ends
 
   abbrev Comes : PageState → Status → Type 0
-  Comes page s = Outcome (Ok work) (outside p a i) (outside r page j) s
+  Comes page s = Outcome (Ok work) (io_state p a i) (io_state r page j) s
 
   -- OUT has a prefix of its bytes
   short : AppendsPrefix held held' bytes →
-      IsMadeShort (record { word = out.number; name = out.text; bytes = bytes }) p r
+      IsOutMadeShort (record { word = out.number; name = out.text; bytes = bytes }) p r
   short prefix =
       let it = closed_short p.files q.files r.files out.text bytes held held' h.opened.files h.opened.empty prefix
       h.closes.prefix in
@@ -165,7 +165,7 @@ module _ (steps : StepBound) (out : FileArgument) (bytes : List ℕ) (first : Li
   -- some pieces were printed while OUT was made
   told_some : AppendsPrefix held held' bytes → (page : PageState) (count : ℕ) →
       Appends a.printed page.printed (concat (take count pieces)) →
-      Progress (Ok work) (outside p a i) (outside r page j)
+      Progress (Ok work) (io_state p a i) (io_state r page j)
   told_some prefix page count printed = telling work refl refl
       (record { word = out.number; name = out.text; bytes = bytes }) refl (short prefix) (count, printed)
 
@@ -327,9 +327,9 @@ module _ (steps : StepBound) (out : FileArgument) (bytes : List ℕ) (first : Li
   -- a stream that was turned into OUT while pieces were printed is what is meant by its bytes
   pub lived_obeys : (number : ℕ) (stream : List ℕ) (work_of : List ℕ → Work) → work_of stream ≡ work →
       TakesSteps (Ok work) i j →
-      OutcomeWithin (all_of number (Some stream) >>= λ xs. value (work_of xs)) (outside p a i) (outside r c j) status
+      OutcomeWithin (whole_file_bytes number (Some stream) >>= λ xs. value (work_of xs)) (io_state p a i) (io_state r c j) status
   lived_obeys number stream work_of is takes = record {
-    comes = subst (λ (w : Work). Outcome (Ok w) (outside p a i) (outside r c j) status) (sym is) comes;
+    comes = subst (λ (w : Work). Outcome (Ok w) (io_state p a i) (io_state r c j) status) (sym is) comes;
     ports = both_closed p.opened q.opened r.opened h.opened.within h.opened.ports h.closes.low h.closes.ports;
     calls = rw is (let x = h.opened.calls in let y = h.closes.calls in omega (arith, x, y));
     steps = rw is takes;
@@ -342,12 +342,12 @@ pub not_lived : (work : List ℕ → Work) (bytes : List ℕ → List ℕ) (word
     ≡ Some (record { word = out.number; name = out.text; bytes = bytes stream })) →
     ((stream : List ℕ) → (work stream).mark ≡ None) →
     NotOpened word out p q status →
-    NotTurned p.files word.text (λ got. all_of word.number got >>= λ stream. value (work stream))
-    (outside p page i) (outside q page i) status
+    NotTurned p.files word.text (λ got. whole_file_bytes word.number got >>= λ stream. value (work stream))
+    (io_state p page i) (io_state q page i) status
 not_lived work bytes word out p q page i status made unmarked (no_input is none asked calm rose) = record {
   got = None;
   is_got = none_got p.files word.text none;
-  obeys = first_obeys (all_of word.number None) (λ stream. value (work stream)) p q page i status
+  obeys = first_obeys (whole_file_bytes word.number None) (λ stream. value (work stream)) p q page i status
       (inl (record {
         value = ap Err (sym is);
         refusal = subst IsRefusal (sym is) tt;
@@ -362,7 +362,7 @@ not_lived work bytes word out p q page i status made unmarked (no_folder is none
   obeys = record {
     comes = nowhere (work []) refl (record { word = out.number; name = out.text; bytes = bytes [] }) (made [])
         is none
-        (subst (λ (mark : Option Mark). IsUnmade (marked_by mark p) q) (sym (unmarked [])) (unmade_files 3 p q asked))
+        (subst (λ (mark : Option Mark). IsNoOutMade (marked_by mark p) q) (sym (unmarked [])) (unmade_files 3 p q asked))
         refl (record { depot = calm; print = refl }) rose;
     ports = asked.ports;
     calls = let c = asked.calls in rw (made []) (omega (arith, c));
@@ -373,7 +373,7 @@ not_lived work bytes word out p q page i status made unmarked (stopped_first sto
     let g = any_got p.files word.text in record {
       got = g.0;
       is_got = g.1;
-      obeys = first_obeys (all_of word.number g.0) (λ stream. value (work stream)) p q page i status
+      obeys = first_obeys (whole_file_bytes word.number g.0) (λ stream. value (work stream)) p q page i status
           (inr (record {
             cause = stopped.cause;
             asked = record {

@@ -16,7 +16,7 @@ use Rattle.sd_command_base.specs.Outside.{DepotState}
 use Rattle.sd_command_base.specs.Spec.{FileArgument}
 use Rattle.sd_command_base.specs.Made.{making_told}
 use Rattle.sd_command_base.specs.Reads.{IsAsked}
-use Rattle.sd_run_broadcasts.specs.Marked.{with_mark, MarkOutcome, used, no_mark}
+use Rattle.sd_run_broadcasts.specs.Marked.{with_mark_made, MarkOutcome, used, no_mark}
 use Rattle.sd_run_broadcasts.specs.Marked.{stopped_first, stopped_then}
 
 -- the answer once the mark was to be made
@@ -37,7 +37,7 @@ module _ (mark : FileArgument) (a b : DepotState) where
 
   -- an empty file was made
   asked_marked : IsShortFile a.files b.files a.made b.made mark.text [] → b.opened ≡ a.opened →
-      b.calls ≤ with_added a.calls 2 → IsAsked (2 + 2) (with_mark mark a) b
+      b.calls ≤ with_added a.calls 2 → IsAsked (2 + 2) (with_mark_made mark a) b
   asked_marked cut ports calls = record {
     files = subst (λ (bytes : List ℕ). b.files ≡ with_bytes a.files mark.text bytes) (none_short cut.0 cut.1.0 cut.1.1)
         cut.2.0;

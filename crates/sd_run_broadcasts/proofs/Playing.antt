@@ -9,7 +9,7 @@ use Rattle.sd_spec.specs.declared.event.Event.{Event}
 use Rattle.sd_spec.specs.Book.{sends}
 use Rattle.sd_field.specs.declared.fault.FieldFault.{FieldFault}
 use Rattle.sd_field.specs.declared.fault.FieldFault.TheVariants.{Clear}
-use Rattle.sd_field.specs.Fields.{FieldValue, after_next, next_refusal, refusal_at, taken}
+use Rattle.sd_field.specs.Fields.{FieldValue, after_next, next_refusal, refusal_at, field_clear_packets}
 use Rattle.sd_field.proofs.Refused.{goes_on_clear, stops_at_first}
 use Rattle.sd_command_base.specs.declared.status.Status.{Status}
 use Rattle.sd_run_broadcasts.specs.FieldPlayed.{EventOutcome, PlayOutcome, all_done}
@@ -23,7 +23,7 @@ moved_to v n = record { site = v.site; clear = v.clear; events = v.events; done 
 pub record IsAlong (start now : FieldValue) : Type 0 where
   pub same : now ≡ moved_to start now.done
   pub within : now.done ≤ length start.events
-  pub clear : refusal_from start.site [] (taken now) ≡ None
+  pub clear : refusal_from start.site [] (field_clear_packets now) ≡ None
 
 -- no event is done yet
 pub none_done : (v : FieldValue) → v.done ≡ 0 → v.failed ≡ None → IsAlong v v
@@ -53,7 +53,7 @@ one_more_done start now next along moves =
     subst (IsAlong start) (sym next_is) (record {
       same = refl;
       within = omega (arith, inside);
-      clear = goes_on_clear v inside (subst (λ (w : FieldValue). refusal_from start.site [] (taken w) ≡ None) v_is
+      clear = goes_on_clear v inside (subst (λ (w : FieldValue). refusal_from start.site [] (field_clear_packets w) ≡ None) v_is
           along.clear) (subst (λ (w : FieldValue). next_refusal w ≡ None) v_is moves.2);
     })
 
@@ -66,7 +66,7 @@ played_out start now next along moves =
     let end : now.done ≡ length start.events =
     subst (λ (w : FieldValue). now.done ≡ length w.events) v_is moves.1 in
     let is : now ≡ all_done start = v_is ∙ ap (moved_to start) end in
-    (moves.0 ∙ is, subst (λ (w : FieldValue). refusal_from start.site [] (taken w) ≡ None) is along.clear)
+    (moves.0 ∙ is, subst (λ (w : FieldValue). refusal_from start.site [] (field_clear_packets w) ≡ None) is along.clear)
 
 -- the next one stops the field
 pub played_short : (start now next : FieldValue) (status : Status) → IsAlong start now →
@@ -80,7 +80,7 @@ played_short start now next status along (inl (fault, refused, is)) =
     inl (
       fault,
       stops_at_first v fault (length start.events) (subst (λ (w : FieldValue).
-          refusal_from start.site [] (taken w) ≡ None) v_is along.clear) here (inside v fault here),
+          refusal_from start.site [] (field_clear_packets w) ≡ None) v_is along.clear) here (inside v fault here),
       is,
     )
   where

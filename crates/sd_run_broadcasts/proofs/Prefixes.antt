@@ -11,11 +11,11 @@ use Rattle.sd_ports.specs.Bytes.{Prefix, prefix_of, IsTakenFrom}
 use Rattle.sd_ports.specs.declared.prefix.ReadMostFault.{ReadMostFault}
 use Rattle.sd_ports.specs.declared.prefix.ReadMostFault.TheVariants as fault
 use Rattle.sd_ports.proofs.Prefixes.{prefix, same_prefix}
-use Rattle.sd_engine.specs.Taken.{IsLeft}
+use Rattle.sd_engine.specs.Taken.{AreBytesLeft}
 use Rattle.sd_engine.proofs.Taken.{some_left}
 use Rattle.sd_command_base.specs.declared.status.Status.{Status}
 use Rattle.sd_command_base.specs.declared.status.Status.TheVariants.{DepotFault, NoMemory}
-use Rattle.sd_command_base.specs.Outside.{DepotState, called}
+use Rattle.sd_command_base.specs.Outside.{DepotState, depot_after_calls}
 use Rattle.sd_command_base.specs.Reads.{IsAsked, StopCause, FileOutcome}
 use Rattle.sd_command_base.proofs.Looked.{opened_got}
 use Rattle.sd_command_base.proofs.Places.{only_called}
@@ -41,7 +41,7 @@ untold_prefix most bytes true within full =
 -- the bytes that were left of an input whose prefix was taken
 pub record PrefixLeft (left : Option (List ℕ)) (most : ℕ) (prefix : Prefix) : Type 0 where
   pub bytes : List ℕ
-  pub is_left : IsLeft left bytes
+  pub is_left : AreBytesLeft left bytes
   pub is : prefix ≡ prefix_of most bytes
 
 pub prefix_left : (left : Option (List ℕ)) (most : ℕ) (prefix : Prefix) → IsTakenFrom most left prefix →
@@ -53,7 +53,7 @@ prefix_left (Some left) most prefix h within full = record { bytes = left; is_le
 
 -- the file was read as far as it is taken
 pub prefix_looks : (word most : ℕ) (name : List ℕ) (a b : DepotState) (left : Option (List ℕ)) (prefix : Prefix) →
-    OpensFile a.files name left → PrefixLeft left most prefix → b ≡ called 2 a →
+    OpensFile a.files name left → PrefixLeft left most prefix → b ≡ depot_after_calls 2 a →
     FileOutcome (λ (prefix : Prefix). prefix) (prefix_of_file word most) name a b (Ok prefix)
 unfolding prefix_of_file
 prefix_looks word most name a b left prefix opens h same = record {

@@ -15,7 +15,7 @@ use Rattle.sd_ports.proofs.Starts.{prefix_of_prefix, after_first, nothing_after}
 use Rattle.sd_engine.specs.Stage.{Chain}
 use Rattle.sd_engine.specs.Driving.{DriveState, most_packets, ChainToEnd, ChainToRefusal, IsAllowedAt, DriveOutcome}
 use Rattle.sd_engine.specs.Driving.{PassesPackets}
-use Rattle.sd_engine.specs.Taken.{StreamEnd, Whole, Breaks, RunsOn, taken_of, end_of, RefusesAt, CutAt}
+use Rattle.sd_engine.specs.Taken.{StreamEnd, Whole, Breaks, RunsOn, packets_taken, end_of, RefusesAt, CutAt}
 use Rattle.sd_engine.specs.Taken.{DriveOutcomeOver}
 use Rattle.sd_engine.proofs.Taken.{least_of, is_over, all_few}
 use Rattle.sd_engine.specs.declared.driver.DriveFault.{DriveFault}
@@ -27,7 +27,7 @@ use Rattle.sd_spec.specs.Tuned.{tuning_of}
 use Rattle.sd_spec.specs.Offered.{heard, offered, out_from, break_from}
 use Rattle.sd_spec.specs.Ending.{ending_of}
 use Rattle.sd_receive.specs.declared.receiver.Receiver.{Receiver}
-use Rattle.sd_receive.specs.Receiving.{IsAfter, IsLive, card_in, steps_at, taken_keys, receiver_does}
+use Rattle.sd_receive.specs.Receiving.{HasReceived, MayReceive, receiver_card, steps_at, taken_keys, receiver_does}
 use Rattle.sd_receive.specs.Receiving.{receiver_ends, receiver_refuses}
 use Rattle.sd_receive.specs.Receiving.{OutcomeOf, BreakAt}
 use Rattle.sd_receive.proofs.Chained.{came_to_all, broke_at, out_joined, steps_more}
@@ -35,8 +35,8 @@ use Rattle.sd_command_base.specs.declared.status.Status.{Status}
 use Rattle.sd_command_base.specs.declared.status.Status.TheVariants.{BadStream, DepotFault}
 use Rattle.sd_command_base.specs.declared.stream_refusal.StreamRefusal.TheVariants.{Packet}
 use Rattle.sd_command_base.specs.Outcome.{IsEnding}
-use Rattle.sd_command_base.specs.Turned.{Wrote, all_written, some_written}
-use Rattle.sd_run_broadcasts.specs.Receive.{ended_status, ending_status, status_at, unless_refused}
+use Rattle.sd_command_base.specs.Turned.{StreamWritten, all_written, some_written}
+use Rattle.sd_run_broadcasts.specs.Receive.{receive_end_status, ending_status, received_status_at, unless_refused}
 use Rattle.sd_run_broadcasts.specs.Receive.{stopped_status, received_of, received_status, received_steps, ReceivesLeft}
 use Rattle.sd_run_broadcasts.specs.Receive.{upto_break}
 
@@ -49,8 +49,8 @@ ending_ends leaf end.NoCat = tt
 ending_ends leaf (end.Unclosed number) = tt
 ending_ends leaf (end.Gaps packets) = tt
 
-stream_ends : (card : CardFields) (packets : List (List ℕ)) (end : StreamEnd) → IsEnding (status_at card packets end)
-unfolding ended_status
+stream_ends : (card : CardFields) (packets : List (List ℕ)) (end : StreamEnd) → IsEnding (received_status_at card packets end)
+unfolding receive_end_status
 stream_ends card packets Whole = ending_ends card.leaf (ending_of card (reverse packets))
 stream_ends card packets (Breaks found) = tt
 stream_ends card packets RunsOn = tt
@@ -62,29 +62,29 @@ unless_ends (Some why) status ends = tt
 received_ends : (card : CardFields) (bytes : List ℕ) → IsEnding (received_status card bytes)
 unfolding received_status
 received_ends card bytes =
-    unless_ends (break_from card [] (taken_of bytes)) (status_at card (taken_of bytes) (end_of bytes))
-    (stream_ends card (taken_of bytes) (end_of bytes))
+    unless_ends (break_from card [] (packets_taken bytes)) (received_status_at card (packets_taken bytes) (end_of bytes))
+    (stream_ends card (packets_taken bytes) (end_of bytes))
 
 -- a stream of which no packet is refused ends as its bytes do
 pub none_refused : (card : CardFields) (bytes : List ℕ) (end : StreamEnd) →
-    break_from card [] (taken_of bytes) ≡ None → end_of bytes ≡ end →
-    received_status card bytes ≡ status_at card (taken_of bytes) end
+    break_from card [] (packets_taken bytes) ≡ None → end_of bytes ≡ end →
+    received_status card bytes ≡ received_status_at card (packets_taken bytes) end
 unfolding received_status
 none_refused card bytes end none is = rw (none, is) refl
 
 some_refused : (card : CardFields) (bytes : List ℕ) (why : StreamFault) →
-    break_from card [] (taken_of bytes) ≡ Some why →
+    break_from card [] (packets_taken bytes) ≡ Some why →
     received_status card bytes ≡ BadStream (Packet why)
 unfolding received_status
 some_refused card bytes why some =
-    ap (λ (f : Option StreamFault). unless_refused f (status_at card (taken_of bytes) (end_of bytes))) some
+    ap (λ (f : Option StreamFault). unless_refused f (received_status_at card (packets_taken bytes) (end_of bytes))) some
 
 -- as few packets are taken as can be counted
 few_of : (packets : List (List ℕ)) (k : ℕ) → length packets ≤ most_packets → length (take k packets) < 2 ^ 64 - 1
 few_of packets k few = omega (arith, few, length-take k packets)
 
-some_few : (bytes : List ℕ) (k : ℕ) → length (take k (taken_of bytes)) < 2 ^ 64 - 1
-some_few bytes k = few_of (taken_of bytes) k (least_of bytes).1
+some_few : (bytes : List ℕ) (k : ℕ) → length (take k (packets_taken bytes)) < 2 ^ 64 - 1
+some_few bytes k = few_of (packets_taken bytes) k (least_of bytes).1
 
 -- the packet at a place and those after it
 split_at : (packets : List (List ℕ)) (k : ℕ) (packet : List ℕ) → slice_get packets k ≡ Some packet →
@@ -99,7 +99,7 @@ split_at (first ∷ packets) (suc k) packet at =
 
 -- all packets went through
 all_through : (card : CardFields) (packets : List (List ℕ)) (s t : Receiver) (bytes : List ℕ) (n : ℕ) →
-    card_in s ≡ card → IsAfter [] s →
+    receiver_card s ≡ card → HasReceived [] s →
     length packets ≤ 2 ^ 64 - 1 → Chain receiver_does s packets t bytes n → OutcomeOf card packets t bytes n
 all_through card packets s t bytes n is after few chain =
     subst (λ (c : CardFields). OutcomeOf c packets t bytes n) is (came_to_all packets s t bytes n after few chain)
@@ -154,7 +154,7 @@ next_of_out card packets k packet at none =
 
 -- what a packet writes and the steps that it takes, where it is taken or refused
 wrote_at : (card : CardFields) (past : List (List ℕ)) (mid : Receiver) (packet bytes : List ℕ) (from to : ℕ) →
-    card_in mid ≡ card → IsAfter past mid → length past < 2 ^ 64 - 1 →
+    receiver_card mid ≡ card → HasReceived past mid → length past < 2 ^ 64 - 1 →
     IsAllowedAt receiver_does receiver_ends receiver_refuses mid (Some packet) from to bytes →
     (bytes ≡ concat (offered card past packet).wrote) × (to - from ≤ steps_at card past packet)
 wrote_at card past mid packet bytes from to is after few (n, counted, inl (t, does)) =
@@ -291,7 +291,7 @@ part_of_steps card packets k mid first bytes n from to (Some packet) came few at
     (subst (λ (past : List (List ℕ)). to - from ≤ steps_at card past packet) (sym (append-nil (reverse early))) one) in
     omega (arith, both, next_steps card packets k packet at came.unbroken)
 
-steps_are : (card : CardFields) (bytes : List ℕ) → received_steps card bytes ≡ most_steps card (taken_of bytes)
+steps_are : (card : CardFields) (bytes : List ℕ) → received_steps card bytes ≡ most_steps card (packets_taken bytes)
 unfolding received_steps
 steps_are card bytes = refl
 
@@ -301,26 +301,26 @@ all_steps : (card : CardFields) (packets : List (List ℕ)) → break_from card 
 all_steps card packets none =
     ap (λ (ps : List (List ℕ)). card.height * taken_keys card [] ps) (upto_all card packets none)
 
-pub unrefused_steps : (card : CardFields) (bytes : List ℕ) → break_from card [] (taken_of bytes) ≡ None →
-    received_steps card bytes ≡ card.height * taken_keys card [] (taken_of bytes)
-unrefused_steps card bytes none = steps_are card bytes ∙ all_steps card (taken_of bytes) none
+pub unrefused_steps : (card : CardFields) (bytes : List ℕ) → break_from card [] (packets_taken bytes) ≡ None →
+    received_steps card bytes ≡ card.height * taken_keys card [] (packets_taken bytes)
+unrefused_steps card bytes none = steps_are card bytes ∙ all_steps card (packets_taken bytes) none
 
 pub bytes_are : (card : CardFields) (bytes : List ℕ) → received_of card bytes ≡ concat
-    (out_from card [] (taken_of bytes))
+    (out_from card [] (packets_taken bytes))
 unfolding received_of
 bytes_are card bytes = refl
 
 -- what was written of a stream, and how many steps it took
 record Receives (card : CardFields) (bytes : List ℕ) (a b : DriveState Receiver) (status : Status) : Type 0 where
-  wrote : Wrote (received_of card bytes) (received_status card bytes) a.sink.held b.sink.held status
+  wrote : StreamWritten (received_of card bytes) (received_status card bytes) a.sink.held b.sink.held status
   steps : b.steps ≤ a.steps + received_steps card bytes
 
 -- all of it was written
 wrote_all : (card : CardFields) (bytes : List ℕ) (a b : DriveState Receiver) (status : Status) (wrote : List ℕ)
     (n : ℕ) →
-    status ≡ received_status card bytes → wrote ≡ concat (out_from card [] (taken_of bytes)) →
+    status ≡ received_status card bytes → wrote ≡ concat (out_from card [] (packets_taken bytes)) →
     Appends a.sink.held b.sink.held wrote → b.steps ≤ a.steps + n →
-    n ≤ most_steps card (taken_of bytes) →
+    n ≤ most_steps card (packets_taken bytes) →
     Receives card bytes a b status
 wrote_all card bytes a b status wrote n is are taken counted few = record {
   wrote = all_written is (subst IsEnding (sym is) (received_ends card bytes))
@@ -330,8 +330,8 @@ wrote_all card bytes a b status wrote n is are taken counted few = record {
 
 -- the device failed after a prefix of it
 wrote_some : (card : CardFields) (bytes : List ℕ) (a b : DriveState Receiver) (prefix : List ℕ) (n : ℕ) →
-    IsPrefix prefix (concat (out_from card [] (taken_of bytes))) → Appends a.sink.held b.sink.held prefix →
-    b.steps ≤ a.steps + n → n ≤ most_steps card (taken_of bytes) →
+    IsPrefix prefix (concat (out_from card [] (packets_taken bytes))) → Appends a.sink.held b.sink.held prefix →
+    b.steps ≤ a.steps + n → n ≤ most_steps card (packets_taken bytes) →
     Receives card bytes a b DepotFault
 wrote_some card bytes a b prefix n short taken counted few = record {
   wrote = some_written (inr refl) (
@@ -344,22 +344,22 @@ wrote_some card bytes a b prefix n short taken counted few = record {
 
 -- the stream was received up to a packet that is refused
 refused_wrote : (card : CardFields) (bytes : List ℕ) (a b : DriveState Receiver) (why : StreamFault) →
-    card_in a.stage ≡ card → IsAfter [] a.stage →
+    receiver_card a.stage ≡ card → HasReceived [] a.stage →
     RefusesAt receiver_does receiver_refuses bytes a b why → Receives card bytes a b (BadStream (Packet why))
 refused_wrote card bytes a b why is after h =
-    go (slice_get (taken_of bytes) h.count) refl h.passed.bytes h.passed.steps h.passed.taken h.passed.counted
+    go (slice_get (packets_taken bytes) h.count) refl h.passed.bytes h.passed.steps h.passed.taken h.passed.counted
     h.passed.says
   where
-    go : (here : Option (List ℕ)) → slice_get (taken_of bytes) h.count ≡ here → (wrote : List ℕ) (n : ℕ) →
+    go : (here : Option (List ℕ)) → slice_get (packets_taken bytes) h.count ≡ here → (wrote : List ℕ) (n : ℕ) →
         Appends a.sink.held b.sink.held wrote → b.steps ≤ a.steps + n →
-        ChainToRefusal receiver_does receiver_refuses a.stage (take h.count (taken_of bytes)) here why b.stage wrote n →
+        ChainToRefusal receiver_does receiver_refuses a.stage (take h.count (packets_taken bytes)) here why b.stage wrote n →
         Receives card bytes a b (BadStream (Packet why))
     go None at wrote n taken counted (mid, first, last, m, k, chain, kept, joined, all) =
-        let came = came_to_all (take h.count (taken_of bytes)) a.stage mid first m after
+        let came = came_to_all (take h.count (packets_taken bytes)) a.stage mid first m after
         (let few = some_few bytes h.count in omega (arith, few)) chain in
         absurd (let some = kept.kept in let none = came.after.unrefused in let both = sym none ∙ some in cc)
     go (Some packet) at wrote n taken counted (mid, first, last, m, k, chain, refuses, joined, all) =
-        let packets = taken_of bytes in
+        let packets = packets_taken bytes in
         let early = take h.count packets in
         let split = split_at packets h.count packet at in
         let broke = subst (λ (c : CardFields). BreakAt c early packet split.0 why (first ++ last) (m + k)) is
@@ -373,11 +373,11 @@ refused_wrote card bytes a b why is after h =
         taken counted (let few = broke.few in omega (arith, all, few, most))
 
 -- a write failed
-cut_wrote : (card : CardFields) (bytes : List ℕ) (a b : DriveState Receiver) → card_in a.stage ≡ card →
-    IsAfter [] a.stage →
+cut_wrote : (card : CardFields) (bytes : List ℕ) (a b : DriveState Receiver) → receiver_card a.stage ≡ card →
+    HasReceived [] a.stage →
     CutAt receiver_does receiver_ends receiver_refuses bytes a b → Receives card bytes a b DepotFault
 cut_wrote card bytes a b is after h =
-    let packets = taken_of bytes in
+    let packets = packets_taken bytes in
     let few = some_few bytes h.count in
     let came = all_through card (take h.count packets) a.stage h.mid.stage h.passed.bytes h.passed.steps is after
     (omega (arith, few)) h.passed.says in
@@ -394,35 +394,35 @@ cut_wrote card bytes a b is after h =
     (omega (arith, before)) most
 
 -- some first packets went through
-some_wrote : (card : CardFields) (bytes : List ℕ) (a b : DriveState Receiver) (count : ℕ) → card_in a.stage ≡ card →
-    IsAfter [] a.stage → PassesPackets receiver_does a (take count (taken_of bytes)) b →
+some_wrote : (card : CardFields) (bytes : List ℕ) (a b : DriveState Receiver) (count : ℕ) → receiver_card a.stage ≡ card →
+    HasReceived [] a.stage → PassesPackets receiver_does a (take count (packets_taken bytes)) b →
     Receives card bytes a b DepotFault
 some_wrote card bytes a b count is after grew =
     let few = some_few bytes count in
-    let came = all_through card (take count (taken_of bytes)) a.stage b.stage grew.bytes grew.steps is after
+    let came = all_through card (take count (packets_taken bytes)) a.stage b.stage grew.bytes grew.steps is after
     (omega (arith, few)) grew.says in
     wrote_some card bytes a b grew.bytes grew.steps
-    (subst (λ (xs : List ℕ). IsPrefix xs (concat (out_from card [] (taken_of bytes)))) (sym came.written)
-    (some_of_out card (taken_of bytes) count came.unbroken)) grew.taken grew.counted
-    (let before = came.few in omega (arith, before, some_steps card (taken_of bytes) count came.unbroken))
+    (subst (λ (xs : List ℕ). IsPrefix xs (concat (out_from card [] (packets_taken bytes)))) (sym came.written)
+    (some_of_out card (packets_taken bytes) count came.unbroken)) grew.taken grew.counted
+    (let before = came.few in omega (arith, before, some_steps card (packets_taken bytes) count came.unbroken))
 
 -- what came of a drive that was stopped
 stopped_wrote : (card : CardFields) (bytes : List ℕ) (a b : DriveState Receiver) (why : DriveFault StreamFault) →
-    card_in a.stage ≡ card →
-    IsAfter [] a.stage → DriveOutcomeOver receiver_does receiver_ends receiver_refuses bytes a b (Err why) →
+    receiver_card a.stage ≡ card →
+    HasReceived [] a.stage → DriveOutcomeOver receiver_does receiver_ends receiver_refuses bytes a b (Err why) →
     Receives card bytes a b (stopped_status why)
 stopped_wrote card bytes a b (drive.Broken found) is after (end, grew) =
-    let came = all_through card (taken_of bytes) a.stage b.stage grew.bytes grew.steps is after (all_few bytes)
+    let came = all_through card (packets_taken bytes) a.stage b.stage grew.bytes grew.steps is after (all_few bytes)
     grew.says in
     wrote_all card bytes a b (stopped_status (drive.Broken found)) grew.bytes grew.steps
     (sym (none_refused card bytes (Breaks found) came.unbroken end)) came.written grew.taken grew.counted
-    (let few = came.few in let same = all_steps card (taken_of bytes) came.unbroken in omega (arith, few, same))
+    (let few = came.few in let same = all_steps card (packets_taken bytes) came.unbroken in omega (arith, few, same))
 stopped_wrote card bytes a b drive.TooLong is after (end, grew) =
-    let came = all_through card (taken_of bytes) a.stage b.stage grew.bytes grew.steps is after (all_few bytes)
+    let came = all_through card (packets_taken bytes) a.stage b.stage grew.bytes grew.steps is after (all_few bytes)
     grew.says in
     wrote_all card bytes a b (stopped_status drive.TooLong) grew.bytes grew.steps
     (sym (none_refused card bytes RunsOn came.unbroken end)) came.written grew.taken grew.counted
-    (let few = came.few in let same = all_steps card (taken_of bytes) came.unbroken in omega (arith, few, same))
+    (let few = came.few in let same = all_steps card (packets_taken bytes) came.unbroken in omega (arith, few, same))
 stopped_wrote card bytes a b drive.ReadFault is after (count, within, grew) =
     some_wrote card bytes a b count is after grew
 stopped_wrote card bytes a b drive.WriteFault is after (inl h) = cut_wrote card bytes a b is after h
@@ -430,58 +430,58 @@ stopped_wrote card bytes a b drive.WriteFault is after (inr h) = some_wrote card
 stopped_wrote card bytes a b (drive.Refused why) is after h = refused_wrote card bytes a b why is after h
 
 -- the status of a receiver after all packets
-ended_as : (card : CardFields) (packets : List (List ℕ)) (t : Receiver) → card_in t ≡ card →
-    ending_status t.card.leaf (ending_of (card_in t) (reverse packets)) ≡ ended_status card packets
-unfolding ended_status
+ended_as : (card : CardFields) (packets : List (List ℕ)) (t : Receiver) → receiver_card t ≡ card →
+    ending_status t.card.leaf (ending_of (receiver_card t) (reverse packets)) ≡ receive_end_status card packets
+unfolding receive_end_status
 ended_as card packets t is = ap (λ (c : CardFields). ending_status c.leaf (ending_of c (reverse packets))) is
 
 -- what came of one that went to its end
 ended_wrote : (card : CardFields) (bytes : List ℕ) (a b : DriveState Receiver) (count : ℕ) (status : Status) →
-    card_in a.stage ≡ card →
-    IsAfter [] a.stage → DriveOutcomeOver receiver_does receiver_ends receiver_refuses bytes a b (Ok count) →
-    ((past : List (List ℕ)) → IsAfter past b.stage → status
-    ≡ ending_status b.stage.card.leaf (ending_of (card_in b.stage) past)) →
+    receiver_card a.stage ≡ card →
+    HasReceived [] a.stage → DriveOutcomeOver receiver_does receiver_ends receiver_refuses bytes a b (Ok count) →
+    ((past : List (List ℕ)) → HasReceived past b.stage → status
+    ≡ ending_status b.stage.card.leaf (ending_of (receiver_card b.stage) past)) →
     Receives card bytes a b status
 ended_wrote card bytes a b count status is after (whole, counted, grew) told =
     go grew.bytes grew.steps grew.taken grew.counted grew.says
   where
     go : (wrote : List ℕ) (n : ℕ) → Appends a.sink.held b.sink.held wrote → b.steps ≤ a.steps + n →
-        ChainToEnd receiver_does receiver_ends a.stage (taken_of bytes) b.stage wrote n → Receives card bytes a b status
+        ChainToEnd receiver_does receiver_ends a.stage (packets_taken bytes) b.stage wrote n → Receives card bytes a b status
     go wrote n taken most (mid, first, last, m, k, chain, ends, joined, all) =
-        let came = all_through card (taken_of bytes) a.stage mid first m is after (all_few bytes) chain in
-        let stands : IsAfter (reverse (taken_of bytes)) b.stage =
-        subst (λ (t : Receiver). IsAfter (reverse (taken_of bytes)) t) (sym ends.0) came.after in
+        let came = all_through card (packets_taken bytes) a.stage mid first m is after (all_few bytes) chain in
+        let stands : HasReceived (reverse (packets_taken bytes)) b.stage =
+        subst (λ (t : Receiver). HasReceived (reverse (packets_taken bytes)) t) (sym ends.0) came.after in
         wrote_all card bytes a b status wrote n
-        (told (reverse (taken_of bytes)) stands ∙ ended_as card (taken_of bytes) b.stage (ap card_in ends.0 ∙ came.same)
+        (told (reverse (packets_taken bytes)) stands ∙ ended_as card (packets_taken bytes) b.stage (ap receiver_card ends.0 ∙ came.same)
         ∙ sym (none_refused card bytes Whole came.unbroken whole))
         (nothing_joined first last wrote ends.1 joined ∙ came.written) taken most
-        (let few = came.few in let none = ends.2 in let same = all_steps card (taken_of bytes) came.unbroken in
+        (let few = came.few in let none = ends.2 in let same = all_steps card (packets_taken bytes) came.unbroken in
         omega (arith, all, few, none, same))
 
 -- the receiver was driven over the stream that was left
-pub left_stopped : (a b : DriveState Receiver) (why : DriveFault StreamFault) (status : Status) → IsAfter [] a.stage →
+pub left_stopped : (a b : DriveState Receiver) (why : DriveFault StreamFault) (status : Status) → HasReceived [] a.stage →
     DriveOutcome receiver_does receiver_ends receiver_refuses a b (Err why) → status ≡ stopped_status why →
-    ReceivesLeft (card_in a.stage) a.left a.sink.held b.sink.held a.steps b.steps status
+    ReceivesLeft (receiver_card a.stage) a.left a.sink.held b.sink.held a.steps b.steps status
 left_stopped a b why status after drives is =
     let over = is_over receiver_does receiver_ends receiver_refuses a b (Err why) drives in
-    let came = stopped_wrote (card_in a.stage) over.bytes a b why refl after over.drives in
-    subst (λ (s : Status). ReceivesLeft (card_in a.stage) a.left a.sink.held b.sink.held a.steps b.steps s) (sym is)
+    let came = stopped_wrote (receiver_card a.stage) over.bytes a b why refl after over.drives in
+    subst (λ (s : Status). ReceivesLeft (receiver_card a.stage) a.left a.sink.held b.sink.held a.steps b.steps s) (sym is)
     (record { bytes = over.bytes; is_left = over.left; wrote = came.wrote; steps = came.steps })
 
-pub left_ended : (a b : DriveState Receiver) (count : ℕ) (status : Status) → IsAfter [] a.stage →
+pub left_ended : (a b : DriveState Receiver) (count : ℕ) (status : Status) → HasReceived [] a.stage →
     DriveOutcome receiver_does receiver_ends receiver_refuses a b (Ok count) →
-    ((past : List (List ℕ)) → IsAfter past b.stage → status
-    ≡ ending_status b.stage.card.leaf (ending_of (card_in b.stage) past)) →
-    ReceivesLeft (card_in a.stage) a.left a.sink.held b.sink.held a.steps b.steps status
+    ((past : List (List ℕ)) → HasReceived past b.stage → status
+    ≡ ending_status b.stage.card.leaf (ending_of (receiver_card b.stage) past)) →
+    ReceivesLeft (receiver_card a.stage) a.left a.sink.held b.sink.held a.steps b.steps status
 left_ended a b count status after drives told =
     let over = is_over receiver_does receiver_ends receiver_refuses a b (Ok count) drives in
-    let came = ended_wrote (card_in a.stage) over.bytes a b count status refl after over.drives told in
+    let came = ended_wrote (receiver_card a.stage) over.bytes a b count status refl after over.drives told in
     record { bytes = over.bytes; is_left = over.left; wrote = came.wrote; steps = came.steps }
 
 -- before the first packet the receiver may be offered one
-pub new_lives : (s : Receiver) → IsAfter [] s → IsLive s
+pub new_lives : (s : Receiver) → HasReceived [] s → MayReceive s
 unfolding tuning_of
 new_lives s after unrefused = record {
   ecm = subst (λ t. IfSome t (λ tuning. tuning.ecm < 8192)) (sym after.tuning) tt;
-  follows = (heard (card_in s) [], after.follows);
+  follows = (heard (receiver_card s) [], after.follows);
 }

@@ -6,7 +6,7 @@ use Rattle.sd_engine.specs.Taken.{StreamEnd, Whole, Breaks, RunsOn}
 use Rattle.sd_message.specs.declared.clear_fault.ClearFault.{ClearFault}
 use Rattle.sd_message.specs.declared.clear_fault.ClearFault.TheVariants.{TooLong}
 use Rattle.sd_message.specs.ClearFaults.{clear_packet}
-use Rattle.sd_spec.specs.Refused.{end_refusal, fault_where, is_too_long, refusal_from, whole_refusal}
+use Rattle.sd_spec.specs.Refused.{end_refusal, fault_where, is_used_up, refusal_from, whole_refusal}
 use Rattle.sd_run_broadcasts.specs.Head.{stream_refusal}
 
 -- of a refusal and those after it
@@ -60,5 +60,5 @@ ended_first false fault is = absurd (cc)
 
 pub end_names : (site : SiteFields) (clear : List (List ℕ)) (fault : ClearFault) → end_refusal site clear ≡ Some fault →
     (clear ≡ []) × (clear_packet fault ≡ 0)
-end_names site [] fault is = (refl, ended_first (is_too_long site 0) fault is)
+end_names site [] fault is = (refl, ended_first (is_used_up site 0) fault is)
 end_names site (packet ∷ packets) fault is = absurd (cc)

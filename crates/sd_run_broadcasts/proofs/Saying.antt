@@ -14,13 +14,13 @@ use Rattle.sd_site_cards.specs.declared.book_line.BookLine.{BookLine}
 use Rattle.sd_site_cards.specs.declared.site_fault.SiteFault.{SiteFault}
 use Rattle.sd_spec.specs.Aired.{Verdict, Marked, Refused, Sent, Ends}
 use Rattle.sd_spec.specs.Plan.{Plan}
-use Rattle.sd_head.specs.Live.{IsLive, LeadsTo}
+use Rattle.sd_head.specs.Live.{IsLiveAfter, LeadsToLive}
 use Rattle.sd_head.specs.declared.live.Live.{Live}
 use Rattle.sd_command_base.specs.declared.status.Status.{Status}
 use Rattle.sd_command_base.specs.declared.status.Status.TheVariants.{Limit}
 use Rattle.sd_command_base.specs.declared.status.LimitKind.{LimitKind}
-use Rattle.sd_command_base.specs.Files.{told_site}
-use Rattle.sd_command_base.specs.Spec.{FileArgument, IsGot, within}
+use Rattle.sd_command_base.specs.Files.{site_or_status}
+use Rattle.sd_command_base.specs.Spec.{FileArgument, IsReadingOfFile, within}
 use Rattle.sd_command_base.proofs.Givens.{any_given, one_given}
 use Rattle.sd_command_base.specs.Outside.{DepotState}
 use Rattle.sd_command_base.specs.Reads.{FileOutcome, FilesOutcome}
@@ -65,12 +65,12 @@ more_noted plan a b c p q = record {
 }
 
 -- packets that lead to what is kept after a packet
-pub led : (plan : Plan) (past : Packets) (packet : Packet) (s t : Live) (v : Verdict) → IsLive plan past s →
-    LeadsTo plan past packet s t v → (more : Packets) × IsLive plan more t
+pub led : (plan : Plan) (past : Packets) (packet : Packet) (s t : Live) (v : Verdict) → IsLiveAfter plan past s →
+    LeadsToLive plan past packet s t v → (more : Packets) × IsLiveAfter plan more t
 led plan past packet s t Marked keeps leads = (past ++ packet ∷ [], leads)
 led plan past packet s t (Refused fault) keeps leads = (past ++ packet ∷ [], leads)
 led plan past packet s t Sent keeps leads = (past ++ packet ∷ [], leads)
-led plan past packet s t Ends keeps leads = (past, subst (IsLive plan past) (sym leads) keeps)
+led plan past packet s t Ends keeps leads = (past, subst (IsLiveAfter plan past) (sym leads) keeps)
 
 -- `head` said nothing
 pub head_silent : (site : FileArgument) (files : Option Files) (a : Option (List ℕ)) → IsSaid (HeadSays site) files a a
@@ -106,7 +106,7 @@ was_within word most kind (Some x) bytes is =
 
 -- a site that was told is one
 site_told : (line said : Option BookLine) (word : ℕ) (bytes : List ℕ) (r : Result SiteFields SiteFault)
-    (site : SiteFields) → with_line line (told_site word bytes r) ≡ Ok (site, said) → r ≡ Ok site
+    (site : SiteFields) → with_line line (site_or_status word bytes r) ≡ Ok (site, said) → r ≡ Ok site
 site_told line said word bytes (Ok found) site is = ap Ok (ap (site_in found) is)
 site_told line said word bytes (Err fault) site is = absurd (cc)
 
@@ -114,12 +114,12 @@ site_told line said word bytes (Err fault) site is = absurd (cc)
 pub site_had : {X : Type 0} (view : X → List ℕ) (word : FileArgument) (most : ℕ) (kind : LimitKind)
     (p q : DepotState) (x : X) (site : SiteFields) (line : Option BookLine) (has_word : Bool) →
     FileOutcome view (within word.number most kind) word.text p q (Ok x) →
-    with_line (book_line_of (view x)) (told_site word.number (view x) (site_of (view x))) ≡ Ok (site, line) →
+    with_line (book_line_of (view x)) (site_or_status word.number (view x) (site_of (view x))) ≡ Ok (site, line) →
     has_word ≡ has_first_word (view x) → HasSite word p.files site.messages has_word
 site_had view word most kind p q x site line has_word read told is = record {
   bytes = view x;
   site = site;
-  is_got = subst (IsGot p.files word.text) (was_within word.number most kind read.got (view x) read.gives.0) read.is_got;
+  is_got = subst (IsReadingOfFile p.files word.text) (was_within word.number most kind read.got (view x) read.gives.0) read.is_got;
   is_site = site_told (book_line_of (view x)) line word.number (view x) (site_of (view x)) site told;
   messages = refl;
   line = sym is;

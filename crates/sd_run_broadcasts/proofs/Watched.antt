@@ -14,10 +14,10 @@ use Rattle.sd_base.specs.Count.{HasRisen}
 use Rattle.sd_base.specs.Types.{Packet, Packets}
 use Rattle.sd_base.proofs.Bools.{tested}
 use Rattle.sd_ports.specs.Bytes.{IsPrefix, LosesPrefix}
-use Rattle.sd_engine.specs.Cut.{cut, skipped_before, read_from, readable}
+use Rattle.sd_engine.specs.Cut.{cut_packets, skipped_before, read_from, readable}
 use Rattle.sd_engine.specs.Seeking.{MayCome, SeekOutcome, SeekStop, SkipsTooMany}
 use Rattle.sd_engine.specs.Stage.{SinkState}
-use Rattle.sd_engine.specs.Taken.{IsLeft}
+use Rattle.sd_engine.specs.Taken.{AreBytesLeft}
 use Rattle.sd_engine.specs.declared.seeking.SeekFault.{SeekFault}
 use Rattle.sd_engine.specs.declared.seeking.SeekFault.TheVariants as seek
 use Rattle.sd_site_cards.specs.CardFields.{CardFields}
@@ -26,7 +26,7 @@ use Rattle.sd_spec.specs.Offered.{out_from}
 use Rattle.sd_spec.specs.Ending.{ending_of}
 use Rattle.sd_spec.specs.Counting.{counting, tried_keys}
 use Rattle.sd_spec.specs.Reports.{report_of, turns_after, turned_reports, reports}
-use Rattle.sd_watch.specs.Watching.{card_of, counted_of, IsWatching}
+use Rattle.sd_watch.specs.Watching.{watcher_card, counted_of, IsWatching}
 use Rattle.sd_watch.specs.declared.watcher.Watcher.{Watcher}
 use Rattle.sd_command_base.specs.declared.status.Status.{Status}
 use Rattle.sd_command_base.specs.declared.status.Status.TheVariants.{Done, BadStream, DepotFault, PrintFault, NoMemory}
@@ -35,12 +35,12 @@ use Rattle.sd_command_base.specs.Outside.{PageState}
 use Rattle.sd_command_base.specs.Outcome.{IsEnding}
 use Rattle.sd_run_broadcasts.specs.Receive.{ending_status}
 use Rattle.sd_run_broadcasts.specs.Live.{all_lived, some_lived, unprinted, is_outside}
-use Rattle.sd_run_broadcasts.specs.Watch.{lines_of, report_line, skipped_at, watched_lines, watched_of, watched_status}
+use Rattle.sd_run_broadcasts.specs.Watch.{report_lines, watch_report_line, skipped_at, watched_lines, watched_of, watched_status}
 use Rattle.sd_run_broadcasts.specs.Watch.{watched_steps}
 use Rattle.sd_run_broadcasts.specs.Found.{HasFound, IsReadable}
-use Rattle.sd_run_broadcasts.specs.Watched.{counted_out, turned_lines, line_before, PacketOutcome, passed, stopped}
+use Rattle.sd_run_broadcasts.specs.Watched.{counted_out, turned_lines, line_before, WatchedPacketOutcome, passed, stopped}
 use Rattle.sd_run_broadcasts.specs.Watched.{unprinted as page_fault, IsWithinTries, IsUnderWay, WatchesLeft}
-use Rattle.sd_run_broadcasts.specs.Watched.{stop_status}
+use Rattle.sd_run_broadcasts.specs.Watched.{seek_stop_status}
 use Rattle.sd_run_broadcasts.proofs.Found.{found_none, found_more, found_before, found_all, found_last, found_many}
 use Rattle.sd_run_broadcasts.proofs.Found.{found_readable, may_both, readable_begins, all_readable, most_readable}
 use Rattle.sd_run_broadcasts.proofs.Found.{far_readable}
@@ -66,16 +66,16 @@ tried_then card s t = tried_joined card [] s t
     ∙ ap (λ (past : Packets). tried_keys card [] s + tried_keys card past t) (past_of card s)
 
 turned_then : (card : CardFields) (bytes : List ℕ) (s t : Packets) →
-    turned_lines card bytes (s ++ t) ≡ turned_lines card bytes s ++ lines_of card bytes (turned_reports card s t)
+    turned_lines card bytes (s ++ t) ≡ turned_lines card bytes s ++ report_lines card bytes (turned_reports card s t)
 turned_then card bytes s t =
-    ap (lines_of card bytes) (turned_joined card [] s t)
-    ∙ map-append (λ report. report_line card.leaf (skipped_at bytes report.packets) report) (turned_reports card [] s)
+    ap (report_lines card bytes) (turned_joined card [] s t)
+    ∙ map-append (λ report. watch_report_line card.leaf (skipped_at bytes report.packets) report) (turned_reports card [] s)
     (turned_reports card s t)
 
 -- the line before one packet
 line_then : (card : CardFields) (bytes : List ℕ) (s : Packets) (packet : Packet) (skipped : ℕ) →
     skipped_at bytes (length s) ≡ skipped →
-    lines_of card bytes (turned_reports card s (packet ∷ [])) ≡ line_before card skipped s packet
+    report_lines card bytes (turned_reports card s (packet ∷ [])) ≡ line_before card skipped s packet
 unfolding turned_reports report_of
 line_then card bytes s packet skipped is = tested (turns_after card s packet)
     (λ turns. rw (turns, is) refl)
@@ -105,13 +105,13 @@ unfolding watched_lines reports
 lines_begin card bytes s pieces h =
     let turned = turned_reports card s h.more in
     let last = report_of card (readable bytes) ∷ [] in
-    let line = λ (report : Report). report_line card.leaf (skipped_at bytes report.packets) report in (
-      lines_of card bytes turned ++ lines_of card bytes last,
+    let line = λ (report : Report). watch_report_line card.leaf (skipped_at bytes report.packets) report in (
+      report_lines card bytes turned ++ report_lines card bytes last,
       map-append line (turned_reports card [] (readable bytes)) last
-          ∙ ap (λ (ps : Packets). turned_lines card bytes ps ++ lines_of card bytes last) h.is
-          ∙ ap (λ (ls : List (List ℕ)). ls ++ lines_of card bytes last)
-          (turned_then card bytes s h.more ∙ ap (λ (ls : List (List ℕ)). ls ++ lines_of card bytes turned) h.lines)
-          ∙ append_assoc pieces (lines_of card bytes turned) (lines_of card bytes last),
+          ∙ ap (λ (ps : Packets). turned_lines card bytes ps ++ report_lines card bytes last) h.is
+          ∙ ap (λ (ls : List (List ℕ)). ls ++ report_lines card bytes last)
+          (turned_then card bytes s h.more ∙ ap (λ (ls : List (List ℕ)). ls ++ report_lines card bytes turned) h.lines)
+          ∙ append_assoc pieces (report_lines card bytes turned) (report_lines card bytes last),
     )
 
 steps_begin : (card : CardFields) (bytes : List ℕ) (s : Packets) (pieces : List (List ℕ)) (from to : ℕ) →
@@ -140,7 +140,7 @@ begins_here card bytes waiting rest s pieces ended skipped found may low lines =
 
 -- nothing was read yet
 pub not_begun : (card : CardFields) (left held : Option (List ℕ)) (a : PageState) (from : ℕ) (watcher : Watcher)
-    (waiting : List ℕ) → waiting ≡ [] → IsWatching [] watcher → card_of watcher ≡ card →
+    (waiting : List ℕ) → waiting ≡ [] → IsWatching [] watcher → watcher_card watcher ≡ card →
     IsUnderWay card left left held held a a from from watcher waiting false 0 0
 unfolding counting out_from turned_reports
 not_begun card left held a from watcher waiting none keeps same = record {
@@ -173,7 +173,7 @@ pub record IsFound (card : CardFields) (left now held held' : Option (List ℕ))
   pub lines : (more : List ℕ) → MayCome ended more →
       turned_lines card (bytes ++ more) (packets ++ packet ∷ []) ≡ pieces ++ line_before card skipped packets packet
   pub keeps : IsWatching packets watcher
-  pub same : card_of watcher ≡ card
+  pub same : watcher_card watcher ≡ card
   pub wrote : Appends held held' (concat (counted_out card [] packets))
   pub printed : Appends a.printed b.printed (concat pieces)
   pub calm : b.faults ≡ a.faults
@@ -216,7 +216,7 @@ packet_found card left left' now held held' a b from to watcher waiting next was
           let here : skipped_at all (length way.packets) ≡ more_skipped =
           skipped_few all (length way.packets) more_skipped (before ∙ sym sum) low in
           turned_then card all way.packets (packet ∷ [])
-          ∙ ap (λ (ls : List (List ℕ)). ls ++ lines_of card all (turned_reports card way.packets (packet ∷ [])))
+          ∙ ap (λ (ls : List (List ℕ)). ls ++ report_lines card all (turned_reports card way.packets (packet ∷ [])))
           (ap (λ (xs : List ℕ). turned_lines card xs way.packets) (append_assoc way.bytes sought.bytes more)
           ∙ way.lines (sought.bytes ++ more) both)
           ∙ ap (λ (ls : List (List ℕ)). way.pieces ++ ls) (line_then card all way.packets packet more_skipped here);
@@ -234,23 +234,23 @@ pub packet_passed : (card : CardFields) (left now held held' held2 : Option (Lis
     (packet : Packet) (status : Status) →
     IsFound card left now held held' a b from to watcher waiting ended skipped count packet → count < 2 ^ 48 →
     ((s : Packets) → IsWatching s watcher → length s < 2 ^ 48 →
-    PacketOutcome (card_of watcher) s packet skipped held' held2 b c next_watcher status) → status ≡ Done →
-    ((s : Packets) → IsWatching s watcher → length s < 2 ^ 48 → IsWithinTries (card_of watcher) s packet to more) →
+    WatchedPacketOutcome (watcher_card watcher) s packet skipped held' held2 b c next_watcher status) → status ≡ Done →
+    ((s : Packets) → IsWatching s watcher → length s < 2 ^ 48 → IsWithinTries (watcher_card watcher) s packet to more) →
     IsUnderWay card left now held held2 a c from more next_watcher waiting ended skipped (count + 1)
 packet_passed card left now held held' held2 a b c from to more watcher next_watcher waiting ended skipped count packet
     status h low outcome done tries =
     let under : length h.packets < 2 ^ 48 = let n = h.counted in omega (arith, n, low) in
     let tried : IsWithinTries card h.packets packet to more =
     subst (λ (x : CardFields). IsWithinTries x h.packets packet to more) h.same (tries h.packets h.keeps under) in
-    go (subst (λ (x : CardFields). PacketOutcome x h.packets packet skipped held' held2 b c next_watcher status) h.same
+    go (subst (λ (x : CardFields). WatchedPacketOutcome x h.packets packet skipped held' held2 b c next_watcher status) h.same
     (outcome h.packets h.keeps under)) tried
   where
-    go : PacketOutcome card h.packets packet skipped held' held2 b c next_watcher status →
+    go : WatchedPacketOutcome card h.packets packet skipped held' held2 b c next_watcher status →
         IsWithinTries card h.packets packet to more →
         IsUnderWay card left now held held2 a c from more next_watcher waiting ended skipped (count + 1)
     go (stopped (inl why) short none) tried = let wrong : NoMemory ≡ Done = sym why ∙ done in cc
     go (stopped (inr why) short none) tried = let wrong : DepotFault ≡ Done = sym why ∙ done in cc
-    go (page_fault why short cut rose) tried = let wrong : PrintFault ≡ Done = sym why ∙ done in cc
+    go (page_fault why short cut_packets rose) tried = let wrong : PrintFault ≡ Done = sym why ∙ done in cc
     go (passed is keeps same wrote printed calm) tried = record {
       bytes = h.bytes;
       packets = h.packets ++ packet ∷ [];
@@ -304,8 +304,8 @@ pub packet_stopped : (card : CardFields) (left now held held' held2 : Option (Li
     (packet : Packet) (status : Status) →
     IsFound card left now held held' a b from to watcher waiting ended skipped count packet → count < 2 ^ 48 →
     ((s : Packets) → IsWatching s watcher → length s < 2 ^ 48 →
-    PacketOutcome (card_of watcher) s packet skipped held' held2 b c next_watcher status) → status ≢ Done →
-    ((s : Packets) → IsWatching s watcher → length s < 2 ^ 48 → IsWithinTries (card_of watcher) s packet to more) →
+    WatchedPacketOutcome (watcher_card watcher) s packet skipped held' held2 b c next_watcher status) → status ≢ Done →
+    ((s : Packets) → IsWatching s watcher → length s < 2 ^ 48 → IsWithinTries (watcher_card watcher) s packet to more) →
     WatchesLeft card left held held2 a c from more next_watcher skipped status
 packet_stopped card left now held held' held2 a b c from to more watcher next_watcher waiting ended skipped count packet
     status h low outcome other tries =
@@ -322,12 +322,12 @@ packet_stopped card left now held held' held2 a b c from to more watcher next_wa
     begins_here card h.bytes waiting rest (h.packets ++ packet ∷ []) (h.pieces ++ line) ended skipped h.found may long
     (h.lines rest may) in
     go (h.bytes ++ rest) behind.is_left first
-    (subst (λ (x : CardFields). PacketOutcome x h.packets packet skipped held' held2 b c next_watcher status) h.same
+    (subst (λ (x : CardFields). WatchedPacketOutcome x h.packets packet skipped held' held2 b c next_watcher status) h.same
     (outcome h.packets h.keeps under)) tried
   where
-    go : (bytes : List ℕ) → IsLeft left bytes →
+    go : (bytes : List ℕ) → AreBytesLeft left bytes →
         Begins card bytes (h.packets ++ packet ∷ []) (h.pieces ++ line_before card skipped h.packets packet) →
-        PacketOutcome card h.packets packet skipped held' held2 b c next_watcher status →
+        WatchedPacketOutcome card h.packets packet skipped held' held2 b c next_watcher status →
         IsWithinTries card h.packets packet to more →
         WatchesLeft card left held held2 a c from more next_watcher skipped status
     go bytes is_left first outcome tried =
@@ -348,13 +348,13 @@ packet_stopped card left now held held' held2 a b c from to more watcher next_wa
         (omega (arith, few, tried, sum)) in
         so bytes is_left out_all lines steps outcome
       where
-        so : (bytes : List ℕ) → IsLeft left bytes →
+        so : (bytes : List ℕ) → AreBytesLeft left bytes →
             IsPrefix (concat (counted_out card [] h.packets)
             ++ concat (counted_out card (counted_of card h.packets) (packet ∷ []))) (watched_of card bytes) →
             ((others : List (List ℕ)) ×
             (watched_lines card bytes ≡ (h.pieces ++ line_before card skipped h.packets packet) ++ others)) →
             more ≤ from + watched_steps card bytes →
-            PacketOutcome card h.packets packet skipped held' held2 b c next_watcher status →
+            WatchedPacketOutcome card h.packets packet skipped held' held2 b c next_watcher status →
             WatchesLeft card left held held2 a c from more next_watcher skipped status
         so bytes is_left out_all lines steps (passed is keeps same wrote printed calm) = absurd (other is)
         so bytes is_left out_all lines steps (stopped why short none) = record {
@@ -371,12 +371,12 @@ packet_stopped card left now held held' held2 a b c from to more watcher next_wa
           steps = steps;
           last = outside_last status (outside_why status why);
         }
-        so bytes is_left out_all lines steps (page_fault why short cut rose) = record {
+        so bytes is_left out_all lines steps (page_fault why short cut_packets rose) = record {
           bytes = bytes;
           is_left = is_left;
           lived = unprinted why (prefix_of_all held held' held2 _ _ (watched_of card bytes) h.wrote short out_all)
               (prefix_of_all a.printed b.printed c.printed (concat h.pieces)
-              (concat (line_before card skipped h.packets packet)) (concat (watched_lines card bytes)) h.printed cut
+              (concat (line_before card skipped h.packets packet)) (concat (watched_lines card bytes)) h.printed cut_packets
               (subst (λ (xs : List ℕ). IsPrefix xs (concat (watched_lines card bytes)))
               (concat-append h.pieces (line_before card skipped h.packets packet))
               (pieces_begin (h.pieces ++ line_before card skipped h.packets packet) lines.0 (watched_lines card bytes)
@@ -405,7 +405,7 @@ search_stopped card left left' now held held' a b from to watcher waiting was sk
     let lines = lines_begin card bytes way.packets way.pieces first in
     record {
       bytes = bytes;
-      is_left = subst (IsLeft left) (append_assoc way.bytes lost.0 behind.rest) behind.is_left;
+      is_left = subst (AreBytesLeft left) (append_assoc way.bytes lost.0 behind.rest) behind.is_left;
       lived = some_lived (inr is)
           (short_of_all held held' _ (watched_of card bytes) way.wrote
           (out_begins card bytes way.packets way.pieces first))
@@ -420,7 +420,7 @@ search_stopped card left left' now held held' a b from to watcher waiting was sk
 ends_so : (card : CardFields) (left left' held held' : Option (List ℕ)) (a b : PageState) (from to : ℕ)
     (watcher : Watcher) (waiting : List ℕ) (was : Bool) (skipped count : ℕ)
     (way : IsUnderWay card left left' held held' a b from to watcher waiting was skipped count) → count ≤ 2 ^ 48 →
-    (all : List ℕ) → MayCome was all → (bytes : List ℕ) → bytes ≡ way.bytes ++ all → IsLeft left bytes →
+    (all : List ℕ) → MayCome was all → (bytes : List ℕ) → bytes ≡ way.bytes ++ all → AreBytesLeft left bytes →
     readable bytes ≡ way.packets → (status : Status) → status ≡ watched_status card bytes → IsEnding status →
     (last : ℕ) → last ≡ skipped_at bytes (length way.packets) →
     WatchesLeft card left held held' a b from to watcher last status
@@ -450,7 +450,7 @@ pub all_watched : (card : CardFields) (left left' now held held' : Option (List 
     IsUnderWay card left left' held held' a b from to watcher waiting was skipped count → count ≤ 2 ^ 48 →
     SeekOutcome left' now waiting was next ended skipped more_skipped None →
     ((s : Packets) → IsWatching s watcher →
-    status ≡ ending_status (card_of watcher).leaf (ending_of (card_of watcher) (counted_of (card_of watcher) s))) →
+    status ≡ ending_status (watcher_card watcher).leaf (ending_of (watcher_card watcher) (counted_of (watcher_card watcher) s))) →
     IsEnding status →
     WatchesLeft card left held held' a b from to watcher more_skipped status
 unfolding watched_status
@@ -461,11 +461,11 @@ all_watched card left left' now held held' a b from to watcher waiting next was 
     let bytes = way.bytes ++ sought.bytes in
     let none = sought.finds.2 in
     let end : IsAtEnd now = sought.reads.end way.end sought.finds.0 in
-    let is_left : IsLeft left bytes =
-    subst (IsLeft left) (ap (λ (xs : List ℕ). bytes ++ xs) (behind.none end) ∙ append-nil bytes) behind.is_left in
+    let is_left : AreBytesLeft left bytes =
+    subst (AreBytesLeft left) (ap (λ (xs : List ℕ). bytes ++ xs) (behind.none end) ∙ append-nil bytes) behind.is_left in
     let sum = sought.skipped in
     let few : more_skipped < 2 ^ 64 - 1 = sought.few way.found.low in
-    let cuts : cut bytes ≡ way.packets =
+    let cuts : cut_packets bytes ≡ way.packets =
     found_all way.bytes sought.bytes waiting way.packets was skipped sought.passed way.found sought.reads.nothing
     none in
     let before : skipped_before (length way.packets) zero bytes ≡ skipped + sought.passed =
@@ -505,13 +505,13 @@ most_watched card left left' now held held' a b from to watcher waiting next was
     let found : HasFound (way.bytes ++ sought.bytes) (way.packets ++ packet ∷ []) next ended (skipped + sought.passed) =
     found_more way.bytes sought.bytes waiting next packet way.packets was ended skipped sought.passed way.found nothing
     still sought.finds (omega (arith, few, sum)) in
-    let cuts : cut bytes ≡ way.packets ++ packet ∷ cut (next ++ rest) =
-    found.cuts rest may ∙ append_assoc way.packets (packet ∷ []) (cut (next ++ rest)) in
+    let cuts : cut_packets bytes ≡ way.packets ++ packet ∷ cut_packets (next ++ rest) =
+    found.cuts rest may ∙ append_assoc way.packets (packet ∷ []) (cut_packets (next ++ rest)) in
     let before : skipped_before (length way.packets) zero bytes ≡ skipped + sought.passed =
     found_before way.bytes sought.bytes waiting next packet rest way.packets was ended skipped sought.passed way.found
     nothing still may sought.finds in
     let long : length way.packets ≡ 2 ^ 48 = way.counted ∙ most in
-    let all = most_readable bytes way.packets packet (cut (next ++ rest)) cuts long
+    let all = most_readable bytes way.packets packet (cut_packets (next ++ rest)) cuts long
     (λ n under. found.few rest may n (omega (arith, under, length-append way.packets (packet ∷ [])))) in
     let status_is : status ≡ watched_status card bytes = rw all.1 is in
     ends_so card left left' held held' a b from to watcher waiting was skipped count way (omega (arith, most))
@@ -554,7 +554,7 @@ far_watched card left left' now held held' a b from to watcher waiting was skipp
 pub seek_stopped : (card : CardFields) (left left' now held held' : Option (List ℕ)) (a b : PageState) (from to : ℕ)
     (watcher : Watcher) (waiting : List ℕ) (was : Bool) (skipped last count : ℕ) (fault : SeekFault) (status : Status) →
     IsUnderWay card left left' held held' a b from to watcher waiting was skipped count → count ≤ 2 ^ 48 →
-    SeekStop left' now waiting was skipped fault → status ≡ stop_status fault →
+    SeekStop left' now waiting was skipped fault → status ≡ seek_stop_status fault →
     (fault ≡ seek.TooLong → last ≡ 2 ^ 64 - 1) →
     WatchesLeft card left held held' a b from to watcher last status
 seek_stopped card left left' now held held' a b from to watcher waiting was skipped last count seek.Read status way low

@@ -5,9 +5,9 @@ use Rattle.std.specs.List.{concat}
 use Rattle.serde_json.specs.Data.{Data, object, no_members}
 use Rattle.serde_json.specs.Written.{compact_text}
 use Rattle.sd_base.specs.Types.{PacketNumber}
-use Rattle.sd_engine.specs.Cut.{readable, is_too_long}
+use Rattle.sd_engine.specs.Cut.{readable, is_stream_too_long}
 use Rattle.sd_site_cards.specs.SiteFields.{SiteFields}
-use Rattle.sd_site_cards.specs.Written.{newest_of, none_fewer}
+use Rattle.sd_site_cards.specs.Written.{site_of_chain, none_fewer}
 use Rattle.sd_site_cards.specs.declared.book_line.BookLine.{BookLine}
 use Rattle.sd_site_cards.specs.declared.site_fault.SiteFault.{SiteFault}
 use Rattle.sd_site_cards.specs.declared.site_fault.SiteFault.TheVariants.{Range}
@@ -20,12 +20,12 @@ use Rattle.sd_command_base.specs.declared.status.Status.{Status}
 use Rattle.sd_command_base.specs.declared.status.Status.TheVariants.{Done, BadClear, SiteUsedUp}
 use Rattle.sd_command_base.specs.declared.status.LimitKind.TheVariants.{SiteBytes}
 use Rattle.sd_command_base.specs.declared.stream_refusal.StreamRefusal.TheVariants.{Packet}
-use Rattle.sd_command_base.specs.Spec.{Spec, FileArgument, Readings, all_of, judged, value, within, ◌>>=◌}
+use Rattle.sd_command_base.specs.Spec.{Spec, FileArgument, Readings, whole_file_bytes, of_result, value, within, ◌>>=◌}
 use Rattle.sd_command_base.specs.Work.{Uncounted, Work}
 use Rattle.sd_command_base.specs.Files.{most_site_bytes, own_book_of_file, refused_site}
 use Rattle.sd_command_base.specs.Made.{unused, used_name}
 use Rattle.sd_run_broadcasts.specs.Marked.{mark_at}
-use Rattle.sd_run_broadcasts.specs.Members.{num_member, text_member, text_of}
+use Rattle.sd_run_broadcasts.specs.Members.{num_member, text_member, text_of_status}
 use Rattle.sd_run_broadcasts.specs.Watch.{skipped_at}
 use Rattle.sd_run_broadcasts.specs.declared.air_report.AirReport.{AirReport}
 
@@ -42,7 +42,7 @@ told_air_site word bytes (Ok said) =
 -- [this project, docs/FORMATS.md, On air]
 unfoldable pub air_site_of_file : ℕ → Option (List ℕ) → Spec (SiteFields × Option BookLine)
 air_site_of_file word got =
-    within word most_site_bytes SiteBytes got >>= λ bytes. judged (told_air_site word bytes (newest_of none_fewer bytes))
+    within word most_site_bytes SiteBytes got >>= λ bytes. of_result (told_air_site word bytes (site_of_chain none_fewer bytes))
 
 -- the site for `air` and its own book of what their files gave
 unfoldable pub air_plan_by : ℕ → ℕ → Option (List ℕ) → Option (List ℕ) → Spec Plan
@@ -64,13 +64,13 @@ live_end site bytes = ended_from site [] 0 (readable bytes)
 
 -- the status at the end: the site is used up if the broadcast ends before a packet, or if there is more than is read of
 -- a stream
-abbrev pub ended_status : Option PacketNumber → Bool → PacketNumber → Status
-ended_status (Some n) longer count = SiteUsedUp n
-ended_status None true count = SiteUsedUp count
-ended_status None false count = Done
+abbrev pub aired_status : Option PacketNumber → Bool → PacketNumber → Status
+aired_status (Some n) longer count = SiteUsedUp n
+aired_status None true count = SiteUsedUp count
+aired_status None false count = Done
 
 unfoldable pub live_status : SiteFields → List ℕ → Status
-live_status site bytes = ended_status (live_end site bytes) (is_too_long bytes) (length (readable bytes))
+live_status site bytes = aired_status (live_end site bytes) (is_stream_too_long bytes) (length (readable bytes))
 
 -- what is sent for a live stream of these bytes: the broadcast of the packets that are sent
 unfoldable pub live_sent : Plan → List ℕ → List ℕ
@@ -105,7 +105,7 @@ air_report plan bytes = report_at plan (left_from plan.site [] 0 (readable bytes
 -- why the first of the packets that break a rule does, if one does: the line that `head` has for it
 abbrev pub broken_text : Option ClearFault → List ℕ
 broken_text None = []
-broken_text (Some fault) = text_of (BadClear (Packet fault))
+broken_text (Some fault) = text_of_status (BadClear (Packet fault))
 
 -- a report on a live stream [this project, docs/FORMATS.md, On air]
 unfoldable pub air_data : AirReport → Data
@@ -145,7 +145,7 @@ airing plan site out bytes = record {
 -- the work once the plan is known, by what the files of the live stream and of the mark gave: the site must not be used
 abbrev pub aired_by : Plan → FileArgument → ℕ → FileArgument → Option (List ℕ) → Option (List ℕ) → Spec Work
 aired_by plan site clear out clear_got mark_got = do
-  bytes ← all_of clear clear_got
+  bytes ← whole_file_bytes clear clear_got
   new ← unused mark_got
   value (airing plan site out bytes)
 

@@ -15,7 +15,7 @@ use Rattle.sd_message.specs.declared.clear_fault.ClearFault.{ClearFault}
 use Rattle.sd_spec.specs.declared.event.Event.{Event}
 use Rattle.sd_field.specs.declared.fault.ScriptFault.{ScriptFault}
 use Rattle.sd_field.specs.declared.fault.ScriptFault.TheVariants as script
-use Rattle.sd_field.specs.Fields.{FieldValue, plan_in, sends_of, taken, written_of}
+use Rattle.sd_field.specs.Fields.{FieldValue, plan_of_field, sends_of, field_clear_packets, written_of}
 use Rattle.sd_field.specs.Script.{script_of}
 use Rattle.sd_command_base.specs.declared.status.Status.{Status}
 use Rattle.sd_command_base.specs.declared.status.Status.TheVariants.{BadBook, BadClear, Limit, NoMemory}
@@ -24,18 +24,18 @@ use Rattle.sd_command_base.specs.BadLines.{bad_line, malformed}
 use Rattle.sd_command_base.specs.declared.stream_refusal.StreamRefusal.TheVariants.{Broken, Packet}
 use Rattle.sd_command_base.specs.declared.status.LimitKind.TheVariants.{BookBytes, FieldHeight, FieldPackets}
 use Rattle.sd_command_base.specs.declared.status.LimitKind.TheVariants.{FieldEvents}
-use Rattle.sd_command_base.specs.Spec.{Spec, FileArgument, Readings, judged, value, within, ◌>>=◌}
+use Rattle.sd_command_base.specs.Spec.{Spec, FileArgument, Readings, of_result, value, within, ◌>>=◌}
 use Rattle.sd_command_base.specs.Work.{Work}
 use Rattle.sd_command_base.specs.Files.{low_site_of_file, most_book_bytes}
 use Rattle.sd_command_base.specs.Printed.{printing}
 
 -- the greatest height of a field's tree
-abbrev pub most_height : ℕ
-most_height = 6
+abbrev pub most_field_height : ℕ
+most_field_height = 6
 
 -- the bytes of the longest clear stream of a field: 16,384 packets
-abbrev pub most_clear_bytes : ℕ
-most_clear_bytes = 16384 * 188
+abbrev pub field_clear_bytes : ℕ
+field_clear_bytes = 16384 * 188
 
 -- the packets of a clear stream, or where it breaks
 abbrev pub unbroken : Option StreamBreak → List (List ℕ) → Result (List (List ℕ)) Status
@@ -48,7 +48,7 @@ told_clear bytes = unbroken (break_of bytes) (packets_of bytes)
 
 -- the packets of the clear stream in the file of argument `word`
 unfoldable pub clear_of_file : ℕ → Option (List ℕ) → Spec (List (List ℕ))
-clear_of_file word got = within word most_clear_bytes FieldPackets got >>= λ bytes. judged (told_clear bytes)
+clear_of_file word got = within word field_clear_bytes FieldPackets got >>= λ bytes. of_result (told_clear bytes)
 
 -- the status of a script of these bytes that is refused for a tree of height d, in the file of argument `word`
 abbrev pub refused_script : ℕ → ℕ → List ℕ → ScriptFault → Status
@@ -58,14 +58,14 @@ refused_script word d bytes script.Events = Limit FieldEvents
 refused_script word d bytes script.NoMemory = NoMemory
 
 -- the events of a script in the file of argument `word`, or the status of its fault
-abbrev pub told_script : ℕ → ℕ → List ℕ → Result (List Event) ScriptFault → Result (List Event) Status
-told_script word d bytes (Ok events) = Ok events
-told_script word d bytes (Err fault) = Err (refused_script word d bytes fault)
+abbrev pub script_or_status : ℕ → ℕ → List ℕ → Result (List Event) ScriptFault → Result (List Event) Status
+script_or_status word d bytes (Ok events) = Ok events
+script_or_status word d bytes (Err fault) = Err (refused_script word d bytes fault)
 
 -- the events of the script in the file of argument `word`, for a tree of height d
 unfoldable pub script_of_file : ℕ → ℕ → Option (List ℕ) → Spec (List Event)
 script_of_file word d got =
-    within word most_book_bytes BookBytes got >>= λ bytes. judged (told_script word d bytes (script_of d bytes))
+    within word most_book_bytes BookBytes got >>= λ bytes. of_result (script_or_status word d bytes (script_of d bytes))
 
 -- a site and the packets of a clear stream
 pub record Inputs : Type 0 where
@@ -75,7 +75,7 @@ pub record Inputs : Type 0 where
 -- the site and the clear stream in the files of two arguments
 unfoldable pub inputs_by : ℕ → ℕ → Option (List ℕ) → Option (List ℕ) → Spec Inputs
 inputs_by site clear site_got clear_got = do
-  fields ← low_site_of_file site most_height FieldHeight site_got
+  fields ← low_site_of_file site most_field_height FieldHeight site_got
   packets ← clear_of_file clear clear_got
   value (record { site = fields; clear = packets })
 
@@ -97,8 +97,8 @@ first_line sends packets period =
 
 -- the line of leaf u, whose receivers wrote this number of packets with this digest [this project, docs/FORMATS.md,
 -- Field]
-unfoldable pub receiver_line : ℕ → ℕ → List ℕ → List ℕ
-receiver_line u wrote digest =
+unfoldable pub field_receiver_line : ℕ → ℕ → List ℕ → List ℕ
+field_receiver_line u wrote digest =
     codes "receiver " ++ (decimal u ++ (codes " wrote " ++ (decimal wrote ++
     (codes " digest " ++ (digest ++ codes "\n")))))
 
@@ -108,13 +108,13 @@ digest_of bytes = encode_lower (take 16 (sha256 bytes))
 
 -- the line of leaf u, whose receivers wrote these bytes
 abbrev pub wrote_line : ℕ → List ℕ → List ℕ
-wrote_line u bytes = receiver_line u (length bytes / 188) (digest_of bytes)
+wrote_line u bytes = field_receiver_line u (length bytes / 188) (digest_of bytes)
 
 -- the first line of a field, and then those of the first n leaves
-unfoldable pub lines_to : FieldValue → ℕ → List ℕ
-lines_to v zero =
-    first_line (sends_of v) (length (concat (body (plan_in v) (taken v))) / 188) (last_period (plan_in v).commands)
-lines_to v (suc n) = lines_to v n ++ wrote_line n (written_of n v)
+unfoldable pub lines_of_field : FieldValue → ℕ → List ℕ
+lines_of_field v zero =
+    first_line (sends_of v) (length (concat (body (plan_of_field v) (field_clear_packets v))) / 188) (last_period (plan_of_field v).commands)
+lines_of_field v (suc n) = lines_of_field v n ++ wrote_line n (written_of n v)
 
 -- a text, unless a clear packet is refused
 abbrev pub unrefused : Option ClearFault → List ℕ → Result (List ℕ) Status
@@ -123,7 +123,7 @@ unrefused (Some fault) text = Err (BadClear (Packet fault))
 
 -- all lines of a field, or the first refusal among the clear packets that are sent
 unfoldable pub text_in : FieldValue → Result (List ℕ) Status
-text_in v = unrefused (refusal_from v.site [] (taken v)) (lines_to v (2 ^ v.site.height))
+text_in v = unrefused (refusal_from v.site [] (field_clear_packets v)) (lines_of_field v (2 ^ v.site.height))
 
 -- the text that `field` prints of a site, a clear stream and events, or the status of a refusal
 abbrev pub field_text : SiteFields → List (List ℕ) → List Event → Result (List ℕ) Status

@@ -2,7 +2,7 @@
 use Rattle.std.specs.Prelude.{◌≡◌, ◌⊎◌, ◌<◌, [], Bool, true, false, length, Some, None, Result, Ok, Err}
 use Rattle.sd_spec.specs.Refused.{refusal_from}
 use Rattle.sd_message.specs.declared.clear_fault.ClearFault.{ClearFault}
-use Rattle.sd_field.specs.Fields.{FieldValue, after_next, next_refusal, taken}
+use Rattle.sd_field.specs.Fields.{FieldValue, after_next, next_refusal, field_clear_packets}
 use Rattle.sd_command_base.specs.declared.status.Status.{Status}
 use Rattle.sd_command_base.specs.declared.status.Status.TheVariants.{BadClear, NoMemory}
 use Rattle.sd_command_base.specs.declared.stream_refusal.StreamRefusal.TheVariants.{Packet}
@@ -24,8 +24,8 @@ all_done v = done_field v.site v.clear v.events
 -- all events were done, or one sends the first clear packet that is refused, or memory didn't suffice
 abbrev pub PlayOutcome : FieldValue → FieldValue → Result (Unit {0}) Status → Type 0
 PlayOutcome before now (Ok done) =
-    (now ≡ all_done before) × (refusal_from before.site [] (taken (all_done before)) ≡ None)
+    (now ≡ all_done before) × (refusal_from before.site [] (field_clear_packets (all_done before)) ≡ None)
 PlayOutcome before now (Err status) =
-    ((fault : ClearFault) × (refusal_from before.site [] (taken (all_done before)) ≡ Some fault)
+    ((fault : ClearFault) × (refusal_from before.site [] (field_clear_packets (all_done before)) ≡ Some fault)
     × (status ≡ BadClear (Packet fault)))
     ⊎ (status ≡ NoMemory)

@@ -10,15 +10,15 @@ use Rattle.sd_command_base.specs.Spec.{FileArgument}
 use Rattle.sd_command_base.specs.Work.{Mark}
 use Rattle.sd_command_base.specs.Outcome.{marked_by}
 use Rattle.sd_command_base.specs.Reads.{IsAsked, IsStopped}
-use Rattle.sd_command_base.specs.Made.{out_of, IsMadeNew}
+use Rattle.sd_command_base.specs.Made.{out_file, IsMadeNew}
 
 -- the mark that is the file of this name
 abbrev pub mark_at : FileArgument → Mark
 mark_at mark = record { word = mark.number; name = mark.text }
 
 -- the depot once the mark is made
-abbrev pub with_mark : FileArgument → DepotState → DepotState
-with_mark mark at = marked_by (Some (mark_at mark)) at
+abbrev pub with_mark_made : FileArgument → DepotState → DepotState
+with_mark_made mark at = marked_by (Some (mark_at mark)) at
 
 -- memory ran out and no device failed, or a device failed
 abbrev pub MarkStopCause : DepotState → DepotState → Status → Type 0
@@ -37,28 +37,28 @@ pub data Unmarked (mark out : FileArgument) (calls : ℕ) (a b : DepotState) (st
   stopped_first : MarkStopCause a b status → IsAsked calls a b → b.misses ≡ a.misses →
       Unmarked mark out calls a b status
   -- the mark was made, and there is no folder for OUT, in a depot that doesn't tell its files
-  no_folder : status ≡ Missing out.number → a.files ≡ None → IsAsked (calls + 2) (with_mark mark a) b →
+  no_folder : status ≡ Missing out.number → a.files ≡ None → IsAsked (calls + 2) (with_mark_made mark a) b →
       b.faults ≡ a.faults → HasRisen a.misses b.misses → Unmarked mark out calls a b status
   -- the mark was made, and the outside stopped it
-  stopped_then : IsNotThere a.files mark.text → MarkStopCause a b status → IsAsked (calls + 2) (with_mark mark a) b →
+  stopped_then : IsNotThere a.files mark.text → MarkStopCause a b status → IsAsked (calls + 2) (with_mark_made mark a) b →
       b.misses ≡ a.misses → Unmarked mark out calls a b status
 
 -- the mark was made, new and empty; or not
 abbrev pub MarkOutcome : FileArgument → DepotState → DepotState → Result (Unit {0}) Status → Type 0
-MarkOutcome mark a b (Ok done) = IsMadeNew (out_of mark []) a b
+MarkOutcome mark a b (Ok done) = IsMadeNew (out_file mark []) a b
 MarkOutcome mark a b (Err status) = (out : FileArgument) → Unmarked mark out 2 a b status
 
 -- the mark was made, new and empty, and then OUT: what its port holds, with the count of its faults
 pub record IsCreatedMarked (mark : FileArgument) (a b : DepotState) (out : List ℕ) (held : Option (List ℕ))
     (out_faults : ℕ) : Type 0 where
   pub new : IsNotThere a.files mark.text
-  pub empty : IsFresh (with_mark mark a).files held
+  pub empty : IsFresh (with_mark_made mark a).files held
   pub out_fresh : out_faults ≡ 0
-  pub files : b.files ≡ with_bytes (with_mark mark a).files out []
+  pub files : b.files ≡ with_bytes (with_mark_made mark a).files out []
   pub faults : b.faults ≡ a.faults
   pub stops : b.stops ≡ a.stops
   pub misses : b.misses ≡ a.misses
-  pub made : b.made ≡ with_added (with_mark mark a).made 1
+  pub made : b.made ≡ with_added (with_mark_made mark a).made 1
   pub ports : b.opened ≡ one_more a.opened
   pub calls : b.calls ≤ a.calls + 3
 
@@ -68,14 +68,14 @@ pub record IsOpenedMarked (mark : FileArgument) (a b : DepotState) (from out : L
     (from_faults out_faults : ℕ) : Type 0 where
   pub opens : OpensFile a.files from left
   pub new : IsNotThere a.files mark.text
-  pub empty : IsFresh (with_mark mark a).files held
+  pub empty : IsFresh (with_mark_made mark a).files held
   pub from_fresh : from_faults ≡ 0
   pub out_fresh : out_faults ≡ 0
-  pub files : b.files ≡ with_bytes (with_mark mark a).files out []
+  pub files : b.files ≡ with_bytes (with_mark_made mark a).files out []
   pub faults : b.faults ≡ a.faults
   pub stops : b.stops ≡ a.stops
   pub misses : b.misses ≡ a.misses
-  pub made : b.made ≡ with_added (with_mark mark a).made 1
+  pub made : b.made ≡ with_added (with_mark_made mark a).made 1
   pub within : a.opened < 2 ^ 64
   pub ports : b.opened ≡ one_more (one_more a.opened)
   pub calls : b.calls ≤ a.calls + 4

@@ -2,7 +2,7 @@
 use Rattle.std.specs.Prelude.{◌≡◌, ◌-◌, ◌<◌, ℕ, List, [], ◌∷◌, length, slice_index}
 use Rattle.json.specs.Token.{Token, key, string}
 use Rattle.sd_command_base.specs.declared.status.Status.{Status}
-use Rattle.sd_command_base.specs.Texts.{line_of}
+use Rattle.sd_command_base.specs.Texts.{line_of_status}
 
 -- a text by its name, unless it is empty
 abbrev pub text_tokens : List ℕ → List ℕ → List Token
@@ -15,4 +15,4 @@ EndsLine line = 0 < length line → slice_index line (length line - 1) ≡ 10
 
 -- so does the line of the status
 abbrev pub HasFeed : Status → Type 0
-HasFeed status = EndsLine (line_of status)
+HasFeed status = EndsLine (line_of_status status)

@@ -6,13 +6,13 @@ use Rattle.std.specs.Io.KnownBytes.{Appends, Consumes, IsAtEnd}
 use Rattle.sd_base.specs.Count.{HasRisen}
 use Rattle.sd_base.specs.Types.{Packet, Packets}
 use Rattle.sd_ports.specs.Bytes.{AppendsPrefix}
-use Rattle.sd_engine.specs.Taken.{IsLeft}
+use Rattle.sd_engine.specs.Taken.{AreBytesLeft}
 use Rattle.sd_engine.specs.declared.seeking.SeekFault.{SeekFault}
 use Rattle.sd_engine.specs.declared.seeking.SeekFault.TheVariants as seek
-use Rattle.sd_spec.specs.Aired.{Ends, aired, following, left_from}
+use Rattle.sd_spec.specs.Aired.{Ends, aired, by_verdict, left_from}
 use Rattle.sd_spec.specs.Plan.{Plan}
 use Rattle.sd_spec.specs.Sent.{body, bytes_added, closing_of, packets_from, sent}
-use Rattle.sd_head.specs.Live.{IsLive, verdict_after}
+use Rattle.sd_head.specs.Live.{IsLiveAfter, verdict_after}
 use Rattle.sd_head.specs.declared.fault.LiveFault.{LiveFault}
 use Rattle.sd_head.specs.declared.fault.LiveFault.TheVariants as live
 use Rattle.sd_head.specs.declared.live.Live.{Live}
@@ -27,7 +27,7 @@ use Rattle.sd_run_broadcasts.specs.declared.air_send.Finished.{Finished}
 -- the bytes that a packet adds after these, if it is sent
 abbrev pub bytes_for : Plan → Packets → Packet → List ℕ
 bytes_for plan past packet =
-    following (verdict_after plan past packet) (bytes_added plan (aired plan.site past) packet) [] []
+    by_verdict (verdict_after plan past packet) (bytes_added plan (aired plan.site past) packet) [] []
 
 -- the bytes of what was sent before the closing message, and those of the closing message
 abbrev pub body_bytes : Plan → Packets → List ℕ
@@ -60,7 +60,7 @@ status_in (Err status) = status
 abbrev pub SendsPacket : Plan → Packets → Packet → Option (List ℕ) → Option (List ℕ) → Live → Live →
     Result Bool Status → Type 0
 SendsPacket plan past packet held held' old new (Ok true) =
-    IsLive plan (past ++ packet ∷ []) new × Appends held held' (bytes_for plan past packet)
+    IsLiveAfter plan (past ++ packet ∷ []) new × Appends held held' (bytes_for plan past packet)
 SendsPacket plan past packet held held' old new (Ok false) =
     (verdict_after plan past packet ≡ Ends) × (new ≡ old) × Appends held held' []
 SendsPacket plan past packet held held' old new (Err status) =
@@ -81,25 +81,25 @@ Stops plan past seek.Write held held' result = (result ≡ Err DepotFault) × (h
 Stops plan past seek.TooLong held held' result = Finishes plan past (2 ^ 64 - 1) true held held' result
 
 -- the status at the end of a stream that was sent
-abbrev pub status_at : Bool → ℕ → Status
-status_at true packets = SiteUsedUp packets
-status_at false packets = Done
+abbrev pub sent_status_at : Bool → ℕ → Status
+sent_status_at true packets = SiteUsedUp packets
+sent_status_at false packets = Done
 
 abbrev pub finished_status : Finished → Status
-finished_status finished = status_at finished.used_up finished.report.packets
+finished_status finished = sent_status_at finished.used_up finished.report.packets
 
 -- what came of a live stream of these bytes: it was sent to its end, or the outside stopped it
-abbrev pub SendsBytes : Plan → List ℕ → Option (List ℕ) → Option (List ℕ) → Result Finished Status → Type 0
-SendsBytes plan bytes held held' (Ok finished) = (finished.report ≡ air_report plan bytes)
+abbrev pub SendsLiveStream : Plan → List ℕ → Option (List ℕ) → Option (List ℕ) → Result Finished Status → Type 0
+SendsLiveStream plan bytes held held' (Ok finished) = (finished.report ≡ air_report plan bytes)
     × (finished_status finished ≡ live_status plan.site bytes) × Appends held held' (live_sent plan bytes)
-SendsBytes plan bytes held held' (Err status) = IsStop status × AppendsPrefix held held' (live_sent plan bytes)
+SendsLiveStream plan bytes held held' (Err status) = IsStop status × AppendsPrefix held held' (live_sent plan bytes)
 
 -- what came of the live stream that was left
 pub record SendsLive (plan : Plan) (left held held' : Option (List ℕ)) (result : Result Finished Status) :
     Type 0 where
   pub bytes : List ℕ
-  pub is_left : IsLeft left bytes
-  pub sends : SendsBytes plan bytes held held' result
+  pub is_left : AreBytesLeft left bytes
+  pub sends : SendsLiveStream plan bytes held held' result
 
 -- so far: these bytes were read, these packets were found in them, and what is sent of them was written
 pub record IsSending (plan : Plan) (left left' held held' : Option (List ℕ)) (live : Live) (waiting : List ℕ)
@@ -110,13 +110,13 @@ pub record IsSending (plan : Plan) (left left' held held' : Option (List ℕ)) (
   pub end : ended ≡ true → IsAtEnd left'
   pub found : HasFound bytes packets waiting ended skipped
   pub counted : length packets ≡ count
-  pub keeps : IsLive plan packets live
+  pub keeps : IsLiveAfter plan packets live
   pub wrote : Appends held held' (body_bytes plan packets)
 
 -- how the sending ended, before its report is printed
-abbrev pub ended_by : Result Finished Status → Result (Unit {0}) Status
-ended_by (Ok finished) = Ok tt
-ended_by (Err status) = Err status
+abbrev pub sending_result : Result Finished Status → Result (Unit {0}) Status
+sending_result (Ok finished) = Ok tt
+sending_result (Err status) = Err status
 
 -- The report was printed, and the command ends as the sending did; or memory was out for the report, or printing
 -- failed.

@@ -5,11 +5,11 @@ use Rattle.sd_ports.specs.declared.prefix.ReadMostFault.{ReadMostFault}
 use Rattle.sd_ports.specs.declared.prefix.ReadMostFault.TheVariants as fault
 use Rattle.sd_command_base.specs.declared.status.Status.{Status}
 use Rattle.sd_command_base.specs.declared.status.Status.TheVariants.{DepotFault, NoMemory}
-use Rattle.sd_command_base.specs.Spec.{Spec, all_of, value, ◌>>=◌}
+use Rattle.sd_command_base.specs.Spec.{Spec, whole_file_bytes, value, ◌>>=◌}
 
 -- the first bytes of the file of argument `word`, at most `most`
 unfoldable pub prefix_of_file : ℕ → ℕ → Option (List ℕ) → Spec Prefix
-prefix_of_file word most got = all_of word got >>= λ bytes. value (prefix_of most bytes)
+prefix_of_file word most got = whole_file_bytes word got >>= λ bytes. value (prefix_of most bytes)
 
 -- the result of reading the first bytes of a file
 abbrev pub told_prefix : {T : Type 0} → Result T ReadMostFault → Result T Status

@@ -14,7 +14,7 @@ use Rattle.sd_spec.specs.Plan.{Plan}
 use Rattle.sd_command_base.specs.declared.status.Status.{Status}
 use Rattle.sd_command_base.specs.BadLines.{line_numbered}
 use Rattle.sd_command_base.specs.Escaped.{escaped}
-use Rattle.sd_command_base.specs.Spec.{FileArgument, Readings, IsGiven, IsGot}
+use Rattle.sd_command_base.specs.Spec.{FileArgument, Readings, AreReadingsOfFiles, IsReadingOfFile}
 use Rattle.sd_run_broadcasts.specs.Air.{air_line, air_plan_meaning}
 use Rattle.sd_run_broadcasts.specs.OnAir.{report_after}
 
@@ -77,7 +77,7 @@ AirSays site book given bytes = AreReportsOf (air_plan_meaning site book given).
 pub record IsSaid (says : Readings → List ℕ → Type 0) (files : Option Files) (before now : Option (List ℕ)) : Type 0
   where
     pub given : Readings
-    pub is_given : IsGiven files given
+    pub is_given : AreReadingsOfFiles files given
     pub bytes : List ℕ
     pub said : says given bytes
     pub wrote : Appends before now bytes
@@ -92,7 +92,7 @@ pub record NotesOn (plan : Plan) (before now : Option (List ℕ)) : Type 0 where
 pub record HasSite (word : FileArgument) (files : Option Files) (version : ℕ) (has_word : Bool) : Type 0 where
   pub bytes : List ℕ
   pub site : SiteFields
-  pub is_got : IsGot files word.text (Some bytes)
+  pub is_got : IsReadingOfFile files word.text (Some bytes)
   pub is_site : site_of bytes ≡ Ok site
   pub messages : site.messages ≡ version
   pub line : has_first_word bytes ≡ has_word

@@ -8,14 +8,14 @@ use Rattle.sd_base.specs.Types.{Packet, Packets}
 use Rattle.sd_ports.specs.Bytes.{AppendsPrefix}
 use Rattle.sd_engine.specs.Cut.{readable}
 use Rattle.sd_engine.specs.Seeking.{MayCome}
-use Rattle.sd_engine.specs.Taken.{IsLeft}
+use Rattle.sd_engine.specs.Taken.{AreBytesLeft}
 use Rattle.sd_engine.specs.declared.seeking.SeekFault.{SeekFault}
 use Rattle.sd_engine.specs.declared.seeking.SeekFault.TheVariants as seek
 use Rattle.sd_site_cards.specs.CardFields.{CardFields}
 use Rattle.sd_spec.specs.Offered.{out_from}
 use Rattle.sd_spec.specs.Counting.{counting, tried_keys}
 use Rattle.sd_spec.specs.Reports.{report_of, turns_after, turned_reports}
-use Rattle.sd_watch.specs.Watching.{card_of, counted_of, IsWatching}
+use Rattle.sd_watch.specs.Watching.{watcher_card, counted_of, IsWatching}
 use Rattle.sd_watch.specs.declared.watcher.Watcher.{Watcher}
 use Rattle.sd_command_base.specs.declared.status.Status.{Status}
 use Rattle.sd_command_base.specs.declared.status.Status.TheVariants.{Done, BadStream, DepotFault, PrintFault, NoMemory}
@@ -23,7 +23,7 @@ use Rattle.sd_command_base.specs.declared.stream_refusal.StreamRefusal.TheVarian
 use Rattle.sd_command_base.specs.Outside.{PageState}
 use Rattle.sd_run_broadcasts.specs.Found.{HasFound}
 use Rattle.sd_run_broadcasts.specs.Live.{Lived, is_outside}
-use Rattle.sd_run_broadcasts.specs.Watch.{lines_of, report_line, skipped_at, watched_lines, watched_of, watched_status}
+use Rattle.sd_run_broadcasts.specs.Watch.{report_lines, watch_report_line, skipped_at, watched_lines, watched_of, watched_status}
 use Rattle.sd_run_broadcasts.specs.Watch.{watched_steps}
 
 -- what those of these packets that count write, after others, which have the newest first
@@ -32,38 +32,38 @@ counted_out card past s = out_from card past (counting card past s)
 
 -- the lines before the turns of these packets, in a stream of these bytes
 abbrev pub turned_lines : CardFields → List ℕ → Packets → List (List ℕ)
-turned_lines card bytes s = lines_of card bytes (turned_reports card [] s)
+turned_lines card bytes s = report_lines card bytes (turned_reports card [] s)
 
 -- the line before a packet, if it turns to another run: so many bytes before it are in no packet
 abbrev pub line_before : CardFields → ℕ → Packets → Packet → List (List ℕ)
 line_before card skipped s packet =
-    if turns_after card s packet then report_line card.leaf skipped (report_of card s) ∷ [] else []
+    if turns_after card s packet then watch_report_line card.leaf skipped (report_of card s) ∷ [] else []
 
 -- the result of a packet after these: all that it writes was written, and its line printed; or memory was out for the
 -- line, or a write failed; or printing failed
-pub data PacketOutcome (card : CardFields) (s : Packets) (packet : Packet) (skipped : ℕ) (held held' : Option (List ℕ))
+pub data WatchedPacketOutcome (card : CardFields) (s : Packets) (packet : Packet) (skipped : ℕ) (held held' : Option (List ℕ))
     (a b : PageState) (watcher : Watcher) (status : Status) : Type 0 where
-  passed : status ≡ Done → IsWatching (s ++ packet ∷ []) watcher → card_of watcher ≡ card →
+  passed : status ≡ Done → IsWatching (s ++ packet ∷ []) watcher → watcher_card watcher ≡ card →
       Appends held held' (concat (counted_out card (counted_of card s) (packet ∷ []))) →
       Appends a.printed b.printed (concat (line_before card skipped s packet)) → b.faults ≡ a.faults →
-      PacketOutcome card s packet skipped held held' a b watcher status
+      WatchedPacketOutcome card s packet skipped held held' a b watcher status
   stopped : (status ≡ NoMemory) ⊎ (status ≡ DepotFault) →
       AppendsPrefix held held' (concat (counted_out card (counted_of card s) (packet ∷ []))) → b ≡ a →
-      PacketOutcome card s packet skipped held held' a b watcher status
+      WatchedPacketOutcome card s packet skipped held held' a b watcher status
   unprinted : status ≡ PrintFault →
       AppendsPrefix held held' (concat (counted_out card (counted_of card s) (packet ∷ []))) →
       AppendsPrefix a.printed b.printed (concat (line_before card skipped s packet)) → HasRisen a.faults b.faults →
-      PacketOutcome card s packet skipped held held' a b watcher status
+      WatchedPacketOutcome card s packet skipped held held' a b watcher status
 
 -- no more steps were counted at a packet after these than it takes
 abbrev pub IsWithinTries : CardFields → Packets → Packet → ℕ → ℕ → Type 0
 IsWithinTries card s packet from to = to ≤ from + card.height * tried_keys card (counted_of card s) (packet ∷ [])
 
 -- how a stream ends in which nothing more is found for this cause
-abbrev pub stop_status : SeekFault → Status
-stop_status seek.Read = DepotFault
-stop_status seek.Write = DepotFault
-stop_status seek.TooLong = BadStream TooLong
+abbrev pub seek_stop_status : SeekFault → Status
+seek_stop_status seek.Read = DepotFault
+seek_stop_status seek.Write = DepotFault
+seek_stop_status seek.TooLong = BadStream TooLong
 
 -- so far: these bytes were read, and of these packets all that they write was written and their lines were printed
 pub record IsUnderWay (card : CardFields) (left left' held held' : Option (List ℕ)) (a b : PageState) (from to : ℕ)
@@ -77,7 +77,7 @@ pub record IsUnderWay (card : CardFields) (left left' held held' : Option (List 
   pub counted : length packets ≡ count
   pub lines : (more : List ℕ) → MayCome ended more → turned_lines card (bytes ++ more) packets ≡ pieces
   pub keeps : IsWatching packets watcher
-  pub same : card_of watcher ≡ card
+  pub same : watcher_card watcher ≡ card
   pub wrote : Appends held held' (concat (counted_out card [] packets))
   pub printed : Appends a.printed b.printed (concat pieces)
   pub calm : b.faults ≡ a.faults
@@ -86,7 +86,7 @@ pub record IsUnderWay (card : CardFields) (left left' held held' : Option (List 
 -- what is known once a stream was read that the outside didn't stop: all its packets were watched
 pub record KeepsAll (card : CardFields) (bytes : List ℕ) (watcher : Watcher) (skipped : ℕ) : Type 0 where
   pub keeps : IsWatching (readable bytes) watcher
-  pub same : card_of watcher ≡ card
+  pub same : watcher_card watcher ≡ card
   pub skipped_is : skipped ≡ skipped_at bytes (length (readable bytes))
   pub few : length (readable bytes) ≤ 2 ^ 48
 
@@ -95,7 +95,7 @@ pub record KeepsAll (card : CardFields) (bytes : List ℕ) (watcher : Watcher) (
 pub record WatchesLeft (card : CardFields) (left held held' : Option (List ℕ)) (a b : PageState) (from to : ℕ)
     (watcher : Watcher) (skipped : ℕ) (status : Status) : Type 0 where
   pub bytes : List ℕ
-  pub is_left : IsLeft left bytes
+  pub is_left : AreBytesLeft left bytes
   pub lived : Lived (watched_of card bytes) (watched_lines card bytes) (turned_lines card bytes (readable bytes))
       (watched_status card bytes) held held' a b status
   pub steps : to ≤ from + watched_steps card bytes

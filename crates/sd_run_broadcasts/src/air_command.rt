@@ -1,12 +1,12 @@
 ghost use Rattle.std.specs.Prelude.{◌≡◌, ◌≢◌, [], IfOk, string_bytes};
 ghost use Rattle.sd_spec.specs.Plan.{Plan};
-ghost use Rattle.sd_head.specs.Live.{IsLive, IsOnAir};
+ghost use Rattle.sd_head.specs.Live.{IsLiveAfter, IsOnAir};
 ghost use Rattle.sd_command_base.specs.Made.{used_name as name_of_mark};
-ghost use Rattle.sd_command_base.specs.Outside.{depot_state, outside, page_state};
+ghost use Rattle.sd_command_base.specs.Outside.{page_state, io_state_at};
 ghost use Rattle.sd_command_base.specs.Outcome.{Implements, status_of};
 ghost use Rattle.sd_command_base.specs.Shown.{shown_word};
 ghost use Rattle.sd_run_broadcasts.specs.Air.{air_meaning, aired_meaning};
-ghost use Rattle.sd_run_broadcasts.specs.OnAir.{ended_by, TellsReport};
+ghost use Rattle.sd_run_broadcasts.specs.OnAir.{sending_result, TellsReport};
 ghost use Rattle.sd_run_broadcasts.specs.Said.{AirSays, IsSaid, NotesOn};
 
 use crate::air_line::air_line;
@@ -39,8 +39,8 @@ pub fn air<D: Depot, P: Sink, N: Sink, L: Ledger>(
     requires { (site.number ≢ book.number) × (site.number ≢ clear.number) × (book.number ≢ clear.number) }
     ensures value { Implements (air_meaning (shown_word site.entry) (shown_word book.entry) (shown_word clear.entry)
         (shown_word out.entry))
-        (outside (depot_state D.Depot depot.old) (page_state P.Sink print.old) steps.old)
-        (outside (depot_state D.Depot depot.new) (page_state P.Sink print.new) steps.new) (status_of result) }
+        (io_state_at D.Depot P.Sink depot.old print.old steps.old)
+        (io_state_at D.Depot P.Sink depot.new print.new steps.new) (status_of result) }
     ensures notes { IsSaid (AirSays (shown_word site.entry) (shown_word book.entry)) (D.Depot.files depot.old)
         (N.held notes.old) (N.held notes.new) }
 {
@@ -84,11 +84,11 @@ fn air_stream<D: Depot, P: Sink, N: Sink, L: Ledger>(
     requires on { IsOnAir live }
     requires mark { mark.now ≡ name_of_mark site.text.now }
     requires apart { site.number ≢ clear.number }
-    ensures value { (plan : Plan) → IsLive plan [] live →
+    ensures value { (plan : Plan) → IsLiveAfter plan [] live →
         Implements (aired_meaning plan (shown_word site.entry) (shown_word clear.entry) (shown_word out.entry))
-        (outside (depot_state D.Depot depot.old) (page_state P.Sink print.old) steps.old)
-        (outside (depot_state D.Depot depot.new) (page_state P.Sink print.new) steps.new) (status_of result) }
-    ensures notes { (plan : Plan) → IsLive plan [] live → NotesOn plan (N.held notes.old) (N.held notes.new) }
+        (io_state_at D.Depot P.Sink depot.old print.old steps.old)
+        (io_state_at D.Depot P.Sink depot.new print.new steps.new) (status_of result) }
+    ensures notes { (plan : Plan) → IsLiveAfter plan [] live → NotesOn plan (N.held notes.old) (N.held notes.new) }
 {
     let mark = Word::at(site.number, mark);
     let (mut inlet, mut outlet) = open_marked(alloc, depot, clear, mark, out)?;
@@ -109,7 +109,7 @@ fn tell<P: Sink>(alloc: Global, print: &mut P, finished: Finished) -> Result<(),
 
 /// How the sending ended, before its report is printed.
 fn ended(sent: &Result<Finished, Status>) -> Result<(), Status>
-    ensures { result ≡ ended_by sent.now }
+    ensures { result ≡ sending_result sent.now }
 {
     match sent {
         Ok(_) => Ok(()),

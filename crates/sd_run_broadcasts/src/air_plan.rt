@@ -1,6 +1,6 @@
 ghost use Rattle.std.specs.Prelude.{◌≡◌, ◌≢◌, IfOk};
-ghost use Rattle.sd_site_cards.specs.SiteFields.{fields_of};
-ghost use Rattle.sd_site_cards.specs.Written.{newest_of, none_fewer};
+ghost use Rattle.sd_site_cards.specs.SiteFields.{site_fields_of};
+ghost use Rattle.sd_site_cards.specs.Written.{site_of_chain, none_fewer};
 ghost use Rattle.sd_command_base.specs.Outside.{depot_state};
 ghost use Rattle.sd_command_base.specs.Reads.{FileOutcome, FilesOutcome, SureOutcome};
 ghost use Rattle.sd_command_base.specs.Shown.{shown_word};
@@ -23,7 +23,7 @@ pub fn read_air_plan<D: Depot>(
     book: Word<'_>,
 ) -> Result<(Site, Book), Status>
     requires { site.number ≢ book.number }
-    ensures value { FilesOutcome (λ plan. record { site = fields_of plan.0; commands = plan.1.commands })
+    ensures value { FilesOutcome (λ plan. record { site = site_fields_of plan.0; commands = plan.1.commands })
         (air_plan_meaning (shown_word site.entry) (shown_word book.entry))
         (depot_state D.Depot depot.old) (depot_state D.Depot depot.new) result }
     ensures height { IfOk result (λ plan. plan.1.height ≡ plan.0.height) }
@@ -39,7 +39,7 @@ fn read_air_site<D: Depot>(
     depot: &mut D,
     word: Word<'_>,
 ) -> Result<(Site, Option<BookLine>), Status>
-    ensures { FileOutcome (λ said. (fields_of said.0, said.1)) (air_site_of_file word.entry.number)
+    ensures { FileOutcome (λ said. (site_fields_of said.0, said.1)) (air_site_of_file word.entry.number)
         word.entry.text.now (depot_state D.Depot depot.old) (depot_state D.Depot depot.new) result }
 {
     let bytes = read_bytes(alloc, depot, word, MOST_SITE_BYTES, LimitKind::SiteBytes)?;
@@ -49,8 +49,8 @@ fn read_air_site<D: Depot>(
 /// The site that the bytes of this word's file say, and what its line 13 says of its book. It must have thirteen lines,
 /// messages of version 3 and a control word.
 fn judge_air_site(word: u8, bytes: &[u8]) -> Result<(Site, Option<BookLine>), Status>
-    ensures { SureOutcome (λ said. (fields_of said.0, said.1))
-        (told_air_site word bytes.now (newest_of none_fewer bytes.now)) result }
+    ensures { SureOutcome (λ said. (site_fields_of said.0, said.1))
+        (told_air_site word bytes.now (site_of_chain none_fewer bytes.now)) result }
 {
     let (site, line) = match read_newest(bytes, false) {
         Ok(said) => said,

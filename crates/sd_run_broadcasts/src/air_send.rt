@@ -1,7 +1,7 @@
 ghost use Rattle.std.specs.Prelude.{◌≡◌, ◌<◌, ◌^◌, List, [], ℕ, length, IfOk, OnOk};
 ghost use Rattle.sd_base.specs.Count.{IsCaused};
 ghost use Rattle.sd_spec.specs.Plan.{Plan};
-ghost use Rattle.sd_head.specs.Live.{IsLive, IsOnAir};
+ghost use Rattle.sd_head.specs.Live.{IsLiveAfter, IsOnAir};
 ghost use Rattle.sd_command_base.specs.Outcome.{status_of};
 ghost use Rattle.sd_command_base.specs.Turned.{HasPortCause};
 ghost use Rattle.sd_run_broadcasts.specs.OnAir.{fault_status, finished_status, report_after, status_in};
@@ -55,11 +55,11 @@ pub fn send_live<S: Source, K: Sink, N: Sink, L: Ledger>(
     steps: &mut Steps<L>,
 ) -> Result<Finished, Status>
     requires { IsOnAir live.old }
-    ensures value { (plan : Plan) → IsLive plan [] live.old →
+    ensures value { (plan : Plan) → IsLiveAfter plan [] live.old →
         SendsLive plan (S.left source.old) (K.held sink.old) (K.held sink.new) result }
     ensures cause { HasPortCause (S.faults source.old) (S.faults source.new) (K.faults sink.old) (K.faults sink.new)
         (status_in result) }
-    ensures notes { (plan : Plan) → IsLive plan [] live.old → NotesOn plan (N.held notes.old) (N.held notes.new) }
+    ensures notes { (plan : Plan) → IsLiveAfter plan [] live.old → NotesOn plan (N.held notes.old) (N.held notes.new) }
 {
     let mut piece = [0u8; ROOM];
     let mut ahead = Ahead {
@@ -98,11 +98,11 @@ fn send_packet<K: Sink, N: Sink, L: Ledger>(
     steps: &mut Steps<L>,
 ) -> Result<bool, Status>
     requires { IsOnAir live.old }
-    ensures value { (plan : Plan) (past : List (List ℕ)) → IsLive plan past live.old → length past < 2 ^ 48 →
+    ensures value { (plan : Plan) (past : List (List ℕ)) → IsLiveAfter plan past live.old → length past < 2 ^ 48 →
         SendsPacket plan past packet.now (K.held sink.old) (K.held sink.new) live.old live.new result }
     ensures on { OnOk result (IsOnAir live.new) }
     ensures cause { IsCaused (K.faults sink.old) (K.faults sink.new) (status_in result ≡ Status.DepotFault) }
-    ensures notes { (plan : Plan) (past : List (List ℕ)) → IsLive plan past live.old → length past < 2 ^ 48 →
+    ensures notes { (plan : Plan) (past : List (List ℕ)) → IsLiveAfter plan past live.old → length past < 2 ^ 48 →
         NotesOn plan (N.held notes.old) (N.held notes.new) }
 {
     match live.take(packet, sink, steps) {
@@ -135,7 +135,7 @@ fn finish<K: Sink, L: Ledger>(
     steps: &mut Steps<L>,
 ) -> Result<Finished, Status>
     requires { IsOnAir live.old }
-    ensures value { (plan : Plan) (past : List (List ℕ)) → IsLive plan past live.old →
+    ensures value { (plan : Plan) (past : List (List ℕ)) → IsLiveAfter plan past live.old →
         Finishes plan past skipped used_up (K.held sink.old) (K.held sink.new) result }
     ensures cause { IsCaused (K.faults sink.old) (K.faults sink.new) (status_in result ≡ Status.DepotFault) }
 {
@@ -155,7 +155,7 @@ fn stop<K: Sink, L: Ledger>(
     steps: &mut Steps<L>,
 ) -> Result<Finished, Status>
     requires { IsOnAir live.old }
-    ensures value { (plan : Plan) (past : List (List ℕ)) → IsLive plan past live.old →
+    ensures value { (plan : Plan) (past : List (List ℕ)) → IsLiveAfter plan past live.old →
         Stops plan past fault (K.held sink.old) (K.held sink.new) result }
     ensures cause { fault ≡ SeekFault.TooLong →
         IsCaused (K.faults sink.old) (K.faults sink.new) (status_in result ≡ Status.DepotFault) }
@@ -170,7 +170,7 @@ fn stop<K: Sink, L: Ledger>(
 
 /// Writes to `notes` what is reported if the broadcast ends here. It doesn't matter if this fails.
 fn note<N: Sink>(alloc: Global, notes: &mut N, live: &Live, skipped: u64)
-    ensures { (plan : Plan) (past : List (List ℕ)) → IsLive plan past live.now →
+    ensures { (plan : Plan) (past : List (List ℕ)) → IsLiveAfter plan past live.now →
         NotesOn plan (N.held notes.old) (N.held notes.new) }
 {
     write_noted(alloc, notes, &report(live, skipped));
@@ -187,7 +187,7 @@ fn write_noted<N: Sink>(alloc: Global, notes: &mut N, report: &AirReport)
 
 /// What is reported if the broadcast ends here, and `skipped` bytes are in no packet.
 fn report(live: &Live, skipped: u64) -> AirReport
-    ensures { (plan : Plan) (past : List (List ℕ)) → IsLive plan past live.now →
+    ensures { (plan : Plan) (past : List (List ℕ)) → IsLiveAfter plan past live.now →
         result ≡ report_after plan past skipped }
 {
     AirReport {

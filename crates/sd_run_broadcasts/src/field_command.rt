@@ -1,7 +1,7 @@
 ghost use Rattle.std.specs.Prelude.{◌≡◌, ◌≢◌, ◌≤◌, All, None, length, string_bytes, true};
-ghost use Rattle.sd_site_cards.specs.SiteFields.{fields_of};
+ghost use Rattle.sd_site_cards.specs.SiteFields.{site_fields_of};
 ghost use Rattle.sd_spec.specs.Events.{is_of};
-ghost use Rattle.sd_command_base.specs.Outside.{outside, page_state, depot_state};
+ghost use Rattle.sd_command_base.specs.Outside.{io_state_at};
 ghost use Rattle.sd_command_base.specs.Outcome.{Implements, status_of};
 ghost use Rattle.sd_command_base.specs.Printed.{MemoryOutcome};
 ghost use Rattle.sd_command_base.specs.Shown.{shown_word};
@@ -39,8 +39,8 @@ pub fn field<D: Depot, P: Sink, L: Ledger>(
 ) -> Result<(), Status>
     requires { (site.number ≢ clear.number) × (site.number ≢ script.number) × (clear.number ≢ script.number) }
     ensures { Implements (field_meaning (shown_word site.entry) (shown_word clear.entry) (shown_word script.entry))
-        (outside (depot_state D.Depot depot.old) (page_state P.Sink print.old) steps.old)
-        (outside (depot_state D.Depot depot.new) (page_state P.Sink print.new) steps.new) (status_of result) }
+        (io_state_at D.Depot P.Sink depot.old print.old steps.old)
+        (io_state_at D.Depot P.Sink depot.new print.new steps.new) (status_of result) }
 {
     let (site, clear) = read_inputs(alloc, depot, site, clear)?;
     let events = read_events(alloc, depot, script, site.height)?;
@@ -60,7 +60,7 @@ fn text_of<L: Ledger>(
     requires packets { length clear.items ≤ 16384 }
     requires events { length events.items ≤ 524288 }
     requires leaves { All (λ event. is_of site.height event ≡ true) events.items }
-    ensures { MemoryOutcome (λ text. string_bytes text) (field_text (fields_of site) clear.items events.items) result }
+    ensures { MemoryOutcome (λ text. string_bytes text) (field_text (site_fields_of site) clear.items events.items) result }
 {
     let h = site.height;
     let mut field = Field::new(alloc, site, clear, events, steps)?;

@@ -1,5 +1,5 @@
 ghost use Rattle.std.specs.Prelude.{◌≢◌, ◌≤◌, IfOk, length};
-ghost use Rattle.sd_site_cards.specs.SiteFields.{fields_of};
+ghost use Rattle.sd_site_cards.specs.SiteFields.{site_fields_of};
 ghost use Rattle.sd_command_base.specs.Outside.{depot_state};
 ghost use Rattle.sd_command_base.specs.Reads.{FilesOutcome};
 ghost use Rattle.sd_command_base.specs.Shown.{shown_word};
@@ -23,7 +23,7 @@ pub fn read_inputs<D: Depot>(
     clear: Word<'_>,
 ) -> Result<(Site, Vec<Packet>), Status>
     requires { site.number ≢ clear.number }
-    ensures value { FilesOutcome (λ inputs. record { site = fields_of inputs.0; clear = inputs.1.items })
+    ensures value { FilesOutcome (λ inputs. record { site = site_fields_of inputs.0; clear = inputs.1.items })
         (inputs_meaning (shown_word site.entry) (shown_word clear.entry))
         (depot_state D.Depot depot.old) (depot_state D.Depot depot.new) result }
     ensures low { IfOk result (λ inputs. inputs.0.height ≤ 6) }

@@ -1,6 +1,6 @@
 ghost use Rattle.std.specs.Prelude.{◌≡◌, ◌<◌, ◌^◌, ◌++◌, ◌/◌, None, string_bytes, length, IfOk, OnOk};
-ghost use Rattle.sd_run_broadcasts.specs.Field.{digest_of as digest_text, first_line as line_of, lines_to};
-ghost use Rattle.sd_run_broadcasts.specs.Field.{receiver_line};
+ghost use Rattle.sd_run_broadcasts.specs.Field.{digest_of as digest_text, first_line as line_of, lines_of_field};
+ghost use Rattle.sd_run_broadcasts.specs.Field.{field_receiver_line};
 ghost use Rattle.sd_field.specs.Fields.{written_of};
 
 use sd_field::Field;
@@ -18,7 +18,7 @@ const SHOWN: usize = 16;
 pub fn lines(alloc: Global, field: &Field, h: Height) -> Result<String, AllocError>
     requires height { h ≡ field.now.site.height }
     requires calm { field.now.failed ≡ None }
-    ensures { IfOk result (λ text. string_bytes text ≡ lines_to field.now (2 ^ h)) }
+    ensures { IfOk result (λ text. string_bytes text ≡ lines_of_field field.now (2 ^ h)) }
 {
     let packets = field.sent().len() / SIZE;
     let mut text = first_line(alloc, field.sends(), packets, field.book().last_period())?;
@@ -80,10 +80,10 @@ fn digest_of(alloc: Global, bytes: &[u8]) -> Result<String, AllocError>
 }
 
 /// Puts the line of leaf u after the text, whose receivers wrote these bytes, with this digest.
-#[tactic(auto, unfolding(crate::specs::Field::receiver_line))]
+#[tactic(auto, unfolding(crate::specs::Field::field_receiver_line))]
 fn push_line(text: &mut String, u: u32, wrote: &[u8], digest: &str) -> Result<(), AllocError>
     ensures { OnOk result (string_bytes text.new
-        ≡ string_bytes text.old ++ receiver_line u (length wrote.now / 188) digest.now) }
+        ≡ string_bytes text.old ++ field_receiver_line u (length wrote.now / 188) digest.now) }
 {
     let packets = wrote.len() / SIZE;
     Ok(write!(text, "receiver {u} wrote {packets} digest {digest}\n")?)

@@ -3,7 +3,7 @@ ghost use Rattle.sd_spec.specs.Events.{is_of};
 ghost use Rattle.sd_field.specs.Script.{script_of};
 ghost use Rattle.sd_command_base.specs.Outside.{depot_state};
 ghost use Rattle.sd_command_base.specs.Reads.{JudgedOutcome, FileOutcome};
-ghost use Rattle.sd_run_broadcasts.specs.Field.{refused_script, script_of_file, told_script};
+ghost use Rattle.sd_run_broadcasts.specs.Field.{refused_script, script_of_file, script_or_status};
 
 use sd_command_base::{
     LimitKind, LineCause, MOST_BOOK_BYTES, Status, Word, malformed, read_bytes, refused_line,
@@ -32,7 +32,7 @@ pub fn read_events<D: Depot>(
 
 /// The events of the script of these bytes, which are those of the file of argument `word`.
 fn judge_script(alloc: Global, word: u8, bytes: &[u8], h: Height) -> Result<Vec<Event>, Status>
-    ensures value { JudgedOutcome (λ events. events.items) (told_script word h bytes.now (script_of h bytes.now)) result }
+    ensures value { JudgedOutcome (λ events. events.items) (script_or_status word h bytes.now (script_of h bytes.now)) result }
     ensures few { IfOk result (λ events. length events.items ≤ 524288) }
     ensures leaves { IfOk result (λ events. All (λ event. is_of h event ≡ true) events.items) }
 {

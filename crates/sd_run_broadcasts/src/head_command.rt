@@ -1,6 +1,6 @@
 ghost use Rattle.std.specs.Prelude.{◌≡◌, ◌≢◌, []};
-ghost use Rattle.sd_head.specs.Staged.{plan_in, IsAfter};
-ghost use Rattle.sd_command_base.specs.Outside.{PageState, outside, depot_state};
+ghost use Rattle.sd_head.specs.Staged.{plan_of_head, IsHeadEndAfter};
+ghost use Rattle.sd_command_base.specs.Outside.{PageState, io_state, depot_state};
 ghost use Rattle.sd_command_base.specs.Outcome.{Implements, status_of};
 ghost use Rattle.sd_run_broadcasts.specs.Head.{head_meaning, refusal_in, sent_told, SendsLeft};
 ghost use Rattle.sd_run_broadcasts.specs.Said.{HeadSays, IsSaid};
@@ -34,8 +34,8 @@ pub fn head<D: Depot, N: Sink, L: Ledger>(
     ensures value { (page : PageState) →
         Implements (head_meaning (shown_word site.entry) (shown_word book.entry) (shown_word clear.entry)
         (shown_word out.entry))
-        (outside (depot_state D.Depot depot.old) page steps.old)
-        (outside (depot_state D.Depot depot.new) page steps.new)
+        (io_state (depot_state D.Depot depot.old) page steps.old)
+        (io_state (depot_state D.Depot depot.new) page steps.new)
         (status_of result) }
     ensures notes { IsSaid (HeadSays (shown_word site.entry)) (D.Depot.files depot.old) (N.held notes.old)
         (N.held notes.new) }
@@ -57,8 +57,8 @@ pub fn send<S: Source, K: Sink, L: Ledger>(
     head: &mut Head,
     steps: &mut Steps<L>,
 ) -> Result<(), Status>
-    requires { IsAfter (plan_in head.old) [] head.old }
-    ensures value { SendsLeft (plan_in head.old) (S.left source.old) (K.held sink.old) (K.held sink.new)
+    requires { IsHeadEndAfter (plan_of_head head.old) [] head.old }
+    ensures value { SendsLeft (plan_of_head head.old) (S.left source.old) (K.held sink.old) (K.held sink.new)
         (status_of result) }
     ensures cause { HasPortCause (S.faults source.old) (S.faults source.new) (K.faults sink.old) (K.faults sink.new)
         (status_of result) }

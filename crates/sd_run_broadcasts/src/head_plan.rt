@@ -1,11 +1,11 @@
 ghost use Rattle.std.specs.Prelude.{◌≡◌, ◌≢◌, IfOk};
-ghost use Rattle.sd_site_cards.specs.SiteFields.{fields_of};
+ghost use Rattle.sd_site_cards.specs.SiteFields.{site_fields_of};
 ghost use Rattle.sd_site_cards.specs.Text.{book_line_of, site_of};
-ghost use Rattle.sd_command_base.specs.Files.{told_site};
+ghost use Rattle.sd_command_base.specs.Files.{site_or_status};
 ghost use Rattle.sd_command_base.specs.Outside.{depot_state};
 ghost use Rattle.sd_command_base.specs.Reads.{FileOutcome, FilesOutcome, SureOutcome};
 ghost use Rattle.sd_command_base.specs.Shown.{shown_word};
-ghost use Rattle.sd_run_broadcasts.specs.Head.{plan_meaning, site_and_line_of_file, with_line};
+ghost use Rattle.sd_run_broadcasts.specs.Head.{head_plan_meaning, site_and_line_of_file, with_line};
 ghost use Rattle.sd_run_broadcasts.specs.Said.{has_first_word as has_word, HasSite};
 
 use sd_book::Book;
@@ -28,8 +28,8 @@ pub fn read_plan<D: Depot>(
     book: Word<'_>,
 ) -> Result<(Site, Book, bool), Status>
     requires { site.number ≢ book.number }
-    ensures value { FilesOutcome (λ plan. record { site = fields_of plan.0; commands = plan.1.commands })
-        (plan_meaning (shown_word site.entry) (shown_word book.entry))
+    ensures value { FilesOutcome (λ plan. record { site = site_fields_of plan.0; commands = plan.1.commands })
+        (head_plan_meaning (shown_word site.entry) (shown_word book.entry))
         (depot_state D.Depot depot.old) (depot_state D.Depot depot.new) result }
     ensures height { IfOk result (λ plan. plan.1.height ≡ plan.0.height) }
     ensures word { IfOk result (λ plan. HasSite (shown_word site.entry) (D.Depot.files depot.old)
@@ -46,7 +46,7 @@ fn read_with_line<D: Depot>(
     depot: &mut D,
     word: Word<'_>,
 ) -> Result<(Site, Option<BookLine>, bool), Status>
-    ensures value { FileOutcome (λ said. (fields_of said.0, said.1)) (site_and_line_of_file word.entry.number)
+    ensures value { FileOutcome (λ said. (site_fields_of said.0, said.1)) (site_and_line_of_file word.entry.number)
         word.entry.text.now (depot_state D.Depot depot.old) (depot_state D.Depot depot.new) result }
     ensures word { IfOk result (λ said. HasSite (shown_word word.entry) (D.Depot.files depot.old)
         said.0.messages said.2) }
@@ -66,8 +66,8 @@ fn has_first_word(bytes: &[u8]) -> bool
 
 /// The site that the bytes of this word's file say, and what its line 13 says of its book.
 fn judge_with_line(word: u8, bytes: &[u8]) -> Result<(Site, Option<BookLine>), Status>
-    ensures { SureOutcome (λ said. (fields_of said.0, said.1))
-        (with_line (book_line_of bytes.now) (told_site word bytes.now (site_of bytes.now))) result }
+    ensures { SureOutcome (λ said. (site_fields_of said.0, said.1))
+        (with_line (book_line_of bytes.now) (site_or_status word bytes.now (site_of bytes.now))) result }
 {
     match read_with_book(bytes) {
         Ok(said) => Ok(said),

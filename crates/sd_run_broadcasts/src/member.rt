@@ -3,7 +3,7 @@
 ghost use Rattle.std.specs.Prelude.{◌≡◌, ◌-◌, ◌++◌, ◌∷◌, [], OnOk, length, take, decimal};
 ghost use Rattle.json.specs.Token.{key as key_token, number as number_token};
 ghost use Rattle.sd_run_broadcasts.specs.MemberTokens.{EndsLine, HasFeed, text_tokens};
-ghost use Rattle.sd_run_broadcasts.specs.Members.{text_of};
+ghost use Rattle.sd_run_broadcasts.specs.Members.{text_of_status};
 
 use json::Writer;
 use sd_command_base::{Status, status_line};
@@ -27,7 +27,7 @@ pub(crate) fn write_status(
     status: Status,
 ) -> Result<(), AllocError>
     requires { HasFeed status }
-    ensures tokens { OnOk result (out.new.tokens ≡ out.old.tokens ++ text_tokens name.now (text_of status)) }
+    ensures tokens { OnOk result (out.new.tokens ≡ out.old.tokens ++ text_tokens name.now (text_of_status status)) }
     ensures before { out.new.before ≡ out.old.before }
 {
     let line = status_line(alloc, status)?;

@@ -1,12 +1,12 @@
 ghost use Rattle.std.specs.Prelude.{◌≡◌, ◌≢◌, [], List, ℕ, IfOk};
 ghost use Rattle.sd_spec.specs.Ending.{ending_of};
-ghost use Rattle.sd_receive.specs.Receiving.{IsAfter, card_in};
-ghost use Rattle.sd_command_base.specs.Outside.{PageState, outside, depot_state};
+ghost use Rattle.sd_receive.specs.Receiving.{HasReceived, receiver_card};
+ghost use Rattle.sd_command_base.specs.Outside.{PageState, io_state, depot_state};
 ghost use Rattle.sd_command_base.specs.Reads.{JudgedOutcome, FileOutcome};
 ghost use Rattle.sd_command_base.specs.Outcome.{Implements, IsEnding, status_of};
 ghost use Rattle.sd_command_base.specs.Turned.{HasPortCause};
-ghost use Rattle.sd_run_broadcasts.specs.Receive.{ReceivesLeft, card_of_file, told_card, receive_meaning};
-ghost use Rattle.sd_run_broadcasts.specs.Receive.{stream_meaning};
+ghost use Rattle.sd_run_broadcasts.specs.Receive.{ReceivesLeft, card_of_file, card_refusal, receive_meaning};
+ghost use Rattle.sd_run_broadcasts.specs.Receive.{receive_stream_meaning};
 ghost use Rattle.sd_run_broadcasts.specs.Receive.{ending_status, stopped_status};
 ghost use Rattle.sd_command_base.specs.Shown.{shown_word};
 
@@ -36,8 +36,8 @@ pub fn receive<D: Depot, L: Ledger>(
     requires { card.number ≢ stream.number }
     ensures value { (page : PageState) →
         Implements (receive_meaning (shown_word card.entry) (shown_word stream.entry) (shown_word out.entry))
-        (outside (depot_state D.Depot depot.old) page steps.old)
-        (outside (depot_state D.Depot depot.new) page steps.new)
+        (io_state (depot_state D.Depot depot.old) page steps.old)
+        (io_state (depot_state D.Depot depot.new) page steps.new)
         (status_of result) }
     // Out of memory, OUT isn't made.
     ensures memory { status_of result ≡ Status.NoMemory →
@@ -50,9 +50,9 @@ pub fn receive<D: Depot, L: Ledger>(
 /// The receiver of the card in the file of this argument, before the first packet. All memory that it needs is
 /// allocated here.
 fn read_receiver<D: Depot>(alloc: Global, depot: &mut D, word: Word<'_>) -> Result<Receiver, Status>
-    ensures value { FileOutcome card_in (card_of_file word.entry.number) word.entry.text.now
+    ensures value { FileOutcome receiver_card (card_of_file word.entry.number) word.entry.text.now
         (depot_state D.Depot depot.old) (depot_state D.Depot depot.new) result }
-    ensures new { IfOk result (IsAfter []) }
+    ensures new { IfOk result (HasReceived []) }
 {
     let bytes = read_card_bytes(alloc, depot, word)?;
     judge_card(alloc, word.number, &bytes)
@@ -60,8 +60,8 @@ fn read_receiver<D: Depot>(alloc: Global, depot: &mut D, word: Word<'_>) -> Resu
 
 /// The receiver of the card that the bytes of this word's file say.
 fn judge_card(alloc: Global, word: u8, bytes: &[u8]) -> Result<Receiver, Status>
-    ensures value { JudgedOutcome card_in (told_card word bytes.now) result }
-    ensures new { IfOk result (IsAfter []) }
+    ensures value { JudgedOutcome receiver_card (card_refusal word bytes.now) result }
+    ensures new { IfOk result (HasReceived []) }
 {
     match Card::read(alloc, bytes) {
         Ok(card) => Ok(Receiver::new(alloc, card)?),
@@ -78,11 +78,11 @@ fn receive_file<D: Depot, L: Ledger>(
     out: Word<'_>,
     steps: &mut Steps<L>,
 ) -> Result<(), Status>
-    requires new { IsAfter [] receiver }
+    requires new { HasReceived [] receiver }
     ensures value { (page : PageState) →
-        Implements (stream_meaning (card_in receiver) (shown_word stream.entry) (shown_word out.entry))
-        (outside (depot_state D.Depot depot.old) page steps.old)
-        (outside (depot_state D.Depot depot.new) page steps.new)
+        Implements (receive_stream_meaning (receiver_card receiver) (shown_word stream.entry) (shown_word out.entry))
+        (io_state (depot_state D.Depot depot.old) page steps.old)
+        (io_state (depot_state D.Depot depot.new) page steps.new)
         (status_of result) }
     ensures memory { status_of result ≡ Status.NoMemory →
         (depot_state D.Depot depot.new).made ≡ (depot_state D.Depot depot.old).made }
@@ -99,8 +99,8 @@ pub fn receive_all<S: Source, K: Sink, L: Ledger>(
     mut receiver: Receiver,
     steps: &mut Steps<L>,
 ) -> Result<(), Status>
-    requires new { IsAfter [] receiver }
-    ensures value { ReceivesLeft (card_in receiver) (S.left source.old) (K.held sink.old) (K.held sink.new)
+    requires new { HasReceived [] receiver }
+    ensures value { ReceivesLeft (receiver_card receiver) (S.left source.old) (K.held sink.old) (K.held sink.new)
         steps.old steps.new (status_of result) }
     ensures cause { HasPortCause (S.faults source.old) (S.faults source.new) (K.faults sink.old) (K.faults sink.new)
         (status_of result) }
@@ -115,8 +115,8 @@ pub fn receive_all<S: Source, K: Sink, L: Ledger>(
 /// The result of a stream that was read to its end, of which no packet was refused.
 fn ended(receiver: &Receiver) -> Result<(), Status>
     ensures ending { IsEnding (status_of result) }
-    ensures value { (past : List (List ℕ)) → IsAfter past receiver.now → status_of result
-        ≡ ending_status receiver.now.card.leaf (ending_of (card_in receiver.now) past) }
+    ensures value { (past : List (List ℕ)) → HasReceived past receiver.now → status_of result
+        ≡ ending_status receiver.now.card.leaf (ending_of (receiver_card receiver.now) past) }
 {
     ending_result(receiver.leaf().get(), receiver.ending())
 }

@@ -1,6 +1,6 @@
 ghost use Rattle.std.specs.Prelude.{◌≡◌, ◌≢◌, string_bytes};
 ghost use Rattle.sd_head.specs.Kept.{plan_of};
-ghost use Rattle.sd_command_base.specs.Outside.{outside, page_state, depot_state};
+ghost use Rattle.sd_command_base.specs.Outside.{io_state_at};
 ghost use Rattle.sd_command_base.specs.Outcome.{Implements, status_of};
 ghost use Rattle.sd_command_base.specs.Shown.{shown_word};
 ghost use Rattle.sd_command_base.specs.Printed.{MemoryOutcome};
@@ -37,8 +37,8 @@ pub fn trial<D: Depot, P: Sink, L: Ledger>(
 ) -> Result<(), Status>
     requires { (site.number ≢ book.number) × (site.number ≢ clear.number) × (book.number ≢ clear.number) }
     ensures { Implements (trial_meaning (shown_word site.entry) (shown_word book.entry) (shown_word clear.entry))
-        (outside (depot_state D.Depot depot.old) (page_state P.Sink print.old) steps.old)
-        (outside (depot_state D.Depot depot.new) (page_state P.Sink print.new) steps.new) (status_of result) }
+        (io_state_at D.Depot P.Sink depot.old print.old steps.old)
+        (io_state_at D.Depot P.Sink depot.new print.new steps.new) (status_of result) }
 {
     let (site, book) = read_plan(alloc, depot, site, book)?;
     let prefix = read_prefix(alloc, depot, clear, MOST_CLEAR_BYTES)?;

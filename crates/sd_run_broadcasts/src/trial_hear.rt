@@ -1,5 +1,5 @@
 ghost use Rattle.std.specs.Prelude.{[], IfOk};
-ghost use Rattle.sd_receive.specs.Receiving.{IsAfter, card_in};
+ghost use Rattle.sd_receive.specs.Receiving.{HasReceived, receiver_card};
 ghost use Rattle.sd_run_broadcasts.specs.Trial.{HasHeard};
 
 use crate::receive_command::receive_all;
@@ -20,8 +20,8 @@ pub fn hear<L: Ledger>(
     room: usize,
     steps: &mut Steps<L>,
 ) -> Result<(usize, Status), NoMemory>
-    requires new { IsAfter [] receiver }
-    ensures { IfOk result (λ heard. HasHeard (card_in receiver) sent.now heard.0 heard.1) }
+    requires new { HasReceived [] receiver }
+    ensures { IfOk result (λ heard. HasHeard (receiver_card receiver) sent.now heard.0 heard.1) }
 {
     let mut sink = MemSink::new(alloc, room, usize::MAX, Vec::new(alloc))?;
     let mut source = SliceSource::new(sent);

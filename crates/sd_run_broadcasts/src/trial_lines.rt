@@ -1,8 +1,8 @@
 ghost use Rattle.std.specs.Prelude.{◌≡◌, ◌^◌, ◌<◌, ◌/◌, string_bytes, length, IfOk};
-ghost use Rattle.sd_site_cards.specs.SiteFields.{fields_of};
+ghost use Rattle.sd_site_cards.specs.SiteFields.{site_fields_of};
 ghost use Rattle.sd_command_base.specs.Outcome.{IsEnding};
 ghost use Rattle.sd_command_base.specs.Printed.{MemoryOutcome};
-ghost use Rattle.sd_run_broadcasts.specs.Trial.{AddsLine, clear_line, lines_to, receiver_line, told_line};
+ghost use Rattle.sd_run_broadcasts.specs.Trial.{AddsLine, trial_clear_line, lines_of_trial, trial_receiver_line, told_line};
 
 use crate::trial_hear::hear;
 use sd_base::Steps;
@@ -26,7 +26,7 @@ pub fn lines<L: Ledger>(
     steps: &mut Steps<L>,
 ) -> Result<String, Status>
     ensures { MemoryOutcome (λ text. string_bytes text)
-        (lines_to (fields_of site.now) sent.now (clear_line (clear / 188) (length sent.now / 188))
+        (lines_of_trial (site_fields_of site.now) sent.now (trial_clear_line (clear / 188) (length sent.now / 188))
         (2 ^ site.now.height)) result }
 {
     let mut text = first_line(alloc, clear / SIZE, sent.len() / SIZE)?;
@@ -37,9 +37,9 @@ pub fn lines<L: Ledger>(
 }
 
 /// The line of a clear stream and its broadcast of this number of packets.
-#[tactic(auto, unfolding(crate::specs::Trial::clear_line))]
+#[tactic(auto, unfolding(crate::specs::Trial::trial_clear_line))]
 fn first_line(alloc: Global, clear: usize, sent: usize) -> Result<String, AllocError>
-    ensures { IfOk result (λ text. string_bytes text ≡ clear_line clear sent) }
+    ensures { IfOk result (λ text. string_bytes text ≡ trial_clear_line clear sent) }
 {
     format!(in alloc; "clear {clear} broadcast {sent}\n")
 }
@@ -55,7 +55,7 @@ fn push_receiver<L: Ledger>(
     steps: &mut Steps<L>,
 ) -> Result<(), Status>
     requires { u < 2 ^ site.now.height }
-    ensures { AddsLine (receiver_line (fields_of site.now) sent.now u) (string_bytes text.old) (string_bytes text.new)
+    ensures { AddsLine (trial_receiver_line (site_fields_of site.now) sent.now u) (string_bytes text.old) (string_bytes text.new)
         result }
 {
     let Some(leaf) = Leaf::new(site.height, u) else {
@@ -68,7 +68,7 @@ fn push_receiver<L: Ledger>(
 }
 
 /// Appends the line of leaf u's receiver: the number of packets that it wrote, and how it ended.
-#[tactic(auto, unfolding(crate::specs::Trial::done_line, crate::specs::Trial::revoked_line))]
+#[tactic(auto, unfolding(crate::specs::Trial::done_line, crate::specs::Trial::trial_revoked_line))]
 fn push_line(text: &mut String, u: u32, wrote: usize, status: Status) -> Result<(), Status>
     requires { IsEnding status }
     ensures { AddsLine (told_line u wrote status) (string_bytes text.old) (string_bytes text.new) result }

@@ -2,7 +2,7 @@ ghost use Rattle.std.specs.Prelude.{◌≡◌, IfOk};
 ghost use Rattle.sd_head.specs.Kept.{plan_of};
 ghost use Rattle.sd_command_base.specs.Outcome.{IsEnding, status_of};
 ghost use Rattle.sd_command_base.specs.Printed.{MemoryOutcome};
-ghost use Rattle.sd_run_broadcasts.specs.Trial.{HasSent, is_wanting, sent_or, told_sent};
+ghost use Rattle.sd_run_broadcasts.specs.Trial.{HasSentTrial, is_wanting, sent_or, told_sent};
 
 use crate::head_command::send;
 use sd_base::{NoMemory, Steps};
@@ -44,7 +44,7 @@ fn send_all<L: Ledger>(
     steps: &mut Steps<L>,
 ) -> Result<(Vec<u8>, Status), NoMemory>
     requires { book.height ≡ site.height }
-    ensures { IfOk result (λ sent. HasSent (plan_of site book) clear.now sent.0.items sent.1) }
+    ensures { IfOk result (λ sent. HasSentTrial (plan_of site book) clear.now sent.0.items sent.1) }
 {
     let mut head = Head::new(alloc, site, book)?;
     let room = (clear.len() / SIZE + 1).saturating_mul(MOST_WITH_ONE * SIZE);

@@ -1,17 +1,17 @@
 ghost use Rattle.std.specs.Prelude.{◌≡◌, ◌≢◌, ◌-◌, ◌<◌, ◌≤◌, ◌^◌, [], List, ℕ, true, length, IfErr, IfOk, OnOk};
 ghost use Rattle.sd_base.specs.Count.{IsCaused};
 ghost use Rattle.sd_spec.specs.Reports.{report_of};
-ghost use Rattle.sd_watch.specs.Watching.{card_of, IsReady, IsWatching};
-ghost use Rattle.sd_command_base.specs.Outside.{depot_state, outside, page_state};
+ghost use Rattle.sd_watch.specs.Watching.{watcher_card, IsWatcherReady, IsWatching};
+ghost use Rattle.sd_command_base.specs.Outside.{depot_state, page_state, io_state_at};
 ghost use Rattle.sd_command_base.specs.Outcome.{Implements, status_of};
 ghost use Rattle.sd_command_base.specs.Prints.{PrintsPiece};
 ghost use Rattle.sd_command_base.specs.Reads.{FileOutcome, JudgedOutcome};
 ghost use Rattle.sd_command_base.specs.Shown.{shown_word};
 ghost use Rattle.sd_command_base.specs.Turned.{HasPortCause};
 ghost use Rattle.sd_run_broadcasts.specs.Live.{TellsEnd, is_outside};
-ghost use Rattle.sd_run_broadcasts.specs.Receive.{card_of_file, told_card};
-ghost use Rattle.sd_run_broadcasts.specs.Watch.{report_line as line_of_report, watch_meaning, watched_meaning};
-ghost use Rattle.sd_run_broadcasts.specs.Watched.{IsWithinTries, PacketOutcome, WatchesLeft, stop_status};
+ghost use Rattle.sd_run_broadcasts.specs.Receive.{card_of_file, card_refusal};
+ghost use Rattle.sd_run_broadcasts.specs.Watch.{watch_report_line as line_of_report, watch_meaning, watched_meaning};
+ghost use Rattle.sd_run_broadcasts.specs.Watched.{IsWithinTries, WatchedPacketOutcome, WatchesLeft, seek_stop_status};
 
 use crate::ending::ending_result;
 use crate::watch_line::report_line;
@@ -42,8 +42,8 @@ pub fn watch<D: Depot, P: Sink, L: Ledger>(
 ) -> Result<(), Status>
     requires { card.number ≢ stream.number }
     ensures { Implements (watch_meaning (shown_word card.entry) (shown_word stream.entry) (shown_word out.entry))
-        (outside (depot_state D.Depot depot.old) (page_state P.Sink print.old) steps.old)
-        (outside (depot_state D.Depot depot.new) (page_state P.Sink print.new) steps.new) (status_of result) }
+        (io_state_at D.Depot P.Sink depot.old print.old steps.old)
+        (io_state_at D.Depot P.Sink depot.new print.new steps.new) (status_of result) }
 {
     let watcher = read_watcher(alloc, depot, card)?;
     watch_file(alloc, depot, print, watcher, stream, out, steps)
@@ -52,10 +52,10 @@ pub fn watch<D: Depot, P: Sink, L: Ledger>(
 /// The watcher with the card in the file of this argument, before the first packet. All memory that it needs is
 /// allocated here.
 fn read_watcher<D: Depot>(alloc: Global, depot: &mut D, word: Word<'_>) -> Result<Watcher, Status>
-    ensures value { FileOutcome card_of (card_of_file word.entry.number) word.entry.text.now
+    ensures value { FileOutcome watcher_card (card_of_file word.entry.number) word.entry.text.now
         (depot_state D.Depot depot.old) (depot_state D.Depot depot.new) result }
     ensures new { IfOk result (IsWatching []) }
-    ensures ready { IfOk result IsReady }
+    ensures ready { IfOk result IsWatcherReady }
 {
     let bytes = read_card_bytes(alloc, depot, word)?;
     judge_card(alloc, word.number, &bytes)
@@ -63,9 +63,9 @@ fn read_watcher<D: Depot>(alloc: Global, depot: &mut D, word: Word<'_>) -> Resul
 
 /// The watcher with the card that the bytes of this word's file say.
 fn judge_card(alloc: Global, word: u8, bytes: &[u8]) -> Result<Watcher, Status>
-    ensures value { JudgedOutcome card_of (told_card word bytes.now) result }
+    ensures value { JudgedOutcome watcher_card (card_refusal word bytes.now) result }
     ensures new { IfOk result (IsWatching []) }
-    ensures ready { IfOk result IsReady }
+    ensures ready { IfOk result IsWatcherReady }
 {
     match Card::read(alloc, bytes) {
         Ok(card) => Ok(Watcher::new(alloc, card)?),
@@ -84,10 +84,10 @@ fn watch_file<D: Depot, P: Sink, L: Ledger>(
     steps: &mut Steps<L>,
 ) -> Result<(), Status>
     requires new { IsWatching [] watcher }
-    requires ready { IsReady watcher }
-    ensures { Implements (watched_meaning (card_of watcher) (shown_word stream.entry) (shown_word out.entry))
-        (outside (depot_state D.Depot depot.old) (page_state P.Sink print.old) steps.old)
-        (outside (depot_state D.Depot depot.new) (page_state P.Sink print.new) steps.new) (status_of result) }
+    requires ready { IsWatcherReady watcher }
+    ensures { Implements (watched_meaning (watcher_card watcher) (shown_word stream.entry) (shown_word out.entry))
+        (io_state_at D.Depot P.Sink depot.old print.old steps.old)
+        (io_state_at D.Depot P.Sink depot.new print.new steps.new) (status_of result) }
 {
     let (mut inlet, mut outlet) = open_both(alloc, depot, stream, out)?;
     let mut skipped = 0;
@@ -115,7 +115,7 @@ fn tell_end<P: Sink>(
     ensures untold { (line : List ℕ) → is_outside (status_of ended) ≡ true →
         TellsEnd line (status_of ended) (page_state P.Sink print.old) (page_state P.Sink print.new) (status_of result) }
     ensures told { (s : List (List ℕ)) → IsWatching s watcher.now → length s ≤ 2 ^ 48 →
-        TellsEnd (line_of_report (card_of watcher.now).leaf skipped (report_of (card_of watcher.now) s))
+        TellsEnd (line_of_report (watcher_card watcher.now).leaf skipped (report_of (watcher_card watcher.now) s))
         (status_of ended) (page_state P.Sink print.old) (page_state P.Sink print.new) (status_of result) }
 {
     if let Err(Status::DepotFault | Status::PrintFault | Status::NoMemory) = ended {
@@ -133,7 +133,7 @@ fn print_report<P: Sink>(
     skipped: u64,
     report: &Report,
 ) -> Result<(), Status>
-    ensures value { PrintsPiece (line_of_report (card_of watcher.now).leaf skipped report.now)
+    ensures value { PrintsPiece (line_of_report (watcher_card watcher.now).leaf skipped report.now)
         (page_state P.Sink print.old) (page_state P.Sink print.new) (status_of result) }
     ensures fault { IfErr result (λ status. is_outside status ≡ true) }
 {
@@ -153,9 +153,9 @@ pub fn watch_all<S: Source, K: Sink, P: Sink, L: Ledger>(
     steps: &mut Steps<L>,
 ) -> Result<(), Status>
     requires new { IsWatching [] watcher.old }
-    requires ready { IsReady watcher.old }
+    requires ready { IsWatcherReady watcher.old }
     requires none { skipped.old ≡ 0 }
-    ensures value { WatchesLeft (card_of watcher.old) (S.left source.old) (K.held sink.old) (K.held sink.new)
+    ensures value { WatchesLeft (watcher_card watcher.old) (S.left source.old) (K.held sink.old) (K.held sink.new)
         (page_state P.Sink print.old) (page_state P.Sink print.new) steps.old steps.new watcher.new skipped.new
         (status_of result) }
     ensures cause { HasPortCause (S.faults source.old) (S.faults source.new) (K.faults sink.old) (K.faults sink.new)
@@ -186,7 +186,7 @@ pub fn watch_all<S: Source, K: Sink, P: Sink, L: Ledger>(
 
 /// The result of a stream in which nothing more is found for this cause.
 fn stop(fault: SeekFault, skipped: &mut u64) -> Result<(), Status>
-    ensures value { status_of result ≡ stop_status fault }
+    ensures value { status_of result ≡ seek_stop_status fault }
     ensures skipped { fault ≡ SeekFault.TooLong → skipped.new ≡ 2 ^ 64 - 1 }
 {
     match fault {
@@ -209,14 +209,14 @@ fn watch_packet<K: Sink, P: Sink, L: Ledger>(
     skipped: u64,
     steps: &mut Steps<L>,
 ) -> Result<(), Status>
-    requires ready { IsReady watcher.old }
+    requires ready { IsWatcherReady watcher.old }
     ensures value { (s : List (List ℕ)) → IsWatching s watcher.old → length s < 2 ^ 48 →
-        PacketOutcome (card_of watcher.old) s packet.now skipped (K.held sink.old) (K.held sink.new)
+        WatchedPacketOutcome (watcher_card watcher.old) s packet.now skipped (K.held sink.old) (K.held sink.new)
         (page_state P.Sink print.old) (page_state P.Sink print.new) watcher.new (status_of result) }
     ensures steps { (s : List (List ℕ)) → IsWatching s watcher.old → length s < 2 ^ 48 →
-        IsWithinTries (card_of watcher.old) s packet.now steps.old steps.new }
+        IsWithinTries (watcher_card watcher.old) s packet.now steps.old steps.new }
     ensures fault { IfErr result (λ status. is_outside status ≡ true) }
-    ensures ready { OnOk result (IsReady watcher.new) }
+    ensures ready { OnOk result (IsWatcherReady watcher.new) }
     ensures cause { IsCaused (K.faults sink.old) (K.faults sink.new) (status_of result ≡ Status.DepotFault) }
 {
     match watcher.watch(packet, sink, steps) {

@@ -2,7 +2,7 @@ ghost use Rattle.std.specs.Prelude.{◌≡◌, ◌++◌, IfOk, OnOk, codes};
 ghost use Rattle.json.specs.Tree.{json_tokens};
 ghost use Rattle.serde_json.specs.Written.{outline};
 ghost use Rattle.sd_run_broadcasts.specs.MemberTokens.{text_tokens};
-ghost use Rattle.sd_run_broadcasts.specs.Watch.{first_text, report_data, report_line as line_of_report};
+ghost use Rattle.sd_run_broadcasts.specs.Watch.{first_text, watch_report_data, watch_report_line as line_of_report};
 ghost use Rattle.sd_run_broadcasts.specs.WatchTokens.{run_tokens};
 
 use crate::ending::ending_status;
@@ -15,7 +15,7 @@ use std::alloc::{AllocError, Global};
 
 /// The line of a report for the receiver of this leaf, before which `skipped` bytes were in no packet: compact JSON
 /// with the keys in ascending order, and a line feed [this project, docs/FORMATS.md, Receiver].
-#[tactic(auto, using(crate::proofs::Members::printed), unfolding(crate::specs::Watch::report_line))]
+#[tactic(auto, using(crate::proofs::Members::printed), unfolding(crate::specs::Watch::watch_report_line))]
 pub fn report_line(
     alloc: Global,
     leaf: u32,
@@ -40,7 +40,7 @@ fn write_report(
     report: &Report,
 ) -> Result<(), AllocError>
     ensures tokens { OnOk result (out.new.tokens
-        ≡ out.old.tokens ++ json_tokens (outline (report_data leaf skipped report.now))) }
+        ≡ out.old.tokens ++ json_tokens (outline (watch_report_data leaf skipped report.now))) }
     ensures before { out.new.before ≡ out.old.before }
 {
     out.begin_object()?;

@@ -8,13 +8,13 @@ use Rattle.std.proofs.lemmas.Bool.{false≢true, eqb-true, eq-eqb, ne_eqb, cases
 use Rattle.std.proofs.lemmas.List.{get_or-set_same, get_or-set_other, get_or-replicate}
 use Rattle.std.proofs.lemmas.List.Folds.{list_any-append}
 use Rattle.sd_packet.specs.Header.{pid_of, unit_start_of, counter_of, payload_of}
-use Rattle.sd_section.specs.Assembled.{Fed, Assembling, completed_by, assembler_after, all_lent}
+use Rattle.sd_section.specs.Assembled.{Fed, Assembling, sections_completed_by, assembler_after, all_lent}
 use Rattle.sd_run_streams.specs.TableLines.{section_line}
 use Rattle.sd_run_streams.specs.Inspected.{fed_of, on_pid, pat_sections_at, pids_named_by, named_in, is_watched}
 use Rattle.sd_run_streams.specs.Inspected.{watched_on}
 use Rattle.sd_run_streams.specs.Inspected.{sections_at}
-use Rattle.sd_run_streams.specs.Watching.{is_named_pid, naming, IsLearned, IsAssembledFrom, AreMarked, ArePlaced}
-use Rattle.sd_run_streams.specs.Watching.{IsAfter}
+use Rattle.sd_run_streams.specs.Watching.{is_named_pid, naming, AreSectionsLearned, IsAssembledFrom, AreWatchedMarks, ArePlaced}
+use Rattle.sd_run_streams.specs.Watching.{IsInspectedAfter}
 use Rattle.sd_run_streams.proofs.Learning.{or_stay}
 use Rattle.sd_run_streams.proofs.Showing.{none_named}
 
@@ -52,17 +52,17 @@ one_more packet before watched =
 
 -- the sections that a packet completes, where its PID is watched, and where it isn't
 pub sections_watched : (packet : List ℕ) (before : List (List ℕ)) → is_watched (pid_of packet) before ≡ true →
-    sections_at packet before ≡ completed_by (fed_of packet ∷ watched_on (pid_of packet) before)
+    sections_at packet before ≡ sections_completed_by (fed_of packet ∷ watched_on (pid_of packet) before)
 unfolding sections_at watched_on
 sections_watched packet before watched =
-    ap (λ (b : Bool). cond b (completed_by (watched_on (pid_of packet) (packet ∷ before))) []) watched
-    ∙ ap completed_by (one_more packet before watched)
+    ap (λ (b : Bool). cond b (sections_completed_by (watched_on (pid_of packet) (packet ∷ before))) []) watched
+    ∙ ap sections_completed_by (one_more packet before watched)
 
 pub no_sections : (packet : List ℕ) (before : List (List ℕ)) → is_watched (pid_of packet) before ≡ false →
     sections_at packet before ≡ []
 unfolding sections_at
 no_sections packet before unwatched = ap
-    (λ (b : Bool). cond b (completed_by (watched_on (pid_of packet) (packet ∷ before))) []) unwatched
+    (λ (b : Bool). cond b (sections_completed_by (watched_on (pid_of packet) (packet ∷ before))) []) unwatched
 
 -- nothing more on a PID that isn't watched, nor on another
 none_more : (packet : List ℕ) (before : List (List ℕ)) → is_watched (pid_of packet) before ≡ false →
@@ -82,12 +82,12 @@ other_on pid packet before other =
     (ne_eqb (pid_of packet) pid other)
 
 naming_by : (packet : List ℕ) (before : List (List ℕ)) (b : Bool) → (pid_of packet == 0) ≡ b →
-    cond b (completed_by (on_pid 0 (packet ∷ before))) [] ≡ cond b (sections_at packet before) []
+    cond b (sections_completed_by (on_pid 0 (packet ∷ before))) [] ≡ cond b (sections_at packet before) []
 naming_by packet before true e =
     let zero : pid_of packet ≡ 0 = eqb-true (pid_of packet) 0 e in
     let watched : is_watched (pid_of packet) before ≡ true = ap (λ (p : ℕ). is_watched p before) zero
     ∙ zero_watched before in
-    ap completed_by (zero_on (packet ∷ before) ∙ ap (λ (p : ℕ). watched_on p (packet ∷ before)) (sym zero)
+    ap sections_completed_by (zero_on (packet ∷ before) ∙ ap (λ (p : ℕ). watched_on p (packet ∷ before)) (sym zero)
     ∙ one_more packet before watched)
     ∙ sym (sections_watched packet before watched)
 naming_by packet before false e = refl
@@ -114,8 +114,8 @@ watched_more pid packet before =
     ∙ or_regrouped (pid == 0) (pid == 1) (list_any (λ (named : ℕ). named == pid) (named_in before))
     (list_any (λ (named : ℕ). named == pid) (flat_map pids_named_by (pat_sections_at packet before)))
 
-pub marks_more : (packet : List ℕ) (before : List (List ℕ)) (marks new : List Bool) → AreMarked before marks →
-    IsLearned (naming (pid_of packet) (sections_at packet before)) marks new → AreMarked (packet ∷ before) new
+pub marks_more : (packet : List ℕ) (before : List (List ℕ)) (marks new : List Bool) → AreWatchedMarks before marks →
+    AreSectionsLearned (naming (pid_of packet) (sections_at packet before)) marks new → AreWatchedMarks (packet ∷ before) new
 marks_more packet before marks new are learned = record {
   at = λ pid h.
       learned.at pid h
@@ -143,7 +143,7 @@ places_more packet before places new are others here = record {
 -- the mark of a packet's PID says whether it is watched
 watched_is : (packet : List ℕ) (before : List (List ℕ)) (marks : List Bool) (places : List (Option Assembling))
     (pid : ℕ) (mark : Bool) →
-    pid ≡ pid_of packet → pid < 8192 → get_or marks pid false ≡ mark → IsAfter before marks places →
+    pid ≡ pid_of packet → pid < 8192 → get_or marks pid false ≡ mark → IsInspectedAfter before marks places →
     is_watched (pid_of packet) before ≡ mark
 watched_is packet before marks places pid mark on h is are =
     ap (λ (p : ℕ). is_watched p before) (sym on) ∙ sym (are.marked.at pid h) ∙ is
@@ -151,8 +151,8 @@ watched_is packet before marks places pid mark on h is are =
 -- where the PID isn't watched, all stays
 pub unwatched_after : (packet : List ℕ) (before : List (List ℕ)) (marks : List Bool) (places : List (Option Assembling))
     (pid : ℕ) →
-    pid ≡ pid_of packet → pid < 8192 → get_or marks pid false ≡ false → IsAfter before marks places →
-    IsAfter (packet ∷ before) marks places
+    pid ≡ pid_of packet → pid < 8192 → get_or marks pid false ≡ false → IsInspectedAfter before marks places →
+    IsInspectedAfter (packet ∷ before) marks places
 unwatched_after packet before marks places pid on h mark are =
     let unwatched : is_watched (pid_of packet) before ≡ false = watched_is packet before marks places pid false on h
     mark are in
@@ -160,7 +160,7 @@ unwatched_after packet before marks places pid on h mark are =
     let none : sections_at packet before ≡ [] = no_sections packet before unwatched in
     record {
       marked = marks_more packet before marks marks are.marked
-          (subst (λ (s : List (List ℕ)). IsLearned (naming (pid_of packet) s) marks marks) (sym none)
+          (subst (λ (s : List (List ℕ)). AreSectionsLearned (naming (pid_of packet) s) marks marks) (sym none)
           (record {
             at = λ q k. or_stay (get_or marks q false) (is_named_pid q (naming (pid_of packet) [])) _
                 (none_named (pid_of packet) q) refl;
@@ -174,7 +174,7 @@ unwatched_after packet before marks places pid on h mark are =
 pub unwatched_lines : (packet text : List ℕ) (before : List (List ℕ)) (marks : List Bool)
     (places : List (Option Assembling))
     (number pid : ℕ) →
-    pid ≡ pid_of packet → pid < 8192 → get_or marks pid false ≡ false → IsAfter before marks places →
+    pid ≡ pid_of packet → pid < 8192 → get_or marks pid false ≡ false → IsInspectedAfter before marks places →
     text ≡ text ++ flat_map (section_line number (pid_of packet)) (sections_at packet before)
 unwatched_lines packet text before marks places number pid on h mark are =
     let unwatched : is_watched (pid_of packet) before ≡ false = watched_is packet before marks places pid false on h
@@ -204,7 +204,7 @@ fed_is start counter payload packet s c p =
     }) p
 
 -- what waits after packets is what the last completes
-pub waiting_is : (packets : List Fed) → (assembler_after packets).waiting ≡ completed_by packets
+pub waiting_is : (packets : List Fed) → (assembler_after packets).waiting ≡ sections_completed_by packets
 unfolding assembler_after
 waiting_is packets = refl
 
@@ -237,10 +237,10 @@ pub watched_after : (packet : List ℕ) (before : List (List ℕ)) (marks new : 
     (fed put : Assembling) (pid place : ℕ) →
     pid ≡ pid_of packet → place ≡ pid → pid < 8192 → length places ≡ 8192 → out ≡ set places pid None →
     put ≡ all_lent fed →
-    get_or marks pid false ≡ true → IsAfter before marks places →
+    get_or marks pid false ≡ true → IsInspectedAfter before marks places →
     fed ≡ assembler_after (fed_of packet ∷ watched_on (pid_of packet) before) →
-    IsLearned (naming pid fed.waiting) marks new →
-    IsAfter (packet ∷ before) new (set out place (Some put))
+    AreSectionsLearned (naming pid fed.waiting) marks new →
+    IsInspectedAfter (packet ∷ before) new (set out place (Some put))
 watched_after packet before marks new places out fed put pid place on at h long taken lent mark are is learned =
     let watched : is_watched (pid_of packet) before ≡ true = watched_is packet before marks places pid true on h mark
     are in
@@ -254,9 +254,9 @@ watched_after packet before marks new places out fed put pid place on at h long 
     ∙ ap (λ (l : List (Option Assembling)). set l place (Some put)) (sym taken) in
     record {
       marked = marks_more packet before marks new are.marked
-          (subst (λ (s : List (List ℕ)). IsLearned (naming (pid_of packet) s) marks new)
+          (subst (λ (s : List (List ℕ)). AreSectionsLearned (naming (pid_of packet) s) marks new)
           (shown_is packet before fed watched is)
-          (subst (λ (p : ℕ). IsLearned (naming p fed.waiting) marks new) on learned));
+          (subst (λ (p : ℕ). AreSectionsLearned (naming p fed.waiting) marks new) on learned));
       placed = subst (ArePlaced (packet ∷ before)) same (put_back packet before places put within long are.placed
           state);
     }
@@ -265,7 +265,7 @@ watched_after packet before marks new places out fed put pid place on at h long 
 pub watched_lines : (packet text new : List ℕ) (before : List (List ℕ)) (marks : List Bool)
     (places : List (Option Assembling))
     (fed : Assembling) (number pid : ℕ) →
-    pid ≡ pid_of packet → pid < 8192 → get_or marks pid false ≡ true → IsAfter before marks places →
+    pid ≡ pid_of packet → pid < 8192 → get_or marks pid false ≡ true → IsInspectedAfter before marks places →
     fed ≡ assembler_after (fed_of packet ∷ watched_on (pid_of packet) before) → new ≡ text ++
     flat_map (section_line number pid) fed.waiting →
     new ≡ text ++ flat_map (section_line number (pid_of packet)) (sections_at packet before)

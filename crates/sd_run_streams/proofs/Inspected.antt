@@ -17,12 +17,12 @@ use Rattle.sd_ports.specs.Bytes.{IsPrefix, AppendsPrefix}
 use Rattle.sd_ports.proofs.Starts.{prefix_of_prefix, after_first, nothing_after, pieces_first}
 use Rattle.sd_engine.specs.Stage.{Chain}
 use Rattle.sd_engine.specs.Driving.{DriveState, ChainToEnd, ChainToRefusal, IsAllowedAt, DriveOutcome}
-use Rattle.sd_engine.specs.Taken.{StreamEnd, Whole, Breaks, RunsOn, taken_of, IsLeft, CutAt, DriveOutcomeOver}
+use Rattle.sd_engine.specs.Taken.{StreamEnd, Whole, Breaks, RunsOn, packets_taken, AreBytesLeft, CutAt, DriveOutcomeOver}
 use Rattle.sd_engine.proofs.Taken.{any_prefix, is_over, few_taken, all_few, some_left}
 use Rattle.sd_engine.specs.declared.driver.DriveFault.{DriveFault}
 use Rattle.sd_engine.specs.declared.driver.DriveFault.TheVariants as drive
 use Rattle.sd_run_streams.specs.Inspected.{lines_in, sections_at}
-use Rattle.sd_run_streams.specs.InspectorStaged.{seen, inspector_does, inspector_ends, inspector_refuses, IsStateAfter}
+use Rattle.sd_run_streams.specs.InspectorStaged.{inspector_state, inspector_does, inspector_ends, inspector_refuses, IsStateAfter}
 use Rattle.sd_run_streams.specs.declared.inspector.Inspector.{Inspector}
 use Rattle.sd_run_streams.proofs.InspectorChained.{all_written, all_after}
 use Rattle.sd_command_base.specs.declared.status.Status.{Status}
@@ -86,22 +86,22 @@ next_lines k packets packet inside is =
     ∙ ap (λ (p : List ℕ). p ∷ reverse (take k packets)) is)
 
 -- the lines of packets that went through
-went_through : (s t : Inspector) (packets : List (List ℕ)) (bytes : List ℕ) (n : ℕ) → IsStateAfter [] (seen s) →
+went_through : (s t : Inspector) (packets : List (List ℕ)) (bytes : List ℕ) (n : ℕ) → IsStateAfter [] (inspector_state s) →
     length packets ≤ 2 ^ 64 - 1 → Chain inspector_does s packets t bytes n → bytes ≡ lines_in (reverse packets)
 went_through s t packets bytes n stands few chain = all_written packets s t bytes n stands few chain
 
-some_through : (k : ℕ) (packets : List (List ℕ)) (s t : Inspector) (bytes : List ℕ) (n : ℕ) → IsStateAfter [] (seen s) →
+some_through : (k : ℕ) (packets : List (List ℕ)) (s t : Inspector) (bytes : List ℕ) (n : ℕ) → IsStateAfter [] (inspector_state s) →
     length (take k packets) ≤ 2 ^ 64 - 1 → Chain inspector_does s (take k packets) t bytes n →
     bytes ≡ concat (take k (packet_lines [] packets))
 some_through k packets s t bytes n stands few chain =
     went_through s t (take k packets) bytes n stands few chain ∙ first_lines k packets
 
-all_through : (packets : List (List ℕ)) (s t : Inspector) (bytes : List ℕ) (n : ℕ) → IsStateAfter [] (seen s) →
+all_through : (packets : List (List ℕ)) (s t : Inspector) (bytes : List ℕ) (n : ℕ) → IsStateAfter [] (inspector_state s) →
     length packets ≤ 2 ^ 64 - 1 → Chain inspector_does s packets t bytes n → bytes ≡ concat (packet_lines [] packets)
 all_through packets s t bytes n stands few chain = went_through s t packets bytes n stands few chain ∙ all_lines packets
 
 -- the lines of some first packets begin all
-first_begin : (k : ℕ) (packets : List (List ℕ)) (s t : Inspector) (bytes : List ℕ) (n : ℕ) → IsStateAfter [] (seen s) →
+first_begin : (k : ℕ) (packets : List (List ℕ)) (s t : Inspector) (bytes : List ℕ) (n : ℕ) → IsStateAfter [] (inspector_state s) →
     length (take k packets) ≤ 2 ^ 64 - 1 → Chain inspector_does s (take k packets) t bytes n →
     IsPrefix bytes (concat (packet_lines [] packets))
 first_begin k packets s t bytes n stands few chain =
@@ -111,14 +111,14 @@ first_begin k packets s t bytes n stands few chain =
 
 -- and the lines of the packet after them go on with them
 next_begin : (k : ℕ) (packets : List (List ℕ)) (s mid t : Inspector) (first bytes packet : List ℕ) (n m : ℕ) →
-    IsStateAfter [] (seen s) → length (take k packets) ≤ 2 ^ 64 - 1 → Chain inspector_does s (take k packets) mid first
+    IsStateAfter [] (inspector_state s) → length (take k packets) ≤ 2 ^ 64 - 1 → Chain inspector_does s (take k packets) mid first
     n →
     slice_get packets k ≡ Some packet → inspector_does mid packet t bytes m →
     IsPrefix (first ++ bytes) (concat (packet_lines [] packets))
 next_begin k packets s mid t first bytes packet n m stands few chain at inspects =
     let pieces = packet_lines [] packets in
     let before = reverse (take k packets) in
-    let after : IsStateAfter before (seen mid) = all_after (take k packets) s mid first n stands few chain in
+    let after : IsStateAfter before (inspector_state mid) = all_after (take k packets) s mid first n stands few chain in
     let lines : bytes ≡ flat_map (section_line (length before) (pid_of packet)) (sections_at packet before) =
     inspects.lines before after
     ∙ ap (λ (number : ℕ). flat_map (section_line number (pid_of packet)) (sections_at packet before)) after.number in
@@ -133,7 +133,7 @@ next_begin k packets s mid t first bytes packet n m stands few chain at inspects
 -- what the inspector may write of a packet, or of the end, goes on with the lines of all packets
 part_of_lines : (k : ℕ) (packets : List (List ℕ)) (s mid : Inspector) (first bytes : List ℕ) (n from to : ℕ)
     (here : Option (List ℕ)) →
-    IsStateAfter [] (seen s) → length (take k packets) ≤ 2 ^ 64 - 1 → Chain inspector_does s (take k packets) mid first
+    IsStateAfter [] (inspector_state s) → length (take k packets) ≤ 2 ^ 64 - 1 → Chain inspector_does s (take k packets) mid first
     n →
     slice_get packets k ≡ here → IsAllowedAt inspector_does inspector_ends inspector_refuses mid here from to bytes →
     IsPrefix (first ++ bytes) (concat (packet_lines [] packets))
@@ -151,11 +151,11 @@ part_of_lines k packets s mid first bytes n from to (Some packet) stands few cha
     (first_begin k packets s mid first n stands few chain)
 
 -- a write failed
-cut_lines : (bytes : List ℕ) (a b : DriveState Inspector) → IsStateAfter [] (seen a.stage) →
+cut_lines : (bytes : List ℕ) (a b : DriveState Inspector) → IsStateAfter [] (inspector_state a.stage) →
     CutAt inspector_does inspector_ends inspector_refuses bytes a b →
-    AppendsPrefix a.sink.held b.sink.held (concat (packet_lines [] (taken_of bytes)))
+    AppendsPrefix a.sink.held b.sink.held (concat (packet_lines [] (packets_taken bytes)))
 cut_lines bytes a b stands h =
-    let packets = taken_of bytes in
+    let packets = packets_taken bytes in
     let part = part_of_lines h.count packets a.stage h.mid.stage h.passed.bytes h.cut.bytes h.passed.steps
     h.mid.steps b.steps (slice_get packets h.count)
     stands (few_taken h.count bytes) h.passed.says refl h.cut.says in (
@@ -169,7 +169,7 @@ cut_lines bytes a b stands h =
 -- what was printed of a stream that was driven
 pub drives_print : (bytes : List ℕ) (a b : DriveState Inspector) (f g : ℕ)
     (result : Result ℕ (DriveFault OutOfMemory)) →
-    IsStateAfter [] (seen a.stage) → IsCaused f g (IsErrOf result drive.WriteFault) →
+    IsStateAfter [] (inspector_state a.stage) → IsCaused f g (IsErrOf result drive.WriteFault) →
     DriveOutcomeOver inspector_does inspector_ends inspector_refuses bytes a b result →
     PrintsReading (inspecting bytes) (record { printed = a.sink.held; faults = f })
     (record { printed = b.sink.held; faults = g })
@@ -181,21 +181,21 @@ drives_print bytes a b f g (Ok count) stands cause (whole, counted, grew) = inl 
 ))
   where
     all_and_end : (xs : List ℕ) (n : ℕ) →
-        ChainToEnd inspector_does inspector_ends a.stage (taken_of bytes) b.stage xs n →
-        xs ≡ concat (packet_lines [] (taken_of bytes))
+        ChainToEnd inspector_does inspector_ends a.stage (packets_taken bytes) b.stage xs n →
+        xs ≡ concat (packet_lines [] (packets_taken bytes))
     all_and_end xs n (mid, first, last, m, k, chain, ends, joined, counted) =
         nothing_joined first last xs ends.nothing joined
-        ∙ all_through (taken_of bytes) a.stage mid first m stands (all_few bytes) chain
+        ∙ all_through (packets_taken bytes) a.stage mid first m stands (all_few bytes) chain
 drives_print bytes a b f g (Err (drive.Broken found)) stands cause (end, grew) = inl (inl (
   ap stream_status (sym end),
   subst (λ (xs : List ℕ). Appends a.sink.held b.sink.held xs)
-      (all_through (taken_of bytes) a.stage b.stage grew.bytes grew.steps stands (all_few bytes) grew.says) grew.taken,
+      (all_through (packets_taken bytes) a.stage b.stage grew.bytes grew.steps stands (all_few bytes) grew.says) grew.taken,
   cause.calm (λ e. cc),
 ))
 drives_print bytes a b f g (Err drive.TooLong) stands cause (end, grew) = inl (inl (
   ap stream_status (sym end),
   subst (λ (xs : List ℕ). Appends a.sink.held b.sink.held xs)
-      (all_through (taken_of bytes) a.stage b.stage grew.bytes grew.steps stands (all_few bytes) grew.says) grew.taken,
+      (all_through (packets_taken bytes) a.stage b.stage grew.bytes grew.steps stands (all_few bytes) grew.says) grew.taken,
   cause.calm (λ e. cc),
 ))
 drives_print bytes a b f g (Err drive.ReadFault) stands cause (count, within, grew) = inr (
@@ -203,7 +203,7 @@ drives_print bytes a b f g (Err drive.ReadFault) stands cause (count, within, gr
   (
     count,
     subst (λ (xs : List ℕ). Appends a.sink.held b.sink.held xs)
-        (some_through count (taken_of bytes) a.stage b.stage grew.bytes grew.steps stands (few_taken count bytes)
+        (some_through count (packets_taken bytes) a.stage b.stage grew.bytes grew.steps stands (few_taken count bytes)
         grew.says) grew.taken,
   ),
   cause.calm (λ e. cc),
@@ -217,21 +217,21 @@ drives_print bytes a b f g (Err (drive.Refused fault)) stands cause h = inl (inr
   (
     h.count,
     subst (λ (xs : List ℕ). Appends a.sink.held b.sink.held xs)
-        (some_and_none h.count (slice_get (taken_of bytes) h.count)
+        (some_and_none h.count (slice_get (packets_taken bytes) h.count)
         h.passed.bytes h.passed.steps h.passed.says) h.passed.taken,
   ),
   cause.calm (λ e. cc),
 )))
   where
     some_and_none : (count : ℕ) (here : Option (List ℕ)) (xs : List ℕ) (n : ℕ) →
-        ChainToRefusal inspector_does inspector_refuses a.stage (take count (taken_of bytes)) here fault b.stage xs n →
-        xs ≡ concat (take count (packet_lines [] (taken_of bytes)))
+        ChainToRefusal inspector_does inspector_refuses a.stage (take count (packets_taken bytes)) here fault b.stage xs n →
+        xs ≡ concat (take count (packet_lines [] (packets_taken bytes)))
     some_and_none count here xs n (mid, first, last, m, k, chain, refuses, joined, counted) =
         nothing_joined first last xs refuses.nothing joined
-        ∙ some_through count (taken_of bytes) a.stage mid first m stands (few_taken count bytes) chain
+        ∙ some_through count (packets_taken bytes) a.stage mid first m stands (few_taken count bytes) chain
 
 -- before any of it was read memory was out
-pub none_inspected : (left : Option (List ℕ)) (bytes : List ℕ) (page : PageState) → IsLeft left bytes →
+pub none_inspected : (left : Option (List ℕ)) (bytes : List ℕ) (page : PageState) → AreBytesLeft left bytes →
     InspectsLeft left page page NoMemory
 none_inspected left bytes page is = record {
   bytes = bytes;
@@ -245,7 +245,7 @@ not_inspected left page = let some = some_left left in none_inspected left some.
 -- the stream that was left was inspected
 pub is_inspected : (a b : DriveState Inspector) (f g : ℕ) (result : Result ℕ (DriveFault OutOfMemory))
     (status : Status) →
-    IsStateAfter [] (seen a.stage) → IsCaused f g (IsErrOf result drive.WriteFault) →
+    IsStateAfter [] (inspector_state a.stage) → IsCaused f g (IsErrOf result drive.WriteFault) →
     DriveOutcome inspector_does inspector_ends inspector_refuses a b result → status ≡ drive_status result →
     InspectsLeft a.left (record { printed = a.sink.held; faults = f }) (record { printed = b.sink.held; faults = g })
     status

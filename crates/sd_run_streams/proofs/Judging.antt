@@ -8,14 +8,14 @@ use Rattle.sd_section.specs.Header.{whole_of}
 use Rattle.sd_psi.specs.Tables.{is_pat, is_cat, is_pmt}
 use Rattle.sd_run_streams.specs.TableLines.{pat_data, cat_data, pmt_data, fault_data, table_data, section_data}
 use Rattle.sd_run_streams.specs.TableLines.{section_line}
-use Rattle.sd_run_streams.specs.Judged.{is_table, IsTableOf, IsTableOn, data_as, line_as}
+use Rattle.sd_run_streams.specs.Judged.{is_table, IsTableSection, IsTableOn, data_as, line_as}
 use Rattle.sd_run_streams.specs.declared.table.Table.{Table}
 use Rattle.sd_run_streams.specs.declared.table.Table.TheVariants.{Pat, Cat, Pmt}
 use Rattle.sd_run_streams.specs.declared.table.TableFault.{TableFault}
 use Rattle.sd_run_streams.specs.declared.table.TableFault.TheVariants.{Length, Crc, Form}
 
 -- a table of the PID is shown as its section is
-table_shown : (packet pid : ℕ) (section : List ℕ) (table : Table) → IsTableOf pid section table →
+table_shown : (packet pid : ℕ) (section : List ℕ) (table : Table) → IsTableSection pid section table →
     data_as packet pid (Ok table) ≡ table_data packet pid section
 unfolding table_data
 table_shown packet pid section (Pat pat) is = rw (sym is.1) (rw (eq-eqb pid 0 is.0, pat.form) refl)

@@ -15,13 +15,13 @@ use Rattle.sd_psi.specs.Tables.{pmt_pids_of, is_pat}
 use Rattle.sd_psi.specs.declared.pat.Pat.{Pat}
 use Rattle.sd_psi.specs.declared.cat.Cat.{Cat}
 use Rattle.sd_psi.specs.declared.pmt.Pmt.{Pmt}
-use Rattle.sd_run_streams.specs.Judged.{is_table, IsTableOf, IsTableOn}
+use Rattle.sd_run_streams.specs.Judged.{is_table, IsTableSection, IsTableOn}
 use Rattle.sd_run_streams.specs.declared.table.Table.{Table}
 use Rattle.sd_run_streams.specs.declared.table.Table.TheVariants as Tables
 use Rattle.sd_run_streams.specs.declared.table.TableFault.{TableFault}
 use Rattle.sd_run_streams.specs.declared.table.TableFault.TheVariants.{Length, Crc, Form}
 use Rattle.sd_run_streams.specs.Inspected.{is_sound, pids_named_by, is_watched, named_in}
-use Rattle.sd_run_streams.specs.Watching.{is_named_pid, naming, AreAdded, IsLearned, AreMarked}
+use Rattle.sd_run_streams.specs.Watching.{is_named_pid, naming, AreAdded, AreSectionsLearned, AreWatchedMarks}
 
 or_mark : (a b c : Bool) → b ≡ true → c ≡ true → c ≡ (a || b)
 or_mark true b c e f = f
@@ -78,7 +78,7 @@ none_named : (section : List ℕ) (pid : ℕ) → pids_named_by section ≡ [] �
 unfolding is_named_pid
 none_named section pid none = ap (λ (maps : List ℕ). list_any (λ (named : ℕ). named == pid) (maps ++ [])) none
 
-none_learned : (section : List ℕ) (marks : List Bool) → pids_named_by section ≡ [] → IsLearned (section ∷ []) marks
+none_learned : (section : List ℕ) (marks : List Bool) → pids_named_by section ≡ [] → AreSectionsLearned (section ∷ []) marks
     marks
 none_learned section marks none = record {
   at = λ pid h. or_stay (get_or marks pid false) (is_named_pid pid (section ∷ [])) _ (none_named section pid none) refl;
@@ -86,15 +86,15 @@ none_learned section marks none = record {
 
 -- on another PID than 0 no section names any
 other_learned : (pid : ℕ) (section : List ℕ) (marks : List Bool) → pid ≢ 0 →
-    IsLearned (naming pid (section ∷ [])) marks marks
+    AreSectionsLearned (naming pid (section ∷ [])) marks marks
 unfolding is_named_pid
 other_learned pid section marks other =
-    subst (λ (b : Bool). IsLearned (cond b (section ∷ []) []) marks marks) (sym (ne_eqb pid 0 other))
+    subst (λ (b : Bool). AreSectionsLearned (cond b (section ∷ []) []) marks marks) (sym (ne_eqb pid 0 other))
     (record { at = λ q h. sym (or_false (get_or marks q false)) })
 
 -- on no PID does one that names none
 none_on : (zero : Bool) (section : List ℕ) (marks : List Bool) → pids_named_by section ≡ [] →
-    IsLearned (cond zero (section ∷ []) []) marks marks
+    AreSectionsLearned (cond zero (section ∷ []) []) marks marks
 unfolding is_named_pid
 none_on true section marks none = none_learned section marks none
 none_on false section marks none = record { at = λ q h. sym (or_false (get_or marks q false)) }
@@ -106,7 +106,7 @@ faulty_none None fault b maps is = absurd (cc)
 faulty_none (Some f) fault b maps is = refl
 
 faulty_learned : (pid : ℕ) (section : List ℕ) (fault : SectionFault) (marks : List Bool) →
-    section_fault section ≡ Some fault → IsLearned (naming pid (section ∷ [])) marks marks
+    section_fault section ≡ Some fault → AreSectionsLearned (naming pid (section ∷ [])) marks marks
 unfolding pids_named_by
 faulty_learned pid section fault marks wrong =
     none_on (pid == 0) section marks
@@ -123,7 +123,7 @@ a_pat (Some f) pat maps is h = absurd (cc)
 
 -- nor does a section of PID 0 that is no PAT
 unlike_learned : (pid : ℕ) (section : List ℕ) (marks : List Bool) → is_table pid (whole_of section) ≡ false →
-    IsLearned (naming pid (section ∷ [])) marks marks
+    AreSectionsLearned (naming pid (section ∷ [])) marks marks
 unfolding pids_named_by
 unlike_learned pid section marks unlike = elim (cases_eq pid 0) [
   | inl zero ↦
@@ -136,8 +136,8 @@ unlike_learned pid section marks unlike = elim (cases_eq pid 0) [
 
 -- a PAT names the PIDs of the PMTs of its programs
 named_by_pat : (pid : ℕ) (section : List ℕ) (pat : Pat) (old new : List Bool) → section_fault section ≡ None →
-    IsTableOf pid (whole_of section) (Tables.Pat pat) → AreAdded (pmt_pids_of pat.section.bytes.now) old new →
-    IsLearned (naming pid (section ∷ [])) old new
+    IsTableSection pid (whole_of section) (Tables.Pat pat) → AreAdded (pmt_pids_of pat.section.bytes.now) old new →
+    AreSectionsLearned (naming pid (section ∷ [])) old new
 unfolding pids_named_by is_named_pid
 named_by_pat pid section pat old new sound is added =
     let bytes = pat.section.bytes.now in
@@ -148,32 +148,32 @@ named_by_pat pid section pat old new sound is added =
     let named : (q : ℕ) → list_any (λ (named : ℕ). named == q) (pmt_pids_of bytes) ≡ is_named_pid q (section ∷ []) =
     λ q.
     ap (list_any (λ (named : ℕ). named == q)) (sym kept ∙ sym (append-nil (pids_named_by section))) in
-    subst (λ (b : Bool). IsLearned (cond b (section ∷ []) []) old new) (sym (eq-eqb pid 0 is.0))
+    subst (λ (b : Bool). AreSectionsLearned (cond b (section ∷ []) []) old new) (sym (eq-eqb pid 0 is.0))
     (record { at = λ q h. added.at q h ∙ ap (λ (a : Bool). get_or old q false || a) (named q) })
 
 pub pat_learned : (pid : ℕ) (section : List ℕ) (table : Table) (pat : Pat) (old new : List Bool) →
-    table ≡ Tables.Pat pat → section_fault section ≡ None → IsTableOf pid (whole_of section) table →
-    AreAdded (pmt_pids_of pat.section.bytes.now) old new → IsLearned (naming pid (section ∷ [])) old new
+    table ≡ Tables.Pat pat → section_fault section ≡ None → IsTableSection pid (whole_of section) table →
+    AreAdded (pmt_pids_of pat.section.bytes.now) old new → AreSectionsLearned (naming pid (section ∷ [])) old new
 pat_learned pid section table pat old new same sound is added =
-    named_by_pat pid section pat old new sound (subst (IsTableOf pid (whole_of section)) same is) added
+    named_by_pat pid section pat old new sound (subst (IsTableSection pid (whole_of section)) same is) added
 
 -- a CAT and a PMT name none
 pub cat_learned : (pid : ℕ) (section : List ℕ) (table : Table) (cat : Cat) (marks : List Bool) →
-    table ≡ Tables.Cat cat → IsTableOf pid (whole_of section) table →
-    IsLearned (naming pid (section ∷ [])) marks marks
+    table ≡ Tables.Cat cat → IsTableSection pid (whole_of section) table →
+    AreSectionsLearned (naming pid (section ∷ [])) marks marks
 cat_learned pid section table cat marks same is =
-    let one = subst (IsTableOf pid (whole_of section)) same is in
+    let one = subst (IsTableSection pid (whole_of section)) same is in
     other_learned pid section marks (omega (arith, one.0))
 
 pub pmt_learned : (pid : ℕ) (section : List ℕ) (table : Table) (pmt : Pmt) (marks : List Bool) →
-    table ≡ Tables.Pmt pmt → IsTableOf pid (whole_of section) table →
-    IsLearned (naming pid (section ∷ [])) marks marks
+    table ≡ Tables.Pmt pmt → IsTableSection pid (whole_of section) table →
+    AreSectionsLearned (naming pid (section ∷ [])) marks marks
 pmt_learned pid section table pmt marks same is =
-    other_learned pid section marks (subst (IsTableOf pid (whole_of section)) same is).0
+    other_learned pid section marks (subst (IsTableSection pid (whole_of section)) same is).0
 
 -- nor does what is no table
 unnamed : (pid : ℕ) (section : List ℕ) (fault : TableFault) (marks : List Bool) →
-    IsTableOn pid section (Err fault) → IsLearned (naming pid (section ∷ [])) marks marks
+    IsTableOn pid section (Err fault) → AreSectionsLearned (naming pid (section ∷ [])) marks marks
 unnamed pid section Length marks (inl is) = faulty_learned pid section Wrong.Short marks is
 unnamed pid section Length marks (inr is) = faulty_learned pid section Wrong.Length marks is
 unnamed pid section Crc marks is = faulty_learned pid section (Wrong.Crc is.0 is.1) marks is.2
@@ -181,7 +181,7 @@ unnamed pid section Form marks is = unlike_learned pid section marks is.1
 
 pub fault_learned : (pid : ℕ) (section : List ℕ) (table : Result Table TableFault) (fault : TableFault)
     (marks : List Bool) → table ≡ Err fault → IsTableOn pid section table →
-    IsLearned (naming pid (section ∷ [])) marks marks
+    AreSectionsLearned (naming pid (section ∷ [])) marks marks
 fault_learned pid section table fault marks same is =
     unnamed pid section fault marks (subst (IsTableOn pid section) same is)
 
@@ -191,7 +191,7 @@ pub is_sound_table : (pid : ℕ) (section : List ℕ) (result : Result Table Tab
 is_sound_table pid section result table same is = (subst (IsTableOn pid section) same is).0
 
 pub is_table_of : (pid : ℕ) (section : List ℕ) (result : Result Table TableFault) (table : Table) →
-    result ≡ Ok table → IsTableOn pid section result → IsTableOf pid (whole_of section) table
+    result ≡ Ok table → IsTableOn pid section result → IsTableSection pid (whole_of section) table
 is_table_of pid section result table same is = (subst (IsTableOn pid section) same is).1
 
 -- a test on numbers, either way round
@@ -207,7 +207,7 @@ or_turned false b = sym (or_false b)
 
 -- before the first packet PID 0 and PID 1 are watched
 pub first_marked : (marks : List Bool) → length marks ≡ 8192 → marks ≡ replicate 8192 false →
-    AreMarked [] (set (set marks 0 true) 1 true)
+    AreWatchedMarks [] (set (set marks 0 true) 1 true)
 unfolding is_watched named_in
 first_marked marks long is = record {
   at = λ pid h.

@@ -1,7 +1,7 @@
 -- What the monitor writes of packets, one after the other.
 use Rattle.std.proofs.Common.{◌≡◌, ℕ, suc, ◌+◌, ◌-◌, ◌^◌, ◌≤◌, List, [], ◌∷◌, ◌++◌, length, ap, subst, ◌∙◌, arith}
 use Rattle.std.specs.List.{concat}
-use Rattle.sd_site_cards.specs.SiteFields.{SiteFields, fields_of}
+use Rattle.sd_site_cards.specs.SiteFields.{SiteFields, site_fields_of}
 use Rattle.sd_site_cards.specs.declared.site.Site.{Site}
 use Rattle.sd_engine.specs.Stage.{Chain}
 use Rattle.sd_run_streams.specs.MessageLines.{message_line, message_lines}
@@ -10,7 +10,7 @@ use Rattle.sd_run_streams.specs.declared.monitor.Monitor.{Monitor}
 
 -- it monitors this site, and is to be offered the packet of this number
 pub record IsAt (fields : SiteFields) (k : ℕ) (s : Monitor) : Type 0 where
-  pub site : fields_of s.site ≡ fields
+  pub site : site_fields_of s.site ≡ fields
   pub number : s.number ≡ k
 
 -- the line of a packet is that of its place
@@ -25,7 +25,7 @@ line_at site k s t packet bytes n is does =
 pub next_at : (site : SiteFields) (k : ℕ) (s t : Monitor) (packet bytes : List ℕ) (n : ℕ) → IsAt site k s →
     suc k ≤ 2 ^ 64 - 1 → monitor_does s packet t bytes n → IsAt site (suc k) t
 next_at site k s t packet bytes n is few does = record {
-  site = ap (λ (x : Site). fields_of x) does.site ∙ is.site;
+  site = ap (λ (x : Site). site_fields_of x) does.site ∙ is.site;
   number = omega (arith, does.number, is.number, few);
 }
 

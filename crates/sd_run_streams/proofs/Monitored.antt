@@ -14,7 +14,7 @@ use Rattle.sd_ports.specs.Bytes.{IsPrefix, AppendsPrefix}
 use Rattle.sd_ports.proofs.Starts.{prefix_of_prefix, after_first, nothing_after, pieces_first}
 use Rattle.sd_engine.specs.Stage.{Chain}
 use Rattle.sd_engine.specs.Driving.{DriveState, ChainToEnd, ChainToRefusal, IsAllowedAt, DriveOutcome}
-use Rattle.sd_engine.specs.Taken.{taken_of, CutAt, DriveOutcomeOver}
+use Rattle.sd_engine.specs.Taken.{packets_taken, CutAt, DriveOutcomeOver}
 use Rattle.sd_engine.proofs.Taken.{any_prefix, is_over, few_taken, all_few}
 use Rattle.sd_engine.specs.declared.driver.DriveFault.{DriveFault}
 use Rattle.sd_engine.specs.declared.driver.DriveFault.TheVariants as drive
@@ -116,9 +116,9 @@ part_of_lines site k packets s mid first bytes n from to (Some packet) begun few
 -- a write failed
 cut_lines : (site : SiteFields) (bytes : List ℕ) (a b : DriveState Monitor) → IsBegun site a.stage →
     CutAt monitor_does monitor_ends monitor_refuses bytes a b →
-    AppendsPrefix a.sink.held b.sink.held (concat (message_lines site 0 (taken_of bytes)))
+    AppendsPrefix a.sink.held b.sink.held (concat (message_lines site 0 (packets_taken bytes)))
 cut_lines site bytes a b begun h =
-    let packets = taken_of bytes in
+    let packets = packets_taken bytes in
     let whole = concat (message_lines site 0 packets) in
     let part = part_of_lines site h.count packets a.stage h.mid.stage h.passed.bytes h.cut.bytes h.passed.steps
     h.mid.steps b.steps (slice_get packets h.count)
@@ -142,22 +142,22 @@ drives_print site bytes a b f g (Ok count) begun cause (whole, counted, grew) = 
   cause.calm (λ e. cc),
 ))
   where
-    all_and_end : (xs : List ℕ) (n : ℕ) → ChainToEnd monitor_does monitor_ends a.stage (taken_of bytes) b.stage xs n →
-        xs ≡ concat (message_lines site 0 (taken_of bytes))
+    all_and_end : (xs : List ℕ) (n : ℕ) → ChainToEnd monitor_does monitor_ends a.stage (packets_taken bytes) b.stage xs n →
+        xs ≡ concat (message_lines site 0 (packets_taken bytes))
     all_and_end xs n (mid, first, last, m, k, chain, ends, joined, counted) =
         nothing_joined first last xs ends.nothing joined
-        ∙ all_through site (taken_of bytes) a.stage mid first m begun (all_few bytes) chain
+        ∙ all_through site (packets_taken bytes) a.stage mid first m begun (all_few bytes) chain
 drives_print site bytes a b f g (Err (drive.Broken found)) begun cause (end, grew) = inl (inl (
   ap stream_status (sym end),
   subst (λ (xs : List ℕ). Appends a.sink.held b.sink.held xs)
-      (all_through site (taken_of bytes) a.stage b.stage grew.bytes grew.steps begun (all_few bytes) grew.says)
+      (all_through site (packets_taken bytes) a.stage b.stage grew.bytes grew.steps begun (all_few bytes) grew.says)
       grew.taken,
   cause.calm (λ e. cc),
 ))
 drives_print site bytes a b f g (Err drive.TooLong) begun cause (end, grew) = inl (inl (
   ap stream_status (sym end),
   subst (λ (xs : List ℕ). Appends a.sink.held b.sink.held xs)
-      (all_through site (taken_of bytes) a.stage b.stage grew.bytes grew.steps begun (all_few bytes) grew.says)
+      (all_through site (packets_taken bytes) a.stage b.stage grew.bytes grew.steps begun (all_few bytes) grew.says)
       grew.taken,
   cause.calm (λ e. cc),
 ))
@@ -166,7 +166,7 @@ drives_print site bytes a b f g (Err drive.ReadFault) begun cause (count, within
   (
     count,
     subst (λ (xs : List ℕ). Appends a.sink.held b.sink.held xs)
-        (some_through site count (taken_of bytes) a.stage b.stage grew.bytes grew.steps begun (few_taken count bytes)
+        (some_through site count (packets_taken bytes) a.stage b.stage grew.bytes grew.steps begun (few_taken count bytes)
         grew.says) grew.taken,
   ),
   cause.calm (λ e. cc),
@@ -180,18 +180,18 @@ drives_print site bytes a b f g (Err (drive.Refused fault)) begun cause h = inl 
   (
     h.count,
     subst (λ (xs : List ℕ). Appends a.sink.held b.sink.held xs)
-        (some_and_none h.count (slice_get (taken_of bytes) h.count)
+        (some_and_none h.count (slice_get (packets_taken bytes) h.count)
         h.passed.bytes h.passed.steps h.passed.says) h.passed.taken,
   ),
   cause.calm (λ e. cc),
 )))
   where
     some_and_none : (count : ℕ) (here : Option (List ℕ)) (xs : List ℕ) (n : ℕ) →
-        ChainToRefusal monitor_does monitor_refuses a.stage (take count (taken_of bytes)) here fault b.stage xs n →
-        xs ≡ concat (take count (message_lines site 0 (taken_of bytes)))
+        ChainToRefusal monitor_does monitor_refuses a.stage (take count (packets_taken bytes)) here fault b.stage xs n →
+        xs ≡ concat (take count (message_lines site 0 (packets_taken bytes)))
     some_and_none count here xs n (mid, first, last, m, k, chain, refuses, joined, counted) =
         nothing_joined first last xs refuses.nothing joined
-        ∙ some_through site count (taken_of bytes) a.stage mid first m begun (few_taken count bytes) chain
+        ∙ some_through site count (packets_taken bytes) a.stage mid first m begun (few_taken count bytes) chain
 
 -- the stream that was left was monitored
 pub is_monitored : (site : SiteFields) (a b : DriveState Monitor) (f g : ℕ) (result : Result ℕ (DriveFault OutOfMemory))

@@ -7,7 +7,7 @@ use Rattle.std.proofs.lemmas.List.Folds.{list_any-append}
 use Rattle.sd_base.proofs.Bools.{or_false, or_assoc}
 use Rattle.sd_run_streams.specs.TableLines.{section_line}
 use Rattle.sd_run_streams.specs.Inspected.{pids_named_by}
-use Rattle.sd_run_streams.specs.Watching.{is_named_pid, naming, IsLearned, IsLearning}
+use Rattle.sd_run_streams.specs.Watching.{is_named_pid, naming, AreSectionsLearned, IsLearning}
 
 -- the section that is lent is the first that waits
 pub first_is : (waiting rest : List (List ℕ)) (section : List ℕ) → Some section ≡ slice_get waiting 0 →
@@ -54,7 +54,7 @@ none_named pid q = none_by (pid == 0) q
 -- a section more
 pub learned_more : (pid : ℕ) (all waiting rest : List (List ℕ)) (section : List ℕ) (old marks new : List Bool) →
     waiting ≡ section ∷ rest →
-    IsLearned (naming pid (section ∷ [])) marks new → IsLearning pid all waiting old marks →
+    AreSectionsLearned (naming pid (section ∷ [])) marks new → IsLearning pid all waiting old marks →
     IsLearning pid all rest old new
 learned_more pid all waiting rest section old marks new is learned so_far = record {
   at = λ q h.
@@ -68,7 +68,7 @@ learned_more pid all waiting rest section old marks new is learned so_far = reco
 -- all sections
 pub all_learned : (pid : ℕ) (all waiting : List (List ℕ)) (old marks : List Bool) → waiting ≡ [] →
     IsLearning pid all waiting old marks →
-    IsLearned (naming pid all) old marks
+    AreSectionsLearned (naming pid all) old marks
 all_learned pid all waiting old marks none so_far = record {
   at = λ q h.
       sym (ap (λ (w : List (List ℕ)). get_or marks q false || is_named_pid q (naming pid w)) none

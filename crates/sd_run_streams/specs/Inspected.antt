@@ -5,7 +5,7 @@ use Rattle.std.specs.List.{list_any}
 use Rattle.sd_packet.specs.Header.{pid_of, unit_start_of, counter_of, payload_of}
 use Rattle.sd_section.specs.Header.{whole_of}
 use Rattle.sd_section.specs.Judged.{section_fault}
-use Rattle.sd_section.specs.Assembled.{Fed, completed_by}
+use Rattle.sd_section.specs.Assembled.{Fed, sections_completed_by}
 use Rattle.sd_psi.specs.Tables.{pmt_pids_of, is_pat}
 use Rattle.sd_run_streams.specs.TableLines.{section_line}
 
@@ -24,7 +24,7 @@ on_pid pid packets = map fed_of (filter (λ packet. pid_of packet == pid) packet
 
 -- the sections that the last packet completes on PID 0 [ISO/IEC 13818-1, 2.4.4.3]
 unfoldable pub pat_sections_at : List ℕ → List (List ℕ) → List (List ℕ)
-pat_sections_at packet before = if pid_of packet == 0 then completed_by (on_pid 0 (packet ∷ before)) else []
+pat_sections_at packet before = if pid_of packet == 0 then sections_completed_by (on_pid 0 (packet ∷ before)) else []
 
 -- nothing is wrong with a section in the long form
 abbrev pub is_sound : List ℕ → Bool
@@ -54,7 +54,7 @@ watched_on pid (packet ∷ before) =
 -- the sections that the last packet completes on its PID
 unfoldable pub sections_at : List ℕ → List (List ℕ) → List (List ℕ)
 sections_at packet before =
-    if is_watched (pid_of packet) before then completed_by (watched_on (pid_of packet) (packet ∷ before)) else []
+    if is_watched (pid_of packet) before then sections_completed_by (watched_on (pid_of packet) (packet ∷ before)) else []
 
 -- a line for each section; packets are numbered from 0 [this project, docs/FORMATS.md, Inspector]
 unfoldable pub lines_in : List (List ℕ) → List ℕ

@@ -18,15 +18,15 @@ abbrev pub is_table : ℕ → List ℕ → Bool
 is_table pid section = if pid == 0 then is_pat section else if pid == 1 then is_cat section else is_pmt section
 
 -- the table is this section, on its PID
-abbrev pub IsTableOf : ℕ → List ℕ → Table → Type 0
-IsTableOf pid section (Pat pat) = (pid ≡ 0) × (pat.section.bytes.now ≡ section)
-IsTableOf pid section (Cat cat) = (pid ≡ 1) × (cat.section.bytes.now ≡ section)
-IsTableOf pid section (Pmt pmt) = (pid ≢ 0) × (pid ≢ 1) × (pmt.section.bytes.now ≡ section)
+abbrev pub IsTableSection : ℕ → List ℕ → Table → Type 0
+IsTableSection pid section (Pat pat) = (pid ≡ 0) × (pat.section.bytes.now ≡ section)
+IsTableSection pid section (Cat cat) = (pid ≡ 1) × (cat.section.bytes.now ≡ section)
+IsTableSection pid section (Pmt pmt) = (pid ≢ 0) × (pid ≢ 1) × (pmt.section.bytes.now ≡ section)
 
 -- what the bytes of a section are on a PID: a table, or the first thing that is wrong with them
 -- [this project, docs/FORMATS.md, Inspector]
 abbrev pub IsTableOn : ℕ → List ℕ → Result Table TableFault → Type 0
-IsTableOn pid bytes (Ok table) = (section_fault bytes ≡ None) × IsTableOf pid (whole_of bytes) table
+IsTableOn pid bytes (Ok table) = (section_fault bytes ≡ None) × IsTableSection pid (whole_of bytes) table
 IsTableOn pid bytes (Err Length) = (section_fault bytes ≡ Some Wrong.Short) ⊎ (section_fault bytes ≡ Some Wrong.Length)
 IsTableOn pid bytes (Err Crc) = (found : ℕ) × (due : ℕ) × (section_fault bytes ≡ Some (Wrong.Crc found due))
 IsTableOn pid bytes (Err Form) = (section_fault bytes ≡ None) × (is_table pid (whole_of bytes) ≡ false)

@@ -2,18 +2,18 @@
 use Rattle.std.specs.Prelude.{◌≡◌, ℕ, true, List, [], Option}
 use Rattle.sd_base.specs.Count.{with_added}
 use Rattle.sd_base.specs.declared.memory.NoMemory.{NoMemory}
-use Rattle.sd_site_cards.specs.SiteFields.{SiteFields, fields_of}
+use Rattle.sd_site_cards.specs.SiteFields.{SiteFields, site_fields_of}
 use Rattle.sd_run_streams.specs.MessageLines.{message_line}
 use Rattle.sd_run_streams.specs.declared.monitor.Monitor.{Monitor}
 
 -- it monitors this site, and was offered no packet
 pub record IsBegun (fields : SiteFields) (s : Monitor) : Type 0 where
-  pub site : fields_of s.site ≡ fields
+  pub site : site_fields_of s.site ≡ fields
   pub number : s.number ≡ 0
 
 -- a packet's line is written, and no step is taken
 pub record MonitorsPacket (s : Monitor) (packet : List ℕ) (t : Monitor) (bytes : List ℕ) (steps : ℕ) : Type 0 where
-  pub line : bytes ≡ message_line (fields_of s.site) s.number packet
+  pub line : bytes ≡ message_line (site_fields_of s.site) s.number packet
   pub site : t.site ≡ s.site
   pub number : t.number ≡ with_added s.number 1
   pub no_steps : steps ≡ 0
@@ -25,7 +25,7 @@ pub record EndsMonitoring (s t : Monitor) (bytes : List ℕ) (steps : ℕ) : Typ
   pub no_steps : steps ≡ 0
 
 -- out of memory, nothing is written, and that is kept
-pub record RefusesMessage (t : Monitor) (bytes : List ℕ) (steps : ℕ) : Type 0 where
+pub record RefusesMonitored (t : Monitor) (bytes : List ℕ) (steps : ℕ) : Type 0 where
   pub nothing : bytes ≡ []
   pub kept : t.out_of_memory ≡ true
   pub no_steps : steps ≡ 0
@@ -40,4 +40,4 @@ monitor_ends s t bytes steps = EndsMonitoring s t bytes steps
 
 -- and if memory runs out
 abbrev pub monitor_refuses : Monitor → Option (List ℕ) → NoMemory → Monitor → List ℕ → ℕ → Type 0
-monitor_refuses s packet fault t bytes steps = RefusesMessage t bytes steps
+monitor_refuses s packet fault t bytes steps = RefusesMonitored t bytes steps

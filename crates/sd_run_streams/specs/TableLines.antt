@@ -3,7 +3,7 @@ use Rattle.std.specs.Prelude.{ℕ, ◌==◌, List, [], ◌∷◌, ◌++◌, map,
 use Rattle.serde_json.specs.Data.{Data, number, unsigned, string, array, object, member, no_members}
 use Rattle.serde_json.specs.View.{items_of}
 use Rattle.serde_json.specs.Written.{compact_text}
-use Rattle.sd_section.specs.Header.{extension_of, version_of, body_of, whole_of}
+use Rattle.sd_section.specs.Header.{extension_of, section_version_number, body_of, whole_of}
 use Rattle.sd_section.specs.Judged.{section_fault}
 use Rattle.sd_section.specs.declared.fault.SectionFault.{SectionFault}
 use Rattle.sd_section.specs.declared.fault.SectionFault.TheVariants.{Short, Length, Crc}
@@ -61,7 +61,7 @@ pat_data packet pid section = object
     (member (codes "programs") (list_data (map program_data (programs_of section)))
     (member (codes "stream") (num (extension_of section))
     (member (codes "table") (word (codes "pat"))
-    (member (codes "version") (num (version_of section))
+    (member (codes "version") (num (section_version_number section))
     no_members))))))
 
 unfoldable pub cat_data : ℕ → ℕ → List ℕ → Data
@@ -70,7 +70,7 @@ cat_data packet pid section = object
     (member (codes "packet") (num packet)
     (member (codes "pid") (num pid)
     (member (codes "table") (word (codes "cat"))
-    (member (codes "version") (num (version_of section))
+    (member (codes "version") (num (section_version_number section))
     no_members)))))
 
 unfoldable pub pmt_data : ℕ → ℕ → List ℕ → Data
@@ -82,7 +82,7 @@ pmt_data packet pid section = object
     (member (codes "program") (num (extension_of section))
     (member (codes "streams") (list_data (map stream_data (streams_of section)))
     (member (codes "table") (word (codes "pmt"))
-    (member (codes "version") (num (version_of section))
+    (member (codes "version") (num (section_version_number section))
     no_members))))))))
 
 -- what is shown of a section that isn't as it is to be [this project, docs/FORMATS.md, Inspector]

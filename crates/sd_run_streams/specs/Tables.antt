@@ -3,7 +3,7 @@ use Rattle.std.specs.Prelude.{ℕ, List, [], ◌∷◌, length, false, Option, N
 use Rattle.std.specs.List.{flat_map}
 use Rattle.sd_base.specs.declared.memory.NoMemory.{NoMemory as OutOfMemory}
 use Rattle.sd_packet.specs.Header.{pid_of}
-use Rattle.sd_engine.specs.Taken.{taken_of, end_of, IsLeft}
+use Rattle.sd_engine.specs.Taken.{packets_taken, end_of, AreBytesLeft}
 use Rattle.sd_engine.specs.declared.driver.DriveFault.{DriveFault}
 use Rattle.sd_engine.specs.declared.driver.DriveFault.TheVariants as drive
 use Rattle.sd_run_streams.specs.TableLines.{section_line}
@@ -13,7 +13,7 @@ use Rattle.sd_command_base.specs.declared.status.Status.TheVariants.{Done, BadSt
 use Rattle.sd_command_base.specs.declared.status.Status.TheVariants.{NoMemory}
 use Rattle.sd_command_base.specs.declared.stream_refusal.StreamRefusal.TheVariants.{Broken, TooLong}
 use Rattle.sd_command_base.specs.Outside.{PageState}
-use Rattle.sd_command_base.specs.Spec.{Spec, FileArgument, Readings, all_of, value, ◌>>=◌}
+use Rattle.sd_command_base.specs.Spec.{Spec, FileArgument, Readings, whole_file_bytes, value, ◌>>=◌}
 use Rattle.sd_command_base.specs.Work.{NoSteps, Work}
 use Rattle.sd_command_base.specs.Prints.{PrintsReading}
 use Rattle.sd_command_base.specs.Streams.{stream_status}
@@ -30,7 +30,7 @@ abbrev pub inspecting : List ℕ → Work
 inspecting bytes = record {
   mark = None;
   out = None;
-  pieces = packet_lines [] (taken_of bytes);
+  pieces = packet_lines [] (packets_taken bytes);
   ends = stream_status (end_of bytes);
   breaks = false;
   live = false;
@@ -38,7 +38,7 @@ inspecting bytes = record {
 }
 
 unfoldable pub tables_meaning : FileArgument → Readings → Spec Work
-tables_meaning stream given = all_of stream.number (given stream) >>= λ bytes. value (inspecting bytes)
+tables_meaning stream given = whole_file_bytes stream.number (given stream) >>= λ bytes. value (inspecting bytes)
 
 -- the status of a stream that was driven
 abbrev pub drive_status : Result ℕ (DriveFault OutOfMemory) → Status
@@ -52,5 +52,5 @@ drive_status (Err (drive.Refused fault)) = NoMemory
 -- the lines of the stream that was left were printed, as far as its source and print went
 pub record InspectsLeft (left : Option (List ℕ)) (a b : PageState) (status : Status) : Type 0 where
   pub bytes : List ℕ
-  pub is_left : IsLeft left bytes
+  pub is_left : AreBytesLeft left bytes
   pub prints : PrintsReading (inspecting bytes) a b status

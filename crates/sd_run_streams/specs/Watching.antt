@@ -19,7 +19,7 @@ pub record AreAdded (pids : List ℕ) (old new : List Bool) : Type 0 where
       get_or new pid false ≡ (get_or old pid false || list_any (λ named. named == pid) pids)
 
 -- the PIDs that these sections name are marked too
-pub record IsLearned (sections : List (List ℕ)) (old new : List Bool) : Type 0 where
+pub record AreSectionsLearned (sections : List (List ℕ)) (old new : List Bool) : Type 0 where
   pub at : (pid : ℕ) → pid < 8192 → get_or new pid false ≡ (get_or old pid false || is_named_pid pid sections)
 
 -- the marks and what the waiting sections name come to the old marks and what all sections name
@@ -43,7 +43,7 @@ pub record AreIdle (places : List (Option Assembling)) : Type 0 where
   pub at : (pid : ℕ) → pid < 8192 → IsIdle (get_or places pid None)
 
 -- the marks are those of the PIDs that are watched after these packets
-pub record AreMarked (packets : List (List ℕ)) (marks : List Bool) : Type 0 where
+pub record AreWatchedMarks (packets : List (List ℕ)) (marks : List Bool) : Type 0 where
   pub at : (pid : ℕ) → pid < 8192 → get_or marks pid false ≡ is_watched pid packets
 
 -- the assemblers are those after these packets
@@ -51,6 +51,6 @@ pub record ArePlaced (packets : List (List ℕ)) (places : List (Option Assembli
   pub at : (pid : ℕ) → pid < 8192 → IsAssembledFrom (watched_on pid packets) (get_or places pid None)
 
 -- marks and assemblers are those after these packets
-pub record IsAfter (packets : List (List ℕ)) (marks : List Bool) (places : List (Option Assembling)) : Type 0 where
-  pub marked : AreMarked packets marks
+pub record IsInspectedAfter (packets : List (List ℕ)) (marks : List Bool) (places : List (Option Assembling)) : Type 0 where
+  pub marked : AreWatchedMarks packets marks
   pub placed : ArePlaced packets places

@@ -5,7 +5,7 @@ ghost use Rattle.sd_packet.specs.Header.{pid_of};
 ghost use Rattle.sd_section.specs.Assembled.{Fed, assembler_after, all_lent};
 ghost use Rattle.sd_run_streams.specs.TableLines.{section_line};
 ghost use Rattle.sd_run_streams.specs.Inspected.{sections_at};
-ghost use Rattle.sd_run_streams.specs.Watching.{naming, IsLearned, IsAssembledFrom, AreIdle, IsAfter};
+ghost use Rattle.sd_run_streams.specs.Watching.{naming, AreSectionsLearned, IsAssembledFrom, AreIdle, IsInspectedAfter};
 
 use crate::watched::{PIDS, Watched};
 use crate::{push_line, table_on};
@@ -25,7 +25,7 @@ pub struct Assemblies {
 impl Assemblies {
     /// Before the first packet.
     pub fn new(alloc: Global) -> Result<Assemblies, NoMemory>
-        ensures { IfOk result (λ now. IsAfter [] now.watched.marks.items now.assemblers.items) }
+        ensures { IfOk result (λ now. IsInspectedAfter [] now.watched.marks.items now.assemblers.items) }
     {
         Ok(Assemblies {
             watched: Watched::new(alloc)?,
@@ -43,13 +43,13 @@ impl Assemblies {
     ) -> Result<(), NoMemory>
         requires { AreIdle self.old.assemblers.items }
         ensures lines { (before : List (List ℕ)) →
-            IsAfter before self.old.watched.marks.items self.old.assemblers.items →
+            IsInspectedAfter before self.old.watched.marks.items self.old.assemblers.items →
             OnOk result (string_bytes text.new
             ≡ string_bytes text.old
             ++ flat_map (section_line number (pid_of packet.now)) (sections_at packet.now before)) }
         ensures after { (before : List (List ℕ)) →
-            IsAfter before self.old.watched.marks.items self.old.assemblers.items →
-            OnOk result (IsAfter (packet.now ∷ before) self.new.watched.marks.items self.new.assemblers.items) }
+            IsInspectedAfter before self.old.watched.marks.items self.old.assemblers.items →
+            OnOk result (IsInspectedAfter (packet.now ∷ before) self.new.watched.marks.items self.new.assemblers.items) }
     {
         let pid = packet.pid();
         if !self.watched.has(pid) {
@@ -105,7 +105,7 @@ fn show(
     ensures lines { OnOk result
         (string_bytes text.new ≡ string_bytes text.old ++ flat_map (section_line number pid) assembler.old.waiting) }
     ensures learned { OnOk result
-        (IsLearned (naming pid assembler.old.waiting) watched.old.marks.items watched.new.marks.items) }
+        (AreSectionsLearned (naming pid assembler.old.waiting) watched.old.marks.items watched.new.marks.items) }
     ensures lent { OnOk result (assembler.new ≡ all_lent assembler.old) }
 {
     while let Some(section) = assembler.next() {

@@ -1,6 +1,6 @@
 ghost use Rattle.std.specs.Prelude.{[], None, Some, IfOk, if◌then◌else◌};
 ghost use Rattle.sd_run_streams.specs.InspectorStaged.{inspector_does, inspector_ends, inspector_refuses};
-ghost use Rattle.sd_run_streams.specs.InspectorStaged.{seen, IsReady};
+ghost use Rattle.sd_run_streams.specs.InspectorStaged.{inspector_state, IsInspectorReady};
 ghost use Rattle.sd_run_streams.specs.InspectorStaged.{IsStateAfter};
 
 use crate::assemblies::Assemblies;
@@ -24,7 +24,7 @@ pub struct Inspector {
 impl Inspector {
     /// Before the first packet.
     pub fn new(alloc: Global) -> Result<Inspector, NoMemory>
-        ensures value { IfOk result (λ stage. IsStateAfter [] (seen stage)) }
+        ensures value { IfOk result (λ stage. IsStateAfter [] (inspector_state stage)) }
     {
         Ok(Inspector {
             alloc,
@@ -38,7 +38,7 @@ impl Inspector {
 impl<K: Sink, L: Ledger> Stage<K, L> for Inspector {
     type Fault = NoMemory;
 
-    ghost live = { λ s. IsReady (seen s) };
+    ghost live = { λ s. IsInspectorReady (inspector_state s) };
 
     ghost kept = { λ s. if s.out_of_memory then Some (record {}) else None };
 

@@ -2,7 +2,7 @@ ghost use Rattle.std.specs.Prelude.{◌≡◌, IfOk, Some, option_map, string_by
 ghost use Rattle.serde_json.specs.View.{view};
 ghost use Rattle.sd_message.specs.EmmJudged.{emm_read};
 ghost use Rattle.sd_message.specs.EcmJudged.{ecm_read};
-ghost use Rattle.sd_site_cards.specs.SiteFields.{fields_of};
+ghost use Rattle.sd_site_cards.specs.SiteFields.{site_fields_of};
 ghost use Rattle.sd_run_streams.specs.MessageLines.{ecm_told, emm_told, message_data, message_line};
 
 use crate::ecm::ecm_value;
@@ -26,7 +26,7 @@ pub(crate) fn line_of(
     number: u64,
     packet: &Packet,
 ) -> Result<String, AllocError>
-    ensures { IfOk result (λ text. string_bytes text ≡ message_line (fields_of site.now) number packet.now) }
+    ensures { IfOk result (λ text. string_bytes text ≡ message_line (site_fields_of site.now) number packet.now) }
 {
     match message_value(alloc, site, number, packet)? {
         Some(value) => as_line(value.to_string(alloc)?),
@@ -42,7 +42,7 @@ fn message_value(
     number: u64,
     packet: &Packet,
 ) -> Result<Option<Value>, AllocError>
-    ensures { IfOk result (λ found. option_map view found ≡ message_data (fields_of site.now) number packet.now) }
+    ensures { IfOk result (λ found. option_map view found ≡ message_data (site_fields_of site.now) number packet.now) }
 {
     let pid = packet.pid();
     if pid == site.emm {

@@ -2,11 +2,11 @@
 
 ghost use Rattle.std.specs.Prelude.{◌≡◌, ◌≢◌, ◌<◌, ℕ};
 ghost use Rattle.sd_base.specs.Count.{IsCaused};
-ghost use Rattle.sd_site_cards.specs.SiteFields.{fields_of};
-ghost use Rattle.sd_command_base.specs.Outside.{outside, page_state, depot_state};
+ghost use Rattle.sd_site_cards.specs.SiteFields.{site_fields_of};
+ghost use Rattle.sd_command_base.specs.Outside.{page_state, io_state_at};
 ghost use Rattle.sd_command_base.specs.Outcome.{Implements, status_of};
 ghost use Rattle.sd_command_base.specs.Shown.{shown_word};
-ghost use Rattle.sd_run_streams.specs.Messages.{MonitorsLeft, messages_meaning, stream_meaning};
+ghost use Rattle.sd_run_streams.specs.Messages.{MonitorsLeft, messages_meaning, messages_stream_meaning};
 
 use crate::Monitor;
 use crate::tables_command::drive_result;
@@ -30,8 +30,8 @@ pub fn messages<D: Depot, P: Sink>(
 ) -> Result<(), Status>
     requires { site.number ≢ stream.number }
     ensures { (steps : ℕ) → Implements (messages_meaning (shown_word site.entry) (shown_word stream.entry))
-        (outside (depot_state D.Depot depot.old) (page_state P.Sink print.old) steps)
-        (outside (depot_state D.Depot depot.new) (page_state P.Sink print.new) steps) (status_of result) }
+        (io_state_at D.Depot P.Sink depot.old print.old steps)
+        (io_state_at D.Depot P.Sink depot.new print.new steps) (status_of result) }
 {
     let site = read_site(alloc, depot, site)?;
     print_file(alloc, depot, print, &site, stream)
@@ -45,9 +45,9 @@ fn print_file<D: Depot, P: Sink>(
     site: &Site,
     stream: Word<'_>,
 ) -> Result<(), Status>
-    ensures { (steps : ℕ) → Implements (stream_meaning (fields_of site.now) (shown_word stream.entry))
-        (outside (depot_state D.Depot depot.old) (page_state P.Sink print.old) steps)
-        (outside (depot_state D.Depot depot.new) (page_state P.Sink print.new) steps) (status_of result) }
+    ensures { (steps : ℕ) → Implements (messages_stream_meaning (site_fields_of site.now) (shown_word stream.entry))
+        (io_state_at D.Depot P.Sink depot.old print.old steps)
+        (io_state_at D.Depot P.Sink depot.new print.new steps) (status_of result) }
 {
     let mut port = match depot.open_in(alloc, stream.text) {
         Ok(port) => port,
@@ -65,7 +65,7 @@ fn print_messages<S: Source, P: Sink>(
     print: &mut P,
     site: &Site,
 ) -> Result<(), Status>
-    ensures value { MonitorsLeft (fields_of site.now) (S.left source.old) (page_state P.Sink print.old)
+    ensures value { MonitorsLeft (site_fields_of site.now) (S.left source.old) (page_state P.Sink print.old)
         (page_state P.Sink print.new) (status_of result) }
     ensures cause { IsCaused (S.faults source.old) (S.faults source.new) (status_of result ≡ Status.DepotFault) }
 {
@@ -83,7 +83,7 @@ fn monitor<L: Ledger, S: Source, P: Sink>(
     requires name { blank.name ≡ L.name }
     requires parts { blank.parts ≡ L.parts }
     requires some { 0 < blank.parts }
-    ensures value { MonitorsLeft (fields_of site.now) (S.left source.old) (page_state P.Sink print.old)
+    ensures value { MonitorsLeft (site_fields_of site.now) (S.left source.old) (page_state P.Sink print.old)
         (page_state P.Sink print.new) (status_of result) }
     ensures cause { IsCaused (S.faults source.old) (S.faults source.new) (status_of result ≡ Status.DepotFault) }
 {

@@ -1,5 +1,5 @@
 ghost use Rattle.std.specs.Prelude.{None, Some, if◌then◌else◌};
-ghost use Rattle.sd_site_cards.specs.SiteFields.{fields_of};
+ghost use Rattle.sd_site_cards.specs.SiteFields.{site_fields_of};
 ghost use Rattle.sd_run_streams.specs.MonitorStaged.{IsBegun, monitor_does, monitor_ends, monitor_refuses};
 
 use crate::message_line::line_of;
@@ -24,7 +24,7 @@ pub struct Monitor {
 impl Monitor {
     /// Before the first packet.
     pub fn new(alloc: Global, site: &Site) -> Monitor
-        ensures value { IsBegun (fields_of site.now) result }
+        ensures value { IsBegun (site_fields_of site.now) result }
     {
         Monitor {
             alloc,

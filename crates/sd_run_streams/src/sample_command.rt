@@ -4,7 +4,7 @@ ghost use Rattle.std.specs.Prelude.{◌≡◌, ◌≤◌, ℕ, IsErrOf};
 ghost use Rattle.sd_ports.specs.Causes.{CountsCalls, HasFileCause};
 ghost use Rattle.sd_ports.specs.Files.{WritesFile};
 ghost use Rattle.sd_engine.specs.Sample.{sample_of};
-ghost use Rattle.sd_command_base.specs.Outside.{PageState, outside, depot_state};
+ghost use Rattle.sd_command_base.specs.Outside.{PageState, io_state, depot_state};
 ghost use Rattle.sd_command_base.specs.Outcome.{Implements, status_of};
 ghost use Rattle.sd_run_streams.specs.Sample.{sample_meaning};
 ghost use Rattle.sd_command_base.specs.Shown.{shown_word};
@@ -25,7 +25,7 @@ pub fn sample<D: Depot>(
 ) -> Result<(), Status>
     requires { packets ≤ MOST_SAMPLE_PACKETS }
     ensures { (page : PageState) (steps : ℕ) → Implements (sample_meaning number packets (shown_word out.entry))
-        (outside (depot_state D.Depot depot.old) page steps) (outside (depot_state D.Depot depot.new) page steps)
+        (io_state (depot_state D.Depot depot.old) page steps) (io_state (depot_state D.Depot depot.new) page steps)
         (status_of result) }
 {
     told(

@@ -1,6 +1,6 @@
 ghost use Rattle.std.specs.Prelude.{◌≡◌, ◌↔◌, ℕ, false, IfSome, IsNone};
 ghost use Rattle.sd_run_streams.specs.TableLines.{section_line};
-ghost use Rattle.sd_run_streams.specs.Judged.{is_table, IsTableOf, IsTableOn, line_as};
+ghost use Rattle.sd_run_streams.specs.Judged.{is_table, IsTableSection, IsTableOn, line_as};
 
 use sd_psi::{Cat, Pat, Pmt, cat_in, pat_in, pmt_in};
 use sd_section::{Section, SectionFault, read_one};
@@ -43,7 +43,7 @@ pub fn table_on<'a>(pid: u16, section: &'a [u8]) -> Result<Table<'a>, TableFault
 // The table that a whole section is: PID 0 has PATs, PID 1 has CATs, and each other PID has PMTs.
 fn table_in<'a>(pid: u16, section: &Section<'a>) -> Option<Table<'a>>
     ensures none { IsNone result ↔ (is_table pid section.now.bytes.now ≡ false) }
-    ensures value { IfSome result (λ table. IsTableOf pid section.now.bytes.now table) }
+    ensures value { IfSome result (λ table. IsTableSection pid section.now.bytes.now table) }
 {
     match pid {
         0 => pat_in(section).map(Table::Pat),

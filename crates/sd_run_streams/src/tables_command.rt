@@ -3,7 +3,7 @@
 ghost use Rattle.std.specs.Prelude.{◌≡◌, ◌<◌, ℕ};
 ghost use Rattle.sd_base.specs.Count.{IsCaused};
 ghost use Rattle.sd_base.specs.declared.memory.NoMemory.{NoMemory};
-ghost use Rattle.sd_command_base.specs.Outside.{outside, page_state, depot_state};
+ghost use Rattle.sd_command_base.specs.Outside.{page_state, io_state_at};
 ghost use Rattle.sd_command_base.specs.Outcome.{Implements, status_of};
 ghost use Rattle.sd_run_streams.specs.Tables.{InspectsLeft, drive_status, tables_meaning};
 ghost use Rattle.sd_command_base.specs.Shown.{shown_word};
@@ -26,8 +26,8 @@ pub fn tables<D: Depot, P: Sink>(
     stream: Word<'_>,
 ) -> Result<(), Status>
     ensures { (steps : ℕ) → Implements (tables_meaning (shown_word stream.entry))
-        (outside (depot_state D.Depot depot.old) (page_state P.Sink print.old) steps)
-        (outside (depot_state D.Depot depot.new) (page_state P.Sink print.new) steps) (status_of result) }
+        (io_state_at D.Depot P.Sink depot.old print.old steps)
+        (io_state_at D.Depot P.Sink depot.new print.new steps) (status_of result) }
 {
     let mut port = match depot.open_in(alloc, stream.text) {
         Ok(port) => port,

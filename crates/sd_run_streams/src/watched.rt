@@ -2,8 +2,8 @@ ghost use Rattle.std.specs.Prelude.{◌≡◌, ◌<◌, ℕ, List, false, None, 
 ghost use Rattle.sd_section.specs.Header.{whole_of};
 ghost use Rattle.sd_section.specs.Judged.{section_fault};
 ghost use Rattle.sd_psi.specs.Tables.{pmt_pids_of};
-ghost use Rattle.sd_run_streams.specs.Judged.{IsTableOf, IsTableOn};
-ghost use Rattle.sd_run_streams.specs.Watching.{naming, AreMarked, AreAdded, IsLearned};
+ghost use Rattle.sd_run_streams.specs.Judged.{IsTableSection, IsTableOn};
+ghost use Rattle.sd_run_streams.specs.Watching.{naming, AreWatchedMarks, AreAdded, AreSectionsLearned};
 
 use crate::{Table, TableFault};
 use sd_base::NoMemory;
@@ -23,7 +23,7 @@ pub struct Watched {
 impl Watched {
     /// PID 0 with the PAT and PID 1 with the CAT.
     pub fn new(alloc: Global) -> Result<Watched, NoMemory>
-        ensures { IfOk result (λ watched. AreMarked [] watched.marks.items) }
+        ensures { IfOk result (λ watched. AreWatchedMarks [] watched.marks.items) }
     {
         let Ok(mut marks) = vec![in alloc; false; PIDS] else {
             return Err(NoMemory);
@@ -45,7 +45,7 @@ impl Watched {
     #[tactic(auto, using(crate::proofs::Learning::is_sound_table, crate::proofs::Learning::is_table_of))]
     pub fn learn(&mut self, table: &Result<Table, TableFault>)
         ensures { (pid : ℕ) (section : List ℕ) → IsTableOn pid section table.now →
-            IsLearned (naming pid (section ∷ [])) self.old.marks.items self.new.marks.items }
+            AreSectionsLearned (naming pid (section ∷ [])) self.old.marks.items self.new.marks.items }
     {
         match table {
             Ok(table) => self.learn_table(table),
@@ -57,8 +57,8 @@ impl Watched {
     #[tactic(auto, using(crate::proofs::Learning::pat_learned))]
     fn learn_table(&mut self, table: &Table)
         ensures { (pid : ℕ) (section : List ℕ) → section_fault section ≡ None →
-            IsTableOf pid (whole_of section) table.now →
-            IsLearned (naming pid (section ∷ [])) self.old.marks.items self.new.marks.items }
+            IsTableSection pid (whole_of section) table.now →
+            AreSectionsLearned (naming pid (section ∷ [])) self.old.marks.items self.new.marks.items }
     {
         match table {
             Table::Pat(pat) => self.learn_programs(pat),

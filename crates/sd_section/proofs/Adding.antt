@@ -7,8 +7,8 @@ use Rattle.std.proofs.lemmas.Bool.{cases_lt}
 use Rattle.std.proofs.lemmas.List.{take-append-le, take_all, length-take}
 use Rattle.sd_base.proofs.Bools.{true_from_not, false_from_not}
 use Rattle.sd_section.specs.Header.{section_length_of, whole_of}
-use Rattle.sd_section.specs.Assembled.{starts, is_overlong, is_whole, Cut, no_cut, with_section, cut_from, cut_of}
-use Rattle.sd_section.specs.OneMore.{begun_of, cut_more, held}
+use Rattle.sd_section.specs.Assembled.{starts, is_overlong, is_section_whole, Cut, no_cut, with_section, cut_from, cut_of}
+use Rattle.sd_section.specs.OneMore.{begun_of, cut_more, cut_of_section}
 use Rattle.sd_section.specs.declared.begun.Begun.TheVariants.{Overlong, Whole, Part}
 use Rattle.sd_section.proofs.Cutting.{over_stays, whole_stays, whole_has_all, all_is_whole, all_is_over, length_stays}
 use Rattle.sd_section.proofs.Cutting.{over_has_three, cut_none, cut_stuffed, cut_over, cut_whole, cut_part, added_over}
@@ -34,17 +34,17 @@ by_part false true n h = absurd (cc)
 by_part false false n h = (refl, refl)
 
 judged_over : (z : List ℕ) → begun_of z ≡ Overlong → is_overlong z ≡ true
-judged_over z h = by_over (is_overlong z) (is_whole z) (3 + section_length_of z) h
+judged_over z h = by_over (is_overlong z) (is_section_whole z) (3 + section_length_of z) h
 
-judged_whole : (z : List ℕ) (k : ℕ) → begun_of z ≡ Whole k → (is_overlong z ≡ false) × (is_whole z ≡ true)
+judged_whole : (z : List ℕ) (k : ℕ) → begun_of z ≡ Whole k → (is_overlong z ≡ false) × (is_section_whole z ≡ true)
     × (k ≡ 3 + section_length_of z)
-judged_whole z k h = by_whole (is_overlong z) (is_whole z) (3 + section_length_of z) k h
+judged_whole z k h = by_whole (is_overlong z) (is_section_whole z) (3 + section_length_of z) k h
 
-judged_part : (z : List ℕ) → begun_of z ≡ Part → (is_overlong z ≡ false) × (is_whole z ≡ false)
-judged_part z h = by_part (is_overlong z) (is_whole z) (3 + section_length_of z) h
+judged_part : (z : List ℕ) → begun_of z ≡ Part → (is_overlong z ≡ false) × (is_section_whole z ≡ false)
+judged_part z h = by_part (is_overlong z) (is_section_whole z) (3 + section_length_of z) h
 
 -- nothing is added to nothing
-pub add_nothing : (making bytes : List ℕ) → length making ≡ 0 → held false making ≡ cut_more making bytes
+pub add_nothing : (making bytes : List ℕ) → length making ≡ 0 → cut_of_section false making ≡ cut_more making bytes
 add_nothing [] bytes h = sym (added_none bytes)
 add_nothing (b ∷ bs) bytes h = absurd (omega arith)
 
@@ -56,7 +56,7 @@ all_bytes making bytes k = append_assoc making (take k bytes) (drop k bytes) ∙
 -- a section that is too long
 pub add_overlong : (making bytes taken : List ℕ) (k : ℕ) → taken ≡ making ++ take k bytes → 0 < length making →
     begun_of taken ≡ Overlong →
-    held false [] ≡ cut_more making bytes
+    cut_of_section false [] ≡ cut_more making bytes
 add_overlong [] bytes taken k is some judged = absurd (omega arith)
 add_overlong (b ∷ bs) bytes taken k is some judged =
     let over : is_overlong (b ∷ bs ++ take k bytes) ≡ true = subst (λ (l : List ℕ). is_overlong l ≡ true) is
@@ -69,7 +69,7 @@ add_overlong (b ∷ bs) bytes taken k is some judged =
 -- a section that is whole
 pub add_whole : (making bytes taken : List ℕ) (k n : ℕ) → taken ≡ making ++ take k bytes → 0 < length making →
     begun_of taken ≡ Whole n →
-    held true (take n taken) ≡ cut_more making bytes
+    cut_of_section true (take n taken) ≡ cut_more making bytes
 add_whole [] bytes taken k n is some judged = absurd (omega arith)
 add_whole (b ∷ bs) bytes taken k n is some judged =
     let begun : List ℕ = b ∷ bs ++ take k bytes in
@@ -78,7 +78,7 @@ add_whole (b ∷ bs) bytes taken k n is some judged =
     let all : begun ++ drop k bytes ≡ b ∷ bs ++ bytes = all_bytes (b ∷ bs) bytes k in
     let over : is_overlong (b ∷ bs ++ bytes) ≡ false =
     ap is_overlong (sym all) ∙ (over_stays begun (drop k bytes) there.0 ∙ judgement.0) in
-    let whole : is_whole (b ∷ bs ++ bytes) ≡ true = ap is_whole (sym all) ∙ whole_stays begun (drop k bytes)
+    let whole : is_section_whole (b ∷ bs ++ bytes) ≡ true = ap is_section_whole (sym all) ∙ whole_stays begun (drop k bytes)
     judgement.1 in
     let same : section_length_of (b ∷ bs ++ bytes) ≡ section_length_of begun =
     ap section_length_of (sym all) ∙ length_stays begun (drop k bytes) there.0 in
@@ -92,19 +92,19 @@ add_whole (b ∷ bs) bytes taken k n is some judged =
     ap (λ (l : List ℕ). record { sections = l ∷ []; making = [] }) section ∙ sym (added_whole b bs bytes over whole)
 
 -- a section that isn't whole with 4,096 bytes is too long
-short_part : (begun : List ℕ) → is_overlong begun ≡ false → is_whole begun ≡ false → length begun < 4096
+short_part : (begun : List ℕ) → is_overlong begun ≡ false → is_section_whole begun ≡ false → length begun < 4096
 short_part begun over whole = elim (cases_lt (length begun) 4096) [
   | inl short ↦ short
   | inr long ↦ elim (cases_lt 4093 (section_length_of begun)) [
     | inl more ↦ let is : is_overlong begun ≡ true = all_is_over begun (omega arith) more in absurd (cc)
-    | inr few ↦ let is : is_whole begun ≡ true = all_is_whole begun (omega arith) (omega arith) in absurd (cc)
+    | inr few ↦ let is : is_section_whole begun ≡ true = all_is_whole begun (omega arith) (omega arith) in absurd (cc)
   ]
 ]
 
 -- a section that is still in the making
 pub add_part : (making bytes taken : List ℕ) (k : ℕ) → taken ≡ making ++ take k bytes → 0 < length making →
     k ≡ min (length bytes) (4096 - length making) →
-    length making ≤ 4096 → begun_of taken ≡ Part → held false taken ≡ cut_more making bytes
+    length making ≤ 4096 → begun_of taken ≡ Part → cut_of_section false taken ≡ cut_more making bytes
 add_part [] bytes taken k is some few short judged = absurd (omega arith)
 add_part (b ∷ bs) bytes taken k is some few short judged =
     let begun : List ℕ = b ∷ bs ++ take k bytes in
@@ -115,13 +115,13 @@ add_part (b ∷ bs) bytes taken k is some few short judged =
     let every : take k bytes ≡ bytes = take_all k bytes (omega arith) in
     let all : begun ≡ b ∷ bs ++ bytes = ap (λ (l : List ℕ). b ∷ bs ++ l) every in
     let over : is_overlong (b ∷ bs ++ bytes) ≡ false = ap is_overlong (sym all) ∙ judgement.0 in
-    let whole : is_whole (b ∷ bs ++ bytes) ≡ false = ap is_whole (sym all) ∙ judgement.1 in
+    let whole : is_section_whole (b ∷ bs ++ bytes) ≡ false = ap is_section_whole (sym all) ∙ judgement.1 in
     ap (λ (l : List ℕ). record { sections = []; making = l }) (is ∙ all) ∙ sym (added_part b bs bytes over whole)
 
 -- turns that aren't needed change nothing, where they change nothing after the first
 same_turn : (m n b : ℕ) (bs more : List ℕ) → ((left : List ℕ) → length left ≤ length bs → cut_from m left more
     ≡ cut_from n left more) →
-    (stuffed over whole : Bool) → (b == 255) ≡ stuffed → is_overlong (b ∷ bs ++ more) ≡ over → is_whole (b ∷ bs ++ more)
+    (stuffed over whole : Bool) → (b == 255) ≡ stuffed → is_overlong (b ∷ bs ++ more) ≡ over → is_section_whole (b ∷ bs ++ more)
     ≡ whole →
     cut_from (suc m) (b ∷ bs) more ≡ cut_from (suc n) (b ∷ bs) more
 same_turn m n b bs more after true over whole s o w = cut_stuffed m b bs more s ∙ sym (cut_stuffed n b bs more s)
@@ -164,7 +164,7 @@ one_whole (b ∷ bs) n h judged =
     sym judgement.2 in
     let left : List ℕ = drop n (b ∷ bs) in
     let less : length left ≤ length bs = omega (arith, length-drop n (b ∷ bs), judgement.2) in
-    cut_whole (length bs) b bs [] (false_from_not (b == 255) h) (ap is_overlong is ∙ judgement.0) (ap is_whole is ∙
+    cut_whole (length bs) b bs [] (false_from_not (b == 255) h) (ap is_overlong is ∙ judgement.0) (ap is_section_whole is ∙
     judgement.1)
     ∙ (ap (λ (k : ℕ). with_section (take k (b ∷ bs ++ [])) (cut_from (length bs) (drop k (b ∷ bs)) [])) count
     ∙ (ap (λ (l : List ℕ). with_section (take n l) (cut_from (length bs) left [])) is
@@ -190,6 +190,6 @@ one_part [] h judged = absurd (cc)
 one_part (b ∷ bs) h judged =
     let judgement = judged_part (b ∷ bs) judged in
     let is : b ∷ bs ++ [] ≡ b ∷ bs = append-nil (b ∷ bs) in
-    cut_part (length bs) b bs [] (false_from_not (b == 255) h) (ap is_overlong is ∙ judgement.0) (ap is_whole is ∙
+    cut_part (length bs) b bs [] (false_from_not (b == 255) h) (ap is_overlong is ∙ judgement.0) (ap is_section_whole is ∙
     judgement.1)
     ∙ ap (λ (l : List ℕ). record { sections = []; making = l }) is

@@ -5,30 +5,30 @@ use Rattle.std.specs.Prelude.{if◌then◌else◌, Option, Some, None, slice_ran
 use Rattle.std.proofs.lemmas.List.{drop_at, take-take, drop-drop, drop-take}
 use Rattle.std.proofs.lemmas.Bool.{eqb-true, and_parts}
 use Rattle.sd_base.proofs.Bools.{true_from_not}
-use Rattle.sd_section.specs.Assembled.{Fed, Run, Cut, cut_of, is_last, is_next, is_fed, is_taken, last_counter}
-use Rattle.sd_section.specs.Assembled.{tail_of, fresh_of, kept_run, longer_run, run_after, newly, completed_in}
-use Rattle.sd_section.specs.Assembled.{completed_by, Assembling, assembler_after, all_lent, with_section, next_of}
+use Rattle.sd_section.specs.Assembled.{Fed, SectionRun, Cut, cut_of, is_last, is_next, is_fed, is_taken, last_counter}
+use Rattle.sd_section.specs.Assembled.{tail_of, fresh_of, kept_run, longer_run, run_after, sections_made_whole, sections_completed_in}
+use Rattle.sd_section.specs.Assembled.{sections_completed_by, Assembling, assembler_after, all_lent, with_section, next_of}
 use Rattle.sd_section.specs.Assembled.{one_lent}
-use Rattle.sd_section.specs.OneMore.{cut_more, held, kept, holds_of, has_section, tail_with, fresh_with, still_making}
-use Rattle.sd_section.specs.OneMore.{going_on, fed, HasRoom}
+use Rattle.sd_section.specs.OneMore.{cut_more, cut_of_section, assembler_state, holds_of, has_section, tail_with, fresh_with, still_making}
+use Rattle.sd_section.specs.OneMore.{going_on, assembler_fed_packet, HasSectionRoom}
 use Rattle.sd_section.specs.declared.holds.Holds.{Holds}
 use Rattle.sd_section.specs.declared.holds.Holds.TheVariants.{Making, Section, Lent}
 use Rattle.sd_section.proofs.Cutting.{longer, cut_none}
 
 -- the section in the making of a run
-abbrev pub making_of : Run → List ℕ
+abbrev pub making_of : SectionRun → List ℕ
 making_of run = (cut_of run.first run.more).making
 
 -- bytes after a run complete what they complete of the section in the making
-newly_is : (run : Run) (bytes : List ℕ) → newly run bytes ≡ (cut_more (making_of run) bytes).sections
+newly_is : (run : SectionRun) (bytes : List ℕ) → sections_made_whole run bytes ≡ (cut_more (making_of run) bytes).sections
 newly_is run bytes =
     let sections : List (List ℕ) = (cut_of run.first run.more).sections in
     ap (λ (c : Cut). drop (length sections) c.sections) (longer (length run.first) run.first run.more bytes)
     ∙ drop_at sections (cut_more (making_of run) bytes).sections (length sections) refl
 
 -- a payload with unit start or without, after a run
-completed_is : (unit_start : Bool) (counter : ℕ) (payload : List ℕ) (run : Run) →
-    completed_in (record { unit_start = unit_start; counter = counter; payload = payload }) run
+completed_is : (unit_start : Bool) (counter : ℕ) (payload : List ℕ) (run : SectionRun) →
+    sections_completed_in (record { unit_start = unit_start; counter = counter; payload = payload }) run
     ≡ (going_on (record { unit_start = unit_start; counter = counter; payload = payload }) (making_of run)).waiting
 completed_is true counter payload run =
     ap (λ (l : List (List ℕ)). l ++ (cut_of (fresh_of payload) []).sections) (newly_is run (tail_of payload))
@@ -37,7 +37,7 @@ completed_is false counter payload run =
     newly_is run payload ∙ (sym (append-nil (cut_more (making_of run) payload).sections) ∙
     ap (λ (l : List (List ℕ)). (cut_more (making_of run) payload).sections ++ l) (sym none))
 
-making_is : (unit_start : Bool) (counter : ℕ) (payload : List ℕ) (run : Run) →
+making_is : (unit_start : Bool) (counter : ℕ) (payload : List ℕ) (run : SectionRun) →
     making_of (longer_run (record { unit_start = unit_start; counter = counter; payload = payload }) run)
     ≡ (going_on (record { unit_start = unit_start; counter = counter; payload = payload }) (making_of run)).making
 making_is true counter payload run = refl
@@ -76,16 +76,16 @@ unfolding run_after
 run_passed packet before e = rw e refl
 
 completed_passed : (packet : Fed) (before : List Fed) → is_taken packet (last_counter before) ≡ false →
-    completed_by (packet ∷ before) ≡ []
-unfolding completed_by
+    sections_completed_by (packet ∷ before) ≡ []
+unfolding sections_completed_by
 completed_passed packet before e = rw e refl
 
-fed_passed : (state : Assembling) (packet : Fed) → is_taken packet state.counter ≡ false → fed state packet ≡ state
-unfolding fed
+fed_passed : (state : Assembling) (packet : Fed) → is_taken packet state.counter ≡ false → assembler_fed_packet state packet ≡ state
+unfolding assembler_fed_packet
 fed_passed state packet e = rw e refl
 
 passed_over : (packet : Fed) (before : List Fed) → is_taken packet (last_counter before) ≡ false →
-    assembler_after (packet ∷ before) ≡ fed (all_lent (assembler_after before)) packet
+    assembler_after (packet ∷ before) ≡ assembler_fed_packet (all_lent (assembler_after before)) packet
 unfolding assembler_after
 passed_over packet before e =
     state_is _ _ _ _ _ _ (counter_passed packet before e) (ap making_of (run_passed packet before e))
@@ -105,25 +105,25 @@ unfolding run_after
 run_taken packet before e = rw e refl
 
 completed_taken : (packet : Fed) (before : List Fed) → is_taken packet (last_counter before) ≡ true →
-    completed_by (packet ∷ before) ≡ completed_in packet (kept_run packet (last_counter before) (run_after before))
-unfolding completed_by
+    sections_completed_by (packet ∷ before) ≡ sections_completed_in packet (kept_run packet (last_counter before) (run_after before))
+unfolding sections_completed_by
 completed_taken packet before e = rw e refl
 
 fed_taken : (state : Assembling) (packet : Fed) → is_taken packet state.counter ≡ true →
-    fed state packet ≡ going_on packet (if is_next packet.counter state.counter then state.making else [])
-unfolding fed
+    assembler_fed_packet state packet ≡ going_on packet (if is_next packet.counter state.counter then state.making else [])
+unfolding assembler_fed_packet
 fed_taken state packet e = rw e refl
 
-kept_making : (next : Bool) (run : Run) →
+kept_making : (next : Bool) (run : SectionRun) →
     making_of (if next then run else record { first = []; more = [] }) ≡ (if next then making_of run else [])
 kept_making true run = refl
 kept_making false run = ap (λ (c : Cut). c.making) (cut_none 0 [])
 
 taken : (packet : Fed) (before : List Fed) → is_taken packet (last_counter before) ≡ true →
-    assembler_after (packet ∷ before) ≡ fed (all_lent (assembler_after before)) packet
+    assembler_after (packet ∷ before) ≡ assembler_fed_packet (all_lent (assembler_after before)) packet
 unfolding assembler_after
 taken packet before e =
-    let run : Run = kept_run packet (last_counter before) (run_after before) in
+    let run : SectionRun = kept_run packet (last_counter before) (run_after before) in
     let making : making_of run ≡ (if is_next packet.counter (last_counter before) then making_of
     (run_after before) else []) =
     kept_making (is_next packet.counter (last_counter before)) (run_after before) in
@@ -134,41 +134,41 @@ taken packet before e =
 
 -- what is kept after the packets and the next one is what the next one makes of what was kept before
 pub after_fed : (packet : Fed) (before : List Fed) →
-    assembler_after (packet ∷ before) ≡ fed (all_lent (assembler_after before)) packet
+    assembler_after (packet ∷ before) ≡ assembler_fed_packet (all_lent (assembler_after before)) packet
 after_fed packet before = by_test (is_taken packet (last_counter before)) refl where
   by_test : (test : Bool) → is_taken packet (last_counter before) ≡ test →
-      assembler_after (packet ∷ before) ≡ fed (all_lent (assembler_after before)) packet
+      assembler_after (packet ∷ before) ≡ assembler_fed_packet (all_lent (assembler_after before)) packet
   by_test true e = taken packet before e
   by_test false e = passed_over packet before e
 
 -- so too from what equals it
-pub fed_after : (old new : Assembling) (packet : Fed) (before : List Fed) → new ≡ fed old packet →
+pub fed_after : (old new : Assembling) (packet : Fed) (before : List Fed) → new ≡ assembler_fed_packet old packet →
     old ≡ all_lent (assembler_after before) →
     new ≡ assembler_after (packet ∷ before)
-fed_after old new packet before e f = e ∙ (ap (λ (s : Assembling). fed s packet) f ∙ sym (after_fed packet before))
+fed_after old new packet before e f = e ∙ (ap (λ (s : Assembling). assembler_fed_packet s packet) f ∙ sym (after_fed packet before))
 
 -- what is kept, by its fields: the counter, and what the others come to whatever the counter is
 kept_counter : (holds : Holds) (bytes : List ℕ) (cut : Cut) (counter : Option ℕ) →
-    (kept holds bytes cut counter).counter ≡ counter
+    (assembler_state holds bytes cut counter).counter ≡ counter
 kept_counter Making bytes cut counter = refl
 kept_counter Section bytes cut counter = refl
 kept_counter Lent bytes cut counter = refl
 
 kept_same : (holds : Holds) (bytes : List ℕ) (cut : Cut) (counter other : Option ℕ) →
-    (kept holds bytes cut counter).making ≡ (kept holds bytes cut other).making
+    (assembler_state holds bytes cut counter).making ≡ (assembler_state holds bytes cut other).making
 kept_same Making bytes cut counter other = refl
 kept_same Section bytes cut counter other = refl
 kept_same Lent bytes cut counter other = refl
 
 kept_held : (whole : Bool) (bytes : List ℕ) (cut : Cut) (counter : Option ℕ) →
-    kept (holds_of whole) bytes cut counter ≡
-    assembling counter ((held whole bytes).making ++ cut.making) ((held whole bytes).sections ++ cut.sections)
+    assembler_state (holds_of whole) bytes cut counter ≡
+    assembling counter ((cut_of_section whole bytes).making ++ cut.making) ((cut_of_section whole bytes).sections ++ cut.sections)
 kept_held true bytes cut counter = refl
 kept_held false bytes cut counter = refl
 
 -- a packet that is passed over leaves what is kept
 pub nothing_taken : (holds : Holds) (bytes : List ℕ) (cut : Cut) (last : Option ℕ) (packet : Fed) (state : Assembling) →
-    kept holds bytes cut last ≡ state → is_taken packet last ≡ false → state ≡ fed state packet
+    assembler_state holds bytes cut last ≡ state → is_taken packet last ≡ false → state ≡ assembler_fed_packet state packet
 nothing_taken holds bytes cut last packet state is e =
     let counter : state.counter ≡ last = ap (λ (s : Assembling). s.counter) (sym is) ∙
     kept_counter holds bytes cut last in
@@ -177,14 +177,14 @@ nothing_taken holds bytes cut last packet state is e =
 -- what the steps of taking a packet come to
 pub all_taken : (holds : Holds) (bytes gathered before later stored : List ℕ) (cut : Cut) (last : Option ℕ)
     (unit_start next whole : Bool) (now : Holds) (counter : ℕ) (payload : List ℕ) (state : Assembling) →
-    kept holds bytes cut last ≡ state → now ≡ holds_of whole →
+    assembler_state holds bytes cut last ≡ state → now ≡ holds_of whole →
     is_taken (record { unit_start = unit_start; counter = counter; payload = payload }) last ≡ true →
-    gathered ≡ (kept holds bytes cut None).making → next ≡ is_next counter last →
+    gathered ≡ (assembler_state holds bytes cut None).making → next ≡ is_next counter last →
     before ≡ (if next then gathered else []) →
-    (held whole later).sections ≡ (cut_more before (tail_with unit_start payload)).sections →
-    (held whole later).making ≡ still_making unit_start before payload → stored ≡ fresh_with unit_start payload →
-    kept now later (cut_of stored []) (Some counter) ≡
-    fed state (record { unit_start = unit_start; counter = counter; payload = payload })
+    (cut_of_section whole later).sections ≡ (cut_more before (tail_with unit_start payload)).sections →
+    (cut_of_section whole later).making ≡ still_making unit_start before payload → stored ≡ fresh_with unit_start payload →
+    assembler_state now later (cut_of stored []) (Some counter) ≡
+    assembler_fed_packet state (record { unit_start = unit_start; counter = counter; payload = payload })
 all_taken holds bytes gathered before later stored cut last unit_start next whole now counter payload state is is_now e
     is_gathered is_next' is_before sections making is_stored =
     let packet : Fed = record { unit_start = unit_start; counter = counter; payload = payload } in
@@ -195,8 +195,8 @@ all_taken holds bytes gathered before later stored cut last unit_start next whol
     let start : before ≡ (if is_next counter state.counter then state.making else []) =
     is_before ∙ (ap (λ (b : Bool). if b then gathered else []) (is_next' ∙ ap (is_next counter) (sym same_counter))
     ∙ ap (λ (l : List ℕ). if is_next counter state.counter then l else []) same_making) in
-    let result : kept now later (cut_of stored []) (Some counter) ≡ going_on packet before =
-    ap (λ (h : Holds). kept h later (cut_of stored []) (Some counter)) is_now
+    let result : assembler_state now later (cut_of stored []) (Some counter) ≡ going_on packet before =
+    ap (λ (h : Holds). assembler_state h later (cut_of stored []) (Some counter)) is_now
     ∙ (kept_held whole later (cut_of stored []) (Some counter)
     ∙ state_is _ _ _ _ _ _ refl
     (ap (λ (l : List ℕ). l ++ (cut_of stored []).making) making ∙
@@ -208,8 +208,8 @@ all_taken holds bytes gathered before later stored cut last unit_start next whol
 
 -- with a section more before what is cut, that one is lent next
 pub lent_next : (holds : Holds) (bytes section : List ℕ) (cut : Cut) (counter : Option ℕ) → has_section holds ≡ false →
-    (next_of (kept holds bytes (with_section section cut) counter) ≡ Some section)
-    × (kept holds bytes cut counter ≡ one_lent (kept holds bytes (with_section section cut) counter))
+    (next_of (assembler_state holds bytes (with_section section cut) counter) ≡ Some section)
+    × (assembler_state holds bytes cut counter ≡ one_lent (assembler_state holds bytes (with_section section cut) counter))
 lent_next Making bytes section cut counter h = (refl, refl)
 lent_next Section bytes section cut counter h = absurd (cc)
 lent_next Lent bytes section cut counter h = (refl, refl)
@@ -231,20 +231,20 @@ part_back payload at n end h =
 -- what lending a section of the payload comes to
 pub part_lent : (holds : Holds) (bytes payload rest : List ℕ) (at n end : ℕ) (counter : Option ℕ) (state : Assembling) →
     has_section holds ≡ false → at + n ≤ end →
-    kept holds bytes (cut_of (slice_range payload at end) []) counter ≡ state → rest ≡ slice_range payload at end →
+    assembler_state holds bytes (cut_of (slice_range payload at end) []) counter ≡ state → rest ≡ slice_range payload at end →
     cut_of rest [] ≡ with_section (take n rest) (cut_of (drop n rest) []) →
-    (kept holds bytes (cut_of (slice_range payload (at + n) end) []) counter ≡ one_lent state)
+    (assembler_state holds bytes (cut_of (slice_range payload (at + n) end) []) counter ≡ one_lent state)
     × (Some (slice_range payload at (at + n)) ≡ next_of state)
 part_lent holds bytes payload rest at n end counter state h fits is is_rest cut =
     let next = lent_next holds bytes (take n rest) (cut_of (drop n rest) []) counter h in
-    let whole : state ≡ kept holds bytes (with_section (take n rest) (cut_of (drop n rest) [])) counter =
-    sym is ∙ (ap (λ (l : List ℕ). kept holds bytes (cut_of l []) counter) (sym is_rest) ∙
-    ap (λ (c : Cut). kept holds bytes c counter) cut) in
+    let whole : state ≡ assembler_state holds bytes (with_section (take n rest) (cut_of (drop n rest) [])) counter =
+    sym is ∙ (ap (λ (l : List ℕ). assembler_state holds bytes (cut_of l []) counter) (sym is_rest) ∙
+    ap (λ (c : Cut). assembler_state holds bytes c counter) cut) in
     let here : slice_range payload at (at + n) ≡ take n rest = part_first payload at n end fits ∙
     ap (take n) (sym is_rest) in
     let back : slice_range payload (at + n) end ≡ drop n rest = part_back payload at n end fits ∙
     ap (drop n) (sym is_rest) in (
-      ap (λ (l : List ℕ). kept holds bytes (cut_of l []) counter) back ∙ (next.1 ∙ ap one_lent (sym whole)),
+      ap (λ (l : List ℕ). assembler_state holds bytes (cut_of l []) counter) back ∙ (next.1 ∙ ap one_lent (sym whole)),
       ap (λ (l : List ℕ). Some l) here ∙ (sym next.0 ∙ ap next_of (sym whole)),
     )
 
@@ -256,15 +256,15 @@ some_left state section e h =
 
 -- a section in the buffer is lent first
 pub buffer_lent : (holds : Holds) (bytes : List ℕ) (cut : Cut) (counter : Option ℕ) (state : Assembling) →
-    has_section holds ≡ true → kept holds bytes cut counter ≡ state →
-    (kept Lent bytes cut counter ≡ one_lent state) × (Some bytes ≡ next_of state)
+    has_section holds ≡ true → assembler_state holds bytes cut counter ≡ state →
+    (assembler_state Lent bytes cut counter ≡ one_lent state) × (Some bytes ≡ next_of state)
 buffer_lent Making bytes cut counter state h is = absurd (cc)
 buffer_lent Section bytes cut counter state h is = (ap one_lent is, ap next_of is)
 buffer_lent Lent bytes cut counter state h is = absurd (cc)
 
 -- with no section in the buffer, those that are cut are left
 pub only_cut_left : (holds : Holds) (bytes : List ℕ) (cut : Cut) (counter : Option ℕ) (state : Assembling) →
-    has_section holds ≡ false → kept holds bytes cut counter ≡ state → state.waiting ≡ cut.sections
+    has_section holds ≡ false → assembler_state holds bytes cut counter ≡ state → state.waiting ≡ cut.sections
 only_cut_left Making bytes cut counter state h is = ap (λ (s : Assembling). s.waiting) (sym is)
 only_cut_left Section bytes cut counter state h is = absurd (cc)
 only_cut_left Lent bytes cut counter state h is = ap (λ (s : Assembling). s.waiting) (sym is)
@@ -278,8 +278,8 @@ none_lent state none = ap (λ (sections : List (List ℕ)). record {
 }) (none ∙ ap (drop 1) (sym none))
 
 -- what is left has no more need of room
-pub room_left : (holds : Holds) (count more less : ℕ) → less ≤ more → HasRoom holds count more →
-    HasRoom holds count less
+pub room_left : (holds : Holds) (count more less : ℕ) → less ≤ more → HasSectionRoom holds count more →
+    HasSectionRoom holds count less
 room_left Making count more less h room = omega arith
 room_left Section count more less h room = tt
 room_left Lent count more less h room = tt

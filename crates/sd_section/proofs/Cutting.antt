@@ -8,7 +8,7 @@ use Rattle.std.proofs.lemmas.List.{get_or_append_left, take-append-le, drop_all,
 use Rattle.sd_base.specs.Bits.{field}
 use Rattle.sd_base.proofs.Fields.{same_by_bits}
 use Rattle.sd_section.specs.Header.{body_of, section_length_of, whole_of}
-use Rattle.sd_section.specs.Assembled.{is_overlong, is_whole, Cut, no_cut, with_section, cut_from}
+use Rattle.sd_section.specs.Assembled.{is_overlong, is_section_whole, Cut, no_cut, with_section, cut_from}
 use Rattle.sd_section.specs.OneMore.{cut_more}
 
 -- a field within the first bytes stays with more bytes after
@@ -44,17 +44,17 @@ pub all_is_over : (run : List ℕ) → 3 ≤ length run → 4093 < section_lengt
 unfolding is_overlong
 all_is_over run h k = rw (le-leb 3 (length run) h, lt-ltb 4093 (section_length_of run) k) refl
 
-pub whole_has_all : (run : List ℕ) → is_whole run ≡ true → (3 ≤ length run) × (3 + section_length_of run ≤ length run)
-unfolding is_whole
+pub whole_has_all : (run : List ℕ) → is_section_whole run ≡ true → (3 ≤ length run) × (3 + section_length_of run ≤ length run)
+unfolding is_section_whole
 whole_has_all run h =
     let parts = and_parts (nat_le 3 (length run)) (nat_le (3 + section_length_of run) (length run)) h in
     (leb-true 3 (length run) parts.0, leb-true (3 + section_length_of run) (length run) parts.1)
 
-pub all_is_whole : (run : List ℕ) → 3 ≤ length run → 3 + section_length_of run ≤ length run → is_whole run ≡ true
-unfolding is_whole
+pub all_is_whole : (run : List ℕ) → 3 ≤ length run → 3 + section_length_of run ≤ length run → is_section_whole run ≡ true
+unfolding is_section_whole
 all_is_whole run h k = rw (le-leb 3 (length run) h, le-leb (3 + section_length_of run) (length run) k) refl
 
-pub whole_stays : (run more : List ℕ) → is_whole run ≡ true → is_whole (run ++ more) ≡ true
+pub whole_stays : (run more : List ℕ) → is_section_whole run ≡ true → is_section_whole (run ++ more) ≡ true
 whole_stays run more h =
     let all = whole_has_all run h in
     let same = length_stays run more all.0 in
@@ -62,12 +62,12 @@ whole_stays run more h =
     (omega (arith, length-append run more, same, all.1))
 
 -- where a run isn't whole and is with more after it, its length passes the run
-passes : (run more : List ℕ) → is_whole run ≡ false → is_whole (run ++ more) ≡ true → length run ≤ 3 + section_length_of
+passes : (run more : List ℕ) → is_section_whole run ≡ false → is_section_whole (run ++ more) ≡ true → length run ≤ 3 + section_length_of
     (run ++ more)
 passes run more part whole = elim (cases_lt (3 + section_length_of (run ++ more)) (length run)) [
   | inl short ↦
       let three : 3 ≤ length run = omega arith in
-      let all : is_whole run ≡ true = all_is_whole run three (omega (arith, length_stays run more three)) in
+      let all : is_section_whole run ≡ true = all_is_whole run three (omega (arith, length_stays run more three)) in
       absurd (cc)
   | inr long ↦ long
 ]
@@ -89,14 +89,14 @@ unfolding cut_from
 cut_over n b bs more e o = rw (e, o) refl
 
 pub cut_whole : (n b : ℕ) (bs more : List ℕ) → (b == 255) ≡ false → is_overlong (b ∷ bs ++ more) ≡ false →
-    is_whole (b ∷ bs ++ more) ≡ true →
+    is_section_whole (b ∷ bs ++ more) ≡ true →
     cut_from (suc n) (b ∷ bs) more ≡
     with_section (whole_of (b ∷ bs ++ more)) (cut_from n (drop (3 + section_length_of (b ∷ bs ++ more)) (b ∷ bs)) more)
 unfolding cut_from
 cut_whole n b bs more e o w = rw (e, o, w) refl
 
 pub cut_part : (n b : ℕ) (bs more : List ℕ) → (b == 255) ≡ false → is_overlong (b ∷ bs ++ more) ≡ false →
-    is_whole (b ∷ bs ++ more) ≡ false →
+    is_section_whole (b ∷ bs ++ more) ≡ false →
     cut_from (suc n) (b ∷ bs) more ≡ record { sections = []; making = b ∷ bs ++ more }
 unfolding cut_from
 cut_part n b bs more e o w = rw (e, o, w) refl
@@ -106,12 +106,12 @@ pub added_over : (b : ℕ) (bs more : List ℕ) → is_overlong (b ∷ bs ++ mor
 unfolding cut_more
 added_over b bs more o = rw o refl
 
-pub added_whole : (b : ℕ) (bs more : List ℕ) → is_overlong (b ∷ bs ++ more) ≡ false → is_whole (b ∷ bs ++ more) ≡ true →
+pub added_whole : (b : ℕ) (bs more : List ℕ) → is_overlong (b ∷ bs ++ more) ≡ false → is_section_whole (b ∷ bs ++ more) ≡ true →
     cut_more (b ∷ bs) more ≡ record { sections = whole_of (b ∷ bs ++ more) ∷ []; making = [] }
 unfolding cut_more
 added_whole b bs more o w = rw (o, w) refl
 
-pub added_part : (b : ℕ) (bs more : List ℕ) → is_overlong (b ∷ bs ++ more) ≡ false → is_whole (b ∷ bs ++ more) ≡ false →
+pub added_part : (b : ℕ) (bs more : List ℕ) → is_overlong (b ∷ bs ++ more) ≡ false → is_section_whole (b ∷ bs ++ more) ≡ false →
     cut_more (b ∷ bs) more ≡ record { sections = []; making = b ∷ bs ++ more }
 unfolding cut_more
 added_part b bs more o w = rw (o, w) refl
@@ -135,8 +135,8 @@ run_is b bs more bytes = sym (append_assoc (b ∷ bs) more bytes)
 longer_turn : (n b : ℕ) (bs more bytes : List ℕ) → ((first : List ℕ) →
     cut_from n first (more ++ bytes) ≡ gone_on (cut_from n first more) bytes) →
     (stuffed over whole over' whole' : Bool) → (b == 255) ≡ stuffed →
-    is_overlong (b ∷ bs ++ more) ≡ over → is_whole (b ∷ bs ++ more) ≡ whole →
-    is_overlong ((b ∷ bs ++ more) ++ bytes) ≡ over' → is_whole ((b ∷ bs ++ more) ++ bytes) ≡ whole' →
+    is_overlong (b ∷ bs ++ more) ≡ over → is_section_whole (b ∷ bs ++ more) ≡ whole →
+    is_overlong ((b ∷ bs ++ more) ++ bytes) ≡ over' → is_section_whole ((b ∷ bs ++ more) ++ bytes) ≡ whole' →
     cut_from (suc n) (b ∷ bs) (more ++ bytes) ≡ gone_on (cut_from (suc n) (b ∷ bs) more) bytes
 unfolding cut_more
 longer_turn n b bs more bytes after true over whole over' whole' s o w o' w' =
@@ -157,7 +157,7 @@ longer_turn n b bs more bytes after false false true over' whole' s o w o' w' =
     ap (λ (k : ℕ). take (3 + k) all) same ∙ (ap (take (3 + section_length_of run)) is ∙
     take-append-le (3 + section_length_of run) run bytes there.1) in
     let left : List ℕ = drop (3 + section_length_of run) (b ∷ bs) in
-    cut_whole n b bs (more ++ bytes) s (ap is_overlong is ∙ (over_stays run bytes there.0 ∙ o)) (ap is_whole is ∙
+    cut_whole n b bs (more ++ bytes) s (ap is_overlong is ∙ (over_stays run bytes there.0 ∙ o)) (ap is_section_whole is ∙
     whole_stays run bytes w)
     ∙ (ap (λ (l : List ℕ). with_section l (cut_from n (drop (3 + section_length_of all) (b ∷ bs)) (more ++ bytes)))
     first
@@ -176,14 +176,14 @@ longer_turn n b bs more bytes after false false false false true s o w o' w' =
     let none : cut_from n (drop (3 + section_length_of all) (b ∷ bs)) (more ++ bytes) ≡ no_cut =
     ap (λ (l : List ℕ). cut_from n l (more ++ bytes)) (drop_all (3 + section_length_of all) (b ∷ bs) past) ∙
     cut_none n (more ++ bytes) in
-    cut_whole n b bs (more ++ bytes) s (ap is_overlong is ∙ o') (ap is_whole is ∙ w')
+    cut_whole n b bs (more ++ bytes) s (ap is_overlong is ∙ o') (ap is_section_whole is ∙ w')
     ∙ (ap (with_section (whole_of all)) none
     ∙ (ap (λ (l : List ℕ). with_section (whole_of l) no_cut) is
     ∙ (sym (added_whole b (bs ++ more) bytes o' w') ∙ ap (λ (c : Cut). gone_on c bytes)
     (sym (cut_part n b bs more s o w)))))
 longer_turn n b bs more bytes after false false false false false s o w o' w' =
     cut_part n b bs (more ++ bytes) s (ap is_overlong (run_is b bs more bytes) ∙ o')
-    (ap is_whole (run_is b bs more bytes) ∙ w')
+    (ap is_section_whole (run_is b bs more bytes) ∙ w')
     ∙ (ap (λ (l : List ℕ). record { sections = []; making = l }) (run_is b bs more bytes)
     ∙ (sym (added_part b (bs ++ more) bytes o' w') ∙ ap (λ (c : Cut). gone_on c bytes)
     (sym (cut_part n b bs more s o w))))

@@ -9,7 +9,7 @@ use Rattle.sd_base.proofs.Fields.{same_by_bits}
 use Rattle.sd_section.specs.declared.fault.SectionFault.{SectionFault}
 use Rattle.sd_section.specs.declared.fault.SectionFault.TheVariants.{Short, Length}
 use Rattle.sd_section.specs.Header.{syntax_of, section_length_of, whole_of, crc_in, crc_due}
-use Rattle.sd_section.specs.Judged.{unless, has_long_form, head_fault, crc_fault, section_fault}
+use Rattle.sd_section.specs.Judged.{section_fault_unless, has_long_form, head_fault, crc_fault, section_fault}
 
 -- a field within the first bytes is that of all bytes
 pub field_take : (bytes : List ℕ) (n at width : ℕ) → at + width ≤ 8 * n → field (take n bytes) at width ≡ field bytes at
@@ -21,14 +21,14 @@ field_take bytes n at width h =
 
 -- what is wrong before is what is wrong first
 before_first : (a b : Bool) (s l : SectionFault) (rest : Option SectionFault) (fault : SectionFault) →
-    unless a s (unless b l None) ≡ Some fault → unless a s (unless b l rest) ≡ Some fault
+    section_fault_unless a s (section_fault_unless b l None) ≡ Some fault → section_fault_unless a s (section_fault_unless b l rest) ≡ Some fault
 before_first true true s l rest fault h = absurd (cc)
 before_first true false s l rest fault h = h
 before_first false b s l rest fault h = h
 
 -- where nothing is wrong before, it is what is wrong after
 before_good : (a b : Bool) (s l : SectionFault) (rest : Option SectionFault) →
-    unless a s (unless b l None) ≡ None → (a ≡ true) × (b ≡ true) × (unless a s (unless b l rest) ≡ rest)
+    section_fault_unless a s (section_fault_unless b l None) ≡ None → (a ≡ true) × (b ≡ true) × (section_fault_unless a s (section_fault_unless b l rest) ≡ rest)
 before_good true true s l rest h = (refl, refl, refl)
 before_good true false s l rest h = absurd (cc)
 before_good false b s l rest h = absurd (cc)
@@ -45,14 +45,14 @@ pub record IsHeadGood (bytes : List ℕ) : Type 0 where
   pub long : syntax_of bytes ≡ 1
   pub low : 9 ≤ section_length_of bytes
   pub high : section_length_of bytes ≤ 4093
-  pub after : section_fault bytes ≡ unless (nat_le (3 + section_length_of bytes) (length bytes)) Short
+  pub after : section_fault bytes ≡ section_fault_unless (nat_le (3 + section_length_of bytes) (length bytes)) Short
       (crc_fault (whole_of bytes))
 
 pub head_good : (bytes : List ℕ) → head_fault bytes ≡ None → IsHeadGood bytes
 unfolding section_fault
 head_good bytes h =
     let before = before_good (nat_le 3 (length bytes)) (has_long_form bytes) Short Length
-    (unless (nat_le (3 + section_length_of bytes) (length bytes)) Short (crc_fault (whole_of bytes))) h in
+    (section_fault_unless (nat_le (3 + section_length_of bytes) (length bytes)) Short (crc_fault (whole_of bytes))) h in
     let form = and_parts (syntax_of bytes == 1) (nat_le 9 (section_length_of bytes) && nat_le (section_length_of bytes)
     4093) before.1 in
     let bounds = and_parts (nat_le 9 (section_length_of bytes)) (nat_le (section_length_of bytes) 4093) form.1 in
@@ -71,7 +71,7 @@ pub short_first : (bytes : List ℕ) (n : ℕ) → head_fault bytes ≡ None →
 short_first bytes n h e short =
     let few : nat_le (3 + section_length_of bytes) (length bytes) ≡ false =
     above_fails (3 + section_length_of bytes) (length bytes) _ refl (omega arith) in
-    (head_good bytes h).after ∙ ap (λ (b : Bool). unless b Short (crc_fault (whole_of bytes))) few
+    (head_good bytes h).after ∙ ap (λ (b : Bool). section_fault_unless b Short (crc_fault (whole_of bytes))) few
 
 -- all of them
 all_there : (bytes : List ℕ) (n : ℕ) → head_fault bytes ≡ None → n ≡ section_length_of bytes → 3 + n ≤ length bytes →
@@ -79,7 +79,7 @@ all_there : (bytes : List ℕ) (n : ℕ) → head_fault bytes ≡ None → n ≡
 all_there bytes n h e enough =
     let there : nat_le (3 + section_length_of bytes) (length bytes) ≡ true =
     le-leb (3 + section_length_of bytes) (length bytes) (omega arith) in
-    (head_good bytes h).after ∙ (ap (λ (b : Bool). unless b Short (crc_fault (whole_of bytes))) there ∙
+    (head_good bytes h).after ∙ (ap (λ (b : Bool). section_fault_unless b Short (crc_fault (whole_of bytes))) there ∙
     ap (λ (k : ℕ). crc_fault (take (3 + k) bytes)) (sym e))
 
 -- a wrong CRC is the first fault where all else is good
@@ -95,7 +95,7 @@ pub none_wrong : (bytes section : List ℕ) (n : ℕ) → head_fault bytes ≡ N
     section ≡ take (3 + n) bytes → crc_fault section ≡ None → section_fault bytes ≡ None
 none_wrong bytes section n h e enough is good = all_there bytes n h e enough ∙ (ap crc_fault (sym is) ∙ good)
 
-no_fault : (test : Bool) (fault : SectionFault) → unless test fault None ≡ None → test ≡ true
+no_fault : (test : Bool) (fault : SectionFault) → section_fault_unless test fault None ≡ None → test ≡ true
 no_fault true fault h = refl
 no_fault false fault h = absurd (cc)
 

@@ -10,7 +10,7 @@ use Rattle.std.proofs.lemmas.List.FromFn.{get_or-map-range_with_len}
 use Rattle.std.proofs.lemmas.Nat.{xor_comm, pow-add, shl_below}
 use Rattle.sd_section.specs.declared.table.TheConstants.{REGISTERS}
 use Rattle.sd_section.specs.Crc.{after_bit}
-use Rattle.sd_section.specs.Steps.{steps, alone}
+use Rattle.sd_section.specs.Steps.{steps, byte_register}
 use Rattle.sd_section.proofs.Xor.{xor_apart}
 use Rattle.sd_section.proofs.Registers.{low_moves}
 use Rattle.sd_section.proofs.Numbers.{steps_xor, steps_turn, steps_zero}
@@ -28,12 +28,12 @@ bits_from (suc n) register = register ∷ bits_from n (after_bit register 0)
 -- the list has the registers of the numbers below m
 record IsTable (after m : ℕ) (row : List ℕ) : Type 0 where
   long : length row ≡ m
-  at : (i : ℕ) → i < m → get_or row i 0 ≡ alone after i
+  at : (i : ℕ) → i < m → get_or row i 0 ≡ byte_register after i
 
 -- the register of a bit and of lower bits is the sum of theirs
 bit_and_lower : (after j i : ℕ) → j < 8 → i < 2 ^ j
-    → alone after (2 ^ j + i) ≡ bit_xor (alone after i) (alone after (2 ^ j))
-unfolding alone
+    → byte_register after (2 ^ j + i) ≡ bit_xor (byte_register after i) (byte_register after (2 ^ j))
+unfolding byte_register
 bit_and_lower after j i h k =
     let n : ℕ = 8 * after + 8 in
     let low : i * 2 ^ 24 < 2 ^ (j + 24) = shl_below i j 24 k in
@@ -48,7 +48,7 @@ bit_and_lower after j i h k =
 
 -- one doubling
 twice : (after m bit : ℕ) (row : List ℕ) → IsTable after m row → ((i : ℕ) → i < m →
-    alone after (m + i) ≡ bit_xor (alone after i) bit) →
+    byte_register after (m + i) ≡ bit_xor (byte_register after i) bit) →
     IsTable after (m + m) (row ++ map (λ register. bit_xor register bit) row)
 twice after m bit row table more =
     let high : List ℕ = map (λ register. bit_xor register bit) row in
@@ -63,13 +63,13 @@ twice after m bit row table more =
             get_or-append_right row high m i 0 table.long past
             ∙ (get_or-map (λ register. bit_xor register bit) row k 0 0 (omega (arith, table.long))
             ∙ (ap (λ (r : ℕ). bit_xor r bit) (table.at k (omega arith))
-            ∙ (sym (more k (omega arith)) ∙ ap (alone after) place)))
+            ∙ (sym (more k (omega arith)) ∙ ap (byte_register after) place)))
       ];
     }
 
 -- a bit 0 takes the register of a bit to that of the next bit
-next_bit : (after j : ℕ) → j < 7 → after_bit (alone after (2 ^ j)) 0 ≡ alone after (2 ^ (j + 1))
-unfolding alone
+next_bit : (after j : ℕ) → j < 7 → after_bit (byte_register after (2 ^ j)) 0 ≡ byte_register after (2 ^ (j + 1))
+unfolding byte_register
 next_bit after j h =
     let bound : 2 ^ j ≤ 2 ^ 6 = pow_mono {i = j} {j = 6} (omega arith) in
     let up : 2 ^ j * 2 ^ 24 * 2 ≡ 2 ^ (j + 1) * 2 ^ 24 = rw (pow-add 2 j 1) (omega arith) in
@@ -77,21 +77,21 @@ next_bit after j h =
     ∙ ap (steps (8 * after + 8)) (low_moves (2 ^ j * 2 ^ 24) (omega arith) ∙ up)
 
 -- all doublings
-all_doubled : (n j after bit : ℕ) (row : List ℕ) → j + n ≡ 8 → (0 < n → bit ≡ alone after (2 ^ j))
+all_doubled : (n j after bit : ℕ) (row : List ℕ) → j + n ≡ 8 → (0 < n → bit ≡ byte_register after (2 ^ j))
     → IsTable after (2 ^ j) row →
     IsTable after (2 ^ 8) (doubled row (bits_from n bit))
 unfolding doubled bits_from
 all_doubled zero j after bit row e is table = let eight : j ≡ 8 =
     omega arith in subst (λ (m : ℕ). IsTable after (2 ^ m) row) eight table
 all_doubled (suc n) j after bit row e is table =
-    let here : bit ≡ alone after (2 ^ j) = is (omega arith) in
+    let here : bit ≡ byte_register after (2 ^ j) = is (omega arith) in
     let next : 0 < n →
-    after_bit bit 0 ≡ alone after (2 ^ (j + 1)) =
+    after_bit bit 0 ≡ byte_register after (2 ^ (j + 1)) =
     λ (h : 0 < n). ap (λ (b : ℕ). after_bit b 0) here ∙ next_bit after j (omega arith) in
     let sum : 2 ^ j + 2 ^ j ≡ 2 ^ (j + 1) = rw (pow-add 2 j 1) (omega arith) in
     let both =
     twice after (2 ^ j) bit row table (λ i h. bit_and_lower after j i (omega arith) h
-    ∙ ap (bit_xor (alone after i)) (sym here)) in
+    ∙ ap (bit_xor (byte_register after i)) (sym here)) in
     all_doubled n (j + 1) after (after_bit bit 0) (row ++ map (λ register. bit_xor register bit) row) (omega arith) next
     (subst (λ (m : ℕ). IsTable after m (row ++ map (λ register. bit_xor register bit) row)) sum both)
 
@@ -100,7 +100,7 @@ unfoldable row : ℕ → List ℕ
 row after = doubled (0 ∷ []) (bits_from 8 (steps (8 * after + 8) (2 ^ 24)))
 
 row_is_table : (after : ℕ) → IsTable after (2 ^ 8) (row after)
-unfolding row alone
+unfolding row byte_register
 row_is_table after =
     let none : steps (8 * after + 8) 0 ≡ 0 = steps_zero (8 * after + 8) in
     let first : IsTable after (2 ^ 0) (0 ∷ []) = record {
@@ -115,7 +115,7 @@ unfolding row doubled bits_from steps after_bit
 rows = refl
 
 -- what is read from the table
-pub entry : (after byte : ℕ) → after < 8 → byte < 256 → get_or (get_or REGISTERS after []) byte 0 ≡ alone after byte
+pub entry : (after byte : ℕ) → after < 8 → byte < 256 → get_or (get_or REGISTERS after []) byte 0 ≡ byte_register after byte
 entry after byte h k =
     let here : get_or (map row (range_with_len 0 8)) after [] ≡ row after =
     get_or-map-range_with_len row 0 8 after after [] h (omega arith) in

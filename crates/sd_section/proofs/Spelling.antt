@@ -10,10 +10,10 @@ use Rattle.sd_base.proofs.Fields.{field_below, field_split}
 use Rattle.sd_base.proofs.Words.{byte_field}
 use Rattle.sd_section.specs.Crc.{crc_of}
 use Rattle.sd_section.proofs.Words.{crc_below}
-use Rattle.sd_section.specs.Header.{syntax_of, private_of, section_length_of, extension_of, version_of, current_of}
+use Rattle.sd_section.specs.Header.{syntax_of, private_bit, section_length_of, extension_of, section_version_number, current_of}
 use Rattle.sd_section.specs.Header.{whole_of, body_of, crc_in, crc_due}
-use Rattle.sd_section.specs.Judged.{unless, crc_fault, section_fault}
-use Rattle.sd_section.specs.Written.{header_bytes, sealed, section_bytes, FitsFields, IsWritten}
+use Rattle.sd_section.specs.Judged.{section_fault_unless, crc_fault, section_fault}
+use Rattle.sd_section.specs.Written.{header_bytes, with_crc, section_bytes, FitsHeaderFields, IsWrittenSection}
 use Rattle.sd_section.specs.declared.fault.SectionFault.TheVariants.{Crc}
 use Rattle.sd_section.specs.declared.write.Header.{Header}
 
@@ -33,35 +33,35 @@ number_again : (n : ℕ) → n < 2 ^ 32 → field (to_be_bytes w32 n) 0 32 ≡ n
 number_again n h = four_field (to_be_bytes w32 n) (omega arith) (omega arith) (omega arith) (omega arith) ∙ omega arith
 
 -- the CRC of sealed bytes
-sealed_long : (head : List ℕ) → length (sealed head) - 4 ≡ length head
+sealed_long : (head : List ℕ) → length (with_crc head) - 4 ≡ length head
 sealed_long head = omega (arith, length-append head (to_be_bytes w32 (crc_of head)))
 
-pub crc_is_read : (head : List ℕ) → crc_in (sealed head) ≡ crc_of head
+pub crc_is_read : (head : List ℕ) → crc_in (with_crc head) ≡ crc_of head
 unfolding crc_in
 crc_is_read head =
-    ap (λ (n : ℕ). field (drop n (sealed head)) 0 32) (sealed_long head)
+    ap (λ (n : ℕ). field (drop n (with_crc head)) 0 32) (sealed_long head)
     ∙ (ap (λ (l : List ℕ). field l 0 32) (drop_at head (to_be_bytes w32 (crc_of head)) (length head) refl) ∙
     number_again (crc_of head) (crc_below head))
 
-pub crc_is_due : (head : List ℕ) → crc_due (sealed head) ≡ crc_of head
+pub crc_is_due : (head : List ℕ) → crc_due (with_crc head) ≡ crc_of head
 unfolding crc_due
 crc_is_due head =
-    ap (λ (n : ℕ). crc_of (take n (sealed head))) (sealed_long head) ∙
+    ap (λ (n : ℕ). crc_of (take n (with_crc head))) (sealed_long head) ∙
     ap crc_of (take_at head (to_be_bytes w32 (crc_of head)) (length head) refl)
 
 -- the fields of bytes that begin with a header
 pub record HasHeader (header : Header) (body : ℕ) (section : List ℕ) : Type 0 where
   pub table_id : field section 0 8 ≡ header.table_id
   pub syntax : syntax_of section ≡ 1
-  pub private : private_of section ≡ 0
+  pub private : private_bit section ≡ 0
   pub section_length : section_length_of section ≡ body + 9
   pub extension : extension_of section ≡ header.extension
-  pub version : version_of section ≡ 0
+  pub version : section_version_number section ≡ 0
   pub current : current_of section ≡ 1
   pub number : field section 48 8 ≡ header.number
   pub last_number : field section 56 8 ≡ header.last_number
 
-header_is_read : (header : Header) (body : ℕ) (rest : List ℕ) → FitsFields header → body ≤ 4084 →
+header_is_read : (header : Header) (body : ℕ) (rest : List ℕ) → FitsHeaderFields header → body ≤ 4084 →
     HasHeader header body (header_bytes header body ++ rest)
 header_is_read header body rest fits few =
     let section : List ℕ = header_bytes header body ++ rest in
@@ -111,14 +111,14 @@ parts_are : (header : Header) (body rest : List ℕ) →
 unfolding section_bytes
 parts_are header body rest = refl
 
-pub all_headed : (header : Header) (body rest : List ℕ) → FitsFields header → length body ≤ 4084 →
+pub all_headed : (header : Header) (body rest : List ℕ) → FitsHeaderFields header → length body ≤ 4084 →
     HasHeader header (length body) (section_bytes header body ++ rest)
 all_headed header body rest fits few =
     subst (HasHeader header (length body)) (sym (parts_are header body rest))
     (header_is_read header (length body) ((body ++ to_be_bytes w32 (crc_of (header_bytes header (length body) ++ body)))
     ++ rest) fits few)
 
-section_headed : (header : Header) (body : List ℕ) → FitsFields header → length body ≤ 4084 →
+section_headed : (header : Header) (body : List ℕ) → FitsHeaderFields header → length body ≤ 4084 →
     HasHeader header (length body) (section_bytes header body)
 section_headed header body fits few = rw append-nil at (all_headed header body [] fits few)
 
@@ -129,7 +129,7 @@ section_long header body = omega
     (arith, length-append body (to_be_bytes w32 (crc_of (header_bytes header (length body) ++ body))))
 
 -- the whole section is read
-pub whole_is_read : (header : Header) (body rest : List ℕ) → FitsFields header → length body ≤ 4084 →
+pub whole_is_read : (header : Header) (body rest : List ℕ) → FitsHeaderFields header → length body ≤ 4084 →
     whole_of (section_bytes header body ++ rest) ≡ section_bytes header body
 whole_is_read header body rest fits few =
     let head = all_headed header body rest fits few in
@@ -141,9 +141,9 @@ pub crc_is_right : (header : Header) (body : List ℕ) → crc_fault (section_by
 unfolding section_bytes
 crc_is_right header body =
     let head : List ℕ = header_bytes header (length body) ++ body in
-    let right : (crc_in (sealed head) == crc_due (sealed head)) ≡ true =
-    eq-eqb (crc_in (sealed head)) (crc_due (sealed head)) (crc_is_read head ∙ sym (crc_is_due head)) in
-    ap (λ (b : Bool). unless b (Crc (crc_in (sealed head)) (crc_due (sealed head))) None) right
+    let right : (crc_in (with_crc head) == crc_due (with_crc head)) ≡ true =
+    eq-eqb (crc_in (with_crc head)) (crc_due (with_crc head)) (crc_is_read head ∙ sym (crc_is_due head)) in
+    ap (λ (b : Bool). section_fault_unless b (Crc (crc_in (with_crc head)) (crc_due (with_crc head))) None) right
 
 -- nothing is wrong with it
 all_good : (bytes section : List ℕ) → 3 ≤ length bytes → syntax_of bytes ≡ 1 → 9 ≤ section_length_of bytes →
@@ -156,7 +156,7 @@ all_good bytes section three long low high there is right =
     (rw long (rw (le-leb 9 (section_length_of bytes) low) (rw (le-leb (section_length_of bytes) 4093 high)
     (rw (le-leb (3 + section_length_of bytes) (length bytes) there) (ap crc_fault is ∙ right)))))
 
-pub none_is_wrong : (header : Header) (body rest : List ℕ) → FitsFields header → length body ≤ 4084 →
+pub none_is_wrong : (header : Header) (body rest : List ℕ) → FitsHeaderFields header → length body ≤ 4084 →
     section_fault (section_bytes header body ++ rest) ≡ None
 none_is_wrong header body rest fits few =
     let head = all_headed header body rest fits few in
@@ -187,8 +187,8 @@ body_is_read header body =
     let head : List ℕ = header_bytes header (length body) in
     between head body (to_be_bytes w32 (crc_of (head ++ body))) refl refl
 
-pub fields_are_read : (header : Header) (body : List ℕ) → FitsFields header → length body ≤ 4084 →
-    IsWritten header body (section_bytes header body)
+pub fields_are_read : (header : Header) (body : List ℕ) → FitsHeaderFields header → length body ≤ 4084 →
+    IsWrittenSection header body (section_bytes header body)
 fields_are_read header body fits few =
     let head = section_headed header body fits few in
     record {

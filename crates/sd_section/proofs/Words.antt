@@ -7,7 +7,7 @@ use Rattle.std.proofs.lemmas.List.{drop_all}
 use Rattle.std.proofs.lemmas.Nat.{xor_of_32, xor_comm}
 use lib.Bits.{xor_self}
 use Rattle.sd_section.specs.Crc.{after_bits, after_byte, after_bytes, crc_of}
-use Rattle.sd_section.specs.Steps.{steps, alone}
+use Rattle.sd_section.specs.Steps.{steps, byte_register}
 use Rattle.sd_section.proofs.Xor.{xor_apart, xor_scaled, xor_swap}
 use Rattle.sd_section.proofs.Numbers.{steps_xor, steps_more, steps_move, steps_zero, bits_at_top, bits_split}
 use Rattle.sd_section.proofs.Numbers.{bits_below}
@@ -92,9 +92,9 @@ moved_first m n byte h = steps_more m n byte ∙ ap (steps n) (steps_move m byte
 
 -- the register of a number under bits 0 is the sum of those of its bytes
 pub of_bytes : (after word : ℕ) → word < 2 ^ 32 →
-    bit_xor (bit_xor (bit_xor (alone (after + 3) (word / 256 ^ 3 % 256)) (alone (after + 2) (word / 256 ^ 2 % 256)))
-    (alone (after + 1) (word / 256 ^ 1 % 256))) (alone after (word % 256)) ≡ steps (8 * after + 32) word
-unfolding alone
+    bit_xor (bit_xor (bit_xor (byte_register (after + 3) (word / 256 ^ 3 % 256)) (byte_register (after + 2) (word / 256 ^ 2 % 256)))
+    (byte_register (after + 1) (word / 256 ^ 1 % 256))) (byte_register after (word % 256)) ≡ steps (8 * after + 32) word
+unfolding byte_register
 of_bytes after word h =
     let n : ℕ = 8 * after + 32 in
     let a : ℕ = word / 256 ^ 3 % 256 * 2 ^ 24 in
@@ -192,8 +192,8 @@ eight_bytes x first second bs hx long bytes ef es =
 
 -- a byte changes the register's top byte, which leaves, and the other three move up
 pub byte_out : (x byte : ℕ) → x < 2 ^ 32 → byte < 256 →
-    bit_xor (x * 2 ^ 8 % 2 ^ 32) (alone 0 (bit_xor (x / 256 ^ 3 % 256) byte)) ≡ after_bits x byte 8
-unfolding alone
+    bit_xor (x * 2 ^ 8 % 2 ^ 32) (byte_register 0 (bit_xor (x / 256 ^ 3 % 256) byte)) ≡ after_bits x byte 8
+unfolding byte_register
 byte_out x byte h b =
     let top : ℕ = x / 256 ^ 3 % 256 in
     let low : ℕ = x % 2 ^ 24 in

@@ -20,8 +20,8 @@ unfoldable pub is_overlong : List ℕ → Bool
 is_overlong bytes = nat_le 3 (length bytes) && nat_lt most_length (section_length_of bytes)
 
 -- section_length is there, and so are the bytes that it counts [ISO/IEC 13818-1, 2.4.4]
-unfoldable pub is_whole : List ℕ → Bool
-is_whole bytes = nat_le 3 (length bytes) && nat_le (3 + section_length_of bytes) (length bytes)
+unfoldable pub is_section_whole : List ℕ → Bool
+is_section_whole bytes = nat_le 3 (length bytes) && nat_le (3 + section_length_of bytes) (length bytes)
 
 -- bytes cut into sections, and what is there of a partial one, which is nothing where there is none
 pub record Cut : Type 0 where
@@ -43,7 +43,7 @@ cut_from zero first more = no_cut
 cut_from (suc n) first more =
     if not (starts first) then no_cut else
     if is_overlong (first ++ more) then no_cut else
-    if is_whole (first ++ more) then with_section (whole_of (first ++ more))
+    if is_section_whole (first ++ more) then with_section (whole_of (first ++ more))
     (cut_from n (drop (3 + section_length_of (first ++ more)) first) more) else
     record { sections = []; making = first ++ more }
 
@@ -85,23 +85,23 @@ abbrev pub fresh_of : List ℕ → List ℕ
 fresh_of payload = drop (slice_index payload 0 + 1) payload
 
 -- bytes without a gap: those in which sections start, and those of the packets after them
-pub record Run : Type 0 where
+pub record SectionRun : Type 0 where
   pub first : List ℕ
   pub more : List ℕ
 
 -- the run goes on where no counter is missing
-abbrev pub kept_run : Fed → Option ℕ → Run → Run
+abbrev pub kept_run : Fed → Option ℕ → SectionRun → SectionRun
 kept_run packet last run = if is_next packet.counter last then run else record { first = []; more = [] }
 
 -- a payload without unit start goes on with a run, and one with unit start begins another
-abbrev pub longer_run : Fed → Run → Run
+abbrev pub longer_run : Fed → SectionRun → SectionRun
 longer_run packet run =
     if packet.unit_start then record { first = fresh_of packet.payload; more = [] } else
     record { first = run.first; more = run.more ++ packet.payload }
 
 -- the bytes since the last unit start, after these packets [ISO/IEC 13818-1, 2.4.4; this project, docs/FORMATS.md,
 -- Assembler]
-unfoldable pub run_after : List Fed → Run
+unfoldable pub run_after : List Fed → SectionRun
 run_after [] = record { first = []; more = [] }
 run_after (packet ∷ before) =
     if is_taken packet (last_counter before) then longer_run packet (kept_run packet (last_counter before)
@@ -109,21 +109,21 @@ run_after (packet ∷ before) =
     run_after before
 
 -- the sections that bytes complete with which a run goes on
-abbrev pub newly : Run → List ℕ → List (List ℕ)
-newly run bytes = drop (length (cut_of run.first run.more).sections) (cut_of run.first (run.more ++ bytes)).sections
+abbrev pub sections_made_whole : SectionRun → List ℕ → List (List ℕ)
+sections_made_whole run bytes = drop (length (cut_of run.first run.more).sections) (cut_of run.first (run.more ++ bytes)).sections
 
 -- the sections that a payload completes: of the run, and with unit start also those that are whole in the payload
 -- itself
-abbrev pub completed_in : Fed → Run → List (List ℕ)
-completed_in packet run =
-    if packet.unit_start then newly run (tail_of packet.payload) ++ (cut_of (fresh_of packet.payload) []).sections else
-    newly run packet.payload
+abbrev pub sections_completed_in : Fed → SectionRun → List (List ℕ)
+sections_completed_in packet run =
+    if packet.unit_start then sections_made_whole run (tail_of packet.payload) ++ (cut_of (fresh_of packet.payload) []).sections else
+    sections_made_whole run packet.payload
 
 -- the sections that the last packet completes [ISO/IEC 13818-1, 2.4.4; this project, docs/FORMATS.md, Assembler]
-unfoldable pub completed_by : List Fed → List (List ℕ)
-completed_by [] = []
-completed_by (packet ∷ before) =
-    if is_taken packet (last_counter before) then completed_in packet (kept_run packet (last_counter before)
+unfoldable pub sections_completed_by : List Fed → List (List ℕ)
+sections_completed_by [] = []
+sections_completed_by (packet ∷ before) =
+    if is_taken packet (last_counter before) then sections_completed_in packet (kept_run packet (last_counter before)
     (run_after before)) else []
 
 -- what an assembler keeps: the last counter, the partial section, the completed sections that it has still to
@@ -145,7 +145,7 @@ unfoldable pub assembler_after : List Fed → Assembling
 assembler_after packets = record {
   counter = last_counter packets;
   making = (cut_of (run_after packets).first (run_after packets).more).making;
-  waiting = completed_by packets;
+  waiting = sections_completed_by packets;
 }
 
 -- with nothing left to lend

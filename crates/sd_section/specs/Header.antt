@@ -29,8 +29,8 @@ abbrev pub syntax_of : List ℕ → ℕ
 syntax_of section = field section 8 1
 
 -- the bit after it: 0 in the standard's own tables, and else private_indicator [ISO/IEC 13818-1, 2.4.4]
-abbrev pub private_of : List ℕ → ℕ
-private_of section = field section 9 1
+abbrev pub private_bit : List ℕ → ℕ
+private_bit section = field section 9 1
 
 -- section_length: how many bytes stand after it [ISO/IEC 13818-1, 2.4.4]
 abbrev pub section_length_of : List ℕ → ℕ
@@ -41,8 +41,8 @@ abbrev pub extension_of : List ℕ → ℕ
 extension_of section = field section 24 16
 
 -- version_number [ISO/IEC 13818-1, 2.4.4]
-abbrev pub version_of : List ℕ → ℕ
-version_of section = field section 42 5
+abbrev pub section_version_number : List ℕ → ℕ
+section_version_number section = field section 42 5
 
 -- current_next_indicator [ISO/IEC 13818-1, 2.4.4]
 abbrev pub current_of : List ℕ → ℕ

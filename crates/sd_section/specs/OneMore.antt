@@ -1,7 +1,7 @@
 -- Public meaning: one packet more, from what an assembler keeps.
 use Rattle.std.specs.Prelude.{ℕ, ◌+◌, ◌≤◌, Bool, true, false, if◌then◌else◌, List, [], ◌∷◌, ◌++◌, Option, Some}
 use Rattle.sd_section.specs.Header.{longest, section_length_of, whole_of}
-use Rattle.sd_section.specs.Assembled.{Fed, is_overlong, is_whole, Cut, no_cut, cut_of, is_next, is_taken, tail_of}
+use Rattle.sd_section.specs.Assembled.{Fed, is_overlong, is_section_whole, Cut, no_cut, cut_of, is_next, is_taken, tail_of}
 use Rattle.sd_section.specs.Assembled.{fresh_of, Assembling}
 use Rattle.sd_section.specs.declared.begun.Begun.{Begun}
 use Rattle.sd_section.specs.declared.begun.Begun.TheVariants.{Overlong, Whole, Part}
@@ -10,7 +10,7 @@ use Rattle.sd_section.specs.declared.holds.Holds.TheVariants.{Making, Section, L
 
 -- what is there of the section that bytes begin with
 abbrev pub begun_of : List ℕ → Begun
-begun_of bytes = if is_overlong bytes then Overlong else if is_whole bytes then Whole
+begun_of bytes = if is_overlong bytes then Overlong else if is_section_whole bytes then Whole
     (3 + section_length_of bytes) else Part
 
 -- what a partial section is cut into with more bytes after it
@@ -18,16 +18,16 @@ unfoldable pub cut_more : List ℕ → List ℕ → Cut
 cut_more [] bytes = no_cut
 cut_more (byte ∷ making) bytes =
     if is_overlong (byte ∷ making ++ bytes) then no_cut else
-    if is_whole (byte ∷ making ++ bytes) then record {
+    if is_section_whole (byte ∷ making ++ bytes) then record {
       sections = whole_of (byte ∷ making ++ bytes) ∷ [];
       making = [];
     } else
     record { sections = []; making = byte ∷ making ++ bytes }
 
 -- a section that is whole, or a partial one
-abbrev pub held : Bool → List ℕ → Cut
-held true bytes = record { sections = bytes ∷ []; making = [] }
-held false bytes = record { sections = []; making = bytes }
+abbrev pub cut_of_section : Bool → List ℕ → Cut
+cut_of_section true bytes = record { sections = bytes ∷ []; making = [] }
+cut_of_section false bytes = record { sections = []; making = bytes }
 
 -- the bytes of a payload that go to the partial section
 abbrev pub tail_with : Bool → List ℕ → List ℕ
@@ -52,24 +52,24 @@ going_on packet making = record {
 }
 
 -- a packet more
-unfoldable pub fed : Assembling → Fed → Assembling
-fed state packet =
+unfoldable pub assembler_fed_packet : Assembling → Fed → Assembling
+assembler_fed_packet state packet =
     if is_taken packet state.counter then going_on packet
     (if is_next packet.counter state.counter then state.making else []) else
     state
 
 -- what an assembler keeps, by its fields: the bytes that it holds, and those of the last payload that it hasn't looked
 -- at
-abbrev pub kept : Holds → List ℕ → Cut → Option ℕ → Assembling
-kept Making bytes cut counter = record { counter = counter; making = bytes ++ cut.making; waiting = cut.sections }
-kept Section bytes cut counter = record { counter = counter; making = cut.making; waiting = bytes ∷ cut.sections }
-kept Lent bytes cut counter = record { counter = counter; making = cut.making; waiting = cut.sections }
+abbrev pub assembler_state : Holds → List ℕ → Cut → Option ℕ → Assembling
+assembler_state Making bytes cut counter = record { counter = counter; making = bytes ++ cut.making; waiting = cut.sections }
+assembler_state Section bytes cut counter = record { counter = counter; making = cut.making; waiting = bytes ∷ cut.sections }
+assembler_state Lent bytes cut counter = record { counter = counter; making = cut.making; waiting = cut.sections }
 
 -- a partial section and what may be added to it have room
-abbrev pub HasRoom : Holds → ℕ → ℕ → Type 0
-HasRoom Making count more = count + more ≤ longest
-HasRoom Section count more = Unit {0}
-HasRoom Lent count more = Unit {0}
+abbrev pub HasSectionRoom : Holds → ℕ → ℕ → Type 0
+HasSectionRoom Making count more = count + more ≤ longest
+HasSectionRoom Section count more = Unit {0}
+HasSectionRoom Lent count more = Unit {0}
 
 -- a whole section, or a partial one
 abbrev pub holds_of : Bool → Holds

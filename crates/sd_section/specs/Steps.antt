@@ -8,5 +8,5 @@ steps zero register = register
 steps (suc n) register = steps n (after_bit register 0)
 
 -- the register that a byte at its top leads to, with so many bytes of zeros after it [ISO/IEC 13818-1, annex A]
-unfoldable pub alone : ℕ → ℕ → ℕ
-alone after byte = steps (8 * after + 8) (byte * 2 ^ 24)
+unfoldable pub byte_register : ℕ → ℕ → ℕ
+byte_register after byte = steps (8 * after + 8) (byte * 2 ^ 24)

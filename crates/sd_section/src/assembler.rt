@@ -3,7 +3,7 @@ ghost use Rattle.std.specs.Option.{option_map};
 ghost use Rattle.std.specs.Borrow.{sem};
 ghost use Rattle.std.specs.Io.BufRead.{Rests};
 ghost use Rattle.sd_section.specs.Assembled.{Fed, assembler_after, all_lent, next_of, one_lent};
-ghost use Rattle.sd_section.specs.OneMore.{fed};
+ghost use Rattle.sd_section.specs.OneMore.{assembler_fed_packet};
 ghost use Rattle.sd_section.specs.contracts.assembler.Assembler.{the_row};
 
 use crate::holds::Holds;
@@ -30,22 +30,22 @@ impl Model for Assembler {
     ghost use Rattle.std.specs.Prelude.{◌≤◌, ◌-◌, [], length, slice_range, vec_capacity};
     ghost use Rattle.sd_section.specs.Header.{longest};
     ghost use Rattle.sd_section.specs.Assembled.{Assembling, assembling_code, cut_of};
-    ghost use Rattle.sd_section.specs.OneMore.{kept, HasRoom};
+    ghost use Rattle.sd_section.specs.OneMore.{assembler_state, HasSectionRoom};
 
     ghost Value = { Assembling };
 
     ghost coded = { assembling_code };
 
-    ghost view = { λ a. kept a.holds a.buffer.items (cut_of (slice_range a.payload a.at a.end) []) a.counter };
+    ghost view = { λ a. assembler_state a.holds a.buffer.items (cut_of (slice_range a.payload a.at a.end) []) a.counter };
 
     ghost invariant = { λ a. (longest ≤ vec_capacity a.buffer) × (length a.buffer.items ≤ longest) × (a.at ≤ a.end)
         × (a.end ≤ 184)
-        × HasRoom a.holds (length a.buffer.items) (a.end - a.at) };
+        × HasSectionRoom a.holds (length a.buffer.items) (a.end - a.at) };
 }
 
 impl Assembler {
     /// An assembler that was fed nothing. It takes 4,096 bytes.
-    #[tactic(auto, unfolding(crate::specs::Assembled::assembler_after, crate::specs::Assembled::run_after, crate::specs::Assembled::completed_by, crate::specs::Assembled::last_counter, crate::specs::Assembled::cut_from))]
+    #[tactic(auto, unfolding(crate::specs::Assembled::assembler_after, crate::specs::Assembled::run_after, crate::specs::Assembled::sections_completed_by, crate::specs::Assembled::last_counter, crate::specs::Assembled::cut_from))]
     pub fn new(alloc: Global) -> Result<Assembler, NoMemory>
         ensures after { IfOk result (λ assembler. assembler ≡ assembler_after []) }
         ensures lent { IfOk result (λ assembler. assembler.waiting ≡ []) }
@@ -82,7 +82,7 @@ impl Assembler {
         requires payload { length payload.now ≤ 184 }
         requires lent { self.old.waiting ≡ [] }
         ensures { self.new ≡
-            fed self.old (record { unit_start = unit_start; counter = counter; payload = payload.now }) }
+            assembler_fed_packet self.old (record { unit_start = unit_start; counter = counter; payload = payload.now }) }
     {
         if !is_taken(counter, payload, self.counter) {
             return;

@@ -16,7 +16,7 @@ pub enum Begun {
 }
 
 /// What is there of the section with which the bytes begin.
-#[tactic(auto, unfolding(crate::specs::Assembled::is_overlong, crate::specs::Assembled::is_whole))]
+#[tactic(auto, unfolding(crate::specs::Assembled::is_overlong, crate::specs::Assembled::is_section_whole))]
 pub fn judge(bytes: &[u8]) -> Begun
     ensures { result ≡ begun_of bytes.now }
 {

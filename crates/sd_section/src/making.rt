@@ -3,7 +3,7 @@ ghost use Rattle.std.specs.Prelude.{◌&&◌, [], length, take, drop, vec_capaci
 ghost use Rattle.sd_section.specs.Header.{longest};
 ghost use Rattle.sd_section.specs.Assembled.{cut_of, starts as starts_of, with_section, tail_of, is_last};
 ghost use Rattle.sd_section.specs.Assembled.{is_next as is_next_of};
-ghost use Rattle.sd_section.specs.OneMore.{cut_more, held, kept, HasRoom, tail_with, fresh_with, still_making};
+ghost use Rattle.sd_section.specs.OneMore.{cut_more, cut_of_section, assembler_state, HasSectionRoom, tail_with, fresh_with, still_making};
 
 use crate::begun::{Begun, judge};
 use crate::holds::Holds;
@@ -15,7 +15,7 @@ const STUFFING: u8 = 0xFF;
 pub fn add(making: &mut Vec<u8>, bytes: &[u8]) -> bool
     requires room { longest ≤ vec_capacity making.old }
     requires short { length making.old.items ≤ longest }
-    ensures value { held result making.new.items ≡ cut_more making.old.items bytes.now }
+    ensures value { cut_of_section result making.new.items ≡ cut_more making.old.items bytes.now }
     ensures room { longest ≤ vec_capacity making.new }
     ensures short { length making.new.items ≤ longest }
 {
@@ -83,10 +83,10 @@ pub fn gather(buffer: &mut Vec<u8>, holds: Holds, payload: &[u8; 184], at: usize
     requires room { longest ≤ vec_capacity buffer.old }
     requires ordered { at ≤ end }
     requires within { end ≤ 184 }
-    requires short { HasRoom holds (length buffer.old.items) (end - at) }
-    requires lent { (kept holds buffer.old.items (cut_of (slice_range payload.now at end) []) None).waiting ≡ [] }
+    requires short { HasSectionRoom holds (length buffer.old.items) (end - at) }
+    requires lent { (assembler_state holds buffer.old.items (cut_of (slice_range payload.now at end) []) None).waiting ≡ [] }
     ensures value { buffer.new.items ≡
-        (kept holds buffer.old.items (cut_of (slice_range payload.now at end) []) None).making }
+        (assembler_state holds buffer.old.items (cut_of (slice_range payload.now at end) []) None).making }
     ensures room { longest ≤ vec_capacity buffer.new }
     ensures short { length buffer.new.items ≤ longest }
 {
@@ -117,9 +117,9 @@ pub fn go_on(buffer: &mut Vec<u8>, unit_start: bool, payload: &[u8]) -> bool
     requires room { longest ≤ vec_capacity buffer.old }
     requires short { length buffer.old.items ≤ longest }
     requires some { 0 < length payload.now }
-    ensures sections { (held result buffer.new.items).sections
+    ensures sections { (cut_of_section result buffer.new.items).sections
         ≡ (cut_more buffer.old.items (tail_with unit_start payload.now)).sections }
-    ensures making { (held result buffer.new.items).making ≡ still_making unit_start buffer.old.items payload.now }
+    ensures making { (cut_of_section result buffer.new.items).making ≡ still_making unit_start buffer.old.items payload.now }
     ensures room { longest ≤ vec_capacity buffer.new }
     ensures short { length buffer.new.items ≤ longest }
 {

@@ -1,6 +1,6 @@
 ghost use Rattle.std.specs.Prelude.{◌≡◌, ◌+◌, ◌<◌, ◌≤◌, ◌↔◌, IsTrue, length};
 ghost use Rattle.sd_section.specs.Header.{least_length, most_length, table_id_of, syntax_of, section_length_of};
-ghost use Rattle.sd_section.specs.Header.{extension_of, version_of, current_of, section_number_of, last_number_of};
+ghost use Rattle.sd_section.specs.Header.{extension_of, section_version_number, current_of, section_number_of, last_number_of};
 ghost use Rattle.sd_section.specs.Header.{body_of};
 ghost use Rattle.sd_section.specs.Header.{crc_in, crc_due};
 
@@ -36,7 +36,7 @@ impl<'a> Section<'a> {
 
     /// version_number, of five bits.
     pub fn version(&self) -> u8
-        ensures value { result ≡ version_of self.now.bytes.now }
+        ensures value { result ≡ section_version_number self.now.bytes.now }
         ensures fits { result < 32 }
     {
         fields! { self.bytes; version_number: 42, 5; }

@@ -1,5 +1,5 @@
 ghost use Rattle.std.specs.Prelude.{◌≡◌, ◌+◌, ◌*◌, ◌<◌, ◌≤◌};
-ghost use Rattle.sd_section.specs.Steps.{steps, alone};
+ghost use Rattle.sd_section.specs.Steps.{steps, byte_register};
 
 // All exclusive-ors of eight registers, of which each is that of one bit: the register of a byte is that of its bits.
 macro_rules! of_bits {
@@ -25,7 +25,7 @@ static REGISTERS: [[u32; 256]; 8] = [
 #[tactic(auto, using(crate::proofs::Rows::entry))]
 pub fn of_byte(byte: u8, after: usize) -> u32
     requires { after < 8 }
-    ensures { result ≡ alone after byte }
+    ensures { result ≡ byte_register after byte }
 {
     REGISTERS[after][usize::from(byte)]
 }

@@ -1,6 +1,6 @@
 ghost use Rattle.std.specs.Prelude.{◌≡◌, ◌-◌, ◌≤◌, length, take};
 ghost use Rattle.sd_section.specs.Header.{longest_body};
-ghost use Rattle.sd_section.specs.Written.{header_bytes, sealed};
+ghost use Rattle.sd_section.specs.Written.{header_bytes, with_crc};
 
 use crate::crc32;
 use crate::limits::LEAST_LENGTH;
@@ -56,7 +56,7 @@ impl Header {
 /// Writes the CRC of all bytes but the last four into the last four.
 pub fn seal(section: &mut [u8])
     requires { 4 ≤ length section.old }
-    ensures value { section.new ≡ sealed (take (length section.old - 4) section.old) }
+    ensures value { section.new ≡ with_crc (take (length section.old - 4) section.old) }
     ensures length { length section.new ≡ length section.old }
 {
     let end = section.len() - 4;

@@ -12,14 +12,14 @@ use Rattle.sd_site_cards.specs.declared.site_fault.SiteFault.{SiteFault}
 use Rattle.sd_site_cards.specs.declared.site_fault.SiteFault.TheVariants.{Line, Range, SamePid, Extra, Short}
 use Rattle.sd_site_cards.specs.declared.book_line.BookLine.{BookLine}
 use Rattle.sd_site_cards.specs.declared.site.Site.{Site}
-use Rattle.sd_site_cards.specs.SiteFields.{SiteFields, AreInRange, fields_of}
+use Rattle.sd_site_cards.specs.SiteFields.{SiteFields, AreInRange, site_fields_of}
 use Rattle.sd_site_cards.specs.Forms.{NumberLine, BytesLine, Form, number, bytes, book, forms, IsWithin, bytes_after}
 use Rattle.sd_site_cards.specs.Forms.{book_after, most_book_size, number_on, bytes_on, number_or, height_line, master_line}
 use Rattle.sd_site_cards.specs.Forms.{ca_line, emm_line, ecm_line, every_line, cryptos_line, span_line, messages_line}
 use Rattle.sd_site_cards.specs.Forms.{first_word_line, last_word_line, first_period_line}
-use Rattle.sd_site_cards.specs.Text.{SpellsSite, IsSite, said_on, site_on, site_of, book_on, book_line_of}
-use Rattle.sd_site_cards.specs.SiteFaults.{IsInForm, IsGood, IsMalformed, IsOutOfRange, NextIs, AreGood, IsCauseOf}
-use Rattle.sd_site_cards.specs.Written.{is_whole, fewer_taken}
+use Rattle.sd_site_cards.specs.Text.{SpellsSite, IsSite, site_and_book_on, site_on, site_of, book_on, book_line_of}
+use Rattle.sd_site_cards.specs.SiteFaults.{IsInForm, IsGood, IsMalformed, IsOutOfRange, NextIs, AreGoodSiteLines, IsSiteFaultOf}
+use Rattle.sd_site_cards.specs.Written.{are_lines_whole, fewer_taken}
 use Rattle.sd_site_cards.proofs.Walk.{Answer, SaysBook, Tells, lines_told}
 
 -- ---- what lines tell that are good up to line n and no further
@@ -76,7 +76,7 @@ answer n lines form None = at_end n lines
 -- n lines are good, line n + 1 is not, and the answer is what follows from that
 record Stops (lines : List (List ℕ)) (r : Answer) : Type 0 where
   n : ℕ
-  good : AreGood n lines
+  good : AreGoodSiteLines n lines
   stop : NextIs IsGood n lines → ⊥
   is : r ≡ answer n lines (slice_get forms n) (slice_get lines n)
 
@@ -118,7 +118,7 @@ malformed_not_good form line never good = never (good_in_form form line good)
 outside_not_good : (form : Form) (line : List ℕ) → IsOutOfRange form line → IsGood form line → ⊥
 outside_not_good form line never good = never.1 good
 
-line_stops : (lines : List (List ℕ)) (k : ℕ) → IsCauseOf lines (Line k) → Stops lines (Err (Line k))
+line_stops : (lines : List (List ℕ)) (k : ℕ) → IsSiteFaultOf lines (Line k) → Stops lines (Err (Line k))
 line_stops lines k (n, is, good, (form, line, form_is, line_is, bad)) = record {
   n = n;
   good = good;
@@ -126,7 +126,7 @@ line_stops lines k (n, is, good, (form, line, form_is, line_is, bad)) = record {
   is = rw (is, form_is, line_is, in_form_false form line bad) refl;
 }
 
-range_stops : (lines : List (List ℕ)) (k : ℕ) → IsCauseOf lines (Range k) → Stops lines (Err (Range k))
+range_stops : (lines : List (List ℕ)) (k : ℕ) → IsSiteFaultOf lines (Range k) → Stops lines (Err (Range k))
 range_stops lines k (n, is, good, (form, line, form_is, line_is, bad)) = record {
   n = n;
   good = good;
@@ -153,7 +153,7 @@ answer_at_end n lines None = refl
 answer_at_end n lines (Some form) = refl
 
 -- good lines that end stop there
-end_stops : (lines : List (List ℕ)) (r : Answer) → AreGood (length lines) lines
+end_stops : (lines : List (List ℕ)) (r : Answer) → AreGoodSiteLines (length lines) lines
     → r ≡ at_end (length lines) lines → Stops lines r
 end_stops lines r good e = record {
   n = length lines;
@@ -163,11 +163,11 @@ end_stops lines r good e = record {
       e ∙ sym (answer_at_end (length lines) lines (slice_get forms (length lines))));
 }
 
-short_stops : (lines : List (List ℕ)) → IsCauseOf lines Short → Stops lines (Err Short)
+short_stops : (lines : List (List ℕ)) → IsSiteFaultOf lines Short → Stops lines (Err Short)
 short_stops lines (few, good) =
     end_stops lines (Err Short) good (rw (lt-ltb (length lines) 8 few) refl)
 
-extra_stops : (lines : List (List ℕ)) (k : ℕ) → IsCauseOf lines (Extra k) → Stops lines (Err (Extra k))
+extra_stops : (lines : List (List ℕ)) (k : ℕ) → IsSiteFaultOf lines (Extra k) → Stops lines (Err (Extra k))
 extra_stops lines k (place, many, good) = record {
   n = 13;
   good = good;
@@ -177,10 +177,10 @@ extra_stops lines k (place, many, good) = record {
 
 -- eight good lines or more end with the PIDs
 pids_stop : (lines : List (List ℕ)) (r : Answer) → 8 ≤ length lines
-    → AreGood (length lines) lines → r ≡ cond (same_pid lines) (Err SamePid) (all_on lines) → Stops lines r
+    → AreGoodSiteLines (length lines) lines → r ≡ cond (same_pid lines) (Err SamePid) (all_on lines) → Stops lines r
 pids_stop lines r least good e = end_stops lines r good (rw (le-ltb (length lines) 8 least) e)
 
-same_pid_stops : (lines : List (List ℕ)) → IsCauseOf lines SamePid → Stops lines (Err SamePid)
+same_pid_stops : (lines : List (List ℕ)) → IsSiteFaultOf lines SamePid → Stops lines (Err SamePid)
 same_pid_stops lines (least, good, same) =
     let equal : same_pid lines ≡ true = eq-eqb _ _ (ap (λ (o : Option ℕ). unwrap_or o 0) same) in
     pids_stop lines (Err SamePid) least good (rw equal refl)
@@ -230,7 +230,7 @@ good_book lines is there says range =
 
 -- the lines of a site are good
 spelled_good : (lines : List (List ℕ)) (site : SiteFields) → SpellsSite lines site → AreInRange site
-    → IfSome (book_on lines) (λ said. said.size ≤ most_book_size) → AreGood (length lines) lines
+    → IfSome (book_on lines) (λ said. said.size ≤ most_book_size) → AreGoodSiteLines (length lines) lines
 unfolding forms
 spelled_good lines site spells ranges size zero lt =
     good_number 0 _ height_line lines refl spells.height ranges.height
@@ -280,7 +280,7 @@ stops lines (Err (Extra k)) tells = extra_stops lines k tells
 stops lines (Err Short) tells = short_stops lines tells
 
 -- lines that are good up to line n and no further are so for one n
-one_end : (m n : ℕ) (lines : List (List ℕ)) → AreGood m lines → (NextIs IsGood m lines → ⊥) → AreGood n lines
+one_end : (m n : ℕ) (lines : List (List ℕ)) → AreGoodSiteLines m lines → (NextIs IsGood m lines → ⊥) → AreGoodSiteLines n lines
     → (NextIs IsGood n lines → ⊥) → m ≡ n
 one_end m n lines good_m stop_m good_n stop_n =
     elim (cases_lt m n) [
@@ -300,8 +300,8 @@ one_answer lines q r tells_q tells_r =
     a.is ∙ ap (λ (n : ℕ). answer n lines (slice_get forms n) (slice_get lines n)) same ∙ sym b.is
 
 -- what lines tell is the answer on them
-pub answered : (lines : List (List ℕ)) (r : Answer) → Tells lines r → said_on lines ≡ r
-answered lines r tells = one_answer lines (said_on lines) r (lines_told lines) tells
+pub answered : (lines : List (List ℕ)) (r : Answer) → Tells lines r → site_and_book_on lines ≡ r
+answered lines r tells = one_answer lines (site_and_book_on lines) r (lines_told lines) tells
 
 -- ---- the same of a function's answer
 
@@ -348,39 +348,39 @@ accepts site fault e = absurd cc
 
 -- the function answers what the text says of the site
 abbrev pub Gives : Result Site SiteFault → List ℕ → Type 0
-Gives r text = MatchResult r (λ site. site_of text ≡ Ok (fields_of site)) (λ fault. site_of text ≡ Err fault)
+Gives r text = MatchResult r (λ site. site_of text ≡ Ok (site_fields_of site)) (λ fault. site_of text ≡ Err fault)
 
-tells : (text : List ℕ) (r : Answer) → said_on (lines_of text) ≡ r → Tells (lines_of text) r
+tells : (text : List ℕ) (r : Answer) → site_and_book_on (lines_of text) ≡ r → Tells (lines_of text) r
 tells text r e = subst (λ (r : Answer). Tells (lines_of text) r) e (lines_told (lines_of text))
 
 -- what the lines say, by what they say of the site alone
-all_told : (text : List ℕ) (r : Answer) → said_on (lines_of text) ≡ r → (site : SiteFields) → site_of text ≡ Ok site
-    → said_on (lines_of text) ≡ Ok (site, book_line_of text)
+all_told : (text : List ℕ) (r : Answer) → site_and_book_on (lines_of text) ≡ r → (site : SiteFields) → site_of text ≡ Ok site
+    → site_and_book_on (lines_of text) ≡ Ok (site, book_line_of text)
 unfolding site_on
 all_told text (Ok said) e site f =
     let same : said.0 ≡ site = alone_is _ _ (rw e at f) in
     e ∙ (λ i. Ok (same i, sym (tells text (Ok said) e).2.is i))
 all_told text (Err fault) e site f = absurd (rejects _ _ (rw e at f))
 
-fault_told : (text : List ℕ) (r : Answer) → said_on (lines_of text) ≡ r → (fault : SiteFault) → site_of text ≡ Err fault
-    → said_on (lines_of text) ≡ Err fault
+fault_told : (text : List ℕ) (r : Answer) → site_and_book_on (lines_of text) ≡ r → (fault : SiteFault) → site_of text ≡ Err fault
+    → site_and_book_on (lines_of text) ≡ Err fault
 unfolding site_on
 fault_told text (Ok said) e fault f = absurd (rejects _ _ (sym (rw e at f)))
 fault_told text (Err other) e fault f = e ∙ ap (λ (f : SiteFault). failed f) (alone_err _ _ (rw e at f))
 
 -- the site and what line 13 says, each alone
 pub both_told : (text : List ℕ) (r : Result (Site × Option BookLine) SiteFault)
-    → MatchResult r (λ said. said_on (lines_of text) ≡ Ok (fields_of said.0, said.1))
-    (λ fault. said_on (lines_of text) ≡ Err fault)
-    → MatchResult r (λ said. (site_of text ≡ Ok (fields_of said.0)) × (book_line_of text ≡ said.1))
+    → MatchResult r (λ said. site_and_book_on (lines_of text) ≡ Ok (site_fields_of said.0, said.1))
+    (λ fault. site_and_book_on (lines_of text) ≡ Err fault)
+    → MatchResult r (λ said. (site_of text ≡ Ok (site_fields_of said.0)) × (book_line_of text ≡ said.1))
     (λ fault. site_of text ≡ Err fault)
 unfolding site_on
-both_told text (Ok said) e = (rw e refl, (tells text (Ok (fields_of said.0, said.1)) e).2.is)
+both_told text (Ok said) e = (rw e refl, (tells text (Ok (site_fields_of said.0, said.1)) e).2.is)
 both_told text (Err fault) e = rw e refl
 
 -- a site file says itself, and what line 13 says
 pub site_told : (text : List ℕ) (fields : SiteFields) → IsSite text fields
-    → said_on (lines_of text) ≡ Ok (fields, book_line_of text)
+    → site_and_book_on (lines_of text) ≡ Ok (fields, book_line_of text)
 site_told text fields is = answered (lines_of text) (Ok (fields, book_line_of text))
     (is.text, is.ranges, record { is = refl; range = is.size })
 
@@ -392,35 +392,35 @@ site_said text fields is = rw (site_told text fields is) refl
 -- and the site of bytes is what they say as a site file
 pub said_is_site : (text : List ℕ) (fields : SiteFields) → site_of text ≡ Ok fields → IsSite text fields
 said_is_site text fields e =
-    let told = all_told text (said_on (lines_of text)) refl fields e in
+    let told = all_told text (site_and_book_on (lines_of text)) refl fields e in
     let h = tells text (Ok (fields, book_line_of text)) told in
     record { text = h.0; ranges = h.1; size = h.2.range }
 
 -- what is read is a site file that says this
-pub is_site : (text : List ℕ) (r : Result Site SiteFault) → Gives r text → IfOk r (λ site. IsSite text (fields_of site))
-is_site text (Ok site) gives = said_is_site text (fields_of site) gives
+pub is_site : (text : List ℕ) (r : Result Site SiteFault) → Gives r text → IfOk r (λ site. IsSite text (site_fields_of site))
+is_site text (Ok site) gives = said_is_site text (site_fields_of site) gives
 is_site text (Err fault) gives = tt
 
 -- what is a site file is read
 pub is_read : (text : List ℕ) (r : Result Site SiteFault) → Gives r text → (fields : SiteFields)
-    → IsSite text fields → MatchResult r (λ site. fields_of site ≡ fields) (λ _. ⊥)
+    → IsSite text fields → MatchResult r (λ site. site_fields_of site ≡ fields) (λ _. ⊥)
 is_read text (Ok site) gives fields is =
-    let told = all_told text (said_on (lines_of text)) refl (fields_of site) gives in
+    let told = all_told text (site_and_book_on (lines_of text)) refl (site_fields_of site) gives in
     ap (λ (said : SiteFields × Option BookLine). said.0) (ok_is _ _ (sym told ∙ site_told text fields is))
 is_read text (Err fault) gives fields is =
-    let told = fault_told text (said_on (lines_of text)) refl fault gives in
+    let told = fault_told text (site_and_book_on (lines_of text)) refl fault gives in
     not_err _ _ (sym told ∙ site_told text fields is)
 
 -- each fault comes exactly where the lines have it
 pub is_cause : (text : List ℕ) (r : Result Site SiteFault) → Gives r text → (fault : SiteFault)
-    → IsErrOf r fault ↔ IsCauseOf (lines_of text) fault
+    → IsErrOf r fault ↔ IsSiteFaultOf (lines_of text) fault
 is_cause text (Ok site) gives fault =
-    let told = all_told text (said_on (lines_of text)) refl (fields_of site) gives in (
+    let told = all_told text (site_and_book_on (lines_of text)) refl (site_fields_of site) gives in (
       λ err. absurd (accepts site fault err),
       λ cause. absurd (not_err _ _ (sym (answered (lines_of text) (Err fault) cause) ∙ told)),
     )
 is_cause text (Err other) gives fault =
-    let told = fault_told text (said_on (lines_of text)) refl other gives in (
+    let told = fault_told text (site_and_book_on (lines_of text)) refl other gives in (
       λ err. tells text (Err fault) (told ∙ ap (λ (f : SiteFault). failed f) (refusal_is _ _ err)),
       λ cause. ap (λ (f : SiteFault). Err f) (err_is _ _ (sym told ∙ answered (lines_of text) (Err fault) cause)),
     )
@@ -430,17 +430,17 @@ pub thirteen_say : (text : List ℕ) (site : SiteFields) → site_of text ≡ Ok
     → IsSome (book_line_of text)
 unfolding book_on
 thirteen_say text site e count =
-    let told = all_told text (said_on (lines_of text)) refl site e in
+    let told = all_told text (site_and_book_on (lines_of text)) refl site e in
     let says = (tells text (Ok (site, book_line_of text)) told).0.book in
     let here = slice_get-get_or (lines_of text) 12 [] (omega (arith, count)) in
     rw here (rw here at says)
 
 -- and so does a file that a next site is made from, where no first site is taken
 pub newest_say : (text : List ℕ) (site : SiteFields) (first : Bool) → site_of text ≡ Ok site
-    → (is_whole 13 text || fewer_taken first text site) ≡ true → first ≡ false → IsSome (book_line_of text)
+    → (are_lines_whole 13 text || fewer_taken first text site) ≡ true → first ≡ false → IsSome (book_line_of text)
 newest_say text site true e whole none = absurd cc
-newest_say text site false e whole none = by_whole (is_whole 13 text) refl whole
+newest_say text site false e whole none = by_whole (are_lines_whole 13 text) refl whole
   where
-    by_whole : (whole : Bool) → is_whole 13 text ≡ whole → (whole || false) ≡ true → IsSome (book_line_of text)
+    by_whole : (whole : Bool) → are_lines_whole 13 text ≡ whole → (whole || false) ≡ true → IsSome (book_line_of text)
     by_whole true is holds = thirteen_say text site e (eqb-true _ _ (and_parts _ _ is).0)
     by_whole false is holds = absurd cc

@@ -9,14 +9,14 @@ use Rattle.std.proofs.lemmas.List.{take_at, drop_at, length-append}
 use Rattle.std.proofs.lemmas.Option.{none-some}
 use Rattle.byteorder.specs.Endian.{big_bytes, big_number}
 use Rattle.sd_base.proofs.Endian.{two_again, four_again, number_again}
-use Rattle.sd_site_cards.specs.Files.{AreSecrets, AreKept, byte_at, bytes_from, number_in, check_of, check_in}
-use Rattle.sd_site_cards.specs.Files.{check_due, head_of, file_body, file_bytes}
+use Rattle.sd_site_cards.specs.Files.{AreSecrets, AreKeptSecrets, byte_at, file_bytes_from, number_from, check_of, check_in}
+use Rattle.sd_site_cards.specs.Files.{check_due, card_file_head, file_body, file_bytes}
 use Rattle.sd_site_cards.proofs.Written.{AreBytes, bytes_at, cut_bytes, kept_count, file_said, file_length}
 use Rattle.sd_site_cards.proofs.Written.{check_written}
 
 -- bytes in a row are the first of them and the others
 from_add : (bytes : List ℕ) (k n m l : ℕ) → k + n ≡ l
-    → bytes_from bytes k (n + m) ≡ bytes_from bytes k n ++ bytes_from bytes l m
+    → file_bytes_from bytes k (n + m) ≡ file_bytes_from bytes k n ++ file_bytes_from bytes l m
 from_add bytes k zero m l e =
     let same : k ≡ l = omega arith in
     let none : 0 + m ≡ m = omega arith in
@@ -26,17 +26,17 @@ from_add bytes k (suc n) m l e =
     rw more (ap (λ (r : List ℕ). byte_at bytes k ∷ r) (from_add bytes (suc k) n m l (omega arith)))
 
 -- the numbers that a file names are written as their bytes
-four_said : (bytes : List ℕ) (k : ℕ) → AreBytes bytes → bytes_from bytes k 4 ≡ big_bytes 4 (number_in bytes k 4)
-unfolding number_in
-four_said bytes k fits = sym (four_again (bytes_from bytes k 4) (bytes_at bytes k 4 fits) (omega arith))
+four_said : (bytes : List ℕ) (k : ℕ) → AreBytes bytes → file_bytes_from bytes k 4 ≡ big_bytes 4 (number_from bytes k 4)
+unfolding number_from
+four_said bytes k fits = sym (four_again (file_bytes_from bytes k 4) (bytes_at bytes k 4 fits) (omega arith))
 
-two_said : (bytes : List ℕ) (k : ℕ) → AreBytes bytes → bytes_from bytes k 2 ≡ big_bytes 2 (number_in bytes k 2)
-unfolding number_in
-two_said bytes k fits = sym (two_again (bytes_from bytes k 2) (bytes_at bytes k 2 fits) (omega arith))
+two_said : (bytes : List ℕ) (k : ℕ) → AreBytes bytes → file_bytes_from bytes k 2 ≡ big_bytes 2 (number_from bytes k 2)
+unfolding number_from
+two_said bytes k fits = sym (two_again (file_bytes_from bytes k 2) (bytes_at bytes k 2 fits) (omega arith))
 
 -- a number of two bytes is below 2^16
-two_within : (bytes : List ℕ) (k : ℕ) → AreBytes bytes → number_in bytes k 2 < 2 ^ 16
-unfolding number_in
+two_within : (bytes : List ℕ) (k : ℕ) → AreBytes bytes → number_from bytes k 2 < 2 ^ 16
+unfolding number_from
 two_within bytes k fits = omega (arith, fits k, fits (suc k))
 
 -- the parts of a head, one after the other
@@ -46,17 +46,17 @@ head_joined magic fields four two = append_assoc (magic ++ fields) four two ∙ 
 
 -- bytes with this start and these n fields have the head that says so, and the numbers after the fields
 head_said : (bytes magic fields : List ℕ) (n : ℕ) → AreBytes bytes → magic ≡ take 4 bytes
-    → fields ≡ bytes_from bytes 4 n → 4 + (n + 6) ≤ length bytes
-    → take (4 + (n + 6)) bytes ≡ head_of magic fields (number_in bytes (4 + n) 4) (number_in bytes (4 + n + 4) 2)
+    → fields ≡ file_bytes_from bytes 4 n → 4 + (n + 6) ≤ length bytes
+    → take (4 + (n + 6)) bytes ≡ card_file_head magic fields (number_from bytes (4 + n) 4) (number_from bytes (4 + n + 4) 2)
 head_said bytes magic fields n fits start own long =
-    let numbers : bytes_from bytes (4 + n) 6
-    ≡ big_bytes 4 (number_in bytes (4 + n) 4) ++ big_bytes 2 (number_in bytes (4 + n + 4) 2) =
+    let numbers : file_bytes_from bytes (4 + n) 6
+    ≡ big_bytes 4 (number_from bytes (4 + n) 4) ++ big_bytes 2 (number_from bytes (4 + n + 4) 2) =
     from_add bytes (4 + n) 4 2 (4 + n + 4) refl
-    ∙ (ap (λ (r : List ℕ). r ++ bytes_from bytes (4 + n + 4) 2) (four_said bytes (4 + n) fits)
-    ∙ ap (λ (r : List ℕ). big_bytes 4 (number_in bytes (4 + n) 4) ++ r) (two_said bytes (4 + n + 4) fits)) in
-    let after : take (n + 6) (drop 4 bytes) ≡ fields ++ bytes_from bytes (4 + n) 6 =
+    ∙ (ap (λ (r : List ℕ). r ++ file_bytes_from bytes (4 + n + 4) 2) (four_said bytes (4 + n) fits)
+    ∙ ap (λ (r : List ℕ). big_bytes 4 (number_from bytes (4 + n) 4) ++ r) (two_said bytes (4 + n + 4) fits)) in
+    let after : take (n + 6) (drop 4 bytes) ≡ fields ++ file_bytes_from bytes (4 + n) 6 =
     cut_bytes bytes 4 (n + 6) long
-    ∙ (from_add bytes 4 n 6 (4 + n) refl ∙ ap (λ (r : List ℕ). r ++ bytes_from bytes (4 + n) 6) (sym own)) in
+    ∙ (from_add bytes 4 n 6 (4 + n) refl ∙ ap (λ (r : List ℕ). r ++ file_bytes_from bytes (4 + n) 6) (sym own)) in
     take-add 4 (n + 6) bytes
     ∙ (ap (λ (r : List ℕ). r ++ take (n + 6) (drop 4 bytes)) (sym start)
     ∙ ap (λ (r : List ℕ). magic ++ r) (after ∙ ap (λ (r : List ℕ). fields ++ r) numbers))
@@ -65,15 +65,15 @@ head_said bytes magic fields n fits start own long =
 -- that is due
 pub record IsSound (bytes magic own : List ℕ) (n m : ℕ) : Type 0 where
   pub start : magic ≡ take 4 bytes
-  pub fields : own ≡ bytes_from bytes 4 n
+  pub fields : own ≡ file_bytes_from bytes 4 n
   pub size : length bytes ≡ 4 + (n + 6) + 32 * m + 16
   pub check : check_in bytes ≡ check_due bytes
 
 -- so the secrets that they keep are m, the system has two bytes, and they are the file of that head and those secrets
 pub sound_is_file : (bytes magic fields : List ℕ) (n m : ℕ) (secrets : List (List ℕ)) → AreBytes bytes
-    → IsSound bytes magic fields n m → AreKept bytes (4 + (n + 6)) secrets
-    → (length secrets ≡ m) × (number_in bytes (4 + n + 4) 2 < 2 ^ 16)
-    × (bytes ≡ file_bytes (head_of magic fields (number_in bytes (4 + n) 4) (number_in bytes (4 + n + 4) 2)) secrets)
+    → IsSound bytes magic fields n m → AreKeptSecrets bytes (4 + (n + 6)) secrets
+    → (length secrets ≡ m) × (number_from bytes (4 + n + 4) 2 < 2 ^ 16)
+    × (bytes ≡ file_bytes (card_file_head magic fields (number_from bytes (4 + n) 4) (number_from bytes (4 + n + 4) 2)) secrets)
 sound_is_file bytes magic fields n m secrets fits sound kept =
     let head = head_said bytes magic fields n fits sound.start sound.fields (omega (arith, sound.size)) in (
       kept_count bytes secrets (4 + (n + 6)) m kept sound.size,
@@ -84,7 +84,7 @@ sound_is_file bytes magic fields n m secrets fits sound kept =
 -- ---- a file that is written is sound
 
 -- the part of bytes that stands after others
-part_at : (xs ys zs : List ℕ) (k n : ℕ) → length xs ≡ k → length ys ≡ n → bytes_from (xs ++ (ys ++ zs)) k n ≡ ys
+part_at : (xs ys zs : List ℕ) (k n : ℕ) → length xs ≡ k → length ys ≡ n → file_bytes_from (xs ++ (ys ++ zs)) k n ≡ ys
 part_at xs ys zs k n at long =
     sym (cut_bytes (xs ++ (ys ++ zs)) k n
     (omega (arith, length-append xs (ys ++ zs), length-append ys zs, at, long)))
@@ -92,12 +92,12 @@ part_at xs ys zs k n at long =
 
 -- a file of secrets, cut at the parts of its head
 file_parts : (magic own : List ℕ) (leaf ca : ℕ) (secrets : List (List ℕ))
-    → (rest : List ℕ) × (file_bytes (head_of magic own leaf ca) secrets
+    → (rest : List ℕ) × (file_bytes (card_file_head magic own leaf ca) secrets
     ≡ magic ++ (own ++ (big_bytes 4 leaf ++ (big_bytes 2 ca ++ rest))))
 unfolding file_bytes file_body
 file_parts magic own leaf ca secrets =
     let numbers = big_bytes 4 leaf ++ big_bytes 2 ca in
-    let head = head_of magic own leaf ca in
+    let head = card_file_head magic own leaf ca in
     let check = check_of (head ++ concat secrets) in
     let rest = concat secrets ++ check in (
       rest,
@@ -109,18 +109,18 @@ file_parts magic own leaf ca secrets =
 -- these bytes are sound, and name this leaf and this system after the fields
 pub record IsFileOf (bytes magic own : List ℕ) (u system n m : ℕ) : Type 0 where
   pub sound : IsSound bytes magic own n m
-  pub leaf : number_in bytes (4 + n) 4 ≡ u
-  pub ca : number_in bytes (4 + n + 4) 2 ≡ system
+  pub leaf : number_from bytes (4 + n) 4 ≡ u
+  pub ca : number_from bytes (4 + n + 4) 2 ≡ system
 
 -- which a file with their head is
 pub file_is_sound : (magic own : List ℕ) (leaf ca n m : ℕ) (secrets : List (List ℕ)) → length magic ≡ 4
     → length own ≡ n → leaf < 2 ^ 32 → ca < 2 ^ 16 → length secrets ≡ m → AreSecrets secrets
-    → IsFileOf (file_bytes (head_of magic own leaf ca) secrets) magic own leaf ca n m
-unfolding number_in
+    → IsFileOf (file_bytes (card_file_head magic own leaf ca) secrets) magic own leaf ca n m
+unfolding number_from
 file_is_sound magic own leaf ca n m secrets four fields leaf_low ca_low count long =
     let four_bytes = big_bytes 4 leaf in
     let two_bytes = big_bytes 2 ca in
-    let head = head_of magic own leaf ca in
+    let head = card_file_head magic own leaf ca in
     let (rest, parts) = file_parts magic own leaf ca secrets in
     let at_leaf : length (magic ++ own) ≡ 4 + n = omega (arith, length-append magic own, four, fields) in
     let at_ca : length ((magic ++ own) ++ four_bytes) ≡ 4 + n + 4 =
@@ -138,14 +138,14 @@ file_is_sound magic own leaf ca n m secrets four fields leaf_low ca_low count lo
     record {
       sound = record {
         start = sym (ap (take 4) parts ∙ take_at magic _ 4 four);
-        fields = sym (ap (λ (r : List ℕ). bytes_from r 4 n) parts ∙ part_at magic own _ 4 n four fields);
+        fields = sym (ap (λ (r : List ℕ). file_bytes_from r 4 n) parts ∙ part_at magic own _ 4 n four fields);
         size = file_length head secrets long ∙ omega (arith, size, count);
         check = check_written head secrets;
       };
-      leaf = ap (λ (r : List ℕ). big_number 4 (bytes_from r (4 + n) 4)) before_leaf
+      leaf = ap (λ (r : List ℕ). big_number 4 (file_bytes_from r (4 + n) 4)) before_leaf
           ∙ (ap (big_number 4) (part_at (magic ++ own) four_bytes (two_bytes ++ rest) (4 + n) 4 at_leaf refl)
           ∙ number_again 4 leaf [] (omega (arith, leaf_low)));
-      ca = ap (λ (r : List ℕ). big_number 2 (bytes_from r (4 + n + 4) 2)) before_ca
+      ca = ap (λ (r : List ℕ). big_number 2 (file_bytes_from r (4 + n + 4) 2)) before_ca
           ∙ (ap (big_number 2) (part_at ((magic ++ own) ++ four_bytes) two_bytes rest (4 + n + 4) 2 at_ca refl)
           ∙ number_again 2 ca [] (omega (arith, ca_low)));
     }

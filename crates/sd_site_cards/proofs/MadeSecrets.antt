@@ -16,7 +16,7 @@ use Rattle.sd_tree_keys.specs.declared.label.Side.TheVariants.{Left, Right}
 use Rattle.sd_tree_keys.proofs.Descents.{held_gives_label}
 use Rattle.sd_tree_keys.proofs.Paths.{path_is_node}
 use Rattle.sd_tree_keys.specs.Paths.{path_node, sibling_of}
-use Rattle.sd_tree_keys.specs.Names.{given_under}
+use Rattle.sd_tree_keys.specs.Names.{pair_names_under}
 use Rattle.sd_tree_keys.specs.declared.name.Name.{Name}
 use Rattle.sd_tree_keys.specs.declared.name.Name.TheVariants.{Whole, Pair}
 use Rattle.sd_site_cards.specs.Files.{AreSecrets}
@@ -80,8 +80,8 @@ first_values f s (suc n) (suc m) le = ap (λ (xs : List _). f s ∷ xs) (first_v
 
 -- and these are the first of what the leaf is given under it
 pub labels_given : (master : List ℕ) (d u a n : ℕ) → a + n ≤ d
-    → labels_under master d u a n ≡ map (secret_of master) (take n (given_under d u a))
-unfolding given_under
+    → labels_under master d u a n ≡ map (secret_of master) (take n (pair_names_under d u a))
+unfolding pair_names_under
 labels_given master d u a n le =
     labels_are_secrets master d u a (a + 1) n
     ∙ ap (map (secret_of master))
@@ -105,7 +105,7 @@ lists_more f a (suc k) =
 
 -- the whole set, and of the pairs of each of the first k ancestors as many as n says
 abbrev pub names_first : (ℕ → ℕ) → ℕ → ℕ → ℕ → List Name
-names_first n d u k = Whole ∷ flat_map (λ a. take (n a) (given_under d u a)) (range_with_len 0 k)
+names_first n d u k = Whole ∷ flat_map (λ a. take (n a) (pair_names_under d u a)) (range_with_len 0 k)
 
 -- the first secret alone
 pub secrets_first : (master : List ℕ) (n : ℕ → ℕ) (d u : ℕ)
@@ -115,11 +115,11 @@ secrets_first master n d u = refl
 
 -- the secrets of one ancestor more
 pub secrets_more : (master : List ℕ) (n : ℕ → ℕ) (d u k : ℕ) → map (secret_of master) (names_first n d u k)
-    ++ map (secret_of master) (take (n k) (given_under d u k)) ≡ map (secret_of master) (names_first n d u (k + 1))
+    ++ map (secret_of master) (take (n k) (pair_names_under d u k)) ≡ map (secret_of master) (names_first n d u (k + 1))
 secrets_more master n d u k =
     let e : 0 + k ≡ k = omega arith in
-    let more = rw e at (lists_more (λ a. take (n a) (given_under d u a)) 0 k) in
-    rw add-one (rw more (sym (map-append (secret_of master) (names_first n d u k) (take (n k) (given_under d u k)))))
+    let more = rw e at (lists_more (λ a. take (n a) (pair_names_under d u a)) 0 k) in
+    rw add-one (rw more (sym (map-append (secret_of master) (names_first n d u k) (take (n k) (pair_names_under d u k)))))
 
 -- a child's label has the length of a hash
 length_third : (side : Side) (label : List ℕ) → length (third_of side label) ≡ 32

@@ -9,7 +9,7 @@ use Rattle.std.proofs.lemmas.List.Elements.{All-from_recursion}
 use Rattle.std.proofs.lemmas.List.Kept.{AllPairs-cons}
 use Rattle.sd_tree_keys.proofs.Levels.{same_level}
 use Rattle.sd_tree_keys.specs.Paths.{path_node, sibling_of}
-use Rattle.sd_tree_keys.specs.Names.{given, given_under}
+use Rattle.sd_tree_keys.specs.Names.{names_of_receiver, pair_names_under}
 use Rattle.sd_tree_keys.specs.declared.name.Name.{Name}
 use Rattle.sd_tree_keys.specs.declared.name.Name.TheVariants.{Whole, Pair}
 use Rattle.sd_tree_keys.proofs.Paths.{path_level, sibling_half}
@@ -69,13 +69,13 @@ each_pair P d u a s (suc n) of = (of (sibling_of (path_node d u s)), each_pair P
 -- and of those that are given under several ancestors
 each_given : (P : Name → Type 0) (d u s n : ℕ)
     → ((k w : ℕ) → s ≤ k → k < s + n → P (Pair (path_node d u k) w))
-    → AllByRecursion P (flat_map (given_under d u) (range_with_len s n))
-unfolding given_under
+    → AllByRecursion P (flat_map (pair_names_under d u) (range_with_len s n))
+unfolding pair_names_under
 each_given P d u s zero of = tt
 each_given P d u s (suc n) of =
-    let rest = flat_map (given_under d u) (range_with_len (s + 1) n) in
-    rw (flat_map-cons (given_under d u) s (range_with_len (s + 1) n)) (
-    all_append P (given_under d u s) rest
+    let rest = flat_map (pair_names_under d u) (range_with_len (s + 1) n) in
+    rw (flat_map-cons (pair_names_under d u) s (range_with_len (s + 1) n)) (
+    all_append P (pair_names_under d u s) rest
     (each_pair P d u s (s + 1) (d - s) (λ w. of s w (omega arith) (omega arith)))
     (each_given P d u (s + 1) n (λ k w low high. of k w (omega arith) (omega arith))))
 
@@ -98,13 +98,13 @@ under_once d u a s (suc n) leaf some le = (
 
 -- and so do those of several ancestors
 from_once : (d u s n : ℕ) → u < 2 ^ d → s + n ≡ d
-    → Pairs (λ x y. x ≢ y) (flat_map (given_under d u) (range_with_len s n))
-unfolding given_under
+    → Pairs (λ x y. x ≢ y) (flat_map (pair_names_under d u) (range_with_len s n))
+unfolding pair_names_under
 from_once d u s zero leaf e = tt
 from_once d u s (suc n) leaf e =
-    let rest = flat_map (given_under d u) (range_with_len (s + 1) n) in
-    rw (flat_map-cons (given_under d u) s (range_with_len (s + 1) n)) (
-    pairs_append (λ x y. x ≢ y) (given_under d u s) rest
+    let rest = flat_map (pair_names_under d u) (range_with_len (s + 1) n) in
+    rw (flat_map-cons (pair_names_under d u) s (range_with_len (s + 1) n)) (
+    pairs_append (λ x y. x ≢ y) (pair_names_under d u s) rest
     (under_once d u s (s + 1) (d - s) leaf (omega arith) (omega arith))
     (from_once d u (s + 1) n leaf (omega arith))
     (each_pair (λ x. AllByRecursion (λ y. x ≢ y) rest) d u s (s + 1) (d - s)
@@ -112,9 +112,9 @@ from_once d u s (suc n) leaf e =
     (λ k v low high same. depths_apart d u s k leaf (omega arith) (omega arith) cc))))
 
 -- all names that a leaf is given differ
-pub given_once : (d u : ℕ) → u < 2 ^ d → AllPairs (λ a b. a ≢ b) (given d u)
-unfolding given
-given_once d u leaf = all_pairs (λ x y. x ≢ y) (given d u) (
+pub given_once : (d u : ℕ) → u < 2 ^ d → AllPairs (λ a b. a ≢ b) (names_of_receiver d u)
+unfolding names_of_receiver
+given_once d u leaf = all_pairs (λ x y. x ≢ y) (names_of_receiver d u) (
   each_given (λ y. Whole ≢ y) d u 0 d (λ k w low high same. cc),
   from_once d u 0 d leaf (omega arith),
 )

@@ -9,7 +9,7 @@ use Rattle.std.proofs.lemmas.List.Concat.{flat_map-cons}
 use Rattle.std.proofs.lemmas.List.FromFn.{length-map-range_with_len, get_or-map-range_with_len}
 use Rattle.sd_tree_keys.specs.declared.name.Name.{Name}
 use Rattle.sd_tree_keys.specs.declared.name.Name.TheVariants.{Whole, Pair}
-use Rattle.sd_tree_keys.specs.Names.{given, given_under}
+use Rattle.sd_tree_keys.specs.Names.{names_of_receiver, pair_names_under}
 use Rattle.sd_tree_keys.specs.Paths.{path_node, sibling_of}
 use Rattle.sd_tree_keys.proofs.NameCounts.{length_given_under}
 
@@ -27,8 +27,8 @@ get_after (x ∷ xs) ys k (suc n) e = get_after xs ys k n (omega arith)
 
 -- a pair among those of its ancestor
 pub pair_under : (d u a b r : ℕ) → a + 1 + r ≡ b → b ≤ d
-    → slice_get (given_under d u a) r ≡ Some (Pair (path_node d u a) (sibling_of (path_node d u b)))
-unfolding given_under
+    → slice_get (pair_names_under d u a) r ≡ Some (Pair (path_node d u a) (sibling_of (path_node d u b)))
+unfolding pair_names_under
 pair_under d u a b r e le =
     let f : ℕ → Name = λ k. Pair (path_node d u a) (sibling_of (path_node d u k)) in
     let within : r < length (map f (range_with_len (a + 1) (d - a))) =
@@ -39,19 +39,19 @@ pair_under d u a b r e le =
 -- a pair among those of the n lowest ancestors, from depth s on: after those of m of them and r of its own
 pub pair_from : (d u s n m p r k a b : ℕ) → s + n ≡ d → m + p + 1 ≡ n → r ≤ p → 2 * k ≡ m * (m + 2 * p + 3) + 2 * r
     → s + m ≡ a → a + 1 + r ≡ b
-    → slice_get (flat_map (given_under d u) (range_with_len s n)) k
+    → slice_get (flat_map (pair_names_under d u) (range_with_len s n)) k
     ≡ Some (Pair (path_node d u a) (sibling_of (path_node d u b)))
 pair_from d u s zero m p r k a b whole parts own place from to = absurd (omega arith)
 pair_from d u s (suc n) zero p r k a b whole parts own place from to =
     let first : k ≡ r = omega arith in
     let at : s ≡ a = omega arith in
-    rw (flat_map-cons (given_under d u) s (range_with_len (s + 1) n))
-    (get_first (given_under d u s) (flat_map (given_under d u) (range_with_len (s + 1) n)) k
+    rw (flat_map-cons (pair_names_under d u) s (range_with_len (s + 1) n))
+    (get_first (pair_names_under d u s) (flat_map (pair_names_under d u) (range_with_len (s + 1) n)) k
     (omega (arith, length_given_under d u s))
     ∙ rw (first, at) (pair_under d u a b r to (omega arith)))
 pair_from d u s (suc n) (suc m) p r k a b whole parts own place from to =
-    rw (flat_map-cons (given_under d u) s (range_with_len (s + 1) n))
-    (get_after (given_under d u s) (flat_map (given_under d u) (range_with_len (s + 1) n)) (k - (m + p + 2)) k
+    rw (flat_map-cons (pair_names_under d u) s (range_with_len (s + 1) n))
+    (get_after (pair_names_under d u s) (flat_map (pair_names_under d u) (range_with_len (s + 1) n)) (k - (m + p + 2)) k
     (omega (arith, length_given_under d u s))
     ∙ pair_from d u (s + 1) n m p r (k - (m + p + 2)) a b (omega arith) (omega arith) own (omega arith) (omega arith)
     to)
@@ -63,9 +63,9 @@ even_product (suc a) = let (t, e) = even_product a in (t + a + 2, omega (arith, 
 
 -- the pair of the path node at depth a and the node that hangs at depth b
 pub pair_at : (d u a b : ℕ) → a < b → b ≤ d
-    → slice_get (given d u) (a * (2 * d - a + 1) / 2 + (b - a))
+    → slice_get (names_of_receiver d u) (a * (2 * d - a + 1) / 2 + (b - a))
     ≡ Some (Pair (path_node d u a) (sibling_of (path_node d u b)))
-unfolding given
+unfolding names_of_receiver
 pair_at d u a b less le =
     let (t, even) = even_product a in
     let p : ℕ = d - a - 1 in

@@ -5,18 +5,18 @@ use Rattle.std.proofs.lemmas.Bool.{eqb-true, leb-true, le-leb, and_parts, and_fr
 use Rattle.std.proofs.lemmas.Slice.Eq.{bytes_eq-Decides}
 use Rattle.std.proofs.lemmas.Bool.Decides.{Decides-eqb}
 use Rattle.std.proofs.Math.Pow.{pow_mono}
-use Rattle.sd_site_cards.specs.Files.{AreKept, byte_at, check_in, check_due, file_body, file_bytes}
+use Rattle.sd_site_cards.specs.Files.{AreKeptSecrets, byte_at, check_in, check_due, file_body, file_bytes}
 use Rattle.sd_site_cards.proofs.Written.{AreBytes, passed, goes, secrets_once}
 use Rattle.sd_site_cards.proofs.Heads.{IsFileOf, sound_is_file, file_is_sound}
-use Rattle.sd_site_cards.specs.CardFields.{CardFields, IsCard, saying, card_head, card_bytes, card_magic}
-use Rattle.sd_site_cards.specs.CardFaults.{height_in, leaf_in, ca_in, length_at, fault_in}
+use Rattle.sd_site_cards.specs.CardFields.{CardFields, IsCard, card_saying, card_head, card_bytes, card_magic}
+use Rattle.sd_site_cards.specs.CardFaults.{height_in, card_leaf, ca_in, length_at, fault_in}
 
 -- what nothing is wrong with
 pub record IsGood (bytes : List ℕ) : Type 0 where
   pub magic : card_magic ≡ take 4 bytes
   pub version : byte_at bytes 4 ≡ 1
   pub height : (1 ≤ height_in bytes) × (height_in bytes ≤ 20)
-  pub leaf : leaf_in bytes < 2 ^ height_in bytes
+  pub leaf : card_leaf bytes < 2 ^ height_in bytes
   pub size : length bytes ≡ length_at (height_in bytes)
   pub check : check_in bytes ≡ check_due bytes
 
@@ -42,8 +42,8 @@ good_parts bytes e =
 
 -- what is read from bytes with which nothing is wrong is a card that they spell
 pub read_is_spelled : (bytes : List ℕ) (d u ca : ℕ) (secrets : List (List ℕ)) → AreBytes bytes → fault_in bytes ≡ None
-    → d ≡ height_in bytes → u ≡ leaf_in bytes → ca ≡ ca_in bytes → AreKept bytes 12 secrets
-    → IsCard (saying d u ca secrets) × (bytes ≡ card_bytes (saying d u ca secrets))
+    → d ≡ height_in bytes → u ≡ card_leaf bytes → ca ≡ ca_in bytes → AreKeptSecrets bytes 12 secrets
+    → IsCard (card_saying d u ca secrets) × (bytes ≡ card_bytes (card_saying d u ca secrets))
 unfolding length_at card_bytes card_head
 read_is_spelled bytes d u ca secrets fits none height leaf system kept =
     let good = good_parts bytes none in
@@ -82,7 +82,7 @@ unfolding card_bytes file_bytes file_body card_head
 height_written card = refl
 
 -- the leaf
-pub leaf_written : (card : CardFields) → IsCard card → leaf_in (card_bytes card) ≡ card.leaf
+pub leaf_written : (card : CardFields) → IsCard card → card_leaf (card_bytes card) ≡ card.leaf
 leaf_written card is = (written card is).leaf
 
 -- and the system
@@ -97,7 +97,7 @@ written_is_good card is =
     let bytes : List ℕ = card_bytes card in
     let version : byte_at bytes 4 ≡ 1 = ap (λ (r : List ℕ). byte_at r 0) (sym file.sound.fields) in
     let height : (1 ≤ byte_at bytes 5) × (byte_at bytes 5 ≤ 20) = rw (height_written card) is.height in
-    let leaf : leaf_in bytes < 2 ^ byte_at bytes 5 = rw (file.leaf, height_written card) is.leaf in
+    let leaf : card_leaf bytes < 2 ^ byte_at bytes 5 = rw (file.leaf, height_written card) is.leaf in
     let size : length bytes ≡ length_at (byte_at bytes 5) =
     rw (height_written card) file.sound.size in
     goes _ _ _ ((bytes_eq-Decides _ _).1 file.sound.start)
@@ -113,8 +113,8 @@ unfolding card_bytes card_head
 written_once a b is_a is_b e =
     let height : a.height ≡ b.height =
     sym (height_written a) ∙ (ap (λ (r : List ℕ). byte_at r 5) e ∙ height_written b) in
-    let leaf : a.leaf ≡ b.leaf = sym (leaf_written a is_a) ∙ (ap leaf_in e ∙ leaf_written b is_b) in
+    let leaf : a.leaf ≡ b.leaf = sym (leaf_written a is_a) ∙ (ap card_leaf e ∙ leaf_written b is_b) in
     let ca : a.ca ≡ b.ca = sym (ca_written a is_a) ∙ (ap ca_in e ∙ ca_written b is_b) in
     let count : length a.secrets ≡ length b.secrets = is_a.count ∙ rw height (sym is_b.count) in
     let secrets = secrets_once _ _ a.secrets b.secrets 12 refl refl is_a.secrets is_b.secrets count e in
-    λ i. saying (height i) (leaf i) (ca i) (secrets i)
+    λ i. card_saying (height i) (leaf i) (ca i) (secrets i)

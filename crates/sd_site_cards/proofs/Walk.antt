@@ -14,16 +14,16 @@ use Rattle.sd_site_cards.specs.Forms.{NumberLine, BytesLine, number, bytes, book
 use Rattle.sd_site_cards.specs.Forms.{number_on, bytes_on, most_book_size, number_or, height_line, master_line, ca_line}
 use Rattle.sd_site_cards.specs.Forms.{emm_line, ecm_line, every_line, cryptos_line, span_line, messages_line}
 use Rattle.sd_site_cards.specs.Forms.{first_word_line, last_word_line, first_period_line}
-use Rattle.sd_site_cards.specs.Text.{◌>>=◌, SpellsSite, in_range, well_formed, number_at, optional_at, bytes_at, judged_whole}
-use Rattle.sd_site_cards.specs.Text.{optional_on, in_book_range, book_at, book_on, said_on}
+use Rattle.sd_site_cards.specs.Text.{◌>>=◌, SpellsSite, in_range, well_formed, number_on_line, optional_at, bytes_at, judged_whole}
+use Rattle.sd_site_cards.specs.Text.{optional_on, in_book_range, book_line_at, book_on, site_and_book_on}
 use Rattle.sd_site_cards.specs.declared.optional.Optional.{Optional}
-use Rattle.sd_site_cards.specs.SiteFaults.{IsGood, NextIs, AreGood, IsCauseOf}
+use Rattle.sd_site_cards.specs.SiteFaults.{IsGood, NextIs, AreGoodSiteLines, IsSiteFaultOf}
 
 -- the first n lines are good, and these are the ones after them
 pub record Walked (n : ℕ) (lines rest : List (List ℕ)) : Type 0 where
   pub after : (j : ℕ) → slice_get lines (n + j) ≡ slice_get rest j
   pub count : length lines ≡ n + length rest
-  pub good : AreGood n lines
+  pub good : AreGoodSiteLines n lines
 
 -- an answer on lines: the site and what line 13 says, or a fault
 abbrev pub Answer : Type 0
@@ -37,7 +37,7 @@ pub record SaysBook (lines : List (List ℕ)) (said : Option BookLine) : Type 0 
 -- what the lines are where this is the answer
 abbrev pub Tells : List (List ℕ) → Answer → Type 0
 Tells lines (Ok said) = SpellsSite lines said.0 × AreInRange said.0 × SaysBook lines said.1
-Tells lines (Err fault) = IsCauseOf lines fault
+Tells lines (Err fault) = IsSiteFaultOf lines fault
 
 -- what follows a step
 abbrev Step : Type 0 → Type 0
@@ -59,7 +59,7 @@ next : (n : ℕ) (lines rest : List (List ℕ)) (line : List ℕ) → Walked n l
 next n lines rest line walked = let e : n + 0 ≡ n = omega arith in rw e at (walked.after 0)
 
 -- one good line more
-good_more : (n : ℕ) (lines : List (List ℕ)) → AreGood n lines → NextIs IsGood n lines → AreGood (n + 1) lines
+good_more : (n : ℕ) (lines : List (List ℕ)) → AreGoodSiteLines n lines → NextIs IsGood n lines → AreGoodSiteLines (n + 1) lines
 good_more n lines good one i lt =
     elim (cases_lt i n) [
       | inl below ↦ good i below
@@ -76,14 +76,14 @@ walk n lines rest line walked one = record {
 }
 
 -- all lines are passed
-over : (n : ℕ) (lines : List (List ℕ)) → Walked n lines [] → (length lines ≡ n) × AreGood (length lines) lines
+over : (n : ℕ) (lines : List (List ℕ)) → Walked n lines [] → (length lines ≡ n) × AreGoodSiteLines (length lines) lines
 over n lines walked =
     let count : length lines ≡ n = omega (arith, walked.count) in
     (count, rw count walked.good)
 
 -- good lines that end are fewer than eight
 ends : (n : ℕ) (lines : List (List ℕ)) → n < 8 → Walked n lines []
-    → (length lines < 8) × AreGood (length lines) lines
+    → (length lines < 8) × AreGoodSiteLines (length lines) lines
 ends n lines lt walked = let h = over n lines walked in (omega (arith, h.0), h.1)
 
 -- a number is in range or out of it
@@ -121,7 +121,7 @@ number_step : (n : ℕ) (form : NumberLine) (lines rest : List (List ℕ)) → n
     → slice_get forms n ≡ Some (number form) → (answer : Step ℕ)
     → ((value : ℕ) (after : List (List ℕ)) → number_on form (slice_get lines n) ≡ Some value → IsWithin form value
     → Walked (n + 1) lines after → Tells lines (answer (value, after)))
-    → Tells lines (number_at (n + 1) form rest >>= answer)
+    → Tells lines (number_on_line (n + 1) form rest >>= answer)
 number_step n form lines [] lt walked is answer more = ends n lines lt walked
 number_step n form lines (line ∷ rest) lt walked is answer more =
     number_case n form lines rest line walked is answer (λ value. more value rest) (decimal_after form.word line) refl
@@ -271,7 +271,7 @@ MaySayBook lines = IfSome (slice_get lines 12) (λ line. IsSome (book_after line
 book_step : (lines rest : List (List ℕ)) → Passed 12 lines rest → (answer : Step (Option BookLine))
     → ((said : Option BookLine) (after : List (List ℕ)) → MaySayBook lines → SaysBook lines said
     → Passed 13 lines after → Tells lines (answer (said, after)))
-    → Tells lines (book_at rest >>= answer)
+    → Tells lines (book_line_at rest >>= answer)
 unfolding book_on forms
 book_step lines [] passed answer more =
     let all = passed_all 12 lines (omega arith) passed in
@@ -288,7 +288,7 @@ book_step lines (line ∷ rest) (inr (k, eight, below, walked, e)) answer more =
 
 -- the PIDs are equal, or all is good
 pids : (lines : List (List ℕ)) (said : SiteFields × Option BookLine) → 8 ≤ length lines
-    → AreGood (length lines) lines → number_on emm_line (slice_get lines 3) ≡ Some said.0.emm
+    → AreGoodSiteLines (length lines) lines → number_on emm_line (slice_get lines 3) ≡ Some said.0.emm
     → number_on ecm_line (slice_get lines 4) ≡ Some said.0.ecm
     → ((said.0.emm ≡ said.0.ecm → ⊥) → Tells lines (Ok said))
     → (same : Bool) → eqb said.0.emm said.0.ecm ≡ same → Tells lines (cond same (Err SamePid) (Ok said))
@@ -311,8 +311,8 @@ whole_case lines [] said passed emm ecm more =
     pids lines said least h.1 emm ecm (more least most) (eqb said.0.emm said.0.ecm) refl
 
 -- the lines are what the answer says
-pub lines_told : (lines : List (List ℕ)) → Tells lines (said_on lines)
-unfolding said_on forms
+pub lines_told : (lines : List (List ℕ)) → Tells lines (site_and_book_on lines)
+unfolding site_and_book_on forms
 lines_told lines =
     let start : Walked 0 lines lines = record {
       after = λ j. (let e : 0 + j ≡ j = omega arith in rw e refl);

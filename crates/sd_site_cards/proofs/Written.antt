@@ -7,8 +7,8 @@ use Rattle.std.proofs.lemmas.List.{take-take, append-nil}
 use Rattle.std.proofs.Math.Seq.{take-add, drop-cons}
 use Rattle.sha2.specs.Sha256.{sha256}
 use Rattle.sha2.proofs.Facts256.{length-sha256}
-use Rattle.sd_site_cards.specs.Files.{AreSecrets, AreKept, bytes_from, check_of, check_in, check_due}
-use Rattle.sd_site_cards.specs.Files.{file_body, file_bytes, unless}
+use Rattle.sd_site_cards.specs.Files.{AreSecrets, AreKeptSecrets, file_bytes_from, check_of, check_in, check_due}
+use Rattle.sd_site_cards.specs.Files.{file_body, file_bytes, file_fault_unless}
 use Rattle.sd_site_cards.proofs.Joined.{concat_more, length_joined, joined_once}
 
 -- each number is a byte
@@ -16,27 +16,27 @@ abbrev pub AreBytes : List ℕ → Type 0
 AreBytes bytes = (i : ℕ) → get_or bytes i 0 < 256
 
 -- bytes of bytes are bytes
-pub bytes_at : (bytes : List ℕ) (k n : ℕ) → AreBytes bytes → AreBytes (bytes_from bytes k n)
+pub bytes_at : (bytes : List ℕ) (k n : ℕ) → AreBytes bytes → AreBytes (file_bytes_from bytes k n)
 bytes_at bytes k zero fits i = omega arith
 bytes_at bytes k (suc n) fits zero = fits k
 bytes_at bytes k (suc n) fits (suc i) = bytes_at bytes (suc k) n fits i
 
 -- cut bytes are those from that place on
-pub cut_bytes : (bytes : List ℕ) (k n : ℕ) → k + n ≤ length bytes → take n (drop k bytes) ≡ bytes_from bytes k n
+pub cut_bytes : (bytes : List ℕ) (k n : ℕ) → k + n ≤ length bytes → take n (drop k bytes) ≡ file_bytes_from bytes k n
 cut_bytes bytes k zero le = refl
 cut_bytes bytes k (suc n) le =
     rw (drop-cons bytes k 0 (omega arith))
     (ap (λ (r : List ℕ). get_or bytes k 0 ∷ r) (cut_bytes bytes (suc k) n (omega arith)))
 
 -- where no fault is after, the field is good
-pub passed : {F : Type 0} (good : Bool) (fault : F) (after : Option F) → unless good fault after ≡ None
+pub passed : {F : Type 0} (good : Bool) (fault : F) (after : Option F) → file_fault_unless good fault after ≡ None
     → (good ≡ true) × (after ≡ None)
 passed true fault after e = (refl, e)
 passed false fault after e = absurd cc
 
 -- a field that is good has no fault of its own
 pub goes : {F : Type 0} (good : Bool) (fault : F) (after : Option F) → good ≡ true → after ≡ None
-    → unless good fault after ≡ None
+    → file_fault_unless good fault after ≡ None
 goes true fault after is none = none
 goes false fault after is none = absurd cc
 
@@ -104,7 +104,7 @@ secrets_once a b ss ts k at_a at_b long_s long_t count e =
 -- secrets that are joined to all but the bytes left over of what is between the head and the check are those kept there
 pub kept_of_inner : (bytes inner : List ℕ) (secrets : List (List ℕ)) (k : ℕ) → k + 16 ≤ length bytes
     → inner ≡ take (length bytes - 16 - k) (drop k bytes) → length secrets ≡ length inner / 32
-    → concat secrets ≡ take (32 * length secrets) inner → AreSecrets secrets → AreKept bytes k secrets
+    → concat secrets ≡ take (32 * length secrets) inner → AreSecrets secrets → AreKeptSecrets bytes k secrets
 kept_of_inner bytes inner secrets k room is count joined long =
     let m : ℕ = length bytes - 16 - k in
     let size : length inner ≡ m = ap length is
@@ -117,12 +117,12 @@ kept_of_inner bytes inner secrets k room is count joined long =
     }
 
 -- as many secrets are kept as there is room for between the head and the check
-pub kept_count : (bytes : List ℕ) (secrets : List (List ℕ)) (k n : ℕ) → AreKept bytes k secrets
+pub kept_count : (bytes : List ℕ) (secrets : List (List ℕ)) (k n : ℕ) → AreKeptSecrets bytes k secrets
     → length bytes ≡ k + 32 * n + 16 → length secrets ≡ n
 kept_count bytes secrets k n kept size = omega (arith, kept.count, size)
 
 -- bytes with this head and the check that is due are the file of the secrets that they keep
-pub file_said : (bytes head : List ℕ) (secrets : List (List ℕ)) (k n : ℕ) → AreKept bytes k secrets
+pub file_said : (bytes head : List ℕ) (secrets : List (List ℕ)) (k n : ℕ) → AreKeptSecrets bytes k secrets
     → length bytes ≡ k + 32 * n + 16 → take k bytes ≡ head → check_in bytes ≡ check_due bytes
     → bytes ≡ file_bytes head secrets
 unfolding file_bytes file_body check_in check_due

@@ -2,9 +2,10 @@
 use Rattle.std.specs.Prelude.{◌≡◌, ℕ, ◌+◌, ◌*◌, ◌/◌, ◌^◌, ◌<◌, ◌≤◌, List, [], ◌∷◌, length, map, codes}
 use Rattle.sd_tree_keys.specs.Limits.{highest}
 use Rattle.sd_tree_keys.specs.declared.set.SetName.{SetName}
-use Rattle.sd_tree_keys.specs.Names.{given}
-use Rattle.sd_site_cards.specs.Files.{AreSecrets, head_of, file_bytes}
+use Rattle.sd_tree_keys.specs.Names.{names_of_receiver}
+use Rattle.sd_site_cards.specs.Files.{AreSecrets, card_file_head, file_bytes}
 use Rattle.sd_site_cards.specs.Secrets.{secret_of, DerivesKey, key_held}
+use Rattle.sd_site_cards.specs.SiteFields.{SiteFields}
 use Rattle.sd_site_cards.specs.declared.card.Card.{Card}
 
 -- the bytes that a card's file begins with, and its version [this project, docs/FORMATS.md, Card]
@@ -23,12 +24,12 @@ pub record CardFields : Type 0 where
   pub secrets : List (List ℕ)
 
 -- a card that says this
-abbrev pub saying : ℕ → ℕ → ℕ → List (List ℕ) → CardFields
-saying d u ca secrets = record { height = d; leaf = u; ca = ca; secrets = secrets }
+abbrev pub card_saying : ℕ → ℕ → ℕ → List (List ℕ) → CardFields
+card_saying d u ca secrets = record { height = d; leaf = u; ca = ca; secrets = secrets }
 
 -- the same of a card as the program keeps it
 abbrev pub card_fields_of : Card → CardFields
-card_fields_of card = saying card.height card.leaf card.ca card.secrets.items
+card_fields_of card = card_saying card.height card.leaf card.ca card.secrets.items
 
 -- the numbers are in their ranges, and there are as many secrets as a leaf is given names
 -- [this project, docs/FORMATS.md, Card]
@@ -41,11 +42,15 @@ pub record IsCard (card : CardFields) : Type 0 where
 
 -- the card of a leaf: the secrets of the names that it is given, in their order [Naor, Naor, Lotspiech 2001, 3.2]
 unfoldable pub card_of : List ℕ → ℕ → ℕ → ℕ → CardFields
-card_of master ca d u = saying d u ca (map (secret_of master) (given d u))
+card_of master ca d u = card_saying d u ca (map (secret_of master) (names_of_receiver d u))
+
+-- the card of a leaf of a site
+abbrev pub site_card : SiteFields → ℕ → CardFields
+site_card site = card_of site.master site.ca site.height
 
 -- a card's file before its secrets [this project, docs/FORMATS.md, Card]
 unfoldable pub card_head : ℕ → ℕ → ℕ → List ℕ
-card_head d u ca = head_of card_magic (card_version ∷ d ∷ []) u ca
+card_head d u ca = card_file_head card_magic (card_version ∷ d ∷ []) u ca
 
 -- a card's file: its head, its secrets, and the check at its end [this project, docs/FORMATS.md, Card]
 unfoldable pub card_bytes : CardFields → List ℕ
@@ -53,8 +58,8 @@ card_bytes card = file_bytes (card_head card.height card.leaf card.ca) card.secr
 
 -- the key that a card gives for a set [Naor, Naor, Lotspiech 2001, 3.2]
 abbrev pub card_key : CardFields → SetName → List ℕ
-card_key card name = key_held (given card.height card.leaf) card.secrets name
+card_key card name = key_held (names_of_receiver card.height card.leaf) card.secrets name
 
 -- the key is derived from what the card holds, by so many steps
 abbrev pub CardDerives : CardFields → SetName → List ℕ → ℕ → Type 0
-CardDerives card name key taken = DerivesKey (given card.height card.leaf) card.secrets name key taken
+CardDerives card name key taken = DerivesKey (names_of_receiver card.height card.leaf) card.secrets name key taken

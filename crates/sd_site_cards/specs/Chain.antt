@@ -7,8 +7,8 @@ abbrev pub most_word : ℕ
 most_word = 4294967295
 
 -- so many control words are left above the site's last one
-abbrev pub has_room : ℕ → SiteFields → Bool
-has_room words site = nat_le (site.last_word + words) most_word
+abbrev pub has_word_room : ℕ → SiteFields → Bool
+has_word_room words site = nat_le (site.last_word + words) most_word
 
 -- the site of a broadcast at the same time: so many control words after the site's, the same first period
 abbrev pub twin_site : ℕ → SiteFields → SiteFields

@@ -15,13 +15,13 @@ abbrev pub byte_at : List ℕ → ℕ → ℕ
 byte_at bytes k = get_or bytes k 0
 
 -- n bytes of the file from place k on [this project, docs/FORMATS.md, Card]
-abbrev pub bytes_from : List ℕ → ℕ → ℕ → List ℕ
-bytes_from bytes k zero = []
-bytes_from bytes k (suc n) = byte_at bytes k ∷ bytes_from bytes (suc k) n
+abbrev pub file_bytes_from : List ℕ → ℕ → ℕ → List ℕ
+file_bytes_from bytes k zero = []
+file_bytes_from bytes k (suc n) = byte_at bytes k ∷ file_bytes_from bytes (suc k) n
 
 -- the number in n bytes of the file from place k on, the high byte first [this project, docs/FORMATS.md, Card]
-unfoldable pub number_in : List ℕ → ℕ → ℕ → ℕ
-number_in bytes k n = big_number n (bytes_from bytes k n)
+unfoldable pub number_from : List ℕ → ℕ → ℕ → ℕ
+number_from bytes k n = big_number n (file_bytes_from bytes k n)
 
 -- the check of bytes: the first 16 bytes of their hash [FIPS 180-4; this project, docs/FORMATS.md, Card]
 unfoldable pub check_of : List ℕ → List ℕ
@@ -29,8 +29,8 @@ check_of body = take CHECK_BYTES (sha256 body)
 
 -- the head of a card's file: the bytes that say what it is, fields of a byte each, the leaf and the conditional access
 -- system [this project, docs/FORMATS.md, Card]
-abbrev pub head_of : List ℕ → List ℕ → ℕ → ℕ → List ℕ
-head_of magic fields leaf ca = magic ++ (fields ++ (big_bytes 4 leaf ++ big_bytes 2 ca))
+abbrev pub card_file_head : List ℕ → List ℕ → ℕ → ℕ → List ℕ
+card_file_head magic fields leaf ca = magic ++ (fields ++ (big_bytes 4 leaf ++ big_bytes 2 ca))
 
 -- a file before its check: a head, and the secrets one after the other [this project, docs/FORMATS.md, Card]
 unfoldable pub file_body : List ℕ → List (List ℕ) → List ℕ
@@ -49,12 +49,12 @@ unfoldable pub check_due : List ℕ → List ℕ
 check_due bytes = check_of (take (length bytes - CHECK_BYTES) bytes)
 
 -- these are the secrets that a file keeps from place k on: as many as are whole before the check, one after the other
-pub record AreKept (bytes : List ℕ) (k : ℕ) (secrets : List (List ℕ)) : Type 0 where
+pub record AreKeptSecrets (bytes : List ℕ) (k : ℕ) (secrets : List (List ℕ)) : Type 0 where
   pub count : length secrets ≡ (length bytes - CHECK_BYTES - k) / SECRET_BYTES
   pub joined : concat secrets ≡ take (SECRET_BYTES * length secrets) (drop k bytes)
   pub long : AreSecrets secrets
 
 -- this fault where a field isn't good, and else what is wrong after the field
-abbrev pub unless : {F : Type 0} → Bool → F → Option F → Option F
-unless true fault after = after
-unless false fault after = Some fault
+abbrev pub file_fault_unless : {F : Type 0} → Bool → F → Option F → Option F
+file_fault_unless true fault after = after
+file_fault_unless false fault after = Some fault

@@ -34,22 +34,22 @@ NextIs IsSo n lines =
     × (slice_get forms n ≡ Some form) × (slice_get lines n ≡ Some line) × IsSo form line
 
 -- the first n lines are there and good
-abbrev pub AreGood : ℕ → List (List ℕ) → Type 0
-AreGood n lines = (i : ℕ) → i < n → NextIs IsGood i lines
+abbrev pub AreGoodSiteLines : ℕ → List (List ℕ) → Type 0
+AreGoodSiteLines n lines = (i : ℕ) → i < n → NextIs IsGood i lines
 
 -- lines 4 and 5 name the same PID
 abbrev pub NameOnePid : List (List ℕ) → Type 0
 NameOnePid lines = number_on emm_line (slice_get lines 3) ≡ number_on ecm_line (slice_get lines 4)
 
 -- The fault that these lines have. Lines are counted from 1 [this project, docs/FORMATS.md, Site]
-abbrev pub IsCauseOf : List (List ℕ) → SiteFault → Type 0
+abbrev pub IsSiteFaultOf : List (List ℕ) → SiteFault → Type 0
 -- after good lines stands one that is not in its form
-IsCauseOf lines (Line k) = (n : ℕ) × (k ≡ n + 1) × AreGood n lines × NextIs IsMalformed n lines
+IsSiteFaultOf lines (Line k) = (n : ℕ) × (k ≡ n + 1) × AreGoodSiteLines n lines × NextIs IsMalformed n lines
 -- after good lines stands one whose number is out of range
-IsCauseOf lines (Range k) = (n : ℕ) × (k ≡ n + 1) × AreGood n lines × NextIs IsOutOfRange n lines
+IsSiteFaultOf lines (Range k) = (n : ℕ) × (k ≡ n + 1) × AreGoodSiteLines n lines × NextIs IsOutOfRange n lines
 -- the lines are eight to thirteen good ones, and the PIDs are equal
-IsCauseOf lines SamePid = (8 ≤ length lines) × AreGood (length lines) lines × NameOnePid lines
+IsSiteFaultOf lines SamePid = (8 ≤ length lines) × AreGoodSiteLines (length lines) lines × NameOnePid lines
 -- after thirteen good lines stands another
-IsCauseOf lines (Extra k) = (k ≡ 14) × (13 < length lines) × AreGood 13 lines
+IsSiteFaultOf lines (Extra k) = (k ≡ 14) × (13 < length lines) × AreGoodSiteLines 13 lines
 -- the lines are good, and fewer than eight
-IsCauseOf lines Short = (length lines < 8) × AreGood (length lines) lines
+IsSiteFaultOf lines Short = (length lines < 8) × AreGoodSiteLines (length lines) lines

@@ -20,8 +20,8 @@ pub record SiteFields : Type 0 where
   pub first_period : ℕ
 
 -- the same of a site as the program keeps it
-abbrev pub fields_of : Site → SiteFields
-fields_of site = record {
+abbrev pub site_fields_of : Site → SiteFields
+site_fields_of site = record {
   height = site.height;
   master = site.master;
   ca = site.ca;

@@ -63,15 +63,15 @@ well_formed k None = Err (Line k)
 well_formed k (Some bytes) = Ok bytes
 
 -- the decimal on line k and the lines after it, where line k is the first of these lines
-abbrev pub number_at : ℕ → NumberLine → List (List ℕ) → Result (ℕ × List (List ℕ)) SiteFault
-number_at k form [] = Err Short
-number_at k form (line ∷ lines) =
+abbrev pub number_on_line : ℕ → NumberLine → List (List ℕ) → Result (ℕ × List (List ℕ)) SiteFault
+number_on_line k form [] = Err Short
+number_on_line k form (line ∷ lines) =
     in_range k form.low form.high (decimal_after form.word line) >>= λ n. Ok (n, lines)
 
 -- the decimal on line k, if the line is there, or else what stands for it
 abbrev pub optional_at : ℕ → NumberLine → ℕ → List (List ℕ) → Result (ℕ × List (List ℕ)) SiteFault
 optional_at k form left_out [] = Ok (left_out, [])
-optional_at k form left_out (line ∷ lines) = number_at k form (line ∷ lines)
+optional_at k form left_out (line ∷ lines) = number_on_line k form (line ∷ lines)
 
 -- the bytes on line k and the lines after it
 abbrev pub bytes_at : ℕ → BytesLine → List (List ℕ) → Result (List ℕ × List (List ℕ)) SiteFault
@@ -101,9 +101,9 @@ in_book_range None = Err (Line 13)
 in_book_range (Some book) = if nat_le book.size most_book_size then Ok book else Err (Range 13)
 
 -- what line 13 says, if it is there, and the lines after it
-abbrev pub book_at : List (List ℕ) → Result (Option BookLine × List (List ℕ)) SiteFault
-book_at [] = Ok (None, [])
-book_at (line ∷ lines) = in_book_range (book_after line) >>= λ book. Ok (Some book, lines)
+abbrev pub book_line_at : List (List ℕ) → Result (Option BookLine × List (List ℕ)) SiteFault
+book_line_at [] = Ok (None, [])
+book_line_at (line ∷ lines) = in_book_range (book_after line) >>= λ book. Ok (Some book, lines)
 
 -- what is judged once the lines are good: those after them, and the two PIDs
 abbrev pub judged_whole : List (List ℕ) → SiteFields × Option BookLine → Result (SiteFields × Option BookLine) SiteFault
@@ -112,18 +112,18 @@ judged_whole [] said = if said.0.emm == said.0.ecm then Err SamePid else Ok said
 
 -- The site that the lines say and what line 13 says of its book, or the fault of the first bad line: lines are judged
 -- in order, and each by its form and then by its range [this project, docs/FORMATS.md, Site]
-unfoldable pub said_on : List (List ℕ) → Result (SiteFields × Option BookLine) SiteFault
-said_on lines = do
-  height ← number_at 1 height_line lines
+unfoldable pub site_and_book_on : List (List ℕ) → Result (SiteFields × Option BookLine) SiteFault
+site_and_book_on lines = do
+  height ← number_on_line 1 height_line lines
   master ← bytes_at 2 master_line height.1
   ca ← bytes_at 3 ca_line master.1
-  emm ← number_at 4 emm_line ca.1
-  ecm ← number_at 5 ecm_line emm.1
-  every ← number_at 6 every_line ecm.1
-  cryptos ← number_at 7 cryptos_line every.1
-  span ← number_at 8 span_line cryptos.1
+  emm ← number_on_line 4 emm_line ca.1
+  ecm ← number_on_line 5 ecm_line emm.1
+  every ← number_on_line 6 every_line ecm.1
+  cryptos ← number_on_line 7 cryptos_line every.1
+  span ← number_on_line 8 span_line cryptos.1
   optional ← optional_on span.1
-  book ← book_at optional.1
+  book ← book_line_at optional.1
   judged_whole book.1 (
     record {
       height = height.0;
@@ -144,7 +144,7 @@ said_on lines = do
 
 -- the site alone
 unfoldable pub site_on : List (List ℕ) → Result SiteFields SiteFault
-site_on lines = said_on lines >>= λ said. Ok said.0
+site_on lines = site_and_book_on lines >>= λ said. Ok said.0
 
 -- the same of a file's bytes
 abbrev pub site_of : List ℕ → Result SiteFields SiteFault

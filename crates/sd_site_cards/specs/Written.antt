@@ -55,12 +55,12 @@ pub record IsSayable (site : SiteFields) (book : BookLine) : Type 0 where
   pub digest : (length book.digest ≡ digest_bytes) × All (λ byte. byte < 256) book.digest
 
 -- the bytes are so many lines, each with its line feed
-abbrev pub is_whole : ℕ → List ℕ → Bool
-is_whole n bytes = (length (lines_of bytes) == n) && (count_by (λ byte. byte == 10) bytes == n)
+abbrev pub are_lines_whole : ℕ → List ℕ → Bool
+are_lines_whole n bytes = (length (lines_of bytes) == n) && (count_by (λ byte. byte == 10) bytes == n)
 
 -- a first site: twelve lines and no control word [this project, docs/FORMATS.md, Chains of sites]
-abbrev pub is_first : List ℕ → SiteFields → Bool
-is_first bytes site = is_whole 12 bytes && nat_lt site.last_word site.first_word
+abbrev pub is_first_site : List ℕ → SiteFields → Bool
+is_first_site bytes site = are_lines_whole 12 bytes && nat_lt site.last_word site.first_word
 
 -- no file with fewer lines
 abbrev pub none_fewer : List ℕ → SiteFields → Bool
@@ -68,12 +68,12 @@ none_fewer bytes site = false
 
 -- the files with fewer lines that are taken too: first sites, or none
 abbrev pub fewer_taken : Bool → List ℕ → SiteFields → Bool
-fewer_taken true = is_first
+fewer_taken true = is_first_site
 fewer_taken false = none_fewer
 
 -- the site of a file with thirteen lines, or of one that may have fewer, and what line 13 says; a good file else is
 -- short [this project, docs/FORMATS.md, Chains of sites]
-unfoldable pub newest_of : (List ℕ → SiteFields → Bool) → List ℕ → Result (SiteFields × Option BookLine) SiteFault
-newest_of fewer bytes =
+unfoldable pub site_of_chain : (List ℕ → SiteFields → Bool) → List ℕ → Result (SiteFields × Option BookLine) SiteFault
+site_of_chain fewer bytes =
     site_of bytes
-    >>= λ site. if is_whole 13 bytes || fewer bytes site then Ok (site, book_line_of bytes) else Err Short
+    >>= λ site. if are_lines_whole 13 bytes || fewer bytes site then Ok (site, book_line_of bytes) else Err Short

@@ -1,6 +1,6 @@
 ghost use Rattle.std.specs.Prelude.{◌≡◌, ◌+◌, ◌≤◌, Some, None, length, IfOk, MatchResult};
 ghost use Rattle.sd_site_cards.specs.CardFields.{CardFields, IsCard, card_fields_of, card_bytes};
-ghost use Rattle.sd_site_cards.specs.CardFaults.{height_in, leaf_in, length_at as length_of, fault_in, IsFaultOf};
+ghost use Rattle.sd_site_cards.specs.CardFaults.{height_in, card_leaf, length_at as length_of, fault_in, IsFaultOf};
 
 use crate::card::Card;
 use crate::card_fault::CardFault;
@@ -46,7 +46,7 @@ fn whole(alloc: Global, bytes: &[u8]) -> Result<Card, CardFault>
 #[tactic(auto, unfolding(crate::specs::CardFaults::fault_in))]
 fn judge(bytes: &[u8]) -> Result<(Height, Leaf), CardFault>
     ensures fault { MatchResult result (λ _. fault_in bytes.now ≡ None) (λ fault. fault_in bytes.now ≡ Some fault) }
-    ensures value { IfOk result (λ named. (named.0 ≡ height_in bytes.now) × (named.1 ≡ leaf_in bytes.now)) }
+    ensures value { IfOk result (λ named. (named.0 ≡ height_in bytes.now) × (named.1 ≡ card_leaf bytes.now)) }
     ensures length { IfOk result (λ _. SECRETS_AT + CHECK_BYTES ≤ length bytes.now) }
 {
     if !bytes.starts_with(&MAGIC) {

@@ -1,5 +1,5 @@
 ghost use Rattle.std.specs.Prelude.{◌≡◌, ◌+◌, ◌<◌, ◌≤◌};
-ghost use Rattle.sd_site_cards.specs.SiteFields.{fields_of};
+ghost use Rattle.sd_site_cards.specs.SiteFields.{site_fields_of};
 ghost use Rattle.sd_site_cards.specs.Chain.{next_site, twin_site};
 
 use crate::site::{MOST_FIRST_PERIOD, MOST_WORD, NAMING_MESSAGES, Site};
@@ -9,7 +9,7 @@ impl Site {
     pub fn twin(&self, words: u32) -> Site
         requires some { 1 ≤ words }
         requires room { self.now.last_word + words ≤ MOST_WORD }
-        ensures { fields_of result ≡ twin_site words (fields_of self.now) }
+        ensures { site_fields_of result ≡ twin_site words (site_fields_of self.now) }
     {
         self.following(words, self.first_period)
     }
@@ -20,7 +20,7 @@ impl Site {
         requires some { 1 ≤ words }
         requires room { self.now.last_word + words ≤ MOST_WORD }
         requires period { (self.now.first_period < MOST_FIRST_PERIOD) × (last < MOST_FIRST_PERIOD) }
-        ensures { fields_of result ≡ next_site last words (fields_of self.now) }
+        ensures { site_fields_of result ≡ next_site last words (site_fields_of self.now) }
     {
         self.following(words, self.first_period.max(last) + 1)
     }
@@ -29,7 +29,7 @@ impl Site {
     fn following(&self, words: u32, first_period: u32) -> Site
         requires some { 1 ≤ words }
         requires room { self.now.last_word + words ≤ MOST_WORD }
-        ensures { fields_of result ≡ record (twin_site words (fields_of self.now)) { first_period = first_period } }
+        ensures { site_fields_of result ≡ record (twin_site words (site_fields_of self.now)) { first_period = first_period } }
     {
         Site {
             height: self.height,

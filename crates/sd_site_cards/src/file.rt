@@ -1,7 +1,7 @@
 ghost use Rattle.std.specs.Prelude.{◌≡◌, ◌+◌, ◌^◌, ◌<◌, ◌≤◌, ◌++◌, IfOk, OnOk, length};
 ghost use Rattle.byteorder.specs.Endian.{big_bytes};
-ghost use Rattle.sd_site_cards.specs.Files.{AreSecrets, AreKept, byte_at as byte_of, number_in};
-ghost use Rattle.sd_site_cards.specs.Files.{check_of as check_of_bytes, check_in, check_due, head_of, file_body};
+ghost use Rattle.sd_site_cards.specs.Files.{AreSecrets, AreKeptSecrets, byte_at as byte_of, number_from};
+ghost use Rattle.sd_site_cards.specs.Files.{check_of as check_of_bytes, check_in, check_due, card_file_head, file_body};
 ghost use Rattle.sd_site_cards.specs.Files.{file_bytes};
 
 use byteorder::{BigEndian, ByteOrder};
@@ -23,19 +23,19 @@ pub fn byte_at(bytes: &[u8], k: usize) -> u8
 }
 
 /// The number in the two bytes of a file from this place on, the high one first.
-#[tactic(auto, unfolding(crate::specs::Files::number_in))]
+#[tactic(auto, unfolding(crate::specs::Files::number_from))]
 pub fn two_at(bytes: &[u8], k: usize) -> u16
     requires { k < 2 ^ 32 }
-    ensures { result ≡ number_in bytes.now k 2 }
+    ensures { result ≡ number_from bytes.now k 2 }
 {
     BigEndian::read_u16(&[byte_at(bytes, k), byte_at(bytes, k + 1)])
 }
 
 /// The number in the four bytes of a file from this place on, the high one first.
-#[tactic(auto, unfolding(crate::specs::Files::number_in))]
+#[tactic(auto, unfolding(crate::specs::Files::number_from))]
 pub fn four_at(bytes: &[u8], k: usize) -> u32
     requires { k < 2 ^ 32 }
-    ensures { result ≡ number_in bytes.now k 4 }
+    ensures { result ≡ number_from bytes.now k 4 }
 {
     BigEndian::read_u32(&[
         byte_at(bytes, k),
@@ -91,7 +91,7 @@ pub fn checks(bytes: &[u8]) -> ([u8; 16], [u8; 16])
 /// The secrets that a file keeps from this place on, as many as are whole before its check.
 pub fn secrets_in(alloc: Global, bytes: &[u8], k: usize) -> Result<Vec<[u8; 32]>, AllocError>
     requires { k + CHECK_BYTES ≤ length bytes.now }
-    ensures { IfOk result (λ secrets. AreKept bytes.now k secrets.items) }
+    ensures { IfOk result (λ secrets. AreKeptSecrets bytes.now k secrets.items) }
 {
     let inner = &bytes[k..bytes.len() - CHECK_BYTES];
     let mut secrets = Vec::new(alloc);
@@ -112,7 +112,7 @@ pub fn write_head(
     leaf: Leaf,
     ca: u16,
 ) -> Result<Vec<u8>, AllocError>
-    ensures value { IfOk result (λ bytes. bytes.items ≡ head_of magic.now fields.now leaf ca) }
+    ensures value { IfOk result (λ bytes. bytes.items ≡ card_file_head magic.now fields.now leaf ca) }
     ensures fits { IfOk result (λ _. ca < 2 ^ 16) }
 {
     let mut bytes = Vec::new(alloc);

@@ -1,5 +1,5 @@
 ghost use Rattle.std.specs.Prelude.{◌≡◌, ◌+◌, ◌^◌, ◌<◌, ◌≤◌, ◌++◌, OnOk, map, take};
-ghost use Rattle.sd_tree_keys.specs.Names.{given_under};
+ghost use Rattle.sd_tree_keys.specs.Names.{pair_names_under};
 ghost use Rattle.sd_site_cards.specs.Secrets.{secret_of};
 
 use sd_base::Steps;
@@ -21,7 +21,7 @@ pub fn push_labels<L: Ledger>(
     requires leaf { u < 2 ^ h }
     requires levels { depth + levels ≤ h }
     ensures value { OnOk result (secrets.new.items
-        ≡ secrets.old.items ++ map (secret_of master.now) (take levels (given_under h u depth))) }
+        ≡ secrets.old.items ++ map (secret_of master.now) (take levels (pair_names_under h u depth))) }
 {
     let mut parent = path_node(h, u, depth);
     let mut label = root_label(master, parent);

@@ -1,7 +1,7 @@
 ghost use Rattle.std.specs.Prelude.{◌≡◌, ◌+◌, ◌/◌, ◌^◌, ◌<◌, ◌≤◌, ◌*◌, length, IfOk, map};
-ghost use Rattle.sd_tree_keys.specs.Names.{given};
+ghost use Rattle.sd_tree_keys.specs.Names.{names_of_receiver};
 ghost use Rattle.sd_site_cards.specs.Secrets.{secret_of};
-ghost use Rattle.sd_site_cards.specs.CardFields.{card_fields_of, card_of};
+ghost use Rattle.sd_site_cards.specs.CardFields.{card_fields_of, card_of, site_card};
 
 use crate::card::Card;
 use crate::count::count_at;
@@ -21,7 +21,7 @@ impl Card {
         steps: &mut Steps<L>,
     ) -> Result<Card, NoMemory>
         requires { u < 2 ^ site.now.height }
-        ensures { IfOk result (λ card. card_fields_of card ≡ card_of site.now.master site.now.ca site.now.height u) }
+        ensures { IfOk result (λ card. card_fields_of card ≡ site_card site.now u) }
     {
         let secrets = secrets(alloc, site, u, steps)?;
         Ok(Card {
@@ -41,7 +41,7 @@ fn secrets<L: Ledger>(
     steps: &mut Steps<L>,
 ) -> Result<Vec<[u8; 32]>, AllocError>
     requires { u < 2 ^ site.now.height }
-    ensures value { IfOk result (λ secrets. secrets.items ≡ map (secret_of site.now.master) (given site.now.height u)) }
+    ensures value { IfOk result (λ secrets. secrets.items ≡ map (secret_of site.now.master) (names_of_receiver site.now.height u)) }
     ensures length { IfOk result (λ secrets.
         length secrets.items ≡ site.now.height * (site.now.height + 1) / 2 + 1) }
     ensures fits { IfOk result (λ _. (1 ≤ site.now.height) × (site.now.height ≤ HIGHEST)) }

@@ -1,8 +1,8 @@
 ghost use Rattle.std.specs.Prelude.{◌≡◌, ◌==◌, ◌||◌, Ok, Err, false, IfOk, IsSome, MatchResult, length};
 ghost use Rattle.std.specs.List.{count_by};
 ghost use Rattle.sd_base.specs.Lines.{lines_of};
-ghost use Rattle.sd_site_cards.specs.SiteFields.{fields_of};
-ghost use Rattle.sd_site_cards.specs.Written.{fewer_taken, is_first, is_whole, newest_of};
+ghost use Rattle.sd_site_cards.specs.SiteFields.{site_fields_of};
+ghost use Rattle.sd_site_cards.specs.Written.{fewer_taken, is_first_site, are_lines_whole, site_of_chain};
 
 use crate::book_line::BookLine;
 use crate::site::Site;
@@ -18,12 +18,12 @@ const FIRST_LINES: usize = 12;
 
 /// The site that a next one is made from, and what line 13 says of its book. Unless all thirteen lines are there, each
 /// with its line feed, the site is short; if `first`, a first site is taken too.
-#[tactic(auto, using(crate::proofs::Alone::newest_say), unfolding(crate::specs::Written::newest_of))]
+#[tactic(auto, using(crate::proofs::Alone::newest_say), unfolding(crate::specs::Written::site_of_chain))]
 pub fn read_newest(bytes: &[u8], first: bool) -> Result<(Site, Option<BookLine>), SiteFault>
     // Which site, book and fault it is, as a function of the bytes.
     ensures value { MatchResult result
-        (λ said. newest_of (fewer_taken first) bytes.now ≡ Ok (fields_of said.0, said.1))
-        (λ fault. newest_of (fewer_taken first) bytes.now ≡ Err fault) }
+        (λ said. site_of_chain (fewer_taken first) bytes.now ≡ Ok (site_fields_of said.0, said.1))
+        (λ fault. site_of_chain (fewer_taken first) bytes.now ≡ Err fault) }
     // Where no first site is taken, there is a book.
     ensures book { first ≡ false → IfOk result (λ said. IsSome said.1) }
 {
@@ -37,21 +37,21 @@ pub fn read_newest(bytes: &[u8], first: bool) -> Result<(Site, Option<BookLine>)
 
 // Whether the file of this site has all thirteen lines, or may have fewer.
 fn is_newest(bytes: &[u8], site: &Site, first: bool) -> bool
-    ensures { result ≡ (is_whole 13 bytes.now || fewer_taken first bytes.now (fields_of site.now)) }
+    ensures { result ≡ (are_lines_whole 13 bytes.now || fewer_taken first bytes.now (site_fields_of site.now)) }
 {
     is_whole(LINES, bytes) || first && is_first(bytes, site)
 }
 
 // Whether it is a first site: twelve lines and no control word.
 fn is_first(bytes: &[u8], site: &Site) -> bool
-    ensures { result ≡ is_first bytes.now (fields_of site.now) }
+    ensures { result ≡ is_first_site bytes.now (site_fields_of site.now) }
 {
     is_whole(FIRST_LINES, bytes) && site.last_word < site.first_word
 }
 
 // Whether the bytes are so many lines, each with its line feed.
 fn is_whole(count: usize, bytes: &[u8]) -> bool
-    ensures { result ≡ is_whole count bytes.now }
+    ensures { result ≡ are_lines_whole count bytes.now }
 {
     line_count(bytes) == count && feed_count(bytes) == count
 }

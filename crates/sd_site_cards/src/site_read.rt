@@ -2,12 +2,12 @@ ghost use Rattle.std.specs.Prelude.{◌≡◌, ◌≤◌, ◌↔◌, ℕ, List, 
 ghost use Rattle.std.specs.Int.{w16, from_be_bytes};
 ghost use Rattle.std.specs.Result.{result_map_both};
 ghost use Rattle.sd_base.specs.Lines.{lines_of};
-ghost use Rattle.sd_site_cards.specs.SiteFields.{SiteFields, fields_of};
+ghost use Rattle.sd_site_cards.specs.SiteFields.{SiteFields, site_fields_of};
 ghost use Rattle.sd_site_cards.specs.Forms.{IsWithin, height_line, master_line, ca_line, emm_line, ecm_line};
 ghost use Rattle.sd_site_cards.specs.Forms.{every_line, cryptos_line, span_line, messages_line};
-ghost use Rattle.sd_site_cards.specs.SiteFaults.{IsCauseOf};
-ghost use Rattle.sd_site_cards.specs.Text.{IsSite, site_of, ◌>>=◌ as ◌>>>◌, number_at, optional_at, optional_on, bytes_at};
-ghost use Rattle.sd_site_cards.specs.Text.{book_at, book_line_of, in_book_range, said_on};
+ghost use Rattle.sd_site_cards.specs.SiteFaults.{IsSiteFaultOf};
+ghost use Rattle.sd_site_cards.specs.Text.{IsSite, site_of, ◌>>=◌ as ◌>>>◌, number_on_line, optional_at, optional_on, bytes_at};
+ghost use Rattle.sd_site_cards.specs.Text.{book_line_at, book_line_of, in_book_range, site_and_book_on};
 ghost use Rattle.sd_site_cards.specs.Forms.{book_after};
 
 use crate::book_line::{BookLine, MOST_BOOK_SIZE};
@@ -34,9 +34,9 @@ fn number_line<'a>(
 ) -> Result<(u32, &'a [u8]), SiteFault>
     ensures fits { IfOk result (λ cut. (low ≤ cut.0) × (cut.0 ≤ high)) }
     ensures value { MatchResult result
-        (λ cut. number_at k (record { word = word.now; low = low; high = high }) (lines_of bytes.now)
+        (λ cut. number_on_line k (record { word = word.now; low = low; high = high }) (lines_of bytes.now)
         ≡ Ok (cut.0, lines_of cut.1.now))
-        (λ fault. number_at k (record { word = word.now; low = low; high = high }) (lines_of bytes.now) ≡ Err fault) }
+        (λ fault. number_on_line k (record { word = word.now; low = low; high = high }) (lines_of bytes.now) ≡ Err fault) }
 {
     let (line, rest) = next_line(bytes).ok_or(SiteFault::Short)?;
     match number_after(word, line) {
@@ -49,8 +49,8 @@ fn number_line<'a>(
 fn pid_line<'a>(bytes: &'a [u8], k: u32, word: &[u8]) -> Result<(u16, &'a [u8]), SiteFault>
     ensures fits { IfOk result (λ cut. IsWithin emm_line cut.0) }
     ensures value { MatchResult result
-        (λ cut. number_at k (record emm_line { word = word.now }) (lines_of bytes.now) ≡ Ok (cut.0, lines_of cut.1.now))
-        (λ fault. number_at k (record emm_line { word = word.now }) (lines_of bytes.now) ≡ Err fault) }
+        (λ cut. number_on_line k (record emm_line { word = word.now }) (lines_of bytes.now) ≡ Ok (cut.0, lines_of cut.1.now))
+        (λ fault. number_on_line k (record emm_line { word = word.now }) (lines_of bytes.now) ≡ Err fault) }
 {
     let (number, rest) = number_line(
         bytes,
@@ -67,7 +67,7 @@ fn pid_lines(bytes: &[u8]) -> Result<(u16, u16, &[u8]), SiteFault>
     ensures fits { IfOk result (λ cut. IsWithin emm_line cut.0 × IsWithin ecm_line cut.1) }
     ensures value { result_map_both {U = ℕ × ℕ × List (List ℕ)}
         (λ cut. (cut.0, cut.1, lines_of cut.2.now)) (λ fault. fault) result
-        ≡ (number_at 4 emm_line (lines_of bytes.now) >>> λ emm. number_at 5 ecm_line emm.1 >>> λ ecm.
+        ≡ (number_on_line 4 emm_line (lines_of bytes.now) >>> λ emm. number_on_line 5 ecm_line emm.1 >>> λ ecm.
         Ok (emm.0, ecm.0, ecm.1)) }
 {
     let (emm, rest) = pid_line(bytes, 4, b"emm ")?;
@@ -81,8 +81,8 @@ fn schedule_lines(bytes: &[u8]) -> Result<(u32, u32, u32, &[u8]), SiteFault>
         (λ cut. IsWithin every_line cut.0 × IsWithin cryptos_line cut.1 × IsWithin span_line cut.2) }
     ensures value { result_map_both {U = ℕ × ℕ × ℕ × List (List ℕ)}
         (λ cut. (cut.0, cut.1, cut.2, lines_of cut.3.now)) (λ fault. fault) result
-        ≡ (number_at 6 every_line (lines_of bytes.now) >>> λ every. number_at 7 cryptos_line every.1 >>> λ cryptos.
-        number_at 8 span_line cryptos.1 >>> λ span. Ok (every.0, cryptos.0, span.0, span.1)) }
+        ≡ (number_on_line 6 every_line (lines_of bytes.now) >>> λ every. number_on_line 7 cryptos_line every.1 >>> λ cryptos.
+        number_on_line 8 span_line cryptos.1 >>> λ span. Ok (every.0, cryptos.0, span.0, span.1)) }
 {
     let (every, rest) = number_line(bytes, 6, b"ecm-every ", 1, MOST_EVERY)?;
     let (cryptos, rest) = number_line(rest, 7, b"crypto-ecms ", 1, MOST_CRYPTOS)?;
@@ -159,7 +159,7 @@ fn tree_lines(bytes: &[u8]) -> Result<(u8, [u8; 32], u16, &[u8]), SiteFault>
     ensures fits { IfOk result (λ cut. IsWithin height_line cut.0) }
     ensures value { result_map_both {U = ℕ × List ℕ × ℕ × List (List ℕ)}
         (λ cut. (cut.0, cut.1, cut.2, lines_of cut.3.now)) (λ fault. fault) result
-        ≡ (number_at 1 height_line (lines_of bytes.now) >>> λ height. bytes_at 2 master_line height.1 >>> λ master.
+        ≡ (number_on_line 1 height_line (lines_of bytes.now) >>> λ height. bytes_at 2 master_line height.1 >>> λ master.
         bytes_at 3 ca_line master.1 >>> λ ca. Ok (height.0, master.0, from_be_bytes w16 ca.0, ca.1)) }
 {
     let (height, rest) = number_line(bytes, 1, b"height ", 1, u32::from(HIGHEST))?;
@@ -188,8 +188,8 @@ fn book_line(line: &[u8]) -> Result<BookLine, SiteFault>
 // What line 13 says, if it is there, and the bytes after it.
 fn optional_book(bytes: &[u8]) -> Result<(Option<BookLine>, &[u8]), SiteFault>
     ensures { MatchResult result
-        (λ cut. book_at (lines_of bytes.now) ≡ Ok (cut.0, lines_of cut.1.now))
-        (λ fault. book_at (lines_of bytes.now) ≡ Err fault) }
+        (λ cut. book_line_at (lines_of bytes.now) ≡ Ok (cut.0, lines_of cut.1.now))
+        (λ fault. book_line_at (lines_of bytes.now) ≡ Err fault) }
 {
     let Some((line, rest)) = next_line(bytes) else {
         return Ok((None, bytes));
@@ -200,15 +200,15 @@ fn optional_book(bytes: &[u8]) -> Result<(Option<BookLine>, &[u8]), SiteFault>
 /// The site that a file's bytes say. Nothing is allocated.
 pub fn read(bytes: &[u8]) -> Result<Site, SiteFault>
     // What is read is a site file that says this.
-    ensures sound { IfOk result (λ site. IsSite bytes.now (fields_of site)) }
+    ensures sound { IfOk result (λ site. IsSite bytes.now (site_fields_of site)) }
     // What is a site file is read.
     ensures complete { (fields : SiteFields) → IsSite bytes.now fields →
-        MatchResult result (λ site. fields_of site ≡ fields) (λ _. ⊥) }
+        MatchResult result (λ site. site_fields_of site ≡ fields) (λ _. ⊥) }
     // Which site or fault it is, as a function of the bytes.
     ensures value { MatchResult result
-        (λ site. site_of bytes.now ≡ Ok (fields_of site)) (λ fault. site_of bytes.now ≡ Err fault) }
+        (λ site. site_of bytes.now ≡ Ok (site_fields_of site)) (λ fault. site_of bytes.now ≡ Err fault) }
     // Each fault comes exactly where the lines have it.
-    ensures fault { (fault : SiteFault) → IsErrOf result fault ↔ IsCauseOf (lines_of bytes.now) fault }
+    ensures fault { (fault : SiteFault) → IsErrOf result fault ↔ IsSiteFaultOf (lines_of bytes.now) fault }
 {
     judge(bytes)
 }
@@ -216,7 +216,7 @@ pub fn read(bytes: &[u8]) -> Result<Site, SiteFault>
 // The other clauses of `read` follow from this one.
 fn judge(bytes: &[u8]) -> Result<Site, SiteFault>
     ensures { MatchResult result
-        (λ site. site_of bytes.now ≡ Ok (fields_of site)) (λ fault. site_of bytes.now ≡ Err fault) }
+        (λ site. site_of bytes.now ≡ Ok (site_fields_of site)) (λ fault. site_of bytes.now ≡ Err fault) }
 {
     let (site, _) = read_with_book(bytes)?;
     Ok(site)
@@ -225,18 +225,18 @@ fn judge(bytes: &[u8]) -> Result<Site, SiteFault>
 /// The site that a file's bytes say, and what line 13 says of its book, if it is there.
 pub fn read_with_book(bytes: &[u8]) -> Result<(Site, Option<BookLine>), SiteFault>
     ensures value { MatchResult result
-        (λ said. (site_of bytes.now ≡ Ok (fields_of said.0)) × (book_line_of bytes.now ≡ said.1))
+        (λ said. (site_of bytes.now ≡ Ok (site_fields_of said.0)) × (book_line_of bytes.now ≡ said.1))
         (λ fault. site_of bytes.now ≡ Err fault) }
 {
     judge_lines(bytes)
 }
 
 // The clause of `read_with_book` follows from this one.
-#[tactic(auto, unfolding(crate::specs::Text::said_on))]
+#[tactic(auto, unfolding(crate::specs::Text::site_and_book_on))]
 fn judge_lines(bytes: &[u8]) -> Result<(Site, Option<BookLine>), SiteFault>
     ensures { MatchResult result
-        (λ said. said_on (lines_of bytes.now) ≡ Ok (fields_of said.0, said.1))
-        (λ fault. said_on (lines_of bytes.now) ≡ Err fault) }
+        (λ said. site_and_book_on (lines_of bytes.now) ≡ Ok (site_fields_of said.0, said.1))
+        (λ fault. site_and_book_on (lines_of bytes.now) ≡ Err fault) }
 {
     let (height, master, ca, rest) = tree_lines(bytes)?;
     let height = Height::new(height).ok_or(SiteFault::Range(1))?;

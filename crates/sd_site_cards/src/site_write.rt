@@ -1,7 +1,7 @@
 ghost use Rattle.std.specs.Prelude.{◌≡◌, [], ◌∷◌, ◌++◌, IfOk, OnOk, string_bytes};
 ghost use Rattle.std.specs.Fmt.{decimal};
 ghost use Rattle.hex.specs.Hex.{encode_lower};
-ghost use Rattle.sd_site_cards.specs.SiteFields.{fields_of};
+ghost use Rattle.sd_site_cards.specs.SiteFields.{site_fields_of};
 ghost use Rattle.sd_site_cards.specs.Written.{book_text, site_text};
 
 use crate::book_line::BookLine;
@@ -13,14 +13,14 @@ use std::fmt::Write;
 impl Site {
     /// The site's file with all thirteen lines [this project, docs/FORMATS.md, Chains of sites].
     pub fn write(&self, alloc: Global, book: &BookLine) -> Result<Vec<u8>, NoMemory>
-        ensures { IfOk result (λ bytes. bytes.items ≡ site_text (fields_of self.now) book.now) }
+        ensures { IfOk result (λ bytes. bytes.items ≡ site_text (site_fields_of self.now) book.now) }
     {
         Ok(self.text(alloc, book)?.into_bytes())
     }
 
     // The file as a text.
     fn text(&self, alloc: Global, book: &BookLine) -> Result<String, AllocError>
-        ensures { IfOk result (λ text. string_bytes text ≡ site_text (fields_of self.now) book.now) }
+        ensures { IfOk result (λ text. string_bytes text ≡ site_text (site_fields_of self.now) book.now) }
     {
         let mut text = String::new(alloc);
         push_number(&mut text, "height ", u32::from(self.height.get()))?;

@@ -13,7 +13,7 @@ use Rattle.sd_spec.specs.Plan.{crypto_of, period_in, period_of}
 use Rattle.sd_spec.specs.declared.event.Event.{Event}
 use Rattle.sd_spec.specs.declared.event.Event.TheVariants.{Subscribe, Revoke, Send, Offer, Lose, Off, On}
 use Rattle.sd_spec.specs.Events.{is_of, sends_with}
-use Rattle.sd_spec.specs.Book.{sends, open_period, period_after, reached, with_periods_to, commanded, booked}
+use Rattle.sd_spec.specs.Book.{sends, open_period, period_after, period_to_reach, with_periods_to, book_with_command, book_after_event}
 use Rattle.sd_spec.specs.Book.{event_book}
 use Rattle.sd_spec.specs.Book.{plan_after, taken_in, accepted_at}
 use Rattle.sd_spec.proofs.Filled.{filled_ends, filled_keeps}
@@ -22,23 +22,23 @@ use Rattle.sd_spec.proofs.Sends.{reached_within, reached_short}
 
 -- what one event does to the book: a send fills it, an accepted command is added, and all others leave it
 pub data Turn (site : SiteFields) (m k : ℕ) (event : Event) (book : List Command) : Type 0 where
-  fills : booked site m k event book ≡ with_periods_to (reached site (sends_with m event k)) book
+  fills : book_after_event site m k event book ≡ with_periods_to (period_to_reach site (sends_with m event k)) book
       → accepted_at site k event ≡ [] → Turn site m k event book
   adds : (command : Command) → last_period (command ∷ []) ≡ 0 → ((d : ℕ) → is_within d command ≡ is_of d event)
       → period_after site k ≤ most_periods
-      → booked site m k event book ≡ with_periods_to (period_after site k) book ++ command ∷ []
+      → book_after_event site m k event book ≡ with_periods_to (period_after site k) book ++ command ∷ []
       → sends_with m event k ≡ k → accepted_at site k event ≡ (period_after site k, command) ∷ []
       → Turn site m k event book
-  leaves : booked site m k event book ≡ book → sends_with m event k ≡ k → accepted_at site k event ≡ []
+  leaves : book_after_event site m k event book ≡ book → sends_with m event k ≡ k → accepted_at site k event ≡ []
       → Turn site m k event book
 
 -- a command is accepted if a book can have its period
 commands_turn : (site : SiteFields) (m k : ℕ) (event : Event) (command : Command) (book : List Command) (b : Bool)
     → nat_le (period_after site k) most_periods ≡ b → last_period (command ∷ []) ≡ 0
     → ((d : ℕ) → is_within d command ≡ is_of d event)
-    → booked site m k event book ≡ commanded (period_after site k) command book → sends_with m event k ≡ k
+    → book_after_event site m k event book ≡ book_with_command (period_after site k) command book → sends_with m event k ≡ k
     → accepted_at site k event ≡ taken_in (period_after site k) command → Turn site m k event book
-unfolding commanded
+unfolding book_with_command
 commands_turn site m k event command book true test none tree is same taken =
     adds command none tree (grind (arith, nat_tests, test))
     (is ∙ rw test refl) same (taken ∙ rw test refl)
@@ -74,7 +74,7 @@ book_short site m (event ∷ past) =
             arith,
             ap last_period is,
             before,
-            filled_ends (reached site (sends_with m event (sends m past))) (event_book site m past),
+            filled_ends (period_to_reach site (sends_with m event (sends m past))) (event_book site m past),
             reached_short site (sends_with m event (sends m past)),
           )
       | adds command none tree most is same taken ↦
@@ -90,7 +90,7 @@ book_short site m (event ∷ past) =
 
 -- the book has the period that it has to have
 pub book_reaches : (site : SiteFields) (m : ℕ) (past : List Event) →
-    reached site (sends m past) ≤ last_period (event_book site m past)
+    period_to_reach site (sends m past) ≤ last_period (event_book site m past)
 unfolding event_book sends
 book_reaches site m [] = omega arith
 book_reaches site m (event ∷ past) =
@@ -100,17 +100,17 @@ book_reaches site m (event ∷ past) =
           omega (
             arith,
             ap last_period is,
-            filled_ends (reached site (sends_with m event (sends m past))) (event_book site m past),
+            filled_ends (period_to_reach site (sends_with m event (sends m past))) (event_book site m past),
           )
       | adds command none tree most is same taken ↦
           omega (
             arith,
             ap last_period is,
             before,
-            ap (reached site) same,
+            ap (period_to_reach site) same,
             added_ends (period_after site (sends m past)) command (event_book site m past) none,
           )
-      | leaves is same none ↦ omega (arith, ap last_period is, before, ap (reached site) same)
+      | leaves is same none ↦ omega (arith, ap last_period is, before, ap (period_to_reach site) same)
     ]
 
 -- and none above that of the next command
@@ -129,7 +129,7 @@ book_within site m (event ∷ past) r =
             before,
             up,
             reached_within site (sends_with m event (sends m past)),
-            filled_ends (reached site (sends_with m event (sends m past))) (event_book site m past),
+            filled_ends (period_to_reach site (sends_with m event (sends m past))) (event_book site m past),
           )
       | adds command none tree most is same taken ↦
           omega (
@@ -144,7 +144,7 @@ book_within site m (event ∷ past) r =
 
 -- one event more changes none of the periods that were reached
 pub one_event_more : (site : SiteFields) (m : ℕ) (event : Event) (past : List Event) (q : ℕ) → 0 < sends m past →
-    q ≤ reached site (sends m past) →
+    q ≤ period_to_reach site (sends m past) →
     commands_until q (event_book site m (event ∷ past)) ≡ commands_until q (event_book site m past)
 unfolding event_book
 one_event_more site m event past q some within =
@@ -152,7 +152,7 @@ one_event_more site m event past q some within =
     elim (turn_of site m (sends m past) event (event_book site m past)) [
       | fills is none ↦
           ap (commands_until q) is
-          ∙ filled_keeps (reached site (sends_with m event (sends m past))) q (event_book site m past) inside
+          ∙ filled_keeps (period_to_reach site (sends_with m event (sends m past))) q (event_book site m past) inside
       | adds command none tree most is same taken ↦
           let above : q < last_period (with_periods_to (period_after site (sends m past)) (event_book site m past)) =
           omega (
@@ -170,7 +170,7 @@ one_event_more site m event past q some within =
 
 -- nor do later events
 pub later_events : (site : SiteFields) (m : ℕ) (later past : List Event) (q : ℕ) → AreInRange site → 0 < sends m past →
-    q ≤ reached site (sends m past) →
+    q ≤ period_to_reach site (sends m past) →
     commands_until q (event_book site m (later ++ past)) ≡ commands_until q (event_book site m past)
 later_events site m [] past q r some within = refl
 later_events site m (event ∷ later) past q r some within =
@@ -186,7 +186,7 @@ period_by n first last most short enough = omega (arith, short, enough)
 
 -- the book has the period of each packet that was sent, if a book can have it
 pub sent_reached : (site : SiteFields) (k j : ℕ) → AreInRange site → j < k →
-    min (open_period site j) most_periods ≤ reached site k
+    min (open_period site j) most_periods ≤ period_to_reach site k
 sent_reached site zero j r below = absurd (omega (arith, below))
 sent_reached site (suc k) j r below = omega (arith, open_rises site j k r (omega (arith, below)))
 
@@ -201,8 +201,8 @@ period_is site m past j r below =
 
 -- it is a period that was reached, or the site's first, above all that a book can have
 pub period_kept : (site : SiteFields) (m : ℕ) (past : List Event) (j : ℕ) → AreInRange site → j < sends m past →
-    (period_of (plan_after site m past) j ≤ reached site (sends m past))
-    ⊎ ((most_periods < period_of (plan_after site m past) j) × (reached site (sends m past) ≡ most_periods)
+    (period_of (plan_after site m past) j ≤ period_to_reach site (sends m past))
+    ⊎ ((most_periods < period_of (plan_after site m past) j) × (period_to_reach site (sends m past) ≡ most_periods)
     × (last_period (event_book site m past) ≡ most_periods))
 period_kept site m past j r below =
     let is = period_is site m past j r below in

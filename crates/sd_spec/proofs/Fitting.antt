@@ -19,7 +19,7 @@ use Rattle.sd_book.proofs.Cuts.{period_none, period_append}
 use Rattle.sd_spec.specs.Plan.{IsPlan}
 use Rattle.sd_spec.specs.declared.event.Event.{Event}
 use Rattle.sd_spec.specs.Events.{is_of, sends_with}
-use Rattle.sd_spec.specs.Book.{sends, period_after, reached, with_periods_to, event_book, plan_after}
+use Rattle.sd_spec.specs.Book.{sends, period_after, period_to_reach, with_periods_to, event_book, plan_after}
 use Rattle.sd_spec.proofs.Filled.{filled_ends}
 use Rattle.sd_spec.proofs.Books.{fills, adds, leaves as stays, turn_of, book_short}
 
@@ -55,7 +55,7 @@ book_of_tree site m d (event ∷ past) all =
     elim (turn_of site m (sends m past) event (event_book site m past)) [
       | fills is none ↦
           subst (All (λ command. is_within d command ≡ true)) (sym is)
-          (filled_of_tree d (reached site (sends_with m event (sends m past))) (event_book site m past) before)
+          (filled_of_tree d (period_to_reach site (sends_with m event (sends m past))) (event_book site m past) before)
       | adds command none tree most is same taken ↦
           subst (All (λ command. is_within d command ≡ true)) (sym is)
           (All-append (λ command. is_within d command ≡ true)
@@ -92,7 +92,7 @@ book_long site m (event ∷ past) =
             ap length is,
             ap last_period is,
             before,
-            filled_long (reached site (sends_with m event (sends m past))) book,
+            filled_long (period_to_reach site (sends_with m event (sends m past))) book,
           )
       | adds command none tree most is same taken ↦
           omega (

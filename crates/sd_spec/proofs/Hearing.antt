@@ -6,7 +6,7 @@ use Rattle.sd_psi.specs.OurCat.{cat_tuning}
 use Rattle.sd_psi.specs.declared.our_cat.Tuning.{Tuning}
 use Rattle.sd_spec.specs.Tuned.{tuning_of, tuned_by}
 use Rattle.sd_spec.specs.Heard.{Heard}
-use Rattle.sd_spec.specs.Stretches.{newest, stretched, completes}
+use Rattle.sd_spec.specs.Stretches.{newest_message, stretch_after, completes}
 use Rattle.sd_spec.specs.Offered.{part_fault}
 
 -- a CAT that was taken stays taken
@@ -22,17 +22,17 @@ no_fault_in_none = refl
 
 -- what completes nothing is heard after the newest message
 pub newest_waits : (past : List Heard) (heard : Heard) → completes past heard ≡ None →
-    newest (heard ∷ past) ≡ record {
-      message = (newest past).message;
-      before = (newest past).before;
+    newest_message (heard ∷ past) ≡ record {
+      message = (newest_message past).message;
+      before = (newest_message past).before;
       after =
-          heard ∷ (newest past).after;
+          heard ∷ (newest_message past).after;
     }
-unfolding newest
-newest_waits past heard none = ap (stretched past (newest past) heard) none
+unfolding newest_message
+newest_waits past heard none = ap (stretch_after past (newest_message past) heard) none
 
 -- what completes a message begins anew
 pub newest_completes : (past : List Heard) (heard : Heard) (message : Message) → completes past heard ≡ Some message →
-    newest (heard ∷ past) ≡ record { message = Some message; before = past; after = [] }
-unfolding newest
-newest_completes past heard message done = ap (stretched past (newest past) heard) done
+    newest_message (heard ∷ past) ≡ record { message = Some message; before = past; after = [] }
+unfolding newest_message
+newest_completes past heard message done = ap (stretch_after past (newest_message past) heard) done

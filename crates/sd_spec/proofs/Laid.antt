@@ -13,7 +13,7 @@ use Rattle.sd_book.specs.Commands.{last_period, commands_in}
 use Rattle.sd_book.proofs.Cuts.{period_none, period_subscribe, period_revoke, period_period}
 use Rattle.sd_spec.specs.declared.event.Event.{Event}
 use Rattle.sd_spec.specs.Events.{sends_with}
-use Rattle.sd_spec.specs.Book.{sends, period_after, reached, with_periods_to, event_book}
+use Rattle.sd_spec.specs.Book.{sends, period_after, period_to_reach, with_periods_to, event_book}
 use Rattle.sd_spec.specs.Book.{accepted_at, accepted, greatest_period, commands_of}
 use Rattle.sd_spec.proofs.Filled.{filled_ends}
 use Rattle.sd_spec.proofs.Sends.{sends_up, reached_rises, reached_within}
@@ -160,7 +160,7 @@ commands_are_accepted site m (event ∷ past) q r =
     elim (turn_of site m (sends m past) event (event_book site m past)) [
       | fills is none ↦
           ap (λ (book : List Command). commands_in book q) is
-          ∙ (in_filled (reached site (sends_with m event (sends m past))) q (event_book site m past)
+          ∙ (in_filled (period_to_reach site (sends_with m event (sends m past))) q (event_book site m past)
           ∙ (before ∙ ap (commands_of q) (sym (none_accepted site m event past none))))
       | adds command none tree most is same taken ↦
           ap (λ (book : List Command). commands_in book q) is
@@ -180,7 +180,7 @@ none_greatest site m = refl
 
 -- the last period is the greatest of the accepted commands' periods and of the one that was reached
 pub last_is_greatest : (site : SiteFields) (m : ℕ) (past : List Event) → AreInRange site →
-    last_period (event_book site m past) ≡ max (greatest_period (accepted site m past)) (reached site (sends m past))
+    last_period (event_book site m past) ≡ max (greatest_period (accepted site m past)) (period_to_reach site (sends m past))
 unfolding event_book sends
 last_is_greatest site m [] r = omega (arith, period_none, none_greatest site m)
 last_is_greatest site m (event ∷ past) r =
@@ -193,7 +193,7 @@ last_is_greatest site m (event ∷ past) r =
             ap last_period is,
             before,
             ap greatest_period (none_accepted site m event past none),
-            filled_ends (reached site (sends_with m event k)) (event_book site m past),
+            filled_ends (period_to_reach site (sends_with m event k)) (event_book site m past),
             reached_rises site k (sends_with m event k) r (sends_up m k event),
           )
       | adds command none tree most is same taken ↦
@@ -201,7 +201,7 @@ last_is_greatest site m (event ∷ past) r =
             arith,
             ap last_period is,
             before,
-            ap (reached site) same,
+            ap (period_to_reach site) same,
             book_within site m past r,
             reached_within site k,
             ap greatest_period (one_accepted site m event past (period_after site k, command) taken),
@@ -214,7 +214,7 @@ last_is_greatest site m (event ∷ past) r =
             arith,
             ap last_period is,
             before,
-            ap (reached site) same,
+            ap (period_to_reach site) same,
             ap greatest_period (none_accepted site m event past none),
           )
     ]

@@ -19,7 +19,7 @@ use Rattle.sd_spec.specs.Offered.{offered, out_from, break_from}
 use Rattle.sd_spec.specs.declared.event.Event.{Event}
 use Rattle.sd_spec.specs.declared.event.Event.TheVariants.{Offer, Lose, Off, On}
 use Rattle.sd_spec.specs.Book.{sends, plan_after}
-use Rattle.sd_spec.specs.Watch.{Watch, offered_to, passed_by, switched_off, switched_on, watched, stream}
+use Rattle.sd_spec.specs.Watch.{Watch, offered_to, passed_by, switched_off, switched_on, watch_after_event, stream}
 use Rattle.sd_spec.specs.Watch.{count_sent}
 use Rattle.sd_spec.specs.Watch.{watch, times, at_places, present, written}
 use Rattle.sd_spec.proofs.Sends.{sends_up}
@@ -75,7 +75,7 @@ written_parts plan card clear w =
     (append-nil (out (reverse w.now))))
 
 -- a receiver that is on and has a packet left is offered it
-pub heard_is : (u n : ℕ) (w : Watch) → w.on ≡ true → w.cursor < n → watched u n (Offer u) w
+pub heard_is : (u n : ℕ) (w : Watch) → w.on ≡ true → w.cursor < n → watch_after_event u n (Offer u) w
     ≡ record { on = w.on; cursor = suc w.cursor; now = w.cursor ∷ w.now; earlier = w.earlier }
 heard_is u n w on left =
     let test : ((u == u) && nat_lt w.cursor n) ≡ true = grind (arith, nat_tests, left) in
@@ -91,20 +91,20 @@ present_more plan clear w to is =
     ∙ place_more [] (stream plan clear) (reverse w.now) w.cursor)
 
 pub offer_is_present : (plan : Plan) (clear : List (List ℕ)) (u n : ℕ) (w : Watch) → w.on ≡ true → w.cursor < n →
-    present plan clear (watched u n (Offer u) w)
+    present plan clear (watch_after_event u n (Offer u) w)
     ≡ present plan clear w ++ get_or (stream plan clear) w.cursor [] ∷ []
 offer_is_present plan clear u n w on left =
-    present_more plan clear w (watched u n (Offer u) w) (ap (λ (to : Watch). to.now) (heard_is u n w on left))
+    present_more plan clear w (watch_after_event u n (Offer u) w) (ap (λ (to : Watch). to.now) (heard_is u n w on left))
 
 -- what is written with a packet more, by whether one before it was refused
 offer_writes : (plan : Plan) (card : CardFields) (clear : List (List ℕ)) (u n : ℕ) (w : Watch) → w.on ≡ true →
-    w.cursor < n → written plan card clear (watched u n (Offer u) w) ≡ written plan card clear w
+    w.cursor < n → written plan card clear (watch_after_event u n (Offer u) w) ≡ written plan card clear w
     ++ (if is_none (break_from card [] (present plan clear w))
     then (offered card (reverse (present plan clear w) ++ []) (get_or (stream plan clear) w.cursor [])).wrote
     else [])
 offer_writes plan card clear u n w on left =
     let out : List ℕ → List (List ℕ) = λ places. out_from card [] (at_places [] (stream plan clear) places) in
-    let to : Watch = watched u n (Offer u) w in
+    let to : Watch = watch_after_event u n (Offer u) w in
     let packet : List ℕ = get_or (stream plan clear) w.cursor [] in
     let past : List (List ℕ) = flat_map out (reverse (map reverse w.earlier)) in
     let more : List (List ℕ) =
@@ -122,7 +122,7 @@ offer_writes plan card clear u n w on left =
 -- if none was refused, it is what the packet makes the receiver write
 pub offer_is_written : (plan : Plan) (card : CardFields) (clear : List (List ℕ)) (u n : ℕ) (w : Watch) → w.on ≡ true →
     w.cursor < n → break_from card [] (present plan clear w) ≡ None →
-    written plan card clear (watched u n (Offer u) w) ≡ written plan card clear w
+    written plan card clear (watch_after_event u n (Offer u) w) ≡ written plan card clear w
     ++ (offered card (reverse (present plan clear w)) (get_or (stream plan clear) w.cursor [])).wrote
 offer_is_written plan card clear u n w on left calm =
     let packet : List ℕ = get_or (stream plan clear) w.cursor [] in
@@ -136,7 +136,7 @@ offer_is_written plan card clear u n w on left calm =
 -- if one was refused, nothing
 pub refused_writes_nothing : (plan : Plan) (card : CardFields) (clear : List (List ℕ)) (u n : ℕ) (w : Watch)
     (why : StreamFault) → w.on ≡ true → w.cursor < n → break_from card [] (present plan clear w) ≡ Some why →
-    written plan card clear (watched u n (Offer u) w) ≡ written plan card clear w
+    written plan card clear (watch_after_event u n (Offer u) w) ≡ written plan card clear w
 refused_writes_nothing plan card clear u n w why on left broken =
     let packet : List ℕ = get_or (stream plan clear) w.cursor [] in
     offer_writes plan card clear u n w on left
@@ -165,7 +165,7 @@ same_written plan card clear w to same =
     ∙ ap (λ (earlier : List (List ℕ)). flat_map out (reverse (map reverse (w.now ∷ earlier)))) same.earlier
 
 -- a packet that is lost is offered to none
-lost_same : (u n v : ℕ) (w : Watch) → SameTimes w (watched u n (Lose v) w)
+lost_same : (u n v : ℕ) (w : Watch) → SameTimes w (watch_after_event u n (Lose v) w)
 lost_same u n v w = by_test ((v == u) && nat_lt w.cursor n)
   where
     by_test : (b : Bool) → SameTimes w (if b then passed_by w else w)
@@ -173,7 +173,7 @@ lost_same u n v w = by_test ((v == u) && nat_lt w.cursor n)
     by_test false = record { now = refl; earlier = refl }
 
 -- nor is anything when a receiver is switched off
-off_same : (u n v : ℕ) (w : Watch) → SameTimes w (watched u n (Off v) w)
+off_same : (u n v : ℕ) (w : Watch) → SameTimes w (watch_after_event u n (Off v) w)
 off_same u n v w = by_test (v == u)
   where
     by_test : (b : Bool) → SameTimes w (if b then switched_off w else w)
@@ -187,7 +187,7 @@ unheard_by : (on : Bool) (cursor : ℕ) (now : List ℕ) (earlier : List (List �
 unheard_by true cursor now earlier off = absurd cc
 unheard_by false cursor now earlier off = record { now = refl; earlier = refl }
 
-unheard_same : (u n v : ℕ) (w : Watch) → w.on ≡ false → SameTimes w (watched u n (Offer v) w)
+unheard_same : (u n v : ℕ) (w : Watch) → w.on ≡ false → SameTimes w (watch_after_event u n (Offer v) w)
 unheard_same u n v w off = by_test ((v == u) && nat_lt w.cursor n)
   where
     by_test : (b : Bool) → SameTimes w (if b then offered_to w else w)
@@ -200,30 +200,30 @@ same_both : (plan : Plan) (card : CardFields) (clear : List (List ℕ)) (w to : 
 same_both plan card clear w to same = (same_present plan clear w to same, same_written plan card clear w to same)
 
 pub lost_writes_nothing : (plan : Plan) (card : CardFields) (clear : List (List ℕ)) (u n v : ℕ) (w : Watch) →
-    (present plan clear (watched u n (Lose v) w) ≡ present plan clear w)
-    × (written plan card clear (watched u n (Lose v) w) ≡ written plan card clear w)
+    (present plan clear (watch_after_event u n (Lose v) w) ≡ present plan clear w)
+    × (written plan card clear (watch_after_event u n (Lose v) w) ≡ written plan card clear w)
 lost_writes_nothing plan card clear u n v w =
-    same_both plan card clear w (watched u n (Lose v) w) (lost_same u n v w)
+    same_both plan card clear w (watch_after_event u n (Lose v) w) (lost_same u n v w)
 
 pub off_writes_nothing : (plan : Plan) (card : CardFields) (clear : List (List ℕ)) (u n v : ℕ) (w : Watch) →
-    (present plan clear (watched u n (Off v) w) ≡ present plan clear w)
-    × (written plan card clear (watched u n (Off v) w) ≡ written plan card clear w)
+    (present plan clear (watch_after_event u n (Off v) w) ≡ present plan clear w)
+    × (written plan card clear (watch_after_event u n (Off v) w) ≡ written plan card clear w)
 off_writes_nothing plan card clear u n v w =
-    same_both plan card clear w (watched u n (Off v) w) (off_same u n v w)
+    same_both plan card clear w (watch_after_event u n (Off v) w) (off_same u n v w)
 
 pub unheard_writes_nothing : (plan : Plan) (card : CardFields) (clear : List (List ℕ)) (u n v : ℕ) (w : Watch) →
-    w.on ≡ false → (present plan clear (watched u n (Offer v) w) ≡ present plan clear w)
-    × (written plan card clear (watched u n (Offer v) w) ≡ written plan card clear w)
+    w.on ≡ false → (present plan clear (watch_after_event u n (Offer v) w) ≡ present plan clear w)
+    × (written plan card clear (watch_after_event u n (Offer v) w) ≡ written plan card clear w)
 unheard_writes_nothing plan card clear u n v w off =
-    same_both plan card clear w (watched u n (Offer v) w) (unheard_same u n v w off)
+    same_both plan card clear w (watch_after_event u n (Offer v) w) (unheard_same u n v w off)
 
 -- a receiver that is off is switched on as a new one
-pub on_is : (u n : ℕ) (w : Watch) → w.on ≡ false → watched u n (On u) w ≡ switched_on w
+pub on_is : (u n : ℕ) (w : Watch) → w.on ≡ false → watch_after_event u n (On u) w ≡ switched_on w
 on_is u n w off =
     let test : ((u == u) && not w.on) ≡ true = grind (arith, nat_tests, off) in rw test refl
 
 pub new_is_offered_nothing : (plan : Plan) (clear : List (List ℕ)) (u n : ℕ) (w : Watch) → w.on ≡ false →
-    present plan clear (watched u n (On u) w) ≡ []
+    present plan clear (watch_after_event u n (On u) w) ≡ []
 unfolding present at_places
 new_is_offered_nothing plan clear u n w off =
     ap (λ (to : Watch). map (λ i. get_or (stream plan clear) i []) (reverse to.now)) (on_is u n w off)
@@ -236,14 +236,14 @@ switched_writes_nothing plan card clear w =
     written_parts plan card clear (switched_on w) ∙ append-nil (written plan card clear w)
 
 pub new_writes_nothing : (plan : Plan) (card : CardFields) (clear : List (List ℕ)) (u n : ℕ) (w : Watch) →
-    w.on ≡ false → written plan card clear (watched u n (On u) w) ≡ written plan card clear w
+    w.on ≡ false → written plan card clear (watch_after_event u n (On u) w) ≡ written plan card clear w
 new_writes_nothing plan card clear u n w off =
     ap (written plan card clear) (on_is u n w off) ∙ switched_writes_nothing plan card clear w
 
 -- nothing happens to a receiver at an event of another leaf
 pub others_wait : (u n v : ℕ) (w : Watch) → v ≢ u →
-    (watched u n (Offer v) w ≡ w) × (watched u n (Lose v) w ≡ w) × (watched u n (Off v) w ≡ w)
-    × (watched u n (On v) w ≡ w)
+    (watch_after_event u n (Offer v) w ≡ w) × (watch_after_event u n (Lose v) w ≡ w) × (watch_after_event u n (Off v) w ≡ w)
+    × (watch_after_event u n (On v) w ≡ w)
 others_wait u n v w apart =
     let test : (v == u) ≡ false = grind (arith, nat_tests, apart) in
     (rw test refl, rw test refl, rw test refl, rw test refl)
@@ -315,8 +315,8 @@ watches_agree a b clear u most [] same within = refl
 watches_agree a b clear u most (event ∷ past) same within =
     let k : ℕ = sends (length clear) past in
     let below : k ≤ most = omega (arith, within, sends_up (length clear) k event) in
-    ap (λ (n : ℕ). watched u n event (watch a clear u past)) (ap length (same k below))
-    ∙ ap (watched u (count_sent b clear k) event) (watches_agree a b clear u most past same below)
+    ap (λ (n : ℕ). watch_after_event u n event (watch a clear u past)) (ap length (same k below))
+    ∙ ap (watch_after_event u (count_sent b clear k) event) (watches_agree a b clear u most past same below)
 
 -- what was sent for the first packets depends on no later event
 streams_agree : (site : SiteFields) (m : ℕ) (later past : List Event) (clear : List (List ℕ)) (k : ℕ) →

@@ -8,7 +8,7 @@ use Rattle.sd_spec.specs.Tuned.{tuning_of}
 use Rattle.sd_spec.specs.Heard.{Heard, hears}
 use Rattle.sd_spec.specs.Runs.{is_turn, of_run}
 use Rattle.sd_spec.specs.Offered.{heard}
-use Rattle.sd_spec.specs.Ending.{run_ending, joined, turns_at, run_wrote, ended_before}
+use Rattle.sd_spec.specs.Ending.{run_ending, endings_joined, turns_at, run_wrote, ended_before}
 use Rattle.sd_spec.specs.declared.ending.Ending.{Ending}
 use Rattle.sd_spec.specs.declared.ending.Ending.TheVariants.{Opened, NoCat, Unclosed, Revoked, Unheard, Gaps}
 
@@ -35,21 +35,21 @@ pub ended_on : (card : CardFields) (past : List (List ℕ)) (packet : List ℕ) 
     ended_before card (packet ∷ past) ≡ ended_before card past
 unfolding ended_before
 ended_on card past packet stays =
-    ap (λ (t : Bool). if t then joined (ended_before card past)
+    ap (λ (t : Bool). if t then endings_joined (ended_before card past)
     (run_ending card (heard card past) (run_wrote card past)) else ended_before card past) stays
 
 -- at a turn one more has ended
 pub ended_now : (card : CardFields) (past : List (List ℕ)) (packet : List ℕ) → turns_at card past packet ≡ true →
     ended_before card (packet ∷ past)
-    ≡ joined (ended_before card past) (run_ending card (heard card past) (run_wrote card past))
+    ≡ endings_joined (ended_before card past) (run_ending card (heard card past) (run_wrote card past))
 unfolding ended_before
 ended_now card past packet turns =
-    ap (λ (t : Bool). if t then joined (ended_before card past)
+    ap (λ (t : Bool). if t then endings_joined (ended_before card past)
     (run_ending card (heard card past) (run_wrote card past)) else ended_before card past) turns
 
 -- after what opened, the ending is the next one's
-pub opened_joins : (ending : Ending) → joined Opened ending ≡ ending
-unfolding joined
+pub opened_joins : (ending : Ending) → endings_joined Opened ending ≡ ending
+unfolding endings_joined
 opened_joins Opened = refl
 opened_joins (Revoked q) = refl
 opened_joins (Unheard q) = refl

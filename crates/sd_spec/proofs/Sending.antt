@@ -2,7 +2,7 @@
 use Rattle.std.proofs.Common.{◌≡◌, ℕ, List, [], ◌∷◌, ◌++◌, ap, sym, ◌∙◌, append_assoc, append-nil}
 use Rattle.sd_spec.specs.Plan.{Plan}
 use Rattle.sd_site_cards.specs.SiteFields.{SiteFields}
-use Rattle.sd_spec.specs.Sent.{Item, added, sent, sent_from, packet_of, packets_from}
+use Rattle.sd_spec.specs.Sent.{Item, added, sent, sent_from, item_packet, packets_from}
 
 pub sent_in_turn : (plan : Plan) (before xs ys : List (List ℕ))
     → sent_from plan before (xs ++ ys) ≡ sent_from plan before xs ++ sent_from plan (before ++ xs) ys
@@ -21,7 +21,7 @@ pub packets_in_turn : (site : SiteFields) (earlier xs ys : List Item)
 unfolding packets_from
 packets_in_turn site earlier [] ys = ap (λ (b : List Item). packets_from site b ys) (sym (append-nil earlier))
 packets_in_turn site earlier (x ∷ xs) ys =
-    ap (λ (rest : List (List ℕ)). packet_of site earlier x ∷ rest) (packets_in_turn site (earlier ++ x ∷ []) xs ys
+    ap (λ (rest : List (List ℕ)). item_packet site earlier x ∷ rest) (packets_in_turn site (earlier ++ x ∷ []) xs ys
     ∙ ap (λ (b : List Item). packets_from site (earlier ++ x ∷ []) xs
     ++ packets_from site b ys) (append_assoc earlier (x ∷ []) xs))
 

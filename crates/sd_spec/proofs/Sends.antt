@@ -10,7 +10,7 @@ use Rattle.sd_spec.specs.Plan.{crypto_length, crypto_of}
 use Rattle.sd_spec.proofs.Schedule.{quotients_rise, quotients_step, crypto_length_some, cryptos_rise}
 use Rattle.sd_spec.specs.declared.event.Event.{Event}
 use Rattle.sd_spec.specs.Events.{is_send, sends_with}
-use Rattle.sd_spec.specs.Book.{sends, open_period, period_after, reached}
+use Rattle.sd_spec.specs.Book.{sends, open_period, period_after, period_to_reach}
 
 -- an event sends one packet at most
 one_at_most : (b c : Bool) (k : ℕ) → k ≤ (if b then (if c then suc k else k) else k)
@@ -71,40 +71,40 @@ after_rises site (suc j) zero r below = absurd (omega (arith, below))
 after_rises site (suc j) (suc k) r below = omega (arith, open_rises site j k r (omega (arith, below)))
 
 -- nor do those that a book has to have
-pub reached_rises : (site : SiteFields) (j k : ℕ) → AreInRange site → j ≤ k → reached site j ≤ reached site k
+pub reached_rises : (site : SiteFields) (j k : ℕ) → AreInRange site → j ≤ k → period_to_reach site j ≤ period_to_reach site k
 reached_rises site zero k r below = omega arith
 reached_rises site (suc j) zero r below = absurd (omega (arith, below))
 reached_rises site (suc j) (suc k) r below = omega (arith, open_rises site j k r (omega (arith, below)))
 
 -- a command after a send is of a later period than the one on air
-pub after_is_above : (site : SiteFields) (k : ℕ) → 0 < k → reached site k < period_after site k
+pub after_is_above : (site : SiteFields) (k : ℕ) → 0 < k → period_to_reach site k < period_after site k
 after_is_above site zero some = absurd (omega (arith, some))
 after_is_above site (suc k) some = omega arith
 
 -- it is of the next period, if a book can have it
 pub after_is_next : (site : SiteFields) (k : ℕ) → 0 < k → period_after site k ≤ most_periods →
-    period_after site k ≡ reached site k + 1
+    period_after site k ≡ period_to_reach site k + 1
 after_is_next site zero some within = absurd (omega (arith, some))
 after_is_next site (suc k) some within = omega (arith, within)
 
 -- a book that has reached a period has it for a command too
-pub reached_within : (site : SiteFields) (k : ℕ) → reached site k ≤ period_after site k
+pub reached_within : (site : SiteFields) (k : ℕ) → period_to_reach site k ≤ period_after site k
 reached_within site zero = omega arith
 reached_within site (suc k) = omega arith
 
 -- no book has to have a period that no book can have
-pub reached_short : (site : SiteFields) (k : ℕ) → reached site k ≤ most_periods
+pub reached_short : (site : SiteFields) (k : ℕ) → period_to_reach site k ≤ most_periods
 reached_short site zero = omega arith
 reached_short site (suc k) = omega arith
 
 -- both with a packet more
 pub both_rise : (site : SiteFields) (j k : ℕ) → AreInRange site → j ≤ k →
-    (reached site j ≤ reached site k) × (period_after site j ≤ period_after site k)
+    (period_to_reach site j ≤ period_to_reach site k) × (period_after site j ≤ period_after site k)
 both_rise site j k r below = (reached_rises site j k r below, after_rises site j k r below)
 
 -- with a packet after the first they rise by at most one
 pub both_step : (site : SiteFields) (k : ℕ) → AreInRange site → 0 < k →
-    (reached site (k + 1) ≤ reached site k + 1) × (period_after site (k + 1) ≤ period_after site k + 1)
+    (period_to_reach site (k + 1) ≤ period_to_reach site k + 1) × (period_after site (k + 1) ≤ period_after site k + 1)
 both_step site zero r some = absurd (omega (arith, some))
 both_step site (suc k) r some =
     let step = open_step site k r in

@@ -3,7 +3,7 @@ use Rattle.std.proofs.Common.{◌≡◌, ℕ, true, false, List, None, refl, inl
 use Rattle.std.specs.Prelude.{is_none}
 use Rattle.std.proofs.lemmas.Bool.{cases_Bool}
 use Rattle.sd_packet.specs.Positions.{is_placed}
-use Rattle.sd_psi.specs.Rewriting.{restored, restore_fault}
+use Rattle.sd_psi.specs.Rewriting.{pmt_without_descriptor, restore_fault}
 use Rattle.sd_spec.specs.Confirmed.{Segment, unmarked}
 
 -- a packet without a position stays
@@ -22,6 +22,6 @@ unmarked_stays s packet none = elim (cases_Bool (is_placed packet)) [
 
 -- a PMT that has it is restored
 pub marked_back : (s : Segment) (packet : List ℕ) → is_placed packet ≡ true →
-    restore_fault s.ca s.ecm packet ≡ None → unmarked s packet ≡ restored packet
+    restore_fault s.ca s.ecm packet ≡ None → unmarked s packet ≡ pmt_without_descriptor packet
 unfolding unmarked
 marked_back s packet placed good = rw (placed, good) refl

@@ -15,7 +15,7 @@ use Rattle.sd_spec.specs.declared.event.Event.{Event}
 use Rattle.sd_spec.specs.declared.event.Event.TheVariants.{Subscribe, Revoke, Send, Offer, Lose, Off, On}
 use Rattle.sd_spec.specs.Book.{sends}
 use Rattle.sd_spec.specs.Events.{sends_with}
-use Rattle.sd_spec.specs.Watch.{Watch, offered_to, passed_by, switched_off, switched_on, watched, count_sent}
+use Rattle.sd_spec.specs.Watch.{Watch, offered_to, passed_by, switched_off, switched_on, watch_after_event, count_sent}
 use Rattle.sd_spec.specs.Watch.{watch}
 use Rattle.sd_spec.specs.Watch.{times}
 use Rattle.sd_spec.proofs.Sends.{sends_up}
@@ -78,7 +78,7 @@ on_turn : (n : ℕ) (w : Watch) (b : Bool) → Move n w (if b then switched_on w
 on_turn n w true = waits refl refl
 on_turn n w false = waits refl refl
 
-pub move_of : (u n : ℕ) (event : Event) (w : Watch) → Move n w (watched u n event w)
+pub move_of : (u n : ℕ) (event : Event) (w : Watch) → Move n w (watch_after_event u n event w)
 move_of u n (Subscribe v) w = waits refl refl
 move_of u n (Revoke v) w = waits refl refl
 move_of u n Send w = waits refl refl
@@ -158,7 +158,7 @@ watch_fits plan clear u [] = record {
 watch_fits plan clear u (event ∷ past) =
     let k : ℕ = sends (length clear) past in
     fits_more (count_sent plan clear k) (count_sent plan clear (sends_with (length clear) event k))
-    (watch plan clear u past) (watched u (count_sent plan clear k) event (watch plan clear u past))
+    (watch plan clear u past) (watch_after_event u (count_sent plan clear k) event (watch plan clear u past))
     (counts_rise plan clear k (sends_with (length clear) event k) (sends_up (length clear) k event))
     (move_of u (count_sent plan clear k) event (watch plan clear u past)) (watch_fits plan clear u past)
 

@@ -31,16 +31,16 @@ unfoldable pub verdict_of : SiteFields → Packets → PacketNumber → Packet �
 verdict_of site before n packet = if is_marked packet then Marked else verdict_by (unsent_at site before n packet)
 
 -- what follows a packet: if it is sent, if it is left out, and nothing if the broadcast ends before it
-abbrev pub following : {A : Type 0} → Verdict → A → A → A → A
-following Marked sent left ended = left
-following (Refused fault) sent left ended = left
-following Sent sent left ended = sent
-following Ends sent left ended = ended
+abbrev pub by_verdict : {A : Type 0} → Verdict → A → A → A → A
+by_verdict Marked sent left ended = left
+by_verdict (Refused fault) sent left ended = left
+by_verdict Sent sent left ended = sent
+by_verdict Ends sent left ended = ended
 
 -- those of these packets, from packet n on, that are sent after others [this project, docs/FORMATS.md, On air]
 unfoldable pub aired_from : SiteFields → Packets → PacketNumber → Packets → Packets
 aired_from site before n [] = []
-aired_from site before n (packet ∷ packets) = following (verdict_of site before n packet)
+aired_from site before n (packet ∷ packets) = by_verdict (verdict_of site before n packet)
     (packet ∷ aired_from site (before ++ packet ∷ []) (n + 1) packets) (aired_from site before (n + 1) packets) []
 
 -- the packets that are sent of a clear stream
@@ -50,20 +50,20 @@ aired site packets = aired_from site [] 0 packets
 -- the number of the packet before which the broadcast ends, if it isn't the end of these packets, from packet n on
 unfoldable pub ended_from : SiteFields → Packets → PacketNumber → Packets → Option PacketNumber
 ended_from site before n [] = None
-ended_from site before n (packet ∷ packets) = following (verdict_of site before n packet)
+ended_from site before n (packet ∷ packets) = by_verdict (verdict_of site before n packet)
     (ended_from site (before ++ packet ∷ []) (n + 1) packets) (ended_from site before (n + 1) packets) (Some n)
 
 -- what is left out, with one packet more in front: a marked one, one that breaks a rule, a sent one that is no PAT though
 -- it is on PID 0 with a payload
-abbrev pub one_marked : LeftOut → LeftOut
-one_marked out = record { marked = out.marked + 1; refused = out.refused; pats = out.pats; first = out.first }
+abbrev pub left_out_marked : LeftOut → LeftOut
+left_out_marked out = record { marked = out.marked + 1; refused = out.refused; pats = out.pats; first = out.first }
 
-abbrev pub one_refused : ClearFault → LeftOut → LeftOut
-one_refused fault out =
+abbrev pub left_out_refused : ClearFault → LeftOut → LeftOut
+left_out_refused fault out =
     record { marked = out.marked; refused = out.refused + 1; pats = out.pats; first = Some fault }
 
-abbrev pub one_sent : Packet → LeftOut → LeftOut
-one_sent packet out = record {
+abbrev pub left_out_with_sent : Packet → LeftOut → LeftOut
+left_out_with_sent packet out = record {
   marked = out.marked;
   refused = out.refused;
   pats = (if is_none (pat_wrong packet) then 0 else 1) + out.pats;
@@ -71,9 +71,9 @@ one_sent packet out = record {
 }
 
 abbrev pub left_by : Verdict → Packet → LeftOut → LeftOut → LeftOut → LeftOut
-left_by Marked packet sent left none = one_marked left
-left_by (Refused fault) packet sent left none = one_refused fault left
-left_by Sent packet sent left none = one_sent packet sent
+left_by Marked packet sent left none = left_out_marked left
+left_by (Refused fault) packet sent left none = left_out_refused fault left
+left_by Sent packet sent left none = left_out_with_sent packet sent
 left_by Ends packet sent left none = none
 
 -- nothing is left out

@@ -27,32 +27,32 @@ period_after site zero = 0
 period_after site (suc k) = open_period site k + 1
 
 -- the period that the book has to have once k packets were sent: the one on air, if a book can have it
-abbrev pub reached : SiteFields → ℕ → PeriodNumber
-reached site zero = 0
-reached site (suc k) = min (open_period site k) most_periods
+abbrev pub period_to_reach : SiteFields → ℕ → PeriodNumber
+period_to_reach site zero = 0
+period_to_reach site (suc k) = min (open_period site k) most_periods
 
 -- the book with Period commands after it until period q is its last, if it isn't yet
 unfoldable pub with_periods_to : PeriodNumber → List Command → List Command
 with_periods_to q book = book ++ replicate (q - last_period book) Command.Period
 
 -- the book with a command of period q; a command of a period that no book can have isn't accepted
-unfoldable pub commanded : PeriodNumber → Command → List Command → List Command
-commanded q command book = if nat_le q most_periods then with_periods_to q book ++ command ∷ [] else book
+unfoldable pub book_with_command : PeriodNumber → Command → List Command → List Command
+book_with_command q command book = if nat_le q most_periods then with_periods_to q book ++ command ∷ [] else book
 
 -- the book after one event more, which comes after k packets of m were sent
-abbrev pub booked : SiteFields → ℕ → ℕ → Event → List Command → List Command
-booked site m k (Subscribe u) book = commanded (period_after site k) (Command.Subscribe u) book
-booked site m k (Revoke u) book = commanded (period_after site k) (Command.Revoke u) book
-booked site m k Send book = with_periods_to (reached site (sends_with m Send k)) book
-booked site m k (Offer u) book = book
-booked site m k (Lose u) book = book
-booked site m k (Off u) book = book
-booked site m k (On u) book = book
+abbrev pub book_after_event : SiteFields → ℕ → ℕ → Event → List Command → List Command
+book_after_event site m k (Subscribe u) book = book_with_command (period_after site k) (Command.Subscribe u) book
+book_after_event site m k (Revoke u) book = book_with_command (period_after site k) (Command.Revoke u) book
+book_after_event site m k Send book = with_periods_to (period_to_reach site (sends_with m Send k)) book
+book_after_event site m k (Offer u) book = book
+book_after_event site m k (Lose u) book = book
+book_after_event site m k (Off u) book = book
+book_after_event site m k (On u) book = book
 
 -- the book after these events, of which the sends find m clear packets
 unfoldable pub event_book : SiteFields → ℕ → List Event → List Command
 event_book site m [] = []
-event_book site m (event ∷ past) = booked site m (sends m past) event (event_book site m past)
+event_book site m (event ∷ past) = book_after_event site m (sends m past) event (event_book site m past)
 
 -- the site with that book
 abbrev pub plan_after : SiteFields → ℕ → List Event → Plan

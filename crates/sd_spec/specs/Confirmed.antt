@@ -5,7 +5,7 @@ use Rattle.std.specs.Option.{option_map_or}
 use Rattle.sd_base.specs.Types.{Packet, Packets, Pid, Position, SystemId, Key, PacketNumber}
 use Rattle.sd_packet.specs.Header.{pid_of, scrambling_of}
 use Rattle.sd_packet.specs.Positions.{is_placed, first_position, moved_by}
-use Rattle.sd_psi.specs.Rewriting.{restored, restore_fault}
+use Rattle.sd_psi.specs.Rewriting.{pmt_without_descriptor, restore_fault}
 use Rattle.sd_cipher.specs.Scrambling.{descrambled}
 use Rattle.sd_message.specs.EcmParts.{Message}
 use Rattle.sd_message.specs.declared.ecm_part.Place.{Place}
@@ -46,7 +46,7 @@ is_confirmed segment pid =
 -- a packet in the clear as it is written: without the project's CA_descriptor if it is a PMT that has it
 unfoldable pub unmarked : Segment → Packet → Packet
 unmarked segment packet =
-    if is_placed packet && is_none (restore_fault segment.ca segment.ecm packet) then restored packet else packet
+    if is_placed packet && is_none (restore_fault segment.ca segment.ecm packet) then pmt_without_descriptor packet else packet
 
 -- the packet can't be one under the control word of this number
 abbrev pub is_foreign_under : ℕ → Packet → Bool
@@ -58,8 +58,8 @@ is_foreign segment packet = is_foreign_under segment.first.word packet
 
 -- what is written of a buffered packet after those before it, one packet or none; or its number, if it is refused [this
 -- project, docs/FORMATS.md, Receiver]
-unfoldable pub judged : Segment → Packets → PacketNumber × Packet → Result Packets PacketNumber
-judged segment before held =
+unfoldable pub judged_packet : Segment → Packets → PacketNumber × Packet → Result Packets PacketNumber
+judged_packet segment before held =
     if scrambling_of held.1 == 0 then Ok (unmarked segment held.1 ∷ [])
     else if is_foreign segment held.1 then Err held.0
     else if is_confirmed segment (pid_of held.1)
@@ -67,18 +67,18 @@ judged segment before held =
     else Ok []
 
 -- what is written, and the number of the packet that is refused, if one is
-pub record Wrote : Type 0 where
+pub record WrittenPackets : Type 0 where
   pub packets : Packets
   pub refused : Option PacketNumber
 
 -- what is written of a packet, and then of those after it, unless it is refused
-abbrev pub then_wrote : Result Packets PacketNumber → Wrote → Wrote
-then_wrote (Err n) rest = record { packets = []; refused = Some n }
-then_wrote (Ok packets) rest = record { packets = packets ++ rest.packets; refused = rest.refused }
+abbrev pub then_segment_output : Result Packets PacketNumber → WrittenPackets → WrittenPackets
+then_segment_output (Err n) rest = record { packets = []; refused = Some n }
+then_segment_output (Ok packets) rest = record { packets = packets ++ rest.packets; refused = rest.refused }
 
 -- what is written of buffered packets after others, up to the first that is refused [this project, docs/FORMATS.md,
 -- Receiver]
-unfoldable pub written_from : Segment → Packets → List (PacketNumber × Packet) → Wrote
+unfoldable pub written_from : Segment → Packets → List (PacketNumber × Packet) → WrittenPackets
 written_from segment before [] = record { packets = []; refused = None }
 written_from segment before (held ∷ more) =
-    then_wrote (judged segment before held) (written_from segment (before ++ held.1 ∷ []) more)
+    then_segment_output (judged_packet segment before held) (written_from segment (before ++ held.1 ∷ []) more)

@@ -4,21 +4,21 @@ use Rattle.std.specs.Prelude.{filter, flat_map, bytes_eq, is_none, if◌then◌e
 use Rattle.std.specs.List.{list_any, list_all}
 use Rattle.std.specs.Option.{option_map_or}
 use Rattle.sd_base.specs.Types.{Packet, Packets}
-use Rattle.sd_packet.specs.Header.{error_of, scrambling_of}
+use Rattle.sd_packet.specs.Header.{transport_error, scrambling_of}
 use Rattle.sd_site_cards.specs.CardFields.{CardFields}
 use Rattle.sd_message.specs.EcmSpelled.{listed_places}
 use Rattle.sd_message.specs.declared.ecm_part.EcmPart.{EcmPart}
 use Rattle.sd_message.specs.declared.ecm_part.Place.{Place}
 use Rattle.sd_spec.specs.Tuned.{tuning_of}
 use Rattle.sd_spec.specs.Heard.{Heard, Dropped, Entitles, Controls, BadEmm, BadEcm, Other, hears}
-use Rattle.sd_spec.specs.Stretches.{counted, run_of, newest, is_closed, held_in}
+use Rattle.sd_spec.specs.Stretches.{counted_parts, run_of_parts, newest_message, is_closed, held_in}
 use Rattle.sd_spec.specs.Confirmed.{is_foreign_under}
 use Rattle.sd_spec.specs.Offered.{heard, offered, same_header}
 use Rattle.sd_spec.specs.Taken.{takes_key_at}
 
 -- the packet has an error that could not be corrected [ISO/IEC 13818-1, 2.4.3.3]
 abbrev pub is_marked : Packet → Bool
-is_marked packet = error_of packet == 1
+is_marked packet = transport_error packet == 1
 
 -- among how many scrambled packets a copy is looked for [this project, docs/FORMATS.md, Receiver]
 abbrev pub most_again : ℕ
@@ -46,7 +46,7 @@ says_nothing_new part (last ∷ run) = same_header last part && (nat_le part.par
 -- what comes is a part of the message that is collected, and says nothing new
 unfoldable pub is_part_again : List Heard → Heard → Bool
 is_part_again past (Controls part) =
-    says_nothing_new part (run_of (counted (newest past).message (newest past).after))
+    says_nothing_new part (run_of_parts (counted_parts (newest_message past).message (newest_message past).after))
 is_part_again past Dropped = false
 is_part_again past (Entitles emm) = false
 is_part_again past (BadEmm fault) = false
@@ -63,7 +63,7 @@ is_doubled card past packet = is_copy past packet
 -- [this project, docs/FORMATS.md, Receiver]
 unfoldable pub is_stray : List Heard → Heard → Bool
 is_stray past (Other n packet) = not (is_closed past) && (is_scrambled_packet packet
-    && option_map_or (λ message. is_foreign_under message.word packet) (newest past).message false)
+    && option_map_or (λ message. is_foreign_under message.word packet) (newest_message past).message false)
 is_stray past Dropped = false
 is_stray past (Entitles emm) = false
 is_stray past (Controls part) = false
@@ -74,7 +74,7 @@ is_stray past (BadEcm fault) = false
 unfoldable pub holds_stray : List Heard → Bool
 holds_stray past = option_map_or
     (λ message. list_any (λ held. is_scrambled_packet held.1 && is_foreign_under message.word held.1)
-    (held_in (newest past))) (newest past).message false
+    (held_in (newest_message past))) (newest_message past).message false
 
 -- the packet is odd, after these that counted
 unfoldable pub is_stray_at : CardFields → Packets → Packet → Bool

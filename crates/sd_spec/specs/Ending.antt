@@ -10,7 +10,7 @@ use Rattle.sd_spec.specs.declared.ending.Ending.{Ending}
 use Rattle.sd_spec.specs.declared.ending.Ending.TheVariants.{Opened, Revoked, Unheard, NoCat, Unclosed, Gaps}
 use Rattle.sd_spec.specs.Tuned.{tuning_of}
 use Rattle.sd_spec.specs.Heard.{Heard, hears}
-use Rattle.sd_spec.specs.Stretches.{messages, newest, is_closed, seen}
+use Rattle.sd_spec.specs.Stretches.{messages, newest_message, is_closed, sections_seen}
 use Rattle.sd_spec.specs.Keys.{key_at}
 use Rattle.sd_spec.specs.Runs.{is_turn}
 use Rattle.sd_spec.specs.Offered.{heard, offered}
@@ -31,7 +31,7 @@ are_all (emm ∷ sections) =
 
 -- all sections of the period were seen, and at least one
 abbrev pub is_all_seen : List Heard → PeriodNumber → Bool
-is_all_seen past q = are_all (seen q past)
+is_all_seen past q = are_all (sections_seen q past)
 
 -- the ending by the first revoked period, the first period without a key, and the number of packets that are missing
 abbrev pub ending_with : Option PeriodNumber → Option PeriodNumber → ℕ → Ending
@@ -44,14 +44,14 @@ abbrev pub closed_ending : CardFields → List Heard → ℕ → Ending
 closed_ending card past written =
     ending_with (find (λ q. is_unkeyed card past q && is_all_seen past q) (periods_told past))
     (find (is_unkeyed card past) (periods_told past))
-    (option_map_or (λ message. message.clear) (newest past).message 0 - written)
+    (option_map_or (λ message. message.clear) (newest_message past).message 0 - written)
 
 -- how a run ends of which this was heard and this number of packets was written [this project, docs/FORMATS.md,
 -- Receiver]
 unfoldable pub run_ending : CardFields → List Heard → ℕ → Ending
 run_ending card past written =
     if is_closed past then closed_ending card past written
-    else Unclosed (option_map_or (λ message. message.number + 1) (newest past).message 0)
+    else Unclosed (option_map_or (λ message. message.number + 1) (newest_message past).message 0)
 
 -- the order of endings: of two runs the ending with the lower rank counts
 abbrev pub rank_of : Ending → ℕ
@@ -79,8 +79,8 @@ gaps_or (Some a) (Some b) other = Gaps (min (a + b) (2 ^ 64 - 1))
 
 -- the ending of two runs together: that which comes first in the order of endings, of equal ones that of the earlier
 -- run. The numbers of Gaps are added, up to 2^64 - 1 [this project, docs/FORMATS.md, Receiver]
-unfoldable pub joined : Ending → Ending → Ending
-joined earlier later =
+unfoldable pub endings_joined : Ending → Ending → Ending
+endings_joined earlier later =
     gaps_or (gaps_in earlier) (gaps_in later) (if nat_lt (rank_of later) (rank_of earlier) then later else earlier)
 
 -- a packet is the first message of another run
@@ -100,7 +100,7 @@ unfoldable pub ended_before : CardFields → Packets → Ending
 ended_before card [] = Opened
 ended_before card (packet ∷ past) =
     if turns_at card past packet
-    then joined (ended_before card past) (run_ending card (heard card past) (run_wrote card past))
+    then endings_joined (ended_before card past) (run_ending card (heard card past) (run_wrote card past))
     else ended_before card past
 
 -- how a stream of these packets ends: NoCat if no CAT was taken, or else the ending of its runs, together [this
@@ -108,4 +108,4 @@ ended_before card (packet ∷ past) =
 unfoldable pub ending_of : CardFields → Packets → Ending
 ending_of card past =
     if is_none (tuning_of card.ca past) then NoCat
-    else joined (ended_before card past) (run_ending card (heard card past) (run_wrote card past))
+    else endings_joined (ended_before card past) (run_ending card (heard card past) (run_wrote card past))

@@ -7,7 +7,7 @@ use Rattle.sd_cipher.specs.Wrapping.{wrapped as under}
 use Rattle.sd_message.specs.EmmSpelled.{listed_entries}
 use Rattle.sd_message.specs.declared.emm.Emm.{Emm}
 use Rattle.sd_spec.specs.Heard.{Heard}
-use Rattle.sd_spec.specs.Stretches.{seen}
+use Rattle.sd_spec.specs.Stretches.{sections_seen}
 
 -- the period key in the first entry whose set has the leaf [this project, docs/FORMATS.md, Receiver]
 unfoldable pub key_from : CardFields → Emm → Option Key
@@ -27,4 +27,4 @@ key_in card (emm ∷ sections) = first_key (key_in card sections) (key_from card
 
 -- the key of period q, if it is known [this project, docs/FORMATS.md, Receiver]
 abbrev pub key_at : CardFields → List Heard → PeriodNumber → Option Key
-key_at card past q = key_in card (seen q past)
+key_at card past q = key_in card (sections_seen q past)

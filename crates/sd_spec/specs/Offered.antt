@@ -21,10 +21,10 @@ use Rattle.sd_message.specs.declared.stream_fault.StreamFault.TheVariants as Fau
 use Rattle.sd_spec.specs.Tuned.{tuning_of}
 use Rattle.sd_psi.specs.declared.our_cat.Tuning.{Tuning}
 use Rattle.sd_spec.specs.Heard.{Heard, Dropped, Entitles, Controls, BadEmm, BadEcm, Other, hears}
-use Rattle.sd_spec.specs.Stretches.{Stretch, newest, run_to, completes, is_closed, current, seen, held_in}
-use Rattle.sd_spec.specs.Runs.{is_same, of_run}
+use Rattle.sd_spec.specs.Stretches.{Stretch, newest_message, message_parts_to, completes, is_closed, current, sections_seen, held_in}
+use Rattle.sd_spec.specs.Runs.{is_same_run, of_run}
 use Rattle.sd_spec.specs.Keys.{key_from, key_at}
-use Rattle.sd_spec.specs.Confirmed.{Wrote, position_in, written_from}
+use Rattle.sd_spec.specs.Confirmed.{WrittenPackets, position_in, written_from}
 
 -- the most packets that are buffered (held) after a control message [this project, docs/FORMATS.md, Receiver]
 abbrev pub most_held : ℕ
@@ -56,8 +56,8 @@ abbrev pub no_offering : Offering
 no_offering = record { wrote = []; fault = None }
 
 -- nothing is written, and the packet is refused
-abbrev pub refuses : StreamFault → Offering
-refuses fault = record { wrote = []; fault = Some fault }
+abbrev pub refused_offering : StreamFault → Offering
+refused_offering fault = record { wrote = []; fault = Some fault }
 
 -- two sections of a period say the same of it
 abbrev pub says_same : Emm → Emm → Bool
@@ -72,7 +72,7 @@ abbrev pub key_offering : PacketNumber → Emm → Option Key → Offering
 key_offering n emm None = no_offering
 key_offering n emm (Some key) =
     if bytes_eq (check_value_of key) emm.check then no_offering
-    else refuses (Fault.WrongKey n emm.period (check_value_of key) emm.check)
+    else refused_offering (Fault.WrongKey n emm.period (check_value_of key) emm.check)
 
 -- the result of a section in packet n, if its period's key is known, and if not
 abbrev pub key_if_none : PacketNumber → Emm → Option Key → Option Key → Offering
@@ -83,7 +83,7 @@ key_if_none n emm None found = key_offering n emm found
 unfoldable pub emm_offering : CardFields → PacketNumber → List Heard → Emm → Offering
 emm_offering card n past emm =
     if nat_lt emm.period (current past) then no_offering
-    else if is_mixed (seen emm.period past) emm then refuses (Fault.BadEmm n Emms.Mixed)
+    else if is_mixed (sections_seen emm.period past) emm then refused_offering (Fault.BadEmm n Emms.Mixed)
     else key_if_none n emm (key_at card past emm.period) (key_from card emm)
 
 -- two parts say the same of their message
@@ -95,7 +95,7 @@ same_header a b =
     && ((a.word == b.word)
     && ((a.clear == b.clear)
     && ((a.since == b.since)
-    && (is_same a.run b.run
+    && (is_same_run a.run b.run
     && ((if a.closing then b.closing else not b.closing)
     && (bytes_eq a.wrapped b.wrapped && (bytes_eq a.check b.check && (a.last_part == b.last_part))))))))))
 
@@ -124,11 +124,11 @@ is_before b a = nat_lt b.period a.period || (nat_lt b.word a.word || (nat_lt b.c
 
 -- a message is of an earlier period than the current one, or goes back behind the newest complete one
 unfoldable pub is_back : List Heard → Message → Bool
-is_back past b = nat_lt b.period (current past) || option_map_or (is_before b) (newest past).message false
+is_back past b = nat_lt b.period (current past) || option_map_or (is_before b) (newest_message past).message false
 
 -- what is written between messages a and b, if this is the key of a's period: nothing without a key, and nothing if too
 -- many packets are buffered
-abbrev pub segment_wrote : CardFields → Tuning → Stretch → Message → Message → Option Key → Wrote
+abbrev pub segment_wrote : CardFields → Tuning → Stretch → Message → Message → Option Key → WrittenPackets
 segment_wrote card tuning stretch a b None = record { packets = []; refused = None }
 segment_wrote card tuning stretch a b (Some key) =
     if nat_lt most_held (length (held_in stretch)) then record { packets = []; refused = None }
@@ -142,7 +142,7 @@ segment_wrote card tuning stretch a b (Some key) =
     }) [] (held_in stretch)
 
 -- what is written between the newest complete message, if there is one, and message b
-abbrev pub stretch_wrote : CardFields → Tuning → Stretch → Option Message → Message → Wrote
+abbrev pub stretch_wrote : CardFields → Tuning → Stretch → Option Message → Message → WrittenPackets
 stretch_wrote card tuning stretch None b = record { packets = []; refused = None }
 stretch_wrote card tuning stretch (Some a) b =
     if nat_le b.since a.number then segment_wrote card tuning stretch a b (key_at card stretch.before a.period)
@@ -157,7 +157,7 @@ word_fault n b (Some key) =
     else Some (Fault.WrongWord n b.word (check_value_of (under key b.word b.wrapped)) b.check)
 
 -- the result of a message of which this is written: a packet may be refused at that, and else there may be this fault
-abbrev pub wrote_or : Wrote → Option StreamFault → Offering
+abbrev pub wrote_or : WrittenPackets → Option StreamFault → Offering
 wrote_or wrote fault =
     record { wrote = wrote.packets; fault = option_map_or (λ n. Some (Fault.Parity n)) wrote.refused fault }
 
@@ -165,14 +165,14 @@ wrote_or wrote fault =
 abbrev pub message_offering : CardFields → Tuning → PacketNumber → List Heard → Option Message → Offering
 message_offering card tuning n past None = no_offering
 message_offering card tuning n past (Some b) =
-    if is_back past b then refuses (Fault.BadEcm n Back)
-    else wrote_or (stretch_wrote card tuning (newest past) (newest past).message b)
+    if is_back past b then refused_offering (Fault.BadEcm n Back)
+    else wrote_or (stretch_wrote card tuning (newest_message past) (newest_message past).message b)
     (word_fault n b (key_at card past b.period))
 
 -- the result of packet n, if this is the fault of its part, and if there is none
 abbrev pub part_offering : PacketNumber → Option EcmFault → Offering → Offering
 part_offering n None next = next
-part_offering n (Some fault) next = refuses (Fault.BadEcm n fault)
+part_offering n (Some fault) next = refused_offering (Fault.BadEcm n fault)
 
 -- the result of packet n, which is heard as this, after what was heard of its run [this project, docs/FORMATS.md,
 -- Receiver]
@@ -180,10 +180,10 @@ abbrev pub heard_offering : CardFields → Tuning → PacketNumber → List Hear
 heard_offering card tuning n past Dropped = no_offering
 heard_offering card tuning n past (Entitles emm) = emm_offering card n past emm
 heard_offering card tuning n past (Controls part) =
-    part_offering n (part_fault (run_to (newest past) part))
+    part_offering n (part_fault (message_parts_to (newest_message past) part))
     (message_offering card tuning n past (completes past (Controls part)))
-heard_offering card tuning n past (BadEmm fault) = refuses (Fault.BadEmm n fault)
-heard_offering card tuning n past (BadEcm fault) = refuses (Fault.BadEcm n fault)
+heard_offering card tuning n past (BadEmm fault) = refused_offering (Fault.BadEmm n fault)
+heard_offering card tuning n past (BadEcm fault) = refused_offering (Fault.BadEcm n fault)
 heard_offering card tuning n past (Other k packet) = no_offering
 
 -- the result of packet n, which is heard as this and may begin another run, after what was heard of the current one

@@ -50,8 +50,8 @@ is_one_too_many before packet =
 
 -- no number of a packet, or no control word of the site's, is left for packet k [this project, docs/FORMATS.md,
 -- Broadcast]
-abbrev pub is_too_long : SiteFields → PacketNumber → Bool
-is_too_long site k = (k == 2 ^ 32 - 1) || nat_lt site.last_word (word_of site k)
+abbrev pub is_used_up : SiteFields → PacketNumber → Bool
+is_used_up site k = (k == 2 ^ 32 - 1) || nat_lt site.last_word (word_of site k)
 
 -- the first rule that a packet breaks after these packets, where it has this number, and this is wrong with it as a PAT
 abbrev pub broken_rule : SiteFields → Packets → Packet → Option FormFault → PacketNumber → Option ClearFault
@@ -61,7 +61,7 @@ broken_rule site before packet wrong n =
     (form_where wrong (PatForm n)
     (fault_where (is_full_own site (kind_of before packet) packet) (PmtForm n Form.NoRoom)
     (fault_where (is_one_too_many before packet) (TooManyPids n)
-    (fault_where (is_too_long site (length before)) (TooLong n)
+    (fault_where (is_used_up site (length before)) (TooLong n)
     None)))))
 
 -- why a packet is refused after these packets, by the first rule that it breaks [this project, docs/FORMATS.md,
@@ -87,7 +87,7 @@ IsClear site clear = refusal_from site [] clear ≡ None
 -- why the end is refused after these packets: of none of them, no control word is left for the closing message [this
 -- project, docs/FORMATS.md, Broadcast]
 abbrev pub end_refusal : SiteFields → Packets → Option ClearFault
-end_refusal site [] = fault_where (is_too_long site 0) (TooLong 0) None
+end_refusal site [] = fault_where (is_used_up site 0) (TooLong 0) None
 end_refusal site (packet ∷ packets) = None
 
 -- why a whole clear stream is refused: the first refusal of a packet, or else that of the end

@@ -9,14 +9,14 @@ use Rattle.sd_spec.specs.declared.ending.Ending.TheVariants.{NoCat}
 use Rattle.sd_spec.specs.declared.report.Report.{Report}
 use Rattle.sd_spec.specs.declared.report.Tally.{Tally}
 use Rattle.sd_spec.specs.Tuned.{tuning_of}
-use Rattle.sd_spec.specs.Runs.{name_in}
+use Rattle.sd_spec.specs.Runs.{run_name_in}
 use Rattle.sd_spec.specs.Offered.{heard, tuned_offering, out_from}
 use Rattle.sd_spec.specs.Ending.{turns_at, run_ending, run_wrote}
 use Rattle.sd_spec.specs.Counting.{is_marked, is_doubled, is_stray_at, counts, counting}
 
 -- the tally with one packet more in front: a marked one, a doubled one, an odd one, one that is refused for this cause
-abbrev pub one_marked : Tally → Tally
-one_marked tally = record {
+abbrev pub tally_marked : Tally → Tally
+tally_marked tally = record {
   marked = tally.marked + 1;
   doubled = tally.doubled;
   odd = tally.odd;
@@ -42,8 +42,8 @@ one_odd tally = record {
   first = tally.first;
 }
 
-abbrev pub one_refused : StreamFault → Tally → Tally
-one_refused fault tally = record {
+abbrev pub tally_refused : StreamFault → Tally → Tally
+tally_refused fault tally = record {
   marked = tally.marked;
   doubled = tally.doubled;
   odd = tally.odd;
@@ -54,14 +54,14 @@ one_refused fault tally = record {
 -- a packet that isn't refused counts; else it is refused for this cause
 abbrev pub refused_or : Option StreamFault → Tally → Tally → Tally
 refused_or None counted uncounted = counted
-refused_or (Some fault) counted uncounted = one_refused fault uncounted
+refused_or (Some fault) counted uncounted = tally_refused fault uncounted
 
 -- what is told of packets from number n on, after these that counted, the newest first [this project, docs/FORMATS.md,
 -- Receiver]
 unfoldable pub tally_from : CardFields → PacketNumber → Packets → Packets → Tally
 tally_from card n past [] = record { marked = 0; doubled = 0; odd = 0; refused = 0; first = None }
 tally_from card n past (packet ∷ packets) =
-    if is_marked packet then one_marked (tally_from card (n + 1) past packets)
+    if is_marked packet then tally_marked (tally_from card (n + 1) past packets)
     else if is_doubled card past packet then one_doubled (tally_from card (n + 1) past packets)
     else if is_stray_at card past packet then one_odd (tally_from card (n + 1) past packets)
     else refused_or (tuned_offering card (tuning_of card.ca past) n (heard card past) packet).fault
@@ -78,7 +78,7 @@ report_of card packets = record {
   tally = tally_from card 0 [] packets;
   packets = length packets;
   written = min (length (out_from card [] (counting card [] packets))) (2 ^ 64 - 1);
-  run = name_in (heard card (reverse (counting card [] packets)));
+  run = run_name_in (heard card (reverse (counting card [] packets)));
   ending = run_end card (reverse (counting card [] packets));
 }
 

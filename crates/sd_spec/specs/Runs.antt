@@ -19,26 +19,26 @@ name_or (Some name) other = Some name
 name_or None other = other
 
 -- the name of the current run, which is that of the newest message. If there is no message there is no run
-unfoldable pub name_in : List Heard → Option RunName
-name_in [] = None
-name_in (heard ∷ past) = name_or (run_name_heard heard) (name_in past)
+unfoldable pub run_name_in : List Heard → Option RunName
+run_name_in [] = None
+run_name_in (heard ∷ past) = name_or (run_name_heard heard) (run_name_in past)
 
 -- two names are the same
-abbrev pub is_same : RunName → RunName → Bool
-is_same None None = true
-is_same None (Some b) = false
-is_same (Some a) None = false
-is_same (Some a) (Some b) = a == b
+abbrev pub is_same_run : RunName → RunName → Bool
+is_same_run None None = true
+is_same_run None (Some b) = false
+is_same_run (Some a) None = false
+is_same_run (Some a) (Some b) = a == b
 
 -- both are of a run, and the runs are two
 abbrev pub are_two : Option RunName → Option RunName → Bool
 are_two None other = false
 are_two (Some a) None = false
-are_two (Some a) (Some b) = not (is_same a b)
+are_two (Some a) (Some b) = not (is_same_run a b)
 
 -- what comes is a message of another run than the current one [this project, docs/FORMATS.md, Receiver]
 unfoldable pub is_turn : List Heard → Heard → Bool
-is_turn past heard = are_two (name_in past) (run_name_heard heard)
+is_turn past heard = are_two (run_name_in past) (run_name_heard heard)
 
 -- what was heard before of the run that is current with what comes: nothing, if that begins a run
 unfoldable pub of_run : List Heard → Heard → List Heard

@@ -3,7 +3,7 @@ use Rattle.std.specs.Prelude.{◌-◌, ◌/◌, ◌%◌, ◌==◌, Bool, true, f
 use Rattle.std.specs.Prelude.{count_by, if◌then◌else◌}
 use Rattle.std.specs.List.{concat}
 use Rattle.sd_base.specs.Types.{Bytes, Packet, Packets, PacketNumber}
-use Rattle.sd_packet.specs.Packing.{packed}
+use Rattle.sd_packet.specs.Packing.{section_packet}
 use Rattle.sd_psi.specs.OurCat.{cat_section}
 use Rattle.sd_site_cards.specs.SiteFields.{SiteFields}
 use Rattle.sd_message.specs.EmmSpelled.{emm_section}
@@ -78,18 +78,18 @@ is_alike a b = false
 
 -- the packet of a thing after things sent before it: its PID's counter is how many there were, mod 16 [this project,
 -- docs/FORMATS.md, Sections]
-abbrev pub packet_of : SiteFields → List Item → Item → Packet
-packet_of site earlier Cat = packed (cat_section site.ca site.emm site.ecm) 1 (count_by (is_alike Cat) earlier % 16)
-packet_of site earlier (Entitles emm) =
-    packed (emm_section emm) site.emm (count_by (is_alike (Entitles emm)) earlier % 16)
-packet_of site earlier (Controls part) =
-    packed (ecm_section part) site.ecm (count_by (is_alike (Controls part)) earlier % 16)
-packet_of site earlier (Carries k packet) = packet
+abbrev pub item_packet : SiteFields → List Item → Item → Packet
+item_packet site earlier Cat = section_packet (cat_section site.ca site.emm site.ecm) 1 (count_by (is_alike Cat) earlier % 16)
+item_packet site earlier (Entitles emm) =
+    section_packet (emm_section emm) site.emm (count_by (is_alike (Entitles emm)) earlier % 16)
+item_packet site earlier (Controls part) =
+    section_packet (ecm_section part) site.ecm (count_by (is_alike (Controls part)) earlier % 16)
+item_packet site earlier (Carries k packet) = packet
 
 -- the packets of things after others
 unfoldable pub packets_from : SiteFields → List Item → List Item → Packets
 packets_from site earlier [] = []
-packets_from site earlier (item ∷ items) = packet_of site earlier item ∷ packets_from site (earlier ++ item ∷ []) items
+packets_from site earlier (item ∷ items) = item_packet site earlier item ∷ packets_from site (earlier ++ item ∷ []) items
 
 -- the broadcast of a clear stream without its closing message, and with it
 unfoldable pub body : Plan → Packets → Packets
@@ -102,7 +102,7 @@ broadcast plan clear = packets_from plan.site [] (sent plan clear ++ closing_of 
 abbrev pub bytes_added : Plan → Packets → Packet → Bytes
 bytes_added plan before packet = concat (packets_from plan.site (sent plan before) (added plan before packet))
 
-unfoldable pub bytes_from : Plan → Packets → Packets → Bytes
-bytes_from plan before [] = []
-bytes_from plan before (packet ∷ packets) = bytes_added plan before packet
-    ++ bytes_from plan (before ++ packet ∷ []) packets
+unfoldable pub sent_bytes_from : Plan → Packets → Packets → Bytes
+sent_bytes_from plan before [] = []
+sent_bytes_from plan before (packet ∷ packets) = bytes_added plan before packet
+    ++ sent_bytes_from plan (before ++ packet ∷ []) packets

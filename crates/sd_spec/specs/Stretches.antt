@@ -28,27 +28,27 @@ exceeds (Some message) part = nat_lt message.number part.number
 
 -- the parts that count, the newest first: those of later messages than the newest complete one [this project,
 -- docs/FORMATS.md, Receiver]
-unfoldable pub counted : Option Message → List Heard → List EcmPart
-counted message [] = []
-counted message (Controls part ∷ past) = if exceeds message part then part ∷ counted message past
-    else counted message past
-counted message (Dropped ∷ past) = counted message past
-counted message (Entitles emm ∷ past) = counted message past
-counted message (BadEmm fault ∷ past) = counted message past
-counted message (BadEcm fault ∷ past) = counted message past
-counted message (Other n packet ∷ past) = counted message past
+unfoldable pub counted_parts : Option Message → List Heard → List EcmPart
+counted_parts message [] = []
+counted_parts message (Controls part ∷ past) = if exceeds message part then part ∷ counted_parts message past
+    else counted_parts message past
+counted_parts message (Dropped ∷ past) = counted_parts message past
+counted_parts message (Entitles emm ∷ past) = counted_parts message past
+counted_parts message (BadEmm fault ∷ past) = counted_parts message past
+counted_parts message (BadEcm fault ∷ past) = counted_parts message past
+counted_parts message (Other n packet ∷ past) = counted_parts message past
 
 -- a part and these before it, if it is the next part of their message; else none
-abbrev pub run_with : EcmPart → List EcmPart → List EcmPart
-run_with part [] = []
-run_with part (before ∷ run) =
+abbrev pub message_parts_with : EcmPart → List EcmPart → List EcmPart
+message_parts_with part [] = []
+message_parts_with part (before ∷ run) =
     if (before.number == part.number) && (before.part + 1 == part.part) then part ∷ before ∷ run else []
 
 -- the newest parts, if they are the parts of one message one after the other from part 0 on, the newest first; else
 -- none
-unfoldable pub run_of : List EcmPart → List EcmPart
-run_of [] = []
-run_of (part ∷ earlier) = if part.part == 0 then part ∷ [] else run_with part (run_of earlier)
+unfoldable pub run_of_parts : List EcmPart → List EcmPart
+run_of_parts [] = []
+run_of_parts (part ∷ earlier) = if part.part == 0 then part ∷ [] else message_parts_with part (run_of_parts earlier)
 
 -- the message whose newest part is the first of these
 abbrev pub message_told : List EcmPart → Option Message
@@ -56,12 +56,12 @@ message_told [] = None
 message_told (part ∷ run) = Some (message_of (ecm_head_of part) (flat_map listed_places (reverse (part ∷ run))))
 
 -- the parts of the message that a part of it ends
-unfoldable pub run_to : Stretch → EcmPart → List EcmPart
-run_to stretch part = if exceeds stretch.message part then run_of (part ∷ counted stretch.message stretch.after) else []
+unfoldable pub message_parts_to : Stretch → EcmPart → List EcmPart
+message_parts_to stretch part = if exceeds stretch.message part then run_of_parts (part ∷ counted_parts stretch.message stretch.after) else []
 
 -- the message that is complete with what comes [this project, docs/FORMATS.md, Receiver]
 abbrev pub completed : Stretch → Heard → Option Message
-completed stretch (Controls part) = if part.part == part.last_part then message_told (run_to stretch part) else None
+completed stretch (Controls part) = if part.part == part.last_part then message_told (message_parts_to stretch part) else None
 completed stretch Dropped = None
 completed stretch (Entitles emm) = None
 completed stretch (BadEmm fault) = None
@@ -70,19 +70,19 @@ completed stretch (Other n packet) = None
 
 -- the newest complete message and what is before and after it, once this is heard, with which this message is complete,
 -- or none
-abbrev pub stretched : List Heard → Stretch → Heard → Option Message → Stretch
-stretched past stretch heard None =
+abbrev pub stretch_after : List Heard → Stretch → Heard → Option Message → Stretch
+stretch_after past stretch heard None =
     record { message = stretch.message; before = stretch.before; after = heard ∷ stretch.after }
-stretched past stretch heard (Some message) = record { message = Some message; before = past; after = [] }
+stretch_after past stretch heard (Some message) = record { message = Some message; before = past; after = [] }
 
 -- the newest complete message of what was heard, and what is before and after it
-unfoldable pub newest : List Heard → Stretch
-newest [] = start
-newest (heard ∷ past) = stretched past (newest past) heard (completed (newest past) heard)
+unfoldable pub newest_message : List Heard → Stretch
+newest_message [] = start
+newest_message (heard ∷ past) = stretch_after past (newest_message past) heard (completed (newest_message past) heard)
 
 -- the message that is complete with what comes after the past
 abbrev pub completes : List Heard → Heard → Option Message
-completes past heard = completed (newest past) heard
+completes past heard = completed (newest_message past) heard
 
 -- these messages with one more, if there is one
 abbrev pub with_message : Option Message → List Message → List Message
@@ -116,19 +116,19 @@ current [] = 0
 current (heard ∷ past) = max (period_heard past heard) (current past)
 
 -- the sections of period q with what comes: a section of q is seen if q isn't before the current period
-abbrev pub seen_with : PeriodNumber → List Heard → Heard → List Emm → List Emm
-seen_with q past (Entitles emm) sections = if (emm.period == q) && nat_le (current past) q then emm ∷ sections
+abbrev pub seen_sections_with : PeriodNumber → List Heard → Heard → List Emm → List Emm
+seen_sections_with q past (Entitles emm) sections = if (emm.period == q) && nat_le (current past) q then emm ∷ sections
     else sections
-seen_with q past Dropped sections = sections
-seen_with q past (Controls part) sections = sections
-seen_with q past (BadEmm fault) sections = sections
-seen_with q past (BadEcm fault) sections = sections
-seen_with q past (Other n packet) sections = sections
+seen_sections_with q past Dropped sections = sections
+seen_sections_with q past (Controls part) sections = sections
+seen_sections_with q past (BadEmm fault) sections = sections
+seen_sections_with q past (BadEcm fault) sections = sections
+seen_sections_with q past (Other n packet) sections = sections
 
 -- the sections of period q that were seen, the newest first [this project, docs/FORMATS.md, Receiver]
-unfoldable pub seen : PeriodNumber → List Heard → List Emm
-seen q [] = []
-seen q (heard ∷ past) = seen_with q past heard (seen q past)
+unfoldable pub sections_seen : PeriodNumber → List Heard → List Emm
+sections_seen q [] = []
+sections_seen q (heard ∷ past) = seen_sections_with q past heard (sections_seen q past)
 
 -- the other packets with what comes, if that is one
 abbrev pub other_with : Heard → List (PacketNumber × Packet) → List (PacketNumber × Packet)

@@ -40,14 +40,14 @@ abbrev pub switched_on : Watch → Watch
 switched_on w = record { on = true; cursor = w.cursor; now = []; earlier = w.now ∷ w.earlier }
 
 -- the receiver of leaf u after one event more, which comes after n packets were sent
-abbrev pub watched : LeafNumber → ℕ → Event → Watch → Watch
-watched u n (Subscribe v) w = w
-watched u n (Revoke v) w = w
-watched u n Send w = w
-watched u n (Offer v) w = if (v == u) && nat_lt w.cursor n then offered_to w else w
-watched u n (Lose v) w = if (v == u) && nat_lt w.cursor n then passed_by w else w
-watched u n (Off v) w = if v == u then switched_off w else w
-watched u n (On v) w = if (v == u) && not w.on then switched_on w else w
+abbrev pub watch_after_event : LeafNumber → ℕ → Event → Watch → Watch
+watch_after_event u n (Subscribe v) w = w
+watch_after_event u n (Revoke v) w = w
+watch_after_event u n Send w = w
+watch_after_event u n (Offer v) w = if (v == u) && nat_lt w.cursor n then offered_to w else w
+watch_after_event u n (Lose v) w = if (v == u) && nat_lt w.cursor n then passed_by w else w
+watch_after_event u n (Off v) w = if v == u then switched_off w else w
+watch_after_event u n (On v) w = if (v == u) && not w.on then switched_on w else w
 
 -- the packets that are sent for a clear stream
 unfoldable pub stream : Plan → Packets → Packets
@@ -61,7 +61,7 @@ count_sent plan clear k = length (stream plan (take k clear))
 unfoldable pub watch : Plan → Packets → LeafNumber → List Event → Watch
 watch plan clear u [] = record { on = true; cursor = 0; now = []; earlier = [] }
 watch plan clear u (event ∷ past) =
-    watched u (count_sent plan clear (sends (length clear) past)) event (watch plan clear u past)
+    watch_after_event u (count_sent plan clear (sends (length clear) past)) event (watch plan clear u past)
 
 -- the times that it was on, the oldest first, and in each the numbers of the packets that it was offered, in order
 unfoldable pub times : Watch → List (List PacketNumber)

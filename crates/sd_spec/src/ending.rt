@@ -1,5 +1,5 @@
 ghost use Rattle.std.specs.Prelude.{◌≡◌};
-ghost use Rattle.sd_spec.specs.Ending.{joined, rank_of};
+ghost use Rattle.sd_spec.specs.Ending.{endings_joined, rank_of};
 
 /// How a stream ends for a receiver that refused no packet [this project, docs/FORMATS.md, Receiver]. A run is closed
 /// if its closing control message is complete. Each run has the first ending of the order `Unclosed`, `Revoked`,
@@ -26,9 +26,9 @@ pub enum Ending {
 impl Ending {
     /// The ending of runs that follow one another: `self` is that of the earlier ones, `later` that of the later ones.
     /// The numbers of `Gaps` are added, up to 2^64 - 1 [this project, docs/FORMATS.md, Receiver].
-    #[tactic(auto, unfolding(crate::specs::Ending::joined))]
+    #[tactic(auto, unfolding(crate::specs::Ending::endings_joined))]
     pub fn with(self, later: Ending) -> Ending
-        ensures { result ≡ joined self later }
+        ensures { result ≡ endings_joined self later }
     {
         match (self, later) {
             (Ending::Gaps(missing), Ending::Gaps(more)) => {

@@ -1,6 +1,6 @@
 ghost use Rattle.std.specs.Prelude.{◌≡◌, ◌<◌, IfSome};
-ghost use Rattle.sd_head.specs.Staged.{IsReady};
-ghost use Rattle.sd_receive.specs.Receiving.{IsLive};
+ghost use Rattle.sd_head.specs.Staged.{IsHeadReady};
+ghost use Rattle.sd_receive.specs.Receiving.{MayReceive};
 
 use sd_base::Steps;
 use sd_book::Book;
@@ -40,7 +40,7 @@ fn taken<L: Ledger, G: Stage<MemSink, L>>(
 
 /// The head end of a site under a book.
 fn head_of(alloc: Global, site: &[u8], book: &[u8]) -> Option<Head>
-    ensures { IfSome result IsReady }
+    ensures { IfSome result IsHeadReady }
 {
     let Ok(site) = sd_site_cards::read(site) else {
         return None;
@@ -89,7 +89,7 @@ fn receiver_of<L: Ledger>(
     leaf: u32,
     steps: &mut Steps<L>,
 ) -> Option<Receiver>
-    ensures { IfSome result IsLive }
+    ensures { IfSome result MayReceive }
 {
     let Ok(site) = sd_site_cards::read(site) else {
         return None;

@@ -1,5 +1,5 @@
 ghost use Rattle.std.specs.Prelude.{◌≡◌, ◌<◌};
-ghost use Rattle.sd_run_streams.specs.InspectorStaged.{IsReady, seen};
+ghost use Rattle.sd_run_streams.specs.InspectorStaged.{IsInspectorReady, inspector_state};
 
 use crate::ends::{sink, source};
 use crate::sections::{PAT, PMT};
@@ -45,7 +45,7 @@ fn driven<L: Ledger>(
     requires name { blank.name ≡ L.name }
     requires parts { blank.parts ≡ L.parts }
     requires some { 0 < blank.parts }
-    requires live { IsReady (seen stage.old) }
+    requires live { IsInspectorReady (inspector_state stage.old) }
 {
     let mut steps = Steps::<L>::new(blank);
     drive(source, sink, stage, &mut steps)

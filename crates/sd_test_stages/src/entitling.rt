@@ -1,5 +1,5 @@
 ghost use Rattle.std.specs.Prelude.{◌≡◌, ◌<◌, IfSome};
-ghost use Rattle.sd_head.specs.Kept.{IsNew, plan_of};
+ghost use Rattle.sd_head.specs.Kept.{IsUnbegun, plan_of};
 
 use crate::made::site_of;
 use crate::sections::ALL;
@@ -36,7 +36,7 @@ type Begun = (Vec<[u8; SIZE]>, CryptoPeriod);
 
 // What is kept before the first crypto period.
 fn before(alloc: Global, site: &Site) -> Option<Entitling>
-    ensures { IfSome result (λ entitling. IsNew (plan_of site.now entitling.book) entitling) }
+    ensures { IfSome result (λ entitling. IsUnbegun (plan_of site.now entitling.book) entitling) }
 {
     let book = Book::read(alloc, BOOK.as_bytes(), site.height).ok()?;
     Some(Entitling::new(alloc, site, book))
@@ -50,7 +50,7 @@ fn begin<L: Ledger>(
     is_second: bool,
     steps: &mut Steps<L>,
 ) -> Option<Begun>
-    requires { IsNew (plan_of site.now entitling.old.book) entitling.old }
+    requires { IsUnbegun (plan_of site.now entitling.old.book) entitling.old }
 {
     let has_next = site.first_word < u32::MAX;
     entitling.begin(site, 0, steps).ok()?;

@@ -1,5 +1,5 @@
 ghost use Rattle.std.specs.Prelude.{◌≡◌, ◌<◌, ◌≤◌, IfSome};
-ghost use Rattle.sd_head.specs.Staged.{IsReady};
+ghost use Rattle.sd_head.specs.Staged.{IsHeadReady};
 
 use crate::made::{Made, NULL, SCRAMBLED, site_of};
 use crate::sections::{ALL, PAT, PMT, REWRITTEN};
@@ -69,7 +69,7 @@ fn driven<L: Ledger>(
     requires name { blank.name ≡ L.name }
     requires parts { blank.parts ≡ L.parts }
     requires some { 0 < blank.parts }
-    requires live { IsReady head.old }
+    requires live { IsHeadReady head.old }
 {
     let mut steps = Steps::<L>::new(blank);
     drive(source, sink, head, &mut steps)
@@ -78,7 +78,7 @@ fn driven<L: Ledger>(
 // What a head end answers for a clear stream and writes of it, with at most so many bytes a read and a write.
 fn sent(alloc: Global, head: &mut Head, clear: Vec<u8>, most: usize) -> Option<(Answer, Vec<u8>)>
     requires most { 1 ≤ most }
-    requires live { IsReady head.old }
+    requires live { IsHeadReady head.old }
 {
     let mut source = MemSource::new(clear, most, Vec::new(alloc));
     let mut sink = MemSink::new(alloc, 2000, most, Vec::new(alloc)).ok()?;
@@ -88,7 +88,7 @@ fn sent(alloc: Global, head: &mut Head, clear: Vec<u8>, most: usize) -> Option<(
 
 // The head end of a site with an empty book.
 fn head(alloc: Global, text: &str) -> Option<Head>
-    ensures { IfSome result IsReady }
+    ensures { IfSome result IsHeadReady }
 {
     let site = site_of(text)?;
     match Head::new(alloc, site, Book::new(alloc, site.height)) {
@@ -194,7 +194,7 @@ const LATER_ALONE: [u8; 78] = [
 
 // The head end of this run.
 fn later_head(alloc: Global) -> Option<Head>
-    ensures { IfSome result IsReady }
+    ensures { IfSome result IsHeadReady }
 {
     let site = site_of(LATER)?;
     let book = Book::read(alloc, BOOK.as_bytes(), site.height).ok()?;

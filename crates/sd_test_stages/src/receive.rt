@@ -1,5 +1,5 @@
 ghost use Rattle.std.specs.Prelude.{◌≡◌, ◌<◌, ◌≤◌, [], IfSome};
-ghost use Rattle.sd_receive.specs.Receiving.{IsAfter, IsLive};
+ghost use Rattle.sd_receive.specs.Receiving.{HasReceived, MayReceive};
 
 use crate::packets::{ALL, beginning};
 use hex::FromHex;
@@ -74,8 +74,8 @@ pub(crate) fn card(alloc: Global) -> Option<Card> {
 
 // The receiver with the card.
 fn receiver(alloc: Global) -> Option<Receiver>
-    ensures live { IfSome result IsLive }
-    ensures fresh { IfSome result (IsAfter []) }
+    ensures live { IfSome result MayReceive }
+    ensures fresh { IfSome result (HasReceived []) }
 {
     match Receiver::new(alloc, card(alloc)?) {
         Ok(receiver) => Some(receiver),
@@ -95,7 +95,7 @@ fn driven<L: Ledger>(
     requires name { blank.name ≡ L.name }
     requires parts { blank.parts ≡ L.parts }
     requires some { 0 < blank.parts }
-    requires live { IsLive receiver.old }
+    requires live { MayReceive receiver.old }
 {
     let mut steps = Steps::<L>::new(blank);
     drive(source, sink, receiver, &mut steps)
@@ -183,8 +183,8 @@ fn refused<L: Ledger>(
     requires name { blank.name ≡ L.name }
     requires parts { blank.parts ≡ L.parts }
     requires some { 0 < blank.parts }
-    requires fresh { IsAfter [] receiver.old }
-    requires live { IsLive receiver.old }
+    requires fresh { HasReceived [] receiver.old }
+    requires live { MayReceive receiver.old }
 {
     let mut steps = Steps::<L>::new(blank);
     let mut count: usize = 0;

@@ -1,5 +1,5 @@
 ghost use Rattle.std.specs.Prelude.{◌≡◌, ◌<◌};
-ghost use Rattle.sd_watch.specs.Watching.{IsReady};
+ghost use Rattle.sd_watch.specs.Watching.{IsWatcherReady};
 
 use crate::packets::{ALL, beginning};
 use crate::receive::{PACKETS, are_clear, card, wrong};
@@ -45,7 +45,7 @@ fn watched<L: Ledger>(
     requires name { blank.name ≡ L.name }
     requires parts { blank.parts ≡ L.parts }
     requires some { 0 < blank.parts }
-    requires ready { IsReady watcher.old }
+    requires ready { IsWatcherReady watcher.old }
 {
     let mut steps = Steps::<L>::new(blank);
     for packet in packets {

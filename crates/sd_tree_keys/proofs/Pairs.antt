@@ -11,7 +11,7 @@ use Rattle.sd_tree_keys.proofs.Ancestors.{node_level, leaf_level, above_le, abov
 use Rattle.sd_tree_keys.proofs.Ancestors.{properly_above_by_levels}
 use Rattle.sd_tree_keys.specs.declared.name.Name.{Name}
 use Rattle.sd_tree_keys.specs.declared.name.Name.TheVariants.{Whole, Pair}
-use Rattle.sd_tree_keys.specs.Names.{IsGivenPair, given, given_under}
+use Rattle.sd_tree_keys.specs.Names.{IsGivenPair, names_of_receiver, pair_names_under}
 use Rattle.sd_tree_keys.specs.Paths.{path_node, sibling_of}
 use Rattle.sd_tree_keys.proofs.Paths.{path_is_node, path_over_leaf, path_above}
 
@@ -68,28 +68,28 @@ path_pair d u a b leaf less le = record {
 
 -- one name is of one pair
 pub same_pair : (d u i w i' w' : ℕ) → Pair i w ≡ Pair i' w' → IsGivenPair d u i w → IsGivenPair d u i' w'
-same_pair d u i w i' w' is given =
+same_pair d u i w i' w' is names_of_receiver =
     let ancestor : i ≡ i' = cc in
     let hanging : w ≡ w' = cc in
-    rw ancestor at (rw hanging at given)
+    rw ancestor at (rw hanging at names_of_receiver)
 
 -- the pairs of one ancestor
-pub under_is_hanging : (d u a i w : ℕ) → u < 2 ^ d → a < d → Contains (given_under d u a) (Pair i w)
+pub under_is_hanging : (d u a i w : ℕ) → u < 2 ^ d → a < d → Contains (pair_names_under d u a) (Pair i w)
     → IsGivenPair d u i w
-unfolding given_under
+unfolding pair_names_under
 under_is_hanging d u a i w leaf less held =
     let (b, low, high, is) =
     from_values (λ b. Pair (path_node d u a) (sibling_of (path_node d u b))) (a + 1) (d - a) (Pair i w) held in
     same_pair d u _ _ i w is (path_pair d u a b leaf (omega arith) (omega arith))
 
 -- only these pairs are given
-pub given_is_hanging : (d u i w : ℕ) → u < 2 ^ d → Contains (given d u) (Pair i w) → IsGivenPair d u i w
-unfolding given
+pub given_is_hanging : (d u i w : ℕ) → u < 2 ^ d → Contains (names_of_receiver d u) (Pair i w) → IsGivenPair d u i w
+unfolding names_of_receiver
 given_is_hanging d u i w leaf held =
-    elim (Contains-append_cases (Whole ∷ []) (flat_map (given_under d u) (range_with_len 0 d)) (Pair i w) held) [
+    elim (Contains-append_cases (Whole ∷ []) (flat_map (pair_names_under d u) (range_with_len 0 d)) (Pair i w) held) [
       | inl here ↦ only_whole here
       | inr there ↦ let (a, low, high, is) =
-          from_lists (given_under d u) 0 d (Pair i w) there in under_is_hanging d u a i w leaf (omega arith) is
+          from_lists (pair_names_under d u) 0 d (Pair i w) there in under_is_hanging d u a i w leaf (omega arith) is
     ]
   where
     only_whole : Contains (Whole ∷ []) (Pair i w) → IsGivenPair d u i w
@@ -97,8 +97,8 @@ given_is_hanging d u i w leaf held =
     only_whole (suc k, within, is) = absurd (omega arith)
 
 -- each of these pairs is given
-pub hanging_is_given : (d u i w : ℕ) → u < 2 ^ d → IsGivenPair d u i w → Contains (given d u) (Pair i w)
-unfolding given given_under
+pub hanging_is_given : (d u i w : ℕ) → u < 2 ^ d → IsGivenPair d u i w → Contains (names_of_receiver d u) (Pair i w)
+unfolding names_of_receiver pair_names_under
 hanging_is_given d u i w leaf pair =
     let le = above_le i pair.node pair.ancestor.0 in
     let (a, at_i) = node_level i pair.inner in
@@ -111,14 +111,14 @@ hanging_is_given d u i w leaf pair =
     let f : ℕ → Name = λ k. Pair (path_node d u a) (sibling_of (path_node d u k)) in
     let is : f b ≡ Pair i w = rw (up.1, down.1, pair.hanging) refl in
     let under = to_values f (a + 1) (d - a) (Pair i w) b (omega (arith, less.0)) (omega (arith, down.0, less.0)) is in
-    Contains-append_right (Whole ∷ []) (flat_map (given_under d u) (range_with_len 0 d)) (Pair i w)
-    (to_lists (given_under d u) 0 d (Pair i w) a (omega arith) (omega (arith, down.0, less.0)) under)
+    Contains-append_right (Whole ∷ []) (flat_map (pair_names_under d u) (range_with_len 0 d)) (Pair i w)
+    (to_lists (pair_names_under d u) 0 d (Pair i w) a (omega arith) (omega (arith, down.0, less.0)) under)
 
 -- the pairs that are given are those of the path's siblings
-pub given_pairs : (d u i w : ℕ) → u < 2 ^ d → Contains (given d u) (Pair i w) ↔ IsGivenPair d u i w
+pub given_pairs : (d u i w : ℕ) → u < 2 ^ d → Contains (names_of_receiver d u) (Pair i w) ↔ IsGivenPair d u i w
 given_pairs d u i w leaf = (given_is_hanging d u i w leaf, hanging_is_given d u i w leaf)
 
 -- the whole set is given
-pub given_whole : (d u : ℕ) → Contains (given d u) Whole
-unfolding given
+pub given_whole : (d u : ℕ) → Contains (names_of_receiver d u) Whole
+unfolding names_of_receiver
 given_whole d u = (0, omega arith, refl)

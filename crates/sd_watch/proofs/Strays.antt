@@ -11,7 +11,7 @@ use Rattle.sd_message.specs.EcmParts.{Message}
 use Rattle.sd_psi.specs.declared.our_cat.Tuning.{Tuning}
 use Rattle.sd_spec.specs.Tuned.{tuning_of}
 use Rattle.sd_spec.specs.Heard.{Heard, Dropped, Entitles, Controls, BadEmm, BadEcm, Other, hears}
-use Rattle.sd_spec.specs.Stretches.{newest, completed, stretched, others, is_closed}
+use Rattle.sd_spec.specs.Stretches.{newest_message, completed, stretch_after, others, is_closed}
 use Rattle.sd_spec.specs.Runs.{is_turn, of_run}
 use Rattle.sd_spec.specs.Confirmed.{is_foreign_under}
 use Rattle.sd_spec.specs.Offered.{heard, heard_more, heard_with, offered}
@@ -49,9 +49,9 @@ open_good rest false unclosed good = good
 open_good rest true unclosed good = absurd cc
 
 -- nothing odd is buffered with one thing more that isn't odd, of a run that isn't closed
-more_heard : (past : List Heard) (thing : Heard) (message : Option Message) → completed (newest past) thing ≡ message →
+more_heard : (past : List Heard) (thing : Heard) (message : Option Message) → completed (newest_message past) thing ≡ message →
     is_closed past ≡ false → holds_stray past ≡ false → is_stray past thing ≡ false →
-    has_bad (stretched past (newest past) thing message).message (stretched past (newest past) thing message).after
+    has_bad (stretch_after past (newest_message past) thing message).message (stretch_after past (newest_message past) thing message).after
     ≡ false
 unfolding holds_stray is_stray others
 more_heard past thing (Some message) is unclosed none good = refl
@@ -61,15 +61,15 @@ more_heard past (Controls part) None is unclosed none good = none
 more_heard past (BadEmm fault) None is unclosed none good = none
 more_heard past (BadEcm fault) None is unclosed none good = none
 more_heard past (Other n packet) None is unclosed none good =
-    more_good (newest past).message (newest past).after n packet none
+    more_good (newest_message past).message (newest_message past).after n packet none
     (open_good (is_scrambled_packet packet
-    && option_map_or (λ m. is_foreign_under m.word packet) (newest past).message false) (is_closed past) unclosed good)
+    && option_map_or (λ m. is_foreign_under m.word packet) (newest_message past).message false) (is_closed past) unclosed good)
 
 pub holds_more : (past : List Heard) (thing : Heard) → is_closed past ≡ false → holds_stray past ≡ false →
     is_stray past thing ≡ false → holds_stray (thing ∷ past) ≡ false
-unfolding holds_stray newest
+unfolding holds_stray newest_message
 holds_more past thing unclosed none good =
-    more_heard past thing (completed (newest past) thing) refl unclosed none good
+    more_heard past thing (completed (newest_message past) thing) refl unclosed none good
 
 -- of a run that begins nothing is odd
 wordless : (scrambled : Bool) → (true && (scrambled && false)) ≡ false
@@ -77,7 +77,7 @@ wordless true = refl
 wordless false = refl
 
 none_odd : (thing : Heard) → is_stray [] thing ≡ false
-unfolding is_stray is_closed newest
+unfolding is_stray is_closed newest_message
 none_odd (Other n packet) = wordless (is_scrambled_packet packet)
 none_odd Dropped = refl
 none_odd (Entitles emm) = refl
@@ -87,7 +87,7 @@ none_odd (BadEcm fault) = refl
 
 -- nothing is buffered where nothing was heard
 pub none_held : holds_stray [] ≡ false
-unfolding holds_stray newest
+unfolding holds_stray newest_message
 none_held = refl
 
 -- what is heard of the current run with one thing more

@@ -10,8 +10,8 @@ use Rattle.sd_spec.specs.declared.report.Tally.{Tally}
 use Rattle.sd_spec.specs.Tuned.{tuning_of}
 use Rattle.sd_spec.specs.Offered.{heard, offered, tuned_offering}
 use Rattle.sd_spec.specs.Counting.{is_marked, is_doubled, is_stray_at, counts, counting}
-use Rattle.sd_spec.specs.Reports.{one_marked, one_doubled, one_odd, one_refused, refused_or, tally_from}
-use Rattle.sd_watch.specs.Numbered.{renumbered}
+use Rattle.sd_spec.specs.Reports.{tally_marked, one_doubled, one_odd, tally_refused, refused_or, tally_from}
+use Rattle.sd_watch.specs.Numbered.{stream_fault_at}
 use Rattle.sd_watch.proofs.Counted.{counted_past}
 use Rattle.sd_watch.proofs.Renumbered.{offered_at}
 
@@ -32,7 +32,7 @@ refused_last (Some fault) tally = record {
 
 -- a tally with one packet more at its end, by what is true of it
 abbrev pub last_by : Bool → Bool → Bool → Option StreamFault → Tally → Tally
-last_by m d o fault tally = if m then one_marked tally else if d then one_doubled tally
+last_by m d o fault tally = if m then tally_marked tally else if d then one_doubled tally
     else if o then one_odd tally else refused_last fault tally
 
 -- a tally with packet n at its end, after those that counted
@@ -43,7 +43,7 @@ with_last card n past packet tally =
 
 -- one in front and one at the end, in either order
 marked_first : (m d o : Bool) (fault : Option StreamFault) (tally : Tally) →
-    one_marked (last_by m d o fault tally) ≡ last_by m d o fault (one_marked tally)
+    tally_marked (last_by m d o fault tally) ≡ last_by m d o fault (tally_marked tally)
 marked_first true d o fault tally = refl
 marked_first false true o fault tally = refl
 marked_first false false true fault tally = refl
@@ -67,7 +67,7 @@ odd_first false false false None tally = refl
 odd_first false false false (Some fault) tally = refl
 
 refused_first : (why : StreamFault) (m d o : Bool) (fault : Option StreamFault) (tally : Tally) →
-    one_refused why (last_by m d o fault tally) ≡ last_by m d o fault (one_refused why tally)
+    tally_refused why (last_by m d o fault tally) ≡ last_by m d o fault (tally_refused why tally)
 refused_first why true d o fault tally = refl
 refused_first why false true o fault tally = refl
 refused_first why false false true fault tally = refl
@@ -76,7 +76,7 @@ refused_first why false false false (Some fault) tally = refl
 
 -- the tally of packets of which the first is such, with one more at the end
 abbrev first_by : Bool → Bool → Bool → Option StreamFault → Tally → Tally → Tally
-first_by m d o fault one other = if m then one_marked other else if d then one_doubled other
+first_by m d o fault one other = if m then tally_marked other else if d then one_doubled other
     else if o then one_odd other else refused_or fault one other
 
 both_ends : (m d o : Bool) (fault : Option StreamFault) (one other one_more other_more : Tally)
@@ -85,18 +85,18 @@ both_ends : (m d o : Bool) (fault : Option StreamFault) (one other one_more othe
     ((not m && (not d && (not o && is_none fault))) ≡ false → other_more ≡ last_by x y z last other) →
     first_by m d o fault one_more other_more ≡ last_by x y z last (first_by m d o fault one other)
 both_ends true d o fault one other one_more other_more x y z last is_one is_other =
-    ap one_marked (is_other refl) ∙ marked_first x y z last other
+    ap tally_marked (is_other refl) ∙ marked_first x y z last other
 both_ends false true o fault one other one_more other_more x y z last is_one is_other =
     ap one_doubled (is_other refl) ∙ doubled_first x y z last other
 both_ends false false true fault one other one_more other_more x y z last is_one is_other =
     ap one_odd (is_other refl) ∙ odd_first x y z last other
 both_ends false false false None one other one_more other_more x y z last is_one is_other = is_one refl
 both_ends false false false (Some why) one other one_more other_more x y z last is_one is_other =
-    ap (one_refused why) (is_other refl) ∙ refused_first why x y z last other
+    ap (tally_refused why) (is_other refl) ∙ refused_first why x y z last other
 
 -- whether a packet counts, by its fault as packet n
 none_renumbered : (n : PacketNumber) (fault : Option StreamFault) →
-    is_none (option_map (renumbered n) fault) ≡ is_none fault
+    is_none (option_map (stream_fault_at n) fault) ≡ is_none fault
 none_renumbered n None = refl
 none_renumbered n (Some fault) = refl
 

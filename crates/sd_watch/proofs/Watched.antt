@@ -16,20 +16,20 @@ use Rattle.sd_spec.specs.declared.ending.Ending.{Ending}
 use Rattle.sd_spec.specs.declared.report.Report.{Report}
 use Rattle.sd_spec.specs.declared.report.Tally.{Tally}
 use Rattle.sd_spec.specs.Tuned.{tuning_of}
-use Rattle.sd_spec.specs.Runs.{name_in}
+use Rattle.sd_spec.specs.Runs.{run_name_in}
 use Rattle.sd_spec.specs.Offered.{heard, offered, tuned_offering, out_from}
 use Rattle.sd_spec.specs.Ending.{turns_at}
 use Rattle.sd_spec.specs.Taken.{takes_key_at}
 use Rattle.sd_spec.specs.Counting.{is_marked, is_doubled, is_stray_at, counts, counting, tried_keys}
 use Rattle.sd_spec.specs.Reports.{run_end, tally_from, report_of, turns_after}
-use Rattle.sd_receive.specs.Session.{capped}
+use Rattle.sd_receive.specs.Session.{capped_count}
 use Rattle.sd_receive.specs.Receiving.{steps_at}
 use Rattle.sd_receive.specs.declared.receiver.Receiver.{Receiver}
-use Rattle.sd_watch.specs.Numbered.{renumbered}
+use Rattle.sd_watch.specs.Numbered.{stream_fault_at}
 use Rattle.sd_watch.specs.Tallied.{tally_add, tally_refuse}
 use Rattle.sd_watch.specs.Taking.{uncounted_at, report_on, NextOutcome, IsNextOf, taker_does}
 use Rattle.sd_watch.specs.Taking.{taker_stops}
-use Rattle.sd_watch.specs.Watching.{card_of, counted_of, IsKept, IsWatching, IsCountable, WatchesPacket}
+use Rattle.sd_watch.specs.Watching.{watcher_card, counted_of, IsWatchKept, IsWatching, IsNumberable, WatchesPacket}
 use Rattle.sd_watch.specs.Watching.{watcher_does, watcher_stops}
 use Rattle.sd_watch.specs.declared.uncounted.Uncounted.{Uncounted}
 use Rattle.sd_watch.specs.declared.uncounted.Uncounted.TheVariants.{Marked, Doubled, Odd}
@@ -115,7 +115,7 @@ added_by false false true fault most tally reason small low is =
     }) (one_more tally.odd most small.odd low))
 added_by false false false fault most tally reason small low is = absurd cc
 
-pub tally_added : (card : CardFields) (s : Packets) (packet : Packet) (reason : Uncounted) → IsCountable s →
+pub tally_added : (card : CardFields) (s : Packets) (packet : Packet) (reason : Uncounted) → IsNumberable s →
     uncounted_at card (counted_of card s) packet ≡ Some reason →
     tally_add (tally_from card 0 [] s) reason ≡ tally_from card 0 [] (s ++ packet ∷ [])
 unfolding uncounted_at with_last
@@ -136,7 +136,7 @@ last_if false false false fault tally is = refl
 
 tally_last : (card : CardFields) (s : Packets) (packet : Packet) → uncounted_at card (counted_of card s) packet ≡ None →
     tally_from card 0 [] (s ++ packet ∷ []) ≡ refused_last
-    (option_map (renumbered (length s)) (offered card (counted_of card s) packet).fault) (tally_from card 0 [] s)
+    (option_map (stream_fault_at (length s)) (offered card (counted_of card s) packet).fault) (tally_from card 0 [] s)
 unfolding uncounted_at with_last
 tally_last card s packet is =
     let past = counted_of card s in
@@ -160,16 +160,16 @@ refuse_is most tally fault small low =
 
 -- what is kept after one packet more, by what is kept of it
 pub watching_more : (card : CardFields) (s : Packets) (packet : Packet) (past : Packets) (tally : Tally) (v : Watcher) →
-    card_of v ≡ card → counted_of card (s ++ packet ∷ []) ≡ past → tally_from card 0 [] (s ++ packet ∷ []) ≡ tally →
-    IsKept past (length s + 1) tally v → IsWatching (s ++ packet ∷ []) v
+    watcher_card v ≡ card → counted_of card (s ++ packet ∷ []) ≡ past → tally_from card 0 [] (s ++ packet ∷ []) ≡ tally →
+    IsWatchKept past (length s + 1) tally v → IsWatching (s ++ packet ∷ []) v
 watching_more card s packet past tally v same is told kept =
     let long : length s + 1 ≡ length (s ++ packet ∷ []) =
     let joined = length-append s (packet ∷ []) in omega (arith, joined) in
-    subst (λ (c : CardFields). IsKept (counted_of c (s ++ packet ∷ [])) (length (s ++ packet ∷ []))
+    subst (λ (c : CardFields). IsWatchKept (counted_of c (s ++ packet ∷ [])) (length (s ++ packet ∷ []))
     (tally_from c 0 [] (s ++ packet ∷ [])) v) (sym same)
-    (subst (λ (k : ℕ). IsKept (counted_of card (s ++ packet ∷ [])) k (tally_from card 0 [] (s ++ packet ∷ [])) v) long
-    (subst (λ (p : Packets). IsKept p (length s + 1) (tally_from card 0 [] (s ++ packet ∷ [])) v) (sym is)
-    (subst (λ (t : Tally). IsKept past (length s + 1) t v) (sym told) kept)))
+    (subst (λ (k : ℕ). IsWatchKept (counted_of card (s ++ packet ∷ [])) k (tally_from card 0 [] (s ++ packet ∷ [])) v) long
+    (subst (λ (p : Packets). IsWatchKept p (length s + 1) (tally_from card 0 [] (s ++ packet ∷ [])) v) (sym is)
+    (subst (λ (t : Tally). IsWatchKept past (length s + 1) t v) (sym told) kept)))
 
 -- those that count with one packet more, if it doesn't count and if it does
 past_no : (card : CardFields) (s : Packets) (packet : Packet) → counts card (counted_of card s) packet ≡ false →
@@ -193,16 +193,16 @@ taken_none (Some room) = let none : room - 0 ≡ room = omega arith in (omega ar
 
 -- a packet that doesn't count for a reason
 pub passed_watched : (state : SinkState) (from : ℕ) (w v : Watcher) (packet : Packet) (reason : Uncounted) →
-    ((past : Packets) (n : ℕ) (tally : Tally) → IsKept past n tally w →
-    Some reason ≡ uncounted_at (card_of w) past packet) →
-    ((past : Packets) (n : ℕ) (tally : Tally) → IsKept past n tally w → n < 2 ^ 48 →
-    IsKept past (n + 1) (tally_add tally reason) v) → v.receiver ≡ w.receiver →
+    ((past : Packets) (n : ℕ) (tally : Tally) → IsWatchKept past n tally w →
+    Some reason ≡ uncounted_at (watcher_card w) past packet) →
+    ((past : Packets) (n : ℕ) (tally : Tally) → IsWatchKept past n tally w → n < 2 ^ 48 →
+    IsWatchKept past (n + 1) (tally_add tally reason) v) → v.receiver ≡ w.receiver →
     HasGrown state state from from (watcher_does w packet v None)
 passed_watched state from w v packet reason judged keeps same = record {
   bytes = [];
   steps = 0;
   says = λ s watching low.
-      let card = card_of w in
+      let card = watcher_card w in
       let past = counted_of card s in
       let is = sym (judged past (length s) (tally_from card 0 [] s) watching) in
       let uncounted = reason_uncounts card past packet reason is in
@@ -235,11 +235,11 @@ few_count card past (packet ∷ s) =
     (few_count card (packet ∷ past) s) (few_count card past s)
 
 -- a packet can be numbered after these, and nothing odd is buffered
-next_of : (s : Packets) (w : Watcher) → IsCountable s → IsNextOf (counted_of (card_of w) s) (length s) w
+next_of : (s : Packets) (w : Watcher) → IsNumberable s → IsNextOf (counted_of (watcher_card w) s) (length s) w
 next_of s w low =
-    let all = length-reverse (counting (card_of w) [] s) in
-    let few = few_count (card_of w) [] s in
-    record { fewer = omega (arith, all, few); number = low; calm = nothing_odd (card_of w) s }
+    let all = length-reverse (counting (watcher_card w) [] s) in
+    let few = few_count (watcher_card w) [] s in
+    record { fewer = omega (arith, all, few); number = low; calm = nothing_odd (watcher_card w) s }
 
 -- a key that is tried is one of those that are counted
 steps_by : (m d o takes : Bool) (height steps : ℕ) → reason_by m d o ≡ None →
@@ -261,16 +261,16 @@ few_tried card past packet steps is few =
 -- the report before a packet that turns to another run
 report_if : (card : CardFields) (s : Packets) (turns : Bool) →
     option_map (report_on (tally_from card 0 [] s) (length s)
-    (capped (length (out_from card [] (reverse (counted_of card s))))))
+    (capped_count (length (out_from card [] (reverse (counted_of card s))))))
     (if turns then Some (record {
-      run = name_in (heard card (counted_of card s));
+      run = run_name_in (heard card (counted_of card s));
       ending = run_end card (counted_of card s);
     }) else None)
     ≡ (if turns then Some (report_of card s) else None)
 unfolding report_of
 report_if card s true =
-    ap (λ (ps : Packets). Some (report_on (tally_from card 0 [] s) (length s) (capped (length (out_from card [] ps)))
-    (record { run = name_in (heard card (counted_of card s)); ending = run_end card (counted_of card s) })))
+    ap (λ (ps : Packets). Some (report_on (tally_from card 0 [] s) (length s) (capped_count (length (out_from card [] ps)))
+    (record { run = run_name_in (heard card (counted_of card s)); ending = run_end card (counted_of card s) })))
     (reverse-reverse (counting card [] s))
 report_if card s false = refl
 
@@ -281,14 +281,14 @@ turns_if card s packet is = rw is refl
 
 -- the result of a packet that the receiver is given, by whether it refuses it
 given : (s : Packets) (w v : Watcher) (packet : Packet) (report : Option Report) (bytes : List ℕ) (steps : ℕ)
-    (fault : Option StreamFault) → IsCountable s →
-    uncounted_at (card_of w) (counted_of (card_of w) s) packet ≡ None →
-    (offered (card_of w) (counted_of (card_of w) s) packet).fault ≡ fault →
-    NextOutcome fault (counted_of (card_of w) s) (length s) (tally_from (card_of w) 0 [] s) (card_of w) packet v report
-    bytes → steps ≤ steps_at (card_of w) (counted_of (card_of w) s) packet → v.receiver.card ≡ w.receiver.card →
+    (fault : Option StreamFault) → IsNumberable s →
+    uncounted_at (watcher_card w) (counted_of (watcher_card w) s) packet ≡ None →
+    (offered (watcher_card w) (counted_of (watcher_card w) s) packet).fault ≡ fault →
+    NextOutcome fault (counted_of (watcher_card w) s) (length s) (tally_from (watcher_card w) 0 [] s) (watcher_card w) packet v report
+    bytes → steps ≤ steps_at (watcher_card w) (counted_of (watcher_card w) s) packet → v.receiver.card ≡ w.receiver.card →
     WatchesPacket s w packet v report bytes steps
 given s w v packet report bytes steps None low is good outcome few same =
-    let card = card_of w in
+    let card = watcher_card w in
     let past = counted_of card s in
     let tally = tally_from card 0 [] s in
     let counted : counts card past packet ≡ true = counts_if_good card past packet is ∙ ap is_none good in
@@ -301,12 +301,12 @@ given s w v packet report bytes steps None low is good outcome few same =
       after = watching_more card s packet (packet ∷ past) tally v (ap card_fields_of same)
           (past_yes card s packet counted)
           (tally_last card s packet is
-          ∙ ap (λ (fault : Option StreamFault). refused_last (option_map (renumbered (length s)) fault) tally) good)
+          ∙ ap (λ (fault : Option StreamFault). refused_last (option_map (stream_fault_at (length s)) fault) tally) good)
           outcome.1.1;
       same = same;
     }
 given s w v packet report bytes steps (Some fault) low is bad outcome few same =
-    let card = card_of w in
+    let card = watcher_card w in
     let past = counted_of card s in
     let tally = tally_from card 0 [] s in
     let uncounted : counts card past packet ≡ false = counts_if_good card past packet is ∙ ap is_none bad in
@@ -315,25 +315,25 @@ given s w v packet report bytes steps (Some fault) low is bad outcome few same =
           (sym uncounted);
       turned = outcome.1.0 ∙ turned_no card s packet uncounted;
       few = few_tried card past packet steps is few;
-      after = watching_more card s packet past (tally_refuse tally (renumbered (length s) fault)) v
+      after = watching_more card s packet past (tally_refuse tally (stream_fault_at (length s) fault)) v
           (ap card_fields_of same) (past_no card s packet uncounted)
           (tally_last card s packet is
-          ∙ (ap (λ (fault : Option StreamFault). refused_last (option_map (renumbered (length s)) fault) tally) bad
-          ∙ sym (refuse_is (length s) tally (renumbered (length s) fault) (tally_low card 0 [] s) low)))
+          ∙ (ap (λ (fault : Option StreamFault). refused_last (option_map (stream_fault_at (length s)) fault) tally) bad
+          ∙ sym (refuse_is (length s) tally (stream_fault_at (length s) fault) (tally_low card 0 [] s) low)))
           outcome.1.1;
       same = same;
     }
 
 -- a packet that the receiver is given
 pub taken_watched : (old new : SinkState) (from to : ℕ) (w v : Watcher) (packet : Packet) (report : Option Report) →
-    ((past : Packets) (n : ℕ) (tally : Tally) → IsKept past n tally w → None ≡ uncounted_at (card_of w) past packet) →
+    ((past : Packets) (n : ℕ) (tally : Tally) → IsWatchKept past n tally w → None ≡ uncounted_at (watcher_card w) past packet) →
     HasGrown old new from to (taker_does w packet v report) →
     HasGrown old new from to (watcher_does w packet v report)
 taken_watched old new from to w v packet report judged grown = record {
   bytes = grown.bytes;
   steps = grown.steps;
   says = λ s watching low.
-      let card = card_of w in
+      let card = watcher_card w in
       let past = counted_of card s in
       let tally = tally_from card 0 [] s in
       let took = grown.says past (length s) tally watching (next_of s w low) in
@@ -346,7 +346,7 @@ taken_watched old new from to w v packet report judged grown = record {
 
 pub taken_if_ok : {E : Type 0} (old new : SinkState) (from to : ℕ) (w v : Watcher) (packet : Packet)
     (result : Result (Option Report) E) →
-    ((past : Packets) (n : ℕ) (tally : Tally) → IsKept past n tally w → None ≡ uncounted_at (card_of w) past packet) →
+    ((past : Packets) (n : ℕ) (tally : Tally) → IsWatchKept past n tally w → None ≡ uncounted_at (watcher_card w) past packet) →
     IfOk result (λ report. HasGrown old new from to (taker_does w packet v report)) →
     IfOk result (λ report. HasGrown old new from to (watcher_does w packet v report))
 taken_if_ok old new from to w v packet (Ok report) judged grown =
@@ -355,7 +355,7 @@ taken_if_ok old new from to w v packet (Err fault) judged grown = grown
 
 -- a write failed of a packet that the receiver is given
 pub cut_watched : (old new : SinkState) (from to : ℕ) (w : Watcher) (packet : Packet) →
-    ((past : Packets) (n : ℕ) (tally : Tally) → IsKept past n tally w → None ≡ uncounted_at (card_of w) past packet) →
+    ((past : Packets) (n : ℕ) (tally : Tally) → IsWatchKept past n tally w → None ≡ uncounted_at (watcher_card w) past packet) →
     IsCutShort old new (taker_stops w packet from to) → IsCutShort old new (watcher_stops w packet from to)
 cut_watched old new from to w packet judged cut = record {
   bytes = cut.bytes;
@@ -363,7 +363,7 @@ cut_watched old new from to w packet judged cut = record {
     cut.says.0,
     cut.says.1,
     λ s watching low.
-        let card = card_of w in
+        let card = watcher_card w in
         let past = counted_of card s in
         let tally = tally_from card 0 [] s in
         let is = sym (judged past (length s) tally watching) in
@@ -383,14 +383,14 @@ cut_watched old new from to w packet judged cut = record {
 -- what a watcher tells of what it keeps
 pub report_is : (s : Packets) (w : Watcher) (written : ℕ) (run : Option (Option ℕ)) (ending : Ending) →
     IsWatching s w →
-    written ≡ capped (length (out_from (card_of w) [] (reverse (counted_of (card_of w) s)))) →
-    run ≡ name_in (heard (card_of w) (counted_of (card_of w) s)) →
-    ending ≡ run_end (card_of w) (counted_of (card_of w) s) →
+    written ≡ capped_count (length (out_from (watcher_card w) [] (reverse (counted_of (watcher_card w) s)))) →
+    run ≡ run_name_in (heard (watcher_card w) (counted_of (watcher_card w) s)) →
+    ending ≡ run_end (watcher_card w) (counted_of (watcher_card w) s) →
     (record { tally = w.tally; packets = w.packets; written = written; run = run; ending = ending })
-    ≡ report_of (card_of w) s
+    ≡ report_of (watcher_card w) s
 unfolding report_of
 report_is s w written run ending watching wrote named ended =
-    let card = card_of w in
-    let all : written ≡ capped (length (out_from card [] (counting card [] s))) =
-    wrote ∙ ap (λ (ps : Packets). capped (length (out_from card [] ps))) (reverse-reverse (counting card [] s)) in
+    let card = watcher_card w in
+    let all : written ≡ capped_count (length (out_from card [] (counting card [] s))) =
+    wrote ∙ ap (λ (ps : Packets). capped_count (length (out_from card [] ps))) (reverse-reverse (counting card [] s)) in
     rw (all, named, ended, watching.tally_is, watching.packets_are) refl

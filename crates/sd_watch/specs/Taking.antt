@@ -9,12 +9,12 @@ use Rattle.sd_spec.specs.declared.report.Report.{Report}
 use Rattle.sd_spec.specs.declared.report.Tally.{Tally}
 use Rattle.sd_spec.specs.Offered.{heard, offered, out_from}
 use Rattle.sd_spec.specs.Counting.{is_marked, is_doubled, is_stray_at, holds_stray}
-use Rattle.sd_receive.specs.Session.{capped}
+use Rattle.sd_receive.specs.Session.{capped_count}
 use Rattle.sd_receive.specs.Receiving.{ended_at, steps_at}
 use Rattle.sd_receive.specs.declared.receiver.ended.EndedRun.{EndedRun}
-use Rattle.sd_watch.specs.Numbered.{renumbered}
+use Rattle.sd_watch.specs.Numbered.{stream_fault_at}
 use Rattle.sd_watch.specs.Tallied.{tally_refuse}
-use Rattle.sd_watch.specs.Watching.{card_of, IsKept}
+use Rattle.sd_watch.specs.Watching.{watcher_card, IsWatchKept}
 use Rattle.sd_watch.specs.declared.uncounted.Uncounted.{Uncounted}
 use Rattle.sd_watch.specs.declared.uncounted.Uncounted.TheVariants.{Marked, Doubled, Odd}
 use Rattle.sd_watch.specs.declared.watcher.Watcher.{Watcher}
@@ -38,36 +38,36 @@ abbrev pub NextOutcome : Option StreamFault → Packets → ℕ → Tally → Ca
     List ℕ → Type 0
 NextOutcome None past n tally card packet v report bytes =
     (bytes ≡ concat (offered card past packet).wrote)
-    × ((report ≡ option_map (report_on tally n (capped (length (out_from card [] (reverse past)))))
+    × ((report ≡ option_map (report_on tally n (capped_count (length (out_from card [] (reverse past)))))
     (ended_at card past packet None))
-    × IsKept (packet ∷ past) (n + 1) tally v)
+    × IsWatchKept (packet ∷ past) (n + 1) tally v)
 NextOutcome (Some fault) past n tally card packet v report bytes =
-    (bytes ≡ []) × ((report ≡ None) × IsKept past (n + 1) (tally_refuse tally (renumbered n fault)) v)
+    (bytes ≡ []) × ((report ≡ None) × IsWatchKept past (n + 1) (tally_refuse tally (stream_fault_at n fault)) v)
 
 -- the result of a packet that the receiver is given
 pub record TakesNext (past : Packets) (n : ℕ) (tally : Tally) (w : Watcher) (packet : Packet) (v : Watcher)
     (report : Option Report) (bytes : List ℕ) (steps : ℕ) : Type 0 where
-  pub outcome : NextOutcome (offered (card_of w) past packet).fault past n tally (card_of w) packet v report bytes
-  pub few : steps ≤ steps_at (card_of w) past packet
+  pub outcome : NextOutcome (offered (watcher_card w) past packet).fault past n tally (watcher_card w) packet v report bytes
+  pub few : steps ≤ steps_at (watcher_card w) past packet
   pub same : v.receiver.card ≡ w.receiver.card
 
 -- a packet can be numbered after these, and nothing odd is buffered
 pub record IsNextOf (past : Packets) (n : ℕ) (w : Watcher) : Type 0 where
   pub fewer : length past ≤ n
   pub number : n < 2 ^ 48
-  pub calm : holds_stray (heard (card_of w) past) ≡ false
+  pub calm : holds_stray (heard (watcher_card w) past) ≡ false
 
 abbrev pub taker_does : Watcher → Packet → Watcher → Option Report → List ℕ → ℕ → Type 0
-taker_does w packet v report bytes steps = (past : Packets) (n : ℕ) (tally : Tally) → IsKept past n tally w →
+taker_does w packet v report bytes steps = (past : Packets) (n : ℕ) (tally : Tally) → IsWatchKept past n tally w →
     IsNextOf past n w → TakesNext past n tally w packet v report bytes steps
 
 -- a write failed of a packet that the receiver takes
 pub record StopsNext (past : Packets) (w : Watcher) (packet : Packet) (bytes : List ℕ) (steps : ℕ) : Type 0 where
-  pub fault : (offered (card_of w) past packet).fault ≡ None
-  pub bytes_are : bytes ≡ concat (offered (card_of w) past packet).wrote
-  pub few : steps ≤ steps_at (card_of w) past packet
+  pub fault : (offered (watcher_card w) past packet).fault ≡ None
+  pub bytes_are : bytes ≡ concat (offered (watcher_card w) past packet).wrote
+  pub few : steps ≤ steps_at (watcher_card w) past packet
 
 abbrev pub taker_stops : Watcher → Packet → ℕ → ℕ → List ℕ → Type 0
 taker_stops w packet from to bytes = (steps : ℕ) × (to ≤ from + steps)
-    × ((past : Packets) (n : ℕ) (tally : Tally) → IsKept past n tally w → IsNextOf past n w →
+    × ((past : Packets) (n : ℕ) (tally : Tally) → IsWatchKept past n tally w → IsNextOf past n w →
     StopsNext past w packet bytes steps)

@@ -9,7 +9,7 @@ use Rattle.sd_spec.specs.declared.report.Tally.{Tally}
 use Rattle.sd_spec.specs.Offered.{offered}
 use Rattle.sd_spec.specs.Counting.{most_again, is_scrambled_packet, counts, counting, tried_keys}
 use Rattle.sd_spec.specs.Reports.{tally_from, report_of, turns_after}
-use Rattle.sd_receive.specs.Receiving.{card_in, IsAfter, IsFit}
+use Rattle.sd_receive.specs.Receiving.{receiver_card, HasReceived, IsSoundReceiver}
 use Rattle.sd_watch.specs.Tags.{packet_tag}
 use Rattle.sd_watch.specs.declared.recent.Recent.{Recent}
 use Rattle.sd_watch.specs.declared.watcher.Watcher.{Watcher}
@@ -24,16 +24,16 @@ pub record IsRecent (past : Packets) (recent : Recent) : Type 0 where
   pub tagged : take (length recent.packets.items) recent.tags ≡ map packet_tag recent.packets.items
 
 -- what the watcher's card says
-abbrev pub card_of : Watcher → CardFields
-card_of watcher = card_in watcher.receiver
+abbrev pub watcher_card : Watcher → CardFields
+watcher_card watcher = receiver_card watcher.receiver
 
 -- those of these packets that count, the newest first
 abbrev pub counted_of : CardFields → Packets → Packets
 counted_of card packets = reverse (counting card [] packets)
 
 -- what is kept after packets of which these counted, the newest first: so many in all, and what is told of them
-pub record IsKept (past : Packets) (packets : ℕ) (tally : Tally) (watcher : Watcher) : Type 0 where
-  pub receiver : IsAfter past watcher.receiver
+pub record IsWatchKept (past : Packets) (packets : ℕ) (tally : Tally) (watcher : Watcher) : Type 0 where
+  pub receiver : HasReceived past watcher.receiver
   pub recent : IsRecent past watcher.recent
   pub packets_are : watcher.packets ≡ packets
   pub tally_is : watcher.tally ≡ tally
@@ -41,15 +41,15 @@ pub record IsKept (past : Packets) (packets : ℕ) (tally : Tally) (watcher : Wa
 -- what is kept after these packets, in the order in which they were cut [this project, docs/FORMATS.md, Receiver]
 abbrev pub IsWatching : Packets → Watcher → Type 0
 IsWatching s watcher =
-    IsKept (counted_of (card_of watcher) s) (length s) (tally_from (card_of watcher) 0 [] s) watcher
+    IsWatchKept (counted_of (watcher_card watcher) s) (length s) (tally_from (watcher_card watcher) 0 [] s) watcher
 
 -- one packet more can be numbered
-abbrev pub IsCountable : Packets → Type 0
-IsCountable s = length s < 2 ^ 48
+abbrev pub IsNumberable : Packets → Type 0
+IsNumberable s = length s < 2 ^ 48
 
 -- a watcher may be given a packet: no write failed, and each run that ended was reported
-pub record IsReady (watcher : Watcher) : Type 0 where
-  pub fit : IsFit watcher.receiver
+pub record IsWatcherReady (watcher : Watcher) : Type 0 where
+  pub fit : IsSoundReceiver watcher.receiver
   pub unrefused : watcher.receiver.refusal ≡ None
   pub told : watcher.receiver.ended.last ≡ None
 
@@ -57,25 +57,25 @@ pub record IsReady (watcher : Watcher) : Type 0 where
 -- bound on the steps, and what is kept [this project, docs/FORMATS.md, Receiver]
 pub record WatchesPacket (s : Packets) (w : Watcher) (packet : Packet) (v : Watcher) (report : Option Report)
     (bytes : List ℕ) (steps : ℕ) : Type 0 where
-  pub bytes_are : bytes ≡ concat (if counts (card_of w) (counted_of (card_of w) s) packet
-      then (offered (card_of w) (counted_of (card_of w) s) packet).wrote else [])
-  pub turned : report ≡ (if turns_after (card_of w) s packet then Some (report_of (card_of w) s) else None)
-  pub few : steps ≤ (card_of w).height * tried_keys (card_of w) (counted_of (card_of w) s) (packet ∷ [])
+  pub bytes_are : bytes ≡ concat (if counts (watcher_card w) (counted_of (watcher_card w) s) packet
+      then (offered (watcher_card w) (counted_of (watcher_card w) s) packet).wrote else [])
+  pub turned : report ≡ (if turns_after (watcher_card w) s packet then Some (report_of (watcher_card w) s) else None)
+  pub few : steps ≤ (watcher_card w).height * tried_keys (watcher_card w) (counted_of (watcher_card w) s) (packet ∷ [])
   pub after : IsWatching (s ++ packet ∷ []) v
   pub same : v.receiver.card ≡ w.receiver.card
 
 -- a write failed: these bytes are what was to be written of a packet that counts
 pub record StopsWatching (s : Packets) (w : Watcher) (packet : Packet) (bytes : List ℕ) (steps : ℕ) : Type 0 where
-  pub counted : counts (card_of w) (counted_of (card_of w) s) packet ≡ true
-  pub bytes_are : bytes ≡ concat (offered (card_of w) (counted_of (card_of w) s) packet).wrote
-  pub few : steps ≤ (card_of w).height * tried_keys (card_of w) (counted_of (card_of w) s) (packet ∷ [])
+  pub counted : counts (watcher_card w) (counted_of (watcher_card w) s) packet ≡ true
+  pub bytes_are : bytes ≡ concat (offered (watcher_card w) (counted_of (watcher_card w) s) packet).wrote
+  pub few : steps ≤ (watcher_card w).height * tried_keys (watcher_card w) (counted_of (watcher_card w) s) (packet ∷ [])
 
 -- a packet is watched, whatever packets led to what the watcher keeps
 abbrev pub watcher_does : Watcher → Packet → Watcher → Option Report → List ℕ → ℕ → Type 0
 watcher_does w packet v report bytes steps =
-    (s : Packets) → IsWatching s w → IsCountable s → WatchesPacket s w packet v report bytes steps
+    (s : Packets) → IsWatching s w → IsNumberable s → WatchesPacket s w packet v report bytes steps
 
 -- a packet's write fails, whatever packets led to what the watcher keeps, and at most so many steps were counted
 abbrev pub watcher_stops : Watcher → Packet → ℕ → ℕ → List ℕ → Type 0
 watcher_stops w packet from to bytes = (steps : ℕ) × (to ≤ from + steps)
-    × ((s : Packets) → IsWatching s w → IsCountable s → StopsWatching s w packet bytes steps)
+    × ((s : Packets) → IsWatching s w → IsNumberable s → StopsWatching s w packet bytes steps)

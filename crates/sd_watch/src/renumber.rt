@@ -1,11 +1,11 @@
 ghost use Rattle.std.specs.Prelude.{◌≡◌};
-ghost use Rattle.sd_watch.specs.Numbered.{renumbered};
+ghost use Rattle.sd_watch.specs.Numbered.{stream_fault_at};
 
 use sd_message::StreamFault;
 
 /// The fault with another number of the packet that is refused. The number of a buffered packet stays.
 pub fn renumber(fault: StreamFault, packet: u64) -> StreamFault
-    ensures { result ≡ renumbered packet fault }
+    ensures { result ≡ stream_fault_at packet fault }
 {
     match fault {
         StreamFault::WrongKey {

@@ -1,14 +1,14 @@
 ghost use Rattle.std.specs.Prelude.{◌≡◌, ◌+◌, ◌<◌, ◌≤◌, ◌^◌, ◌∷◌, List, ℕ, [], None, IfOk, IsErr, length, option_map};
 ghost use Rattle.sd_base.specs.Count.{HasCause};
-ghost use Rattle.sd_engine.specs.Stage.{vessel, HasGrown, IsCutShort};
+ghost use Rattle.sd_engine.specs.Stage.{sink_state_of, HasGrown, IsCutShort};
 ghost use Rattle.sd_spec.specs.Ending.{ending_of};
 ghost use Rattle.sd_spec.specs.Counting.{is_doubled as is_doubled_at};
 ghost use Rattle.sd_spec.specs.Reports.{report_of};
-ghost use Rattle.sd_receive.specs.Receiving.{IsAfter, IsFit};
-ghost use Rattle.sd_watch.specs.Numbered.{renumbered};
+ghost use Rattle.sd_receive.specs.Receiving.{HasReceived, IsSoundReceiver};
+ghost use Rattle.sd_watch.specs.Numbered.{stream_fault_at};
 ghost use Rattle.sd_watch.specs.Taking.{report_on, taker_does, taker_stops, uncounted_at};
 ghost use Rattle.sd_watch.specs.Tallied.{tally_add, tally_refuse};
-ghost use Rattle.sd_watch.specs.Watching.{card_of, counted_of, IsKept, IsReady, IsRecent, IsWatching};
+ghost use Rattle.sd_watch.specs.Watching.{watcher_card, counted_of, IsWatchKept, IsWatcherReady, IsRecent, IsWatching};
 ghost use Rattle.sd_watch.specs.Watching.{watcher_does, watcher_stops};
 
 use crate::recent::Recent;
@@ -41,7 +41,7 @@ impl Watcher {
     pub fn new(alloc: Global, card: Card) -> Result<Watcher, NoMemory>
         ensures value { IfOk result (IsWatching []) }
         ensures card { IfOk result (λ watcher. watcher.receiver.card ≡ card) }
-        ensures ready { IfOk result IsReady }
+        ensures ready { IfOk result IsWatcherReady }
     {
         let recent = Recent::new(alloc)?;
         let receiver = Receiver::new(alloc, card)?;
@@ -61,11 +61,11 @@ impl Watcher {
         out: &mut K,
         steps: &mut Steps<L>,
     ) -> Result<Option<Report>, PortFault>
-        requires ready { IsReady self.old }
-        ensures value { IfOk result (λ report. HasGrown (vessel K.Sink out.old) (vessel K.Sink out.new)
+        requires ready { IsWatcherReady self.old }
+        ensures value { IfOk result (λ report. HasGrown (sink_state_of K.Sink out.old) (sink_state_of K.Sink out.new)
             steps.old steps.new (watcher_does self.old packet.now self.new report)) }
-        ensures ready { IfOk result (λ _. IsReady self.new) }
-        ensures prefix { IsErr result → IsCutShort (vessel K.Sink out.old) (vessel K.Sink out.new)
+        ensures ready { IfOk result (λ _. IsWatcherReady self.new) }
+        ensures prefix { IsErr result → IsCutShort (sink_state_of K.Sink out.old) (sink_state_of K.Sink out.new)
             (watcher_stops self.old packet.now steps.old steps.new) }
         ensures cause { HasCause (K.faults out.old) (K.faults out.new) result }
     {
@@ -81,7 +81,7 @@ impl Watcher {
     /// What is told of the packets so far, and of the current run.
     pub fn report(&self) -> Report
         ensures { (s : List (List ℕ)) → IsWatching s self.now → length s ≤ 2 ^ 48 →
-            result ≡ report_of (card_of self.now) s }
+            result ≡ report_of (watcher_card self.now) s }
     {
         Report {
             tally: self.tally,
@@ -96,7 +96,7 @@ impl Watcher {
     /// Receiver].
     pub fn ending(&self) -> Ending
         ensures { (s : List (List ℕ)) → IsWatching s self.now →
-            result ≡ ending_of (card_of self.now) (counted_of (card_of self.now) s) }
+            result ≡ ending_of (watcher_card self.now) (counted_of (watcher_card self.now) s) }
     {
         self.receiver.ending()
     }
@@ -112,8 +112,8 @@ impl Watcher {
     #[inline(always)]
     #[tactic(auto, unfolding(crate::specs::Taking::uncounted_at))]
     fn judge(&self, packet: &Packet) -> Option<Uncounted>
-        ensures { (past : List (List ℕ)) (n : ℕ) (tally : Tally) → IsKept past n tally self.now →
-            result ≡ uncounted_at (card_of self.now) past packet.now }
+        ensures { (past : List (List ℕ)) (n : ℕ) (tally : Tally) → IsWatchKept past n tally self.now →
+            result ≡ uncounted_at (watcher_card self.now) past packet.now }
     {
         if is_marked(packet) {
             Some(Uncounted::Marked)
@@ -130,16 +130,16 @@ impl Watcher {
     #[inline(always)]
     #[tactic(auto, unfolding(sd_spec::specs::Counting::is_doubled))]
     fn is_doubled(&self, packet: &Packet) -> bool
-        ensures { (past : List (List ℕ)) (n : ℕ) (tally : Tally) → IsKept past n tally self.now →
-            result ≡ is_doubled_at (card_of self.now) past packet.now }
+        ensures { (past : List (List ℕ)) (n : ℕ) (tally : Tally) → IsWatchKept past n tally self.now →
+            result ≡ is_doubled_at (watcher_card self.now) past packet.now }
     {
         self.recent.has(packet) || self.receiver.hears_again(packet)
     }
 
     // Counts a packet that doesn't count for this reason.
     fn pass_over(&mut self, reason: Uncounted)
-        ensures kept { (past : List (List ℕ)) (n : ℕ) (tally : Tally) → IsKept past n tally self.old →
-            n < 2 ^ 48 → IsKept past (n + 1) (tally_add tally reason) self.new }
+        ensures kept { (past : List (List ℕ)) (n : ℕ) (tally : Tally) → IsWatchKept past n tally self.old →
+            n < 2 ^ 48 → IsWatchKept past (n + 1) (tally_add tally reason) self.new }
         ensures same { self.new.receiver ≡ self.old.receiver }
     {
         add(&mut self.tally, reason);
@@ -154,11 +154,11 @@ impl Watcher {
         out: &mut K,
         steps: &mut Steps<L>,
     ) -> Result<Option<Report>, PortFault>
-        requires ready { IsReady self.old }
-        ensures value { IfOk result (λ report. HasGrown (vessel K.Sink out.old) (vessel K.Sink out.new)
+        requires ready { IsWatcherReady self.old }
+        ensures value { IfOk result (λ report. HasGrown (sink_state_of K.Sink out.old) (sink_state_of K.Sink out.new)
             steps.old steps.new (taker_does self.old packet.now self.new report)) }
-        ensures ready { IfOk result (λ _. IsReady self.new) }
-        ensures prefix { IsErr result → IsCutShort (vessel K.Sink out.old) (vessel K.Sink out.new)
+        ensures ready { IfOk result (λ _. IsWatcherReady self.new) }
+        ensures prefix { IsErr result → IsCutShort (sink_state_of K.Sink out.old) (sink_state_of K.Sink out.new)
             (taker_stops self.old packet.now steps.old steps.new) }
         ensures cause { HasCause (K.faults out.old) (K.faults out.new) result }
     {
@@ -179,10 +179,10 @@ impl Watcher {
     fn keep(&mut self, packet: &Packet, written: u64) -> Option<Report>
         ensures value { result ≡ option_map (report_on self.old.tally self.old.packets written)
             self.old.receiver.ended.last }
-        ensures kept { (past : List (List ℕ)) (n : ℕ) → IsAfter (packet.now ∷ past) self.old.receiver →
+        ensures kept { (past : List (List ℕ)) (n : ℕ) → HasReceived (packet.now ∷ past) self.old.receiver →
             IsRecent past self.old.recent → self.old.packets ≡ n → n < 2 ^ 48 →
-            IsKept (packet.now ∷ past) (n + 1) self.old.tally self.new }
-        ensures ready { IsFit self.old.receiver → self.old.receiver.refusal ≡ None → IsReady self.new }
+            IsWatchKept (packet.now ∷ past) (n + 1) self.old.tally self.new }
+        ensures ready { IsSoundReceiver self.old.receiver → self.old.receiver.refusal ≡ None → IsWatcherReady self.new }
         ensures card { self.new.receiver.card ≡ self.old.receiver.card }
     {
         let ended = self.receiver.take_ended();
@@ -211,8 +211,8 @@ impl Watcher {
 
     // Counts a packet that the receiver refused.
     fn refuse(&mut self, fault: StreamFault)
-        ensures kept { (past : List (List ℕ)) (n : ℕ) (tally : Tally) → IsKept past n tally self.old →
-            n < 2 ^ 48 → IsKept past (n + 1) (tally_refuse tally (renumbered n fault)) self.new }
+        ensures kept { (past : List (List ℕ)) (n : ℕ) (tally : Tally) → IsWatchKept past n tally self.old →
+            n < 2 ^ 48 → IsWatchKept past (n + 1) (tally_refuse tally (stream_fault_at n fault)) self.new }
         ensures same { self.new.receiver ≡ self.old.receiver }
     {
         refuse(&mut self.tally, renumber(fault, self.packets));

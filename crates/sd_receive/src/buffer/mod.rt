@@ -2,7 +2,7 @@
 
 ghost use Rattle.std.specs.Prelude.{◌≡◌, ◌<◌, [], Some, None, IfOk, IsErrOf};
 ghost use Rattle.sd_base.specs.Count.{IsCaused};
-ghost use Rattle.sd_engine.specs.Stage.{vessel};
+ghost use Rattle.sd_engine.specs.Stage.{sink_state_of};
 ghost use Rattle.sd_message.specs.EcmForm.{AreShort, ArePlaces};
 ghost use Rattle.sd_receive.specs.PacketBuffer.{held_more};
 ghost use Rattle.sd_receive.specs.Writing.{WriteOutcome, wrote_of};
@@ -48,11 +48,11 @@ impl Model for PacketBuffer {
 
     ghost Value = { Option Holding };
 
-    ghost use Rattle.sd_receive.specs.Tracking.{IsKept};
+    ghost use Rattle.sd_receive.specs.Tracking.{AreTracksKept};
 
     ghost view = { λ s. holding_of s.word s.tracks };
 
-    ghost invariant = { λ s. IsKept s.tracks };
+    ghost invariant = { λ s. AreTracksKept s.tracks };
 }
 
 impl PacketBuffer {
@@ -113,7 +113,7 @@ impl PacketBuffer {
         requires ecm { ecm < 8192 }
         requires short { AreShort places.now }
         ensures value { WriteOutcome (wrote_of self.now ca ecm places.now)
-            (vessel K.Sink out.old) (vessel K.Sink out.new) result }
+            (sink_state_of K.Sink out.old) (sink_state_of K.Sink out.new) result }
         ensures cause { IsCaused (K.faults out.old) (K.faults out.new) (IsErrOf result BufferFault.Write) }
     {
         let Some(word) = &self.word else {

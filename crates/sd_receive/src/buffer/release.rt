@@ -4,10 +4,10 @@ ghost use Rattle.std.specs.Prelude.{◌≡◌, ◌≤◌, ◌∷◌, ℕ, List, 
 ghost use Rattle.std.specs.Prelude.{if◌then◌else◌};
 ghost use Rattle.std.specs.Result.{OnOk, OnErr, IfErr};
 ghost use Rattle.sd_base.specs.Count.{IsCaused};
-ghost use Rattle.sd_engine.specs.Stage.{vessel, TookBytes};
+ghost use Rattle.sd_engine.specs.Stage.{sink_state_of, TookBytes};
 ghost use Rattle.sd_packet.specs.Header.{pid_of};
-ghost use Rattle.sd_spec.specs.Confirmed.{is_foreign as is_foreign_packet, is_near_to, judged, unmarked, written_from};
-ghost use Rattle.sd_receive.specs.Writing.{WriteOutcome, HasStopped, IsReady, IsOwn, holding_in, segment_in, AreNear};
+ghost use Rattle.sd_spec.specs.Confirmed.{is_foreign as is_foreign_packet, is_near_to, judged_packet, unmarked, written_from};
+ghost use Rattle.sd_receive.specs.Writing.{WriteOutcome, HasStopped, IsReleaseReady, HasPositionLedTo, holding_in, segment_in, AreNearPids};
 ghost use Rattle.sd_receive.specs.Writing.{AreConfirmed};
 ghost use Rattle.sd_receive.specs.declared.buffer.tracked.TheConstants.{PIDS};
 
@@ -38,9 +38,9 @@ pub struct Release<'a> {
 impl<'a> Release<'a> {
     // Writes what is confirmed, up to the first packet that is refused. It returns the number of packets written.
     pub fn write<K: Sink>(&self, out: &mut K) -> Result<u64, BufferFault>
-        requires ready { IsReady self.now }
+        requires ready { IsReleaseReady self.now }
         ensures value { WriteOutcome (written_from (segment_in self.now) [] (holding_in self.now).held)
-            (vessel K.Sink out.old) (vessel K.Sink out.new) result }
+            (sink_state_of K.Sink out.old) (sink_state_of K.Sink out.new) result }
         ensures cause { IsCaused (K.faults out.old) (K.faults out.new) (IsErrOf result BufferFault.Write) }
     {
         let confirmed = self.confirmed();
@@ -49,10 +49,10 @@ impl<'a> Release<'a> {
 
     // Writes what is confirmed, if these are the PIDs that are.
     fn write_by<K: Sink>(&self, confirmed: &PidSet, out: &mut K) -> Result<u64, BufferFault>
-        requires ready { IsReady self.now }
+        requires ready { IsReleaseReady self.now }
         requires confirmed { AreConfirmed self.now confirmed.now }
         ensures value { WriteOutcome (written_from (segment_in self.now) [] (holding_in self.now).held)
-            (vessel K.Sink out.old) (vessel K.Sink out.new) result }
+            (sink_state_of K.Sink out.old) (sink_state_of K.Sink out.new) result }
         ensures cause { IsCaused (K.faults out.old) (K.faults out.new) (IsErrOf result BufferFault.Write) }
     {
         let mut count = 0;
@@ -70,7 +70,7 @@ impl<'a> Release<'a> {
     // The PIDs that are confirmed, which are the same for all buffered packets.
     #[tactic(auto, using(crate::proofs::HoldJudging::near_confirmed))]
     fn confirmed(&self) -> PidSet
-        requires ready { IsReady self.now }
+        requires ready { IsReleaseReady self.now }
         ensures { AreConfirmed self.now result }
     {
         confirmed_in(&self.tracks.table, self.last)
@@ -85,16 +85,16 @@ impl<'a> Release<'a> {
         confirmed: &PidSet,
         packet: &mut Packet,
     ) -> Result<bool, BufferFault>
-        requires ready { IsReady self.now }
+        requires ready { IsReleaseReady self.now }
         requires confirmed { AreConfirmed self.now confirmed.now }
         requires position { held.now.position ≤ get_or self.now.tracks.now.table.items (pid_of held.now.packet) 0 }
         requires same { packet.old ≡ held.now.packet }
-        ensures { (before : List (List ℕ)) → IsOwn self.now before held.now →
+        ensures { (before : List (List ℕ)) → HasPositionLedTo self.now before held.now →
             MatchResult result
-            (λ written. judged (segment_in self.now) before (held.now.number, held.now.packet)
+            (λ written. judged_packet (segment_in self.now) before (held.now.number, held.now.packet)
             ≡ Ok (if written then packet.new ∷ [] else []))
             (λ fault. (fault ≡ BufferFault.Parity held.now.number)
-            × (judged (segment_in self.now) before (held.now.number, held.now.packet) ≡ Err held.now.number)) }
+            × (judged_packet (segment_in self.now) before (held.now.number, held.now.packet) ≡ Err held.now.number)) }
     {
         if packet.scrambling() == 0 {
             self.unmark(packet);
@@ -121,7 +121,7 @@ impl<'a> Release<'a> {
     // Removes the project's CA_descriptor from a packet that is a PMT with it.
     #[tactic(auto, using(sd_spec::proofs::Unmarked::marked_back, sd_spec::proofs::Unmarked::unplaced_stays))]
     fn unmark(&self, packet: &mut Packet)
-        requires ready { IsReady self.now }
+        requires ready { IsReleaseReady self.now }
         ensures { packet.new ≡ unmarked (segment_in self.now) packet.old }
     {
         if packet.is_placed() {
@@ -133,9 +133,9 @@ impl<'a> Release<'a> {
 // Writes a packet.
 #[tactic(auto, using(sd_engine::proofs::Vessels::too_short))]
 fn put<K: Sink>(packet: &Packet, out: &mut K) -> Result<(), BufferFault>
-    ensures ok { OnOk result (TookBytes (vessel K.Sink out.old) (vessel K.Sink out.new) packet.now) }
+    ensures ok { OnOk result (TookBytes (sink_state_of K.Sink out.old) (sink_state_of K.Sink out.new) packet.now) }
     ensures fault { IfErr result (λ fault. fault ≡ BufferFault.Write) }
-    ensures prefix { OnErr result (HasStopped (vessel K.Sink out.old) (vessel K.Sink out.new) packet.now) }
+    ensures prefix { OnErr result (HasStopped (sink_state_of K.Sink out.old) (sink_state_of K.Sink out.new) packet.now) }
     ensures cause { IsCaused (K.faults out.old) (K.faults out.new) (IsErrOf result BufferFault.Write) }
 {
     match write_all(out, packet.bytes()) {
@@ -148,7 +148,7 @@ fn put<K: Sink>(packet: &Packet, out: &mut K) -> Result<(), BufferFault>
 // places. Of places of one PID the first counts.
 fn confirmed_in(tracked: &[u64], places: &[Place]) -> PidSet
     requires { length tracked.now ≡ PIDS }
-    ensures { AreNear tracked.now places.now result }
+    ensures { AreNearPids tracked.now places.now result }
 {
     let mut confirmed = PidSet::none();
     for i in (0..places.len()).rev() {

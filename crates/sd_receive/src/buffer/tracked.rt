@@ -3,9 +3,9 @@
 ghost use Rattle.std.specs.Prelude.{◌≡◌, ◌<◌, ◌^◌, ◌++◌, ◌∷◌, [], IfOk, get_or, length, map, slice_set};
 ghost use Rattle.sd_packet.specs.Header.{pid_of};
 ghost use Rattle.sd_packet.specs.Positions.{moved};
-ghost use Rattle.sd_message.specs.EcmForm.{AreAscending, ArePlaces};
+ghost use Rattle.sd_message.specs.EcmForm.{ArePidsAscending, ArePlaces};
 ghost use Rattle.sd_receive.specs.PacketBuffer.{held_pair};
-ghost use Rattle.sd_receive.specs.Tracking.{HasFirstPositions, IsTracked, IsKept, AreKnown, packets_in};
+ghost use Rattle.sd_receive.specs.Tracking.{HasFirstPositions, IsTracked, AreTracksKept, ArePositionPids, packets_in};
 ghost use Rattle.sd_receive.specs.declared.buffer.tracked.TheConstants.{PIDS};
 
 use crate::buffer::MOST_HELD;
@@ -44,7 +44,7 @@ pub struct TrackedPackets {
 impl TrackedPackets {
     /// No place and no packet. All memory is allocated here.
     pub fn new(alloc: Global) -> Result<TrackedPackets, AllocError>
-        ensures { IfOk result (λ tracks. IsKept tracks) }
+        ensures { IfOk result (λ tracks. AreTracksKept tracks) }
     {
         let places = Vec::with_capacity(alloc, MOST_PLACES)?;
         let held = Vec::with_capacity(alloc, MOST_HELD)?;
@@ -59,8 +59,8 @@ impl TrackedPackets {
 
     /// Drops the buffered packets and the places.
     pub fn reset(&mut self)
-        requires { IsKept self.old }
-        ensures kept { IsKept self.new }
+        requires { AreTracksKept self.old }
+        ensures kept { AreTracksKept self.new }
         ensures places { self.new.places.items ≡ [] }
         ensures held { self.new.held.items ≡ [] }
     {
@@ -71,9 +71,9 @@ impl TrackedPackets {
 
     /// Drops the buffered packets, and begins again at these places.
     pub fn open(&mut self, places: &[Place])
-        requires kept { IsKept self.old }
+        requires kept { AreTracksKept self.old }
         requires places { ArePlaces places.now }
-        ensures kept { IsKept self.new }
+        ensures kept { AreTracksKept self.new }
         ensures places { self.new.places.items ≡ places.now }
         ensures held { self.new.held.items ≡ [] }
     {
@@ -84,9 +84,9 @@ impl TrackedPackets {
 
     /// Buffers one packet more, which has this number in the stream.
     pub fn hold(&mut self, number: u64, packet: &Packet)
-        requires kept { IsKept self.old }
+        requires kept { AreTracksKept self.old }
         requires room { length self.old.held.items < MOST_HELD }
-        ensures kept { IsKept self.new }
+        ensures kept { AreTracksKept self.new }
         ensures places { self.new.places.items ≡ self.old.places.items }
         ensures held { map held_pair self.new.held.items
             ≡ map held_pair self.old.held.items ++ (number, packet.now) ∷ [] }
@@ -104,8 +104,8 @@ impl TrackedPackets {
 // Puts the positions of these places into a table of first positions.
 fn start(table: &mut [u64], places: &[Place])
     requires clear { HasFirstPositions table.old }
-    requires known { AreKnown places.now }
-    requires ascending { AreAscending places.now }
+    requires known { ArePositionPids places.now }
+    requires ascending { ArePidsAscending places.now }
     ensures { IsTracked places.now [] table.new }
 {
     for place in places {
@@ -130,7 +130,7 @@ fn step(table: &mut [u64], packet: &Packet) -> u64
 // Sets the PIDs of the places and packets that a table is built from back to the first position.
 fn reset_table(table: &mut [u64], places: &[Place], held: &[HeldPacket])
     requires tracked { IsTracked places.now (packets_in held.now) table.old }
-    requires known { AreKnown places.now }
+    requires known { ArePositionPids places.now }
     ensures { HasFirstPositions table.new }
 {
     for place in places {

@@ -3,11 +3,11 @@
 ghost use Rattle.std.specs.Prelude.{◌≡◌, ◌∷◌, [], List, Option, IfOk, true, nat_lt};
 ghost use Rattle.std.specs.List.{list_any};
 ghost use Rattle.std.specs.Option.{option_map_or};
-ghost use Rattle.sd_message.specs.EcmForm.{IsEcm, AreAscending};
+ghost use Rattle.sd_message.specs.EcmForm.{IsEcm, ArePidsAscending};
 ghost use Rattle.sd_message.specs.EcmParts.{Message, message_of};
 ghost use Rattle.sd_message.specs.declared.ecm_part.EcmPart.{EcmPart};
 ghost use Rattle.sd_spec.specs.Heard.{Heard, Controls};
-ghost use Rattle.sd_spec.specs.Stretches.{current as current_period, exceeds, newest};
+ghost use Rattle.sd_spec.specs.Stretches.{current as current_period, exceeds, newest_message};
 ghost use Rattle.sd_spec.specs.Offered.{is_back as back, is_before};
 ghost use Rattle.sd_message.specs.declared.ecm_message.EcmHead.{EcmHead};
 ghost use Rattle.sd_spec.specs.Confirmed.{position_in};
@@ -105,7 +105,7 @@ impl EcmAssembler {
         requires form { IsEcm part.now }
         requires last { part.now.part ≡ part.now.last_part }
         ensures value { (past : List Heard) → IsCollected past self.old → current_period past ≡ current →
-            exceeds (newest past).message part.now ≡ true → PartOutcome past part.now self.new result }
+            exceeds (newest_message past).message part.now ≡ true → PartOutcome past part.now self.new result }
     {
         self.coming.copy(&self.partial);
         if let Err(fault) = self.coming.take(part) {
@@ -136,8 +136,8 @@ impl EcmAssembler {
     // Whether a message is of an earlier period than the current one, or goes back behind the newest complete one.
     #[tactic(auto, unfolding(sd_spec::specs::Offered::is_back))]
     fn is_back(&self, current: u32, head: &EcmHead) -> bool
-        ensures { (past : List Heard) → IsMessageKept (newest past).message self.now.last self.now.places.items →
-            AreAscending self.now.coming.places.items → current_period past ≡ current →
+        ensures { (past : List Heard) → IsMessageKept (newest_message past).message self.now.last self.now.places.items →
+            ArePidsAscending self.now.coming.places.items → current_period past ≡ current →
             result ≡ back past (message_of head.now self.now.coming.places.items) }
     {
         if head.period < current {
@@ -154,7 +154,7 @@ impl EcmAssembler {
 /// packets or some position is lower, or it lacks a PID [this project, docs/FORMATS.md, Receiver].
 #[tactic(auto, unfolding(sd_spec::specs::Offered::is_before))]
 pub fn goes_back(head: &EcmHead, coming: &[Place], last: &EcmHead, places: &[Place]) -> bool
-    ensures { AreAscending coming.now → AreAscending places.now →
+    ensures { ArePidsAscending coming.now → ArePidsAscending places.now →
         result ≡ is_before (message_of head.now coming.now) (message_of last.now places.now) }
 {
     head.period < last.period
@@ -165,7 +165,7 @@ pub fn goes_back(head: &EcmHead, coming: &[Place], last: &EcmHead, places: &[Pla
 
 // Whether some PID of `places` has no position in `coming`, or a lower one.
 fn places_go_back(coming: &[Place], places: &[Place]) -> bool
-    ensures { AreAscending coming.now → AreAscending places.now → result ≡ list_any (λ place.
+    ensures { ArePidsAscending coming.now → ArePidsAscending places.now → result ≡ list_any (λ place.
         option_map_or (λ position. nat_lt position place.position) (position_in coming.now place.pid) true) places.now }
 {
     let mut met = 0;

@@ -9,10 +9,10 @@ ghost use Rattle.sd_message.specs.EcmSpelled.{listed_places};
 ghost use Rattle.sd_message.specs.EcmForm.{IsEcm};
 ghost use Rattle.sd_message.specs.EcmParts.{ecm_head_of};
 ghost use Rattle.sd_message.specs.declared.ecm_part.EcmPart.{EcmPart};
-ghost use Rattle.sd_spec.specs.Stretches.{run_with};
+ghost use Rattle.sd_spec.specs.Stretches.{message_parts_with};
 ghost use Rattle.sd_spec.specs.Offered.{part_fault, is_after as stands_after};
 ghost use Rattle.sd_spec.specs.Counting.{is_equal_place, says_nothing_new as nothing_new};
-ghost use Rattle.sd_receive.specs.PartialEcm.{next_run, IsNext, IsPart, IsGathered, GatherOutcome};
+ghost use Rattle.sd_receive.specs.PartialEcm.{next_run, IsNextPart, IsPart, IsGathered, GatherOutcome};
 ghost use Rattle.sd_receive.specs.Again.{has_all_of};
 
 use sd_base::NoMemory;
@@ -100,9 +100,9 @@ impl PartialEcm {
     // Whether the part is the next of the message that is collected.
     fn goes_on(&self, part: &EcmPart) -> bool
         ensures value { (run : List EcmPart) → IsGathered run self.now.part self.now.places.items →
-            run_with part.now run ≡ (if result then part.now ∷ run else []) }
+            message_parts_with part.now run ≡ (if result then part.now ∷ run else []) }
         ensures next { (run : List EcmPart) → IsGathered run self.now.part self.now.places.items → IsTrue result →
-            IsNext run part.now }
+            IsNextPart run part.now }
     {
         match &self.part {
             Some(before) => {
@@ -116,7 +116,7 @@ impl PartialEcm {
     fn add(&mut self, part: &EcmPart) -> Result<(), EcmFault>
         requires { IsEcm part.now }
         ensures value { (run : List EcmPart) → IsGathered run self.old.part self.old.places.items →
-            IsNext run part.now → GatherOutcome (part.now ∷ run) self.new.part self.new.places.items result }
+            IsNextPart run part.now → GatherOutcome (part.now ∷ run) self.new.part self.new.places.items result }
         ensures unchanged { IfErr result (λ _. self.new ≡ self.old) }
     {
         if let Some(fault) = self.fault(part) {
@@ -153,7 +153,7 @@ impl PartialEcm {
         requires form { IsEcm part.now }
         requires room { length self.old.places.items + length (listed_places part.now) ≤ MOST_PLACES }
         ensures { (run : List EcmPart) → IsGathered run self.old.part self.old.places.items →
-            IsNext run part.now → part_fault (part.now ∷ run) ≡ None →
+            IsNextPart run part.now → part_fault (part.now ∷ run) ≡ None →
             IsGathered (part.now ∷ run) self.new.part self.new.places.items }
     {
         self.places.extend_from_slice(positions_of(part)).unwrap();

@@ -6,13 +6,13 @@ ghost use Rattle.sd_message.specs.EmmForm.{IsEmm, AreSets};
 ghost use Rattle.sd_message.specs.EmmSpelled.{listed_entries};
 ghost use Rattle.sd_site_cards.specs.CardFields.{CardFields, card_fields_of};
 ghost use Rattle.sd_spec.specs.Heard.{Heard, Entitles};
-ghost use Rattle.sd_spec.specs.Stretches.{current, seen};
+ghost use Rattle.sd_spec.specs.Stretches.{current, sections_seen};
 ghost use Rattle.sd_spec.specs.Keys.{first_key, key_from, key_at};
 ghost use Rattle.sd_spec.specs.Offered.{emm_offering, is_mixed, key_offering};
 ghost use Rattle.sd_spec.specs.Taken.{takes_key};
 ghost use Rattle.sd_message.specs.declared.emm_format.TheConstants.{MOST_ENTRIES};
 ghost use Rattle.sd_cipher.specs.Wrapping.{wrapped};
-ghost use Rattle.sd_receive.specs.PeriodKeys.{IsEntitled, IsStateAt, IsJudged, HasFault, is_said_otherwise, key_kept};
+ghost use Rattle.sd_receive.specs.PeriodKeys.{IsEntitled, IsStateAt, IsEmmJudged, HasFault, is_said_otherwise, key_kept};
 ghost use Rattle.sd_receive.specs.PeriodKeys.{with_key};
 
 use crate::emm::PeriodKeys;
@@ -40,7 +40,7 @@ impl PeriodKeys {
         requires form { IsEmm emm.now }
         requires sets { AreSets card.now.height emm.now.sets (listed_entries emm.now) }
         ensures ok { OnOk result ((tr : List Heard) → IsEntitled (card_fields_of card.now) tr self.now →
-            IsJudged (card_fields_of card.now) number tr emm.now key.new) }
+            IsEmmJudged (card_fields_of card.now) number tr emm.now key.new) }
         ensures fault { (tr : List Heard) → IsEntitled (card_fields_of card.now) tr self.now →
             HasFault result (emm_offering (card_fields_of card.now) number tr emm.now).fault }
         ensures rise { steps.old ≤ steps.new }
@@ -66,7 +66,7 @@ impl PeriodKeys {
     pub fn keep(&mut self, emm: &Emm, key: Option<[u8; 32]>)
         requires { IsEmm emm.now }
         ensures { (card : CardFields) (n : ℕ) (tr : List Heard) → IsEntitled card tr self.old →
-            IsJudged card n tr emm.now key → IsEntitled card (Entitles emm.now ∷ tr) self.new }
+            IsEmmJudged card n tr emm.now key → IsEntitled card (Entitles emm.now ∷ tr) self.new }
     {
         if emm.period < self.period {
             return;
@@ -100,7 +100,7 @@ impl PeriodKeys {
     fn mark(&mut self, emm: &Emm)
         ensures { (card : CardFields) (tr : List Heard) (before : Option (List ℕ)) →
             IsStateAt card tr emm.now.period (with_key self.old before) →
-            current tr ≤ emm.now.period → is_mixed (seen emm.now.period tr) emm.now ≡ false →
+            current tr ≤ emm.now.period → is_mixed (sections_seen emm.now.period tr) emm.now ≡ false →
             emm.now.index < emm.now.sections →
             self.old.key ≡ first_key (key_at card tr emm.now.period) (key_from card emm.now) →
             IsEntitled card (Entitles emm.now ∷ tr) self.new }

@@ -1,7 +1,7 @@
 //! The broadcasts that ended before the current one.
 
 ghost use Rattle.std.specs.Prelude.{◌≡◌, ℕ, List, None};
-ghost use Rattle.sd_receive.specs.Receiving.{IsAfter, IsFit, TurnsBy, HasTurned};
+ghost use Rattle.sd_receive.specs.Receiving.{HasReceived, IsSoundReceiver, TurnsBy, HasTurned};
 
 use crate::receiver::Receiver;
 use crate::session::Session;
@@ -33,8 +33,8 @@ impl Receiver {
     pub fn take_ended(&mut self) -> Option<EndedRun>
         ensures value { result ≡ self.old.ended.last }
         ensures taken { self.new.ended.last ≡ None }
-        ensures stands { (past : List (List ℕ)) → IsAfter past self.old → IsAfter past self.new }
-        ensures fit { IsFit self.old → IsFit self.new }
+        ensures stands { (past : List (List ℕ)) → HasReceived past self.old → HasReceived past self.new }
+        ensures fit { IsSoundReceiver self.old → IsSoundReceiver self.new }
         ensures same { (self.new.card ≡ self.old.card) × (self.new.refusal ≡ self.old.refusal) }
     {
         self.ended.last.take()

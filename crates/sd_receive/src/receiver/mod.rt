@@ -6,11 +6,11 @@ ghost use Rattle.sd_spec.specs.Heard.{hears};
 ghost use Rattle.sd_spec.specs.Ending.{ending_of};
 ghost use Rattle.sd_spec.specs.Offered.{heard, out_from};
 ghost use Rattle.sd_spec.specs.Reports.{run_end};
-ghost use Rattle.sd_spec.specs.Runs.{name_in};
+ghost use Rattle.sd_spec.specs.Runs.{run_name_in};
 ghost use Rattle.sd_spec.specs.Counting.{is_part_again, is_stray_at};
 ghost use Rattle.sd_spec.specs.Tuned.{tuning_of};
-ghost use Rattle.sd_receive.specs.Receiving.{IsAfter, IsLive, card_in};
-ghost use Rattle.sd_receive.specs.Session.{capped};
+ghost use Rattle.sd_receive.specs.Receiving.{HasReceived, MayReceive, receiver_card};
+ghost use Rattle.sd_receive.specs.Session.{capped_count};
 
 mod ended;
 mod stage;
@@ -63,9 +63,9 @@ impl Receiver {
     /// A receiver with this card, before the first packet. All memory that it needs is allocated here: by its layout
     /// 999,424 bytes, which no clause says.
     pub fn new(alloc: Global, card: Card) -> Result<Receiver, NoMemory>
-        ensures value { IfOk result (IsAfter []) }
+        ensures value { IfOk result (HasReceived []) }
         ensures card { IfOk result (λ receiver. receiver.card ≡ card) }
-        ensures live { IfOk result IsLive }
+        ensures live { IfOk result MayReceive }
         ensures told { IfOk result (λ receiver. receiver.ended.last ≡ None) }
     {
         let session = Session::new(alloc)?;
@@ -94,7 +94,7 @@ impl Receiver {
     /// How the stream ends for the receiver, if it ends here: the endings of all runs so far, together. The clause
     /// holds as long as no packet was refused [this project, docs/FORMATS.md, Receiver].
     pub fn ending(&self) -> Ending
-        ensures { (past : List (List ℕ)) → IsAfter past self.now → result ≡ ending_of (card_in self.now) past }
+        ensures { (past : List (List ℕ)) → HasReceived past self.now → result ≡ ending_of (receiver_card self.now) past }
     {
         if self.tuning.is_none() {
             return Ending::NoCat;
@@ -104,7 +104,7 @@ impl Receiver {
 
     /// How the current run ends, if it ends here and is the only one [this project, docs/FORMATS.md, Receiver].
     pub fn run_end(&self) -> Ending
-        ensures { (past : List (List ℕ)) → IsAfter past self.now → result ≡ run_end (card_in self.now) past }
+        ensures { (past : List (List ℕ)) → HasReceived past self.now → result ≡ run_end (receiver_card self.now) past }
     {
         if self.tuning.is_none() {
             return Ending::NoCat;
@@ -115,16 +115,16 @@ impl Receiver {
     /// The name of the current run, if a message was heard; it is `Some(None)` in versions 1 and 2, whose runs have
     /// none [this project, docs/FORMATS.md, Receiver].
     pub fn name(&self) -> Option<Option<u32>>
-        ensures { (past : List (List ℕ)) → IsAfter past self.now →
-            result ≡ name_in (heard (card_in self.now) past) }
+        ensures { (past : List (List ℕ)) → HasReceived past self.now →
+            result ≡ run_name_in (heard (receiver_card self.now) past) }
     {
         self.name
     }
 
     /// The number of packets that were written, of all runs, at most 2^64 - 1.
     pub fn written(&self) -> u64
-        ensures { (past : List (List ℕ)) → IsAfter past self.now →
-            result ≡ capped (length (out_from (card_in self.now) [] (reverse past))) }
+        ensures { (past : List (List ℕ)) → HasReceived past self.now →
+            result ≡ capped_count (length (out_from (receiver_card self.now) [] (reverse past))) }
     {
         self.ended.written.saturating_add(self.session.written)
     }
@@ -135,8 +135,8 @@ impl Receiver {
     #[inline(always)]
     #[tactic(auto, using(crate::proofs::Asked::untuned_unstray, crate::proofs::Asked::stray_heard, crate::proofs::Asked::dropped_unstray, crate::proofs::Asked::emm_unstray, crate::proofs::Asked::ecm_unstray))]
     pub fn is_stray(&self, packet: &Packet) -> bool
-        ensures { (past : List (List ℕ)) → IsAfter past self.now →
-            result ≡ is_stray_at (card_in self.now) past packet.now }
+        ensures { (past : List (List ℕ)) → HasReceived past self.now →
+            result ≡ is_stray_at (receiver_card self.now) past packet.now }
     {
         let Some(tuning) = self.tuning else {
             return false;
@@ -153,10 +153,10 @@ impl Receiver {
     #[inline(always)]
     #[tactic(auto, using(crate::proofs::Asked::untuned_unsaid, crate::proofs::Asked::again_heard, crate::proofs::Asked::dropped_unsaid, crate::proofs::Asked::emm_unsaid, crate::proofs::Asked::other_unsaid))]
     pub fn hears_again(&self, packet: &Packet) -> bool
-        ensures { (past : List (List ℕ)) → IsAfter past self.now →
-            result ≡ option_map_or (λ tuning. is_part_again (heard (card_in self.now) past)
-            (hears (card_in self.now).height tuning (length past) packet.now))
-            (tuning_of (card_in self.now).ca past) false }
+        ensures { (past : List (List ℕ)) → HasReceived past self.now →
+            result ≡ option_map_or (λ tuning. is_part_again (heard (receiver_card self.now) past)
+            (hears (receiver_card self.now).height tuning (length past) packet.now))
+            (tuning_of (receiver_card self.now).ca past) false }
     {
         let Some(tuning) = self.tuning else {
             return false;

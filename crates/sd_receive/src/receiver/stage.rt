@@ -2,12 +2,12 @@
 
 ghost use Rattle.std.specs.Prelude.{◌≡◌, ◌&&◌, ℕ, List, false, not, Some, None, Err, OnOk, IsErrOf};
 ghost use Rattle.sd_base.specs.Count.{IsCaused};
-ghost use Rattle.sd_engine.specs.Stage.{vessel, HasGrown, IsCutShort, IsAllowed};
+ghost use Rattle.sd_engine.specs.Stage.{sink_state_of, HasGrown, IsCutShort, IsAllowed};
 ghost use Rattle.sd_message.specs.EmmJudged.{emm_read};
 ghost use Rattle.sd_message.specs.EcmJudged.{ecm_read};
 ghost use Rattle.sd_spec.specs.Heard.{hears, heard_emm, heard_ecm};
 ghost use Rattle.sd_receive.specs.Filter.{heard_as, IsFormed};
-ghost use Rattle.sd_receive.specs.Receiving.{IsAfter, IsFit, IsLive, Refusing, receiver_does, receiver_ends, Leaving};
+ghost use Rattle.sd_receive.specs.Receiving.{HasReceived, IsSoundReceiver, MayReceive, Refusing, receiver_does, receiver_ends, Leaving};
 ghost use Rattle.sd_receive.specs.Receiving.{RefusesBy, CutsBy, receiver_refuses};
 
 use crate::filter::{Channel, PacketKind, channel_of, differ, name_of};
@@ -29,19 +29,19 @@ impl Receiver {
         out: &mut K,
         steps: &mut Steps<L>,
     ) -> Result<(), StageFault<StreamFault>>
-        requires fit { IsFit self.old }
+        requires fit { IsSoundReceiver self.old }
         requires unrefused { self.old.refusal ≡ None }
-        ensures value { OnOk result (HasGrown (vessel K.Sink out.old) (vessel K.Sink out.new) steps.old steps.new
+        ensures value { OnOk result (HasGrown (sink_state_of K.Sink out.old) (sink_state_of K.Sink out.new) steps.old steps.new
             (receiver_does self.old packet.now self.new)) }
-        ensures ok { OnOk result (IsFit self.new) }
+        ensures ok { OnOk result (IsSoundReceiver self.new) }
         ensures unrefused { self.new.refusal ≡ None }
         ensures fault { (fault : StreamFault) → result ≡ Err (StageFault.Refused fault) →
-            HasGrown (vessel K.Sink out.old) (vessel K.Sink out.new) steps.old steps.new
+            HasGrown (sink_state_of K.Sink out.old) (sink_state_of K.Sink out.new) steps.old steps.new
             (Refusing self.old packet.now fault) }
         ensures stands { (fault : StreamFault) → result ≡ Err (StageFault.Refused fault) →
-            (past : List (List ℕ)) → IsAfter past self.old → IsAfter past self.new }
-        ensures fit { (fault : StreamFault) → result ≡ Err (StageFault.Refused fault) → IsFit self.new }
-        ensures prefix { IsErrOf result StageFault.Write → IsCutShort (vessel K.Sink out.old) (vessel K.Sink out.new)
+            (past : List (List ℕ)) → HasReceived past self.old → HasReceived past self.new }
+        ensures fit { (fault : StreamFault) → result ≡ Err (StageFault.Refused fault) → IsSoundReceiver self.new }
+        ensures prefix { IsErrOf result StageFault.Write → IsCutShort (sink_state_of K.Sink out.old) (sink_state_of K.Sink out.new)
             (IsAllowed (receiver_does self.old packet.now) (receiver_refuses self.old (Some packet.now))
             steps.old steps.new) }
         ensures cause { IsCaused (K.faults out.old) (K.faults out.new) (IsErrOf result StageFault.Write) }
@@ -58,21 +58,21 @@ impl Receiver {
         out: &mut K,
         steps: &mut Steps<L>,
     ) -> Result<(), StageFault<StreamFault>>
-        requires fit { IsFit self.old }
+        requires fit { IsSoundReceiver self.old }
         requires unrefused { self.old.refusal ≡ None }
-        ensures value { OnOk result (HasGrown (vessel K.Sink out.old) (vessel K.Sink out.new) steps.old steps.new
+        ensures value { OnOk result (HasGrown (sink_state_of K.Sink out.old) (sink_state_of K.Sink out.new) steps.old steps.new
             (receiver_does self.old packet.now self.new)) }
-        ensures ok { OnOk result (IsFit self.new) }
+        ensures ok { OnOk result (IsSoundReceiver self.new) }
         ensures unrefused { self.new.refusal ≡ None }
         ensures fault { (fault : StreamFault) → result ≡ Err (StageFault.Refused fault) →
-            HasGrown (vessel K.Sink out.old) (vessel K.Sink out.new) steps.old steps.new
+            HasGrown (sink_state_of K.Sink out.old) (sink_state_of K.Sink out.new) steps.old steps.new
             (Leaving self.old packet.now fault) }
         ensures stands { (fault : StreamFault) → result ≡ Err (StageFault.Refused fault) →
-            (past : List (List ℕ)) → IsAfter past self.old → IsAfter past self.new }
-        ensures fit { (fault : StreamFault) → result ≡ Err (StageFault.Refused fault) → IsFit self.new }
+            (past : List (List ℕ)) → HasReceived past self.old → HasReceived past self.new }
+        ensures fit { (fault : StreamFault) → result ≡ Err (StageFault.Refused fault) → IsSoundReceiver self.new }
         ensures same { (fault : StreamFault) → result ≡ Err (StageFault.Refused fault) →
             (self.new.card ≡ self.old.card) × (self.new.ended.last ≡ self.old.ended.last) }
-        ensures prefix { IsErrOf result StageFault.Write → IsCutShort (vessel K.Sink out.old) (vessel K.Sink out.new)
+        ensures prefix { IsErrOf result StageFault.Write → IsCutShort (sink_state_of K.Sink out.old) (sink_state_of K.Sink out.new)
             (CutsBy false self.old packet.now steps.old steps.new) }
         ensures cause { IsCaused (K.faults out.old) (K.faults out.new) (IsErrOf result StageFault.Write) }
     {
@@ -88,21 +88,21 @@ impl Receiver {
         out: &mut K,
         steps: &mut Steps<L>,
     ) -> Result<(), StageFault<StreamFault>>
-        requires fit { IsFit self.old }
+        requires fit { IsSoundReceiver self.old }
         requires unrefused { self.old.refusal ≡ None }
-        ensures value { OnOk result (HasGrown (vessel K.Sink out.old) (vessel K.Sink out.new) steps.old steps.new
+        ensures value { OnOk result (HasGrown (sink_state_of K.Sink out.old) (sink_state_of K.Sink out.new) steps.old steps.new
             (receiver_does self.old packet.now self.new)) }
-        ensures ok { OnOk result (IsFit self.new) }
+        ensures ok { OnOk result (IsSoundReceiver self.new) }
         ensures unrefused { self.new.refusal ≡ None }
         ensures fault { (fault : StreamFault) → result ≡ Err (StageFault.Refused fault) →
-            HasGrown (vessel K.Sink out.old) (vessel K.Sink out.new) steps.old steps.new
+            HasGrown (sink_state_of K.Sink out.old) (sink_state_of K.Sink out.new) steps.old steps.new
             (RefusesBy strict self.old packet.now fault) }
         ensures stands { (fault : StreamFault) → result ≡ Err (StageFault.Refused fault) →
-            (past : List (List ℕ)) → IsAfter past self.old → IsAfter past self.new }
-        ensures fit { (fault : StreamFault) → result ≡ Err (StageFault.Refused fault) → IsFit self.new }
+            (past : List (List ℕ)) → HasReceived past self.old → HasReceived past self.new }
+        ensures fit { (fault : StreamFault) → result ≡ Err (StageFault.Refused fault) → IsSoundReceiver self.new }
         ensures same { (fault : StreamFault) → result ≡ Err (StageFault.Refused fault) →
             (self.new.card ≡ self.old.card) × (self.new.ended.last ≡ self.old.ended.last) }
-        ensures prefix { IsErrOf result StageFault.Write → IsCutShort (vessel K.Sink out.old) (vessel K.Sink out.new)
+        ensures prefix { IsErrOf result StageFault.Write → IsCutShort (sink_state_of K.Sink out.old) (sink_state_of K.Sink out.new)
             (CutsBy strict self.old packet.now steps.old steps.new) }
         ensures cause { IsCaused (K.faults out.old) (K.faults out.new) (IsErrOf result StageFault.Write) }
     {
@@ -144,23 +144,23 @@ impl Receiver {
         out: &mut K,
         steps: &mut Steps<L>,
     ) -> Result<(), StageFault<StreamFault>>
-        requires fit { IsFit self.old }
+        requires fit { IsSoundReceiver self.old }
         requires unrefused { self.old.refusal ≡ None }
         requires tuned { self.old.tuning ≡ Some tuning }
         requires on { (h number : ℕ) → hears h tuning number packet.now ≡ heard_emm (emm_read h packet.now) }
-        ensures value { OnOk result (HasGrown (vessel K.Sink out.old) (vessel K.Sink out.new) steps.old steps.new
+        ensures value { OnOk result (HasGrown (sink_state_of K.Sink out.old) (sink_state_of K.Sink out.new) steps.old steps.new
             (receiver_does self.old packet.now self.new)) }
-        ensures ok { OnOk result (IsFit self.new) }
+        ensures ok { OnOk result (IsSoundReceiver self.new) }
         ensures unrefused { self.new.refusal ≡ None }
         ensures fault { (fault : StreamFault) → result ≡ Err (StageFault.Refused fault) →
-            HasGrown (vessel K.Sink out.old) (vessel K.Sink out.new) steps.old steps.new
+            HasGrown (sink_state_of K.Sink out.old) (sink_state_of K.Sink out.new) steps.old steps.new
             (RefusesBy strict self.old packet.now fault) }
         ensures stands { (fault : StreamFault) → result ≡ Err (StageFault.Refused fault) →
-            (past : List (List ℕ)) → IsAfter past self.old → IsAfter past self.new }
-        ensures fit { (fault : StreamFault) → result ≡ Err (StageFault.Refused fault) → IsFit self.new }
+            (past : List (List ℕ)) → HasReceived past self.old → HasReceived past self.new }
+        ensures fit { (fault : StreamFault) → result ≡ Err (StageFault.Refused fault) → IsSoundReceiver self.new }
         ensures same { (fault : StreamFault) → result ≡ Err (StageFault.Refused fault) →
             (self.new.card ≡ self.old.card) × (self.new.ended.last ≡ self.old.ended.last) }
-        ensures prefix { IsErrOf result StageFault.Write → IsCutShort (vessel K.Sink out.old) (vessel K.Sink out.new)
+        ensures prefix { IsErrOf result StageFault.Write → IsCutShort (sink_state_of K.Sink out.old) (sink_state_of K.Sink out.new)
             (CutsBy strict self.old packet.now steps.old steps.new) }
         ensures cause { IsCaused (K.faults out.old) (K.faults out.new) (IsErrOf result StageFault.Write) }
     {
@@ -195,23 +195,23 @@ impl Receiver {
         out: &mut K,
         steps: &mut Steps<L>,
     ) -> Result<(), StageFault<StreamFault>>
-        requires fit { IsFit self.old }
+        requires fit { IsSoundReceiver self.old }
         requires unrefused { self.old.refusal ≡ None }
         requires tuned { self.old.tuning ≡ Some tuning }
         requires on { (h number : ℕ) → hears h tuning number packet.now ≡ heard_ecm (ecm_read packet.now) }
-        ensures value { OnOk result (HasGrown (vessel K.Sink out.old) (vessel K.Sink out.new) steps.old steps.new
+        ensures value { OnOk result (HasGrown (sink_state_of K.Sink out.old) (sink_state_of K.Sink out.new) steps.old steps.new
             (receiver_does self.old packet.now self.new)) }
-        ensures ok { OnOk result (IsFit self.new) }
+        ensures ok { OnOk result (IsSoundReceiver self.new) }
         ensures unrefused { self.new.refusal ≡ None }
         ensures fault { (fault : StreamFault) → result ≡ Err (StageFault.Refused fault) →
-            HasGrown (vessel K.Sink out.old) (vessel K.Sink out.new) steps.old steps.new
+            HasGrown (sink_state_of K.Sink out.old) (sink_state_of K.Sink out.new) steps.old steps.new
             (RefusesBy strict self.old packet.now fault) }
         ensures stands { (fault : StreamFault) → result ≡ Err (StageFault.Refused fault) →
-            (past : List (List ℕ)) → IsAfter past self.old → IsAfter past self.new }
-        ensures fit { (fault : StreamFault) → result ≡ Err (StageFault.Refused fault) → IsFit self.new }
+            (past : List (List ℕ)) → HasReceived past self.old → HasReceived past self.new }
+        ensures fit { (fault : StreamFault) → result ≡ Err (StageFault.Refused fault) → IsSoundReceiver self.new }
         ensures same { (fault : StreamFault) → result ≡ Err (StageFault.Refused fault) →
             (self.new.card ≡ self.old.card) × (self.new.ended.last ≡ self.old.ended.last) }
-        ensures prefix { IsErrOf result StageFault.Write → IsCutShort (vessel K.Sink out.old) (vessel K.Sink out.new)
+        ensures prefix { IsErrOf result StageFault.Write → IsCutShort (sink_state_of K.Sink out.old) (sink_state_of K.Sink out.new)
             (CutsBy strict self.old packet.now steps.old steps.new) }
         ensures cause { IsCaused (K.faults out.old) (K.faults out.new) (IsErrOf result StageFault.Write) }
     {
@@ -247,25 +247,25 @@ impl Receiver {
         out: &mut K,
         steps: &mut Steps<L>,
     ) -> Result<(), StageFault<StreamFault>>
-        requires fit { IsFit self.old }
+        requires fit { IsSoundReceiver self.old }
         requires unrefused { self.old.refusal ≡ None }
         requires tuned { self.old.tuning ≡ Some tuning }
         requires heard { (number : ℕ) → heard_as number packet.now heard
             ≡ hears self.old.card.height tuning number packet.now }
         requires form { IsFormed self.old.card.height heard }
-        ensures value { OnOk result (HasGrown (vessel K.Sink out.old) (vessel K.Sink out.new) steps.old steps.new
+        ensures value { OnOk result (HasGrown (sink_state_of K.Sink out.old) (sink_state_of K.Sink out.new) steps.old steps.new
             (receiver_does self.old packet.now self.new)) }
-        ensures ok { OnOk result (IsFit self.new) }
+        ensures ok { OnOk result (IsSoundReceiver self.new) }
         ensures unrefused { self.new.refusal ≡ None }
         ensures fault { (fault : StreamFault) → result ≡ Err (StageFault.Refused fault) →
-            HasGrown (vessel K.Sink out.old) (vessel K.Sink out.new) steps.old steps.new
+            HasGrown (sink_state_of K.Sink out.old) (sink_state_of K.Sink out.new) steps.old steps.new
             (RefusesBy strict self.old packet.now fault) }
         ensures stands { (fault : StreamFault) → result ≡ Err (StageFault.Refused fault) →
-            (past : List (List ℕ)) → IsAfter past self.old → IsAfter past self.new }
-        ensures fit { (fault : StreamFault) → result ≡ Err (StageFault.Refused fault) → IsFit self.new }
+            (past : List (List ℕ)) → HasReceived past self.old → HasReceived past self.new }
+        ensures fit { (fault : StreamFault) → result ≡ Err (StageFault.Refused fault) → IsSoundReceiver self.new }
         ensures same { (fault : StreamFault) → result ≡ Err (StageFault.Refused fault) →
             (self.new.card ≡ self.old.card) × (self.new.ended.last ≡ self.old.ended.last) }
-        ensures prefix { IsErrOf result StageFault.Write → IsCutShort (vessel K.Sink out.old) (vessel K.Sink out.new)
+        ensures prefix { IsErrOf result StageFault.Write → IsCutShort (sink_state_of K.Sink out.old) (sink_state_of K.Sink out.new)
             (CutsBy strict self.old packet.now steps.old steps.new) }
         ensures cause { IsCaused (K.faults out.old) (K.faults out.new) (IsErrOf result StageFault.Write) }
     {
@@ -307,7 +307,7 @@ impl Receiver {
 impl<K: Sink, L: Ledger> Stage<K, L> for Receiver {
     type Fault = StreamFault;
 
-    ghost live = { λ s. IsLive s };
+    ghost live = { λ s. MayReceive s };
 
     ghost kept = { λ s. s.refusal };
 

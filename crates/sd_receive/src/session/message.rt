@@ -7,7 +7,7 @@ ghost use Rattle.sd_site_cards.specs.CardFields.{CardFields, card_fields_of};
 ghost use Rattle.sd_message.specs.EcmForm.{AreShort};
 ghost use Rattle.sd_message.specs.EcmParts.{message_of};
 ghost use Rattle.sd_message.specs.declared.ecm_part.EcmPart.{EcmPart};
-ghost use Rattle.sd_engine.specs.Stage.{vessel};
+ghost use Rattle.sd_engine.specs.Stage.{sink_state_of};
 ghost use Rattle.sd_spec.specs.Heard.{Heard, Controls};
 ghost use Rattle.sd_spec.specs.Keys.{key_at};
 ghost use Rattle.sd_spec.specs.Offered.{word_fault};
@@ -15,8 +15,8 @@ ghost use Rattle.sd_receive.specs.EcmAssembler.{IsCollected, IsComplete};
 ghost use Rattle.sd_receive.specs.PacketBuffer.{after_message};
 ghost use Rattle.sd_receive.specs.Writing.{WriteOutcome};
 ghost use Rattle.sd_receive.specs.Buffered.{pair_wrote};
-ghost use Rattle.sd_receive.specs.Session.{IsListenerAfter, IsListenerAtMessage, TakesMessage, RefusesMessage};
-ghost use Rattle.sd_receive.specs.Session.{CutsMessage, PacketOutcome, IsWordOf, fault_first};
+ghost use Rattle.sd_receive.specs.Session.{IsListenerAfter, IsListenerAtMessage, TakesMessage, RefusesHeardMessage};
+ghost use Rattle.sd_receive.specs.Session.{CutsMessage, SessionOutcome, IsWordTold, fault_first};
 ghost use Rattle.sd_receive.specs.PeriodKeys.{key_kept};
 
 use crate::buffer::BufferFault;
@@ -53,10 +53,10 @@ impl Session {
         requires ecm { tuning.ecm < 8192 }
         requires live { (past : List Heard) × (part : EcmPart) ×
             IsListenerAtMessage (card_fields_of card.now) past part head.now self.old }
-        ensures value { PacketOutcome (TakesMessage true (card_fields_of card.now) tuning number head.now self.old)
-            (RefusesMessage strict (card_fields_of card.now) tuning number head.now self.old)
+        ensures value { SessionOutcome (TakesMessage true (card_fields_of card.now) tuning number head.now self.old)
+            (RefusesHeardMessage strict (card_fields_of card.now) tuning number head.now self.old)
             (CutsMessage strict (card_fields_of card.now) tuning number head.now self.old)
-            (vessel K.Sink out.old) (vessel K.Sink out.new) self.new result }
+            (sink_state_of K.Sink out.old) (sink_state_of K.Sink out.new) self.new result }
         ensures unchanged { (fault : StreamFault) → result ≡ Err (StageFault.Refused fault) → self.new ≡ self.old }
         ensures cause { IsCaused (K.faults out.old) (K.faults out.new) (IsErrOf result StageFault.Write) }
     {
@@ -80,11 +80,11 @@ impl Session {
         requires ecm { tuning.ecm < 8192 }
         requires live { (past : List Heard) × (part : EcmPart) ×
             IsListenerAtMessage (card_fields_of card.now) past part head.now self.old }
-        requires word { IsWordOf number head.now (key_kept self.old.keys head.now.period) word }
-        ensures value { PacketOutcome (TakesMessage true (card_fields_of card.now) tuning number head.now self.old)
-            (RefusesMessage true (card_fields_of card.now) tuning number head.now self.old)
+        requires word { IsWordTold number head.now (key_kept self.old.keys head.now.period) word }
+        ensures value { SessionOutcome (TakesMessage true (card_fields_of card.now) tuning number head.now self.old)
+            (RefusesHeardMessage true (card_fields_of card.now) tuning number head.now self.old)
             (CutsMessage true (card_fields_of card.now) tuning number head.now self.old)
-            (vessel K.Sink out.old) (vessel K.Sink out.new) self.new result }
+            (sink_state_of K.Sink out.old) (sink_state_of K.Sink out.new) self.new result }
         ensures unchanged { (fault : StreamFault) → result ≡ Err (StageFault.Refused fault) → self.new ≡ self.old }
         ensures cause { IsCaused (K.faults out.old) (K.faults out.new) (IsErrOf result StageFault.Write) }
     {
@@ -117,7 +117,7 @@ impl Session {
         requires ecm { tuning.ecm < 8192 }
         requires short { AreShort self.now.assembler.coming.places.items }
         ensures value { WriteOutcome (pair_wrote self.now.assembler.last self.now.buffer head.now.since card.now.ca
-            tuning.ecm self.now.assembler.coming.places.items) (vessel K.Sink out.old) (vessel K.Sink out.new) result }
+            tuning.ecm self.now.assembler.coming.places.items) (sink_state_of K.Sink out.old) (sink_state_of K.Sink out.new) result }
         ensures cause { IsCaused (K.faults out.old) (K.faults out.new) (IsErrOf result BufferFault.Write) }
     {
         match self.assembler.last() {
@@ -140,7 +140,7 @@ impl Session {
             IsListenerAtMessage card past part head.now self.old }
         ensures value { (number : ℕ) (card : CardFields) (past : List Heard) (part : EcmPart) →
             IsListenerAtMessage card past part head.now self.old →
-            IsWordOf number head.now (key_kept self.old.keys head.now.period) word →
+            IsWordTold number head.now (key_kept self.old.keys head.now.period) word →
             MatchResult result
             (λ _. (word_fault number (message_of head.now self.old.assembler.coming.places.items)
             (key_at card past head.now.period) ≡ None)

@@ -6,14 +6,14 @@ ghost use Rattle.std.specs.Option.{option_map_or};
 ghost use Rattle.sd_base.specs.Count.{IsCaused};
 ghost use Rattle.sd_site_cards.specs.CardFields.{CardFields, card_fields_of};
 ghost use Rattle.sd_message.specs.EcmForm.{IsEcm};
-ghost use Rattle.sd_engine.specs.Stage.{vessel};
+ghost use Rattle.sd_engine.specs.Stage.{sink_state_of};
 ghost use Rattle.sd_spec.specs.Heard.{Heard, Controls, Other, heard_ecm};
 ghost use Rattle.sd_spec.specs.Ending.{run_ending};
 ghost use Rattle.sd_message.specs.EcmJudged.{ecm_read};
 ghost use Rattle.sd_spec.specs.Counting.{is_part_again, is_stray as is_stray_heard};
 ghost use Rattle.sd_receive.specs.Filter.{heard_as, IsFormed};
 ghost use Rattle.sd_receive.specs.Session.{IsListenerAfter, heard_of_run, Judgement, TakesHeard, RefusesHeard};
-ghost use Rattle.sd_receive.specs.Session.{CutsHeard, PacketOutcome, IsStill, capped};
+ghost use Rattle.sd_receive.specs.Session.{CutsHeard, SessionOutcome, IsStill, capped_count};
 ghost use Rattle.sd_receive.specs.Receiving.{takes_key_of};
 
 mod message;
@@ -132,12 +132,12 @@ impl Session {
         requires live { (past : List Heard) × IsListenerAfter (card_fields_of card.now) past self.old }
         requires open { self.old.closed ≡ false }
         requires form { IsFormed card.now.height heard }
-        ensures value { PacketOutcome (TakesHeard true (card_fields_of card.now) tuning number
+        ensures value { SessionOutcome (TakesHeard true (card_fields_of card.now) tuning number
             (heard_as number packet.now heard.entry) key self.old)
             (RefusesHeard strict (card_fields_of card.now) tuning number (heard_as number packet.now heard.entry)
             self.old)
             (CutsHeard strict (card_fields_of card.now) tuning number (heard_as number packet.now heard.entry) key
-            self.old) (vessel K.Sink out.old) (vessel K.Sink out.new) self.new result }
+            self.old) (sink_state_of K.Sink out.old) (sink_state_of K.Sink out.new) self.new result }
         ensures stands { (fault : StreamFault) → result ≡ Err (StageFault.Refused fault) →
             IsStill (card_fields_of card.now) self.old self.new }
         ensures cause { IsCaused (K.faults out.old) (K.faults out.new) (IsErrOf result StageFault.Write) }
@@ -176,11 +176,11 @@ impl Session {
         requires live { (past : List Heard) × IsListenerAfter (card_fields_of card.now) past self.old }
         requires open { self.old.closed ≡ false }
         requires form { IsEcm part.now }
-        ensures value { PacketOutcome (TakesHeard true (card_fields_of card.now) tuning number (Controls part.now)
+        ensures value { SessionOutcome (TakesHeard true (card_fields_of card.now) tuning number (Controls part.now)
             None self.old)
             (RefusesHeard strict (card_fields_of card.now) tuning number (Controls part.now) self.old)
             (CutsHeard strict (card_fields_of card.now) tuning number (Controls part.now) None self.old)
-            (vessel K.Sink out.old) (vessel K.Sink out.new) self.new result }
+            (sink_state_of K.Sink out.old) (sink_state_of K.Sink out.new) self.new result }
         ensures stands { (fault : StreamFault) → result ≡ Err (StageFault.Refused fault) →
             IsStill (card_fields_of card.now) self.old self.new }
         ensures cause { IsCaused (K.faults out.old) (K.faults out.new) (IsErrOf result StageFault.Write) }
@@ -197,7 +197,7 @@ impl Session {
     // How the current run ends, if it ends here.
     pub fn ending(&self) -> Ending
         ensures { (card : CardFields) (past : List Heard) (total : ℕ) → IsListenerAfter card past self.now →
-            self.now.written ≡ capped total → result ≡ run_ending card past total }
+            self.now.written ≡ capped_count total → result ≡ run_ending card past total }
     {
         if !self.closed {
             return Ending::Unclosed(self.awaited());
@@ -227,7 +227,7 @@ impl Session {
 
     // The number of clear packets that the newest complete control message counts and that were not written.
     fn missing(&self) -> u64
-        ensures { (total : ℕ) → self.now.written ≡ capped total →
+        ensures { (total : ℕ) → self.now.written ≡ capped_count total →
             result ≡ option_map_or (λ head. head.clear) self.now.assembler.last 0 - total }
     {
         match self.assembler.last() {

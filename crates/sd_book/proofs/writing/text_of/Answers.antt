@@ -1,11 +1,11 @@
 use Rattle.std.proofs.Common.{◌∙◌, ap, Vec, ℕ, Global, take_all}
 use Rattle.std.proofs.lemmas.Result.{err_from_is_err_and}
-use Rattle.sd_book.specs.Text.{text_of}
+use Rattle.sd_book.specs.Text.{text_of_book}
 use Rattle.sd_book.proofs.Written.{text_one_more}
 use Rattle.sd_book.proofs.writing.text_of.Goals as goal
 
 pub loop-command-init : goal.loop-command-init
-unfolding text_of
+unfolding text_of_book
 loop-command-init c = c.new-text.ensures.bytes
 
 pub returns-in_err-write_line : goal.returns-in_err-write_line
@@ -22,4 +22,4 @@ loop-command-preserved c =
 pub returns : goal.returns
 returns c =
     ap (λ (v : Vec ℕ Global). v.items) c.into_bytes.ensures.value ∙ c.loop-command.invariant ∙
-    ap text_of (take_all c.loop-command.command-index c.args.commands.now c.loop-command-test.false)
+    ap text_of_book (take_all c.loop-command.command-index c.args.commands.now c.loop-command-test.false)

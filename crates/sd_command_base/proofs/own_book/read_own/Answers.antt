@@ -1,9 +1,9 @@
 use Rattle.std.proofs.lemmas.Result.{err_from_is_err_and}
 use Rattle.sd_command_base.specs.declared.status.LimitKind.TheVariants.{BookBytes}
 use Rattle.sd_command_base.specs.Outside.{depot_state}
-use Rattle.sd_command_base.specs.Spec.{within, judged}
+use Rattle.sd_command_base.specs.Spec.{within, of_result}
 use Rattle.sd_command_base.proofs.Follow.{looks_first, looks_judged}
-use Rattle.sd_command_base.specs.Files.{told_own, own_book_of_file, most_book_bytes}
+use Rattle.sd_command_base.specs.Files.{own_book_or_status, own_book_of_file, most_book_bytes}
 use Rattle.sd_command_base.proofs.own_book.read_own.Goals as goal
 
 pub returns-in_err-bytes-clause-value : goal.returns-in_err-bytes-clause-value
@@ -12,7 +12,7 @@ returns-in_err-bytes-clause-value g c =
     let p = err_from_is_err_and c.from_residual.result c.from_residual.ensures.1 in
     let word = c.args.word.number in
     rw (p.1, p.2) (looks_first (λ bytes. bytes.items) (λ book. book.commands) (within word most_book_bytes BookBytes)
-    (λ bytes. judged (told_own word c.args.h c.args.line bytes)) c.args.word.text.now
+    (λ bytes. of_result (own_book_or_status word c.args.h c.args.line bytes)) c.args.word.text.now
     (depot_state g.D.Depot c.args.depot.now) (depot_state g.D.Depot c.read_bytes.new.depot) c.in_err-bytes.field-0.0
     c.in_err-bytes.ensures)
 
@@ -22,6 +22,6 @@ returns-clause-value g c =
     let judges = rw c.deref.ensures.value at c.judge_own.ensures.value in
     let word = c.args.word.number in
     looks_judged (λ bytes. bytes.items) (λ book. book.commands) (within word most_book_bytes BookBytes)
-    (λ bytes. told_own word c.args.h c.args.line bytes) c.args.word.text.now
+    (λ bytes. own_book_or_status word c.args.h c.args.line bytes) c.args.word.text.now
     (depot_state g.D.Depot c.args.depot.now) (depot_state g.D.Depot c.read_bytes.new.depot) c.in_ok-bytes.bytes
     c.judge_own.result c.in_ok-bytes.ensures judges

@@ -1,10 +1,10 @@
 use Rattle.std.proofs.Common.{◌≡◌, ◌≤◌, ◌<◌, ◌+◌, ◌/◌, ◌^◌, ℕ, suc, arith, rules}
-use Rattle.sd_cover_tracing.specs.Path.{met_by}
+use Rattle.sd_cover_tracing.specs.Path.{path_visit_count}
 use Rattle.sd_cover_tracing.proofs.Paths.{path_low, path_high, met_once, lowered_next}
 use Rattle.sd_cover_tracing.proofs.path.lower_path.Goals as goal
 
 -- what is taken away so far leaves one at the next node
-one_left : (m old node k n : ℕ) → m + met_by node k (node / 2 ^ k) ≡ old → met_by node n (node / 2 ^ k) ≤ old →
+one_left : (m old node k n : ℕ) → m + path_visit_count node k (node / 2 ^ k) ≡ old → path_visit_count node n (node / 2 ^ k) ≤ old →
     suc k ≤ n → 0 < m
 one_left m old node k n is some h = let once = met_once node k n h in omega arith
 

@@ -6,7 +6,7 @@ use Rattle.std.proofs.lemmas.Result.{on_ok_weaker}
 use Rattle.sd_tree_keys.specs.declared.height.TheConstants.{HIGHEST}
 use Rattle.sd_cover_tracing.specs.Walk.{IsOnChain}
 use Rattle.sd_cover_tracing.specs.Walk.{StandsAt}
-use Rattle.sd_cover_tracing.specs.Index.{IsIndex, revoked_by}
+use Rattle.sd_cover_tracing.specs.Index.{IsIndex, indexed_leaves}
 use Rattle.sd_cover_tracing.specs.declared.counts.TheConstants.{NODES}
 use Rattle.sd_cover_tracing.proofs.Bridge.{stands_high}
 use Rattle.sd_cover_tracing.proofs.Walks.{IsInner, at_left, at_right, split, some_count, chain_left, chain_right, begins_left}
@@ -62,7 +62,7 @@ first_steps whole l level old first mid within some up begun more =
 
 -- the node of a call that isn't a leaf's
 inner : {d level head v : ℕ} {m : FinMap nat_cmp ℕ} → d ≤ HIGHEST → 0 < level → IsIndex d m → StandsAt d level v →
-    IsOnChain d (revoked_by d m) head v → IsInner d m level head v
+    IsOnChain d (indexed_leaves d m) head v → IsInner d m level head v
 inner tall up is at on = record { small = omega arith; index = is; up = up; at = at; on = on }
 
 -- a left child's number is one of a node

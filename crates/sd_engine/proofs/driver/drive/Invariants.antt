@@ -1,7 +1,7 @@
 use Rattle.std.proofs.Common.{◌≡◌, ◌≤◌, length}
-use Rattle.sd_engine.specs.Stage.{vessel}
+use Rattle.sd_engine.specs.Stage.{sink_state_of}
 use Rattle.sd_engine.specs.Feeding.{waiting}
-use Rattle.sd_engine.specs.Driving.{moment, IsUnderWay}
+use Rattle.sd_engine.specs.Driving.{drive_state_of, IsUnderWay}
 use Rattle.sd_engine.proofs.driver.drive.Given as goal
 
 -- so many packets went through, and nothing failed
@@ -12,8 +12,8 @@ invariant-loop-count g l = record {
   within : l.span.filled ≤ 66176;
   long : length l.piece ≡ 66176;
   way : IsUnderWay g.G.Stage.does
-      (moment (g.S.Source.left l.fn.source) (vessel g.K.Sink l.fn.sink) l.fn.stage l.fn.steps)
-      (moment (g.S.Source.left l.source) (vessel g.K.Sink l.sink) l.stage l.steps)
+      (drive_state_of (g.S.Source.left l.fn.source) (sink_state_of g.K.Sink l.fn.sink) l.fn.stage l.fn.steps)
+      (drive_state_of (g.S.Source.left l.source) (sink_state_of g.K.Sink l.sink) l.stage l.steps)
       l.count (waiting l.piece l.span.at l.span.filled);
   read : g.S.Source.faults l.source ≡ g.S.Source.faults l.fn.source;
   written : g.K.Sink.faults l.sink ≡ g.K.Sink.faults l.fn.sink;

@@ -1,6 +1,6 @@
 use Rattle.std.proofs.Common.{◌≡◌, ◌-◌, ◌^◌, ◌≤◌, length}
 use Rattle.sd_engine.specs.Feeding.{waiting}
-use Rattle.sd_engine.specs.Stage.{vessel}
+use Rattle.sd_engine.specs.Stage.{sink_state_of}
 use Rattle.sd_engine.specs.Seeking.{IsSearching}
 use Rattle.sd_engine.proofs.seeking.search.Given as goal
 
@@ -14,7 +14,7 @@ invariant-loop-ahead g l = record {
       (waiting l.fn.piece l.fn.ahead.at l.fn.ahead.filled) (waiting l.piece l.ahead.at l.ahead.filled)
       l.fn.ahead.ended l.ahead.ended l.fn.skipped l.skipped;
   read : g.S.Source.faults l.source ≡ g.S.Source.faults l.fn.source;
-  same : vessel g.K.Sink l.sink ≡ vessel g.K.Sink l.fn.sink;
+  same : sink_state_of g.K.Sink l.sink ≡ sink_state_of g.K.Sink l.fn.sink;
   written : g.K.Sink.faults l.sink ≡ g.K.Sink.faults l.fn.sink;
 }
 

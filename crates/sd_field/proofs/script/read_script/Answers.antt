@@ -5,7 +5,7 @@ use Rattle.std.proofs.lemmas.List.{length-replicate}
 use Rattle.sd_base.specs.Lines.{lines_of}
 use Rattle.sd_spec.specs.declared.event.Event.{Event}
 use Rattle.sd_spec.specs.Events.{is_of}
-use Rattle.sd_field.specs.Script.{judged, put_before, script_from, spoken}
+use Rattle.sd_field.specs.Script.{judged_event, put_before, script_from, script_line_event}
 use Rattle.sd_field.proofs.Scripts.{line_good, run_of_tree, script_broken, script_ended, script_on}
 use Rattle.sd_field.proofs.script.read_script.Goals as goal
 
@@ -22,7 +22,7 @@ returns-in_err-event-clause-exact c =
     ∙ ap (λ (xs : List (List ℕ)). put_before l.events.items (script_from d k n xs)) c.in-Some.ensures.first in
     rw (p.1, p.2) (inr (said ∙ script_broken d k n l.events.items c.in-Some.line.now (lines_of c.in-Some.after.now)
     c.in_err-event.field-0.0
-    (subst (λ (m : ℕ). judged d k m (spoken c.in-Some.line.now) ≡ Err c.in_err-event.field-0.0) long_is
+    (subst (λ (m : ℕ). judged_event d k m (script_line_event c.in-Some.line.now) ≡ Err c.in_err-event.field-0.0) long_is
     (sym c.in_err-event.ensures.value))))
 
 pub loop-line-preserved : goal.loop-line-preserved
@@ -37,8 +37,8 @@ loop-line-preserved c =
     let long_is : c.len.result ≡ n = omega (arith, c.len.ensures, l.events.ok) in
     let said = l.invariant.said
     ∙ ap (λ (xs : List (List ℕ)). put_before events (script_from d k n xs)) c.in-Some.ensures.first in
-    let is : judged d k n (spoken c.in-Some.line.now) ≡ Ok (event, times) =
-    subst (λ (m : ℕ). judged d k m (spoken c.in-Some.line.now) ≡ Ok (event, times)) long_is
+    let is : judged_event d k n (script_line_event c.in-Some.line.now) ≡ Ok (event, times) =
+    subst (λ (m : ℕ). judged_event d k m (script_line_event c.in-Some.line.now) ≡ Ok (event, times)) long_is
     (sym c.in_ok-event.ensures.value) in
     let good = line_good d k n c.in-Some.line.now (event, times) is in
     let all = c.in_ok-push_run.ensures.value in

@@ -1,5 +1,5 @@
 use Rattle.std.proofs.Common.{◌∙◌, ap, subst, arith}
-use Rattle.sd_engine.specs.Stage.{vessel, TookBytes}
+use Rattle.sd_engine.specs.Stage.{sink_state_of, TookBytes}
 use Rattle.sd_message.specs.EcmParts.{message_of, parts_of}
 use Rattle.sd_message.proofs.EcmSharing.{as_many}
 use Rattle.sd_head.proofs.Packing.{taken_at}
@@ -14,12 +14,12 @@ returns-in_err-send-clause-value g c =
     sends_err c.from_residual.result _ _ _ c.from_residual.ensures.0
     (one_cut (packed_part c.args.pid) c.args.counter.now c.loop-number.counter n
     (parts_of message) c.of_message-part.result
-    _ (vessel g.K.Sink c.loop-number.out) _
+    _ (sink_state_of g.K.Sink c.loop-number.out) _
     (omega (arith, c.loop-number-test.true, c.part_count-number-end.ensures, as_many message))
     (taken_at (parts_of message) n c.of_message-part.result c.of_message-part.ensures.value)
     c.loop-number.invariant.next
     c.loop-number.invariant.value
-    (subst (FailsWithin (vessel g.K.Sink c.loop-number.out) (vessel g.K.Sink c.send.new.out))
+    (subst (FailsWithin (sink_state_of g.K.Sink c.loop-number.out) (sink_state_of g.K.Sink c.send.new.out))
     (c.write_ecm.ensures.value ∙ ap (packed_part c.args.pid c.of_message-part.result) c.take.ensures.value)
     c.in_err-send.ensures.value))
 
@@ -30,12 +30,12 @@ loop-number-preserved g c =
     record {
       value = one_more (packed_part c.args.pid) c.args.counter.now c.loop-number.counter n
           (parts_of message) c.of_message-part.result
-          _ (vessel g.K.Sink c.loop-number.out) _
+          _ (sink_state_of g.K.Sink c.loop-number.out) _
           (omega (arith, c.loop-number-test.true, c.part_count-number-end.ensures, as_many message))
           (taken_at (parts_of message) n c.of_message-part.result c.of_message-part.ensures.value)
           c.loop-number.invariant.next
           c.loop-number.invariant.value
-          (subst (TookBytes (vessel g.K.Sink c.loop-number.out) (vessel g.K.Sink c.send.new.out))
+          (subst (TookBytes (sink_state_of g.K.Sink c.loop-number.out) (sink_state_of g.K.Sink c.send.new.out))
           (c.write_ecm.ensures.value ∙ ap (packed_part c.args.pid c.of_message-part.result) c.take.ensures.value)
           c.in_ok-send.ensures.value);
       next = counter_next c.args.counter.now c.loop-number.counter c.take.new.self n c.loop-number.invariant.next

@@ -1,7 +1,7 @@
 use Rattle.std.proofs.Common.{◌<◌, sym, subst, ◌∙◌}
 use Rattle.std.specs.Prelude.{Option, IfSome}
 use Rattle.sd_head.specs.declared.judged.Move.{Move}
-use Rattle.sd_head.specs.Known.{AreKnown}
+use Rattle.sd_head.specs.Known.{ArePids}
 use Rattle.sd_head.specs.Follows.{IsMoveOf}
 use Rattle.sd_head.proofs.Moving.{positions_unmoved, positions_after, pids_unmoved, pids_first, pids_again, known_more}
 use Rattle.sd_head.proofs.take.move_position.Goals as goal
@@ -29,7 +29,7 @@ returns-then-next-clause-moved c = λ before packet makes are moved.
 
 pub returns-then-next-clause-known : goal.returns-then-next-clause-known
 returns-then-next-clause-known c =
-    subst AreKnown (sym c.add.ensures.value)
+    subst ArePids (sym c.add.ensures.value)
     (known_more c.in-Some.next.pid c.args.pids.now.items
     (subst (λ (next : Option Move). IfSome next (λ move. move.pid < 8192)) c.in-Some.is c.requires.pid)
     c.requires.known)

@@ -3,7 +3,7 @@ use Rattle.std.proofs.lemmas.Bool.{false≢true, cases_lt}
 use Rattle.std.proofs.lemmas.List.Elements.{Contains-get_or}
 use Rattle.sd_tree_keys.specs.declared.name.Name.{Name}
 use Rattle.sd_tree_keys.specs.declared.name.Name.TheVariants.{Whole}
-use Rattle.sd_cover_tracing.specs.Reach.{Key, LeadsTo}
+use Rattle.sd_cover_tracing.specs.Reach.{Key, DerivesSecret}
 use Rattle.sd_cover_tracing.proofs.Reached.{found_is_reached, reached_is_found, none_of_all}
 use Rattle.sd_law_covers.proofs.reaching.reaches.Goals as goal
 
@@ -28,6 +28,6 @@ pub returns : goal.returns
 returns c = (
   λ e. absurd (false≢true e),
   λ r. let (name, held, leads) = reached_is_found c.args.held.now (Key c.args.name) r in
-      absurd (none_of_all c.args.held.now (λ (n : Name). LeadsTo n (Key c.args.name)) Whole
+      absurd (none_of_all c.args.held.now (λ (n : Name). DerivesSecret n (Key c.args.name)) Whole
       (λ k h. c.loop-given.invariant k (omega (arith, c.loop-given-test.false))) name held leads),
 )

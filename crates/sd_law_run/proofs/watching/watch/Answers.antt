@@ -1,5 +1,5 @@
 use Rattle.std.proofs.Common.{ℕ, List, subst}
-use Rattle.sd_command_base.specs.Outside.{depot_state, page_state, outside}
+use Rattle.sd_command_base.specs.Outside.{io_state_at}
 use Rattle.sd_command_base.specs.Results.{RunResult}
 use Rattle.sd_run.specs.Meaning.{meaning}
 use Rattle.sd_law_run.proofs.Ordered.{watch_answers}
@@ -10,8 +10,8 @@ use Rattle.sd_law_run.proofs.watching.watch.Goals as goal
 
 pub returns-clause-goes_on : goal.returns-clause-goes_on
 returns-clause-goes_on g c names card bytes words out stream is card_there stream_there well =
-    let a = outside (depot_state g.D.Depot c.args.depot.now) (page_state g.P.Sink c.args.print.now) c.args.steps.now in
-    let b = outside (depot_state g.D.Depot c.run.new.depot) (page_state g.P.Sink c.run.new.print) c.run.new.steps in
+    let a = io_state_at g.D.Depot g.P.Sink c.args.depot.now c.args.print.now c.args.steps.now in
+    let b = io_state_at g.D.Depot g.P.Sink c.run.new.depot c.run.new.print c.run.new.steps in
     let told = rw c.read.ensures at c.run.ensures.value in
     let own = subst (λ (w : List (List ℕ)). RunResult (meaning w) a b c.run.result) words told in
     watch_part names card bytes a b c.run.result is card_there stream_there
@@ -20,8 +20,8 @@ returns-clause-goes_on g c names card bytes words out stream is card_there strea
 pub returns-clause-watched : goal.returns-clause-watched
 returns-clause-watched g c names plan u clear z words out stream given steady unmarked within card_there stream_there
     well =
-    let a = outside (depot_state g.D.Depot c.args.depot.now) (page_state g.P.Sink c.args.print.now) c.args.steps.now in
-    let b = outside (depot_state g.D.Depot c.run.new.depot) (page_state g.P.Sink c.run.new.print) c.run.new.steps in
+    let a = io_state_at g.D.Depot g.P.Sink c.args.depot.now c.args.print.now c.args.steps.now in
+    let b = io_state_at g.D.Depot g.P.Sink c.run.new.depot c.run.new.print c.run.new.steps in
     let told = rw c.read.ensures at c.run.ensures.value in
     let own = subst (λ (w : List (List ℕ)). RunResult (meaning w) a b c.run.result) words told in
     whole_part plan clear (all_sendable names plan clear z given) steady unmarked u within names a b c.run.result

@@ -3,7 +3,7 @@ use Rattle.std.proofs.lemmas.Bool.{false≢true}
 use Rattle.std.proofs.lemmas.List.{take_rest}
 use Rattle.sd_message.specs.EcmVersions.{flags_at}
 use Rattle.sd_message.specs.EcmForm.{ArePositioned}
-use Rattle.sd_message.specs.EcmFields.{places_in, padded_places, ecm_in, IsMatched, IsGoodIn, BreaksIn}
+use Rattle.sd_message.specs.EcmFields.{ecm_positions_in, padded_places, ecm_in, IsMatched, IsGoodEcm, BreaksEcmRule}
 use Rattle.sd_message.specs.declared.ecm_part.EcmPart.{EcmPart}
 use Rattle.sd_message.specs.declared.ecm_fault.EcmFault.TheVariants.{Count, Order, Pid, Mixed}
 use Rattle.sd_message.proofs.EcmJudging.{IsJudged, AreRead, count_breaks, pid_breaks, order_breaks, mixed_breaks, is_good}
@@ -24,9 +24,9 @@ is_judged c = record {
 are_read : (c : In-Some) → AreRead c.version_in-version.result c.args.body.now c.from-count.result c.in-Some.positions
 are_read c =
     let after = take_rest c.tail_of-tail.result.now 50 ∙ ap (drop 50) c.tail_of-tail.ensures.value in record {
-      all = subst (λ (l : List ℕ). ArePositioned (places_in c.from-count.result l)) after
+      all = subst (λ (l : List ℕ). ArePositioned (ecm_positions_in c.from-count.result l)) after
           (c.in-Some.ensures.places.0 refl);
-      read = c.in-Some.ensures.value ∙ ap (λ (l : List ℕ). padded_places (places_in c.from-count.result l)) after;
+      read = c.in-Some.ensures.value ∙ ap (λ (l : List ℕ). padded_places (ecm_positions_in c.from-count.result l)) after;
     }
 
 pub read_places-requires-clause-room : goal.read_places-requires-clause-room
@@ -49,7 +49,7 @@ read_places-requires-clause-room c =
 
 pub returns-then-not-is_counted-clause-fault : goal.returns-then-not-is_counted-clause-fault
 returns-then-not-is_counted-clause-fault c =
-    subst (λ (v : ℕ). BreaksIn c.args.table_id c.args.body.now
+    subst (λ (v : ℕ). BreaksEcmRule c.args.table_id c.args.body.now
     (ecm_in v c.args.number c.args.last_number c.args.body.now) Count) c.version_in-version.ensures.value
     (count_breaks c.args.table_id c.args.body.now (ecm_in c.version_in-version.result c.args.number c.args.last_number
     c.args.body.now) c.read_head-part.result
@@ -59,18 +59,18 @@ pub returns-in_default-clause-fault : goal.returns-in_default-clause-fault
 returns-in_default-clause-fault c =
     let judged = is_judged (goal.at.returns-in_default-clause-fault c).After-from-count in
     let after = take_rest c.tail_of-tail.result.now 50 ∙ ap (drop 50) c.tail_of-tail.ensures.value in
-    subst (λ (v : ℕ). BreaksIn c.args.table_id c.args.body.now
+    subst (λ (v : ℕ). BreaksEcmRule c.args.table_id c.args.body.now
     (ecm_in v c.args.number c.args.last_number c.args.body.now) Pid) c.version_in-version.ensures.value
     (pid_breaks c.args.table_id _ _ _ _ _ _ judged
     (λ all. false≢true
-    (c.in_default.ensures.places.1 (subst (λ (l : List ℕ). ArePositioned (places_in c.from-count.result l)) (sym after)
+    (c.in_default.ensures.places.1 (subst (λ (l : List ℕ). ArePositioned (ecm_positions_in c.from-count.result l)) (sym after)
     all))))
 
 pub returns-then-not-are_ascending-clause-fault : goal.returns-then-not-are_ascending-clause-fault
 returns-then-not-are_ascending-clause-fault c =
     let judged = is_judged (goal.at.returns-then-not-are_ascending-clause-fault c).After-from-count in
     let are = are_read (goal.at.returns-then-not-are_ascending-clause-fault c).In-Some in
-    subst (λ (v : ℕ). BreaksIn c.args.table_id c.args.body.now
+    subst (λ (v : ℕ). BreaksEcmRule c.args.table_id c.args.body.now
     (ecm_in v c.args.number c.args.last_number c.args.body.now) Order) c.version_in-version.ensures.value
     (order_breaks c.args.table_id _ _ _ _ _ _ _ judged are
     (λ up. false≢true (c.if-not-are_ascending.ensures.1 up)))
@@ -80,7 +80,7 @@ returns-then-not-is_matched-clause-fault c =
     let judged = is_judged (goal.at.returns-then-not-is_matched-clause-fault c).After-from-count in
     let are = are_read (goal.at.returns-then-not-is_matched-clause-fault c).In-Some in
     let flags = ap (λ (l : List ℕ). get_or l 0 0) c.tail_of-tail.ensures.value in
-    subst (λ (v : ℕ). BreaksIn c.args.table_id c.args.body.now
+    subst (λ (v : ℕ). BreaksEcmRule c.args.table_id c.args.body.now
     (ecm_in v c.args.number c.args.last_number c.args.body.now) Mixed) c.version_in-version.ensures.value
     (mixed_breaks c.args.table_id _ _ _ _ _ _ _ judged are
     (c.are_ascending.ensures.0 c.if-not-are_ascending.false)
@@ -99,7 +99,7 @@ returns-clause-good c =
     let judged = is_judged (goal.at.returns-clause-good c).After-from-count in
     let are = are_read (goal.at.returns-clause-good c).In-Some in
     let flags = ap (λ (l : List ℕ). get_or l 0 0) c.tail_of-tail.ensures.value in
-    subst (λ (v : ℕ). IsGoodIn c.args.table_id c.args.body.now
+    subst (λ (v : ℕ). IsGoodEcm c.args.table_id c.args.body.now
     (ecm_in v c.args.number c.args.last_number c.args.body.now)) c.version_in-version.ensures.value
     (is_good c.args.table_id _ _ _ _ _ _ _ judged are
     (c.are_ascending.ensures.0 c.if-not-are_ascending.false)

@@ -2,7 +2,7 @@ use Rattle.std.proofs.Common.{◌≡◌, refl, sym, subst, ap, ◌∙◌, rules}
 use Rattle.std.specs.Prelude.{Result, Ok, Err, Option, Some}
 use Rattle.std.proofs.lemmas.Bool.{false≢true}
 use Rattle.sd_message.specs.Framed.{section_of}
-use Rattle.sd_message.specs.EcmFields.{BreaksFirst}
+use Rattle.sd_message.specs.EcmFields.{BreaksEcmFirst}
 use Rattle.sd_message.specs.EcmJudged.{ecm_read}
 use Rattle.sd_message.specs.declared.ecm_part.EcmPart.{EcmPart}
 use Rattle.sd_message.specs.declared.ecm_fault.EcmFault.{EcmFault}
@@ -39,7 +39,7 @@ are_parted c = record {
 }
 
 -- it breaks a rule, and that one first
-breaks : (c : goal.After-from_residual) → BreaksFirst (section_of c.args.packet.now) c.in_err-part.field-0.0
+breaks : (c : goal.After-from_residual) → BreaksEcmFirst (section_of c.args.packet.now) c.in_err-part.field-0.0
 breaks c =
     breaks_first _ _ _ _ _ _ _ c.in-Some.ensures.value
     (are_parted (goal.at.returns-in_err-part-clause-value c).After-body) c.in_err-part.ensures.fault
@@ -90,7 +90,7 @@ returns-in_err-part-clause-fault c = λ fault.
     let is_ecm = c.in-Some.ensures.some.0 refl in (
       λ is. (
         is_ecm,
-        subst (λ (f : EcmFault). BreaksFirst (section_of c.args.packet.now) f)
+        subst (λ (f : EcmFault). BreaksEcmFirst (section_of c.args.packet.now) f)
             (one_fault c.from_residual.result _ _ (is_broken c) is) first,
       ),
       λ broken. is_broken c ∙

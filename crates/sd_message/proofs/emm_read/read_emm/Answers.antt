@@ -2,7 +2,7 @@ use Rattle.std.proofs.Common.{◌≡◌, ◌≤◌, refl, sym, ap, subst, ◌∙
 use Rattle.std.specs.Prelude.{Result, Ok, Err, Option, Some, None}
 use Rattle.std.proofs.lemmas.Bool.{false≢true}
 use Rattle.sd_message.specs.Framed.{section_of}
-use Rattle.sd_message.specs.EmmFields.{BreaksFirst}
+use Rattle.sd_message.specs.EmmFields.{BreaksEmmFirst}
 use Rattle.sd_message.specs.EmmJudged.{emm_read}
 use Rattle.sd_message.specs.declared.emm.Emm.{Emm}
 use Rattle.sd_message.specs.declared.emm_fault.EmmFault.{EmmFault}
@@ -46,7 +46,7 @@ are_parted c = record {
 }
 
 -- it breaks a rule, and that one first
-breaks : (c : goal.After-from_residual) → BreaksFirst c.args.h (section_of c.args.packet.now) c.in_err-emm.field-0.0
+breaks : (c : goal.After-from_residual) → BreaksEmmFirst c.args.h (section_of c.args.packet.now) c.in_err-emm.field-0.0
 breaks c =
     breaks_first _ _ _ _ _ _ _ c.in-Some.ensures.value
     (are_parted (goal.at.returns-in_err-emm-clause-value c).After-body) c.in_err-emm.ensures.fault
@@ -122,7 +122,7 @@ returns-in_err-emm-clause-fault c = λ fault.
     let is_emm = c.in-Some.ensures.some.0 refl in (
       λ is. (
         is_emm,
-        subst (λ (f : EmmFault). BreaksFirst c.args.h (section_of c.args.packet.now) f)
+        subst (λ (f : EmmFault). BreaksEmmFirst c.args.h (section_of c.args.packet.now) f)
             (one_fault c.from_residual.result _ _ (is_broken c) is) (breaks c),
       ),
       λ broken. is_broken c ∙

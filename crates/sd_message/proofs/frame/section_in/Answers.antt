@@ -1,6 +1,6 @@
 use Rattle.std.proofs.Common.{◌≡◌, refl, sym, subst}
 use Rattle.std.proofs.lemmas.Bool.{false≢true}
-use Rattle.sd_message.specs.Framed.{IsPlain, HasSection, section_of}
+use Rattle.sd_message.specs.Framed.{IsPlainHeader, HasSection, section_of}
 use Rattle.sd_message.proofs.Framing.{none_there, no_section, good_there, read_there, begins_there}
 use Rattle.sd_message.proofs.frame.section_in.Goals as goal
 
@@ -40,7 +40,7 @@ returns-then-is_plain-clause-some c =
       starts = c.in_ok-after_pointer.ensures.some.0 refl;
       good = good_there c.read_one.result _ _ c.in_ok-after_pointer.ensures.value c.read_one.ensures.fault
           c.in_ok-section.ensures.variant;
-      plain = subst IsPlain (returns-then-is_plain-clause-value c) (c.if-is_plain.ensures.plain.0 refl);
+      plain = subst IsPlainHeader (returns-then-is_plain-clause-value c) (c.if-is_plain.ensures.plain.0 refl);
     } in
     (λ _. has, λ _. refl)
 
@@ -55,7 +55,7 @@ returns-else-is_plain-clause-none c =
     let same : c.in_ok-section.section.bytes.now ≡ section_of c.args.packet.now =
     read_there c.read_one.result _ _ _ c.in_ok-after_pointer.ensures.value c.read_one.ensures.value
     c.in_ok-section.ensures.value in
-    (λ _ has. false≢true (c.if-is_plain.ensures.plain.1 (subst IsPlain (sym same) has.plain)), λ _. refl)
+    (λ _ has. false≢true (c.if-is_plain.ensures.plain.1 (subst IsPlainHeader (sym same) has.plain)), λ _. refl)
 
 pub returns-else-is_plain-clause-some : goal.returns-else-is_plain-clause-some
 returns-else-is_plain-clause-some c = (

@@ -1,4 +1,4 @@
-use Rattle.sd_command_base.specs.Outside.{depot_state, page_state, outside}
+use Rattle.sd_command_base.specs.Outside.{io_state_at}
 use Rattle.sd_command_base.specs.Outcome.{status_of}
 use Rattle.sd_command_line.specs.CommandLine.{words_of}
 use Rattle.sd_command_line.specs.Orders.{order_said}
@@ -11,15 +11,15 @@ returns-in-Err-clause-value g c =
     let read = rw c.in-Err.is at c.order.ensures.value in
     let fault = rw c.in-Err.is at c.order.ensures.fault in
     words_follow (words_of c.args.line.now) c.in-Err.status
-    (outside (depot_state g.D.Depot c.args.depot.now) (page_state g.P.Sink c.args.print.now) c.args.steps.now)
+    (io_state_at g.D.Depot g.P.Sink c.args.depot.now c.args.print.now c.args.steps.now)
     read fault
 
 pub returns-in-Ok-clause-value : goal.returns-in-Ok-clause-value
 returns-in-Ok-clause-value g c =
     let read = rw c.in-Ok.is at c.order.ensures.value in
     order_follows (words_of c.args.line.now) (order_said c.in-Ok.order)
-    (outside (depot_state g.D.Depot c.args.depot.now) (page_state g.P.Sink c.args.print.now) c.args.steps.now)
-    (outside (depot_state g.D.Depot c.follow.new.depot) (page_state g.P.Sink c.follow.new.print) c.follow.new.steps)
+    (io_state_at g.D.Depot g.P.Sink c.args.depot.now c.args.print.now c.args.steps.now)
+    (io_state_at g.D.Depot g.P.Sink c.follow.new.depot c.follow.new.print c.follow.new.steps)
     (status_of c.follow.result) read c.follow.ensures.value
 
 pub returns-in-Err-clause-notes : goal.returns-in-Err-clause-notes

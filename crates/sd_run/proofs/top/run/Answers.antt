@@ -2,7 +2,7 @@ use Rattle.std.proofs.Common.{rules, ◌≡◌, subst, inl, inr, refl}
 use Rattle.sd_command_base.specs.declared.status.Status.{Status}
 use Rattle.sd_command_base.specs.declared.status.Status.TheVariants.{Done, PrintFault}
 use Rattle.sd_command_base.specs.Outcome.{Implements}
-use Rattle.sd_command_base.specs.Outside.{depot_state, page_state, outside}
+use Rattle.sd_command_base.specs.Outside.{page_state, io_state_at}
 use Rattle.sd_command_base.specs.Results.{RunResult, IsToldAs}
 use Rattle.sd_command_line.specs.CommandLine.{words_of}
 use Rattle.sd_command_base.proofs.RunAnswers.{done_line, cut_line, lineless_answers, causes, completes, told_as}
@@ -13,9 +13,9 @@ use Rattle.sd_run.proofs.top.run.Goals as goal
 pub returns-in-Ok : goal.returns-in-Ok
 returns-in-Ok g c =
     let words = words_of c.args.line.now in
-    let a = outside (depot_state g.D.Depot c.args.depot.now) (page_state g.P.Sink c.args.print.now) c.args.steps.now in
+    let a = io_state_at g.D.Depot g.P.Sink c.args.depot.now c.args.print.now c.args.steps.now in
     let b =
-    outside (depot_state g.D.Depot c.obey.new.depot) (page_state g.P.Sink c.obey.new.print) c.obey.new.steps in
+    io_state_at g.D.Depot g.P.Sink c.obey.new.depot c.obey.new.print c.obey.new.steps in
     let answers = lineless_answers (meaning words) a b Done done_line c.in-Ok.ensures.value in
     record {
       value = answers;
@@ -30,9 +30,9 @@ returns-in-Ok g c =
 pub returns-in-Err-PrintFault : goal.returns-in-Err-PrintFault
 returns-in-Err-PrintFault g c =
     let words = words_of c.args.line.now in
-    let a = outside (depot_state g.D.Depot c.args.depot.now) (page_state g.P.Sink c.args.print.now) c.args.steps.now in
+    let a = io_state_at g.D.Depot g.P.Sink c.args.depot.now c.args.print.now c.args.steps.now in
     let b =
-    outside (depot_state g.D.Depot c.obey.new.depot) (page_state g.P.Sink c.obey.new.print) c.obey.new.steps in
+    io_state_at g.D.Depot g.P.Sink c.obey.new.depot c.obey.new.print c.obey.new.steps in
     let cut : c.in-Err-PrintFault.field-0 ≡ PrintFault = search rules in
     let obeyed = subst (λ (status : Status). Implements (meaning words) a b status) cut
     c.in-Err-PrintFault.ensures.value in
@@ -50,9 +50,9 @@ returns-in-Err-PrintFault g c =
 pub returns-in-Err : goal.returns-in-Err
 returns-in-Err g c =
     let words = words_of c.args.line.now in
-    let a = outside (depot_state g.D.Depot c.args.depot.now) (page_state g.P.Sink c.args.print.now) c.args.steps.now in
+    let a = io_state_at g.D.Depot g.P.Sink c.args.depot.now c.args.print.now c.args.steps.now in
     let b =
-    outside (depot_state g.D.Depot c.obey.new.depot) (page_state g.P.Sink c.tell.new.print) c.obey.new.steps in
+    io_state_at g.D.Depot g.P.Sink c.obey.new.depot c.tell.new.print c.obey.new.steps in
     let left = page_state g.P.Sink c.obey.new.print in
     let answers : RunResult (meaning words) a b c.tell.result =
     record { status = c.in-Err.status; page = left; obeyed = c.in-Err.ensures.value; told = c.tell.ensures } in

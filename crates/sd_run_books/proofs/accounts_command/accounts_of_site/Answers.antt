@@ -1,5 +1,5 @@
 use Rattle.std.proofs.lemmas.Result.{err_from_is_err_and}
-use Rattle.sd_site_cards.specs.SiteFields.{fields_of}
+use Rattle.sd_site_cards.specs.SiteFields.{site_fields_of}
 use Rattle.sd_command_base.specs.Outside.{depot_state}
 use Rattle.sd_command_base.specs.Spec.{value, ◌>>=◌}
 use Rattle.sd_command_base.proofs.Follow.{reads_first, reads_then}
@@ -15,7 +15,7 @@ returns-in_err-site g c =
     let p = err_from_is_err_and c.from_residual.result c.from_residual.ensures.1 in
     let site = shown_word c.args.site in
     let accounts = shown_word c.args.accounts in
-    rw (p.1, p.2) (reads_first fields_of (λ accounts. accounts) (site_of_file site.number)
+    rw (p.1, p.2) (reads_first site_fields_of (λ accounts. accounts) (site_of_file site.number)
     (λ given fields. accounts_of_file accounts.number fields.height (given accounts) >>= λ found. value found) site
     (depot_state g.D.Depot c.args.depot.now) (depot_state g.D.Depot c.read_site.new.depot) c.in_err-site.field-0.0
     c.in_err-site.ensures)
@@ -25,7 +25,7 @@ unfolding accounts_in
 returns g c =
     let site = shown_word c.args.site in
     let accounts = shown_word c.args.accounts in
-    reads_then fields_of (λ accounts. accounts) (λ accounts. accounts) (site_of_file site.number)
+    reads_then site_fields_of (λ accounts. accounts) (λ accounts. accounts) (site_of_file site.number)
     (λ fields got. accounts_of_file accounts.number fields.height got) (λ fields found. found) site accounts
     (depot_state g.D.Depot c.args.depot.now) (depot_state g.D.Depot c.read_site.new.depot)
     (depot_state g.D.Depot c.read_accounts.new.depot) c.in_ok-site.site c.read_accounts.result c.requires

@@ -3,7 +3,7 @@ use Rattle.std.specs.List.{range_with_len}
 use Rattle.std.specs.Option.{option_map}
 use Rattle.sd_book.specs.Commands.{last_period, revoked}
 use Rattle.sd_spec.specs.Plan.{Plan}
-use Rattle.sd_site_cards.specs.SiteFields.{fields_of}
+use Rattle.sd_site_cards.specs.SiteFields.{site_fields_of}
 use Rattle.sd_command_base.specs.declared.status.Clash.TheVariants.{Books}
 use Rattle.sd_run_books.specs.Apart.{books_clash, clash_in, first_of, first_shared, shared_count}
 use Rattle.sd_run_books.proofs.Agreeing.{clash_is, first_found, none_more}
@@ -14,8 +14,8 @@ pub returns-in-Some : goal.returns-in-Some
 unfolding books_clash
 returns-in-Some c =
     let turn = c.loop-before.invariant in
-    let a : Plan = record { site = fields_of c.args.site.now; commands = c.args.book.now.commands } in
-    let b : Plan = record { site = fields_of c.args.other.now; commands = c.args.more.now.commands } in
+    let a : Plan = record { site = site_fields_of c.args.site.now; commands = c.args.book.now.commands } in
+    let b : Plan = record { site = site_fields_of c.args.other.now; commands = c.args.more.now.commands } in
     let before = c.loop-before.before in
     let leaf = c.in-Some.leaf in
     let last = c.last_period-last.ensures.value in
@@ -74,8 +74,8 @@ returns-in-Some c =
 pub loop-before-preserved : goal.loop-before-preserved
 loop-before-preserved c =
     let turn = c.loop-before.invariant in
-    let a : Plan = record { site = fields_of c.args.site.now; commands = c.args.book.now.commands } in
-    let b : Plan = record { site = fields_of c.args.other.now; commands = c.args.more.now.commands } in
+    let a : Plan = record { site = site_fields_of c.args.site.now; commands = c.args.book.now.commands } in
+    let b : Plan = record { site = site_fields_of c.args.other.now; commands = c.args.more.now.commands } in
     let before = c.loop-before.before in
     let last = c.last_period-last.ensures.value in
     let last_more = c.last_period-last_more.ensures.value in
@@ -128,8 +128,8 @@ pub returns : goal.returns
 unfolding books_clash
 returns c =
     let turn = c.loop-before.invariant in
-    let a : Plan = record { site = fields_of c.args.site.now; commands = c.args.book.now.commands } in
-    let b : Plan = record { site = fields_of c.args.other.now; commands = c.args.more.now.commands } in
+    let a : Plan = record { site = site_fields_of c.args.site.now; commands = c.args.book.now.commands } in
+    let b : Plan = record { site = site_fields_of c.args.other.now; commands = c.args.more.now.commands } in
     let due = c.last_due.ensures.value a.commands c.last_period-last.ensures.value in
     let due_more = c.last_due-2.ensures.value b.commands c.last_period-last_more.ensures.value in
     let all : shared_count a b ≡ c.loop-before.before =

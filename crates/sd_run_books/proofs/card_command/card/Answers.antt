@@ -1,14 +1,14 @@
 use Rattle.std.proofs.Common.{sym, subst, List, ℕ, Result}
 use Rattle.std.proofs.lemmas.Result.{err_from_is_err_and}
-use Rattle.sd_site_cards.specs.SiteFields.{fields_of}
+use Rattle.sd_site_cards.specs.SiteFields.{site_fields_of}
 use Rattle.sd_command_base.specs.declared.status.Status.{Status}
-use Rattle.sd_command_base.specs.Outside.{depot_state, outside}
+use Rattle.sd_command_base.specs.Outside.{depot_state, io_state}
 use Rattle.sd_command_base.specs.Work.{Uncounted}
-use Rattle.sd_command_base.specs.Spec.{judged, value, ◌>>=◌}
+use Rattle.sd_command_base.specs.Spec.{of_result, value, ◌>>=◌}
 use Rattle.sd_command_base.specs.Outcome.{OutcomeWithin, status_of}
 use Rattle.sd_command_base.proofs.Follow.{looks_follows, looked_follows}
 use Rattle.sd_command_base.specs.Files.{site_of_file}
-use Rattle.sd_run_books.specs.Card.{told_card}
+use Rattle.sd_run_books.specs.Card.{made_card}
 use Rattle.sd_command_base.specs.Made.{making}
 use Rattle.sd_command_base.specs.Shown.{shown_word, shown_number}
 use Rattle.sd_command_base.proofs.Making.{any_steps}
@@ -21,8 +21,8 @@ returns-in_err-site g c page =
     let site = shown_word c.args.site in
     let leaf = shown_number c.args.leaf in
     let out = shown_word c.args.out in
-    rw (p.1, p.2) (looks_follows fields_of (site_of_file site.number)
-    (λ fields. judged (told_card fields leaf) >>= λ bytes. value (making Uncounted out bytes)) site
+    rw (p.1, p.2) (looks_follows site_fields_of (site_of_file site.number)
+    (λ fields. of_result (made_card fields leaf) >>= λ bytes. value (making Uncounted out bytes)) site
     (depot_state g.D.Depot c.args.depot.now) (depot_state g.D.Depot c.read_site.new.depot) page c.args.steps.now
     c.in_err-site.field-0.0 c.in_err-site.ensures)
 
@@ -36,10 +36,10 @@ returns-in_err-bytes g c page =
     let q = depot_state g.D.Depot c.read_site.new.depot in
     let looked = c.in_ok-site.ensures in
     let status = c.in_err-bytes.field-0.0 in
-    rw (p.1, p.2) (looked_follows fields_of (site_of_file site.number)
-    (λ fields. judged (told_card fields leaf) >>= λ bytes. value (making Uncounted out bytes)) site
-    a q page c.args.steps.now (outside q page c.card_of.new.steps) c.in_ok-site.site status looked
-    (card_obeys (told_card (fields_of c.in_ok-site.site) leaf) out a q (site_of_file site.number looked.got).calls page
+    rw (p.1, p.2) (looked_follows site_fields_of (site_of_file site.number)
+    (λ fields. of_result (made_card fields leaf) >>= λ bytes. value (making Uncounted out bytes)) site
+    a q page c.args.steps.now (io_state q page c.card_of.new.steps) c.in_ok-site.site status looked
+    (card_obeys (made_card (site_fields_of c.in_ok-site.site) leaf) out a q (site_of_file site.number looked.got).calls page
     c.args.steps.now c.card_of.new.steps status looked.gives.1 c.in_err-bytes.ensures.value
     c.in_err-bytes.ensures.steps))
 
@@ -50,14 +50,14 @@ returns g c page =
     let out = shown_word c.args.out in
     let a = depot_state g.D.Depot c.args.depot.now in
     let q = depot_state g.D.Depot c.read_site.new.depot in
-    let b = outside (depot_state g.D.Depot c.make_file.new.depot) page c.card_of.new.steps in
+    let b = io_state (depot_state g.D.Depot c.make_file.new.depot) page c.card_of.new.steps in
     let bytes = c.in_ok-bytes.bytes.items in
     let status = status_of c.make_file.result in
     let made = rw c.deref.ensures.value at c.make_file.ensures page c.card_of.new.steps Uncounted in
-    looked_follows fields_of (site_of_file site.number)
-    (λ fields. judged (told_card fields leaf) >>= λ bytes. value (making Uncounted out bytes)) site
+    looked_follows site_fields_of (site_of_file site.number)
+    (λ fields. of_result (made_card fields leaf) >>= λ bytes. value (making Uncounted out bytes)) site
     a q page c.args.steps.now b c.in_ok-site.site status c.in_ok-site.ensures
-    (subst (λ (r : Result (List ℕ) Status). OutcomeWithin (judged r >>= λ bytes. value (making Uncounted out bytes))
-    (outside q page c.args.steps.now) b status)
+    (subst (λ (r : Result (List ℕ) Status). OutcomeWithin (of_result r >>= λ bytes. value (making Uncounted out bytes))
+    (io_state q page c.args.steps.now) b status)
     (sym c.in_ok-bytes.ensures.value)
     (any_steps out bytes q page c.card_of.new.steps c.args.steps.now b status made))

@@ -1,6 +1,6 @@
 use Rattle.std.proofs.Common.{[], ◌∷◌, string_bytes, subst}
 use Rattle.std.proofs.lemmas.Result.{err_from_is_err_and}
-use Rattle.sd_command_base.specs.Outside.{depot_state, outside, page_state}
+use Rattle.sd_command_base.specs.Outside.{depot_state, io_state, page_state}
 use Rattle.sd_command_base.specs.Outcome.{status_of}
 use Rattle.sd_command_base.specs.Made.{NewFile, NewOutcome}
 use Rattle.sd_command_base.specs.Shown.{shown_word}
@@ -29,6 +29,6 @@ returns g c steps =
     let is_made = rw c.deref.ensures.value at c.in_ok-make_new.ensures made.pieces before steps in
     let prints = rw c.as_bytes.ensures.value at c.print_text.ensures.value in
     let status = status_of c.print_text.result in
-    subst (λ (f : NewFile). NewOutcome f out (outside a before steps) (outside b now steps) status)
+    subst (λ (f : NewFile). NewOutcome f out (io_state a before steps) (io_state b now steps) status)
     c.in_ok-bytes.ensures.value
     (new_then made out a b before steps now status is_made (one_piece bytes text out before now status prints))

@@ -1,5 +1,5 @@
 use Rattle.std.proofs.lemmas.Result.{err_from_is_err_and}
-use Rattle.sd_command_base.specs.Outside.{depot_state, outside, page_state}
+use Rattle.sd_command_base.specs.Outside.{depot_state, io_state, page_state, io_state_at}
 use Rattle.sd_command_base.specs.Outcome.{status_of}
 use Rattle.sd_command_base.specs.Spec.{Readings, ◌>>=◌}
 use Rattle.sd_command_base.specs.Made.{making_new}
@@ -40,7 +40,7 @@ returns-in_err-origin g c steps =
     let meant = λ (given : Readings). origin_of_files site.number book.number words (given site) (given book) in
     rw (p.1, p.2) (first_then (told_name site out) c.in_ok-judge_name.field-0
     (λ named given. meant given >>= λ origin. making_new (next_made origin words.value) out (given out))
-    (outside a page steps) (outside q page steps) c.in_err-origin.field-0.0 c.in_ok-judge_name.ensures
+    (io_state a page steps) (io_state q page steps) c.in_err-origin.field-0.0 c.in_ok-judge_name.ensures
     (new_unread shown_origin meant (λ origin. next_made origin words.value) out a q page steps c.in_err-origin.field-0.0
     c.in_err-origin.ensures.value))
 
@@ -55,12 +55,12 @@ returns g c steps =
     let a = depot_state g.D.Depot c.args.depot.now in
     let q = depot_state g.D.Depot c.read_origin.new.depot in
     let page = page_state g.P.Sink c.args.print.now in
-    let b = outside (depot_state g.D.Depot c.make_next.new.depot) (page_state g.P.Sink c.make_next.new.print) steps in
+    let b = io_state_at g.D.Depot g.P.Sink c.make_next.new.depot c.make_next.new.print steps in
     let status = status_of c.make_next.result in
     let meant = λ (given : Readings). origin_of_files site.number book.number words (given site) (given book) in
     first_then (told_name site out) c.in_ok-judge_name.field-0
     (λ named given. meant given >>= λ origin. making_new (next_made origin words.value) out (given out))
-    (outside a page steps) b status c.in_ok-judge_name.ensures
+    (io_state a page steps) b status c.in_ok-judge_name.ensures
     (new_follows shown_origin meant (λ origin. next_made origin words.value) out a q page steps b c.in_ok-origin.origin
     status (origin_of_others site book out words c.requires.files.1 c.requires.files.2) c.in_ok-origin.ensures.value
     (c.make_next.ensures steps))

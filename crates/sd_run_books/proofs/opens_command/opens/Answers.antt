@@ -1,7 +1,7 @@
 use Rattle.std.proofs.Common.{ℕ, refl, subst}
 use Rattle.std.proofs.lemmas.Result.{err_from_is_err_and}
-use Rattle.sd_site_cards.specs.SiteFields.{fields_of}
-use Rattle.sd_command_base.specs.Outside.{depot_state, page_state, outside}
+use Rattle.sd_site_cards.specs.SiteFields.{site_fields_of}
+use Rattle.sd_command_base.specs.Outside.{depot_state, page_state, io_state}
 use Rattle.sd_command_base.specs.Spec.{value, ◌>>=◌}
 use Rattle.sd_command_base.specs.Outcome.{status_of}
 use Rattle.sd_command_base.specs.Prints.{PrintsWork}
@@ -21,7 +21,7 @@ returns-in_err-site g c steps =
     let site = shown_word c.args.site in
     let book = shown_word c.args.book in
     let leaves = shown_word c.args.leaves in
-    rw (p.1, p.2) (not_both (λ both. record { site = fields_of both.0; commands = both.1.commands })
+    rw (p.1, p.2) (not_both (λ both. record { site = site_fields_of both.0; commands = both.1.commands })
     (both_by site.number book.number)
     (λ both got. leaves_of_file leaves.number both.site.height got
     >>= λ found. value (opening both.site.height found both.commands))
@@ -36,7 +36,7 @@ returns-in_err-leaves g c steps =
     let site = shown_word c.args.site in
     let book = shown_word c.args.book in
     let leaves = shown_word c.args.leaves in
-    rw (p.1, p.2) (not_third (λ both. record { site = fields_of both.0; commands = both.1.commands })
+    rw (p.1, p.2) (not_third (λ both. record { site = site_fields_of both.0; commands = both.1.commands })
     (both_by site.number book.number) (λ leaves. leaves.items)
     (λ both got. leaves_of_file leaves.number both.site.height got)
     (λ both found. value (opening both.site.height found both.commands))
@@ -55,17 +55,17 @@ returns g c steps =
     let now = page_state g.P.Sink c.print_periods.new.print in
     let before = page_state g.P.Sink c.args.print.now in
     let status = status_of c.print_periods.result in
-    let both : SiteBook = record { site = fields_of c.in_ok-site.site; commands = c.in_ok-site.book.commands } in
+    let both : SiteBook = record { site = site_fields_of c.in_ok-site.site; commands = c.in_ok-site.book.commands } in
     let found = c.in_ok-leaves.leaves.items in
     let prints : PrintsWork (opening both.site.height found both.commands) before now status =
     subst (λ (d : ℕ). PrintsWork (opening d found both.commands) before now status) c.in_ok-site.ensures.height
     c.print_periods.ensures in
-    third_looked (λ both. record { site = fields_of both.0; commands = both.1.commands })
+    third_looked (λ both. record { site = site_fields_of both.0; commands = both.1.commands })
     (both_by site.number book.number) (λ leaves. leaves.items)
     (λ both got. leaves_of_file leaves.number both.site.height got)
     (λ both found. value (opening both.site.height found both.commands))
     site book leaves (depot_state g.D.Depot c.args.depot.now) (depot_state g.D.Depot c.read_both.new.depot) r
-    before steps (outside r now steps) (c.in_ok-site.site, c.in_ok-site.book) c.in_ok-leaves.leaves status
+    before steps (io_state r now steps) (c.in_ok-site.site, c.in_ok-site.book) c.in_ok-leaves.leaves status
     c.requires.1 c.requires.2 c.in_ok-site.ensures.value c.in_ok-leaves.ensures.value
     (printed_obeys (value (opening both.site.height found both.commands)) (opening both.site.height found both.commands)
     r r before now steps status refl refl refl tt

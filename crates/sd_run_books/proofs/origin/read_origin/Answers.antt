@@ -1,6 +1,6 @@
 use Rattle.std.proofs.Common.{◌-◌, ap, refl, List}
 use Rattle.std.proofs.lemmas.Result.{err_from_is_err_and}
-use Rattle.sd_site_cards.specs.Written.{is_first}
+use Rattle.sd_site_cards.specs.Written.{is_first_site}
 use Rattle.sd_site_cards.specs.Chain.{most_word}
 use Rattle.sd_book.specs.declared.command.Command.{Command}
 use Rattle.sd_command_base.specs.Outside.{depot_state}
@@ -21,7 +21,7 @@ returns-in_err-site-clause-value g c =
     let site = shown_word c.args.site in
     let book = shown_word c.args.book in
     rw (p.1, p.2) (reads_first shown_newest shown_origin
-    (newest_of_file is_first site.number (most_word - 1) (shown_number c.args.words))
+    (newest_of_file is_first_site site.number (most_word - 1) (shown_number c.args.words))
     (λ given newest. text_after book.number newest (given book) >>= λ text. value (origin_of newest text)) site
     (depot_state g.D.Depot c.args.depot.now) (depot_state g.D.Depot c.newest_site.new.depot) c.in_err-site.field-0.0
     c.in_err-site.ensures.value)
@@ -37,7 +37,7 @@ returns-in_err-file-clause-value g c =
     (λ given. origin_of_files site.number book.number (shown_number c.args.words) (given site) (given book))
     (depot_state g.D.Depot c.args.depot.now) (depot_state g.D.Depot c.read_longer.new.depot) c.in_err-file.field-0.0
     (reads_second shown_newest shown_text (λ file. origin_of newest (shown_text file))
-    (newest_of_file is_first site.number (most_word - 1) (shown_number c.args.words)) (text_after book.number)
+    (newest_of_file is_first_site site.number (most_word - 1) (shown_number c.args.words)) (text_after book.number)
     (λ newest text. value (origin_of newest text)) site book
     (depot_state g.D.Depot c.args.depot.now) (depot_state g.D.Depot c.newest_site.new.depot)
     (depot_state g.D.Depot c.read_longer.new.depot) (c.in_ok-site.site, c.in_ok-site.line) c.in_err-file.field-0.0
@@ -72,7 +72,7 @@ returns-clause-value g c =
       commands = text.commands;
     }) own)
     (reads_two shown_newest shown_text (λ file. origin_of newest (shown_text file))
-    (newest_of_file is_first site.number (most_word - 1) (shown_number c.args.words)) (text_after book.number)
+    (newest_of_file is_first_site site.number (most_word - 1) (shown_number c.args.words)) (text_after book.number)
     origin_of site book
     (depot_state g.D.Depot c.args.depot.now) (depot_state g.D.Depot c.newest_site.new.depot)
     (depot_state g.D.Depot c.read_longer.new.depot) (c.in_ok-site.site, c.in_ok-site.line) c.in_ok-file.file

@@ -1,6 +1,6 @@
 use Rattle.std.proofs.Common.{refl, ◌∙◌}
 use Rattle.std.proofs.lemmas.Result.{err_from_is_err_and}
-use Rattle.sd_site_cards.specs.SiteFields.{fields_of}
+use Rattle.sd_site_cards.specs.SiteFields.{site_fields_of}
 use Rattle.sd_spec.specs.Plan.{Plan}
 use Rattle.sd_command_base.specs.Outside.{depot_state, page_state}
 use Rattle.sd_command_base.specs.Spec.{value, ◌>>=◌}
@@ -9,7 +9,7 @@ use Rattle.sd_command_base.specs.Outcome.{status_of}
 use Rattle.sd_command_base.proofs.Follow.{reads_follows, reads_first, reads_second, reads_two, prints_follows}
 use Rattle.sd_command_base.specs.Files.{book_of_file}
 use Rattle.sd_command_base.specs.Shown.{shown_word, shown_number}
-use Rattle.sd_run_books.specs.Air.{plan_meaning, planning, roomy_site_of_file}
+use Rattle.sd_run_books.specs.Air.{plan_command_meaning, planning, roomy_site_of_file}
 use Rattle.sd_run_books.proofs.Printing.{no_text, one_text}
 use Rattle.sd_run_books.proofs.plan_command.plan.Goals as goal
 
@@ -19,10 +19,10 @@ returns-in_err-site g c steps =
     let site = shown_word c.args.site in
     let book = shown_word c.args.book in
     let packets = shown_number c.args.packets in
-    rw (p.1, p.2) (reads_follows (λ (work : Work). work) (plan_meaning site book packets c.args.pids)
+    rw (p.1, p.2) (reads_follows (λ (work : Work). work) (plan_command_meaning site book packets c.args.pids)
     (depot_state g.D.Depot c.args.depot.now) (depot_state g.D.Depot c.read_roomy_site.new.depot)
     (page_state g.P.Sink c.args.print.now) steps c.in_err-site.field-0.0
-    (reads_first fields_of (λ (work : Work). work) (roomy_site_of_file site.number packets)
+    (reads_first site_fields_of (λ (work : Work). work) (roomy_site_of_file site.number packets)
     (λ given fields. book_of_file book.number fields.height (given book)
     >>= λ commands. value (planning (record { site = fields; commands = commands }) packets.value c.args.pids)) site
     (depot_state g.D.Depot c.args.depot.now) (depot_state g.D.Depot c.read_roomy_site.new.depot) c.in_err-site.field-0.0
@@ -34,13 +34,13 @@ returns-in_err-book g c steps =
     let site = shown_word c.args.site in
     let book = shown_word c.args.book in
     let packets = shown_number c.args.packets in
-    let fields = fields_of c.in_ok-site.site in
+    let fields = site_fields_of c.in_ok-site.site in
     rw (p.1, p.2) (reads_follows
     (λ book. planning (record { site = fields; commands = book.commands }) packets.value c.args.pids)
-    (plan_meaning site book packets c.args.pids)
+    (plan_command_meaning site book packets c.args.pids)
     (depot_state g.D.Depot c.args.depot.now) (depot_state g.D.Depot c.read_book.new.depot)
     (page_state g.P.Sink c.args.print.now) steps c.in_err-book.field-0.0
-    (reads_second fields_of (λ book. book.commands)
+    (reads_second site_fields_of (λ book. book.commands)
     (λ book. planning (record { site = fields; commands = book.commands }) packets.value c.args.pids)
     (roomy_site_of_file site.number packets) (λ fields got. book_of_file book.number fields.height got)
     (λ fields commands. value (planning (record { site = fields; commands = commands }) packets.value c.args.pids))
@@ -55,15 +55,15 @@ returns-in_err-text g c steps =
     let site = shown_word c.args.site in
     let book = shown_word c.args.book in
     let packets = shown_number c.args.packets in
-    let fields = fields_of c.in_ok-site.site in
+    let fields = site_fields_of c.in_ok-site.site in
     let now = page_state g.P.Sink c.args.print.now in
     let plan : Plan = record { site = fields; commands = c.in_ok-book.book.commands } in
     rw (p.1, p.2) (prints_follows
     (λ book. planning (record { site = fields; commands = book.commands }) packets.value c.args.pids)
-    (plan_meaning site book packets c.args.pids)
+    (plan_command_meaning site book packets c.args.pids)
     (depot_state g.D.Depot c.args.depot.now) (depot_state g.D.Depot c.read_book.new.depot) now now steps
     c.in_ok-book.book c.in_err-text.field-0.0 refl refl tt
-    (reads_two fields_of (λ book. book.commands)
+    (reads_two site_fields_of (λ book. book.commands)
     (λ book. planning (record { site = fields; commands = book.commands }) packets.value c.args.pids)
     (roomy_site_of_file site.number packets) (λ fields got. book_of_file book.number fields.height got)
     (λ fields commands. planning (record { site = fields; commands = commands }) packets.value c.args.pids)
@@ -78,16 +78,16 @@ returns g c steps =
     let site = shown_word c.args.site in
     let book = shown_word c.args.book in
     let packets = shown_number c.args.packets in
-    let fields = fields_of c.in_ok-site.site in
+    let fields = site_fields_of c.in_ok-site.site in
     let before = page_state g.P.Sink c.args.print.now in
     let now = page_state g.P.Sink c.print_text.new.print in
     let plan : Plan = record { site = fields; commands = c.in_ok-book.book.commands } in
     let prints = rw (c.as_bytes.ensures.value ∙ c.in_ok-text.ensures.value) at c.print_text.ensures.value in
     prints_follows (λ book. planning (record { site = fields; commands = book.commands }) packets.value c.args.pids)
-    (plan_meaning site book packets c.args.pids)
+    (plan_command_meaning site book packets c.args.pids)
     (depot_state g.D.Depot c.args.depot.now) (depot_state g.D.Depot c.read_book.new.depot) before now steps
     c.in_ok-book.book (status_of c.print_text.result) refl refl tt
-    (reads_two fields_of (λ book. book.commands)
+    (reads_two site_fields_of (λ book. book.commands)
     (λ book. planning (record { site = fields; commands = book.commands }) packets.value c.args.pids)
     (roomy_site_of_file site.number packets) (λ fields got. book_of_file book.number fields.height got)
     (λ fields commands. planning (record { site = fields; commands = commands }) packets.value c.args.pids)

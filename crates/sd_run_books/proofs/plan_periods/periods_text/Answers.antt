@@ -1,6 +1,6 @@
 use Rattle.std.proofs.Common.{◌≤◌, ◌-◌, ◌∙◌, arith, refl, string_bytes}
 use Rattle.sd_book.specs.Commands.{last_period}
-use Rattle.sd_site_cards.specs.SiteFields.{fields_of}
+use Rattle.sd_site_cards.specs.SiteFields.{site_fields_of}
 use Rattle.sd_spec.specs.Plan.{Plan}
 use Rattle.sd_run_books.proofs.Counting.{one_more, tables_more, text_more}
 use Rattle.sd_run_books.proofs.plan_periods.periods_text.Goals as goal
@@ -19,7 +19,7 @@ unreachable-requires c =
 pub loop-before-preserved : goal.loop-before-preserved
 loop-before-preserved c =
     let turn = c.loop-before.invariant in
-    let plan : Plan = record { site = fields_of c.args.site.now; commands = c.args.book.now.commands } in
+    let plan : Plan = record { site = site_fields_of c.args.site.now; commands = c.args.book.now.commands } in
     let leaves = c.in-Some.revoked.items in
     let before = c.loop-before.before in
     let n = c.args.cryptos in

@@ -2,13 +2,13 @@ use Rattle.std.proofs.Common.{◌≡◌, ◌+◌, ◌*◌, ◌≤◌, ◌^◌, m
 use Rattle.std.specs.List.{concat, range_with_len, sum_by}
 use Rattle.sd_book.specs.Commands.{last_period}
 use Rattle.sd_spec.specs.Plan.{Plan}
-use Rattle.sd_site_cards.specs.SiteFields.{fields_of}
+use Rattle.sd_site_cards.specs.SiteFields.{site_fields_of}
 use Rattle.sd_run_books.specs.Air.{line_at, tables_in}
 use Rattle.sd_run_books.proofs.plan_periods.periods_text.Given as goal
 
 -- the plan of the site and the book
 abbrev pub plan_at : goal.Live-loop-before → Plan
-plan_at l = record { site = fields_of l.fn.site; commands = l.fn.book.commands }
+plan_at l = record { site = site_fields_of l.fn.site; commands = l.fn.book.commands }
 
 -- the periods so far have their lines and are counted, and the next one is that of the book
 pub record Counted (l : goal.Live-loop-before) : Type 0 where

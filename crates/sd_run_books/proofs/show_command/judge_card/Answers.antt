@@ -1,7 +1,7 @@
 use Rattle.std.proofs.Common.{string_bytes}
 use Rattle.sd_site_cards.specs.CardFields.{card_fields_of}
 use Rattle.sd_command_base.proofs.CardFaults.{card_refused}
-use Rattle.sd_run_books.specs.Show.{card_line, told_show}
+use Rattle.sd_run_books.specs.Show.{shown_card_line, told_show}
 use Rattle.sd_run_books.proofs.ShownCards.{has_key, line_read}
 use Rattle.sd_run_books.proofs.show_command.judge_card.Goals as goal
 
@@ -17,5 +17,5 @@ returns-in_ok-line_of-in-Ok c =
 pub returns-in-Err : goal.returns-in-Err
 unfolding told_show
 returns-in-Err c =
-    card_refused c.args.word c.args.bytes.now (card_line c.args.bytes.now) c.in-Err.fault c.card_fault.result
+    card_refused c.args.word c.args.bytes.now (shown_card_line c.args.bytes.now) c.in-Err.fault c.card_fault.result
     c.card_fault.ensures c.in-Err.ensures.fault

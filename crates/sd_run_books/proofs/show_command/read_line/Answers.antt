@@ -2,7 +2,7 @@ use Rattle.std.proofs.Common.{string_bytes}
 use Rattle.std.proofs.lemmas.Result.{err_from_is_err_and}
 use Rattle.sd_command_base.specs.declared.status.LimitKind.TheVariants.{CardBytes}
 use Rattle.sd_command_base.specs.Outside.{depot_state}
-use Rattle.sd_command_base.specs.Spec.{within, judged}
+use Rattle.sd_command_base.specs.Spec.{within, of_result}
 use Rattle.sd_command_base.proofs.Follow.{looks_first, looks_judged}
 use Rattle.sd_command_base.specs.Files.{most_card_bytes}
 use Rattle.sd_run_books.specs.Show.{told_show, line_of_file}
@@ -13,7 +13,7 @@ unfolding line_of_file
 returns-in_err-bytes g c =
     let p = err_from_is_err_and c.from_residual.result c.from_residual.ensures.1 in
     rw (p.1, p.2) (looks_first (λ bytes. bytes.items) (λ line. string_bytes line)
-    (within c.args.word.number most_card_bytes CardBytes) (λ bytes. judged (told_show c.args.word.number bytes))
+    (within c.args.word.number most_card_bytes CardBytes) (λ bytes. of_result (told_show c.args.word.number bytes))
     c.args.word.text.now
     (depot_state g.D.Depot c.args.depot.now) (depot_state g.D.Depot c.read_card_bytes.new.depot)
     c.in_err-bytes.field-0.0 c.in_err-bytes.ensures)

@@ -1,6 +1,6 @@
 use Rattle.std.proofs.Common.{◌≡◌, ap, refl, string_bytes, ◌∙◌}
 use Rattle.std.proofs.lemmas.Result.{err_from_is_err_and}
-use Rattle.sd_site_cards.specs.SiteFields.{fields_of}
+use Rattle.sd_site_cards.specs.SiteFields.{site_fields_of}
 use Rattle.sd_command_base.specs.Outside.{depot_state, page_state}
 use Rattle.sd_command_base.specs.Spec.{value, ◌>>=◌}
 use Rattle.sd_command_base.specs.Work.{Work, work_of_text}
@@ -22,7 +22,7 @@ returns-in_err-site g c steps =
     rw (p.1, p.2) (reads_follows (λ (work : Work). work) (status_meaning site book leaf)
     (depot_state g.D.Depot c.args.depot.now) (depot_state g.D.Depot c.read_tree.new.depot)
     (page_state g.P.Sink c.args.print.now) steps c.in_err-site.field-0.0
-    (reads_first (λ found. fields_of found.0) (λ (work : Work). work) (tree_of_file site.number leaf)
+    (reads_first (λ found. site_fields_of found.0) (λ (work : Work). work) (tree_of_file site.number leaf)
     (λ given fields. book_of_file book.number fields.height (given book)
     >>= λ commands. value (work_of_text (status_text fields commands leaf.value))) site
     (depot_state g.D.Depot c.args.depot.now) (depot_state g.D.Depot c.read_tree.new.depot) c.in_err-site.field-0.0
@@ -34,12 +34,12 @@ returns-in_err-book g c steps =
     let site = shown_word c.args.site in
     let book = shown_word c.args.book in
     let leaf = shown_number c.args.leaf in
-    let fields = fields_of c.in_ok-site.site in
+    let fields = site_fields_of c.in_ok-site.site in
     rw (p.1, p.2) (reads_follows (λ book. work_of_text (status_text fields book.commands leaf.value))
     (status_meaning site book leaf)
     (depot_state g.D.Depot c.args.depot.now) (depot_state g.D.Depot c.read_book.new.depot)
     (page_state g.P.Sink c.args.print.now) steps c.in_err-book.field-0.0
-    (reads_second (λ found. fields_of found.0) (λ book. book.commands)
+    (reads_second (λ found. site_fields_of found.0) (λ book. book.commands)
     (λ book. work_of_text (status_text fields book.commands leaf.value))
     (tree_of_file site.number leaf) (λ fields got. book_of_file book.number fields.height got)
     (λ fields commands. value (work_of_text (status_text fields commands leaf.value))) site book
@@ -54,13 +54,13 @@ returns-in_err-text g c steps =
     let site = shown_word c.args.site in
     let book = shown_word c.args.book in
     let leaf = shown_number c.args.leaf in
-    let fields = fields_of c.in_ok-site.site in
+    let fields = site_fields_of c.in_ok-site.site in
     let now = page_state g.P.Sink c.args.print.now in
     rw (p.1) (prints_follows (λ book. work_of_text (status_text fields book.commands leaf.value))
     (status_meaning site book leaf)
     (depot_state g.D.Depot c.args.depot.now) (depot_state g.D.Depot c.read_book.new.depot) now now steps
     c.in_ok-book.book p.0 refl refl tt
-    (reads_two (λ found. fields_of found.0) (λ book. book.commands)
+    (reads_two (λ found. site_fields_of found.0) (λ book. book.commands)
     (λ book. work_of_text (status_text fields book.commands leaf.value))
     (tree_of_file site.number leaf) (λ fields got. book_of_file book.number fields.height got)
     (λ fields commands. work_of_text (status_text fields commands leaf.value)) site book
@@ -75,7 +75,7 @@ returns g c steps =
     let site = shown_word c.args.site in
     let book = shown_word c.args.book in
     let leaf = shown_number c.args.leaf in
-    let fields = fields_of c.in_ok-site.site in
+    let fields = site_fields_of c.in_ok-site.site in
     let before = page_state g.P.Sink c.args.print.now in
     let now = page_state g.P.Sink c.print_text.new.print in
     let text : string_bytes c.in_ok-text.text ≡ status_text fields c.in_ok-book.book.commands leaf.value =
@@ -85,7 +85,7 @@ returns g c steps =
     prints_follows (λ book. work_of_text (status_text fields book.commands leaf.value)) (status_meaning site book leaf)
     (depot_state g.D.Depot c.args.depot.now) (depot_state g.D.Depot c.read_book.new.depot) before now steps
     c.in_ok-book.book (status_of c.print_text.result) refl refl tt
-    (reads_two (λ found. fields_of found.0) (λ book. book.commands)
+    (reads_two (λ found. site_fields_of found.0) (λ book. book.commands)
     (λ book. work_of_text (status_text fields book.commands leaf.value))
     (tree_of_file site.number leaf) (λ fields got. book_of_file book.number fields.height got)
     (λ fields commands. work_of_text (status_text fields commands leaf.value)) site book

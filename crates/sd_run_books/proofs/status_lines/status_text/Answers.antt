@@ -2,8 +2,8 @@ use Rattle.std.proofs.Common.{◌≡◌, ◌≤◌, ◌+◌, ◌-◌, ◌++◌, 
 use Rattle.std.specs.Prelude.{filter, flat_map}
 use Rattle.std.specs.List.{range_with_len}
 use Rattle.sd_book.specs.Commands.{last_period}
-use Rattle.sd_site_cards.specs.SiteFields.{fields_of}
-use Rattle.sd_run_books.specs.Status.{change_periods, entitled_line, is_change, is_entitled, master_line, status_text}
+use Rattle.sd_site_cards.specs.SiteFields.{site_fields_of}
+use Rattle.sd_run_books.specs.Status.{change_periods, entitled_line, is_change, is_entitled, fingerprint_line, status_text}
 use Rattle.sd_run_books.proofs.StatusLines.{before_more, now_is, text_more}
 use Rattle.sd_run_books.proofs.status_lines.status_text.Goals as goal
 
@@ -27,7 +27,7 @@ unreachable-requires c =
 pub loop-turn-preserved : goal.loop-turn-preserved
 loop-turn-preserved c =
     let told = c.loop-turn.invariant in
-    let site = fields_of c.args.site.now in
+    let site = site_fields_of c.args.site.now in
     let commands = c.args.book.now.commands in
     let u = c.args.leaf in
     let turn = c.loop-turn.turn in
@@ -42,7 +42,7 @@ loop-turn-preserved c =
     let is = rw c.deref.ensures.value at c.is_active-entitled.ensures in
     let says = now_is site commands u turn leaves now within are is in
     record {
-      text = text_more site commands u turn (master_line site.master) (string_bytes c.loop-turn.text)
+      text = text_more site commands u turn (fingerprint_line site.master) (string_bytes c.loop-turn.text)
           (string_bytes c.push_change.new.text) c.loop-turn.before now says told.before told.text
           c.in_ok-push_change.ensures;
       before = before_more (is_entitled site.height commands u) site.first_period turn now says;
@@ -57,7 +57,7 @@ pub returns : goal.returns
 unfolding status_text change_periods
 returns c =
     let told = c.loop-turn.invariant in
-    let site = fields_of c.args.site.now in
+    let site = site_fields_of c.args.site.now in
     let commands = c.args.book.now.commands in
     let u = c.args.leaf in
     let all : c.loop-turn.turn ≡ last_period commands - site.first_period + 1 =
@@ -69,6 +69,6 @@ returns c =
       c.loop-turn.auto.turn-end,
     ) in
     told.text
-    ∙ ap (λ (n : ℕ). master_line site.master
+    ∙ ap (λ (n : ℕ). fingerprint_line site.master
     ++ flat_map (λ q. entitled_line u (is_entitled site.height commands u q) q)
     (filter (is_change site.first_period (is_entitled site.height commands u)) (range_with_len site.first_period n))) all

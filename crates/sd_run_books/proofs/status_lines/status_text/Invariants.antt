@@ -2,14 +2,14 @@ use Rattle.std.proofs.Common.{◌≡◌, ◌+◌, ◌≤◌, ◌++◌, min, stri
 use Rattle.std.specs.Prelude.{filter, flat_map}
 use Rattle.std.specs.List.{range_with_len}
 use Rattle.sd_book.specs.Commands.{last_period}
-use Rattle.sd_run_books.specs.Status.{entitled_line, is_change, is_entitled, master_line}
+use Rattle.sd_run_books.specs.Status.{entitled_line, is_change, is_entitled, fingerprint_line}
 use Rattle.sd_run_books.proofs.StatusLines.{before_at}
 use Rattle.sd_run_books.proofs.status_lines.status_text.Given as goal
 
 -- the periods so far have their lines, and the next one is that of the book
 pub record AreTold (l : goal.Live-loop-turn) : Type 0 where
   pub text : string_bytes l.text
-      ≡ master_line l.fn.site.master
+      ≡ fingerprint_line l.fn.site.master
       ++ flat_map (λ q. entitled_line l.fn.leaf (is_entitled l.fn.site.height l.fn.book.commands l.fn.leaf q) q)
       (filter (is_change l.fn.site.first_period (is_entitled l.fn.site.height l.fn.book.commands l.fn.leaf))
       (range_with_len l.fn.site.first_period l.turn))

@@ -2,7 +2,7 @@ use Rattle.std.proofs.Common.{◌≡◌, ◌≤◌, ◌+◌, ◌-◌, ◌∙◌,
 use Rattle.std.specs.Prelude.{flat_map}
 use Rattle.std.specs.List.{range_with_len}
 use Rattle.sd_book.specs.Commands.{last_period}
-use Rattle.sd_site_cards.specs.SiteFields.{fields_of}
+use Rattle.sd_site_cards.specs.SiteFields.{site_fields_of}
 use Rattle.sd_run_books.specs.Told.{told_at, told_next}
 use Rattle.sd_run_books.proofs.ToldPeriods.{before_more, text_more}
 use Rattle.sd_run_books.proofs.told.told_next.Goals as goal
@@ -11,7 +11,7 @@ use Rattle.sd_run_books.proofs.told.told_next.Goals as goal
 pub loop-turn-preserved : goal.loop-turn-preserved
 loop-turn-preserved c =
     let told = c.loop-turn.invariant in
-    let site = fields_of c.args.site.now in
+    let site = site_fields_of c.args.site.now in
     let own = c.args.own.now in
     let commands = c.args.book.now.commands in
     let turn = c.loop-turn.turn in
@@ -38,7 +38,7 @@ pub returns : goal.returns
 unfolding told_next
 returns c =
     let told = c.loop-turn.invariant in
-    let site = fields_of c.args.site.now in
+    let site = site_fields_of c.args.site.now in
     let commands = c.args.book.now.commands in
     let all : c.loop-turn.turn ≡ last_period commands - site.first_period + 1 =
     omega (

@@ -1,7 +1,7 @@
 use Rattle.std.proofs.Common.{[], take, refl, sym}
 use Rattle.std.proofs.lemmas.List.{take_all, take_more, flat_map_more}
 use Rattle.std.proofs.lemmas.Result.{IfOk-from_err}
-use Rattle.sd_run_books.specs.Trace.{found_line, trace_text}
+use Rattle.sd_run_books.specs.Trace.{traced_line, trace_text}
 use Rattle.sd_run_books.proofs.trace_text.trace_text.Goals as goal
 
 -- no leaf has a line yet
@@ -20,7 +20,7 @@ loop-next-preserved c =
       take_more found i next c.loop-next-test.true,
       sym c.next-item.is,
     )
-    (flat_map_more found_line [] (take i found) next)
+    (flat_map_more traced_line [] (take i found) next)
 
 pub returns-in_err-push_found : goal.returns-in_err-push_found
 returns-in_err-push_found c = IfOk-from_err c.from_residual.result _ c.from_residual.ensures.0

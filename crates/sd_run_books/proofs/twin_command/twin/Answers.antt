@@ -4,7 +4,7 @@ use Rattle.sd_site_cards.specs.Written.{none_fewer}
 use Rattle.sd_site_cards.specs.declared.site.Site.{Site}
 use Rattle.sd_site_cards.specs.declared.book_line.BookLine.{BookLine}
 use Rattle.sd_site_cards.specs.Chain.{most_word}
-use Rattle.sd_command_base.specs.Outside.{depot_state, outside}
+use Rattle.sd_command_base.specs.Outside.{depot_state, io_state}
 use Rattle.sd_command_base.specs.Outcome.{status_of}
 use Rattle.sd_command_base.specs.Spec.{◌>>=◌}
 use Rattle.sd_command_base.specs.Made.{making_new}
@@ -43,7 +43,7 @@ returns-in_err-site g c page steps =
     rw (p.1, p.2) (first_then (told_name site out) c.in_ok-judge_name.field-0
     (λ named given. newest (given site)
     >>= λ newest. making_new (twin_made newest.0 newest.1 words.value) out (given out))
-    (outside a page steps) (outside q page steps) c.in_err-site.field-0.0 c.in_ok-judge_name.ensures
+    (io_state a page steps) (io_state q page steps) c.in_err-site.field-0.0 c.in_ok-judge_name.ensures
     (new_unread shown_newest (λ given. newest (given site)) (λ newest. twin_made newest.0 newest.1 words.value) out a q
     page steps c.in_err-site.field-0.0
     (file_given shown_newest newest site a q (Err c.in_err-site.field-0.0) c.in_err-site.ensures.value)))
@@ -57,14 +57,14 @@ returns g c page steps =
     let out = shown_word c.args.out in
     let a = depot_state g.D.Depot c.args.depot.now in
     let q = depot_state g.D.Depot c.newest_site.new.depot in
-    let b = outside (depot_state g.D.Depot c.make_twin.new.depot) page steps in
+    let b = io_state (depot_state g.D.Depot c.make_twin.new.depot) page steps in
     let found : Site × Option BookLine = (c.in_ok-site.site, c.in_ok-site.line) in
     let newest = newest_of_file none_fewer site.number most_word words in
     let status = status_of c.make_twin.result in
     first_then (told_name site out) c.in_ok-judge_name.field-0
     (λ named given. newest (given site)
     >>= λ newest. making_new (twin_made newest.0 newest.1 words.value) out (given out))
-    (outside a page steps) b status c.in_ok-judge_name.ensures
+    (io_state a page steps) b status c.in_ok-judge_name.ensures
     (new_follows shown_newest (λ given. newest (given site)) (λ newest. twin_made newest.0 newest.1 words.value) out a q
     page steps b found status (site_of_others newest site out c.requires.files)
     (file_given shown_newest newest site a q (Ok found) c.in_ok-site.ensures.value) (c.make_twin.ensures page steps))

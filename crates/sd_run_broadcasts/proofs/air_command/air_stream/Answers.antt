@@ -2,7 +2,7 @@ use Rattle.std.proofs.Common.{◌∙◌, [], Some, None, subst}
 use Rattle.std.proofs.lemmas.Result.{err_from_is_err_and}
 use Rattle.sd_ports.proofs.Outlets.{there_after}
 use Rattle.sd_command_base.specs.Made.{used_name}
-use Rattle.sd_command_base.specs.Outside.{depot_state, outside, page_state}
+use Rattle.sd_command_base.specs.Outside.{depot_state, io_state, page_state}
 use Rattle.sd_command_base.specs.Outcome.{status_of}
 use Rattle.sd_command_base.specs.Shown.{shown_word}
 use Rattle.sd_command_base.specs.Spec.{FileArgument}
@@ -56,7 +56,7 @@ returns-in_err-close_both-clause-value g c plan new =
       sends = sends;
       closes = rw c.ended.ensures at c.close_both.ensures;
     } in
-    rw (result.1, result.2) (aired_follows plan site clear out (outside p page i) (outside r page j) status
+    rw (result.1, result.2) (aired_follows plan site clear out (io_state p page i) (io_state r page j) status
     (Some sends.bytes) None c.requires.apart (opened_got p.files clear.text _ sends.bytes opened.opens sends.is_left)
     (free_got p.files (used_name site.text) opened.new)
     (stopped_obeys plan site out p q r clear.text _ _ _ _ _ _ _ c.send_live-sent.result c.close_both.result done page i
@@ -85,7 +85,7 @@ returns-clause-value g c plan new =
       sends = sends;
       closes = rw c.ended.ensures at c.close_both.ensures;
     } in
-    aired_follows plan site clear out (outside p page i) (outside r now j) status
+    aired_follows plan site clear out (io_state p page i) (io_state r now j) status
     (Some sends.bytes) None c.requires.apart (opened_got p.files clear.text _ sends.bytes opened.opens sends.is_left)
     (free_got p.files (used_name site.text) opened.new)
     (told_obeys plan site out p q r clear.text _ _ _ _ _ _ _ c.send_live-sent.result c.close_both.result done page i j

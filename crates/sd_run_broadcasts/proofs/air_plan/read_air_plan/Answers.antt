@@ -1,6 +1,6 @@
 use Rattle.std.proofs.Common.{refl}
 use Rattle.std.proofs.lemmas.Result.{err_from_is_err_and}
-use Rattle.sd_site_cards.specs.SiteFields.{fields_of}
+use Rattle.sd_site_cards.specs.SiteFields.{site_fields_of}
 use Rattle.sd_command_base.specs.Outside.{depot_state}
 use Rattle.sd_command_base.specs.Spec.{value, ◌>>=◌}
 use Rattle.sd_command_base.proofs.Follow.{reads_first, reads_second, reads_two}
@@ -17,7 +17,7 @@ returns-in_err-site-clause-value g c =
     let p = err_from_is_err_and c.from_residual.result c.from_residual.ensures.1 in
     let site = shown_word c.args.site in
     let book = shown_word c.args.book in
-    rw (p.1, p.2) (reads_first said_of (λ plan. record { site = fields_of plan.0; commands = plan.1.commands })
+    rw (p.1, p.2) (reads_first said_of (λ plan. record { site = site_fields_of plan.0; commands = plan.1.commands })
     (air_site_of_file site.number)
     (λ given said. own_book_of_file book.number said.0.height said.1 (given book)
     >>= λ commands. value (record { site = said.0; commands = commands })) site
@@ -30,9 +30,9 @@ returns-in_err-book-clause-value g c =
     let p = err_from_is_err_and c.from_residual-in_err-book.result c.from_residual-in_err-book.ensures.1 in
     let site = shown_word c.args.site in
     let book = shown_word c.args.book in
-    let fields = fields_of c.in_ok-site.site in
+    let fields = site_fields_of c.in_ok-site.site in
     rw (p.1, p.2) (same_refusal (λ book. record { site = fields; commands = book.commands })
-    (λ plan. record { site = fields_of plan.0; commands = plan.1.commands }) (air_plan_meaning site book)
+    (λ plan. record { site = site_fields_of plan.0; commands = plan.1.commands }) (air_plan_meaning site book)
     (depot_state g.D.Depot c.args.depot.now) (depot_state g.D.Depot c.read_own.new.depot) c.in_err-book.field-0.0
     (reads_second said_of (λ book. book.commands) (λ book. record { site = fields; commands = book.commands })
     (air_site_of_file site.number) (λ said got. own_book_of_file book.number said.0.height said.1 got)
@@ -47,9 +47,9 @@ unfolding air_plan_by
 returns-clause-value g c =
     let site = shown_word c.args.site in
     let book = shown_word c.args.book in
-    let fields = fields_of c.in_ok-site.site in
+    let fields = site_fields_of c.in_ok-site.site in
     same_value (λ book. record { site = fields; commands = book.commands })
-    (λ plan. record { site = fields_of plan.0; commands = plan.1.commands }) (air_plan_meaning site book)
+    (λ plan. record { site = site_fields_of plan.0; commands = plan.1.commands }) (air_plan_meaning site book)
     (depot_state g.D.Depot c.args.depot.now) (depot_state g.D.Depot c.read_own.new.depot) c.in_ok-book.book
     (c.in_ok-site.site, c.in_ok-book.book) refl
     (reads_two said_of (λ book. book.commands) (λ book. record { site = fields; commands = book.commands })

@@ -1,6 +1,6 @@
 use Rattle.std.proofs.Common.{◌^◌, List, ap, string_bytes, ◌∙◌, ℕ}
 use Rattle.std.proofs.lemmas.Result.{err_from_is_err_and}
-use Rattle.sd_run_broadcasts.specs.Field.{lines_to}
+use Rattle.sd_run_broadcasts.specs.Field.{lines_of_field}
 use Rattle.sd_run_broadcasts.proofs.Telling.{text_stopped, text_told}
 use Rattle.sd_run_broadcasts.proofs.field_command.text_after.Goals as goal
 
@@ -13,4 +13,4 @@ returns-in_err-play g c =
 pub returns : goal.returns
 returns g c =
     text_told c.args.field.now c.play.new.field (string_bytes c.in_ok-lines.field-0) c.in_ok-play.ensures
-    (c.in_ok-lines.ensures ∙ ap (λ (h : ℕ). lines_to c.play.new.field (2 ^ h)) c.requires.height)
+    (c.in_ok-lines.ensures ∙ ap (λ (h : ℕ). lines_of_field c.play.new.field (2 ^ h)) c.requires.height)

@@ -1,6 +1,6 @@
 use Rattle.sd_run_broadcasts.proofs.Telling.{first_told, next_told}
 use Rattle.std.proofs.Common.{arith, refl, string_bytes, ap, ◌≡◌, ◌^◌, ◌∙◌}
-use Rattle.sd_run_broadcasts.specs.Field.{lines_to}
+use Rattle.sd_run_broadcasts.specs.Field.{lines_of_field}
 use Rattle.sd_run_broadcasts.proofs.field_lines.lines.Goals as goal
 
 pub loop-u-init : goal.loop-u-init
@@ -28,4 +28,4 @@ returns c =
     let most = c.loop-u.auto.u-end in
     let leaves = c.leaves-u-end.ensures.value in
     let all : c.loop-u.u ≡ 2 ^ c.args.h = omega (arith, least, most, leaves) in
-    c.loop-u.invariant.told ∙ ap (lines_to c.args.field.now) all
+    c.loop-u.invariant.told ∙ ap (lines_of_field c.args.field.now) all

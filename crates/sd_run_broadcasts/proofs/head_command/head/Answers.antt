@@ -1,11 +1,11 @@
 use Rattle.std.proofs.Common.{refl, sym, subst, Some, []}
 use Rattle.std.proofs.lemmas.Result.{err_from_is_err_and}
-use Rattle.sd_site_cards.specs.SiteFields.{fields_of}
+use Rattle.sd_site_cards.specs.SiteFields.{site_fields_of}
 use Rattle.sd_ports.proofs.Outlets.{there_after}
 use Rattle.sd_spec.specs.Plan.{Plan}
-use Rattle.sd_head.specs.Staged.{IsAfter}
+use Rattle.sd_head.specs.Staged.{IsHeadEndAfter}
 use Rattle.sd_command_base.specs.declared.status.Status.TheVariants.{NoMemory}
-use Rattle.sd_command_base.specs.Outside.{depot_state, outside}
+use Rattle.sd_command_base.specs.Outside.{depot_state, io_state}
 use Rattle.sd_command_base.specs.Work.{Uncounted}
 use Rattle.sd_command_base.specs.Outcome.{status_of}
 use Rattle.sd_command_base.proofs.Givens.{some_got}
@@ -28,13 +28,13 @@ new-requires g c = c.in_ok-site.ensures.height
 pub send-sent-requires : goal.send-sent-requires
 send-sent-requires g c =
     let made = c.in_ok-head.ensures.value in
-    subst (λ (plan : Plan). IsAfter plan [] c.in_ok-head.head) (sym made.keeps_to) made
+    subst (λ (plan : Plan). IsHeadEndAfter plan [] c.in_ok-head.head) (sym made.keeps_to) made
 
 -- neither file was read as it is to be
 pub returns-in_err-site-clause-value : goal.returns-in_err-site-clause-value
 returns-in_err-site-clause-value g c page =
     let p = err_from_is_err_and c.from_residual.result c.from_residual.ensures.1 in
-    rw (p.1, p.2) (no_plan (λ plan. record { site = fields_of plan.0; commands = plan.1.commands })
+    rw (p.1, p.2) (no_plan (λ plan. record { site = site_fields_of plan.0; commands = plan.1.commands })
     (shown_word c.args.site)
     (shown_word c.args.book) (shown_word c.args.clear) (shown_word c.args.out)
     (depot_state g.D.Depot c.args.depot.now) (depot_state g.D.Depot c.read_plan.new.depot) page c.args.steps.now
@@ -49,11 +49,11 @@ returns-in_err-head-clause-value g c page =
     let out = shown_word c.args.out in
     let q = depot_state g.D.Depot c.read_plan.new.depot in
     let got = some_got q.files clear.text in
-    let plan : Plan = record { site = fields_of c.in_ok-site.site; commands = c.in_ok-site.book.commands } in
-    rw (p.1, p.2) (plan_follows (λ plan. record { site = fields_of plan.0; commands = plan.1.commands })
+    let plan : Plan = record { site = site_fields_of c.in_ok-site.site; commands = c.in_ok-site.book.commands } in
+    rw (p.1, p.2) (plan_follows (λ plan. record { site = site_fields_of plan.0; commands = plan.1.commands })
     (shown_word c.args.site)
     (shown_word c.args.book) clear out got.0 (depot_state g.D.Depot c.args.depot.now) q page c.args.steps.now
-    (outside q page c.args.steps.now)
+    (io_state q page c.args.steps.now)
     (c.in_ok-site.site, c.in_ok-site.book, c.in_ok-site.has_word) NoMemory c.requires.1 c.requires.2
     c.in_ok-site.ensures.value got.1
     (wanting_obeys (sending_of clear out got.0 plan) q page c.args.steps.now NoMemory refl))
@@ -67,14 +67,14 @@ returns-in_err-inlet-clause-value g c page =
     let q = depot_state g.D.Depot c.read_plan.new.depot in
     let r = depot_state g.D.Depot c.open_both.new.depot in
     let status = c.in_err-inlet.field-0.0 in
-    let plan : Plan = record { site = fields_of c.in_ok-site.site; commands = c.in_ok-site.book.commands } in
+    let plan : Plan = record { site = site_fields_of c.in_ok-site.site; commands = c.in_ok-site.book.commands } in
     let none = not_turned (λ bytes. Uncounted) (sent_of plan) (sent_status plan) clear out q r page c.args.steps.now
     status
     c.in_err-inlet.ensures.fault in
-    rw (p.1, p.2) (plan_follows (λ plan. record { site = fields_of plan.0; commands = plan.1.commands })
+    rw (p.1, p.2) (plan_follows (λ plan. record { site = site_fields_of plan.0; commands = plan.1.commands })
     (shown_word c.args.site)
     (shown_word c.args.book) clear out none.got (depot_state g.D.Depot c.args.depot.now) q page c.args.steps.now
-    (outside r page c.args.steps.now)
+    (io_state r page c.args.steps.now)
     (c.in_ok-site.site, c.in_ok-site.book, c.in_ok-site.has_word) status c.requires.1 c.requires.2
     c.in_ok-site.ensures.value none.is_got
     none.obeys)
@@ -91,13 +91,13 @@ returns-clause-value g c page =
     let q = depot_state g.D.Depot c.read_plan.new.depot in
     let m = depot_state g.D.Depot c.open_both.new.depot in
     let r = depot_state g.D.Depot c.close_both.new.depot in
-    let plan : Plan = record { site = fields_of c.in_ok-site.site; commands = c.in_ok-site.book.commands } in
+    let plan : Plan = record { site = site_fields_of c.in_ok-site.site; commands = c.in_ok-site.book.commands } in
     let opened = c.in_ok-inlet.ensures.ok in
     let sent = c.send-sent.ensures.value in
-    plan_follows (λ plan. record { site = fields_of plan.0; commands = plan.1.commands }) (shown_word c.args.site)
+    plan_follows (λ plan. record { site = site_fields_of plan.0; commands = plan.1.commands }) (shown_word c.args.site)
     (shown_word c.args.book) clear out (Some sent.bytes) (depot_state g.D.Depot c.args.depot.now) q page
     c.args.steps.now
-    (outside r page c.send-sent.new.steps) (c.in_ok-site.site, c.in_ok-site.book, c.in_ok-site.has_word) (status_of c.close_both.result)
+    (io_state r page c.send-sent.new.steps) (c.in_ok-site.site, c.in_ok-site.book, c.in_ok-site.has_word) (status_of c.close_both.result)
     c.requires.1 c.requires.2
     c.in_ok-site.ensures.value
     (opened_got q.files clear.text _ sent.bytes opened.opens sent.is_left)

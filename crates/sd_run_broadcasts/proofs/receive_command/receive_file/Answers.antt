@@ -2,9 +2,9 @@ use Rattle.std.proofs.Common.{◌≡◌, [], Some, inl, inr}
 use Rattle.std.specs.Prelude.{◌⊎◌}
 use Rattle.std.proofs.lemmas.Result.{err_from_is_err_and}
 use Rattle.sd_ports.proofs.Outlets.{there_after}
-use Rattle.sd_receive.specs.Receiving.{card_in}
-use Rattle.sd_command_base.specs.Outside.{depot_state, outside}
-use Rattle.sd_command_base.specs.Spec.{all_of, value, ◌>>=◌}
+use Rattle.sd_receive.specs.Receiving.{receiver_card}
+use Rattle.sd_command_base.specs.Outside.{depot_state, io_state}
+use Rattle.sd_command_base.specs.Spec.{whole_file_bytes, value, ◌>>=◌}
 use Rattle.sd_command_base.specs.Work.{UpTo}
 use Rattle.sd_command_base.specs.Outcome.{status_of}
 use Rattle.sd_run_broadcasts.specs.Receive.{received_of, received_status, received_steps, receiving}
@@ -19,7 +19,7 @@ use Rattle.sd_run_broadcasts.proofs.receive_command.receive_file.Goals as goal
 pub returns-in_err-inlet-clause-value : goal.returns-in_err-inlet-clause-value
 returns-in_err-inlet-clause-value g c page =
     let result = err_from_is_err_and c.from_residual.result c.from_residual.ensures.1 in
-    let card = card_in c.args.receiver in
+    let card = receiver_card c.args.receiver in
     let stream = shown_word c.args.stream in
     let out = shown_word c.args.out in
     let p = depot_state g.D.Depot c.args.depot.now in
@@ -29,16 +29,16 @@ returns-in_err-inlet-clause-value g c page =
     let not = not_turned (λ bytes. UpTo (received_steps card bytes)) (received_of card) (received_status card) stream
     out p q page i status
     c.in_err-inlet.ensures.fault in
-    rw (result.1, result.2) (got_follows (λ got. all_of stream.number got >>=
+    rw (result.1, result.2) (got_follows (λ got. whole_file_bytes stream.number got >>=
     λ bytes. value (receiving card out bytes)) stream not.got
-    (outside p page i) (outside q page i) status not.is_got not.obeys)
+    (io_state p page i) (io_state q page i) status not.is_got not.obeys)
 
 pub close_both-requires : goal.close_both-requires
 close_both-requires g c = there_after _ _ c.args.out.text.now [] c.in_ok-inlet.ensures.ok.files
 
 pub returns-clause-value : goal.returns-clause-value
 returns-clause-value g c page =
-    let card = card_in c.args.receiver in
+    let card = receiver_card c.args.receiver in
     let stream = shown_word c.args.stream in
     let out = shown_word c.args.out in
     let p = depot_state g.D.Depot c.args.depot.now in
@@ -50,9 +50,9 @@ returns-clause-value g c page =
     let received = c.receive_all-ended.ensures.value in
     let closed = c.close_both.ensures in
     let status = status_of c.close_both.result in
-    got_follows (λ got. all_of stream.number got >>= λ bytes. value (receiving card out bytes)) stream
+    got_follows (λ got. whole_file_bytes stream.number got >>= λ bytes. value (receiving card out bytes)) stream
     (Some received.bytes)
-    (outside p page i) (outside r page j) status (opened_got p.files stream.text _ received.bytes opened.opens
+    (io_state p page i) (io_state r page j) status (opened_got p.files stream.text _ received.bytes opened.opens
     received.is_left)
     (turned_obeys (λ bytes. UpTo (received_steps card bytes)) (received_of card) (received_status card) stream out
     received.bytes p q r page

@@ -1,9 +1,9 @@
 use Rattle.std.proofs.Common.{string_bytes, sym, subst, List, Result, ℕ}
 use Rattle.std.proofs.lemmas.Result.{err_from_is_err_and}
-use Rattle.sd_site_cards.specs.SiteFields.{fields_of}
+use Rattle.sd_site_cards.specs.SiteFields.{site_fields_of}
 use Rattle.sd_spec.specs.Plan.{Plan}
 use Rattle.sd_command_base.specs.declared.status.Status.{Status}
-use Rattle.sd_command_base.specs.Outside.{depot_state, page_state, outside}
+use Rattle.sd_command_base.specs.Outside.{depot_state, page_state, io_state}
 use Rattle.sd_command_base.specs.Spec.{value, ◌>>=◌}
 use Rattle.sd_command_base.specs.Outcome.{OutcomeWithin, status_of}
 use Rattle.sd_command_base.specs.Shown.{shown_word}
@@ -11,7 +11,7 @@ use Rattle.sd_command_base.specs.Printed.{printing}
 use Rattle.sd_command_base.proofs.Printed.{nothing_printed, text_printed}
 use Rattle.sd_command_base.proofs.Thirds.{not_both, not_third, third_looked}
 use Rattle.sd_run_broadcasts.specs.Prefixes.{prefix_of_file}
-use Rattle.sd_run_broadcasts.specs.Trial.{plan_by, trial_meaning, trial_text, trying, most_clear_bytes}
+use Rattle.sd_run_broadcasts.specs.Trial.{trial_plan_by, trial_meaning, trial_text, trying, trial_clear_bytes}
 use Rattle.sd_run_broadcasts.proofs.trial_command.trial.Goals as goal
 
 pub read_plan-requires : goal.read_plan-requires
@@ -28,9 +28,9 @@ returns-in_err-site g c =
     let site = shown_word c.args.site in
     let book = shown_word c.args.book in
     let clear = shown_word c.args.clear in
-    rw (p.1, p.2) (not_both (λ plan. record { site = fields_of plan.0; commands = plan.1.commands })
-    (plan_by site.number book.number)
-    (λ plan got. prefix_of_file clear.number most_clear_bytes got >>= λ prefix. value (trying plan prefix))
+    rw (p.1, p.2) (not_both (λ plan. record { site = site_fields_of plan.0; commands = plan.1.commands })
+    (trial_plan_by site.number book.number)
+    (λ plan got. prefix_of_file clear.number trial_clear_bytes got >>= λ prefix. value (trying plan prefix))
     site book clear (depot_state g.D.Depot c.args.depot.now) (depot_state g.D.Depot c.read_plan.new.depot)
     (page_state g.P.Sink c.args.print.now) c.args.steps.now c.in_err-site.field-0.0 c.in_err-site.ensures.value)
 
@@ -42,8 +42,8 @@ returns-in_err-prefix g c =
     let site = shown_word c.args.site in
     let book = shown_word c.args.book in
     let clear = shown_word c.args.clear in
-    rw (p.1, p.2) (not_third (λ plan. record { site = fields_of plan.0; commands = plan.1.commands })
-    (plan_by site.number book.number) (λ prefix. prefix) (λ plan got. prefix_of_file clear.number most_clear_bytes got)
+    rw (p.1, p.2) (not_third (λ plan. record { site = site_fields_of plan.0; commands = plan.1.commands })
+    (trial_plan_by site.number book.number) (λ prefix. prefix) (λ plan got. prefix_of_file clear.number trial_clear_bytes got)
     (λ plan prefix. value (trying plan prefix)) site book clear (depot_state g.D.Depot c.args.depot.now)
     (depot_state g.D.Depot c.read_plan.new.depot) (depot_state g.D.Depot c.read_prefix.new.depot)
     (page_state g.P.Sink c.args.print.now)
@@ -60,14 +60,14 @@ returns-in_err-text g c =
     let clear = shown_word c.args.clear in
     let r = depot_state g.D.Depot c.read_prefix.new.depot in
     let page_state = page_state g.P.Sink c.args.print.now in
-    let plan : Plan = record { site = fields_of c.in_ok-site.site; commands = c.in_ok-site.book.commands } in
+    let plan : Plan = record { site = site_fields_of c.in_ok-site.site; commands = c.in_ok-site.book.commands } in
     let prefix = c.in_ok-prefix.prefix in
     let status = c.in_err-text.field-0.0 in
-    rw (p.1, p.2) (third_looked (λ plan. record { site = fields_of plan.0; commands = plan.1.commands })
-    (plan_by site.number book.number) (λ prefix. prefix) (λ plan got. prefix_of_file clear.number most_clear_bytes got)
+    rw (p.1, p.2) (third_looked (λ plan. record { site = site_fields_of plan.0; commands = plan.1.commands })
+    (trial_plan_by site.number book.number) (λ prefix. prefix) (λ plan got. prefix_of_file clear.number trial_clear_bytes got)
     (λ plan prefix. value (trying plan prefix)) site book clear (depot_state g.D.Depot c.args.depot.now)
     (depot_state g.D.Depot c.read_plan.new.depot) r page_state c.args.steps.now
-    (outside r page_state c.text_of.new.steps)
+    (io_state r page_state c.text_of.new.steps)
     (c.in_ok-site.site, c.in_ok-site.book) prefix status c.requires.1 c.requires.2 c.in_ok-site.ensures.value
     c.in_ok-prefix.ensures
     (nothing_printed (λ (xs : List ℕ). xs) (trial_text plan prefix) r page_state c.args.steps.now
@@ -84,17 +84,17 @@ returns g c =
     let before = page_state g.P.Sink c.args.print.now in
     let now = page_state g.P.Sink c.print_text.new.print in
     let more = c.text_of.new.steps in
-    let plan : Plan = record { site = fields_of c.in_ok-site.site; commands = c.in_ok-site.book.commands } in
+    let plan : Plan = record { site = site_fields_of c.in_ok-site.site; commands = c.in_ok-site.book.commands } in
     let prefix = c.in_ok-prefix.prefix in
     let text = string_bytes c.in_ok-text.text in
     let status = status_of c.print_text.result in
     let prints = rw c.as_bytes.ensures.value at c.print_text.ensures.value in
-    third_looked (λ plan. record { site = fields_of plan.0; commands = plan.1.commands })
-    (plan_by site.number book.number) (λ prefix. prefix) (λ plan got. prefix_of_file clear.number most_clear_bytes got)
+    third_looked (λ plan. record { site = site_fields_of plan.0; commands = plan.1.commands })
+    (trial_plan_by site.number book.number) (λ prefix. prefix) (λ plan got. prefix_of_file clear.number trial_clear_bytes got)
     (λ plan prefix. value (trying plan prefix)) site book clear (depot_state g.D.Depot c.args.depot.now)
-    (depot_state g.D.Depot c.read_plan.new.depot) r before c.args.steps.now (outside r now more)
+    (depot_state g.D.Depot c.read_plan.new.depot) r before c.args.steps.now (io_state r now more)
     (c.in_ok-site.site, c.in_ok-site.book) prefix status c.requires.1 c.requires.2 c.in_ok-site.ensures.value
     c.in_ok-prefix.ensures
-    (subst (λ (m : Result (List ℕ) Status). OutcomeWithin (value (printing m)) (outside r before c.args.steps.now)
-    (outside r now more) status) (sym c.in_ok-text.ensures)
+    (subst (λ (m : Result (List ℕ) Status). OutcomeWithin (value (printing m)) (io_state r before c.args.steps.now)
+    (io_state r now more) status) (sym c.in_ok-text.ensures)
     (text_printed text r before now c.args.steps.now more status prints))

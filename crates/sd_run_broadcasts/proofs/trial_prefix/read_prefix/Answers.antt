@@ -2,7 +2,7 @@ use Rattle.std.proofs.Common.{◌∙◌, arith}
 use Rattle.sd_ports.specs.Bytes.{prefix_of}
 use Rattle.sd_ports.proofs.Calls.{twice_called, open_as_before}
 use Rattle.sd_command_base.specs.Outside.{depot_state}
-use Rattle.sd_command_base.specs.Spec.{all_of, value}
+use Rattle.sd_command_base.specs.Spec.{whole_file_bytes, value}
 use Rattle.sd_command_base.proofs.Follow.{looks_first}
 use Rattle.sd_command_base.proofs.Looked.{bytes_seen, opens_refused}
 use Rattle.sd_run_broadcasts.specs.Prefixes.{prefix_of_file}
@@ -17,7 +17,7 @@ returns-in-Err g c =
     let p = depot_state g.D.Depot c.args.depot.now in
     let q = depot_state g.D.Depot c.open_in.new.self in
     let h = c.in-Err.ensures in
-    looks_first bytes_seen (λ prefix. prefix) (all_of word) (λ bytes. value (prefix_of c.args.most bytes)) name p q _
+    looks_first bytes_seen (λ prefix. prefix) (whole_file_bytes word) (λ bytes. value (prefix_of c.args.most bytes)) name p q _
     (rw c.opening_fault.ensures (opens_refused word name p q _ h.not_there h.cause h.stops
     (record { files = h.files; made = h.made; ports = h.ports.refused; calls = let n = h.calls in omega (arith, n) })))
 

@@ -1,7 +1,7 @@
 use Rattle.std.proofs.Common.{sym, ap, subst, ◌∙◌, []}
 use Rattle.sd_spec.specs.Plan.{Plan}
 use Rattle.sd_head.specs.Kept.{plan_of}
-use Rattle.sd_head.specs.Staged.{IsAfter}
+use Rattle.sd_head.specs.Staged.{IsHeadEndAfter}
 use Rattle.sd_ports.specs.Memory.{Store}
 use Rattle.sd_run_broadcasts.proofs.Sending.{all_sent}
 use Rattle.sd_run_broadcasts.proofs.trial_send.send_all.Goals as goal
@@ -13,7 +13,7 @@ new-requires g c = c.requires
 pub send-requires : goal.send-requires
 send-requires g c =
     let made = c.in_ok-head.ensures.value in
-    subst (λ (plan : Plan). IsAfter plan [] c.in_ok-head.head) (sym made.keeps_to) made
+    subst (λ (plan : Plan). IsHeadEndAfter plan [] c.in_ok-head.head) (sym made.keeps_to) made
 
 pub returns : goal.returns
 returns g c =

@@ -2,7 +2,7 @@ use Rattle.std.proofs.Common.{sym, ap, ◌∙◌, Ok}
 use Rattle.sd_site_cards.specs.declared.card.Card.{Card}
 use Rattle.sd_site_cards.specs.CardFields.{card_fields_of}
 use Rattle.sd_command_base.proofs.CardFaults.{card_refused}
-use Rattle.sd_run_broadcasts.specs.Receive.{card_said, told_card}
+use Rattle.sd_run_broadcasts.specs.Receive.{card_said, card_refusal}
 use Rattle.sd_run_broadcasts.proofs.Cards.{card_read}
 use Rattle.sd_run_broadcasts.proofs.watch_command.judge_card.Goals as goal
 
@@ -13,7 +13,7 @@ returns-in_ok-new-in-Ok-clause-value c =
     ∙ ap (λ (card : Card). Ok (card_fields_of card)) (sym c.in_ok-new-in-Ok.ensures.card)
 
 pub returns-in-Err-clause-value : goal.returns-in-Err-clause-value
-unfolding told_card
+unfolding card_refusal
 returns-in-Err-clause-value c =
     card_refused c.args.word c.args.bytes.now (card_said c.args.bytes.now) c.in-Err.fault c.card_fault.result
     c.card_fault.ensures c.in-Err.ensures.fault

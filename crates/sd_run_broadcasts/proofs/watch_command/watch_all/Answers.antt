@@ -4,13 +4,13 @@ use Rattle.sd_base.specs.Count.{IsCaused, HasRisen}
 use Rattle.sd_engine.specs.Seeking.{SeekOutcome}
 use Rattle.sd_engine.specs.declared.seeking.SeekFault.{SeekFault}
 use Rattle.sd_engine.specs.declared.seeking.SeekFault.TheVariants as seek
-use Rattle.sd_watch.specs.Watching.{card_of}
+use Rattle.sd_watch.specs.Watching.{watcher_card}
 use Rattle.sd_command_base.specs.declared.status.Status.{Status}
 use Rattle.sd_command_base.specs.declared.status.Status.TheVariants.{DepotFault}
 use Rattle.sd_command_base.specs.Outside.{page_state}
 use Rattle.sd_command_base.specs.Turned.{HasPortCause}
 use Rattle.sd_run_broadcasts.specs.Receive.{ending_status}
-use Rattle.sd_run_broadcasts.specs.Watched.{stop_status}
+use Rattle.sd_run_broadcasts.specs.Watched.{seek_stop_status}
 use Rattle.sd_run_broadcasts.proofs.Watched.{all_watched, handed, most_watched, not_begun, outside_undone, packet_found}
 use Rattle.sd_run_broadcasts.proofs.Watched.{packet_passed, packet_stopped, seek_stopped}
 use Rattle.sd_run_broadcasts.proofs.watch_command.watch_all.Goals as goal
@@ -28,7 +28,7 @@ write_cause from_before from_now out_before out_then out_now status read written
 stop_cause : {T : Type 0} (from_before from_now out_before out_now : ℕ) (why : SeekFault) →
     IsCaused from_before from_now (◌≡◌ {A = Result T SeekFault} (Err why) (Err seek.Read)) →
     IsCaused out_before out_now (◌≡◌ {A = Result T SeekFault} (Err why) (Err seek.Write)) →
-    HasPortCause from_before from_now out_before out_now (stop_status why)
+    HasPortCause from_before from_now out_before out_now (seek_stop_status why)
 stop_cause a b p q seek.Read read written = record {
   calm = λ other. absurd (other refl);
   failed = λ _. inl (read.failed refl);
@@ -52,7 +52,7 @@ loop-count-init g c = record {
   begun = omega arith;
   within = omega arith;
   long = refl;
-  way = rw c.requires.none (not_begun (card_of c.args.watcher.now) (g.S.Source.left c.args.source.now)
+  way = rw c.requires.none (not_begun (watcher_card c.args.watcher.now) (g.S.Source.left c.args.source.now)
       (g.K.Sink.held c.args.sink.now) (page_state g.P.Sink c.args.print.now) c.args.steps.now c.args.watcher.now [] refl
       c.requires.new refl);
   read = refl;
@@ -101,7 +101,7 @@ returns-in-Ok-None-default-clause-value g c =
     (subst (SeekOutcome _ _ _ _ _ _ _ _) c.in-Ok-None-default.field-0-0-is c.in-Ok-None-default.ensures.value)
     (λ s keeps. c.ending_result.ensures.value
     ∙ ap (λ (leaf : ℕ). ending_status leaf c.ending.result) (c.get.ensures.value ∙ c.leaf.ensures)
-    ∙ ap (ending_status (card_of c.loop-count.watcher).leaf) (c.ending.ensures s keeps))
+    ∙ ap (ending_status (watcher_card c.loop-count.watcher).leaf) (c.ending.ensures s keeps))
     c.ending_result.ensures.ending
 
 pub returns-in-Err-clause-value : goal.returns-in-Err-clause-value
@@ -129,7 +129,7 @@ returns-in-Ok-None-default-seek-clause-value g c =
     (λ s keeps. c.ending_result-in-Ok-None-default-seek.ensures.value
     ∙ ap (λ (leaf : ℕ). ending_status leaf c.ending-in-Ok-None-default-seek.result)
     (c.get-in-Ok-None-default-seek.ensures.value ∙ c.leaf-in-Ok-None-default-seek.ensures)
-    ∙ ap (ending_status (card_of c.loop-count.watcher).leaf) (c.ending-in-Ok-None-default-seek.ensures s keeps))
+    ∙ ap (ending_status (watcher_card c.loop-count.watcher).leaf) (c.ending-in-Ok-None-default-seek.ensures s keeps))
     c.ending_result-in-Ok-None-default-seek.ensures.ending
 
 pub returns-in-Err-seek-clause-value : goal.returns-in-Err-seek-clause-value

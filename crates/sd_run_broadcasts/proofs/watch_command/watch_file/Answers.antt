@@ -1,9 +1,9 @@
 use Rattle.std.proofs.Common.{[], Some, refl}
 use Rattle.std.proofs.lemmas.Result.{err_from_is_err_and}
 use Rattle.sd_ports.proofs.Outlets.{there_after}
-use Rattle.sd_watch.specs.Watching.{card_of}
-use Rattle.sd_command_base.specs.Outside.{depot_state, outside, page_state}
-use Rattle.sd_command_base.specs.Spec.{all_of, value, ◌>>=◌}
+use Rattle.sd_watch.specs.Watching.{watcher_card}
+use Rattle.sd_command_base.specs.Outside.{depot_state, io_state, page_state}
+use Rattle.sd_command_base.specs.Spec.{whole_file_bytes, value, ◌>>=◌}
 use Rattle.sd_command_base.specs.Outcome.{status_of}
 use Rattle.sd_command_base.specs.Shown.{shown_word}
 use Rattle.sd_command_base.proofs.Looked.{opened_got}
@@ -16,7 +16,7 @@ use Rattle.sd_run_broadcasts.proofs.watch_command.watch_file.Goals as goal
 pub returns-in_err-inlet : goal.returns-in_err-inlet
 returns-in_err-inlet g c =
     let result = err_from_is_err_and c.from_residual.result c.from_residual.ensures.1 in
-    let card = card_of c.args.watcher in
+    let card = watcher_card c.args.watcher in
     let stream = shown_word c.args.stream in
     let out = shown_word c.args.out in
     let page = page_state g.P.Sink c.args.print.now in
@@ -26,16 +26,16 @@ returns-in_err-inlet g c =
     let status = c.in_err-inlet.field-0.0 in
     let not = not_lived (watching card out) (watched_of card) stream out p q page i status (λ bytes. refl)
     (λ bytes. refl) c.in_err-inlet.ensures.fault in
-    rw (result.1, result.2) (got_follows (λ got. all_of stream.number got >>=
+    rw (result.1, result.2) (got_follows (λ got. whole_file_bytes stream.number got >>=
     λ bytes. value (watching card out bytes)) stream not.got
-    (outside p page i) (outside q page i) status not.is_got not.obeys)
+    (io_state p page i) (io_state q page i) status not.is_got not.obeys)
 
 pub close_both-closed-requires : goal.close_both-closed-requires
 close_both-closed-requires g c = there_after _ _ c.args.out.text.now [] c.in_ok-inlet.ensures.ok.files
 
 pub returns : goal.returns
 returns g c =
-    let card = card_of c.args.watcher in
+    let card = watcher_card c.args.watcher in
     let stream = shown_word c.args.stream in
     let out = shown_word c.args.out in
     let p = depot_state g.D.Depot c.args.depot.now in
@@ -45,9 +45,9 @@ returns g c =
     let j = c.watch_all-ended.new.steps in
     let opened = c.in_ok-inlet.ensures.ok in
     let watched = c.watch_all-ended.ensures.value in
-    got_follows (λ got. all_of stream.number got >>= λ bytes. value (watching card out bytes)) stream
+    got_follows (λ got. whole_file_bytes stream.number got >>= λ bytes. value (watching card out bytes)) stream
     (Some watched.bytes)
-    (outside p (page_state g.P.Sink c.args.print.now) i) (outside r (page_state g.P.Sink c.tell_end.new.print) j)
+    (io_state p (page_state g.P.Sink c.args.print.now) i) (io_state r (page_state g.P.Sink c.tell_end.new.print) j)
     (status_of c.tell_end.result) (opened_got p.files stream.text _ watched.bytes opened.opens watched.is_left)
     (watched_obeys card stream out p q r (page_state g.P.Sink c.args.print.now)
     (page_state g.P.Sink c.watch_all-ended.new.print)

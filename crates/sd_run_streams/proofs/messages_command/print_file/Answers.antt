@@ -1,9 +1,9 @@
 use Rattle.std.proofs.Common.{refl, ◌∙◌, ◌≡◌, arith}
 use Rattle.sd_ports.proofs.Calls.{twice_called, open_as_before}
 use Rattle.sd_engine.specs.Taken.{end_of}
-use Rattle.sd_site_cards.specs.SiteFields.{fields_of}
+use Rattle.sd_site_cards.specs.SiteFields.{site_fields_of}
 use Rattle.sd_command_base.specs.Outside.{depot_state, page_state}
-use Rattle.sd_command_base.specs.Spec.{all_of, value}
+use Rattle.sd_command_base.specs.Spec.{whole_file_bytes, value}
 use Rattle.sd_command_base.specs.Outcome.{status_of}
 use Rattle.sd_command_base.proofs.Follow.{looks_follows}
 use Rattle.sd_command_base.proofs.Streams.{faults_added, reading_follows}
@@ -20,7 +20,7 @@ returns-in-Err g c steps =
     let p = depot_state g.D.Depot c.args.depot.now in
     let q = depot_state g.D.Depot c.open_in.new.self in
     let h = c.in-Err.ensures in
-    looks_follows bytes_seen (all_of stream.number) (λ bytes. value (monitoring (fields_of c.args.site.now) bytes))
+    looks_follows bytes_seen (whole_file_bytes stream.number) (λ bytes. value (monitoring (site_fields_of c.args.site.now) bytes))
     stream p q (page_state g.P.Sink c.args.print.now) steps _
     (rw c.opening_fault.ensures (opens_refused stream.number stream.text p q _ h.not_there h.cause h.stops
     (record { files = h.files; made = h.made; ports = h.ports.refused; calls = let n = h.calls in omega (arith, n) })))
@@ -34,7 +34,7 @@ returns g c steps =
     let h = c.in-Ok.ensures in
     let k = c.close_in.ensures in
     let seen = c.print_messages-printed.ensures.value in
-    reading_follows (monitoring (fields_of c.args.site.now)) stream seen.bytes p q
+    reading_follows (monitoring (site_fields_of c.args.site.now)) stream seen.bytes p q
     (page_state g.P.Sink c.args.print.now) (page_state g.P.Sink c.print_messages-printed.new.print)
     steps status refl refl (stream_ends (end_of seen.bytes)) (opened_got p.files stream.text _ seen.bytes h.opened
     seen.is_left)

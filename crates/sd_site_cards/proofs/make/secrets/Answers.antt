@@ -1,6 +1,6 @@
 use Rattle.std.proofs.Common.{◌≡◌, ◌-◌, ◌++◌, ◌∙◌, ◌∷◌, [], List, ℕ, map, take, length, ap, arith}
 use Rattle.std.proofs.lemmas.List.{length-map}
-use Rattle.sd_tree_keys.specs.Names.{given, given_under}
+use Rattle.sd_tree_keys.specs.Names.{names_of_receiver, pair_names_under}
 use Rattle.sd_tree_keys.proofs.NameCounts.{length_given}
 use Rattle.sd_site_cards.specs.Secrets.{secret_of}
 use Rattle.sd_site_cards.proofs.MadeSecrets.{secrets_first, secrets_more}
@@ -16,7 +16,7 @@ returns g c =
     record {
       value = value;
       length = ap length value
-          ∙ (length-map (given site.height c.args.u) (secret_of site.master) ∙ length_given site.height c.args.u);
+          ∙ (length-map (names_of_receiver site.height c.args.u) (secret_of site.master) ∙ length_given site.height c.args.u);
       fits = (
         omega (arith, c.get.ensures.value, c.get.ensures.low),
         omega (arith, c.get.ensures.value, c.get.ensures.high),
@@ -39,7 +39,7 @@ loop-depth-preserved g c =
     omega (arith, c.get.ensures.value, c.from-levels.ensures) in
     let added = rw levels at c.in_ok-push_labels.ensures.value in
     let more : List (List ℕ) =
-    map (secret_of site.master) (take (site.height - k) (given_under site.height c.args.u k)) in
+    map (secret_of site.master) (take (site.height - k) (pair_names_under site.height c.args.u k)) in
     added
     ∙ (ap (λ (xs : List (List ℕ)). xs ++ more) c.loop-depth.invariant
     ∙ secrets_more site.master (λ a. site.height - a) site.height c.args.u k)

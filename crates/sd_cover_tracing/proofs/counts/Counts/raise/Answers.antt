@@ -1,12 +1,12 @@
 use Rattle.std.proofs.Common.{◌≡◌, ℕ, ◌+◌, ◌<◌, ◌⊎◌, inl, inr, List, length, get_or, set, subst, sym, arith, rules}
 use Rattle.sd_cover_tracing.specs.Tally.{Tally, tally_at, with_count}
-use Rattle.sd_cover_tracing.specs.Table.{map_of, IsTable}
+use Rattle.sd_cover_tracing.specs.Table.{map_of, IsProbeTable}
 use Rattle.sd_cover_tracing.specs.declared.counts.TheConstants.{NODES}
 use Rattle.sd_cover_tracing.proofs.Tables.{count_in_table, placed_count, raised_table, raised_map}
 use Rattle.sd_cover_tracing.proofs.counts.Counts.raise.Goals as goal
 
 -- the node has a place, and its count is above 0 or there is room
-room_for : (t : Tally) (ns : List ℕ) (room v : ℕ) → record { counts = map_of ns; room = room } ≡ t → IsTable ns room →
+room_for : (t : Tally) (ns : List ℕ) (room v : ℕ) → record { counts = map_of ns; room = room } ≡ t → IsProbeTable ns room →
     v < NODES → (0 < tally_at t.counts v) ⊎ (0 < t.room) → (v < length ns) × ((0 < get_or ns v 0) ⊎ (0 < room))
 room_for t ns room v is table h some =
     let same = count_in_table ns v in

@@ -1,7 +1,7 @@
 use Rattle.std.proofs.Common.{◌≡◌, ◌+◌, ◌^◌, ℕ, ap, ◌∙◌, arith}
 use Rattle.sd_tree_keys.specs.Leaves.{with_leaf}
 use Rattle.sd_cover_tracing.specs.Index.{IndexValue}
-use Rattle.sd_cover_tracing.specs.Path.{met_by}
+use Rattle.sd_cover_tracing.specs.Path.{path_visit_count}
 use Rattle.sd_cover_tracing.specs.Tally.{tally_at}
 use Rattle.sd_cover_tracing.proofs.Indexes.{seen_leaf, seen_other, count_within, revoked_more, index_more}
 use Rattle.sd_cover_tracing.proofs.index.CoverIndex.revoke.Given.{Over}
@@ -12,7 +12,7 @@ raise_path-requires-clause-fits g c = λ v low high. count_within c.self.inside.
     c.self.invariant low high
 
 raised : (g : Over) (c : goal.After-raise_path g) → (v : ℕ) → tally_at c.raise_path.new.counts.counts v
-    ≡ tally_at c.self.inside.counts.counts v + met_by (2 ^ c.self.inside.height + c.args.u) (c.self.inside.height + 1) v
+    ≡ tally_at c.self.inside.counts.counts v + path_visit_count (2 ^ c.self.inside.height + c.args.u) (c.self.inside.height + 1) v
 raised g c = rw (← c.lowest_node-node.ensures.value) c.raise_path.ensures.value
 
 pub invariant_of-self : goal.invariant_of-self

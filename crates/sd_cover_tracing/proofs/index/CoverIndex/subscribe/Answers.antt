@@ -1,7 +1,7 @@
 use Rattle.std.proofs.Common.{◌≡◌, ◌+◌, ◌^◌, ℕ, ap, ◌∙◌, arith}
 use Rattle.sd_tree_keys.specs.Leaves.{without_leaf}
 use Rattle.sd_cover_tracing.specs.Index.{IndexValue}
-use Rattle.sd_cover_tracing.specs.Path.{met_by}
+use Rattle.sd_cover_tracing.specs.Path.{path_visit_count}
 use Rattle.sd_cover_tracing.specs.Tally.{tally_at}
 use Rattle.sd_cover_tracing.proofs.Indexes.{seen_leaf, seen_revoked, met_within, revoked_fewer, index_fewer}
 use Rattle.sd_cover_tracing.proofs.index.CoverIndex.subscribe.Given.{Over}
@@ -17,7 +17,7 @@ lower_path-requires-clause-some g c =
     c.self.invariant old low high)
 
 lowered : (g : Over) (c : goal.After-lower_path g) → (v : ℕ) → tally_at c.lower_path.new.counts.counts v
-    + met_by (2 ^ c.self.inside.height + c.args.u) (c.self.inside.height + 1) v ≡ tally_at c.self.inside.counts.counts v
+    + path_visit_count (2 ^ c.self.inside.height + c.args.u) (c.self.inside.height + 1) v ≡ tally_at c.self.inside.counts.counts v
 lowered g c = rw (← c.lowest_node-node.ensures.value) c.lower_path.ensures.value
 
 pub invariant_of-self : goal.invariant_of-self

@@ -1,6 +1,6 @@
 use Rattle.std.proofs.Common.{◌∙◌, ap, sym, subst}
 use Rattle.std.specs.Prelude.{IfSome, IsSome}
-use Rattle.sd_site_cards.specs.SiteFields.{fields_of}
+use Rattle.sd_site_cards.specs.SiteFields.{site_fields_of}
 use Rattle.sd_field.specs.Fields.{FieldValue, IsCommand, next_event}
 use Rattle.sd_field.proofs.Fields.{field_commanded}
 use Rattle.sd_field.proofs.field.Field.command.Goals as goal
@@ -8,7 +8,7 @@ use Rattle.sd_field.proofs.field.Field.command.Goals as goal
 pub invariant_of-self : goal.invariant_of-self
 invariant_of-self c =
     let v : FieldValue = record {
-      site = fields_of c.self.inside.site;
+      site = site_fields_of c.self.inside.site;
       clear = c.self.inside.clear.items;
       events = c.self.inside.events.items;
       done = c.self.inside.done;

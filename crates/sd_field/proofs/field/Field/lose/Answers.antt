@@ -3,11 +3,11 @@ use Rattle.std.specs.Prelude.{get_or, slice_get, Some}
 use Rattle.std.proofs.lemmas.List.{get_or_default}
 use Rattle.std.proofs.lemmas.Option.{slice_get-get_or}
 use Rattle.sd_engine.specs.Stream.{packets_of}
-use Rattle.sd_site_cards.specs.SiteFields.{fields_of}
+use Rattle.sd_site_cards.specs.SiteFields.{site_fields_of}
 use Rattle.sd_spec.specs.declared.event.Event.TheVariants.{Lose}
-use Rattle.sd_spec.specs.Watch.{watched}
+use Rattle.sd_spec.specs.Watch.{watch_after_event}
 use Rattle.sd_field.specs.Seats.{IsSeated}
-use Rattle.sd_field.specs.Fields.{FieldValue, card_at, plan_in, taken, watch_of}
+use Rattle.sd_field.specs.Fields.{FieldValue, field_card, plan_of_field, field_clear_packets, watch_of}
 use Rattle.sd_field.specs.declared.seat.Seat.{Seat}
 use Rattle.sd_field.proofs.Fields.{field_next, lose_at, seat_behind}
 use Rattle.sd_field.proofs.field.Field.lose.Goals as goal
@@ -15,7 +15,7 @@ use Rattle.sd_field.proofs.field.Field.lose.Goals as goal
 pub lose_next-requires : goal.lose_next-requires
 lose_next-requires c =
     let v : FieldValue = record {
-      site = fields_of c.self.inside.site;
+      site = site_fields_of c.self.inside.site;
       clear = c.self.inside.clear.items;
       events = c.self.inside.events.items;
       done = c.self.inside.done;
@@ -42,7 +42,7 @@ lose_next-requires c =
 pub invariant_of-self : goal.invariant_of-self
 invariant_of-self c =
     let v : FieldValue = record {
-      site = fields_of c.self.inside.site;
+      site = site_fields_of c.self.inside.site;
       clear = c.self.inside.clear.items;
       events = c.self.inside.events.items;
       done = c.self.inside.done;
@@ -64,7 +64,7 @@ invariant_of-self c =
     let same : get_or seats u to ≡ seat =
     get_or_default seats u to seat inside ∙ sym c.index_mut-seat.ensures.value in
     field_next v (Lose u) c.self.inside.book c.self.inside.station seats u to next (lose_at u) calm low field
-    (λ all seated. subst (λ (held : List ℕ). IsSeated (plan_in v) (card_at v u) (taken v) (188 * length v.clear)
-    (watched u (length (packets_of held)) (Lose u) (watch_of u v)) to) c.bytes.ensures
-    (c.lose_next.ensures.seated (plan_in v) (card_at v u) (taken v) (188 * length v.clear) u (watch_of u v)
-    (subst (IsSeated (plan_in v) (card_at v u) (taken v) (188 * length v.clear) (watch_of u v)) same seated)))
+    (λ all seated. subst (λ (held : List ℕ). IsSeated (plan_of_field v) (field_card v u) (field_clear_packets v) (188 * length v.clear)
+    (watch_after_event u (length (packets_of held)) (Lose u) (watch_of u v)) to) c.bytes.ensures
+    (c.lose_next.ensures.seated (plan_of_field v) (field_card v u) (field_clear_packets v) (188 * length v.clear) u (watch_of u v)
+    (subst (IsSeated (plan_of_field v) (field_card v u) (field_clear_packets v) (188 * length v.clear) (watch_of u v)) same seated)))

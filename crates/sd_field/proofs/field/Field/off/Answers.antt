@@ -2,17 +2,17 @@ use Rattle.std.proofs.Common.{◌≡◌, ◌∙◌, ◌*◌, ◌<◌, ◌^◌, �
 use Rattle.std.specs.Prelude.{get_or, slice_get, Some}
 use Rattle.std.proofs.lemmas.List.{get_or_default}
 use Rattle.sd_engine.specs.Stream.{packets_of}
-use Rattle.sd_site_cards.specs.SiteFields.{fields_of}
+use Rattle.sd_site_cards.specs.SiteFields.{site_fields_of}
 use Rattle.sd_spec.specs.declared.event.Event.TheVariants.{Off}
 use Rattle.sd_field.specs.Seats.{IsSeated}
-use Rattle.sd_field.specs.Fields.{FieldValue, card_at, plan_in, taken, watch_of}
+use Rattle.sd_field.specs.Fields.{FieldValue, field_card, plan_of_field, field_clear_packets, watch_of}
 use Rattle.sd_field.proofs.Fields.{field_next, off_at}
 use Rattle.sd_field.proofs.field.Field.off.Goals as goal
 
 pub invariant_of-self : goal.invariant_of-self
 invariant_of-self c =
     let v : FieldValue = record {
-      site = fields_of c.self.inside.site;
+      site = site_fields_of c.self.inside.site;
       clear = c.self.inside.clear.items;
       events = c.self.inside.events.items;
       done = c.self.inside.done;
@@ -34,6 +34,6 @@ invariant_of-self c =
     let same : get_or seats u to ≡ seat =
     get_or_default seats u to seat inside ∙ sym c.index_mut-seat.ensures.value in
     field_next v (Off u) c.self.inside.book c.self.inside.station seats u to next (off_at u) calm low field
-    (λ all seated. c.turn_off.ensures.seated (plan_in v) (card_at v u) (taken v) (188 * length v.clear) u
+    (λ all seated. c.turn_off.ensures.seated (plan_of_field v) (field_card v u) (field_clear_packets v) (188 * length v.clear) u
     (length (packets_of c.self.inside.station.sent.held)) (watch_of u v)
-    (subst (IsSeated (plan_in v) (card_at v u) (taken v) (188 * length v.clear) (watch_of u v)) same seated))
+    (subst (IsSeated (plan_of_field v) (field_card v u) (field_clear_packets v) (188 * length v.clear) (watch_of u v)) same seated))

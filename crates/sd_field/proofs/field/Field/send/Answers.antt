@@ -3,12 +3,12 @@ use Rattle.std.proofs.Common.{Err, None, Some}
 use Rattle.std.specs.Prelude.{get_or, slice_get}
 use Rattle.std.proofs.lemmas.List.{length-take-le}
 use Rattle.std.proofs.lemmas.Option.{get_or_from_slice_get, slice_get_read, slice_get_within}
-use Rattle.sd_site_cards.specs.SiteFields.{fields_of}
+use Rattle.sd_site_cards.specs.SiteFields.{site_fields_of}
 use Rattle.sd_spec.specs.Refused.{refusal_of}
 use Rattle.sd_spec.specs.declared.event.Event.TheVariants.{Send}
 use Rattle.sd_field.specs.Stations.{IsStation}
-use Rattle.sd_field.specs.Fields.{FieldValue, TakesMemory, next_refusal, plan_in}
-use Rattle.sd_field.specs.Fields.{sends_of, taken}
+use Rattle.sd_field.specs.Fields.{FieldValue, EventTakesMemory, next_refusal, plan_of_field}
+use Rattle.sd_field.specs.Fields.{sends_of, field_clear_packets}
 use Rattle.sd_field.proofs.Stations.{head_ready}
 use Rattle.sd_field.proofs.Fields.{field_on, field_sent, field_station, none_to_send, one_refused}
 use Rattle.sd_field.proofs.Fields.{held_kept, memory_at, send_failed, unrefused}
@@ -17,7 +17,7 @@ use Rattle.sd_field.proofs.field.Field.send.Goals as goal
 pub invariant_of-self : goal.invariant_of-self
 invariant_of-self g c =
     let v : FieldValue = record {
-      site = fields_of c.self.inside.site;
+      site = site_fields_of c.self.inside.site;
       clear = c.self.inside.clear.items;
       events = c.self.inside.events.items;
       done = c.self.inside.done;
@@ -38,7 +38,7 @@ invariant_of-self g c =
 pub send-requires-clause-live : goal.send-requires-clause-live
 send-requires-clause-live g c =
     let v : FieldValue = record {
-      site = fields_of c.self.inside.site;
+      site = site_fields_of c.self.inside.site;
       clear = c.self.inside.clear.items;
       events = c.self.inside.events.items;
       done = c.self.inside.done;
@@ -51,12 +51,12 @@ send-requires-clause-live g c =
     let seats = c.self.inside.seats.items in
     let next : slice_get v.events v.done ≡ Some Send =
     ap (λ (x : FieldValue). slice_get x.events x.done) c.self.view_is ∙ c.requires.next in
-    head_ready (plan_in v) (taken v) station.head (field.head (unrefused v calm))
+    head_ready (plan_of_field v) (field_clear_packets v) station.head (field.head (unrefused v calm))
 
 pub invariant_of-self-in-Ok : goal.invariant_of-self-in-Ok
 invariant_of-self-in-Ok g c =
     let v : FieldValue = record {
-      site = fields_of c.self.inside.site;
+      site = site_fields_of c.self.inside.site;
       clear = c.self.inside.clear.items;
       events = c.self.inside.events.items;
       done = c.self.inside.done;
@@ -80,15 +80,15 @@ invariant_of-self-in-Ok g c =
     ∙ ap (λ (k : ℕ). get_or v.clear k []) field.count in
     let low : sends_of v ≤ length v.clear = omega (arith, left) in
     let stands = field_station v book station seats calm low field in
-    let long : length (taken v) ≡ sends_of v = length-take-le (sends_of v) v.clear low in
+    let long : length (field_clear_packets v) ≡ sends_of v = length-take-le (sends_of v) v.clear low in
     field_sent v book station c.send.new.self seats next left calm field
-    (subst (λ (p : List ℕ). IsStation (plan_in v) (taken v ++ p ∷ []) (188 * 72 * length v.clear) c.send.new.self)
-    packet_is (c.in-Ok.ensures.sent (plan_in v) (taken v) (188 * 72 * length v.clear) stands))
+    (subst (λ (p : List ℕ). IsStation (plan_of_field v) (field_clear_packets v ++ p ∷ []) (188 * 72 * length v.clear) c.send.new.self)
+    packet_is (c.in-Ok.ensures.sent (plan_of_field v) (field_clear_packets v) (188 * 72 * length v.clear) stands))
 
 pub invariant_of-self-in-Err : goal.invariant_of-self-in-Err
 invariant_of-self-in-Err g c =
     let v : FieldValue = record {
-      site = fields_of c.self.inside.site;
+      site = site_fields_of c.self.inside.site;
       clear = c.self.inside.clear.items;
       events = c.self.inside.events.items;
       done = c.self.inside.done;
@@ -112,20 +112,20 @@ invariant_of-self-in-Err g c =
     ∙ ap (λ (k : ℕ). get_or v.clear k []) field.count in
     let low : sends_of v ≤ length v.clear = omega (arith, left) in
     let stands = field_station v book station seats calm low field in
-    let long : length (taken v) ≡ sends_of v = length-take-le (sends_of v) v.clear low in
-    let refused_is : next_refusal v ≡ refusal_of v.site (taken v) c.in-Some.packet.now =
-    one_refused v next left ∙ ap (refusal_of v.site (taken v)) (sym packet_is) in
+    let long : length (field_clear_packets v) ≡ sends_of v = length-take-le (sends_of v) v.clear low in
+    let refused_is : next_refusal v ≡ refusal_of v.site (field_clear_packets v) c.in-Some.packet.now =
+    one_refused v next left ∙ ap (refusal_of v.site (field_clear_packets v)) (sym packet_is) in
     send_failed v c.in-Err.fault book station c.send.new.self seats next calm (c.in-Err.ensures.count refl)
     (held_kept v c.in-Err.fault c.in-Some.packet.now (c.send.new.self.sent.held ≡ station.sent.held) next left packet_is
-    (λ fault same. (c.in-Err.ensures.refused (plan_in v) (taken v) (188 * 72 * length v.clear) fault stands
+    (λ fault same. (c.in-Err.ensures.refused (plan_of_field v) (field_clear_packets v) (188 * 72 * length v.clear) fault stands
     (ap (λ x. Err x) same)).1)
-    (λ same. c.in-Err.ensures.memory (plan_in v) (taken v) (188 * 72 * length v.clear) stands (ap (λ x. Err x) same)))
+    (λ same. c.in-Err.ensures.memory (plan_of_field v) (field_clear_packets v) (188 * 72 * length v.clear) stands (ap (λ x. Err x) same)))
     field
 
 pub returns-in-Ok-clause-allowed : goal.returns-in-Ok-clause-allowed
 returns-in-Ok-clause-allowed g c =
     let v : FieldValue = record {
-      site = fields_of c.self.inside.site;
+      site = site_fields_of c.self.inside.site;
       clear = c.self.inside.clear.items;
       events = c.self.inside.events.items;
       done = c.self.inside.done;
@@ -149,16 +149,16 @@ returns-in-Ok-clause-allowed g c =
     ∙ ap (λ (k : ℕ). get_or v.clear k []) field.count in
     let low : sends_of v ≤ length v.clear = omega (arith, left) in
     let stands = field_station v book station seats calm low field in
-    let long : length (taken v) ≡ sends_of v = length-take-le (sends_of v) v.clear low in
-    let refused_is : next_refusal v ≡ refusal_of v.site (taken v) c.in-Some.packet.now =
-    one_refused v next left ∙ ap (refusal_of v.site (taken v)) (sym packet_is) in
+    let long : length (field_clear_packets v) ≡ sends_of v = length-take-le (sends_of v) v.clear low in
+    let refused_is : next_refusal v ≡ refusal_of v.site (field_clear_packets v) c.in-Some.packet.now =
+    one_refused v next left ∙ ap (refusal_of v.site (field_clear_packets v)) (sym packet_is) in
     subst (λ (x : FieldValue). next_refusal x ≡ None) c.self.view_is
-    (refused_is ∙ c.in-Ok.ensures.allowed (plan_in v) (taken v) (188 * 72 * length v.clear) stands)
+    (refused_is ∙ c.in-Ok.ensures.allowed (plan_of_field v) (field_clear_packets v) (188 * 72 * length v.clear) stands)
 
 pub returns-in-Err-clause-clear : goal.returns-in-Err-clause-clear
 returns-in-Err-clause-clear g c fault is =
     let v : FieldValue = record {
-      site = fields_of c.self.inside.site;
+      site = site_fields_of c.self.inside.site;
       clear = c.self.inside.clear.items;
       events = c.self.inside.events.items;
       done = c.self.inside.done;
@@ -182,16 +182,16 @@ returns-in-Err-clause-clear g c fault is =
     ∙ ap (λ (k : ℕ). get_or v.clear k []) field.count in
     let low : sends_of v ≤ length v.clear = omega (arith, left) in
     let stands = field_station v book station seats calm low field in
-    let long : length (taken v) ≡ sends_of v = length-take-le (sends_of v) v.clear low in
-    let refused_is : next_refusal v ≡ refusal_of v.site (taken v) c.in-Some.packet.now =
-    one_refused v next left ∙ ap (refusal_of v.site (taken v)) (sym packet_is) in
+    let long : length (field_clear_packets v) ≡ sends_of v = length-take-le (sends_of v) v.clear low in
+    let refused_is : next_refusal v ≡ refusal_of v.site (field_clear_packets v) c.in-Some.packet.now =
+    one_refused v next left ∙ ap (refusal_of v.site (field_clear_packets v)) (sym packet_is) in
     subst (λ (x : FieldValue). next_refusal x ≡ Some fault) c.self.view_is
-    (refused_is ∙ (c.in-Err.ensures.refused (plan_in v) (taken v) (188 * 72 * length v.clear) fault stands is).0)
+    (refused_is ∙ (c.in-Err.ensures.refused (plan_of_field v) (field_clear_packets v) (188 * 72 * length v.clear) fault stands is).0)
 
 pub returns-in-Err-clause-memory : goal.returns-in-Err-clause-memory
 returns-in-Err-clause-memory g c is =
     let v : FieldValue = record {
-      site = fields_of c.self.inside.site;
+      site = site_fields_of c.self.inside.site;
       clear = c.self.inside.clear.items;
       events = c.self.inside.events.items;
       done = c.self.inside.done;
@@ -215,11 +215,11 @@ returns-in-Err-clause-memory g c is =
     ∙ ap (λ (k : ℕ). get_or v.clear k []) field.count in
     let low : sends_of v ≤ length v.clear = omega (arith, left) in
     let stands = field_station v book station seats calm low field in
-    let long : length (taken v) ≡ sends_of v = length-take-le (sends_of v) v.clear low in
-    let refused_is : next_refusal v ≡ refusal_of v.site (taken v) c.in-Some.packet.now =
-    one_refused v next left ∙ ap (refusal_of v.site (taken v)) (sym packet_is) in
-    let out = c.in-Err.ensures.memory (plan_in v) (taken v) (188 * 72 * length v.clear) stands is in
-    subst (λ (x : FieldValue). (next_refusal x ≡ None) × TakesMemory x (Some Send)) c.self.view_is (
+    let long : length (field_clear_packets v) ≡ sends_of v = length-take-le (sends_of v) v.clear low in
+    let refused_is : next_refusal v ≡ refusal_of v.site (field_clear_packets v) c.in-Some.packet.now =
+    one_refused v next left ∙ ap (refusal_of v.site (field_clear_packets v)) (sym packet_is) in
+    let out = c.in-Err.ensures.memory (plan_of_field v) (field_clear_packets v) (188 * 72 * length v.clear) stands is in
+    subst (λ (x : FieldValue). (next_refusal x ≡ None) × EventTakesMemory x (Some Send)) c.self.view_is (
       refused_is ∙ out.0,
       memory_at v c.in-Some.packet.now (c.send.new.self.sent.held ≡ station.sent.held) next left
           packet_is long out,

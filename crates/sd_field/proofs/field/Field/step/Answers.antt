@@ -6,7 +6,7 @@ use Rattle.sd_message.specs.declared.clear_fault.ClearFault.{ClearFault}
 use Rattle.sd_spec.specs.declared.event.Event.{Event}
 use Rattle.sd_field.specs.declared.fault.FieldFault.{FieldFault}
 use Rattle.sd_field.specs.declared.fault.FieldFault.TheVariants.{Clear, NoMemory}
-use Rattle.sd_field.specs.Fields.{FieldValue, TakesMemory, after_fault, next_event, next_refusal}
+use Rattle.sd_field.specs.Fields.{FieldValue, EventTakesMemory, after_fault, next_event, next_refusal}
 use Rattle.sd_field.proofs.Refused.{done_unrefused}
 use Rattle.sd_field.proofs.field.Field.step.Goals as goal
 
@@ -122,7 +122,7 @@ returns-in_err-happen-in-Some-get-clause-memory g c =
     let found = c.in-Some-get.ensures.lookup in
     let next = next_is _ c.args.self.now c.deref.result.now c.in-Some-get.event.now c.self.view_is
     c.deref.ensures.value found.3.0 found.1 in
-    λ is calm. subst (TakesMemory c.args.self.now) (sym next) (c.in_err-happen-in-Some-get.ensures.memory
+    λ is calm. subst (EventTakesMemory c.args.self.now) (sym next) (c.in_err-happen-in-Some-get.ensures.memory
     (fault_of_event c.from_residual.result p.0 kept NoMemory p.1 p.2 is)).1
 
 pub returns-in_err-happen-in-Some-get-clause-done :

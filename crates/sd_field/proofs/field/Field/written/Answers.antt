@@ -1,7 +1,7 @@
 use Rattle.std.proofs.Common.{arith, ◌≡◌, ◌∙◌, ◌<◌, ◌^◌, ℕ, length, ap, sym, subst}
 use Rattle.std.specs.Prelude.{Some, slice_get}
 use Rattle.std.proofs.lemmas.Option.{slice_get-get_or}
-use Rattle.sd_site_cards.specs.SiteFields.{fields_of}
+use Rattle.sd_site_cards.specs.SiteFields.{site_fields_of}
 use Rattle.sd_field.specs.Fields.{FieldValue, IsWrittenCut, written_of}
 use Rattle.sd_field.specs.declared.seat.Seat.{Seat}
 use Rattle.sd_field.proofs.Lent.{written_here}
@@ -10,7 +10,7 @@ use Rattle.sd_field.proofs.field.Field.written.Goals as goal
 pub returns : goal.returns
 returns c =
     let v : FieldValue = record {
-      site = fields_of c.self.inside.site;
+      site = site_fields_of c.self.inside.site;
       clear = c.self.inside.clear.items;
       events = c.self.inside.events.items;
       done = c.self.inside.done;

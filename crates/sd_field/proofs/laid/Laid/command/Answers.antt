@@ -1,5 +1,5 @@
 use Rattle.std.proofs.Common.{arith, ◌≡◌, ◌∙◌, ◌<◌, ◌≤◌, ◌++◌, ◌∷◌, [], ℕ, List, OnOk, ap, sym, subst}
-use Rattle.sd_site_cards.specs.SiteFields.{fields_of}
+use Rattle.sd_site_cards.specs.SiteFields.{site_fields_of}
 use Rattle.sd_book.specs.Limits.{IsDraft, IsWithinLimits}
 use Rattle.sd_book.specs.declared.command.Command.{Command}
 use Rattle.sd_book.proofs.Judged.{within_is_draft}
@@ -11,7 +11,7 @@ pub returns-then-period-from-clause-value : goal.returns-then-period-from-clause
 returns-then-period-from-clause-value c =
     let above = c.if-period-from.true in
     let most = c.from.ensures in
-    let q : ℕ = period_after (fields_of c.args.site.now) c.args.self.now.sends in
+    let q : ℕ = period_after (site_fields_of c.args.site.now) c.args.self.now.sends in
     let same : c.period_after-period.result ≡ q = c.period_after-period.ensures in
     let high : 1023 < q = omega (arith, above, most, same) in
     command_beyond q c.args.command c.args.self.now.draft.commands high
@@ -20,7 +20,7 @@ pub returns-clause-value : goal.returns-clause-value
 returns-clause-value c =
     let within = c.if-period-from.false in
     let most = c.from.ensures in
-    let q : ℕ = period_after (fields_of c.args.site.now) c.args.self.now.sends in
+    let q : ℕ = period_after (site_fields_of c.args.site.now) c.args.self.now.sends in
     let same : c.period_after-period.result ≡ q = c.period_after-period.ensures in
     let low : q ≤ 1023 = omega (arith, within, most, same) in
     let old : List Command = c.args.self.now.draft.commands in
@@ -34,7 +34,7 @@ pub fill-requires-clause-fits : goal.fill-requires-clause-fits
 fill-requires-clause-fits c =
     let within = c.if-period-from.false in
     let most = c.from.ensures in
-    let q : ℕ = period_after (fields_of c.args.site.now) c.args.self.now.sends in
+    let q : ℕ = period_after (site_fields_of c.args.site.now) c.args.self.now.sends in
     let same : c.period_after-period.result ≡ q = c.period_after-period.ensures in
     let low : q ≤ 1023 = omega (arith, within, most, same) in
     let old = c.args.self.now.draft in
@@ -46,7 +46,7 @@ pub push-requires-clause-fits : goal.push-requires-clause-fits
 push-requires-clause-fits c =
     let within = c.if-period-from.false in
     let most = c.from.ensures in
-    let q : ℕ = period_after (fields_of c.args.site.now) c.args.self.now.sends in
+    let q : ℕ = period_after (site_fields_of c.args.site.now) c.args.self.now.sends in
     let same : c.period_after-period.result ≡ q = c.period_after-period.ensures in
     let low : q ≤ 1023 = omega (arith, within, most, same) in
     let old = c.args.self.now.draft in

@@ -3,7 +3,7 @@ use Rattle.std.specs.Vec.{with_items}
 use Rattle.std.proofs.lemmas.List.{with_items_is}
 use Rattle.sd_spec.specs.Kinds.{pmts_in}
 use Rattle.sd_head.specs.After.{ArePositions}
-use Rattle.sd_head.specs.Known.{AreNear, AreMarked}
+use Rattle.sd_head.specs.Known.{AreReachablePositions, AreMarkedPids}
 use Rattle.sd_head.specs.Follows.{move_in, IsMoveOf, IsPatOf}
 use Rattle.sd_head.proofs.Marking.{pat_told}
 use Rattle.sd_head.proofs.Moving.{near_if_moved, small_if_moved}
@@ -34,10 +34,10 @@ invariant_of-self c =
       pids_few = c.move_position.ensures.few;
       pids_room = c.move_position.ensures.capacity;
       pids_known = c.move_position.ensures.known;
-      positions_near = subst (AreNear (clear.count + 1)) (sym positions) (c.move_position.ensures.near clear.count
+      positions_near = subst (AreReachablePositions (clear.count + 1)) (sym positions) (c.move_position.ensures.near clear.count
           (rw c.next.ensures (near_if_moved clear.count c.requires.1 clear.positions.items
           (move_in c.args.judged.now) learned.moves clear.positions_near))
-          (subst (AreNear clear.count) (sym c.deref_mut-2.ensures.value) clear.positions_near));
+          (subst (AreReachablePositions clear.count) (sym c.deref_mut-2.ensures.value) clear.positions_near));
     }
 
 pub returns : goal.returns
@@ -59,6 +59,6 @@ returns c = λ site before packet follows after.
       number = ap (λ (n : ℕ). n + 1) after.number ∙ sym (length-append before (packet ∷ []));
       placed = subst (ArePositions all) (sym positions) (c.move_position.ensures.placed before packet makes placed);
       moved = c.move_position.ensures.moved before packet makes placed after.moved;
-      marked = subst (AreMarked (pmts_in all)) (sym marks) (c.learn.ensures before packet pat
-          (subst (AreMarked (pmts_in before)) (sym c.deref_mut.ensures.value) after.marked));
+      marked = subst (AreMarkedPids (pmts_in all)) (sym marks) (c.learn.ensures before packet pat
+          (subst (AreMarkedPids (pmts_in before)) (sym c.deref_mut.ensures.value) after.marked));
     }

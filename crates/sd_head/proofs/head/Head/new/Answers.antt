@@ -1,8 +1,8 @@
 use Rattle.std.proofs.Common.{List, refl, sym, subst, ap}
-use Rattle.sd_site_cards.specs.SiteFields.{fields_of}
+use Rattle.sd_site_cards.specs.SiteFields.{site_fields_of}
 use Rattle.sd_spec.specs.Sent.{Item}
 use Rattle.sd_head.specs.Kept.{plan_of}
-use Rattle.sd_head.specs.Items.{HasSent}
+use Rattle.sd_head.specs.Items.{HasSentItems}
 use Rattle.sd_head.proofs.Stepping.{none_sendable, sent_none, begun_ready}
 use Rattle.std.specs.Prelude.{None}
 use Rattle.sd_head.proofs.head.Head.new.Goals as goal
@@ -13,10 +13,10 @@ returns-clause-value c =
     record {
       keeps_to = ap (plan_of c.args.site) c.new-2.ensures.book;
       unrefused = refl;
-      are_sendable = none_sendable (fields_of c.args.site);
+      are_sendable = none_sendable (site_fields_of c.args.site);
       clear_is = c.in_ok-new.ensures;
       entitled = c.new-2.ensures.value;
-      has_sent = subst (λ (items : List Item). HasSent (fields_of c.args.site) items c.in_ok-new-2.field-0)
+      has_sent = subst (λ (items : List Item). HasSentItems (site_fields_of c.args.site) items c.in_ok-new-2.field-0)
           (sym (sent_none plan)) c.in_ok-new-2.ensures;
     }
 

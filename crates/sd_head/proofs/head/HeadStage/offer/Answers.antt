@@ -1,8 +1,8 @@
 use Rattle.std.proofs.Common.{ap, refl}
 use Rattle.std.specs.Prelude.{Some, Err}
-use Rattle.sd_engine.specs.Stage.{vessel}
+use Rattle.sd_engine.specs.Stage.{sink_state_of}
 use Rattle.sd_engine.proofs.Answering.{same_refusal}
-use Rattle.sd_head.specs.Staged.{RefusesPacket}
+use Rattle.sd_head.specs.Staged.{RefusesClearPacket}
 use Rattle.sd_head.specs.declared.fault.HeadFault.TheVariants.{Clear, NoMemory}
 use Rattle.sd_head.proofs.Offering.{grown_nothing, grown_says, cut_says, refuses_clear, refuses_memory}
 use Rattle.sd_head.proofs.Offering.{does_of, allowed_of}
@@ -10,8 +10,8 @@ use Rattle.sd_head.proofs.head.HeadStage.offer.Goals as goal
 
 pub returns-in-Err-clause-fault : goal.returns-in-Err-clause-fault
 returns-in-Err-clause-fault g c = λ fault same.
-    grown_nothing (λ bytes steps. RefusesPacket c.args.self.now (Some c.args.packet.now) fault bytes)
-    (vessel g.K.Sink c.args.out.now) (vessel g.K.Sink c.args.out.now) c.args.steps.now c.args.steps.now refl
+    grown_nothing (λ bytes steps. RefusesClearPacket c.args.self.now (Some c.args.packet.now) fault bytes)
+    (sink_state_of g.K.Sink c.args.out.now) (sink_state_of g.K.Sink c.args.out.now) c.args.steps.now c.args.steps.now refl
     (refuses_clear c.args.self.now c.args.packet.now c.judge-judgement.result c.in-Err.fault fault
     c.judge-judgement.ensures c.in-Err.is (same_refusal (Clear c.in-Err.fault) fault same))
 
@@ -30,7 +30,7 @@ returns-in-Err-Write-clause-prefix g c = λ fails.
 pub returns-in-Err-NoMemory-clause-fault : goal.returns-in-Err-NoMemory-clause-fault
 returns-in-Err-NoMemory-clause-fault g c = λ fault same.
     let why = c.in-Err-NoMemory.ensures.memory (ap Err c.in-Err-NoMemory.field-0-is) in
-    grown_nothing (λ bytes steps. RefusesPacket c.args.self.now (Some c.args.packet.now) fault bytes)
-    (vessel g.K.Sink c.args.out.now) (vessel g.K.Sink c.send.new.out) c.args.steps.now c.send.new.steps why.0
+    grown_nothing (λ bytes steps. RefusesClearPacket c.args.self.now (Some c.args.packet.now) fault bytes)
+    (sink_state_of g.K.Sink c.args.out.now) (sink_state_of g.K.Sink c.send.new.out) c.args.steps.now c.send.new.steps why.0
     (refuses_memory c.args.self.now c.args.packet.now c.judge-judgement.result c.in-Ok.judged fault
     c.judge-judgement.ensures c.in-Ok.is why.1 (same_refusal NoMemory fault same))

@@ -1,5 +1,5 @@
 use Rattle.std.proofs.Common.{subst, List, ℕ}
-use Rattle.sd_engine.specs.Stage.{vessel}
+use Rattle.sd_engine.specs.Stage.{sink_state_of}
 use Rattle.sd_head.specs.Sending.{SendsBytes}
 use Rattle.sd_head.specs.Items.{tables_bytes, message_bytes}
 use Rattle.sd_head.proofs.Sends.{sends_err, sends_on, cuts_sooner}
@@ -15,10 +15,10 @@ returns-in_err-send_tables-clause-value g c =
 
 pub returns-clause-value : goal.returns-clause-value
 returns-clause-value g c =
-    sends_on c.send_message.result _ (vessel g.K.Sink c.send_tables.new.out) _
+    sends_on c.send_message.result _ (sink_state_of g.K.Sink c.send_tables.new.out) _
     (tables_bytes c.args.self.now c.args.due c.args.emms.now) (message_bytes c.args.pid c.args.self.now c.args.message)
     c.in_ok-send_tables.ensures.value
-    (subst (λ (bytes : List ℕ). SendsBytes (vessel g.K.Sink c.send_tables.new.out)
-    (vessel g.K.Sink c.send_message.new.out) bytes c.send_message.result)
+    (subst (λ (bytes : List ℕ). SendsBytes (sink_state_of g.K.Sink c.send_tables.new.out)
+    (sink_state_of g.K.Sink c.send_message.new.out) bytes c.send_message.result)
     (same_message c.args.pid c.args.self.now c.send_tables.new.self c.args.message c.in_ok-send_tables.ensures.next.ecms
     c.send_tables.ensures.places) c.send_message.ensures.value)

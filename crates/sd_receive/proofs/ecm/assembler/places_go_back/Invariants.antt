@@ -1,5 +1,5 @@
 use Rattle.std.proofs.Common.{◌≤◌, length}
-use Rattle.sd_message.specs.EcmForm.{AreAscending}
+use Rattle.sd_message.specs.EcmForm.{ArePidsAscending}
 use Rattle.sd_receive.proofs.Walking.{IsWalked}
 use Rattle.sd_receive.proofs.ecm.assembler.places_go_back.Given as goal
 
@@ -7,5 +7,5 @@ use Rattle.sd_receive.proofs.ecm.assembler.places_go_back.Given as goal
 abbrev pub invariant-loop-place : goal.invariant-loop-place
 invariant-loop-place l = record {
   few : l.met ≤ length l.places;
-  walked : AreAscending l.coming → AreAscending l.places → IsWalked l.coming l.places l.met l.place-index;
+  walked : ArePidsAscending l.coming → ArePidsAscending l.places → IsWalked l.coming l.places l.met l.place-index;
 }

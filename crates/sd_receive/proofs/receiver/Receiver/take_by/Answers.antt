@@ -1,7 +1,7 @@
 use Rattle.std.proofs.Common.{◌≡◌, ◌+◌, ◌∙◌, ap, arith, ℕ}
-use Rattle.sd_engine.specs.Stage.{vessel}
+use Rattle.sd_engine.specs.Stage.{sink_state_of}
 use Rattle.sd_psi.specs.OurCat.{cat_tuning}
-use Rattle.sd_receive.specs.Session.{capped}
+use Rattle.sd_receive.specs.Session.{capped_count}
 use Rattle.sd_receive.specs.Receiving.{receiver_does}
 use Rattle.sd_engine.specs.declared.stage.StageFault.TheVariants.{Write, Refused}
 use Rattle.sd_engine.proofs.Answering.{ok_is_no_err, success_is_calm}
@@ -12,9 +12,9 @@ pub returns-in_default-clause-value : goal.returns-in_default-clause-value
 returns-in_default-clause-value g c =
     let s = c.args.self.now in
     let packet = c.args.packet.now in
-    let added : c.saturating_add-self.result ≡ capped (s.count + 1) = omega arith in
+    let added : c.saturating_add-self.result ≡ capped_count (s.count + 1) = omega arith in
     let is = c.cat_tuning-self.ensures ∙ ap (λ (ca : ℕ). cat_tuning ca packet) c.ca.ensures in
-    grew_none (vessel g.K.Sink c.args.out.now) c.args.steps.now
+    grew_none (sink_state_of g.K.Sink c.args.out.now) c.args.steps.now
     (receiver_does s packet (counted s c.saturating_add-self.result c.cat_tuning-self.result))
     (idle_untuned s packet c.cat_tuning-self.result c.saturating_add-self.result c.in_default.is is added)
 

@@ -1,7 +1,7 @@
 use Rattle.std.proofs.Common.{◌≡◌, ◌+◌, ◌∙◌, ap, arith, ℕ, List, refl, sym, subst, true}
 use Rattle.std.specs.Prelude.{Option, Err, IsErrOf}
 use Rattle.std.specs.Option.{option_or}
-use Rattle.sd_engine.specs.Stage.{vessel, HasGrown}
+use Rattle.sd_engine.specs.Stage.{sink_state_of, HasGrown}
 use Rattle.sd_engine.specs.declared.stage.StageFault.TheVariants.{Write}
 use Rattle.sd_engine.proofs.Answering.{same_refusal}
 use Rattle.sd_message.specs.declared.stream_fault.StreamFault.{StreamFault}
@@ -9,9 +9,9 @@ use Rattle.sd_spec.specs.Heard.{Heard}
 use Rattle.sd_spec.specs.Offered.{heard}
 use Rattle.sd_spec.specs.Runs.{are_two, run_name_heard}
 use Rattle.sd_receive.specs.Filter.{heard_as}
-use Rattle.sd_receive.specs.Session.{IsListenerAfter, capped, heard_of_run, IsJudgedAs, Judgement, TakesHeard}
-use Rattle.sd_receive.specs.Session.{RefusesHeard, CutsHeard, PacketOutcome}
-use Rattle.sd_receive.specs.Receiving.{card_in, receiver_does, RefusesBy}
+use Rattle.sd_receive.specs.Session.{IsListenerAfter, capped_count, heard_of_run, IsJudgedAs, Judgement, TakesHeard}
+use Rattle.sd_receive.specs.Session.{RefusesHeard, CutsHeard, SessionOutcome}
+use Rattle.sd_receive.specs.Receiving.{receiver_card, receiver_does, RefusesBy}
 use Rattle.sd_receive.specs.declared.receiver.ended.EndedRuns.{EndedRuns}
 use Rattle.sd_receive.proofs.Receiving.{counted, listening, thing_of, found_of, idle_closed, over_parts, heard_does}
 use Rattle.sd_receive.proofs.Receiving.{heard_refuses, judged_refuses, turned_follows, turned_open, begins_none, stands_after}
@@ -28,8 +28,8 @@ returns-then-is_over-clause-value g c =
     let over = over_parts s.session.closed c.differ-begins.result (sym c.is_over.ensures ∙ c.if-is_over.true) in
     let same = ap (λ (n : Option (Option ℕ)). are_two s.name n)
     (c.name_of-name.ensures s.count packet ∙ ap run_name_heard is) in
-    let added : c.saturating_add-self.result ≡ capped (s.count + 1) = omega arith in
-    grew_none (vessel g.K.Sink c.args.out.now) c.args.steps.now
+    let added : c.saturating_add-self.result ≡ capped_count (s.count + 1) = omega arith in
+    grew_none (sink_state_of g.K.Sink c.args.out.now) c.args.steps.now
     (receiver_does s packet (counted s c.saturating_add-self.result s.tuning))
     (idle_closed s packet c.args.tuning c.saturating_add-self.result c.requires.tuned
     (sym same ∙ (sym c.differ-begins.ensures ∙ over.1)) over.0 added)
@@ -49,16 +49,16 @@ returns-in-Err-clause-fault g c = λ fault same.
     let found = found_of s packet kept thing c.name_of-name.result begins from to c.requires.tuned is
     (c.name_of-name.ensures s.count packet) c.differ-begins.ensures (sym c.is_over.ensures ∙ c.if-is_over.false)
     (λ past follows. c.judge.ensures.steps packet past follows) in
-    subst (λ (f : StreamFault). HasGrown (vessel g.K.Sink c.args.out.now) (vessel g.K.Sink c.args.out.now) from to
+    subst (λ (f : StreamFault). HasGrown (sink_state_of g.K.Sink c.args.out.now) (sink_state_of g.K.Sink c.args.out.now) from to
     (RefusesBy strict s packet f)) (same_refusal c.in-Err.fault fault same)
-    (grew_by_steps (vessel g.K.Sink c.args.out.now) from to (RefusesBy strict s packet c.in-Err.fault)
+    (grew_by_steps (sink_state_of g.K.Sink c.args.out.now) from to (RefusesBy strict s packet c.in-Err.fault)
     (judged_refuses strict s packet kept begins c.judge.new.key c.in-Err.fault from to found
-    (λ past follows. subst (λ (h : Heard). Judgement (card_in s) s.count (heard_of_run begins past) h
+    (λ past follows. subst (λ (h : Heard). Judgement (receiver_card s) s.count (heard_of_run begins past) h
     c.judge.new.key (Err c.in-Err.fault)) is (c.in-Err.ensures.value packet past follows))))
 
 pub take-requires-clause-open : goal.take-requires-clause-open
 take-requires-clause-open g c =
-    turned_open (card_in c.args.self.now) c.differ-begins.result c.args.self.now.name c.args.self.now.ended c.turn.new.self
+    turned_open (receiver_card c.args.self.now) c.differ-begins.result c.args.self.now.name c.args.self.now.ended c.turn.new.self
     c.args.self.now.session c.turn.new.session c.turn.ensures c.requires.fit.follows
     (sym c.is_over.ensures ∙ c.if-is_over.false)
 
@@ -77,20 +77,20 @@ returns-in-Err-take-clause-fault g c = λ fault why.
     let found = found_of s packet kept thing c.name_of-name.result begins from to c.requires.tuned is
     (c.name_of-name.ensures s.count packet) c.differ-begins.ensures (sym c.is_over.ensures ∙ c.if-is_over.false)
     (λ past follows. c.judge.ensures.steps packet past follows) in
-    let card = card_in s in
+    let card = receiver_card s in
     let key = c.judge.new.key in
     let u = c.turn.new.session in
     let t = c.take.new.self in
     let judged = subst (λ (h : Heard). (past : List Heard) → IsListenerAfter card past s.session →
     IsJudgedAs card s.count (heard_of_run begins past) h key) is
     (λ past follows. c.in-Ok.ensures.value packet past follows) in
-    let comes = subst (λ (h : Heard). PacketOutcome (TakesHeard true card kept s.count h key u)
-    (RefusesHeard strict card kept s.count h u) (CutsHeard strict card kept s.count h key u) (vessel g.K.Sink c.args.out.now) (vessel g.K.Sink c.take.new.out) t
+    let comes = subst (λ (h : Heard). SessionOutcome (TakesHeard true card kept s.count h key u)
+    (RefusesHeard strict card kept s.count h u) (CutsHeard strict card kept s.count h key u) (sink_state_of g.K.Sink c.args.out.now) (sink_state_of g.K.Sink c.take.new.out) t
     c.take.result) is c.take.ensures.value in
     refused_of (TakesHeard true card kept s.count (thing_of s kept packet) key u)
     (RefusesHeard strict card kept s.count (thing_of s kept packet) u)
     (CutsHeard strict card kept s.count (thing_of s kept packet) key u)
-    (vessel g.K.Sink c.args.out.now) (vessel g.K.Sink c.take.new.out) t c.take.result from to fault
+    (sink_state_of g.K.Sink c.args.out.now) (sink_state_of g.K.Sink c.take.new.out) t c.take.result from to fault
     (RefusesBy strict s packet fault) (c.in-Err-take.is ∙ why) comes
     (λ bytes refuses. heard_refuses strict s packet kept begins c.turn.new.self u fault bytes from to found
     c.turn.ensures refuses)
@@ -100,12 +100,12 @@ returns-in-Err-take-clause-stands g c = λ fault why past after.
     let s = c.args.self.now in
     let packet = c.args.packet.now in
     let none = begins_none c.args.strict s packet c.args.tuning c.args.heard c.differ-begins.result c.judge.new.key
-    c.turn.new.self c.turn.new.session c.take.new.self (CutsHeard c.args.strict (card_in s) c.args.tuning s.count
-    (heard_as s.count packet c.args.heard) c.judge.new.key c.turn.new.session) (vessel g.K.Sink c.args.out.now)
-    (vessel g.K.Sink c.take.new.out) c.take.result fault c.requires.form
+    c.turn.new.self c.turn.new.session c.take.new.self (CutsHeard c.args.strict (receiver_card s) c.args.tuning s.count
+    (heard_as s.count packet c.args.heard) c.judge.new.key c.turn.new.session) (sink_state_of g.K.Sink c.args.out.now)
+    (sink_state_of g.K.Sink c.take.new.out) c.take.result fault c.requires.form
     (c.differ-begins.ensures ∙ ap (λ (n : Option (Option ℕ)). are_two s.name n) (c.name_of-name.ensures s.count packet))
     c.turn.ensures (λ past follows. c.in-Ok.ensures.value packet past follows) (c.in-Err-take.is ∙ why)
-    c.take.ensures.value (heard (card_in s) past) after.follows in
+    c.take.ensures.value (heard (receiver_card s) past) after.follows in
     stands_after c.differ-begins.result s c.turn.new.self c.turn.new.session c.take.new.self none c.turn.ensures
     (c.take.ensures.stands fault (c.in-Err-take.is ∙ why)) past after
 
@@ -115,9 +115,9 @@ returns-in-Err-take-clause-same g c = λ fault why.
     let packet = c.args.packet.now in
     let l = c.requires.fit.follows in
     let none = begins_none c.args.strict s packet c.args.tuning c.args.heard c.differ-begins.result c.judge.new.key
-    c.turn.new.self c.turn.new.session c.take.new.self (CutsHeard c.args.strict (card_in s) c.args.tuning s.count
-    (heard_as s.count packet c.args.heard) c.judge.new.key c.turn.new.session) (vessel g.K.Sink c.args.out.now)
-    (vessel g.K.Sink c.take.new.out) c.take.result fault c.requires.form
+    c.turn.new.self c.turn.new.session c.take.new.self (CutsHeard c.args.strict (receiver_card s) c.args.tuning s.count
+    (heard_as s.count packet c.args.heard) c.judge.new.key c.turn.new.session) (sink_state_of g.K.Sink c.args.out.now)
+    (sink_state_of g.K.Sink c.take.new.out) c.take.result fault c.requires.form
     (c.differ-begins.ensures ∙ ap (λ (n : Option (Option ℕ)). are_two s.name n) (c.name_of-name.ensures s.count packet))
     c.turn.ensures (λ past follows. c.in-Ok.ensures.value packet past follows) (c.in-Err-take.is ∙ why)
     c.take.ensures.value l.0 l.1 in
@@ -133,7 +133,7 @@ returns-in-Err-take-clause-fit g c = λ fault why.
       follows = (
         heard_of_run begins l.0,
         (c.take.ensures.stands fault (c.in-Err-take.is ∙ why)).follows (heard_of_run begins l.0)
-            (turned_follows (card_in s) begins s.name s.ended c.turn.new.self s.session c.turn.new.session
+            (turned_follows (receiver_card s) begins s.name s.ended c.turn.new.self s.session c.turn.new.session
             c.turn.ensures l.0 l.1),
       );
     }
@@ -152,28 +152,28 @@ returns-in-Err-take-clause-prefix g c = λ failed.
     let found = found_of s packet kept thing c.name_of-name.result begins from to c.requires.tuned is
     (c.name_of-name.ensures s.count packet) c.differ-begins.ensures (sym c.is_over.ensures ∙ c.if-is_over.false)
     (λ past follows. c.judge.ensures.steps packet past follows) in
-    let card = card_in s in
+    let card = receiver_card s in
     let key = c.judge.new.key in
     let u = c.turn.new.session in
     let t = c.take.new.self in
     let judged = subst (λ (h : Heard). (past : List Heard) → IsListenerAfter card past s.session →
     IsJudgedAs card s.count (heard_of_run begins past) h key) is
     (λ past follows. c.in-Ok.ensures.value packet past follows) in
-    let comes = subst (λ (h : Heard). PacketOutcome (TakesHeard true card kept s.count h key u)
-    (RefusesHeard strict card kept s.count h u) (CutsHeard strict card kept s.count h key u) (vessel g.K.Sink c.args.out.now) (vessel g.K.Sink c.take.new.out) t
+    let comes = subst (λ (h : Heard). SessionOutcome (TakesHeard true card kept s.count h key u)
+    (RefusesHeard strict card kept s.count h u) (CutsHeard strict card kept s.count h key u) (sink_state_of g.K.Sink c.args.out.now) (sink_state_of g.K.Sink c.take.new.out) t
     c.take.result) is c.take.ensures.value in
     let name = option_or (run_name_heard (thing_of s kept packet)) s.name in
     cut_of strict (TakesHeard true card kept s.count (thing_of s kept packet) key u)
     (RefusesHeard strict card kept s.count (thing_of s kept packet) u)
-    (vessel g.K.Sink c.args.out.now) (vessel g.K.Sink c.take.new.out) t c.take.result from to s packet
+    (sink_state_of g.K.Sink c.args.out.now) (sink_state_of g.K.Sink c.take.new.out) t c.take.result from to s packet
     (CutsHeard strict card kept s.count (thing_of s kept packet) key u)
     (subst (λ r. IsErrOf r Write) (sym c.in-Err-take.is) failed) comes
     (λ bytes cuts. cuts_by strict s packet from to bytes
     (λ x. TakesHeard strict card kept s.count (thing_of s kept packet) key u x bytes)
     (λ fault. RefusesHeard strict card kept s.count (thing_of s kept packet) u fault bytes)
     (λ x takes. (
-      listening s (capped (s.count + 1)) name c.turn.new.self x,
-      heard_does strict s packet kept begins key (capped (s.count + 1)) name c.turn.new.self u x bytes from to found
+      listening s (capped_count (s.count + 1)) name c.turn.new.self x,
+      heard_does strict s packet kept begins key (capped_count (s.count + 1)) name c.turn.new.self u x bytes from to found
           c.turn.ensures judged refl refl takes,
     ))
     (λ fault refuses. heard_refuses strict s packet kept begins c.turn.new.self u fault bytes from to found
@@ -195,17 +195,17 @@ returns-clause-value g c =
     let found = found_of s packet kept thing c.name_of-name.result begins from to c.requires.tuned is
     (c.name_of-name.ensures s.count packet) c.differ-begins.ensures (sym c.is_over.ensures ∙ c.if-is_over.false)
     (λ past follows. c.judge.ensures.steps packet past follows) in
-    let card = card_in s in
+    let card = receiver_card s in
     let key = c.judge.new.key in
     let u = c.turn.new.session in
     let t = c.take.new.self in
     let judged = subst (λ (h : Heard). (past : List Heard) → IsListenerAfter card past s.session →
     IsJudgedAs card s.count (heard_of_run begins past) h key) is
     (λ past follows. c.in-Ok.ensures.value packet past follows) in
-    let comes = subst (λ (h : Heard). PacketOutcome (TakesHeard true card kept s.count h key u)
-    (RefusesHeard strict card kept s.count h u) (CutsHeard strict card kept s.count h key u) (vessel g.K.Sink c.args.out.now) (vessel g.K.Sink c.take.new.out) t
+    let comes = subst (λ (h : Heard). SessionOutcome (TakesHeard true card kept s.count h key u)
+    (RefusesHeard strict card kept s.count h u) (CutsHeard strict card kept s.count h key u) (sink_state_of g.K.Sink c.args.out.now) (sink_state_of g.K.Sink c.take.new.out) t
     c.take.result) is c.take.ensures.value in
-    let added : c.saturating_add-self-2.result ≡ capped (s.count + 1) = omega arith in
+    let added : c.saturating_add-self-2.result ≡ capped_count (s.count + 1) = omega arith in
     let named : c.or-self.result ≡ option_or (run_name_heard (thing_of s kept packet)) s.name = c.or-self.ensures
     ∙ ap (λ (n : Option (Option ℕ)). option_or n s.name) (c.name_of-name.ensures s.count packet ∙ ap run_name_heard is)
     in
@@ -213,7 +213,7 @@ returns-clause-value g c =
     (grew_of (TakesHeard true card kept s.count (thing_of s kept packet) key u)
     (RefusesHeard strict card kept s.count (thing_of s kept packet) u)
     (CutsHeard strict card kept s.count (thing_of s kept packet) key u)
-    (vessel g.K.Sink c.args.out.now) (vessel g.K.Sink c.take.new.out) t c.take.result from to
+    (sink_state_of g.K.Sink c.args.out.now) (sink_state_of g.K.Sink c.take.new.out) t c.take.result from to
     (receiver_does s packet (listening s c.saturating_add-self-2.result c.or-self.result c.turn.new.self t)) comes
     (λ bytes takes. heard_does true s packet kept begins key c.saturating_add-self-2.result c.or-self.result
     c.turn.new.self u t bytes from to found c.turn.ensures judged added named takes))
@@ -232,21 +232,21 @@ returns-clause-ok g c =
     let found = found_of s packet kept thing c.name_of-name.result begins from to c.requires.tuned is
     (c.name_of-name.ensures s.count packet) c.differ-begins.ensures (sym c.is_over.ensures ∙ c.if-is_over.false)
     (λ past follows. c.judge.ensures.steps packet past follows) in
-    let card = card_in s in
+    let card = receiver_card s in
     let key = c.judge.new.key in
     let u = c.turn.new.session in
     let t = c.take.new.self in
     let judged = subst (λ (h : Heard). (past : List Heard) → IsListenerAfter card past s.session →
     IsJudgedAs card s.count (heard_of_run begins past) h key) is
     (λ past follows. c.in-Ok.ensures.value packet past follows) in
-    let comes = subst (λ (h : Heard). PacketOutcome (TakesHeard true card kept s.count h key u)
-    (RefusesHeard strict card kept s.count h u) (CutsHeard strict card kept s.count h key u) (vessel g.K.Sink c.args.out.now) (vessel g.K.Sink c.take.new.out) t
+    let comes = subst (λ (h : Heard). SessionOutcome (TakesHeard true card kept s.count h key u)
+    (RefusesHeard strict card kept s.count h u) (CutsHeard strict card kept s.count h key u) (sink_state_of g.K.Sink c.args.out.now) (sink_state_of g.K.Sink c.take.new.out) t
     c.take.result) is c.take.ensures.value in
     let l = c.requires.fit.follows in
     of_taken c.take.result c.in_default.not-Err
     (fit_after s c.saturating_add-self-2.result c.or-self.result c.turn.new.self u t kept s.count
     (thing_of s kept packet) key (RefusesHeard strict card kept s.count (thing_of s kept packet) u)
-    (CutsHeard strict card kept s.count (thing_of s kept packet) key u) (vessel g.K.Sink c.args.out.now) (vessel g.K.Sink c.take.new.out) c.take.result (
+    (CutsHeard strict card kept s.count (thing_of s kept packet) key u) (sink_state_of g.K.Sink c.args.out.now) (sink_state_of g.K.Sink c.take.new.out) c.take.result (
       heard_of_run begins l.0,
       turned_follows card begins s.name s.ended c.turn.new.self s.session u c.turn.ensures l.0 l.1,
       judged l.0 l.1,

@@ -1,13 +1,13 @@
 use Rattle.std.proofs.Common.{◌≡◌, ◌∙◌, inl, inr, refl, sym, subst, true, List}
 use Rattle.std.specs.Prelude.{None, Ok}
 use Rattle.sd_site_cards.specs.CardFields.{card_fields_of}
-use Rattle.sd_engine.specs.Stage.{vessel}
+use Rattle.sd_engine.specs.Stage.{sink_state_of}
 use Rattle.sd_message.specs.declared.stream_fault.StreamFault.TheVariants.{BadEcm}
 use Rattle.sd_spec.specs.Heard.{Heard, Controls}
 use Rattle.sd_spec.specs.Stretches.{current}
 use Rattle.sd_receive.specs.EcmAssembler.{IsCollected, IsComplete, PartOutcome}
 use Rattle.sd_receive.specs.declared.ecm.EcmProgress.{EcmProgress}
-use Rattle.sd_receive.specs.Session.{TakesHeard, RefusesHeard, CutsHeard, TakesMessage, RefusesMessage}
+use Rattle.sd_receive.specs.Session.{TakesHeard, RefusesHeard, CutsHeard, TakesMessage, RefusesHeardMessage}
 use Rattle.sd_receive.specs.Session.{CutsMessage, IsStill}
 use Rattle.sd_receive.specs.declared.session.Session.{Session}
 use Rattle.sd_receive.proofs.Listening.{took_nothing, part_waiting, part_bad, part_left, comes_weaker}
@@ -25,7 +25,7 @@ returns-in-Ok-Waits-clause-value g c =
           s.buffer;
       written = s.written;
     } in
-    took_nothing (vessel g.K.Sink c.args.out.now)
+    took_nothing (sink_state_of g.K.Sink c.args.out.now)
     (TakesHeard true (card_fields_of c.args.card.now) c.args.tuning c.args.number (Controls c.args.part.now) None s t)
     (part_waiting (card_fields_of c.args.card.now) c.args.tuning c.args.number c.args.part.now s t refl refl refl
     refl
@@ -80,9 +80,9 @@ returns-in-Ok-Complete-clause-value g c =
     let tuning = c.args.tuning in
     let at = message_heard card tuning n part head s t refl refl refl done in
     comes_weaker (TakesMessage true card tuning n head t) (TakesHeard true card tuning n (Controls part) None s)
-    (RefusesMessage strict card tuning n head t) (RefusesHeard strict card tuning n (Controls part) s)
+    (RefusesHeardMessage strict card tuning n head t) (RefusesHeard strict card tuning n (Controls part) s)
     (CutsMessage strict card tuning n head t) (CutsHeard strict card tuning n (Controls part) None s)
-    (vessel g.K.Sink c.args.out.now) (vessel g.K.Sink c.complete.new.out) c.complete.new.self c.complete.result
+    (sink_state_of g.K.Sink c.args.out.now) (sink_state_of g.K.Sink c.complete.new.out) c.complete.new.self c.complete.result
     (λ x bytes takes past follows unclosed judged. takes past part (at past follows unclosed))
     (λ fault bytes refuses past follows unclosed. refuses past part (at past follows unclosed))
     (λ bytes cuts. elim cuts [
@@ -93,7 +93,7 @@ returns-in-Ok-Complete-clause-value g c =
 
 pub returns-in-Err-clause-value : goal.returns-in-Err-clause-value
 returns-in-Err-clause-value g c =
-    took_nothing (vessel g.K.Sink c.args.out.now)
+    took_nothing (sink_state_of g.K.Sink c.args.out.now)
     (RefusesHeard c.args.strict (card_fields_of c.args.card.now) c.args.tuning c.args.number (Controls c.args.part.now)
     c.args.self.now
     (BadEcm c.args.number c.in-Err.fault))

@@ -5,7 +5,7 @@ use Rattle.sd_message.specs.declared.stream_fault.StreamFault.{StreamFault}
 use Rattle.sd_spec.specs.Heard.{Controls}
 use Rattle.sd_spec.specs.Offered.{word_fault}
 use Rattle.sd_receive.specs.PeriodKeys.{IsEntitled, key_kept}
-use Rattle.sd_receive.specs.Session.{IsWordOf}
+use Rattle.sd_receive.specs.Session.{IsWordTold}
 use Rattle.sd_receive.specs.declared.emm.PeriodKeys.{PeriodKeys}
 use Rattle.sd_receive.specs.PacketBuffer.{after_message}
 use Rattle.sd_receive.proofs.Messages.{in_turn, key_ahead, renewed}
@@ -23,7 +23,7 @@ returns-in-Ok-clause-value c = λ n card past part done told.
     let keys = c.message.ensures card past part message done.follows.keys done.assembler.complete refl in
     let kept = key_kept s.keys head.period in
     let key = key_ahead card past part head s done in
-    let word = subst (λ (r : Result (Option (List ℕ)) StreamFault). IsWordOf n head kept r) c.in-Ok.is told in (
+    let word = subst (λ (r : Result (Option (List ℕ)) StreamFault). IsWordTold n head kept r) c.in-Ok.is told in (
       subst (λ (k : Option (List ℕ)). word_fault n message k ≡ None) key word.1,
       renewed card past part head s c.renew.new.self kept done
           (subst (λ (e : PeriodKeys). IsEntitled card (Controls part ∷ past) e) (sym c.renew.ensures.same.0) keys)
@@ -39,6 +39,6 @@ returns-in-Err-clause-value c = λ n card past part done told.
     let head = c.args.head.now in
     let message = message_of head s.assembler.coming.places.items in
     let wrong = subst (λ (r : Result (Option (List ℕ)) StreamFault).
-    IsWordOf n head (key_kept s.keys head.period) r) c.in-Err.is told in
+    IsWordTold n head (key_kept s.keys head.period) r) c.in-Err.is told in
     subst (λ (k : Option (List ℕ)). word_fault n message k ≡ Some c.in-Err.fault) (key_ahead card past part head s done)
     wrong

@@ -1,11 +1,11 @@
 use Rattle.std.proofs.Common.{refl, ap, sym, subst, true, []}
 use Rattle.sd_site_cards.specs.CardFields.{card_fields_of}
-use Rattle.sd_engine.specs.Stage.{vessel}
+use Rattle.sd_engine.specs.Stage.{sink_state_of}
 use Rattle.sd_spec.specs.Heard.{Heard}
 use Rattle.sd_receive.specs.declared.filter.kind.PacketKind.{PacketKind as Kept}
 use Rattle.sd_receive.specs.Filter.{heard_as, IsFormed}
 use Rattle.sd_message.specs.declared.stream_fault.StreamFault.TheVariants.{BadEmm, BadEcm}
-use Rattle.sd_receive.specs.Session.{TakesHeard, RefusesHeard, CutsHeard, PacketOutcome}
+use Rattle.sd_receive.specs.Session.{TakesHeard, RefusesHeard, CutsHeard, SessionOutcome}
 use Rattle.sd_receive.specs.declared.session.Session.{Session}
 use Rattle.sd_receive.proofs.Listening.{took_nothing, dropped_heard, other_heard, section_taken}
 use Rattle.sd_receive.proofs.Listening.{bad_section, bad_part, still}
@@ -15,7 +15,7 @@ pub returns-in-Dropped-clause-value : goal.returns-in-Dropped-clause-value
 returns-in-Dropped-clause-value g c =
     let s = c.args.self.now in
     let card = card_fields_of c.args.card.now in
-    took_nothing (vessel g.K.Sink c.args.out.now)
+    took_nothing (sink_state_of g.K.Sink c.args.out.now)
     (TakesHeard true card c.args.tuning c.args.number (heard_as c.args.number c.args.packet.now c.args.heard)
     c.args.key s s) (subst (λ (h : Heard). TakesHeard true card c.args.tuning c.args.number h c.args.key s s [])
     (ap (heard_as c.args.number c.args.packet.now) (sym c.in-Dropped.is))
@@ -33,7 +33,7 @@ returns-in-Other-clause-value g c =
           c.hold.new.self;
       written = s.written;
     } in
-    took_nothing (vessel g.K.Sink c.args.out.now)
+    took_nothing (sink_state_of g.K.Sink c.args.out.now)
     (TakesHeard true card c.args.tuning c.args.number (heard_as c.args.number c.args.packet.now c.args.heard)
     c.args.key s t) (subst (λ (h : Heard). TakesHeard true card c.args.tuning c.args.number h c.args.key s t [])
     (ap (heard_as c.args.number c.args.packet.now) (sym c.in-Other.is))
@@ -52,7 +52,7 @@ returns-in-Entitles-clause-value g c =
           s.buffer;
       written = s.written;
     } in
-    took_nothing (vessel g.K.Sink c.args.out.now)
+    took_nothing (sink_state_of g.K.Sink c.args.out.now)
     (TakesHeard true card c.args.tuning c.args.number (heard_as c.args.number c.args.packet.now c.args.heard)
     c.args.key s t) (subst (λ (h : Heard). TakesHeard true card c.args.tuning c.args.number h c.args.key s t [])
     (ap (heard_as c.args.number c.args.packet.now) (sym c.in-Entitles.is))
@@ -63,10 +63,10 @@ pub returns-in-Controls-clause-value : goal.returns-in-Controls-clause-value
 returns-in-Controls-clause-value g c =
     let s = c.args.self.now in
     let card = card_fields_of c.args.card.now in
-    subst (λ (h : Heard). PacketOutcome (TakesHeard true card c.args.tuning c.args.number h c.args.key s)
+    subst (λ (h : Heard). SessionOutcome (TakesHeard true card c.args.tuning c.args.number h c.args.key s)
     (RefusesHeard c.args.strict card c.args.tuning c.args.number h s)
-    (CutsHeard c.args.strict card c.args.tuning c.args.number h c.args.key s) (vessel g.K.Sink c.args.out.now)
-    (vessel g.K.Sink c.control.new.out) c.control.new.self c.control.result)
+    (CutsHeard c.args.strict card c.args.tuning c.args.number h c.args.key s) (sink_state_of g.K.Sink c.args.out.now)
+    (sink_state_of g.K.Sink c.control.new.out) c.control.new.self c.control.result)
     (ap (heard_as c.args.number c.args.packet.now) (sym c.in-Controls.is)) c.control.ensures.value
 
 pub returns-in-BadEmm-clause-value : goal.returns-in-BadEmm-clause-value
@@ -74,7 +74,7 @@ returns-in-BadEmm-clause-value g c =
     let s = c.args.self.now in
     let card = card_fields_of c.args.card.now in
     let why = BadEmm c.args.number c.in-BadEmm.fault in
-    took_nothing (vessel g.K.Sink c.args.out.now)
+    took_nothing (sink_state_of g.K.Sink c.args.out.now)
     (RefusesHeard c.args.strict card c.args.tuning c.args.number (heard_as c.args.number c.args.packet.now c.args.heard) s why)
     (subst (λ (h : Heard). RefusesHeard c.args.strict card c.args.tuning c.args.number h s why [])
     (ap (heard_as c.args.number c.args.packet.now) (sym c.in-BadEmm.is))
@@ -85,7 +85,7 @@ returns-in-BadEcm-clause-value g c =
     let s = c.args.self.now in
     let card = card_fields_of c.args.card.now in
     let why = BadEcm c.args.number c.in-BadEcm.fault in
-    took_nothing (vessel g.K.Sink c.args.out.now)
+    took_nothing (sink_state_of g.K.Sink c.args.out.now)
     (RefusesHeard c.args.strict card c.args.tuning c.args.number (heard_as c.args.number c.args.packet.now c.args.heard) s why)
     (subst (λ (h : Heard). RefusesHeard c.args.strict card c.args.tuning c.args.number h s why [])
     (ap (heard_as c.args.number c.args.packet.now) (sym c.in-BadEcm.is))

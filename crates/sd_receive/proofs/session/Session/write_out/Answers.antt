@@ -2,7 +2,7 @@ use Rattle.std.proofs.Common.{◌≡◌, refl, ap, subst, arith, ℕ}
 use Rattle.std.specs.Prelude.{Err}
 use Rattle.sd_base.specs.Count.{with_added}
 use Rattle.sd_site_cards.specs.CardFields.{card_fields_of}
-use Rattle.sd_engine.specs.Stage.{vessel}
+use Rattle.sd_engine.specs.Stage.{sink_state_of}
 use Rattle.sd_receive.specs.Writing.{WriteOutcome}
 use Rattle.sd_receive.specs.declared.buffer.BufferFault.{BufferFault}
 use Rattle.sd_receive.specs.Buffered.{pair_wrote}
@@ -21,7 +21,7 @@ returns-in-Ok-open-clause-value g c =
     (pair_wrote s.assembler.last s.buffer head.since c.args.card.now.ca c.args.tuning.ecm
     s.assembler.coming.places.items)
     c.in-Ok.count
-    (vessel g.K.Sink c.args.out.now) (vessel g.K.Sink c.write.new.out) refl c.in-Ok.ensures.value
+    (sink_state_of g.K.Sink c.args.out.now) (sink_state_of g.K.Sink c.write.new.out) refl c.in-Ok.ensures.value
     (λ past part done. c.in-Ok-open.ensures.value c.args.number (card_fields_of c.args.card.now) past part done
     c.requires.word)
     (ap (λ (n : ℕ). counting c.open.new.self n) added)
@@ -34,7 +34,7 @@ returns-in-Err-clause-value g c =
     (pair_wrote s.assembler.last s.buffer head.since c.args.card.now.ca c.args.tuning.ecm
     s.assembler.coming.places.items)
     c.in-Err.fault
-    c.in-Ok.count (vessel g.K.Sink c.args.out.now) (vessel g.K.Sink c.write.new.out) refl c.in-Ok.ensures.value
+    c.in-Ok.count (sink_state_of g.K.Sink c.args.out.now) (sink_state_of g.K.Sink c.write.new.out) refl c.in-Ok.ensures.value
     (λ past part done. c.in-Err.ensures.value c.args.number (card_fields_of c.args.card.now) past part done
     c.requires.word)
 
@@ -46,10 +46,10 @@ returns-in-Err-Parity-clause-value g c =
     (pair_wrote s.assembler.last s.buffer head.since c.args.card.now.ca c.args.tuning.ecm
     s.assembler.coming.places.items)
     c.in-Err-Parity.held
-    (vessel g.K.Sink c.args.out.now) (vessel g.K.Sink c.write.new.out) refl
+    (sink_state_of g.K.Sink c.args.out.now) (sink_state_of g.K.Sink c.write.new.out) refl
     (subst (λ (f : BufferFault). WriteOutcome (pair_wrote s.assembler.last s.buffer head.since c.args.card.now.ca
     c.args.tuning.ecm s.assembler.coming.places.items)
-    (vessel g.K.Sink c.args.out.now) (vessel g.K.Sink c.write.new.out) (Err f)) c.in-Err-Parity.field-0-is
+    (sink_state_of g.K.Sink c.args.out.now) (sink_state_of g.K.Sink c.write.new.out) (Err f)) c.in-Err-Parity.field-0-is
     c.in-Err-Parity.ensures.value)
 
 pub returns-in-Err-Write-clause-value : goal.returns-in-Err-Write-clause-value
@@ -59,12 +59,12 @@ returns-in-Err-Write-clause-value g c =
     cut_message (card_fields_of c.args.card.now) c.args.tuning c.args.number head s c.open-in-Err-Write.new.self
     (pair_wrote s.assembler.last s.buffer head.since c.args.card.now.ca c.args.tuning.ecm
     s.assembler.coming.places.items)
-    c.open-in-Err-Write.result (vessel g.K.Sink c.args.out.now) (vessel g.K.Sink c.write.new.out) refl
+    c.open-in-Err-Write.result (sink_state_of g.K.Sink c.args.out.now) (sink_state_of g.K.Sink c.write.new.out) refl
     (λ past part done. c.open-in-Err-Write.ensures.value c.args.number (card_fields_of c.args.card.now) past part done
     c.requires.word)
     (subst (λ (f : BufferFault). WriteOutcome (pair_wrote s.assembler.last s.buffer head.since c.args.card.now.ca
     c.args.tuning.ecm s.assembler.coming.places.items)
-    (vessel g.K.Sink c.args.out.now) (vessel g.K.Sink c.write.new.out) (Err f)) c.in-Err-Write.field-0-is
+    (sink_state_of g.K.Sink c.args.out.now) (sink_state_of g.K.Sink c.write.new.out) (Err f)) c.in-Err-Write.field-0-is
     c.in-Err-Write.ensures.value)
 
 pub returns-in-Ok-open-clause-cause : goal.returns-in-Ok-open-clause-cause

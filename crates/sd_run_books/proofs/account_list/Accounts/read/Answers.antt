@@ -2,14 +2,14 @@ use Rattle.std.proofs.Common.{◌≡◌, ◌∙◌, inr}
 use Rattle.std.specs.Prelude.{◌⊎◌}
 use Rattle.std.proofs.lemmas.Result.{err_from_is_err_and}
 use Rattle.sd_run_books.specs.declared.account_fault.AccountFault.TheVariants.{NoMemory}
-use Rattle.sd_run_books.specs.Faults.{IsCauseOf}
-use Rattle.sd_run_books.specs.Line.{said_by}
+use Rattle.sd_run_books.specs.Faults.{IsAccountFaultOf}
+use Rattle.sd_run_books.specs.Line.{said_by_accounts}
 use Rattle.sd_run_books.proofs.Causes.{read_fault, read_same, read_sound, read_wanting}
 use Rattle.sd_run_books.proofs.account_list.Accounts.read.Goals as goal
 
 -- the lines and their end are good
 pub returns-clause-accounts : goal.returns-clause-accounts
-returns-clause-accounts c = c.in_ok-book.ensures.leaves c.args.h (said_by c.args.h c.args.bytes.now)
+returns-clause-accounts c = c.in_ok-book.ensures.leaves c.args.h (said_by_accounts c.args.h c.args.bytes.now)
     c.in_ok-register.ensures.kept
 
 pub returns-clause-value : goal.returns-clause-value
@@ -30,7 +30,7 @@ pub returns-in_err-register-clause-fault : goal.returns-in_err-register-clause-f
 returns-in_err-register-clause-fault c =
     let p = err_from_is_err_and c.from_residual.result c.from_residual.ensures.1 in
     let why : (c.in_err-register.field-0.0 ≡ NoMemory)
-    ⊎ IsCauseOf c.args.h (said_by c.args.h c.args.bytes.now) c.in_err-register.field-0.0 =
+    ⊎ IsAccountFaultOf c.args.h (said_by_accounts c.args.h c.args.bytes.now) c.in_err-register.field-0.0 =
     read_fault c.args.h c.args.bytes.now c.in_err-register.field-0.0 c.in_err-register.ensures.value in
     rw (p.1, p.2) why
 
@@ -45,7 +45,7 @@ pub returns-in_err-book-clause-fault : goal.returns-in_err-book-clause-fault
 returns-in_err-book-clause-fault c =
     let p = err_from_is_err_and c.from_residual-in_err-book.result c.from_residual-in_err-book.ensures.1 in
     let why : (c.in_err-book.field-0.0 ≡ NoMemory)
-    ⊎ IsCauseOf c.args.h (said_by c.args.h c.args.bytes.now) c.in_err-book.field-0.0 =
+    ⊎ IsAccountFaultOf c.args.h (said_by_accounts c.args.h c.args.bytes.now) c.in_err-book.field-0.0 =
     read_fault c.args.h c.args.bytes.now c.in_err-book.field-0.0 (inr (c.in_ok-register.ensures.value
     ∙ (rw c.in_ok-register.ensures.height at c.in_err-book.ensures.value))) in
     rw (p.1, p.2) why

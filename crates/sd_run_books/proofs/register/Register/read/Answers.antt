@@ -2,9 +2,9 @@ use Rattle.std.proofs.Common.{rules, ◌≡◌, inl, inr, Err, [], length, refl,
 use Rattle.std.specs.Prelude.{◌⊎◌}
 use Rattle.std.proofs.lemmas.Result.{err_from_is_err_and}
 use Rattle.sd_run_books.specs.declared.account_fault.AccountFault.TheVariants.{NoMemory}
-use Rattle.sd_run_books.specs.Judged.{book_of, judged}
+use Rattle.sd_run_books.specs.Judged.{accounts_book, account_commands}
 use Rattle.sd_run_books.specs.Kept.{leaf_named}
-use Rattle.sd_run_books.specs.Line.{said_by}
+use Rattle.sd_run_books.specs.Line.{said_by_accounts}
 use Rattle.sd_run_books.proofs.Reading.{read_all, read_more, read_refused, ends_judged}
 use Rattle.sd_run_books.proofs.register.Register.read.Goals as goal
 
@@ -18,7 +18,7 @@ loop-line-init c =
         all = refl;
         count = ap length (sym none);
         kept = c.in_ok-new-2.ensures.kept;
-        same = ap (λ commands. judged c.args.h [] commands (said_by c.args.h c.args.bytes.now)) (sym none);
+        same = ap (λ commands. account_commands c.args.h [] commands (said_by_accounts c.args.h c.args.bytes.now)) (sym none);
       };
     }
 
@@ -31,7 +31,7 @@ pub returns-in_err-take-clause-value : goal.returns-in_err-take-clause-value
 returns-in_err-take-clause-value c =
     let read = c.loop-line.invariant.read in
     let p = err_from_is_err_and c.from_residual-in_err-take.result c.from_residual-in_err-take.ensures.1 in
-    let why : (c.in_err-take.field-0.0 ≡ NoMemory) ⊎ (book_of c.args.h c.args.bytes.now ≡ Err c.in_err-take.field-0.0) =
+    let why : (c.in_err-take.field-0.0 ≡ NoMemory) ⊎ (accounts_book c.args.h c.args.bytes.now ≡ Err c.in_err-take.field-0.0) =
     elim (c.in_err-take.ensures.value read.before read.kept read.count) [
       | inl none ↦ inl none
       | inr refused ↦ inr (read_refused c.args.h c.args.bytes.now c.loop-line.rest.now c.in-Some.line.now

@@ -1,7 +1,7 @@
 use Rattle.std.proofs.Common.{◌∙◌, Bool, List, sym, subst, arith}
 use Rattle.sd_packet.proofs.Packets.{start_within}
 use Rattle.sd_run_streams.specs.Inspected.{watched_on}
-use Rattle.sd_run_streams.specs.Watching.{naming, IsLearned}
+use Rattle.sd_run_streams.specs.Watching.{naming, AreSectionsLearned}
 use Rattle.sd_run_streams.proofs.After.{unwatched_after, unwatched_lines, watched_after, watched_lines, fed_is}
 use Rattle.sd_run_streams.proofs.After.{fed_after}
 use Rattle.sd_run_streams.proofs.assemblies.Assemblies.take.Goals as goal
@@ -53,5 +53,5 @@ returns-clause-after c = λ before are.
     c.feed.new.self c.show.new.assembler pid c.from.result c.pid-pid.ensures.value c.from.ensures c.pid-pid.ensures.fits
     (omega (arith, self.places, self.assemblers.ok.0)) c.in_ok-assembler.ensures.others c.in_ok-show.ensures.lent
     (sym c.has.ensures ∙ c.if-not-has.false) are fed
-    (subst (λ (m : List Bool). IsLearned (naming pid c.feed.new.self.waiting) m c.show.new.watched.marks.items)
+    (subst (λ (m : List Bool). AreSectionsLearned (naming pid c.feed.new.self.waiting) m c.show.new.watched.marks.items)
     c.in_ok-assembler.ensures.watched c.in_ok-show.ensures.learned)

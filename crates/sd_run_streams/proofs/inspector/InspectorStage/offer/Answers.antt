@@ -1,11 +1,11 @@
 use Rattle.std.proofs.Common.{refl, inl, ◌∷◌}
-use Rattle.sd_engine.specs.Stage.{vessel}
+use Rattle.sd_engine.specs.Stage.{sink_state_of}
 use Rattle.sd_engine.specs.declared.stage.StageFault.TheVariants.{Write, Refused}
 use Rattle.sd_engine.proofs.Answering.{ok_is_no_err, refusal_is_no_write, write_is_no_refusal, refusal_is_calm}
 use Rattle.sd_engine.proofs.Answering.{written_is_calm, failed_is_counted}
 use Rattle.sd_engine.proofs.Chains.{grew_none}
 use Rattle.sd_engine.proofs.Vessels.{cut_short, too_short}
-use Rattle.sd_run_streams.specs.InspectorStaged.{seen}
+use Rattle.sd_run_streams.specs.InspectorStaged.{inspector_state}
 use Rattle.sd_run_streams.proofs.Answering.{none_kept, true_is_no_false, none_counted}
 use Rattle.sd_run_streams.proofs.Staging.{idle_after, inspects}
 use Rattle.sd_run_streams.proofs.inspector.InspectorStage.offer.Goals as goal
@@ -15,7 +15,7 @@ pub returns-then-self : goal.returns-then-self
 returns-then-self g c = record {
   value = tt;
   ok = tt;
-  fault = λ fault same. grew_none _ (vessel g.K.Sink c.args.out.now) c.args.steps.now
+  fault = λ fault same. grew_none _ (sink_state_of g.K.Sink c.args.out.now) c.args.steps.now
       (record { nothing = refl; kept = c.if-self.true; no_steps = refl });
   keeps = λ fault same. (c.requires.live, rw c.if-self.true refl);
   again = λ fault kept. (refl, refl, refl);
@@ -34,7 +34,7 @@ pub returns-in-Err : goal.returns-in-Err
 returns-in-Err g c = record {
   value = tt;
   ok = tt;
-  fault = λ fault same. grew_none _ (vessel g.K.Sink c.args.out.now) c.args.steps.now
+  fault = λ fault same. grew_none _ (sink_state_of g.K.Sink c.args.out.now) c.args.steps.now
       (record { nothing = refl; kept = refl; no_steps = refl });
   keeps = λ fault same. (λ calm. true_is_no_false calm, refl);
   again = λ fault kept. (refl, refl, refl);
@@ -48,7 +48,7 @@ returns-in-Ok g c = record {
   value = record {
     bytes = c.as_bytes.result.now;
     steps = 0;
-    says = inspects (seen c.args.self.now) (seen (record {
+    says = inspects (inspector_state c.args.self.now) (inspector_state (record {
       alloc = c.args.self.now.alloc;
       assemblies = c.take.new.self;
       number = c.saturating_add-self.result;
@@ -77,7 +77,7 @@ returns g c = record {
   fault = λ fault same. write_is_no_refusal fault same;
   keeps = λ fault same. write_is_no_refusal fault same;
   again = λ fault kept. none_kept fault (rw c.if-self.false at kept);
-  prefix = λ is. cut_short _ (vessel g.K.Sink c.args.out.now) (vessel g.K.Sink c.write_all.new.sink)
+  prefix = λ is. cut_short _ (sink_state_of g.K.Sink c.args.out.now) (sink_state_of g.K.Sink c.write_all.new.sink)
       c.as_bytes.result.now (
         0,
         none_counted c.args.steps.now,
@@ -88,7 +88,7 @@ returns g c = record {
             number = c.saturating_add-self.result;
             out_of_memory = c.args.self.now.out_of_memory;
           },
-          inspects (seen c.args.self.now) _ c.args.packet.now _ _ _ c.as_bytes.ensures.value
+          inspects (inspector_state c.args.self.now) _ c.args.packet.now _ _ _ c.as_bytes.ensures.value
               c.new-text.ensures.bytes c.in_default.ensures.lines c.in_default.ensures.after
               c.saturating_add-self.ensures,
         ),

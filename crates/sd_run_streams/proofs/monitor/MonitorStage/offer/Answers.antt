@@ -1,11 +1,11 @@
 use Rattle.std.proofs.Common.{refl, inl, ◌∙◌}
-use Rattle.sd_engine.specs.Stage.{vessel}
+use Rattle.sd_engine.specs.Stage.{sink_state_of}
 use Rattle.sd_engine.specs.declared.stage.StageFault.TheVariants.{Write, Refused}
 use Rattle.sd_engine.proofs.Answering.{ok_is_no_err, refusal_is_no_write, write_is_no_refusal, refusal_is_calm}
 use Rattle.sd_engine.proofs.Answering.{written_is_calm, failed_is_counted}
 use Rattle.sd_engine.proofs.Chains.{grew_none}
 use Rattle.sd_engine.proofs.Vessels.{cut_short, too_short}
-use Rattle.sd_run_streams.specs.MonitorStaged.{RefusesMessage}
+use Rattle.sd_run_streams.specs.MonitorStaged.{RefusesMonitored}
 use Rattle.sd_run_streams.proofs.Answering.{none_kept, none_counted}
 use Rattle.sd_run_streams.proofs.monitor.MonitorStage.offer.Goals as goal
 
@@ -14,7 +14,7 @@ pub returns-then-self : goal.returns-then-self
 returns-then-self g c = record {
   value = tt;
   ok = tt;
-  fault = λ fault same. grew_none (RefusesMessage c.args.self.now) (vessel g.K.Sink c.args.out.now) c.args.steps.now
+  fault = λ fault same. grew_none (RefusesMonitored c.args.self.now) (sink_state_of g.K.Sink c.args.out.now) c.args.steps.now
       (record { nothing = refl; kept = c.if-self.true; no_steps = refl });
   keeps = λ fault same. (tt, rw c.if-self.true refl);
   again = λ fault kept. (refl, refl, refl);
@@ -27,7 +27,7 @@ pub returns-in_default : goal.returns-in_default
 returns-in_default g c = record {
   value = tt;
   ok = tt;
-  fault = λ fault same. grew_none _ (vessel g.K.Sink c.args.out.now) c.args.steps.now
+  fault = λ fault same. grew_none _ (sink_state_of g.K.Sink c.args.out.now) c.args.steps.now
       (record { nothing = refl; kept = refl; no_steps = refl });
   keeps = λ fault same. (tt, refl);
   again = λ fault kept. (refl, refl, refl);
@@ -68,7 +68,7 @@ returns g c = record {
   fault = λ fault same. write_is_no_refusal fault same;
   keeps = λ fault same. write_is_no_refusal fault same;
   again = λ fault kept. none_kept fault (rw c.if-self.false at kept);
-  prefix = λ is. cut_short _ (vessel g.K.Sink c.args.out.now) (vessel g.K.Sink c.write_all.new.sink)
+  prefix = λ is. cut_short _ (sink_state_of g.K.Sink c.args.out.now) (sink_state_of g.K.Sink c.write_all.new.sink)
       c.as_bytes.result.now (
         0,
         none_counted c.args.steps.now,

@@ -2,7 +2,7 @@ use Rattle.std.proofs.Common.{◌≡◌, ◌∙◌, sym, arith}
 use Rattle.std.specs.Prelude.{true}
 use Rattle.sd_tree_keys.specs.Leaves.{is_member}
 use Rattle.sd_tree_keys.specs.SetNames.{IsPair}
-use Rattle.sd_tree_keys.specs.Names.{given}
+use Rattle.sd_tree_keys.specs.Names.{names_of_receiver}
 use Rattle.sd_site_cards.proofs.SecretKeys.{derived_is_held, first_read, first_is_held}
 use Rattle.sd_site_cards.specs.CardFields.{card_fields_of}
 use Rattle.sd_site_cards.proofs.Keys.{given_of_leaf, own_gives_key}
@@ -23,7 +23,7 @@ returns-in-Diff-clause-value g c =
     let card = c.args.self.now in
     let pair : IsPair card.height c.in-Diff.i c.in-Diff.j = rw c.in-Diff.is at c.requires in
     rw c.in-Diff.is (derived_is_held card.height card.leaf c.in-Diff.i c.in-Diff.j
-    (given card.height card.leaf) card.secrets.items c.pair_key.result _
+    (names_of_receiver card.height card.leaf) card.secrets.items c.pair_key.result _
     (given_of_leaf card.height card.leaf card.height_in.1 card.leaf_in) pair c.pair_key.ensures.sound)
 
 -- the key of the whole set
@@ -31,7 +31,7 @@ pub returns-in-Whole-clause-value : goal.returns-in-Whole-clause-value
 returns-in-Whole-clause-value g c =
     let card = c.args.self.now in
     let first = first_read card.secrets.items c.index.result.now (omega (arith, card.count)) c.index.ensures in
-    rw c.in-Whole.is (first_is_held (given card.height card.leaf) card.secrets.items c.index.result.now first)
+    rw c.in-Whole.is (first_is_held (names_of_receiver card.height card.leaf) card.secrets.items c.index.result.now first)
 
 -- it is the first secret, and no step is taken
 pub returns-in-Whole-clause-sound : goal.returns-in-Whole-clause-sound

@@ -3,7 +3,7 @@ use Rattle.std.specs.Prelude.{slice_get, Some}
 use Rattle.std.proofs.lemmas.Option.{slice_get_read}
 use Rattle.sd_tree_keys.specs.Node.{depth}
 use Rattle.sd_tree_keys.proofs.Members.{member_of_pair}
-use Rattle.sd_tree_keys.specs.Names.{given}
+use Rattle.sd_tree_keys.specs.Names.{names_of_receiver}
 use Rattle.sd_site_cards.proofs.SecretKeys.{hangs_below}
 use Rattle.sd_site_cards.proofs.Keys.{place_of, pair_held}
 use Rattle.sd_site_cards.proofs.card.Card.pair_key.Goals as goal
@@ -30,6 +30,6 @@ returns-clause-sound g c =
     let held : slice_get card.secrets.items c.place.result ≡ Some c.index.result.now =
     slice_get_read card.secrets.items _ c.place.result c.index.result.now (sym card.count) c.place.ensures.fits
     c.index.ensures in
-    c.key_below.ensures.sound (given card.height card.leaf) card.secrets.items c.args.i
+    c.key_below.ensures.sound (names_of_receiver card.height card.leaf) card.secrets.items c.args.i
     (pair_held card.height card.leaf c.args.i c.args.j w c.place.result card.secrets.items c.index.result.now
     card.height_in.1 card.leaf_in c.requires.pair c.requires.member c.hanging_above-held.ensures place held)

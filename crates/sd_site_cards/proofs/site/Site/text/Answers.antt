@@ -1,9 +1,9 @@
-use Rattle.sd_site_cards.specs.SiteFields.{fields_of}
+use Rattle.sd_site_cards.specs.SiteFields.{site_fields_of}
 use Rattle.sd_site_cards.proofs.SiteText.{line_by_line}
 use Rattle.sd_site_cards.proofs.site.Site.text.Goals as goal
 
 pub returns : goal.returns
-returns c = line_by_line (fields_of c.args.self.now) c.args.book.now
+returns c = line_by_line (site_fields_of c.args.self.now) c.args.book.now
     c.new-text.ensures.bytes
     (rw (c.from.ensures, c.get.ensures.value) at c.in_ok-push_number.ensures)
     c.in_ok-push_bytes.ensures

@@ -2,8 +2,8 @@ use Rattle.std.proofs.Common.{◌≡◌, ◌+◌, ◌≤◌, ℕ, Result, [], �
 use Rattle.std.specs.Prelude.{Ok, Err, Bool, if◌then◌else◌}
 use Rattle.std.proofs.lemmas.Result.{err_from_is_err_and}
 use Rattle.sd_base.specs.Count.{IsCaused}
-use Rattle.sd_engine.specs.Stage.{vessel}
-use Rattle.sd_spec.specs.Confirmed.{judged}
+use Rattle.sd_engine.specs.Stage.{sink_state_of}
+use Rattle.sd_spec.specs.Confirmed.{judged_packet}
 use Rattle.sd_receive.specs.Writing.{segment_in}
 use Rattle.sd_receive.specs.declared.buffer.BufferFault.{BufferFault}
 use Rattle.sd_receive.specs.declared.buffer.BufferFault.TheVariants.{Parity, Write}
@@ -51,7 +51,7 @@ none_more count i few = omega arith
 
 pub loop-held-init : goal.loop-held-init
 loop-held-init g c = record {
-  written = written_none c.args.self.now (vessel g.K.Sink c.args.out.now);
+  written = written_none c.args.self.now (sink_state_of g.K.Sink c.args.out.now);
   few = omega arith;
   calm = refl;
 }
@@ -72,8 +72,8 @@ returns-in_err-written-clause-value g c =
     let own = own_here s k h within c.requires.ready.kept.own at in
     let told = c.in_err-written.ensures (before_in s k) own in
     let p = err_from_is_err_and c.from_residual.result c.from_residual.ensures.1 in
-    rw (p.1, p.2) (rw told.0 (written_refused s k h.number h (vessel g.K.Sink c.args.out.now)
-    (vessel g.K.Sink c.loop-held.out) c.loop-held.count
+    rw (p.1, p.2) (rw told.0 (written_refused s k h.number h (sink_state_of g.K.Sink c.args.out.now)
+    (sink_state_of g.K.Sink c.loop-held.out) c.loop-held.count
     within c.loop-held.invariant.written (at_place s k h (Err h.number) at told.1)))
 
 pub returns-in_err-written-clause-cause : goal.returns-in_err-written-clause-cause
@@ -98,12 +98,12 @@ returns-in_err-put-clause-value g c =
     let at = rw c.deref-held-items.ensures.value at c.held-item.is in
     let own = own_here s k h within c.requires.ready.kept.own at in
     let told = c.in_ok-written.ensures (before_in s k) own in
-    let close : judged (segment_in s) (before_in s k) (h.number, h.packet) ≡ Ok (c.judge.new.packet ∷ []) =
+    let close : judged_packet (segment_in s) (before_in s k) (h.number, h.packet) ≡ Ok (c.judge.new.packet ∷ []) =
     told ∙ ap (λ (b : Bool). Ok (if b then c.judge.new.packet ∷ [] else [])) c.if-written.true in
     let p = err_from_is_err_and c.from_residual-in_err-put.result c.from_residual-in_err-put.ensures.1 in
     rw (p.1, p.2) (rw c.in_err-put.ensures.fault (written_short s k h c.judge.new.packet
-    (vessel g.K.Sink c.args.out.now)
-    (vessel g.K.Sink c.loop-held.out) (vessel g.K.Sink c.put.new.out) c.loop-held.count
+    (sink_state_of g.K.Sink c.args.out.now)
+    (sink_state_of g.K.Sink c.loop-held.out) (sink_state_of g.K.Sink c.put.new.out) c.loop-held.count
     within c.loop-held.invariant.written (at_place s k h (Ok (c.judge.new.packet ∷ [])) at close)
     c.in_err-put.ensures.prefix))
 
@@ -118,21 +118,21 @@ loop-held-preserved g c =
     let told = c.in_ok-written.ensures (before_in s k) own in
     elim c.if-written.branch [
       | then-written+in_ok-put w ↦
-          let close : judged (segment_in s) (before_in s k) (h.number, h.packet) ≡ Ok (c.judge.new.packet ∷ []) =
+          let close : judged_packet (segment_in s) (before_in s k) (h.number, h.packet) ≡ Ok (c.judge.new.packet ∷ []) =
           told ∙ ap (λ (b : Bool). Ok (if b then c.judge.new.packet ∷ [] else [])) w.if-written.true in
           rw w.out-is (rw w.count-is (record {
-            written = written_more s k h c.judge.new.packet (vessel g.K.Sink c.args.out.now)
-                (vessel g.K.Sink c.loop-held.out) (vessel g.K.Sink w.put.new.out) c.loop-held.count
+            written = written_more s k h c.judge.new.packet (sink_state_of g.K.Sink c.args.out.now)
+                (sink_state_of g.K.Sink c.loop-held.out) (sink_state_of g.K.Sink w.put.new.out) c.loop-held.count
                 within c.loop-held.invariant.written (at_place s k h (Ok (c.judge.new.packet ∷ [])) at close)
                 w.in_ok-put.ensures.ok;
             few = one_more c.loop-held.count k c.loop-held.invariant.few;
             calm = w.in_ok-put.ensures.cause.calm (λ e. put_is_no_write tt e) ∙ c.loop-held.invariant.calm;
           }))
       | else-written w ↦
-          let far : judged (segment_in s) (before_in s k) (h.number, h.packet) ≡ Ok [] =
+          let far : judged_packet (segment_in s) (before_in s k) (h.number, h.packet) ≡ Ok [] =
           told ∙ ap (λ (b : Bool). Ok (if b then c.judge.new.packet ∷ [] else [])) w.if-written.false in
           rw w.out-is (rw w.count-is (record {
-            written = written_still s k h (vessel g.K.Sink c.args.out.now) (vessel g.K.Sink c.loop-held.out)
+            written = written_still s k h (sink_state_of g.K.Sink c.args.out.now) (sink_state_of g.K.Sink c.loop-held.out)
                 c.loop-held.count
                 within c.loop-held.invariant.written (at_place s k h (Ok []) at far);
             few = none_more c.loop-held.count k c.loop-held.invariant.few;
@@ -142,8 +142,8 @@ loop-held-preserved g c =
 
 pub returns-clause-value : goal.returns-clause-value
 returns-clause-value g c =
-    written_all c.args.self.now c.loop-held.held-index (vessel g.K.Sink c.args.out.now)
-    (vessel g.K.Sink c.loop-held.out) c.loop-held.count
+    written_all c.args.self.now c.loop-held.held-index (sink_state_of g.K.Sink c.args.out.now)
+    (sink_state_of g.K.Sink c.loop-held.out) c.loop-held.count
     (rw c.deref-held-items.ensures.value at c.loop-held-test.false) c.loop-held.invariant.written
 
 pub returns-clause-cause : goal.returns-clause-cause

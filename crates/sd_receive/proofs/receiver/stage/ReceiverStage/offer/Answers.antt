@@ -1,7 +1,7 @@
 use Rattle.std.proofs.Common.{◌∙◌, refl, ap}
 use Rattle.std.proofs.lemmas.Result.{on_ok_weaker}
 use Rattle.std.specs.Prelude.{Some}
-use Rattle.sd_engine.specs.Stage.{vessel}
+use Rattle.sd_engine.specs.Stage.{sink_state_of}
 use Rattle.sd_receive.specs.Receiving.{receiver_refuses}
 use Rattle.sd_engine.proofs.Answering.{err_is_no_ok, refusal_is_no_write, same_refusal, kept_is_answered, none_is_kept}
 use Rattle.sd_engine.proofs.Answering.{refusal_is_calm}
@@ -10,7 +10,7 @@ use Rattle.sd_receive.proofs.receiver.stage.ReceiverStage.offer.Goals as goal
 
 pub returns-in-Some-clause-fault : goal.returns-in-Some-clause-fault
 returns-in-Some-clause-fault g c = λ fault same.
-    grew_none (vessel g.K.Sink c.args.out.now) c.args.steps.now
+    grew_none (sink_state_of g.K.Sink c.args.out.now) c.args.steps.now
     (receiver_refuses c.args.self.now (Some c.args.packet.now) fault c.args.self.now)
     (refusing c.args.self.now c.args.packet.now c.in-Some.fault fault c.in-Some.is)
 
