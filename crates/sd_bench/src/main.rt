@@ -9,8 +9,8 @@ mod emms;
 mod traces;
 
 use sd_base::fields;
-use sd_engine::sample;
 use sd_cipher::{Parity, scramble};
+use sd_engine::sample;
 use sd_packet::{Packet, is_positional};
 use sd_ports::MemSink;
 use std::alloc::{AllocError, Global};

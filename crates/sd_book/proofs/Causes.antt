@@ -14,10 +14,12 @@ use Rattle.sd_book.specs.declared.fault.BookFault.TheVariants.{Line, Leaf, Limit
 use Rattle.sd_book.specs.declared.fault.BookLimit.{BookLimit}
 use Rattle.sd_book.specs.declared.fault.BookLimit.TheVariants.{Lines, Periods, Revoked}
 use Rattle.sd_book.specs.Commands.{is_within, last_period, revoked_after}
-use Rattle.sd_book.specs.Faults.{HasCommandRoom, IsCrowded, BreaksLimit, IsBrokenLimit, FaultAfter, IsBookFaultOf, IsFirstLimit}
+use Rattle.sd_book.specs.Faults.{HasCommandRoom, IsCrowded, BreaksLimit, IsBrokenLimit, FaultAfter, IsBookFaultOf}
+use Rattle.sd_book.specs.Faults.{IsFirstLimit}
 use Rattle.sd_book.specs.Limits.{IsWithinLimits, IsDraft, most_commands, most_periods}
 use Rattle.sd_book.specs.Value.{BookValue}
-use Rattle.sd_book.specs.Text.{SpellsBook, in_tree, period_end_check, period_fits, command_fits, book_commands, said_by_book, book_of}
+use Rattle.sd_book.specs.Text.{SpellsBook, in_tree, period_end_check, period_fits, command_fits, book_commands}
+use Rattle.sd_book.specs.Text.{said_by_book, book_of}
 use Rattle.sd_book.proofs.Judged.{draft_again, said_again, command_again, within_is_draft, book_again}
 
 -- by the test of the room
@@ -31,7 +33,8 @@ guard_err true d fault r e = inl (refl, cc)
 guard_err false d fault r e = inr (refl, e)
 
 -- a period that may not end
-crowded : {A : Type 0} (d : ℕ) (before : List Command) (value : A) (q : ℕ) → IsCrowded d before q → period_end_check d before value
+crowded : {A : Type 0} (d : ℕ) (before : List Command) (value : A) (q : ℕ) → IsCrowded d before q →
+    period_end_check d before value
     ≡ Err (Limit (Revoked q))
 crowded d before value q h =
     let many : nat_lt most_revoked (length (revoked_after d before)) ≡ true = grind (arith, common_steps, h.1) in
@@ -68,16 +71,19 @@ fault_judged d before rest NoMemory h = absurd h
 -- the fault of lines is what is judged of them
 pub cause_judged : (d : ℕ) (said : List (Option Command)) (fault : BookFault) → IsBookFaultOf d said fault →
     book_commands d [] said ≡ Err fault
-cause_judged d said fault h = ap (book_commands d []) h.2 ∙ draft_again d [] h.0 h.1 h.3 ∙ fault_judged d h.0 h.1 fault h.4
+cause_judged d said fault h = ap (book_commands d []) h.2 ∙ draft_again d [] h.0 h.1 h.3 ∙ fault_judged d h.0 h.1 fault
+    h.4
 
 -- and of a book file
-pub cause_is_fault : (d : ℕ) (bytes : List ℕ) (fault : BookFault) → IsBookFaultOf d (said_by_book bytes) fault → book_of d bytes
+pub cause_is_fault : (d : ℕ) (bytes : List ℕ) (fault : BookFault) → IsBookFaultOf d (said_by_book bytes) fault →
+    book_of d bytes
     ≡ Err fault
 unfolding book_of
 cause_is_fault d bytes fault h = cause_judged d (said_by_book bytes) fault h
 
 -- lines have one fault
-pub one_cause : (d : ℕ) (said : List (Option Command)) (a b : BookFault) → IsBookFaultOf d said a → IsBookFaultOf d said b →
+pub one_cause : (d : ℕ) (said : List (Option Command)) (a b : BookFault) → IsBookFaultOf d said a →
+    IsBookFaultOf d said b →
     a ≡ b
 one_cause d said a b x y =
     let same : Err a ≡ Err b = sym (cause_judged d said a x) ∙ cause_judged d said b y in
@@ -113,7 +119,8 @@ period_err : (d : ℕ) (before : List Command) (others : List (Option Command)) 
     HasCommandRoom before
     → period_fits d before Period ≡ Err fault → IsBrokenLimit d before (Some Period ∷ others) fault
 period_err d before others fault all room e =
-    elim (guard_err (nat_le most_periods (last_period before)) (Limit Periods) fault (period_end_check d before Period) e) [
+    elim (guard_err (nat_le most_periods (last_period before)) (Limit Periods) fault (period_end_check d before Period)
+    e) [
       | inl last ↦ (Periods, sym last.1, (room, (others, refl), grind (arith, common_steps, last.0, all.periods)))
       | inr other ↦
           let few : last_period before < most_periods = grind (arith, common_steps, other.0) in
@@ -148,7 +155,8 @@ command_allowed d before command fault all e =
     absurd cc
 
 -- commands that may not end break a limit
-pub end_broken : (d : ℕ) (before : List Command) (fault : BookFault) → period_end_check {A = Unit {0}} d before tt ≡ Err fault →
+pub end_broken : (d : ℕ) (before : List Command) (fault : BookFault) → period_end_check {A = Unit {0}} d before tt
+    ≡ Err fault →
     IsBrokenLimit d before [] fault
 end_broken d before fault e =
     let end = end_err d before tt fault e in
@@ -186,7 +194,8 @@ broken_cause d said before rest fault same all broken =
 -- the fault of lines, at a command that may not come
 pub push_cause : (d : ℕ) (said : List (Option Command)) (before : List Command) (command : Command)
     (others : List (Option Command)) (fault : BookFault)
-    → said ≡ map Some before ++ Some command ∷ others → IsDraft d before → IsBrokenLimit d before (Some command ∷ []) fault →
+    → said ≡ map Some before ++ Some command ∷ others → IsDraft d before →
+    IsBrokenLimit d before (Some command ∷ []) fault →
     IsBookFaultOf d said fault
 push_cause d said before command others fault same all broken =
     broken_cause d said before (Some command ∷ others) fault same all (longer_rest d before command others fault broken)
@@ -250,7 +259,8 @@ end_allowed d commands fault all e =
 pub push_faulty : (d h : ℕ) (said : List (Option Command)) (before : List Command) (command : Command)
     (others : List (Option Command)) (fault : BookFault) →
     h ≡ d → said ≡ map Some before ++ Some command ∷ others → IsDraft d before →
-    (fault ≡ NoMemory) ⊎ IsBrokenLimit h before (Some command ∷ []) fault → (fault ≡ NoMemory) ⊎ IsBookFaultOf d said fault
+    (fault ≡ NoMemory) ⊎ IsBrokenLimit h before (Some command ∷ []) fault →
+    (fault ≡ NoMemory) ⊎ IsBookFaultOf d said fault
 push_faulty d h said before command others fault height same all (inl none) = inl none
 push_faulty d h said before command others fault height same all (inr broken) =
     inr (push_cause d said before command others fault same all
@@ -354,7 +364,8 @@ none_faulty d bytes commands fault (inr cause) spelled all =
     cause))
 
 -- the answer to a text that has a fault
-pub faulty_is : (d : ℕ) (bytes : List ℕ) (fault : BookFault) → (fault ≡ NoMemory) ⊎ IsBookFaultOf d (said_by_book bytes) fault
+pub faulty_is : (d : ℕ) (bytes : List ℕ) (fault : BookFault) →
+    (fault ≡ NoMemory) ⊎ IsBookFaultOf d (said_by_book bytes) fault
     → (fault ≡ NoMemory) ⊎ (book_of d bytes ≡ Err fault)
 faulty_is d bytes fault (inl same) = inl same
 faulty_is d bytes fault (inr cause) = inr (cause_is_fault d bytes fault cause)

@@ -15,7 +15,8 @@ use Rattle.sd_book.specs.declared.fault.BookLimit.TheVariants.{Lines, Periods, R
 use Rattle.sd_tree_keys.specs.Limits.{most_revoked}
 use Rattle.sd_book.specs.Commands.{is_within, is_period, last_period, revoked, revoked_after}
 use Rattle.sd_book.specs.Limits.{IsWithinLimits, IsDraft, most_commands, most_periods}
-use Rattle.sd_book.specs.Text.{SpellsBook, ◌>>=◌, in_tree, period_end_check, period_fits, command_fits, judged_book_line, book_commands}
+use Rattle.sd_book.specs.Text.{SpellsBook, ◌>>=◌, in_tree, period_end_check, period_fits, command_fits}
+use Rattle.sd_book.specs.Text.{judged_book_line, book_commands}
 use Rattle.sd_book.specs.Text.{book_of}
 use Rattle.sd_book.proofs.Tallies.{period_more, tally_of_none}
 use Rattle.sd_book.proofs.Cuts.{period_none, period_period, period_append, until_after, until_period, until_end}
@@ -54,7 +55,8 @@ line_command d before o command e =
     tree_ok d (length before + 1) o command g.1
 
 -- what the commands end with is few
-pub ended_ok : {A : Type 0} (d : ℕ) (commands : List Command) (value got : A) → period_end_check d commands value ≡ Ok got →
+pub ended_ok : {A : Type 0} (d : ℕ) (commands : List Command) (value got : A) → period_end_check d commands value
+    ≡ Ok got →
     (length (revoked_after d commands) ≤ most_revoked) × (value ≡ got)
 ended_ok d commands value got e =
     let g = guard_ok (nat_lt most_revoked (length (revoked_after d commands))) (Limit (Revoked (last_period commands)))
@@ -68,7 +70,8 @@ fits_ok : (d : ℕ) (before : List Command) (command got : Command) → period_f
 fits_ok d before (Subscribe u) got e = (cc, λ h. absurd cc, λ h. absurd cc)
 fits_ok d before (Revoke u) got e = (cc, λ h. absurd cc, λ h. absurd cc)
 fits_ok d before Period got e =
-    let g = guard_ok (nat_le most_periods (last_period before)) (Limit Periods) (period_end_check d before Period) got e in
+    let g = guard_ok (nat_le most_periods (last_period before)) (Limit Periods) (period_end_check d before Period) got
+    e in
     let few = ended_ok d before Period got g.1 in
     (few.1, λ h. grind (arith, common_steps, g.0), λ h. few.0)
 
@@ -242,13 +245,15 @@ pub draft_again : (d : ℕ) (before new : List Command) (rest : List (Option Com
 draft_again d before [] rest all = ap (λ (cs : List Command). book_commands d cs rest) (sym (append-nil before))
 draft_again d before (command ∷ new) rest all =
     let same : (before ++ command ∷ []) ++ new ≡ before ++ command ∷ new = append_assoc before (command ∷ []) new in
-    let others : book_commands d (before ++ command ∷ []) (map Some new ++ rest) ≡ book_commands d ((before ++ command ∷ []) ++ new)
+    let others : book_commands d (before ++ command ∷ []) (map Some new ++ rest) ≡ book_commands d
+    ((before ++ command ∷ []) ++ new)
     rest = draft_again d (before ++ command ∷ []) new rest
     (subst (λ (cs : List Command). IsDraft d cs) (sym same) all) in
     rw (line_again d before command new all) (others ∙ ap (λ (cs : List Command). book_commands d cs rest) same)
 
 -- commands that end within the limits
-pub end_again : (d : ℕ) (commands : List Command) → IsWithinLimits d commands → period_end_check d commands commands ≡ Ok commands
+pub end_again : (d : ℕ) (commands : List Command) → IsWithinLimits d commands → period_end_check d commands commands
+    ≡ Ok commands
 end_again d commands all =
     let few : length (revoked_after d commands)
     ≤ most_revoked = rw (until_end (last_period commands) commands (omega arith)) at

@@ -79,10 +79,12 @@ pub judged_again : (d : ℕ) (commands : List Command) → d ≤ 20 → All (λ 
     → book_of d (text_of_book commands) ≡ book_commands d [] (map Some commands)
 unfolding book_of
 judged_again d commands small leaves =
-    ap (book_commands d []) (ap (map command_of) (lines_written d commands small leaves) ∙ spelled d commands small leaves)
+    ap (book_commands d []) (ap (map command_of) (lines_written d commands small leaves)
+    ∙ spelled d commands small leaves)
 
 -- the text of commands within the limits is read as these commands
-pub read_again : (d : ℕ) (commands : List Command) → d ≤ 20 → IsWithinLimits d commands → book_of d (text_of_book commands)
+pub read_again : (d : ℕ) (commands : List Command) → d ≤ 20 → IsWithinLimits d commands →
+    book_of d (text_of_book commands)
     ≡ Ok commands
 read_again d commands small all =
     book_again d (text_of_book commands) commands (spelled_again d commands small all.leaves) all

@@ -30,7 +30,8 @@ PeriodEnds before rest = (rest ≡ [])
 -- the limit that is broken after these commands, where the rest of the lines says this
 abbrev pub BreaksLimit : ℕ → List Command → List (Option Command) → BookLimit → Type 0
 BreaksLimit d before rest Lines = (length before ≡ most_commands) × (said : Option Command) × NextSays said rest
-BreaksLimit d before rest Periods = HasCommandRoom before × NextSays (Some Period) rest × (last_period before ≡ most_periods)
+BreaksLimit d before rest Periods = HasCommandRoom before × NextSays (Some Period) rest ×
+    (last_period before ≡ most_periods)
 BreaksLimit d before rest (Revoked q) = PeriodEnds before rest × IsCrowded d before q
 
 -- the fault is the limit that is broken there

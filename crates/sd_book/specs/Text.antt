@@ -73,7 +73,8 @@ judged_book_line d before said =
 -- the commands with those that the lines after them say: the first bad line decides, and the last period comes last
 abbrev pub book_commands : ℕ → List Command → List (Option Command) → Result (List Command) BookFault
 book_commands d before [] = period_end_check d before before
-book_commands d before (said ∷ rest) = judged_book_line d before said >>= λ command. book_commands d (before ++ command ∷ []) rest
+book_commands d before (said ∷ rest) = judged_book_line d before said >>= λ command. book_commands d
+    (before ++ command ∷ []) rest
 
 -- the commands of a book file for a tree of height d, or its first fault
 unfoldable pub book_of : ℕ → List ℕ → Result (List Command) BookFault

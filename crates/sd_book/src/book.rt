@@ -77,7 +77,8 @@ impl Book {
         ensures complete { (commands : List Commands) →
             SpellsBook (lines_of bytes.now) commands → IsWithinLimits h commands →
             MatchResult result (λ book. book.commands ≡ commands) (λ fault. fault ≡ BookFault.NoMemory) }
-        ensures fault { IfErr result (λ fault. (fault ≡ BookFault.NoMemory) ⊎ IsBookFaultOf h (said_by_book bytes.now) fault) }
+        ensures fault { IfErr result (λ fault. (fault ≡ BookFault.NoMemory) ⊎ IsBookFaultOf h (said_by_book bytes.now)
+            fault) }
         // The whole answer, as one value.
         ensures value { MatchResult result (λ book. book_of h bytes.now ≡ Ok book.commands)
             (λ fault. (fault ≡ BookFault.NoMemory) ⊎ (book_of h bytes.now ≡ Err fault)) }

@@ -19,7 +19,8 @@ pub(crate) fn draft_of(alloc: Global, bytes: &[u8], h: Height) -> Result<Draft, 
     ensures height { IfOk result (λ draft. draft.height ≡ h) }
     ensures fits { IfOk result (λ draft. IsDraft h draft.commands) }
     ensures sound { IfOk result (λ draft. SpellsBook (lines_of bytes.now) draft.commands) }
-    ensures fault { IfErr result (λ fault. (fault ≡ BookFault.NoMemory) ⊎ IsBookFaultOf h (said_by_book bytes.now) fault) }
+    ensures fault { IfErr result (λ fault. (fault ≡ BookFault.NoMemory) ⊎ IsBookFaultOf h (said_by_book bytes.now)
+        fault) }
 {
     let mut draft = Draft::new(alloc, h)?;
     let mut rest = bytes;

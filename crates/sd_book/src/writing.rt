@@ -21,7 +21,8 @@ pub(crate) fn text_of(alloc: Global, commands: &[Command]) -> Result<Vec<u8>, Al
 /// Writes a command's line and its line feed after the text [this project, docs/FORMATS.md, Book].
 #[tactic(auto, unfolding(crate::specs::Text::book_command_line))]
 pub fn write_line(text: &mut String, command: &Command) -> Result<(), AllocError>
-    ensures { OnOk result (string_bytes text.new ≡ string_bytes text.old ++ (book_command_line command.now ++ 10 ∷ [])) }
+    ensures { OnOk result (string_bytes text.new ≡ string_bytes text.old ++ (book_command_line command.now
+        ++ 10 ∷ [])) }
 {
     match *command {
         Command::Subscribe(leaf) => write_leaf(text, "subscribe ", leaf),

@@ -13,7 +13,8 @@ use Rattle.sd_packet.specs.Header.{unit_start_of, pid_of, scrambling_of, adaptat
 use Rattle.sd_packet.specs.Header.{payload_of, controlled}
 use Rattle.sd_packet.proofs.Headers.{controls_and_counter}
 use Rattle.sd_packet.proofs.Packets.{start_within}
-use Rattle.sd_cipher.specs.Scrambling.{IsPacketUnderKeystream, payload_under, stream_number, packet_under_keystream, control_of}
+use Rattle.sd_cipher.specs.Scrambling.{IsPacketUnderKeystream, payload_under, stream_number, packet_under_keystream}
+use Rattle.sd_cipher.specs.Scrambling.{control_of}
 use Rattle.sd_cipher.specs.declared.payload.Parity.{Parity}
 use Rattle.sd_cipher.specs.declared.payload.Parity.TheVariants.{Even, Odd}
 
@@ -165,7 +166,8 @@ start_by_bytes x y e h =
 
 -- what is read from a packet that is laid under a stream
 pub fields_of : (packet payload : List ℕ) (control : ℕ) → length packet ≡ 188 → slice_index packet 3 < 256 → control < 4
-    → IsPacketUnderKeystream packet control payload (take (payload_start_of packet) (controlled packet control) ++ payload)
+    → IsPacketUnderKeystream packet control payload (take (payload_start_of packet) (controlled packet control)
+    ++ payload)
 fields_of packet payload control long byte low =
     let new : List ℕ = take (payload_start_of packet) (controlled packet control) ++ payload in
     let prefix =
@@ -198,7 +200,8 @@ fields_of packet payload control long byte low =
 -- what is read from a packet after scrambling or descrambling
 pub laid_reads : (packet word : List ℕ) (position control : ℕ) → length packet ≡ 188 → slice_index packet 3 < 256
     → control < 4 →
-    IsPacketUnderKeystream packet control (payload_under packet word position) (packet_under_keystream packet word position control)
+    IsPacketUnderKeystream packet control (payload_under packet word position)
+    (packet_under_keystream packet word position control)
 unfolding packet_under_keystream
 laid_reads packet word position control long byte low =
     fields_of packet (payload_under packet word position) control long byte low

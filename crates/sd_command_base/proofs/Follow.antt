@@ -8,7 +8,8 @@ use Rattle.sd_command_base.specs.declared.status.Status.{Status}
 use Rattle.sd_command_base.specs.Outside.{DepotState, PageState, IoState, io_state, depot_after_calls}
 use Rattle.sd_command_base.specs.Spec.{Spec, FileArgument, Readings, IsReadingOfFile, and_then, of_result, value, ◌>>=◌}
 use Rattle.sd_command_base.specs.Work.{Out, Mark, Work}
-use Rattle.sd_command_base.specs.Outcome.{IsEnding, HasMiss, IsOutMade, marked_by, printing, refused, ended, exhausted, cut_off}
+use Rattle.sd_command_base.specs.Outcome.{IsEnding, HasMiss, IsOutMade, marked_by, printing, refused, ended, exhausted}
+use Rattle.sd_command_base.specs.Outcome.{cut_off}
 use Rattle.sd_command_base.specs.Outcome.{OutcomeWithin}
 use Rattle.sd_command_base.specs.Outcome.{Implements}
 use Rattle.sd_command_base.specs.Reads.{IsAsked, IsRefused, IsStopped, StepOutcome, FileOutcome, FilesOutcome}
@@ -190,7 +191,8 @@ pub reads_two : {X W Y Z V : Type 0} (view_first : X → Y) (view_second : W →
     FilesOutcome view (λ given. first (given one) >>= λ y. second y (given two) >>= λ z. value (both y z)) p r (Ok w)
 reads_two {Z = Z} {V = V} view_first view_second view first second both one two p q r x w apart h k same =
     let y = view_first x in
-    let is_more : IsReadingOfFile p.files two.text k.got = subst (λ (f : Option Files). IsReadingOfFile f two.text k.got)
+    let is_more : IsReadingOfFile p.files two.text k.got = subst (λ (f : Option Files). IsReadingOfFile f two.text
+    k.got)
     (ap (λ (z : DepotState). z.files) h.gives.1) k.is_got in
     let g = two_given p.files one two h.got k.got apart h.is_got is_more in
     let goes : StepOutcome view (second y k.got >>= λ z. value (both y z)) q r (Ok w) =
@@ -218,7 +220,8 @@ pub reads_second : {X W Y Z V : Type 0} (view_first : X → Y) (view_second : W 
     FilesOutcome view (λ given. first (given one) >>= λ y. second y (given two) >>= next y) p r (Err status)
 reads_second view_first view_second view first second next one two p q r x status apart h k =
     let y = view_first x in
-    let is_more : IsReadingOfFile p.files two.text k.got = subst (λ (f : Option Files). IsReadingOfFile f two.text k.got)
+    let is_more : IsReadingOfFile p.files two.text k.got = subst (λ (f : Option Files). IsReadingOfFile f two.text
+    k.got)
     (ap (λ (z : DepotState). z.files) h.gives.1) k.is_got in
     let g = two_given p.files one two h.got k.got apart h.is_got is_more in
     let goes : StepOutcome view (second y k.got >>= next y) q r (Err status) =

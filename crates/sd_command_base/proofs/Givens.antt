@@ -17,7 +17,8 @@ pub record OneGiven (files : Option Files) (word : FileArgument) (got : Option (
   pub is_given : AreReadingsOfFiles files given
   pub gave : given word ≡ got
 
-pub one_given : (files : Option Files) (word : FileArgument) (got : Option (List ℕ)) → IsReadingOfFile files word.text got →
+pub one_given : (files : Option Files) (word : FileArgument) (got : Option (List ℕ)) →
+    IsReadingOfFile files word.text got →
     OneGiven files word got
 one_given None word got h = record { given = λ w. got; is_given = tt; gave = refl }
 one_given (Some files) word got h = record { given = contents_of files; is_given = refl; gave = sym h }

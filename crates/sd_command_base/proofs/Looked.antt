@@ -18,7 +18,8 @@ use Rattle.sd_engine.specs.Taken.{AreBytesLeft}
 use Rattle.sd_command_base.specs.Reads.{IsAsked, StopCause, FileOutcome}
 use Rattle.sd_command_base.specs.Turned.{opening_status}
 
-file_got : (files : Option Files) (name bytes : List ℕ) → IsFile files name bytes → IsReadingOfFile files name (Some bytes)
+file_got : (files : Option Files) (name bytes : List ℕ) → IsFile files name bytes →
+    IsReadingOfFile files name (Some bytes)
 file_got None name bytes h = tt
 file_got (Some m) name bytes h = sym h
 

@@ -5,7 +5,8 @@ use Rattle.sd_command_base.specs.declared.status.Status.{Status}
 use Rattle.sd_command_base.specs.Outside.{DepotState, PageState, IoState, io_state, recalled, depot_after_calls}
 use Rattle.sd_command_base.specs.Spec.{Spec, and_then, ◌>>=◌}
 use Rattle.sd_command_base.specs.Work.{Out, Mark, Work, work_calls}
-use Rattle.sd_command_base.specs.Outcome.{IsFaultless, IsNoOutMade, marked_by, IsOutMade, IsOutMadeShort, Progress, untouched}
+use Rattle.sd_command_base.specs.Outcome.{IsFaultless, IsNoOutMade, marked_by, IsOutMade, IsOutMadeShort, Progress}
+use Rattle.sd_command_base.specs.Outcome.{untouched}
 use Rattle.sd_command_base.specs.Outcome.{marking, writing, telling, printing}
 use Rattle.sd_command_base.specs.Outcome.{Outcome}
 use Rattle.sd_command_base.specs.Outcome.{StopsFirst, refused, ended, unclosed, exhausted, failed, unmarked, nowhere}
@@ -19,7 +20,8 @@ mark_moved : (mark : Option Mark) (calls : ℕ) (p q : DepotState) → IsNoOutMa
     IsNoOutMade (marked_by mark p) q
 mark_moved mark calls p q h = record { files = h.files; made = h.made }
 
-made_moved : (work : Work) (calls : ℕ) (p q : DepotState) → IsOutMade work.out (marked_by work.mark (recalled calls p)) q →
+made_moved : (work : Work) (calls : ℕ) (p q : DepotState) → IsOutMade work.out (marked_by work.mark (recalled calls p))
+    q →
     IsOutMade work.out (marked_by work.mark p) q
 made_moved work calls p q h = record { files = h.files; made = h.made }
 
@@ -88,10 +90,12 @@ moved n meant p page steps b status h = record {
 -- a command whose first step gave a value obeys where what is meant by the value is obeyed
 pub then_obeys : {A : Type 0} (first : Spec A) (x : A) (next : A →
     Spec Work) (p q : DepotState) (page : PageState) (steps : ℕ) (b : IoState)
-    (status : Status) → first.result ≡ Ok x → q ≡ depot_after_calls first.calls p → OutcomeWithin (next x) (io_state q page steps) b
+    (status : Status) → first.result ≡ Ok x → q ≡ depot_after_calls first.calls p →
+    OutcomeWithin (next x) (io_state q page steps) b
     status →
     OutcomeWithin (first >>= next) (io_state p page steps) b status
 then_obeys {A} first x next p q page steps b status e same h =
-    subst (λ (r : Result A Status). OutcomeWithin (and_then first.calls r next) (io_state p page steps) b status) (sym e)
+    subst (λ (r : Result A Status). OutcomeWithin (and_then first.calls r next) (io_state p page steps) b status)
+    (sym e)
     (moved first.calls (next x) p page steps b status
     (subst (λ (z : DepotState). OutcomeWithin (next x) (io_state z page steps) b status) same h))

@@ -17,7 +17,8 @@ use Rattle.sd_command_base.specs.declared.status.Status.{Status}
 use Rattle.sd_command_base.specs.declared.status.Status.TheVariants.{BadOut}
 use Rattle.sd_command_base.specs.declared.status.OutCause.TheVariants.{There}
 use Rattle.sd_command_base.specs.Outside.{DepotState, PageState, IoState, io_state}
-use Rattle.sd_command_base.specs.Spec.{Spec, FileArgument, Readings, contents_of, AreReadingsOfFiles, IsReadingOfFile, ◌>>=◌}
+use Rattle.sd_command_base.specs.Spec.{Spec, FileArgument, Readings, contents_of, AreReadingsOfFiles, IsReadingOfFile}
+use Rattle.sd_command_base.specs.Spec.{◌>>=◌}
 use Rattle.sd_command_base.specs.Work.{all_calls}
 use Rattle.sd_command_base.specs.Outcome.{StopsFirst, Progress, untouched, writing, printing, Outcome}
 use Rattle.sd_command_base.specs.Outcome.{refused, ended, exhausted, failed, nowhere, cut_off, OutcomeWithin}
@@ -237,7 +238,8 @@ module _ {X Y : Type 0} (view : X → Y) (meant : Readings → Spec Y) (made : Y
       FilesOutcome view meant p q (Ok x) → NewOutcome (made (view x)) out (io_state q page steps) b status →
       Implements (λ given. meant given >>= λ y. making_new (made y) out (given out)) (io_state p page steps) b status
   new_follows b x status others h new =
-      let is_got : IsReadingOfFile p.files out.text new.got = subst (λ (f : Option Files). IsReadingOfFile f out.text new.got)
+      let is_got : IsReadingOfFile p.files out.text new.got =
+      subst (λ (f : Option Files). IsReadingOfFile f out.text new.got)
       (ap (λ (z : DepotState). z.files) h.gives.1) new.is_got in
       let g = given_more p.files h.given out new.got h.is_given is_got in
       record {

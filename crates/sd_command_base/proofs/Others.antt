@@ -18,9 +18,11 @@ use Rattle.sd_command_base.specs.declared.bad_line.LineCause.TheVariants.{Unende
 use Rattle.sd_command_base.specs.BadLines.{bad_line}
 use Rattle.sd_command_base.specs.Spec.{Spec, FileArgument, and_then, whole_file_bytes, of_result, value, within, ◌>>=◌}
 use Rattle.sd_command_base.specs.Both.{both_by}
-use Rattle.sd_command_base.specs.Files.{site_or_status, book_or_status, low_site_or_status, site_of_file, book_of_file, low_site_of_file}
+use Rattle.sd_command_base.specs.Files.{site_or_status, book_or_status, low_site_or_status, site_of_file, book_of_file}
+use Rattle.sd_command_base.specs.Files.{low_site_of_file}
 use Rattle.sd_command_base.specs.Files.{most_book_bytes, most_site_bytes, BookText, ends_lines, begins_with_book}
-use Rattle.sd_command_base.specs.Files.{is_book, own_book_or_status, own_book_of_file, whole_book_or_status, longer_book_or_status}
+use Rattle.sd_command_base.specs.Files.{is_book, own_book_or_status, own_book_of_file, whole_book_or_status}
+use Rattle.sd_command_base.specs.Files.{longer_book_or_status}
 use Rattle.sd_command_base.specs.Files.{longer_book_of_file}
 use Rattle.sd_command_base.specs.Made.{NewFile, making_new}
 use Rattle.sd_command_base.specs.Leaves.{leaves_or_status, leaves_of_file}
@@ -75,7 +77,8 @@ pub other_low_site : (word most : ℕ) (kind : LimitKind) (got : Option (List �
     IsOther (low_site_of_file word most kind got).result
 unfolding low_site_of_file
 other_low_site word most kind got =
-    other_after (site_of_file word got).calls (site_of_file word got).result (λ site. of_result (low_site_or_status most kind site))
+    other_after (site_of_file word got).calls (site_of_file word got).result
+    (λ site. of_result (low_site_or_status most kind site))
     (other_site_file word got) (λ site. other_height (nat_lt most site.height) kind site)
 
 pub other_book_file : (word d : ℕ) (got : Option (List ℕ)) → IsOther (book_of_file word d got).result
@@ -148,7 +151,8 @@ other_longer_book_file word d line got =
     (λ bytes. of_result (longer_book_or_status word d line bytes)) (other_file word most_book_bytes BookBytes got)
     (λ bytes. other_longer (begins_with_book line bytes)
     (whole_book_or_status word bytes (book_or_status word d bytes (book_of d bytes)))
-    (other_whole word bytes (book_or_status word d bytes (book_of d bytes)) (other_book word d bytes (book_of d bytes))))
+    (other_whole word bytes (book_or_status word d bytes (book_of d bytes))
+    (other_book word d bytes (book_of d bytes))))
 
 -- no file that must be new answers it
 pub other_new : (made : NewFile) (out : FileArgument) (got : Option (List ℕ)) → IsOther (making_new made out got).result

@@ -111,7 +111,8 @@ some_printed text last n a b within before =
 
 -- a text that was not printed whole
 pub one_failed : (text : ℕ → List ℕ) (last n : ℕ) (a b c : PageState) (status : Status) → n ≤ last →
-    ArePrinted text n a b → status ≢ Done → PrintsPiece (text n) b c status → PrintsWork (printing_texts text last) a c status
+    ArePrinted text n a b → status ≢ Done → PrintsPiece (text n) b c status →
+    PrintsWork (printing_texts text last) a c status
 one_failed text last n a b c status within before other (inl (inl all)) = absurd (other all.0)
 one_failed text last n a b c status within before other (inl (inr cut)) =
     let texts = first_texts text (n + 1) in

@@ -21,7 +21,8 @@ use Rattle.sd_command_base.specs.Results.{IsMeant}
 use Rattle.sd_command_base.specs.Results.{IsToldAs}
 
 -- work that is done has no line, and so has a failed print
-pub no_line : (page : PageState) (status : Status) → line_of_status status ≡ [] → PrintsStatusLine page page status status
+pub no_line : (page : PageState) (status : Status) → line_of_status status ≡ [] →
+    PrintsStatusLine page page status status
 no_line page status e = record {
   line = status;
   of = inl refl;
@@ -233,7 +234,8 @@ answered meant files a b page status answer told depot print comes tells =
           (rose_on a.page.faults page.faults b.page.faults (page_later meant a (with_page b page) status comes) cut.2))
     ]
 
-pub told_given : (files : Option Files) (told : Files) (given : Readings) → files ≡ Some told → AreReadingsOfFiles files given →
+pub told_given : (files : Option Files) (told : Files) (given : Readings) → files ≡ Some told →
+    AreReadingsOfFiles files given →
     given ≡ contents_of told
 told_given files told given e h = subst (λ (o : Option Files). AreReadingsOfFiles o given) e h
 

@@ -7,7 +7,8 @@ use Rattle.sd_command_base.specs.declared.status.Status.TheVariants.{DepotFault}
 use Rattle.sd_command_base.specs.Outside.{DepotState, PageState, io_state}
 use Rattle.sd_command_base.specs.Spec.{FileArgument, IsReadingOfFile, whole_file_bytes, value, ◌>>=◌}
 use Rattle.sd_command_base.specs.Work.{Out, Mark, Work}
-use Rattle.sd_command_base.specs.Outcome.{IsEnding, IsOutMade, marked_by, printing, Outcome, ended, exhausted, failed, cut_off}
+use Rattle.sd_command_base.specs.Outcome.{IsEnding, IsOutMade, marked_by, printing, Outcome, ended, exhausted, failed}
+use Rattle.sd_command_base.specs.Outcome.{cut_off}
 use Rattle.sd_command_base.specs.Outcome.{OutcomeWithin, Implements}
 use Rattle.sd_command_base.specs.Prints.{PrintsReading}
 use Rattle.sd_command_base.proofs.Firsts.{takes_none}
@@ -50,7 +51,8 @@ printed_comes : (work : Work) (p q : DepotState) (page now : PageState) (steps :
     IsRead p q status → PrintsReading work page now status →
     Outcome (Ok work) (io_state p page steps) (io_state q now steps) status
 printed_comes work p q page now steps status none unmarked ending read (inl (inl all)) =
-    ended work refl all.0 (subst IsEnding (sym all.0) ending) (none_made work p q none unmarked read.files read.made) all.1
+    ended work refl all.0 (subst IsEnding (sym all.0) ending) (none_made work p q none unmarked read.files read.made)
+    all.1
     (record { depot = read.faults.calm (is_other status (subst IsEnding (sym all.0) ending)); print = all.2 })
     read.misses
 printed_comes work p q page now steps status none unmarked ending read (inl (inr (inl some))) =
@@ -67,15 +69,18 @@ printed_comes work p q page now steps status none unmarked ending read (inr brok
 pub reading_follows : (view : List ℕ →
     Work) (word : FileArgument) (bytes : List ℕ) (p q : DepotState) (page now : PageState) (steps : ℕ)
     (status : Status) →
-    (view bytes).out ≡ None → (view bytes).mark ≡ None → IsEnding (view bytes).ends → IsReadingOfFile p.files word.text (Some bytes) → IsRead p q status →
+    (view bytes).out ≡ None → (view bytes).mark ≡ None → IsEnding (view bytes).ends →
+    IsReadingOfFile p.files word.text (Some bytes) → IsRead p q status →
     PrintsReading (view bytes) page now status →
-    Implements (λ given. whole_file_bytes word.number (given word) >>= λ bytes. value (view bytes)) (io_state p page steps)
+    Implements (λ given. whole_file_bytes word.number (given word) >>= λ bytes. value (view bytes))
+    (io_state p page steps)
     (io_state q now steps) status
 reading_follows view word bytes p q page now steps status none unmarked ending got read prints =
     let g = one_given p.files word (Some bytes) got in record {
       given = g.given;
       is_given = g.is_given;
-      obeyed = subst (λ (got : Option (List ℕ)). OutcomeWithin (whole_file_bytes word.number got >>= λ bytes. value (view bytes))
+      obeyed = subst (λ (got : Option (List ℕ)). OutcomeWithin (whole_file_bytes word.number got >>=
+          λ bytes. value (view bytes))
           (io_state p page steps)
           (io_state q now steps) status) (sym g.gave)
           (record {

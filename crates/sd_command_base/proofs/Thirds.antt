@@ -7,7 +7,8 @@ use Rattle.sd_ports.specs.Files.{Files}
 use Rattle.sd_command_base.specs.declared.status.Status.{Status}
 use Rattle.sd_command_base.specs.declared.status.Status.TheVariants.{NoMemory}
 use Rattle.sd_command_base.specs.Outside.{DepotState, PageState, IoState, io_state}
-use Rattle.sd_command_base.specs.Spec.{Spec, FileArgument, Readings, AreReadingsOfFiles, IsReadingOfFile, of_result, ◌>>=◌}
+use Rattle.sd_command_base.specs.Spec.{Spec, FileArgument, Readings, AreReadingsOfFiles, IsReadingOfFile, of_result}
+use Rattle.sd_command_base.specs.Spec.{◌>>=◌}
 use Rattle.sd_command_base.specs.Work.{Work}
 use Rattle.sd_command_base.specs.Outcome.{IsEnding, untouched, exhausted, OutcomeWithin, Implements}
 use Rattle.sd_command_base.specs.Reads.{IsAsked, FileOutcome, FilesOutcome, JudgedOutcome}

@@ -29,7 +29,8 @@ use Rattle.sd_command_base.proofs.Firsts.{takes_none, stopped_comes, first_obeys
 use Rattle.sd_command_base.proofs.Givens.{some_got as any_got}
 use Rattle.sd_command_base.proofs.Streams.{is_other}
 use Rattle.sd_command_base.specs.Turned.{ArePortsOpened, NotOpened, no_input, no_folder, stopped_first, stopped_then}
-use Rattle.sd_command_base.specs.Turned.{unclosed_status, unclosed_by, ArePortsClosed, is_break, turning, StreamWritten, all_written}
+use Rattle.sd_command_base.specs.Turned.{unclosed_status, unclosed_by, ArePortsClosed, is_break, turning, StreamWritten}
+use Rattle.sd_command_base.specs.Turned.{all_written}
 use Rattle.sd_command_base.specs.Turned.{some_written, HasPortCause}
 use Rattle.sd_command_base.proofs.Looked.{none_got, all_calls as opening_calls}
 
@@ -247,7 +248,8 @@ unclosed_comes : (steps : StepBound) (out : FileArgument) (bytes : List ℕ) (en
     (page : PageState) (i j : ℕ)
     (left held held' : Option (List ℕ)) (from : List ℕ) (f f' o o' : ℕ) (over result : Result (Unit {0}) Status) →
     (h : IsThrough out bytes ends p q r left held held' from f f' o o' over result) → HasRisen p.faults r.faults →
-    Outcome (Ok (turning steps out bytes ends)) (io_state p page i) (io_state r page j) (unclosed_status (status_of over))
+    Outcome (Ok (turning steps out bytes ends)) (io_state p page i) (io_state r page j)
+    (unclosed_status (status_of over))
 unclosed_comes steps out bytes ends p q r page i j left held held' from f f' o o' over result h rose =
     elim (by_break (status_of over)) [
       | inl stands ↦
@@ -304,7 +306,8 @@ pub turned_obeys : (steps : List ℕ → StepBound) (written : List ℕ → List
     (p q r : DepotState) (page : PageState) (i j : ℕ) (left held held' : Option (List ℕ)) (f f' o o' : ℕ)
     (over result : Result (Unit {0}) Status) →
     ArePortsOpened p q word.text out.text left held f o → HasPortCause f f' o o' (status_of over) →
-    StreamWritten (written bytes) (ends bytes) held held' (status_of over) → ArePortsClosed q r out.text held' f' o' over result →
+    StreamWritten (written bytes) (ends bytes) held held' (status_of over) →
+    ArePortsClosed q r out.text held' f' o' over result →
     TakesSteps (Ok (turning (steps bytes) out (written bytes) (ends bytes))) i j →
     OutcomeWithin (whole_file_bytes word.number (Some bytes) >>= λ bytes.
     value (turning (steps bytes) out (written bytes) (ends bytes)))
@@ -327,7 +330,8 @@ pub record NotTurned (files : Option Files) (name : List ℕ) (meant : Option (L
   pub is_got : IsReadingOfFile files name got
   pub obeys : OutcomeWithin (meant got) a b status
 
-pub there_got : (files : Option Files) (name : List ℕ) → IsThere files name → (bytes : List ℕ) × IsReadingOfFile files name
+pub there_got : (files : Option Files) (name : List ℕ) → IsThere files name →
+    (bytes : List ℕ) × IsReadingOfFile files name
     (Some bytes)
 there_got None name there = ([], tt)
 there_got (Some m) name there = some_of (get m name) there

@@ -108,7 +108,8 @@ is_book (Some line) bytes = (length bytes == line.size) && bytes_eq (sha256 byte
 
 -- the commands of a book that must be that of the site's line 13
 abbrev pub own_book_or_status : ℕ → ℕ → Option BookLine → List ℕ → Result (List Command) Status
-own_book_or_status word d line bytes = if is_book line bytes then book_or_status word d bytes (book_of d bytes) else Err OtherBook
+own_book_or_status word d line bytes = if is_book line bytes then book_or_status word d bytes (book_of d bytes)
+    else Err OtherBook
 
 -- the book, for a tree of height d, that the file of this word gave, if it is that of the site's line 13
 unfoldable pub own_book_of_file : ℕ → ℕ → Option BookLine → Option (List ℕ) → Spec (List Command)

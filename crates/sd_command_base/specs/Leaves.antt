@@ -16,7 +16,8 @@ leaves_or_status word d bytes (Err k) = Err (BadBook word (bad_leaf d k bytes))
 -- the leaves, of a tree of height d, of what the file of this word gave
 unfoldable pub leaves_of_file : ℕ → ℕ → Option (List ℕ) → Spec (List ℕ)
 leaves_of_file word d got =
-    within word most_book_bytes BookBytes got >>= λ bytes. of_result (leaves_or_status word d bytes (leaves_of_text d bytes))
+    within word most_book_bytes BookBytes got >>= λ bytes. of_result (leaves_or_status word d bytes
+    (leaves_of_text d bytes))
 
 abbrev pub leaves_in : Readings → ℕ → FileArgument → Spec (List ℕ)
 leaves_in given d word = leaves_of_file word.number d (given word)

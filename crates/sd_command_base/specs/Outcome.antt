@@ -121,7 +121,8 @@ PrintsSome work a b = (count : ℕ) × Appends a.printed b.printed (concat (take
 abbrev pub PrintsPrefix : Work → PageState → PageState → Type 0
 PrintsPrefix work a b = AppendsPrefix a.printed b.printed (concat work.pieces)
 
--- How far work came: nothing was done; or the mark was made, where there is one, and then: nothing more was done; or OUT
+-- How far work came: nothing was done; or the mark was made, where there is one, and then: nothing more was done; or
+-- OUT
 -- has a prefix of its bytes and nothing was printed, or of live work some first pieces; or OUT is whole, where there is
 -- one, and some first pieces were printed.
 pub data Progress (meant : Result Work Status) (a b : IoState) : Type 0 where
@@ -151,7 +152,8 @@ pub data Outcome (meant : Result Work Status) (a b : IoState) (status : Status) 
       Outcome meant a b status
   -- a refusal in the midst of a stream stands, though OUT failed to close after it; all is printed
   unclosed : (work : Work) → meant ≡ Ok work → status ≡ work.ends → IsEnding status → IsRefusal status →
-      work.breaks ≡ true → (out : Out) → work.out ≡ Some out → IsOutMadeShort out (marked_by work.mark a.place) b.place →
+      work.breaks ≡ true → (out : Out) → work.out ≡ Some out →
+      IsOutMadeShort out (marked_by work.mark a.place) b.place →
       PrintsAll work a.page b.page →
       HasRisen a.place.faults b.place.faults → b.place.stops ≡ a.place.stops → b.page.faults ≡ a.page.faults →
       b.place.misses ≡ a.place.misses → Outcome meant a b status
@@ -173,7 +175,8 @@ pub data Outcome (meant : Result Work Status) (a b : IoState) (status : Status) 
   -- printing failed at the text of the work
   cut_off : (work : Work) → meant ≡ Ok work → status ≡ PrintFault →
       IsOutMade work.out (marked_by work.mark a.place) b.place → PrintsPrefix work a.page b.page →
-      HasRisen a.page.faults b.page.faults → b.place.faults ≡ a.place.faults → b.place.misses ≡ a.place.misses → Outcome meant a b status
+      HasRisen a.page.faults b.page.faults → b.place.faults ≡ a.place.faults → b.place.misses ≡ a.place.misses →
+      Outcome meant a b status
   -- printing failed at the text of live work, while OUT was written or after it failed to close
   cut_short : (work : Work) → meant ≡ Ok work → work.live ≡ true → status ≡ PrintFault → (out : Out) →
       work.out ≡ Some out → IsOutMadeShort out (marked_by work.mark a.place) b.place → PrintsPrefix work a.page b.page →

@@ -18,7 +18,8 @@ use Rattle.sd_command_base.specs.Outcome.{IsEnding}
 use Rattle.sd_command_base.specs.Reads.{IsAsked, IsStopped}
 
 -- both were opened: what is left of the one, and what the other holds, with the counts of their faults
-pub record ArePortsOpened (a b : DepotState) (from out : List ℕ) (left held : Option (List ℕ)) (from_faults out_faults : ℕ) :
+pub record ArePortsOpened (a b : DepotState) (from out : List ℕ) (left held : Option (List ℕ))
+    (from_faults out_faults : ℕ) :
     Type 0 where
   pub opens : OpensFile a.files from left
   pub empty : IsFresh a.files held

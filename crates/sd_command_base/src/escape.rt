@@ -2,7 +2,8 @@ ghost use Rattle.std.specs.Prelude.{◌≡◌, ◌++◌, IfOk, OnOk, string_byte
 ghost use Rattle.std.specs.List.{flat_map};
 ghost use Rattle.std.specs.Str.{chars};
 ghost use Rattle.sd_command_base.specs.Escaped.{escaped as escaped_text, escaped_byte, escaped_char};
-ghost use Rattle.sd_command_base.specs.Escaped.{is_control_character as is_control_char, quoted as quoted_text, shown_byte};
+ghost use Rattle.sd_command_base.specs.Escaped.{is_control_character as is_control_char, quoted as quoted_text};
+ghost use Rattle.sd_command_base.specs.Escaped.{shown_byte};
 
 use crate::Excerpt;
 use std::alloc::{AllocError, Global};

@@ -5,8 +5,10 @@ ghost use Rattle.sd_site_cards.specs.Text.{site_of};
 ghost use Rattle.sd_command_base.specs.Spec.{within};
 ghost use Rattle.sd_command_base.specs.Outside.{depot_state};
 ghost use Rattle.sd_command_base.specs.Reads.{JudgedOutcome, SureOutcome, FileOutcome};
-ghost use Rattle.sd_command_base.specs.Files.{site_of_file, book_of_file, low_site_of_file, book_or_status, low_site_or_status};
-ghost use Rattle.sd_command_base.specs.Files.{most_card_bytes, refused_site, refused_book, refused_card, site_or_status};
+ghost use Rattle.sd_command_base.specs.Files.{site_of_file, book_of_file, low_site_of_file, book_or_status};
+ghost use Rattle.sd_command_base.specs.Files.{low_site_or_status};
+ghost use Rattle.sd_command_base.specs.Files.{most_card_bytes, refused_site, refused_book, refused_card};
+ghost use Rattle.sd_command_base.specs.Files.{site_or_status};
 
 use crate::word::Word;
 use crate::{LimitKind, LineCause, Status, malformed, refused_line, site_excerpt};
@@ -99,7 +101,8 @@ pub fn read_book<D: Depot>(
 
 /// The book that the bytes of this word's file say.
 pub(crate) fn judge_book(alloc: Global, word: u8, bytes: &[u8], h: Height) -> Result<Book, Status>
-    ensures value { JudgedOutcome (λ book. book.commands) (book_or_status word h bytes.now (book_of h bytes.now)) result }
+    ensures value { JudgedOutcome (λ book. book.commands) (book_or_status word h bytes.now (book_of h bytes.now))
+        result }
     ensures height { IfOk result (λ book. book.height ≡ h) }
 {
     match Book::read(alloc, bytes, h) {

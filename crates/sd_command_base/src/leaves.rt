@@ -29,7 +29,8 @@ pub fn read_leaves<D: Depot>(
 
 /// The leaves that the bytes of this word's file say.
 fn judge_leaves(alloc: Global, word: u8, bytes: &[u8], h: Height) -> Result<Vec<Leaf>, Status>
-    ensures value { JudgedOutcome (λ leaves. leaves.items) (leaves_or_status word h bytes.now (leaves_of_text h bytes.now))
+    ensures value { JudgedOutcome (λ leaves. leaves.items) (leaves_or_status word h bytes.now
+        (leaves_of_text h bytes.now))
         result }
     ensures fits { IfOk result (λ leaves. All (λ u. u < 2 ^ h) leaves.items) }
 {

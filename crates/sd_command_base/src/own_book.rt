@@ -5,7 +5,8 @@ ghost use Rattle.sd_command_base.specs.Outside.{depot_state};
 ghost use Rattle.sd_command_base.specs.Reads.{JudgedOutcome, SureOutcome, FileOutcome};
 ghost use Rattle.sd_command_base.specs.Files.{ends_lines as are_lines, begins_with_book as begins_with};
 ghost use Rattle.sd_command_base.specs.Files.{is_book as is_own};
-ghost use Rattle.sd_command_base.specs.Files.{own_book_of_file, longer_book_of_file, own_book_or_status, whole_book_or_status, longer_book_or_status};
+ghost use Rattle.sd_command_base.specs.Files.{own_book_of_file, longer_book_of_file, own_book_or_status};
+ghost use Rattle.sd_command_base.specs.Files.{whole_book_or_status, longer_book_or_status};
 
 use crate::files::{MOST_BOOK_BYTES, judge_book, read_bytes};
 use crate::word::Word;

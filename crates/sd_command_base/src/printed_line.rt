@@ -1,7 +1,8 @@
 //! The line of each status (docs/FORMATS.md, Exits).
 
 ghost use Rattle.std.specs.Prelude.{◌≡◌, IfOk, OnErr, string_bytes};
-ghost use Rattle.sd_command_base.specs.Texts.{line_of_status, site_refusal_line as site_line_of, stream_line as stream_line_of};
+ghost use Rattle.sd_command_base.specs.Texts.{line_of_status, site_refusal_line as site_line_of};
+ghost use Rattle.sd_command_base.specs.Texts.{stream_line as stream_line_of};
 ghost use Rattle.sd_command_base.specs.Texts.{limit_line as limit_line_of};
 ghost use Rattle.sd_command_base.specs.Texts.{clear_refusal_line as clear_line_of, clear_text as clear_text_of};
 ghost use Rattle.sd_command_base.specs.Texts.{break_text as break_text_of, form_text as form_text_of, hex_of};

@@ -12,7 +12,8 @@ use Rattle.sd_command_line.specs.declared.order.Order as declared
 use Rattle.sd_command_line.specs.Commands.{command_named, operands_of}
 use Rattle.sd_command_line.specs.Operands.{operand_kind}
 use Rattle.sd_command_line.specs.Words.{Argument, Order, argument_of, arguments_from, at_most, before, nonzero_count}
-use Rattle.sd_command_line.specs.Words.{help_on, help_words, is_help, is_version, named_words, number_of_word, number_argument}
+use Rattle.sd_command_line.specs.Words.{help_on, help_words, is_help, is_version, named_words, number_of_word}
+use Rattle.sd_command_line.specs.Words.{number_argument}
 use Rattle.sd_command_line.specs.Words.{asks_help, order_after, order_of, ordered, out_is_taken, version_words}
 use Rattle.sd_command_line.specs.Orders.{RefusesWords, shown_order}
 

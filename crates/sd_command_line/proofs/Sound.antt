@@ -14,7 +14,8 @@ use Rattle.sd_command_base.specs.declared.status.Status.{Status}
 use Rattle.sd_command_base.specs.declared.status.Status.TheVariants.{Usage, BadWord}
 use Rattle.sd_command_line.specs.declared.order.Order as declared
 use Rattle.sd_command_line.specs.Words.{Argument, Order, argument_of, arguments_from, at_most, before, nonzero_count}
-use Rattle.sd_command_line.specs.Words.{help_on, help_words, is_help, is_version, named_words, number_of_word, number_argument}
+use Rattle.sd_command_line.specs.Words.{help_on, help_words, is_help, is_version, named_words, number_of_word}
+use Rattle.sd_command_line.specs.Words.{number_argument}
 use Rattle.sd_command_line.specs.Words.{asks_help, ordered}
 use Rattle.sd_command_line.specs.Words.{order_after, order_of, out_is_taken, version_words}
 use Rattle.sd_command_line.specs.Orders.{AreOf, IsArgumentOf, IsSoundOrder, order_said, shown_order}
@@ -36,7 +37,8 @@ number_sound place most (Some n) =
     ]
 
 -- a count is not 0 either
-count_sound : (place most : ℕ) (read : Result ℕ Status) → IfOk (number_argument place read) (IsArgumentOf place (kind.Number most)) →
+count_sound : (place most : ℕ) (read : Result ℕ Status) → IfOk (number_argument place read)
+    (IsArgumentOf place (kind.Number most)) →
     IfOk (number_argument place (nonzero_count place read)) (IsArgumentOf place (kind.Count most))
 count_sound place most (Ok zero) h = tt
 count_sound place most (Ok (suc n)) h = (h.0, (omega arith, h.1))
@@ -75,7 +77,8 @@ unless : (p : Bool) (order : Result Order Status) → (p ≡ false → IfOk orde
 unless true order h = tt
 unless false order h = h refl
 
-either : (p : Bool) (a b : Result Order Status) → IfOk a IsSoundOrder → IfOk b IsSoundOrder → IfOk (if p then a else b) IsSoundOrder
+either : (p : Bool) (a b : Result Order Status) → IfOk a IsSoundOrder → IfOk b IsSoundOrder →
+    IfOk (if p then a else b) IsSoundOrder
 either true a b h k = h
 either false a b h k = k
 

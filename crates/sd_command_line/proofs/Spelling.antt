@@ -1,5 +1,6 @@
 -- The texts of arguments, spelled out one after the other.
-use Rattle.std.proofs.Common.{◌≡◌, ◌∙◌, ◌+◌, ◌<◌, ◌++◌, ℕ, Bool, true, false, List, [], ◌∷◌, suc, length, map, take, drop}
+use Rattle.std.proofs.Common.{◌≡◌, ◌∙◌, ◌+◌, ◌<◌, ◌++◌, ℕ, Bool, true, false, List, [], ◌∷◌, suc, length, map, take}
+use Rattle.std.proofs.Common.{drop}
 use Rattle.std.proofs.Common.{arith, ap, refl, sym, append_assoc, drop-cons, get_or, codes, String, Global}
 use Rattle.std.specs.Prelude.{bytes_eq, set, string_bytes}
 use Rattle.std.proofs.lemmas.List.{drop-set-lt, get_or-map, length-map, map-set, take_more, take_more_set}

@@ -1,6 +1,7 @@
 -- The numbers of words.
 use Rattle.std.proofs.Common.{◌≡◌, ℕ, ◌<◌, ◌≤◌, ◌^◌, Bool, cond, List, [], Option, Some, None}
-use Rattle.std.proofs.Common.{codes, if◌then◌else◌, nat_lt, true, false, Ok, Err, refl, sym, ap, ◌∙◌, arith, le-ltb, lt-ltb}
+use Rattle.std.proofs.Common.{codes, if◌then◌else◌, nat_lt, true, false, Ok, Err, refl, sym, ap, ◌∙◌, arith, le-ltb}
+use Rattle.std.proofs.Common.{lt-ltb}
 use Rattle.sd_base.specs.Number.{decimal_value, decimal_after, rest_after, fitting_u32}
 use Rattle.sd_base.specs.declared.decimals.NumberFault.{NumberFault}
 use Rattle.sd_base.specs.declared.decimals.NumberFault.TheVariants.{Malformed, TooLarge}

@@ -16,7 +16,8 @@ use Rattle.sd_command_line.specs.declared.operand.Operand.TheVariants as word
 use Rattle.sd_command_line.specs.declared.operand.Files.{Files}
 use Rattle.sd_command_line.specs.Operands.{files_among}
 use Rattle.sd_command_line.specs.declared.exit.Exit.{Exit}
-use Rattle.sd_command_line.specs.Exits.{ends_air, is_common, ends_receiver, refuses_operand, refuses_own_book, refuses_pair}
+use Rattle.sd_command_line.specs.Exits.{ends_air, is_common, ends_receiver, refuses_operand, refuses_own_book}
+use Rattle.sd_command_line.specs.Exits.{refuses_pair}
 
 -- the command's name
 unfoldable pub command_name : Command → List ℕ

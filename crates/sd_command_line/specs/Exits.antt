@@ -48,7 +48,8 @@ exit_line files SiteUsedUp = codes "  22  no number or control word is left for 
 abbrev pub exits : List Exit
 exits =
     Done ∷ Usage ∷ Missing ∷ Revoked ∷ DepotFault ∷ PrintFault ∷ BadSite ∷ BadBook ∷ BadCard ∷ BadClear ∷ BadStream
-    ∷ Limit ∷ NoMemory ∷ Unheard ∷ Unclosed ∷ Gaps ∷ NoCat ∷ BadWord ∷ Clash ∷ BadOut ∷ SiteUsed ∷ OtherBook ∷ SiteUsedUp
+    ∷ Limit ∷ NoMemory ∷ Unheard ∷ Unclosed ∷ Gaps ∷ NoCat ∷ BadWord ∷ Clash ∷ BadOut ∷ SiteUsed ∷ OtherBook ∷
+    SiteUsedUp
     ∷ []
 
 -- each command may end so

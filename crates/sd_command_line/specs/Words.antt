@@ -101,7 +101,8 @@ with_input_text (kind.Count most) text texts = texts
 abbrev pub input_texts : List Operand → List (List ℕ) → List (List ℕ)
 input_texts [] texts = []
 input_texts (operand ∷ operands) [] = []
-input_texts (operand ∷ operands) (text ∷ texts) = with_input_text (operand_kind operand) text (input_texts operands texts)
+input_texts (operand ∷ operands) (text ∷ texts) = with_input_text (operand_kind operand) text
+    (input_texts operands texts)
 
 abbrev pub or_output : Kind → List ℕ → Option (List ℕ) → Option (List ℕ)
 or_output kind.Output text later = Some text

@@ -2,7 +2,8 @@ ghost use Rattle.std.specs.Prelude.{◌≡◌, length, map, option_map, slice_ge
 ghost use Rattle.sd_command_line.specs.CommandLine.{words_of};
 ghost use Rattle.sd_command_line.specs.Commands.{operands_of};
 ghost use Rattle.sd_command_line.specs.Explained.{argument_at as argument_there, argument_numbered, file_named};
-ghost use Rattle.sd_command_line.specs.Explained.{file_with_text as file_there, names_file as names_this, shown_argument};
+ghost use Rattle.sd_command_line.specs.Explained.{file_with_text as file_there, names_file as names_this};
+ghost use Rattle.sd_command_line.specs.Explained.{shown_argument};
 
 use crate::{Command, CommandLine, Operand};
 

@@ -7,7 +7,8 @@ ghost use Rattle.sd_command_line.specs.Words.{order_of, HoldsSecretsBy};
 ghost use Rattle.sd_command_line.specs.Words.{asks_help as ask_for_help, is_help as names_help};
 ghost use Rattle.sd_command_line.specs.Words.{is_help_option as names_help_option};
 ghost use Rattle.sd_command_line.specs.Words.{is_version as names_version};
-ghost use Rattle.sd_command_line.specs.Words.{out_is_mark as names_mark, out_is_read, out_text, version_words, with_input_text};
+ghost use Rattle.sd_command_line.specs.Words.{out_is_mark as names_mark, out_is_read, out_text, version_words};
+ghost use Rattle.sd_command_line.specs.Words.{with_input_text};
 ghost use Rattle.sd_command_line.specs.Orders.{order_said, shown_order};
 
 use crate::argument::Arguments;

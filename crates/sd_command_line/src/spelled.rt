@@ -7,7 +7,8 @@ use std::alloc::{AllocError, Global};
 /// What a word says in whose place the standard input or output is meant.
 const DASH: &str = "-";
 
-/// The words after the program's name, with `-` spelled out: the standard input in the place of a file that is read, the
+/// The words after the program's name, with `-` spelled out: the standard input in the place of a file that is read,
+/// the
 /// standard output in the place of the file that is made.
 pub fn spell_out(alloc: Global, words: Vec<String>) -> Result<Vec<String>, AllocError>
     ensures { IfOk result (λ out. map string_bytes out.items ≡ spelled (map string_bytes words.items)) }

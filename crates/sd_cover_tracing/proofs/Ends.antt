@@ -142,7 +142,8 @@ chain_leads d revoked i j c =
         λ same. omega arith
 
 -- from a head that leads to another node there is such a chain
-pub chain_from_leads : (d : ℕ) (revoked : List ℕ) (i j : ℕ) → IsChainHead d revoked i → ChainEndsAt d revoked i j → i ≢ j
+pub chain_from_leads : (d : ℕ) (revoked : List ℕ) (i j : ℕ) → IsChainHead d revoked i → ChainEndsAt d revoked i j →
+    i ≢ j
     → EndsChain d revoked i j
 chain_from_leads d revoked i j h l other = record {
   nodes = l.nodes;

@@ -20,7 +20,8 @@ use Rattle.sd_cover_tracing.specs.Tally.{tally_at}
 use Rattle.sd_cover_tracing.specs.Path.{path_visit_count}
 use Rattle.sd_cover_tracing.specs.Index.{IndexValue, count_below, counts_one, indexed_leaves, IsIndex}
 use Rattle.sd_cover_tracing.proofs.Paths.{met_is_below}
-use Rattle.sd_cover_tracing.proofs.Ranges.{count_filter, count_same, count_point, count_one_more, filter_same, filter_twice}
+use Rattle.sd_cover_tracing.proofs.Ranges.{count_filter, count_same, count_point, count_one_more, filter_same}
+use Rattle.sd_cover_tracing.proofs.Ranges.{filter_twice}
 use Rattle.sd_cover_tracing.proofs.Ranges.{passes, found}
 use Rattle.sd_cover_tracing.proofs.Ancestry.{below_leaf}
 
@@ -49,7 +50,8 @@ leaf_count d u m small h is =
     turned false false = refl
 
 -- the revoked leaves are those whose nodes count 1
-pub revoked_told : (d u : ℕ) (m : FinMap nat_cmp ℕ) → u < 2 ^ d → (counts_one d m u ≡ true) ↔ Contains (indexed_leaves d m)
+pub revoked_told : (d u : ℕ) (m : FinMap nat_cmp ℕ) → u < 2 ^ d →
+    (counts_one d m u ≡ true) ↔ Contains (indexed_leaves d m)
     u
 unfolding indexed_leaves
 revoked_told d u m h =
@@ -122,7 +124,8 @@ fewer_revoked d u w m m' small h k is old lowered =
 
 -- after a revocation the list has the leaf
 pub revoked_more : (d u : ℕ) (m m' : FinMap nat_cmp ℕ) → d < 32 → u < 2 ^ d → IsIndex d m → counts_one d m u ≡ false →
-    ((v : ℕ) → tally_at m' v ≡ tally_at m v + path_visit_count (2 ^ d + u) (d + 1) v) → indexed_leaves d m' ≡ with_leaf d u
+    ((v : ℕ) → tally_at m' v ≡ tally_at m v + path_visit_count (2 ^ d + u) (d + 1) v) →
+    indexed_leaves d m' ≡ with_leaf d u
     (indexed_leaves d m)
 unfolding indexed_leaves with_leaf
 revoked_more d u m m' small h is new raised =
@@ -148,7 +151,8 @@ index_more d u m m' small h is new raised = record {
 
 -- after a subscription the list lacks the leaf
 pub revoked_fewer : (d u : ℕ) (m m' : FinMap nat_cmp ℕ) → d < 32 → u < 2 ^ d → IsIndex d m → counts_one d m u ≡ true →
-    ((v : ℕ) → tally_at m' v + path_visit_count (2 ^ d + u) (d + 1) v ≡ tally_at m v) → indexed_leaves d m' ≡ without_leaf u
+    ((v : ℕ) → tally_at m' v + path_visit_count (2 ^ d + u) (d + 1) v ≡ tally_at m v) →
+    indexed_leaves d m' ≡ without_leaf u
     (indexed_leaves d m)
 unfolding indexed_leaves without_leaf
 revoked_fewer d u m m' small h is old lowered =
@@ -175,7 +179,8 @@ index_fewer d u m m' small h is old lowered = record {
 }
 
 -- a leaf that isn't in the list isn't told revoked
-pub not_told : (d u : ℕ) (m : FinMap nat_cmp ℕ) → u < 2 ^ d → ¬ Contains (indexed_leaves d m) u → counts_one d m u ≡ false
+pub not_told : (d u : ℕ) (m : FinMap nat_cmp ℕ) → u < 2 ^ d → ¬ Contains (indexed_leaves d m) u →
+    counts_one d m u ≡ false
 not_told d u m h none = elim (cases_Bool (counts_one d m u)) [
   | inl yes' ↦ absurd (none ((revoked_told d u m h).0 yes'))
   | inr no' ↦ no'

@@ -25,7 +25,8 @@ use Rattle.sd_cover_tracing.specs.Trace.{IsRound, IsTrace}
 use Rattle.sd_cover_tracing.proofs.Opening.{leaf_is_fresh}
 use Rattle.sd_cover_tracing.specs.Halves.{halves_of, cuts_left, only_leaf, narrowed_leaf_and_cuts, has_some}
 use Rattle.sd_cover_tracing.proofs.Narrowing.{IfCounted, halves_counted, siblings}
-use Rattle.sd_cover_tracing.proofs.Narrowed.{is_alone, whole_is_cut, half_fits, first_holds, second_holds, narrowed_uncut}
+use Rattle.sd_cover_tracing.proofs.Narrowed.{is_alone, whole_is_cut, half_fits, first_holds, second_holds}
+use Rattle.sd_cover_tracing.proofs.Narrowed.{narrowed_uncut}
 use Rattle.sd_cover_tracing.proofs.Narrowed.{narrowed_more, cuts_few}
 
 -- the leaf that is below its own node is the node's

@@ -11,7 +11,8 @@ use Rattle.sd_tree_keys.specs.SetNames.{IsPair, IsOfHeight}
 use Rattle.sd_tree_keys.specs.declared.set.SetName.{SetName}
 use Rattle.sd_tree_keys.specs.declared.set.SetName.TheVariants.{Whole, Diff}
 use Rattle.sd_tree_keys.proofs.Levels.{depth_at, doubled}
-use Rattle.sd_cover_tracing.specs.Halves.{halves_of, halves_below, child_to, cuts_left, only_leaf, narrowed_leaf_and_cuts}
+use Rattle.sd_cover_tracing.specs.Halves.{halves_of, halves_below, child_to, cuts_left, only_leaf}
+use Rattle.sd_cover_tracing.specs.Halves.{narrowed_leaf_and_cuts}
 use Rattle.sd_cover_tracing.specs.Halves.{has_some, open_half, cut_once_more, AreHalves, IfHalves}
 use Rattle.sd_cover_tracing.specs.Search.{opens_some}
 use Rattle.sd_cover_tracing.proofs.TraceCuts.{cuts_within}
@@ -74,7 +75,8 @@ narrowed_uncut d coalition (suc most) name e = rw e refl
 
 -- any other by one cut more than its half
 pub narrowed_more : (d : ℕ) (coalition : List ℕ) (most : ℕ) (name a b : SetName) → halves_of d name ≡ Some (a, b) →
-    narrowed_leaf_and_cuts d coalition (suc most) name ≡ cut_once_more (narrowed_leaf_and_cuts d coalition most (open_half d coalition (a, b)))
+    narrowed_leaf_and_cuts d coalition (suc most) name ≡ cut_once_more (narrowed_leaf_and_cuts d coalition most
+    (open_half d coalition (a, b)))
 unfolding narrowed_leaf_and_cuts
 narrowed_more d coalition most name a b e = rw e refl
 

@@ -11,7 +11,8 @@ use Rattle.sd_tree_keys.specs.SetNames.{IsPair, IsOfHeight}
 use Rattle.sd_tree_keys.specs.declared.set.SetName.{SetName}
 use Rattle.sd_tree_keys.specs.declared.set.SetName.TheVariants.{Whole, Diff}
 use Rattle.sd_tree_keys.proofs.Levels.{IsAtLevel, doubled, halved_level, depth_at}
-use Rattle.sd_tree_keys.proofs.Ancestors.{depth_within, leaves_from_above, properly_above_by_levels, above_left, above_right}
+use Rattle.sd_tree_keys.proofs.Ancestors.{depth_within, leaves_from_above, properly_above_by_levels, above_left}
+use Rattle.sd_tree_keys.proofs.Ancestors.{above_right}
 use Rattle.sd_tree_keys.proofs.Members.{lower_is_node, upper_is_node}
 use Rattle.sd_tree_keys.specs.Paths.{sibling_of}
 use Rattle.sd_cover_tracing.proofs.Ends.{sibling_cases}

@@ -190,6 +190,7 @@ tells_last d coalition sets place turns found some told narrow trials =
     record {
       place = last.0;
       opened = last.1;
-      leaf = subst (λ (z : ℕ). (found.leaf, found.splits) ≡ narrowed_leaf_and_cuts d coalition d (get_or sets z Whole)) at.0 narrow;
+      leaf = subst (λ (z : ℕ). (found.leaf, found.splits) ≡ narrowed_leaf_and_cuts d coalition d (get_or sets z Whole))
+          at.0 narrow;
       trials = trials ∙ ap (λ (n : ℕ). 1 + n + found.splits) at.1;
     }

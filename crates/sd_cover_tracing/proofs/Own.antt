@@ -41,7 +41,8 @@ module _ (d u : ℕ) (low : d ≤ 20) (leaf : u < 2 ^ d) where
   -- the leaf is in S(i,j) where a secret is reached that only pairs of i with nodes above j lead to
   from_name : (i j : ℕ) (secret : Secret) → IsPair d i j
       → ((w : ℕ) → DerivesSecret (Pair i w) secret → (w ≡ j) ⊎ ((1 ≤ w) × IsAbove w j))
-      → ((name : Name) → DerivesSecret name secret → (w : ℕ) × (name ≡ Pair i w)) → IsReached (names_of_receiver d u) secret
+      → ((name : Name) → DerivesSecret name secret → (w : ℕ) × (name ≡ Pair i w)) →
+      IsReached (names_of_receiver d u) secret
       → is_member d (Diff i j) u ≡ true
   from_name i j secret pair lower same r =
       let (name, held, leads) = reached_is_found (names_of_receiver d u) secret r in
@@ -51,14 +52,16 @@ module _ (d u : ℕ) (low : d ≤ 20) (leaf : u < 2 ^ d) where
       (off_path d u i w j given_pair (lower w (subst (λ (n : Name). DerivesSecret n secret) is leads)))
 
   -- where the leaf is in S(i,j), a secret is reached that all pairs of i with nodes above j lead to
-  to_name : (i j : ℕ) (secret : Secret) → IsPair d i j → ((w : ℕ) → 1 ≤ w → IsAbove w j → DerivesSecret (Pair i w) secret)
+  to_name : (i j : ℕ) (secret : Secret) → IsPair d i j → ((w : ℕ) → 1 ≤ w → IsAbove w j →
+      DerivesSecret (Pair i w) secret)
       → is_member d (Diff i j) u ≡ true → IsReached (names_of_receiver d u) secret
   to_name i j secret pair leads member =
       let paths = (member_of_pair d i j u low pair leaf).0 member in
       let within = pair.node in
       let (w, given_pair, some, above) =
       hangs d u i j leaf pair.inner.0 (omega (arith, doubled d)) pair.above.0 paths.0 paths.1 in
-      found_is_reached (names_of_receiver d u) secret (Pair i w) ((given_pairs d u i w leaf).1 given_pair) (leads w some above)
+      found_is_reached (names_of_receiver d u) secret (Pair i w) ((given_pairs d u i w leaf).1 given_pair)
+      (leads w some above)
 
   -- only pairs of node i lead to the label of (i,j)
   source_is : (i j : ℕ) (name : Name) → DerivesSecret name (Named (Pair i j)) → (w : ℕ) × (name ≡ Pair i w)
@@ -73,17 +76,24 @@ module _ (d u : ℕ) (low : d ≤ 20) (leaf : u < 2 ^ d) where
   -- what a set's key is made from is reached exactly where the leaf is in the set
   source_reached : (name : SetName) → IsOfHeight d name → IsReached (names_of_receiver d u) (Named (source_of name))
       ↔ (is_member d name u ≡ true)
-  source_reached WholeSet h =
-      (λ _. lt-ltb u (2 ^ d) leaf, λ _. found_is_reached (names_of_receiver d u) (Named Whole) Whole (given_whole d u) tt)
+  source_reached WholeSet h = (
+    λ _. lt-ltb u (2 ^ d) leaf,
+    λ _. found_is_reached (names_of_receiver d u) (Named Whole) Whole
+        (given_whole d u) tt,
+  )
   source_reached (Diff i j) h = (
     from_name i j (Named (Pair i j)) h (λ w l. l.1) (source_is i j),
     to_name i j (Named (Pair i j)) h (λ w some above. (refl, inr (some, above))),
   )
 
   -- and so is the key
-  key_reached : (name : SetName) → IsOfHeight d name → IsReached (names_of_receiver d u) (Key name) ↔ (is_member d name u ≡ true)
-  key_reached WholeSet h =
-      (λ _. lt-ltb u (2 ^ d) leaf, λ _. found_is_reached (names_of_receiver d u) (Key WholeSet) Whole (given_whole d u) tt)
+  key_reached : (name : SetName) → IsOfHeight d name → IsReached (names_of_receiver d u) (Key name) ↔
+      (is_member d name u ≡ true)
+  key_reached WholeSet h = (
+    λ _. lt-ltb u (2 ^ d) leaf,
+    λ _. found_is_reached (names_of_receiver d u) (Key WholeSet) Whole
+        (given_whole d u) tt,
+  )
   key_reached (Diff i j) h = (
     from_name i j (Key (Diff i j)) h (λ w l. inr l.1) (key_is i j),
     to_name i j (Key (Diff i j)) h (λ w some above. (refl, (some, above))),

@@ -52,7 +52,8 @@ raised_further m node k old q is = count_written m (node / 2 ^ k) (tally_at m (n
 
 -- a lowering of the next node of the path
 pub lowered_further : (m : FinMap nat_cmp ℕ) (node k old q : ℕ) → 0 < tally_at m (node / 2 ^ k) →
-    tally_at m q + path_visit_count node k q ≡ old → tally_at (with_count m (node / 2 ^ k) (tally_at m (node / 2 ^ k) - 1)) q
+    tally_at m q + path_visit_count node k q ≡ old → tally_at (with_count m (node / 2 ^ k)
+    (tally_at m (node / 2 ^ k) - 1)) q
     + path_visit_count node (suc k) q ≡ old
 lowered_further m node k old q some is =
     let written = count_written m (node / 2 ^ k) (tally_at m (node / 2 ^ k) - 1) q in
@@ -75,7 +76,8 @@ raised_next m node k old q is =
     rw e (raised_further m node k old q is)
 
 pub lowered_next : (m : FinMap nat_cmp ℕ) (node k old q : ℕ) → 0 < tally_at m (node / 2 ^ k) →
-    tally_at m q + path_visit_count node k q ≡ old → tally_at (with_count m (node / 2 ^ k) (tally_at m (node / 2 ^ k) - 1)) q
+    tally_at m q + path_visit_count node k q ≡ old → tally_at (with_count m (node / 2 ^ k)
+    (tally_at m (node / 2 ^ k) - 1)) q
     + path_visit_count node (k + 1) q ≡ old
 lowered_next m node k old q some is =
     let e : k + 1 ≡ suc k = omega arith in
@@ -83,7 +85,8 @@ lowered_next m node k old q some is =
 
 -- the further the path, the more of its nodes are v
 pub met_more : (node j k v : ℕ) → path_visit_count node k v ≤ path_visit_count node (j + k) v
-met_more node zero k v = let e : 0 + k ≡ k = omega arith in subst (λ (n : ℕ). path_visit_count node k v ≤ path_visit_count node n v) (sym e)
+met_more node zero k v = let e : 0 + k ≡ k = omega arith in subst (λ (n : ℕ). path_visit_count node k v
+    ≤ path_visit_count node n v) (sym e)
     (omega arith)
 met_more node (suc j) k v =
     let e : suc j + k ≡ suc (j + k) = omega arith in
@@ -91,13 +94,16 @@ met_more node (suc j) k v =
     subst (λ (n : ℕ). path_visit_count node k v ≤ path_visit_count node n v) (sym e) (omega arith)
 
 -- the next node of the path is met once more
-pub met_once : (node k n : ℕ) → suc k ≤ n → path_visit_count node k (node / 2 ^ k) + 1 ≤ path_visit_count node n (node / 2 ^ k)
+pub met_once : (node k n : ℕ) → suc k ≤ n → path_visit_count node k (node / 2 ^ k) + 1 ≤ path_visit_count node n
+    (node / 2 ^ k)
 met_once node k n h =
     let e : n - suc k + suc k ≡ n = omega arith in
-    let more = subst (λ (m : ℕ). path_visit_count node (suc k) (node / 2 ^ k) ≤ path_visit_count node m (node / 2 ^ k)) e
+    let more = subst (λ (m : ℕ). path_visit_count node (suc k) (node / 2 ^ k) ≤ path_visit_count node m (node / 2 ^ k))
+    e
     (met_more node (n - suc k) (suc k) (node / 2 ^ k)) in
     let same = eq-eqb (node / 2 ^ k) (node / 2 ^ k) refl in
-    let step : path_visit_count node (suc k) (node / 2 ^ k) ≡ path_visit_count node k (node / 2 ^ k) + 1 = rw same refl in
+    let step : path_visit_count node (suc k) (node / 2 ^ k) ≡ path_visit_count node k (node / 2 ^ k) + 1 =
+    rw same refl in
     omega arith
 
 -- each node of the path from one of the lowest is one of the tree

@@ -73,7 +73,8 @@ at_or_above w v (inl same) = subst (IsAbove w) same (above_self w)
 at_or_above w v (inr above) = above.1
 
 -- a name leads to what follows from what it leads to
-leads_further : (name : Name) {from to : Secret} → DerivesSecret name from → IsGeneratorStep from to → DerivesSecret name to
+leads_further : (name : Name) {from to : Secret} → DerivesSecret name from → IsGeneratorStep from to →
+    DerivesSecret name to
 leads_further Whole l (left h) = l
 leads_further Whole l (right h) = l
 leads_further Whole l (middle h) = l
@@ -130,7 +131,8 @@ pub reached_is_found : (held : List Name) (secret : Secret) → IsReached held s
 reached_is_found held secret r = found held (from_reached held secret r)
 
 -- what a held name leads to is reached
-pub found_is_reached : (held : List Name) (secret : Secret) (name : Name) → Contains held name → DerivesSecret name secret
+pub found_is_reached : (held : List Name) (secret : Secret) (name : Name) → Contains held name →
+    DerivesSecret name secret
     → IsReached held secret
 found_is_reached held secret name m l = to_reached held secret (arrives held name secret (at_first m) l)
 
@@ -168,7 +170,8 @@ pub none_of_all : {X : Type 0} (xs : List X) (P : X → Type 0) (d : X)
 none_of_all xs P d none x (k, within, is) p = none k within (subst P (sym (get_or_default xs k d x within ∙ is)) p)
 
 -- what is reached from the names of several leaves is reached from those of one
-pub reached_by_one : (d : ℕ) (coalition : List ℕ) (secret : Secret) → IsReached (flat_map (names_of_receiver d) coalition) secret
+pub reached_by_one : (d : ℕ) (coalition : List ℕ) (secret : Secret) →
+    IsReached (flat_map (names_of_receiver d) coalition) secret
     ↔ Any (λ u. IsReached (names_of_receiver d u) secret) coalition
 reached_by_one d coalition secret = (
   λ r. let (name, held, leads) = reached_is_found (flat_map (names_of_receiver d) coalition) secret r in

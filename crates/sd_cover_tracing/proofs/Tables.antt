@@ -119,7 +119,8 @@ table_written ns room room' v n t h less = record {
 }
 
 -- a node has a place where there is room or it counts
-pub placed : (ns : List ℕ) (room v : ℕ) → IsProbeTable ns room → v < NODES → (0 < get_or ns v 0) ⊎ (0 < room) → v < length ns
+pub placed : (ns : List ℕ) (room v : ℕ) → IsProbeTable ns room → v < NODES → (0 < get_or ns v 0) ⊎ (0 < room) →
+    v < length ns
 placed ns room v t h (inl some) = counted_within ns v some
 placed ns room v t h (inr more) = elim t.size [
   | inl whole ↦ omega arith

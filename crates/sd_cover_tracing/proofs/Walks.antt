@@ -84,7 +84,8 @@ module _ (d : ℕ) (m : FinMap nat_cmp ℕ) (small : d < 32) (is : IsIndex d m) 
 
   -- at a revoked leaf's node
   pub added_leaf : (level head v : ℕ) (old new : List SetName) → level ≡ 0 → StandsAt d level v →
-      IsOnChain d (indexed_leaves d m) head v → new ≡ old ++ of_ends head v → AddsChains d (indexed_leaves d m) head v old new
+      IsOnChain d (indexed_leaves d m) head v → new ≡ old ++ of_ends head v →
+      AddsChains d (indexed_leaves d m) head v old new
   added_leaf level head v old new bottom at on added =
       let at' = subst (λ (l : ℕ). StandsAt d l v) bottom at in
       let to = in_tree_to d 0 v (indexed_leaves d m) (are_leaves d m) at' on.inside in
@@ -122,16 +123,19 @@ module _ (d : ℕ) (m : FinMap nat_cmp ℕ) (small : d < 32) (is : IsIndex d m) 
   listed sets c = ((the_cover d (indexed_leaves d m) sets small (are_leaves d m)).0 c, c)
 
   -- what the walk from the root adds, sorted, is the cover
-  pub cover_of_walk : (old sets sorted : List SetName) → 0 < tally_at m 1 → old ≡ [] → AddsChains d (indexed_leaves d m) 1 1
+  pub cover_of_walk : (old sets sorted : List SetName) → 0 < tally_at m 1 → old ≡ [] →
+      AddsChains d (indexed_leaves d m) 1 1
       old sets → IsPermutation sets sorted → IsSorted set_cmp sorted → IsListed d (indexed_leaves d m) sorted
   cover_of_walk old sets sorted some none added moved up =
       let all = root_counts in
       let is_added : sets ≡ added.0 = added.1 ∙ ap (λ (xs : List SetName). xs ++ added.0) none in
-      listed sorted (sorted_chains d (indexed_leaves d m) added.0 sorted (λ e. let n = ap length e in omega arith) added.2
+      listed sorted (sorted_chains d (indexed_leaves d m) added.0 sorted (λ e. let n = ap length e in
+      omega arith) added.2
       (subst (λ (xs : List SetName). IsPermutation xs sorted) is_added moved) up)
 
   -- the whole set is the cover where no leaf is revoked
-  pub cover_of_none : (sets : List SetName) → tally_at m 1 ≡ 0 → sets ≡ Whole ∷ [] → IsListed d (indexed_leaves d m) sets
+  pub cover_of_none : (sets : List SetName) → tally_at m 1 ≡ 0 → sets ≡ Whole ∷ [] →
+      IsListed d (indexed_leaves d m) sets
   cover_of_none sets none whole =
       let all = root_counts in
       let empty : indexed_leaves d m ≡ [] = none_of_length (indexed_leaves d m) (omega arith) in
@@ -185,7 +189,8 @@ module _ {d : ℕ} {m : FinMap nat_cmp ℕ} {level head v : ℕ} (here : IsInner
       let l = (inside (level - 1) (2 * v) at_left).0 (omega arith) in
       (inl (l, outside d m here.small here.index (level - 1) (2 * v + 1) at_right none), l)
 
-  one_right : tally_at m (2 * v) ≡ 0 → HasOneChild d (indexed_leaves d m) v × IsInTree d (indexed_leaves d m) (2 * v + 1)
+  one_right : tally_at m (2 * v) ≡ 0 → HasOneChild d (indexed_leaves d m) v × IsInTree d (indexed_leaves d m)
+      (2 * v + 1)
   one_right none =
       let s = sum in
       let some = some_count in
@@ -234,7 +239,8 @@ module _ {d : ℕ} {m : FinMap nat_cmp ℕ} {level head v : ℕ} (here : IsInner
 
   pub added_both : (old first mid new : List SetName) → 0 < tally_at m (2 * v) → 0 < tally_at m (2 * v + 1) →
       first ≡ old ++ of_ends head v → AddsChains d (indexed_leaves d m) (2 * v) (2 * v) first mid →
-      AddsChains d (indexed_leaves d m) (2 * v + 1) (2 * v + 1) mid new → AddsChains d (indexed_leaves d m) head v old new
+      AddsChains d (indexed_leaves d m) (2 * v + 1) (2 * v + 1) mid new →
+      AddsChains d (indexed_leaves d m) head v old new
   added_both old first mid new l r begun a b = (
     of_ends head v ++ (a.0 ++ b.0),
     b.1 ∙ (ap (λ (xs : List SetName). xs ++ b.0) (a.1 ∙ ap (λ (xs : List SetName). xs ++ a.0) begun) ∙

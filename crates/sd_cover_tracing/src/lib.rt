@@ -1,5 +1,6 @@
 //! The cover by chains of the Steiner tree, and its incremental index, which keeps the revoked leaves between periods.
-//! Tracing: which leaves of an unknown coalition still open what is sent to a box. Which keys follow from the names that
+//! Tracing: which leaves of an unknown coalition still open what is sent to a box. Which keys follow from the names
+//! that
 //! receivers are given, by the steps of the generator.
 #![tactic(auto)]
 

@@ -29,7 +29,8 @@ pub fn raise_path<L: Ledger>(counts: &mut Counts, h: Height, node: u32, steps: &
     requires most { node < NODES }
     requires fits { (v : ℕ) → 1 ≤ v → v < 2 ^ (h + 1) → tally_at counts.old.counts v ≤ 2 ^ h }
     requires room { h + 1 ≤ counts.old.room }
-    ensures value { (v : ℕ) → tally_at counts.new.counts v ≡ tally_at counts.old.counts v + path_visit_count node (h + 1) v }
+    ensures value { (v : ℕ) → tally_at counts.new.counts v ≡ tally_at counts.old.counts v + path_visit_count node
+        (h + 1) v }
     ensures room { counts.old.room ≤ counts.new.room + (h + 1) }
     ensures steps { steps.new ≡ steps.old + (h + 1) }
 {
@@ -44,7 +45,8 @@ pub fn lower_path<L: Ledger>(counts: &mut Counts, h: Height, node: u32, steps: &
     requires high { node < 2 ^ (h + 1) }
     requires most { node < NODES }
     requires some { (v : ℕ) → 1 ≤ v → v < 2 ^ (h + 1) → path_visit_count node (h + 1) v ≤ tally_at counts.old.counts v }
-    ensures value { (v : ℕ) → tally_at counts.new.counts v + path_visit_count node (h + 1) v ≡ tally_at counts.old.counts v }
+    ensures value { (v : ℕ) → tally_at counts.new.counts v + path_visit_count node (h + 1) v
+        ≡ tally_at counts.old.counts v }
     ensures room { counts.old.room ≤ counts.new.room }
     ensures steps { steps.new ≡ steps.old + (h + 1) }
 {

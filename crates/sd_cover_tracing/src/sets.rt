@@ -70,7 +70,8 @@ fn walk<L: Ledger>(
     requires stands { StandsAt h level v }
     requires revoked { revoked ≡ tally_at counts.now.counts v }
     requires chain { IsOnChain h (indexed_leaves h counts.now.counts) head v }
-    ensures value { OnOk result (AddsChains h (indexed_leaves h counts.now.counts) head v sets.old.items sets.new.items) }
+    ensures value { OnOk result (AddsChains h (indexed_leaves h counts.now.counts) head v sets.old.items
+        sets.new.items) }
     ensures steps { steps.new ≤ steps.old + revoked * level }
 {
     if level == 0 {

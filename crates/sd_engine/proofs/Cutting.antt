@@ -32,7 +32,8 @@ unfolding skipped_before
 skipped_end k = refl
 
 -- a packet is first
-pub cut_packet : (bytes : List ℕ) → begins_packet bytes ≡ true → cut_packets bytes ≡ take 188 bytes ∷ cut_packets (drop 188 bytes)
+pub cut_packet : (bytes : List ℕ) → begins_packet bytes ≡ true → cut_packets bytes ≡ take 188 bytes ∷ cut_packets
+    (drop 188 bytes)
 unfolding cut_after
 cut_packet [] begins = absurd (both_ways (begins_packet []) none_begins begins)
 cut_packet (byte ∷ bytes) begins =
@@ -56,7 +57,8 @@ skipped_none [] begins = refl
 skipped_none (byte ∷ bytes) begins = cond-true (begins_packet (byte ∷ bytes)) _ _ begins
 
 -- no packet is first
-cut_other : (byte : ℕ) (bytes : List ℕ) → begins_packet (byte ∷ bytes) ≡ false → cut_packets (byte ∷ bytes) ≡ cut_packets bytes
+cut_other : (byte : ℕ) (bytes : List ℕ) → begins_packet (byte ∷ bytes) ≡ false →
+    cut_packets (byte ∷ bytes) ≡ cut_packets bytes
 unfolding cut_after
 cut_other byte bytes other = cond-false (begins_packet (byte ∷ bytes)) _ _ other
 

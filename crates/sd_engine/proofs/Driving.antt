@@ -16,7 +16,8 @@ use Rattle.sd_engine.specs.Stage.{SinkState, HasGrown, IsCutShort, IsAllowed, Ch
 use Rattle.sd_engine.specs.Feeding.{ReadsMore, GivesPacket, GivesNone, IsWaitingPacket, IsBrokenStream, FeedStop}
 use Rattle.sd_engine.specs.declared.feed.FeedFault.{FeedFault}
 use Rattle.sd_engine.specs.declared.feed.FeedFault.TheVariants.{Read, Write, Break}
-use Rattle.sd_engine.specs.Driving.{DriveState, drive_state_of, IsUnderWay, IsWhole, ChainToEnd, PassesPackets, IsStopped}
+use Rattle.sd_engine.specs.Driving.{DriveState, drive_state_of, IsUnderWay, IsWhole, ChainToEnd, PassesPackets}
+use Rattle.sd_engine.specs.Driving.{IsStopped}
 use Rattle.sd_engine.specs.Driving.{IsHeldUp, IsStreamBroken}
 use Rattle.sd_engine.specs.declared.stage.StageFault.{StageFault}
 use Rattle.sd_engine.specs.declared.stage.StageFault.TheVariants.{Write as StageWrite, Refused as StageRefused}
@@ -126,7 +127,8 @@ some_went does a left left' sink stage steps count old way lost few =
           (record { bytes = lost.0; consumed = lost.1; joined = refl });
       enough = prefix.1;
       few = few;
-      passed = subst (λ (ps : List (List ℕ)). PassesPackets does a ps (drive_state_of left' sink stage steps)) (sym prefix.0)
+      passed = subst (λ (ps : List (List ℕ)). PassesPackets does a ps (drive_state_of left' sink stage steps))
+          (sym prefix.0)
           way.passed;
     }
 
@@ -168,7 +170,8 @@ break_here count rest NoSync takes = no_sync_here rest count takes.0 takes.1
 
 pub stream_broken : {S : Type 0} (does : S → List ℕ → S → List ℕ → ℕ → Type 0) (a : DriveState S)
     (left left' : Option (List ℕ)) (sink : SinkState) (stage : S) (steps count : ℕ) (old : List ℕ) (cause : BreakCause)
-    → IsUnderWay does a (drive_state_of left sink stage steps) count old → IsBrokenStream left left' old cause → count < most_packets
+    → IsUnderWay does a (drive_state_of left sink stage steps) count old → IsBrokenStream left left' old cause →
+    count < most_packets
     → IsStreamBroken does a (drive_state_of left' sink stage steps) (record { packet = count; cause = cause })
 stream_broken does a left left' sink stage steps count old cause way found few =
     let here = break_here count found.left cause found.broken in
@@ -335,7 +338,8 @@ packet_cut does ends refuses a left left' sink sink' stage stage' steps steps' c
             (omega (arith, e, here.1));
       };
       mid = drive_state_of left sink stage steps;
-      passed = subst (λ (ps : List (List ℕ)). PassesPackets does a ps (drive_state_of left sink stage steps)) (sym prefix.0)
+      passed = subst (λ (ps : List (List ℕ)). PassesPackets does a ps (drive_state_of left sink stage steps))
+          (sym prefix.0)
           way.passed;
       cut = subst (λ (p : Option (List ℕ)). IsCutShort sink sink' (IsAllowedAt does ends refuses stage p steps steps'))
           (sym here.0) cut;
@@ -382,7 +386,8 @@ too_many does a left left' sink stage steps old more way reads some =
       read = reads_on a.left left left' way.taken old more way.read reads;
       enough = prefix.1;
       longer = omega (arith, way.packets.long, length-append way.taken more, some);
-      passed = subst (λ (ps : List (List ℕ)). PassesPackets does a ps (drive_state_of left' sink stage steps)) (sym prefix.0)
+      passed = subst (λ (ps : List (List ℕ)). PassesPackets does a ps (drive_state_of left' sink stage steps))
+          (sym prefix.0)
           way.passed;
     }
 

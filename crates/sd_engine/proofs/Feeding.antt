@@ -112,7 +112,8 @@ packet_given a b old piece packet at filled fills within takes =
     }
 
 -- nothing waits, so the source is at its end
-pub none_given : (a b : Option (List ℕ)) (old new : List ℕ) → HasFilled 188 a b old new → new ≡ [] → GivesNone a b old new
+pub none_given : (a b : Option (List ℕ)) (old new : List ℕ) → HasFilled 188 a b old new → new ≡ [] →
+    GivesNone a b old new
 none_given a b old new fills none = record {
   read = subst (ReadsMore a b old) none fills.read;
   none = none;

@@ -12,7 +12,8 @@ use Rattle.sd_engine.specs.Stream.{packets_of, break_of}
 use Rattle.sd_engine.specs.Stage.{HasGrown, IsCutShort}
 use Rattle.sd_engine.specs.Driving.{DriveState, most_packets, PassesPackets, ChainToEnd, IsPlace, ChainToRefusal}
 use Rattle.sd_engine.specs.Driving.{IsAllowedAt, IsStopped, DriveOutcome}
-use Rattle.sd_engine.specs.Taken.{StreamEnd, Whole, Breaks, RunsOn, packets_taken, stream_end_by, end_of, AreBytesLeft, IsReachedPacket, IsOver}
+use Rattle.sd_engine.specs.Taken.{StreamEnd, Whole, Breaks, RunsOn, packets_taken, stream_end_by, end_of, AreBytesLeft}
+use Rattle.sd_engine.specs.Taken.{IsReachedPacket, IsOver}
 use Rattle.sd_engine.specs.declared.fault.StreamBreak.{StreamBreak}
 use Rattle.sd_engine.specs.declared.fault.BreakCause.{BreakCause}
 use Rattle.sd_engine.specs.declared.fault.BreakCause.TheVariants.{Torn, NoSync}
@@ -32,7 +33,8 @@ rest_of (Some xs) None bytes h = absurd h
 rest_of (Some xs) (Some ys) bytes h = record { rest = ys; all = h; none = λ e. e }
 
 -- at the end they are all
-all_read : (left now : Option (List ℕ)) (bytes : List ℕ) → Consumes left now bytes → IsAtEnd now → AreBytesLeft left bytes
+all_read : (left now : Option (List ℕ)) (bytes : List ℕ) → Consumes left now bytes → IsAtEnd now →
+    AreBytesLeft left bytes
 all_read left now bytes h end =
     let r = rest_of left now bytes h in
     subst (AreBytesLeft left) (ap (λ (xs : List ℕ). bytes ++ xs) (r.none end) ∙ append-nil bytes) r.all
@@ -212,7 +214,8 @@ too_long : {S : Type 0} (does : S → List ℕ → S → List ℕ → ℕ → Ty
 too_long does a b bytes more first many longer passed =
     let all = bytes ++ more in
     let least = least_of all in
-    let same : packets_taken all ≡ take most_packets (packets_of bytes) = sym (take_all most_packets (packets_taken all) least.1)
+    let same : packets_taken all ≡ take most_packets (packets_of bytes) =
+    sym (take_all most_packets (packets_taken all) least.1)
     ∙ first in (
       runs_on all (le_trans many least.0) (lt_of_lt_of_le longer (longer_by bytes more)),
       subst (λ (ps : List (List ℕ)). PassesPackets does a ps b) (sym same) passed,
@@ -306,7 +309,8 @@ is_over does ends refuses a b (Err (Refused fault)) h =
         place = o.same.at;
         passed =
             subst (λ (p : Option (List ℕ)). HasGrown a.sink b.sink a.steps b.steps
-            (ChainToRefusal does refuses a.stage (take h.count (packets_taken o.all)) p fault b.stage)) (sym o.same.here)
+            (ChainToRefusal does refuses a.stage (take h.count (packets_taken o.all)) p fault b.stage))
+            (sym o.same.here)
             (subst (λ (ps : List (List ℕ)). HasGrown a.sink b.sink a.steps b.steps
             (ChainToRefusal does refuses a.stage ps (slice_get (packets_of h.bytes) h.count) fault b.stage))
             (sym o.same.first) h.passed);

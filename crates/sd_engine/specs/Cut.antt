@@ -46,4 +46,5 @@ readable bytes = read_from bytes 0 (cut_packets bytes)
 -- a stream has more than is read of it: more than 2^48 packets, or 2^64 - 1 bytes that are in none [this project,
 -- docs/FORMATS.md, Streams]
 unfoldable pub is_stream_too_long : List ℕ → Bool
-is_stream_too_long bytes = nat_lt (2 ^ 48) (length (cut_packets bytes)) || not (skips_few bytes (length (cut_packets bytes)))
+is_stream_too_long bytes = nat_lt (2 ^ 48) (length (cut_packets bytes))
+    || not (skips_few bytes (length (cut_packets bytes)))

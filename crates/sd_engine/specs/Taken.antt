@@ -49,7 +49,8 @@ pub record RefusesAt {S F : Type 0} (does : S → List ℕ → S → List ℕ �
     pub count : ℕ
     pub place : IsReachedPacket bytes count
     pub passed : HasGrown a.sink b.sink a.steps b.steps
-        (ChainToRefusal does refuses a.stage (take count (packets_taken bytes)) (slice_get (packets_taken bytes) count) fault
+        (ChainToRefusal does refuses a.stage (take count (packets_taken bytes)) (slice_get (packets_taken bytes) count)
+        fault
         b.stage)
 
 -- a write failed there

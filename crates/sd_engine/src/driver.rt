@@ -76,7 +76,8 @@ fn close<K: Sink, L: Ledger, G: Stage<K, L>>(
     count: u64,
 ) -> Result<u64, DriveFault<G::Fault>>
     requires live { G.live stage.old }
-    ensures value { IsStageEnd G.ends G.refuses (sink_state_of K.Sink sink.old) (sink_state_of K.Sink sink.new) stage.old stage.new
+    ensures value { IsStageEnd G.ends G.refuses (sink_state_of K.Sink sink.old) (sink_state_of K.Sink sink.new)
+        stage.old stage.new
         steps.old steps.new count result }
     ensures written { IsCaused (K.faults sink.old) (K.faults sink.new) (IsErrOf result DriveFault.WriteFault) }
 {

@@ -1,7 +1,8 @@
 ghost use Rattle.std.specs.Prelude.{◌≡◌, ◌+◌, ◌-◌, ◌<◌, ◌≤◌, None, Ok, IfOk, IfErr, IsErrOf, OnErr, length};
 ghost use Rattle.std.specs.Io.KnownBytes.{IsAtEnd};
 ghost use Rattle.sd_base.specs.Count.{HasCause, IsCaused};
-ghost use Rattle.sd_engine.specs.Feeding.{waiting, ReadsMore, HasFilled, FillStop, FeedOutcome, FeedStop, IsWaitingPacket};
+ghost use Rattle.sd_engine.specs.Feeding.{waiting, ReadsMore, HasFilled, FillStop, FeedOutcome, FeedStop};
+ghost use Rattle.sd_engine.specs.Feeding.{IsWaitingPacket};
 ghost use Rattle.sd_engine.specs.Stage.{sink_state_of};
 ghost use Rattle.sd_ports.specs.Bytes.{LosesPrefix};
 

@@ -45,7 +45,8 @@ pub trait Stage<K: Sink, L: Ledger> {
         steps: &mut Steps<L>,
     ) -> Result<(), StageFault<Self::Fault>>
         requires live { live self.old }
-        ensures value { OnOk result (HasGrown (sink_state_of K.Sink out.old) (sink_state_of K.Sink out.new) steps.old steps.new
+        ensures value { OnOk result (HasGrown (sink_state_of K.Sink out.old) (sink_state_of K.Sink out.new) steps.old
+            steps.new
             (does self.old packet.now self.new)) }
         ensures ok { OnOk result (live self.new × (kept self.new ≡ None)) }
         ensures fault { (fault : Self.Fault) → result ≡ Err (StageFault.Refused fault) →
@@ -56,14 +57,16 @@ pub trait Stage<K: Sink, L: Ledger> {
         ensures again { (fault : Self.Fault) → kept self.old ≡ Some fault →
             (result ≡ Err (StageFault.Refused fault)) × (sink_state_of K.Sink out.new ≡ sink_state_of K.Sink out.old)
             × (steps.new ≡ steps.old) }
-        ensures prefix { IsErrOf result StageFault.Write → IsCutShort (sink_state_of K.Sink out.old) (sink_state_of K.Sink out.new)
+        ensures prefix { IsErrOf result StageFault.Write → IsCutShort (sink_state_of K.Sink out.old)
+            (sink_state_of K.Sink out.new)
             (IsAllowed (does self.old packet.now) (refuses self.old (Some packet.now)) steps.old steps.new) }
         ensures cause { IsCaused (K.faults out.old) (K.faults out.new) (IsErrOf result StageFault.Write) };
 
     /// Takes the end of the stream, after its last packet.
     fn close(&mut self, out: &mut K, steps: &mut Steps<L>) -> Result<(), StageFault<Self::Fault>>
         requires live { live self.old }
-        ensures value { OnOk result (HasGrown (sink_state_of K.Sink out.old) (sink_state_of K.Sink out.new) steps.old steps.new
+        ensures value { OnOk result (HasGrown (sink_state_of K.Sink out.old) (sink_state_of K.Sink out.new) steps.old
+            steps.new
             (ends self.old self.new)) }
         ensures ok { OnOk result (kept self.new ≡ None) }
         ensures fault { (fault : Self.Fault) → result ≡ Err (StageFault.Refused fault) →
@@ -74,7 +77,8 @@ pub trait Stage<K: Sink, L: Ledger> {
         ensures again { (fault : Self.Fault) → kept self.old ≡ Some fault →
             (result ≡ Err (StageFault.Refused fault)) × (sink_state_of K.Sink out.new ≡ sink_state_of K.Sink out.old)
             × (steps.new ≡ steps.old) }
-        ensures prefix { IsErrOf result StageFault.Write → IsCutShort (sink_state_of K.Sink out.old) (sink_state_of K.Sink out.new)
+        ensures prefix { IsErrOf result StageFault.Write → IsCutShort (sink_state_of K.Sink out.old)
+            (sink_state_of K.Sink out.new)
             (IsAllowed (ends self.old) (refuses self.old None) steps.old steps.new) }
         ensures cause { IsCaused (K.faults out.old) (K.faults out.new) (IsErrOf result StageFault.Write) };
 }

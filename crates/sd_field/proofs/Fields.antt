@@ -29,8 +29,10 @@ use Rattle.sd_field.proofs.Seats.{written_in}
 use Rattle.sd_field.proofs.Stations.{head_after, head_clear}
 use Rattle.sd_field.specs.Stations.{IsHeadAfter, IsStation}
 use Rattle.sd_field.specs.Fields.{AreSeated, FieldValue, IsField, IsSeatKept, IsSendRefused, IsSentCut, IsWrittenCut}
-use Rattle.sd_field.specs.Fields.{IsCommand, IsSentOver, EventTakesMemory, next_event, next_refusal, refusal_at, sends_of}
-use Rattle.sd_field.specs.Fields.{IsWrittenOver, after_fault, after_next, field_card, past_of, plan_of_field, field_clear_packets, watch_of}
+use Rattle.sd_field.specs.Fields.{IsCommand, IsSentOver, EventTakesMemory, next_event, next_refusal, refusal_at}
+use Rattle.sd_field.specs.Fields.{sends_of}
+use Rattle.sd_field.specs.Fields.{IsWrittenOver, after_fault, after_next, field_card, past_of, plan_of_field}
+use Rattle.sd_field.specs.Fields.{field_clear_packets, watch_of}
 use Rattle.sd_field.specs.Fields.{written_of}
 use Rattle.sd_field.specs.declared.fault.FieldFault.{FieldFault}
 use Rattle.sd_field.specs.declared.fault.FieldFault.TheVariants.{Clear, NoMemory}
@@ -120,17 +122,21 @@ next_watch v event w is = ap (watch (plan_of_field v) v.clear w) (past_next v ev
 other_watch : (v : FieldValue) (event : Event) (u w : ℕ) → slice_get v.events v.done ≡ Some event → IsAt u event →
     u ≢ w → watch_of w (after_next v) ≡ watch_of w v
 other_watch v event u w is at apart =
-    next_watch v event w is ∙ at.others w (length (stream (plan_of_field v) (field_clear_packets v))) (watch_of w v) apart
+    next_watch v event w is ∙ at.others w (length (stream (plan_of_field v) (field_clear_packets v)))
+    (watch_of w v) apart
 
 -- a seat with one event more
-moved_seat : (v : FieldValue) (w : ℕ) (x : Watch) (seat : Seat) → field_clear_packets (after_next v) ≡ field_clear_packets v →
+moved_seat : (v : FieldValue) (w : ℕ) (x : Watch) (seat : Seat) → field_clear_packets (after_next v)
+    ≡ field_clear_packets v →
     watch_of w (after_next v) ≡ x →
     IsSeated (plan_of_field v) (field_card v w) (field_clear_packets v) (188 * length v.clear) x seat →
-    IsSeated (plan_of_field v) (field_card v w) (field_clear_packets (after_next v)) (188 * length v.clear) (watch_of w (after_next v)) seat
+    IsSeated (plan_of_field v) (field_card v w) (field_clear_packets (after_next v)) (188 * length v.clear)
+    (watch_of w (after_next v)) seat
 moved_seat v w x seat sent is seated =
     subst (λ (clear : List (List ℕ)). IsSeated (plan_of_field v) (field_card v w) clear (188 * length v.clear)
     (watch_of w (after_next v)) seat) (sym sent)
-    (subst (λ (y : Watch). IsSeated (plan_of_field v) (field_card v w) (field_clear_packets v) (188 * length v.clear) y seat) (sym is) seated)
+    (subst (λ (y : Watch). IsSeated (plan_of_field v) (field_card v w) (field_clear_packets v) (188 * length v.clear) y
+    seat) (sym is) seated)
 
 -- the seat at a place where one was put
 put_here : (seats : List Seat) (u : ℕ) (to seat : Seat) → u < length seats →
@@ -213,7 +219,8 @@ pub field_next : (v : FieldValue) (event : Event) (book : BookValue) (station : 
     (to : Seat) → slice_get v.events v.done ≡ Some event → IsAt u event → v.failed ≡ None → u < 2 ^ v.site.height →
     IsField v book station seats →
     (packets_of station.sent.held ≡ stream (plan_of_field v) (field_clear_packets v) →
-    IsSeated (plan_of_field v) (field_card v u) (field_clear_packets v) (188 * length v.clear) (watch_of u v) (get_or seats u to) →
+    IsSeated (plan_of_field v) (field_card v u) (field_clear_packets v) (188 * length v.clear) (watch_of u v)
+    (get_or seats u to) →
     IsSeated (plan_of_field v) (field_card v u) (field_clear_packets v) (188 * length v.clear)
     (watch_after_event u (length (packets_of station.sent.held)) event (watch_of u v)) to) →
     IsField (after_next v) book station (slice_set seats u to)
@@ -242,7 +249,8 @@ field_next v event book station seats u to is at calm low field goes_on =
       room = field.room;
       many = length-set seats u to ∙ field.many;
       seated = seated_next v event seats u to calm is at field.seated inside
-          (subst (λ (xs : List (List ℕ)). IsSeated (plan_of_field v) (field_card v u) (field_clear_packets v) (188 * length v.clear)
+          (subst (λ (xs : List (List ℕ)). IsSeated (plan_of_field v) (field_card v u) (field_clear_packets v)
+          (188 * length v.clear)
           (watch_after_event u (length xs) event (watch_of u v)) to) all passed);
     }
 
@@ -258,7 +266,8 @@ pub seat_behind : (v : FieldValue) (book : BookValue) (station : Station) (seats
     sent ≡ station.sent.held → seat.cursor ≤ length (packets_of sent)
 unfolding stream
 seat_behind v book station seats u seat sent calm field there is =
-    let all : packets_of sent ≡ stream (plan_of_field v) (field_clear_packets v) = ap packets_of (is ∙ field.sent (unsent v calm)) in
+    let all : packets_of sent ≡ stream (plan_of_field v) (field_clear_packets v) =
+    ap packets_of (is ∙ field.sent (unsent v calm)) in
     let passed = cursor_within (plan_of_field v) v.clear u (past_of v) in
     let same = (seat_stands v seats u seat calm field.seated there).cursor in
     omega (arith, passed, same, ap length all)
@@ -362,7 +371,8 @@ sent_seat v w k seat more stands =
     append_cancel_right (wrote_before plan card (take k v.clear) x) (wrote_before plan card (field_clear_packets v) x)
     (concat (out_from card [] (present plan (field_clear_packets v) x)))
     (ap (λ (xs : List (List ℕ)). wrote_before plan card (take k v.clear) x ++ concat (out_from card [] xs)) (sym now)
-    ∙ (sym (written_in plan card (take k v.clear) x) ∙ (ap concat all ∙ written_in plan card (field_clear_packets v) x))) in
+    ∙ (sym (written_in plan card (take k v.clear) x) ∙ (ap concat all ∙ written_in plan card (field_clear_packets v)
+    x))) in
     record {
       cursor = stands.cursor;
       on = stands.on;
@@ -379,7 +389,8 @@ sent_seat v w k seat more stands =
 pub field_sent : (v : FieldValue) (book : BookValue) (station to : Station) (seats : List Seat) →
     slice_get v.events v.done ≡ Some Send → sends_of v < length v.clear → v.failed ≡ None →
     IsField v book station seats →
-    IsStation (plan_of_field v) (field_clear_packets v ++ get_or v.clear (sends_of v) [] ∷ []) (188 * 72 * length v.clear) to →
+    IsStation (plan_of_field v) (field_clear_packets v ++ get_or v.clear (sends_of v) [] ∷ [])
+    (188 * 72 * length v.clear) to →
     IsField (after_next v) book to seats
 field_sent v book station to seats is left calm field stands =
     let one = one_to_send v is left in
@@ -395,10 +406,18 @@ field_sent v book station to seats is left calm field stands =
       done = let within = slice_get_within v.events v.done Send is in omega (arith, within);
       plan = field.plan;
       clear = subst (IsClear v.site) (sym same)
-          (head_clear (plan_of_field v) (field_clear_packets v ++ get_or v.clear (sends_of v) [] ∷ []) to.head stands.head);
+          (head_clear (plan_of_field v) (field_clear_packets v ++ get_or v.clear (sends_of v) [] ∷ []) to.head
+          stands.head);
       height = field.height;
       commands = field.commands;
-      count = omega (arith, stands.count, one, long, length-append (field_clear_packets v) (get_or v.clear (sends_of v) [] ∷ []));
+      count = omega (
+        arith,
+        stands.count,
+        one,
+        long,
+        length-append (field_clear_packets v)
+            (get_or v.clear (sends_of v) [] ∷ []),
+      );
       head = λ _. subst (λ (xs : List (List ℕ)). IsHeadAfter (plan_of_field v) xs to.head) (sym same) stands.head;
       sent = λ _. stands.held ∙ ap (λ (xs : List (List ℕ)). concat (body (plan_of_field v) xs)) (sym same);
       room = λ _. stands.room;
@@ -406,9 +425,11 @@ field_sent v book station to seats is left calm field stands =
       seated = λ w seat there.
           let before = seat_stands v seats w seat calm field.seated there in
           let after = sent_seat v w (suc (sends_of v)) seat more before in
-          let now = subst (λ (k : ℕ). IsSeated (plan_of_field v) (field_card v w) (take k v.clear) (188 * length v.clear)
+          let now = subst (λ (k : ℕ). IsSeated (plan_of_field v) (field_card v w) (take k v.clear)
+          (188 * length v.clear)
           (watch_of w v) seat) (sym one) after in
-          let stays = subst (λ (x : Watch). IsSeated (plan_of_field v) (field_card v w) (field_clear_packets (after_next v))
+          let stays = subst (λ (x : Watch). IsSeated (plan_of_field v) (field_card v w)
+          (field_clear_packets (after_next v))
           (188 * length v.clear) x seat) (sym (next_watch v Send w is)) now in
           record { on = stays.on; seated = λ _. stays };
     }
@@ -452,7 +473,8 @@ send_failed v fault book station to seats is calm count held field = record {
 pub send_memory : (v : FieldValue) → slice_get v.events v.done ≡ Some Send → sends_of v < length v.clear →
     refusal_of v.site (field_clear_packets v) (get_or v.clear (sends_of v) []) ≡ None →
     188 * 72 * length v.clear
-    < length (concat (body (plan_of_field v) (field_clear_packets v ++ get_or v.clear (sends_of v) [] ∷ []))) → IsSentOver v
+    < length (concat (body (plan_of_field v) (field_clear_packets v ++ get_or v.clear (sends_of v) [] ∷ []))) →
+    IsSentOver v
 send_memory v is left allowed over = record {
   next = is;
   allowed = one_refused v is left ∙ allowed;
@@ -468,9 +490,11 @@ pub over_next : (v : FieldValue) (u : ℕ) (packets : List (List ℕ)) → slice
 over_next v u packets is all over =
     let same : written_of u (after_next v) ≡ concat (written (plan_of_field v) (field_card v u) (field_clear_packets v)
     (watch_after_event u (length packets) (Offer u) (watch_of u v))) =
-    ap (λ (clear : List (List ℕ)). concat (written (plan_of_field v) (field_card v u) clear (watch_of u (after_next v))))
+    ap (λ (clear : List (List ℕ)). concat (written (plan_of_field v) (field_card v u) clear
+    (watch_of u (after_next v))))
     (quiet_taken v (Offer u) is refl)
-    ∙ (ap (λ (w : Watch). concat (written (plan_of_field v) (field_card v u) (field_clear_packets v) w)) (next_watch v (Offer u) u is)
+    ∙ (ap (λ (w : Watch). concat (written (plan_of_field v) (field_card v u) (field_clear_packets v) w))
+    (next_watch v (Offer u) u is)
     ∙ ap (λ (xs : List (List ℕ)). concat (written (plan_of_field v) (field_card v u) (field_clear_packets v)
     (watch_after_event u (length xs) (Offer u) (watch_of u v)))) (sym all)) in
     record { next = is; over = omega (arith, over, ap length same) }
@@ -555,14 +579,17 @@ MemoryOut v packet Same = (refusal_of v.site (field_clear_packets v) packet ≡ 
 
 over_at : (v : FieldValue) (packet : List ℕ) → slice_get v.events v.done ≡ Some Send → sends_of v < length v.clear →
     packet ≡ get_or v.clear (sends_of v) [] → refusal_of v.site (field_clear_packets v) packet ≡ None →
-    188 * 72 * length v.clear < length (concat (body (plan_of_field v) (field_clear_packets v ++ packet ∷ []))) → IsSentOver v
+    188 * 72 * length v.clear < length (concat (body (plan_of_field v) (field_clear_packets v ++ packet ∷ []))) →
+    IsSentOver v
 over_at v packet is left same allowed over =
     send_memory v is left (ap (refusal_of v.site (field_clear_packets v)) (sym same) ∙ allowed)
-    (subst (λ (p : List ℕ). 188 * 72 * length v.clear < length (concat (body (plan_of_field v) (field_clear_packets v ++ p ∷ [])))) same
+    (subst (λ (p : List ℕ). 188 * 72 * length v.clear < length
+    (concat (body (plan_of_field v) (field_clear_packets v ++ p ∷ [])))) same
     over)
 
 pub memory_at : (v : FieldValue) (packet : List ℕ) (Same : Type 0) → slice_get v.events v.done ≡ Some Send →
-    sends_of v < length v.clear → packet ≡ get_or v.clear (sends_of v) [] → length (field_clear_packets v) ≡ sends_of v →
+    sends_of v < length v.clear → packet ≡ get_or v.clear (sends_of v) [] → length (field_clear_packets v)
+    ≡ sends_of v →
     MemoryOut v packet Same → EventTakesMemory v (Some Send)
 memory_at v packet Same is left same long out = elim out.1 [
   | inl begins ↦ inl (subst (λ (k : ℕ). begins_with (plan_of_field v) k ≡ true) long begins.0)
@@ -609,7 +636,8 @@ pub first_field : (v : FieldValue) (book : BookValue) (station : Station) (seats
 unfolding sends watch
 first_field v book station seats none packets few leaves height commands stands many first =
     let past : past_of v ≡ [] = ap (λ (n : ℕ). reverse (take n v.events)) none in
-    let nothing : field_clear_packets v ≡ [] = ap (λ (xs : List Event). take (sends (length v.clear) xs) v.clear) past in
+    let nothing : field_clear_packets v ≡ [] = ap (λ (xs : List Event). take (sends (length v.clear) xs) v.clear) past
+    in
     let after = head_after (plan_of_field v) [] station.head stands.head in
     let begun : HasBegun (plan_of_field v) 0 station.head.entitling = after.entitled in
     record {
@@ -622,13 +650,17 @@ first_field v book station seats none packets few leaves height commands stands 
       height = height;
       commands = commands;
       count = stands.count ∙ sym (ap (sends (length v.clear)) past);
-      head = λ _. subst (λ (xs : List (List ℕ)). IsHeadAfter (plan_of_field v) xs station.head) (sym nothing) stands.head;
+      head = λ _. subst (λ (xs : List (List ℕ)). IsHeadAfter (plan_of_field v) xs station.head)
+          (sym nothing) stands.head;
       sent = λ _. stands.held ∙ ap (λ (xs : List (List ℕ)). concat (body (plan_of_field v) xs)) (sym nothing);
       room = λ _. stands.room;
       many = many;
       seated = λ u seat there.
-          let stays : IsSeated (plan_of_field v) (field_card v u) (field_clear_packets v) (188 * length v.clear) (watch_of u v) seat =
-          subst (λ (xs : List Event). IsSeated (plan_of_field v) (field_card v u) (field_clear_packets v) (188 * length v.clear)
-          (watch (plan_of_field v) v.clear u xs) seat) (sym past) (first u seat there (plan_of_field v) (field_clear_packets v)) in
+          let stays : IsSeated (plan_of_field v) (field_card v u) (field_clear_packets v) (188 * length v.clear)
+          (watch_of u v) seat =
+          subst (λ (xs : List Event). IsSeated (plan_of_field v) (field_card v u) (field_clear_packets v)
+          (188 * length v.clear)
+          (watch (plan_of_field v) v.clear u xs) seat) (sym past) (first u seat there (plan_of_field v)
+          (field_clear_packets v)) in
           record { on = stays.on; seated = λ _. stays };
     }

@@ -53,9 +53,11 @@ pub sends_low : (m : ℕ) (past : List Event) → sends m past ≤ m
 sends_low m past = let all = sends_are_counted m past in omega (arith, all)
 
 -- the book of one event more
-pub laid_on : (site : SiteFields) (m : ℕ) (event : Event) (past : List Event) (s t : Laid) → IsBookOfEvents site m past s →
+pub laid_on : (site : SiteFields) (m : ℕ) (event : Event) (past : List Event) (s t : Laid) →
+    IsBookOfEvents site m past s →
     t.draft.height ≡ s.draft.height → t.draft.commands ≡ book_after_event site m s.sends event s.draft.commands →
-    t.last ≡ last_period t.draft.commands → t.sends ≡ sends_with m event s.sends → IsBookOfEvents site m (event ∷ past) t
+    t.last ≡ last_period t.draft.commands → t.sends ≡ sends_with m event s.sends →
+    IsBookOfEvents site m (event ∷ past) t
 unfolding event_book sends
 laid_on site m event past s t laid height commands last sent = record {
   height = height ∙ laid.height;
@@ -73,7 +75,8 @@ command_within q command book low =
     let test : nat_le q 1023 ≡ true = grind (arith, nat_tests, low) in
     rw test refl
 
-pub command_beyond : (q : ℕ) (command : Command) (book : List Command) → 1023 < q → book ≡ book_with_command q command book
+pub command_beyond : (q : ℕ) (command : Command) (book : List Command) → 1023 < q →
+    book ≡ book_with_command q command book
 unfolding book_with_command
 command_beyond q command book high =
     let test : nat_le q 1023 ≡ false = grind (arith, nat_tests, high) in

@@ -119,14 +119,16 @@ sent_later v done is left more =
 
 -- the field stops at the first clear packet that is refused among those that its events send
 pub stops_at_first : (v : FieldValue) (fault : ClearFault) (done : ℕ) → IsClear v.site (field_clear_packets v) →
-    next_refusal v ≡ Some fault → v.done < done → refusal_from v.site [] (field_clear_packets (done_to done v)) ≡ Some fault
+    next_refusal v ≡ Some fault → v.done < done → refusal_from v.site [] (field_clear_packets (done_to done v))
+    ≡ Some fault
 stops_at_first v fault done clear found more =
     let refused = refused_next v fault found in
     first_refused v.site [] v.clear (sends_of v) (sends_of (done_to done v)) fault clear refused.left
     (sent_later v done refused.next refused.left more) refused.found
 
 -- and goes on if the next isn't refused
-pub goes_on_clear : (v : FieldValue) → v.done < length v.events → IsClear v.site (field_clear_packets v) → next_refusal v ≡ None →
+pub goes_on_clear : (v : FieldValue) → v.done < length v.events → IsClear v.site (field_clear_packets v) →
+    next_refusal v ≡ None →
     IsClear v.site (field_clear_packets (after_next v))
 goes_on_clear v inside clear none =
     by_event (get_or v.events v.done Send) (slice_get-get_or v.events v.done Send inside)

@@ -200,7 +200,8 @@ judged_good d k n (Some other) run some e = by_leaf (is_of d other.0) (nat_lt 52
         let same : other ≡ run = cc in
         rw (sym same) (record { some = some; few = ltb-false 524288 (n + other.1) t; leaf = s })
 
-pub line_good : (d k n : ℕ) (line : List ℕ) (run : Event × ℕ) → judged_event d k n (script_line_event line) ≡ Ok run → IsGood d n run
+pub line_good : (d k n : ℕ) (line : List ℕ) (run : Event × ℕ) → judged_event d k n (script_line_event line) ≡ Ok run →
+    IsGood d n run
 line_good d k n line run e = judged_good d k n (script_line_event line) run (spoken_some line) e
 
 -- the events of a good line, and those after it
@@ -219,7 +220,8 @@ script_on d k n events line lines run e =
 
 -- a bad line is the fault
 pub script_broken : (d k n : ℕ) (events : List Event) (line : List ℕ) (lines : List (List ℕ)) (fault : ScriptFault) →
-    judged_event d k n (script_line_event line) ≡ Err fault → put_before events (script_from d k n (line ∷ lines)) ≡ Err fault
+    judged_event d k n (script_line_event line) ≡ Err fault → put_before events (script_from d k n (line ∷ lines))
+    ≡ Err fault
 unfolding script_from
 script_broken d k n events line lines fault e = rw e refl
 

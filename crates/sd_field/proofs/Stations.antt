@@ -34,7 +34,8 @@ head_clear plan packets head stands =
     all_clear plan packets stands.start head (concat (body plan packets)) stands.steps stands.new.0 stands.chain
 
 -- so it may be offered one more
-pub head_ready : (plan : Plan) (packets : List (List ℕ)) (head : Head) → IsHeadAfter plan packets head → IsHeadReady head
+pub head_ready : (plan : Plan) (packets : List (List ℕ)) (head : Head) → IsHeadAfter plan packets head →
+    IsHeadReady head
 head_ready plan packets head stands calm =
     let after = head_after plan packets head stands in
     (packets, subst (λ (p : Plan). IsHeadEndAfter p packets head) (sym after.keeps_to) after)
@@ -139,7 +140,8 @@ never_short left total bytes is short none =
     omega (arith, passes, ap length none)
 
 -- a new head end
-pub first_station : (plan : Plan) (total : ℕ) (head : Head) (store : Store) → store.held ≡ [] → HasStoreRoom total store →
+pub first_station : (plan : Plan) (total : ℕ) (head : Head) (store : Store) → store.held ≡ [] →
+    HasStoreRoom total store →
     IsHeadEndAfter plan [] head → IsHeadReady head →
     IsStation plan [] total (record { head = head; count = 0; sent = store })
 unfolding body sent_from packets_from

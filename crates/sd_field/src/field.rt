@@ -305,7 +305,8 @@ impl Field {
 
     /// The bytes of all packets that were sent, in order.
     pub fn sent(&self) -> &[u8]
-        ensures value { ¬ IsSentCut self.now → result.now ≡ concat (body (plan_of_field self.now) (field_clear_packets self.now)) }
+        ensures value { ¬ IsSentCut self.now → result.now ≡ concat (body (plan_of_field self.now)
+            (field_clear_packets self.now)) }
     {
         self.station.sent.bytes()
     }

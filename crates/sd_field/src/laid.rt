@@ -4,7 +4,8 @@ ghost use Rattle.sd_book.specs.Commands.{is_within, last_period};
 ghost use Rattle.sd_book.specs.Limits.{IsDraft, IsWithinLimits};
 ghost use Rattle.sd_spec.specs.declared.event.Event.TheVariants.{Send};
 ghost use Rattle.sd_spec.specs.Events.{is_of, sends_with};
-ghost use Rattle.sd_spec.specs.Book.{book_after_event, book_with_command, event_book, with_periods_to, open_period, period_after};
+ghost use Rattle.sd_spec.specs.Book.{book_after_event, book_with_command, event_book, with_periods_to, open_period};
+ghost use Rattle.sd_spec.specs.Book.{period_after};
 ghost use Rattle.sd_spec.specs.Book.{period_to_reach};
 ghost use Rattle.sd_field.specs.Laid.{IsBookOfEvents};
 
@@ -111,10 +112,12 @@ impl Laid {
         requires single { last_period (command ∷ []) ≡ 0 }
         requires low { self.old.draft.height ≤ 6 }
         requires fits { IsWithinLimits self.old.draft.height
-            (book_with_command (period_after (site_fields_of site.now) self.old.sends) command self.old.draft.commands) }
+            (book_with_command (period_after (site_fields_of site.now) self.old.sends) command
+            self.old.draft.commands) }
         ensures height { self.new.draft.height ≡ self.old.draft.height }
         ensures value { OnOk result (self.new.draft.commands
-            ≡ book_with_command (period_after (site_fields_of site.now) self.old.sends) command self.old.draft.commands) }
+            ≡ book_with_command (period_after (site_fields_of site.now) self.old.sends) command
+            self.old.draft.commands) }
         ensures last { OnOk result (self.new.last ≡ last_period self.new.draft.commands) }
         ensures sends { self.new.sends ≡ self.old.sends }
     {

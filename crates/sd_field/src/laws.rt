@@ -16,7 +16,8 @@ pub fn refused_in_front()
 /// A field goes on while no clear packet that it sends is refused. It stops at the first refused one of those that its
 /// events send.
 pub fn fields_stop_at_the_first_refusal()
-    ensures on { (v : FieldValue) → v.done < length v.events → IsClear v.site (field_clear_packets v) → next_refusal v ≡ None →
+    ensures on { (v : FieldValue) → v.done < length v.events → IsClear v.site (field_clear_packets v) →
+        next_refusal v ≡ None →
         IsClear v.site (field_clear_packets (after_next v)) }
     ensures stops { (v : FieldValue) (fault : ClearFault) (done : ℕ) → IsClear v.site (field_clear_packets v) →
         next_refusal v ≡ Some fault → v.done < done →

@@ -120,11 +120,13 @@ pub fn pass_next<L: Ledger>(
     ensures seated { (plan : Plan) (card : CardFields) (clear : List (List ℕ)) (total u : ℕ) (w : Watch) →
         IsCountable (present plan clear w) → packets_of sent.now ≡ stream plan clear →
         IsSeated plan card clear total w seat.old →
-        OnOk result (IsSeated plan card clear total (watch_after_event u (length (packets_of sent.now)) (Offer u) w) seat.new) }
+        OnOk result (IsSeated plan card clear total (watch_after_event u (length (packets_of sent.now)) (Offer u) w)
+        seat.new) }
     ensures full { (plan : Plan) (card : CardFields) (clear : List (List ℕ)) (total u : ℕ) (w : Watch) →
         IsErr result → IsCountable (present plan clear w) → packets_of sent.now ≡ stream plan clear →
         IsSeated plan card clear total w seat.old →
-        total < length (concat (written plan card clear (watch_after_event u (length (packets_of sent.now)) (Offer u) w))) }
+        total < length (concat (written plan card clear (watch_after_event u (length (packets_of sent.now))
+        (Offer u) w))) }
     ensures there { IsErr result → IsSome seat.new.receiver ↔ IsSome seat.old.receiver }
 {
     match packet_at(sent, seat.cursor) {

@@ -36,7 +36,8 @@ carried_passed site clear before packet pat learned =
     by_kind Passed site before packet (passed_is before packet learned.moves)
 
 pub carried_pmt : (site : SiteFields) (clear : Clear) (before : List (List ℕ)) (packet new : List ℕ) (next : Move)
-    → IsPacketLearned site clear packet (Judged.Pmt next new) → IsClearAfter before clear → new ≡ carried site before packet
+    → IsPacketLearned site clear packet (Judged.Pmt next new) → IsClearAfter before clear →
+    new ≡ carried site before packet
 carried_pmt site clear before packet new next learned after =
     let placed = learned.moves.placed in
     let known = positional_small (pid_of packet) (placed_pid packet placed) in
@@ -74,7 +75,8 @@ veiled_is site packet word t n position parity is own even =
     ∙ ap (λ (k : ℕ). scrambled packet (control_word_of site.master k) position (parity_of k)) is)
 
 pub carried_scrambled : (site : SiteFields) (clear : Clear) (before : List (List ℕ)) (packet word new : List ℕ)
-    (next : Move) (n : ℕ) (parity : Parity) → IsPacketLearned site clear packet (Judged.Scrambled next) → IsClearAfter before clear
+    (next : Move) (n : ℕ) (parity : Parity) → IsPacketLearned site clear packet (Judged.Scrambled next) →
+    IsClearAfter before clear
     → n ≡ word_of site (length before) → word ≡ control_word_of site.master n → parity ≡ parity_of n
     → new ≡ scrambled packet word next.position parity → new ≡ carried site before packet
 carried_scrambled site clear before packet word new next n parity learned after number own even value =

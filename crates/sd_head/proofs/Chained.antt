@@ -29,7 +29,8 @@ all_bytes plan before (packet ∷ packets) =
     ap (λ (rest : List ℕ). bytes_added plan before packet ++ rest) (all_bytes plan (before ++ packet ∷ []) packets)
 
 -- a chain from the beginning
-pub chained : (plan : Plan) (packets : List (List ℕ)) (s t : Head) (bytes : List ℕ) (steps : ℕ) → IsHeadEndAfter plan [] s →
+pub chained : (plan : Plan) (packets : List (List ℕ)) (s t : Head) (bytes : List ℕ) (steps : ℕ) →
+    IsHeadEndAfter plan [] s →
     Chain head_does s packets t bytes steps → (bytes ≡ concat (body plan packets)) × IsHeadEndAfter plan packets t
 chained plan packets s t bytes steps after chain =
     let there = chain_writes head_does (IsHeadEndAfter plan) (bytes_added plan)
@@ -42,7 +43,8 @@ pub all_written : (plan : Plan) (packets : List (List ℕ)) (s t : Head) (bytes 
     Chain head_does s packets t bytes steps → bytes ≡ concat (body plan packets)
 all_written plan packets s t bytes steps after chain = (chained plan packets s t bytes steps after chain).0
 
-pub all_after : (plan : Plan) (packets : List (List ℕ)) (s t : Head) (bytes : List ℕ) (steps : ℕ) → IsHeadEndAfter plan [] s →
+pub all_after : (plan : Plan) (packets : List (List ℕ)) (s t : Head) (bytes : List ℕ) (steps : ℕ) →
+    IsHeadEndAfter plan [] s →
     Chain head_does s packets t bytes steps → IsHeadEndAfter plan packets t
 all_after plan packets s t bytes steps after chain = (chained plan packets s t bytes steps after chain).1
 
@@ -66,7 +68,8 @@ pub none_clear : (site : SiteFields) → IsClear site []
 unfolding refusal_from
 none_clear site = refl
 
-pub all_clear : (plan : Plan) (packets : List (List ℕ)) (s t : Head) (bytes : List ℕ) (steps : ℕ) → IsHeadEndAfter plan [] s →
+pub all_clear : (plan : Plan) (packets : List (List ℕ)) (s t : Head) (bytes : List ℕ) (steps : ℕ) →
+    IsHeadEndAfter plan [] s →
     Chain head_does s packets t bytes steps → IsClear plan.site packets
 all_clear plan packets s t bytes steps after chain =
     (chain_writes head_does (λ before u. IsHeadEndAfter plan before u × IsClear plan.site before) (bytes_added plan)

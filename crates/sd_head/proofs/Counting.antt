@@ -107,7 +107,8 @@ entitled : (site : SiteFields) (counter : ℕ) (earlier : List Item) (sections :
 unfolding packets_from
 entitled site counter earlier [] is = refl
 entitled site counter earlier (emm ∷ sections) is =
-    let here : item_packet site earlier (Entitles emm) ≡ recounted (section_packet (emm_section emm) site.emm 0) counter =
+    let here : item_packet site earlier (Entitles emm) ≡ recounted (section_packet (emm_section emm) site.emm 0)
+    counter =
     ap (λ (n : ℕ). section_packet (emm_section emm) site.emm (n % 16))
     (same_counts (is_alike (Entitles emm)) is_entitlement (entitlement_alike emm) earlier)
     ∙ (ap (section_packet (emm_section emm) site.emm) (sym is) ∙ packet_counted (emm_section emm) site.emm counter) in

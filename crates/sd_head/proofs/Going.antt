@@ -21,7 +21,8 @@ use Rattle.sd_spec.specs.Aired.{aired_from, ended_from, left_from, none_left}
 use Rattle.sd_spec.specs.declared.left_out.LeftOut.{LeftOut}
 use Rattle.sd_head.specs.Left.{is_over, clear_fault_at, with_marked, with_refused, with_sent}
 use Rattle.sd_head.specs.Leaving.{IsLiveJudged, IsPacketLeftOut}
-use Rattle.sd_head.specs.Live.{live_breaks, live_ends, live_stops, live_takes, starts_period, verdict_after, IsLiveAfter}
+use Rattle.sd_head.specs.Live.{live_breaks, live_ends, live_stops, live_takes, starts_period, verdict_after}
+use Rattle.sd_head.specs.Live.{IsLiveAfter}
 use Rattle.sd_head.specs.Live.{TakesLivePacket}
 use Rattle.sd_head.specs.Staged.{head_closes, head_sends, IsHeadEndAfter, IsOfSent}
 use Rattle.sd_head.specs.declared.head.Head.{Head}
@@ -72,7 +73,8 @@ is_sent plan past s packet judged live unmarked told =
     (subst (λ (site : SiteFields). unsent_at site (aired plan.site past) (length (aired plan.site past)) packet ≡ None)
     (site_is plan (aired plan.site past) s.head live.head_is) (told.value (aired plan.site past) live.head_is.clear_is))
 
-pub is_faulty : (plan : Plan) (past : Packets) (s : Live) (packet : Packet) (fault : ClearFault) → IsLiveAfter plan past s →
+pub is_faulty : (plan : Plan) (past : Packets) (s : Live) (packet : Packet) (fault : ClearFault) →
+    IsLiveAfter plan past s →
     is_marked packet ≡ false → IsLiveJudged s packet (Err fault) →
     verdict_after plan past packet ≡ verdict_by (Some (clear_fault_at (length past) fault))
 unfolding unsent_at
@@ -209,7 +211,8 @@ ends_by n (TooLong k) h = refl
 
 -- a packet that breaks a rule: it is left out, or the broadcast ends before it
 faulty_taken : (s t : Live) (packet : Packet) (fault : ClearFault) (over : Bool) (taken : Taken) (steps : ℕ) →
-    is_marked packet ≡ false → IsLiveJudged s packet (Err fault) → is_over fault ≡ over → IsPacketLeftOut over fault s t taken →
+    is_marked packet ≡ false → IsLiveJudged s packet (Err fault) → is_over fault ≡ over →
+    IsPacketLeftOut over fault s t taken →
     live_takes s packet t taken [] steps
 faulty_taken s t packet fault true taken steps unmarked told over leaves = λ plan past live small.
     let is = is_faulty plan past s packet fault live unmarked told ∙ ends_by (length past) fault over in record {
@@ -228,7 +231,8 @@ pub leaves_taken : (s t : Live) (packet : Packet) (result : Result Judged ClearF
     (taken : Taken) (steps : ℕ) → is_marked packet ≡ false → IsLiveJudged s packet result → result ≡ Err fault →
     IsPacketLeftOut (is_over fault) fault s t taken → live_takes s packet t taken [] steps
 leaves_taken s t packet result fault taken steps unmarked told is leaves =
-    faulty_taken s t packet fault (is_over fault) taken steps unmarked (subst (IsLiveJudged s packet) is told) refl leaves
+    faulty_taken s t packet fault (is_over fault) taken steps unmarked (subst (IsLiveJudged s packet) is told) refl
+    leaves
 
 -- a packet that is sent, after so many, and that leads to this head end
 pub sent_taken : (s t : Live) (u : Head) (packet : Packet) (judged : Judged) (bytes : List ℕ)
@@ -236,7 +240,8 @@ pub sent_taken : (s t : Live) (u : Head) (packet : Packet) (judged : Judged) (by
     head_sends s.head packet u bytes steps → t.head ≡ u → t.left_out ≡ with_sent s.left_out packet →
     t.packets ≡ with_added s.packets 1 → number ≡ s.head.clear.count →
     ((plan : Plan) (before : Packets) → IsHeadEndAfter plan before s.head → last ≡ period_of plan (length before - 1)) →
-    ((plan : Plan) (before : Packets) → IsHeadEndAfter plan before t.head → period ≡ period_of plan (length before - 1)) →
+    ((plan : Plan) (before : Packets) → IsHeadEndAfter plan before t.head →
+    period ≡ period_of plan (length before - 1)) →
     taken ≡ (if (number == 0) || not (last == period) then Begins else On) → live_takes s packet t taken bytes steps
 unfolding starts_period
 sent_taken s t u packet judged bytes steps number last period taken unmarked told sends same out packets counts lasted

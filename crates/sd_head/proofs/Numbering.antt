@@ -39,7 +39,8 @@ given_last (x ∷ y ∷ z ∷ []) a b = refl
 given_last (x ∷ y ∷ z ∷ w ∷ packet) a b = refl
 
 -- so the packets are the same but for their counters
-pub first_alike : (counter n : ℕ) (packets : List (List ℕ)) → AreAlikeButCounters (first_numbered counter n packets) packets
+pub first_alike : (counter n : ℕ) (packets : List (List ℕ)) →
+    AreAlikeButCounters (first_numbered counter n packets) packets
 first_alike counter zero [] = refl
 first_alike counter (suc n) [] = refl
 first_alike counter zero (packet ∷ packets) = refl

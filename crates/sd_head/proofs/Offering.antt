@@ -11,7 +11,8 @@ use Rattle.sd_spec.specs.Refused.{refusal_of, end_refusal}
 use Rattle.sd_head.specs.Follows.{IsJudgement}
 use Rattle.sd_head.specs.Schedule.{begins_with, IsDue}
 use Rattle.sd_head.specs.After.{IsClearAfter as IsKept}
-use Rattle.sd_head.specs.Staged.{plan_of_head, head_closes, head_does, head_ends, head_refuses, head_sends, IsHeadEndAfter}
+use Rattle.sd_head.specs.Staged.{plan_of_head, head_closes, head_does, head_ends, head_refuses, head_sends}
+use Rattle.sd_head.specs.Staged.{IsHeadEndAfter}
 use Rattle.sd_head.specs.Staged.{IsOfSent, RefusesClearPacket}
 use Rattle.sd_head.specs.declared.fault.HeadFault.{HeadFault}
 use Rattle.sd_head.specs.declared.fault.HeadFault.TheVariants.{Clear, NoMemory}
@@ -86,7 +87,8 @@ site_is plan before head after = ap (λ (p : Plan). p.site) after.keeps_to
 -- of a packet that is judged by all rules
 module _ (s : Head) (packet : List ℕ) where
   due_clear : (fault : ClearFault) → IsJudgement Asked (site_fields_of s.site) s.clear packet (Err fault) →
-      (plan : Plan) (before : List (List ℕ)) → IsHeadEndAfter plan before s → refusal_of plan.site before packet ≡ Some fault
+      (plan : Plan) (before : List (List ℕ)) → IsHeadEndAfter plan before s → refusal_of plan.site before packet
+      ≡ Some fault
   unfolding refusal_of
   due_clear fault told plan before after =
       subst (λ (site : SiteFields). refusal_of site before packet ≡ Some fault) (site_is plan before s after)
@@ -142,7 +144,8 @@ module _ (s : Head) (packet : List ℕ) where
 
 -- the same of the end, of which this is judged
 abbrev pub IsEndJudged : Head → Option ClearFault → Type 0
-IsEndJudged s found = (before : List (List ℕ)) → IsKept before s.clear → found ≡ end_refusal (site_fields_of s.site) before
+IsEndJudged s found = (before : List (List ℕ)) → IsKept before s.clear →
+    found ≡ end_refusal (site_fields_of s.site) before
 
 -- what is no fault is none
 pub none_found : (judged : Option ClearFault) → ((fault : ClearFault) → judged ≡ Some fault → ⊥) → judged ≡ None

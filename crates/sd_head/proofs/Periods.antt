@@ -23,7 +23,8 @@ use Rattle.sd_head.specs.Crypto.{crypto_in}
 use Rattle.sd_head.specs.Packets.{period_packets, period_of_sets}
 use Rattle.sd_spec.specs.Plan.{Plan, IsPlan, sets_at, word_in, period_in}
 use Rattle.sd_spec.proofs.Schedule.{periods_in_rise, period_in_first, period_in_within}
-use Rattle.sd_head.specs.Kept.{begins_period, uncounted, AreAlikeButCounters, HasBegun, IsInPeriod, IsPeriodState, IsBeforePeriod}
+use Rattle.sd_head.specs.Kept.{begins_period, uncounted, AreAlikeButCounters, HasBegun, IsInPeriod, IsPeriodState}
+use Rattle.sd_head.specs.Kept.{IsBeforePeriod}
 use Rattle.sd_head.proofs.Packing.{of_sections}
 use Rattle.sd_head.specs.Lending.{with_emms}
 use Rattle.sd_head.specs.declared.entitling.Entitling.{Entitling}
@@ -149,14 +150,16 @@ in_period plan begun p q old new was decides same place next height decided emms
 
 -- the packets that are kept once those lent got other counters
 pub left_alike : (state : Entitling) (lent left : List (List ℕ)) → lent ≡ state.emms.items →
-    length left ≡ length lent → AreAlikeButCounters left lent → AreAlikeButCounters (with_emms state left).emms.items lent
+    length left ≡ length lent → AreAlikeButCounters left lent →
+    AreAlikeButCounters (with_emms state left).emms.items lent
 left_alike state lent left is long alike =
     let same : length lent ≡ length state.emms.items = ap (λ (xs : List (List ℕ)). length xs) is in
     ap (map uncounted) (with_items_is state.emms left (omega (arith, long, same, state.emms.ok.0))) ∙ alike
 
 -- the crypto period stays at work
 pub still_of : (plan : Plan) (n : ℕ) (state : Entitling) (lent left : List (List ℕ)) → IsPeriodState plan n state →
-    lent ≡ state.emms.items → length left ≡ length lent → AreAlikeButCounters left lent → IsPeriodState plan n (with_emms state left)
+    lent ≡ state.emms.items → length left ≡ length lent → AreAlikeButCounters left lent →
+    IsPeriodState plan n (with_emms state left)
 still_of plan n state lent left was is long alike = record {
   period = record {
     begun = same_begun plan (period_in plan n + 1) state (with_emms state left) was.period.begun refl refl refl;

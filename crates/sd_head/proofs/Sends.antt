@@ -58,11 +58,13 @@ counter_shift counter (suc n) = ap (λ (c : ℕ). (c + 1) % 16) (counter_shift c
 
 -- what is made of things and then of others
 pub numbered_on : {A : Type 0} → (make : A → ℕ → List ℕ) (counter : ℕ) (xs ys : List A) →
-    with_counters make counter (xs ++ ys) ≡ with_counters make counter xs ++ with_counters make (counter_after counter (length xs)) ys
+    with_counters make counter (xs ++ ys) ≡ with_counters make counter xs ++ with_counters make
+    (counter_after counter (length xs)) ys
 numbered_on make counter [] ys = refl
 numbered_on make counter (x ∷ xs) ys =
     ap (λ (rest : List (List ℕ)). make x counter ∷ rest) (numbered_on make ((counter + 1) % 16) xs ys
-    ∙ ap (λ (c : ℕ). with_counters make ((counter + 1) % 16) xs ++ with_counters make c ys) (counter_shift counter (length xs)))
+    ∙ ap (λ (c : ℕ). with_counters make ((counter + 1) % 16) xs ++ with_counters make c ys)
+    (counter_shift counter (length xs)))
 
 numbered_more : {A : Type 0} → (make : A → ℕ → List ℕ) (counter n : ℕ) (xs : List A) (x : A) → n ≤ length xs →
     take (n + 1) xs ≡ take n xs ++ x ∷ [] →
@@ -106,7 +108,8 @@ one_cut {A} make counter now n xs x u v w within more is before cut =
 
 -- all are sent
 pub all_sent : {A : Type 0} → (make : A → ℕ → List ℕ) (counter n : ℕ) (xs : List A) (u v : SinkState) → length xs ≤ n →
-    TookBytes u v (concat (with_counters make counter (take n xs))) → TookBytes u v (concat (with_counters make counter xs))
+    TookBytes u v (concat (with_counters make counter (take n xs))) →
+    TookBytes u v (concat (with_counters make counter xs))
 all_sent {A} make counter n xs u v all taken =
     subst (λ (ys : List A). TookBytes u v (concat (with_counters make counter ys))) (take_all n xs all) taken
 

@@ -73,7 +73,8 @@ pub starts : (plan : Plan) (k length : ℕ) (entitling : Entitling) → IsPeriod
     length ≡ crypto_length plan.site →
     k % length ≡ 0 → IsBeforePeriod plan (k / length) entitling
 unfolding crypto_of
-starts plan zero length entitling at is whole = subst (λ (t : ℕ). IsBeforePeriod plan t entitling) (sym (zero-div length)) at
+starts plan zero length entitling at is whole = subst (λ (t : ℕ). IsBeforePeriod plan t entitling)
+    (sym (zero-div length)) at
 starts plan (suc j) length entitling at is whole =
     let some : 0 < length =
     subst (λ (n : ℕ). 0 < n) (sym is) (crypto_length_some plan.site at.period.begun.is_plan.site) in

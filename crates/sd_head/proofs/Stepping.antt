@@ -23,7 +23,8 @@ use Rattle.sd_head.specs.declared.entitling.Entitling.{Entitling}
 use Rattle.sd_head.specs.Messages.{head_of_ecm, message_due}
 use Rattle.sd_head.specs.Items.{HasSentItems, HasPlaced, HasCountersAfter, tables_bytes, message_bytes}
 use Rattle.sd_head.specs.Schedule.{IsPeriodAt}
-use Rattle.sd_head.specs.Staged.{plan_of_head, head_closes, head_sends, IsHeadEndAfter, IsOn, IsHeadReady, RefusesClearPacket}
+use Rattle.sd_head.specs.Staged.{plan_of_head, head_closes, head_sends, IsHeadEndAfter, IsOn, IsHeadReady}
+use Rattle.sd_head.specs.Staged.{RefusesClearPacket}
 use Rattle.sd_head.specs.declared.fault.HeadFault.{HeadFault}
 use Rattle.sd_head.specs.declared.sender.Sender.{Sender}
 use Rattle.sd_head.specs.declared.head.Head.{Head}
@@ -143,18 +144,22 @@ module _ (s t : Head) (packet : List ℕ) (m : Sender) (due : Bool) (emms : List
       (word ∙ ap (control_word_of s.site.master) (sym number))
 
   -- after it the stage stands after the packet
-  stands : (before : List (List ℕ)) → IsHeadEndAfter (plan_of_head s) before s → IsHeadEndAfter (plan_of_head s) (before ++ packet ∷ []) t
+  stands : (before : List (List ℕ)) → IsHeadEndAfter (plan_of_head s) before s →
+      IsHeadEndAfter (plan_of_head s) (before ++ packet ∷ []) t
   stands before after =
-      let has = placed_sent (site_fields_of s.site) (sent (plan_of_head s) before) s.sender m comes.placed after.has_sent in
+      let has = placed_sent (site_fields_of s.site) (sent (plan_of_head s) before) s.sender m comes.placed
+      after.has_sent in
       record {
         keeps_to = ap (λ (x : Site). plan_of x t.entitling.book) leads.site_is ∙ ap (plan_of s.site) leads.book_is;
         unrefused = leads.refusal_is ∙ after.unrefused;
         are_sendable = still_sendable (site_fields_of s.site) [] before packet after.are_sendable
             (comes.judged before after.clear_is);
         clear_is = leads.taken before after.clear_is;
-        entitled = subst (λ (k : ℕ). IsPeriodAt (plan_of_head s) k t.entitling) (sym (length-append before (packet ∷ [])))
+        entitled = subst (λ (k : ℕ). IsPeriodAt (plan_of_head s) k t.entitling)
+            (sym (length-append before (packet ∷ [])))
             (at_next (plan_of_head s) (length before) t.entitling
-            (subst (λ (n : ℕ). IsPeriodState (plan_of_head s) (crypto_of (site_fields_of s.site) n) t.entitling) after.clear_is.number
+            (subst (λ (n : ℕ). IsPeriodState (plan_of_head s) (crypto_of (site_fields_of s.site) n) t.entitling)
+            after.clear_is.number
             comes.at_work));
         has_sent = added_next (plan_of_head s) before packet due emms message m t.sender has (is_due before after)
             (listed before after)
@@ -163,7 +168,8 @@ module _ (s t : Head) (packet : List ℕ) (m : Sender) (due : Bool) (emms : List
 
   -- what is written is what the packet adds
   written : (before : List (List ℕ)) → IsHeadEndAfter (plan_of_head s) before s →
-      (tables_bytes m due emms ++ message_bytes s.site.ecm m message) ++ veiled ≡ bytes_added (plan_of_head s) before packet
+      (tables_bytes m due emms ++ message_bytes s.site.ecm m message) ++ veiled ≡ bytes_added (plan_of_head s) before
+      packet
   written before after =
       added_bytes (plan_of_head s) before packet veiled due emms message m
       (placed_sent (site_fields_of s.site) (sent (plan_of_head s) before) s.sender m comes.placed after.has_sent)
@@ -182,8 +188,11 @@ module _ (s t : Head) (packet : List ℕ) (m : Sender) (due : Bool) (emms : List
   pub ready : (before : List (List ℕ)) → IsHeadEndAfter (plan_of_head s) before s →
       (rest : List (List ℕ)) × IsHeadEndAfter (plan_of_head t) rest t
   ready before after =
-      let there = stands before after in
-      (before ++ packet ∷ [], subst (λ (q : Plan). IsHeadEndAfter q (before ++ packet ∷ []) t) (sym there.keeps_to) there)
+      let there = stands before after in (
+        before ++ packet ∷ [],
+        subst (λ (q : Plan). IsHeadEndAfter q (before ++ packet ∷ []) t) (sym there.keeps_to)
+            there,
+      )
 
 -- what comes of the calls at the end
 pub record Ends (s : Head) (entitling : Entitling) (m : Sender) (due : Bool) (emms : List (List ℕ))
@@ -211,7 +220,8 @@ ends s t m due emms head steps comes = λ plan before after.
           (comes.emms_of ∙ emms_are (plan_of_head s) (s.clear.count - 1) t.entitling comes.at_work) comes.at_work.crypto
           comes.head_is (comes.places_are before here.clear_is),
       revoked_now (plan_of_head s) (s.clear.count - 1) t.entitling comes.at_work
-          ∙ ap (λ (n : ℕ). revoked (plan_of_head s).site.height (plan_of_head s).commands (period_of (plan_of_head s) (n - 1)))
+          ∙ ap (λ (n : ℕ). revoked (plan_of_head s).site.height (plan_of_head s).commands (period_of (plan_of_head s)
+          (n - 1)))
           here.clear_is.number,
     )) after
 

@@ -58,7 +58,8 @@ since_fits version cryptos number = record { before = before number; fixed = fix
 -- the message with the positions after these packets may be sent
 pub may_be_sent : (site : SiteFields) (crypto : CryptoPeriod) (clear number : ℕ) (closing : Bool) (head : EcmHead)
     (places : List Place)
-    (before : List (List ℕ)) → head ≡ head_of_ecm site crypto clear number closing → IsWithin messages_line site.messages →
+    (before : List (List ℕ)) → head ≡ head_of_ecm site crypto clear number closing →
+    IsWithin messages_line site.messages →
     places ≡ places_after before → length before < 2 ^ 32 → length places ≤ most_places → MayBeSent head places
 unfolding head_of_ecm
 may_be_sent site crypto clear number closing head places before is range are counted few = rw is (rw are (record {

@@ -57,7 +57,8 @@ pub record TakesLivePacket (plan : Plan) (past : Packets) (s : Live) (packet : P
 
 -- a packet is taken, whatever packets led to what is kept
 abbrev pub live_takes : Live → Packet → Live → Taken → List ℕ → ℕ → Type 0
-live_takes s packet t taken bytes steps = (plan : Plan) (past : Packets) → IsLiveAfter plan past s → length past < 2 ^ 48 →
+live_takes s packet t taken bytes steps = (plan : Plan) (past : Packets) → IsLiveAfter plan past s →
+    length past < 2 ^ 48 →
     TakesLivePacket plan past s packet t taken bytes
 
 -- a write failed of these bytes: those of a packet that is sent

@@ -6,7 +6,8 @@ ghost use Rattle.sd_spec.specs.Plan.{Plan, period_of, word_of};
 ghost use Rattle.sd_head.specs.Follows.{IsJudgement};
 ghost use Rattle.sd_head.specs.Kept.{plan_of};
 ghost use Rattle.sd_head.specs.Schedule.{begins_with};
-ghost use Rattle.sd_head.specs.Staged.{head_closes, head_does, head_ends, head_refuses, head_sends, plan_of_head, IsHeadEndAfter};
+ghost use Rattle.sd_head.specs.Staged.{head_closes, head_does, head_ends, head_refuses, head_sends, plan_of_head};
+ghost use Rattle.sd_head.specs.Staged.{IsHeadEndAfter};
 ghost use Rattle.sd_head.specs.Staged.{IsOfSent, IsOn, IsHeadReady};
 ghost use Rattle.sd_head.specs.declared.judged.PatRule.{PatRule as PatRules};
 
@@ -72,13 +73,15 @@ impl Head {
         requires on { IsOn self.old }
         requires judged { (rule : PatRules) ×
             IsJudgement rule (site_fields_of self.old.site) self.old.clear packet.now (Ok judged.now) }
-        ensures value { OnOk result (HasGrown (sink_state_of K.Sink out.old) (sink_state_of K.Sink out.new) steps.old steps.new
+        ensures value { OnOk result (HasGrown (sink_state_of K.Sink out.old) (sink_state_of K.Sink out.new) steps.old
+            steps.new
             (head_sends self.old packet.now self.new)) }
         ensures on { OnOk result (IsOn self.new) }
         ensures memory { IsErrOf result LiveFault.NoMemory →
             (sink_state_of K.Sink out.new ≡ sink_state_of K.Sink out.old)
             × (begins_with (plan_of_head self.old) self.old.clear.count ≡ true) }
-        ensures prefix { IsErrOf result LiveFault.Write → IsCutShort (sink_state_of K.Sink out.old) (sink_state_of K.Sink out.new)
+        ensures prefix { IsErrOf result LiveFault.Write → IsCutShort (sink_state_of K.Sink out.old)
+            (sink_state_of K.Sink out.new)
             (IsOfSent (head_sends self.old packet.now) steps.old steps.new) }
         ensures cause { IsCaused (K.faults out.old) (K.faults out.new) (IsErrOf result LiveFault.Write) }
     {
@@ -114,12 +117,14 @@ impl Head {
         steps: &mut Steps<L>,
     ) -> Result<(), LiveFault>
         requires on { IsOn self.old }
-        ensures value { OnOk result (HasGrown (sink_state_of K.Sink out.old) (sink_state_of K.Sink out.new) steps.old steps.new
+        ensures value { OnOk result (HasGrown (sink_state_of K.Sink out.old) (sink_state_of K.Sink out.new) steps.old
+            steps.new
             (head_closes self.old self.new)) }
         ensures unrefused { OnOk result (self.new.refusal ≡ None) }
         ensures memory { IsErrOf result LiveFault.NoMemory →
             (sink_state_of K.Sink out.new ≡ sink_state_of K.Sink out.old) × (self.old.clear.count ≡ 0) }
-        ensures prefix { IsErrOf result LiveFault.Write → IsCutShort (sink_state_of K.Sink out.old) (sink_state_of K.Sink out.new)
+        ensures prefix { IsErrOf result LiveFault.Write → IsCutShort (sink_state_of K.Sink out.old)
+            (sink_state_of K.Sink out.new)
             (IsOfSent (head_closes self.old) steps.old steps.new) }
         ensures cause { IsCaused (K.faults out.old) (K.faults out.new) (IsErrOf result LiveFault.Write) }
     {
@@ -141,7 +146,8 @@ impl Head {
 
     /// How many packets were sent.
     pub(crate) fn sent(&self) -> u32
-        ensures value { (plan : Plan) (before : List (List ℕ)) → IsHeadEndAfter plan before self.now → result ≡ length before }
+        ensures value { (plan : Plan) (before : List (List ℕ)) → IsHeadEndAfter plan before self.now →
+            result ≡ length before }
         ensures count { result ≡ self.now.clear.count }
     {
         self.clear.count()

@@ -8,7 +8,8 @@ ghost use Rattle.sd_head.specs.After.{IsClearAfter as IsKept};
 ghost use Rattle.sd_head.specs.Kept.{AreAlikeButCounters};
 ghost use Rattle.sd_head.specs.Sending.{SendsBytes};
 ghost use Rattle.sd_head.specs.Messages.{head_of_ecm, message_due, number_due};
-ghost use Rattle.sd_head.specs.Items.{message_bytes, tables_bytes, AllMayBeSent, HasCountersAfter, HasPlaced, HasSentItems};
+ghost use Rattle.sd_head.specs.Items.{message_bytes, tables_bytes, AllMayBeSent, HasCountersAfter, HasPlaced};
+ghost use Rattle.sd_head.specs.Items.{HasSentItems};
 ghost use Rattle.sd_head.specs.Items.{MayBeSent};
 
 use crate::cat::cat_packet;

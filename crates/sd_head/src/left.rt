@@ -4,8 +4,8 @@ ghost use Rattle.sd_head.specs.Left.{clear_fault_at, with_marked, with_refused, 
 
 use crate::judge::is_bad_pat;
 use sd_base::fields;
-use sd_packet::Packet;
 use sd_message::ClearFault;
+use sd_packet::Packet;
 use sd_spec::LeftOut;
 
 /// Nothing is left out.

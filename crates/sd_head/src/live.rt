@@ -17,9 +17,9 @@ use crate::judged::{Judged, PatRule};
 use crate::left::{NONE_LEFT, add_marked, add_refused, add_sent, is_marked, renumber};
 use sd_base::{NoMemory, Steps};
 use sd_book::Book;
+use sd_message::ClearFault;
 use sd_packet::Packet;
 use sd_ports::Sink;
-use sd_message::ClearFault;
 use sd_site_cards::Site;
 use sd_spec::LeftOut;
 use std::alloc::Global;
@@ -70,8 +70,10 @@ impl Live {
         ensures value { IfOk result (λ taken. HasGrown (sink_state_of K.Sink out.old) (sink_state_of K.Sink out.new)
             steps.old steps.new (live_takes self.old packet.now self.new taken)) }
         ensures on { IfOk result (λ _. IsOnAir self.new) }
-        ensures memory { IsErrOf result LiveFault.NoMemory → sink_state_of K.Sink out.new ≡ sink_state_of K.Sink out.old }
-        ensures prefix { IsErrOf result LiveFault.Write → IsCutShort (sink_state_of K.Sink out.old) (sink_state_of K.Sink out.new)
+        ensures memory { IsErrOf result LiveFault.NoMemory →
+            sink_state_of K.Sink out.new ≡ sink_state_of K.Sink out.old }
+        ensures prefix { IsErrOf result LiveFault.Write → IsCutShort (sink_state_of K.Sink out.old)
+            (sink_state_of K.Sink out.new)
             (live_stops self.old packet.now steps.old steps.new) }
         ensures cause { IsCaused (K.faults out.old) (K.faults out.new) (IsErrOf result LiveFault.Write) }
     {
@@ -93,8 +95,10 @@ impl Live {
         requires on { IsOnAir self.old }
         ensures value { OnOk result (HasGrown (sink_state_of K.Sink out.old) (sink_state_of K.Sink out.new)
             steps.old steps.new (live_ends self.old)) }
-        ensures memory { IsErrOf result LiveFault.NoMemory → sink_state_of K.Sink out.new ≡ sink_state_of K.Sink out.old }
-        ensures prefix { IsErrOf result LiveFault.Write → IsCutShort (sink_state_of K.Sink out.old) (sink_state_of K.Sink out.new)
+        ensures memory { IsErrOf result LiveFault.NoMemory →
+            sink_state_of K.Sink out.new ≡ sink_state_of K.Sink out.old }
+        ensures prefix { IsErrOf result LiveFault.Write → IsCutShort (sink_state_of K.Sink out.old)
+            (sink_state_of K.Sink out.new)
             (live_breaks self.old steps.old steps.new) }
         ensures cause { IsCaused (K.faults out.old) (K.faults out.new) (IsErrOf result LiveFault.Write) }
     {
@@ -191,8 +195,10 @@ impl Live {
         ensures value { IfOk result (λ taken. HasGrown (sink_state_of K.Sink out.old) (sink_state_of K.Sink out.new)
             steps.old steps.new (live_takes self.old packet.now self.new taken)) }
         ensures on { IfOk result (λ _. IsOnAir self.new) }
-        ensures memory { IsErrOf result LiveFault.NoMemory → sink_state_of K.Sink out.new ≡ sink_state_of K.Sink out.old }
-        ensures prefix { IsErrOf result LiveFault.Write → IsCutShort (sink_state_of K.Sink out.old) (sink_state_of K.Sink out.new)
+        ensures memory { IsErrOf result LiveFault.NoMemory →
+            sink_state_of K.Sink out.new ≡ sink_state_of K.Sink out.old }
+        ensures prefix { IsErrOf result LiveFault.Write → IsCutShort (sink_state_of K.Sink out.old)
+            (sink_state_of K.Sink out.new)
             (live_stops self.old packet.now steps.old steps.new) }
         ensures cause { IsCaused (K.faults out.old) (K.faults out.new) (IsErrOf result LiveFault.Write) }
     {

@@ -10,7 +10,8 @@ impl Clear {
     /// Writes the positions of all PIDs that have moved in place of these, ascending by PID.
     pub fn write_places(&self, places: &mut Vec<Place>)
         requires { MOST_PLACES ≤ vec_capacity places.old }
-        ensures value { (before : List (List ℕ)) → IsClearAfter before self.now → places.new.items ≡ places_after before }
+        ensures value { (before : List (List ℕ)) → IsClearAfter before self.now →
+            places.new.items ≡ places_after before }
         ensures few { vec_len places.new ≤ MOST_PLACES }
         ensures room { MOST_PLACES ≤ vec_capacity places.new }
     {

@@ -66,7 +66,8 @@ pub fn finish<L: Ledger>(
     requires { IsPeriodAt (plan_of site.now entitling.old.book) count entitling.old }
     ensures book { entitling.new.book ≡ entitling.old.book }
     ensures value { OnOk result
-        (IsPeriodState (plan_of site.now entitling.old.book) (crypto_of (site_fields_of site.now) (count - 1)) entitling.new) }
+        (IsPeriodState (plan_of site.now entitling.old.book) (crypto_of (site_fields_of site.now) (count - 1))
+        entitling.new) }
     ensures fault { OnErr result (count ≡ 0) }
 {
     if count != 0 {

@@ -20,7 +20,8 @@ pub fn send_counted<K: Sink>(
     packet: &Packet,
     counter: &mut Counter,
 ) -> Result<(), PortFault>
-    ensures value { SendsBytes (sink_state_of K.Sink out.old) (sink_state_of K.Sink out.new) (recounted packet.now counter.old) result }
+    ensures value { SendsBytes (sink_state_of K.Sink out.old) (sink_state_of K.Sink out.new)
+        (recounted packet.now counter.old) result }
     ensures next { counter.new ≡ (counter.old + 1) % 16 }
     ensures cause { HasCause (K.faults out.old) (K.faults out.new) result }
 {

@@ -1,4 +1,5 @@
-ghost use Rattle.std.specs.Prelude.{◌≡◌, ◌↔◌, ◌⊎◌, ◌<◌, ◌++◌, ◌∷◌, [], if◌then◌else◌, bit_and, IsTrue, IsErr, IfOk, OnOk, OnErr};
+ghost use Rattle.std.specs.Prelude.{◌≡◌, ◌↔◌, ◌⊎◌, ◌<◌, ◌++◌, ◌∷◌, [], if◌then◌else◌, bit_and, IsTrue, IsErr, IfOk};
+ghost use Rattle.std.specs.Prelude.{OnOk, OnErr};
 ghost use Rattle.std.specs.Prelude.{vec_capacity, vec_len};
 ghost use Rattle.std.specs.Fs.{metadata_mode};
 ghost use Rattle.sd_host.specs.Folder.{folder_in};
@@ -214,7 +215,8 @@ pub fn create<R: Files>(
     Ok((file, kind))
 }
 
-/// Makes a file that is new, and opens it for writing; a private one is its owner's alone. It is added to the inputs, so
+/// Makes a file that is new, and opens it for writing; a private one is its owner's alone. It is added to the inputs,
+/// so
 /// that nothing else is made over it. `None` is a name that is there already.
 pub fn create_new<R: Files>(
     files: &R,

@@ -10,7 +10,8 @@ use crate::print::StdPrint;
 use sd_ports::{PortFault, Sink};
 use std::io::{ErrorKind, Write};
 
-/// How many bytes wait at most before they are written to a file: more transport packets, of 188 bytes, than come of one
+/// How many bytes wait at most before they are written to a file: more transport packets, of 188 bytes, than come of
+/// one
 /// read. So what comes of one read is one write, and each write of a stream of packets ends with a whole one.
 pub(crate) const BUFFER: usize = 1_024 * 188;
 

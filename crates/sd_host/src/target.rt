@@ -5,7 +5,8 @@ use std::fs::{Files, OpenFile};
 use std::io;
 use std::io::Write;
 
-/// How many bytes are written to a pipe at once: as many whole transport packets, of 188 bytes, as a pipe takes whole or
+/// How many bytes are written to a pipe at once: as many whole transport packets, of 188 bytes, as a pipe takes whole
+/// or
 /// not at all, which are 4,096 bytes (PIPE_BUF). So if the program is killed, the last packet in a pipe is a whole one.
 const AT_ONCE: usize = 21 * 188;
 

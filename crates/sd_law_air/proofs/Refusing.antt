@@ -11,14 +11,15 @@ use Rattle.sd_law_air.specs.Counted.{IsFirstRefused}
 use Rattle.sd_law_air.proofs.Fates.{fate_of, marked, refused, sent, ends}
 
 -- the first packet that is refused after others, from packet n on
-record IsFirstAfter (site : SiteFields) (before : Packets) (n : ℕ) (packets : Packets) (fault : ClearFault) : Type 0 where
-  earlier : Packets
-  packet : Packet
-  later : Packets
-  parts : earlier ++ packet ∷ later ≡ packets
-  none_refused : (left_from site before n earlier).refused ≡ 0
-  unmarked : is_marked packet ≡ false
-  broken : unsent_at site (before ++ aired_from site before n earlier) (n + length earlier) packet ≡ Some fault
+record IsFirstAfter (site : SiteFields) (before : Packets) (n : ℕ) (packets : Packets) (fault : ClearFault) : Type 0
+  where
+    earlier : Packets
+    packet : Packet
+    later : Packets
+    parts : earlier ++ packet ∷ later ≡ packets
+    none_refused : (left_from site before n earlier).refused ≡ 0
+    unmarked : is_marked packet ≡ false
+    broken : unsent_at site (before ++ aired_from site before n earlier) (n + length earlier) packet ≡ Some fault
 
 -- it is the same with a packet in front that is not refused
 one_before : (site : SiteFields) (before after : Packets) (n : ℕ) (first : Packet) (packets : Packets)

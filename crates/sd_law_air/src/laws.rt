@@ -44,7 +44,8 @@ pub fn clear_streams_are_aired_whole()
         left_from site [] 0 clear ≡ none_left }
 {}
 
-/// What is left out is as if it weren't there: all that is sent is sent if it stands alone, and so it is of any choice of
+/// What is left out is as if it weren't there: all that is sent is sent if it stands alone, and so it is of any choice
+/// of
 /// the packets that has it.
 pub fn what_is_left_out_is_as_if_not_there()
     ensures again { (site : SiteFields) (packets : Packets) → aired site (aired site packets) ≡ aired site packets }
@@ -83,7 +84,8 @@ pub fn what_was_read_decides()
         ≡ concat (body plan (aired plan.site some)) ++ rest) }
 {}
 
-/// Each packet up to the end of the broadcast is marked, refused or sent, and counted so. If a packet is refused, the rule
+/// Each packet up to the end of the broadcast is marked, refused or sent, and counted so. If a packet is refused, the
+/// rule
 /// that the first one breaks is told, with its number among all packets, and else none is. Of the packets that are sent
 /// those are counted that are no PAT, though they are on PID 0 with a payload.
 #[tactic(auto, using(crate::proofs::Counts::counted, crate::proofs::Counts::counted_upto, crate::proofs::Counts::marked_counted, crate::proofs::Counts::first_told, crate::proofs::Refusing::first_refused, crate::proofs::Counts::pats_counted))]

@@ -58,13 +58,15 @@ known_passes runs h coalition test is closed item k =
 abbrev Comes : List Run → ℕ → List ℕ → Knowable → Type 0
 Comes runs h coalition (OfTree secret) = IsReached (flat_map (names_of_receiver h) coalition) secret
 Comes runs h coalition (PeriodKey q) = (run : Run) × Contains runs run × UsesPeriod run q
-    × ((name : SetName) × Contains (sets_at run.plan q) name × IsReached (flat_map (names_of_receiver h) coalition) (Key name))
+    × ((name : SetName) × Contains (sets_at run.plan q) name × IsReached (flat_map (names_of_receiver h) coalition)
+    (Key name))
 Comes runs h coalition (ControlWord t) = (run : Run) × Contains runs run
     × ((q : ℕ) × UsesWord run t q × IsKnownInRuns runs h coalition (PeriodKey q))
 
 comes : (runs : List Run) (h : ℕ) (coalition : List ℕ) {item : Knowable} → Had runs h coalition item
     → Comes runs h coalition item
-comes runs h coalition (at_first {x = OfTree (Named name)} m) = held_is_reached (flat_map (names_of_receiver h) coalition) name m
+comes runs h coalition (at_first {x = OfTree (Named name)} m) =
+    held_is_reached (flat_map (names_of_receiver h) coalition) name m
 comes runs h coalition (at_first {x = OfTree (Key name)} m) = absurd m
 comes runs h coalition (at_first {x = PeriodKey q} m) = absurd m
 comes runs h coalition (at_first {x = ControlWord t} m) = absurd m
@@ -77,7 +79,8 @@ comes runs h coalition (by_rule r (controlled {run = run} {t = t} {q = q} there 
 
 -- a secret that has come in by the generator is known
 lifted : (runs : List Run) (h : ℕ) (coalition : List ℕ) {secret : Secret}
-    → Reach (IsHeld (flat_map (names_of_receiver h) coalition)) IsGeneratorStep secret → Had runs h coalition (OfTree secret)
+    → Reach (IsHeld (flat_map (names_of_receiver h) coalition)) IsGeneratorStep secret →
+    Had runs h coalition (OfTree secret)
 lifted runs h coalition (at_first m) = at_first m
 lifted runs h coalition (by_rule r f) = by_rule (lifted runs h coalition r) (generated f)
 
@@ -86,7 +89,8 @@ reached_is_known : (runs : List Run) (h : ℕ) (coalition : List ℕ) (secret : 
 unfolding IsReached
 reached_is_known runs h coalition secret r =
     to_known runs h coalition (OfTree secret)
-    (lifted runs h coalition (from_derived (IsHeld (flat_map (names_of_receiver h) coalition)) IsGeneratorStep secret r))
+    (lifted runs h coalition (from_derived (IsHeld (flat_map (names_of_receiver h) coalition)) IsGeneratorStep secret
+    r))
 
 -- just the secrets that are reached are known
 pub secrets_known : (runs : List Run) (h : ℕ) (coalition : List ℕ) (secret : Secret)
@@ -126,7 +130,8 @@ set_unrevoked : (h : ℕ) (run : Run) (coalition : List ℕ) (q : ℕ) (name : S
     → All (λ u. u < 2 ^ h) coalition → Contains (sets_at run.plan q) name
     → IsReached (flat_map (names_of_receiver h) coalition) (Key name) → HasUnrevoked run coalition q
 set_unrevoked h run coalition q name same low leaves there =
-    subst (λ (d : ℕ). IsReached (flat_map (names_of_receiver d) coalition) (Key name) → HasUnrevoked run coalition q) same
+    subst (λ (d : ℕ). IsReached (flat_map (names_of_receiver d) coalition) (Key name) →
+    HasUnrevoked run coalition q) same
     (unrevoked_reaches (service_of run) coalition q name (subst (λ (d : ℕ). d ≤ 20) (sym same) low)
     (subst (λ (d : ℕ). All (λ u. u < 2 ^ d) coalition) (sym same) leaves)
     (subst (λ (sets : List SetName). Contains sets name) (same_sets run q) there))
@@ -207,7 +212,8 @@ held_by_all : (h : ℕ) (coalition : List ℕ) (u : ℕ) (item : Knowable) → C
 held_by_all h coalition u (OfTree (Named name)) there m =
     let (w, only, own) = from_one (names_of_receiver h) (u ∷ []) name m in
     elim (member_cases u [] w only) [
-      | inl same ↦ to_all (names_of_receiver h) coalition u name there (subst (λ (v : ℕ). Contains (names_of_receiver h v) name) (sym same) own)
+      | inl same ↦ to_all (names_of_receiver h) coalition u name there
+          (subst (λ (v : ℕ). Contains (names_of_receiver h v) name) (sym same) own)
       | inr none ↦ absurd (no_member w none)
     ]
 held_by_all h coalition u (OfTree (Key name)) there m = absurd m

@@ -70,7 +70,8 @@ numbers_tell pid p other q low short same = (omega (arith, low, short, same), om
 
 -- scrambled packets of one stream number are one packet
 pub one_packet : (run : Run) (j k : ℕ) → IsSendable run.plan.site run.clear → j < length run.clear
-    → k < length run.clear → is_veiled run j ≡ true → is_veiled run k ≡ true → stream_number_at run j ≡ stream_number_at run k
+    → k < length run.clear → is_veiled run j ≡ true → is_veiled run k ≡ true →
+    stream_number_at run j ≡ stream_number_at run k
     → j ≡ k
 unfolding stream_number_at
 one_packet run j k is inside within first second same =

@@ -158,7 +158,8 @@ module _ (plan : Plan) (clear : List (List ℕ)) (is : IsPlan plan) (all : IsSen
   its_pid packet emm packets same reads = rw (same, reads) refl
 
   -- the PID of a packed section
-  packed_pid : (section : List ℕ) (pid counter : ℕ) → pid < 8192 → pid_of (section_packet section pid (counter % 16)) ≡ pid
+  packed_pid : (section : List ℕ) (pid counter : ℕ) → pid < 8192 → pid_of (section_packet section pid (counter % 16))
+      ≡ pid
   packed_pid section pid counter low = (packet_reads section pid (counter % 16) low (omega arith)).pid_is
 
   -- the packet of one thing
@@ -182,7 +183,12 @@ module _ (plan : Plan) (clear : List (List ℕ)) (is : IsPlan plan) (all : IsSen
       let high = is.site.ecm.1 in
       let apart = is.site.apart in
       let pid = packed_pid (ecm_section one) plan.site.ecm count (omega (arith, high)) in
-      other_pid (section_packet (ecm_section one) plan.site.ecm (count % 16)) packets (grind (arith, nat_tests, pid, apart))
+      other_pid (section_packet (ecm_section one) plan.site.ecm (count % 16)) packets (grind (
+        arith,
+        nat_tests,
+        pid,
+        apart,
+      ))
   one_reads earlier (Carries n packet) packets (k, within, same) =
       let taken = carried_pid k packet within same in
       other_pid packet packets (grind (arith, nat_tests, taken))

@@ -16,7 +16,8 @@ use Rattle.sd_site_cards.specs.SiteFields.{SiteFields}
 use Rattle.sd_psi.specs.Forms.{section_in, after_section}
 use Rattle.sd_psi.specs.OurCat.{cat_header, cat_descriptor, cat_section}
 use Rattle.sd_psi.specs.Tables.{info_length_of}
-use Rattle.sd_psi.specs.Rewriting.{ca_descriptor, with_lengths, section_with_descriptor, before_section, pmt_with_descriptor, rewrite_fault}
+use Rattle.sd_psi.specs.Rewriting.{ca_descriptor, with_lengths, section_with_descriptor, before_section}
+use Rattle.sd_psi.specs.Rewriting.{pmt_with_descriptor, rewrite_fault}
 use Rattle.sd_psi.specs.declared.fault.FormFault.{FormFault}
 use Rattle.sd_psi.specs.Undone.{IsPacket}
 use Rattle.sd_psi.proofs.Undoing.{IsRightPmt, other_head, sealed_long}
@@ -43,7 +44,8 @@ use Rattle.sd_law_broadcast.proofs.Carrying.{kind_placed, placed_packet}
 use Rattle.sd_law_broadcast.specs.Synced.{IsSynced}
 
 -- a packed section is one that a stream may have
-pub packed_synced : (section : List ℕ) (pid counter : ℕ) → length section ≤ 183 → IsSynced (section_packet section pid counter)
+pub packed_synced : (section : List ℕ) (pid counter : ℕ) → length section ≤ 183 →
+    IsSynced (section_packet section pid counter)
 packed_synced section pid counter few =
     record { long = packet_length section pid counter few; sync = packet_sync section pid counter }
 
@@ -151,7 +153,8 @@ rewritten_synced ca pid packet is may synced =
         is.long,
       );
       sync =
-          get_or_append_left (before_section packet) (section_with_descriptor (ca_descriptor ca pid) section ++ drop 6 after) 0 0
+          get_or_append_left (before_section packet) (section_with_descriptor (ca_descriptor ca pid) section
+          ++ drop 6 after) 0 0
           (omega (arith, before))
           ∙ (get_or-take (payload_start_of packet + 1) packet 0 0 (omega arith) ∙ synced.sync);
     }

@@ -13,7 +13,8 @@ use Rattle.sd_law_broadcast.proofs.Counted.{broadcast_short, body_short}
 
 pub broadcast_taken : (plan : Plan) (clear : List (List ℕ)) → IsPlan plan → IsSendable plan.site clear →
     AreWholePackets clear → AreSynced clear →
-    (packets_taken (concat (broadcast plan clear)) ≡ broadcast plan clear) × (end_of (concat (broadcast plan clear)) ≡ Whole)
+    (packets_taken (concat (broadcast plan clear)) ≡ broadcast plan clear) × (end_of (concat (broadcast plan clear))
+    ≡ Whole)
 broadcast_taken plan clear is all whole synced =
     let each = broadcast_synced plan clear is all whole synced in
     let few = broadcast_short plan is clear all in

@@ -33,7 +33,8 @@ use Rattle.sd_spec.specs.declared.kind.Kind.TheVariants.{Passed, Pmt, Scrambled}
 use Rattle.sd_spec.proofs.Periods.{section_number}
 use Rattle.sd_law_broadcast.specs.Packets.{IsWholePacket, AreWholePackets}
 use Rattle.sd_law_broadcast.specs.Runs.{Run, run_sent, run_packet, is_veiled}
-use Rattle.sd_law_broadcast.specs.Pads.{Pad, under_keystream, stream_number_at, entry_pad, part_pad, payload_pad, pads_in}
+use Rattle.sd_law_broadcast.specs.Pads.{Pad, under_keystream, stream_number_at, entry_pad, part_pad, payload_pad}
+use Rattle.sd_law_broadcast.specs.Pads.{pads_in}
 use Rattle.sd_law_broadcast.specs.Pads.{pads_of}
 
 -- an entry of period q: the period's key under the key of its set
@@ -89,14 +90,16 @@ kind_is Scrambled so = refl
 
 -- its payload is carried under its control word
 veiled_payload : (site : SiteFields) (t position : ℕ) (packet : List ℕ) → IsWholePacket packet
-    → payload_of (packet_under_word site t position packet) ≡ payload_under packet (control_word_of site.master t) position
+    → payload_of (packet_under_word site t position packet) ≡ payload_under packet (control_word_of site.master t)
+    position
 unfolding packet_under_word
 veiled_payload site t position packet whole =
     (laid_reads packet (control_word_of site.master t) position (control_of (parity_of t)) whole.long (whole.bytes 3)
     (control_fits (parity_of t))).payload_is
 
 carried_veiled : (site : SiteFields) (before : List (List ℕ)) (packet : List ℕ) → kind_of before packet ≡ Scrambled
-    → carried site before packet ≡ packet_under_word site (word_of site (length before)) (place_after before packet) packet
+    → carried site before packet ≡ packet_under_word site (word_of site (length before)) (place_after before packet)
+    packet
 unfolding carried
 carried_veiled site before packet kind = ap (λ (kind : Kind). carried_as kind site before packet) kind
 

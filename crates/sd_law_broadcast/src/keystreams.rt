@@ -60,5 +60,6 @@ pub fn broadcasts_repeat_no_keystream()
     ensures packets { (master : Key) (runs : List Run) (i j : ℕ) (k l : PacketNumber) (a b : Run) →
         All (IsRun master) runs → HaveOwnWords runs → slice_get runs i ≡ Some a → slice_get runs j ≡ Some b →
         k < length a.clear → l < length b.clear → is_veiled a k ≡ true → is_veiled b l ≡ true →
-        word_of a.plan.site k ≡ word_of b.plan.site l → stream_number_at a k ≡ stream_number_at b l → (i ≡ j) × (k ≡ l) }
+        word_of a.plan.site k ≡ word_of b.plan.site l → stream_number_at a k ≡ stream_number_at b l →
+        (i ≡ j) × (k ≡ l) }
 {}

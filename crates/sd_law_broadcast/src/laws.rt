@@ -159,9 +159,11 @@ pub fn periods_are_reached()
 pub fn messages_are_numbered()
     ensures at { (plan : Plan) (clear : Packets) (k : PacketNumber) → AreInRange plan.site → k < length clear →
         k % plan.site.every ≡ 0 →
-        message_at plan (take k clear) (k / plan.site.every) k false ≡ numbered_message plan clear (k / plan.site.every) }
+        message_at plan (take k clear) (k / plan.site.every) k false ≡ numbered_message plan clear
+        (k / plan.site.every) }
     ensures before { (plan : Plan) (clear : Packets) (a : MessageNumber) → a < closing_number plan.site (length clear) →
-        numbered_message plan clear a ≡ message_at plan (take (a * plan.site.every) clear) a (a * plan.site.every) false }
+        numbered_message plan clear a ≡ message_at plan (take (a * plan.site.every) clear) a (a * plan.site.every)
+        false }
     ensures closing { (plan : Plan) (clear : Packets) →
         numbered_message plan clear (closing_number plan.site (length clear))
         ≡ message_at plan clear (closing_number plan.site (length clear)) (length clear - 1) true }

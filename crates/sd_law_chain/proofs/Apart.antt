@@ -19,7 +19,8 @@ use Rattle.sd_law_plan.proofs.Clashes.{swapped_have_none, two_apart}
 use Rattle.sd_law_plan.proofs.Found.{all_fail, same_no}
 use Rattle.sd_law_plan.proofs.Ranges.{none_of}
 use Rattle.sd_law_plan.proofs.Sites.{later_shares_none, pairs_have_none}
-use Rattle.sd_law_chain.specs.Chain.{IsTrueChain, Call, HaveGrown, HaveOwnSites, IsChain, IsChainOnAir, Link, Next, OnAir, Twin}
+use Rattle.sd_law_chain.specs.Chain.{IsTrueChain, Call, HaveGrown, HaveOwnSites, IsChain, IsChainOnAir, Link, Next}
+use Rattle.sd_law_chain.specs.Chain.{OnAir, Twin}
 use Rattle.sd_law_chain.specs.Chain.{chain_book, plan_at, chain_plan, chain_run, runs_of, site_at}
 use Rattle.sd_law_chain.proofs.Following.{next_is_above, plan_is}
 use Rattle.sd_law_chain.proofs.Links.{next_link, some_call}

@@ -1,5 +1,6 @@
 -- What a head end sent that broke off.
-use Rattle.std.proofs.Common.{arith, ◌≡◌, ℕ, suc, zero, ◌+◌, ◌≤◌, ◌==◌, Bool, true, false, not, List, [], ◌∷◌, ◌++◌, length}
+use Rattle.std.proofs.Common.{arith, ◌≡◌, ℕ, suc, zero, ◌+◌, ◌≤◌, ◌==◌, Bool, true, false, not, List, [], ◌∷◌, ◌++◌}
+use Rattle.std.proofs.Common.{length}
 use Rattle.std.proofs.Common.{take, Option, Some, None, refl, ap, ◌∙◌, length-append}
 use Rattle.std.specs.Prelude.{Contains}
 use Rattle.std.specs.Option.{option_map_or}
@@ -96,7 +97,8 @@ clear_before site before (packet ∷ packets) fault (suc k) h low =
         option_map_or Some (refusal_of site before packet) (refusal_from site (before ++ packet ∷ []) (take k packets))
         ≡ None
     by_first None is names e rest =
-        ap (λ (o : Option ClearFault). option_map_or Some o (refusal_from site (before ++ packet ∷ []) (take k packets)))
+        ap (λ (o : Option ClearFault). option_map_or Some o (refusal_from site (before ++ packet ∷ [])
+        (take k packets)))
         is ∙ rest e
     by_first (Some first) is names e rest =
         let same : clear_packet first ≡ clear_packet fault = ap clear_packet (let f : first ≡ fault = cc in f) in

@@ -44,7 +44,8 @@ until_more (suc q) (Period ∷ commands) more h =
 abbrev pub Begins : List Command → List Command → Type 0
 Begins first all = (rest : List Command) × (all ≡ first ++ rest)
 
-begins_too : (command : Command) (first all : List Command) → Begins first all → Begins (command ∷ first) (command ∷ all)
+begins_too : (command : Command) (first all : List Command) → Begins first all →
+    Begins (command ∷ first) (command ∷ all)
 begins_too command first all (rest, is) = (rest, ap (λ (r : List Command). command ∷ r) is)
 
 -- what decides a period of a book begins what decides the same period or a later one of a longer book

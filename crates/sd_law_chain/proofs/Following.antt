@@ -14,7 +14,8 @@ use Rattle.sd_book.proofs.Cuts.{period_append}
 use Rattle.sd_spec.specs.Plan.{Plan, period_in}
 use Rattle.sd_run_books.specs.Apart.{last_due}
 use Rattle.sd_run_books.specs.Chain.{commands_said}
-use Rattle.sd_law_chain.specs.Chain.{IsTrueChain, Call, EndsLines, HaveGrown, IsChain, IsNextAt, Link, Next, OnAir, Twin}
+use Rattle.sd_law_chain.specs.Chain.{IsTrueChain, Call, EndsLines, HaveGrown, IsChain, IsNextAt, Link, Next, OnAir}
+use Rattle.sd_law_chain.specs.Chain.{Twin}
 use Rattle.sd_law_chain.specs.Chain.{chain_book, link_at, own_bytes, plan_at, chain_plan, site_at}
 use Rattle.sd_law_chain.proofs.Cuts.{Begins}
 use Rattle.sd_law_chain.proofs.Lines.{commands_joined}

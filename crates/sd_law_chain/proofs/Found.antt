@@ -23,7 +23,8 @@ use Rattle.std.specs.Result.{result_unwrap_or}
 use Rattle.sd_command_base.specs.Spec.{Spec, FileArgument, Readings, and_then, of_result, value, within, ◌>>=◌}
 use Rattle.sd_command_base.specs.Shown.{NumberArgument}
 use Rattle.sd_command_base.specs.Work.{Work}
-use Rattle.sd_command_base.specs.Files.{begins_with_book, ends_lines, longer_book_of_file, most_book_bytes, most_site_bytes}
+use Rattle.sd_command_base.specs.Files.{begins_with_book, ends_lines, longer_book_of_file, most_book_bytes}
+use Rattle.sd_command_base.specs.Files.{most_site_bytes}
 use Rattle.sd_command_base.specs.Files.{refused_site, book_or_status, longer_book_or_status, whole_book_or_status}
 use Rattle.sd_command_base.specs.BadLines.{bad_line}
 use Rattle.sd_command_base.specs.declared.bad_line.LineCause.TheVariants.{Unended}
@@ -162,7 +163,8 @@ longer_ok word height line got book e =
     let (bytes, read, told) = then_ok (within word most_book_bytes BookBytes got)
     (λ bytes. of_result (longer_book_or_status word height line bytes)) book e in
     let file = within_ok word most_book_bytes BookBytes got bytes read in
-    let begins = met (begins_with_book line bytes) (whole_book_or_status word bytes (book_or_status word height bytes (book_of height bytes)))
+    let begins = met (begins_with_book line bytes) (whole_book_or_status word bytes (book_or_status word height bytes
+    (book_of height bytes)))
     book OtherBook told in
     let whole = whole_ok word bytes (book_or_status word height bytes (book_of height bytes)) book begins.1 in
     let commands = book_ok word height bytes (book_of height bytes) book.commands whole.0 in
@@ -211,10 +213,12 @@ next_found site book words out given work e =
     then_ok (of_result (told_name site out)) (λ named. read >>= then_make words out (given out)) work e in
     let (origin, is_origin, made) = then_ok read (then_make words out (given out)) work after_name in
     let (newest, is_newest, after_site) =
-    then_ok (newest_of_file is_first_site site.number (most_word - 1) words (given site)) (then_read book.number (given book))
+    then_ok (newest_of_file is_first_site site.number (most_word - 1) words (given site))
+    (then_read book.number (given book))
     origin is_origin in
     let (text, is_text, is_it) =
-    then_ok (longer_book_of_file book.number newest.0.height newest.1 (given book)) (λ text. value (with_book newest text))
+    then_ok (longer_book_of_file book.number newest.0.height newest.1 (given book))
+    (λ text. value (with_book newest text))
     origin after_site in
     let new = new_ok (next_made origin words.value) out (given out) work made in
     record {

@@ -1,5 +1,6 @@
 -- Books that grow, or texts that are a collision.
-use Rattle.std.proofs.Common.{arith, ◌≡◌, ℕ, suc, zero, ◌-◌, ◌<◌, ◌≤◌, List, [], ◌∷◌, ◌++◌, length, refl, ap, sym, subst}
+use Rattle.std.proofs.Common.{arith, ◌≡◌, ℕ, suc, zero, ◌-◌, ◌<◌, ◌≤◌, List, [], ◌∷◌, ◌++◌, length, refl, ap, sym}
+use Rattle.std.proofs.Common.{subst}
 use Rattle.std.proofs.Common.{◌∙◌, Option, Some, None, inl, inr, take, drop, append_assoc, append-nil}
 use Rattle.std.specs.Prelude.{◌⊎◌, All, Contains, slice_get}
 use Rattle.std.specs.Str.{bytes_eq}
@@ -11,8 +12,10 @@ use Rattle.std.proofs.lemmas.List.Elements.{All-nil, All-cons, All-contains, Con
 use Rattle.sd_base.specs.Types.{Bytes}
 use Rattle.sd_base.proofs.Lists.{equal_bytes}
 use Rattle.sd_ports.specs.Bytes.{IsPrefix}
-use Rattle.sd_law_chain.specs.Chain.{IsTrueChain, AreTrue, Call, Collides, HaveGrown, HaveOwnSites, IsChain, IsCollision}
-use Rattle.sd_law_chain.specs.Chain.{IsLike, IsNextAt, IsChainOnAir, Link, Next, OnAir, Twin, chain_book, grown, link_at, own_bytes}
+use Rattle.sd_law_chain.specs.Chain.{IsTrueChain, AreTrue, Call, Collides, HaveGrown, HaveOwnSites, IsChain}
+use Rattle.sd_law_chain.specs.Chain.{IsCollision}
+use Rattle.sd_law_chain.specs.Chain.{IsLike, IsNextAt, IsChainOnAir, Link, Next, OnAir, Twin, chain_book, grown}
+use Rattle.sd_law_chain.specs.Chain.{link_at, own_bytes}
 use Rattle.sd_law_chain.specs.Chain.{sent}
 use Rattle.sd_law_chain.proofs.Links.{call_taken, next_link, some_call}
 
@@ -20,7 +23,11 @@ use Rattle.sd_law_chain.proofs.Links.{call_taken, next_link, some_call}
 alike_or_same : (x y : Bytes) → IsLike x y → IsCollision x y ⊎ (x ≡ y)
 alike_or_same x y like = elim (cases_Bool (bytes_eq x y)) [
   | inl equal ↦ inr ((bytes_eq-Decides x y).0 equal)
-  | inr differs ↦ inl (record { other = λ same. absurd (let e = sym (equal_bytes x y same) ∙ differs in cc); like = like })
+  | inr differs ↦ inl (record {
+    other = λ same. absurd (let e = sym (equal_bytes x y same) ∙ differs in cc);
+    like =
+        like;
+  })
 ]
 
 -- one of some things has this, or all have that
@@ -80,7 +87,8 @@ took_own root calls airs (suc m) is = elim (took_own root calls airs m is) [
   where
     by_call : (found : Option Call) → slice_get calls m ≡ found → TookOwn root calls m →
         Collides root calls airs ⊎ TookOwn root calls (suc m)
-    by_call None at before = inr (no_next root calls m before (λ bytes words other. absurd (let e = sym at ∙ other in cc)))
+    by_call None at before = inr (no_next root calls m before (λ bytes words other. absurd (let e = sym at ∙ other in
+        cc)))
     by_call (Some (Twin count)) at before =
         inr (no_next root calls m before (λ bytes words other. absurd (let e = sym at ∙ other in cc)))
     by_call (Some (Next bytes words)) at before =
@@ -120,7 +128,8 @@ pub book_step : (root : Link) (calls : List Call) (k : ℕ) → HaveGrown root c
 book_step root calls k have low =
     let (call, at) = some_call calls k low in by_call call at
   where
-    by_call : (call : Call) → slice_get calls k ≡ Some call → IsPrefix (chain_book root calls k) (chain_book root calls (suc k))
+    by_call : (call : Call) → slice_get calls k ≡ Some call →
+        IsPrefix (chain_book root calls k) (chain_book root calls (suc k))
     by_call (Next bytes words) at =
         let last : suc k - 1 ≡ k = omega arith in
         let is : IsPrefix (chain_book root calls k) bytes =

@@ -36,7 +36,8 @@ pub held_until : (root : Link) (calls : List Call) (n : ℕ) (more : Bytes) → 
     IsNextAt calls n (chain_book root calls (n - 1) ++ more) →
     commands_until (site_at root calls n).first_period (commands_said (chain_book root calls (n - 1) ++ more))
     ≡ commands_said (chain_book root calls (n - 1))
-    ++ commands_until ((site_at root calls n).first_period - last_period (commands_said (chain_book root calls (n - 1))))
+    ++ commands_until ((site_at root calls n).first_period - last_period
+    (commands_said (chain_book root calls (n - 1))))
     (commands_said more)
 held_until root calls n more is next =
     let book : Bytes = chain_book root calls (n - 1) in

@@ -24,7 +24,8 @@ use Rattle.sd_law_coalition.specs.Know.{ControlWord, PeriodKey}
 use Rattle.sd_run_books.specs.Apart.{last_due}
 use Rattle.sd_run_books.specs.Chain.{commands_said}
 use Rattle.sd_law_plan.proofs.Found.{kept, passes}
-use Rattle.sd_law_chain.specs.Chain.{IsTrueChain, Call, IsChain, IsNextAt, IsChainOnAir, KeepsOut, Link, OnAir, chain_book}
+use Rattle.sd_law_chain.specs.Chain.{IsTrueChain, Call, IsChain, IsNextAt, IsChainOnAir, KeepsOut, Link, OnAir}
+use Rattle.sd_law_chain.specs.Chain.{chain_book}
 use Rattle.sd_law_chain.specs.Chain.{chain_run, runs_of, site_at}
 use Rattle.sd_law_chain.proofs.Cuts.{until_begins, until_grows}
 use Rattle.sd_law_chain.proofs.Following.{broadcast_is_below, commands_grow}
@@ -58,7 +59,8 @@ kept_revoked commands (command ∷ more) u is none =
     ∙ kept_revoked (commands ++ command ∷ []) more u newest
     (λ has. none (Contains-append_right (command ∷ []) more (Subscribe u) has))
 
--- a leaf that a book revokes in a period stays revoked in it and in later ones of a longer book, unless it is subscribed
+-- a leaf that a book revokes in a period stays revoked in it and in later ones of a longer book, unless it is
+-- subscribed
 -- behind the commands of the period
 pub stays_revoked : (p q : ℕ) (commands longer more : List Command) (u : ℕ) → p ≤ q → longer ≡ commands ++ more →
     is_revoked (commands_until p commands) u ≡ true →
@@ -127,7 +129,8 @@ revoked_later root calls airs n q bytes coalition other is has late low =
     let longer : commands_said other.book ≡ commands_said bytes ++ more =
     ap commands_said own ∙ grown ∙ ap (λ (link : Link). commands_said link.book ++ more) made in
     let height = (all_are_one_set root calls other.number is.kept.chain on.there).height in
-    let out = All-contains (λ one. n ≤ one.number → KeepsOut coalition p (commands_said bytes) one) airs other is.out has
+    let out = All-contains (λ one. n ≤ one.number → KeepsOut coalition p (commands_said bytes) one) airs other is.out
+    has
     late in
     subst (λ (d : ℕ). All (Contains (revoked d (commands_said other.book) q)) coalition) height
     (all_by (Contains (revoked h (commands_said other.book) q)) coalition (λ u member.

@@ -25,7 +25,8 @@ use Rattle.sd_command_base.specs.declared.status.OutCause.TheVariants.{Name}
 use Rattle.sd_command_base.specs.declared.status.LimitKind.TheVariants.{BookBytes, SiteBytes}
 use Rattle.sd_site_cards.specs.declared.site_fault.SiteFault.TheVariants.{Range, Short}
 use Rattle.sd_command_base.specs.Files.{BookText, begins_with_book, ends_lines, longer_book_of_file, most_book_bytes}
-use Rattle.sd_command_base.specs.Files.{most_site_bytes, refused_site, book_or_status, longer_book_or_status, whole_book_or_status}
+use Rattle.sd_command_base.specs.Files.{most_site_bytes, refused_site, book_or_status, longer_book_or_status}
+use Rattle.sd_command_base.specs.Files.{whole_book_or_status}
 use Rattle.sd_command_base.specs.BadLines.{bad_line}
 use Rattle.sd_command_base.specs.declared.bad_line.LineCause.TheVariants.{Unended}
 use Rattle.sd_command_base.specs.Made.{NewFile, making_new, new_work}
@@ -60,7 +61,8 @@ told_back : (word : ℕ) (bytes : Bytes) (most : ℕ) (words : NumberArgument) (
     told_newest word bytes most words (Ok said) ≡ Ok said
 told_back word bytes most words said low left =
     let room : has_word_room words.value said.0 ≡ true = grind (arith, nat_tests, left) in
-    ap (λ (t : Bool). cond t (Err (refused_site word bytes (Range 12))) (cond (has_word_room words.value said.0) (Ok said)
+    ap (λ (t : Bool). cond t (Err (refused_site word bytes (Range 12))) (cond (has_word_room words.value said.0)
+    (Ok said)
     (Err (BadWord words.word)))) (not_above most said.0.first_period low)
     ∙ ap (λ (t : Bool). cond t (Ok said) (Err (BadWord words.word))) room
 
@@ -87,7 +89,8 @@ longer_back word d line bytes commands size begins book ends =
     ok_then 2 (cond (nat_lt most_book_bytes (length bytes)) (Err (Limit BookBytes)) (Ok bytes))
     (λ read. of_result (longer_book_or_status word d line read)) bytes
     (within_back most_book_bytes (Limit BookBytes) bytes size)
-    ∙ ap (λ (t : Bool). cond t (whole_book_or_status word bytes (book_or_status word d bytes (book_of d bytes))) (Err OtherBook)) begins
+    ∙ ap (λ (t : Bool). cond t (whole_book_or_status word bytes (book_or_status word d bytes (book_of d bytes)))
+    (Err OtherBook)) begins
     ∙ ap (λ found. whole_book_or_status word bytes (book_or_status word d bytes found)) book
     ∙ ap (λ (t : Bool). cond t (Ok (record { bytes = bytes; commands = commands }))
     (Err (BadBook word (bad_line Unended (length commands) bytes)))) ends
@@ -143,7 +146,8 @@ same_origin : (site : SiteFields) (bytes : Bytes) (own its commands more : List 
 same_origin site bytes own its commands more p q = rw (p, q) refl
 
 -- what a `next` found if its SITE says the site of a link
-abbrev IsFoundBy : NumberArgument → FileArgument → Option Bytes → Work → BookText → SiteFields × Option BookLine → Type 0
+abbrev IsFoundBy : NumberArgument → FileArgument → Option Bytes → Work → BookText → SiteFields × Option BookLine →
+    Type 0
 IsFoundBy words out book_got work text newest =
     (newest.0.first_period ≤ most_word - 1) × (newest.0.last_word + words.value ≤ most_word)
     × IsLonger newest.0.height newest.1 book_got text
@@ -189,14 +193,16 @@ one_newest fewer most words got text said newest given says is =
     said_once newest said (sym is.says ∙ ap (site_of_chain fewer) same ∙ says)
 
 next_ok : (link : Link) (site book out : FileArgument) (words : NumberArgument) (given : Readings) (text bytes : Bytes)
-    (work : Work) → given site ≡ Some text → IsFileOf is_first_site link text → given book ≡ Some bytes → 1 ≤ words.value →
+    (work : Work) → given site ≡ Some text → IsFileOf is_first_site link text → given book ≡ Some bytes →
+    1 ≤ words.value →
     (next_meaning site book words out given).result ≡ Ok work →
     (IsNextTaken link bytes words.value × IsNewNext site out given)
     × (work ≡ work_made link (Next bytes words.value) out)
 next_ok link site book out words given text bytes work first is second some h =
     let found = next_found site book words out given work h in
     let newest = found.is_newest in
-    let same = one_newest is_first_site (most_word - 1) words.value (given site) text (link.site, is.line) found.newest first
+    let same = one_newest is_first_site (most_word - 1) words.value (given site) text (link.site, is.line) found.newest
+    first
     is.says newest in
     let by = subst (IsFoundBy words out (given book) work found.text) same
     (newest.period, newest.room, found.longer, found.is_work) in
@@ -230,7 +236,8 @@ next_is site book out words given text bytes first second =
     ap (λ got. next_by site book words out got (given book) (given out)) first
     ∙ ap (λ got. next_by site book words out (Some text) got (given out)) second
 
-origin_back : (link : Link) (site book : ℕ) (words : NumberArgument) (text bytes : Bytes) → IsFileOf is_first_site link text →
+origin_back : (link : Link) (site book : ℕ) (words : NumberArgument) (text bytes : Bytes) →
+    IsFileOf is_first_site link text →
     IsNextTaken link bytes words.value →
     (origin_of_files site book words (Some text) (Some bytes)).result ≡ Ok (origin_of link bytes)
 unfolding origin_of_files
@@ -319,7 +326,10 @@ newest_says fewer bytes site line h = by_site (site_of bytes) refl h
     by_site (Err fault) read e = absurd cc
 
 -- a file of thirteen lines has line 13
-line_is : (link : Link) (bytes : Bytes) (line : Option BookLine) → site_of_chain none_fewer bytes ≡ Ok (link.site, line) →
+line_is : (link : Link) (bytes : Bytes) (line : Option BookLine) → site_of_chain none_fewer bytes ≡ Ok (
+  link.site,
+  line,
+) →
     IsLineOf line link.book → line ≡ Some (line_of_book link.book)
 line_is link bytes line says is =
     let said = newest_says none_fewer bytes link.site line says in
@@ -365,7 +375,8 @@ unfolding twin_meaning
 twin_is site out words given text first = ap (λ got. twin_by site words out got (given out)) first
 
 twin_back : (link : Link) (site out : FileArgument) (words : NumberArgument) (text : Bytes) (got : Option (List ℕ)) →
-    IsFileOf none_fewer link text → AreWordsLeft link.site words.value → follows site.text out.text ≡ true → got ≡ None →
+    IsFileOf none_fewer link text → AreWordsLeft link.site words.value → follows site.text out.text ≡ true →
+    got ≡ None →
     (twin_by site words out (Some text) got).result ≡ Ok (work_made link (Twin words.value) out)
 twin_back link site out words text got is left name new =
     let said : SiteFields × Option BookLine = (link.site, is.line) in

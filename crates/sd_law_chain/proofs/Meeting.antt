@@ -36,7 +36,8 @@ air_is_run root calls air is on =
 pub all_are_runs : (root : Link) (calls : List Call) (airs : List OnAir) → IsChain root calls →
     All (IsChainOnAir root calls) airs → All (IsRun root.site.master) (runs_of root calls airs)
 all_are_runs root calls airs is all =
-    All-map (IsRun root.site.master) (chain_run root calls) airs (all_by (λ air. IsRun root.site.master (chain_run root calls
+    All-map (IsRun root.site.master) (chain_run root calls) airs
+    (all_by (λ air. IsRun root.site.master (chain_run root calls
     air)) airs (λ air has. air_is_run root calls air is (All-contains (IsChainOnAir root calls) airs air all has)))
 
 pub all_are_one_tree : (root : Link) (calls : List Call) (airs : List OnAir) → IsChain root calls →
@@ -44,7 +45,8 @@ pub all_are_one_tree : (root : Link) (calls : List Call) (airs : List OnAir) →
 all_are_one_tree root calls airs is all =
     All-map (λ run. run.plan.site.height ≡ root.site.height) (chain_run root calls) airs
     (all_by (λ air. (site_at root calls air.number).height ≡ root.site.height) airs (λ air has.
-    sym (all_are_one_set root calls air.number is (All-contains (IsChainOnAir root calls) airs air all has).there).height))
+    sym (all_are_one_set root calls air.number is (All-contains (IsChainOnAir root calls) airs air all
+    has).there).height))
 
 all_have_words : (root : Link) (calls : List Call) (airs : List OnAir) → All (IsChainOnAir root calls) airs →
     All (λ run. HasWords run.plan.site) (runs_of root calls airs)

@@ -14,7 +14,8 @@ use Rattle.sd_law_losses.specs.Ends.{is_told}
 use Rattle.sd_law_losses.specs.Many.{has_cat}
 use Rattle.sd_law_losses.specs.Switched.{AreAlternating, ArePiecesOf, IsOtherThanFirst, names_from}
 use Rattle.sd_law_chain.specs.Chain.{Call, HaveOwnSites, IsChain, IsChainOnAir, Link, OnAir, site_at}
-use Rattle.sd_law_chain.specs.Heard.{ArrivedBroadcast, IsOtherNumber, TakeTurns, airs_of, arrival_of, arrivals_of, channel_of}
+use Rattle.sd_law_chain.specs.Heard.{ArrivedBroadcast, IsOtherNumber, TakeTurns, airs_of, arrival_of, arrivals_of}
+use Rattle.sd_law_chain.specs.Heard.{channel_of}
 use Rattle.sd_law_chain.specs.Heard.{numbers_from}
 use Rattle.sd_law_chain.proofs.Meeting.{air_is_run}
 use Rattle.sd_law_chain.proofs.Rising.{all_are_one_set, messages_are_three, words_rise}
@@ -62,7 +63,8 @@ names_differ root calls m n is can also other = elim (cases_lt m n) [
 ]
 
 -- each is of the channel
-is_run_of : (root : Link) (calls : List Call) (one : ArrivedBroadcast) → IsChain root calls → IsChainOnAir root calls one.air →
+is_run_of : (root : Link) (calls : List Call) (one : ArrivedBroadcast) → IsChain root calls →
+    IsChainOnAir root calls one.air →
     AreWholePackets one.air.clear → IsRunOf (channel_of root.site) (arrival_of root calls one)
 is_run_of root calls one is on whole =
     let set = all_are_one_set root calls one.air.number is on.there in
@@ -86,7 +88,8 @@ others : (air : OnAir) (airs : List OnAir) → HaveOwnSites (air ∷ airs) → A
 others air airs own = all_by (λ other. air.number ≢ other.number) airs (λ other (k, within, is).
     own 0 (suc k) air other refl (slice_get-get_or airs k other within ∙ ap Some is) (omega arith))
 
-two_names : (root : Link) (calls : List Call) (first : ArrivedBroadcast) (heard : List ArrivedBroadcast) → IsChain root calls →
+two_names : (root : Link) (calls : List Call) (first : ArrivedBroadcast) (heard : List ArrivedBroadcast) →
+    IsChain root calls →
     CanAir root calls first.air.number → All (IsChainOnAir root calls) (airs_of heard) →
     All (λ other. first.air.number ≢ other.number) (airs_of heard) →
     All (HaveTwoNames (arrival_of root calls first)) (arrivals_of root calls heard)
@@ -193,5 +196,6 @@ pub arrivals_are_pieces : (root : Link) (calls : List Call) (heard : List Arrive
 arrivals_are_pieces root calls heard is all whole turns = (
   each_is_run root calls heard is all whole,
   subst AreAlternating (sym (names_are root calls false heard))
-      (names_alternate root calls (numbers_from root calls false heard) is (numbers_can root calls false heard all) turns),
+      (names_alternate root calls (numbers_from root calls false heard) is (numbers_can root calls false heard all)
+      turns),
 )

@@ -64,7 +64,8 @@ own_back link word bytes commands size like book same =
     ok_then 2 (cond (nat_lt most_book_bytes (length bytes)) (Err (Limit BookBytes)) (Ok bytes))
     (λ read. of_result (own_book_or_status word link.site.height (Some (line_of_book link.book)) read)) bytes
     (within_back most_book_bytes (Limit BookBytes) bytes size)
-    ∙ ap (λ (t : Bool). cond t (book_or_status word link.site.height bytes (book_of link.site.height bytes)) (Err OtherBook))
+    ∙ ap (λ (t : Bool). cond t (book_or_status word link.site.height bytes (book_of link.site.height bytes))
+    (Err OtherBook))
     (like_same link.book bytes like)
     ∙ ap (book_or_status word link.site.height bytes) book
     ∙ ap Ok (sym same)

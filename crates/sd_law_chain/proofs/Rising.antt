@@ -13,7 +13,8 @@ use Rattle.sd_book.specs.Commands.{last_period}
 use Rattle.sd_book.specs.Limits.{most_periods}
 use Rattle.sd_law_broadcast.specs.Runs.{HasWords}
 use Rattle.sd_run_books.specs.Chain.{commands_said, line_of_book}
-use Rattle.sd_law_chain.specs.Chain.{AreOneSet, Call, IsChain, AreWordsLeft, IsNextAt, IsNextTaken, IsTaken, Link, Next, Twin}
+use Rattle.sd_law_chain.specs.Chain.{AreOneSet, Call, IsChain, AreWordsLeft, IsNextAt, IsNextTaken, IsTaken, Link, Next}
+use Rattle.sd_law_chain.specs.Chain.{Twin}
 use Rattle.sd_law_chain.specs.Chain.{chain_book, link_at, made_by, own_bytes, site_at, words_asked}
 use Rattle.sd_law_chain.proofs.Within.{fewer_periods, read_within, sha_below}
 use Rattle.sd_law_chain.proofs.Links.{call_taken, first_link, next_link, some_call}

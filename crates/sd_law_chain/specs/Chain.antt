@@ -1,6 +1,7 @@
 -- Public meaning: sites that `next` and `twin` make one after the other, and what is sent with them
 -- [this project, docs/FORMATS.md, Chains of sites].
-use Rattle.std.specs.Prelude.{◌≡◌, ◌≢◌, ℕ, ◌+◌, ◌-◌, ◌<◌, ◌≤◌, true, List, [], ◌∷◌, length, get_or, slice_get, take, drop}
+use Rattle.std.specs.Prelude.{◌≡◌, ◌≢◌, ℕ, ◌+◌, ◌-◌, ◌<◌, ◌≤◌, true, List, [], ◌∷◌, length, get_or, slice_get, take}
+use Rattle.std.specs.Prelude.{drop}
 use Rattle.std.specs.Prelude.{Some, Ok, All, Contains, map}
 use Rattle.sha2.specs.Sha256.{sha256}
 use Rattle.sd_base.specs.Types.{Bytes, Packets, Leaves, PeriodNumber}

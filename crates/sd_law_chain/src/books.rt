@@ -4,7 +4,8 @@ ghost use Rattle.std.specs.Prelude.{◌≡◌, ◌⊎◌, ◌≤◌, ◌++◌, L
 ghost use Rattle.sd_base.specs.Types.{Bytes};
 ghost use Rattle.sd_ports.specs.Bytes.{IsPrefix};
 ghost use Rattle.sd_run_books.specs.Chain.{commands_said};
-ghost use Rattle.sd_law_chain.specs.Chain.{IsTrueChain, AreTrue, Call, Collides, EndsLines, HaveOwnSites, IsChain, IsChainOnAir};
+ghost use Rattle.sd_law_chain.specs.Chain.{IsTrueChain, AreTrue, Call, Collides, EndsLines, HaveOwnSites, IsChain};
+ghost use Rattle.sd_law_chain.specs.Chain.{IsChainOnAir};
 ghost use Rattle.sd_law_chain.specs.Chain.{Link, OnAir};
 
 /// What is appended to a text that is empty or ends with a line feed appends to its commands.
@@ -25,5 +26,6 @@ pub fn books_grow()
 /// One of the pairs that were compared is a collision, or the chain is kept, if each site is for one broadcast.
 pub fn chains_with_books_are_kept()
     ensures { (root : Link) (calls : List Call) (airs : List OnAir) → IsChain root calls →
-        All (IsChainOnAir root calls) airs → HaveOwnSites airs → Collides root calls airs ⊎ IsTrueChain root calls airs }
+        All (IsChainOnAir root calls) airs → HaveOwnSites airs →
+        Collides root calls airs ⊎ IsTrueChain root calls airs }
 {}

@@ -7,7 +7,8 @@ ghost use Rattle.sd_law_losses.specs.Switched.{ArePiecesOf};
 ghost use Rattle.sd_law_chain.specs.Chain.{Call, HaveOwnSites, IsChain, IsChainOnAir, Link};
 ghost use Rattle.sd_law_chain.specs.Heard.{ArrivedBroadcast, TakeTurns, airs_of, arrivals_of, channel_of, numbers_from};
 
-/// Broadcasts of a chain, in any order and with any losses, are broadcasts of one channel with a name each, if each site
+/// Broadcasts of a chain, in any order and with any losses, are broadcasts of one channel with a name each, if each
+/// site
 /// is for one of them. So are pieces of them, as at a switch to a spare head end and back, if no two pieces of which a
 /// receiver hears a message one after the other are of one site.
 pub fn chains_are_one_channel()

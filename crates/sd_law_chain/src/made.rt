@@ -15,7 +15,8 @@ ghost use Rattle.sd_run_books.specs.Twin.{twin_meaning};
 ghost use Rattle.sd_law_chain.specs.Chain.{IsLike, IsTaken, Link, Next, Twin};
 ghost use Rattle.sd_law_chain.specs.Made.{IsFileOf, IsNewNext, work_made};
 
-/// Suppose that SITE's file says a site and its book. Then `next` and `twin` make a file exactly if the call is taken and
+/// Suppose that SITE's file says a site and its book. Then `next` and `twin` make a file exactly if the call is taken
+/// and
 /// OUT is new and follows SITE, and the file is that of the site that the call makes from this one.
 pub fn calls_make_the_next_site()
     ensures next { (link : Link) (site book out : FileArgument) (words : NumberArgument) (given : Readings)
@@ -36,7 +37,8 @@ pub fn calls_make_the_next_site()
         (twin_meaning site words out given).result ≡ Ok work → work ≡ work_made link (Twin words.value) out }
 {}
 
-/// The book that `head` takes with the site of a link has the number of bytes and the digest of the link's book, and its
+/// The book that `head` takes with the site of a link has the number of bytes and the digest of the link's book, and
+/// its
 /// commands are those that its lines say.
 pub fn heads_take_the_book_of_the_site()
     ensures { (link : Link) (word : ℕ) (bytes : Bytes) (commands : List Command) →

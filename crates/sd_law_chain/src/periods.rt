@@ -1,4 +1,5 @@
-//! The periods of a chain: those of a broadcast are below those of later sites, and what was appended to the book holds.
+//! The periods of a chain: those of a broadcast are below those of later sites, and what was appended to the book
+//! holds.
 
 ghost use Rattle.std.specs.Prelude.{◌≡◌, ◌++◌, ◌-◌, ◌<◌, ◌≤◌, ℕ, List, Contains};
 ghost use Rattle.sd_base.specs.Types.{Bytes};
@@ -30,7 +31,8 @@ pub fn new_sites_hold_what_is_appended()
         IsNextAt calls n (chain_book root calls (n - 1) ++ more) →
         commands_until (site_at root calls n).first_period (commands_said (chain_book root calls (n - 1) ++ more))
         ≡ commands_said (chain_book root calls (n - 1))
-        ++ commands_until ((site_at root calls n).first_period - last_period (commands_said (chain_book root calls (n - 1))))
+        ++ commands_until ((site_at root calls n).first_period - last_period
+        (commands_said (chain_book root calls (n - 1))))
         (commands_said more) }
     ensures at_once { (root : Link) (calls : List Call) (n : ℕ) (more : Bytes) → IsChain root calls →
         IsNextAt calls n (chain_book root calls (n - 1) ++ more) → last_period (commands_said more) ≤ 1 →

@@ -4,7 +4,8 @@ ghost use Rattle.std.specs.Prelude.{◌≡◌, ◌≢◌, ℕ, List, None, Some,
 ghost use Rattle.sd_law_broadcast.specs.Runs.{AllAgree, HaveOwnWords, IsRun};
 ghost use Rattle.sd_law_broadcast.specs.Known.{AreOneTree};
 ghost use Rattle.sd_run_books.specs.Apart.{plan_clash};
-ghost use Rattle.sd_law_chain.specs.Chain.{IsTrueChain, Call, HaveOwnSites, IsChain, IsChainOnAir, Link, OnAir, chain_plan, runs_of};
+ghost use Rattle.sd_law_chain.specs.Chain.{IsTrueChain, Call, HaveOwnSites, IsChain, IsChainOnAir, Link, OnAir};
+ghost use Rattle.sd_law_chain.specs.Chain.{chain_plan, runs_of};
 
 /// `apart` takes each two broadcasts.
 pub fn chains_are_apart()

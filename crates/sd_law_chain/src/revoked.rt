@@ -7,7 +7,8 @@ ghost use Rattle.sd_law_coalition.specs.Know.{ControlWord, PeriodKey};
 ghost use Rattle.sd_law_broadcast.specs.Runs.{UsesPeriod, UsesWord};
 ghost use Rattle.sd_law_broadcast.specs.Known.{IsKnownInRuns};
 ghost use Rattle.sd_run_books.specs.Chain.{commands_said};
-ghost use Rattle.sd_law_chain.specs.Chain.{IsTrueChain, Call, IsNextAt, KeepsOut, Link, OnAir, chain_run, runs_of, site_at};
+ghost use Rattle.sd_law_chain.specs.Chain.{IsTrueChain, Call, IsNextAt, KeepsOut, Link, OnAir, chain_run, runs_of};
+ghost use Rattle.sd_law_chain.specs.Chain.{site_at};
 
 /// Leaves that the BOOK of a `next` revokes in the first period of the new site know nothing of what is sent from that
 /// site on, whatever they keep of the broadcasts before and after: no period key and no control word of a broadcast of

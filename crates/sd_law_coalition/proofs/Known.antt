@@ -117,7 +117,8 @@ comes service coalition low leaves (at_first {x = OfTree (Key name)} m) = absurd
 comes service coalition low leaves (at_first {x = PeriodKey q} m) = absurd m
 comes service coalition low leaves (at_first {x = ControlWord t} m) = absurd m
 comes service coalition low leaves (by_rule r (generated {from = from} {to = to} f)) =
-    next_is_reached (flat_map (names_of_receiver service.height) coalition) from to (comes service coalition low leaves r) f
+    next_is_reached (flat_map (names_of_receiver service.height) coalition) from to
+    (comes service coalition low leaves r) f
 comes service coalition low leaves (by_rule r (of_set {name = name} {q = q} due there)) =
     let some = unrevoked_reaches service coalition q name low leaves there (comes service coalition low leaves r) in
     (omega (arith, due), some)
@@ -133,7 +134,8 @@ lifted service coalition (by_rule r f) = by_rule (lifted service coalition r) (g
 
 -- a secret that is reached is known
 reached_is_known : (service : Service) (coalition : List ℕ) (secret : Secret)
-    → IsReached (flat_map (names_of_receiver service.height) coalition) secret → IsKnown service coalition (OfTree secret)
+    → IsReached (flat_map (names_of_receiver service.height) coalition) secret →
+    IsKnown service coalition (OfTree secret)
 unfolding IsReached
 reached_is_known service coalition secret r =
     to_known service coalition (OfTree secret)

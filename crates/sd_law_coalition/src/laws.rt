@@ -30,7 +30,8 @@ pub fn least_known()
 pub fn secrets_known()
     ensures { (service : Service) (coalition : Leaves) (secret : Secret) → service.height ≤ 20 →
         All (λ u. u < 2 ^ service.height) coalition →
-        IsKnown service coalition (OfTree secret) ↔ IsReached (flat_map (names_of_receiver service.height) coalition) secret }
+        IsKnown service coalition (OfTree secret) ↔ IsReached (flat_map (names_of_receiver service.height) coalition)
+        secret }
 {}
 
 /// The key of a period is known exactly where some leaf of the coalition isn't revoked in it

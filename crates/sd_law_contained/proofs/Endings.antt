@@ -220,8 +220,10 @@ both_end : (card : CardFields) (pid : ℕ) (packet : List ℕ) (past few : List 
 unfolding ended_before
 both_end card pid packet past few agrees ends =
     if_turned (turns_at card past packet) (turns_at card few packet)
-    (endings_joined (ended_before card few) (run_ending card (heard card few) (run_wrote card few))) (ended_before card few)
-    (endings_joined (ended_before card past) (run_ending card (heard card past) (run_wrote card past))) (ended_before card past)
+    (endings_joined (ended_before card few) (run_ending card (heard card few) (run_wrote card few)))
+    (ended_before card few)
+    (endings_joined (ended_before card past) (run_ending card (heard card past) (run_wrote card past)))
+    (ended_before card past)
     (both_turn card pid packet past few agrees)
     (joined_same (ended_before card few) (run_ending card (heard card few) (run_wrote card few))
     (ended_before card past) (run_ending card (heard card past) (run_wrote card past)) ends

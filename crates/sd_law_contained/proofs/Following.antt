@@ -137,7 +137,8 @@ on_heard pid h n tuning packet past are taken =
     (emm_read h packet) (ecm_read packet) past are taken
 
 -- the run that is current with a thing
-pub turn_same : (pid n m : ℕ) (past packets_alone : List Heard) (thing : Heard) → thinned pid packets_alone ≡ thinned pid past →
+pub turn_same : (pid n m : ℕ) (past packets_alone : List Heard) (thing : Heard) →
+    thinned pid packets_alone ≡ thinned pid past →
     is_turn packets_alone (numbered m thing) ≡ is_turn past (numbered n thing)
 unfolding is_turn
 turn_same pid n m past packets_alone thing same =
@@ -150,17 +151,21 @@ run_by : (pid : ℕ) (turn : Bool) (past packets_alone : List Heard) → thinned
 run_by pid true past packets_alone same = refl
 run_by pid false past packets_alone same = same
 
-pub run_same : (pid n m : ℕ) (past packets_alone : List Heard) (thing : Heard) → thinned pid packets_alone ≡ thinned pid past →
+pub run_same : (pid n m : ℕ) (past packets_alone : List Heard) (thing : Heard) →
+    thinned pid packets_alone ≡ thinned pid past →
     thinned pid (of_run packets_alone (numbered m thing)) ≡ thinned pid (of_run past (numbered n thing))
 unfolding of_run
 run_same pid n m past packets_alone thing same =
-    ap (λ (turn : Bool). thinned pid (if turn then [] else packets_alone)) (turn_same pid n m past packets_alone thing same)
+    ap (λ (turn : Bool). thinned pid (if turn then [] else packets_alone))
+    (turn_same pid n m past packets_alone thing same)
     ∙ run_by pid (is_turn past (numbered n thing)) past packets_alone same
 
-pub closed_same : (pid n m : ℕ) (past packets_alone : List Heard) (thing : Heard) → thinned pid packets_alone ≡ thinned pid past →
+pub closed_same : (pid n m : ℕ) (past packets_alone : List Heard) (thing : Heard) →
+    thinned pid packets_alone ≡ thinned pid past →
     is_closed (of_run packets_alone (numbered m thing)) ≡ is_closed (of_run past (numbered n thing))
 closed_same pid n m past packets_alone thing same =
-    same_by is_closed pid (of_run packets_alone (numbered m thing)) (of_run past (numbered n thing)) (closed_thinned pid)
+    same_by is_closed pid (of_run packets_alone (numbered m thing)) (of_run past (numbered n thing))
+    (closed_thinned pid)
     (run_same pid n m past packets_alone thing same)
 
 more_by : (pid n m : ℕ) (closed : Bool) (past packets_alone run mine : List Heard) (thing : Heard) →
@@ -173,11 +178,13 @@ more_by pid n m false past packets_alone run mine thing same runs =
     ∙ (ap (thin_with pid thing) runs ∙ sym (thin_numbered pid n thing (thinned pid run)))
 
 -- what is heard with one thing more
-more_same : (pid n m : ℕ) (past packets_alone : List Heard) (thing : Heard) → thinned pid packets_alone ≡ thinned pid past →
+more_same : (pid n m : ℕ) (past packets_alone : List Heard) (thing : Heard) →
+    thinned pid packets_alone ≡ thinned pid past →
     thinned pid (heard_more packets_alone (numbered m thing)) ≡ thinned pid (heard_more past (numbered n thing))
 more_same pid n m past packets_alone thing same =
     ap (λ (closed : Bool). thinned pid (if closed then packets_alone
-    else numbered m thing ∷ of_run packets_alone (numbered m thing))) (closed_same pid n m past packets_alone thing same)
+    else numbered m thing ∷ of_run packets_alone (numbered m thing))) (closed_same pid n m past packets_alone thing
+    same)
     ∙ more_by pid n m (is_closed (of_run past (numbered n thing))) past packets_alone (of_run past (numbered n thing))
     (of_run packets_alone (numbered m thing)) thing same (run_same pid n m past packets_alone thing same)
 

@@ -22,7 +22,8 @@ use Rattle.sd_message.specs.declared.stream_fault.StreamFault.{StreamFault}
 use Rattle.sd_message.specs.declared.stream_fault.StreamFault.TheVariants as Fault
 use Rattle.sd_psi.specs.declared.our_cat.Tuning.{Tuning}
 use Rattle.sd_spec.specs.Heard.{Heard, Dropped, Entitles, Controls, BadEmm, BadEcm, Other}
-use Rattle.sd_spec.specs.Stretches.{Stretch, newest_message, message_parts_to, completes, current, sections_seen, others, held_in}
+use Rattle.sd_spec.specs.Stretches.{Stretch, newest_message, message_parts_to, completes, current, sections_seen}
+use Rattle.sd_spec.specs.Stretches.{others, held_in}
 use Rattle.sd_spec.specs.Keys.{key_from, key_in, key_at}
 use Rattle.sd_spec.specs.Confirmed.{Segment, WrittenPackets, written_from}
 use Rattle.sd_spec.specs.Offered.{most_held, Offering, no_offering, refused_offering, is_mixed}
@@ -83,7 +84,8 @@ held_on pid past alone same are =
     sym (newest_thinned pid alone) ∙ (ap newest_message same ∙ newest_thinned pid past) in
     let after : thinned pid (newest_message alone).after ≡ thinned pid (newest_message past).after =
     ap (λ (stretch : Stretch). stretch.after) stretches in
-    let packets : packets_heard (newest_message alone).after ≡ those_on pid (packets_heard (newest_message past).after) =
+    let packets : packets_heard (newest_message alone).after ≡ those_on pid (packets_heard (newest_message past).after)
+    =
     sym (all_on pid (newest_message alone).after (after_on pid alone are))
     ∙ (sym (packets_thinned pid (newest_message alone).after)
     ∙ (ap packets_heard after ∙ packets_thinned pid (newest_message past).after)) in
@@ -170,8 +172,10 @@ segment_follows pid card tuning past alone a b None same are few = λ calm. (ref
 segment_follows pid card tuning past alone a b (Some key) same are few =
     unless_many pid (nat_lt most_held (length (held_in (newest_message past))))
     (nat_lt most_held (length (held_in (newest_message alone))))
-    (written_from (segment_of card tuning a b key (packets_in (held_in (newest_message past)))) [] (held_in (newest_message past)))
-    (written_from (segment_of card tuning a b key (packets_in (held_in (newest_message alone)))) [] (held_in (newest_message alone)))
+    (written_from (segment_of card tuning a b key (packets_in (held_in (newest_message past)))) []
+    (held_in (newest_message past)))
+    (written_from (segment_of card tuning a b key (packets_in (held_in (newest_message alone)))) []
+    (held_in (newest_message alone)))
     (few_enough (length (held_in (newest_message past))) few)
     (fewer_enough (length (held_in (newest_message alone))) (length (held_in (newest_message past)))
     (fewer_held pid past alone same are) few)
@@ -197,12 +201,14 @@ stretch_by pid card tuning past alone (Some a) b same are few =
     let before : thinned pid (newest_message alone).before ≡ thinned pid (newest_message past).before =
     ap (λ (stretch : Stretch). stretch.before) stretches in
     let key : key_at card (newest_message alone).before a.period ≡ key_at card (newest_message past).before a.period =
-    same_by (λ (hs : List Heard). key_at card hs a.period) pid (newest_message alone).before (newest_message past).before
+    same_by (λ (hs : List Heard). key_at card hs a.period) pid (newest_message alone).before
+    (newest_message past).before
     (key_thinned pid a.period card) before in
     if_open pid (nat_le b.since a.number)
     (segment_wrote card tuning (newest_message past) a b (key_at card (newest_message past).before a.period))
     (segment_wrote card tuning (newest_message alone) a b (key_at card (newest_message alone).before a.period))
-    (rw key (segment_follows pid card tuning past alone a b (key_at card (newest_message past).before a.period) same are few))
+    (rw key (segment_follows pid card tuning past alone a b (key_at card (newest_message past).before a.period) same
+    are few))
 
 stretch_follows : (pid : ℕ) (card : CardFields) (tuning : Tuning) (past alone : List Heard) (b : Message) →
     thinned pid alone ≡ thinned pid past → AreOn pid alone → few_held past ≡ true →
@@ -262,7 +268,8 @@ message_follows pid n m card tuning past alone (Some b) same are few =
     let wrote : WrittenPackets = stretch_wrote card tuning (newest_message past) (newest_message past).message b in
     let less : WrittenPackets = stretch_wrote card tuning (newest_message alone) (newest_message alone).message b in
     subst (λ (test : Bool). Follows pid (message_offering card tuning n past (Some b))
-    (if test then refused_offering (Fault.BadEcm m Back) else wrote_or less (word_fault m b (key_at card alone b.period))))
+    (if test then refused_offering (Fault.BadEcm m Back) else wrote_or less
+    (word_fault m b (key_at card alone b.period))))
     (sym back)
     (back_follows pid (is_back past b) (Fault.BadEcm n Back) (Fault.BadEcm m Back)
     (wrote_or wrote (word_fault n b (key_at card past b.period)))
@@ -283,7 +290,8 @@ control_follows : (pid n m : ℕ) (card : CardFields) (tuning : Tuning) (past al
     (heard_offering card tuning m alone (Controls part))
 control_follows pid n m card tuning past alone part same are few =
     let run : message_parts_to (newest_message alone) part ≡ message_parts_to (newest_message past) part =
-    same_by (λ (hs : List Heard). message_parts_to (newest_message hs) part) pid alone past (run_thinned pid part) same in
+    same_by (λ (hs : List Heard). message_parts_to (newest_message hs) part) pid alone past (run_thinned pid part) same
+    in
     rw run
     (part_follows pid n m (part_fault (message_parts_to (newest_message past) part))
     (message_offering card tuning n past (completes past (Controls part)))

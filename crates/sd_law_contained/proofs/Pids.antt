@@ -77,7 +77,8 @@ restored_pid packet placed =
     behind_header packet _ (payload_start_of packet + 1) (omega (arith, (start_within packet).0))
     (placed_long packet placed)
 
-unmarked_by : (packet : List ℕ) (placed marked : Bool) → (placed ≡ true → pid_of (pmt_without_descriptor packet) ≡ pid_of packet) →
+unmarked_by : (packet : List ℕ) (placed marked : Bool) → (placed ≡ true → pid_of (pmt_without_descriptor packet)
+    ≡ pid_of packet) →
     pid_of (if placed && marked then pmt_without_descriptor packet else packet) ≡ pid_of packet
 unmarked_by packet true true kept = kept refl
 unmarked_by packet true false kept = refl

@@ -11,7 +11,8 @@ use Rattle.sd_message.specs.declared.emm.Emm.{Emm}
 use Rattle.sd_message.specs.EcmParts.{Message}
 use Rattle.sd_message.specs.declared.ecm_part.EcmPart.{EcmPart}
 use Rattle.sd_spec.specs.Heard.{Heard, Dropped, Entitles, Controls, BadEmm, BadEcm, Other}
-use Rattle.sd_spec.specs.Stretches.{Stretch, exceeds, counted_parts, run_of_parts, message_told, message_parts_to, completed}
+use Rattle.sd_spec.specs.Stretches.{Stretch, exceeds, counted_parts, run_of_parts, message_told, message_parts_to}
+use Rattle.sd_spec.specs.Stretches.{completed}
 use Rattle.sd_spec.specs.Stretches.{stretch_after}
 use Rattle.sd_spec.specs.Stretches.{newest_message, completes, messages, with_message, is_closed, period_heard}
 use Rattle.sd_spec.specs.Stretches.{current}
@@ -95,7 +96,8 @@ newest_other true packet past before after message is =
     ap (λ (stretch : Stretch). stretch_after past stretch (Other 0 packet) None) is
 newest_other false packet past before after message is = is
 
-pub newest_thinned : (pid : ℕ) (past : List Heard) → newest_message (thinned pid past) ≡ stretch_thinned pid (newest_message past)
+pub newest_thinned : (pid : ℕ) (past : List Heard) → newest_message (thinned pid past) ≡ stretch_thinned pid
+    (newest_message past)
 unfolding newest_message
 newest_thinned pid [] = refl
 newest_thinned pid (Dropped ∷ past) = newest_thinned pid past
@@ -116,7 +118,8 @@ newest_thinned pid (Other n packet ∷ past) =
 pub run_thinned : (pid : ℕ) (part : EcmPart) (past : List Heard) →
     message_parts_to (newest_message (thinned pid past)) part ≡ message_parts_to (newest_message past) part
 run_thinned pid part past =
-    ap (λ (stretch : Stretch). message_parts_to stretch part) (newest_thinned pid past) ∙ run_to_thinned pid (newest_message past) part
+    ap (λ (stretch : Stretch). message_parts_to stretch part) (newest_thinned pid past) ∙ run_to_thinned pid
+    (newest_message past) part
 
 pub completes_thinned : (pid : ℕ) (part : EcmPart) (past : List Heard) →
     completes (thinned pid past) (Controls part) ≡ completes past (Controls part)
@@ -124,7 +127,8 @@ completes_thinned pid part past =
     ap (λ (stretch : Stretch). completed stretch (Controls part)) (newest_thinned pid past)
     ∙ completed_thinned pid (newest_message past) part
 
-pub message_thinned : (pid : ℕ) (past : List Heard) → (newest_message (thinned pid past)).message ≡ (newest_message past).message
+pub message_thinned : (pid : ℕ) (past : List Heard) → (newest_message (thinned pid past)).message
+    ≡ (newest_message past).message
 message_thinned pid past = ap (λ (stretch : Stretch). stretch.message) (newest_thinned pid past)
 
 messages_other : (test : Bool) (packet : List ℕ) (past : List Heard) →
@@ -292,7 +296,8 @@ after_on pid [] are = are
 after_on pid (Dropped ∷ past) are = after_on pid past are
 after_on pid (Entitles emm ∷ past) are = after_on pid past are
 after_on pid (Controls part ∷ past) are =
-    after_by pid past (newest_message past) part (completed (newest_message past) (Controls part)) (after_on pid past are)
+    after_by pid past (newest_message past) part (completed (newest_message past) (Controls part))
+    (after_on pid past are)
 after_on pid (BadEmm fault ∷ past) are = after_on pid past are
 after_on pid (BadEcm fault ∷ past) are = after_on pid past are
 after_on pid (Other n packet ∷ past) are = (are.0, after_on pid past are.1)

@@ -13,4 +13,5 @@ pub record IsContained (channel : Channel) (runs : List Arrival) (u : LeafNumber
   pub runs_of : AreRunsOf channel runs
   pub leaf : u < 2 ^ channel.height
   pub few : few_held_in (channel_card channel u) [] (counting (channel_card channel u) [] packets) ≡ true
-  pub told : packets_alone (channel_card channel u) pid [] (counting (channel_card channel u) [] packets) ≡ arriving runs
+  pub told : packets_alone (channel_card channel u) pid [] (counting (channel_card channel u) [] packets)
+      ≡ arriving runs

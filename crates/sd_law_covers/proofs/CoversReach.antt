@@ -46,7 +46,8 @@ revoked_reach_none d leaves sets u low all cover m name there =
 
 -- the same of a book's period
 pub revoked_in_book_reach_none : (d : ℕ) (commands : List Command) (q : ℕ) (sets : List SetName) (u : ℕ) → d ≤ 20
-    → IsChainCover d (revoked d commands q) sets → Contains (revoked d commands q) u → ReachesNoneOf (names_of_receiver d u) sets
+    → IsChainCover d (revoked d commands q) sets → Contains (revoked d commands q) u →
+    ReachesNoneOf (names_of_receiver d u) sets
 revoked_in_book_reach_none d commands q sets u low cover m =
     revoked_reach_none d (revoked d commands q) sets u low (below d commands q) cover m
 
@@ -78,7 +79,8 @@ revoked_pool_in_book_reaches_none d commands q sets coalition low cover members 
 
 -- a leaf that isn't revoked is in a set of the cover, and its names reach the set's key
 unrevoked_reach_some : (d : ℕ) (leaves : List ℕ) (sets : List SetName) (u : ℕ) → d ≤ 20 → AreLeaves d leaves
-    → IsChainCover d leaves sets → u < 2 ^ d → ¬ Contains leaves u → Any (λ name. IsReached (names_of_receiver d u) (Key name)) sets
+    → IsChainCover d leaves sets → u < 2 ^ d → ¬ Contains leaves u →
+    Any (λ name. IsReached (names_of_receiver d u) (Key name)) sets
 unrevoked_reach_some d leaves sets u low all cover leaf free =
     let absent : list_any (nat_eq u) leaves ≡ false = false_from_ne_true _ (λ e. free (found_member u leaves e)) in
     let count =
@@ -95,7 +97,8 @@ unrevoked_reach_some d leaves sets u low all cover leaf free =
 
 -- a leaf's names reach the key of some set of the cover exactly where the leaf isn't revoked
 pub cover_reached : (d : ℕ) (leaves : List ℕ) (sets : List SetName) (u : ℕ) → d ≤ 20 → All (λ w. w < 2 ^ d) leaves
-    → IsChainCover d leaves sets → u < 2 ^ d → Any (λ name. IsReached (names_of_receiver d u) (Key name)) sets ↔ ¬ Contains leaves u
+    → IsChainCover d leaves sets → u < 2 ^ d → Any (λ name. IsReached (names_of_receiver d u) (Key name)) sets ↔ ¬
+    Contains leaves u
 cover_reached d leaves sets u low all cover leaf = (
   λ (k, name, within, is, r) m. (revoked_reach_none d leaves sets u low all cover m name (k, within, is)).1 r,
   unrevoked_reach_some d leaves sets u low (λ w. All-contains (λ n. n < 2 ^ d) leaves w all) cover leaf,
@@ -103,7 +106,8 @@ cover_reached d leaves sets u low all cover leaf = (
 
 -- the same of a book's period
 pub cover_in_book_reached : (d : ℕ) (commands : List Command) (q : ℕ) (sets : List SetName) (u : ℕ) → d ≤ 20
-    → IsChainCover d (revoked d commands q) sets → u < 2 ^ d → Any (λ name. IsReached (names_of_receiver d u) (Key name)) sets
+    → IsChainCover d (revoked d commands q) sets → u < 2 ^ d →
+    Any (λ name. IsReached (names_of_receiver d u) (Key name)) sets
     ↔ ¬ Contains (revoked d commands q) u
 cover_in_book_reached d commands q sets u low cover leaf =
     cover_reached d (revoked d commands q) sets u low (below d commands q) cover leaf

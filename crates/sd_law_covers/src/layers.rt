@@ -20,7 +20,8 @@ ghost use Rattle.sd_cover_tracing.specs.Partition.{IsPartition};
 pub fn names_in_layers()
     ensures count { (d w u : ℕ) → d ≤ highest → 1 ≤ w → u < 2 ^ d →
         length (layer_given d w u) ≡ layer_count d w + 1 }
-    ensures all { (d w u : ℕ) → d ≤ highest → u < 2 ^ d → (w ≡ 1) ⊎ (w ≡ d) → layer_given d w u ≡ names_of_receiver d u }
+    ensures all { (d w u : ℕ) → d ≤ highest → u < 2 ^ d → (w ≡ 1) ⊎ (w ≡ d) →
+        layer_given d w u ≡ names_of_receiver d u }
 {}
 
 /// A leaf's names in layers reach only keys of sets that the leaf is in, and of useful sets all of them

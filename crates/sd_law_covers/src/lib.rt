@@ -1,4 +1,5 @@
-//! What trees, labels, covers, tracing and layers come to, and the names that a receiver is given: which keys and labels
+//! What trees, labels, covers, tracing and layers come to, and the names that a receiver is given: which keys and
+//! labels
 //! follow from them by the steps of the generator.
 #![tactic(auto)]
 

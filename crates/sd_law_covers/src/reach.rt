@@ -8,7 +8,8 @@ ghost use Rattle.sd_tree_keys.specs.Names.{names_of_receiver};
 ghost use Rattle.sd_book.specs.declared.command.Command.{Command};
 ghost use Rattle.sd_book.specs.Commands.{revoked as revoked_in};
 ghost use Rattle.sd_cover_tracing.specs.Chains.{IsChainCover};
-ghost use Rattle.sd_cover_tracing.specs.Reach.{Secret, Named, Key, IsGeneratorStep, IsReached, DerivesSecret, ReachesItsSets};
+ghost use Rattle.sd_cover_tracing.specs.Reach.{Secret, Named, Key, IsGeneratorStep, IsReached, DerivesSecret};
+ghost use Rattle.sd_cover_tracing.specs.Reach.{ReachesItsSets};
 ghost use Rattle.sd_cover_tracing.specs.Reach.{ReachesNoneOf};
 
 /// What is reached is the least that has what is held and is closed under the rules.
@@ -25,7 +26,8 @@ pub fn least_closed()
 /// What is reached is just what one of the held names leads to, by the ancestry of nodes.
 #[tactic(auto, using(sd_cover_tracing::proofs::Reached::reached_by_ancestry))]
 pub fn reached_by_ancestry()
-    ensures { (held : List Name) (secret : Secret) → IsReached held secret ↔ Any (λ name. DerivesSecret name secret) held }
+    ensures { (held : List Name) (secret : Secret) → IsReached held secret ↔ Any (λ name. DerivesSecret name secret)
+        held }
 {}
 
 /// A leaf's names reach the label or key of a set exactly where the leaf is in the set
@@ -39,7 +41,8 @@ pub fn members_reach()
 #[tactic(auto, using(sd_cover_tracing::proofs::Reached::reached_by_one))]
 pub fn pooled_reach()
     ensures { (d : ℕ) (coalition : List ℕ) (secret : Secret) →
-        IsReached (flat_map (names_of_receiver d) coalition) secret ↔ Any (λ u. IsReached (names_of_receiver d u) secret) coalition }
+        IsReached (flat_map (names_of_receiver d) coalition) secret ↔ Any
+        (λ u. IsReached (names_of_receiver d u) secret) coalition }
 {}
 
 /// A leaf's names reach the key of some set of the cover exactly where the leaf isn't revoked.

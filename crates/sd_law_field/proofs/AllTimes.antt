@@ -40,11 +40,13 @@ times_write plan clear u is all whole synced leaf (xs ∷ xss) rises below =
     ∙ (ap (λ (rest : List (List ℕ)). packets_at clear (confirmed_places_in plan u clear xs) ++ rest)
     (times_write plan clear u is all whole synced leaf xss (rises_second 0 xs (concat xss) rises)
     (all_second (λ i. i < length (sent plan clear)) xs (concat xss) below))
-    ∙ sym (map-append (packet_at clear) (confirmed_places_in plan u clear xs) (flat_map (confirmed_places_in plan u clear) xss)))
+    ∙ sym (map-append (packet_at clear) (confirmed_places_in plan u clear xs)
+    (flat_map (confirmed_places_in plan u clear) xss)))
 
 module _ (plan : Plan) (clear : List (List ℕ)) (u : ℕ) where
   -- what holds in each time holds in all
-  pub each_time : (P : ℕ → Type 0) → ((xs : List ℕ) → All P (confirmed_places_in plan u clear xs)) → (xss : List (List ℕ)) →
+  pub each_time : (P : ℕ → Type 0) → ((xs : List ℕ) → All P (confirmed_places_in plan u clear xs)) →
+      (xss : List (List ℕ)) →
       All P (flat_map (confirmed_places_in plan u clear) xss)
   each_time P each [] = All-nil P
   each_time P each (xs ∷ xss) =
@@ -67,7 +69,8 @@ module _ (plan : Plan) (clear : List (List ℕ)) (u : ℕ) where
   -- those of later times are later ones
   later_above : (xs : List ℕ) (xss : List (List ℕ)) →
       ((i k : ℕ) → Contains xs i → Contains (concat xss) k → i < k) → (j : ℕ) →
-      Contains (confirmed_places_in plan u clear xs) j → All (λ l. j < l) (flat_map (confirmed_places_in plan u clear) xss)
+      Contains (confirmed_places_in plan u clear xs) j → All (λ l. j < l)
+      (flat_map (confirmed_places_in plan u clear) xss)
   later_above xs [] before j here = All-nil (λ l. j < l)
   later_above xs (ys ∷ xss) before j here =
       All-append (λ l. j < l) (confirmed_places_in plan u clear ys) (flat_map (confirmed_places_in plan u clear) xss)
@@ -80,12 +83,15 @@ module _ (plan : Plan) (clear : List (List ℕ)) (u : ℕ) where
   time_rises xs = range_rises (is_confirmed_at plan u clear (kept_at plan clear xs)) 0 (length clear)
 
   -- so they rise in all times together
-  pub places_rise : (xss : List (List ℕ)) → Rises 0 (concat xss) → Rises 0 (flat_map (confirmed_places_in plan u clear) xss)
+  pub places_rise : (xss : List (List ℕ)) → Rises 0 (concat xss) →
+      Rises 0 (flat_map (confirmed_places_in plan u clear) xss)
   places_rise [] rises = tt
   places_rise (xs ∷ xss) rises =
       let apart = rises_apart 0 xs (concat xss) rises in
-      rises_both 0 (confirmed_places_in plan u clear xs) (flat_map (confirmed_places_in plan u clear) xss) (time_rises xs)
+      rises_both 0 (confirmed_places_in plan u clear xs) (flat_map (confirmed_places_in plan u clear) xss)
+      (time_rises xs)
       (places_rise xss (rises_second 0 xs (concat xss) rises))
-      (all_by (λ j. All (λ l. j < l) (flat_map (confirmed_places_in plan u clear) xss)) (confirmed_places_in plan u clear xs)
+      (all_by (λ j. All (λ l. j < l) (flat_map (confirmed_places_in plan u clear) xss))
+      (confirmed_places_in plan u clear xs)
       (later_above xs xss (λ i k at last. All-contains (λ y. i < y) (concat xss) k
       (All-contains (λ x. All (λ y. x < y) (concat xss)) xs i apart at) last)))

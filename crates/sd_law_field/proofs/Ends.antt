@@ -27,7 +27,8 @@ end_is false = (
 
 -- the line of a set says `open` exactly where the names of the leaves together reach its key
 pub open_is_reached : (d : ℕ) (leaves : List ℕ) (name : SetName) → d ≤ highest → All (λ u. u < 2 ^ d) leaves →
-    IsOfHeight d name → (pool_end d leaves name ≡ open_end) ↔ IsReached (flat_map (names_of_receiver d) leaves) (Key name)
+    IsOfHeight d name → (pool_end d leaves name ≡ open_end) ↔ IsReached (flat_map (names_of_receiver d) leaves)
+    (Key name)
 open_is_reached d leaves name low fits height =
     let end = end_is (list_any (is_member d name) leaves) in
     let reached = member_reaches_together d leaves name low fits height in

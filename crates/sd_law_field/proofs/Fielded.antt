@@ -25,7 +25,8 @@ use Rattle.sd_spec.specs.Watch.{watch, written}
 use Rattle.sd_spec.proofs.Fitting.{event_plans_fit}
 use Rattle.sd_law_field.proofs.Written.{written_is_confirmed, places_rise, places_are_sent, places_entitled}
 use Rattle.sd_field.specs.Fields as field
-use Rattle.sd_run_broadcasts.specs.Field.{digest_of, done_field, field_text, first_line, lines_of_field, field_receiver_line}
+use Rattle.sd_run_broadcasts.specs.Field.{digest_of, done_field, field_text, first_line, lines_of_field}
+use Rattle.sd_run_broadcasts.specs.Field.{field_receiver_line}
 use Rattle.sd_run_broadcasts.specs.Field.{text_in}
 use Rattle.sd_run_broadcasts.specs.Field.{unrefused, wrote_line}
 use Rattle.sd_law_field.specs.Fielded.{IsGoodField, confirmed_line, confirmed_lines, confirmed_places, plan_for}

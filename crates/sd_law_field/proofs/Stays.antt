@@ -107,7 +107,8 @@ module _ (site : SiteFields) (a b : List Command) (clear : List (List ℕ)) (u :
       (λ j inside. confirmed_agrees (kept_at (with_book site b) clear places) j r (omega (arith, inside)))
 
   all_agree : (xss : List (List ℕ)) → AreInRange site →
-      flat_map (confirmed_places_in (with_book site a) u clear) xss ≡ flat_map (confirmed_places_in (with_book site b) u clear) xss
+      flat_map (confirmed_places_in (with_book site a) u clear) xss
+      ≡ flat_map (confirmed_places_in (with_book site b) u clear) xss
   all_agree [] r = refl
   all_agree (xs ∷ xss) r =
       rw (places_agree xs r)
@@ -162,7 +163,8 @@ unfolding confirmed_to_leaf
 places_stay site later past clear u r =
     let m : ℕ = length clear in
     let short = length-take (sends m past) clear in
-    ap (λ (w : Watch). flat_map (confirmed_places_in (plan_after site m (later ++ past)) u (clear_sent_in clear past)) (times w))
+    ap (λ (w : Watch). flat_map (confirmed_places_in (plan_after site m (later ++ past)) u (clear_sent_in clear past))
+    (times w))
     (watch_stays site later past clear u r)
     ∙ all_agree site (event_book site m (later ++ past)) (event_book site m past) (clear_sent_in clear past) u
     (λ k within. events_agree site m later past k r (omega (arith, within, short)))

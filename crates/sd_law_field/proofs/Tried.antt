@@ -35,7 +35,8 @@ use Rattle.sd_run_broadcasts.proofs.HeadSending.{sent_whole}
 use Rattle.sd_run_broadcasts.proofs.Refusals.{ended_whole, none_whole}
 use Rattle.sd_run_broadcasts.specs.Receive.{ending_status, receive_end_status, received_of, received_status}
 use Rattle.sd_run_broadcasts.proofs.Received.{none_refused, bytes_are}
-use Rattle.sd_run_broadcasts.specs.Trial.{trial_clear_line, trial_lines, lines_of_trial, trial_receiver_line, sent_or, then_line}
+use Rattle.sd_run_broadcasts.specs.Trial.{trial_clear_line, trial_lines, lines_of_trial, trial_receiver_line, sent_or}
+use Rattle.sd_run_broadcasts.specs.Trial.{then_line}
 use Rattle.sd_run_broadcasts.specs.Trial.{told_line}
 use Rattle.sd_command_base.specs.Printed.{printing}
 use Rattle.sd_run_broadcasts.specs.Trial.{trial_plan_meaning, told_sent, trial_meaning, trial_text, trying}
@@ -150,13 +151,15 @@ trial_opened plan bytes is none are end =
     long_packets (broadcast plan clear)
     (broadcast_synced plan clear is (clear_sendable plan.site clear all) whole synced) in
     ap (trial_lines plan (length bytes)) (all_told (sent_status plan bytes) (sent_of plan bytes) stream sent.1 sent.0)
-    ∙ ap (λ (n : ℕ). lines_of_trial plan.site stream (trial_clear_line n (length stream / 188)) (2 ^ plan.site.height)) size
+    ∙ ap (λ (n : ℕ). lines_of_trial plan.site stream (trial_clear_line n (length stream / 188)) (2 ^ plan.site.height))
+    size
     ∙ ap (λ (n : ℕ). lines_of_trial plan.site stream (trial_clear_line (length clear) n) (2 ^ plan.site.height)) long
     ∙ all_lines plan clear is all whole synced (2 ^ plan.site.height) (omega arith)
 
 -- a trial of good files, by its steps
 pub trial_good : (site book clear : FileArgument) (given : Readings) (plan : Plan) (bytes : List ℕ) → IsPlan plan →
-    (trial_plan_meaning site book given).result ≡ Ok plan → given clear ≡ Some bytes → length bytes ≤ trial_clear_bytes →
+    (trial_plan_meaning site book given).result ≡ Ok plan → given clear ≡ Some bytes →
+    length bytes ≤ trial_clear_bytes →
     AreBytes bytes → end_of bytes ≡ Whole → whole_refusal plan.site (packets_taken bytes) ≡ None →
     (trial_meaning site book clear given).result
     ≡ Ok (printing (Ok (opened_lines plan (packets_taken bytes) (2 ^ plan.site.height))))

@@ -37,13 +37,15 @@ body_long plan clear = packets_many plan.site [] (sent plan clear)
 
 -- what a receiver was offered was sent
 offered_within : (plan : Plan) (clear : List (List ℕ)) (u : ℕ) (past : List Event) → IsPlan plan →
-    IsClear plan.site (clear_sent_in clear past) → AreWholePackets (clear_sent_in clear past) → AreSynced (clear_sent_in clear past) →
+    IsClear plan.site (clear_sent_in clear past) → AreWholePackets (clear_sent_in clear past) →
+    AreSynced (clear_sent_in clear past) →
     All (λ i. i < length (sent plan (clear_sent_in clear past))) (concat (times (watch plan clear u past)))
 offered_within plan clear u past is fit whole synced =
     let w : Watch = watch plan clear u past in
     let passed = cursor_within plan clear u past in
     let same : length (stream plan (clear_sent_in clear past)) ≡ length (sent plan (clear_sent_in clear past)) =
-    ap length (stream_is plan (clear_sent_in clear past) is fit whole synced) ∙ body_long plan (clear_sent_in clear past) in
+    ap length (stream_is plan (clear_sent_in clear past) is fit whole synced) ∙ body_long plan
+    (clear_sent_in clear past) in
     all_below w.cursor (length (sent plan (clear_sent_in clear past))) (concat (times w)) (omega (arith, passed, same))
     (times_below plan clear u past)
 
@@ -54,9 +56,11 @@ offered_rise plan clear u past =
 
 -- what it writes is confirmed
 pub written_is_confirmed : (plan : Plan) (clear : List (List ℕ)) (u : ℕ) (past : List Event) → IsPlan plan →
-    IsClear plan.site (clear_sent_in clear past) → AreWholePackets (clear_sent_in clear past) → AreSynced (clear_sent_in clear past) →
+    IsClear plan.site (clear_sent_in clear past) → AreWholePackets (clear_sent_in clear past) →
+    AreSynced (clear_sent_in clear past) →
     u < 2 ^ plan.site.height → written plan (plan_card plan u) (clear_sent_in clear past) (watch plan clear u past)
-    ≡ packets_at (clear_sent_in clear past) (confirmed_to_leaf plan u (clear_sent_in clear past) (watch plan clear u past))
+    ≡ packets_at (clear_sent_in clear past) (confirmed_to_leaf plan u (clear_sent_in clear past)
+    (watch plan clear u past))
 unfolding written confirmed_to_leaf
 written_is_confirmed plan clear u past is fit whole synced leaf =
     all.times_write plan (clear_sent_in clear past) u is fit whole synced leaf (times (watch plan clear u past))
@@ -70,7 +74,8 @@ confirmed_rise plan clear u past =
     all.places_rise plan (clear_sent_in clear past) u (times (watch plan clear u past)) (offered_rise plan clear u past)
 
 pub places_rise : (plan : Plan) (clear : List (List ℕ)) (u : ℕ) (past : List Event) → IsPlan plan →
-    IsClear plan.site (clear_sent_in clear past) → AreWholePackets (clear_sent_in clear past) → AreSynced (clear_sent_in clear past) →
+    IsClear plan.site (clear_sent_in clear past) → AreWholePackets (clear_sent_in clear past) →
+    AreSynced (clear_sent_in clear past) →
     u < 2 ^ plan.site.height →
     IsStrictlyIncreasing (confirmed_to_leaf plan u (clear_sent_in clear past) (watch plan clear u past))
 places_rise plan clear u past is fit whole synced leaf =
@@ -79,21 +84,24 @@ places_rise plan clear u past is fit whole synced leaf =
 
 -- they were sent
 confirmed_inside : (plan : Plan) (clear : List (List ℕ)) (u : ℕ) (past : List Event) →
-    All (λ j. j < length (clear_sent_in clear past)) (confirmed_to_leaf plan u (clear_sent_in clear past) (watch plan clear u past))
+    All (λ j. j < length (clear_sent_in clear past)) (confirmed_to_leaf plan u (clear_sent_in clear past)
+    (watch plan clear u past))
 unfolding confirmed_to_leaf
 confirmed_inside plan clear u past =
     all.each_time plan (clear_sent_in clear past) u (λ j. j < length (clear_sent_in clear past))
     (all.places_inside plan (clear_sent_in clear past) u) (times (watch plan clear u past))
 
 pub places_are_sent : (plan : Plan) (clear : List (List ℕ)) (u : ℕ) (past : List Event) → IsPlan plan →
-    IsClear plan.site (clear_sent_in clear past) → AreWholePackets (clear_sent_in clear past) → AreSynced (clear_sent_in clear past) →
+    IsClear plan.site (clear_sent_in clear past) → AreWholePackets (clear_sent_in clear past) →
+    AreSynced (clear_sent_in clear past) →
     u < 2 ^ plan.site.height → All (λ j. j < length (clear_sent_in clear past))
     (confirmed_to_leaf plan u (clear_sent_in clear past) (watch plan clear u past))
 places_are_sent plan clear u past is fit whole synced leaf = confirmed_inside plan clear u past
 
 -- and are of periods in which the leaf isn't revoked
 pub places_entitled : (plan : Plan) (clear : List (List ℕ)) (u : ℕ) (past : List Event) → IsPlan plan →
-    IsClear plan.site (clear_sent_in clear past) → AreWholePackets (clear_sent_in clear past) → AreSynced (clear_sent_in clear past) →
+    IsClear plan.site (clear_sent_in clear past) → AreWholePackets (clear_sent_in clear past) →
+    AreSynced (clear_sent_in clear past) →
     u < 2 ^ plan.site.height → All (λ j. is_revoked_in plan u (period_of plan j) ≡ false)
     (confirmed_to_leaf plan u (clear_sent_in clear past) (watch plan clear u past))
 unfolding confirmed_to_leaf
@@ -103,7 +111,8 @@ places_entitled plan clear u past is fit whole synced leaf =
 
 -- what it writes for a place is the clear packet
 pub written_for : (plan : Plan) (clear : List (List ℕ)) (u i j : ℕ) (past : List Event) → IsPlan plan →
-    IsClear plan.site (clear_sent_in clear past) → AreWholePackets (clear_sent_in clear past) → AreSynced (clear_sent_in clear past) →
+    IsClear plan.site (clear_sent_in clear past) → AreWholePackets (clear_sent_in clear past) →
+    AreSynced (clear_sent_in clear past) →
     u < 2 ^ plan.site.height →
     slice_get (confirmed_to_leaf plan u (clear_sent_in clear past) (watch plan clear u past)) i ≡ Some j →
     slice_get (written plan (plan_card plan u) (clear_sent_in clear past) (watch plan clear u past)) i
@@ -122,8 +131,10 @@ written_for plan clear u i j past is fit whole synced leaf at =
     ∙ ap (λ (packet : List ℕ). Some packet) (get_or-take (sends (length clear) past) clear j [] within)))
 
 pub one_packet : (plan : Plan) (clear : List (List ℕ)) (u v i k j : ℕ) (past other : List Event) → IsPlan plan →
-    IsClear plan.site (clear_sent_in clear past) → AreWholePackets (clear_sent_in clear past) → AreSynced (clear_sent_in clear past) →
-    IsClear plan.site (clear_sent_in clear other) → AreWholePackets (clear_sent_in clear other) → AreSynced (clear_sent_in clear other) →
+    IsClear plan.site (clear_sent_in clear past) → AreWholePackets (clear_sent_in clear past) →
+    AreSynced (clear_sent_in clear past) →
+    IsClear plan.site (clear_sent_in clear other) → AreWholePackets (clear_sent_in clear other) →
+    AreSynced (clear_sent_in clear other) →
     u < 2 ^ plan.site.height → v < 2 ^ plan.site.height →
     slice_get (confirmed_to_leaf plan u (clear_sent_in clear past) (watch plan clear u past)) i ≡ Some j →
     slice_get (confirmed_to_leaf plan v (clear_sent_in clear other) (watch plan clear v other)) k ≡ Some j →
@@ -144,7 +155,8 @@ last_time w =
 
 -- nothing is refused in it
 pub present_unrefused : (plan : Plan) (clear : List (List ℕ)) (u : ℕ) (past : List Event) → IsPlan plan →
-    IsClear plan.site (clear_sent_in clear past) → AreWholePackets (clear_sent_in clear past) → AreSynced (clear_sent_in clear past) →
+    IsClear plan.site (clear_sent_in clear past) → AreWholePackets (clear_sent_in clear past) →
+    AreSynced (clear_sent_in clear past) →
     u < 2 ^ plan.site.height →
     break_from (plan_card plan u) [] (present plan (clear_sent_in clear past) (watch plan clear u past)) ≡ None
 unfolding present
@@ -160,7 +172,8 @@ present_unrefused plan clear u past is fit whole synced leaf =
 
 -- no more is written than was sent clear
 places_few : (plan : Plan) (clear : List (List ℕ)) (u : ℕ) (past : List Event) →
-    length (confirmed_to_leaf plan u (clear_sent_in clear past) (watch plan clear u past)) ≤ length (clear_sent_in clear past)
+    length (confirmed_to_leaf plan u (clear_sent_in clear past) (watch plan clear u past))
+    ≤ length (clear_sent_in clear past)
 places_few plan clear u past =
     let few = rises_short 0 (length (clear_sent_in clear past))
     (confirmed_to_leaf plan u (clear_sent_in clear past) (watch plan clear u past)) (confirmed_rise plan clear u past)
@@ -168,7 +181,8 @@ places_few plan clear u past =
     omega (arith, few)
 
 pub written_few : (plan : Plan) (clear : List (List ℕ)) (u : ℕ) (past : List Event) → IsPlan plan →
-    IsClear plan.site (clear_sent_in clear past) → AreWholePackets (clear_sent_in clear past) → AreSynced (clear_sent_in clear past) →
+    IsClear plan.site (clear_sent_in clear past) → AreWholePackets (clear_sent_in clear past) →
+    AreSynced (clear_sent_in clear past) →
     u < 2 ^ plan.site.height →
     length (written plan (plan_card plan u) (clear_sent_in clear past) (watch plan clear u past))
     ≤ length (clear_sent_in clear past)
@@ -180,7 +194,8 @@ written_few plan clear u past is fit whole synced leaf =
     omega (arith, same, long, few)
 
 pub written_short : (plan : Plan) (clear : List (List ℕ)) (u : ℕ) (past : List Event) → IsPlan plan →
-    IsClear plan.site (clear_sent_in clear past) → AreWholePackets (clear_sent_in clear past) → AreSynced (clear_sent_in clear past) →
+    IsClear plan.site (clear_sent_in clear past) → AreWholePackets (clear_sent_in clear past) →
+    AreSynced (clear_sent_in clear past) →
     u < 2 ^ plan.site.height →
     length (concat (written plan (plan_card plan u) (clear_sent_in clear past) (watch plan clear u past)))
     ≤ 188 * length (clear_sent_in clear past)
@@ -200,7 +215,8 @@ written_short plan clear u past is fit whole synced leaf =
     omega (arith, same, bytes, long, few)
 
 pub written_has_room : (plan : Plan) (clear : List (List ℕ)) (u : ℕ) (past : List Event) → IsPlan plan →
-    IsClear plan.site (clear_sent_in clear past) → AreWholePackets (clear_sent_in clear past) → AreSynced (clear_sent_in clear past) →
+    IsClear plan.site (clear_sent_in clear past) → AreWholePackets (clear_sent_in clear past) →
+    AreSynced (clear_sent_in clear past) →
     u < 2 ^ plan.site.height →
     length (concat (written plan (plan_card plan u) (clear_sent_in clear past) (watch plan clear u past)))
     ≤ 188 * length clear

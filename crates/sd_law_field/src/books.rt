@@ -32,7 +32,8 @@ pub fn commands_are_of_later_periods()
     ensures rise { (site : SiteFields) (j : PacketNumber) (k : ℕ) → AreInRange site → j ≤ k →
         (period_to_reach site j ≤ period_to_reach site k) × (period_after site j ≤ period_after site k) }
     ensures step { (site : SiteFields) (k : ℕ) → AreInRange site → 0 < k →
-        (period_to_reach site (k + 1) ≤ period_to_reach site k + 1) × (period_after site (k + 1) ≤ period_after site k + 1) }
+        (period_to_reach site (k + 1) ≤ period_to_reach site k + 1) ×
+        (period_after site (k + 1) ≤ period_after site k + 1) }
 {}
 
 /// A filled book ends with the period that it is filled to, or with a later one that it had. To fill it twice is to

@@ -10,7 +10,8 @@ ghost use Rattle.sd_spec.specs.Refused.{IsClear};
 ghost use Rattle.sd_law_losses.specs.Confirmed.{is_revoked_in, packets_at};
 ghost use Rattle.sd_spec.specs.declared.event.Event.{Event};
 ghost use Rattle.sd_spec.specs.Watch.{present};
-ghost use Rattle.sd_field.specs.Fields.{FieldValue, IsSentOver, IsWrittenOver, field_card, plan_of_field, field_clear_packets, watch_of};
+ghost use Rattle.sd_field.specs.Fields.{FieldValue, IsSentOver, IsWrittenOver, field_card, plan_of_field};
+ghost use Rattle.sd_field.specs.Fields.{field_clear_packets, watch_of};
 ghost use Rattle.sd_spec.specs.Offered.{break_from};
 ghost use Rattle.sd_run_broadcasts.specs.Field.{field_text};
 ghost use Rattle.sd_law_field.specs.Fielded.{IsGoodField, IsWhole, confirmed_lines, confirmed_places};
@@ -72,7 +73,8 @@ pub fn no_two_receivers_differ()
         slice_get (wrote_for site clear events u) i ≡ slice_get (wrote_for other clear more v) k }
 {}
 
-/// In whatever order commands, sends, deliveries, losses and power cuts come: what the receivers of a leaf write are the
+/// In whatever order commands, sends, deliveries, losses and power cuts come: what the receivers of a leaf write are
+/// the
 /// clear packets that are confirmed to it, all of them and nothing else. By `confirmed_places_are_entitled` these were
 /// sent, are written each once and in the order of the stream, and are of periods in which the leaf isn't revoked.
 pub fn receivers_write_clear_packets()

@@ -22,9 +22,11 @@ pub fn places_are_chosen()
     ensures items { (xs : List Item) (places : List PacketNumber) → IsStrictlyIncreasing places →
         All (λ i. i < length xs) places → chosen (arrived_flags places (length xs)) xs ≡ at_places Cat xs places }
     ensures longer_packets { (xs ys : Packets) (places : List PacketNumber) → IsStrictlyIncreasing places →
-        All (λ i. i < length xs) places → chosen (arrived_flags places (length xs)) (xs ++ ys) ≡ at_places [] xs places }
+        All (λ i. i < length xs) places → chosen (arrived_flags places (length xs)) (xs ++ ys)
+        ≡ at_places [] xs places }
     ensures longer_items { (xs ys : List Item) (places : List PacketNumber) → IsStrictlyIncreasing places →
-        All (λ i. i < length xs) places → chosen (arrived_flags places (length xs)) (xs ++ ys) ≡ at_places Cat xs places }
+        All (λ i. i < length xs) places → chosen (arrived_flags places (length xs)) (xs ++ ys)
+        ≡ at_places Cat xs places }
 {}
 
 /// In one time that it is on a receiver refuses nothing, whatever packets it isn't offered, and writes the clear
@@ -55,7 +57,8 @@ pub fn confirmed_packets_were_offered()
 pub fn later_times_have_later_packets()
     ensures { (plan : Plan) (clear : Packets) (u : LeafNumber) (j l : PacketNumber) (places later : List PacketNumber) →
         ((i k : PacketNumber) → Contains places i → Contains later k → i < k) →
-        Contains (confirmed_places_in plan u clear places) j → Contains (confirmed_places_in plan u clear later) l → j < l }
+        Contains (confirmed_places_in plan u clear places) j → Contains (confirmed_places_in plan u clear later) l →
+        j < l }
 {}
 
 /// A clear packet that is confirmed is of a period in which the leaf isn't revoked.

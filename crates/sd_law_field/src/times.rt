@@ -20,19 +20,24 @@ ghost use Rattle.sd_law_field.specs.Times.{plan_card, clear_sent_in, confirmed_t
 #[tactic(auto, using(crate::proofs::Written::written_is_confirmed, crate::proofs::Written::places_rise, crate::proofs::Written::places_are_sent, crate::proofs::Written::places_entitled))]
 pub fn written_packets_are_confirmed()
     ensures packets { (plan : Plan) (clear : Packets) (u : LeafNumber) (past : List Event) → IsPlan plan →
-        IsClear plan.site (clear_sent_in clear past) → AreWholePackets (clear_sent_in clear past) → AreSynced (clear_sent_in clear past) →
+        IsClear plan.site (clear_sent_in clear past) → AreWholePackets (clear_sent_in clear past) →
+        AreSynced (clear_sent_in clear past) →
         u < 2 ^ plan.site.height → written plan (plan_card plan u) (clear_sent_in clear past) (watch plan clear u past)
-        ≡ packets_at (clear_sent_in clear past) (confirmed_to_leaf plan u (clear_sent_in clear past) (watch plan clear u past)) }
+        ≡ packets_at (clear_sent_in clear past) (confirmed_to_leaf plan u (clear_sent_in clear past)
+        (watch plan clear u past)) }
     ensures rising { (plan : Plan) (clear : Packets) (u : LeafNumber) (past : List Event) → IsPlan plan →
-        IsClear plan.site (clear_sent_in clear past) → AreWholePackets (clear_sent_in clear past) → AreSynced (clear_sent_in clear past) →
+        IsClear plan.site (clear_sent_in clear past) → AreWholePackets (clear_sent_in clear past) →
+        AreSynced (clear_sent_in clear past) →
         u < 2 ^ plan.site.height →
         IsStrictlyIncreasing (confirmed_to_leaf plan u (clear_sent_in clear past) (watch plan clear u past)) }
     ensures inside { (plan : Plan) (clear : Packets) (u : LeafNumber) (past : List Event) → IsPlan plan →
-        IsClear plan.site (clear_sent_in clear past) → AreWholePackets (clear_sent_in clear past) → AreSynced (clear_sent_in clear past) →
+        IsClear plan.site (clear_sent_in clear past) → AreWholePackets (clear_sent_in clear past) →
+        AreSynced (clear_sent_in clear past) →
         u < 2 ^ plan.site.height → All (λ j. j < length (clear_sent_in clear past))
         (confirmed_to_leaf plan u (clear_sent_in clear past) (watch plan clear u past)) }
     ensures entitled { (plan : Plan) (clear : Packets) (u : LeafNumber) (past : List Event) → IsPlan plan →
-        IsClear plan.site (clear_sent_in clear past) → AreWholePackets (clear_sent_in clear past) → AreSynced (clear_sent_in clear past) →
+        IsClear plan.site (clear_sent_in clear past) → AreWholePackets (clear_sent_in clear past) →
+        AreSynced (clear_sent_in clear past) →
         u < 2 ^ plan.site.height → All (λ j. is_revoked_in plan u (period_of plan j) ≡ false)
         (confirmed_to_leaf plan u (clear_sent_in clear past) (watch plan clear u past)) }
 {}
@@ -43,8 +48,10 @@ pub fn written_packets_are_confirmed()
 pub fn one_packet_for_a_place()
     ensures { (plan : Plan) (clear : Packets) (u v : LeafNumber) (i k : ℕ) (j : PacketNumber)
         (past other : List Event) → IsPlan plan →
-        IsClear plan.site (clear_sent_in clear past) → AreWholePackets (clear_sent_in clear past) → AreSynced (clear_sent_in clear past) →
-        IsClear plan.site (clear_sent_in clear other) → AreWholePackets (clear_sent_in clear other) → AreSynced (clear_sent_in clear other) →
+        IsClear plan.site (clear_sent_in clear past) → AreWholePackets (clear_sent_in clear past) →
+        AreSynced (clear_sent_in clear past) →
+        IsClear plan.site (clear_sent_in clear other) → AreWholePackets (clear_sent_in clear other) →
+        AreSynced (clear_sent_in clear other) →
         u < 2 ^ plan.site.height → v < 2 ^ plan.site.height →
         slice_get (confirmed_to_leaf plan u (clear_sent_in clear past) (watch plan clear u past)) i ≡ Some j →
         slice_get (confirmed_to_leaf plan v (clear_sent_in clear other) (watch plan clear v other)) k ≡ Some j →
@@ -56,7 +63,8 @@ pub fn one_packet_for_a_place()
 #[tactic(auto, using(crate::proofs::Written::present_unrefused))]
 pub fn receivers_never_refuse()
     ensures { (plan : Plan) (clear : Packets) (u : LeafNumber) (past : List Event) → IsPlan plan →
-        IsClear plan.site (clear_sent_in clear past) → AreWholePackets (clear_sent_in clear past) → AreSynced (clear_sent_in clear past) →
+        IsClear plan.site (clear_sent_in clear past) → AreWholePackets (clear_sent_in clear past) →
+        AreSynced (clear_sent_in clear past) →
         u < 2 ^ plan.site.height →
         break_from (plan_card plan u) [] (present plan (clear_sent_in clear past) (watch plan clear u past)) ≡ None }
 {}
@@ -65,17 +73,20 @@ pub fn receivers_never_refuse()
 #[tactic(auto, using(crate::proofs::Written::written_few, crate::proofs::Written::written_short, crate::proofs::Written::written_has_room))]
 pub fn written_lists_have_room()
     ensures packets { (plan : Plan) (clear : Packets) (u : LeafNumber) (past : List Event) → IsPlan plan →
-        IsClear plan.site (clear_sent_in clear past) → AreWholePackets (clear_sent_in clear past) → AreSynced (clear_sent_in clear past) →
+        IsClear plan.site (clear_sent_in clear past) → AreWholePackets (clear_sent_in clear past) →
+        AreSynced (clear_sent_in clear past) →
         u < 2 ^ plan.site.height →
         length (written plan (plan_card plan u) (clear_sent_in clear past) (watch plan clear u past))
         ≤ length (clear_sent_in clear past) }
     ensures bytes { (plan : Plan) (clear : Packets) (u : LeafNumber) (past : List Event) → IsPlan plan →
-        IsClear plan.site (clear_sent_in clear past) → AreWholePackets (clear_sent_in clear past) → AreSynced (clear_sent_in clear past) →
+        IsClear plan.site (clear_sent_in clear past) → AreWholePackets (clear_sent_in clear past) →
+        AreSynced (clear_sent_in clear past) →
         u < 2 ^ plan.site.height →
         length (concat (written plan (plan_card plan u) (clear_sent_in clear past) (watch plan clear u past)))
         ≤ 188 * length (clear_sent_in clear past) }
     ensures room { (plan : Plan) (clear : Packets) (u : LeafNumber) (past : List Event) → IsPlan plan →
-        IsClear plan.site (clear_sent_in clear past) → AreWholePackets (clear_sent_in clear past) → AreSynced (clear_sent_in clear past) →
+        IsClear plan.site (clear_sent_in clear past) → AreWholePackets (clear_sent_in clear past) →
+        AreSynced (clear_sent_in clear past) →
         u < 2 ^ plan.site.height →
         length (concat (written plan (plan_card plan u) (clear_sent_in clear past) (watch plan clear u past)))
         ≤ 188 * length clear }

@@ -19,7 +19,8 @@ ghost use Rattle.sd_law_field.specs.Trials.{opened_lines};
 #[tactic(auto, using(crate::proofs::Tried::trial_good))]
 pub fn good_trials_print_what_is_opened()
     ensures { (site book clear : FileArgument) (given : Readings) (plan : Plan) (bytes : Bytes) → IsPlan plan →
-        (trial_plan_meaning site book given).result ≡ Ok plan → given clear ≡ Some bytes → length bytes ≤ trial_clear_bytes →
+        (trial_plan_meaning site book given).result ≡ Ok plan → given clear ≡ Some bytes →
+        length bytes ≤ trial_clear_bytes →
         AreBytes bytes → end_of bytes ≡ Whole → whole_refusal plan.site (packets_taken bytes) ≡ None →
         (trial_meaning site book clear given).result
         ≡ Ok (printing (Ok (opened_lines plan (packets_taken bytes) (2 ^ plan.site.height)))) }

@@ -70,7 +70,8 @@ pub fn other_events_write_nothing()
         (w : Watch) →
         w.on ≡ false → (present plan clear (watch_after_event u n (Offer v) w) ≡ present plan clear w)
         × (written plan card clear (watch_after_event u n (Offer v) w) ≡ written plan card clear w) }
-    ensures others { (u : LeafNumber) (n : ℕ) (v : LeafNumber) (w : Watch) → v ≢ u → (watch_after_event u n (Offer v) w ≡ w) ×
+    ensures others { (u : LeafNumber) (n : ℕ) (v : LeafNumber) (w : Watch) → v ≢ u →
+        (watch_after_event u n (Offer v) w ≡ w) ×
         (watch_after_event u n (Lose v) w ≡ w)
         × (watch_after_event u n (Off v) w ≡ w) × (watch_after_event u n (On v) w ≡ w) }
 {}
@@ -90,7 +91,8 @@ pub fn what_was_received_stays()
         AreInRange site → watch (plan_after site (length clear) (later ++ past)) clear u past
         ≡ watch (plan_after site (length clear) past) clear u past }
     ensures places { (site : SiteFields) (later past : List Event) (clear : Packets) (u : LeafNumber) →
-        AreInRange site → confirmed_to_leaf (plan_after site (length clear) (later ++ past)) u (clear_sent_in clear past)
+        AreInRange site → confirmed_to_leaf (plan_after site (length clear) (later ++ past)) u
+        (clear_sent_in clear past)
         (watch (plan_after site (length clear) (later ++ past)) clear u past)
         ≡ confirmed_to_leaf (plan_after site (length clear) past) u (clear_sent_in clear past)
         (watch (plan_after site (length clear) past) clear u past) }

@@ -28,7 +28,8 @@ pub course_of : (bytes : List ℕ) → Course bytes
 course_of bytes = course_within (length bytes) bytes (omega arith)
 
 -- the byte at which no packet begins is passed
-pub cut_one : (bytes : List ℕ) → begins_packet bytes ≡ false → 0 < length bytes → cut_packets bytes ≡ cut_packets (drop 1 bytes)
+pub cut_one : (bytes : List ℕ) → begins_packet bytes ≡ false → 0 < length bytes →
+    cut_packets bytes ≡ cut_packets (drop 1 bytes)
 cut_one bytes not some = cut_passed 1 bytes some (λ i first. let is : i ≡ 0 = omega (arith, first) in rw is not)
 
 pub skipped_one : (k : ℕ) (bytes : List ℕ) → begins_packet bytes ≡ false → 0 < length bytes →

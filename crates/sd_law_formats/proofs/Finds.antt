@@ -6,7 +6,8 @@ use Rattle.std.specs.Prelude.{All, slice_get, slice_index, Some}
 use Rattle.std.proofs.lemmas.Bool.{cases_eq, cases_lt, both_ways, false_from_ne_true}
 use Rattle.std.proofs.lemmas.List.{get_or-append-add, get_or-append_right, get_or-drop, get_or-take}
 use Rattle.std.proofs.lemmas.List.{get_or_append_left}
-use Rattle.std.proofs.lemmas.List.{drop-append-le, drop-drop, drop-take, drop_at, get_or_past, length-take, nil_from_length}
+use Rattle.std.proofs.lemmas.List.{drop-append-le, drop-drop, drop-take, drop_at, get_or_past, length-take}
+use Rattle.std.proofs.lemmas.List.{nil_from_length}
 use Rattle.std.proofs.lemmas.List.{take-append-le, take-take}
 use Rattle.sd_engine.specs.Cut.{begins_packet, cut_packets, skipped_before}
 use Rattle.sd_engine.specs.Stream.{pieces, packets_of, ArePackets}
@@ -90,7 +91,8 @@ first_found n k bytes more are few =
 
 -- no packet begins in the bytes before
 pub behind_found : (damage bytes : List ℕ) →
-    ((i : ℕ) → i < length damage → begins_packet (drop i (damage ++ bytes)) ≡ false) → cut_packets (damage ++ bytes) ≡ cut_packets bytes
+    ((i : ℕ) → i < length damage → begins_packet (drop i (damage ++ bytes)) ≡ false) →
+    cut_packets (damage ++ bytes) ≡ cut_packets bytes
 behind_found damage bytes none =
     cut_passed (length damage) (damage ++ bytes) (omega (arith, length-append damage bytes)) none
     ∙ ap cut_packets (drop_at damage bytes (length damage) refl)
@@ -184,7 +186,8 @@ one_more p ps here there zero d few = here
 one_more p ps here there (suc k) d few = there k d (omega (arith, few))
 
 sound : (bytes : List ℕ) → Course bytes → All IsWhole (cut_packets bytes)
-sound bytes (end none) = subst (All IsWhole) (sym (ap cut_packets none ∙ cut_end)) (λ k d few. absurd (omega (arith, few)))
+sound bytes (end none) = subst (All IsWhole) (sym (ap cut_packets none ∙ cut_end))
+    (λ k d few. absurd (omega (arith, few)))
 sound bytes (packet begins course) =
     let parts = parts_of bytes begins in
     subst (All IsWhole) (sym (cut_packet bytes begins)) (one_more (take 188 bytes) (cut_packets (drop 188 bytes))
@@ -270,7 +273,8 @@ pub at_place : (k : ℕ) (bytes : List ℕ) → k < length (cut_packets bytes) �
 at_place k bytes few = (at_its_place bytes (course_of bytes) k few).0
 
 -- the sync byte is at a packet's place, which is before the end
-place_is_sync : (k : ℕ) (bytes : List ℕ) → k < length (cut_packets bytes) → slice_index bytes (packet_index k bytes) ≡ 0x47
+place_is_sync : (k : ℕ) (bytes : List ℕ) → k < length (cut_packets bytes) → slice_index bytes (packet_index k bytes)
+    ≡ 0x47
 place_is_sync k bytes few =
     ap (λ (i : ℕ). slice_index bytes i) (omega arith)
     ∙ sym (get_or-drop (packet_index k bytes) bytes 0 0)
@@ -321,7 +325,8 @@ none_up_to bytes index not stop = false_from_ne_true (begins_packet (take index 
 place_within : (k : ℕ) (bytes : List ℕ) → k ≤ length (cut_packets bytes) → packet_index k bytes ≤ length bytes
 place_within k bytes few = elim (cases_lt k (length (cut_packets bytes))) [
   | inl before ↦
-      let long = (parts_of (drop (packet_index k bytes) bytes) (at_its_place bytes (course_of bytes) k before).1).long in
+      let long = (parts_of (drop (packet_index k bytes) bytes) (at_its_place bytes (course_of bytes) k before).1).long
+      in
       let left = length-drop (packet_index k bytes) bytes in
       omega (arith, long, left)
   | inr last ↦
@@ -389,14 +394,17 @@ skipped_at_place k bytes few =
     let front : List ℕ = take (packet_index k bytes) bytes in
     let count : length (cut_packets front) ≡ k =
     ap (λ (ps : List (List ℕ)). length ps) (before_place k bytes few) ∙ length-take-le k (cut_packets bytes) few in
-    let all : packet_index k front ≡ length front = ap (λ (n : ℕ). packet_index n front) (sym count) ∙ all_counted front in
-    let long : length front ≡ packet_index k bytes = length-take-le (packet_index k bytes) bytes (place_within k bytes few) in
+    let all : packet_index k front ≡ length front = ap (λ (n : ℕ). packet_index n front) (sym count)
+    ∙ all_counted front in
+    let long : length front ≡ packet_index k bytes = length-take-le (packet_index k bytes) bytes
+    (place_within k bytes few) in
     omega (arith, all, long)
 
 -- a packet that ends before the bytes do is found whatever follows
 stays : (bytes : List ℕ) → Course bytes → (k : ℕ) (more : List ℕ) → k < length (cut_packets bytes) →
     packet_index k bytes + 188 < length bytes →
-    (take (suc k) (cut_packets (bytes ++ more)) ≡ take (suc k) (cut_packets bytes)) × (packet_index k (bytes ++ more) ≡ packet_index k bytes)
+    (take (suc k) (cut_packets (bytes ++ more)) ≡ take (suc k) (cut_packets bytes)) ×
+    (packet_index k (bytes ++ more) ≡ packet_index k bytes)
 stays bytes (end none) k more few inside =
     absurd (omega (arith, few, ap (λ (ps : List (List ℕ)). length ps) (ap cut_packets none ∙ cut_end)))
 stays bytes (packet begins course) zero more few inside =
@@ -445,7 +453,8 @@ stays bytes (other not some course) k more few inside =
           ∙ ap (λ (n : ℕ). 1 + n) rest.1 ∙ sym on,
     )
 
-pub found_stays : (k : ℕ) (bytes more : List ℕ) → k < length (cut_packets bytes) → packet_index k bytes + 188 < length bytes →
+pub found_stays : (k : ℕ) (bytes more : List ℕ) → k < length (cut_packets bytes) →
+    packet_index k bytes + 188 < length bytes →
     take (k + 1) (cut_packets (bytes ++ more)) ≡ take (k + 1) (cut_packets bytes)
 found_stays k bytes more few inside =
     let next : k + 1 ≡ suc k = omega arith in
@@ -453,6 +462,7 @@ found_stays k bytes more few inside =
     ∙ (stays bytes (course_of bytes) k more few inside).0
     ∙ sym (ap (λ (n : ℕ). take n (cut_packets bytes)) next)
 
-pub place_stays : (k : ℕ) (bytes more : List ℕ) → k < length (cut_packets bytes) → packet_index k bytes + 188 < length bytes →
+pub place_stays : (k : ℕ) (bytes more : List ℕ) → k < length (cut_packets bytes) →
+    packet_index k bytes + 188 < length bytes →
     packet_index k (bytes ++ more) ≡ packet_index k bytes
 place_stays k bytes more few inside = (stays bytes (course_of bytes) k more few inside).1

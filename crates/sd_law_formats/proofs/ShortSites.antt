@@ -8,7 +8,8 @@ use Rattle.hex.specs.Hex.{encode_lower, lower_digits}
 use Rattle.hex.proofs.HexLemmas.{length-encode_with}
 use Rattle.sd_site_cards.specs.SiteFields.{SiteFields}
 use Rattle.sd_site_cards.specs.Forms.{NumberLine, BytesLine, height_line, master_line, ca_line, emm_line, ecm_line}
-use Rattle.sd_site_cards.specs.Forms.{every_line, cryptos_line, span_line, messages_line, first_word_line, last_word_line}
+use Rattle.sd_site_cards.specs.Forms.{every_line, cryptos_line, span_line, messages_line, first_word_line}
+use Rattle.sd_site_cards.specs.Forms.{last_word_line}
 use Rattle.sd_site_cards.specs.Forms.{first_period_line}
 use Rattle.sd_site_cards.specs.Written.{IsSayable, site_text, number_text, bytes_text, book_text}
 use Rattle.sd_site_cards.specs.declared.book_line.BookLine.{BookLine}

@@ -25,7 +25,8 @@ use Rattle.sd_site_cards.specs.Forms.{height_line, master_line, ca_line, emm_lin
 use Rattle.sd_site_cards.specs.Forms.{span_line, messages_line, first_word_line, last_word_line, first_period_line}
 use Rattle.sd_site_cards.specs.Forms.{NumberLine, BytesLine, IsWithin, bytes_after, bytes_said, book_after, book_word}
 use Rattle.sd_site_cards.specs.Forms.{most_book_size, digest_bytes}
-use Rattle.sd_site_cards.specs.Text.{number_on_line, bytes_at, site_and_book_on, site_on, book_on, optional_on, book_line_at}
+use Rattle.sd_site_cards.specs.Text.{number_on_line, bytes_at, site_and_book_on, site_on, book_on, optional_on}
+use Rattle.sd_site_cards.specs.Text.{book_line_at}
 use Rattle.sd_site_cards.specs.SiteFields.{SiteFields}
 use Rattle.sd_site_cards.specs.Written.{IsSayable, site_text, site_of_chain, number_text, bytes_text, book_text}
 use Rattle.sd_site_cards.specs.declared.book_line.BookLine.{BookLine}
@@ -192,7 +193,8 @@ site_lines site others =
 
 -- the twelve lines say the site, and those after them its book
 pub lines_said : (site : SiteFields) (book : BookLine) (others : List (List ℕ)) (said : Option BookLine) →
-    IsSayable site book → book_line_at others ≡ Ok (said, []) → site_and_book_on (site_lines site others) ≡ Ok (site, said)
+    IsSayable site book → book_line_at others ≡ Ok (said, []) → site_and_book_on (site_lines site others)
+    ≡ Ok (site, said)
 unfolding site_and_book_on optional_on
 lines_said site book others said is rest =
     let r = is.ranges in

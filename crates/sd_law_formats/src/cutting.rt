@@ -44,7 +44,8 @@ pub fn packets_have_places()
 #[tactic(auto, using(crate::proofs::Finds::found_stays, crate::proofs::Finds::place_stays))]
 pub fn found_packets_stay()
     ensures packets { (k : ℕ) (bytes more : List ℕ) → k < length (cut_packets bytes) →
-        packet_index k bytes + 188 < length bytes → take (k + 1) (cut_packets (bytes ++ more)) ≡ take (k + 1) (cut_packets bytes) }
+        packet_index k bytes + 188 < length bytes → take (k + 1) (cut_packets (bytes ++ more)) ≡ take (k + 1)
+        (cut_packets bytes) }
     ensures places { (k : ℕ) (bytes more : List ℕ) → k < length (cut_packets bytes) →
         packet_index k bytes + 188 < length bytes → packet_index k (bytes ++ more) ≡ packet_index k bytes }
 {}

@@ -5,7 +5,8 @@ ghost use Rattle.std.specs.Prelude.{length, slice_index, slice_index_or, slice_s
 ghost use Rattle.std.specs.List.{list_any};
 ghost use Rattle.sd_packet.specs.Header.{counter_of, payload_start_of};
 ghost use Rattle.sd_packet.specs.Packing.{section_packet, IsSectionPacket};
-ghost use Rattle.sd_packet.specs.Positions.{advanced, IsNextPosition, is_moving, moved, moved_by, first_position, position_of};
+ghost use Rattle.sd_packet.specs.Positions.{advanced, IsNextPosition, is_moving, moved, moved_by, first_position};
+ghost use Rattle.sd_packet.specs.Positions.{position_of};
 
 /// A step rises by 1 to 16, to a number that equals the counter mod 16, and no other number is so.
 #[tactic(auto, using(sd_packet::proofs::Positions::advanced_is_next, sd_packet::proofs::Positions::next_is_advanced))]

@@ -5,7 +5,8 @@ ghost use Rattle.sd_ports.specs.Bytes.{IsPrefix};
 ghost use Rattle.sd_site_cards.specs.SiteFields.{SiteFields};
 ghost use Rattle.sd_site_cards.specs.Forms.{digest_bytes, most_book_size};
 ghost use Rattle.sd_site_cards.specs.Text.{IsSite};
-ghost use Rattle.sd_site_cards.specs.Written.{IsSayable, is_first_site, are_lines_whole, site_of_chain, none_fewer, site_text};
+ghost use Rattle.sd_site_cards.specs.Written.{IsSayable, is_first_site, are_lines_whole, site_of_chain, none_fewer};
+ghost use Rattle.sd_site_cards.specs.Written.{site_text};
 ghost use Rattle.sd_site_cards.specs.declared.book_line.BookLine.{BookLine};
 ghost use Rattle.sd_site_cards.specs.declared.site_fault.SiteFault.TheVariants.{Range};
 

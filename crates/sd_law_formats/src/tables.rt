@@ -69,7 +69,8 @@ pub fn full_pmts_are_told_apart()
 /// The packet of the project's CAT is one, and its descriptors are the one that names the system and both PIDs.
 #[tactic(auto, using(sd_psi::proofs::OurCat::our_cat_is_good, sd_psi::proofs::OurCat::our_cat_has_one))]
 pub fn our_cat_is_one()
-    ensures fault { (ca emm ecm counter : ℕ) → counter < 16 → cat_fault (section_packet (cat_section ca emm ecm) 1 counter)
+    ensures fault { (ca emm ecm counter : ℕ) → counter < 16 →
+        cat_fault (section_packet (cat_section ca emm ecm) 1 counter)
         ≡ None }
     ensures value { (ca emm ecm counter : ℕ) → counter < 16 →
         descriptors_of (body_of (section_in (section_packet (cat_section ca emm ecm) 1 counter)))

@@ -12,7 +12,8 @@ use Rattle.sd_message.specs.declared.ecm_part.EcmPart.{EcmPart}
 use Rattle.sd_message.specs.declared.ecm_message.EcmHead.{EcmHead}
 use Rattle.sd_message.specs.declared.ecm_fault.EcmFault.TheVariants.{Count, Order, Mixed}
 use Rattle.sd_spec.specs.Heard.{Heard, Dropped, Entitles, Controls, BadEmm, BadEcm, Other}
-use Rattle.sd_spec.specs.Stretches.{exceeds, counted_parts, message_parts_with, run_of_parts, message_parts_to, message_told, newest_message, stretch_after}
+use Rattle.sd_spec.specs.Stretches.{exceeds, counted_parts, message_parts_with, run_of_parts, message_parts_to}
+use Rattle.sd_spec.specs.Stretches.{message_told, newest_message, stretch_after}
 use Rattle.sd_spec.specs.Stretches.{completed, completes, others, held_in}
 use Rattle.sd_spec.specs.Offered.{same_header, is_after, part_fault}
 use Rattle.sd_receive.proofs.Alike.{headers_told}
@@ -99,7 +100,8 @@ run_to_heard P so_far part all is = by_test (exceeds (newest_message so_far).mes
     by_test : (b : Bool) → All (λ (one : EcmPart). P (Controls one)) (if b then run_of_parts parts else [])
     by_test true =
         run_heard (λ (one : EcmPart). P (Controls one)) parts
-        (All-cons (λ (one : EcmPart). P (Controls one)) part (counted_parts (newest_message so_far).message (newest_message so_far).after) is
+        (All-cons (λ (one : EcmPart). P (Controls one)) part (counted_parts (newest_message so_far).message
+        (newest_message so_far).after) is
         (counted_heard P (newest_message so_far).message (newest_message so_far).after (after_heard P so_far all)))
     by_test false = All-nil (λ (one : EcmPart). P (Controls one))
 
@@ -167,7 +169,8 @@ told_by_run false run message is = absurd cc
 pub message_in : (card : CardFields) (past : List (List ℕ)) (so_far : List Heard) (part : EcmPart) (message : Message)
     → All (IsHeardIn card past) so_far → IsHeardIn card past (Controls part)
     → part_fault (message_parts_to (newest_message so_far) part) ≡ None
-    → IsRunning (newest_message so_far) → completes so_far (Controls part) ≡ Some message → IsMessageIn card past message
+    → IsRunning (newest_message so_far) → completes so_far (Controls part) ≡ Some message →
+    IsMessageIn card past message
 message_in card past so_far part message all is none running done =
     let told = told_by_run (part.part == part.last_part) (message_parts_to (newest_message so_far) part) message done in
     let (last, alike) = all_say message (message_parts_to (newest_message so_far) part) told none in record {

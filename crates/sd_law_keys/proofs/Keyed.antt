@@ -50,7 +50,8 @@ known_with : (card : CardFields) (past : List Heard) (thing : Heard) (q : ℕ) �
 unfolding sections_seen key_in
 known_with card past (Entitles emm) q known = by_test ((emm.period == q) && nat_le (current past) q)
   where
-    by_test : (b : Bool) → is_none (key_in card (if b then emm ∷ sections_seen q past else sections_seen q past)) ≡ false
+    by_test : (b : Bool) → is_none (key_in card (if b then emm ∷ sections_seen q past else sections_seen q past))
+        ≡ false
     by_test true = first_stays (key_in card (sections_seen q past)) (key_from card emm) known
     by_test false = known
 known_with card past Dropped q known = known

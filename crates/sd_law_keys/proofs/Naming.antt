@@ -28,7 +28,8 @@ use Rattle.sd_message.specs.declared.stream_fault.StreamFault.{StreamFault}
 use Rattle.sd_message.specs.declared.stream_fault.StreamFault.TheVariants as Fault
 use Rattle.sd_spec.specs.Tuned.{tuning_of}
 use Rattle.sd_spec.specs.Heard.{Heard, Dropped, Entitles, Controls, BadEmm, BadEcm, Other, hears}
-use Rattle.sd_spec.specs.Stretches.{Stretch, completes, counted_parts, exceeds, message_told, newest_message, run_of_parts, message_parts_to}
+use Rattle.sd_spec.specs.Stretches.{Stretch, completes, counted_parts, exceeds, message_told, newest_message}
+use Rattle.sd_spec.specs.Stretches.{run_of_parts, message_parts_to}
 use Rattle.sd_spec.specs.Stretches.{message_parts_with}
 use Rattle.sd_spec.specs.Stretches.{is_closed, current, sections_seen, held_in}
 use Rattle.sd_spec.specs.Runs.{of_run}
@@ -238,7 +239,8 @@ goes_on : (so_far : List Heard) (a b : Message) → is_back so_far b ≡ false �
     → a.number < b.number → GoesOn a b
 unfolding is_back
 goes_on so_far a b none is number =
-    let tests = or_parts (nat_lt b.period (current so_far)) (option_map_or (is_before b) (newest_message so_far).message false)
+    let tests = or_parts (nat_lt b.period (current so_far)) (option_map_or (is_before b)
+    (newest_message so_far).message false)
     none in
     goes_on_by a b (ap (λ (m : Option Message). option_map_or (is_before b) m false) (sym is) ∙ tests.1) number
 
@@ -252,7 +254,8 @@ number_by a part true true run b told is done =
     let number = told b done in
     let below : a.number < part.number = grind (arith, nat_tests, is) in omega (arith, number, below)
 
-number_told : (part : EcmPart) (parts : List EcmPart) (b : Message) → message_told (run_of_parts (part ∷ parts)) ≡ Some b
+number_told : (part : EcmPart) (parts : List EcmPart) (b : Message) → message_told (run_of_parts (part ∷ parts))
+    ≡ Some b
     → b.number ≡ part.number
 unfolding run_of_parts
 number_told part parts b told = by_test (part.part == 0) told
@@ -266,7 +269,8 @@ number_told part parts b told = by_test (part.part == 0) told
         by_next true so = cc
         by_next false none = absurd cc
 
-    by_test : (test : Bool) → message_told (if test then part ∷ [] else message_parts_with part (run_of_parts parts)) ≡ Some b
+    by_test : (test : Bool) → message_told (if test then part ∷ [] else message_parts_with part (run_of_parts parts))
+        ≡ Some b
         → b.number ≡ part.number
     by_test true is = cc
     by_test false is = by_run (run_of_parts parts) is
@@ -277,7 +281,8 @@ unfolding message_parts_to
 number_later so_far part a b is done =
     number_by a part (part.part == part.last_part) (nat_lt a.number part.number)
     (run_of_parts (part ∷ counted_parts (newest_message so_far).message (newest_message so_far).after)) b
-    (λ c told. number_told part (counted_parts (newest_message so_far).message (newest_message so_far).after) c told) refl
+    (λ c told. number_told part (counted_parts (newest_message so_far).message (newest_message so_far).after) c told)
+    refl
     (subst (λ (m : Option Message). (if part.part == part.last_part
     then message_told (if exceeds m part
     then run_of_parts (part ∷ counted_parts (newest_message so_far).message (newest_message so_far).after) else [])
@@ -288,7 +293,8 @@ no_newest : (card : CardFields) (a : Message) (so_far : List Heard) → so_far �
     → (newest_message so_far).message ≡ Some a → ⊥
 unfolding newest_message
 no_newest card a so_far none is =
-    let first : (newest_message []).message ≡ Some a = subst (λ (l : List Heard). (newest_message l).message ≡ Some a) none is in
+    let first : (newest_message []).message ≡ Some a = subst (λ (l : List Heard). (newest_message l).message ≡ Some a)
+    none is in
     absurd cc
 
 behind_later : (card : CardFields) (tuning : Tuning) (past : List (List ℕ)) (packet : List ℕ) (a b : Message)
@@ -396,7 +402,8 @@ heard_is card tuning n past packet so_far Dropped out tuned sound up is m = absu
 heard_is card tuning n past packet so_far (Entitles emm) out tuned sound up is m =
     absurd (emm_writes_none card n so_far emm out m)
 heard_is card tuning n past packet so_far (Controls part) out tuned sound up is m =
-    part_is card tuning n past packet so_far part (part_fault (message_parts_to (newest_message so_far) part)) out tuned sound up is
+    part_is card tuning n past packet so_far part (part_fault (message_parts_to (newest_message so_far) part)) out
+    tuned sound up is
     refl m
 heard_is card tuning n past packet so_far (BadEmm fault) out tuned sound up is m = absurd (no_member out m)
 heard_is card tuning n past packet so_far (BadEcm fault) out tuned sound up is m = absurd (no_member out m)

@@ -15,7 +15,8 @@ use Rattle.sd_psi.specs.Rewriting.{pmt_without_descriptor, restore_fault}
 use Rattle.sd_cipher.specs.Scrambling.{descrambled}
 use Rattle.sd_psi.specs.declared.our_cat.Tuning.{Tuning}
 use Rattle.sd_site_cards.specs.CardFields.{CardFields}
-use Rattle.sd_spec.specs.Confirmed.{Segment, WrittenPackets, is_confirmed, is_foreign, judged_packet, position_in, position_or_first}
+use Rattle.sd_spec.specs.Confirmed.{Segment, WrittenPackets, is_confirmed, is_foreign, judged_packet, position_in}
+use Rattle.sd_spec.specs.Confirmed.{position_or_first}
 use Rattle.sd_spec.specs.Confirmed.{then_segment_output, tracked, unmarked, written_from}
 use Rattle.sd_law_keys.specs.Written.{IsFramed, IsWrittenClear, as_it_came, as_it_was}
 
@@ -137,9 +138,11 @@ pub plain_is : (card : CardFields) (tuning : Tuning) (s : Segment) (held out : L
 unfolding unmarked
 plain_is card tuning s held out ca ecm is =
     plain_by card tuning held out (is_placed held && is_none (restore_fault card.ca tuning.ecm held)) refl
-    (subst (λ (e : ℕ). out ≡ (if is_placed held && is_none (restore_fault card.ca e held) then pmt_without_descriptor held else held))
+    (subst (λ (e : ℕ). out ≡ (if is_placed held && is_none (restore_fault card.ca e held)
+    then pmt_without_descriptor held else held))
     ecm
-    (subst (λ (c : ℕ). out ≡ (if is_placed held && is_none (restore_fault c s.ecm held) then pmt_without_descriptor held else held))
+    (subst (λ (c : ℕ). out ≡ (if is_placed held && is_none (restore_fault c s.ecm held)
+    then pmt_without_descriptor held else held))
     ca is))
 
 -- a packet that isn't odd has the parity of the word

@@ -29,7 +29,8 @@ use Rattle.sd_message.specs.declared.ecm_fault.EcmFault.{EcmFault}
 use Rattle.sd_message.specs.declared.ecm_fault.EcmFault.TheVariants.{Count, Order, Mixed, Pid}
 use Rattle.sd_message.proofs.EcmDeciding.{read_form}
 use Rattle.sd_spec.specs.Heard.{Heard, Dropped, Controls, Other, heard_emm, heard_ecm, hears}
-use Rattle.sd_spec.specs.Stretches.{Stretch, counted_parts, exceeds, message_told, newest_message, run_of_parts, message_parts_to, message_parts_with}
+use Rattle.sd_spec.specs.Stretches.{Stretch, counted_parts, exceeds, message_told, newest_message, run_of_parts}
+use Rattle.sd_spec.specs.Stretches.{message_parts_to, message_parts_with}
 use Rattle.sd_spec.specs.Offered.{part_fault, is_after}
 use Rattle.sd_receive.specs.PartialEcm.{IsPart, IsPartialEcm, part_positions}
 use Rattle.sd_receive.proofs.Gathering.{as_many, grows, is_mixed_with, none_gathered}
@@ -124,7 +125,8 @@ few_of part run none =
     no_count false false false e = refl
 
 -- one part more of a run
-grown_with : (part : EcmPart) (run : List EcmPart) → IsPartialEcm run → IsPart part → part_fault (message_parts_with part run) ≡ None
+grown_with : (part : EcmPart) (run : List EcmPart) → IsPartialEcm run → IsPart part →
+    part_fault (message_parts_with part run) ≡ None
     → IsPartialEcm (message_parts_with part run)
 grown_with part [] good is none = good
 grown_with part (before ∷ run) good is none =
@@ -155,7 +157,8 @@ next_runs part parts good is none = by_test (part.part == 0) none
 
 -- so are those with a part that counts
 pub run_to_runs : (so_far : List Heard) (part : EcmPart) → IsRunning (newest_message so_far) → IsPart part
-    → part_fault (message_parts_to (newest_message so_far) part) ≡ None → IsPartialEcm (message_parts_to (newest_message so_far) part)
+    → part_fault (message_parts_to (newest_message so_far) part) ≡ None →
+    IsPartialEcm (message_parts_to (newest_message so_far) part)
 unfolding message_parts_to
 run_to_runs so_far part good is none = by_test (exceeds (newest_message so_far).message part) none
   where

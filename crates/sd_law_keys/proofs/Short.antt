@@ -70,7 +70,15 @@ payload_short run k is within =
     let near = (moved_by_near pid 15 before).1 in
     let long : length before ≡ k + 1 = length-take-le (k + 1) run.clear (omega (arith, within)) in
     let place = next_position pid k run.clear within in
-    omega (arith, field_below (run_packet run k) 11 13, place, near, long, within, clear_short run.plan.site run.clear is)
+    omega (
+      arith,
+      field_below (run_packet run k) 11 13,
+      place,
+      near,
+      long,
+      within,
+      clear_short run.plan.site run.clear is,
+    )
 
 pads_short : (run : Run) (item : Item) → IsPlan run.plan → IsSendable run.plan.site run.clear →
     IsOfBroadcast run.plan run.clear item → All IsShort (pads_in run item)

@@ -22,7 +22,8 @@ use Rattle.sd_message.specs.declared.stream_fault.StreamFault.{StreamFault}
 use Rattle.sd_message.specs.declared.stream_fault.StreamFault.TheVariants as Fault
 use Rattle.sd_spec.specs.Tuned.{tuning_of}
 use Rattle.sd_spec.specs.Heard.{Heard, Dropped, Entitles, Controls, BadEmm, BadEcm, Other, hears}
-use Rattle.sd_spec.specs.Stretches.{Stretch, counted_parts, newest_message, message_parts_to, completes, is_closed, current, sections_seen}
+use Rattle.sd_spec.specs.Stretches.{Stretch, counted_parts, newest_message, message_parts_to, completes, is_closed}
+use Rattle.sd_spec.specs.Stretches.{current, sections_seen}
 use Rattle.sd_spec.specs.Runs.{is_turn, of_run}
 use Rattle.sd_spec.specs.Keys.{first_key, key_from, key_in, key_at}
 use Rattle.sd_spec.specs.Offered.{Offering, heard, heard_with, no_offering, refused_offering, says_same, is_mixed}
@@ -42,7 +43,8 @@ AreChecked key sections = All (λ (emm : Emm). check_value_of key ≡ emm.check)
 
 -- the keys that are known have the check values of all sections that were seen
 abbrev pub AreKeysChecked : CardFields → List Heard → Type 0
-AreKeysChecked card so_far = (q : ℕ) (key : List ℕ) → key_at card so_far q ≡ Some key → AreChecked key (sections_seen q so_far)
+AreKeysChecked card so_far = (q : ℕ) (key : List ℕ) → key_at card so_far q ≡ Some key →
+    AreChecked key (sections_seen q so_far)
 
 -- sections of a period agree
 abbrev pub AllAgree : List Emm → Type 0
@@ -65,7 +67,8 @@ pub record IsSound (card : CardFields) (past : List (List ℕ)) (so_far : List H
   pub keys : AreKeysChecked card so_far
   pub agreed : AreAgreed so_far
   pub running : IsRunning (newest_message so_far)
-  pub taken : (a : Message) → (newest_message so_far).message ≡ Some a → IsTaken card past (newest_message so_far).before a
+  pub taken : (a : Message) → (newest_message so_far).message ≡ Some a →
+      IsTaken card past (newest_message so_far).before a
 
 -- nothing was heard, or what was heard up to some packet
 abbrev pub IsUpTo : CardFields → List (List ℕ) → List Heard → Type 0
@@ -113,7 +116,8 @@ check_of_given : (n : ℕ) (emm : Emm) (key : List ℕ) → (key_offering n emm 
 check_of_given n emm key good = by_test (bytes_eq (check_value_of key) emm.check) refl good
   where
     by_test : (b : Bool) → bytes_eq (check_value_of key) emm.check ≡ b
-        → (if b then no_offering else refused_offering (Fault.WrongKey n emm.period (check_value_of key) emm.check)).fault ≡ None
+        → (if b then no_offering else refused_offering (Fault.WrongKey n emm.period (check_value_of key)
+        emm.check)).fault ≡ None
         → check_value_of key ≡ emm.check
     by_test true same none = bytes_same (check_value_of key) emm.check same
     by_test false other none = absurd cc
@@ -162,7 +166,8 @@ fine_with card n so_far emm q good same =
     let fine = emm_good (nat_lt emm.period (current so_far)) (is_mixed (sections_seen emm.period so_far) emm)
     (Fault.BadEmm n Emms.Mixed) (key_if_none n emm (key_at card so_far emm.period) (key_from card emm)) good now in
     record {
-      agrees = one_check (sections_seen q so_far) emm (subst (λ (p : ℕ). is_mixed (sections_seen p so_far) emm ≡ false) is fine.0);
+      agrees = one_check (sections_seen q so_far) emm (subst (λ (p : ℕ). is_mixed (sections_seen p so_far) emm ≡ false)
+          is fine.0);
       given = subst (λ (p : ℕ). (key_if_none n emm (key_at card so_far p) (key_from card emm)).fault ≡ None) is fine.1;
     }
 

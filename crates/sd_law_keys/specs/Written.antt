@@ -120,7 +120,8 @@ pub record IsWrittenUnder (card : CardFields) (past : Packets) (held out : Packe
 -- a packet in the clear as it is written: as it came; or, if it is a PMT with the project's CA_descriptor for these
 -- PIDs, without that [this project, docs/FORMATS.md, Receiver]
 pub data IsWrittenClear (card : CardFields) (tuning : Tuning) (came : Packet) : Packet → Type 0 where
-  as_it_came : (is_placed came && is_none (restore_fault card.ca tuning.ecm came)) ≡ false → IsWrittenClear card tuning came came
+  as_it_came : (is_placed came && is_none (restore_fault card.ca tuning.ecm came)) ≡ false →
+      IsWrittenClear card tuning came came
   as_it_was : is_placed came ≡ true → restore_fault card.ca tuning.ecm came ≡ None
       → IsWrittenClear card tuning came (pmt_without_descriptor came)
 

@@ -1,4 +1,5 @@
-//! Which key lies under which, what is hashed for each of them, what a period's key costs, and what a receiver writes of
+//! Which key lies under which, what is hashed for each of them, what a period's key costs, and what a receiver writes
+//! of
 //! any stream.
 #![tactic(auto)]
 

@@ -185,7 +185,8 @@ unfolding is_closed run_name_in
 closed_named [] closed = absurd (false≢true closed)
 closed_named (thing ∷ past) closed =
     tested (is_closed past)
-    (λ before. let named = closed_named past before in named_or (run_name_heard thing) (run_name_in past) named.0 named.1)
+    (λ before. let named = closed_named past before in named_or (run_name_heard thing) (run_name_in past) named.0
+    named.1)
     (λ yet.
     let named = closing_named past thing (ap {B = Bool} (λ (t : Bool). if t then true
     else option_map_or (λ (m : Message). m.closing) (completes past thing) false) (sym yet) ∙ closed) in
@@ -205,7 +206,8 @@ name_next past thing one =
 pub name_stays : (card : CardFields) (tuning : Tuning) (past : List (List ℕ)) (packet : List ℕ) →
     tuning_of card.ca past ≡ Some tuning →
     are_two (run_name_in (heard card past)) (packet_run_name card.height tuning packet) ≡ false →
-    name_or (packet_run_name card.height tuning packet) (run_name_in (heard card past)) ≡ run_name_in (heard card (packet ∷ past))
+    name_or (packet_run_name card.height tuning packet) (run_name_in (heard card past)) ≡ run_name_in
+    (heard card (packet ∷ past))
 name_stays card tuning past packet tuned one =
     let thing : Heard = hears card.height tuning (length past) packet in
     let same : run_name_heard thing ≡ packet_run_name card.height tuning packet =

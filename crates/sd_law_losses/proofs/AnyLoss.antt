@@ -342,7 +342,8 @@ before_cat s laws able = record {
   ended = λ fs earlier past empty all none. cat_taken s able (items_of_none s) earlier fs past none
       (sections_end s laws able fs (earlier ++ Cat ∷ []) (item_packet s.plan.site earlier Cat ∷ past) empty all);
   taken = λ n k fs earlier past count due all none. cat_taken s able (here_at s k ++ rest_at s (k + 1)) earlier fs past
-      none (cat_here s laws able n k fs (earlier ++ Cat ∷ []) (item_packet s.plan.site earlier Cat ∷ past) count due all);
+      none (cat_here s laws able n k fs (earlier ++ Cat ∷ []) (item_packet s.plan.site earlier Cat ∷ past) count due
+      all);
 }
 
 -- Whatever is lost of a broadcast, a receiver refuses nothing and writes exactly what is confirmed.

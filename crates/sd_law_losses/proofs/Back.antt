@@ -60,7 +60,8 @@ pmt_back site packet segment is placed own ca ecm = elim (cases_Bool (is_none (r
       let may = none_is (rewrite_fault packet) room in
       let good : restore_fault segment.ca segment.ecm (pmt_with_descriptor site.ca site.ecm packet) ≡ None =
       rw (ca, ecm) (restorable site.ca site.ecm packet is may) in
-      rw room (marked_back segment (pmt_with_descriptor site.ca site.ecm packet) (placed_still site.ca site.ecm packet is
+      rw room (marked_back segment (pmt_with_descriptor site.ca site.ecm packet)
+      (placed_still site.ca site.ecm packet is
       placed) good
       ∙ restored_again site.ca site.ecm packet is may)
   | inr full ↦

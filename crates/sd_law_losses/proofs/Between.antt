@@ -55,7 +55,8 @@ unfolding written_from
 one_held segment before held packet more first rest is good others =
     subst (λ (p : List ℕ). ((n : ℕ) → judged_packet segment before (n, p) ≡ Ok first) →
     written_from segment (before ++ p ∷ []) more ≡ all_of rest →
-    then_segment_output (judged_packet segment before (held.0, held.1)) (written_from segment (before ++ held.1 ∷ []) more)
+    then_segment_output (judged_packet segment before (held.0, held.1)) (written_from segment (before ++ held.1 ∷ [])
+    more)
     ≡ all_of (first ++ rest)) is
     (λ good others. ap (λ (r : Result (List (List ℕ)) ℕ). then_segment_output r (written_from segment
     (before ++ held.1 ∷ []) more))

@@ -84,7 +84,8 @@ break_stays card tuning cat packet packets k past alone agrees one rest =
     let next : Option (Option ℕ) = run_name_in (heard card (packet ∷ alone)) in
     break_step card cat packet k past alone packets (pieces_after card.height tuning next packets)
     (some_piece card.height tuning next packets) (offered_later card tuning k past alone packet agrees) rest
-    ∙ ap (break_going card cat k alone) (sym (pieces_stay card.height tuning (run_name_in (heard card alone)) next packet
+    ∙ ap (break_going card cat k alone) (sym (pieces_stay card.height tuning (run_name_in (heard card alone)) next
+    packet
     packets one (name_stays card tuning alone packet agrees.alone_tuned one)))
 
 break_turns : (card : CardFields) (tuning : Tuning) (cat packet : List ℕ) (packets : List (List ℕ)) (k : ℕ)

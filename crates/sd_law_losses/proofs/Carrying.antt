@@ -8,7 +8,8 @@ use Rattle.std.proofs.lemmas.Bool.Decides.{nat_tests}
 use Rattle.sd_base.proofs.Ranges.{filter_range}
 use Rattle.sd_spec.specs.Sent.{Item, Carries}
 use Rattle.sd_spec.specs.Heard.{Heard, Other}
-use Rattle.sd_spec.specs.Stretches.{messages, newest_message, counted_parts, current, sections_seen, is_closed, others, held_in}
+use Rattle.sd_spec.specs.Stretches.{messages, newest_message, counted_parts, current, sections_seen, is_closed, others}
+use Rattle.sd_spec.specs.Stretches.{held_in}
 use Rattle.sd_law_losses.specs.Kept.{is_kept, is_carried, kept_in, entitles, is_section_item}
 use Rattle.sd_law_losses.proofs.Tracking.{kept_more, kept_none}
 use Rattle.sd_law_losses.proofs.Arriving.{is_of}

@@ -10,7 +10,8 @@ use Rattle.sd_message.specs.EcmParts.{Message}
 use Rattle.sd_message.specs.declared.ecm_part.EcmPart.{EcmPart}
 use Rattle.sd_psi.specs.declared.our_cat.Tuning.{Tuning}
 use Rattle.sd_spec.specs.Heard.{Heard, Controls}
-use Rattle.sd_spec.specs.Stretches.{Stretch, newest_message, counted_parts, exceeds, run_of_parts, message_parts_with, message_parts_to, message_told}
+use Rattle.sd_spec.specs.Stretches.{Stretch, newest_message, counted_parts, exceeds, run_of_parts, message_parts_with}
+use Rattle.sd_spec.specs.Stretches.{message_parts_to, message_told}
 use Rattle.sd_spec.specs.Stretches.{completed}
 use Rattle.sd_spec.specs.Stretches.{completes}
 use Rattle.sd_spec.specs.Stretches.{current, sections_seen, is_closed, others, messages}
@@ -100,7 +101,8 @@ run_is stretch part above = rw above refl
 
 -- a part of which nothing comes
 pub calm_part : (card : CardFields) (tuning : Tuning) (past : List Heard) (part : EcmPart) →
-    part_fault (message_parts_to (newest_message past) part) ≡ None → completed (newest_message past) (Controls part) ≡ None →
+    part_fault (message_parts_to (newest_message past) part) ≡ None → completed (newest_message past) (Controls part)
+    ≡ None →
     (n : ℕ) → heard_offering card tuning n past (Controls part) ≡ no_offering
 calm_part card tuning past part good none n =
     ap (λ fault. part_offering n fault (message_offering card tuning n past (completes past (Controls part)))) good
@@ -195,7 +197,8 @@ midway_lost a all prior now part mid = record {
 
 -- what follows a part of which nothing comes
 come_after : (all : Bool) (card : CardFields) (tuning : Tuning) (message : Message) (now things : List Heard)
-    (part : EcmPart) → completed (newest_message now) (Controls part) ≡ None → part_fault (message_parts_to (newest_message now) part) ≡ None →
+    (part : EcmPart) → completed (newest_message now) (Controls part) ≡ None →
+    part_fault (message_parts_to (newest_message now) part) ≡ None →
     Come all card tuning message (Controls part ∷ now) things → Come all card tuning message now
     (Controls part ∷ things)
 come_after true card tuning message now things part none good rest = record {
@@ -243,7 +246,8 @@ not_last : (stretch : Stretch) (part : EcmPart) → (part.part == part.last_part
 not_last stretch part other = rw other refl
 
 -- nor does any part without a run
-no_run : (stretch : Stretch) (part : EcmPart) → message_parts_to stretch part ≡ [] → completed stretch (Controls part) ≡ None
+no_run : (stretch : Stretch) (part : EcmPart) → message_parts_to stretch part ≡ [] → completed stretch (Controls part)
+    ≡ None
 no_run stretch part none = by_test (part.part == part.last_part)
   where
     by_test : (b : Bool) → (if b then message_told (message_parts_to stretch part) else None) ≡ None
@@ -275,7 +279,8 @@ unfolding run_of_parts
 none_stands a [] below = refl
 none_stands a (part ∷ earlier) below = by_test (part.part == 0)
   where
-    by_test : (b : Bool) → stands_from a 0 (if b then part ∷ [] else message_parts_with part (run_of_parts earlier)) ≡ false
+    by_test : (b : Bool) → stands_from a 0 (if b then part ∷ [] else message_parts_with part (run_of_parts earlier))
+        ≡ false
     by_test true = below_first a part [] (All-head (λ part. part.number < a) part earlier below)
     by_test false = below_with a part (run_of_parts earlier) (All-head (λ part. part.number < a) part earlier below)
 

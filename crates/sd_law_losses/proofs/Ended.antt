@@ -51,7 +51,8 @@ pub record HasEnded (s : Setting) (kept : List Item) (past : List Heard) : Type 
   pub message : (newest_message past).message ≡ option_map (told_by s) last
   pub keys : (q : ℕ) → key_at s.card past q ≡ key_where s q (is_told s q kept)
   pub sections : (q : ℕ) → All (Contains (emms_of (period_at s.plan q))) (sections_seen q past)
-  pub indexes : (q x : ℕ) → list_any (λ emm. emm.index == x) (sections_seen q past) ≡ list_any (is_section_item q x) kept
+  pub indexes : (q x : ℕ) → list_any (λ emm. emm.index == x) (sections_seen q past) ≡ list_any (is_section_item q x)
+      kept
   pub told : messages past ≡ map (told_by s) (reverse (filter (has_arrived kept) (range_with_len 0 (final s + 1))))
   pub taken : keys_of s.card past ≡ how_many (λ q. is_told s q kept) (reach s + 1)
 

@@ -13,7 +13,8 @@ use Rattle.sd_spec.specs.Plan.{period_of}
 use Rattle.sd_spec.specs.Messages.{period_at}
 use Rattle.sd_spec.specs.Sent.{Item, Cat, Entitles}
 use Rattle.sd_spec.specs.Heard.{Heard, Dropped}
-use Rattle.sd_spec.specs.Stretches.{messages, newest_message, counted_parts, current, sections_seen, is_closed, others, held_in}
+use Rattle.sd_spec.specs.Stretches.{messages, newest_message, counted_parts, current, sections_seen, is_closed, others}
+use Rattle.sd_spec.specs.Stretches.{held_in}
 use Rattle.sd_spec.specs.Keys.{key_at}
 use Rattle.sd_law_losses.specs.Kept.{is_section_item, is_kept, is_carried, kept_in, has_arrived, entitles}
 use Rattle.sd_law_losses.specs.Kept.{is_entitled_before}
@@ -40,7 +41,8 @@ IsLast n kept (Some a) = (a < n) × (has_arrived kept a ≡ true) × ((b : ℕ) 
 abbrev pub IsKeyed : Setting → List Item → List Heard → Option ℕ → Type 0
 IsKeyed s kept past None = Unit {0}
 IsKeyed s kept past (Some a) = (later : List Item) →
-    key_at s.card (newest_message past).before (period_of s.plan (start_of s a)) ≡ key_where s (period_of s.plan (start_of s a))
+    key_at s.card (newest_message past).before (period_of s.plan (start_of s a)) ≡ key_where s
+    (period_of s.plan (start_of s a))
     (is_entitled_before s.plan.site.height s.card.leaf (period_of s.plan (start_of s a)) a (kept ++ later))
 
 -- Of what was kept: the last message that arrived, no part of message n or of a later one, and no clear packet from k
@@ -67,7 +69,8 @@ pub record AreHeard (s : Setting) (k p n : ℕ) (last : Option ℕ) (kept : List
   pub parts : All (λ part. part.number < n) (counting past)
   pub held : packets_held (held_in (newest_message past)) ≡ map (carried_at s) (kept_in kept (from_last s last) k)
   pub begun : from_last s last ≤ k
-  pub indexes : (q x : ℕ) → list_any (λ emm. emm.index == x) (sections_seen q past) ≡ list_any (is_section_item q x) kept
+  pub indexes : (q x : ℕ) → list_any (λ emm. emm.index == x) (sections_seen q past) ≡ list_any (is_section_item q x)
+      kept
   pub told : messages past ≡ map (told_by s) (reverse (filter (has_arrived kept) (range_with_len 0 n)))
   pub taken : (bound : ℕ) → p < bound → keys_of s.card past ≡ how_many (λ q. is_told s q kept) bound
 
@@ -115,7 +118,8 @@ bare_in kept item low high bare = filter_agree (is_kept (kept ++ item ∷ [])) (
 
 -- what was told before a message stays
 pub keyed_stays : (s : Setting) (kept : List Item) (past now : List Heard) (last : Option ℕ) (later : List Item) →
-    (newest_message now).before ≡ (newest_message past).before → IsKeyed s kept past last → IsKeyed s (kept ++ later) now last
+    (newest_message now).before ≡ (newest_message past).before → IsKeyed s kept past last →
+    IsKeyed s (kept ++ later) now last
 keyed_stays s kept past now None later same is = tt
 keyed_stays s kept past now (Some a) later same is = λ more.
     ap (λ (before : List Heard). key_at s.card before (period_of s.plan (start_of s a))) same

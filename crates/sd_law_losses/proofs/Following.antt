@@ -207,7 +207,8 @@ named_by name past thing false named one =
     ap (name_or (run_name_heard thing)) named ∙ sym (some_kept name (run_name_heard thing) one)
 
 -- no thing of the run turns
-pub led_stays : (name : Option ℕ) (past lead : List Heard) (thing : Heard) → AreQuiet lead → run_name_in past ≡ Some name →
+pub led_stays : (name : Option ℕ) (past lead : List Heard) (thing : Heard) → AreQuiet lead →
+    run_name_in past ≡ Some name →
     are_two (Some name) (run_name_heard thing) ≡ false → is_turn (past ++ lead) thing ≡ false
 unfolding is_turn
 led_stays name past lead thing quiet named one =
@@ -372,7 +373,8 @@ alone_begins card tuning alone packet quiet = record {
 }
 
 one_thing : (card : CardFields) (tuning : Tuning) (n : ℕ) (name : Option ℕ) (packet : List ℕ) →
-    packet_run_name card.height tuning packet ≡ Some name → run_name_in (hears card.height tuning n packet ∷ []) ≡ Some name
+    packet_run_name card.height tuning packet ≡ Some name → run_name_in (hears card.height tuning n packet ∷ [])
+    ≡ Some name
 unfolding run_name_in
 one_thing card tuning n name packet is =
     ap (λ (m : Option (Option ℕ)). name_or m None) (name_any card.height n tuning packet ∙ is)

@@ -130,7 +130,8 @@ first_of_more clear j k below =
 
 -- a later control message
 pub never_back : (plan : Plan) (clear : List (List ℕ)) (a b : ℕ) → IsPlan plan → a < b →
-    b ≤ closing_number plan.site (length clear) → is_before (numbered_message plan clear b) (numbered_message plan clear a) ≡ false
+    b ≤ closing_number plan.site (length clear) → is_before (numbered_message plan clear b)
+    (numbered_message plan clear a) ≡ false
 never_back plan clear a b is below within =
     let e : ℕ = plan.site.every in
     let inner : a < closing_number plan.site (length clear) = omega (arith, below, within) in

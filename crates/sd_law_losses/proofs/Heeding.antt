@@ -13,7 +13,8 @@ use Rattle.sd_spec.specs.Plan.{period_of}
 use Rattle.sd_spec.specs.Messages.{period_at, message_at}
 use Rattle.sd_spec.specs.Sent.{Item, Controls}
 use Rattle.sd_spec.specs.Heard.{Heard, Controls as HeardControls}
-use Rattle.sd_spec.specs.Stretches.{messages, newest_message, counted_parts, current, sections_seen, is_closed, others, completes}
+use Rattle.sd_spec.specs.Stretches.{messages, newest_message, counted_parts, current, sections_seen, is_closed, others}
+use Rattle.sd_spec.specs.Stretches.{completes}
 use Rattle.sd_spec.specs.Keys.{key_at, key_in}
 use Rattle.sd_spec.specs.Offered.{heard_offering, message_offering, part_offering}
 use Rattle.sd_law_losses.specs.Kept.{has_arrived, is_entitled_before, is_last_part}

@@ -154,7 +154,8 @@ word_due plan clear a = elim (cases_Bool (nat_lt a (closing_number plan.site (le
 ]
 
 pub word_check_due : (plan : Plan) (clear : List (List ℕ)) (a : ℕ) →
-    (numbered_message plan clear a).check ≡ check_value_of (control_word_of plan.site.master (numbered_message plan clear a).word)
+    (numbered_message plan clear a).check ≡ check_value_of (control_word_of plan.site.master
+    (numbered_message plan clear a).word)
 unfolding numbered_message
 word_check_due plan clear a = elim (cases_Bool (nat_lt a (closing_number plan.site (length clear)))) [
   | inl inner ↦ rw inner (check_at plan (take (a * plan.site.every) clear) a (a * plan.site.every) false)

@@ -11,7 +11,8 @@ use Rattle.sd_psi.specs.declared.our_cat.Tuning.{Tuning}
 use Rattle.sd_spec.specs.Runs.{run_name_in, are_two}
 use Rattle.sd_spec.specs.Offered.{heard}
 use Rattle.sd_spec.specs.Taken.{takes_key_at, taken_keys}
-use Rattle.sd_law_losses.specs.Pieces.{Tuned, packet_run_name, with_packet, tuned_or, first_cat, pieces_after, pieces_of}
+use Rattle.sd_law_losses.specs.Pieces.{Tuned, packet_run_name, with_packet, tuned_or, first_cat, pieces_after}
+use Rattle.sd_law_losses.specs.Pieces.{pieces_of}
 use Rattle.sd_law_losses.specs.Keys.{taken_with, count_keys_taken}
 use Rattle.sd_law_losses.proofs.Agreeing.{Agrees, agrees_more, turn_agrees, name_stays, name_turns, turn_is}
 use Rattle.sd_law_losses.proofs.Pieces.{pieces_stay, pieces_turn, IsSome, some_piece, HasCat, turn_count}
@@ -167,6 +168,7 @@ taken_upto card (packet ∷ packets) past n none count =
         (no_name card packet))
 
 -- the keys of a stream are those of its pieces
-pub taken_is : (card : CardFields) (packets : List (List ℕ)) → taken_keys card [] packets ≡ count_keys_taken card packets
+pub taken_is : (card : CardFields) (packets : List (List ℕ)) →
+    taken_keys card [] packets ≡ count_keys_taken card packets
 unfolding count_keys_taken
 taken_is card packets = taken_upto card packets [] 0 (nothing_came card) refl

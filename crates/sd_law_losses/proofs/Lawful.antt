@@ -193,7 +193,8 @@ module _ (plan : Plan) (clear : List (List ℕ)) (u : ℕ) (is : IsPlan plan) (a
     height = height_is plan clear u;
     due = section_due;
     same = λ q a b m n. any_two (period_at plan q) a b m n;
-    parts = λ a within. rw (told_is s a) (parts_from (numbered_message plan clear a) [] (parts_of (numbered_message plan clear a))
+    parts = λ a within. rw (told_is s a) (parts_from (numbered_message plan clear a) []
+        (parts_of (numbered_message plan clear a))
         (numbered_fits plan clear a is all within) refl);
     some = λ a within. rw (told_is s a) (some_nil (parts_of (numbered_message plan clear a)) (some_part
         (numbered_message plan clear a)));

@@ -15,7 +15,8 @@ use Rattle.sd_spec.specs.declared.ending.Ending.TheVariants.{Unclosed}
 use Rattle.sd_message.specs.declared.stream_fault.StreamFault.TheVariants as Fault
 use Rattle.sd_psi.specs.declared.our_cat.Tuning.{Tuning}
 use Rattle.sd_spec.specs.Heard.{Heard, Dropped, Entitles, Controls, BadEmm, BadEcm, Other}
-use Rattle.sd_spec.specs.Stretches.{Stretch, exceeds, counted_parts, run_of_parts, message_told, message_parts_to, completed}
+use Rattle.sd_spec.specs.Stretches.{Stretch, exceeds, counted_parts, run_of_parts, message_told, message_parts_to}
+use Rattle.sd_spec.specs.Stretches.{completed}
 use Rattle.sd_spec.specs.Stretches.{stretch_after}
 use Rattle.sd_spec.specs.Stretches.{newest_message, completes, messages, with_message, is_closed, period_heard}
 use Rattle.sd_spec.specs.Stretches.{current}
@@ -161,8 +162,10 @@ unfolding newest_message
 newest_led [] lead quiet = newest_quiet lead quiet
 newest_led (thing ∷ past) lead quiet =
     ap (λ (s : Stretch). stretch_after (past ++ lead) s thing (completed s thing)) (newest_led past lead quiet)
-    ∙ (ap (stretch_after (past ++ lead) (led lead (newest_message past)) thing) (completed_led (newest_message past) lead thing quiet)
-    ∙ stretched_by past lead (newest_message past).before (newest_message past).after thing (newest_message past).message
+    ∙ (ap (stretch_after (past ++ lead) (led lead (newest_message past)) thing)
+    (completed_led (newest_message past) lead thing quiet)
+    ∙ stretched_by past lead (newest_message past).before (newest_message past).after thing
+    (newest_message past).message
     (completed (newest_message past) thing))
 
 pub completes_led : (past lead : List Heard) (thing : Heard) → AreQuiet lead →
@@ -251,7 +254,8 @@ same_message : (lead before after : List Heard) (message : Option Message) →
 same_message lead before after None = refl
 same_message lead before after (Some m) = refl
 
-message_same : (past lead : List Heard) → AreQuiet lead → (newest_message (past ++ lead)).message ≡ (newest_message past).message
+message_same : (past lead : List Heard) → AreQuiet lead → (newest_message (past ++ lead)).message
+    ≡ (newest_message past).message
 message_same past lead quiet =
     ap (λ (s : Stretch). s.message) (newest_led past lead quiet)
     ∙ same_message lead (newest_message past).before (newest_message past).after (newest_message past).message
@@ -278,9 +282,11 @@ message_led n card tuning past lead (Some b) quiet =
     (newest_led past lead quiet)
     ∙ (ap (λ (w : WrittenPackets). if is_back past b then refused_offering (Fault.BadEcm n Back)
     else wrote_or w (word_fault n b (key_at card all b.period)))
-    (wrote_by card tuning (newest_message past).before (newest_message past).after lead (newest_message past).message b quiet)
+    (wrote_by card tuning (newest_message past).before (newest_message past).after lead (newest_message past).message b
+    quiet)
     ∙ ap (λ (key : Option (List ℕ)). if is_back past b then refused_offering (Fault.BadEcm n Back)
-    else wrote_or (stretch_wrote card tuning (newest_message past) (newest_message past).message b) (word_fault n b key))
+    else wrote_or (stretch_wrote card tuning (newest_message past) (newest_message past).message b)
+    (word_fault n b key))
     (key_led b.period card past lead quiet)))
 
 pub offering_led : (n : ℕ) (card : CardFields) (tuning : Tuning) (past lead : List Heard) (thing : Heard) →
@@ -292,7 +298,8 @@ offering_led n card tuning past lead (Controls part) quiet =
     ap (λ (s : Stretch). part_offering n (part_fault (message_parts_to s part))
     (message_offering card tuning n all (completes all (Controls part)))) (newest_led past lead quiet)
     ∙ (ap (λ (parts : List EcmPart). part_offering n (part_fault parts)
-    (message_offering card tuning n all (completes all (Controls part)))) (run_to_led (newest_message past) lead part quiet)
+    (message_offering card tuning n all (completes all (Controls part)))) (run_to_led (newest_message past) lead part
+    quiet)
     ∙ (ap (λ (m : Option Message). part_offering n (part_fault (message_parts_to (newest_message past) part))
     (message_offering card tuning n all m)) (completes_led past lead (Controls part) quiet)
     ∙ ap (part_offering n (part_fault (message_parts_to (newest_message past) part)))
@@ -335,7 +342,8 @@ closed_ending_led written card past lead quiet =
     (find_same (λ q. is_unkeyed card all q && is_all_seen all q) (λ q. is_unkeyed card past q && is_all_seen past q)
     (revoked_led card past lead quiet) (periods_told past))
     ∙ (ap (λ (unheard : Option ℕ). closed_by
-    (find (λ q. is_unkeyed card past q && is_all_seen past q) (periods_told past)) unheard (newest_message all).message written)
+    (find (λ q. is_unkeyed card past q && is_all_seen past q) (periods_told past)) unheard (newest_message all).message
+    written)
     (find_same (is_unkeyed card all) (is_unkeyed card past) (unkeyed_led card past lead quiet) (periods_told past))
     ∙ ap (λ (m : Option Message). closed_by
     (find (λ q. is_unkeyed card past q && is_all_seen past q) (periods_told past))

@@ -23,7 +23,8 @@ use Rattle.sd_law_losses.proofs.Following.{unnamed_stays, turn_there, led_stays,
 
 -- the runs up to the one at hand end so, together
 abbrev pub ending_here : CardFields → List (List ℕ) → Ending
-ending_here card past = endings_joined (ended_before card past) (run_ending card (heard card past) (run_wrote card past))
+ending_here card past = endings_joined (ended_before card past) (run_ending card (heard card past)
+    (run_wrote card past))
 
 -- how the runs that messages came of end together, after these packets; None where no message came
 abbrev pub HaveEnded : CardFields → (Option ℕ → Type 0) → Option Ending → List (List ℕ) → Type 0
@@ -70,7 +71,8 @@ quiet_here : (card : CardFields) (tuning : Tuning) (past : List (List ℕ)) (pac
 quiet_here card tuning past packet tuned quiet =
     let before : Ending = ended_before card past in
     let thing : Heard = hears card.height tuning (length past) packet in
-    ap (λ (e : Ending). endings_joined e (run_ending card (heard card (packet ∷ past)) (run_wrote card (packet ∷ past))))
+    ap (λ (e : Ending). endings_joined e (run_ending card (heard card (packet ∷ past))
+    (run_wrote card (packet ∷ past))))
     (ended_on card past packet (quiet_turns card tuning past packet tuned quiet))
     ∙ (ap (λ (n : ℕ). endings_joined before (run_ending card (heard card (packet ∷ past)) n))
     (quiet_wrote card tuning past packet tuned quiet)
@@ -155,7 +157,8 @@ run_begins card tuning k name Fresh told past alone packet apart is tuned alone_
 -- a packet of a run that is at hand begins no other
 follows_stays : (card : CardFields) (tuning : Tuning) (name : Option ℕ) (past : List (List ℕ)) (packet : List ℕ)
     (things lead : List Heard) → tuning_of card.ca past ≡ Some tuning → heard card past ≡ things ++ lead →
-    AreQuiet lead → run_name_in things ≡ Some name → are_two (Some name) (packet_run_name card.height tuning packet) ≡ false →
+    AreQuiet lead → run_name_in things ≡ Some name → are_two (Some name) (packet_run_name card.height tuning packet)
+    ≡ false →
     turns_at card past packet ≡ false
 follows_stays card tuning name past packet things lead tuned is quiet named one =
     let thing : Heard = hears card.height tuning (length past) packet in

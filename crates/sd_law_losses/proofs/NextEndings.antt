@@ -43,7 +43,8 @@ pub record EndsAlike (card : CardFields) (past alone : List (List ℕ)) : Type 0
   pub wrote : run_wrote card past ≡ run_wrote card alone
 
 pub ending_by : (card : CardFields) (tuning : Tuning) (past : List (List ℕ)) → tuning_of card.ca past ≡ Some tuning →
-    ending_of card past ≡ endings_joined (ended_before card past) (run_ending card (heard card past) (run_wrote card past))
+    ending_of card past ≡ endings_joined (ended_before card past) (run_ending card (heard card past)
+    (run_wrote card past))
 unfolding ending_of
 ending_by card tuning past tuned =
     ap (λ (t : Option Tuning). if is_none t then NoCat
@@ -149,7 +150,8 @@ pub ending_begun : (card : CardFields) (cat : List ℕ) (earlier : Ending) (piec
     joined_to earlier (map (piece_ending card cat) pieces) ≡ ending_going card cat earlier (cat ∷ []) pieces
 ending_begun card cat earlier [] = refl
 ending_begun card cat earlier (first ∷ rest) =
-    ap (λ (e : Ending). joined_to (endings_joined earlier e) (map (piece_ending card cat) rest)) (piece_ends card cat first)
+    ap (λ (e : Ending). joined_to (endings_joined earlier e) (map (piece_ending card cat) rest))
+    (piece_ends card cat first)
 
 -- where a packet is of the run at hand, and where it is the first message of another
 ending_stays : (card : CardFields) (tuning : Tuning) (cat packet : List ℕ) (packets : List (List ℕ)) (k : ℕ)

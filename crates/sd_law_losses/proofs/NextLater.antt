@@ -17,7 +17,8 @@ use Rattle.sd_psi.specs.declared.our_cat.Tuning.{Tuning}
 use Rattle.sd_spec.specs.Heard.{Heard, Dropped, Entitles, Controls, BadEmm, BadEcm, Other, heard_emm}
 use Rattle.sd_spec.specs.Heard.{heard_ecm}
 use Rattle.sd_spec.specs.Heard.{hears}
-use Rattle.sd_spec.specs.Stretches.{Stretch, exceeds, counted_parts, run_of_parts, message_told, message_parts_to, completed}
+use Rattle.sd_spec.specs.Stretches.{Stretch, exceeds, counted_parts, run_of_parts, message_told, message_parts_to}
+use Rattle.sd_spec.specs.Stretches.{completed}
 use Rattle.sd_spec.specs.Stretches.{stretch_after}
 use Rattle.sd_spec.specs.Stretches.{newest_message, completes, messages, with_message, is_closed, period_heard}
 use Rattle.sd_spec.specs.Stretches.{current}
@@ -146,7 +147,8 @@ stretched_later : (k : ℕ) (past : List Heard) (stretch : Stretch) (thing : Hea
 stretched_later k past stretch thing None = refl
 stretched_later k past stretch thing (Some message) = refl
 
-pub newest_later : (k : ℕ) (past : List Heard) → newest_message (things_later k past) ≡ stretch_later k (newest_message past)
+pub newest_later : (k : ℕ) (past : List Heard) → newest_message (things_later k past) ≡ stretch_later k
+    (newest_message past)
 unfolding newest_message
 newest_later k [] = refl
 newest_later k (thing ∷ past) =

@@ -21,7 +21,8 @@ use Rattle.sd_message.specs.declared.stream_fault.StreamFault.{StreamFault}
 use Rattle.sd_message.specs.declared.stream_fault.StreamFault.TheVariants as Fault
 use Rattle.sd_psi.specs.declared.our_cat.Tuning.{Tuning}
 use Rattle.sd_spec.specs.Heard.{Heard, Dropped, Entitles, Controls, BadEmm, BadEcm, Other}
-use Rattle.sd_spec.specs.Stretches.{Stretch, newest_message, message_parts_to, completes, is_closed, current, sections_seen, held_in}
+use Rattle.sd_spec.specs.Stretches.{Stretch, newest_message, message_parts_to, completes, is_closed, current}
+use Rattle.sd_spec.specs.Stretches.{sections_seen, held_in}
 use Rattle.sd_spec.specs.Runs.{of_run}
 use Rattle.sd_spec.specs.Keys.{key_from, key_in, key_at}
 use Rattle.sd_spec.specs.Confirmed.{Segment, WrittenPackets, unmarked, is_foreign, is_confirmed, tracked, judged_packet}
@@ -236,7 +237,8 @@ emm_offering_later : (k n : ℕ) (card : CardFields) (past : List Heard) (emm : 
     emm_offering card (k + n) (things_later k past) emm ≡ offering_later k (emm_offering card n past emm)
 unfolding emm_offering
 emm_offering_later k n card past emm =
-    ap (λ (now : ℕ). emm_of card (k + n) now (sections_seen emm.period (things_later k past)) emm) (current_later k past)
+    ap (λ (now : ℕ). emm_of card (k + n) now (sections_seen emm.period (things_later k past)) emm)
+    (current_later k past)
     ∙ (ap (λ (sections : List Emm). emm_of card (k + n) (current past) sections emm) (seen_later k emm.period past)
     ∙ emm_of_later k n (current past) card (sections_seen emm.period past) emm)
 
@@ -291,7 +293,8 @@ heard_later k n card tuning past (Controls part) =
     ∙ (ap (λ (parts : List EcmPart). part_offering (k + n) (part_fault parts)
     (message_offering card tuning (k + n) later (completes later (Controls part))))
     (run_to_later k (newest_message past) part)
-    ∙ (ap (λ (message : Option Message). part_offering (k + n) (part_fault (message_parts_to (newest_message past) part))
+    ∙ (ap (λ (message : Option Message). part_offering (k + n)
+    (part_fault (message_parts_to (newest_message past) part))
     (message_offering card tuning (k + n) later message)) (completes_later k past (Controls part))
     ∙ (ap (part_offering (k + n) (part_fault (message_parts_to (newest_message past) part)))
     (message_later k n card tuning past (completes past (Controls part)))
@@ -373,7 +376,8 @@ closed_ending_later k written card past =
     (find_same (λ q. is_unkeyed card later q && is_all_seen later q) (λ q. is_unkeyed card past q && is_all_seen past q)
     (revoked_later k card past) (periods_told past))
     ∙ (ap (λ (unheard : Option ℕ). closed_with
-    (find (λ q. is_unkeyed card past q && is_all_seen past q) (periods_told past)) unheard (newest_message later) written)
+    (find (λ q. is_unkeyed card past q && is_all_seen past q) (periods_told past)) unheard (newest_message later)
+    written)
     (find_same (is_unkeyed card later) (is_unkeyed card past) (unkeyed_later k card past) (periods_told past))
     ∙ ap (λ (stretch : Stretch). closed_with
     (find (λ q. is_unkeyed card past q && is_all_seen past q) (periods_told past))
@@ -385,7 +389,8 @@ unfolding run_ending
 ending_later k written card past =
     let later : List Heard = things_later k past in
     ap (λ (closed : Bool). if closed then closed_ending card later written
-    else Unclosed (option_map_or (λ (m : Message). m.number + 1) (newest_message later).message 0)) (closed_later k past)
+    else Unclosed (option_map_or (λ (m : Message). m.number + 1) (newest_message later).message 0))
+    (closed_later k past)
     ∙ (ap (λ (ending : Ending). if is_closed past then ending
     else Unclosed (option_map_or (λ (m : Message). m.number + 1) (newest_message later).message 0))
     (closed_ending_later k written card past)

@@ -35,7 +35,8 @@ of_named name run is = ap (λ (r : Option ℕ). not (is_same_run name r)) is ∙
     itself None = refl
     itself (Some a) = grind (arith, nat_tests)
 
-name_is : (name : Option ℕ) (past : List Heard) → All (IsOfRun name) past → are_two (Some name) (run_name_in past) ≡ false
+name_is : (name : Option ℕ) (past : List Heard) → All (IsOfRun name) past → are_two (Some name) (run_name_in past)
+    ≡ false
 unfolding run_name_in
 name_is name [] all = refl
 name_is name (thing ∷ past) all =

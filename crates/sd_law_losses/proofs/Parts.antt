@@ -101,7 +101,8 @@ pub broken_next : (a : ℕ) (part : EcmPart) (parts earlier : List EcmPart) → 
 broken_next a part [] earlier number first stands = absurd stands
 broken_next a part (before ∷ parts) earlier number later stands =
     run_later part earlier (grind (arith, nat_tests, later))
-    ∙ with_other part (run_of_parts earlier) a (length parts) number later (not_at a (length parts) (run_of_parts earlier) stands)
+    ∙ with_other part (run_of_parts earlier) a (length parts) number later
+    (not_at a (length parts) (run_of_parts earlier) stands)
 
 -- where the run stands with a part that comes
 pub kept_next : (all : Bool) (a : ℕ) (part : EcmPart) (parts earlier : List EcmPart) → part.number ≡ a →

@@ -115,7 +115,8 @@ unfolding sections_seen
 seen_more s q emm past period inside at all = by_test (cases_Bool (emm.period == at))
   where
     by_bound : (b : Bool) → emm.period ≡ at →
-        All (Contains (emms_of (period_at s.plan at))) (if b then emm ∷ sections_seen at past else sections_seen at past)
+        All (Contains (emms_of (period_at s.plan at))) (if b then emm ∷ sections_seen at past
+        else sections_seen at past)
     by_bound true same = All-cons (Contains (emms_of (period_at s.plan at))) emm (sections_seen at past)
         (subst (λ (p : ℕ). Contains (emms_of (period_at s.plan p)) emm) (sym period ∙ same) inside) all
     by_bound false same = all

@@ -115,7 +115,8 @@ out_upto card (packet ∷ packets) past n none count =
     by_cat (Some tuning) is rest =
         out_goes card tuning packet packets n (packet ∷ past) (packet ∷ []) is (omega arith)
         (cat_agrees card tuning n past packet none count is)
-        ∙ (sym (out_begun card packet (pieces_after card.height tuning (run_name_in (heard card (packet ∷ []))) packets))
+        ∙ (sym (out_begun card packet (pieces_after card.height tuning (run_name_in (heard card (packet ∷ [])))
+        packets))
         ∙ ap (λ (name : Option (Option ℕ)). out_with card packet (pieces_after card.height tuning name packets))
         (no_name card packet))
 

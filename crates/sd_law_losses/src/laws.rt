@@ -190,10 +190,13 @@ pub fn parts_are_right()
 /// A control message has the control word of its number under the key of its period, and that word's check value.
 pub fn words_are_due()
     ensures word { (plan : Plan) (clear : Packets) (a : MessageNumber) →
-        under (period_key_of plan.site.master (numbered_message plan clear a).period) (numbered_message plan clear a).word
-        (numbered_message plan clear a).wrapped ≡ control_word_of plan.site.master (numbered_message plan clear a).word }
+        under (period_key_of plan.site.master (numbered_message plan clear a).period)
+        (numbered_message plan clear a).word
+        (numbered_message plan clear a).wrapped ≡ control_word_of plan.site.master
+        (numbered_message plan clear a).word }
     ensures check { (plan : Plan) (clear : Packets) (a : MessageNumber) →
-        (numbered_message plan clear a).check ≡ check_value_of (control_word_of plan.site.master (numbered_message plan clear a).word) }
+        (numbered_message plan clear a).check ≡ check_value_of (control_word_of plan.site.master
+        (numbered_message plan clear a).word) }
 {}
 
 /// All sections of a period have its number and agree on it.

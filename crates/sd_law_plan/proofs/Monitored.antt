@@ -64,7 +64,8 @@ module _ (plan : Plan) (clear : List (List ℕ)) (is : IsPlan plan) (all : IsSen
       let low_too = is.site.ecm.0 in
       let section = cat_section plan.site.ca plan.site.emm plan.site.ecm in
       let pid = packed_pid section 1 (count_by (is_alike Cat) earlier) (omega arith) in
-      no_line plan.site k (section_packet section 1 (count_by (is_alike Cat) earlier % 16)) (grind (arith, nat_tests, pid, low))
+      no_line plan.site k (section_packet section 1 (count_by (is_alike Cat) earlier % 16))
+      (grind (arith, nat_tests, pid, low))
       (grind (arith, nat_tests, pid, low_too))
   one_line k earlier (Entitles emm) told =
       let count = count_by (is_alike (Entitles emm)) earlier in
@@ -76,7 +77,8 @@ module _ (plan : Plan) (clear : List (List ℕ)) (is : IsPlan plan) (all : IsSen
       let count = count_by (is_alike (Controls one)) earlier in
       let high = is.site.ecm.1 in
       let apart = is.site.apart in
-      let form = All-contains (λ part. IsEcm part × FitsEcmFields part) (parts_of message) one (all_are_ecms message fits)
+      let form = All-contains (λ part. IsEcm part × FitsEcmFields part) (parts_of message) one
+      (all_are_ecms message fits)
       here in
       ecm_line plan.site k (section_packet (ecm_section one) plan.site.ecm (count % 16)) one
       (packed_pid (ecm_section one) plan.site.ecm count (omega (arith, high))) (grind (arith, nat_tests, apart))

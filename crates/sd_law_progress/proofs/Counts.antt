@@ -30,7 +30,8 @@ use Rattle.sd_law_progress.specs.Progress.{AreSetFrom, is_clear_item, is_part_of
 use Rattle.sd_law_progress.proofs.Splits.{mid_at, rest_later, fails_both, fails_joined}
 use Rattle.sd_law_progress.proofs.Choices.{chosen_from}
 
-pub counts_joined : (xs ys : List Item) → count_by is_clear_item (xs ++ ys) ≡ count_by is_clear_item xs + count_by is_clear_item ys
+pub counts_joined : (xs ys : List Item) → count_by is_clear_item (xs ++ ys) ≡ count_by is_clear_item xs + count_by
+    is_clear_item ys
 counts_joined xs ys = sum_by-append (λ item. if is_clear_item item then 1 else 0) xs ys
 
 no_section : (emms : List Emm) → count_by is_clear_item (map Entitles emms) ≡ 0
@@ -114,7 +115,8 @@ place_within s k x range within fewer = by_place (cases_lt (length (pre_at s k))
         ap (λ (i : ℕ). take i (rest_at s 0)) (sym at)
         ∙ (ap (take (length (pre_at s k) + d)) (sent_split s k range within)
         ∙ take-append-add (pre_at s k) (rest_at s k) d) in
-        let counted : count_by is_clear_item (take x (rest_at s 0)) ≡ k + count_by is_clear_item (take d (rest_at s k)) =
+        let counted : count_by is_clear_item (take x (rest_at s 0)) ≡ k + count_by is_clear_item (take d (rest_at s k))
+        =
         ap (count_by is_clear_item) taken
         ∙ (counts_joined (pre_at s k) (take d (rest_at s k))
         ∙ ap (λ (n : ℕ). n + count_by is_clear_item (take d (rest_at s k))) (count_pre s k range within)) in
@@ -130,7 +132,8 @@ place_past x all front rest same more = by_place (cases_lt x (length front))
     by_place (inl before) =
         let taken : take x all ≡ take x front =
         ap (take x) same ∙ take-append-le x front rest (omega (arith, before)) in
-        let parts : count_by is_clear_item (take x front) + count_by is_clear_item (drop x front) ≡ count_by is_clear_item front =
+        let parts : count_by is_clear_item (take x front) + count_by is_clear_item (drop x front)
+        ≡ count_by is_clear_item front =
         sym (counts_joined (take x front) (drop x front))
         ∙ ap (count_by is_clear_item) (take-append-drop x front) in
         absurd (omega (arith, ap (count_by is_clear_item) taken, parts, more))

@@ -68,7 +68,8 @@ module _ (plan : Plan) (clear : List (List ℕ)) (u : ℕ) (is : IsSentTo plan c
   count_ends = by_test (length clear == 0)
     where
       by_test : (b : Bool) → count_by is_clear_item (if b then tables_at plan 0 else []) ≡ 0
-      by_test true = ap (λ (b : Bool). count_by is_clear_item (if b then tables_at plan 0 else [])) (sym first) ∙ no_table
+      by_test true = ap (λ (b : Bool). count_by is_clear_item (if b then tables_at plan 0 else [])) (sym first)
+          ∙ no_table
           plan 0
         where
           first : (0 % crypto_length plan.site == 0) ≡ true

@@ -614,7 +614,8 @@ module _ (plan : Plan) (is : IsPlan plan) (clear : List (List ℕ)) (kept : List
           ∙ append_assoc pre (packets_in (ahead c)) (x ∷ []))
 
   -- so a sound rule tells that
-  told_there : (IsSuch : SiteFields → List (List ℕ) → Type 0) (judge : Judge) (t c : ℕ) → IsSoundRule IsSuch plan judge →
+  told_there : (IsSuch : SiteFields → List (List ℕ) → Type 0) (judge : Judge) (t c : ℕ) →
+      IsSoundRule IsSuch plan judge →
       rule_told judge plan clear kept a j ≡ Some t → IsFit c → IsSuch plan.site (stream c) → t ≡ near + 16 * c
   told_there IsSuch judge t c sound told fits such =
       sound (stream c) (arrived_of c) a (place c) t (new_between IsSuch c fits such) (told_same judge c fits ∙ told)
@@ -681,6 +682,7 @@ as_sendable plan clear kept a j between = record {
 
 pub traced_where_clear : (plan : Plan) → IsPlan plan → (clear : List (List ℕ)) (kept : List Item) (a j : ℕ) →
     IsBetween IsClear plan clear kept a j → (judge : Judge) (t : ℕ) → IsSoundRule IsClear plan judge →
-    rule_told judge plan clear kept a j ≡ Some t → is_traced plan clear kept a (a + 1) (pid_of (packet_at clear j)) ≡ true
+    rule_told judge plan clear kept a j ≡ Some t → is_traced plan clear kept a (a + 1) (pid_of (packet_at clear j))
+    ≡ true
 traced_where_clear plan is clear kept a j between =
     traced_if_clear plan is clear kept a j (as_sendable plan clear kept a j between) between.such

@@ -50,7 +50,8 @@ sketches_between plan clear kept a =
 -- what the rule tells of kept packet j between them
 unfoldable pub rule_told : Judge → Plan → Packets → List Item → MessageNumber → PacketNumber → Option Position
 rule_told judge plan clear kept a j =
-    get_or (judge (numbered_message plan clear a) (numbered_message plan clear (a + 1)) (sketches_between plan clear kept a))
+    get_or (judge (numbered_message plan clear a) (numbered_message plan clear (a + 1))
+    (sketches_between plan clear kept a))
     (length (kept_in kept (a * plan.site.every) j)) None
 
 -- of the broadcast of a clear stream that is such, as IsClear or IsSendable, these things are kept, messages a and
@@ -71,7 +72,8 @@ pub record IsBetween (IsSuch : SiteFields → Packets → Type 0) (plan : Plan) 
 -- the rule is right of every scrambled packet of every broadcast of the plan whose clear stream is such, whatever is
 -- lost. It may know the plan
 abbrev pub IsSoundRule : (SiteFields → Packets → Type 0) → Plan → Judge → Type 0
-IsSoundRule IsSuch plan judge = (clear : Packets) (kept : List Item) (a : MessageNumber) (j : PacketNumber) (p : Position) →
+IsSoundRule IsSuch plan judge = (clear : Packets) (kept : List Item) (a : MessageNumber) (j : PacketNumber)
+    (p : Position) →
     IsBetween IsSuch plan clear kept a j → rule_told judge plan clear kept a j ≡ Some p →
     p ≡ position_of (pid_of (packet_at clear j)) (take (j + 1) clear)
 

@@ -93,7 +93,8 @@ pub record IsAirWork (site book clear out : FileArgument) (given : Readings) (wo
   pub new : given (mark_word site) ≡ None
   pub is_work : work ≡ airing plan site out bytes
 
-all_ok : (word : ℕ) (got : Option Bytes) (bytes : Bytes) → (whole_file_bytes word got).result ≡ Ok bytes → got ≡ Some bytes
+all_ok : (word : ℕ) (got : Option Bytes) (bytes : Bytes) → (whole_file_bytes word got).result ≡ Ok bytes →
+    got ≡ Some bytes
 all_ok word None bytes e = absurd cc
 all_ok word (Some found) bytes e = ap (λ (b : Bytes). Some b) (one_value (Ok found) found bytes refl e)
 

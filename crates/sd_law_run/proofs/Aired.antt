@@ -20,7 +20,8 @@ use Rattle.sd_command_base.specs.Made.{unused, used_name}
 use Rattle.sd_command_base.specs.Outside.{IoState}
 use Rattle.sd_command_base.specs.Results.{RunResult}
 use Rattle.sd_command_base.specs.Shown.{word_at}
-use Rattle.sd_command_base.specs.Spec.{FileArgument, Readings, whole_file_bytes, contents_of, of_result, value, within, ◌>>=◌}
+use Rattle.sd_command_base.specs.Spec.{FileArgument, Readings, whole_file_bytes, contents_of, of_result, value, within}
+use Rattle.sd_command_base.specs.Spec.{◌>>=◌}
 use Rattle.sd_command_base.specs.Texts.{line_of_status}
 use Rattle.sd_command_base.proofs.Follow.{then_is}
 use Rattle.sd_run_broadcasts.specs.Air.{air_line, air_meaning, air_plan_by, air_report, air_site_of_file, airing}

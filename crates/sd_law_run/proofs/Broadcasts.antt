@@ -26,7 +26,8 @@ use Rattle.sd_command_base.proofs.Follow.{then_is}
 use Rattle.sd_command_base.specs.Files.{most_card_bytes}
 use Rattle.sd_command_line.specs.Words.{ReceiveOf}
 use Rattle.sd_run_broadcasts.specs.Receive.{card_refusal, card_of_file, ending_status, receive_end_status}
-use Rattle.sd_run_broadcasts.specs.Receive.{received_of, received_status, received_steps, receiving, receive_stream_meaning}
+use Rattle.sd_run_broadcasts.specs.Receive.{received_of, received_status, received_steps, receiving}
+use Rattle.sd_run_broadcasts.specs.Receive.{receive_stream_meaning}
 use Rattle.sd_run_broadcasts.specs.Receive.{receive_meaning}
 use Rattle.sd_law_run.specs.Good.{IsGoodReceive}
 use Rattle.sd_law_run.specs.Opened.{unrevoked_periods, revoked_status, revoked_text, IsBroadcastTo, IsReceivedOut}
@@ -47,7 +48,8 @@ card_length card is =
     let once = scaled d (d + 1) 21 (omega (arith, low)) in
     omega (arith, size, once, low)
 
-pub card_good : (word : ℕ) (card : CardFields) → IsCard card → (card_of_file word (Some (card_bytes card))).result ≡ Ok card
+pub card_good : (word : ℕ) (card : CardFields) → IsCard card → (card_of_file word (Some (card_bytes card))).result
+    ≡ Ok card
 unfolding card_of_file
 card_good word card is =
     then_is (within word most_card_bytes CardBytes (Some (card_bytes card))) (card_bytes card)
@@ -62,11 +64,14 @@ pub received : (given : Readings) (card stream out : FileArgument) (fields : Car
     (receive_meaning card stream out given).result ≡ Ok (receiving fields out bytes)
 unfolding receive_meaning
 received given card stream out fields bytes is there stream_there =
-    ap (λ (got : Option (List ℕ)). (card_of_file card.number got >>= λ f. receive_stream_meaning f stream out given).result)
+    ap (λ (got : Option (List ℕ)). (card_of_file card.number got >>= λ f. receive_stream_meaning f stream out
+    given).result)
     there
-    ∙ then_is (card_of_file card.number (Some (card_bytes fields))) fields (λ f. receive_stream_meaning f stream out given)
+    ∙ then_is (card_of_file card.number (Some (card_bytes fields))) fields
+    (λ f. receive_stream_meaning f stream out given)
     (card_good card.number fields is)
-    ∙ ap (λ (got : Option (List ℕ)). (whole_file_bytes stream.number got >>= λ b. value (receiving fields out b)).result)
+    ∙ ap (λ (got : Option (List ℕ)). (whole_file_bytes stream.number got >>=
+    λ b. value (receiving fields out b)).result)
     stream_there
 
 -- `receive` over a card and any stream

@@ -115,7 +115,15 @@ none_cut byte p bytes other low stands = elim (cases_Bool (begins_packet (byte �
         let here : p ≡ 187 = omega (arith, end, length-take-le p bytes low) in
         inr (ap (slice_index bytes) (sym here) ∙ sync)
     next (inr again) stands (inr here) =
-        absurd (omega (arith, again, get_or_past (take p bytes) 187 0 (omega (arith, length-take-le p bytes low, here))))
+        absurd (omega (
+          arith,
+          again,
+          get_or_past (take p bytes) 187 0 (omega (
+            arith,
+            length-take-le p bytes low,
+            here,
+          )),
+        ))
     next (inr again) stands (inl behind) = inr (sym (get_or-take p bytes 187 0 behind) ∙ again)
 
 -- where a packet begins, and where none does, so many bytes are in no packet before packet j

@@ -16,7 +16,8 @@ use Rattle.sd_base.specs.Lines.{lines_of}
 use Rattle.sd_spec.specs.declared.event.Event.{Event}
 use Rattle.sd_spec.specs.Book.{sends}
 use Rattle.sd_spec.specs.Events.{is_of}
-use Rattle.sd_field.specs.Script.{by_run, judged_event as judged_line, put_before, script_from, script_of, script_line_event}
+use Rattle.sd_field.specs.Script.{by_run, judged_event as judged_line, put_before, script_from, script_of}
+use Rattle.sd_field.specs.Script.{script_line_event}
 use Rattle.sd_field.specs.declared.fault.ScriptFault.{ScriptFault}
 use Rattle.sd_field.proofs.Scripts.{IsGood, line_good}
 use Rattle.sd_law_broadcast.specs.Packets.{IsWholePacket, AreWholePackets}
@@ -30,7 +31,8 @@ use Rattle.sd_command_base.proofs.Follow.{then_is}
 use Rattle.sd_command_base.specs.Files.{low_site_of_file, most_book_bytes, site_in, low_site_or_status}
 use Rattle.sd_command_base.specs.Printed.{printing}
 use Rattle.sd_run_broadcasts.specs.Field.{Inputs, clear_of_file, field_meaning, field_text, inputs_by, inputs_meaning}
-use Rattle.sd_run_broadcasts.specs.Field.{field_clear_bytes, most_field_height, script_of_file, told_clear, script_or_status}
+use Rattle.sd_run_broadcasts.specs.Field.{field_clear_bytes, most_field_height, script_of_file, told_clear}
+use Rattle.sd_run_broadcasts.specs.Field.{script_or_status}
 use Rattle.sd_run_broadcasts.specs.Field.{unbroken}
 use Rattle.sd_law_field.specs.Fielded.{confirmed_lines}
 use Rattle.sd_law_field.specs.Fielded as fielded

@@ -39,4 +39,5 @@ pub made_fingerprint : (master : List ℕ) (ca d u : ℕ) →
 unfolding card_bytes card_of names_of_receiver secret_of whole_key_of
 made_fingerprint master ca d u =
     ap check_value_of (first_secret (card_head d u ca) (whole_key_of master)
-    (map (secret_of master) (flat_map (pair_names_under d u) (range_with_len 0 d))) (head_long d u ca) (key_long master))
+    (map (secret_of master) (flat_map (pair_names_under d u) (range_with_len 0 d))) (head_long d u ca)
+    (key_long master))

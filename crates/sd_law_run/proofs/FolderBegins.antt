@@ -35,7 +35,8 @@ site_taken bytes newest e = by_said (site_of bytes) e
     taken_so site false h = absurd cc
 
     by_said : (said : Result SiteFields SiteFault) →
-        (said >>= λ site. cond (are_lines_whole 13 bytes || is_first_site bytes site) (Ok (site, book_line_of bytes)) (Err Short))
+        (said >>= λ site. cond (are_lines_whole 13 bytes || is_first_site bytes site) (Ok (site, book_line_of bytes))
+        (Err Short))
         ≡ Ok newest → said ≡ Ok newest.0
     by_said (Err fault) h = absurd cc
     by_said (Ok site) h = ap Ok (taken_so site (are_lines_whole 13 bytes || is_first_site bytes site) h)

@@ -51,7 +51,8 @@ taken_by_both text newest e = by_said (site_of text) (are_lines_whole 13 text) e
   where
     by_said : (said : Result SiteFields SiteFault) (thirteen : Bool) →
         (said >>= λ site. cond (thirteen || false) (Ok (site, book_line_of text)) (Err Short)) ≡ Ok newest →
-        (said >>= λ site. cond (thirteen || is_first_site text site) (Ok (site, book_line_of text)) (Err Short)) ≡ Ok newest
+        (said >>= λ site. cond (thirteen || is_first_site text site) (Ok (site, book_line_of text)) (Err Short))
+        ≡ Ok newest
     by_said (Err fault) thirteen h = absurd cc
     by_said (Ok site) true h = h
     by_said (Ok site) false h = absurd cc
@@ -158,7 +159,8 @@ file_of_both : (link : Link) (text : Bytes) (newest : SiteFields × Option BookL
     site_of_chain none_fewer text ≡ Ok newest → IsFileOf none_fewer link text
 file_of_both link text newest is says =
     let same =
-    one_newest (site_of_chain is_first_site text) newest (link.site, is.line) (taken_by_both text newest says) is.says in
+    one_newest (site_of_chain is_first_site text) newest (link.site, is.line) (taken_by_both text newest says) is.says
+    in
     record { short = is.short; line = is.line; says = says ∙ ap Ok same; book = is.book }
 
 -- `twin`

@@ -56,7 +56,8 @@ next_holds files name root calls above bytes holds named =
     let at = site_name_at name (length calls + 1) in
     let stays : (i : ℕ) → HasName name i → i ≢ length calls + 1 →
     get (insert files at bytes) (site_name_at name i) ≡ get files (site_name_at name i) =
-    λ i low other. others_stay files at bytes (site_name_at name i) (apart holds i (length calls + 1) low named other) in
+    λ i low other. others_stay files at bytes (site_name_at name i) (apart holds i (length calls + 1) low named other)
+    in
     let first = first_name holds in
     record {
       is_chain = holds.is_chain;

@@ -203,7 +203,8 @@ number_cut name n m is low =
 
 -- what stands round the number of a name of the chain, and the number
 pub named_parts : (name : List ℕ) (n i : ℕ) → decimal_value (digits_in name) ≡ Some n → n + i < 2 ^ 64 →
-    (before_number (site_name_at name i) ≡ before_number name) × (decimal_value (digits_in (site_name_at name i)) ≡ Some (n + i))
+    (before_number (site_name_at name i) ≡ before_number name) × (decimal_value (digits_in (site_name_at name i))
+    ≡ Some (n + i))
     × (after_number (site_name_at name i) ≡ after_number name)
 unfolding site_name_at
 named_parts name n i is low =
@@ -242,7 +243,8 @@ named_so name other n m i is said number low before after =
     ∙ (ap (λ (r : List ℕ). before_number name ++ (decimal (n + i) ++ r)) after ∙ sym shape)))
 
 -- the name itself is the first
-pub named_first : (name : List ℕ) (n : ℕ) → decimal_value (digits_in name) ≡ Some n → n < 2 ^ 64 → name ≡ site_name_at name 0
+pub named_first : (name : List ℕ) (n : ℕ) → decimal_value (digits_in name) ≡ Some n → n < 2 ^ 64 →
+    name ≡ site_name_at name 0
 named_first name n is low = named_so name name n n 0 is is (omega arith) low refl refl
 
 -- the number before one
@@ -270,7 +272,8 @@ named_before name site out n k is low out_is follow =
 
 -- a name is one of a chain's, or none of them
 pub find_name : (name out : List ℕ) (n : ℕ) → decimal_value (digits_in name) ≡ Some n →
-    ((i : ℕ) × (n + i ≤ most_word) × (out ≡ site_name_at name i)) ⊎ ((i : ℕ) → n + i ≤ most_word → out ≢ site_name_at name i)
+    ((i : ℕ) × (n + i ≤ most_word) × (out ≡ site_name_at name i)) ⊎ ((i : ℕ) → n + i ≤ most_word →
+    out ≢ site_name_at name i)
 find_name name out n is = by_number (decimal_value (digits_in out)) refl
   where
     number_of : (i : ℕ) → n + i ≤ most_word → out ≡ site_name_at name i → decimal_value (digits_in out) ≡ Some (n + i)
@@ -279,7 +282,8 @@ find_name name out n is = by_number (decimal_value (digits_in out)) refl
 
     by_text : (k : ℕ) → decimal_value (digits_in out) ≡ Some k → n ≤ k → k ≤ most_word → (b : Bool) →
         bytes_eq out (site_name_at name (k - n)) ≡ b →
-        ((i : ℕ) × (n + i ≤ most_word) × (out ≡ site_name_at name i)) ⊎ ((i : ℕ) → n + i ≤ most_word → out ≢ site_name_at name i)
+        ((i : ℕ) × (n + i ≤ most_word) × (out ≡ site_name_at name i)) ⊎ ((i : ℕ) → n + i ≤ most_word →
+        out ≢ site_name_at name i)
     by_text k said least most true e = inl (k - n, omega (arith, least, most), (bytes_eq-Decides _ _).0 e)
     by_text k said least most false e = inr (λ i low same.
         let number : k ≡ n + i = same_Some k (n + i) (sym said ∙ number_of i low same) in
@@ -288,7 +292,8 @@ find_name name out n is = by_number (decimal_value (digits_in out)) refl
         absurd (let f = sym ((bytes_eq-Decides out (site_name_at name (k - n))).1 there) ∙ e in cc))
 
     by_number : (o : Option ℕ) → decimal_value (digits_in out) ≡ o →
-        ((i : ℕ) × (n + i ≤ most_word) × (out ≡ site_name_at name i)) ⊎ ((i : ℕ) → n + i ≤ most_word → out ≢ site_name_at name i)
+        ((i : ℕ) × (n + i ≤ most_word) × (out ≡ site_name_at name i)) ⊎ ((i : ℕ) → n + i ≤ most_word →
+        out ≢ site_name_at name i)
     by_number None said = inr (λ i low same. absurd (let f = sym said ∙ number_of i low same in cc))
     by_number (Some k) said = elim (cases_lt k n) [
       | inl lt ↦ inr (λ i low same.

@@ -11,7 +11,8 @@ use Rattle.sd_command_line.specs.declared.command.Command.TheVariants.{Next, Twi
 use Rattle.sd_command_line.specs.Commands.{command_named, operands_of}
 use Rattle.sd_command_line.specs.Words.{Argument, CommandOf, HelpOf, InputOf, NumberOf, Order, OutOf, VersionOf}
 use Rattle.sd_command_line.specs.Words.{arguments_from, before, command_in, nonzero_count, help_on, help_words, is_help}
-use Rattle.sd_command_line.specs.Words.{is_version, named_words, number, number_of_word, number_argument, order_after, order_of}
+use Rattle.sd_command_line.specs.Words.{is_version, named_words, number, number_of_word, number_argument, order_after}
+use Rattle.sd_command_line.specs.Words.{order_of}
 use Rattle.sd_command_line.specs.Words.{asks_help, ordered, out_is_taken, version_words}
 use Rattle.sd_law_chain.proofs.Found.{one_value, unmet}
 

@@ -31,7 +31,8 @@ use Rattle.sd_command_base.specs.Spec.{FileArgument, Readings, Spec, and_then, c
 use Rattle.sd_command_base.specs.Spec.{◌>>=◌}
 use Rattle.sd_command_base.specs.Shown.{NumberArgument}
 use Rattle.sd_command_base.specs.Files.{begins_with_book, ends_lines, longer_book_of_file, most_book_bytes}
-use Rattle.sd_command_base.specs.Files.{most_site_bytes, refused_book, refused_site, book_or_status, longer_book_or_status, whole_book_or_status}
+use Rattle.sd_command_base.specs.Files.{most_site_bytes, refused_book, refused_site, book_or_status}
+use Rattle.sd_command_base.specs.Files.{longer_book_or_status, whole_book_or_status}
 use Rattle.sd_command_base.specs.Made.{NewFile, making_new}
 use Rattle.sd_command_line.specs.Words.{NextOf, order_of}
 use Rattle.sd_run.specs.Meaning.{meaning}
@@ -107,7 +108,8 @@ longer_cleared : (word height : ℕ) (line : Option BookLine) (got : Option Byte
     IsCleared (longer_book_of_file word height line got).result
 unfolding longer_book_of_file
 longer_cleared word height line got =
-    then_cleared (within word most_book_bytes BookBytes got) (λ bytes. of_result (longer_book_or_status word height line bytes))
+    then_cleared (within word most_book_bytes BookBytes got)
+    (λ bytes. of_result (longer_book_or_status word height line bytes))
     (within_cleared word most_book_bytes BookBytes got)
     (λ bytes read. if_cleared (begins_with_book line bytes) OtherBook
     (whole_book_or_status word bytes (book_or_status word height bytes (book_of height bytes))) (λ w f t e. absurd cc)
@@ -124,7 +126,8 @@ new_cleared made out (Some bytes) = λ w f t e. absurd cc
 
 -- of a site that is good
 told_cleared : (word : ℕ) (bytes : Bytes) (most : ℕ) (words : NumberArgument)
-    (said : Result (SiteFields × Option BookLine) SiteFault) (newest : SiteFields × Option BookLine) → said ≡ Ok newest →
+    (said : Result (SiteFields × Option BookLine) SiteFault) (newest : SiteFields × Option BookLine) →
+    said ≡ Ok newest →
     IsCleared (told_newest word bytes most words said)
 told_cleared word bytes most words (Err fault) newest e = absurd cc
 told_cleared word bytes most words (Ok found) newest e =
@@ -132,7 +135,8 @@ told_cleared word bytes most words (Ok found) newest e =
     (if_cleared (has_word_room words.value found.0) (BadWord words.word) (Ok found) (λ w f t same. absurd cc) tt)
 
 newest_cleared : (word most : ℕ) (words : NumberArgument) (text : Bytes) (newest : SiteFields × Option BookLine) →
-    site_of_chain is_first_site text ≡ Ok newest → IsCleared (newest_of_file is_first_site word most words (Some text)).result
+    site_of_chain is_first_site text ≡ Ok newest → IsCleared (newest_of_file is_first_site word most words
+    (Some text)).result
 unfolding newest_of_file
 newest_cleared word most words text newest says =
     then_cleared (within word most_site_bytes SiteBytes (Some text))
@@ -198,7 +202,8 @@ chain_cleared words files name root calls above i site book count out word fault
     (sym (meant_so words (NextOf site book count out) (contents_of files) order) ∙ refused)
 
 -- a torn site is refused
-bad_or_good : (text : Bytes) → ((newest : SiteFields × Option BookLine) → site_of_chain is_first_site text ≡ Ok newest → ⊥) →
+bad_or_good : (text : Bytes) → ((newest : SiteFields × Option BookLine) → site_of_chain is_first_site text
+    ≡ Ok newest → ⊥) →
     (fault : SiteFault) × (site_of_chain is_first_site text ≡ Err fault)
 bad_or_good text never = by_result (site_of_chain is_first_site text) never
   where

@@ -221,7 +221,8 @@ pub folder_made : (words : List Bytes) (answer : Status) (files : Files) (name :
     (calls : List Call) (a b : DepotState) → IsFolder files name root calls → SparesNames name words →
     (has : HasOut files (meaning words (contents_of files)).result a b) →
     (answer ≡ Done → has.prefix ≡ has.out.bytes) →
-    FolderOutcome words answer files (insert (with_mark_file has.work.mark files) has.out.name has.prefix) name root calls
+    FolderOutcome words answer files (insert (with_mark_file has.work.mark files) has.out.name has.prefix) name root
+    calls
 folder_made words answer files name root calls a b holds spares has whole_if =
     let marked = with_mark_file has.work.mark files in
     let still = marked_holds words files name root calls None has.work spares holds has.is_meant has.work.mark refl in

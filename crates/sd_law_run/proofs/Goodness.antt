@@ -40,7 +40,8 @@ use Rattle.sd_law_run.specs.Good.{IsGoodTables}
 use Rattle.std.specs.List.{concat}
 use Rattle.sd_engine.specs.Taken.{Whole, packets_taken}
 use Rattle.sd_spec.specs.Sent.{broadcast}
-use Rattle.sd_run_broadcasts.specs.Head.{head_plan_by, head_plan_meaning, sending, sending_of, sent_of, sent_status, head_meaning}
+use Rattle.sd_run_broadcasts.specs.Head.{head_plan_by, head_plan_meaning, sending, sending_of, sent_of, sent_status}
+use Rattle.sd_run_broadcasts.specs.Head.{head_meaning}
 use Rattle.sd_run_broadcasts.specs.Head.{site_and_line_of_file, with_line}
 use Rattle.sd_law_run.specs.Good.{plan_told, IsGoodHead}
 use Rattle.sd_run_broadcasts.proofs.HeadSending.{sent_whole}
@@ -100,7 +101,8 @@ both_good given site book fields commands good_site good_book =
 -- the work of an order is the words'
 pub ordered : (words : List (List ℕ)) (given : Readings) (order : Order) → order_of words ≡ Ok order →
     (meaning words given).result ≡ (order_meaning order given).result
-ordered words given order read = ap (λ (r : Result Order Status). (of_result r >>= λ o. order_meaning o given).result) read
+ordered words given order read = ap (λ (r : Result Order Status). (of_result r >>= λ o. order_meaning o given).result)
+    read
 
 pub cover_good : (words : List (List ℕ)) (given : Readings) (good : IsGoodCover words given) →
     (meaning words given).result
@@ -137,7 +139,8 @@ pub tables_good : (words : List (List ℕ)) (given : Readings) (good : IsGoodTab
 unfolding tables_meaning
 tables_good words given good = (
   ordered words given (TablesOf good.stream) good.order
-      ∙ ap (λ (got : Option (List ℕ)). (whole_file_bytes good.stream.number got >>= λ bytes. value (inspecting bytes)).result)
+      ∙ ap (λ (got : Option (List ℕ)). (whole_file_bytes good.stream.number got >>=
+      λ bytes. value (inspecting bytes)).result)
       good.there,
   ap stream_status good.whole,
 )
@@ -192,7 +195,8 @@ head_good words given good =
     let plan = plan_told good in
     let sent = sent_whole plan good.bytes good.is_clear good.whole in (
       ordered words given (HeadOf good.site good.book good.clear good.out) good.order
-          ∙ then_is (head_plan_meaning good.site good.book given) plan (sending_of good.clear good.out (given good.clear))
+          ∙ then_is (head_plan_meaning good.site good.book given) plan (sending_of good.clear good.out
+          (given good.clear))
           (plan_good given good.site good.book good.fields good.commands good.good_site good.good_book
           good.own)
           ∙ ap (λ (got : Option (List ℕ)). (sending_of good.clear good.out got plan).result) good.there,

@@ -69,7 +69,8 @@ module _ (card : CardFields) (bytes : Bytes) (k : ℕ) (low : k ≤ length (read
 
   lines_alike : (report : Report) → report.packets ≤ k → line_on card first report ≡ line_on card bytes report
   lines_alike report earlier =
-      ap (λ (n : ℕ). watch_report_line card.leaf (min n (2 ^ 64 - 1)) report) (skipped_till k report.packets bytes few earlier)
+      ap (λ (n : ℕ). watch_report_line card.leaf (min n (2 ^ 64 - 1)) report)
+      (skipped_till k report.packets bytes few earlier)
 
   many : length packets ≡ k
   many = omega (arith, low, length-take k (readable bytes))
@@ -93,7 +94,8 @@ module _ (card : CardFields) (bytes : Bytes) (k : ℕ) (low : k ≤ length (read
   unfolding watched_lines watched_of
   last_is before line reported report here earlier befores is =
       let told : report.packets ≡ k = ap (λ (r : Report). r.packets) (sym here) ∙ (packets_told card packets ∙ many) in
-      let place : packet_index report.packets bytes ≡ packet_index k bytes = ap (λ (n : ℕ). packet_index n bytes) told in
+      let place : packet_index report.packets bytes ≡ packet_index k bytes = ap (λ (n : ℕ). packet_index n bytes) told
+      in
       record {
         report = report;
         told = is;

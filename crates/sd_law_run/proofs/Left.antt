@@ -123,7 +123,8 @@ answers_leave words a b answer answers =
     answers.obeyed.obeyed.comes
 
 -- the files that the model knows, once the mark is made
-pub known_marked : (mark : Option Mark) (files : Files) → files_marked mark (Some files) ≡ Some (with_mark_file mark files)
+pub known_marked : (mark : Option Mark) (files : Files) → files_marked mark (Some files)
+    ≡ Some (with_mark_file mark files)
 known_marked None files = refl
 known_marked (Some mark) files = refl
 

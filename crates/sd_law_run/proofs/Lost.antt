@@ -31,7 +31,8 @@ use Rattle.sd_command_base.specs.declared.status.Status.TheVariants.{Revoked}
 use Rattle.sd_command_base.specs.Texts.{line_of_status}
 use Rattle.sd_command_base.specs.Spec.{Readings}
 use Rattle.sd_command_base.specs.Work.{Work}
-use Rattle.sd_run_broadcasts.specs.Receive.{ending_status, receive_end_status, received_of, received_status, received_steps}
+use Rattle.sd_run_broadcasts.specs.Receive.{ending_status, receive_end_status, received_of, received_status}
+use Rattle.sd_run_broadcasts.specs.Receive.{received_steps}
 use Rattle.sd_run_broadcasts.specs.Receive.{receiving}
 use Rattle.sd_law_run.specs.Good.{IsGoodReceive}
 use Rattle.sd_command_base.specs.Turned.{is_break}

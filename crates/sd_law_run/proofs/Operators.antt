@@ -54,7 +54,8 @@ judged_so words given good =
     ordered words given (ApartOf good.site good.book good.other good.more) good.order
     ∙ then_is (both_meaning good.site good.book given) one
     (λ first. both_meaning good.other good.more given
-    >>= λ second. of_result (told_apart (plan_of_both first) (plan_of_both second)) >>= λ text. value (work_of_text text))
+    >>= λ second. of_result (told_apart (plan_of_both first) (plan_of_both second)) >>=
+    λ text. value (work_of_text text))
     (both_good given good.site good.book good.fields good.commands good.good_site good.good_book)
     ∙ then_is (both_meaning good.other good.more given) two
     (λ second. of_result (told_apart (plan_of_both one) (plan_of_both second)) >>= λ text. value (work_of_text text))

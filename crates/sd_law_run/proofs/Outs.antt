@@ -43,7 +43,8 @@ silent : (a b : PageState) (status : Status) → PrintsStatusLine a b status Don
 silent a b status tells =
     elim tells.says [
       | inl said ↦ record {
-        printed = subst (λ (l : List ℕ). Appends a.printed b.printed l) (ap line_of_status (sym said.0) ∙ done_line) said.1;
+        printed = subst (λ (l : List ℕ). Appends a.printed b.printed l) (ap line_of_status (sym said.0) ∙ done_line)
+            said.1;
         faults = said.2;
       }
       | inr cut ↦ absurd (let x = cut.0 in cc)

@@ -108,7 +108,8 @@ apart_done words site book other more files a b order known answers =
     ∙ done.is_meant in
     let first = then_ok (both_meaning site book given)
     (λ first. both_meaning other more given
-    >>= λ second. of_result (told_apart (plan_of_both first) (plan_of_both second)) >>= λ text. value (work_of_text text))
+    >>= λ second. of_result (told_apart (plan_of_both first) (plan_of_both second)) >>=
+    λ text. value (work_of_text text))
     done.work meant in
     let second = then_ok (both_meaning other more given)
     (λ second. of_result (told_apart (plan_of_both first.from) (plan_of_both second))

@@ -25,7 +25,8 @@ use Rattle.sd_command_base.specs.Results.{RunResult}
 use Rattle.sd_command_base.specs.Work.{Work}
 use Rattle.sd_command_line.specs.Words.{Order, FieldOf, order_of}
 use Rattle.sd_run_broadcasts.specs.Field.{Inputs, clear_of_file, done_field, field_meaning, field_text, inputs_by}
-use Rattle.sd_run_broadcasts.specs.Field.{inputs_meaning, lines_of_field, field_clear_bytes, most_field_height, script_of_file}
+use Rattle.sd_run_broadcasts.specs.Field.{inputs_meaning, lines_of_field, field_clear_bytes, most_field_height}
+use Rattle.sd_run_broadcasts.specs.Field.{script_of_file}
 use Rattle.sd_run_broadcasts.specs.Field.{text_in, told_clear, script_or_status, unbroken, unrefused}
 use Rattle.sd_law_field.specs.Fielded.{confirmed_lines}
 use Rattle.sd_law_field.proofs.Fielded.{done_is_clear, text_is_confirmed}
@@ -60,7 +61,8 @@ low_site : (given : Readings) (word : FileArgument) (fields : SiteFields) →
     IsLowSite (given word) fields
 unfolding low_site_of_file
 low_site given word fields e =
-    let any = then_ok (site_in given word) (λ site. of_result (low_site_or_status most_field_height FieldHeight site)) fields e in
+    let any = then_ok (site_in given word) (λ site. of_result (low_site_or_status most_field_height FieldHeight site))
+    fields e in
     let low = low_taken most_field_height FieldHeight any.from fields any.next_is in
     record {
       good = subst (IsGoodSite (given word)) low.0 (site_taken given word any.from any.first_is);

@@ -56,7 +56,8 @@ trace_good words given good =
     ordered words given (TraceOf good.site good.book good.leaves) good.order
     ∙ then_is (both_meaning good.site good.book given) both
     (λ both. leaves_in given both.site.height good.leaves
-    >>= λ coalition. of_result (trace_outcome both.site.height coalition both.commands) >>= λ text. value (work_of_text text))
+    >>= λ coalition. of_result (trace_outcome both.site.height coalition both.commands) >>=
+    λ text. value (work_of_text text))
     (both_good given good.site good.book good.fields good.commands good.good_site good.good_book)
     ∙ then_is (leaves_in given d good.leaves) good.coalition
     (λ coalition. of_result (trace_outcome d coalition good.commands) >>= λ text. value (work_of_text text))

@@ -13,7 +13,8 @@ use Rattle.sd_command_base.specs.declared.status.LimitKind.{LimitKind}
 use Rattle.sd_command_base.specs.declared.status.LimitKind.TheVariants.{SiteBytes, BookBytes}
 use Rattle.sd_command_base.specs.Spec.{FileArgument, Readings, of_result, value, within, ◌>>=◌}
 use Rattle.sd_command_base.specs.Both.{SiteBook, both_by, both_meaning}
-use Rattle.sd_command_base.specs.Files.{most_site_bytes, most_book_bytes, site_or_status, book_or_status, site_in, book_in}
+use Rattle.sd_command_base.specs.Files.{most_site_bytes, most_book_bytes, site_or_status, book_or_status, site_in}
+use Rattle.sd_command_base.specs.Files.{book_in}
 use Rattle.sd_command_base.specs.Files.{site_of_file, book_of_file, low_site_or_status}
 use Rattle.sd_run_books.proofs.OwnBook.{book_said}
 use Rattle.sd_law_run.specs.Good.{IsGoodSite, IsGoodBook}
@@ -54,7 +55,8 @@ told_spells : (word d : ℕ) (bytes : List ℕ) (commands : List Command) →
     book_or_status word d bytes (book_of d bytes) ≡ Ok commands → SpellsBook (lines_of bytes) commands
 told_spells word d bytes commands e = by_answer (book_of d bytes) refl e
   where
-    by_answer : (r : Result (List Command) BookFault) → book_of d bytes ≡ r → book_or_status word d bytes r ≡ Ok commands →
+    by_answer : (r : Result (List Command) BookFault) → book_of d bytes ≡ r →
+        book_or_status word d bytes r ≡ Ok commands →
         SpellsBook (lines_of bytes) commands
     by_answer (Ok found) f e =
         let same : found ≡ commands = cc in

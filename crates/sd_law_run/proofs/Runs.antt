@@ -91,7 +91,8 @@ line_said a b status answer tells print =
     ]
 
 -- work that is done has no line
-pub none_said : (a b : PageState) (answer : Status) → Appends a.printed b.printed (line_of_status answer) → answer ≡ Done →
+pub none_said : (a b : PageState) (answer : Status) → Appends a.printed b.printed (line_of_status answer) →
+    answer ≡ Done →
     Appends a.printed b.printed []
 none_said a b answer said is =
     subst (λ (l : List ℕ). Appends a.printed b.printed l) (ap line_of_status is ∙ done_line) said
@@ -116,7 +117,8 @@ runs_work meant work files a b answer due told answers well =
       ends = sym own ∙ done.0;
       left = done.1;
       steps = steps_of (meant answers.obeyed.given).result work a.steps b.steps is obeys.steps;
-      printed = Appends-trans a.page.printed answers.page.printed b.page.printed (concat work.pieces) (line_of_status answer)
+      printed = Appends-trans a.page.printed answers.page.printed b.page.printed (concat work.pieces)
+          (line_of_status answer)
           done.2 (line_said answers.page b.page answers.status answer answers.told print);
     }
 

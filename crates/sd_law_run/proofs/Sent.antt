@@ -30,7 +30,8 @@ use Rattle.sd_law_broadcast.proofs.Taken.{broadcast_taken}
 use Rattle.sd_law_broadcast.proofs.Sendable.{clear_sendable}
 use Rattle.sd_command_base.specs.declared.status.Status.{Status}
 use Rattle.sd_command_base.specs.declared.status.Status.TheVariants.{Done, OtherBook}
-use Rattle.sd_command_base.specs.Spec.{Spec, FileArgument, Readings, contents_of, and_then, whole_file_bytes, of_result, value}
+use Rattle.sd_command_base.specs.Spec.{Spec, FileArgument, Readings, contents_of, and_then, whole_file_bytes, of_result}
+use Rattle.sd_command_base.specs.Spec.{value}
 use Rattle.sd_command_base.specs.Spec.{within}
 use Rattle.sd_command_base.specs.Spec.{◌>>=◌}
 use Rattle.sd_command_base.specs.Outside.{IoState}
@@ -133,11 +134,13 @@ plan_right site book given plan e =
     let book_read = then_ok (within book.number most_book_bytes BookBytes (given book))
     (λ bytes. of_result (own_book_or_status book.number fields.height line bytes)) commands.from commands.first_is in
     let is_site = site_right site.number site_read.from fields
-    (line_right (book_line_of site_read.from) (site_or_status site.number site_read.from (site_of site_read.from)) said.from
+    (line_right (book_line_of site_read.from) (site_or_status site.number site_read.from (site_of site_read.from))
+    said.from
     site_read.next_is) in
     let is_within = book_right book.number fields.height book_read.from commands.from
     (own_right (is_book line book_read.from)
-    (book_or_status book.number fields.height book_read.from (book_of fields.height book_read.from)) commands.from book_read.next_is) in
+    (book_or_status book.number fields.height book_read.from (book_of fields.height book_read.from)) commands.from
+    book_read.next_is) in
     let made : Plan = record { site = fields; commands = commands.from } in
     subst IsPlan (value_is made plan commands.next_is) (record {
       site = is_site.ranges;
@@ -190,7 +193,8 @@ module _ (words : List (List ℕ)) (site book clear out : FileArgument) (files :
   sent_work work meant ends left =
       let given = contents_of files in
       let plan = then_ok (head_plan_meaning site book given) (sending_of clear out (given clear)) work meant in
-      let bytes = then_ok (whole_file_bytes clear.number (given clear)) (λ bytes. value (sending plan.from out bytes)) work
+      let bytes = then_ok (whole_file_bytes clear.number (given clear)) (λ bytes. value (sending plan.from out bytes))
+      work
       plan.next_is in
       let same = value_is (sending plan.from out bytes.from) work bytes.next_is in
       let status = status_is plan.from bytes.from (ap (λ (w : Work). w.ends) same ∙ ends) in

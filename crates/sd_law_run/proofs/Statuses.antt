@@ -154,7 +154,8 @@ line_made site u =
 pub show_part : (words : List (List ℕ)) (card : FileArgument) (site : SiteFields) (u : ℕ) (files : Files)
     (a b : IoState) (answer : Status) → order_of words ≡ Ok (ShowOf card) → a.place.files ≡ Some files →
     site.ca < 2 ^ 16 → 1 ≤ site.height → site.height ≤ 20 → u < 2 ^ site.height →
-    get files card.text ≡ Some (card_file_for site u) → RunResult (meaning words) a b answer → IsUndisturbed a b answer →
+    get files card.text ≡ Some (card_file_for site u) → RunResult (meaning words) a b answer →
+    IsUndisturbed a b answer →
     ShowResult site u a b answer
 show_part words card site u files a b answer order told system some low leaf there answers well =
     let fields = site_card site u in

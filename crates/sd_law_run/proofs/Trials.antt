@@ -22,7 +22,8 @@ use Rattle.sd_command_base.specs.declared.status.Status.TheVariants.{NoMemory, U
 use Rattle.sd_command_base.specs.declared.status.Status.TheVariants.{BadWord, Clash, BadOut, SiteUsed, OtherBook}
 use Rattle.sd_command_base.specs.declared.status.Status.TheVariants.{SiteUsedUp}
 use Rattle.sd_command_base.specs.declared.status.LimitKind.TheVariants.{SiteBytes, BookBytes, TrialHeight}
-use Rattle.sd_command_base.specs.Spec.{FileArgument, Readings, contents_of, whole_file_bytes, of_result, value, within, ◌>>=◌}
+use Rattle.sd_command_base.specs.Spec.{FileArgument, Readings, contents_of, whole_file_bytes, of_result, value, within}
+use Rattle.sd_command_base.specs.Spec.{◌>>=◌}
 use Rattle.sd_command_base.specs.Outside.{IoState}
 use Rattle.sd_command_base.specs.Work.{Work}
 use Rattle.sd_command_base.specs.Outcome.{PrintsAll}
@@ -36,7 +37,8 @@ use Rattle.sd_run_broadcasts.specs.Prefixes.{prefix_of_file}
 use Rattle.sd_run_broadcasts.proofs.Prefixes.{whole_prefix}
 use Rattle.sd_run_broadcasts.specs.Trial.{trial_plan_by, trial_plan_meaning, sent_or, told_sent, told_line}
 use Rattle.sd_command_base.specs.Printed.{printing}
-use Rattle.sd_run_broadcasts.specs.Trial.{trial_receiver_line, then_line, lines_of_trial, trial_lines, trial_clear_line, trial_text}
+use Rattle.sd_run_broadcasts.specs.Trial.{trial_receiver_line, then_line, lines_of_trial, trial_lines, trial_clear_line}
+use Rattle.sd_run_broadcasts.specs.Trial.{trial_text}
 use Rattle.sd_run_broadcasts.specs.Trial.{trying, trial_meaning}
 use Rattle.sd_law_field.specs.Trials.{opened_lines}
 use Rattle.sd_law_field.proofs.Tried.{trial_right, trial_done}
@@ -58,7 +60,8 @@ sent_refused end (Some fault) more sent e = absurd (cc)
 told_refused : (plan : Plan) (prefix : Prefix) → told_sent plan prefix ≡ Err Done → ⊥
 unfolding told_sent sent_status
 told_refused plan prefix e =
-    sent_refused (end_of prefix.bytes) (stream_refusal plan.site (packets_taken prefix.bytes) (end_of prefix.bytes)) prefix.more
+    sent_refused (end_of prefix.bytes) (stream_refusal plan.site (packets_taken prefix.bytes) (end_of prefix.bytes))
+    prefix.more
     (sent_of plan prefix.bytes) e
 
 line_refused : (u wrote : ℕ) (status : Status) → told_line u wrote status ≡ Err Done → ⊥
@@ -100,7 +103,8 @@ lines_refused : (site : SiteFields) (bytes first : List ℕ) (n : ℕ) → lines
 unfolding lines_of_trial
 lines_refused site bytes first zero e = absurd (cc)
 lines_refused site bytes first (suc n) e =
-    then_refused (lines_of_trial site bytes first n) (trial_receiver_line site bytes n) (lines_refused site bytes first n)
+    then_refused (lines_of_trial site bytes first n) (trial_receiver_line site bytes n)
+    (lines_refused site bytes first n)
     (receiver_refused site bytes n) e
 
 all_refused : (plan : Plan) (clear : ℕ) (sent : Result (List ℕ) Status) → (sent ≡ Err Done → ⊥) →

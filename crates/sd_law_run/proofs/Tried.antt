@@ -22,7 +22,8 @@ use Rattle.sd_law_run.proofs.Plans.{good_plan}
 
 -- a site whose tree is low enough is taken
 low_good : (given : Readings) (word : FileArgument) (fields : SiteFields) → IsGoodSite (given word) fields →
-    fields.height ≤ most_trial_height → (low_site_of_file word.number most_trial_height TrialHeight (given word)).result ≡ Ok fields
+    fields.height ≤ most_trial_height → (low_site_of_file word.number most_trial_height TrialHeight
+    (given word)).result ≡ Ok fields
 unfolding low_site_of_file
 low_good given word fields good low =
     then_is (site_in given word) fields (λ site. of_result (low_site_or_status most_trial_height TrialHeight site))

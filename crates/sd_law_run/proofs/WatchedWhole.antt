@@ -177,7 +177,8 @@ module _ (plan : Plan) (clear : List (List ℕ)) (sends : AreSendable plan clear
         report = report_of card packets;
         told = subst (λ (l : Bytes). Appends a.page.printed b.page.printed l)
             (ap (λ (ls : List Bytes). concat ls ++ line_of_status answer) lines_are
-            ∙ ap (λ (l : Bytes). l ++ line_of_status answer) (append-nil (watch_report_line u 0 (report_of card packets)))
+            ∙ ap (λ (l : Bytes). l ++ line_of_status answer)
+            (append-nil (watch_report_line u 0 (report_of card packets)))
             ∙ ap (λ (l : Bytes). watch_report_line u 0 (report_of card packets) ++ l)
             (ap line_of_status ends ∙ whole_line u (first_revoked plan u clear))) left.told;
         packets = packets_told card packets;

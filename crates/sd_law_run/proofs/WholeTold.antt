@@ -70,7 +70,8 @@ joined_cut [] all = cut_end
 joined_cut (packet ∷ packets) all =
     let here = (All-head IsSynced packet packets all).long in
     cut_packet (packet ++ concat packets) (packet_first packet packets all)
-    ∙ ap (λ (p : Packet). p ∷ cut_packets (drop 188 (packet ++ concat packets))) (take_at packet (concat packets) 188 here)
+    ∙ ap (λ (p : Packet). p ∷ cut_packets (drop 188 (packet ++ concat packets)))
+    (take_at packet (concat packets) 188 here)
     ∙ ap (λ (bytes : List ℕ). packet ∷ cut_packets bytes) (drop_at packet (concat packets) 188 here)
     ∙ ap (λ (ps : Packets). packet ∷ ps) (joined_cut packets (All-tail IsSynced packet packets all))
 
@@ -202,7 +203,8 @@ run_ends card packets one =
     let past : Packets = onto packets [] in
     let ends : endings_joined (ended_before card past) (run_ending card (heard card past) (run_wrote card past))
     ≡ run_ending card (heard card past) (run_wrote card past) =
-    ap (λ (e : Ending). endings_joined e (run_ending card (heard card past) (run_wrote card past))) (none_ended card past one)
+    ap (λ (e : Ending). endings_joined e (run_ending card (heard card past) (run_wrote card past)))
+    (none_ended card past one)
     ∙ opened_joins (run_ending card (heard card past) (run_wrote card past)) in
     ap (λ (ps : Packets). run_end card ps) round
     ∙ ap (λ (e : Ending). if is_none (tuning_of card.ca past) then NoCat else e) (sym ends)

@@ -64,7 +64,8 @@ pub record IsUndisturbed (a b : IoState) (answer : Status) : Type 0 where
 -- the card of leaf u as a file: its head, the secrets of the names that the leaf is given, and the check value of both
 -- [Naor, Naor, Lotspiech 2001, 3.2; this project, docs/FORMATS.md, Card]
 abbrev pub card_file_for : SiteFields → LeafNumber → Bytes
-card_file_for site u = file_bytes (card_head site.height u site.ca) (map (secret_of site.master) (names_of_receiver site.height u))
+card_file_for site u = file_bytes (card_head site.height u site.ca) (map (secret_of site.master)
+    (names_of_receiver site.height u))
 
 -- The result of `head SITE BOOK CLEAR STREAM`.
 pub record HeadResult (names : Names) (plan : Plan) (clear : Packets) (a b : IoState) (answer : Status) : Type 0

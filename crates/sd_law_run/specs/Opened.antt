@@ -50,10 +50,11 @@ pub record IsBroadcastTo (plan : Plan) (u : LeafNumber) (clear : Packets) (words
 -- OUT is the clear packets of the periods in which leaf u isn't revoked. The status is `Done`, or names the leaf as
 -- revoked and the first of the broadcast's periods in which it is. For each period in which it isn't, at most as many
 -- steps are taken as the tree is high
-pub record IsReceivedOut (plan : Plan) (u : LeafNumber) (clear : Packets) (out : FileArgument) (work : Work) : Type 0 where
-  pub file : work.out ≡ Some (record { word = out.number; name = out.text; bytes = concat (opened_by plan u clear) })
-  pub printed : work.pieces ≡ []
-  pub ends : work.ends ≡ revoked_status u (first_revoked plan u clear)
-  pub most : ℕ
-  pub counted : work.steps ≡ UpTo most
-  pub few : most ≤ plan.site.height * unrevoked_periods plan u clear
+pub record IsReceivedOut (plan : Plan) (u : LeafNumber) (clear : Packets) (out : FileArgument) (work : Work) : Type 0
+  where
+    pub file : work.out ≡ Some (record { word = out.number; name = out.text; bytes = concat (opened_by plan u clear) })
+    pub printed : work.pieces ≡ []
+    pub ends : work.ends ≡ revoked_status u (first_revoked plan u clear)
+    pub most : ℕ
+    pub counted : work.steps ≡ UpTo most
+    pub few : most ≤ plan.site.height * unrevoked_periods plan u clear

@@ -22,7 +22,8 @@ ghost use Rattle.sd_command_line.specs.Words.{NextOf, TwinOf, order_of};
 ghost use Rattle.sd_run.specs.Meaning.{meaning};
 ghost use Rattle.sd_run_books.specs.SiteNames.{digits_in, follows};
 ghost use Rattle.sd_law_chain.specs.Chain.{Call, Link, Next, Twin};
-ghost use Rattle.sd_law_run.specs.Folders.{FolderOutcome, HasName, HoldsChain, IsFolder, IsTorn, SparesNames, site_name_at};
+ghost use Rattle.sd_law_run.specs.Folders.{FolderOutcome, HasName, HoldsChain, IsFolder, IsTorn, SparesNames};
+ghost use Rattle.sd_law_run.specs.Folders.{site_name_at};
 ghost use Rattle.sd_law_run.specs.Folders.{last_number_in};
 
 /// A run leaves of a folder with a chain of sites the same chain, or the chain with one site more, or the chain and

@@ -123,7 +123,8 @@ pub fn run<D: Depot, P: Sink, N: Sink, L: Ledger>(
     // for OUT, the mark.
     ensures refused { RefusesFirst result → (IsNoOutMade (depot_state D.Depot depot.old) (depot_state D.Depot depot.new)
         ⊎ IsMarkedAlone (map string_bytes words.now) (depot_state D.Depot depot.old) (depot_state D.Depot depot.new)
-        result) × Appends (page_state P.Sink print.old).printed (page_state P.Sink print.new).printed (line_of_status result) }
+        result) × Appends (page_state P.Sink print.old).printed (page_state P.Sink print.new).printed
+        (line_of_status result) }
 {
     sd_run::run(alloc, &CommandLine::read(words), depot, print, notes, steps)
 }

@@ -285,5 +285,6 @@ pub fn broadcasts_are_opened_by_the_entitled()
     ensures { (plan : Plan) (u : LeafNumber) (clear : Packets) (words : List Bytes) (files : Files) → IsPlan plan →
         IsSendable plan.site clear → AreWholePackets clear → u < 2 ^ plan.site.height →
         (sent : IsBroadcastTo plan u clear words (contents_of files)) →
-        (work : Work) × ((meaning words (contents_of files)).result ≡ Ok work) × IsReceivedOut plan u clear sent.out work }
+        (work : Work) × ((meaning words (contents_of files)).result ≡ Ok work) ×
+        IsReceivedOut plan u clear sent.out work }
 {}

@@ -74,7 +74,8 @@ pub record HoldsOdd (all bare : List Heard) : Type 0 where
   pub number : ℕ
   pub packet : List ℕ
   pub alone : others (newest_message bare).after ≡ (number, packet) ∷ []
-  pub odd : option_map_or (λ message. is_odd_held message.word (number, packet)) (newest_message all).message false ≡ true
+  pub odd : option_map_or (λ message. is_odd_held message.word (number, packet)) (newest_message all).message false
+      ≡ true
 
 -- all three heard the same of messages
 pub record Like (all counted bare : List Heard) : Type 0 where

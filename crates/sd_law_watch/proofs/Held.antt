@@ -10,7 +10,8 @@ use Rattle.sd_psi.specs.declared.our_cat.Tuning.{Tuning}
 use Rattle.sd_site_cards.specs.CardFields.{CardFields}
 use Rattle.sd_message.specs.EcmParts.{Message}
 use Rattle.sd_spec.specs.Stretches.{Stretch, others, held_in}
-use Rattle.sd_spec.specs.Confirmed.{Segment, WrittenPackets, judged_packet, is_foreign, is_confirmed, unmarked, tracked, written_from}
+use Rattle.sd_spec.specs.Confirmed.{Segment, WrittenPackets, judged_packet, is_foreign, is_confirmed, unmarked, tracked}
+use Rattle.sd_spec.specs.Confirmed.{written_from}
 use Rattle.sd_spec.specs.Confirmed.{then_segment_output}
 use Rattle.sd_spec.specs.Offered.{segment_wrote, most_held}
 
@@ -38,8 +39,10 @@ first_same segment before n m packet a b same =
     (descrambled packet segment.word (tracked segment.first (pid_of packet) (before ++ packet ∷ [])) ∷ [])
   where
     by_tests : (clear odd confirmed : Bool) (x y : List (List ℕ)) →
-        (then_segment_output (if clear then Ok x else if odd then Err n else if confirmed then Ok y else Ok []) a).packets
-        ≡ (then_segment_output (if clear then Ok x else if odd then Err m else if confirmed then Ok y else Ok []) b).packets
+        (then_segment_output (if clear then Ok x else if odd then Err n else if confirmed then Ok y else Ok [])
+        a).packets
+        ≡ (then_segment_output (if clear then Ok x else if odd then Err m else if confirmed then Ok y else Ok [])
+        b).packets
     by_tests true odd confirmed x y = ap (λ (rest : List (List ℕ)). x ++ rest) same
     by_tests false true confirmed x y = refl
     by_tests false false true x y = ap (λ (rest : List (List ℕ)). y ++ rest) same

@@ -22,10 +22,12 @@ use Rattle.sd_message.specs.declared.stream_fault.StreamFault.{StreamFault}
 use Rattle.sd_message.specs.declared.stream_fault.StreamFault.TheVariants as Fault
 use Rattle.sd_spec.specs.Tuned.{tuning_of}
 use Rattle.sd_spec.specs.Heard.{Heard, Dropped, Entitles, Controls, BadEmm, BadEcm, Other, hears}
-use Rattle.sd_spec.specs.Stretches.{Stretch, newest_message, completes, is_closed, others, held_in, message_parts_to, current, sections_seen}
+use Rattle.sd_spec.specs.Stretches.{Stretch, newest_message, completes, is_closed, others, held_in, message_parts_to}
+use Rattle.sd_spec.specs.Stretches.{current, sections_seen}
 use Rattle.sd_spec.specs.Runs.{is_turn, of_run}
 use Rattle.sd_spec.specs.Keys.{key_from, key_at}
-use Rattle.sd_spec.specs.Confirmed.{Segment, judged_packet, is_foreign_under, is_confirmed, written_from, then_segment_output}
+use Rattle.sd_spec.specs.Confirmed.{Segment, judged_packet, is_foreign_under, is_confirmed, written_from}
+use Rattle.sd_spec.specs.Confirmed.{then_segment_output}
 use Rattle.sd_spec.specs.Confirmed.{unmarked, tracked}
 use Rattle.sd_cipher.specs.Scrambling.{descrambled}
 use Rattle.sd_spec.specs.Offered.{heard, heard_with, heard_more, Offering, offered, tuned_offering, run_offering}
@@ -87,7 +89,8 @@ even_held past (Other n packet) message opened is even =
     ∙ (ap (λ (m : Option Message). is_scrambled_packet packet
     && option_map_or (λ (a : Message). is_foreign_under a.word packet) m false) (sym is)
     ∙ (ap (λ (closed : Bool). not closed && (is_scrambled_packet packet
-    && option_map_or (λ (a : Message). is_foreign_under a.word packet) (newest_message past).message false)) (sym opened)
+    && option_map_or (λ (a : Message). is_foreign_under a.word packet) (newest_message past).message false))
+    (sym opened)
     ∙ even))
 
 -- one thing more that isn't odd
@@ -110,7 +113,8 @@ even_next : (past : List Heard) (thing : Heard) → is_closed past ≡ false →
 unfolding holds_stray others
 even_next past thing opened even none = by_message (completes past thing) refl
   where
-    by_message : (message : Option Message) → completes past thing ≡ message → has_odd (newest_message (thing ∷ past)) ≡ false
+    by_message : (message : Option Message) → completes past thing ≡ message → has_odd (newest_message (thing ∷ past))
+        ≡ false
     by_message None waits =
         ap has_odd (newest_waits past thing waits) ∙ even_waits past thing (newest_message past) refl opened even none
     by_message (Some message) done = ap has_odd (newest_completes past thing message done)

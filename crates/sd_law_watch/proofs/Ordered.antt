@@ -10,7 +10,8 @@ use Rattle.sd_message.specs.EcmSpelled.{listed_places}
 use Rattle.sd_message.specs.EcmParts.{Message}
 use Rattle.sd_message.specs.declared.ecm_part.EcmPart.{EcmPart}
 use Rattle.sd_spec.specs.Heard.{Heard, Dropped, Entitles, Controls, BadEmm, BadEcm, Other}
-use Rattle.sd_spec.specs.Stretches.{Stretch, exceeds, counted_parts, run_of_parts, message_parts_with, newest_message, completes, is_closed}
+use Rattle.sd_spec.specs.Stretches.{Stretch, exceeds, counted_parts, run_of_parts, message_parts_with, newest_message}
+use Rattle.sd_spec.specs.Stretches.{completes, is_closed}
 use Rattle.sd_spec.specs.Runs.{is_turn, of_run}
 use Rattle.sd_spec.specs.Offered.{heard_more, same_header}
 use Rattle.sd_spec.specs.Counting.{is_equal_place, says_nothing_new, is_part_again}
@@ -106,7 +107,8 @@ after_before a x (thing ∷ past) all =
     rest (BadEcm fault) all = all
     rest (Other n packet) all = all
 
-    by_message : (message : Option Message) → completes past thing ≡ message → AreBefore a x (newest_message past).after →
+    by_message : (message : Option Message) → completes past thing ≡ message →
+        AreBefore a x (newest_message past).after →
         AreBefore a x (newest_message (thing ∷ past)).after
     by_message None waits before =
         subst (λ (s : Stretch). AreBefore a x s.after) (sym (newest_waits past thing waits))

@@ -9,7 +9,8 @@ use Rattle.sd_message.specs.declared.emm.Emm.{Emm}
 use Rattle.sd_message.specs.EcmParts.{Message}
 use Rattle.sd_message.specs.declared.ecm_part.EcmPart.{EcmPart}
 use Rattle.sd_spec.specs.Heard.{Heard, Dropped, Entitles, Controls, BadEmm, BadEcm, Other}
-use Rattle.sd_spec.specs.Stretches.{Stretch, exceeds, counted_parts, run_of_parts, message_told, message_parts_to, completed, stretch_after}
+use Rattle.sd_spec.specs.Stretches.{Stretch, exceeds, counted_parts, run_of_parts, message_told, message_parts_to}
+use Rattle.sd_spec.specs.Stretches.{completed, stretch_after}
 use Rattle.sd_spec.specs.Stretches.{newest_message}
 use Rattle.sd_spec.specs.Stretches.{completes, messages, with_message, is_closed, period_heard, current, sections_seen}
 use Rattle.sd_spec.specs.Runs.{run_name_heard, run_name_in, are_two, is_turn}
@@ -53,7 +54,8 @@ turn_said past thing =
     ap (λ (name : Option (Option ℕ)). are_two name (run_name_heard thing)) (names_said past)
 
 -- control messages
-counted_said : (message : Option Message) (past : List Heard) → counted_parts message (said past) ≡ counted_parts message past
+counted_said : (message : Option Message) (past : List Heard) → counted_parts message (said past)
+    ≡ counted_parts message past
 unfolding counted_parts
 counted_said message [] = refl
 counted_said message (Dropped ∷ past) = counted_said message past
@@ -64,7 +66,8 @@ counted_said message (BadEmm fault ∷ past) = counted_said message past
 counted_said message (BadEcm fault ∷ past) = counted_said message past
 counted_said message (Other n packet ∷ past) = counted_said message past
 
-pub run_to_said : (stretch : Stretch) (part : EcmPart) → message_parts_to (stretch_said stretch) part ≡ message_parts_to stretch part
+pub run_to_said : (stretch : Stretch) (part : EcmPart) → message_parts_to (stretch_said stretch) part
+    ≡ message_parts_to stretch part
 unfolding message_parts_to
 run_to_said stretch part =
     ap (λ (parts : List EcmPart). if exceeds stretch.message part then run_of_parts (part ∷ parts) else [])
@@ -83,7 +86,8 @@ completed_said stretch (Other n packet) = refl
 -- a thing more of a message
 stretched_said : (past : List Heard) (stretch : Stretch) (thing : Heard) (message : Option Message) →
     said (thing ∷ stretch.after) ≡ thing ∷ said stretch.after →
-    stretch_after (said past) (stretch_said stretch) thing message ≡ stretch_said (stretch_after past stretch thing message)
+    stretch_after (said past) (stretch_said stretch) thing message ≡ stretch_said
+    (stretch_after past stretch thing message)
 stretched_said past stretch thing None speaks =
     ap {B = Stretch} (λ (after : List Heard). record {
       message = stretch.message;
@@ -98,7 +102,8 @@ more_said : (past : List Heard) (thing : Heard) → newest_message (said past) �
 unfolding newest_message
 more_said past thing before speaks =
     ap (λ (stretch : Stretch). stretch_after (said past) stretch thing (completed stretch thing)) before
-    ∙ (ap (stretch_after (said past) (stretch_said (newest_message past)) thing) (completed_said (newest_message past) thing)
+    ∙ (ap (stretch_after (said past) (stretch_said (newest_message past)) thing)
+    (completed_said (newest_message past) thing)
     ∙ stretched_said past (newest_message past) thing (completed (newest_message past) thing) speaks)
 
 pub newest_said : (past : List Heard) → newest_message (said past) ≡ stretch_said (newest_message past)
@@ -225,7 +230,8 @@ closed_ending_said written card past =
     (find_same (λ q. is_unkeyed card (said past) q && is_all_seen (said past) q)
     (λ q. is_unkeyed card past q && is_all_seen past q) (revoked_said card past) (periods_told past))
     ∙ (ap (λ (unheard : Option ℕ). closed_with
-    (find (λ q. is_unkeyed card past q && is_all_seen past q) (periods_told past)) unheard (newest_message (said past)) written)
+    (find (λ q. is_unkeyed card past q && is_all_seen past q) (periods_told past)) unheard (newest_message (said past))
+    written)
     (find_same (is_unkeyed card (said past)) (is_unkeyed card past) (unkeyed_said card past) (periods_told past))
     ∙ ap (λ (stretch : Stretch). closed_with
     (find (λ q. is_unkeyed card past q && is_all_seen past q) (periods_told past))
@@ -236,7 +242,8 @@ pub ending_said : (written : ℕ) (card : CardFields) (past : List Heard) →
 unfolding run_ending
 ending_said written card past =
     ap (λ (closed : Bool). if closed then closed_ending card (said past) written
-    else Unclosed (option_map_or (λ (m : Message). m.number + 1) (newest_message (said past)).message 0)) (closed_said past)
+    else Unclosed (option_map_or (λ (m : Message). m.number + 1) (newest_message (said past)).message 0))
+    (closed_said past)
     ∙ (ap (λ (ending : Ending). if is_closed past then ending
     else Unclosed (option_map_or (λ (m : Message). m.number + 1) (newest_message (said past)).message 0))
     (closed_ending_said written card past)

@@ -20,10 +20,12 @@ use Rattle.sd_message.specs.declared.ecm_fault.EcmFault.TheVariants as Ecms
 use Rattle.sd_message.specs.declared.stream_fault.StreamFault.{StreamFault}
 use Rattle.sd_message.specs.declared.stream_fault.StreamFault.TheVariants as Fault
 use Rattle.sd_spec.specs.Heard.{Heard, Entitles, Controls, BadEmm, BadEcm}
-use Rattle.sd_spec.specs.Stretches.{Stretch, newest_message, completes, is_closed, others, message_parts_to, current, sections_seen}
+use Rattle.sd_spec.specs.Stretches.{Stretch, newest_message, completes, is_closed, others, message_parts_to, current}
+use Rattle.sd_spec.specs.Stretches.{sections_seen}
 use Rattle.sd_spec.specs.Runs.{of_run}
 use Rattle.sd_spec.specs.Keys.{key_at, key_from}
-use Rattle.sd_spec.specs.Confirmed.{Segment, WrittenPackets, judged_packet, is_foreign_under, written_from, then_segment_output}
+use Rattle.sd_spec.specs.Confirmed.{Segment, WrittenPackets, judged_packet, is_foreign_under, written_from}
+use Rattle.sd_spec.specs.Confirmed.{then_segment_output}
 use Rattle.sd_spec.specs.Offered.{Offering, run_offering, heard_offering, part_offering, part_fault, is_mixed}
 use Rattle.sd_spec.specs.Offered.{message_offering, stretch_wrote, segment_wrote, wrote_or, word_fault, is_back}
 use Rattle.sd_spec.specs.Offered.{emm_offering, key_offering, key_if_none, no_offering, refused_offering, most_held}
@@ -108,7 +110,8 @@ since_same card tuning all counted bare f m like told none = by_since (nat_le m.
     nothing = record { packets = []; refused = None }
 
     by_since : (near : Bool) →
-        (if near then segment_wrote card tuning (newest_message bare) f m (key_at card (newest_message bare).before f.period)
+        (if near then segment_wrote card tuning (newest_message bare) f m
+        (key_at card (newest_message bare).before f.period)
         else nothing).refused ≡ None →
         (if near then segment_wrote card tuning (newest_message all) f m key_all else nothing).packets
         ≡ (if near then segment_wrote card tuning (newest_message counted) f m
@@ -116,7 +119,8 @@ since_same card tuning all counted bare f m like told none = by_since (nat_le m.
     by_since false none = refl
     by_since true none =
         keyed_same card tuning all counted bare f m key_all like.holds told
-        (ap (λ (key : Option (List ℕ)). (segment_wrote card tuning (newest_message bare) f m key).refused) (sym key_bare)
+        (ap (λ (key : Option (List ℕ)). (segment_wrote card tuning (newest_message bare) f m key).refused)
+        (sym key_bare)
         ∙ none)
         ∙ ap (λ (key : Option (List ℕ)). (segment_wrote card tuning (newest_message counted) f m key).packets)
         (sym key_counted)
@@ -187,7 +191,8 @@ controls_write : (card : CardFields) (tuning : Tuning) (n m k : ℕ) (all counte
     (heard_offering card tuning n all (Controls part)).wrote
     ≡ (heard_offering card tuning m counted (Controls part)).wrote
 controls_write card tuning n m k all counted bare part like none =
-    part_writes n m k (part_fault (message_parts_to (newest_message all) part)) (part_fault (message_parts_to (newest_message counted) part))
+    part_writes n m k (part_fault (message_parts_to (newest_message all) part))
+    (part_fault (message_parts_to (newest_message counted) part))
     (part_fault (message_parts_to (newest_message bare) part))
     (message_offering card tuning n all (completes all (Controls part)))
     (message_offering card tuning m counted (completes counted (Controls part)))

@@ -47,7 +47,8 @@ given_is_pair d u i x leaf pair =
     }
 
 -- and each name that it is given
-pub given_of_height : (d u : ℕ) → u < 2 ^ d → (name : Name) → Contains (names_of_receiver d u) name → IsOfHeight d (set_of name)
+pub given_of_height : (d u : ℕ) → u < 2 ^ d → (name : Name) → Contains (names_of_receiver d u) name →
+    IsOfHeight d (set_of name)
 given_of_height d u leaf Whole m = tt
 given_of_height d u leaf (Pair i x) m = given_is_pair d u i x leaf (given_is_hanging d u i x leaf m)
 

@@ -26,7 +26,8 @@ given_of_leaf d w u low leaf = record {
   height = low;
   leaf = leaf;
   differ = AllPairs-filter (λ a b. a ≢ b) (is_useful_name w) (names_of_receiver d u) (given_once d u leaf);
-  given = λ i x held. given_is_hanging d u i x leaf (from_filter (is_useful_name w) (names_of_receiver d u) (Pair i x) held).0;
+  given = λ i x held. given_is_hanging d u i x leaf (from_filter (is_useful_name w) (names_of_receiver d u)
+      (Pair i x) held).0;
 }
 
 -- the layer card of a leaf gives the key of each useful set that the leaf is in

@@ -13,7 +13,8 @@ use Rattle.sd_tree_keys.specs.declared.set.SetName.{SetName}
 use Rattle.sd_tree_keys.specs.declared.set.SetName.TheVariants.{Whole, Diff}
 use Rattle.sd_tree_keys.proofs.Levels.{doubled}
 use Rattle.sd_tree_keys.proofs.Ancestors.{depth_within, properly_above_by_levels}
-use Rattle.sd_tree_keys.proofs.Members.{count_below, count_pair, count_whole, lower_is_node, upper_is_node, member_within}
+use Rattle.sd_tree_keys.proofs.Members.{count_below, count_pair, count_whole, lower_is_node, upper_is_node}
+use Rattle.sd_tree_keys.proofs.Members.{member_within}
 use Rattle.sd_cover_tracing.proofs.Lists.{counted_some}
 
 -- a set of the tree has a leaf

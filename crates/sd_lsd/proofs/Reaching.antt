@@ -32,11 +32,13 @@ use Rattle.sd_lsd.specs.LayerNames.{layer_given, is_useful_name, ReachesItsUsefu
 use Rattle.sd_lsd.proofs.Filters.{from_filter, to_filter}
 
 -- what is reached in layers is reached without
-layered_is_reached : (d w u : ℕ) (secret : Secret) → IsReached (layer_given d w u) secret → IsReached (names_of_receiver d u) secret
+layered_is_reached : (d w u : ℕ) (secret : Secret) → IsReached (layer_given d w u) secret →
+    IsReached (names_of_receiver d u) secret
 unfolding layer_given
 layered_is_reached d w u secret r =
     let (name, held, leads) = reached_is_found (filter (is_useful_name w) (names_of_receiver d u)) secret r in
-    found_is_reached (names_of_receiver d u) secret name (from_filter (is_useful_name w) (names_of_receiver d u) name held).0 leads
+    found_is_reached (names_of_receiver d u) secret name (from_filter (is_useful_name w) (names_of_receiver d u) name
+    held).0 leads
 
 -- a node is above those below it by depths
 depth_rises : (d x j : ℕ) → d ≤ 20 → 1 ≤ x → j < 2 ^ (d + 1) → IsAbove x j → depth x ≤ depth j
@@ -56,8 +58,12 @@ useful_pair d w u i j low leaf pair useful member =
     let within = pair.node in
     let (x, given_pair, some, above) =
     hangs d u i j leaf pair.inner.0 (omega (arith, doubled d)) pair.above.0 paths.0 paths.1 in
-    let up = useful_upwards w i j x (depth_rises d x j low some pair.node above) useful in
-    (x, to_filter (is_useful_name w) (names_of_receiver d u) (Pair i x) ((given_pairs d u i x leaf).1 given_pair) up, some, above)
+    let up = useful_upwards w i j x (depth_rises d x j low some pair.node above) useful in (
+      x,
+      to_filter (is_useful_name w) (names_of_receiver d u) (Pair i x) ((given_pairs d u i x leaf).1 given_pair) up,
+      some,
+      above,
+    )
 
 -- the whole set is given
 pub whole_given : (d w u : ℕ) → Contains (layer_given d w u) Whole

@@ -45,7 +45,8 @@ written_once a b is_a is_b e =
     sym (height_written a) ∙ (ap (λ (r : List ℕ). byte_at r 5) e ∙ height_written b) in
     let width : a.width ≡ b.width =
     sym (width_written a) ∙ (ap (λ (r : List ℕ). byte_at r 6) e ∙ width_written b) in
-    let leaf : a.leaf ≡ b.leaf = sym (leaf_written a is_a) ∙ (ap (λ (r : List ℕ). number_from r 7 4) e ∙ leaf_written b is_b) in
+    let leaf : a.leaf ≡ b.leaf = sym (leaf_written a is_a) ∙ (ap (λ (r : List ℕ). number_from r 7 4) e
+    ∙ leaf_written b is_b) in
     let ca : a.ca ≡ b.ca = sym (ca_written a is_a) ∙ (ap (λ (r : List ℕ). number_from r 11 2) e ∙ ca_written b is_b) in
     let count : length a.secrets ≡ length b.secrets =
     is_a.count ∙ (rw (height, width) (sym is_b.count)) in

@@ -17,7 +17,8 @@ use Rattle.sd_message.specs.EcmSpelled.{listed_places, place_bytes, flags_for, n
 use Rattle.sd_message.specs.EcmSpelled.{ecm_head_bytes}
 use Rattle.sd_message.specs.EcmSpelled.{ecm_body}
 use Rattle.sd_message.specs.EcmForm.{IsEcm, FitsEcmFields, FitsEcmHead, no_place}
-use Rattle.sd_message.specs.EcmFields.{ecm_position_in, ecm_positions_in, padded_places, from_flags, body_flags, since_in, ecm_run_in, ecm_in}
+use Rattle.sd_message.specs.EcmFields.{ecm_position_in, ecm_positions_in, padded_places, from_flags, body_flags}
+use Rattle.sd_message.specs.EcmFields.{since_in, ecm_run_in, ecm_in}
 use Rattle.sd_message.specs.declared.ecm_part.Place.{Place}
 use Rattle.sd_message.specs.declared.ecm_part.EcmPart.{EcmPart}
 use Rattle.sd_message.proofs.Versions.{few_positions, by_version}

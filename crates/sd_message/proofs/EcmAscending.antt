@@ -27,5 +27,6 @@ pub not_after : (places : List Place) (k : ℕ) (d e : Place) → 1 ≤ k → k 
 not_after places k d e some within unless = Pairs.not_after IsBelow places k d e some within unless
 
 -- all of them
-pub all_ascend : (places : List Place) (k : ℕ) → length places ≤ k → ArePidsAscending (take k places) → ArePidsAscending places
+pub all_ascend : (places : List Place) (k : ℕ) → length places ≤ k → ArePidsAscending (take k places) →
+    ArePidsAscending places
 all_ascend places k past up = Pairs.all_ascend IsBelow places k past up

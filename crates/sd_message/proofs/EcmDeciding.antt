@@ -16,7 +16,8 @@ use Rattle.sd_message.proofs.Ascending.{tells_pairs}
 use Rattle.sd_message.specs.EcmVersions.{positions_for, ecm_head_length, even_table_id, version_for}
 use Rattle.sd_message.specs.EcmSpelled.{listed_places, ecm_section, SpellsPart}
 use Rattle.sd_message.specs.EcmForm.{ArePositioned, IsPositioned, ArePidsAscending, IsEcm, FitsEcmFields}
-use Rattle.sd_message.specs.EcmFields.{ecm_version_of, body_flags, ecm_in, ecm_of, HasEcmCount, IsMatched, IsEcmSection, IsEcmPacket}
+use Rattle.sd_message.specs.EcmFields.{ecm_version_of, body_flags, ecm_in, ecm_of, HasEcmCount, IsMatched, IsEcmSection}
+use Rattle.sd_message.specs.EcmFields.{IsEcmPacket}
 use Rattle.sd_message.specs.EcmFields.{IsGoodEcm, BreaksEcmRule, BreaksEcmFirst}
 use Rattle.sd_message.specs.EcmJudged.{is_count_due, are_positioned, is_ascending_by_pid, is_matched, ecm_judged}
 use Rattle.sd_message.specs.EcmJudged.{is_ecm_section}
@@ -111,7 +112,8 @@ judged_good table_id body part good =
     refl
 
 -- the rule that is broken first is the fault
-judged_bad : (table_id : ℕ) (body : List ℕ) (part : EcmPart) (fault : EcmFault) → BreaksEcmRule table_id body part fault →
+judged_bad : (table_id : ℕ) (body : List ℕ) (part : EcmPart) (fault : EcmFault) →
+    BreaksEcmRule table_id body part fault →
     ecm_judged table_id body part ≡ Err fault
 unfolding ecm_judged
 judged_bad table_id body part Count breaks = rw (is_false _ (tells_counted (length body) part) breaks) refl
@@ -177,7 +179,8 @@ unfolding ecm_read
 other_reads packet other = rw (is_false _ (tells_ecm packet) other) refl
 
 -- one that breaks a rule as the first that it breaks
-pub broken_reads : (packet : List ℕ) (fault : EcmFault) → IsEcmPacket packet → BreaksEcmFirst (section_of packet) fault →
+pub broken_reads : (packet : List ℕ) (fault : EcmFault) → IsEcmPacket packet →
+    BreaksEcmFirst (section_of packet) fault →
     ecm_read packet ≡ Err fault
 unfolding ecm_read
 broken_reads packet fault is breaks =

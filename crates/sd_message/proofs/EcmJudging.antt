@@ -9,7 +9,8 @@ use Rattle.sd_message.proofs.Pieces.{filled_items, filled_rest}
 use Rattle.sd_message.specs.EcmVersions.{IsVersion, IsNamed, IsBeforeMessage, IsSince}
 use Rattle.sd_message.specs.EcmSpelled.{listed_places}
 use Rattle.sd_message.specs.EcmForm.{no_place, ArePositioned, ArePidsAscending, AreShort, IsEcm}
-use Rattle.sd_message.specs.EcmFields.{ecm_position_in, ecm_positions_in, padded_places, from_flags, body_flags, since_in, ecm_run_in, ecm_in}
+use Rattle.sd_message.specs.EcmFields.{ecm_position_in, ecm_positions_in, padded_places, from_flags, body_flags}
+use Rattle.sd_message.specs.EcmFields.{since_in, ecm_run_in, ecm_in}
 use Rattle.sd_message.specs.EcmFields.{with_places}
 use Rattle.sd_message.specs.EcmFields.{HasEcmCount, IsMatched, IsGoodEcm, BreaksEcmRule}
 use Rattle.sd_message.specs.declared.ecm_part.Place.{Place}
@@ -95,7 +96,8 @@ pub record AreRead (v : ℕ) (body : List ℕ) (count : ℕ) (places : List Plac
 -- a PID has no positions
 pub pid_breaks : (table_id v number last : ℕ) (body : List ℕ) (head : EcmPart) (count : ℕ) →
     IsJudged v number last body head count →
-    ¬ ArePositioned (ecm_positions_in count (places_from v body)) → BreaksEcmRule table_id body (ecm_in v number last body) Pid
+    ¬ ArePositioned (ecm_positions_in count (places_from v body)) →
+    BreaksEcmRule table_id body (ecm_in v number last body) Pid
 pid_breaks table_id v number last body head count judged unless = (
   has_count body (ecm_in v number last body) head judged.is judged.has,
   λ all. unless (subst ArePositioned (sym (same_places v number last body head count judged.is judged.counted)) all),
@@ -155,7 +157,8 @@ pub is_good : (table_id v number last : ℕ) (body : List ℕ) (head : EcmPart) 
 is_good table_id v number last body head count places judged are up matched = record {
   has_count = has_count body (ecm_in v number last body) head judged.is judged.has;
   places = subst ArePositioned (same_places v number last body head count judged.is judged.counted) are.all;
-  ascending = subst ArePidsAscending (same_listed v number last body head count places judged.is judged.counted are.read)
+  ascending = subst ArePidsAscending (same_listed v number last body head count places judged.is judged.counted
+      are.read)
       up;
   matched = matched_too table_id v number last body head judged.is matched;
 }
@@ -229,7 +232,8 @@ good_is_ecm table_id v number last body version numbered good = record {
 }
 
 -- one rule alone is broken first
-pub breaks_once : (table_id : ℕ) (body : List ℕ) (part : EcmPart) (f g : EcmFault) → BreaksEcmRule table_id body part f →
+pub breaks_once : (table_id : ℕ) (body : List ℕ) (part : EcmPart) (f g : EcmFault) →
+    BreaksEcmRule table_id body part f →
     BreaksEcmRule table_id body part g →
     f ≡ g
 breaks_once table_id body part Count Count a b = refl

@@ -12,7 +12,8 @@ use Rattle.sd_message.proofs.Framing.{packed_begins, begun_is_there, begun_is_re
 use Rattle.sd_message.specs.EcmVersions.{ecm_head_length, even_table_id, version_for}
 use Rattle.sd_message.specs.EcmSpelled.{ecm_header, ecm_body, ecm_section, SpellsPart}
 use Rattle.sd_message.specs.EcmForm.{IsEcm, FitsEcmFields}
-use Rattle.sd_message.specs.EcmFields.{ecm_version_of, IsEcmTable, body_flags, ecm_in, ecm_of, BreaksEcmRule, BreaksEcmFirst, IsEcmSection}
+use Rattle.sd_message.specs.EcmFields.{ecm_version_of, IsEcmTable, body_flags, ecm_in, ecm_of, BreaksEcmRule}
+use Rattle.sd_message.specs.EcmFields.{BreaksEcmFirst, IsEcmSection}
 use Rattle.sd_message.specs.EcmFields.{IsEcmPacket, IsGoodEcm}
 use Rattle.sd_message.specs.declared.ecm_part.EcmPart.{EcmPart}
 use Rattle.sd_message.specs.declared.ecm_fault.EcmFault.{EcmFault}
@@ -178,7 +179,8 @@ read_spells packet section each good ecm begins spelled =
     let few : body_flags (ecm_version_of section) (body_of section) ≤ 1 =
     subst (λ (v : ℕ). body_flags v (body_of section) ≤ 1) are.0 good.matched.flags_are in
     let same_body : ecm_body part ≡ body_of section =
-    body_spelled (ecm_version_of section) (section_number_of section) (last_number_of section) (body_of section) each long
+    body_spelled (ecm_version_of section) (section_number_of section) (last_number_of section) (body_of section) each
+    long
     few in
     let head : header_of section ≡ ecm_header part = header_is section ecm good.matched.parity in
     let same : section ≡ section_bytes (ecm_header part) (ecm_body part) =
@@ -209,7 +211,8 @@ pub at_section : (P : ℕ → List ℕ → EcmPart → Type 0) (section body : L
 at_section P section body table_id number last are known =
     subst (λ (b : List ℕ). P (table_id_of section) b (ecm_in (ecm_version_of section) (section_number_of section)
     (last_number_of section) b)) are.is_body
-    (subst (λ (l : ℕ). P (table_id_of section) body (ecm_in (ecm_version_of section) (section_number_of section) l body))
+    (subst (λ (l : ℕ). P (table_id_of section) body (ecm_in (ecm_version_of section) (section_number_of section) l
+    body))
     are.is_last
     (subst (λ (n : ℕ). P (table_id_of section) body (ecm_in (ecm_version_of section) n last body)) are.is_number
     (subst (λ (t : ℕ). P t body (ecm_in (version_for t) number last body)) are.is_table known)))
@@ -241,7 +244,8 @@ written_spells part pid counter h k = packed_begins (ecm_section part) pid count
 -- the rule that was broken is the one that the packet's section breaks first
 pub breaks_first : (packet section body : List ℕ) (table_id number last : ℕ) (fault : EcmFault) →
     section ≡ section_of packet →
-    IsParted section body table_id number last → BreaksEcmRule table_id body (ecm_in (version_for table_id) number last body)
+    IsParted section body table_id number last → BreaksEcmRule table_id body
+    (ecm_in (version_for table_id) number last body)
     fault →
     BreaksEcmFirst (section_of packet) fault
 breaks_first packet section body table_id number last fault is_section are breaks =
@@ -270,7 +274,8 @@ never_first packet section body table_id number last fault is_section are good b
 -- so the fault that was found is the first
 pub first_once : (packet section body : List ℕ) (table_id number last : ℕ) (found fault : EcmFault) →
     section ≡ section_of packet →
-    IsParted section body table_id number last → BreaksEcmRule table_id body (ecm_in (version_for table_id) number last body)
+    IsParted section body table_id number last → BreaksEcmRule table_id body
+    (ecm_in (version_for table_id) number last body)
     found →
     BreaksEcmFirst (section_of packet) fault → found ≡ fault
 first_once packet section body table_id number last found fault is_section are breaks first =

@@ -9,10 +9,12 @@ use Rattle.sd_message.proofs.Pieces.{full_or_last, some_or_first, long_piece, ea
 use Rattle.sd_message.proofs.Pieces.{filled_items, filled_rest, filled_length}
 use Rattle.sd_message.specs.EcmVersions.{IsVersion, IsNamed, IsSince, positions_for}
 use Rattle.sd_message.specs.EcmSpelled.{listed_places}
-use Rattle.sd_message.specs.EcmForm.{IsEcmCounted, IsPositioned, ArePositioned, ArePidsAscending, AreShort, IsEcm, FitsEcmFields}
+use Rattle.sd_message.specs.EcmForm.{IsEcmCounted, IsPositioned, ArePositioned, ArePidsAscending, AreShort, IsEcm}
+use Rattle.sd_message.specs.EcmForm.{FitsEcmFields}
 use Rattle.sd_message.specs.EcmForm.{no_place}
 use Rattle.sd_message.specs.EcmFields.{padded_places}
-use Rattle.sd_message.specs.EcmParts.{Message, parts_for, part_count_of, places_at, part_at, parts_of, IsMessage, IsOfMessage}
+use Rattle.sd_message.specs.EcmParts.{Message, parts_for, part_count_of, places_at, part_at, parts_of, IsMessage}
+use Rattle.sd_message.specs.EcmParts.{IsOfMessage}
 use Rattle.sd_message.specs.EcmParts.{SaySame}
 use Rattle.sd_message.specs.declared.ecm_part.Place.{Place}
 use Rattle.sd_message.specs.declared.ecm_part.EcmPart.{EcmPart}
@@ -178,7 +180,8 @@ few_parts version places few = elim (cases_eq version 1) [
 ]
 
 -- and each fits its fields
-fits_at : (message : Message) (x : ℕ) → x < part_count_of message → IsMessage message → FitsEcmFields (part_at message x)
+fits_at : (message : Message) (x : ℕ) → x < part_count_of message → IsMessage message →
+    FitsEcmFields (part_at message x)
 unfolding part_at
 fits_at message x within is =
     let few = few_parts message.version (length message.places) is.count in

@@ -96,7 +96,8 @@ unfolding word_bytes ecm_in
 word_again v number last body long few =
     let tail : List ℕ = from_flags v body in
     let flags : flags_for (body_flags v body == 1) ∷ [] ≡ take 1 tail =
-    ap (λ (n : ℕ). n ∷ []) (flags_spelled (body_flags v body) few) ∙ sym (ap (take 1) (drop_more tail 0 0 (omega arith)))
+    ap (λ (n : ℕ). n ∷ []) (flags_spelled (body_flags v body) few)
+    ∙ sym (ap (take 1) (drop_more tail 0 0 (omega arith)))
     in
     let count : slice_index tail 49 ∷ [] ≡ take 1 (drop 49 tail) = sym (ap (take 1) (drop_more tail 49 0 (omega arith)))
     in

@@ -109,7 +109,8 @@ tail_read (Some run) count entries xs fits is =
     }
 
 -- the body is read as what it spells
-pub body_again : (h : ℕ) (emm : Emm) → h ≤ 20 → FitsEmmFields emm → IsEmm emm → AreSets h emm.sets (listed_entries emm) →
+pub body_again : (h : ℕ) (emm : Emm) → h ≤ 20 → FitsEmmFields emm → IsEmm emm →
+    AreSets h emm.sets (listed_entries emm) →
     emm_in (is_some emm.run) emm.index (emm_body emm) ≡ emm
 unfolding emm_in emm_body emm_head_bytes
 body_again h emm high fits form sets =
@@ -160,7 +161,8 @@ long_body emm check =
       long_end emm.run emm.count,
     )
 
-pub long_whole : (h : ℕ) (emm : Emm) → h ≤ 20 → FitsEmmFields emm → IsEmm emm → AreSets h emm.sets (listed_entries emm) →
+pub long_whole : (h : ℕ) (emm : Emm) → h ≤ 20 → FitsEmmFields emm → IsEmm emm →
+    AreSets h emm.sets (listed_entries emm) →
     length (emm_body emm) ≡ emm_head_length (is_some emm.run) + 40 * emm.count
 unfolding emm_body
 long_whole h emm high fits form sets =

@@ -28,7 +28,8 @@ use Rattle.sd_message.proofs.Ascending.{tells_pairs}
 use Rattle.sd_message.specs.EmmSpelled.{listed_entries, names_in, emm_section, SpellsEmm}
 use Rattle.sd_message.specs.EmmForm.{IsSetBeside, AreSets, IsEmm, FitsEmmFields, sections_for}
 use Rattle.sd_message.specs.EmmFields.{is_named, emm_head_length}
-use Rattle.sd_message.specs.EmmFields.{HasEmmCount, IsEmmSection, IsEmmPacket, IsGoodEmm, BreaksEmmRule, BreaksEmmFirst, emm_in}
+use Rattle.sd_message.specs.EmmFields.{HasEmmCount, IsEmmSection, IsEmmPacket, IsGoodEmm, BreaksEmmRule, BreaksEmmFirst}
+use Rattle.sd_message.specs.EmmFields.{emm_in}
 use Rattle.sd_message.specs.EmmFields.{emm_of}
 use Rattle.sd_message.specs.EmmJudged.{is_halved, is_pair, is_set_beside, are_sets, is_ascending_by_set, is_counted}
 use Rattle.sd_message.specs.EmmJudged.{emm_judged}
@@ -215,7 +216,8 @@ unfolding emm_read
 other_reads h packet other = rw (is_false _ (tells_emm packet) other) refl
 
 -- one that breaks a rule as the first that it breaks
-pub broken_reads : (h : ℕ) (packet : List ℕ) (fault : EmmFault) → IsEmmPacket packet → BreaksEmmFirst h (section_of packet)
+pub broken_reads : (h : ℕ) (packet : List ℕ) (fault : EmmFault) → IsEmmPacket packet →
+    BreaksEmmFirst h (section_of packet)
     fault →
     emm_read h packet ≡ Err fault
 unfolding emm_read
@@ -295,7 +297,8 @@ pub packed_reads : (h : ℕ) (emm : Emm) (pid counter : ℕ) → h ≤ 20 → Fi
     AreSets h emm.sets (listed_entries emm) →
     pid < 8192 → counter < 16 → emm_read h (section_packet (emm_section emm) pid counter) ≡ Ok (Some emm)
 packed_reads h emm pid counter high fits form sets p c =
-    spelled_reads h emm (section_packet (emm_section emm) pid counter) high fits form sets (written_spells emm pid counter p c)
+    spelled_reads h emm (section_packet (emm_section emm) pid counter) high fits form sets
+    (written_spells emm pid counter p c)
 
 -- what is read is in its form
 pub read_form : (h : ℕ) (packet : List ℕ) (emm : Emm) → emm_read h packet ≡ Ok (Some emm) →

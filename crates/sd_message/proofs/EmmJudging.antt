@@ -5,7 +5,8 @@ use Rattle.std.proofs.lemmas.List.{take_at, take_rest, drop_at}
 use Rattle.sd_tree_keys.specs.SetNames.{AreAscending}
 use Rattle.sd_message.specs.EmmSpelled.{listed_entries, names_in}
 use Rattle.sd_message.specs.EmmForm.{no_entry, AreSets, IsEmm}
-use Rattle.sd_message.specs.EmmFields.{emm_entry_in, entries_in, padded_entries, emm_head_length, emm_in, with_entries, HasEmmCount}
+use Rattle.sd_message.specs.EmmFields.{emm_entry_in, entries_in, padded_entries, emm_head_length, emm_in, with_entries}
+use Rattle.sd_message.specs.EmmFields.{HasEmmCount}
 use Rattle.sd_message.specs.EmmFields.{IsGoodEmm}
 use Rattle.sd_message.specs.EmmFields.{BreaksEmmRule}
 use Rattle.sd_message.specs.declared.emm.Entry.{Entry}
@@ -157,7 +158,8 @@ past_entries named index body =
     ap (drop count) (entries_are named index body)
     ∙ (drop_at entries (replicate (3 - length entries) no_entry) count (length_items emm_entry_in
     40 count (drop (emm_head_length named) body))
-    ∙ ap (λ (n : ℕ). replicate (3 - n) no_entry) (length_items emm_entry_in 40 count (drop (emm_head_length named) body)))
+    ∙ ap (λ (n : ℕ). replicate (3 - n) no_entry) (length_items emm_entry_in 40 count
+    (drop (emm_head_length named) body)))
 
 -- what breaks no rule is in its form
 pub good_is_emm : (h : ℕ) (named : Bool) (index : ℕ) (body : List ℕ) →

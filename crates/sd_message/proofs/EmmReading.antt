@@ -11,7 +11,8 @@ use Rattle.sd_message.proofs.Numbers.{IsBytes}
 use Rattle.sd_message.proofs.Framing.{packed_begins, begun_is_there, begun_is_read}
 use Rattle.sd_message.specs.EmmSpelled.{listed_entries, table_id_for, emm_header, emm_body, emm_section, SpellsEmm}
 use Rattle.sd_message.specs.EmmForm.{AreSets, IsEmm, FitsEmmFields}
-use Rattle.sd_message.specs.EmmFields.{is_named, IsEmmTable, emm_head_length, emm_run_in, emm_in, IsEmmSection, IsEmmPacket}
+use Rattle.sd_message.specs.EmmFields.{is_named, IsEmmTable, emm_head_length, emm_run_in, emm_in, IsEmmSection}
+use Rattle.sd_message.specs.EmmFields.{IsEmmPacket}
 use Rattle.sd_message.specs.EmmFields.{IsGoodEmm}
 use Rattle.sd_message.specs.declared.emm.Emm.{Emm}
 use Rattle.sd_message.proofs.EmmAgain.{body_again, long_whole, few_entries, few_head}
@@ -92,7 +93,8 @@ record IsSpelled (emm : Emm) (body : List ℕ) (named : Bool) (index : ℕ) : Ty
   index_is : index ≡ emm.index
   body_is : body ≡ emm_body emm
 
-is_spelled : (h : ℕ) (emm : Emm) (packet section body : List ℕ) (named : Bool) (index : ℕ) → h ≤ 20 → FitsEmmFields emm →
+is_spelled : (h : ℕ) (emm : Emm) (packet section body : List ℕ) (named : Bool) (index : ℕ) → h ≤ 20 →
+    FitsEmmFields emm →
     IsEmm emm → AreSets h emm.sets (listed_entries emm) → SpellsEmm emm packet → section ≡ section_of packet →
     IsParted section body named index → IsSpelled emm body named index
 is_spelled h emm packet section body named index high fits form sets spells is_section are =

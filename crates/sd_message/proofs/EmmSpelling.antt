@@ -20,7 +20,8 @@ use Rattle.sd_message.specs.EmmSpelled.{listed_entries, emm_body, name_bytes, ru
 use Rattle.sd_message.specs.EmmSpelled.{emm_header}
 use Rattle.sd_message.specs.EmmSpelled.{table_id_for}
 use Rattle.sd_message.specs.EmmForm.{AreWrapped}
-use Rattle.sd_message.specs.EmmFields.{set_name_of, emm_entry_in, is_named, IsEmmTable, count_at, emm_head_length, emm_run_in, emm_in}
+use Rattle.sd_message.specs.EmmFields.{set_name_of, emm_entry_in, is_named, IsEmmTable, count_at, emm_head_length}
+use Rattle.sd_message.specs.EmmFields.{emm_run_in, emm_in}
 use Rattle.sd_message.specs.EmmFields.{IsEmmSection}
 use Rattle.sd_message.specs.declared.emm.Entry.{Entry}
 use Rattle.sd_message.specs.declared.emm.Emm.{Emm}

@@ -39,7 +39,8 @@ back_spelled section bytes long =
 -- a section with a plain header and a right CRC is the section of what its header says, and of its body
 pub plain_spelled : (section : List ℕ) → IsBytes section → length section ≡ 3 + section_length_of section →
     9 ≤ section_length_of section →
-    IsPlainHeader section → crc_in section ≡ crc_due section → section ≡ section_bytes (header_of section) (body_of section)
+    IsPlainHeader section → crc_in section ≡ crc_due section → section ≡ section_bytes (header_of section)
+    (body_of section)
 unfolding section_bytes crc_due
 plain_spelled section bytes whole low plain right =
     let prefix : List ℕ = header_bytes (header_of section) (length (body_of section)) ++ body_of section in

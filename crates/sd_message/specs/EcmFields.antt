@@ -8,7 +8,8 @@ use Rattle.sd_section.specs.Header.{last_number_of, body_of}
 use Rattle.sd_message.specs.Framed.{HasSection, section_of}
 use Rattle.sd_message.specs.Items.{items_in}
 use Rattle.sd_message.specs.Pieces.{filled}
-use Rattle.sd_message.specs.EcmVersions.{IsBeforeMessage, positions_for, flags_at, ecm_head_length, even_table_id, version_for}
+use Rattle.sd_message.specs.EcmVersions.{IsBeforeMessage, positions_for, flags_at, ecm_head_length, even_table_id}
+use Rattle.sd_message.specs.EcmVersions.{version_for}
 use Rattle.sd_message.specs.EcmSpelled.{listed_places}
 use Rattle.sd_message.specs.EcmForm.{IsEcmCounted, ArePositioned, ArePidsAscending, no_place}
 use Rattle.sd_message.specs.declared.ecm_part.Place.{Place}

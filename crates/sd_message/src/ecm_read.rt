@@ -7,9 +7,11 @@ ghost use Rattle.sd_message.specs.EcmVersions.{IsVersion, flags_at as flags_plac
 ghost use Rattle.sd_message.specs.EcmVersions.{version_for};
 ghost use Rattle.sd_message.specs.EcmSpelled.{SpellsPart};
 ghost use Rattle.sd_message.specs.EcmForm.{FitsEcmFields, IsPositioned, ArePositioned, IsEcm, no_place};
-ghost use Rattle.sd_message.specs.EcmFields.{IsEcmSection, IsEcmPacket, HasEcmCount, ecm_version_of, ecm_position_in, ecm_positions_in};
+ghost use Rattle.sd_message.specs.EcmFields.{IsEcmSection, IsEcmPacket, HasEcmCount, ecm_version_of, ecm_position_in};
+ghost use Rattle.sd_message.specs.EcmFields.{ecm_positions_in};
 ghost use Rattle.sd_message.specs.EcmFields.{padded_places};
-ghost use Rattle.sd_message.specs.EcmFields.{from_flags, since_in as since_of, ecm_run_in as run_of, ecm_in, with_places};
+ghost use Rattle.sd_message.specs.EcmFields.{from_flags, since_in as since_of, ecm_run_in as run_of, ecm_in};
+ghost use Rattle.sd_message.specs.EcmFields.{with_places};
 ghost use Rattle.sd_message.specs.EcmFields.{IsMatched, IsGoodEcm};
 ghost use Rattle.sd_message.specs.EcmFields.{BreaksEcmRule, BreaksEcmFirst};
 ghost use Rattle.sd_message.specs.EcmJudged.{ecm_read};

@@ -1,7 +1,8 @@
 ghost use Rattle.std.specs.Prelude.{◌≡◌, ◌^◌, ◌<◌, ◌≤◌, ◌+◌, ◌*◌, ◌++◌, length, IfSome};
 ghost use Rattle.sd_packet.specs.Packing.{section_packet};
 ghost use Rattle.sd_message.specs.EcmVersions.{positions_for, flags_at as flags_place, ecm_head_length};
-ghost use Rattle.sd_message.specs.EcmSpelled.{place_bytes, numbers_bytes, since_bytes, word_bytes, ecm_head_bytes, ecm_body};
+ghost use Rattle.sd_message.specs.EcmSpelled.{place_bytes, numbers_bytes, since_bytes, word_bytes, ecm_head_bytes};
+ghost use Rattle.sd_message.specs.EcmSpelled.{ecm_body};
 ghost use Rattle.sd_message.specs.EcmSpelled.{ecm_section, ecm_header};
 ghost use Rattle.sd_message.specs.EcmForm.{FitsEcmHead, FitsEcmFields, IsEcm};
 ghost use Rattle.sd_message.specs.declared.ecm_format.TheConstants.{POSITIONS, PLACE_BYTES, PLACES_AT};

@@ -58,12 +58,14 @@ packet_reads section pid counter h k =
     }
 
 -- a packet that is the section's is read so
-pub packed_reads : (packet section : List ℕ) (pid counter : ℕ) → packet ≡ section_packet section pid counter → pid < 8192 →
+pub packed_reads : (packet section : List ℕ) (pid counter : ℕ) → packet ≡ section_packet section pid counter →
+    pid < 8192 →
     counter < 16 → IsSectionPacket section pid counter packet
 packed_reads packet section pid counter e h k = rw e (packet_reads section pid counter h k)
 
 -- a packet of a section has 188 bytes
-pub packet_length : (section : List ℕ) (pid counter : ℕ) → length section ≤ 183 → length (section_packet section pid counter)
+pub packet_length : (section : List ℕ) (pid counter : ℕ) → length section ≤ 183 →
+    length (section_packet section pid counter)
     ≡ 188
 unfolding section_packet
 packet_length section pid counter h = omega (
@@ -113,5 +115,6 @@ sync_stays (x ∷ packet) rest zero low some = absurd (omega arith)
 sync_stays (x ∷ packet) rest (suc n) low some = refl
 
 -- the PID of a packed section
-pub packed_pid : (section : List ℕ) (pid counter : ℕ) → pid < 8192 → pid_of (section_packet section pid (counter % 16)) ≡ pid
+pub packed_pid : (section : List ℕ) (pid counter : ℕ) → pid < 8192 → pid_of (section_packet section pid (counter % 16))
+    ≡ pid
 packed_pid section pid counter low = (packet_reads section pid (counter % 16) low (omega arith)).pid_is

@@ -12,7 +12,8 @@ use Rattle.sd_packet.specs.Positions.{advanced, IsNextPosition, is_moving, moved
 use Rattle.sd_packet.specs.Positions.{is_positional, is_placed}
 
 -- a position rises by 1 to 16, to a number that equals the counter mod 16
-pub advanced_is_next : (position counter : ℕ) → counter < 16 → IsNextPosition position counter (advanced position counter)
+pub advanced_is_next : (position counter : ℕ) → counter < 16 →
+    IsNextPosition position counter (advanced position counter)
 unfolding advanced
 advanced_is_next position counter h = record { above = omega arith; near = omega arith; counter_is = omega arith }
 

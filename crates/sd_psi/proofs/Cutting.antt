@@ -19,7 +19,8 @@ some_size Descriptor bytes = omega arith
 some_size Stream bytes = omega arith
 
 -- an item that is there says its own length
-pub same_size : (kind : Kind) (bytes : List ℕ) → item_size kind (take (item_size kind bytes) bytes) ≡ item_size kind bytes
+pub same_size : (kind : Kind) (bytes : List ℕ) → item_size kind (take (item_size kind bytes) bytes)
+    ≡ item_size kind bytes
 unfolding item_size
 same_size Program bytes = refl
 same_size Descriptor bytes = ap (λ (n : ℕ). 2 + n) (field_take bytes (2 + field bytes 8 8) 8 8 (omega arith))
@@ -115,7 +116,8 @@ whole_after kind bytes at size within is there =
 
 -- where it is cut off, they don't
 pub off_after : (kind : Kind) (bytes : List ℕ) (at : ℕ) → at < length bytes →
-    length bytes - at < item_size kind (take (length bytes - at) (drop at bytes)) → are_whole kind (drop at bytes) ≡ false
+    length bytes - at < item_size kind (take (length bytes - at) (drop at bytes)) → are_whole kind (drop at bytes)
+    ≡ false
 off_after kind bytes at within off =
     let here = ap (item_size kind) (take_rest bytes at) in
     first_off kind (drop at bytes) (omega (arith, length-drop at bytes)) (omega (arith, length-drop at bytes, here))

@@ -44,7 +44,8 @@ spelled_items kind (x ∷ xs) h =
     let size = size_before kind x (items_joined xs) long in
     first_cut kind (x ++ items_joined xs) (omega (arith, long, some_size kind x, length-append x (items_joined xs)))
     ∙ (ap (λ (n : ℕ). take n (x ++ items_joined xs) ∷ items_of kind (drop n (x ++ items_joined xs))) size
-    ∙ (ap (λ (l : List ℕ). l ∷ items_of kind (drop (length x) (x ++ items_joined xs))) (take_at x (items_joined xs) (length x) refl)
+    ∙ (ap (λ (l : List ℕ). l ∷ items_of kind (drop (length x) (x ++ items_joined xs))) (take_at x (items_joined xs)
+    (length x) refl)
     ∙ (ap (λ (l : List ℕ). x ∷ items_of kind l) (drop_at x (items_joined xs) (length x) refl) ∙
     ap (λ (l : List (List ℕ)). x ∷ l) (spelled_items kind xs tests.1))))
 

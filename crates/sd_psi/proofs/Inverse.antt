@@ -18,9 +18,11 @@ use Rattle.sd_psi.specs.declared.fault.FormFault.{FormFault}
 use Rattle.sd_psi.specs.declared.fault.FormFault.TheVariants as Fault
 use Rattle.sd_psi.specs.declared.form.Table.TheVariants.{Pmt}
 use Rattle.sd_psi.specs.Tables.{info_length_of, has_info, is_pmt}
-use Rattle.sd_psi.specs.Forms.{fault_unless, fault_or_next, after_pointer, section_in, after_section, has_pointer, has_table}
+use Rattle.sd_psi.specs.Forms.{fault_unless, fault_or_next, after_pointer, section_in, after_section, has_pointer}
+use Rattle.sd_psi.specs.Forms.{has_table}
 use Rattle.sd_psi.specs.Forms.{has_body, has_length, table_crc_fault, is_stuffing, bytes_fault, outer_fault}
-use Rattle.sd_psi.specs.Rewriting.{ca_descriptor, section_with_descriptor, section_without_descriptor, before_section, pmt_with_descriptor, pmt_without_descriptor, loops_fault}
+use Rattle.sd_psi.specs.Rewriting.{ca_descriptor, section_with_descriptor, section_without_descriptor, before_section}
+use Rattle.sd_psi.specs.Rewriting.{pmt_with_descriptor, pmt_without_descriptor, loops_fault}
 use Rattle.sd_psi.specs.Rewriting.{has_pmt_room, is_first_descriptor, rewrite_fault, removal_fault}
 use Rattle.sd_psi.specs.Undone.{IsPacket}
 use Rattle.sd_psi.proofs.Listing.{pmt_has, pmt_info}
@@ -109,10 +111,12 @@ outer_good packet h =
     h in
     let tables = none_parts (fault_unless (has_table Pmt (after_pointer packet)) Fault.Table)
     (fault_or_next (fault_unless (has_length Pmt (after_pointer packet)) Fault.Length)
-    (fault_or_next (table_crc_fault (section_in packet)) (fault_unless (is_stuffing (after_section packet)) Fault.Trailing)))
+    (fault_or_next (table_crc_fault (section_in packet)) (fault_unless (is_stuffing (after_section packet))
+    Fault.Trailing)))
     pointers.1 in
     let lengths = none_parts (fault_unless (has_length Pmt (after_pointer packet)) Fault.Length)
-    (fault_or_next (table_crc_fault (section_in packet)) (fault_unless (is_stuffing (after_section packet)) Fault.Trailing))
+    (fault_or_next (table_crc_fault (section_in packet)) (fault_unless (is_stuffing (after_section packet))
+    Fault.Trailing))
     tables.1 in
     let crcs = none_parts (table_crc_fault (section_in packet))
     (fault_unless (is_stuffing (after_section packet)) Fault.Trailing) lengths.1 in
@@ -186,7 +190,8 @@ unfolding rewrite_fault
 may_rewrite packet is h =
     let outers = none_parts (outer_fault Pmt packet)
     (fault_or_next (fault_unless (has_pmt_room packet) Fault.NoRoom) (loops_fault (section_in packet))) h in
-    let rooms = none_parts (fault_unless (has_pmt_room packet) Fault.NoRoom) (loops_fault (section_in packet)) outers.1 in
+    let rooms = none_parts (fault_unless (has_pmt_room packet) Fault.NoRoom) (loops_fault (section_in packet)) outers.1
+    in
     let good = outer_good packet outers.0 in
     let form = none_true (is_pmt (section_in packet)) Fault.Descriptor rooms.1 in
     record {
@@ -224,13 +229,17 @@ bytes_good bytes table lengths right stuffing =
     let crc : table_crc_fault (whole_of bytes) ≡ None =
     ap (λ (t : Bool). fault_unless t (Fault.Crc (crc_in (whole_of bytes)) (crc_due (whole_of bytes))))
     (eq-eqb (crc_in (whole_of bytes)) (crc_due (whole_of bytes)) right) in
-    ap (λ (t : Bool). fault_or_next (fault_unless t Fault.Table) (fault_or_next (fault_unless (has_length Pmt bytes) Fault.Length)
-    (fault_or_next (table_crc_fault (whole_of bytes)) (fault_unless (is_stuffing (drop (3 + section_length_of bytes) bytes))
+    ap (λ (t : Bool). fault_or_next (fault_unless t Fault.Table)
+    (fault_or_next (fault_unless (has_length Pmt bytes) Fault.Length)
+    (fault_or_next (table_crc_fault (whole_of bytes)) (fault_unless
+    (is_stuffing (drop (3 + section_length_of bytes) bytes))
     Fault.Trailing)))) table
     ∙ (ap (λ (t : Bool). fault_or_next (fault_unless t Fault.Length)
-    (fault_or_next (table_crc_fault (whole_of bytes)) (fault_unless (is_stuffing (drop (3 + section_length_of bytes) bytes))
+    (fault_or_next (table_crc_fault (whole_of bytes)) (fault_unless
+    (is_stuffing (drop (3 + section_length_of bytes) bytes))
     Fault.Trailing))) lengths
-    ∙ (ap (λ (f : Option FormFault). fault_or_next f (fault_unless (is_stuffing (drop (3 + section_length_of bytes) bytes))
+    ∙ (ap (λ (f : Option FormFault). fault_or_next f (fault_unless
+    (is_stuffing (drop (3 + section_length_of bytes) bytes))
     Fault.Trailing)) crc
     ∙ ap (λ (t : Bool). fault_unless t Fault.Trailing) stuffing))
 
@@ -360,7 +369,8 @@ restored_again ca pid packet is h =
     ++ (replicate 6 255 ++ after_section (before_section packet ++ (section ++ rest)))))
     (before_of packet is section rest new.shape.long some)
     ∙ (ap (λ (l : List ℕ). before_section packet
-    ++ (section_without_descriptor l ++ (replicate 6 255 ++ after_section (before_section packet ++ (section ++ rest)))))
+    ++ (section_without_descriptor l ++ (replicate 6 255 ++ after_section (before_section packet
+    ++ (section ++ rest)))))
     (section_of packet is section rest new.shape.long some)
     ∙ (ap (λ (l : List ℕ). before_section packet ++ (section_without_descriptor section ++ (replicate 6 255 ++ l)))
     (rest_of packet is section rest new.shape.long some)
@@ -417,7 +427,8 @@ rewritable ca pid packet is h =
     (more_stuffing 6 (after_section packet) may.good.stuffing) in
     let left : after_section (before_section packet ++ (section ++ rest)) ≡ rest = rest_of packet is section rest
     new.shape.long some in
-    let room : has_pmt_room (before_section packet ++ (section ++ rest)) ≡ true = ap (λ (l : List ℕ). nat_le 6 (length l))
+    let room : has_pmt_room (before_section packet ++ (section ++ rest)) ≡ true =
+    ap (λ (l : List ℕ). nat_le 6 (length l))
     left ∙ le-leb 6 (length rest) (omega (arith, length-append (replicate 6 255) (after_section packet))) in
     let form : is_pmt (section_in (before_section packet ++ (section ++ rest))) ≡ true = ap is_pmt
     (section_of packet is section rest new.shape.long some) ∙ new.form in
@@ -435,7 +446,8 @@ rewritten_again ca pid packet is h =
     let rest : List ℕ = replicate 6 255 ++ after_section packet in
     let some : 12 ≤ length section = omega (arith, new.shape.low) in
     let descriptor : List ℕ = ca_descriptor ca pid in
-    ap (λ (l : List ℕ). l ++ (section_with_descriptor descriptor (section_in (before_section packet ++ (section ++ rest)))
+    ap (λ (l : List ℕ). l ++ (section_with_descriptor descriptor
+    (section_in (before_section packet ++ (section ++ rest)))
     ++ drop 6 (after_section (before_section packet ++ (section ++ rest)))))
     (before_of packet is section rest new.shape.long some)
     ∙ (ap (λ (l : List ℕ). before_section packet

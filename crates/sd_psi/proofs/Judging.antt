@@ -16,7 +16,8 @@ use Rattle.sd_psi.specs.declared.fault.FormFault.{FormFault}
 use Rattle.sd_psi.specs.declared.fault.FormFault.TheVariants as Fault
 use Rattle.sd_psi.specs.declared.form.Table.{Table}
 use Rattle.sd_psi.specs.declared.form.Table.TheVariants.{Pat, Cat, Pmt}
-use Rattle.sd_psi.specs.Forms.{fault_unless, fault_or_next, id_of, least_section_length, section_in, has_table, has_body, has_length}
+use Rattle.sd_psi.specs.Forms.{fault_unless, fault_or_next, id_of, least_section_length, section_in, has_table}
+use Rattle.sd_psi.specs.Forms.{has_body, has_length}
 use Rattle.sd_psi.specs.Forms.{table_crc_fault, outer_fault, has_form, form_fault, bytes_fault, after_pointer}
 
 -- a payload has at most 184 bytes
@@ -72,10 +73,12 @@ fitting table bytes t l =
     (nat_le (least_section_length table) (section_length_of bytes) && has_body table (whole_of bytes))) l in
     let wholes = and_parts (nat_le (3 + section_length_of bytes) (length bytes))
     (nat_le (least_section_length table) (section_length_of bytes) && has_body table (whole_of bytes)) threes.1 in
-    let lows = and_parts (nat_le (least_section_length table) (section_length_of bytes)) (has_body table (whole_of bytes))
+    let lows = and_parts (nat_le (least_section_length table) (section_length_of bytes))
+    (has_body table (whole_of bytes))
     wholes.1 in
     let least = least_low table in
-    let low : least_section_length table ≤ section_length_of bytes = leb-true (least_section_length table) (section_length_of bytes) lows.0 in
+    let low : least_section_length table ≤ section_length_of bytes = leb-true (least_section_length table)
+    (section_length_of bytes) lows.0 in
     record {
       syntax = eqb-true (syntax_of bytes) 1 syntax.0;
       three = leb-true 3 (length bytes) threes.0;
@@ -152,7 +155,8 @@ form_is : (table : Table) (packet : List ℕ) (test : Bool) → outer_fault tabl
     form_fault table packet ≡ fault_unless test Fault.Descriptor
 unfolding form_fault
 form_is table packet test h e =
-    ap (λ (f : Option FormFault). fault_or_next f (fault_unless (has_form table (section_in packet)) Fault.Descriptor)) h
+    ap (λ (f : Option FormFault). fault_or_next f (fault_unless (has_form table (section_in packet)) Fault.Descriptor))
+    h
     ∙ ap (λ (b : Bool). fault_unless b Fault.Descriptor) e
 
 pub then_good : (table : Table) (packet : List ℕ) → outer_fault table packet ≡ None → has_form table (section_in packet)

@@ -12,7 +12,8 @@ use Rattle.sd_psi.specs.declared.fault.FormFault.{FormFault}
 use Rattle.sd_psi.specs.declared.fault.FormFault.TheVariants as Fault
 use Rattle.sd_psi.specs.declared.form.Table.TheVariants.{Pmt}
 use Rattle.sd_psi.specs.Forms.{fault_unless, fault_or_next, section_in, after_section, outer_fault}
-use Rattle.sd_psi.specs.Rewriting.{ca_descriptor, section_with_descriptor, section_without_descriptor, before_section, pmt_with_descriptor, pmt_without_descriptor, loops_fault}
+use Rattle.sd_psi.specs.Rewriting.{ca_descriptor, section_with_descriptor, section_without_descriptor, before_section}
+use Rattle.sd_psi.specs.Rewriting.{pmt_with_descriptor, pmt_without_descriptor, loops_fault}
 use Rattle.sd_psi.specs.Rewriting.{has_pmt_room, is_first_descriptor, rewrite_fault, removal_fault, restore_fault}
 use Rattle.sd_psi.specs.Undone.{IsPacket, KeepsHeader}
 use Rattle.sd_psi.proofs.Inverse.{same_start, none_parts}
@@ -51,13 +52,15 @@ pub rewritten_keeps : (packet : List ℕ) (ca pid : ℕ) → length packet ≡ 1
     KeepsHeader packet (pmt_with_descriptor ca pid packet)
 unfolding pmt_with_descriptor
 rewritten_keeps packet ca pid long some =
-    head_keeps packet (section_with_descriptor (ca_descriptor ca pid) (section_in packet) ++ drop 6 (after_section packet)) long some
+    head_keeps packet (section_with_descriptor (ca_descriptor ca pid) (section_in packet)
+    ++ drop 6 (after_section packet)) long some
 
 pub restored_keeps : (packet : List ℕ) → length packet ≡ 188 → payload_start_of packet < 188 →
     KeepsHeader packet (pmt_without_descriptor packet)
 unfolding pmt_without_descriptor
 restored_keeps packet long some =
-    head_keeps packet (section_without_descriptor (section_in packet) ++ (replicate 6 255 ++ after_section packet)) long some
+    head_keeps packet (section_without_descriptor (section_in packet) ++ (replicate 6 255 ++ after_section packet))
+    long some
 
 pub rewritten_packet_keeps : (ca pid : ℕ) (packet : List ℕ) → IsPacket packet →
     KeepsHeader packet (pmt_with_descriptor ca pid packet)
@@ -79,7 +82,8 @@ pub full_is_told_apart : (ca pid : ℕ) (packet : List ℕ) → restore_fault ca
 unfolding rewrite_fault removal_fault
 full_is_told_apart ca pid packet good isnt =
     let outer = none_parts (outer_fault Pmt packet)
-    (fault_or_next (loops_fault (section_in packet)) (fault_unless (is_first_descriptor (ca_descriptor ca pid) (section_in packet))
+    (fault_or_next (loops_fault (section_in packet)) (fault_unless (is_first_descriptor (ca_descriptor ca pid)
+    (section_in packet))
     Fault.Descriptor))
     good in
     let loops = none_parts (loops_fault (section_in packet))

@@ -131,7 +131,8 @@ module _ (ca emm ecm n : ℕ) (few : n < 16) where
       (cat_good (cat_descriptor ca emm ecm) (omega arith) (183 - length (cat_section ca emm ecm))) in
       rw (outer, found, is_one) refl
 
-  pub our_cat_has_one : descriptors_of (body_of (section_in (section_packet (cat_section ca emm ecm) 1 n))) ≡ cat_descriptor ca
+  pub our_cat_has_one : descriptors_of (body_of (section_in (section_packet (cat_section ca emm ecm) 1 n)))
+      ≡ cat_descriptor ca
       emm ecm ∷ []
   our_cat_has_one = ap (λ (l : List ℕ). descriptors_of (body_of l)) found ∙
       (ap descriptors_of body_found ∙ cat_descriptors ca emm ecm)

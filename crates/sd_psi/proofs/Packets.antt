@@ -19,7 +19,8 @@ use Rattle.sd_psi.specs.declared.items.Kind.TheVariants.{Descriptor}
 use Rattle.sd_psi.specs.Items.{item_size, items_of}
 use Rattle.sd_psi.specs.Tables.{descriptors_of, info_length_of, info_of, has_info, is_pmt}
 use Rattle.sd_psi.specs.Forms.{fault_unless, after_pointer, section_in, after_section, outer_fault}
-use Rattle.sd_psi.specs.Rewriting.{ca_descriptor, section_with_descriptor, section_without_descriptor, pmt_with_descriptor, pmt_without_descriptor, has_pmt_room, is_first_descriptor}
+use Rattle.sd_psi.specs.Rewriting.{ca_descriptor, section_with_descriptor, section_without_descriptor}
+use Rattle.sd_psi.specs.Rewriting.{pmt_with_descriptor, pmt_without_descriptor, has_pmt_room, is_first_descriptor}
 use Rattle.sd_psi.specs.Rewriting.{rewrite_fault, removal_fault}
 use Rattle.sd_psi.proofs.Listing.{pmt_has}
 use Rattle.sd_psi.proofs.Cutting.{none_cut, first_cut}
@@ -129,7 +130,8 @@ restore_is : (descriptor packet section : List ℕ) (test : Bool) → outer_faul
 unfolding removal_fault
 restore_is descriptor packet section test h is pmt first =
     let form : is_pmt (section_in packet) ≡ true = ap is_pmt (sym is) ∙ pmt in
-    let ours : is_first_descriptor descriptor (section_in packet) ≡ test = ap (is_first_descriptor descriptor) (sym is) ∙ first in
+    let ours : is_first_descriptor descriptor (section_in packet) ≡ test = ap (is_first_descriptor descriptor) (sym is)
+    ∙ first in
     rw (h, form, ours) refl
 
 pub restore_first : (descriptor packet section : List ℕ) → outer_fault Pmt packet ≡ None → section ≡ section_in packet →
@@ -179,14 +181,16 @@ begins_by descriptor info h six = elim (cases_lt 0 (length info)) [
       absurd (omega (arith, six, ap (λ (l : List ℕ). length l) (sym nothing ∙ h)))
 ]
 
-pub info_begins : (descriptor section : List ℕ) → is_first_descriptor descriptor section ≡ true → length descriptor ≡ 6 →
+pub info_begins : (descriptor section : List ℕ) → is_first_descriptor descriptor section ≡ true →
+    length descriptor ≡ 6 →
     BeginsInfo descriptor (info_of section)
 info_begins descriptor section h six =
     begins_by descriptor (info_of section)
     ((bytes_eq-Decides (get_or (descriptors_of (info_of section)) 0 []) descriptor).0 h) six
 
 -- so program_info_length counts at least six
-pub first_within : (descriptor bytes section : List ℕ) → is_first_descriptor descriptor section ≡ true → length descriptor ≡ 6 →
+pub first_within : (descriptor bytes section : List ℕ) → is_first_descriptor descriptor section ≡ true →
+    length descriptor ≡ 6 →
     section ≡ whole_of bytes →
     12 ≤ length section → 6 ≤ info_length_of bytes
 unfolding info_of
@@ -219,7 +223,8 @@ sync_stays (x ∷ xs) piece (suc start) k h l = refl
 -- the packet with the section that was written
 pub rewritten_laid : (packet piece : List ℕ) (ca pid start count : ℕ) → start ≡ payload_start_of packet + 1 →
     count ≡ 3 + section_length_of (after_pointer packet) → start + count + 6 ≤ length packet →
-    piece ≡ section_with_descriptor (ca_descriptor ca pid) (take (length (take (start + count + 6 - start) (drop start packet)) - 6)
+    piece ≡ section_with_descriptor (ca_descriptor ca pid) (take
+    (length (take (start + count + 6 - start) (drop start packet)) - 6)
     (take (start + count + 6 - start) (drop start packet))) →
     put_mid start (start + count + 6 - start) packet piece ≡ pmt_with_descriptor ca pid packet
 unfolding pmt_with_descriptor
@@ -245,7 +250,8 @@ rewritten_laid packet piece ca pid start count is_start is_count within is_piece
     ap (λ (l : List ℕ). drop 6 (drop (3 + section_length_of (after_pointer packet)) l)) (sym after))) in
     ap (λ (l : List ℕ). take start packet ++ (l ++ drop (start + count + 6 - start) (drop start packet)))
     (is_piece ∙ ap (section_with_descriptor (ca_descriptor ca pid)) section)
-    ∙ (ap (λ (l : List ℕ). take start packet ++ (section_with_descriptor (ca_descriptor ca pid) (section_in packet) ++ l)) rest
+    ∙ (ap (λ (l : List ℕ). take start packet ++ (section_with_descriptor (ca_descriptor ca pid) (section_in packet)
+    ++ l)) rest
     ∙ ap (λ (n : ℕ). take n packet
     ++ (section_with_descriptor (ca_descriptor ca pid) (section_in packet) ++ drop 6 (after_section packet))) is_start)
 
@@ -265,10 +271,13 @@ restored_laid packet piece start count is_start is_count within is_piece =
     ap (drop (3 + section_length_of (after_pointer packet))) (sym after) in
     ap (λ (l : List ℕ). take start packet ++ (l ++ drop (start + count - start) (drop start packet)))
     (is_piece ∙ ap (λ (l : List ℕ). section_without_descriptor l ++ replicate 6 255) section)
-    ∙ (ap (λ (l : List ℕ). take start packet ++ ((section_without_descriptor (section_in packet) ++ replicate 6 255) ++ l)) rest
-    ∙ (ap (λ (l : List ℕ). take start packet ++ l) (append_assoc (section_without_descriptor (section_in packet)) (replicate 6 255)
+    ∙ (ap (λ (l : List ℕ). take start packet ++ ((section_without_descriptor (section_in packet) ++ replicate 6 255)
+    ++ l)) rest
+    ∙ (ap (λ (l : List ℕ). take start packet ++ l) (append_assoc (section_without_descriptor (section_in packet))
+    (replicate 6 255)
     (after_section packet))
-    ∙ ap (λ (n : ℕ). take n packet ++ (section_without_descriptor (section_in packet) ++ (replicate 6 255 ++ after_section packet)))
+    ∙ ap (λ (n : ℕ). take n packet ++ (section_without_descriptor (section_in packet)
+    ++ (replicate 6 255 ++ after_section packet)))
     is_start))
 
 -- the lengths are read after the pointer

@@ -18,7 +18,8 @@ use Rattle.sd_section.proofs.Cutting.{body_long}
 use Rattle.sd_psi.specs.declared.items.Kind.TheVariants.{Descriptor}
 use Rattle.sd_psi.specs.Items.{item_size, items_of}
 use Rattle.sd_psi.specs.Tables.{are_descriptors, info_length_of, info_of, loop_of, has_info, are_streams, is_pmt}
-use Rattle.sd_psi.specs.Rewriting.{ca_descriptor, with_lengths, section_with_descriptor, section_without_descriptor, is_first_descriptor}
+use Rattle.sd_psi.specs.Rewriting.{ca_descriptor, with_lengths, section_with_descriptor, section_without_descriptor}
+use Rattle.sd_psi.specs.Rewriting.{is_first_descriptor}
 use Rattle.sd_psi.proofs.Cutting.{first_cut, first_whole, first_off}
 use Rattle.sd_psi.proofs.Listing.{pmt_by_parts, pmt_parts, IsPmt}
 use Rattle.sd_psi.proofs.Packets.{info_begins}

@@ -97,7 +97,8 @@ module _ (section : List ℕ) (is_right : IsRightPmt section) where
       ∙ sealed_again section (omega (arith, sixteen)) is_right.bytes is_right.right
 
   -- the section without the six bytes that were put into it
-  pub removed_inserted : (descriptor : List ℕ) → length descriptor ≡ 6 → section_without_descriptor (section_with_descriptor descriptor section) ≡ section
+  pub removed_inserted : (descriptor : List ℕ) → length descriptor ≡ 6 →
+      section_without_descriptor (section_with_descriptor descriptor section) ≡ section
   unfolding section_without_descriptor section_with_descriptor
   removed_inserted descriptor six =
       let a : ℕ = section_length_of section + 6 in
@@ -113,7 +114,8 @@ module _ (section : List ℕ) (is_right : IsRightPmt section) where
       let infos : info_length_of all - 6 ≡ info_length_of section = omega
       (arith, sealed_field new (descriptor ++ inner) 84 12 head.long (omega arith), head.info) in
       let part : slice_range all 18 (length all - 4) ≡ inner =
-      ap (λ (l : List ℕ). slice_range (with_crc l) 18 (length (with_crc l) - 4)) (sym (append_assoc new descriptor inner))
+      ap (λ (l : List ℕ). slice_range (with_crc l) 18 (length (with_crc l) - 4))
+      (sym (append_assoc new descriptor inner))
       ∙ sealed_between (new ++ descriptor) inner 18 (omega (arith, length-append new descriptor, head.long)) in
       let same : length section - 4 - 12 ≡ length section - 16 = omega arith in
       ap (λ (n : ℕ). with_crc (with_lengths n (info_length_of all - 6) (take 12 all) ++ slice_range all 18

@@ -49,7 +49,8 @@ pmt_with_descriptor ca pid packet = before_section packet
 
 -- the packet without it, and six bytes more of stuffing [this project, docs/FORMATS.md, Tables]
 unfoldable pub pmt_without_descriptor : List ℕ → List ℕ
-pmt_without_descriptor packet = before_section packet ++ (section_without_descriptor (section_in packet) ++ (replicate 6 255 ++ after_section packet))
+pmt_without_descriptor packet = before_section packet ++ (section_without_descriptor (section_in packet)
+    ++ (replicate 6 255 ++ after_section packet))
 
 -- what is wrong with the loops of a section that is to be a PMT
 abbrev pub loops_fault : List ℕ → Option FormFault

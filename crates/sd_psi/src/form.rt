@@ -1,7 +1,8 @@
 ghost use Rattle.std.specs.Prelude.{◌≡◌, ◌+◌, ◌<◌, ◌≤◌, ◌==◌, ◌&&◌, true, Some, None, IfOk, MatchResult, length};
 ghost use Rattle.sd_packet.specs.Header.{payload_start_of};
 ghost use Rattle.sd_section.specs.Header.{section_number_of, last_number_of, whole_of};
-ghost use Rattle.sd_psi.specs.Forms.{id_of, least_section_length, section_in, has_table as has_table_of, has_body as has_body_of};
+ghost use Rattle.sd_psi.specs.Forms.{id_of, least_section_length, section_in, has_table as has_table_of};
+ghost use Rattle.sd_psi.specs.Forms.{has_body as has_body_of};
 ghost use Rattle.sd_psi.specs.Forms.{has_length as has_length_of, table_crc_fault, is_stuffing as is_stuffing_of};
 ghost use Rattle.sd_psi.specs.Forms.{bytes_fault, outer_fault};
 

@@ -6,7 +6,8 @@ ghost use Rattle.sd_section.specs.Header.{section_length_of};
 ghost use Rattle.sd_section.specs.Written.{with_crc};
 ghost use Rattle.sd_psi.specs.Tables.{info_length_of};
 ghost use Rattle.sd_psi.specs.Forms.{after_pointer};
-ghost use Rattle.sd_psi.specs.Rewriting.{ca_descriptor as ca_descriptor_of, with_lengths, section_with_descriptor, section_without_descriptor, pmt_with_descriptor};
+ghost use Rattle.sd_psi.specs.Rewriting.{ca_descriptor as ca_descriptor_of, with_lengths, section_with_descriptor};
+ghost use Rattle.sd_psi.specs.Rewriting.{section_without_descriptor, pmt_with_descriptor};
 ghost use Rattle.sd_psi.specs.Rewriting.{pmt_without_descriptor, rewrite_fault, restore_fault, removal_fault};
 ghost use Rattle.sd_psi.specs.Undone.{KeepsHeader};
 

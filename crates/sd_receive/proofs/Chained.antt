@@ -13,7 +13,8 @@ use Rattle.sd_engine.specs.Stage.{Chain}
 use Rattle.sd_message.specs.declared.stream_fault.StreamFault.{StreamFault}
 use Rattle.sd_spec.specs.Offered.{offered, out_from, break_from}
 use Rattle.sd_spec.proofs.Turns.{one_more}
-use Rattle.sd_receive.specs.Receiving.{receiver_card, HasReceived, takes_key_at, steps_at, taken_keys, RefusesReceivedPacket}
+use Rattle.sd_receive.specs.Receiving.{receiver_card, HasReceived, takes_key_at, steps_at, taken_keys}
+use Rattle.sd_receive.specs.Receiving.{RefusesReceivedPacket}
 use Rattle.sd_receive.specs.Receiving.{receiver_does, Refusing, OutcomeAfter, OutcomeOf, BreakAt}
 use Rattle.sd_receive.specs.declared.receiver.Receiver.{Receiver}
 
@@ -104,7 +105,8 @@ out_joined card past (packet ∷ packets) more none =
     )
 
 pub came_to_all : (packets : List (List ℕ)) (s t : Receiver) (bytes : List ℕ) (n : ℕ) → HasReceived [] s →
-    length packets ≤ 2 ^ 64 - 1 → Chain receiver_does s packets t bytes n → OutcomeOf (receiver_card s) packets t bytes n
+    length packets ≤ 2 ^ 64 - 1 → Chain receiver_does s packets t bytes n →
+    OutcomeOf (receiver_card s) packets t bytes n
 came_to_all packets s t bytes n after few chain =
     let came = came_to [] packets s t bytes n after (omega (arith, few)) chain in
     record {

@@ -10,13 +10,15 @@ use Rattle.sd_message.specs.declared.ecm_fault.EcmFault.{EcmFault}
 use Rattle.sd_message.specs.declared.ecm_fault.EcmFault.TheVariants.{Back}
 use Rattle.sd_message.specs.declared.emm.Emm.{Emm}
 use Rattle.sd_spec.specs.Heard.{Heard, Controls, Dropped, Entitles, Other}
-use Rattle.sd_spec.specs.Stretches.{Stretch, exceeds, counted_parts, message_parts_with, run_of_parts, message_parts_to, message_told, newest_message}
+use Rattle.sd_spec.specs.Stretches.{Stretch, exceeds, counted_parts, message_parts_with, run_of_parts, message_parts_to}
+use Rattle.sd_spec.specs.Stretches.{message_told, newest_message}
 use Rattle.sd_spec.specs.Stretches.{completes}
 use Rattle.sd_spec.specs.Offered.{part_fault, is_back}
 use Rattle.sd_message.specs.EcmForm.{ArePlaces}
 use Rattle.sd_spec.proofs.Hearing.{no_fault_in_none, newest_waits, newest_completes}
 use Rattle.sd_receive.specs.PartialEcm.{part_positions, newest_ecm_part, next_run, IsGathered}
-use Rattle.sd_receive.specs.EcmAssembler.{parts_collected, IsMessageKept, IsCollected, part_fault_of, IsWaiting, IsComplete}
+use Rattle.sd_receive.specs.EcmAssembler.{parts_collected, IsMessageKept, IsCollected, part_fault_of, IsWaiting}
+use Rattle.sd_receive.specs.EcmAssembler.{IsComplete}
 use Rattle.sd_receive.specs.declared.ecm.EcmAssembler.{EcmAssembler}
 use Rattle.sd_receive.specs.declared.ecm.partial.PartialEcm.{PartialEcm}
 use Rattle.sd_receive.proofs.Gathering.{no_places, none_newest}
@@ -43,7 +45,8 @@ run_is_next past part counts = rw counts refl
 
 -- they are what is collected then
 pub run_waits : (past : List Heard) (part : EcmPart) → exceeds (newest_message past).message part ≡ true →
-    completes past (Controls part) ≡ None → parts_collected (Controls part ∷ past) ≡ message_parts_to (newest_message past) part
+    completes past (Controls part) ≡ None → parts_collected (Controls part ∷ past) ≡ message_parts_to
+    (newest_message past) part
 unfolding parts_collected message_parts_to counted_parts
 run_waits past part counts none =
     ap (λ (st : Stretch). run_of_parts (counted_parts st.message st.after)) (newest_waits past (Controls part) none) ∙
@@ -59,7 +62,8 @@ none_told : (test : Bool) (run : List EcmPart) → run ≡ [] → (if test then 
 none_told true run none = ap message_told none
 none_told false run none = refl
 
-untold : (past : List Heard) (part : EcmPart) → message_parts_to (newest_message past) part ≡ [] → completes past (Controls part) ≡ None
+untold : (past : List Heard) (part : EcmPart) → message_parts_to (newest_message past) part ≡ [] →
+    completes past (Controls part) ≡ None
 untold past part none = none_told (part.part == part.last_part) (message_parts_to (newest_message past) part) none
 
 uncounted_waits : (past : List Heard) (part : EcmPart) → exceeds (newest_message past).message part ≡ false →
@@ -96,7 +100,8 @@ uncounted_part past part state collects past_it =
     }
 
 -- a part that counts and completes nothing
-pub waiting_part : (past : List Heard) (part : EcmPart) (state : EcmAssembler) → exceeds (newest_message past).message part ≡
+pub waiting_part : (past : List Heard) (part : EcmPart) (state : EcmAssembler) →
+    exceeds (newest_message past).message part ≡
     true →
     part_fault (next_run (parts_collected past) part) ≡ None →
     IsGathered (next_run (parts_collected past) part) state.partial.part state.partial.places.items →
@@ -136,7 +141,8 @@ dropping_part past part state kept all counts good none empty last =
     (untold past part (run_is_next past part counts ∙ next))
 
 -- a part that is refused by itself
-pub bad_part : (past : List Heard) (part : EcmPart) (fault : EcmFault) → exceeds (newest_message past).message part ≡ true →
+pub bad_part : (past : List Heard) (part : EcmPart) (fault : EcmFault) → exceeds (newest_message past).message part
+    ≡ true →
     part_fault (next_run (parts_collected past) part) ≡ Some fault → part_fault_of past part ≡ Some fault
 unfolding part_fault_of
 bad_part past part fault counts bad = rw (ap part_fault (run_is_next past part counts) ∙ bad) refl
@@ -196,7 +202,8 @@ ends_message past part kept all counts last gathered =
     gathered in
     (is.0, rw last (ap message_told (run_is_next past part counts) ∙ is.1))
 
-pub back_part : (past : List Heard) (part : EcmPart) (message : Message) → exceeds (newest_message past).message part ≡ true →
+pub back_part : (past : List Heard) (part : EcmPart) (message : Message) → exceeds (newest_message past).message part
+    ≡ true →
     part_fault (next_run (parts_collected past) part) ≡ None → completes past (Controls part) ≡ Some message →
     is_back past message ≡ true → part_fault_of past part ≡ Some Back
 unfolding part_fault_of
@@ -234,14 +241,16 @@ settled past part head old new complete empty last places =
 
 -- what is heard that is no part leaves all as it is
 pub passed : (past : List Heard) (heard : Heard) (state : EcmAssembler) → completes past heard ≡ None →
-    counted_parts (newest_message past).message (heard ∷ (newest_message past).after) ≡ counted_parts (newest_message past).message (newest_message past).after →
+    counted_parts (newest_message past).message (heard ∷ (newest_message past).after) ≡ counted_parts
+    (newest_message past).message (newest_message past).after →
     IsCollected past state → IsCollected (heard ∷ past) state
 unfolding parts_collected
 passed past heard state incomplete same collects =
     let after = newest_waits past heard incomplete in
     record {
       run = subst (λ (run : List EcmPart). IsGathered run state.partial.part state.partial.places.items)
-          (sym (ap (λ (st : Stretch). run_of_parts (counted_parts st.message st.after)) after ∙ ap run_of_parts same)) collects.run;
+          (sym (ap (λ (st : Stretch). run_of_parts (counted_parts st.message st.after)) after ∙ ap run_of_parts same))
+          collects.run;
       last = subst (λ (message : Option Message). IsMessageKept message state.last state.places.items)
           (sym (same_message past heard incomplete)) collects.last;
     }

@@ -18,7 +18,8 @@ use Rattle.sd_message.specs.declared.ecm_fault.EcmFault.TheVariants.{Count, Orde
 use Rattle.sd_message.proofs.Versions.{few_positions, some_positions}
 use Rattle.sd_spec.specs.Stretches.{message_parts_with}
 use Rattle.sd_spec.specs.Offered.{same_header, is_after, part_fault}
-use Rattle.sd_receive.specs.PartialEcm.{part_positions, newest_ecm_part, next_run, IsPart, IsNextPart, AreOfOneMessage, IsPartialEcm}
+use Rattle.sd_receive.specs.PartialEcm.{part_positions, newest_ecm_part, next_run, IsPart, IsNextPart, AreOfOneMessage}
+use Rattle.sd_receive.specs.PartialEcm.{IsPartialEcm}
 use Rattle.sd_receive.specs.PartialEcm.{IsGathered}
 use Rattle.sd_receive.proofs.Pairs.{pairs_append, after_all}
 use Rattle.sd_receive.proofs.Alike.{headers_told, all_same}
@@ -42,7 +43,8 @@ none_gathered = record {
 }
 
 -- the positions of one part more stand after those of the others
-pub one_more : (part : EcmPart) (run : List EcmPart) → part_positions (part ∷ run) ≡ part_positions run ++ listed_places part
+pub one_more : (part : EcmPart) (run : List EcmPart) → part_positions (part ∷ run) ≡ part_positions run
+    ++ listed_places part
 unfolding part_positions
 one_more part run =
     ap (flat_map listed_places) (reverse-append (part ∷ []) run)
@@ -109,11 +111,13 @@ in_order before part after i j d within below =
 pub placed_more : (part : EcmPart) (run : List EcmPart) → IsPartialEcm run → IsPart part →
     length (part_positions run) + length (listed_places part) ≤ 256 →
     ((i j : ℕ) (d : Place) → i < length (part_positions run) → j < length (listed_places part) →
-    (get_or (part_positions run) i d).pid < (get_or (listed_places part) j d).pid) → ArePlaces (part_positions (part ∷ run))
+    (get_or (part_positions run) i d).pid < (get_or (listed_places part) j d).pid) →
+    ArePlaces (part_positions (part ∷ run))
 placed_more part run good is few cross =
     subst ArePlaces (sym (one_more part run)) (record {
       few = omega (arith, few, length-append (part_positions run) (listed_places part));
-      positioned = All-append IsPositioned (part_positions run) (listed_places part) good.places.positioned is.form.places;
+      positioned = All-append IsPositioned (part_positions run) (listed_places part) good.places.positioned
+          is.form.places;
       ascending = pairs_append (λ (a b : Place).
           a.pid < b.pid) (part_positions run) (listed_places part) good.places.ascending is.form.ascending cross;
       short = All-append (λ (place : Place).
@@ -291,7 +295,8 @@ none_in before part run none =
 
 -- one good part more goes on with a good run
 pub grows : (part : EcmPart) (run : List EcmPart) → IsPartialEcm run → IsPart part → IsNextPart run part →
-    length (part_positions run) + length (listed_places part) ≤ 256 → part_fault (part ∷ run) ≡ None → IsPartialEcm (part ∷ run)
+    length (part_positions run) + length (listed_places part) ≤ 256 → part_fault (part ∷ run) ≡ None →
+    IsPartialEcm (part ∷ run)
 grows part [] good is next few none = record {
   form = All-cons IsPart part [] is (All-nil IsPart);
   alike = All-nil (λ (other : EcmPart). SaySame other part);
@@ -364,7 +369,8 @@ is_unordered_part part before run all gathered same out =
 -- what is kept of a run with one good part more
 pub gathers_more : (part : EcmPart) (run : List EcmPart) (kept : Option EcmPart) (all more : List Place) →
     IsGathered run kept all →
-    IsPart part → IsNextPart run part → more ≡ all ++ listed_places part → length all + length (listed_places part) ≤ 256 →
+    IsPart part → IsNextPart run part → more ≡ all ++ listed_places part → length all + length (listed_places part)
+    ≤ 256 →
     part_fault (part ∷ run) ≡ None → IsGathered (part ∷ run) (Some part) more
 gathers_more part run kept all more gathered is next joined few none =
     let same = ap (λ (l : List Place). length l) gathered.places in

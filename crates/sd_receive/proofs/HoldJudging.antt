@@ -18,7 +18,8 @@ use Rattle.sd_receive.specs.declared.buffer.release.Release.{Release}
 use Rattle.sd_receive.specs.declared.buffer.pid_set.PidSet.{PidSet}
 use Rattle.sd_receive.specs.Tracking.{led_to, packets_in}
 use Rattle.sd_receive.specs.PacketBuffer.{held_pair}
-use Rattle.sd_receive.specs.Writing.{segment_in, segment_of, IsReleaseReady, HasPositionLedTo, AreNearPids, AreConfirmed}
+use Rattle.sd_receive.specs.Writing.{segment_in, segment_of, IsReleaseReady, HasPositionLedTo, AreNearPids}
+use Rattle.sd_receive.specs.Writing.{AreConfirmed}
 use Rattle.sd_receive.proofs.Places.{found_short}
 
 -- the packets of held ones, without their numbers
@@ -93,7 +94,8 @@ own_is c before h own = sym own.position
 pub judged_near : (c : Release) (before : List (List ℕ)) (h : HeldPacket) → HasPositionLedTo c before h →
     (scrambling_of h.packet == 0) ≡ false →
     is_foreign (segment_in c) h.packet ≡ false → is_confirmed (segment_in c) (pid_of h.packet) ≡ true →
-    judged_packet (segment_in c) before (h.number, h.packet) ≡ Ok (descrambled h.packet (segment_in c).word h.position ∷ [])
+    judged_packet (segment_in c) before (h.number, h.packet) ≡ Ok (descrambled h.packet (segment_in c).word h.position
+    ∷ [])
 judged_near c before h own dark even close =
     judged_by (segment_in c) before h.number h.packet dark even close
     ∙ ap (λ (x : ℕ). Ok (descrambled h.packet (segment_in c).word x ∷ [])) (own_is c before h own)

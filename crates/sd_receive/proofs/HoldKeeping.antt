@@ -52,7 +52,8 @@ pub pid_within : (packet : List ℕ) → pid_of packet < 8192
 pid_within packet = field_below packet 11 13
 
 -- the position of a packet's PID is far from its greatest
-pub position_within : (t : TrackedPackets) (packet : List ℕ) → AreTracksKept t → get_or t.table.items (pid_of packet) 0 < 2 ^
+pub position_within : (t : TrackedPackets) (packet : List ℕ) → AreTracksKept t → get_or t.table.items (pid_of packet) 0
+    < 2 ^
     63
 position_within t packet is =
     let count = length-map t.held.items (λ (h : HeldPacket). h.packet) in

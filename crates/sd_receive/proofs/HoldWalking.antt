@@ -10,7 +10,8 @@ use Rattle.sd_packet.specs.Header.{pid_of}
 use Rattle.sd_engine.specs.Stage.{SinkState, TookBytes}
 use Rattle.sd_engine.proofs.Chains.{took_none, took_more}
 use Rattle.sd_message.specs.EcmParts.{Message}
-use Rattle.sd_spec.specs.Confirmed.{Segment, WrittenPackets, then_segment_output, judged_packet, written_from, tracked, is_confirmed}
+use Rattle.sd_spec.specs.Confirmed.{Segment, WrittenPackets, then_segment_output, judged_packet, written_from, tracked}
+use Rattle.sd_spec.specs.Confirmed.{is_confirmed}
 use Rattle.sd_spec.specs.Confirmed.{unmarked}
 use Rattle.sd_receive.specs.declared.buffer.BufferFault.TheVariants as Fault
 use Rattle.sd_receive.specs.declared.buffer.release.Release.{Release}
@@ -29,7 +30,8 @@ use Rattle.sd_receive.proofs.HoldJudging.{packets_are}
 joined : WrittenPackets → WrittenPackets → WrittenPackets
 joined a b = record { packets = a.packets ++ b.packets; refused = b.refused }
 
-then_calm : (r : Result (List (List ℕ)) ℕ) (a : WrittenPackets) → (then_segment_output r a).refused ≡ None → a.refused ≡ None
+then_calm : (r : Result (List (List ℕ)) ℕ) (a : WrittenPackets) → (then_segment_output r a).refused ≡ None →
+    a.refused ≡ None
 then_calm (Err n) a calm = absurd (cc calm)
 then_calm (Ok ps) a calm = calm
 
@@ -55,7 +57,8 @@ in_turn s before (x ∷ xs) ys calm =
     ap (λ (w : WrittenPackets). then_segment_output (judged_packet s before x) w)
     (in_turn s (before ++ x.1 ∷ []) xs ys (then_calm (judged_packet s before x) rest calm)
     ∙ ap (λ (b : List (List ℕ)). joined rest (written_from s b ys)) there)
-    ∙ then_joined (judged_packet s before x) rest (written_from s (before ++ (x.1 ∷ map (λ (e : ℕ × List ℕ). e.1) xs)) ys) calm
+    ∙ then_joined (judged_packet s before x) rest (written_from s (before ++ (x.1 ∷ map (λ (e : ℕ × List ℕ). e.1) xs))
+    ys) calm
 
 -- the packets before one
 pub before_in : Release → ℕ → List (List ℕ)
@@ -157,7 +160,8 @@ written_more c k d p u v w n within is close took =
 all_by : (c : Release) (k : ℕ) (r : Result (List (List ℕ)) ℕ) (d : HeldPacket) → k < length c.tracks.now.held.items →
     (first_wrote c k).refused ≡ None →
     judged_packet (segment_in c) (before_in c k) (held_pair (get_or c.tracks.now.held.items k d)) ≡ r →
-    (rest : WrittenPackets) × (written_from (segment_in c) [] (holding_in c).held ≡ joined (first_wrote c k) (then_segment_output r rest))
+    (rest : WrittenPackets) × (written_from (segment_in c) [] (holding_in c).held ≡ joined (first_wrote c k)
+    (then_segment_output r rest))
 unfolding written_from
 all_by c k r d within calm is =
     let held = c.tracks.now.held.items in
@@ -241,10 +245,12 @@ own_at c k d within own =
 pub own_here : (c : Release) (k : ℕ) (h : HeldPacket) → k < length c.tracks.now.held.items →
     HavePositionsLedTo c.tracks.now.places.items c.tracks.now.held.items →
     h ≡ get_or c.tracks.now.held.items k h → HasPositionLedTo c (before_in c k) h
-own_here c k h within own is = subst (λ (x : HeldPacket). HasPositionLedTo c (before_in c k) x) (sym is) (own_at c k h within own)
+own_here c k h within own is = subst (λ (x : HeldPacket). HasPositionLedTo c (before_in c k) x) (sym is)
+    (own_at c k h within own)
 
 -- which is no further than all packets lead
-pub own_within : (c : Release) (k : ℕ) (h : HeldPacket) → k < length c.tracks.now.held.items → AreTracksKept c.tracks.now →
+pub own_within : (c : Release) (k : ℕ) (h : HeldPacket) → k < length c.tracks.now.held.items →
+    AreTracksKept c.tracks.now →
     h ≡ get_or c.tracks.now.held.items k h → h.position ≤ get_or c.tracks.now.table.items (pid_of h.packet) 0
 own_within c k h within kept is =
     let x = get_or c.tracks.now.held.items k h in
@@ -305,7 +311,8 @@ all_alike a b word ca ecm packets before (e ∷ es) =
     let t : Segment = record { first = a; last = b; word = word; ca = ca; ecm = ecm; packets = packets } in
     ap (λ (r : Result (List (List ℕ)) ℕ). then_segment_output r (written_from s (before ++ e.1 ∷ []) es))
     (alike a b word ca ecm packets before e)
-    ∙ ap (λ (w : WrittenPackets). then_segment_output (judged_packet t before e) w) (all_alike a b word ca ecm packets (before ++ e.1 ∷ []) es)
+    ∙ ap (λ (w : WrittenPackets). then_segment_output (judged_packet t before e) w) (all_alike a b word ca ecm packets
+    (before ++ e.1 ∷ []) es)
 
 -- all packets do
 pub between_messages : (a b : Message) (word : List ℕ) (ca ecm : ℕ) (held : List (ℕ × List ℕ)) →

@@ -104,7 +104,8 @@ held_other card past n packet =
     let is = newest_waits past (Other n packet) refl in
     ap (λ (m : Option Message). held_after card (newest_message (Other n packet ∷ past)) m)
     (ap (λ (st : Stretch). st.message) is)
-    ∙ more_after card (newest_message past) (newest_message past).message n packet (newest_message (Other n packet ∷ past))
+    ∙ more_after card (newest_message past) (newest_message past).message n packet
+    (newest_message (Other n packet ∷ past))
     (ap (λ (st : Stretch). st.before) is) (holds_more past n packet)
 
 -- after a message nothing is held yet

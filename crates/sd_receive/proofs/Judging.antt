@@ -24,7 +24,8 @@ use Rattle.sd_message.specs.declared.emm_fault.EmmFault.TheVariants as Emms
 use Rattle.sd_spec.specs.Ending.{periods_told, is_unkeyed, is_all_seen, are_all}
 use Rattle.sd_receive.specs.declared.emm.header.PeriodHeader.{PeriodHeader}
 use Rattle.sd_receive.specs.declared.emm.PeriodKeys.{PeriodKeys}
-use Rattle.sd_receive.specs.PeriodKeys.{says_in, says_of_newest_emm, SayAlike, is_said_otherwise, key_kept, has_index, all_marked}
+use Rattle.sd_receive.specs.PeriodKeys.{says_in, says_of_newest_emm, SayAlike, is_said_otherwise, key_kept, has_index}
+use Rattle.sd_receive.specs.PeriodKeys.{all_marked}
 use Rattle.sd_spec.specs.Taken.{takes_key}
 use Rattle.sd_receive.specs.PeriodKeys.{cleared, is_told_revoked, told_below, IsEntitled, IsEmmJudged, HasFault}
 use Rattle.sd_receive.proofs.Periods.{closes, ahead_none}
@@ -41,7 +42,8 @@ all_tests P a (suc n) (mark ∷ marks) long same =
     (λ x h. same (suc x) (omega (arith, h)) ∙ ap P (omega arith)) in
     rw (first, rest) refl
 
-all_by : (sections : List Emm) (header : Option PeriodHeader) (marks : List Bool) → length marks ≡ 65536 → header ≡ says_of_newest_emm
+all_by : (sections : List Emm) (header : Option PeriodHeader) (marks : List Bool) → length marks ≡ 65536 →
+    header ≡ says_of_newest_emm
     sections →
     SayAlike header sections → ((x : ℕ) → x < 2 ^ 16 → get_or marks x false ≡ has_index x sections) →
     all_marked header marks ≡ are_all sections
@@ -85,7 +87,8 @@ or_all : (b : Bool) (P : Emm → Bool) (sections : List Emm) → All (λ other. 
 or_all true P sections same = refl
 or_all false P sections same = list_any_none P sections same
 
-otherwise_is : (header : Option PeriodHeader) (sections : List Emm) (emm : Emm) → header ≡ says_of_newest_emm sections → SayAlike
+otherwise_is : (header : Option PeriodHeader) (sections : List Emm) (emm : Emm) →
+    header ≡ says_of_newest_emm sections → SayAlike
     header sections →
     is_said_otherwise header emm ≡ is_mixed sections emm
 otherwise_is header [] emm is alike = rw is refl
@@ -94,7 +97,8 @@ otherwise_is header (first ∷ sections) emm is alike =
     (λ k d h. same_test first (get_or sections k d) emm (sym is ∙ (alike (suc k) d (omega (arith, h))).0))))
 
 -- where the marks are cleared none is set
-cleared_by : (sections : List Emm) (header : Option PeriodHeader) (marks : List Bool) (x : ℕ) → header ≡ says_of_newest_emm sections →
+cleared_by : (sections : List Emm) (header : Option PeriodHeader) (marks : List Bool) (x : ℕ) →
+    header ≡ says_of_newest_emm sections →
     SayAlike header sections → get_or marks x false ≡ has_index x sections → get_or (cleared header marks) x false ≡
     false
 cleared_by [] header marks x is alike same = rw is same
@@ -166,7 +170,8 @@ module _ (card : CardFields) (tr : List Heard) (state : PeriodKeys) (is : IsEnti
       (λ (g : emm.period ≤ current tr).
       let same : emm.period ≡ current tr = omega (arith, g, h) in
       let here : state.period ≡ emm.period = omega (arith, is.period, same) in
-      rw (eq-eqb state.period emm.period here) (otherwise_is state.header (sections_seen (current tr) tr) emm is.header is.alike
+      rw (eq-eqb state.period emm.period here) (otherwise_is state.header (sections_seen (current tr) tr) emm is.header
+      is.alike
       ∙ ap (λ (q : ℕ). is_mixed (sections_seen q tr) emm) (sym same)))
       (cases_lt (current tr) emm.period)
 
@@ -302,7 +307,8 @@ module _ (card : CardFields) (n : ℕ) (tr : List Heard) (emm : Emm) (state : Pe
     (h : current tr ≤ emm.period)
     (same : (if state.period == emm.period then is_said_otherwise state.header emm else false) ≡ false) where
   -- so is one that says the same of a period whose key is known
-  pub judged_known : (key : Option (List ℕ)) → is_some (key_kept state emm.period) ≡ true → IsEmmJudged card n tr emm key
+  pub judged_known : (key : Option (List ℕ)) → is_some (key_kept state emm.period) ≡ true →
+      IsEmmJudged card n tr emm key
   judged_known key known = record {
     fault = good_offering card n tr emm state is h same
         (known_offers n emm (key_kept state emm.period) (key_from card emm) known);

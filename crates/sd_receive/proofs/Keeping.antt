@@ -24,7 +24,8 @@ use Rattle.sd_spec.specs.Offered.{says_same, is_mixed}
 use Rattle.sd_spec.specs.Ending.{periods_told, is_unkeyed, are_all}
 use Rattle.sd_receive.specs.declared.emm.header.PeriodHeader.{PeriodHeader}
 use Rattle.sd_receive.specs.declared.emm.PeriodKeys.{PeriodKeys}
-use Rattle.sd_receive.specs.PeriodKeys.{says_in, says_of_newest_emm, SayAlike, has_index, is_told_revoked, told_below, is_in_turn}
+use Rattle.sd_receive.specs.PeriodKeys.{says_in, says_of_newest_emm, SayAlike, has_index, is_told_revoked, told_below}
+use Rattle.sd_receive.specs.PeriodKeys.{is_in_turn}
 use Rattle.sd_receive.specs.PeriodKeys.{IsStateAt, IsEntitled, tells_nothing}
 use Rattle.sd_receive.proofs.Periods.{past_stands, other_period, ahead_none, one_told, none_told, same_below}
 use Rattle.sd_receive.proofs.Periods.{told_before, not_told}
@@ -122,7 +123,8 @@ stays card heard tr state none same sections is =
     let q : ℕ = current tr in
     let here : sections_seen q (heard ∷ tr) ≡ sections_seen q tr = sections q (omega arith) in
     let below : told_below q (heard ∷ tr) ≡ told_below q tr = told_same q heard tr none in
-    let past : (p : ℕ) → p < q → sections_seen p (heard ∷ tr) ≡ sections_seen p tr = λ p h. sections p (omega (arith, h)) in
+    let past : (p : ℕ) → p < q → sections_seen p (heard ∷ tr) ≡ sections_seen p tr =
+    λ p h. sections p (omega (arith, h)) in
     subst (λ (n : ℕ). IsStateAt card (heard ∷ tr) n state) (sym same) (record {
       period = is.period;
       header = is.header ∙ ap says_of_newest_emm (sym here);
@@ -166,7 +168,8 @@ past_by emm tr p true is h =
     past_stands p (Entitles emm) tr (omega (arith, same, h))
 past_by emm tr p false is h = other_period p emm tr is
 
-past_seen : (emm : Emm) (tr : List Heard) (p : ℕ) → emm.period < current tr → sections_seen p (Entitles emm ∷ tr) ≡ sections_seen p tr
+past_seen : (emm : Emm) (tr : List Heard) (p : ℕ) → emm.period < current tr → sections_seen p (Entitles emm ∷ tr)
+    ≡ sections_seen p tr
 past_seen emm tr p h = past_by emm tr p (emm.period == p) refl h
 
 -- a section of a past period leaves what is kept
@@ -193,7 +196,8 @@ counted card emm tr s t is h same inside short long period header marks told key
     subst (λ (n : ℕ). IsStateAt card (one ∷ tr) n t) (sym (now_at emm tr h)) (record {
       period = period ∙ is.period;
       header = header ∙ ap says_of_newest_emm (sym here);
-      alike = subst (SayAlike t.header) (sym here) (subst (λ (w : Option PeriodHeader). SayAlike w (emm ∷ sections_seen q tr))
+      alike = subst (SayAlike t.header) (sym here) (subst (λ (w : Option PeriodHeader). SayAlike w
+          (emm ∷ sections_seen q tr))
           (sym header)
           (alike_more s.header (sections_seen q tr) emm is.alike same inside short));
       marks = λ x g. ap (λ (l : List Bool). get_or l x false) marks

@@ -94,7 +94,8 @@ pub other_heard : (card : CardFields) (tuning : Tuning) (n : ℕ) (packet : List
     (key : Option (List ℕ)) → TakesHeard true card tuning n (Other n packet) key s t []
 other_heard card tuning n packet s t closed keys assembler written buffer key =
     λ past follows unclosed judged calm. (
-      subst (λ (k : ℕ). PassesOffering (heard_offering card tuning n past (Other n packet)) s.written k []) (sym written)
+      subst (λ (k : ℕ). PassesOffering (heard_offering card tuning n past (Other n packet)) s.written k [])
+          (sym written)
           (passes_none (heard_offering card tuning n past (Other n packet)) s.written refl refl),
       record {
         closed = closed ∙ (follows.closed ∙ (unclosed ∙ sym (stays_open past (Other n packet) unclosed refl)));

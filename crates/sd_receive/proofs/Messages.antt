@@ -68,7 +68,8 @@ offering_is card tuning n past part head state done =
     (sym done.follows.buffer))
 
 -- what the message offers where a held packet is refused, where its word is, and where nothing is
-pub refuses_parity : (offering : Offering) (wrote : WrittenPackets) (fault : Option StreamFault) (k : ℕ) (bytes : List ℕ) →
+pub refuses_parity : (offering : Offering) (wrote : WrittenPackets) (fault : Option StreamFault) (k : ℕ)
+    (bytes : List ℕ) →
     offering ≡ wrote_or wrote fault → wrote.refused ≡ Some k → bytes ≡ concat wrote.packets →
     StopsAtOffering true offering (Fault.Parity k) bytes
 refuses_parity offering wrote fault k bytes is refused written = record {
@@ -99,7 +100,8 @@ passes_all offering wrote fault before after bytes is refused good written count
 }
 
 -- a count that is added to counts
-pub added_counts : (before more total : ℕ) → before ≡ capped_count total → with_added before more ≡ capped_count (total + more)
+pub added_counts : (before more total : ℕ) → before ≡ capped_count total →
+    with_added before more ≡ capped_count (total + more)
 added_counts before more total h = omega (arith, h)
 
 -- what is kept after the message
@@ -208,7 +210,8 @@ allowed card tuning n head s t wrote None (Ok done) bytes is told begins written
     )
 
 -- a write that failed amid them
-pub cut_message : (card : CardFields) (tuning : Tuning) (n : ℕ) (head : EcmHead) (s t : Session) (wrote : WrittenPackets)
+pub cut_message : (card : CardFields) (tuning : Tuning) (n : ℕ) (head : EcmHead) (s t : Session)
+    (wrote : WrittenPackets)
     (result : Result (Unit {0}) StreamFault) (u v : SinkState) →
     wrote ≡ pair_wrote s.assembler.last s.buffer head.since card.ca tuning.ecm s.assembler.coming.places.items →
     Begins card n head s t result → IsCutShort u v (λ bytes. bytes ≡ concat wrote.packets) →
@@ -223,7 +226,8 @@ cut_message card tuning n head s t wrote result u v is begins cut = record {
 }
 
 -- what the message comes to where a held packet is refused, where its word is, and where nothing is
-pub parity_message : (card : CardFields) (tuning : Tuning) (n : ℕ) (head : EcmHead) (s : Session) (wrote : WrittenPackets)
+pub parity_message : (card : CardFields) (tuning : Tuning) (n : ℕ) (head : EcmHead) (s : Session)
+    (wrote : WrittenPackets)
     (k : ℕ) (u v : SinkState) →
     wrote ≡ pair_wrote s.assembler.last s.buffer head.since card.ca tuning.ecm s.assembler.coming.places.items →
     (wrote.refused ≡ Some k) × TookBytes u v (concat wrote.packets) →
@@ -241,7 +245,8 @@ parity_message card tuning n head s wrote k u v is told = record {
   took = told.1;
 }
 
-pub word_message : (card : CardFields) (tuning : Tuning) (n : ℕ) (head : EcmHead) (s t : Session) (wrote : WrittenPackets)
+pub word_message : (card : CardFields) (tuning : Tuning) (n : ℕ) (head : EcmHead) (s t : Session)
+    (wrote : WrittenPackets)
     (fault : StreamFault)
     (count : ℕ) (u v : SinkState) →
     wrote ≡ pair_wrote s.assembler.last s.buffer head.since card.ca tuning.ecm s.assembler.coming.places.items →
@@ -260,7 +265,8 @@ word_message card tuning n head s t wrote fault count u v is told begins = recor
   took = told.2;
 }
 
-pub taken_message : (card : CardFields) (tuning : Tuning) (n : ℕ) (head : EcmHead) (s t x : Session) (wrote : WrittenPackets)
+pub taken_message : (card : CardFields) (tuning : Tuning) (n : ℕ) (head : EcmHead) (s t x : Session)
+    (wrote : WrittenPackets)
     (count : ℕ) (u v : SinkState) →
     wrote ≡ pair_wrote s.assembler.last s.buffer head.since card.ca tuning.ecm s.assembler.coming.places.items →
     (wrote.refused ≡ None) × (count ≡ length wrote.packets) × TookBytes u v (concat wrote.packets) →

@@ -38,7 +38,8 @@ part_of card tuning n past (Some bad) message fault is = let e : bad ≡ fault =
     cc in ap (λ (f : EcmFault). refused_offering (Fault.BadEcm n f)) e
 part_of card tuning n past None None fault is = absurd cc
 part_of card tuning n past None (Some message) fault is =
-    back_of (is_back past message) fault n (wrote_or (stretch_wrote card tuning (newest_message past) (newest_message past).message
+    back_of (is_back past message) fault n (wrote_or (stretch_wrote card tuning (newest_message past)
+    (newest_message past).message
     message)
     (word_fault n message (key_at card past message.period))) is
 
@@ -51,7 +52,8 @@ good_of : (card : CardFields) (tuning : Tuning) (n : ℕ) (past : List Heard) (a
     (word_fault n message (key_at card past message.period))
 good_of card tuning n past (Some bad) message is = absurd cc
 good_of card tuning n past None message is =
-    forth_of (is_back past message) (wrote_or (stretch_wrote card tuning (newest_message past) (newest_message past).message message)
+    forth_of (is_back past message) (wrote_or (stretch_wrote card tuning (newest_message past)
+    (newest_message past).message message)
     (word_fault n message (key_at card past message.period))) (refused_offering (Fault.BadEcm n Back)) is
 
 waits_of : (card : CardFields) (tuning : Tuning) (n : ℕ) (past : List Heard) (alone : Option EcmFault) →
@@ -61,10 +63,12 @@ waits_of card tuning n past None is = refl
 
 pub part_refused : (card : CardFields) (tuning : Tuning) (n : ℕ) (past : List Heard) (part : EcmPart)
     (fault : EcmFault) →
-    part_fault_of past part ≡ Some fault → heard_offering card tuning n past (Controls part) ≡ refused_offering (Fault.BadEcm n fault)
+    part_fault_of past part ≡ Some fault → heard_offering card tuning n past (Controls part) ≡ refused_offering
+    (Fault.BadEcm n fault)
 unfolding part_fault_of
 part_refused card tuning n past part fault is =
-    part_of card tuning n past (part_fault (message_parts_to (newest_message past) part)) (completes past (Controls part)) fault is
+    part_of card tuning n past (part_fault (message_parts_to (newest_message past) part))
+    (completes past (Controls part)) fault is
 
 pub part_waits : (card : CardFields) (tuning : Tuning) (n : ℕ) (past : List Heard) (part : EcmPart) →
     part_fault_of past part ≡ None →
@@ -74,7 +78,8 @@ part_waits card tuning n past part good none =
     ap (λ (m : Option Message). part_offering n (part_fault (message_parts_to (newest_message past) part))
     (message_offering card tuning n past m)) none
     ∙ waits_of card tuning n past (part_fault (message_parts_to (newest_message past) part))
-    (subst (λ (m : Option Message). option_map_or Some (part_fault (message_parts_to (newest_message past) part)) (back_fault past m) ≡
+    (subst (λ (m : Option Message). option_map_or Some (part_fault (message_parts_to (newest_message past) part))
+    (back_fault past m) ≡
     None) none good)
 
 pub part_completes : (card : CardFields) (tuning : Tuning) (n : ℕ) (past : List Heard) (part : EcmPart)
@@ -88,7 +93,8 @@ part_completes card tuning n past part message good done =
     ap (λ (m : Option Message). part_offering n (part_fault (message_parts_to (newest_message past) part))
     (message_offering card tuning n past m)) done
     ∙ good_of card tuning n past (part_fault (message_parts_to (newest_message past) part)) message
-    (subst (λ (m : Option Message). option_map_or Some (part_fault (message_parts_to (newest_message past) part)) (back_fault past m) ≡
+    (subst (λ (m : Option Message). option_map_or Some (part_fault (message_parts_to (newest_message past) part))
+    (back_fault past m) ≡
     None) done good)
 
 -- a message that is taken is of no past period
@@ -102,9 +108,12 @@ pub not_past : (past : List Heard) (part : EcmPart) (message : Message) → part
     completes past (Controls part) ≡ Some message → current past ≤ message.period
 unfolding part_fault_of is_back
 not_past past part message good done =
-    let forth : is_back past message ≡ false = back_told (part_fault (message_parts_to (newest_message past) part)) (is_back past message)
-    (subst (λ (m : Option Message). option_map_or Some (part_fault (message_parts_to (newest_message past) part)) (back_fault past m) ≡
+    let forth : is_back past message ≡ false = back_told (part_fault (message_parts_to (newest_message past) part))
+    (is_back past message)
+    (subst (λ (m : Option Message). option_map_or Some (part_fault (message_parts_to (newest_message past) part))
+    (back_fault past m) ≡
     None) done good) in
     ltb-false message.period (current past)
-    (or_parts (nat_lt message.period (current past)) (option_map_or (is_before message) (newest_message past).message false)
+    (or_parts (nat_lt message.period (current past)) (option_map_or (is_before message) (newest_message past).message
+    false)
     forth).0

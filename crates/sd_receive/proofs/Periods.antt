@@ -16,7 +16,8 @@ use Rattle.sd_spec.specs.Ending.{periods_told}
 use Rattle.sd_receive.specs.PeriodKeys.{told_below, is_in_turn}
 
 -- the sections seen of a past period stay
-pub past_stands : (q : ℕ) (heard : Heard) (tr : List Heard) → q < current tr → sections_seen q (heard ∷ tr) ≡ sections_seen q tr
+pub past_stands : (q : ℕ) (heard : Heard) (tr : List Heard) → q < current tr →
+    sections_seen q (heard ∷ tr) ≡ sections_seen q tr
 unfolding sections_seen
 past_stands q Dropped tr h = refl
 past_stands q (Entitles emm) tr h = rw (lt-leb (current tr) q h, and_right (emm.period == q) false refl) refl

@@ -30,7 +30,8 @@ use Rattle.sd_message.specs.declared.ecm_fault.EcmFault.{EcmFault}
 use Rattle.sd_spec.specs.Heard.{Heard, Controls, hears}
 use Rattle.sd_spec.specs.declared.ending.Ending.{Ending}
 use Rattle.sd_spec.specs.declared.ending.Ending.TheVariants.{Opened}
-use Rattle.sd_spec.specs.Stretches.{is_closed, current, sections_seen, newest_message, completes, message_parts_to, run_of_parts}
+use Rattle.sd_spec.specs.Stretches.{is_closed, current, sections_seen, newest_message, completes, message_parts_to}
+use Rattle.sd_spec.specs.Stretches.{run_of_parts}
 use Rattle.sd_spec.specs.Stretches.{counted_parts as counted_of}
 use Rattle.sd_spec.specs.Keys.{key_in}
 use Rattle.sd_spec.specs.Runs.{run_name_heard, run_name_in, are_two, is_turn, of_run}
@@ -48,7 +49,8 @@ use Rattle.sd_receive.proofs.Gathering.{few_listed, none_wrong}
 use Rattle.sd_receive.specs.Session.{IsListenerAfter, capped_count, heard_of_run, IsJudgedAs, Judgement, TakesHeard}
 use Rattle.sd_receive.specs.Session.{RefusesHeard, IsCalm, IsStill, SessionOutcome}
 use Rattle.sd_receive.specs.Receiving.{receiver_card, HasReceived, TurnsBy, takes_key_of, takes_key_at, steps_at}
-use Rattle.sd_receive.specs.Receiving.{IsCountable, TakesReceivedPacket, RefusesReceivedPacket, TakesBy, RefusesBy, CutsBy, ended_at}
+use Rattle.sd_receive.specs.Receiving.{IsCountable, TakesReceivedPacket, RefusesReceivedPacket, TakesBy, RefusesBy}
+use Rattle.sd_receive.specs.Receiving.{CutsBy, ended_at}
 use Rattle.sd_receive.specs.Receiving.{receiver_does, Refusing, IsSoundReceiver}
 use Rattle.sd_receive.specs.declared.receiver.ended.EndedRuns.{EndedRuns}
 use Rattle.sd_spec.specs.Reports.{run_end}
@@ -116,7 +118,8 @@ out_with card past packet none =
 -- a packet that offers nothing, of which nothing is heard, and which ends no run
 pub idle : (past : List (List ℕ)) (s : Receiver) (packet : List ℕ) (tuning : Option Tuning) (count : ℕ) →
     HasReceived past s →
-    offered (receiver_card s) past packet ≡ no_offering → heard (receiver_card s) (packet ∷ past) ≡ heard (receiver_card s) past →
+    offered (receiver_card s) past packet ≡ no_offering → heard (receiver_card s) (packet ∷ past)
+    ≡ heard (receiver_card s) past →
     turns_at (receiver_card s) past packet ≡ false →
     count ≡ length past + 1 →
     tuning ≡ tuning_of s.card.ca (packet ∷ past) →
@@ -225,7 +228,8 @@ stands past s packet kept ended u after some turned =
           (now.follows card (heard card past) after.follows);
       written = now.written ∙ sym (rw turns refl);
       so_far_is = now.so_far card (heard card past) (run_wrote card past) after.follows after.written
-          ∙ (ap (λ (e : Ending). endings_joined e (run_ending card (heard card past) (run_wrote card past))) after.so_far
+          ∙ (ap (λ (e : Ending). endings_joined e (run_ending card (heard card past) (run_wrote card past)))
+          after.so_far
           ∙ sym (ended_now card past packet turns));
       last_is = now.last card (heard card past) (run_wrote card past) after.follows after.written
           ∙ (ap (λ (e : Ending). Some (record { run = s.name; ending = e }))
@@ -290,7 +294,8 @@ pub record Found (s : Receiver) (packet : List ℕ) (kept : Tuning) (begins : Bo
   pub begins_is : begins ≡ are_two s.name (run_name_heard (thing_of s kept packet))
   pub goes_on : (s.session.closed && not begins) ≡ false
   pub few : (past : List Heard) → IsListenerAfter (receiver_card s) past s.session →
-      to ≤ from + (if takes_key_of (receiver_card s) (heard_of_run begins past) (thing_of s kept packet) then s.card.height
+      to ≤ from + (if takes_key_of (receiver_card s) (heard_of_run begins past) (thing_of s kept packet)
+      then s.card.height
       else 0)
 
 -- what was heard of the run at hand with a packet
@@ -323,7 +328,8 @@ record Hears (past : List (List ℕ)) (s : Receiver) (packet : List ℕ) (kept :
   hearing : heard (receiver_card s) (packet ∷ past)
       ≡ thing_of s kept packet ∷ of_run (heard (receiver_card s) past) (thing_of s kept packet)
   few : steps_at (receiver_card s) past packet ≡ (if takes_key_of (receiver_card s)
-      (of_run (heard (receiver_card s) past) (thing_of s kept packet)) (thing_of s kept packet) then s.card.height else 0)
+      (of_run (heard (receiver_card s) past) (thing_of s kept packet)) (thing_of s kept packet) then s.card.height
+      else 0)
 
 was_known : (past : List (List ℕ)) (s : Receiver) (packet : List ℕ) (kept : Tuning) → HasReceived past s →
     s.tuning ≡ Some kept →
@@ -447,7 +453,8 @@ stopped_bytes strict a b bytes is written =
 refuses_by : (strict : Bool) (s : Receiver) (packet : List ℕ) (why : StreamFault) (bytes : List ℕ) (steps : ℕ) →
     ((past : List (List ℕ)) → HasReceived past s → IsCountable past → IsCalm strict (heard (receiver_card s) past) →
     RefusesReceivedPacket strict past s packet why bytes steps) → RefusesBy strict s packet why bytes steps
-refuses_by true s packet why bytes steps refused_offering = λ past after countable. refused_offering past after countable tt
+refuses_by true s packet why bytes steps refused_offering = λ past after countable. refused_offering past after
+    countable tt
 refuses_by false s packet why bytes steps refused_offering = refused_offering
 
 pub heard_refuses : (strict : Bool) (s : Receiver) (packet : List ℕ) (kept : Tuning) (begins : Bool)
@@ -469,7 +476,8 @@ heard_refuses strict s packet kept begins ended u why bytes from to found turned
     record {
       fault = ap (λ (o : Offering). o.fault) known.offers ∙ stopped.fault;
       bytes_are = stopped_bytes strict (offered card past packet)
-          (heard_offering card kept s.count (of_run (heard card past) thing) thing) bytes known.offers stopped.bytes_are;
+          (heard_offering card kept s.count (of_run (heard card past) thing) thing) bytes known.offers
+          stopped.bytes_are;
       few = steps_known past s packet kept begins from to after found;
     })
 
@@ -526,7 +534,8 @@ stands_still s ended u t turned still past after =
       name = after.name;
       so_far = ap (λ (e : EndedRuns). e.so_far) is.1 ∙ after.so_far;
       follows = still.follows (heard (receiver_card s) past)
-          (subst (λ (l : Session). IsListenerAfter (receiver_card s) (heard (receiver_card s) past) l) (sym is.0) after.follows);
+          (subst (λ (l : Session). IsListenerAfter (receiver_card s) (heard (receiver_card s) past) l)
+          (sym is.0) after.follows);
       written = wrote ∙ after.written;
       total = ap (λ (e : EndedRuns). capped_count (e.written + t.written)) is.1
           ∙ (ap (λ (n : ℕ). capped_count (s.ended.written + n)) wrote ∙ after.total);

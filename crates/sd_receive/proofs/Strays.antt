@@ -20,7 +20,8 @@ use Rattle.sd_engine.specs.declared.stage.StageFault.{StageFault}
 use Rattle.sd_spec.specs.Heard.{Heard, Controls}
 use Rattle.sd_spec.specs.Stretches.{Stretch, newest_message, held_in}
 use Rattle.sd_spec.specs.Keys.{key_at}
-use Rattle.sd_spec.specs.Confirmed.{Segment, WrittenPackets, written_from, judged_packet, then_segment_output, tracked, is_confirmed, is_foreign}
+use Rattle.sd_spec.specs.Confirmed.{Segment, WrittenPackets, written_from, judged_packet, then_segment_output, tracked}
+use Rattle.sd_spec.specs.Confirmed.{is_confirmed, is_foreign}
 use Rattle.sd_spec.specs.Confirmed.{unmarked, is_foreign_under}
 use Rattle.sd_spec.specs.Counting.{holds_stray, is_scrambled_packet}
 use Rattle.sd_spec.specs.Offered.{Offering, most_held, segment_wrote, stretch_wrote, word_fault}
@@ -37,7 +38,8 @@ use Rattle.sd_receive.proofs.Offering.{part_completes}
 -- a packet that isn't stray is judged right
 right_then : (clear foreign confirmed : Bool) (a b : List (List ℕ)) (n : ℕ) (rest : WrittenPackets) →
     (not clear && foreign) ≡ false → rest.refused ≡ None →
-    (then_segment_output (if clear then Ok a else if foreign then Err n else if confirmed then Ok b else Ok []) rest).refused
+    (then_segment_output (if clear then Ok a else if foreign then Err n else if confirmed then Ok b else Ok [])
+    rest).refused
     ≡ None
 right_then true foreign confirmed a b n rest calm none = none
 right_then false true confirmed a b n rest calm none = absurd (true≢false calm)

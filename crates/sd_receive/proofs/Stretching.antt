@@ -36,6 +36,7 @@ holds_same past heard none same = ap held_in (newest_waits past heard none) ∙
     ap (λ (o : List (ℕ × List ℕ)). reverse o) same
 
 -- a part is no section
-pub sees_same : (q : ℕ) (past : List Heard) (part : EcmPart) → sections_seen q (Controls part ∷ past) ≡ sections_seen q past
+pub sees_same : (q : ℕ) (past : List Heard) (part : EcmPart) → sections_seen q (Controls part ∷ past)
+    ≡ sections_seen q past
 unfolding sections_seen
 sees_same q past part = refl

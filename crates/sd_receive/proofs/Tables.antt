@@ -150,7 +150,12 @@ led_further places packets k pid =
     let same : moved_by pid (position_or_first places pid) packets ≡ moved_by pid
     (moved_by pid (position_or_first places pid) (take k packets)) (drop k packets) =
     ap (λ (ps : List (List ℕ)). moved_by pid (position_or_first places pid) ps) (sym all) ∙ further in
-    omega (arith, same, moved_by_near pid (moved_by pid (position_or_first places pid) (take k packets)) (drop k packets))
+    omega (
+      arith,
+      same,
+      moved_by_near pid (moved_by pid (position_or_first places pid) (take k packets))
+          (drop k packets),
+    )
 
 -- one held packet more, with the position to which it leads its PID
 pub own_more : (places : List Place) (held : List HeldPacket) (one : HeldPacket) → HavePositionsLedTo places held →

@@ -100,8 +100,10 @@ unfolding run_name_in is_turn
 name_now past thing name is =
     or_same name (run_name_in past) ∙ (ap (λ (n : Option (Option ℕ)). name_or n (run_name_in past)) is
     ∙ tested (is_turn past thing)
-    (λ turns. or_any (run_name_in past) (run_name_heard thing) (run_name_in past) (run_name_in (of_run past thing)) turns)
-    (λ stays. ap (λ (p : List Heard). name_or (run_name_heard thing) (run_name_in p)) (sym (same_run past thing stays))))
+    (λ turns. or_any (run_name_in past) (run_name_heard thing) (run_name_in past) (run_name_in (of_run past thing))
+    turns)
+    (λ stays. ap (λ (p : List Heard). name_or (run_name_heard thing) (run_name_in p))
+    (sym (same_run past thing stays))))
 
 -- how many packets were written of the run that is at hand with a packet, before it
 abbrev pub wrote_before : CardFields → List (List ℕ) → List ℕ → ℕ

@@ -72,7 +72,8 @@ lower coming places met i d walked some within same below =
     sym (list_any_at (lacks coming) places met d some here)
 
 -- one place more was seen, which is the next that is to be met
-pub met_more : (coming places : List Place) (met i : ℕ) (d : Place) → ArePidsAscending coming → ArePidsAscending places →
+pub met_more : (coming places : List Place) (met i : ℕ) (d : Place) → ArePidsAscending coming →
+    ArePidsAscending places →
     IsWalked coming places met i → met < length places → i < length coming →
     (get_or coming i d).pid ≡ (get_or places met d).pid → (get_or places met d).position ≤
     (get_or coming i d).position →

@@ -38,7 +38,8 @@ back_fault past (Some message) = if is_back past message then Some Back else Non
 -- why a part is refused: by itself, or as the last of its message [this project, docs/FORMATS.md, Receiver]
 unfoldable pub part_fault_of : List Heard → EcmPart → Option EcmFault
 part_fault_of past part =
-    option_map_or Some (part_fault (message_parts_to (newest_message past) part)) (back_fault past (completes past (Controls part)))
+    option_map_or Some (part_fault (message_parts_to (newest_message past) part))
+    (back_fault past (completes past (Controls part)))
 
 -- Nothing is wrong with a part, and it completes no message.
 pub record IsWaiting (past : List Heard) (part : EcmPart) (state : EcmAssembler) : Type 0 where

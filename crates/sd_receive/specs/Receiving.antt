@@ -77,7 +77,8 @@ pub record TakesReceivedPacket (past : List (List ℕ)) (s : Receiver) (packet :
   pub same : t.card ≡ s.card
 
 -- the result of a packet that is refused, by a strict receiver or by one that writes nothing of it
-pub record RefusesReceivedPacket (strict : Bool) (past : List (List ℕ)) (s : Receiver) (packet : List ℕ) (why : StreamFault)
+pub record RefusesReceivedPacket (strict : Bool) (past : List (List ℕ)) (s : Receiver) (packet : List ℕ)
+    (why : StreamFault)
     (bytes : List ℕ) (steps : ℕ) : Type 0 where
   pub fault : (offered (receiver_card s) past packet).fault ≡ Some why
   pub bytes_are : bytes ≡ (if strict then concat (offered (receiver_card s) past packet).wrote else [])
@@ -101,7 +102,8 @@ receiver_does s packet t bytes steps = (past : List (List ℕ)) → HasReceived 
 -- a packet is refused, whatever packets led to the receiver's state
 abbrev pub Refusing : Receiver → List ℕ → StreamFault → List ℕ → ℕ → Type 0
 Refusing s packet fault bytes steps =
-    (past : List (List ℕ)) → HasReceived past s → IsCountable past → RefusesReceivedPacket true past s packet fault bytes steps
+    (past : List (List ℕ)) → HasReceived past s → IsCountable past →
+    RefusesReceivedPacket true past s packet fault bytes steps
 
 -- a packet is taken, whatever packets led to the receiver's state, if no stray packet is buffered after them
 abbrev pub Opening : Receiver → List ℕ → Receiver → List ℕ → ℕ → Type 0
@@ -125,7 +127,8 @@ RefusesBy false = Leaving
 
 -- the bytes of which a write may fail: those of a packet that is taken, or, where the receiver is strict, refused
 abbrev pub CutsBy : Bool → Receiver → List ℕ → ℕ → ℕ → List ℕ → Type 0
-CutsBy true s packet from to bytes = IsAllowed (receiver_does s packet) (λ fault t. Refusing s packet fault) from to bytes
+CutsBy true s packet from to bytes = IsAllowed (receiver_does s packet) (λ fault t. Refusing s packet fault) from to
+    bytes
 CutsBy false s packet from to bytes = (steps : ℕ) × (to ≤ from + steps)
     × (t : Receiver) × Opening s packet t bytes steps
 

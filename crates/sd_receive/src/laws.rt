@@ -37,7 +37,8 @@ pub fn refusals_come_first()
 /// The sections that were seen of an earlier period than the current one stay as they are.
 #[tactic(auto, using(crate::proofs::Periods::past_stands))]
 pub fn past_periods_stand()
-    ensures { (q : ℕ) (heard : Heard) (tr : List Heard) → q < current tr → sections_seen q (heard ∷ tr) ≡ sections_seen q tr }
+    ensures { (q : ℕ) (heard : Heard) (tr : List Heard) → q < current tr →
+        sections_seen q (heard ∷ tr) ≡ sections_seen q tr }
 {}
 
 /// No section of a later period than the current one was seen.

@@ -28,7 +28,8 @@ use Rattle.sd_run_books.specs.Twin.{twin_made, twin_meaning}
 use Rattle.sd_run_books.specs.Opens.{opening, opens_meaning}
 use Rattle.sd_run_books.specs.Air.{plan_command_meaning, planning, roomy_site_of_file}
 use Rattle.sd_run_broadcasts.specs.Receive.{received_status}
-use Rattle.sd_run_broadcasts.specs.Receive.{card_argument, received_of, received_steps, receiving, receive_stream_meaning}
+use Rattle.sd_run_broadcasts.specs.Receive.{card_argument, received_of, received_steps, receiving}
+use Rattle.sd_run_broadcasts.specs.Receive.{receive_stream_meaning}
 use Rattle.sd_run_broadcasts.specs.Receive.{receive_meaning}
 use Rattle.sd_run_streams.specs.Sample.{sample_meaning}
 use Rattle.sd_run_books.specs.Show.{line_of_file, show_meaning}
@@ -164,7 +165,8 @@ receive_orderly : (card stream out : FileArgument) (given : Readings) →
     AreOrderly (Some out.text) None (receive_meaning card stream out given).result
 unfolding receive_meaning
 receive_orderly card stream out given =
-    orderly_after (Some out.text) None (card_argument given card) (λ fields. receive_stream_meaning fields stream out given)
+    orderly_after (Some out.text) None (card_argument given card) (λ fields. receive_stream_meaning fields stream out
+    given)
     (λ fields. orderly_after (Some out.text) None (whole_file_bytes stream.number (given stream))
     (λ bytes. value (receiving fields out bytes))
     (λ bytes. turned (UpTo (received_steps fields bytes)) out (received_of fields bytes)
@@ -185,7 +187,8 @@ next_orderly site book words out given =
     let origin = origin_of_files site.number book.number words (given site) (given book) in
     orderly_after (Some out.text) None (of_result (told_name site out))
     (λ named. origin >>= λ found. making_new (next_made found words.value) out (given out))
-    (λ named. orderly_after (Some out.text) None origin (λ found. making_new (next_made found words.value) out (given out))
+    (λ named. orderly_after (Some out.text) None origin (λ found. making_new (next_made found words.value) out
+    (given out))
     (λ found. made_new (next_made found words.value) out (given out)))
 
 twin_orderly : (site : FileArgument) (words : NumberArgument) (out : FileArgument) (given : Readings) →
@@ -200,7 +203,8 @@ twin_orderly site words out given =
     (λ found. made_new (twin_made found.0 found.1 words.value) out (given out)))
 
 -- and those that make none
-cover_orderly : (site book : FileArgument) (given : Readings) → AreOrderly None None (cover_meaning site book given).result
+cover_orderly : (site book : FileArgument) (given : Readings) →
+    AreOrderly None None (cover_meaning site book given).result
 unfolding cover_meaning
 cover_orderly site book given =
     orderly_after None None (both_meaning site book given)
@@ -254,7 +258,8 @@ apart_orderly : (site book other more : FileArgument) (given : Readings) →
 apart_orderly site book other more given =
     orderly_after None None (both_meaning site book given)
     (λ first. both_meaning other more given
-    >>= λ second. of_result (told_apart (plan_of_both first) (plan_of_both second)) >>= λ text. value (work_of_text text))
+    >>= λ second. of_result (told_apart (plan_of_both first) (plan_of_both second)) >>=
+    λ text. value (work_of_text text))
     (λ first. orderly_after None None (both_meaning other more given)
     (λ second. of_result (told_apart (plan_of_both first) (plan_of_both second)) >>= λ text. value (work_of_text text))
     (λ second. orderly_after None None (of_result (told_apart (plan_of_both first) (plan_of_both second)))
@@ -288,9 +293,11 @@ unfolding trace_meaning
 trace_orderly site book leaves given =
     orderly_after None None (both_meaning site book given)
     (λ both. leaves_in given both.site.height leaves
-    >>= λ coalition. of_result (trace_outcome both.site.height coalition both.commands) >>= λ text. value (work_of_text text))
+    >>= λ coalition. of_result (trace_outcome both.site.height coalition both.commands) >>=
+    λ text. value (work_of_text text))
     (λ both. orderly_after None None (leaves_in given both.site.height leaves)
-    (λ coalition. of_result (trace_outcome both.site.height coalition both.commands) >>= λ text. value (work_of_text text))
+    (λ coalition. of_result (trace_outcome both.site.height coalition both.commands) >>=
+    λ text. value (work_of_text text))
     (λ coalition. orderly_after None None (of_result (trace_outcome both.site.height coalition both.commands))
     (λ text. value (work_of_text text)) (λ text. none_made (work_of_text text) refl refl (λ refusal. absurd refusal))))
 
@@ -497,7 +504,8 @@ opens_works words at_one at_two at_three done = rw (at_one, at_two, at_three) at
 -- `plan`
 pub plan_works : (words : List Argument) {one two : FileArgument} {three four : NumberArgument}
     {a b : IoState} {status : Status} → one ≡ file 1 words → two ≡ file 2 words →
-    three ≡ number 3 words → four ≡ number 4 words → Implements (plan_command_meaning one two three four.value) a b status →
+    three ≡ number 3 words → four ≡ number 4 words → Implements (plan_command_meaning one two three four.value) a b
+    status →
     Implements (command_meaning Plan words) a b status
 plan_works words at_one at_two at_three at_four done = rw (at_one, at_two, at_three, at_four) at done
 

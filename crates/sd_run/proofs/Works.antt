@@ -1,5 +1,6 @@
 -- The kinds of work: each makes OUT or no file, and refuses words or files before anything is made.
-use Rattle.std.proofs.Common.{◌≡◌, ℕ, Bool, true, false, if◌then◌else◌, List, [], length, reverse, Option, Some, None, Result, Ok}
+use Rattle.std.proofs.Common.{◌≡◌, ℕ, Bool, true, false, if◌then◌else◌, List, [], length, reverse, Option, Some, None}
+use Rattle.std.proofs.Common.{Result, Ok}
 use Rattle.std.proofs.Common.{Err, refl, sym, ap, ◌∙◌}
 use Rattle.std.specs.Option.{option_map}
 use Rattle.sd_engine.specs.Cut.{is_stream_too_long, readable}
@@ -24,7 +25,8 @@ use Rattle.sd_command_base.specs.Turned.{turning}
 use Rattle.sd_command_base.specs.Streams.{stream_status}
 use Rattle.sd_run_broadcasts.specs.Air.{airing, aired_status as ended_by, live_end, live_sent, live_status}
 use Rattle.sd_run_broadcasts.specs.Head.{status_where, sent_status, stream_refusal}
-use Rattle.sd_run_broadcasts.specs.Receive.{receive_end_status, ending_status, received_status_at, unless_refused, received_status}
+use Rattle.sd_run_broadcasts.specs.Receive.{receive_end_status, ending_status, received_status_at, unless_refused}
+use Rattle.sd_run_broadcasts.specs.Receive.{received_status}
 use Rattle.sd_run_broadcasts.specs.Watch.{watched_of, watched_status, watching}
 use Rattle.sd_command_base.specs.Printed.{printing}
 use Rattle.sd_command_line.specs.Words.{number}

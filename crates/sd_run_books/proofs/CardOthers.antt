@@ -95,13 +95,16 @@ other_trace site book leaves given =
     other_after (both_by site.number book.number (given site) (given book)).calls
     (both_by site.number book.number (given site) (given book)).result
     (λ both. leaves_of_file leaves.number both.site.height (given leaves)
-    >>= λ coalition. of_result (trace_outcome both.site.height coalition both.commands) >>= λ text. value (work_of_text text))
+    >>= λ coalition. of_result (trace_outcome both.site.height coalition both.commands) >>=
+    λ text. value (work_of_text text))
     (other_both site.number book.number (given site) (given book))
     (λ both. other_after (leaves_of_file leaves.number both.site.height (given leaves)).calls
     (leaves_of_file leaves.number both.site.height (given leaves)).result
-    (λ coalition. of_result (trace_outcome both.site.height coalition both.commands) >>= λ text. value (work_of_text text))
+    (λ coalition. of_result (trace_outcome both.site.height coalition both.commands) >>=
+    λ text. value (work_of_text text))
     (other_leaves_file leaves.number both.site.height (given leaves))
-    (λ coalition. other_after 0 (trace_outcome both.site.height coalition both.commands) (λ text. value (work_of_text text))
+    (λ coalition. other_after 0 (trace_outcome both.site.height coalition both.commands)
+    (λ text. value (work_of_text text))
     (other_traced both.site.height coalition both.commands) (λ text. tt)))
 
 other_card : (fields : SiteFields) (leaf : NumberArgument) → IsOther (made_card fields leaf)

@@ -20,7 +20,8 @@ comes : (meant : Result (List ℕ) Status) (out : FileArgument) (p : DepotState)
     Outcome (of_result meant >>= λ bytes. value (making Uncounted out bytes)).result (io_state p page steps)
     (io_state p page now) status
 comes meant out p page steps now status (inl h) =
-    refused (ap (λ (r : Result (List ℕ) Status). (of_result r >>= λ bytes. value (making Uncounted out bytes)).result) h.0)
+    refused (ap (λ (r : Result (List ℕ) Status). (of_result r >>= λ bytes. value (making Uncounted out bytes)).result)
+    h.0)
     h.1
     (record { files = refl; made = refl }) refl (record { depot = refl; print = refl })
     (record { missing = λ word is. absurd (subst IsEnding is h.2); there = λ other. refl })

@@ -30,10 +30,13 @@ use Rattle.sd_run_books.specs.declared.account_fault.AccountFault.{AccountFault}
 use Rattle.sd_run_books.specs.declared.account_fault.AccountFault.TheVariants.{Line, Unknown, Taken, NoMemory}
 use Rattle.sd_run_books.specs.Bound.{leaf_on, leaf_of, first_number_there, is_held}
 use Rattle.sd_run_books.specs.Fault.{as_fault}
-use Rattle.sd_run_books.specs.Faults.{AddsCommand, IsWrong, AreGoodAccountLines, NextIsWrong, NextMakes, NextBreaks, IsAccountFaultOf}
-use Rattle.sd_run_books.specs.Judged.{◌>>=◌, on_leaf, command_after, allowed, judged_account_line, account_commands, accounts_book}
+use Rattle.sd_run_books.specs.Faults.{AddsCommand, IsWrong, AreGoodAccountLines, NextIsWrong, NextMakes, NextBreaks}
+use Rattle.sd_run_books.specs.Faults.{IsAccountFaultOf}
+use Rattle.sd_run_books.specs.Judged.{◌>>=◌, on_leaf, command_after, allowed, judged_account_line, account_commands}
+use Rattle.sd_run_books.specs.Judged.{accounts_book}
 use Rattle.sd_run_books.specs.Kept.{IsBelow}
-use Rattle.sd_run_books.specs.Line.{Entry, Assigns, Drops, Restores, Ends, assigned, entry_by_word, entry_on, leaf_numbered}
+use Rattle.sd_run_books.specs.Line.{Entry, Assigns, Drops, Restores, Ends, assigned, entry_by_word, entry_on}
+use Rattle.sd_run_books.specs.Line.{leaf_numbered}
 use Rattle.sd_run_books.specs.Line.{account_name_in, said_by_accounts}
 use Rattle.sd_run_books.proofs.Kept.{leaf_more}
 use Rattle.sd_run_books.proofs.Limits.{book_ends, end_by}
@@ -232,7 +235,8 @@ assigned_below d text entry e = by_cut (cut_at_space text) e
 
     by_cut : (cut : Option (List ℕ × List ℕ)) →
         option_and_then (λ parts. option_and_then
-        (λ name. option_map (Assigns name) (leaf_numbered d (decimal_value parts.1))) (account_name_in parts.0)) cut ≡ Some
+        (λ name. option_map (Assigns name) (leaf_numbered d (decimal_value parts.1))) (account_name_in parts.0)) cut
+        ≡ Some
         entry →
         IsBelow (2 ^ d) entry
     by_cut None e = absurd cc
@@ -254,8 +258,10 @@ entry_below d line entry e =
     restores (Some name) e = let same : Restores name ≡ entry = cc in subst (IsBelow (2 ^ d)) same tt
 
     go : (b : Bool) (assign drop restore : Option (List ℕ)) →
-        (if b then Some Ends else entry_by_word assign (assigned d) (entry_by_word drop (λ text. option_map Drops (account_name_in text))
-        (entry_by_word restore (λ text. option_map Restores (account_name_in text)) None))) ≡ Some entry → IsBelow (2 ^ d) entry
+        (if b then Some Ends else entry_by_word assign (assigned d)
+        (entry_by_word drop (λ text. option_map Drops (account_name_in text))
+        (entry_by_word restore (λ text. option_map Restores (account_name_in text)) None))) ≡ Some entry →
+        IsBelow (2 ^ d) entry
     go true assign drop restore e = let same : Ends ≡ entry = cc in subst (IsBelow (2 ^ d)) same tt
     go false (Some text) drop restore e = assigned_below d text entry e
     go false None (Some text) restore e = drops (account_name_in text) e
@@ -264,7 +270,8 @@ entry_below d line entry e =
 
 -- a limit that is broken is the fault
 broken_fault : (d : ℕ) (before : List (Option Entry)) (commands : List Command) (rest : List (Option Entry))
-    (next : List (Option Command)) (fault : BookFault) → NextMakes before rest next → IsBrokenLimit d commands next fault →
+    (next : List (Option Command)) (fault : BookFault) → NextMakes before rest next →
+    IsBrokenLimit d commands next fault →
     NextBreaks d before commands rest (as_fault fault)
 broken_fault d before commands rest next fault makes broken =
     (broken.0, next, makes, ap as_fault broken.1, broken.2)
@@ -278,7 +285,8 @@ end_comes : (d : ℕ) (before : List (Option Entry)) (commands : List Command) �
     ComesTo d (before ++ []) (account_commands d before commands [])
 end_comes d before commands good = by (period_end_check d commands commands) refl
   where
-    by : (r : Result (List Command) BookFault) → period_end_check d commands commands ≡ r → ComesTo d (before ++ []) (allowed r)
+    by : (r : Result (List Command) BookFault) → period_end_check d commands commands ≡ r →
+        ComesTo d (before ++ []) (allowed r)
     by (Ok got) e =
         subst (λ cs. AreGoodAccountLines d (before ++ []) cs) (ended_ok d commands commands got e).1
         (subst (λ said. AreGoodAccountLines d said commands) (sym (append-nil before)) good)
@@ -297,7 +305,8 @@ module _ (d : ℕ) (before : List (Option Entry)) (commands : List Command) (res
   -- at a line that makes a command, if what comes after it is known
   made_comes : (entry : Entry) (command : Command) → IsBelow (2 ^ d) entry →
       command_after before (Some entry) ≡ Ok command →
-      (AreGoodAccountLines d (before ++ Some entry ∷ []) (commands ++ command ∷ []) → AreWithin d (before ++ Some entry ∷ []) →
+      (AreGoodAccountLines d (before ++ Some entry ∷ []) (commands ++ command ∷ []) →
+      AreWithin d (before ++ Some entry ∷ []) →
       ComesTo d (before ++ Some entry ∷ rest)
       (account_commands d (before ++ Some entry ∷ []) (commands ++ command ∷ []) rest)) →
       ComesTo d (before ++ Some entry ∷ rest) (account_commands d before commands (Some entry ∷ rest))
@@ -340,7 +349,8 @@ line_comes d line before commands rest good within next = by_line (entry_on d li
         by_command (Err fault) e = wrong_comes d before commands rest good within (Some entry) fault e
         by_command (Ok command) e = made_comes d before commands rest good within entry command
             (entry_below d line entry says) e (λ more low.
-            subst (λ said. ComesTo d said (account_commands d (before ++ Some entry ∷ []) (commands ++ command ∷ []) rest))
+            subst (λ said. ComesTo d said (account_commands d (before ++ Some entry ∷ []) (commands ++ command ∷ [])
+            rest))
             (append_assoc before (Some entry ∷ []) rest)
             (next (before ++ Some entry ∷ []) (commands ++ command ∷ []) more low))
 
@@ -363,7 +373,8 @@ pub read_sound : (d : ℕ) (bytes : List ℕ) (commands : List Command) → acco
 read_sound d bytes commands e = subst (ComesTo d (said_by_accounts d bytes)) e (file_comes d bytes)
 
 -- and the fault has its cause
-pub read_fault : (d : ℕ) (bytes : List ℕ) (fault : AccountFault) → (fault ≡ NoMemory) ⊎ (accounts_book d bytes ≡ Err fault) →
+pub read_fault : (d : ℕ) (bytes : List ℕ) (fault : AccountFault) →
+    (fault ≡ NoMemory) ⊎ (accounts_book d bytes ≡ Err fault) →
     (fault ≡ NoMemory) ⊎ IsAccountFaultOf d (said_by_accounts d bytes) fault
 read_fault d bytes fault (inl none) = inl none
 read_fault d bytes fault (inr e) = inr (subst (ComesTo d (said_by_accounts d bytes)) e (file_comes d bytes))
@@ -373,7 +384,8 @@ good_judged : (d : ℕ) (before : List (Option Entry)) (commands : List Command)
     (more : List Command) (rest : List (Option Entry)) → length more ≡ length said →
     ((k : ℕ) → k < length said → (entry : Entry) × (command : Command) × (slice_get said k ≡ Some (Some entry))
     × (slice_get more k ≡ Some command) × AddsCommand (before ++ take k said) entry command) →
-    IsDraft d (commands ++ more) → account_commands d before commands (said ++ rest) ≡ account_commands d (before ++ said)
+    IsDraft d (commands ++ more) → account_commands d before commands (said ++ rest) ≡ account_commands d
+    (before ++ said)
     (commands ++ more) rest
 good_judged d before commands [] [] rest same each draft =
     rw (append-nil before, append-nil commands) refl
@@ -402,7 +414,8 @@ good_judged d before commands (one ∷ said) (command ∷ more) rest same each d
 
 -- from the first line on
 all_judged : (d : ℕ) (before : List (Option Entry)) (commands : List Command) (rest : List (Option Entry)) →
-    AreGoodAccountLines d before commands → account_commands d [] [] (before ++ rest) ≡ account_commands d before commands rest
+    AreGoodAccountLines d before commands → account_commands d [] [] (before ++ rest)
+    ≡ account_commands d before commands rest
 all_judged d before commands rest good = good_judged d [] [] before commands rest good.same good.each good.draft
 
 -- a period that may not end
@@ -442,7 +455,8 @@ end_breaks d commands value (Revoked q) (ends, many) = rw many.0 (crowded d comm
 
 -- what is judged where a limit is broken
 breaks_judged : (d : ℕ) (before : List (Option Entry)) (commands : List Command) (rest : List (Option Entry))
-    (fault : AccountFault) → NextBreaks d before commands rest fault → account_commands d before commands rest ≡ Err fault
+    (fault : AccountFault) → NextBreaks d before commands rest fault → account_commands d before commands rest
+    ≡ Err fault
 breaks_judged d before commands [] fault (limit, next, none, is, breaks) =
     let broken = end_breaks d commands commands limit (subst (λ rest. BreaksLimit d commands rest limit) none breaks) in
     rw (broken, is) refl
@@ -471,10 +485,12 @@ cause_judged d said fault (before, rest, commands, is, good, cause) =
 within_judged : (d : ℕ) (said : List (Option Entry)) (commands : List Command) → AreGoodAccountLines d said commands →
     IsWithinLimits d commands → account_commands d [] [] said ≡ Ok commands
 within_judged d said commands good all =
-    ap (account_commands d [] []) (sym (append-nil said)) ∙ all_judged d said commands [] good ∙ book_ends d commands all
+    ap (account_commands d [] []) (sym (append-nil said)) ∙ all_judged d said commands [] good
+    ∙ book_ends d commands all
 
 -- lines have one fault
-pub one_cause : (d : ℕ) (said : List (Option Entry)) (a b : AccountFault) → IsAccountFaultOf d said a → IsAccountFaultOf d said b →
+pub one_cause : (d : ℕ) (said : List (Option Entry)) (a b : AccountFault) → IsAccountFaultOf d said a →
+    IsAccountFaultOf d said b →
     a ≡ b
 one_cause d said a b x y =
     let same : Err a ≡ Err b = sym (cause_judged d said a x) ∙ cause_judged d said b y in cc
@@ -487,7 +503,8 @@ no_cause d said commands fault good all x =
     absurd cc
 
 -- such lines are read as these commands
-pub read_again : (d : ℕ) (bytes : List ℕ) (commands : List Command) → AreGoodAccountLines d (said_by_accounts d bytes) commands →
+pub read_again : (d : ℕ) (bytes : List ℕ) (commands : List Command) →
+    AreGoodAccountLines d (said_by_accounts d bytes) commands →
     IsWithinLimits d commands → accounts_book d bytes ≡ Ok commands
 unfolding accounts_book
 read_again d bytes commands good all = within_judged d (said_by_accounts d bytes) commands good all
@@ -501,7 +518,8 @@ read_wanting d bytes commands fault good all (inr e) =
     let same : Ok commands ≡ Err fault = sym (read_again d bytes commands good all) ∙ e in absurd cc
 
 -- what they are read as is these commands
-pub read_same : (d : ℕ) (bytes : List ℕ) (commands got : List Command) → AreGoodAccountLines d (said_by_accounts d bytes) commands →
+pub read_same : (d : ℕ) (bytes : List ℕ) (commands got : List Command) →
+    AreGoodAccountLines d (said_by_accounts d bytes) commands →
     IsWithinLimits d commands → accounts_book d bytes ≡ Ok got → got ≡ commands
 read_same d bytes commands got good all e =
     let same : Ok commands ≡ Ok got = sym (read_again d bytes commands good all) ∙ e in cc

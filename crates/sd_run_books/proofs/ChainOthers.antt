@@ -34,7 +34,8 @@ other_newest_of word bytes most words (Err fault) = λ e. cc
 other_newest_of word bytes most words (Ok newest) =
     by (nat_lt most newest.0.first_period) (has_word_room words.value newest.0)
   where
-    by : (past room : Bool) → IsOther {A = SiteFields × Option BookLine} (if past then Err (refused_site word bytes (Range 12))
+    by : (past room : Bool) → IsOther {A = SiteFields × Option BookLine}
+        (if past then Err (refused_site word bytes (Range 12))
         else if room then Ok newest else Err (BadWord words.word))
     by true room = λ e. cc
     by false true = tt

@@ -1,5 +1,6 @@
 -- Whether a text is a decimal, however large.
-use Rattle.std.proofs.Common.{◌≡◌, ℕ, ◌^◌, Bool, true, false, List, [], Option, Some, None, Result, Ok, Err, nat_lt, refl}
+use Rattle.std.proofs.Common.{◌≡◌, ℕ, ◌^◌, Bool, true, false, List, [], Option, Some, None, Result, Ok, Err, nat_lt}
+use Rattle.std.proofs.Common.{refl}
 use Rattle.std.proofs.Common.{subst, sym, ap}
 use Rattle.std.specs.Prelude.{is_some, if◌then◌else◌}
 use Rattle.sd_base.specs.declared.decimals.NumberFault.{NumberFault}
@@ -8,12 +9,14 @@ use Rattle.sd_base.specs.Number.{decimal_value, rest_after, decimal_after, fitti
 use Rattle.sd_base.proofs.Fitting.{fits_is}
 
 -- a decimal of 32 bits
-pub is_there : (u : ℕ) (text : List ℕ) → fitting_u32 (decimal_after [] text) ≡ Ok u → is_some (decimal_value text) ≡ true
+pub is_there : (u : ℕ) (text : List ℕ) → fitting_u32 (decimal_after [] text) ≡ Ok u →
+    is_some (decimal_value text) ≡ true
 unfolding rest_after
 is_there u text e = ap is_some (fits_is (decimal_value text) u e)
 
 -- a larger one
-pub is_large : (text : List ℕ) → fitting_u32 (decimal_after [] text) ≡ Err TooLarge → is_some (decimal_value text) ≡ true
+pub is_large : (text : List ℕ) → fitting_u32 (decimal_after [] text) ≡ Err TooLarge →
+    is_some (decimal_value text) ≡ true
 unfolding rest_after
 is_large text e = by (decimal_value text) e
   where
@@ -22,7 +25,8 @@ is_large text e = by (decimal_value text) e
     by (Some n) e = refl
 
 -- none
-pub is_none : (text : List ℕ) → fitting_u32 (decimal_after [] text) ≡ Err Malformed → is_some (decimal_value text) ≡ false
+pub is_none : (text : List ℕ) → fitting_u32 (decimal_after [] text) ≡ Err Malformed →
+    is_some (decimal_value text) ≡ false
 unfolding rest_after
 is_none text e = by (decimal_value text) e
   where

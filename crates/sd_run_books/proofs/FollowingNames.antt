@@ -27,7 +27,8 @@ said_below digits next n m below one other =
 
 -- or is the greatest
 pub said_top : (digits next : List ℕ) (n m : ℕ) → most_word ≤ n → fitting_u32 (decimal_after [] digits) ≡ Ok n →
-    fitting_u32 (decimal_after [] next) ≡ Ok m → nat_lt n most_word ≡ is_one_up (decimal_value digits) (decimal_value next)
+    fitting_u32 (decimal_after [] next) ≡ Ok m → nat_lt n most_word ≡ is_one_up (decimal_value digits)
+    (decimal_value next)
 said_top digits next n m top one other =
     let least = le-ltb n most_word top in
     least ∙ sym (both_said digits next n m one other ∙ ap (λ (b : Bool). b && (m == n + 1)) least)

@@ -67,7 +67,8 @@ same_more d before said leaf_for new marks none free same kept = record {
 -- a line that binds a free name to a leaf of the tree
 bound_more : (d : ℕ) (before : List (Option Entry)) (other : List ℕ) (leaf : ℕ) (leaf_for new : List ℕ → Option ℕ)
     (marks : List Bool) → leaf < 2 ^ d → leaf_for other ≡ None →
-    ((name : List ℕ) → new name ≡ leaf_of_name_after (Assigns other leaf) leaf_for name) → AreAccountsKept d before leaf_for marks →
+    ((name : List ℕ) → new name ≡ leaf_of_name_after (Assigns other leaf) leaf_for name) →
+    AreAccountsKept d before leaf_for marks →
     AreAccountsKept d (before ++ Some (Assigns other leaf) ∷ []) new (slice_set marks leaf true)
 bound_more d before other leaf leaf_for new marks low free is kept = record {
   full = length-set marks leaf true ∙ kept.full;

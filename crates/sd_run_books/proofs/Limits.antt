@@ -72,7 +72,8 @@ pub book_ends_not : (d : ℕ) (commands : List Command) (fault : BookFault) → 
     (IsWithinLimits d commands → ⊥) → IsBrokenLimit d commands [] fault →
     allowed (period_end_check d commands commands) ≡ Err (as_fault fault)
 book_ends_not d commands fault all none broken =
-    ap allowed (end_by {A = Unit {0}} d commands tt commands fault (by (period_end_check {A = Unit {0}} d commands tt) refl))
+    ap allowed (end_by {A = Unit {0}} d commands tt commands fault (by (period_end_check {A = Unit {0}} d commands tt)
+    refl))
   where
     by : (r : Result (Unit {0}) BookFault) → period_end_check {A = Unit {0}} d commands tt ≡ r → r ≡ Err fault
     by (Ok u) e = absurd (none (within_by_end d commands u all e))

@@ -61,7 +61,8 @@ pub longer_made : (word d : ℕ) (commands added whole : List Command) (out : Fi
     OutcomeWithin (of_result (longer_book word d commands added) >>= λ longer.
     value (making NoSteps out (text_of_book longer))) a b status
 longer_made word d commands added whole out bytes a b status is same made =
-    judged_obeys (longer_book word d commands added) whole (λ longer. value (making NoSteps out (text_of_book longer))) a b
+    judged_obeys (longer_book word d commands added) whole (λ longer. value (making NoSteps out (text_of_book longer)))
+    a b
     status is (subst (λ (text : List ℕ). OutcomeWithin (value (making NoSteps out text)) a b status) same made)
 
 -- good files mean that OUT becomes the file of the longer book

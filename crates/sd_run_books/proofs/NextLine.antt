@@ -19,7 +19,8 @@ use Rattle.sd_run_books.specs.Kept.{IsBelow, mark_of, AreAccountsKept}
 
 -- what is kept of the lines gives the command that one more makes
 pub same_command : (d : ℕ) (before : List (Option Entry)) (entry : Entry) (leaf_for : List ℕ → Option ℕ)
-    (marks : List Bool) (k : ℕ) → AreAccountsKept d before leaf_for marks → IsBelow (2 ^ d) entry → k ≡ length before + 1 →
+    (marks : List Bool) (k : ℕ) → AreAccountsKept d before leaf_for marks → IsBelow (2 ^ d) entry →
+    k ≡ length before + 1 →
     command_by leaf_for (mark_of marks) k (Some entry) ≡ command_after before (Some entry)
 same_command d before (Assigns name u) leaf_for marks k kept low e = rw (kept.leaves name, kept.held u low, e) refl
 same_command d before (Drops name) leaf_for marks k kept low e = rw (kept.leaves name, e) refl
@@ -70,7 +71,8 @@ command_within d before Ends leaf_for marks command kept low e =
 
 -- a line that makes no command
 pub command_refused : (d : ℕ) (before : List (Option Entry)) (commands : List Command) (said : Option Entry)
-    (fault : AccountFault) → command_after before said ≡ Err fault → judged_account_line d before commands said ≡ Err fault
+    (fault : AccountFault) → command_after before said ≡ Err fault → judged_account_line d before commands said
+    ≡ Err fault
 command_refused d before commands said fault e = rw e refl
 
 -- a command that breaks a limit
@@ -88,7 +90,8 @@ line_taken d before commands said command e fits = rw (e, fits) refl
 -- what is judged after a line that is taken
 pub judged_taken : (d : ℕ) (before : List (Option Entry)) (commands : List Command) (said : Option Entry)
     (rest : List (Option Entry)) (command : Command) → judged_account_line d before commands said ≡ Ok command →
-    account_commands d before commands (said ∷ rest) ≡ account_commands d (before ++ said ∷ []) (commands ++ command ∷ []) rest
+    account_commands d before commands (said ∷ rest) ≡ account_commands d (before ++ said ∷ [])
+    (commands ++ command ∷ []) rest
 judged_taken d before commands said rest command e = rw e refl
 
 -- what is judged where a line is refused

@@ -14,7 +14,8 @@ use Rattle.sd_book.specs.declared.fault.BookFault.{BookFault}
 use Rattle.sd_book.specs.declared.fault.BookFault.TheVariants.{Limit}
 use Rattle.sd_book.specs.declared.fault.BookLimit.TheVariants.{Lines}
 use Rattle.sd_book.specs.Limits.{most_commands}
-use Rattle.sd_book.specs.Text.{in_tree, period_fits, book_commands as judged_from, judged_book_line, book_of, command_of}
+use Rattle.sd_book.specs.Text.{in_tree, period_fits, book_commands as judged_from, judged_book_line, book_of}
+use Rattle.sd_book.specs.Text.{command_of}
 use Rattle.sd_book.specs.Text.{said_by_book, ◌>>=◌}
 use Rattle.sd_book.proofs.Judged.{bind_ok, ended_ok, fits_same, guard_ok, line_command}
 use Rattle.sd_command_base.specs.declared.status.Status.{Status}
@@ -48,7 +49,8 @@ all_said d before [] commands e =
     let ends = ended_ok d before before commands e in
     ap (map Some) (sym ends.1) ∙ sym (append-nil (map Some before))
 all_said d before (said ∷ rest) commands e =
-    let step = bind_ok (judged_book_line d before said) (λ command. judged_from d (before ++ command ∷ []) rest) commands
+    let step = bind_ok (judged_book_line d before said) (λ command. judged_from d (before ++ command ∷ []) rest)
+    commands
     e in
     let is = line_said d before said step.0 step.1 in
     all_said d (before ++ step.0 ∷ []) rest commands step.2
@@ -145,7 +147,8 @@ longer_says : (word d : ℕ) (line : Option BookLine) (bytes : List ℕ) (text :
 longer_says word d line bytes text size e = by (begins_with_book line bytes) refl e
   where
     by : (begins : Bool) → begins_with_book line bytes ≡ begins →
-        (if begins then whole_book_or_status word bytes (book_or_status word d bytes (book_of d bytes)) else Err OtherBook) ≡ Ok text
+        (if begins then whole_book_or_status word bytes (book_or_status word d bytes (book_of d bytes))
+        else Err OtherBook) ≡ Ok text
         →
         IsLonger d line text
     by true begins e =

@@ -29,7 +29,8 @@ pub record FourGiven (files : Option Files) (g h : Readings) (a b c d : FileArgu
   pub third : given c ≡ h c
   pub fourth : given d ≡ h d
 
-pub four_given : (files : Option Files) (g h : Readings) (a b c d : FileArgument) → AreReadingsOfFiles files g → AreReadingsOfFiles files h →
+pub four_given : (files : Option Files) (g h : Readings) (a b c d : FileArgument) → AreReadingsOfFiles files g →
+    AreReadingsOfFiles files h →
     a.number ≢ c.number → a.number ≢ d.number → b.number ≢ c.number → b.number ≢ d.number →
     FourGiven files g h a b c d
 four_given None g h a b c d is more ac ad bc bd = record {

@@ -1,5 +1,6 @@
 -- The periods in which it changes whether a receiver is entitled, one after the other.
-use Rattle.std.proofs.Common.{◌≡◌, ℕ, zero, suc, ◌+◌, ◌-◌, ◌≤◌, ◌==◌, Bool, true, false, not, min, arith, List, [], ◌∷◌, ◌++◌}
+use Rattle.std.proofs.Common.{◌≡◌, ℕ, zero, suc, ◌+◌, ◌-◌, ◌≤◌, ◌==◌, Bool, true, false, not, min, arith, List, [], ◌∷◌}
+use Rattle.std.proofs.Common.{◌++◌}
 use Rattle.std.proofs.Common.{Option, Some, None, append-nil, refl, ap, sym, ◌∙◌}
 use Rattle.std.specs.Prelude.{filter, flat_map, if◌then◌else◌}
 use Rattle.std.specs.List.{range_with_len}
@@ -82,7 +83,8 @@ pub text_more : (site : SiteFields) (commands : List Command) (u turn : ℕ) (he
     now ≡ is_entitled site.height commands u (site.first_period + turn) →
     before ≡ before_at (is_entitled site.height commands u) site.first_period turn →
     text ≡ head ++ flat_map (λ q. entitled_line u (is_entitled site.height commands u q) q)
-    (filter (is_change site.first_period (is_entitled site.height commands u)) (range_with_len site.first_period turn)) →
+    (filter (is_change site.first_period (is_entitled site.height commands u)) (range_with_len site.first_period turn))
+    →
     more ≡ text ++ (if is_same_state before now then [] else entitled_line u now (site.first_period + turn)) →
     more ≡ head ++ flat_map (λ q. entitled_line u (is_entitled site.height commands u q) q)
     (filter (is_change site.first_period (is_entitled site.height commands u))

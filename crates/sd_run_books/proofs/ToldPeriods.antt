@@ -11,7 +11,8 @@ use Rattle.sd_site_cards.specs.SiteFields.{SiteFields}
 use Rattle.sd_book.specs.declared.command.Command.{Command}
 use Rattle.sd_book.specs.Commands.{commands_until, last_period, revoked, revoked_after}
 use Rattle.sd_book.proofs.Cuts.{same_revoked}
-use Rattle.sd_run_books.specs.Told.{change_text, changed, commands_told_before, chain_period_text, told_at, told_of_period}
+use Rattle.sd_run_books.specs.Told.{change_text, changed, commands_told_before, chain_period_text, told_at}
+use Rattle.sd_run_books.specs.Told.{told_of_period}
 
 -- the first packet of a period is a number of 64 bits
 pub packet_fits : (turn span cryptos every : ℕ) → turn ≤ 1023 → span ≤ 65535 → cryptos ≤ 256 → every ≤ 4096 →
@@ -34,7 +35,8 @@ told_more site turn was is count text head all (Ok done) counted begun more =
     let turned : turn ≡ site.first_period + turn - site.first_period = omega arith in
     more
     ∙ ap (λ (xs : List ℕ). xs ++ changes) begun
-    ∙ append_assoc text (chain_period_text (site.first_period + turn) (turn * site.span * site.cryptos * site.every) count)
+    ∙ append_assoc text (chain_period_text (site.first_period + turn) (turn * site.span * site.cryptos * site.every)
+    count)
     changes
     ∙ ap (λ (n : ℕ). text ++ (chain_period_text (site.first_period + turn)
     (turn * site.span * site.cryptos * site.every) n ++ changes)) counted

@@ -81,7 +81,8 @@ plan_period_line q revoked sets entitlements cryptos =
 -- the line of period q of n crypto periods
 abbrev pub line_at : Plan → ℕ → ℕ → List ℕ
 line_at plan n q =
-    plan_period_line q (length (revoked plan.site.height plan.commands q)) (length (sets_at plan q)) (entitlements_at plan q)
+    plan_period_line q (length (revoked plan.site.height plan.commands q)) (length (sets_at plan q))
+    (entitlements_at plan q)
     (cryptos_in plan n q)
 
 -- the line of these messages, each of so many parts

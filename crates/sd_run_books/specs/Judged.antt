@@ -51,10 +51,12 @@ judged_account_line d before commands said =
     command_after before said >>= λ command. allowed (command_fits d commands command)
 
 -- the commands with those that the lines after them make: the first bad line decides, and the last period comes last
-abbrev pub account_commands : ℕ → List (Option Entry) → List Command → List (Option Entry) → Result (List Command) AccountFault
+abbrev pub account_commands : ℕ → List (Option Entry) → List Command → List (Option Entry) →
+    Result (List Command) AccountFault
 account_commands d before commands [] = allowed (period_end_check d commands commands)
 account_commands d before commands (said ∷ rest) =
-    judged_account_line d before commands said >>= λ command. account_commands d (before ++ said ∷ []) (commands ++ command ∷ []) rest
+    judged_account_line d before commands said >>= λ command. account_commands d (before ++ said ∷ [])
+    (commands ++ command ∷ []) rest
 
 -- the commands that an accounts file makes for a tree of height d, one a line, or its first fault
 unfoldable pub accounts_book : ℕ → List ℕ → Result (List Command) AccountFault

@@ -38,7 +38,8 @@ abbrev pub mark_of : List Bool → ℕ → Bool
 mark_of marks u = get_or marks u false
 
 -- what is kept of these lines for a tree of height d
-pub record AreAccountsKept (d : ℕ) (said : List (Option Entry)) (leaf_for : List ℕ → Option ℕ) (marks : List Bool) : Type 0 where
+pub record AreAccountsKept (d : ℕ) (said : List (Option Entry)) (leaf_for : List ℕ →
+    Option ℕ) (marks : List Bool) : Type 0 where
   pub full : length marks ≡ 2 ^ d
   pub leaves : (name : List ℕ) → leaf_for name ≡ leaf_of name said
   pub held : (u : ℕ) → u < 2 ^ d → mark_of marks u ≡ is_held u said
@@ -51,7 +52,8 @@ pub record IsRead (d : ℕ) (bytes rest : List ℕ) (commands : List Command) (l
   pub all : said_by_accounts d bytes ≡ before ++ said_by_accounts d rest
   pub count : length before ≡ length commands
   pub kept : AreAccountsKept d before leaf_for marks
-  pub same : account_commands d [] [] (said_by_accounts d bytes) ≡ account_commands d before commands (said_by_accounts d rest)
+  pub same : account_commands d [] [] (said_by_accounts d bytes) ≡ account_commands d before commands
+      (said_by_accounts d rest)
 
 -- names in the order of their bytes
 abbrev pub name_cmp : ArrayString → ArrayString → Ordering

@@ -16,7 +16,8 @@ use Rattle.sd_run_books.specs.Fingerprint.{fingerprint_in}
 abbrev pub labels_for : ℕ → ℕ
 labels_for d = d * (d + 1) / 2
 
--- What is shown of a card: the height, the leaf, the conditional access system, the check at the end of its file and the
+-- What is shown of a card: the height, the leaf, the conditional access system, the check at the end of its file and
+-- the
 -- fingerprint of its master. No key and no label is among them [this project, docs/FORMATS.md, Card].
 unfoldable pub shown_data : ℕ → ℕ → ℕ → List ℕ → List ℕ → Data
 shown_data height leaf ca check master = object

@@ -51,7 +51,8 @@ commands_told_before site own commands q =
 
 -- the lines of period q of a book
 abbrev pub told_at : SiteFields → List Command → List Command → ℕ → List ℕ
-told_at site own commands q = told_of_period site q (commands_told_before site own commands q) (commands_until q commands)
+told_at site own commands q = told_of_period site q (commands_told_before site own commands q)
+    (commands_until q commands)
 
 -- the periods that are told of a site: from its first one to the last one of its book, or the first one alone
 abbrev pub told_periods : SiteFields → List Command → List ℕ

@@ -44,7 +44,8 @@ impl Accounts {
         ensures height { IfOk result (λ accounts. accounts.book.height ≡ h) }
         ensures fits { IfOk result (λ accounts. IsWithinLimits h accounts.book.commands) }
         ensures accounts { IfOk result (λ accounts. IsListOf (said_by_accounts h bytes.now) accounts.accounts) }
-        ensures sound { IfOk result (λ accounts. AreGoodAccountLines h (said_by_accounts h bytes.now) accounts.book.commands) }
+        ensures sound { IfOk result (λ accounts. AreGoodAccountLines h (said_by_accounts h bytes.now)
+            accounts.book.commands) }
         ensures complete { (commands : List Commands) →
             AreGoodAccountLines h (said_by_accounts h bytes.now) commands → IsWithinLimits h commands →
             MatchResult result (λ accounts. accounts.book.commands ≡ commands)

@@ -50,7 +50,8 @@ fn make_book<D: Depot, P: Sink>(
     accounts: &Accounts,
 ) -> Result<(), Status>
     ensures { (steps : ℕ) → OutcomeWithin
-        (value (making_then (shown_word out.entry) (text_of_book accounts.now.book.commands) (accounts_line accounts.now)))
+        (value (making_then (shown_word out.entry) (text_of_book accounts.now.book.commands)
+        (accounts_line accounts.now)))
         (io_state_at D.Depot P.Sink depot.old print.old steps)
         (io_state_at D.Depot P.Sink depot.new print.new steps) (status_of result) }
 {

@@ -43,7 +43,8 @@ fn card_of<L: Ledger>(
     leaf: Number,
     steps: &mut Steps<L>,
 ) -> Result<Vec<u8>, Status>
-    ensures value { JudgedOutcome (λ bytes. bytes.items) (made_card (site_fields_of site.now) (shown_number leaf)) result }
+    ensures value { JudgedOutcome (λ bytes. bytes.items) (made_card (site_fields_of site.now) (shown_number leaf))
+        result }
     ensures steps { TakesFor (made_card (site_fields_of site.now) (shown_number leaf)) steps.old steps.new }
 {
     let Some(of_tree) = Leaf::new(site.height, leaf.value) else {

@@ -29,7 +29,8 @@ pub fn printed_useful_sets_unite()
 /// revoked in the last period of the book, each once.
 pub fn printed_leaves_are_the_coalition()
     ensures text { (d : ℕ) (coalition : List ℕ) (commands : List Command) (text : List ℕ) →
-        trace_outcome d coalition commands ≡ Ok text → text ≡ trace_text (trace_of d coalition (revoked_last d commands)) }
+        trace_outcome d coalition commands ≡ Ok text → text ≡ trace_text
+        (trace_of d coalition (revoked_last d commands)) }
     ensures trace { (d : ℕ) (coalition : List ℕ) (commands : List Command) → 1 ≤ d → d ≤ highest →
         IsTrace d coalition (revoked_last d commands) (trace_of d coalition (revoked_last d commands)) }
     ensures leaves { (d : ℕ) (coalition : List ℕ) (commands : List Command) (u : ℕ) → 1 ≤ d → d ≤ highest →

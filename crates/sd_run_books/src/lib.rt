@@ -1,6 +1,7 @@
 //! The commands on books and cards: `accounts` makes a book of the accounts of receivers by name, `book` makes one
 //! longer, `plan` and `apart` judge one before it is sent. `cover`, `layered`, `opens` and `trace` are on the cover of
-//! each period, `status` on a receiver in it, `card`, `lcard` and `show` on cards. `next` and `twin` make the sites of a chain.
+//! each period, `status` on a receiver in it, `card`, `lcard` and `show` on cards. `next` and `twin` make the sites of
+//! a chain.
 #![tactic(auto)]
 
 mod account_cause;

@@ -3,7 +3,8 @@ ghost use Rattle.std.specs.Prelude.{MatchResult};
 ghost use Rattle.std.specs.Prelude.{slice_set, vec_len};
 ghost use Rattle.std.specs.BTreeMap.{IsOrdered};
 ghost use Rattle.sd_run_books.specs.Judged.{command_by};
-ghost use Rattle.sd_run_books.specs.Kept.{IsBelow, AreAccountsKept, leaf_of_name_after, leaf_named, marks_after, mark_of, name_cmp};
+ghost use Rattle.sd_run_books.specs.Kept.{IsBelow, AreAccountsKept, leaf_of_name_after, leaf_named, marks_after};
+ghost use Rattle.sd_run_books.specs.Kept.{mark_of, name_cmp};
 ghost use Rattle.sd_run_books.specs.Line.{Assigns};
 ghost use Rattle.sd_run_books.specs.Read.{line_entry};
 

@@ -51,7 +51,8 @@ fn read_roomy_site<D: Depot>(
     packets: Number,
 ) -> Result<Site, Status>
     requires { 1 ≤ packets.value }
-    ensures { FileOutcome site_fields_of (roomy_site_of_file word.entry.number (shown_number packets)) word.entry.text.now
+    ensures { FileOutcome site_fields_of (roomy_site_of_file word.entry.number (shown_number packets))
+        word.entry.text.now
         (depot_state D.Depot depot.old) (depot_state D.Depot depot.new) result }
 {
     let site = read_site(alloc, depot, word)?;

@@ -1,7 +1,8 @@
 //! The lines that are printed.
 
 ghost use Rattle.std.specs.Prelude.{◌≡◌, ◌^◌, ◌<◌, ◌≤◌, ◌++◌, OnOk, string_bytes};
-ghost use Rattle.sd_run_books.specs.Air.{plan_clear_line, end_lines, message_count_line, plan_period_line, place_line, rate_line};
+ghost use Rattle.sd_run_books.specs.Air.{plan_clear_line, end_lines, message_count_line, plan_period_line, place_line};
+ghost use Rattle.sd_run_books.specs.Air.{rate_line};
 ghost use Rattle.sd_run_books.specs.Air.{total_lines};
 
 use std::alloc::AllocError;

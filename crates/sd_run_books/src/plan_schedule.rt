@@ -24,7 +24,8 @@ pub(crate) fn cryptos_for(site: &Site, packets: u32) -> u32
 /// The number of the last control word of this number of crypto periods.
 pub(crate) fn last_word(site: &Site, cryptos: u32) -> u64
     requires { 1 ≤ cryptos }
-    ensures { (m : ℕ) → cryptos ≡ cryptos_of (site_fields_of site.now) m → result ≡ last_word_for (site_fields_of site.now) m }
+    ensures { (m : ℕ) → cryptos ≡ cryptos_of (site_fields_of site.now) m →
+        result ≡ last_word_for (site_fields_of site.now) m }
 {
     u64::from(site.first_word) + u64::from(cryptos - 1)
 }

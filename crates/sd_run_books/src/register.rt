@@ -29,9 +29,11 @@ impl Register {
     pub(crate) fn read(alloc: Global, bytes: &[u8], h: Height) -> Result<Register, AccountFault>
         ensures height { IfOk result (λ register. register.draft.height ≡ h) }
         ensures kept { IfOk result (λ register.
-            AreAccountsKept h (said_by_accounts h bytes.now) (leaf_named register.names.leaves) register.names.marks.items) }
+            AreAccountsKept h (said_by_accounts h bytes.now) (leaf_named register.names.leaves)
+            register.names.marks.items) }
         ensures value { MatchResult result
-            (λ register. accounts_book h bytes.now ≡ allowed (period_end_check h register.draft.commands register.draft.commands))
+            (λ register. accounts_book h bytes.now ≡ allowed
+            (period_end_check h register.draft.commands register.draft.commands))
             (λ fault. (fault ≡ AccountFault.NoMemory) ⊎ (accounts_book h bytes.now ≡ Err fault)) }
     {
         let mut register = Register {
@@ -85,7 +87,8 @@ impl Register {
         ensures value { MatchResult result
             (λ parts. allowed (period_end_check self.draft.height self.draft.commands self.draft.commands)
             ≡ Ok parts.0.commands)
-            (λ fault. allowed (period_end_check self.draft.height self.draft.commands self.draft.commands) ≡ Err fault) }
+            (λ fault. allowed (period_end_check self.draft.height self.draft.commands self.draft.commands)
+            ≡ Err fault) }
     {
         prove!(self.draft.commands().len() <= MOST_COMMANDS);
         let leaves = self.names.into_leaves();

@@ -54,7 +54,8 @@ fn read_tree<D: Depot>(
 
 /// The site and the leaf of this number, which its tree must have.
 fn judge_leaf(site: Site, leaf: Number) -> Result<(Site, Leaf), Status>
-    ensures value { SureOutcome (λ found. site_fields_of found.0) (told_tree (shown_number leaf) (site_fields_of site)) result }
+    ensures value { SureOutcome (λ found. site_fields_of found.0) (told_tree (shown_number leaf) (site_fields_of site))
+        result }
     ensures leaf { IfOk result (λ found. found.1 ≡ leaf.value) }
 {
     match Leaf::new(site.height, leaf.value) {

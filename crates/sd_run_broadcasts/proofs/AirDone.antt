@@ -15,7 +15,8 @@ use Rattle.sd_command_base.specs.Outside.{DepotState, PageState, io_state}
 use Rattle.sd_command_base.specs.Spec.{FileArgument}
 use Rattle.sd_command_base.specs.Work.{Work}
 use Rattle.sd_command_base.specs.Made.{out_file}
-use Rattle.sd_command_base.specs.Outcome.{IsEnding, IsOutMade, IsOutMadeShort, Outcome, ended, exhausted, failed, cut_off}
+use Rattle.sd_command_base.specs.Outcome.{IsEnding, IsOutMade, IsOutMadeShort, Outcome, ended, exhausted, failed}
+use Rattle.sd_command_base.specs.Outcome.{cut_off}
 use Rattle.sd_command_base.specs.Outcome.{writing, printing, OutcomeWithin, status_of}
 use Rattle.sd_command_base.specs.Turned.{HasPortCause, ArePortsClosed, unclosed_by}
 use Rattle.sd_command_base.proofs.Turning.{added_later, all_prefix, both_closed, rises, still}
@@ -51,7 +52,8 @@ stop_closing sent s status is (inl memory) same =
 stop_closing sent s status is (inr device) same = faulty (sym same ∙ device) (ap status_in is ∙ device)
 
 closing_by : (plan : Plan) (bytes : List ℕ) (held held' : Option (List ℕ)) (sent : Result Finished Status)
-    (status : Status) → SendsLiveStream plan bytes held held' sent → sending_result sent ≡ Err status → Closing sent status
+    (status : Status) → SendsLiveStream plan bytes held held' sent → sending_result sent ≡ Err status →
+    Closing sent status
 closing_by plan bytes held held' (Ok finished) status h is = cc
 closing_by plan bytes held held' (Err s) status h is = stop_closing (Err s) s status refl h.0 (same is)
   where
@@ -122,7 +124,8 @@ module _ (plan : Plan) (site out : FileArgument) (a m r : DepotState) (from : Li
   device_failed : (status : Status) → status ≡ DepotFault → HasRisen a.faults r.faults →
       Outcome (Ok work) (io_state a page i) (io_state r page j) status
   device_failed status is rose =
-      failed is (writing work refl (out_file out (live_sent plan h.sends.bytes)) refl short refl) rose (λ breaks. cc) refl
+      failed is (writing work refl (out_file out (live_sent plan h.sends.bytes)) refl short refl) rose
+      (λ breaks. cc) refl
       missed
 
   -- the outside stopped it, or OUT failed to close

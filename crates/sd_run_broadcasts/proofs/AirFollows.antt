@@ -10,7 +10,8 @@ use Rattle.sd_command_base.specs.declared.status.Status.{Status}
 use Rattle.sd_command_base.specs.declared.status.Status.TheVariants.{SiteUsed}
 use Rattle.sd_command_base.specs.Outside.{DepotState, PageState, IoState, io_state}
 use Rattle.sd_command_base.specs.Work.{Work, all_calls}
-use Rattle.sd_command_base.specs.Spec.{Spec, FileArgument, Readings, AreReadingsOfFiles, IsReadingOfFile, whole_file_bytes, value, ◌>>=◌}
+use Rattle.sd_command_base.specs.Spec.{Spec, FileArgument, Readings, AreReadingsOfFiles, IsReadingOfFile}
+use Rattle.sd_command_base.specs.Spec.{whole_file_bytes, value, ◌>>=◌}
 use Rattle.sd_command_base.specs.Made.{out_file, unused, used_name}
 use Rattle.sd_command_base.specs.Outcome.{IsRefusal, Outcome, refused, exhausted, failed, nowhere}
 use Rattle.sd_command_base.specs.Outcome.{unmarked as unmarkable}
@@ -63,7 +64,8 @@ module _ (plan : Plan) (site clear out : FileArgument) (a b : DepotState) (page 
     (apart : site.number ≢ clear.number) where
   abbrev Comes : Option (List ℕ) → Option (List ℕ) → Status → Type 0
   Comes got more status =
-      Outcome (aired_by plan site clear.number out got more).result (io_state a page steps) (io_state b page steps) status
+      Outcome (aired_by plan site clear.number out got more).result (io_state a page steps) (io_state b page steps)
+      status
 
   abbrev Obeys : Status → Type 0
   Obeys status =
@@ -135,7 +137,8 @@ module _ (plan : Plan) (site clear out : FileArgument) (a b : DepotState) (page 
       let more = some_got a.files (used_name site.text) in
       aired_follows plan site clear out (io_state a page steps) (io_state b page steps) status None more.0 apart
       (none_got a.files clear.text none) more.1
-      (first_obeys (whole_file_bytes clear.number None) (λ bytes. unused more.0 >>= λ new. value (airing plan site out bytes)) a b
+      (first_obeys (whole_file_bytes clear.number None) (λ bytes. unused more.0 >>=
+      λ new. value (airing plan site out bytes)) a b
       page steps status (inl (record {
         value = ap Err (sym is);
         refusal = subst IsRefusal (sym is) tt;
@@ -148,7 +151,8 @@ module _ (plan : Plan) (site clear out : FileArgument) (a b : DepotState) (page 
       let more = some_got a.files (used_name site.text) in
       aired_follows plan site clear out (io_state a page steps) (io_state b page steps) status got.0 more.0 apart got.1
       more.1
-      (first_obeys (whole_file_bytes clear.number got.0) (λ bytes. unused more.0 >>= λ new. value (airing plan site out bytes)) a
+      (first_obeys (whole_file_bytes clear.number got.0) (λ bytes. unused more.0 >>=
+      λ new. value (airing plan site out bytes)) a
       b page steps status (inr (record {
         cause = stopped.cause;
         asked = record {
@@ -178,7 +182,8 @@ longer name =
     (λ same. let sum = length-append name (codes ".used") in omega (arith, same, sum))
 
 four_given : (files : Option Files) (given other : Readings) (site book clear : FileArgument) →
-    AreReadingsOfFiles files given → AreReadingsOfFiles files other → site.number ≢ book.number → site.number ≢ clear.number →
+    AreReadingsOfFiles files given → AreReadingsOfFiles files other → site.number ≢ book.number →
+    site.number ≢ clear.number →
     book.number ≢ clear.number → FourGiven files given other site book clear
 four_given None given other site book clear is is_other sb sc bc = record {
   all = λ w. cond (nat_eq w.number book.number

@@ -58,7 +58,8 @@ other_air site book clear out given =
     (λ plan. whole_file_bytes clear.number (given clear)
     >>= λ bytes. unused (given (mark_word site)) >>= λ new. value (airing plan site out bytes))
     (other_plan site.number book.number (given site) (given book))
-    (λ plan. other_after (whole_file_bytes clear.number (given clear)).calls (whole_file_bytes clear.number (given clear)).result
+    (λ plan. other_after (whole_file_bytes clear.number (given clear)).calls (whole_file_bytes clear.number
+    (given clear)).result
     (λ bytes. unused (given (mark_word site)) >>= λ new. value (airing plan site out bytes))
     (other_stream clear.number (given clear))
     (λ bytes. other_after (unused (given (mark_word site))).calls (unused (given (mark_word site))).result

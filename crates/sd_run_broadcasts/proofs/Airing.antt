@@ -16,7 +16,8 @@ use Rattle.sd_engine.specs.declared.seeking.SeekFault.{SeekFault}
 use Rattle.sd_engine.specs.declared.seeking.SeekFault.TheVariants as seek
 use Rattle.sd_site_cards.specs.SiteFields.{SiteFields}
 use Rattle.sd_spec.specs.Aired.{Verdict, Marked, Refused, Sent, Ends, verdict_of, by_verdict, aired, aired_from}
-use Rattle.sd_spec.specs.Aired.{ended_from, left_by, left_from, none_left, left_out_marked, left_out_refused, left_out_with_sent}
+use Rattle.sd_spec.specs.Aired.{ended_from, left_by, left_from, none_left, left_out_marked, left_out_refused}
+use Rattle.sd_spec.specs.Aired.{left_out_with_sent}
 use Rattle.sd_spec.specs.Plan.{Plan}
 use Rattle.sd_spec.specs.Sent.{body, broadcast, bytes_added, sent_bytes_from, closing_of, packets_from, sent}
 use Rattle.sd_spec.proofs.Bodies.{body_bytes as bytes_of_body, closed_bytes}

@@ -25,7 +25,8 @@ other_clear word got =
     (within word field_clear_bytes FieldPackets got).result (λ bytes. of_result (told_clear bytes))
     (other_file word field_clear_bytes FieldPackets got) (λ bytes. other_unbroken (break_of bytes) (packets_of bytes))
 
-other_told : (word d : ℕ) (bytes : List ℕ) (r : Result (List Event) ScriptFault) → IsOther (script_or_status word d bytes r)
+other_told : (word d : ℕ) (bytes : List ℕ) (r : Result (List Event) ScriptFault) →
+    IsOther (script_or_status word d bytes r)
 other_told word d bytes (Ok events) = tt
 other_told word d bytes (Err (script.Line k)) = λ e. cc
 other_told word d bytes (Err (script.Leaf k)) = λ e. cc
@@ -36,7 +37,8 @@ other_script : (word d : ℕ) (got : Option (List ℕ)) → IsOther (script_of_f
 unfolding script_of_file
 other_script word d got =
     other_after (within word most_book_bytes BookBytes got).calls (within word most_book_bytes BookBytes got).result
-    (λ bytes. of_result (script_or_status word d bytes (script_of d bytes))) (other_file word most_book_bytes BookBytes got)
+    (λ bytes. of_result (script_or_status word d bytes (script_of d bytes)))
+    (other_file word most_book_bytes BookBytes got)
     (λ bytes. other_told word d bytes (script_of d bytes))
 
 other_inputs : (site clear : ℕ) (site_got clear_got : Option (List ℕ)) →

@@ -21,7 +21,8 @@ unfolding site_and_line_of_file
 other_site_and_line word got =
     other_after (within word most_site_bytes SiteBytes got).calls (within word most_site_bytes SiteBytes got).result
     (λ bytes. of_result (with_line (book_line_of bytes) (site_or_status word bytes (site_of bytes))))
-    (other_file word most_site_bytes SiteBytes got) (λ bytes. other_said word bytes (book_line_of bytes) (site_of bytes))
+    (other_file word most_site_bytes SiteBytes got) (λ bytes. other_said word bytes (book_line_of bytes)
+    (site_of bytes))
 
 other_plan : (site book : ℕ) (site_got book_got : Option (List ℕ)) →
     IsOther (head_plan_by site book site_got book_got).result
@@ -43,5 +44,6 @@ other_head site book clear out given =
     other_after (head_plan_by site.number book.number (given site) (given book)).calls
     (head_plan_by site.number book.number (given site) (given book)).result (sending_of clear out (given clear))
     (other_plan site.number book.number (given site) (given book))
-    (λ plan. other_after (whole_file_bytes clear.number (given clear)).calls (whole_file_bytes clear.number (given clear)).result
+    (λ plan. other_after (whole_file_bytes clear.number (given clear)).calls (whole_file_bytes clear.number
+    (given clear)).result
     (λ bytes. value (sending plan out bytes)) (other_stream clear.number (given clear)) (λ bytes. tt))

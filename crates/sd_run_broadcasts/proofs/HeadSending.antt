@@ -19,7 +19,8 @@ use Rattle.sd_psi.specs.declared.fault.FormFault.{FormFault}
 use Rattle.sd_psi.specs.declared.fault.FormFault.TheVariants as Form
 use Rattle.sd_engine.specs.Stage.{Chain}
 use Rattle.sd_engine.specs.Driving.{DriveState, ChainToEnd, ChainToRefusal, IsAllowedAt, PassesPackets}
-use Rattle.sd_engine.specs.Taken.{StreamEnd, Whole, Breaks, RunsOn, packets_taken, end_of, IsReachedPacket, DriveOutcomeOver}
+use Rattle.sd_engine.specs.Taken.{StreamEnd, Whole, Breaks, RunsOn, packets_taken, end_of, IsReachedPacket}
+use Rattle.sd_engine.specs.Taken.{DriveOutcomeOver}
 use Rattle.sd_engine.specs.declared.fault.StreamBreak.{StreamBreak}
 use Rattle.sd_engine.specs.declared.driver.DriveFault.{DriveFault}
 use Rattle.sd_engine.specs.declared.driver.DriveFault.TheVariants as drive
@@ -195,7 +196,8 @@ begins : (plan : Plan) (bytes : List ℕ) (k : ℕ) → k ≤ length (packets_ta
     IsPrefix (concat (body plan (take k (packets_taken bytes)))) (sent_of plan bytes)
 unfolding sent_of
 begins plan bytes k within none =
-    sent_begins plan (packets_taken bytes) (end_of bytes) k (stream_refusal plan.site (packets_taken bytes) (end_of bytes)) within
+    sent_begins plan (packets_taken bytes) (end_of bytes) k (stream_refusal plan.site (packets_taken bytes)
+    (end_of bytes)) within
     none refl
 
 -- What a head end is, as far as this goes.
@@ -264,7 +266,8 @@ went_on plan does ends refuses told After head before (packet ∷ packets) s t b
 -- of a stream that isn't refused
 pub sent_unrefused : (plan : Plan) (bytes : List ℕ) (end : StreamEnd) →
     stream_refusal plan.site (packets_taken bytes) end ≡ None → end_of bytes ≡ end →
-    (concat (head_sent plan (packets_taken bytes) end) ≡ sent_of plan bytes) × (clear_status end ≡ sent_status plan bytes)
+    (concat (head_sent plan (packets_taken bytes) end) ≡ sent_of plan bytes) ×
+    (clear_status end ≡ sent_status plan bytes)
 unfolding sent_of sent_status
 sent_unrefused plan bytes end none is =
     let own : stream_refusal plan.site (packets_taken bytes) (end_of bytes) ≡ None =
@@ -311,7 +314,8 @@ sent_refused plan bytes fault is = (
 )
 
 -- at its end
-end_refused : (plan : Plan) (bytes : List ℕ) (fault : ClearFault) → refusal_from plan.site [] (packets_taken bytes) ≡ None →
+end_refused : (plan : Plan) (bytes : List ℕ) (fault : ClearFault) → refusal_from plan.site [] (packets_taken bytes)
+    ≡ None →
     end_refusal plan.site (packets_taken bytes) ≡ Some fault → end_of bytes ≡ Whole →
     stream_refusal plan.site (packets_taken bytes) (end_of bytes) ≡ Some fault
 unfolding stream_refusal
@@ -409,7 +413,8 @@ may_write plan does ends refuses told After head bytes count mid first more from
     )
 may_write plan does ends refuses told After head bytes count mid first more from to None place went at
     (n, within, inr (fault, t, refuse)) =
-    nothing_after first more (sent_of plan bytes) (head.refusal (take count (packets_taken bytes)) mid None fault t more n
+    nothing_after first more (sent_of plan bytes) (head.refusal (take count (packets_taken bytes)) mid None fault t
+    more n
     went.after refuse).0
     (subst (λ (xs : List ℕ). IsPrefix xs (sent_of plan bytes))
     (sym (went.wrote ∙ sym (body_bytes plan (take count (packets_taken bytes)))))
@@ -471,7 +476,8 @@ some_sent : {S F : Type 0} (plan : Plan) (does : S → List ℕ → S → List �
     (refuses : S → Option (List ℕ) → F → S → List ℕ → ℕ → Type 0) (told : F → Option ClearFault)
     (After : List (List ℕ) → S → Type 0)
     (head : IsHeadEnd plan does ends refuses told After) (bytes : List ℕ) (a b : DriveState S) (count : ℕ) →
-    After [] a.stage → count ≤ length (packets_taken bytes) → PassesPackets does a (take count (packets_taken bytes)) b →
+    After [] a.stage → count ≤ length (packets_taken bytes) →
+    PassesPackets does a (take count (packets_taken bytes)) b →
     StreamWritten (sent_of plan bytes) (sent_status plan bytes) a.sink.held b.sink.held DepotFault
 some_sent plan does ends refuses told After head bytes a b count stands within grew =
     let first = take count (packets_taken bytes) in
@@ -547,7 +553,8 @@ wrote_sent plan does ends refuses told After head bytes a b (Err (drive.Refused 
     refused_so : (xs : List ℕ) → ChainToRefusal does refuses a.stage (take h.count (packets_taken bytes))
         (slice_get (packets_taken bytes) h.count) fault b.stage
         xs h.passed.steps → Appends a.sink.held b.sink.held xs →
-        StreamWritten (sent_of plan bytes) (sent_status plan bytes) a.sink.held b.sink.held (head_stop_status (told fault))
+        StreamWritten (sent_of plan bytes) (sent_status plan bytes) a.sink.held b.sink.held
+        (head_stop_status (told fault))
     refused_so xs (mid, first, last, m, k, chain, refuse, joined, number) taken =
         let before = take h.count (packets_taken bytes) in
         let here = slice_get (packets_taken bytes) h.count in

@@ -25,7 +25,8 @@ use Rattle.sd_command_base.proofs.Firsts.{first_obeys}
 use Rattle.sd_command_base.proofs.Moves.{then_obeys}
 use Rattle.sd_command_base.specs.Turned.{HasPortCause, StreamWritten}
 use Rattle.sd_command_base.proofs.Thirds.{more_given}
-use Rattle.sd_run_broadcasts.specs.Head.{head_plan_by, head_plan_meaning, sending_of, head_meaning, refusal_in, head_stop_status}
+use Rattle.sd_run_broadcasts.specs.Head.{head_plan_by, head_plan_meaning, sending_of, head_meaning, refusal_in}
+use Rattle.sd_run_broadcasts.specs.Head.{head_stop_status}
 use Rattle.sd_run_broadcasts.specs.Head.{sent_told}
 use Rattle.sd_run_broadcasts.specs.Head.{SendsLeft, sent_of, sent_status}
 use Rattle.sd_run_broadcasts.proofs.HeadSending.{IsHeadEnd, IsDueAt, wrote_sent}
@@ -41,7 +42,8 @@ due_at plan before (Some packet) head.NoMemory h = tt
 
 kept_or_due : (plan : Plan) (before : List (List ℕ)) (s : Head) (packet : Option (List ℕ)) (fault : HeadFault)
     (bytes : List ℕ) →
-    IsHeadEndAfter plan before s → RefusesClearPacket s packet fault bytes → IsDueAt plan before packet (refusal_in fault)
+    IsHeadEndAfter plan before s → RefusesClearPacket s packet fault bytes →
+    IsDueAt plan before packet (refusal_in fault)
 kept_or_due plan before s packet fault bytes a h = elim h.cause [
   | inl kept ↦ let none : None ≡ Some fault = sym a.unrefused ∙ kept in absurd (cc)
   | inr due ↦ due_at plan before packet fault (due plan before a)
@@ -70,7 +72,8 @@ sends_left plan a b result status stands drives is =
       is_left = over.left;
       wrote = subst (λ (s : Status). StreamWritten (sent_of plan over.bytes) (sent_status plan over.bytes) a.sink.held
           b.sink.held s) (sym is)
-          (wrote_sent plan head_does head_ends head_refuses refusal_in (IsHeadEndAfter plan) (is_head_end plan) over.bytes a b
+          (wrote_sent plan head_does head_ends head_refuses refusal_in (IsHeadEndAfter plan)
+          (is_head_end plan) over.bytes a b
           result stands over.drives);
     }
 
@@ -124,7 +127,8 @@ plan_follows {X} view site book clear out got p q page steps b x status sc bc re
     let same : q.files ≡ p.files = ap (λ (z : DepotState). z.files) read.gives.1 in
     let g = more_given p.files read.given site book clear got read.is_given
     (subst (λ (f : Option Files). IsReadingOfFile f clear.text got) same is_got) sc bc in
-    let one : head_plan_by site.number book.number (read.given site) (read.given book) ≡ head_plan_meaning site book g.more =
+    let one : head_plan_by site.number book.number (read.given site) (read.given book)
+    ≡ head_plan_meaning site book g.more =
     ap (λ (o : Option (List ℕ)). head_plan_by site.number book.number o (read.given book)) (sym g.first)
     ∙ ap (λ (o : Option (List ℕ)). head_plan_by site.number book.number (g.more site) o) (sym g.second) in
     record {
@@ -134,8 +138,10 @@ plan_follows {X} view site book clear out got p q page steps b x status sc bc re
           subst (λ (o : Option (List ℕ)). OutcomeWithin (head_plan_meaning site book g.more >>= sending_of clear out o)
           (io_state p page steps) b status)
           (sym g.gave)
-          (subst (λ (m : Spec Plan). OutcomeWithin (m >>= sending_of clear out got) (io_state p page steps) b status) one
-          (then_obeys (head_plan_meaning site book read.given) (view x) (sending_of clear out got) p q page steps b status
+          (subst (λ (m : Spec Plan). OutcomeWithin (m >>= sending_of clear out got) (io_state p page steps) b status)
+          one
+          (then_obeys (head_plan_meaning site book read.given) (view x) (sending_of clear out got) p q page steps b
+          status
           read.gives.0 read.gives.1
           obeys));
     }

@@ -327,7 +327,8 @@ module _ (steps : StepBound) (out : FileArgument) (bytes : List ℕ) (first : Li
   -- a stream that was turned into OUT while pieces were printed is what is meant by its bytes
   pub lived_obeys : (number : ℕ) (stream : List ℕ) (work_of : List ℕ → Work) → work_of stream ≡ work →
       TakesSteps (Ok work) i j →
-      OutcomeWithin (whole_file_bytes number (Some stream) >>= λ xs. value (work_of xs)) (io_state p a i) (io_state r c j) status
+      OutcomeWithin (whole_file_bytes number (Some stream) >>= λ xs. value (work_of xs)) (io_state p a i)
+      (io_state r c j) status
   lived_obeys number stream work_of is takes = record {
     comes = subst (λ (w : Work). Outcome (Ok w) (io_state p a i) (io_state r c j) status) (sym is) comes;
     ports = both_closed p.opened q.opened r.opened h.opened.within h.opened.ports h.closes.low h.closes.ports;
@@ -362,7 +363,8 @@ not_lived work bytes word out p q page i status made unmarked (no_folder is none
   obeys = record {
     comes = nowhere (work []) refl (record { word = out.number; name = out.text; bytes = bytes [] }) (made [])
         is none
-        (subst (λ (mark : Option Mark). IsNoOutMade (marked_by mark p) q) (sym (unmarked [])) (unmade_files 3 p q asked))
+        (subst (λ (mark : Option Mark). IsNoOutMade (marked_by mark p) q) (sym (unmarked []))
+        (unmade_files 3 p q asked))
         refl (record { depot = calm; print = refl }) rose;
     ports = asked.ports;
     calls = let c = asked.calls in rw (made []) (omega (arith, c));

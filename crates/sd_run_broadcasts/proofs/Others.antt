@@ -25,7 +25,8 @@ other_plan site book site_got book_got =
 other_prefix : (word most : ℕ) (got : Option (List ℕ)) → IsOther (prefix_of_file word most got).result
 unfolding prefix_of_file
 other_prefix word most got =
-    other_after (whole_file_bytes word got).calls (whole_file_bytes word got).result (λ bytes. value (prefix_of most bytes))
+    other_after (whole_file_bytes word got).calls (whole_file_bytes word got).result
+    (λ bytes. value (prefix_of most bytes))
     (other_stream word got) (λ bytes. tt)
 
 pub other_trial : (site book clear : FileArgument) (given : Readings) →

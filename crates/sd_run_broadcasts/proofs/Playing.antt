@@ -53,7 +53,8 @@ one_more_done start now next along moves =
     subst (IsAlong start) (sym next_is) (record {
       same = refl;
       within = omega (arith, inside);
-      clear = goes_on_clear v inside (subst (λ (w : FieldValue). refusal_from start.site [] (field_clear_packets w) ≡ None) v_is
+      clear = goes_on_clear v inside (subst (λ (w : FieldValue). refusal_from start.site [] (field_clear_packets w)
+          ≡ None) v_is
           along.clear) (subst (λ (w : FieldValue). next_refusal w ≡ None) v_is moves.2);
     })
 

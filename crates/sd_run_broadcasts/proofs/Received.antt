@@ -49,7 +49,8 @@ ending_ends leaf end.NoCat = tt
 ending_ends leaf (end.Unclosed number) = tt
 ending_ends leaf (end.Gaps packets) = tt
 
-stream_ends : (card : CardFields) (packets : List (List ℕ)) (end : StreamEnd) → IsEnding (received_status_at card packets end)
+stream_ends : (card : CardFields) (packets : List (List ℕ)) (end : StreamEnd) →
+    IsEnding (received_status_at card packets end)
 unfolding receive_end_status
 stream_ends card packets Whole = ending_ends card.leaf (ending_of card (reverse packets))
 stream_ends card packets (Breaks found) = tt
@@ -62,7 +63,8 @@ unless_ends (Some why) status ends = tt
 received_ends : (card : CardFields) (bytes : List ℕ) → IsEnding (received_status card bytes)
 unfolding received_status
 received_ends card bytes =
-    unless_ends (break_from card [] (packets_taken bytes)) (received_status_at card (packets_taken bytes) (end_of bytes))
+    unless_ends (break_from card [] (packets_taken bytes)) (received_status_at card (packets_taken bytes)
+    (end_of bytes))
     (stream_ends card (packets_taken bytes) (end_of bytes))
 
 -- a stream of which no packet is refused ends as its bytes do
@@ -77,7 +79,8 @@ some_refused : (card : CardFields) (bytes : List ℕ) (why : StreamFault) →
     received_status card bytes ≡ BadStream (Packet why)
 unfolding received_status
 some_refused card bytes why some =
-    ap (λ (f : Option StreamFault). unless_refused f (received_status_at card (packets_taken bytes) (end_of bytes))) some
+    ap (λ (f : Option StreamFault). unless_refused f (received_status_at card (packets_taken bytes) (end_of bytes)))
+    some
 
 -- as few packets are taken as can be counted
 few_of : (packets : List (List ℕ)) (k : ℕ) → length packets ≤ most_packets → length (take k packets) < 2 ^ 64 - 1
@@ -352,7 +355,8 @@ refused_wrote card bytes a b why is after h =
   where
     go : (here : Option (List ℕ)) → slice_get (packets_taken bytes) h.count ≡ here → (wrote : List ℕ) (n : ℕ) →
         Appends a.sink.held b.sink.held wrote → b.steps ≤ a.steps + n →
-        ChainToRefusal receiver_does receiver_refuses a.stage (take h.count (packets_taken bytes)) here why b.stage wrote n →
+        ChainToRefusal receiver_does receiver_refuses a.stage (take h.count (packets_taken bytes)) here why b.stage
+        wrote n →
         Receives card bytes a b (BadStream (Packet why))
     go None at wrote n taken counted (mid, first, last, m, k, chain, kept, joined, all) =
         let came = came_to_all (take h.count (packets_taken bytes)) a.stage mid first m after
@@ -394,7 +398,8 @@ cut_wrote card bytes a b is after h =
     (omega (arith, before)) most
 
 -- some first packets went through
-some_wrote : (card : CardFields) (bytes : List ℕ) (a b : DriveState Receiver) (count : ℕ) → receiver_card a.stage ≡ card →
+some_wrote : (card : CardFields) (bytes : List ℕ) (a b : DriveState Receiver) (count : ℕ) →
+    receiver_card a.stage ≡ card →
     HasReceived [] a.stage → PassesPackets receiver_does a (take count (packets_taken bytes)) b →
     Receives card bytes a b DepotFault
 some_wrote card bytes a b count is after grew =
@@ -446,26 +451,30 @@ ended_wrote card bytes a b count status is after (whole, counted, grew) told =
     go grew.bytes grew.steps grew.taken grew.counted grew.says
   where
     go : (wrote : List ℕ) (n : ℕ) → Appends a.sink.held b.sink.held wrote → b.steps ≤ a.steps + n →
-        ChainToEnd receiver_does receiver_ends a.stage (packets_taken bytes) b.stage wrote n → Receives card bytes a b status
+        ChainToEnd receiver_does receiver_ends a.stage (packets_taken bytes) b.stage wrote n →
+        Receives card bytes a b status
     go wrote n taken most (mid, first, last, m, k, chain, ends, joined, all) =
         let came = all_through card (packets_taken bytes) a.stage mid first m is after (all_few bytes) chain in
         let stands : HasReceived (reverse (packets_taken bytes)) b.stage =
         subst (λ (t : Receiver). HasReceived (reverse (packets_taken bytes)) t) (sym ends.0) came.after in
         wrote_all card bytes a b status wrote n
-        (told (reverse (packets_taken bytes)) stands ∙ ended_as card (packets_taken bytes) b.stage (ap receiver_card ends.0 ∙ came.same)
+        (told (reverse (packets_taken bytes)) stands ∙ ended_as card (packets_taken bytes) b.stage
+        (ap receiver_card ends.0 ∙ came.same)
         ∙ sym (none_refused card bytes Whole came.unbroken whole))
         (nothing_joined first last wrote ends.1 joined ∙ came.written) taken most
         (let few = came.few in let none = ends.2 in let same = all_steps card (packets_taken bytes) came.unbroken in
         omega (arith, all, few, none, same))
 
 -- the receiver was driven over the stream that was left
-pub left_stopped : (a b : DriveState Receiver) (why : DriveFault StreamFault) (status : Status) → HasReceived [] a.stage →
+pub left_stopped : (a b : DriveState Receiver) (why : DriveFault StreamFault) (status : Status) →
+    HasReceived [] a.stage →
     DriveOutcome receiver_does receiver_ends receiver_refuses a b (Err why) → status ≡ stopped_status why →
     ReceivesLeft (receiver_card a.stage) a.left a.sink.held b.sink.held a.steps b.steps status
 left_stopped a b why status after drives is =
     let over = is_over receiver_does receiver_ends receiver_refuses a b (Err why) drives in
     let came = stopped_wrote (receiver_card a.stage) over.bytes a b why refl after over.drives in
-    subst (λ (s : Status). ReceivesLeft (receiver_card a.stage) a.left a.sink.held b.sink.held a.steps b.steps s) (sym is)
+    subst (λ (s : Status). ReceivesLeft (receiver_card a.stage) a.left a.sink.held b.sink.held a.steps b.steps s)
+    (sym is)
     (record { bytes = over.bytes; is_left = over.left; wrote = came.wrote; steps = came.steps })
 
 pub left_ended : (a b : DriveState Receiver) (count : ℕ) (status : Status) → HasReceived [] a.stage →

@@ -36,7 +36,8 @@ ended_whole site clear end is none = ap (stream_refusal site clear) (sym is) ∙
 pub whole_none : (site : SiteFields) (clear : List (List ℕ)) → refusal_from site [] clear ≡ None →
     end_refusal site clear ≡ None → whole_refusal site clear ≡ None
 unfolding whole_refusal
-whole_none site clear none end = ap (λ (o : Option ClearFault). option_map_or Some o (end_refusal site clear)) none ∙ end
+whole_none site clear none end = ap (λ (o : Option ClearFault). option_map_or Some o (end_refusal site clear)) none
+    ∙ end
 
 pub whole_ended : (site : SiteFields) (clear : List (List ℕ)) (fault : ClearFault) → refusal_from site [] clear ≡ None →
     end_refusal site clear ≡ Some fault → whole_refusal site clear ≡ Some fault

@@ -119,7 +119,8 @@ pub site_had : {X : Type 0} (view : X → List ℕ) (word : FileArgument) (most 
 site_had view word most kind p q x site line has_word read told is = record {
   bytes = view x;
   site = site;
-  is_got = subst (IsReadingOfFile p.files word.text) (was_within word.number most kind read.got (view x) read.gives.0) read.is_got;
+  is_got = subst (IsReadingOfFile p.files word.text) (was_within word.number most kind read.got (view x) read.gives.0)
+      read.is_got;
   is_site = site_told (book_line_of (view x)) line word.number (view x) (site_of (view x)) site told;
   messages = refl;
   line = sym is;

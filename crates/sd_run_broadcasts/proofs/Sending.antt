@@ -19,7 +19,8 @@ not_full status h is = absurd (let wrong : true ≡ false = ap is_wanting (sym i
 
 -- all was written by the head end
 wrote_sent : (plan : Plan) (clear held : List ℕ) (status : Status) → is_wanting status ≡ false →
-    StreamWritten (sent_of plan clear) (sent_status plan clear) (Some []) (Some held) status → HasSentTrial plan clear held status
+    StreamWritten (sent_of plan clear) (sent_status plan clear) (Some []) (Some held) status →
+    HasSentTrial plan clear held status
 wrote_sent plan clear held status calm (all_written is ending all) =
     record { status_is = is; ending = ending; sent_are = all }
 wrote_sent plan clear held status calm (some_written (inl out) some) = absurd (not_out status calm out)
@@ -33,9 +34,11 @@ all_sent own plan clear left start held status told same given empty is calm sen
     subst (λ (p : Plan). HasSentTrial p clear held status) same
     (subst (λ (bytes : List ℕ). HasSentTrial own bytes held status) (sym sends.is_left ∙ given)
     (wrote_sent own sends.bytes held status calm
-    (subst (λ (from : List ℕ). StreamWritten (sent_of own sends.bytes) (sent_status own sends.bytes) (Some from) (Some held)
+    (subst (λ (from : List ℕ). StreamWritten (sent_of own sends.bytes) (sent_status own sends.bytes) (Some from)
+    (Some held)
     status) empty
-    (subst (λ (end : Status). StreamWritten (sent_of own sends.bytes) (sent_status own sends.bytes) (Some start) (Some held)
+    (subst (λ (end : Status). StreamWritten (sent_of own sends.bytes) (sent_status own sends.bytes) (Some start)
+    (Some held)
     end) (sym is) sends.wrote))))
 
 -- all was written by a receiver
@@ -55,7 +58,9 @@ all_heard card bytes left start held from to wrote status told given empty size 
     subst (λ (n : ℕ). HasHeard card bytes n status) (sym size)
     (subst (λ (xs : List ℕ). HasHeard card xs (length held) status) (sym heard.is_left ∙ given)
     (wrote_heard card heard.bytes held status calm
-    (subst (λ (first : List ℕ). StreamWritten (received_of card heard.bytes) (received_status card heard.bytes) (Some first)
+    (subst (λ (first : List ℕ). StreamWritten (received_of card heard.bytes) (received_status card heard.bytes)
+    (Some first)
     (Some held) status) empty
-    (subst (λ (end : Status). StreamWritten (received_of card heard.bytes) (received_status card heard.bytes) (Some start)
+    (subst (λ (end : Status). StreamWritten (received_of card heard.bytes) (received_status card heard.bytes)
+    (Some start)
     (Some held) end) (sym is) heard.wrote))))

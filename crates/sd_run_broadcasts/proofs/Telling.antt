@@ -18,7 +18,8 @@ use Rattle.sd_run_broadcasts.specs.FieldPlayed.{PlayOutcome, all_done}
 
 -- the first line
 pub first_told : (v : FieldValue) (sends packets period : ℕ) (sent text : List ℕ) (commands : List Command) →
-    v.failed ≡ None → sends ≡ sends_of v → (¬ IsSentCut v → sent ≡ concat (body (plan_of_field v) (field_clear_packets v))) →
+    v.failed ≡ None → sends ≡ sends_of v → (¬ IsSentCut v → sent
+    ≡ concat (body (plan_of_field v) (field_clear_packets v))) →
     packets ≡ length sent / 188 → period ≡ last_period commands → commands ≡ (plan_of_field v).commands →
     text ≡ first_line sends packets period → text ≡ lines_of_field v 0
 unfolding lines_of_field
@@ -27,11 +28,13 @@ first_told v sends packets period sent text commands calm count all size last bo
     ∙ (ap (λ (k : ℕ). first_line k packets period) count
     ∙ (ap (λ (p : ℕ). first_line (sends_of v) p period) (size ∙ ap (λ (xs : List ℕ). length xs / 188)
     (all (unsent v calm)))
-    ∙ ap (first_line (sends_of v) (length (concat (body (plan_of_field v) (field_clear_packets v))) / 188)) (last ∙ ap last_period book)))
+    ∙ ap (first_line (sends_of v) (length (concat (body (plan_of_field v) (field_clear_packets v))) / 188))
+    (last ∙ ap last_period book)))
 
 -- the lines so far, and the next
 pub next_told : (v : FieldValue) (u : ℕ) (text more wrote digest : List ℕ) → text ≡ lines_of_field v u →
-    wrote ≡ written_of u v → digest ≡ digest_of wrote → more ≡ text ++ field_receiver_line u (length wrote / 188) digest →
+    wrote ≡ written_of u v → digest ≡ digest_of wrote → more ≡ text ++ field_receiver_line u (length wrote / 188)
+    digest →
     more ≡ lines_of_field v (u + 1)
 unfolding lines_of_field
 next_told v u text more wrote digest so_far same known is =

@@ -9,18 +9,21 @@ use Rattle.sd_run_broadcasts.specs.Receive.{received_of}
 use Rattle.sd_ports.specs.Bytes.{Prefix}
 use Rattle.sd_command_base.specs.declared.status.Status.{Status}
 use Rattle.sd_command_base.specs.Printed.{MemoryOutcome}
-use Rattle.sd_run_broadcasts.specs.Trial.{AddsLine, HasHeard, HasSentTrial, trial_card_line, trial_clear_line, trial_lines, lines_of_trial}
+use Rattle.sd_run_broadcasts.specs.Trial.{AddsLine, HasHeard, HasSentTrial, trial_card_line, trial_clear_line}
+use Rattle.sd_run_broadcasts.specs.Trial.{trial_lines, lines_of_trial}
 use Rattle.sd_run_broadcasts.specs.Trial.{trial_receiver_line, sent_or, then_line, told_line, told_sent, trial_text}
 
 -- The loop over the leaves.
 
 -- the first line
-pub first_text : (site : SiteFields) (bytes first text : List ℕ) → text ≡ first → lines_of_trial site bytes first 0 ≡ Ok text
+pub first_text : (site : SiteFields) (bytes first text : List ℕ) → text ≡ first → lines_of_trial site bytes first 0
+    ≡ Ok text
 unfolding lines_of_trial
 first_text site bytes first text is = ap Ok (sym is)
 
 -- the lines so far, and the next
-pub next_line : (site : SiteFields) (bytes first text more : List ℕ) (u : ℕ) → lines_of_trial site bytes first u ≡ Ok text →
+pub next_line : (site : SiteFields) (bytes first text more : List ℕ) (u : ℕ) → lines_of_trial site bytes first u
+    ≡ Ok text →
     AddsLine (trial_receiver_line site bytes u) text more (Ok tt) → lines_of_trial site bytes first (u + 1) ≡ Ok more
 unfolding lines_of_trial
 next_line site bytes first text more u so_far adds =

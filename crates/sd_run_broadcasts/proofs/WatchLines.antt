@@ -14,7 +14,8 @@ use Rattle.sd_spec.specs.declared.ending.Ending.TheVariants as end
 use Rattle.sd_spec.specs.declared.report.Report.{Report}
 use Rattle.sd_command_base.specs.declared.status.Status.TheVariants.{BadStream}
 use Rattle.sd_command_base.specs.declared.stream_refusal.StreamRefusal.TheVariants.{Packet}
-use Rattle.sd_command_base.specs.Texts.{line_of_status, revoked_line, unheard_line, unclosed_line, gaps_line, stream_line}
+use Rattle.sd_command_base.specs.Texts.{line_of_status, revoked_line, unheard_line, unclosed_line, gaps_line}
+use Rattle.sd_command_base.specs.Texts.{stream_line}
 use Rattle.sd_command_base.specs.Texts.{stream_text}
 use Rattle.sd_run_broadcasts.specs.Receive.{ending_status}
 use Rattle.sd_run_broadcasts.specs.Members.{num_member, text_member, text_of_status}
@@ -25,7 +26,8 @@ use Rattle.sd_run_broadcasts.proofs.Members.{behind, fed, line_feed, num_tokens,
 
 -- a run's name that may be left out
 run_first : (run : Option RunName) (more : Members) →
-    members_tokens (members_outline (watch_run_member run more)) ≡ run_tokens run ++ members_tokens (members_outline more)
+    members_tokens (members_outline (watch_run_member run more)) ≡ run_tokens run ++ members_tokens
+    (members_outline more)
 run_first None more = refl
 run_first (Some None) more = refl
 run_first (Some (Some run)) more = refl

@@ -11,5 +11,6 @@ unfolding watch_meaning
 other_watch card stream out given =
     other_after (card_of_file card.number (given card)).calls (card_of_file card.number (given card)).result
     (λ fields. watched_meaning fields stream out given) (other_card_file card.number (given card))
-    (λ fields. other_after (whole_file_bytes stream.number (given stream)).calls (whole_file_bytes stream.number (given stream)).result
+    (λ fields. other_after (whole_file_bytes stream.number (given stream)).calls (whole_file_bytes stream.number
+    (given stream)).result
     (λ bytes. value (watching fields out bytes)) (other_stream stream.number (given stream)) (λ bytes. tt))

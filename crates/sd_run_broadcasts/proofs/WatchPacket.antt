@@ -82,7 +82,8 @@ passes_told w v packet report old new a b from to skipped status grown prints s 
     by h wrote (subst (λ (xs : List ℕ). PrintsPiece xs a b status) line prints)
   where
     by : WatchesPacket s w packet v (Some report) grown.bytes grown.steps →
-        Appends old.held new.held (concat (counted_out (watcher_card w) (counted_of (watcher_card w) s) (packet ∷ []))) →
+        Appends old.held new.held (concat (counted_out (watcher_card w) (counted_of (watcher_card w) s) (packet ∷ [])))
+        →
         PrintsPiece (concat (line_before (watcher_card w) skipped s packet)) a b status →
         WatchedPacketOutcome (watcher_card w) s packet skipped old.held new.held a b v status
     by h wrote (inl (inl (done, printed, calm))) = passed done h.after (card_stays w v h.same) wrote printed calm

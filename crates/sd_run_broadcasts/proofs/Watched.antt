@@ -35,10 +35,12 @@ use Rattle.sd_command_base.specs.Outside.{PageState}
 use Rattle.sd_command_base.specs.Outcome.{IsEnding}
 use Rattle.sd_run_broadcasts.specs.Receive.{ending_status}
 use Rattle.sd_run_broadcasts.specs.Live.{all_lived, some_lived, unprinted, is_outside}
-use Rattle.sd_run_broadcasts.specs.Watch.{report_lines, watch_report_line, skipped_at, watched_lines, watched_of, watched_status}
+use Rattle.sd_run_broadcasts.specs.Watch.{report_lines, watch_report_line, skipped_at, watched_lines, watched_of}
+use Rattle.sd_run_broadcasts.specs.Watch.{watched_status}
 use Rattle.sd_run_broadcasts.specs.Watch.{watched_steps}
 use Rattle.sd_run_broadcasts.specs.Found.{HasFound, IsReadable}
-use Rattle.sd_run_broadcasts.specs.Watched.{counted_out, turned_lines, line_before, WatchedPacketOutcome, passed, stopped}
+use Rattle.sd_run_broadcasts.specs.Watched.{counted_out, turned_lines, line_before, WatchedPacketOutcome, passed}
+use Rattle.sd_run_broadcasts.specs.Watched.{stopped}
 use Rattle.sd_run_broadcasts.specs.Watched.{unprinted as page_fault, IsWithinTries, IsUnderWay, WatchesLeft}
 use Rattle.sd_run_broadcasts.specs.Watched.{seek_stop_status}
 use Rattle.sd_run_broadcasts.proofs.Found.{found_none, found_more, found_before, found_all, found_last, found_many}
@@ -69,7 +71,8 @@ turned_then : (card : CardFields) (bytes : List ℕ) (s t : Packets) →
     turned_lines card bytes (s ++ t) ≡ turned_lines card bytes s ++ report_lines card bytes (turned_reports card s t)
 turned_then card bytes s t =
     ap (report_lines card bytes) (turned_joined card [] s t)
-    ∙ map-append (λ report. watch_report_line card.leaf (skipped_at bytes report.packets) report) (turned_reports card [] s)
+    ∙ map-append (λ report. watch_report_line card.leaf (skipped_at bytes report.packets) report)
+    (turned_reports card [] s)
     (turned_reports card s t)
 
 -- the line before one packet
@@ -242,7 +245,8 @@ packet_passed card left now held held' held2 a b c from to more watcher next_wat
     let under : length h.packets < 2 ^ 48 = let n = h.counted in omega (arith, n, low) in
     let tried : IsWithinTries card h.packets packet to more =
     subst (λ (x : CardFields). IsWithinTries x h.packets packet to more) h.same (tries h.packets h.keeps under) in
-    go (subst (λ (x : CardFields). WatchedPacketOutcome x h.packets packet skipped held' held2 b c next_watcher status) h.same
+    go (subst (λ (x : CardFields). WatchedPacketOutcome x h.packets packet skipped held' held2 b c next_watcher status)
+    h.same
     (outcome h.packets h.keeps under)) tried
   where
     go : WatchedPacketOutcome card h.packets packet skipped held' held2 b c next_watcher status →
@@ -322,7 +326,8 @@ packet_stopped card left now held held' held2 a b c from to more watcher next_wa
     begins_here card h.bytes waiting rest (h.packets ++ packet ∷ []) (h.pieces ++ line) ended skipped h.found may long
     (h.lines rest may) in
     go (h.bytes ++ rest) behind.is_left first
-    (subst (λ (x : CardFields). WatchedPacketOutcome x h.packets packet skipped held' held2 b c next_watcher status) h.same
+    (subst (λ (x : CardFields). WatchedPacketOutcome x h.packets packet skipped held' held2 b c next_watcher status)
+    h.same
     (outcome h.packets h.keeps under)) tried
   where
     go : (bytes : List ℕ) → AreBytesLeft left bytes →
@@ -376,7 +381,8 @@ packet_stopped card left now held held' held2 a b c from to more watcher next_wa
           is_left = is_left;
           lived = unprinted why (prefix_of_all held held' held2 _ _ (watched_of card bytes) h.wrote short out_all)
               (prefix_of_all a.printed b.printed c.printed (concat h.pieces)
-              (concat (line_before card skipped h.packets packet)) (concat (watched_lines card bytes)) h.printed cut_packets
+              (concat (line_before card skipped h.packets packet)) (concat (watched_lines card bytes)) h.printed
+              cut_packets
               (subst (λ (xs : List ℕ). IsPrefix xs (concat (watched_lines card bytes)))
               (concat-append h.pieces (line_before card skipped h.packets packet))
               (pieces_begin (h.pieces ++ line_before card skipped h.packets packet) lines.0 (watched_lines card bytes)
@@ -450,7 +456,8 @@ pub all_watched : (card : CardFields) (left left' now held held' : Option (List 
     IsUnderWay card left left' held held' a b from to watcher waiting was skipped count → count ≤ 2 ^ 48 →
     SeekOutcome left' now waiting was next ended skipped more_skipped None →
     ((s : Packets) → IsWatching s watcher →
-    status ≡ ending_status (watcher_card watcher).leaf (ending_of (watcher_card watcher) (counted_of (watcher_card watcher) s))) →
+    status ≡ ending_status (watcher_card watcher).leaf (ending_of (watcher_card watcher)
+    (counted_of (watcher_card watcher) s))) →
     IsEnding status →
     WatchesLeft card left held held' a b from to watcher more_skipped status
 unfolding watched_status

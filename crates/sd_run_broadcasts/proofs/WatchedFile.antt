@@ -53,9 +53,11 @@ pub watched_obeys : (card : CardFields) (stream out : FileArgument) (p q r : Dep
     ArePortsClosed q r out.text held' f' o' over closed →
     ((line : List ℕ) → is_outside (status_of closed) ≡ true → TellsEnd line (status_of closed) b c status) →
     ((s : List (List ℕ)) → IsWatching s watcher → length s ≤ 2 ^ 48 →
-    TellsEnd (watch_report_line (watcher_card watcher).leaf skipped (report_of (watcher_card watcher) s)) (status_of closed) b c
+    TellsEnd (watch_report_line (watcher_card watcher).leaf skipped (report_of (watcher_card watcher) s))
+    (status_of closed) b c
     status) →
-    OutcomeWithin (whole_file_bytes stream.number (Some w.bytes) >>= λ bytes. value (watching card out bytes)) (io_state p a i)
+    OutcomeWithin (whole_file_bytes stream.number (Some w.bytes) >>= λ bytes. value (watching card out bytes))
+    (io_state p a i)
     (io_state r c j) status
 watched_obeys card stream out p q r a b c i j left held held' f f' o o' watcher skipped over closed status opened
     cause w closes untold told =
@@ -71,7 +73,8 @@ watched_obeys card stream out p q r a b c i j left held held' f f' o o' watcher 
     let keeps = w.last inside in
     subst (λ (x : CardFields). TellsEnd (watch_report_line x.leaf (skipped_at bytes (length (readable bytes)))
     (report_of x (readable bytes))) (status_of closed) b c status) keeps.same
-    (subst (λ (n : ℕ). TellsEnd (watch_report_line (watcher_card watcher).leaf n (report_of (watcher_card watcher) (readable bytes)))
+    (subst (λ (n : ℕ). TellsEnd (watch_report_line (watcher_card watcher).leaf n (report_of (watcher_card watcher)
+    (readable bytes)))
     (status_of closed) b c status) keeps.skipped_is (told (readable bytes) keeps.keeps keeps.few))) in
     let lived : Lived (watched_of card bytes) (first ++ line ∷ []) first (watched_status card bytes) held held' a b
     (status_of over) =

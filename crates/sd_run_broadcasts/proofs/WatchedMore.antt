@@ -43,7 +43,8 @@ counts_unrefused card past packet is =
     let fine = (offered card past packet).fault in
     let one = and_parts (not (is_marked packet)) (not (is_doubled card past packet)
     && (not (is_stray_at card past packet) && is_none fine)) is in
-    let two = and_parts (not (is_doubled card past packet)) (not (is_stray_at card past packet) && is_none fine) one.1 in
+    let two = and_parts (not (is_doubled card past packet)) (not (is_stray_at card past packet) && is_none fine) one.1
+    in
     none_of fine (and_parts (not (is_stray_at card past packet)) (is_none fine) two.1).1
 
 -- what those that count write, and then what those behind them do

@@ -42,7 +42,8 @@ told_air_site word bytes (Ok said) =
 -- [this project, docs/FORMATS.md, On air]
 unfoldable pub air_site_of_file : ℕ → Option (List ℕ) → Spec (SiteFields × Option BookLine)
 air_site_of_file word got =
-    within word most_site_bytes SiteBytes got >>= λ bytes. of_result (told_air_site word bytes (site_of_chain none_fewer bytes))
+    within word most_site_bytes SiteBytes got >>= λ bytes. of_result (told_air_site word bytes
+    (site_of_chain none_fewer bytes))
 
 -- the site for `air` and its own book of what their files gave
 unfoldable pub air_plan_by : ℕ → ℕ → Option (List ℕ) → Option (List ℕ) → Spec Plan

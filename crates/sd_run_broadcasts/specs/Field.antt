@@ -113,7 +113,8 @@ wrote_line u bytes = field_receiver_line u (length bytes / 188) (digest_of bytes
 -- the first line of a field, and then those of the first n leaves
 unfoldable pub lines_of_field : FieldValue → ℕ → List ℕ
 lines_of_field v zero =
-    first_line (sends_of v) (length (concat (body (plan_of_field v) (field_clear_packets v))) / 188) (last_period (plan_of_field v).commands)
+    first_line (sends_of v) (length (concat (body (plan_of_field v) (field_clear_packets v))) / 188)
+    (last_period (plan_of_field v).commands)
 lines_of_field v (suc n) = lines_of_field v n ++ wrote_line n (written_of n v)
 
 -- a text, unless a clear packet is refused

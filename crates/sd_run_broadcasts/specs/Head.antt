@@ -53,7 +53,8 @@ sent_where plan clear end (Some fault) = body plan (take (clear_packet fault) cl
 
 unfoldable pub sent_of : Plan → List ℕ → List ℕ
 sent_of plan bytes =
-    concat (sent_where plan (packets_taken bytes) (end_of bytes) (stream_refusal plan.site (packets_taken bytes) (end_of bytes)))
+    concat (sent_where plan (packets_taken bytes) (end_of bytes) (stream_refusal plan.site (packets_taken bytes)
+    (end_of bytes)))
 
 unfoldable pub sent_status : Plan → List ℕ → Status
 sent_status plan bytes = status_where (end_of bytes) (stream_refusal plan.site (packets_taken bytes) (end_of bytes))

@@ -40,7 +40,8 @@ pub data Unmarked (mark out : FileArgument) (calls : ℕ) (a b : DepotState) (st
   no_folder : status ≡ Missing out.number → a.files ≡ None → IsAsked (calls + 2) (with_mark_made mark a) b →
       b.faults ≡ a.faults → HasRisen a.misses b.misses → Unmarked mark out calls a b status
   -- the mark was made, and the outside stopped it
-  stopped_then : IsNotThere a.files mark.text → MarkStopCause a b status → IsAsked (calls + 2) (with_mark_made mark a) b →
+  stopped_then : IsNotThere a.files mark.text → MarkStopCause a b status →
+      IsAsked (calls + 2) (with_mark_made mark a) b →
       b.misses ≡ a.misses → Unmarked mark out calls a b status
 
 -- the mark was made, new and empty; or not

@@ -80,7 +80,8 @@ received_of card bytes = concat (out_from card [] (packets_taken bytes))
 -- the status with which the receiver of a card ends a stream of these bytes
 unfoldable pub received_status : CardFields → List ℕ → Status
 received_status card bytes =
-    unless_refused (break_from card [] (packets_taken bytes)) (received_status_at card (packets_taken bytes) (end_of bytes))
+    unless_refused (break_from card [] (packets_taken bytes)) (received_status_at card (packets_taken bytes)
+    (end_of bytes))
 
 -- the first of these packets, up to the one that is refused, after others [this project, docs/FORMATS.md, Receiver]
 unfoldable pub upto_break : CardFields → List (List ℕ) → List (List ℕ) → List (List ℕ)
@@ -99,11 +100,13 @@ receiving card out bytes =
 
 -- the work of `receive` once the card is known
 abbrev pub receive_stream_meaning : CardFields → FileArgument → FileArgument → Readings → Spec Work
-receive_stream_meaning card stream out given = whole_file_bytes stream.number (given stream) >>= λ bytes. value (receiving card out bytes)
+receive_stream_meaning card stream out given = whole_file_bytes stream.number (given stream) >>=
+    λ bytes. value (receiving card out bytes)
 
 -- the work of `receive CARD STREAM OUT` [this project, docs/FORMATS.md, Receiver]
 unfoldable pub receive_meaning : FileArgument → FileArgument → FileArgument → Readings → Spec Work
-receive_meaning card stream out given = card_argument given card >>= λ fields. receive_stream_meaning fields stream out given
+receive_meaning card stream out given = card_argument given card >>= λ fields. receive_stream_meaning fields stream out
+    given
 
 -- the status of a drive that didn't reach the end of its stream
 abbrev pub stopped_status : DriveFault StreamFault → Status

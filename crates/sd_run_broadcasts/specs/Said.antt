@@ -1,4 +1,5 @@
--- Public meaning: what `head` and `air` say on the standard error while they run [this project, docs/FORMATS.md, Broadcast
+-- Public meaning: what `head` and `air` say on the standard error while they run [this project, docs/FORMATS.md,
+-- Broadcast
 -- and On air].
 use Rattle.std.specs.Prelude.{◌≡◌, ℕ, ◌==◌, nat_lt, not, Bool, List, [], ◌++◌, codes, length}
 use Rattle.std.specs.Prelude.{if◌then◌else◌, Option, Some, None, Result, Ok, Err}

@@ -104,7 +104,8 @@ then_line (Err status) line = Err status
 -- a first line, and then those of the first n leaves, or the first status that has no line
 unfoldable pub lines_of_trial : SiteFields → List ℕ → List ℕ → ℕ → Result (List ℕ) Status
 lines_of_trial site bytes first zero = Ok first
-lines_of_trial site bytes first (suc n) = then_line (lines_of_trial site bytes first n) (trial_receiver_line site bytes n)
+lines_of_trial site bytes first (suc n) = then_line (lines_of_trial site bytes first n)
+    (trial_receiver_line site bytes n)
 
 -- all lines of a trial of a clear stream of `clear` bytes
 abbrev pub trial_lines : Plan → ℕ → Result (List ℕ) Status → Result (List ℕ) Status

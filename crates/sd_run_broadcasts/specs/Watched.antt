@@ -23,7 +23,8 @@ use Rattle.sd_command_base.specs.declared.stream_refusal.StreamRefusal.TheVarian
 use Rattle.sd_command_base.specs.Outside.{PageState}
 use Rattle.sd_run_broadcasts.specs.Found.{HasFound}
 use Rattle.sd_run_broadcasts.specs.Live.{Lived, is_outside}
-use Rattle.sd_run_broadcasts.specs.Watch.{report_lines, watch_report_line, skipped_at, watched_lines, watched_of, watched_status}
+use Rattle.sd_run_broadcasts.specs.Watch.{report_lines, watch_report_line, skipped_at, watched_lines, watched_of}
+use Rattle.sd_run_broadcasts.specs.Watch.{watched_status}
 use Rattle.sd_run_broadcasts.specs.Watch.{watched_steps}
 
 -- what those of these packets that count write, after others, which have the newest first
@@ -41,7 +42,8 @@ line_before card skipped s packet =
 
 -- the result of a packet after these: all that it writes was written, and its line printed; or memory was out for the
 -- line, or a write failed; or printing failed
-pub data WatchedPacketOutcome (card : CardFields) (s : Packets) (packet : Packet) (skipped : ℕ) (held held' : Option (List ℕ))
+pub data WatchedPacketOutcome (card : CardFields) (s : Packets) (packet : Packet) (skipped : ℕ)
+    (held held' : Option (List ℕ))
     (a b : PageState) (watcher : Watcher) (status : Status) : Type 0 where
   passed : status ≡ Done → IsWatching (s ++ packet ∷ []) watcher → watcher_card watcher ≡ card →
       Appends held held' (concat (counted_out card (counted_of card s) (packet ∷ []))) →

@@ -60,7 +60,8 @@ fn text_of<L: Ledger>(
     requires packets { length clear.items ≤ 16384 }
     requires events { length events.items ≤ 524288 }
     requires leaves { All (λ event. is_of site.height event ≡ true) events.items }
-    ensures { MemoryOutcome (λ text. string_bytes text) (field_text (site_fields_of site) clear.items events.items) result }
+    ensures { MemoryOutcome (λ text. string_bytes text) (field_text (site_fields_of site) clear.items events.items)
+        result }
 {
     let h = site.height;
     let mut field = Field::new(alloc, site, clear, events, steps)?;

@@ -32,7 +32,8 @@ pub fn read_events<D: Depot>(
 
 /// The events of the script of these bytes, which are those of the file of argument `word`.
 fn judge_script(alloc: Global, word: u8, bytes: &[u8], h: Height) -> Result<Vec<Event>, Status>
-    ensures value { JudgedOutcome (λ events. events.items) (script_or_status word h bytes.now (script_of h bytes.now)) result }
+    ensures value { JudgedOutcome (λ events. events.items) (script_or_status word h bytes.now (script_of h bytes.now))
+        result }
     ensures few { IfOk result (λ events. length events.items ≤ 524288) }
     ensures leaves { IfOk result (λ events. All (λ event. is_of h event ≡ true) events.items) }
 {

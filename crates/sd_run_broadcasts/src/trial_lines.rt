@@ -2,7 +2,8 @@ ghost use Rattle.std.specs.Prelude.{◌≡◌, ◌^◌, ◌<◌, ◌/◌, string
 ghost use Rattle.sd_site_cards.specs.SiteFields.{site_fields_of};
 ghost use Rattle.sd_command_base.specs.Outcome.{IsEnding};
 ghost use Rattle.sd_command_base.specs.Printed.{MemoryOutcome};
-ghost use Rattle.sd_run_broadcasts.specs.Trial.{AddsLine, trial_clear_line, lines_of_trial, trial_receiver_line, told_line};
+ghost use Rattle.sd_run_broadcasts.specs.Trial.{AddsLine, trial_clear_line, lines_of_trial, trial_receiver_line};
+ghost use Rattle.sd_run_broadcasts.specs.Trial.{told_line};
 
 use crate::trial_hear::hear;
 use sd_base::Steps;
@@ -55,7 +56,8 @@ fn push_receiver<L: Ledger>(
     steps: &mut Steps<L>,
 ) -> Result<(), Status>
     requires { u < 2 ^ site.now.height }
-    ensures { AddsLine (trial_receiver_line (site_fields_of site.now) sent.now u) (string_bytes text.old) (string_bytes text.new)
+    ensures { AddsLine (trial_receiver_line (site_fields_of site.now) sent.now u) (string_bytes text.old)
+        (string_bytes text.new)
         result }
 {
     let Some(leaf) = Leaf::new(site.height, u) else {

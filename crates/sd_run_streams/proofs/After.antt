@@ -13,7 +13,8 @@ use Rattle.sd_run_streams.specs.TableLines.{section_line}
 use Rattle.sd_run_streams.specs.Inspected.{fed_of, on_pid, pat_sections_at, pids_named_by, named_in, is_watched}
 use Rattle.sd_run_streams.specs.Inspected.{watched_on}
 use Rattle.sd_run_streams.specs.Inspected.{sections_at}
-use Rattle.sd_run_streams.specs.Watching.{is_named_pid, naming, AreSectionsLearned, IsAssembledFrom, AreWatchedMarks, ArePlaced}
+use Rattle.sd_run_streams.specs.Watching.{is_named_pid, naming, AreSectionsLearned, IsAssembledFrom, AreWatchedMarks}
+use Rattle.sd_run_streams.specs.Watching.{ArePlaced}
 use Rattle.sd_run_streams.specs.Watching.{IsInspectedAfter}
 use Rattle.sd_run_streams.proofs.Learning.{or_stay}
 use Rattle.sd_run_streams.proofs.Showing.{none_named}
@@ -115,7 +116,8 @@ watched_more pid packet before =
     (list_any (λ (named : ℕ). named == pid) (flat_map pids_named_by (pat_sections_at packet before)))
 
 pub marks_more : (packet : List ℕ) (before : List (List ℕ)) (marks new : List Bool) → AreWatchedMarks before marks →
-    AreSectionsLearned (naming (pid_of packet) (sections_at packet before)) marks new → AreWatchedMarks (packet ∷ before) new
+    AreSectionsLearned (naming (pid_of packet) (sections_at packet before)) marks new →
+    AreWatchedMarks (packet ∷ before) new
 marks_more packet before marks new are learned = record {
   at = λ pid h.
       learned.at pid h

@@ -17,12 +17,14 @@ use Rattle.sd_ports.specs.Bytes.{IsPrefix, AppendsPrefix}
 use Rattle.sd_ports.proofs.Starts.{prefix_of_prefix, after_first, nothing_after, pieces_first}
 use Rattle.sd_engine.specs.Stage.{Chain}
 use Rattle.sd_engine.specs.Driving.{DriveState, ChainToEnd, ChainToRefusal, IsAllowedAt, DriveOutcome}
-use Rattle.sd_engine.specs.Taken.{StreamEnd, Whole, Breaks, RunsOn, packets_taken, AreBytesLeft, CutAt, DriveOutcomeOver}
+use Rattle.sd_engine.specs.Taken.{StreamEnd, Whole, Breaks, RunsOn, packets_taken, AreBytesLeft, CutAt}
+use Rattle.sd_engine.specs.Taken.{DriveOutcomeOver}
 use Rattle.sd_engine.proofs.Taken.{any_prefix, is_over, few_taken, all_few, some_left}
 use Rattle.sd_engine.specs.declared.driver.DriveFault.{DriveFault}
 use Rattle.sd_engine.specs.declared.driver.DriveFault.TheVariants as drive
 use Rattle.sd_run_streams.specs.Inspected.{lines_in, sections_at}
-use Rattle.sd_run_streams.specs.InspectorStaged.{inspector_state, inspector_does, inspector_ends, inspector_refuses, IsStateAfter}
+use Rattle.sd_run_streams.specs.InspectorStaged.{inspector_state, inspector_does, inspector_ends, inspector_refuses}
+use Rattle.sd_run_streams.specs.InspectorStaged.{IsStateAfter}
 use Rattle.sd_run_streams.specs.declared.inspector.Inspector.{Inspector}
 use Rattle.sd_run_streams.proofs.InspectorChained.{all_written, all_after}
 use Rattle.sd_command_base.specs.declared.status.Status.{Status}
@@ -86,22 +88,26 @@ next_lines k packets packet inside is =
     ∙ ap (λ (p : List ℕ). p ∷ reverse (take k packets)) is)
 
 -- the lines of packets that went through
-went_through : (s t : Inspector) (packets : List (List ℕ)) (bytes : List ℕ) (n : ℕ) → IsStateAfter [] (inspector_state s) →
+went_through : (s t : Inspector) (packets : List (List ℕ)) (bytes : List ℕ) (n : ℕ) →
+    IsStateAfter [] (inspector_state s) →
     length packets ≤ 2 ^ 64 - 1 → Chain inspector_does s packets t bytes n → bytes ≡ lines_in (reverse packets)
 went_through s t packets bytes n stands few chain = all_written packets s t bytes n stands few chain
 
-some_through : (k : ℕ) (packets : List (List ℕ)) (s t : Inspector) (bytes : List ℕ) (n : ℕ) → IsStateAfter [] (inspector_state s) →
+some_through : (k : ℕ) (packets : List (List ℕ)) (s t : Inspector) (bytes : List ℕ) (n : ℕ) →
+    IsStateAfter [] (inspector_state s) →
     length (take k packets) ≤ 2 ^ 64 - 1 → Chain inspector_does s (take k packets) t bytes n →
     bytes ≡ concat (take k (packet_lines [] packets))
 some_through k packets s t bytes n stands few chain =
     went_through s t (take k packets) bytes n stands few chain ∙ first_lines k packets
 
-all_through : (packets : List (List ℕ)) (s t : Inspector) (bytes : List ℕ) (n : ℕ) → IsStateAfter [] (inspector_state s) →
+all_through : (packets : List (List ℕ)) (s t : Inspector) (bytes : List ℕ) (n : ℕ) →
+    IsStateAfter [] (inspector_state s) →
     length packets ≤ 2 ^ 64 - 1 → Chain inspector_does s packets t bytes n → bytes ≡ concat (packet_lines [] packets)
 all_through packets s t bytes n stands few chain = went_through s t packets bytes n stands few chain ∙ all_lines packets
 
 -- the lines of some first packets begin all
-first_begin : (k : ℕ) (packets : List (List ℕ)) (s t : Inspector) (bytes : List ℕ) (n : ℕ) → IsStateAfter [] (inspector_state s) →
+first_begin : (k : ℕ) (packets : List (List ℕ)) (s t : Inspector) (bytes : List ℕ) (n : ℕ) →
+    IsStateAfter [] (inspector_state s) →
     length (take k packets) ≤ 2 ^ 64 - 1 → Chain inspector_does s (take k packets) t bytes n →
     IsPrefix bytes (concat (packet_lines [] packets))
 first_begin k packets s t bytes n stands few chain =
@@ -111,7 +117,8 @@ first_begin k packets s t bytes n stands few chain =
 
 -- and the lines of the packet after them go on with them
 next_begin : (k : ℕ) (packets : List (List ℕ)) (s mid t : Inspector) (first bytes packet : List ℕ) (n m : ℕ) →
-    IsStateAfter [] (inspector_state s) → length (take k packets) ≤ 2 ^ 64 - 1 → Chain inspector_does s (take k packets) mid first
+    IsStateAfter [] (inspector_state s) → length (take k packets) ≤ 2 ^ 64 - 1 →
+    Chain inspector_does s (take k packets) mid first
     n →
     slice_get packets k ≡ Some packet → inspector_does mid packet t bytes m →
     IsPrefix (first ++ bytes) (concat (packet_lines [] packets))
@@ -133,7 +140,8 @@ next_begin k packets s mid t first bytes packet n m stands few chain at inspects
 -- what the inspector may write of a packet, or of the end, goes on with the lines of all packets
 part_of_lines : (k : ℕ) (packets : List (List ℕ)) (s mid : Inspector) (first bytes : List ℕ) (n from to : ℕ)
     (here : Option (List ℕ)) →
-    IsStateAfter [] (inspector_state s) → length (take k packets) ≤ 2 ^ 64 - 1 → Chain inspector_does s (take k packets) mid first
+    IsStateAfter [] (inspector_state s) → length (take k packets) ≤ 2 ^ 64 - 1 →
+    Chain inspector_does s (take k packets) mid first
     n →
     slice_get packets k ≡ here → IsAllowedAt inspector_does inspector_ends inspector_refuses mid here from to bytes →
     IsPrefix (first ++ bytes) (concat (packet_lines [] packets))
@@ -189,13 +197,15 @@ drives_print bytes a b f g (Ok count) stands cause (whole, counted, grew) = inl 
 drives_print bytes a b f g (Err (drive.Broken found)) stands cause (end, grew) = inl (inl (
   ap stream_status (sym end),
   subst (λ (xs : List ℕ). Appends a.sink.held b.sink.held xs)
-      (all_through (packets_taken bytes) a.stage b.stage grew.bytes grew.steps stands (all_few bytes) grew.says) grew.taken,
+      (all_through (packets_taken bytes) a.stage b.stage grew.bytes grew.steps stands (all_few bytes) grew.says)
+      grew.taken,
   cause.calm (λ e. cc),
 ))
 drives_print bytes a b f g (Err drive.TooLong) stands cause (end, grew) = inl (inl (
   ap stream_status (sym end),
   subst (λ (xs : List ℕ). Appends a.sink.held b.sink.held xs)
-      (all_through (packets_taken bytes) a.stage b.stage grew.bytes grew.steps stands (all_few bytes) grew.says) grew.taken,
+      (all_through (packets_taken bytes) a.stage b.stage grew.bytes grew.steps stands (all_few bytes) grew.says)
+      grew.taken,
   cause.calm (λ e. cc),
 ))
 drives_print bytes a b f g (Err drive.ReadFault) stands cause (count, within, grew) = inr (
@@ -224,7 +234,8 @@ drives_print bytes a b f g (Err (drive.Refused fault)) stands cause h = inl (inr
 )))
   where
     some_and_none : (count : ℕ) (here : Option (List ℕ)) (xs : List ℕ) (n : ℕ) →
-        ChainToRefusal inspector_does inspector_refuses a.stage (take count (packets_taken bytes)) here fault b.stage xs n →
+        ChainToRefusal inspector_does inspector_refuses a.stage (take count (packets_taken bytes)) here fault b.stage
+        xs n →
         xs ≡ concat (take count (packet_lines [] (packets_taken bytes)))
     some_and_none count here xs n (mid, first, last, m, k, chain, refuses, joined, counted) =
         nothing_joined first last xs refuses.nothing joined

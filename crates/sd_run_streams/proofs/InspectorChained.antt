@@ -43,20 +43,24 @@ chain_lines before (packet ∷ packets) s t bytes n stands few (mid, first, rest
       omega (arith, counted, one.no_steps, then.2),
     )
 
-pub all_written : (packets : List (List ℕ)) (s t : Inspector) (bytes : List ℕ) (n : ℕ) → IsStateAfter [] (inspector_state s) →
+pub all_written : (packets : List (List ℕ)) (s t : Inspector) (bytes : List ℕ) (n : ℕ) →
+    IsStateAfter [] (inspector_state s) →
     length packets ≤ 2 ^ 64 - 1 → Chain inspector_does s packets t bytes n → bytes ≡ lines_in (reverse packets)
 unfolding lines_in
 all_written packets s t bytes n stands few chain =
     sym (chain_lines [] packets s t bytes n stands (omega (arith, few)) chain).0
     ∙ ap lines_in (append-nil (reverse packets))
 
-pub all_after : (packets : List (List ℕ)) (s t : Inspector) (bytes : List ℕ) (n : ℕ) → IsStateAfter [] (inspector_state s) →
-    length packets ≤ 2 ^ 64 - 1 → Chain inspector_does s packets t bytes n → IsStateAfter (reverse packets) (inspector_state t)
+pub all_after : (packets : List (List ℕ)) (s t : Inspector) (bytes : List ℕ) (n : ℕ) →
+    IsStateAfter [] (inspector_state s) →
+    length packets ≤ 2 ^ 64 - 1 → Chain inspector_does s packets t bytes n →
+    IsStateAfter (reverse packets) (inspector_state t)
 all_after packets s t bytes n stands few chain =
     subst (λ (ps : List (List ℕ)). IsStateAfter ps (inspector_state t)) (append-nil (reverse packets))
     (chain_lines [] packets s t bytes n stands (omega (arith, few)) chain).1
 
-pub none_counted : (packets : List (List ℕ)) (s t : Inspector) (bytes : List ℕ) (n : ℕ) → IsStateAfter [] (inspector_state s) →
+pub none_counted : (packets : List (List ℕ)) (s t : Inspector) (bytes : List ℕ) (n : ℕ) →
+    IsStateAfter [] (inspector_state s) →
     length packets ≤ 2 ^ 64 - 1 → Chain inspector_does s packets t bytes n → n ≡ 0
 none_counted packets s t bytes n stands few chain = (chain_lines [] packets s t bytes n stands (omega (arith, few))
     chain).2

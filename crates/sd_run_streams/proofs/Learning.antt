@@ -78,7 +78,8 @@ none_named : (section : List ℕ) (pid : ℕ) → pids_named_by section ≡ [] �
 unfolding is_named_pid
 none_named section pid none = ap (λ (maps : List ℕ). list_any (λ (named : ℕ). named == pid) (maps ++ [])) none
 
-none_learned : (section : List ℕ) (marks : List Bool) → pids_named_by section ≡ [] → AreSectionsLearned (section ∷ []) marks
+none_learned : (section : List ℕ) (marks : List Bool) → pids_named_by section ≡ [] →
+    AreSectionsLearned (section ∷ []) marks
     marks
 none_learned section marks none = record {
   at = λ pid h. or_stay (get_or marks pid false) (is_named_pid pid (section ∷ [])) _ (none_named section pid none) refl;

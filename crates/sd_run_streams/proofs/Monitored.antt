@@ -142,7 +142,8 @@ drives_print site bytes a b f g (Ok count) begun cause (whole, counted, grew) = 
   cause.calm (λ e. cc),
 ))
   where
-    all_and_end : (xs : List ℕ) (n : ℕ) → ChainToEnd monitor_does monitor_ends a.stage (packets_taken bytes) b.stage xs n →
+    all_and_end : (xs : List ℕ) (n : ℕ) → ChainToEnd monitor_does monitor_ends a.stage (packets_taken bytes) b.stage xs
+        n →
         xs ≡ concat (message_lines site 0 (packets_taken bytes))
     all_and_end xs n (mid, first, last, m, k, chain, ends, joined, counted) =
         nothing_joined first last xs ends.nothing joined
@@ -166,7 +167,8 @@ drives_print site bytes a b f g (Err drive.ReadFault) begun cause (count, within
   (
     count,
     subst (λ (xs : List ℕ). Appends a.sink.held b.sink.held xs)
-        (some_through site count (packets_taken bytes) a.stage b.stage grew.bytes grew.steps begun (few_taken count bytes)
+        (some_through site count (packets_taken bytes) a.stage b.stage grew.bytes grew.steps begun
+        (few_taken count bytes)
         grew.says) grew.taken,
   ),
   cause.calm (λ e. cc),

@@ -9,13 +9,15 @@ use Rattle.sd_run_streams.specs.Messages.{messages_meaning, monitoring, messages
 pub other_tables : (stream : FileArgument) (given : Readings) → IsOther (tables_meaning stream given).result
 unfolding tables_meaning
 other_tables stream given =
-    other_after (whole_file_bytes stream.number (given stream)).calls (whole_file_bytes stream.number (given stream)).result
+    other_after (whole_file_bytes stream.number (given stream)).calls (whole_file_bytes stream.number
+    (given stream)).result
     (λ bytes. value (inspecting bytes)) (other_stream stream.number (given stream)) (λ bytes. tt)
 
 other_monitored : (site : SiteFields) (stream : FileArgument) (given : Readings) →
     IsOther (messages_stream_meaning site stream given).result
 other_monitored site stream given =
-    other_after (whole_file_bytes stream.number (given stream)).calls (whole_file_bytes stream.number (given stream)).result
+    other_after (whole_file_bytes stream.number (given stream)).calls (whole_file_bytes stream.number
+    (given stream)).result
     (λ bytes. value (monitoring site bytes)) (other_stream stream.number (given stream)) (λ bytes. tt)
 
 pub other_messages : (site stream : FileArgument) (given : Readings) →

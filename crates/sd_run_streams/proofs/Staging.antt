@@ -25,7 +25,8 @@ idle_after before marks places are = record {
 pub inspects : (s t : Inspecting) (packet bytes text start : List ℕ) → bytes ≡ text → start ≡ [] →
     ((before : List (List ℕ)) → IsInspectedAfter before s.marks s.places →
     text ≡ start ++ flat_map (section_line s.number (pid_of packet)) (sections_at packet before)) →
-    ((before : List (List ℕ)) → IsInspectedAfter before s.marks s.places → IsInspectedAfter (packet ∷ before) t.marks t.places) →
+    ((before : List (List ℕ)) → IsInspectedAfter before s.marks s.places →
+    IsInspectedAfter (packet ∷ before) t.marks t.places) →
     t.number ≡ with_added s.number 1 → InspectsPacket s packet t bytes 0
 inspects s t packet bytes text start written empty lines after number = record {
   lines = λ before is. written ∙ (lines before is.after ∙ ap

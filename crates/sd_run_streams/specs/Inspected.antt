@@ -54,7 +54,8 @@ watched_on pid (packet ∷ before) =
 -- the sections that the last packet completes on its PID
 unfoldable pub sections_at : List ℕ → List (List ℕ) → List (List ℕ)
 sections_at packet before =
-    if is_watched (pid_of packet) before then sections_completed_by (watched_on (pid_of packet) (packet ∷ before)) else []
+    if is_watched (pid_of packet) before then sections_completed_by (watched_on (pid_of packet) (packet ∷ before))
+    else []
 
 -- a line for each section; packets are numbered from 0 [this project, docs/FORMATS.md, Inspector]
 unfoldable pub lines_in : List (List ℕ) → List ℕ

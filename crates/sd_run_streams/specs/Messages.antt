@@ -25,7 +25,8 @@ monitoring site bytes = record {
 
 -- the work that the stream's file says, once the site is known
 abbrev pub messages_stream_meaning : SiteFields → FileArgument → Readings → Spec Work
-messages_stream_meaning site stream given = whole_file_bytes stream.number (given stream) >>= λ bytes. value (monitoring site bytes)
+messages_stream_meaning site stream given = whole_file_bytes stream.number (given stream) >>=
+    λ bytes. value (monitoring site bytes)
 
 -- the work that the two files say
 unfoldable pub messages_meaning : FileArgument → FileArgument → Readings → Spec Work

@@ -51,6 +51,7 @@ pub record ArePlaced (packets : List (List ℕ)) (places : List (Option Assembli
   pub at : (pid : ℕ) → pid < 8192 → IsAssembledFrom (watched_on pid packets) (get_or places pid None)
 
 -- marks and assemblers are those after these packets
-pub record IsInspectedAfter (packets : List (List ℕ)) (marks : List Bool) (places : List (Option Assembling)) : Type 0 where
-  pub marked : AreWatchedMarks packets marks
-  pub placed : ArePlaced packets places
+pub record IsInspectedAfter (packets : List (List ℕ)) (marks : List Bool) (places : List (Option Assembling)) : Type 0
+  where
+    pub marked : AreWatchedMarks packets marks
+    pub placed : ArePlaced packets places

@@ -49,7 +49,8 @@ impl Assemblies {
             ++ flat_map (section_line number (pid_of packet.now)) (sections_at packet.now before)) }
         ensures after { (before : List (List ℕ)) →
             IsInspectedAfter before self.old.watched.marks.items self.old.assemblers.items →
-            OnOk result (IsInspectedAfter (packet.now ∷ before) self.new.watched.marks.items self.new.assemblers.items) }
+            OnOk result (IsInspectedAfter (packet.now ∷ before) self.new.watched.marks.items
+            self.new.assemblers.items) }
     {
         let pid = packet.pid();
         if !self.watched.has(pid) {

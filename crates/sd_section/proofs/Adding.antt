@@ -7,7 +7,8 @@ use Rattle.std.proofs.lemmas.Bool.{cases_lt}
 use Rattle.std.proofs.lemmas.List.{take-append-le, take_all, length-take}
 use Rattle.sd_base.proofs.Bools.{true_from_not, false_from_not}
 use Rattle.sd_section.specs.Header.{section_length_of, whole_of}
-use Rattle.sd_section.specs.Assembled.{starts, is_overlong, is_section_whole, Cut, no_cut, with_section, cut_from, cut_of}
+use Rattle.sd_section.specs.Assembled.{starts, is_overlong, is_section_whole, Cut, no_cut, with_section, cut_from}
+use Rattle.sd_section.specs.Assembled.{cut_of}
 use Rattle.sd_section.specs.OneMore.{begun_of, cut_more, cut_of_section}
 use Rattle.sd_section.specs.declared.begun.Begun.TheVariants.{Overlong, Whole, Part}
 use Rattle.sd_section.proofs.Cutting.{over_stays, whole_stays, whole_has_all, all_is_whole, all_is_over, length_stays}
@@ -78,7 +79,8 @@ add_whole (b ∷ bs) bytes taken k n is some judged =
     let all : begun ++ drop k bytes ≡ b ∷ bs ++ bytes = all_bytes (b ∷ bs) bytes k in
     let over : is_overlong (b ∷ bs ++ bytes) ≡ false =
     ap is_overlong (sym all) ∙ (over_stays begun (drop k bytes) there.0 ∙ judgement.0) in
-    let whole : is_section_whole (b ∷ bs ++ bytes) ≡ true = ap is_section_whole (sym all) ∙ whole_stays begun (drop k bytes)
+    let whole : is_section_whole (b ∷ bs ++ bytes) ≡ true = ap is_section_whole (sym all) ∙ whole_stays begun
+    (drop k bytes)
     judgement.1 in
     let same : section_length_of (b ∷ bs ++ bytes) ≡ section_length_of begun =
     ap section_length_of (sym all) ∙ length_stays begun (drop k bytes) there.0 in
@@ -121,7 +123,8 @@ add_part (b ∷ bs) bytes taken k is some few short judged =
 -- turns that aren't needed change nothing, where they change nothing after the first
 same_turn : (m n b : ℕ) (bs more : List ℕ) → ((left : List ℕ) → length left ≤ length bs → cut_from m left more
     ≡ cut_from n left more) →
-    (stuffed over whole : Bool) → (b == 255) ≡ stuffed → is_overlong (b ∷ bs ++ more) ≡ over → is_section_whole (b ∷ bs ++ more)
+    (stuffed over whole : Bool) → (b == 255) ≡ stuffed → is_overlong (b ∷ bs ++ more) ≡ over →
+    is_section_whole (b ∷ bs ++ more)
     ≡ whole →
     cut_from (suc m) (b ∷ bs) more ≡ cut_from (suc n) (b ∷ bs) more
 same_turn m n b bs more after true over whole s o w = cut_stuffed m b bs more s ∙ sym (cut_stuffed n b bs more s)
@@ -164,7 +167,8 @@ one_whole (b ∷ bs) n h judged =
     sym judgement.2 in
     let left : List ℕ = drop n (b ∷ bs) in
     let less : length left ≤ length bs = omega (arith, length-drop n (b ∷ bs), judgement.2) in
-    cut_whole (length bs) b bs [] (false_from_not (b == 255) h) (ap is_overlong is ∙ judgement.0) (ap is_section_whole is ∙
+    cut_whole (length bs) b bs [] (false_from_not (b == 255) h) (ap is_overlong is ∙ judgement.0)
+    (ap is_section_whole is ∙
     judgement.1)
     ∙ (ap (λ (k : ℕ). with_section (take k (b ∷ bs ++ [])) (cut_from (length bs) (drop k (b ∷ bs)) [])) count
     ∙ (ap (λ (l : List ℕ). with_section (take n l) (cut_from (length bs) left [])) is
@@ -190,6 +194,7 @@ one_part [] h judged = absurd (cc)
 one_part (b ∷ bs) h judged =
     let judgement = judged_part (b ∷ bs) judged in
     let is : b ∷ bs ++ [] ≡ b ∷ bs = append-nil (b ∷ bs) in
-    cut_part (length bs) b bs [] (false_from_not (b == 255) h) (ap is_overlong is ∙ judgement.0) (ap is_section_whole is ∙
+    cut_part (length bs) b bs [] (false_from_not (b == 255) h) (ap is_overlong is ∙ judgement.0)
+    (ap is_section_whole is ∙
     judgement.1)
     ∙ ap (λ (l : List ℕ). record { sections = []; making = l }) is

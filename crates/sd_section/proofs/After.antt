@@ -6,10 +6,13 @@ use Rattle.std.proofs.lemmas.List.{drop_at, take-take, drop-drop, drop-take}
 use Rattle.std.proofs.lemmas.Bool.{eqb-true, and_parts}
 use Rattle.sd_base.proofs.Bools.{true_from_not}
 use Rattle.sd_section.specs.Assembled.{Fed, SectionRun, Cut, cut_of, is_last, is_next, is_fed, is_taken, last_counter}
-use Rattle.sd_section.specs.Assembled.{tail_of, fresh_of, kept_run, longer_run, run_after, sections_made_whole, sections_completed_in}
-use Rattle.sd_section.specs.Assembled.{sections_completed_by, Assembling, assembler_after, all_lent, with_section, next_of}
+use Rattle.sd_section.specs.Assembled.{tail_of, fresh_of, kept_run, longer_run, run_after, sections_made_whole}
+use Rattle.sd_section.specs.Assembled.{sections_completed_in}
+use Rattle.sd_section.specs.Assembled.{sections_completed_by, Assembling, assembler_after, all_lent, with_section}
+use Rattle.sd_section.specs.Assembled.{next_of}
 use Rattle.sd_section.specs.Assembled.{one_lent}
-use Rattle.sd_section.specs.OneMore.{cut_more, cut_of_section, assembler_state, holds_of, has_section, tail_with, fresh_with, still_making}
+use Rattle.sd_section.specs.OneMore.{cut_more, cut_of_section, assembler_state, holds_of, has_section, tail_with}
+use Rattle.sd_section.specs.OneMore.{fresh_with, still_making}
 use Rattle.sd_section.specs.OneMore.{going_on, assembler_fed_packet, HasSectionRoom}
 use Rattle.sd_section.specs.declared.holds.Holds.{Holds}
 use Rattle.sd_section.specs.declared.holds.Holds.TheVariants.{Making, Section, Lent}
@@ -20,7 +23,8 @@ abbrev pub making_of : SectionRun → List ℕ
 making_of run = (cut_of run.first run.more).making
 
 -- bytes after a run complete what they complete of the section in the making
-newly_is : (run : SectionRun) (bytes : List ℕ) → sections_made_whole run bytes ≡ (cut_more (making_of run) bytes).sections
+newly_is : (run : SectionRun) (bytes : List ℕ) → sections_made_whole run bytes
+    ≡ (cut_more (making_of run) bytes).sections
 newly_is run bytes =
     let sections : List (List ℕ) = (cut_of run.first run.more).sections in
     ap (λ (c : Cut). drop (length sections) c.sections) (longer (length run.first) run.first run.more bytes)
@@ -80,7 +84,8 @@ completed_passed : (packet : Fed) (before : List Fed) → is_taken packet (last_
 unfolding sections_completed_by
 completed_passed packet before e = rw e refl
 
-fed_passed : (state : Assembling) (packet : Fed) → is_taken packet state.counter ≡ false → assembler_fed_packet state packet ≡ state
+fed_passed : (state : Assembling) (packet : Fed) → is_taken packet state.counter ≡ false →
+    assembler_fed_packet state packet ≡ state
 unfolding assembler_fed_packet
 fed_passed state packet e = rw e refl
 
@@ -105,12 +110,14 @@ unfolding run_after
 run_taken packet before e = rw e refl
 
 completed_taken : (packet : Fed) (before : List Fed) → is_taken packet (last_counter before) ≡ true →
-    sections_completed_by (packet ∷ before) ≡ sections_completed_in packet (kept_run packet (last_counter before) (run_after before))
+    sections_completed_by (packet ∷ before) ≡ sections_completed_in packet (kept_run packet (last_counter before)
+    (run_after before))
 unfolding sections_completed_by
 completed_taken packet before e = rw e refl
 
 fed_taken : (state : Assembling) (packet : Fed) → is_taken packet state.counter ≡ true →
-    assembler_fed_packet state packet ≡ going_on packet (if is_next packet.counter state.counter then state.making else [])
+    assembler_fed_packet state packet ≡ going_on packet (if is_next packet.counter state.counter then state.making
+    else [])
 unfolding assembler_fed_packet
 fed_taken state packet e = rw e refl
 
@@ -145,7 +152,8 @@ after_fed packet before = by_test (is_taken packet (last_counter before)) refl w
 pub fed_after : (old new : Assembling) (packet : Fed) (before : List Fed) → new ≡ assembler_fed_packet old packet →
     old ≡ all_lent (assembler_after before) →
     new ≡ assembler_after (packet ∷ before)
-fed_after old new packet before e f = e ∙ (ap (λ (s : Assembling). assembler_fed_packet s packet) f ∙ sym (after_fed packet before))
+fed_after old new packet before e f = e ∙ (ap (λ (s : Assembling). assembler_fed_packet s packet) f
+    ∙ sym (after_fed packet before))
 
 -- what is kept, by its fields: the counter, and what the others come to whatever the counter is
 kept_counter : (holds : Holds) (bytes : List ℕ) (cut : Cut) (counter : Option ℕ) →
@@ -162,13 +170,15 @@ kept_same Lent bytes cut counter other = refl
 
 kept_held : (whole : Bool) (bytes : List ℕ) (cut : Cut) (counter : Option ℕ) →
     assembler_state (holds_of whole) bytes cut counter ≡
-    assembling counter ((cut_of_section whole bytes).making ++ cut.making) ((cut_of_section whole bytes).sections ++ cut.sections)
+    assembling counter ((cut_of_section whole bytes).making ++ cut.making) ((cut_of_section whole bytes).sections
+    ++ cut.sections)
 kept_held true bytes cut counter = refl
 kept_held false bytes cut counter = refl
 
 -- a packet that is passed over leaves what is kept
 pub nothing_taken : (holds : Holds) (bytes : List ℕ) (cut : Cut) (last : Option ℕ) (packet : Fed) (state : Assembling) →
-    assembler_state holds bytes cut last ≡ state → is_taken packet last ≡ false → state ≡ assembler_fed_packet state packet
+    assembler_state holds bytes cut last ≡ state → is_taken packet last ≡ false →
+    state ≡ assembler_fed_packet state packet
 nothing_taken holds bytes cut last packet state is e =
     let counter : state.counter ≡ last = ap (λ (s : Assembling). s.counter) (sym is) ∙
     kept_counter holds bytes cut last in
@@ -182,7 +192,8 @@ pub all_taken : (holds : Holds) (bytes gathered before later stored : List ℕ) 
     gathered ≡ (assembler_state holds bytes cut None).making → next ≡ is_next counter last →
     before ≡ (if next then gathered else []) →
     (cut_of_section whole later).sections ≡ (cut_more before (tail_with unit_start payload)).sections →
-    (cut_of_section whole later).making ≡ still_making unit_start before payload → stored ≡ fresh_with unit_start payload →
+    (cut_of_section whole later).making ≡ still_making unit_start before payload →
+    stored ≡ fresh_with unit_start payload →
     assembler_state now later (cut_of stored []) (Some counter) ≡
     assembler_fed_packet state (record { unit_start = unit_start; counter = counter; payload = payload })
 all_taken holds bytes gathered before later stored cut last unit_start next whole now counter payload state is is_now e
@@ -209,7 +220,8 @@ all_taken holds bytes gathered before later stored cut last unit_start next whol
 -- with a section more before what is cut, that one is lent next
 pub lent_next : (holds : Holds) (bytes section : List ℕ) (cut : Cut) (counter : Option ℕ) → has_section holds ≡ false →
     (next_of (assembler_state holds bytes (with_section section cut) counter) ≡ Some section)
-    × (assembler_state holds bytes cut counter ≡ one_lent (assembler_state holds bytes (with_section section cut) counter))
+    × (assembler_state holds bytes cut counter ≡ one_lent (assembler_state holds bytes (with_section section cut)
+    counter))
 lent_next Making bytes section cut counter h = (refl, refl)
 lent_next Section bytes section cut counter h = absurd (cc)
 lent_next Lent bytes section cut counter h = (refl, refl)
@@ -231,7 +243,8 @@ part_back payload at n end h =
 -- what lending a section of the payload comes to
 pub part_lent : (holds : Holds) (bytes payload rest : List ℕ) (at n end : ℕ) (counter : Option ℕ) (state : Assembling) →
     has_section holds ≡ false → at + n ≤ end →
-    assembler_state holds bytes (cut_of (slice_range payload at end) []) counter ≡ state → rest ≡ slice_range payload at end →
+    assembler_state holds bytes (cut_of (slice_range payload at end) []) counter ≡ state →
+    rest ≡ slice_range payload at end →
     cut_of rest [] ≡ with_section (take n rest) (cut_of (drop n rest) []) →
     (assembler_state holds bytes (cut_of (slice_range payload (at + n) end) []) counter ≡ one_lent state)
     × (Some (slice_range payload at (at + n)) ≡ next_of state)

@@ -44,13 +44,15 @@ pub all_is_over : (run : List ℕ) → 3 ≤ length run → 4093 < section_lengt
 unfolding is_overlong
 all_is_over run h k = rw (le-leb 3 (length run) h, lt-ltb 4093 (section_length_of run) k) refl
 
-pub whole_has_all : (run : List ℕ) → is_section_whole run ≡ true → (3 ≤ length run) × (3 + section_length_of run ≤ length run)
+pub whole_has_all : (run : List ℕ) → is_section_whole run ≡ true →
+    (3 ≤ length run) × (3 + section_length_of run ≤ length run)
 unfolding is_section_whole
 whole_has_all run h =
     let parts = and_parts (nat_le 3 (length run)) (nat_le (3 + section_length_of run) (length run)) h in
     (leb-true 3 (length run) parts.0, leb-true (3 + section_length_of run) (length run) parts.1)
 
-pub all_is_whole : (run : List ℕ) → 3 ≤ length run → 3 + section_length_of run ≤ length run → is_section_whole run ≡ true
+pub all_is_whole : (run : List ℕ) → 3 ≤ length run → 3 + section_length_of run ≤ length run →
+    is_section_whole run ≡ true
 unfolding is_section_whole
 all_is_whole run h k = rw (le-leb 3 (length run) h, le-leb (3 + section_length_of run) (length run) k) refl
 
@@ -62,7 +64,8 @@ whole_stays run more h =
     (omega (arith, length-append run more, same, all.1))
 
 -- where a run isn't whole and is with more after it, its length passes the run
-passes : (run more : List ℕ) → is_section_whole run ≡ false → is_section_whole (run ++ more) ≡ true → length run ≤ 3 + section_length_of
+passes : (run more : List ℕ) → is_section_whole run ≡ false → is_section_whole (run ++ more) ≡ true →
+    length run ≤ 3 + section_length_of
     (run ++ more)
 passes run more part whole = elim (cases_lt (3 + section_length_of (run ++ more)) (length run)) [
   | inl short ↦
@@ -106,12 +109,14 @@ pub added_over : (b : ℕ) (bs more : List ℕ) → is_overlong (b ∷ bs ++ mor
 unfolding cut_more
 added_over b bs more o = rw o refl
 
-pub added_whole : (b : ℕ) (bs more : List ℕ) → is_overlong (b ∷ bs ++ more) ≡ false → is_section_whole (b ∷ bs ++ more) ≡ true →
+pub added_whole : (b : ℕ) (bs more : List ℕ) → is_overlong (b ∷ bs ++ more) ≡ false → is_section_whole (b ∷ bs ++ more)
+    ≡ true →
     cut_more (b ∷ bs) more ≡ record { sections = whole_of (b ∷ bs ++ more) ∷ []; making = [] }
 unfolding cut_more
 added_whole b bs more o w = rw (o, w) refl
 
-pub added_part : (b : ℕ) (bs more : List ℕ) → is_overlong (b ∷ bs ++ more) ≡ false → is_section_whole (b ∷ bs ++ more) ≡ false →
+pub added_part : (b : ℕ) (bs more : List ℕ) → is_overlong (b ∷ bs ++ more) ≡ false → is_section_whole (b ∷ bs ++ more)
+    ≡ false →
     cut_more (b ∷ bs) more ≡ record { sections = []; making = b ∷ bs ++ more }
 unfolding cut_more
 added_part b bs more o w = rw (o, w) refl
@@ -157,7 +162,8 @@ longer_turn n b bs more bytes after false false true over' whole' s o w o' w' =
     ap (λ (k : ℕ). take (3 + k) all) same ∙ (ap (take (3 + section_length_of run)) is ∙
     take-append-le (3 + section_length_of run) run bytes there.1) in
     let left : List ℕ = drop (3 + section_length_of run) (b ∷ bs) in
-    cut_whole n b bs (more ++ bytes) s (ap is_overlong is ∙ (over_stays run bytes there.0 ∙ o)) (ap is_section_whole is ∙
+    cut_whole n b bs (more ++ bytes) s (ap is_overlong is ∙ (over_stays run bytes there.0 ∙ o))
+    (ap is_section_whole is ∙
     whole_stays run bytes w)
     ∙ (ap (λ (l : List ℕ). with_section l (cut_from n (drop (3 + section_length_of all) (b ∷ bs)) (more ++ bytes)))
     first

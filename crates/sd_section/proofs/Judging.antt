@@ -21,14 +21,16 @@ field_take bytes n at width h =
 
 -- what is wrong before is what is wrong first
 before_first : (a b : Bool) (s l : SectionFault) (rest : Option SectionFault) (fault : SectionFault) →
-    section_fault_unless a s (section_fault_unless b l None) ≡ Some fault → section_fault_unless a s (section_fault_unless b l rest) ≡ Some fault
+    section_fault_unless a s (section_fault_unless b l None) ≡ Some fault →
+    section_fault_unless a s (section_fault_unless b l rest) ≡ Some fault
 before_first true true s l rest fault h = absurd (cc)
 before_first true false s l rest fault h = h
 before_first false b s l rest fault h = h
 
 -- where nothing is wrong before, it is what is wrong after
 before_good : (a b : Bool) (s l : SectionFault) (rest : Option SectionFault) →
-    section_fault_unless a s (section_fault_unless b l None) ≡ None → (a ≡ true) × (b ≡ true) × (section_fault_unless a s (section_fault_unless b l rest) ≡ rest)
+    section_fault_unless a s (section_fault_unless b l None) ≡ None → (a ≡ true) × (b ≡ true) ×
+    (section_fault_unless a s (section_fault_unless b l rest) ≡ rest)
 before_good true true s l rest h = (refl, refl, refl)
 before_good true false s l rest h = absurd (cc)
 before_good false b s l rest h = absurd (cc)

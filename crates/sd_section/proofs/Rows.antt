@@ -115,7 +115,8 @@ unfolding row doubled bits_from steps after_bit
 rows = refl
 
 -- what is read from the table
-pub entry : (after byte : ℕ) → after < 8 → byte < 256 → get_or (get_or REGISTERS after []) byte 0 ≡ byte_register after byte
+pub entry : (after byte : ℕ) → after < 8 → byte < 256 → get_or (get_or REGISTERS after []) byte 0
+    ≡ byte_register after byte
 entry after byte h k =
     let here : get_or (map row (range_with_len 0 8)) after [] ≡ row after =
     get_or-map-range_with_len row 0 8 after after [] h (omega arith) in

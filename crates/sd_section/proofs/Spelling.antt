@@ -10,7 +10,8 @@ use Rattle.sd_base.proofs.Fields.{field_below, field_split}
 use Rattle.sd_base.proofs.Words.{byte_field}
 use Rattle.sd_section.specs.Crc.{crc_of}
 use Rattle.sd_section.proofs.Words.{crc_below}
-use Rattle.sd_section.specs.Header.{syntax_of, private_bit, section_length_of, extension_of, section_version_number, current_of}
+use Rattle.sd_section.specs.Header.{syntax_of, private_bit, section_length_of, extension_of, section_version_number}
+use Rattle.sd_section.specs.Header.{current_of}
 use Rattle.sd_section.specs.Header.{whole_of, body_of, crc_in, crc_due}
 use Rattle.sd_section.specs.Judged.{section_fault_unless, crc_fault, section_fault}
 use Rattle.sd_section.specs.Written.{header_bytes, with_crc, section_bytes, FitsHeaderFields, IsWrittenSection}

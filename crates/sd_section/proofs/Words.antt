@@ -92,7 +92,8 @@ moved_first m n byte h = steps_more m n byte ∙ ap (steps n) (steps_move m byte
 
 -- the register of a number under bits 0 is the sum of those of its bytes
 pub of_bytes : (after word : ℕ) → word < 2 ^ 32 →
-    bit_xor (bit_xor (bit_xor (byte_register (after + 3) (word / 256 ^ 3 % 256)) (byte_register (after + 2) (word / 256 ^ 2 % 256)))
+    bit_xor (bit_xor (bit_xor (byte_register (after + 3) (word / 256 ^ 3 % 256)) (byte_register (after + 2)
+    (word / 256 ^ 2 % 256)))
     (byte_register (after + 1) (word / 256 ^ 1 % 256))) (byte_register after (word % 256)) ≡ steps (8 * after + 32) word
 unfolding byte_register
 of_bytes after word h =

@@ -110,13 +110,15 @@ run_after (packet ∷ before) =
 
 -- the sections that bytes complete with which a run goes on
 abbrev pub sections_made_whole : SectionRun → List ℕ → List (List ℕ)
-sections_made_whole run bytes = drop (length (cut_of run.first run.more).sections) (cut_of run.first (run.more ++ bytes)).sections
+sections_made_whole run bytes = drop (length (cut_of run.first run.more).sections)
+    (cut_of run.first (run.more ++ bytes)).sections
 
 -- the sections that a payload completes: of the run, and with unit start also those that are whole in the payload
 -- itself
 abbrev pub sections_completed_in : Fed → SectionRun → List (List ℕ)
 sections_completed_in packet run =
-    if packet.unit_start then sections_made_whole run (tail_of packet.payload) ++ (cut_of (fresh_of packet.payload) []).sections else
+    if packet.unit_start then sections_made_whole run (tail_of packet.payload)
+    ++ (cut_of (fresh_of packet.payload) []).sections else
     sections_made_whole run packet.payload
 
 -- the sections that the last packet completes [ISO/IEC 13818-1, 2.4.4; this project, docs/FORMATS.md, Assembler]

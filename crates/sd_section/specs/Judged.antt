@@ -17,11 +17,13 @@ has_long_form bytes = (syntax_of bytes == 1) && (nat_le least_length (section_le
 
 -- a section's CRC isn't the one due
 abbrev pub crc_fault : List ℕ → Option SectionFault
-crc_fault section = section_fault_unless (crc_in section == crc_due section) (Crc (crc_in section) (crc_due section)) None
+crc_fault section = section_fault_unless (crc_in section == crc_due section) (Crc (crc_in section) (crc_due section))
+    None
 
 -- what is wrong with the bytes up to section_length
 abbrev pub head_fault : List ℕ → Option SectionFault
-head_fault bytes = section_fault_unless (nat_le 3 (length bytes)) Short (section_fault_unless (has_long_form bytes) Length None)
+head_fault bytes = section_fault_unless (nat_le 3 (length bytes)) Short
+    (section_fault_unless (has_long_form bytes) Length None)
 
 -- the first thing that is wrong with the bytes [this project, docs/FORMATS.md, Sections]
 unfoldable pub section_fault : List ℕ → Option SectionFault

@@ -1,7 +1,8 @@
 -- Public meaning: one packet more, from what an assembler keeps.
 use Rattle.std.specs.Prelude.{ℕ, ◌+◌, ◌≤◌, Bool, true, false, if◌then◌else◌, List, [], ◌∷◌, ◌++◌, Option, Some}
 use Rattle.sd_section.specs.Header.{longest, section_length_of, whole_of}
-use Rattle.sd_section.specs.Assembled.{Fed, is_overlong, is_section_whole, Cut, no_cut, cut_of, is_next, is_taken, tail_of}
+use Rattle.sd_section.specs.Assembled.{Fed, is_overlong, is_section_whole, Cut, no_cut, cut_of, is_next, is_taken}
+use Rattle.sd_section.specs.Assembled.{tail_of}
 use Rattle.sd_section.specs.Assembled.{fresh_of, Assembling}
 use Rattle.sd_section.specs.declared.begun.Begun.{Begun}
 use Rattle.sd_section.specs.declared.begun.Begun.TheVariants.{Overlong, Whole, Part}
@@ -61,8 +62,18 @@ assembler_fed_packet state packet =
 -- what an assembler keeps, by its fields: the bytes that it holds, and those of the last payload that it hasn't looked
 -- at
 abbrev pub assembler_state : Holds → List ℕ → Cut → Option ℕ → Assembling
-assembler_state Making bytes cut counter = record { counter = counter; making = bytes ++ cut.making; waiting = cut.sections }
-assembler_state Section bytes cut counter = record { counter = counter; making = cut.making; waiting = bytes ∷ cut.sections }
+assembler_state Making bytes cut counter = record {
+  counter = counter;
+  making = bytes ++ cut.making;
+  waiting =
+      cut.sections;
+}
+assembler_state Section bytes cut counter = record {
+  counter = counter;
+  making = cut.making;
+  waiting =
+      bytes ∷ cut.sections;
+}
 assembler_state Lent bytes cut counter = record { counter = counter; making = cut.making; waiting = cut.sections }
 
 -- a partial section and what may be added to it have room

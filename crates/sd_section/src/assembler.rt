@@ -36,7 +36,8 @@ impl Model for Assembler {
 
     ghost coded = { assembling_code };
 
-    ghost view = { λ a. assembler_state a.holds a.buffer.items (cut_of (slice_range a.payload a.at a.end) []) a.counter };
+    ghost view = { λ a. assembler_state a.holds a.buffer.items (cut_of (slice_range a.payload a.at a.end) [])
+        a.counter };
 
     ghost invariant = { λ a. (longest ≤ vec_capacity a.buffer) × (length a.buffer.items ≤ longest) × (a.at ≤ a.end)
         × (a.end ≤ 184)
@@ -82,7 +83,12 @@ impl Assembler {
         requires payload { length payload.now ≤ 184 }
         requires lent { self.old.waiting ≡ [] }
         ensures { self.new ≡
-            assembler_fed_packet self.old (record { unit_start = unit_start; counter = counter; payload = payload.now }) }
+            assembler_fed_packet self.old (record {
+              unit_start = unit_start;
+              counter = counter;
+              payload =
+                  payload.now;
+            }) }
     {
         if !is_taken(counter, payload, self.counter) {
             return;

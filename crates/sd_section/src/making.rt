@@ -3,7 +3,8 @@ ghost use Rattle.std.specs.Prelude.{◌&&◌, [], length, take, drop, vec_capaci
 ghost use Rattle.sd_section.specs.Header.{longest};
 ghost use Rattle.sd_section.specs.Assembled.{cut_of, starts as starts_of, with_section, tail_of, is_last};
 ghost use Rattle.sd_section.specs.Assembled.{is_next as is_next_of};
-ghost use Rattle.sd_section.specs.OneMore.{cut_more, cut_of_section, assembler_state, HasSectionRoom, tail_with, fresh_with, still_making};
+ghost use Rattle.sd_section.specs.OneMore.{cut_more, cut_of_section, assembler_state, HasSectionRoom, tail_with};
+ghost use Rattle.sd_section.specs.OneMore.{fresh_with, still_making};
 
 use crate::begun::{Begun, judge};
 use crate::holds::Holds;
@@ -84,7 +85,8 @@ pub fn gather(buffer: &mut Vec<u8>, holds: Holds, payload: &[u8; 184], at: usize
     requires ordered { at ≤ end }
     requires within { end ≤ 184 }
     requires short { HasSectionRoom holds (length buffer.old.items) (end - at) }
-    requires lent { (assembler_state holds buffer.old.items (cut_of (slice_range payload.now at end) []) None).waiting ≡ [] }
+    requires lent { (assembler_state holds buffer.old.items (cut_of (slice_range payload.now at end) []) None).waiting
+        ≡ [] }
     ensures value { buffer.new.items ≡
         (assembler_state holds buffer.old.items (cut_of (slice_range payload.now at end) []) None).making }
     ensures room { longest ≤ vec_capacity buffer.new }
@@ -119,7 +121,8 @@ pub fn go_on(buffer: &mut Vec<u8>, unit_start: bool, payload: &[u8]) -> bool
     requires some { 0 < length payload.now }
     ensures sections { (cut_of_section result buffer.new.items).sections
         ≡ (cut_more buffer.old.items (tail_with unit_start payload.now)).sections }
-    ensures making { (cut_of_section result buffer.new.items).making ≡ still_making unit_start buffer.old.items payload.now }
+    ensures making { (cut_of_section result buffer.new.items).making ≡ still_making unit_start buffer.old.items
+        payload.now }
     ensures room { longest ≤ vec_capacity buffer.new }
     ensures short { length buffer.new.items ≤ longest }
 {

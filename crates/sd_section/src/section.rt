@@ -1,6 +1,7 @@
 ghost use Rattle.std.specs.Prelude.{◌≡◌, ◌+◌, ◌<◌, ◌≤◌, ◌↔◌, IsTrue, length};
 ghost use Rattle.sd_section.specs.Header.{least_length, most_length, table_id_of, syntax_of, section_length_of};
-ghost use Rattle.sd_section.specs.Header.{extension_of, section_version_number, current_of, section_number_of, last_number_of};
+ghost use Rattle.sd_section.specs.Header.{extension_of, section_version_number, current_of, section_number_of};
+ghost use Rattle.sd_section.specs.Header.{last_number_of};
 ghost use Rattle.sd_section.specs.Header.{body_of};
 ghost use Rattle.sd_section.specs.Header.{crc_in, crc_due};
 

@@ -14,11 +14,13 @@ use Rattle.sd_site_cards.specs.declared.book_line.BookLine.{BookLine}
 use Rattle.sd_site_cards.specs.declared.site.Site.{Site}
 use Rattle.sd_site_cards.specs.SiteFields.{SiteFields, AreInRange, site_fields_of}
 use Rattle.sd_site_cards.specs.Forms.{NumberLine, BytesLine, Form, number, bytes, book, forms, IsWithin, bytes_after}
-use Rattle.sd_site_cards.specs.Forms.{book_after, most_book_size, number_on, bytes_on, number_or, height_line, master_line}
+use Rattle.sd_site_cards.specs.Forms.{book_after, most_book_size, number_on, bytes_on, number_or, height_line}
+use Rattle.sd_site_cards.specs.Forms.{master_line}
 use Rattle.sd_site_cards.specs.Forms.{ca_line, emm_line, ecm_line, every_line, cryptos_line, span_line, messages_line}
 use Rattle.sd_site_cards.specs.Forms.{first_word_line, last_word_line, first_period_line}
 use Rattle.sd_site_cards.specs.Text.{SpellsSite, IsSite, site_and_book_on, site_on, site_of, book_on, book_line_of}
-use Rattle.sd_site_cards.specs.SiteFaults.{IsInForm, IsGood, IsMalformed, IsOutOfRange, NextIs, AreGoodSiteLines, IsSiteFaultOf}
+use Rattle.sd_site_cards.specs.SiteFaults.{IsInForm, IsGood, IsMalformed, IsOutOfRange, NextIs, AreGoodSiteLines}
+use Rattle.sd_site_cards.specs.SiteFaults.{IsSiteFaultOf}
 use Rattle.sd_site_cards.specs.Written.{are_lines_whole, fewer_taken}
 use Rattle.sd_site_cards.proofs.Walk.{Answer, SaysBook, Tells, lines_told}
 
@@ -280,7 +282,8 @@ stops lines (Err (Extra k)) tells = extra_stops lines k tells
 stops lines (Err Short) tells = short_stops lines tells
 
 -- lines that are good up to line n and no further are so for one n
-one_end : (m n : ℕ) (lines : List (List ℕ)) → AreGoodSiteLines m lines → (NextIs IsGood m lines → ⊥) → AreGoodSiteLines n lines
+one_end : (m n : ℕ) (lines : List (List ℕ)) → AreGoodSiteLines m lines → (NextIs IsGood m lines → ⊥) →
+    AreGoodSiteLines n lines
     → (NextIs IsGood n lines → ⊥) → m ≡ n
 one_end m n lines good_m stop_m good_n stop_n =
     elim (cases_lt m n) [
@@ -354,7 +357,8 @@ tells : (text : List ℕ) (r : Answer) → site_and_book_on (lines_of text) ≡ 
 tells text r e = subst (λ (r : Answer). Tells (lines_of text) r) e (lines_told (lines_of text))
 
 -- what the lines say, by what they say of the site alone
-all_told : (text : List ℕ) (r : Answer) → site_and_book_on (lines_of text) ≡ r → (site : SiteFields) → site_of text ≡ Ok site
+all_told : (text : List ℕ) (r : Answer) → site_and_book_on (lines_of text) ≡ r → (site : SiteFields) →
+    site_of text ≡ Ok site
     → site_and_book_on (lines_of text) ≡ Ok (site, book_line_of text)
 unfolding site_on
 all_told text (Ok said) e site f =
@@ -362,7 +366,8 @@ all_told text (Ok said) e site f =
     e ∙ (λ i. Ok (same i, sym (tells text (Ok said) e).2.is i))
 all_told text (Err fault) e site f = absurd (rejects _ _ (rw e at f))
 
-fault_told : (text : List ℕ) (r : Answer) → site_and_book_on (lines_of text) ≡ r → (fault : SiteFault) → site_of text ≡ Err fault
+fault_told : (text : List ℕ) (r : Answer) → site_and_book_on (lines_of text) ≡ r → (fault : SiteFault) →
+    site_of text ≡ Err fault
     → site_and_book_on (lines_of text) ≡ Err fault
 unfolding site_on
 fault_told text (Ok said) e fault f = absurd (rejects _ _ (sym (rw e at f)))
@@ -397,7 +402,8 @@ said_is_site text fields e =
     record { text = h.0; ranges = h.1; size = h.2.range }
 
 -- what is read is a site file that says this
-pub is_site : (text : List ℕ) (r : Result Site SiteFault) → Gives r text → IfOk r (λ site. IsSite text (site_fields_of site))
+pub is_site : (text : List ℕ) (r : Result Site SiteFault) → Gives r text →
+    IfOk r (λ site. IsSite text (site_fields_of site))
 is_site text (Ok site) gives = said_is_site text (site_fields_of site) gives
 is_site text (Err fault) gives = tt
 

@@ -9,7 +9,8 @@ use Rattle.std.proofs.lemmas.List.{take_at, drop_at, length-append}
 use Rattle.std.proofs.lemmas.Option.{none-some}
 use Rattle.byteorder.specs.Endian.{big_bytes, big_number}
 use Rattle.sd_base.proofs.Endian.{two_again, four_again, number_again}
-use Rattle.sd_site_cards.specs.Files.{AreSecrets, AreKeptSecrets, byte_at, file_bytes_from, number_from, check_of, check_in}
+use Rattle.sd_site_cards.specs.Files.{AreSecrets, AreKeptSecrets, byte_at, file_bytes_from, number_from, check_of}
+use Rattle.sd_site_cards.specs.Files.{check_in}
 use Rattle.sd_site_cards.specs.Files.{check_due, card_file_head, file_body, file_bytes}
 use Rattle.sd_site_cards.proofs.Written.{AreBytes, bytes_at, cut_bytes, kept_count, file_said, file_length}
 use Rattle.sd_site_cards.proofs.Written.{check_written}
@@ -47,7 +48,8 @@ head_joined magic fields four two = append_assoc (magic ++ fields) four two ∙ 
 -- bytes with this start and these n fields have the head that says so, and the numbers after the fields
 head_said : (bytes magic fields : List ℕ) (n : ℕ) → AreBytes bytes → magic ≡ take 4 bytes
     → fields ≡ file_bytes_from bytes 4 n → 4 + (n + 6) ≤ length bytes
-    → take (4 + (n + 6)) bytes ≡ card_file_head magic fields (number_from bytes (4 + n) 4) (number_from bytes (4 + n + 4) 2)
+    → take (4 + (n + 6)) bytes ≡ card_file_head magic fields (number_from bytes (4 + n) 4)
+    (number_from bytes (4 + n + 4) 2)
 head_said bytes magic fields n fits start own long =
     let numbers : file_bytes_from bytes (4 + n) 6
     ≡ big_bytes 4 (number_from bytes (4 + n) 4) ++ big_bytes 2 (number_from bytes (4 + n + 4) 2) =
@@ -73,7 +75,8 @@ pub record IsSound (bytes magic own : List ℕ) (n m : ℕ) : Type 0 where
 pub sound_is_file : (bytes magic fields : List ℕ) (n m : ℕ) (secrets : List (List ℕ)) → AreBytes bytes
     → IsSound bytes magic fields n m → AreKeptSecrets bytes (4 + (n + 6)) secrets
     → (length secrets ≡ m) × (number_from bytes (4 + n + 4) 2 < 2 ^ 16)
-    × (bytes ≡ file_bytes (card_file_head magic fields (number_from bytes (4 + n) 4) (number_from bytes (4 + n + 4) 2)) secrets)
+    × (bytes ≡ file_bytes (card_file_head magic fields (number_from bytes (4 + n) 4) (number_from bytes (4 + n + 4) 2))
+    secrets)
 sound_is_file bytes magic fields n m secrets fits sound kept =
     let head = head_said bytes magic fields n fits sound.start sound.fields (omega (arith, sound.size)) in (
       kept_count bytes secrets (4 + (n + 6)) m kept sound.size,

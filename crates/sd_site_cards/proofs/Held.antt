@@ -8,7 +8,8 @@ use Rattle.std.proofs.lemmas.Option.{same_Some, slice_get-map, slice_get-get_or,
 use Rattle.std.proofs.lemmas.Option.{get_or_from_slice_get}
 use Rattle.sd_tree_keys.specs.Node.{depth, IsAbove}
 use Rattle.sd_tree_keys.proofs.Levels.{doubled}
-use Rattle.sd_tree_keys.proofs.Ancestors.{above_le, above_trans, above_parent, parent_above, above_comparable, above_tested}
+use Rattle.sd_tree_keys.proofs.Ancestors.{above_le, above_trans, above_parent, parent_above, above_comparable}
+use Rattle.sd_tree_keys.proofs.Ancestors.{above_tested}
 use Rattle.sd_tree_keys.specs.Labels.{label_of, descended, middle_of}
 use Rattle.sd_tree_keys.specs.Names.{IsGivenPair}
 use Rattle.sd_tree_keys.specs.declared.name.Name.{Name}

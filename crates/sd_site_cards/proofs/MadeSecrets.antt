@@ -10,7 +10,8 @@ use Rattle.std.proofs.lemmas.List.FromFn.{map-range_with_len_more}
 use Rattle.sha2.proofs.Facts256.{length-sha256}
 use Rattle.sd_tree_keys.specs.Node.{depth, IsAbove}
 use Rattle.sd_tree_keys.specs.Keys.{whole_key_of}
-use Rattle.sd_tree_keys.specs.Labels.{left_of, right_of, third_of, side_of, label_of_node, label_below, descended, label_of}
+use Rattle.sd_tree_keys.specs.Labels.{left_of, right_of, third_of, side_of, label_of_node, label_below, descended}
+use Rattle.sd_tree_keys.specs.Labels.{label_of}
 use Rattle.sd_tree_keys.specs.declared.label.Side.{Side}
 use Rattle.sd_tree_keys.specs.declared.label.Side.TheVariants.{Left, Right}
 use Rattle.sd_tree_keys.proofs.Descents.{held_gives_label}
@@ -119,7 +120,8 @@ pub secrets_more : (master : List ℕ) (n : ℕ → ℕ) (d u k : ℕ) → map (
 secrets_more master n d u k =
     let e : 0 + k ≡ k = omega arith in
     let more = rw e at (lists_more (λ a. take (n a) (pair_names_under d u a)) 0 k) in
-    rw add-one (rw more (sym (map-append (secret_of master) (names_first n d u k) (take (n k) (pair_names_under d u k)))))
+    rw add-one (rw more (sym (map-append (secret_of master) (names_first n d u k)
+    (take (n k) (pair_names_under d u k)))))
 
 -- a child's label has the length of a hash
 length_third : (side : Side) (label : List ℕ) → length (third_of side label) ≡ 32

@@ -13,7 +13,8 @@ use Rattle.sd_base.proofs.DecimalNumbers.{decimal_of_number}
 use Rattle.sd_base.proofs.Lengths.{long_lines, text_length, said_length, after_length}
 use Rattle.sd_site_cards.specs.SiteFields.{SiteFields, AreInRange}
 use Rattle.sd_site_cards.specs.declared.book_line.BookLine.{BookLine}
-use Rattle.sd_site_cards.specs.Forms.{NumberLine, bytes_said, bytes_after, both_parts, book_word, book_after, most_book_size}
+use Rattle.sd_site_cards.specs.Forms.{NumberLine, bytes_said, bytes_after, both_parts, book_word, book_after}
+use Rattle.sd_site_cards.specs.Forms.{most_book_size}
 use Rattle.sd_site_cards.specs.Forms.{digest_bytes, number_or, height_line, master_line, ca_line}
 use Rattle.sd_site_cards.specs.Forms.{emm_line}
 use Rattle.sd_site_cards.specs.Forms.{ecm_line, every_line, cryptos_line, span_line, messages_line}

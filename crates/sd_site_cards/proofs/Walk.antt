@@ -10,11 +10,13 @@ use Rattle.sd_site_cards.specs.declared.site_fault.SiteFault.{SiteFault}
 use Rattle.sd_site_cards.specs.declared.site_fault.SiteFault.TheVariants.{Range, SamePid}
 use Rattle.sd_site_cards.specs.declared.book_line.BookLine.{BookLine}
 use Rattle.sd_site_cards.specs.SiteFields.{SiteFields, AreInRange}
-use Rattle.sd_site_cards.specs.Forms.{NumberLine, BytesLine, number, bytes, book, forms, IsWithin, bytes_after, book_after}
+use Rattle.sd_site_cards.specs.Forms.{NumberLine, BytesLine, number, bytes, book, forms, IsWithin, bytes_after}
+use Rattle.sd_site_cards.specs.Forms.{book_after}
 use Rattle.sd_site_cards.specs.Forms.{number_on, bytes_on, most_book_size, number_or, height_line, master_line, ca_line}
 use Rattle.sd_site_cards.specs.Forms.{emm_line, ecm_line, every_line, cryptos_line, span_line, messages_line}
 use Rattle.sd_site_cards.specs.Forms.{first_word_line, last_word_line, first_period_line}
-use Rattle.sd_site_cards.specs.Text.{◌>>=◌, SpellsSite, in_range, well_formed, number_on_line, optional_at, bytes_at, judged_whole}
+use Rattle.sd_site_cards.specs.Text.{◌>>=◌, SpellsSite, in_range, well_formed, number_on_line, optional_at, bytes_at}
+use Rattle.sd_site_cards.specs.Text.{judged_whole}
 use Rattle.sd_site_cards.specs.Text.{optional_on, in_book_range, book_line_at, book_on, site_and_book_on}
 use Rattle.sd_site_cards.specs.declared.optional.Optional.{Optional}
 use Rattle.sd_site_cards.specs.SiteFaults.{IsGood, NextIs, AreGoodSiteLines, IsSiteFaultOf}
@@ -59,7 +61,8 @@ next : (n : ℕ) (lines rest : List (List ℕ)) (line : List ℕ) → Walked n l
 next n lines rest line walked = let e : n + 0 ≡ n = omega arith in rw e at (walked.after 0)
 
 -- one good line more
-good_more : (n : ℕ) (lines : List (List ℕ)) → AreGoodSiteLines n lines → NextIs IsGood n lines → AreGoodSiteLines (n + 1) lines
+good_more : (n : ℕ) (lines : List (List ℕ)) → AreGoodSiteLines n lines → NextIs IsGood n lines →
+    AreGoodSiteLines (n + 1) lines
 good_more n lines good one i lt =
     elim (cases_lt i n) [
       | inl below ↦ good i below

@@ -9,7 +9,8 @@ use Rattle.hex.specs.Hex.{encode_lower}
 use Rattle.sd_base.specs.Lines.{lines_of}
 use Rattle.sd_site_cards.specs.SiteFields.{SiteFields, AreInRange}
 use Rattle.sd_site_cards.specs.Forms.{NumberLine, BytesLine, height_line, master_line, ca_line, emm_line, ecm_line}
-use Rattle.sd_site_cards.specs.Forms.{every_line, cryptos_line, span_line, messages_line, first_word_line, last_word_line}
+use Rattle.sd_site_cards.specs.Forms.{every_line, cryptos_line, span_line, messages_line, first_word_line}
+use Rattle.sd_site_cards.specs.Forms.{last_word_line}
 use Rattle.sd_site_cards.specs.Forms.{first_period_line, book_word, most_book_size, digest_bytes}
 use Rattle.sd_site_cards.specs.Text.{◌>>=◌, site_of, book_line_of}
 use Rattle.sd_site_cards.specs.declared.book_line.BookLine.{BookLine}

@@ -29,7 +29,10 @@ impl Site {
     fn following(&self, words: u32, first_period: u32) -> Site
         requires some { 1 ≤ words }
         requires room { self.now.last_word + words ≤ MOST_WORD }
-        ensures { site_fields_of result ≡ record (twin_site words (site_fields_of self.now)) { first_period = first_period } }
+        ensures { site_fields_of result ≡ record (twin_site words (site_fields_of self.now)) {
+          first_period =
+              first_period;
+        } }
     {
         Site {
             height: self.height,

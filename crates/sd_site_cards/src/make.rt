@@ -41,7 +41,8 @@ fn secrets<L: Ledger>(
     steps: &mut Steps<L>,
 ) -> Result<Vec<[u8; 32]>, AllocError>
     requires { u < 2 ^ site.now.height }
-    ensures value { IfOk result (λ secrets. secrets.items ≡ map (secret_of site.now.master) (names_of_receiver site.now.height u)) }
+    ensures value { IfOk result (λ secrets. secrets.items ≡ map (secret_of site.now.master)
+        (names_of_receiver site.now.height u)) }
     ensures length { IfOk result (λ secrets.
         length secrets.items ≡ site.now.height * (site.now.height + 1) / 2 + 1) }
     ensures fits { IfOk result (λ _. (1 ≤ site.now.height) × (site.now.height ≤ HIGHEST)) }

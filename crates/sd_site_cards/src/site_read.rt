@@ -6,7 +6,8 @@ ghost use Rattle.sd_site_cards.specs.SiteFields.{SiteFields, site_fields_of};
 ghost use Rattle.sd_site_cards.specs.Forms.{IsWithin, height_line, master_line, ca_line, emm_line, ecm_line};
 ghost use Rattle.sd_site_cards.specs.Forms.{every_line, cryptos_line, span_line, messages_line};
 ghost use Rattle.sd_site_cards.specs.SiteFaults.{IsSiteFaultOf};
-ghost use Rattle.sd_site_cards.specs.Text.{IsSite, site_of, ◌>>=◌ as ◌>>>◌, number_on_line, optional_at, optional_on, bytes_at};
+ghost use Rattle.sd_site_cards.specs.Text.{IsSite, site_of, ◌>>=◌ as ◌>>>◌, number_on_line, optional_at, optional_on};
+ghost use Rattle.sd_site_cards.specs.Text.{bytes_at};
 ghost use Rattle.sd_site_cards.specs.Text.{book_line_at, book_line_of, in_book_range, site_and_book_on};
 ghost use Rattle.sd_site_cards.specs.Forms.{book_after};
 
@@ -36,7 +37,8 @@ fn number_line<'a>(
     ensures value { MatchResult result
         (λ cut. number_on_line k (record { word = word.now; low = low; high = high }) (lines_of bytes.now)
         ≡ Ok (cut.0, lines_of cut.1.now))
-        (λ fault. number_on_line k (record { word = word.now; low = low; high = high }) (lines_of bytes.now) ≡ Err fault) }
+        (λ fault. number_on_line k (record { word = word.now; low = low; high = high }) (lines_of bytes.now)
+        ≡ Err fault) }
 {
     let (line, rest) = next_line(bytes).ok_or(SiteFault::Short)?;
     match number_after(word, line) {
@@ -49,7 +51,8 @@ fn number_line<'a>(
 fn pid_line<'a>(bytes: &'a [u8], k: u32, word: &[u8]) -> Result<(u16, &'a [u8]), SiteFault>
     ensures fits { IfOk result (λ cut. IsWithin emm_line cut.0) }
     ensures value { MatchResult result
-        (λ cut. number_on_line k (record emm_line { word = word.now }) (lines_of bytes.now) ≡ Ok (cut.0, lines_of cut.1.now))
+        (λ cut. number_on_line k (record emm_line { word = word.now }) (lines_of bytes.now)
+        ≡ Ok (cut.0, lines_of cut.1.now))
         (λ fault. number_on_line k (record emm_line { word = word.now }) (lines_of bytes.now) ≡ Err fault) }
 {
     let (number, rest) = number_line(
@@ -81,7 +84,8 @@ fn schedule_lines(bytes: &[u8]) -> Result<(u32, u32, u32, &[u8]), SiteFault>
         (λ cut. IsWithin every_line cut.0 × IsWithin cryptos_line cut.1 × IsWithin span_line cut.2) }
     ensures value { result_map_both {U = ℕ × ℕ × ℕ × List (List ℕ)}
         (λ cut. (cut.0, cut.1, cut.2, lines_of cut.3.now)) (λ fault. fault) result
-        ≡ (number_on_line 6 every_line (lines_of bytes.now) >>> λ every. number_on_line 7 cryptos_line every.1 >>> λ cryptos.
+        ≡ (number_on_line 6 every_line (lines_of bytes.now) >>> λ every. number_on_line 7 cryptos_line every.1 >>>
+        λ cryptos.
         number_on_line 8 span_line cryptos.1 >>> λ span. Ok (every.0, cryptos.0, span.0, span.1)) }
 {
     let (every, rest) = number_line(bytes, 6, b"ecm-every ", 1, MOST_EVERY)?;

@@ -13,7 +13,8 @@ use Rattle.sd_spec.specs.Plan.{crypto_of, period_in, period_of}
 use Rattle.sd_spec.specs.declared.event.Event.{Event}
 use Rattle.sd_spec.specs.declared.event.Event.TheVariants.{Subscribe, Revoke, Send, Offer, Lose, Off, On}
 use Rattle.sd_spec.specs.Events.{is_of, sends_with}
-use Rattle.sd_spec.specs.Book.{sends, open_period, period_after, period_to_reach, with_periods_to, book_with_command, book_after_event}
+use Rattle.sd_spec.specs.Book.{sends, open_period, period_after, period_to_reach, with_periods_to, book_with_command}
+use Rattle.sd_spec.specs.Book.{book_after_event}
 use Rattle.sd_spec.specs.Book.{event_book}
 use Rattle.sd_spec.specs.Book.{plan_after, taken_in, accepted_at}
 use Rattle.sd_spec.proofs.Filled.{filled_ends, filled_keeps}
@@ -36,7 +37,8 @@ pub data Turn (site : SiteFields) (m k : ℕ) (event : Event) (book : List Comma
 commands_turn : (site : SiteFields) (m k : ℕ) (event : Event) (command : Command) (book : List Command) (b : Bool)
     → nat_le (period_after site k) most_periods ≡ b → last_period (command ∷ []) ≡ 0
     → ((d : ℕ) → is_within d command ≡ is_of d event)
-    → book_after_event site m k event book ≡ book_with_command (period_after site k) command book → sends_with m event k ≡ k
+    → book_after_event site m k event book ≡ book_with_command (period_after site k) command book →
+    sends_with m event k ≡ k
     → accepted_at site k event ≡ taken_in (period_after site k) command → Turn site m k event book
 unfolding book_with_command
 commands_turn site m k event command book true test none tree is same taken =

@@ -180,7 +180,8 @@ none_greatest site m = refl
 
 -- the last period is the greatest of the accepted commands' periods and of the one that was reached
 pub last_is_greatest : (site : SiteFields) (m : ℕ) (past : List Event) → AreInRange site →
-    last_period (event_book site m past) ≡ max (greatest_period (accepted site m past)) (period_to_reach site (sends m past))
+    last_period (event_book site m past) ≡ max (greatest_period (accepted site m past))
+    (period_to_reach site (sends m past))
 unfolding event_book sends
 last_is_greatest site m [] r = omega (arith, period_none, none_greatest site m)
 last_is_greatest site m (event ∷ past) r =

@@ -242,7 +242,8 @@ new_writes_nothing plan card clear u n w off =
 
 -- nothing happens to a receiver at an event of another leaf
 pub others_wait : (u n v : ℕ) (w : Watch) → v ≢ u →
-    (watch_after_event u n (Offer v) w ≡ w) × (watch_after_event u n (Lose v) w ≡ w) × (watch_after_event u n (Off v) w ≡ w)
+    (watch_after_event u n (Offer v) w ≡ w) × (watch_after_event u n (Lose v) w ≡ w) ×
+    (watch_after_event u n (Off v) w ≡ w)
     × (watch_after_event u n (On v) w ≡ w)
 others_wait u n v w apart =
     let test : (v == u) ≡ false = grind (arith, nat_tests, apart) in

@@ -71,7 +71,8 @@ after_rises site (suc j) zero r below = absurd (omega (arith, below))
 after_rises site (suc j) (suc k) r below = omega (arith, open_rises site j k r (omega (arith, below)))
 
 -- nor do those that a book has to have
-pub reached_rises : (site : SiteFields) (j k : ℕ) → AreInRange site → j ≤ k → period_to_reach site j ≤ period_to_reach site k
+pub reached_rises : (site : SiteFields) (j k : ℕ) → AreInRange site → j ≤ k →
+    period_to_reach site j ≤ period_to_reach site k
 reached_rises site zero k r below = omega arith
 reached_rises site (suc j) zero r below = absurd (omega (arith, below))
 reached_rises site (suc j) (suc k) r below = omega (arith, open_rises site j k r (omega (arith, below)))

@@ -9,7 +9,8 @@ use Rattle.sd_spec.specs.Counting.{is_marked}
 use Rattle.sd_spec.specs.Refused.{pat_wrong, unsent_at}
 use Rattle.sd_spec.specs.declared.left_out.LeftOut.{LeftOut}
 
--- what becomes of a packet: it is left out, since it is marked or for a rule; it is sent; or the broadcast ends before it
+-- what becomes of a packet: it is left out, since it is marked or for a rule; it is sent; or the broadcast ends before
+-- it
 pub data Verdict : Type 0 where
   Marked : Verdict
   Refused : ClearFault → Verdict
@@ -53,7 +54,8 @@ ended_from site before n [] = None
 ended_from site before n (packet ∷ packets) = by_verdict (verdict_of site before n packet)
     (ended_from site (before ++ packet ∷ []) (n + 1) packets) (ended_from site before (n + 1) packets) (Some n)
 
--- what is left out, with one packet more in front: a marked one, one that breaks a rule, a sent one that is no PAT though
+-- what is left out, with one packet more in front: a marked one, one that breaks a rule, a sent one that is no PAT
+-- though
 -- it is on PID 0 with a payload
 abbrev pub left_out_marked : LeftOut → LeftOut
 left_out_marked out = record { marked = out.marked + 1; refused = out.refused; pats = out.pats; first = out.first }

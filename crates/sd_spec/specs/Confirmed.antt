@@ -46,7 +46,8 @@ is_confirmed segment pid =
 -- a packet in the clear as it is written: without the project's CA_descriptor if it is a PMT that has it
 unfoldable pub unmarked : Segment → Packet → Packet
 unmarked segment packet =
-    if is_placed packet && is_none (restore_fault segment.ca segment.ecm packet) then pmt_without_descriptor packet else packet
+    if is_placed packet && is_none (restore_fault segment.ca segment.ecm packet) then pmt_without_descriptor packet
+    else packet
 
 -- the packet can't be one under the control word of this number
 abbrev pub is_foreign_under : ℕ → Packet → Bool

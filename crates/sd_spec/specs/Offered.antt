@@ -21,7 +21,8 @@ use Rattle.sd_message.specs.declared.stream_fault.StreamFault.TheVariants as Fau
 use Rattle.sd_spec.specs.Tuned.{tuning_of}
 use Rattle.sd_psi.specs.declared.our_cat.Tuning.{Tuning}
 use Rattle.sd_spec.specs.Heard.{Heard, Dropped, Entitles, Controls, BadEmm, BadEcm, Other, hears}
-use Rattle.sd_spec.specs.Stretches.{Stretch, newest_message, message_parts_to, completes, is_closed, current, sections_seen, held_in}
+use Rattle.sd_spec.specs.Stretches.{Stretch, newest_message, message_parts_to, completes, is_closed, current}
+use Rattle.sd_spec.specs.Stretches.{sections_seen, held_in}
 use Rattle.sd_spec.specs.Runs.{is_same_run, of_run}
 use Rattle.sd_spec.specs.Keys.{key_from, key_at}
 use Rattle.sd_spec.specs.Confirmed.{WrittenPackets, position_in, written_from}

@@ -79,7 +79,8 @@ is_alike a b = false
 -- the packet of a thing after things sent before it: its PID's counter is how many there were, mod 16 [this project,
 -- docs/FORMATS.md, Sections]
 abbrev pub item_packet : SiteFields → List Item → Item → Packet
-item_packet site earlier Cat = section_packet (cat_section site.ca site.emm site.ecm) 1 (count_by (is_alike Cat) earlier % 16)
+item_packet site earlier Cat = section_packet (cat_section site.ca site.emm site.ecm) 1
+    (count_by (is_alike Cat) earlier % 16)
 item_packet site earlier (Entitles emm) =
     section_packet (emm_section emm) site.emm (count_by (is_alike (Entitles emm)) earlier % 16)
 item_packet site earlier (Controls part) =
@@ -89,7 +90,8 @@ item_packet site earlier (Carries k packet) = packet
 -- the packets of things after others
 unfoldable pub packets_from : SiteFields → List Item → List Item → Packets
 packets_from site earlier [] = []
-packets_from site earlier (item ∷ items) = item_packet site earlier item ∷ packets_from site (earlier ++ item ∷ []) items
+packets_from site earlier (item ∷ items) = item_packet site earlier item ∷ packets_from site (earlier ++ item ∷ [])
+    items
 
 -- the broadcast of a clear stream without its closing message, and with it
 unfoldable pub body : Plan → Packets → Packets

@@ -57,11 +57,13 @@ message_told (part ∷ run) = Some (message_of (ecm_head_of part) (flat_map list
 
 -- the parts of the message that a part of it ends
 unfoldable pub message_parts_to : Stretch → EcmPart → List EcmPart
-message_parts_to stretch part = if exceeds stretch.message part then run_of_parts (part ∷ counted_parts stretch.message stretch.after) else []
+message_parts_to stretch part = if exceeds stretch.message part then run_of_parts
+    (part ∷ counted_parts stretch.message stretch.after) else []
 
 -- the message that is complete with what comes [this project, docs/FORMATS.md, Receiver]
 abbrev pub completed : Stretch → Heard → Option Message
-completed stretch (Controls part) = if part.part == part.last_part then message_told (message_parts_to stretch part) else None
+completed stretch (Controls part) = if part.part == part.last_part then message_told (message_parts_to stretch part)
+    else None
 completed stretch Dropped = None
 completed stretch (Entitles emm) = None
 completed stretch (BadEmm fault) = None

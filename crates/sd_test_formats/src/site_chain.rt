@@ -1,4 +1,6 @@
-use sd_site_cards::{MOST_FIRST_PERIOD, MOST_WORD, Site, SiteFault, read, read_newest, read_with_book};
+use sd_site_cards::{
+    MOST_FIRST_PERIOD, MOST_WORD, Site, SiteFault, read, read_newest, read_with_book,
+};
 use std::alloc::{AllocError, Global};
 use std::test::*;
 
@@ -184,7 +186,8 @@ fn line_13_is_judged(rt: HostRuntime) -> Result<(), Fail> {
     Ok(())
 }
 
-// The words and the first period of the sites that follow a site: at the same time, and after it with a book of 4 periods.
+// The words and the first period of the sites that follow a site: at the same time, and after it with a book of 4
+// periods.
 fn following(site: &Site, words: u32) -> Option<[(u32, u32, u32); 2]> {
     if words == 0 || MOST_WORD - site.last_word < words || site.first_period >= MOST_FIRST_PERIOD {
         return None;

@@ -1,5 +1,6 @@
 //! Tests of the outside and of what goes through it: ports in memory and on the machine, streams that are driven and
-//! streams that are searched, sample streams, the inspector and its lines, the book of a site's line 13, files that must
+//! streams that are searched, sample streams, the inspector and its lines, the book of a site's line 13, files that
+//! must
 //! be new, lines that are refused, statuses and what they are to a user.
 #![tactic(auto)]
 

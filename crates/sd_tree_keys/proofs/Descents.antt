@@ -7,7 +7,8 @@ use Rattle.std.proofs.lemmas.Bool.{cases_lt}
 use Rattle.sd_tree_keys.specs.Node.{depth, IsAbove}
 use Rattle.sd_tree_keys.proofs.Levels.{IsAtLevel, doubled, depth_at}
 use Rattle.sd_tree_keys.proofs.Ancestors.{node_level, above_le, above_by_levels}
-use Rattle.sd_tree_keys.specs.Labels.{label_below, descended, label_of, label_of_node, third_of, side_of, left_of, right_of}
+use Rattle.sd_tree_keys.specs.Labels.{label_below, descended, label_of, label_of_node, third_of, side_of, left_of}
+use Rattle.sd_tree_keys.specs.Labels.{right_of}
 
 -- a node of 32 bits stands on the level of its depth
 pub level_of : (v : ℕ) → 1 ≤ v → v < 2 ^ 32 → IsAtLevel v (depth v)

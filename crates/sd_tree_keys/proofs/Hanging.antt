@@ -4,7 +4,8 @@ use Rattle.std.proofs.Math.Nat.{div-one}
 use Rattle.std.proofs.Math.Pow.{shr-shr}
 use Rattle.std.proofs.lemmas.Nat.{pow_pos}
 use Rattle.sd_tree_keys.specs.Node.{IsAbove, IsProperlyAbove}
-use Rattle.sd_tree_keys.proofs.Ancestors.{above_le, above_self, above_trans, above_or_not, above_parent, above_comparable}
+use Rattle.sd_tree_keys.proofs.Ancestors.{above_le, above_self, above_trans, above_or_not, above_parent}
+use Rattle.sd_tree_keys.proofs.Ancestors.{above_comparable}
 use Rattle.sd_tree_keys.proofs.Ancestors.{above_through_child, parent_above, properly_above_from_parent}
 use Rattle.sd_tree_keys.specs.Names.{IsGivenPair}
 use Rattle.sd_tree_keys.proofs.Paths.{other_child}

@@ -17,7 +17,8 @@ use Rattle.sd_tree_keys.specs.Leaves.{leaves, is_below, is_member, members}
 use Rattle.sd_tree_keys.specs.SetNames.{IsPair}
 use Rattle.sd_base.proofs.Arithmetic.{times_next}
 use Rattle.sd_tree_keys.proofs.Counting.{count_interval, count_split}
-use Rattle.sd_tree_keys.proofs.Ancestors.{above_le, below_is_above, within_from_below, below_from_within, interval_within}
+use Rattle.sd_tree_keys.proofs.Ancestors.{above_le, below_is_above, within_from_below, below_from_within}
+use Rattle.sd_tree_keys.proofs.Ancestors.{interval_within}
 use Rattle.sd_tree_keys.proofs.Ancestors.{leaves_from_above}
 
 -- the lower node of a pair is a node of the tree

@@ -9,7 +9,8 @@ use Rattle.sd_tree_keys.specs.declared.name.Name.TheVariants.{Whole, Pair}
 -- the pairs of leaf u's ancestor at depth a: with the sibling of each path node below it, from the highest down [Naor,
 -- Naor, Lotspiech 2001, 3.2]
 unfoldable pub pair_names_under : ℕ → ℕ → ℕ → List Name
-pair_names_under d u a = map (λ b. Pair (path_node d u a) (sibling_of (path_node d u b))) (range_with_len (a + 1) (d - a))
+pair_names_under d u a = map (λ b. Pair (path_node d u a) (sibling_of (path_node d u b)))
+    (range_with_len (a + 1) (d - a))
 
 -- what leaf u is given secrets of: the whole set, and the pairs of each of its ancestors, from the root down [Naor,
 -- Naor, Lotspiech 2001, 3.2]

@@ -1,6 +1,7 @@
 -- The last scrambled packets.
 use Rattle.std.proofs.Common.{arith, ◌≡◌, ℕ, suc, ◌+◌, ◌-◌, ◌%◌, ◌==◌, ◌<◌, ◌≤◌, [], ◌∷◌, ◌++◌, refl, ap, sym, ◌∙◌}
-use Rattle.std.proofs.Common.{Bool, true, false, List, zero, map, length, take, drop, length-drop, append-nil, append_assoc, inl, inr}
+use Rattle.std.proofs.Common.{Bool, true, false, List, zero, map, length, take, drop, length-drop, append-nil}
+use Rattle.std.proofs.Common.{append_assoc, inl, inr}
 use Rattle.std.proofs.Common.{length-append, drop-cons}
 use Rattle.std.specs.Prelude.{◌||◌, ◌≢◌, filter, reverse, bytes_eq, set}
 use Rattle.std.specs.List.{list_any}
@@ -216,7 +217,8 @@ untagged packet (p ∷ ps) [] are none = absurd (let long = ap (λ (l : List ℕ
 untagged packet (p ∷ ps) (tag ∷ tags) are none =
     let own : tag ≡ packet_tag p = cc in
     let rest : take (length ps) tags ≡ map packet_tag ps = cc in
-    by_tests (bytes_eq packet p) (tag == packet_tag packet) refl refl own none (λ less. untagged packet ps tags rest less)
+    by_tests (bytes_eq packet p) (tag == packet_tag packet) refl refl own none
+    (λ less. untagged packet ps tags rest less)
   where
     by_tests : (b t : Bool) → bytes_eq packet p ≡ b → (tag == packet_tag packet) ≡ t → tag ≡ packet_tag p →
         (t || list_any (λ other. other == packet_tag packet) tags) ≡ false →

@@ -21,8 +21,10 @@ use Rattle.sd_spec.specs.Keys.{key_at, key_from}
 use Rattle.sd_spec.specs.Runs.{of_run}
 use Rattle.sd_spec.specs.Stretches.{current, sections_seen, newest_message, message_parts_to, completes, is_closed}
 use Rattle.sd_spec.specs.Tuned.{tuning_of}
-use Rattle.sd_spec.specs.Offered.{Offering, no_offering, refused_offering, is_mixed, key_offering, key_if_none, emm_offering}
-use Rattle.sd_spec.specs.Offered.{part_fault, part_offering, message_offering, is_back, stretch_wrote, word_fault, wrote_or}
+use Rattle.sd_spec.specs.Offered.{Offering, no_offering, refused_offering, is_mixed, key_offering, key_if_none}
+use Rattle.sd_spec.specs.Offered.{emm_offering}
+use Rattle.sd_spec.specs.Offered.{part_fault, part_offering, message_offering, is_back, stretch_wrote, word_fault}
+use Rattle.sd_spec.specs.Offered.{wrote_or}
 use Rattle.sd_spec.specs.Offered.{heard_offering, run_offering, tuned_offering, heard, offered}
 use Rattle.sd_watch.specs.Numbered.{stream_fault_at}
 

@@ -49,9 +49,11 @@ open_good rest false unclosed good = good
 open_good rest true unclosed good = absurd cc
 
 -- nothing odd is buffered with one thing more that isn't odd, of a run that isn't closed
-more_heard : (past : List Heard) (thing : Heard) (message : Option Message) → completed (newest_message past) thing ≡ message →
+more_heard : (past : List Heard) (thing : Heard) (message : Option Message) → completed (newest_message past) thing
+    ≡ message →
     is_closed past ≡ false → holds_stray past ≡ false → is_stray past thing ≡ false →
-    has_bad (stretch_after past (newest_message past) thing message).message (stretch_after past (newest_message past) thing message).after
+    has_bad (stretch_after past (newest_message past) thing message).message
+    (stretch_after past (newest_message past) thing message).after
     ≡ false
 unfolding holds_stray is_stray others
 more_heard past thing (Some message) is unclosed none good = refl
@@ -63,7 +65,8 @@ more_heard past (BadEcm fault) None is unclosed none good = none
 more_heard past (Other n packet) None is unclosed none good =
     more_good (newest_message past).message (newest_message past).after n packet none
     (open_good (is_scrambled_packet packet
-    && option_map_or (λ m. is_foreign_under m.word packet) (newest_message past).message false) (is_closed past) unclosed good)
+    && option_map_or (λ m. is_foreign_under m.word packet) (newest_message past).message false)
+    (is_closed past) unclosed good)
 
 pub holds_more : (past : List Heard) (thing : Heard) → is_closed past ≡ false → holds_stray past ≡ false →
     is_stray past thing ≡ false → holds_stray (thing ∷ past) ≡ false

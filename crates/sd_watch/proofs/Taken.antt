@@ -35,7 +35,8 @@ grown_taken old new from to w r packet v report written grown told wrote reporte
   steps = grown.steps;
   says = λ past n tally kept next.
       let took = grown.says past kept.receiver (countable past n w next) in
-      let told_of : report ≡ option_map (report_on tally n (capped_count (length (out_from (watcher_card w) [] (reverse past)))))
+      let told_of : report ≡ option_map (report_on tally n (capped_count
+      (length (out_from (watcher_card w) [] (reverse past)))))
       (ended_at (watcher_card w) past packet None) =
       reported
       ∙ (ap (λ (t : Tally). option_map (report_on t w.packets written) r.ended.last) kept.tally_is

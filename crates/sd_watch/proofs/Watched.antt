@@ -160,14 +160,16 @@ refuse_is most tally fault small low =
 
 -- what is kept after one packet more, by what is kept of it
 pub watching_more : (card : CardFields) (s : Packets) (packet : Packet) (past : Packets) (tally : Tally) (v : Watcher) →
-    watcher_card v ≡ card → counted_of card (s ++ packet ∷ []) ≡ past → tally_from card 0 [] (s ++ packet ∷ []) ≡ tally →
+    watcher_card v ≡ card → counted_of card (s ++ packet ∷ []) ≡ past → tally_from card 0 [] (s ++ packet ∷ [])
+    ≡ tally →
     IsWatchKept past (length s + 1) tally v → IsWatching (s ++ packet ∷ []) v
 watching_more card s packet past tally v same is told kept =
     let long : length s + 1 ≡ length (s ++ packet ∷ []) =
     let joined = length-append s (packet ∷ []) in omega (arith, joined) in
     subst (λ (c : CardFields). IsWatchKept (counted_of c (s ++ packet ∷ [])) (length (s ++ packet ∷ []))
     (tally_from c 0 [] (s ++ packet ∷ [])) v) (sym same)
-    (subst (λ (k : ℕ). IsWatchKept (counted_of card (s ++ packet ∷ [])) k (tally_from card 0 [] (s ++ packet ∷ [])) v) long
+    (subst (λ (k : ℕ). IsWatchKept (counted_of card (s ++ packet ∷ [])) k (tally_from card 0 [] (s ++ packet ∷ [])) v)
+    long
     (subst (λ (p : Packets). IsWatchKept p (length s + 1) (tally_from card 0 [] (s ++ packet ∷ [])) v) (sym is)
     (subst (λ (t : Tally). IsWatchKept past (length s + 1) t v) (sym told) kept)))
 
@@ -269,7 +271,8 @@ report_if : (card : CardFields) (s : Packets) (turns : Bool) →
     ≡ (if turns then Some (report_of card s) else None)
 unfolding report_of
 report_if card s true =
-    ap (λ (ps : Packets). Some (report_on (tally_from card 0 [] s) (length s) (capped_count (length (out_from card [] ps)))
+    ap (λ (ps : Packets). Some (report_on (tally_from card 0 [] s) (length s)
+    (capped_count (length (out_from card [] ps)))
     (record { run = run_name_in (heard card (counted_of card s)); ending = run_end card (counted_of card s) })))
     (reverse-reverse (counting card [] s))
 report_if card s false = refl
@@ -284,8 +287,10 @@ given : (s : Packets) (w v : Watcher) (packet : Packet) (report : Option Report)
     (fault : Option StreamFault) → IsNumberable s →
     uncounted_at (watcher_card w) (counted_of (watcher_card w) s) packet ≡ None →
     (offered (watcher_card w) (counted_of (watcher_card w) s) packet).fault ≡ fault →
-    NextOutcome fault (counted_of (watcher_card w) s) (length s) (tally_from (watcher_card w) 0 [] s) (watcher_card w) packet v report
-    bytes → steps ≤ steps_at (watcher_card w) (counted_of (watcher_card w) s) packet → v.receiver.card ≡ w.receiver.card →
+    NextOutcome fault (counted_of (watcher_card w) s) (length s) (tally_from (watcher_card w) 0 [] s)
+    (watcher_card w) packet v report
+    bytes → steps ≤ steps_at (watcher_card w) (counted_of (watcher_card w) s) packet →
+    v.receiver.card ≡ w.receiver.card →
     WatchesPacket s w packet v report bytes steps
 given s w v packet report bytes steps None low is good outcome few same =
     let card = watcher_card w in
@@ -301,7 +306,8 @@ given s w v packet report bytes steps None low is good outcome few same =
       after = watching_more card s packet (packet ∷ past) tally v (ap card_fields_of same)
           (past_yes card s packet counted)
           (tally_last card s packet is
-          ∙ ap (λ (fault : Option StreamFault). refused_last (option_map (stream_fault_at (length s)) fault) tally) good)
+          ∙ ap (λ (fault : Option StreamFault). refused_last (option_map (stream_fault_at (length s)) fault) tally)
+          good)
           outcome.1.1;
       same = same;
     }
@@ -326,7 +332,8 @@ given s w v packet report bytes steps (Some fault) low is bad outcome few same =
 
 -- a packet that the receiver is given
 pub taken_watched : (old new : SinkState) (from to : ℕ) (w v : Watcher) (packet : Packet) (report : Option Report) →
-    ((past : Packets) (n : ℕ) (tally : Tally) → IsWatchKept past n tally w → None ≡ uncounted_at (watcher_card w) past packet) →
+    ((past : Packets) (n : ℕ) (tally : Tally) → IsWatchKept past n tally w →
+    None ≡ uncounted_at (watcher_card w) past packet) →
     HasGrown old new from to (taker_does w packet v report) →
     HasGrown old new from to (watcher_does w packet v report)
 taken_watched old new from to w v packet report judged grown = record {
@@ -346,7 +353,8 @@ taken_watched old new from to w v packet report judged grown = record {
 
 pub taken_if_ok : {E : Type 0} (old new : SinkState) (from to : ℕ) (w v : Watcher) (packet : Packet)
     (result : Result (Option Report) E) →
-    ((past : Packets) (n : ℕ) (tally : Tally) → IsWatchKept past n tally w → None ≡ uncounted_at (watcher_card w) past packet) →
+    ((past : Packets) (n : ℕ) (tally : Tally) → IsWatchKept past n tally w →
+    None ≡ uncounted_at (watcher_card w) past packet) →
     IfOk result (λ report. HasGrown old new from to (taker_does w packet v report)) →
     IfOk result (λ report. HasGrown old new from to (watcher_does w packet v report))
 taken_if_ok old new from to w v packet (Ok report) judged grown =
@@ -355,7 +363,8 @@ taken_if_ok old new from to w v packet (Err fault) judged grown = grown
 
 -- a write failed of a packet that the receiver is given
 pub cut_watched : (old new : SinkState) (from to : ℕ) (w : Watcher) (packet : Packet) →
-    ((past : Packets) (n : ℕ) (tally : Tally) → IsWatchKept past n tally w → None ≡ uncounted_at (watcher_card w) past packet) →
+    ((past : Packets) (n : ℕ) (tally : Tally) → IsWatchKept past n tally w →
+    None ≡ uncounted_at (watcher_card w) past packet) →
     IsCutShort old new (taker_stops w packet from to) → IsCutShort old new (watcher_stops w packet from to)
 cut_watched old new from to w packet judged cut = record {
   bytes = cut.bytes;

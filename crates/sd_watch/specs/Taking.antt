@@ -47,7 +47,8 @@ NextOutcome (Some fault) past n tally card packet v report bytes =
 -- the result of a packet that the receiver is given
 pub record TakesNext (past : Packets) (n : ℕ) (tally : Tally) (w : Watcher) (packet : Packet) (v : Watcher)
     (report : Option Report) (bytes : List ℕ) (steps : ℕ) : Type 0 where
-  pub outcome : NextOutcome (offered (watcher_card w) past packet).fault past n tally (watcher_card w) packet v report bytes
+  pub outcome : NextOutcome (offered (watcher_card w) past packet).fault past n tally (watcher_card w) packet v report
+      bytes
   pub few : steps ≤ steps_at (watcher_card w) past packet
   pub same : v.receiver.card ≡ w.receiver.card
 

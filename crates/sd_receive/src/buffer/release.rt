@@ -6,8 +6,10 @@ ghost use Rattle.std.specs.Result.{OnOk, OnErr, IfErr};
 ghost use Rattle.sd_base.specs.Count.{IsCaused};
 ghost use Rattle.sd_engine.specs.Stage.{sink_state_of, TookBytes};
 ghost use Rattle.sd_packet.specs.Header.{pid_of};
-ghost use Rattle.sd_spec.specs.Confirmed.{is_foreign as is_foreign_packet, is_near_to, judged_packet, unmarked, written_from};
-ghost use Rattle.sd_receive.specs.Writing.{WriteOutcome, HasStopped, IsReleaseReady, HasPositionLedTo, holding_in, segment_in, AreNearPids};
+ghost use Rattle.sd_spec.specs.Confirmed.{is_foreign as is_foreign_packet, is_near_to, judged_packet, unmarked};
+ghost use Rattle.sd_spec.specs.Confirmed.{written_from};
+ghost use Rattle.sd_receive.specs.Writing.{WriteOutcome, HasStopped, IsReleaseReady, HasPositionLedTo, holding_in};
+ghost use Rattle.sd_receive.specs.Writing.{segment_in, AreNearPids};
 ghost use Rattle.sd_receive.specs.Writing.{AreConfirmed};
 ghost use Rattle.sd_receive.specs.declared.buffer.tracked.TheConstants.{PIDS};
 
@@ -135,7 +137,8 @@ impl<'a> Release<'a> {
 fn put<K: Sink>(packet: &Packet, out: &mut K) -> Result<(), BufferFault>
     ensures ok { OnOk result (TookBytes (sink_state_of K.Sink out.old) (sink_state_of K.Sink out.new) packet.now) }
     ensures fault { IfErr result (λ fault. fault ≡ BufferFault.Write) }
-    ensures prefix { OnErr result (HasStopped (sink_state_of K.Sink out.old) (sink_state_of K.Sink out.new) packet.now) }
+    ensures prefix { OnErr result (HasStopped (sink_state_of K.Sink out.old) (sink_state_of K.Sink out.new)
+        packet.now) }
     ensures cause { IsCaused (K.faults out.old) (K.faults out.new) (IsErrOf result BufferFault.Write) }
 {
     match write_all(out, packet.bytes()) {

@@ -136,7 +136,8 @@ impl EcmAssembler {
     // Whether a message is of an earlier period than the current one, or goes back behind the newest complete one.
     #[tactic(auto, unfolding(sd_spec::specs::Offered::is_back))]
     fn is_back(&self, current: u32, head: &EcmHead) -> bool
-        ensures { (past : List Heard) → IsMessageKept (newest_message past).message self.now.last self.now.places.items →
+        ensures { (past : List Heard) → IsMessageKept (newest_message past).message self.now.last self.now.places.items
+            →
             ArePidsAscending self.now.coming.places.items → current_period past ≡ current →
             result ≡ back past (message_of head.now self.now.coming.places.items) }
     {

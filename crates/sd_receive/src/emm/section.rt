@@ -12,7 +12,8 @@ ghost use Rattle.sd_spec.specs.Offered.{emm_offering, is_mixed, key_offering};
 ghost use Rattle.sd_spec.specs.Taken.{takes_key};
 ghost use Rattle.sd_message.specs.declared.emm_format.TheConstants.{MOST_ENTRIES};
 ghost use Rattle.sd_cipher.specs.Wrapping.{wrapped};
-ghost use Rattle.sd_receive.specs.PeriodKeys.{IsEntitled, IsStateAt, IsEmmJudged, HasFault, is_said_otherwise, key_kept};
+ghost use Rattle.sd_receive.specs.PeriodKeys.{IsEntitled, IsStateAt, IsEmmJudged, HasFault, is_said_otherwise};
+ghost use Rattle.sd_receive.specs.PeriodKeys.{key_kept};
 ghost use Rattle.sd_receive.specs.PeriodKeys.{with_key};
 
 use crate::emm::PeriodKeys;

@@ -94,7 +94,8 @@ impl Receiver {
     /// How the stream ends for the receiver, if it ends here: the endings of all runs so far, together. The clause
     /// holds as long as no packet was refused [this project, docs/FORMATS.md, Receiver].
     pub fn ending(&self) -> Ending
-        ensures { (past : List (List ℕ)) → HasReceived past self.now → result ≡ ending_of (receiver_card self.now) past }
+        ensures { (past : List (List ℕ)) → HasReceived past self.now →
+            result ≡ ending_of (receiver_card self.now) past }
     {
         if self.tuning.is_none() {
             return Ending::NoCat;

@@ -7,7 +7,8 @@ ghost use Rattle.sd_message.specs.EmmJudged.{emm_read};
 ghost use Rattle.sd_message.specs.EcmJudged.{ecm_read};
 ghost use Rattle.sd_spec.specs.Heard.{hears, heard_emm, heard_ecm};
 ghost use Rattle.sd_receive.specs.Filter.{heard_as, IsFormed};
-ghost use Rattle.sd_receive.specs.Receiving.{HasReceived, IsSoundReceiver, MayReceive, Refusing, receiver_does, receiver_ends, Leaving};
+ghost use Rattle.sd_receive.specs.Receiving.{HasReceived, IsSoundReceiver, MayReceive, Refusing, receiver_does};
+ghost use Rattle.sd_receive.specs.Receiving.{receiver_ends, Leaving};
 ghost use Rattle.sd_receive.specs.Receiving.{RefusesBy, CutsBy, receiver_refuses};
 
 use crate::filter::{Channel, PacketKind, channel_of, differ, name_of};
@@ -31,7 +32,8 @@ impl Receiver {
     ) -> Result<(), StageFault<StreamFault>>
         requires fit { IsSoundReceiver self.old }
         requires unrefused { self.old.refusal ≡ None }
-        ensures value { OnOk result (HasGrown (sink_state_of K.Sink out.old) (sink_state_of K.Sink out.new) steps.old steps.new
+        ensures value { OnOk result (HasGrown (sink_state_of K.Sink out.old) (sink_state_of K.Sink out.new) steps.old
+            steps.new
             (receiver_does self.old packet.now self.new)) }
         ensures ok { OnOk result (IsSoundReceiver self.new) }
         ensures unrefused { self.new.refusal ≡ None }
@@ -41,7 +43,8 @@ impl Receiver {
         ensures stands { (fault : StreamFault) → result ≡ Err (StageFault.Refused fault) →
             (past : List (List ℕ)) → HasReceived past self.old → HasReceived past self.new }
         ensures fit { (fault : StreamFault) → result ≡ Err (StageFault.Refused fault) → IsSoundReceiver self.new }
-        ensures prefix { IsErrOf result StageFault.Write → IsCutShort (sink_state_of K.Sink out.old) (sink_state_of K.Sink out.new)
+        ensures prefix { IsErrOf result StageFault.Write → IsCutShort (sink_state_of K.Sink out.old)
+            (sink_state_of K.Sink out.new)
             (IsAllowed (receiver_does self.old packet.now) (receiver_refuses self.old (Some packet.now))
             steps.old steps.new) }
         ensures cause { IsCaused (K.faults out.old) (K.faults out.new) (IsErrOf result StageFault.Write) }
@@ -60,7 +63,8 @@ impl Receiver {
     ) -> Result<(), StageFault<StreamFault>>
         requires fit { IsSoundReceiver self.old }
         requires unrefused { self.old.refusal ≡ None }
-        ensures value { OnOk result (HasGrown (sink_state_of K.Sink out.old) (sink_state_of K.Sink out.new) steps.old steps.new
+        ensures value { OnOk result (HasGrown (sink_state_of K.Sink out.old) (sink_state_of K.Sink out.new) steps.old
+            steps.new
             (receiver_does self.old packet.now self.new)) }
         ensures ok { OnOk result (IsSoundReceiver self.new) }
         ensures unrefused { self.new.refusal ≡ None }
@@ -72,7 +76,8 @@ impl Receiver {
         ensures fit { (fault : StreamFault) → result ≡ Err (StageFault.Refused fault) → IsSoundReceiver self.new }
         ensures same { (fault : StreamFault) → result ≡ Err (StageFault.Refused fault) →
             (self.new.card ≡ self.old.card) × (self.new.ended.last ≡ self.old.ended.last) }
-        ensures prefix { IsErrOf result StageFault.Write → IsCutShort (sink_state_of K.Sink out.old) (sink_state_of K.Sink out.new)
+        ensures prefix { IsErrOf result StageFault.Write → IsCutShort (sink_state_of K.Sink out.old)
+            (sink_state_of K.Sink out.new)
             (CutsBy false self.old packet.now steps.old steps.new) }
         ensures cause { IsCaused (K.faults out.old) (K.faults out.new) (IsErrOf result StageFault.Write) }
     {
@@ -90,7 +95,8 @@ impl Receiver {
     ) -> Result<(), StageFault<StreamFault>>
         requires fit { IsSoundReceiver self.old }
         requires unrefused { self.old.refusal ≡ None }
-        ensures value { OnOk result (HasGrown (sink_state_of K.Sink out.old) (sink_state_of K.Sink out.new) steps.old steps.new
+        ensures value { OnOk result (HasGrown (sink_state_of K.Sink out.old) (sink_state_of K.Sink out.new) steps.old
+            steps.new
             (receiver_does self.old packet.now self.new)) }
         ensures ok { OnOk result (IsSoundReceiver self.new) }
         ensures unrefused { self.new.refusal ≡ None }
@@ -102,7 +108,8 @@ impl Receiver {
         ensures fit { (fault : StreamFault) → result ≡ Err (StageFault.Refused fault) → IsSoundReceiver self.new }
         ensures same { (fault : StreamFault) → result ≡ Err (StageFault.Refused fault) →
             (self.new.card ≡ self.old.card) × (self.new.ended.last ≡ self.old.ended.last) }
-        ensures prefix { IsErrOf result StageFault.Write → IsCutShort (sink_state_of K.Sink out.old) (sink_state_of K.Sink out.new)
+        ensures prefix { IsErrOf result StageFault.Write → IsCutShort (sink_state_of K.Sink out.old)
+            (sink_state_of K.Sink out.new)
             (CutsBy strict self.old packet.now steps.old steps.new) }
         ensures cause { IsCaused (K.faults out.old) (K.faults out.new) (IsErrOf result StageFault.Write) }
     {
@@ -148,7 +155,8 @@ impl Receiver {
         requires unrefused { self.old.refusal ≡ None }
         requires tuned { self.old.tuning ≡ Some tuning }
         requires on { (h number : ℕ) → hears h tuning number packet.now ≡ heard_emm (emm_read h packet.now) }
-        ensures value { OnOk result (HasGrown (sink_state_of K.Sink out.old) (sink_state_of K.Sink out.new) steps.old steps.new
+        ensures value { OnOk result (HasGrown (sink_state_of K.Sink out.old) (sink_state_of K.Sink out.new) steps.old
+            steps.new
             (receiver_does self.old packet.now self.new)) }
         ensures ok { OnOk result (IsSoundReceiver self.new) }
         ensures unrefused { self.new.refusal ≡ None }
@@ -160,7 +168,8 @@ impl Receiver {
         ensures fit { (fault : StreamFault) → result ≡ Err (StageFault.Refused fault) → IsSoundReceiver self.new }
         ensures same { (fault : StreamFault) → result ≡ Err (StageFault.Refused fault) →
             (self.new.card ≡ self.old.card) × (self.new.ended.last ≡ self.old.ended.last) }
-        ensures prefix { IsErrOf result StageFault.Write → IsCutShort (sink_state_of K.Sink out.old) (sink_state_of K.Sink out.new)
+        ensures prefix { IsErrOf result StageFault.Write → IsCutShort (sink_state_of K.Sink out.old)
+            (sink_state_of K.Sink out.new)
             (CutsBy strict self.old packet.now steps.old steps.new) }
         ensures cause { IsCaused (K.faults out.old) (K.faults out.new) (IsErrOf result StageFault.Write) }
     {
@@ -199,7 +208,8 @@ impl Receiver {
         requires unrefused { self.old.refusal ≡ None }
         requires tuned { self.old.tuning ≡ Some tuning }
         requires on { (h number : ℕ) → hears h tuning number packet.now ≡ heard_ecm (ecm_read packet.now) }
-        ensures value { OnOk result (HasGrown (sink_state_of K.Sink out.old) (sink_state_of K.Sink out.new) steps.old steps.new
+        ensures value { OnOk result (HasGrown (sink_state_of K.Sink out.old) (sink_state_of K.Sink out.new) steps.old
+            steps.new
             (receiver_does self.old packet.now self.new)) }
         ensures ok { OnOk result (IsSoundReceiver self.new) }
         ensures unrefused { self.new.refusal ≡ None }
@@ -211,7 +221,8 @@ impl Receiver {
         ensures fit { (fault : StreamFault) → result ≡ Err (StageFault.Refused fault) → IsSoundReceiver self.new }
         ensures same { (fault : StreamFault) → result ≡ Err (StageFault.Refused fault) →
             (self.new.card ≡ self.old.card) × (self.new.ended.last ≡ self.old.ended.last) }
-        ensures prefix { IsErrOf result StageFault.Write → IsCutShort (sink_state_of K.Sink out.old) (sink_state_of K.Sink out.new)
+        ensures prefix { IsErrOf result StageFault.Write → IsCutShort (sink_state_of K.Sink out.old)
+            (sink_state_of K.Sink out.new)
             (CutsBy strict self.old packet.now steps.old steps.new) }
         ensures cause { IsCaused (K.faults out.old) (K.faults out.new) (IsErrOf result StageFault.Write) }
     {
@@ -253,7 +264,8 @@ impl Receiver {
         requires heard { (number : ℕ) → heard_as number packet.now heard
             ≡ hears self.old.card.height tuning number packet.now }
         requires form { IsFormed self.old.card.height heard }
-        ensures value { OnOk result (HasGrown (sink_state_of K.Sink out.old) (sink_state_of K.Sink out.new) steps.old steps.new
+        ensures value { OnOk result (HasGrown (sink_state_of K.Sink out.old) (sink_state_of K.Sink out.new) steps.old
+            steps.new
             (receiver_does self.old packet.now self.new)) }
         ensures ok { OnOk result (IsSoundReceiver self.new) }
         ensures unrefused { self.new.refusal ≡ None }
@@ -265,7 +277,8 @@ impl Receiver {
         ensures fit { (fault : StreamFault) → result ≡ Err (StageFault.Refused fault) → IsSoundReceiver self.new }
         ensures same { (fault : StreamFault) → result ≡ Err (StageFault.Refused fault) →
             (self.new.card ≡ self.old.card) × (self.new.ended.last ≡ self.old.ended.last) }
-        ensures prefix { IsErrOf result StageFault.Write → IsCutShort (sink_state_of K.Sink out.old) (sink_state_of K.Sink out.new)
+        ensures prefix { IsErrOf result StageFault.Write → IsCutShort (sink_state_of K.Sink out.old)
+            (sink_state_of K.Sink out.new)
             (CutsBy strict self.old packet.now steps.old steps.new) }
         ensures cause { IsCaused (K.faults out.old) (K.faults out.new) (IsErrOf result StageFault.Write) }
     {

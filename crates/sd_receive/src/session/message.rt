@@ -117,7 +117,8 @@ impl Session {
         requires ecm { tuning.ecm < 8192 }
         requires short { AreShort self.now.assembler.coming.places.items }
         ensures value { WriteOutcome (pair_wrote self.now.assembler.last self.now.buffer head.now.since card.now.ca
-            tuning.ecm self.now.assembler.coming.places.items) (sink_state_of K.Sink out.old) (sink_state_of K.Sink out.new) result }
+            tuning.ecm self.now.assembler.coming.places.items) (sink_state_of K.Sink out.old) (sink_state_of K.Sink
+            out.new) result }
         ensures cause { IsCaused (K.faults out.old) (K.faults out.new) (IsErrOf result BufferFault.Write) }
     {
         match self.assembler.last() {

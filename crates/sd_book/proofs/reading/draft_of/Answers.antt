@@ -43,7 +43,8 @@ returns-in_err-push-clause-fault c =
     let p = err_from_is_err_and c.from_residual-in_err-push.result c.from_residual-in_err-push.ensures.1 in
     let line = line_said (goal.at.returns-in_err-push-clause-fault c).In-Some in
     let said = command_said (goal.at.returns-in_err-push-clause-fault c).In_ok-command in
-    rw (p.1, p.2) (push_faulty c.args.h c.loop-line.draft.height (said_by_book c.args.bytes.now) c.loop-line.draft.commands
+    rw (p.1, p.2) (push_faulty c.args.h c.loop-line.draft.height (said_by_book c.args.bytes.now)
+    c.loop-line.draft.commands
     c.in_ok-command.command (said_by_book c.in-Some.after.now) c.in_err-push.field-0.0 c.loop-line.invariant.height
     (rw said.0 at line) c.loop-line.invariant.fits c.in_err-push.ensures.fault)
 

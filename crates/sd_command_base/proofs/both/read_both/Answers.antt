@@ -16,7 +16,11 @@ returns-in_err-site-clause-value g c =
     let p = err_from_is_err_and c.from_residual.result c.from_residual.ensures.1 in
     let site = shown_word c.args.site in
     let book = shown_word c.args.book in
-    rw (p.1, p.2) (reads_first site_fields_of (λ both. record { site = site_fields_of both.0; commands = both.1.commands })
+    rw (p.1, p.2) (reads_first site_fields_of (λ both. record {
+      site = site_fields_of both.0;
+      commands =
+          both.1.commands;
+    })
     (site_of_file site.number)
     (λ given fields. book_of_file book.number fields.height (given book)
     >>= λ commands. value (record { site = fields; commands = commands })) site

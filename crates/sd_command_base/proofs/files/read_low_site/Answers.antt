@@ -22,5 +22,6 @@ returns-clause-value g c =
     (low_site_or_status c.args.most c.args.kind) c.args.word.text.now
     (depot_state g.D.Depot c.args.depot.now) (depot_state g.D.Depot c.read_site.new.depot) c.in_ok-site.site
     c.judge_height.result c.in_ok-site.ensures
-    (alone_judges site_fields_of (low_site_or_status c.args.most c.args.kind (site_fields_of c.in_ok-site.site)) c.judge_height.result
+    (alone_judges site_fields_of (low_site_or_status c.args.most c.args.kind (site_fields_of c.in_ok-site.site))
+    c.judge_height.result
     c.judge_height.ensures.value)

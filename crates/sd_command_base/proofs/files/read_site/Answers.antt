@@ -12,7 +12,8 @@ pub returns-in_err-bytes : goal.returns-in_err-bytes
 unfolding site_of_file
 returns-in_err-bytes g c =
     let p = err_from_is_err_and c.from_residual.result c.from_residual.ensures.1 in
-    rw (p.1, p.2) (looks_first (λ bytes. bytes.items) site_fields_of (within c.args.word.number most_site_bytes SiteBytes)
+    rw (p.1, p.2) (looks_first (λ bytes. bytes.items) site_fields_of
+    (within c.args.word.number most_site_bytes SiteBytes)
     (λ bytes. of_result (site_or_status c.args.word.number bytes (site_of bytes))) c.args.word.text.now
     (depot_state g.D.Depot c.args.depot.now) (depot_state g.D.Depot c.read_bytes.new.depot) c.in_err-bytes.field-0.0
     c.in_err-bytes.ensures)

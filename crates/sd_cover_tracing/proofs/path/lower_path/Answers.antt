@@ -4,7 +4,8 @@ use Rattle.sd_cover_tracing.proofs.Paths.{path_low, path_high, met_once, lowered
 use Rattle.sd_cover_tracing.proofs.path.lower_path.Goals as goal
 
 -- what is taken away so far leaves one at the next node
-one_left : (m old node k n : ℕ) → m + path_visit_count node k (node / 2 ^ k) ≡ old → path_visit_count node n (node / 2 ^ k) ≤ old →
+one_left : (m old node k n : ℕ) → m + path_visit_count node k (node / 2 ^ k) ≡ old →
+    path_visit_count node n (node / 2 ^ k) ≤ old →
     suc k ≤ n → 0 < m
 one_left m old node k n is some h = let once = met_once node k n h in omega arith
 

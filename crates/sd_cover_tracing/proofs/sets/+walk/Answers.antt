@@ -9,8 +9,10 @@ use Rattle.sd_cover_tracing.specs.Walk.{StandsAt}
 use Rattle.sd_cover_tracing.specs.Index.{IsIndex, indexed_leaves}
 use Rattle.sd_cover_tracing.specs.declared.counts.TheConstants.{NODES}
 use Rattle.sd_cover_tracing.proofs.Bridge.{stands_high}
-use Rattle.sd_cover_tracing.proofs.Walks.{IsInner, at_left, at_right, split, some_count, chain_left, chain_right, begins_left}
-use Rattle.sd_cover_tracing.proofs.Walks.{begins_right, added_leaf, added_left, added_right, added_both, steps_one, steps_two}
+use Rattle.sd_cover_tracing.proofs.Walks.{IsInner, at_left, at_right, split, some_count, chain_left, chain_right}
+use Rattle.sd_cover_tracing.proofs.Walks.{begins_left}
+use Rattle.sd_cover_tracing.proofs.Walks.{begins_right, added_leaf, added_left, added_right, added_both, steps_one}
+use Rattle.sd_cover_tracing.proofs.Walks.{steps_two}
 use Rattle.sd_cover_tracing.proofs.sets.+walk.Goals as goal
 
 -- a height is a small number

@@ -16,7 +16,8 @@ take-requires-clause-within c =
 
 pub take-requires-clause-fits : goal.take-requires-clause-fits
 take-requires-clause-fits c =
-    next_fits (site_fields_of c.args.site.now) c.args.clear c.loop-event.event-index c.args.events.now c.event-item.result
+    next_fits (site_fields_of c.args.site.now) c.args.clear c.loop-event.event-index c.args.events.now
+    c.event-item.result
     c.loop-event.laid c.requires.low c.requires.short c.requires.leaves c.loop-event-test.true (sym c.event-item.is)
     c.loop-event.invariant
 

@@ -19,7 +19,8 @@ pub pack_sections-requires-clause-few : goal.pack_sections-requires-clause-few
 pack_sections-requires-clause-few g c =
     entries_few (site_fields_of c.args.site.now) c.args.q c.in_ok-sets.sets.items c.deref-2.result.now
     (c.deref-2.ensures.value ∙ (c.in_ok-entries.ensures
-    ∙ ap (λ (sets : List SetName). map (entry_of (site_fields_of c.args.site.now) c.args.q) sets) c.deref.ensures.value))
+    ∙ ap (λ (sets : List SetName). map (entry_of (site_fields_of c.args.site.now) c.args.q) sets)
+    c.deref.ensures.value))
     (sets_few c.args.index.now.height c.args.index.now.revoked c.in_ok-sets.sets.items c.requires.height
     c.in_ok-sets.ensures.leaves.leaves c.requires.few c.in_ok-sets.ensures.value.1)
 
@@ -27,7 +28,8 @@ pub pack_sections-requires-clause-ascending : goal.pack_sections-requires-clause
 pack_sections-requires-clause-ascending g c =
     entries_ascend (site_fields_of c.args.site.now) c.args.q c.in_ok-sets.sets.items c.deref-2.result.now
     (c.deref-2.ensures.value ∙ (c.in_ok-entries.ensures
-    ∙ ap (λ (sets : List SetName). map (entry_of (site_fields_of c.args.site.now) c.args.q) sets) c.deref.ensures.value))
+    ∙ ap (λ (sets : List SetName). map (entry_of (site_fields_of c.args.site.now) c.args.q) sets)
+    c.deref.ensures.value))
     c.in_ok-sets.ensures.value.1.ascending
 
 pub returns : goal.returns
@@ -36,6 +38,7 @@ returns g c =
     (c.pack_sections.new.packets.items ≡ period_packets c.args.site.now.emm p))
     (period_is (site_fields_of c.args.site.now) c.name.result c.args.q c.in_ok-sets.sets.items _ c.deref-2.result.now _
     c.period_key.result c.name.ensures c.in_ok-sets.ensures.value.0 (c.deref-2.ensures.value ∙ (c.in_ok-entries.ensures
-    ∙ ap (λ (sets : List SetName). map (entry_of (site_fields_of c.args.site.now) c.args.q) sets) c.deref.ensures.value))
+    ∙ ap (λ (sets : List SetName). map (entry_of (site_fields_of c.args.site.now) c.args.q) sets)
+    c.deref.ensures.value))
     c.check_value-check.ensures c.period_key.ensures)
     c.pack_sections.ensures

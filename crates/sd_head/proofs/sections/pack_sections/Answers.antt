@@ -9,7 +9,8 @@ pub loop-index-preserved : goal.loop-index-preserved
 loop-index-preserved c =
     let period = period_of_entries c.args.run c.args.q c.args.check.now c.args.entries.now in
     let emm = c.of_period-emm.result in
-    let pushed : c.push.new.self.items ≡ c.loop-index.packets.items ++ section_packet (emm_section emm) c.args.pid 0 ∷ [] =
+    let pushed : c.push.new.self.items ≡ c.loop-index.packets.items ++ section_packet (emm_section emm) c.args.pid 0 ∷
+    [] =
     search rules in
     pushed ∙ section_more c.args.pid c.loop-index.index period c.loop-index.packets.items emm c.loop-index.invariant
     c.of_period-emm.ensures.value

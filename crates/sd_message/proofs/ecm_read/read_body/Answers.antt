@@ -6,7 +6,8 @@ use Rattle.sd_message.specs.EcmForm.{ArePositioned}
 use Rattle.sd_message.specs.EcmFields.{ecm_positions_in, padded_places, ecm_in, IsMatched, IsGoodEcm, BreaksEcmRule}
 use Rattle.sd_message.specs.declared.ecm_part.EcmPart.{EcmPart}
 use Rattle.sd_message.specs.declared.ecm_fault.EcmFault.TheVariants.{Count, Order, Pid, Mixed}
-use Rattle.sd_message.proofs.EcmJudging.{IsJudged, AreRead, count_breaks, pid_breaks, order_breaks, mixed_breaks, is_good}
+use Rattle.sd_message.proofs.EcmJudging.{IsJudged, AreRead, count_breaks, pid_breaks, order_breaks, mixed_breaks}
+use Rattle.sd_message.proofs.EcmJudging.{is_good}
 use Rattle.sd_message.proofs.EcmJudging.{is_whole, version_in_is}
 use Rattle.sd_message.proofs.ecm_read.read_body.Goals as goal
 use Rattle.sd_message.proofs.ecm_read.read_body.Goals.{After-from-count, In-Some}
@@ -26,7 +27,8 @@ are_read c =
     let after = take_rest c.tail_of-tail.result.now 50 ∙ ap (drop 50) c.tail_of-tail.ensures.value in record {
       all = subst (λ (l : List ℕ). ArePositioned (ecm_positions_in c.from-count.result l)) after
           (c.in-Some.ensures.places.0 refl);
-      read = c.in-Some.ensures.value ∙ ap (λ (l : List ℕ). padded_places (ecm_positions_in c.from-count.result l)) after;
+      read = c.in-Some.ensures.value ∙ ap (λ (l : List ℕ). padded_places (ecm_positions_in c.from-count.result l))
+          after;
     }
 
 pub read_places-requires-clause-room : goal.read_places-requires-clause-room
@@ -63,7 +65,8 @@ returns-in_default-clause-fault c =
     (ecm_in v c.args.number c.args.last_number c.args.body.now) Pid) c.version_in-version.ensures.value
     (pid_breaks c.args.table_id _ _ _ _ _ _ judged
     (λ all. false≢true
-    (c.in_default.ensures.places.1 (subst (λ (l : List ℕ). ArePositioned (ecm_positions_in c.from-count.result l)) (sym after)
+    (c.in_default.ensures.places.1 (subst (λ (l : List ℕ). ArePositioned (ecm_positions_in c.from-count.result l))
+    (sym after)
     all))))
 
 pub returns-then-not-are_ascending-clause-fault : goal.returns-then-not-are_ascending-clause-fault

@@ -31,5 +31,6 @@ pub returns-clause-value : goal.returns-clause-value
 returns-clause-value c =
     let end : c.loop-k.k ≡ c.args.count = omega arith in
     c.loop-k.invariant.value
-    ∙ (ap (λ (n : ℕ). ecm_positions_in n c.args.bytes.now ++ replicate (13 - n) no_place) end ∙ all_read ecm_position_in 8 13 no_place
+    ∙ (ap (λ (n : ℕ). ecm_positions_in n c.args.bytes.now ++ replicate (13 - n) no_place) end
+    ∙ all_read ecm_position_in 8 13 no_place
     c.args.bytes.now c.args.count)

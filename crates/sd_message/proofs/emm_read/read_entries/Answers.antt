@@ -34,5 +34,6 @@ pub returns-clause-value : goal.returns-clause-value
 returns-clause-value c _ =
     let end : c.loop-k.k ≡ c.args.count = omega arith in
     c.loop-k.invariant.value
-    ∙ (ap (λ (n : ℕ). entries_in n c.args.bytes.now ++ replicate (3 - n) no_entry) end ∙ all_read emm_entry_in 40 3 no_entry
+    ∙ (ap (λ (n : ℕ). entries_in n c.args.bytes.now ++ replicate (3 - n) no_entry) end
+    ∙ all_read emm_entry_in 40 3 no_entry
     c.args.bytes.now c.args.count)

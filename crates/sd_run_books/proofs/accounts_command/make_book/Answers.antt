@@ -33,6 +33,7 @@ pub returns : goal.returns
 returns g c steps =
     let found = c.args.accounts.now in
     let bytes : c.deref.result.now ≡ text_of_book found.book.commands =
-    c.deref.ensures.value ∙ c.in_ok-book.ensures.value ∙ ap (λ (b : BookValue). text_of_book b.commands) c.book.ensures in
+    c.deref.ensures.value ∙ c.in_ok-book.ensures.value ∙ ap (λ (b : BookValue). text_of_book b.commands) c.book.ensures
+    in
     let text : c.deref-2.result.now ≡ accounts_line found = c.deref-2.ensures.value ∙ c.in_ok-report.ensures.value in
     rw (bytes, text) at c.make_and_print.ensures steps

@@ -25,7 +25,8 @@ returns-in_err-site g c steps =
     rw (p.1, p.2) (pair_refused (λ both. record { site = site_fields_of both.0; commands = both.1.commands })
     (both_by site.number book.number)
     (λ first got got_more. both_by other.number more.number got got_more
-    >>= λ second. of_result (told_apart (plan_of_both first) (plan_of_both second)) >>= λ text. value (work_of_text text))
+    >>= λ second. of_result (told_apart (plan_of_both first) (plan_of_both second)) >>=
+    λ text. value (work_of_text text))
     site book other more (depot_state g.D.Depot c.args.depot.now) (depot_state g.D.Depot c.read_both.new.depot)
     (page_state g.P.Sink c.args.print.now) steps c.in_err-site.field-0.0 c.in_err-site.ensures.value)
 
@@ -46,7 +47,8 @@ returns-in_err-other g c steps =
     rw (p.1, p.2) (pair_follows (λ both. record { site = site_fields_of both.0; commands = both.1.commands })
     (both_by site.number book.number)
     (λ first got got_more. both_by other.number more.number got got_more
-    >>= λ second. of_result (told_apart (plan_of_both first) (plan_of_both second)) >>= λ text. value (work_of_text text))
+    >>= λ second. of_result (told_apart (plan_of_both first) (plan_of_both second)) >>=
+    λ text. value (work_of_text text))
     site book other more second.given (depot_state g.D.Depot c.args.depot.now) q now steps (io_state r now steps)
     (c.in_ok-site.site, c.in_ok-site.book) status c.requires.sites.0 c.requires.sites.1 c.requires.books.0
     c.requires.books.1 c.in_ok-site.ensures.value second.is_given
@@ -72,7 +74,8 @@ returns-in_err-text g c steps =
     rw (p.1, p.2) (pair_follows (λ both. record { site = site_fields_of both.0; commands = both.1.commands })
     (both_by site.number book.number)
     (λ first got got_more. both_by other.number more.number got got_more
-    >>= λ second. of_result (told_apart (plan_of_both first) (plan_of_both second)) >>= λ text. value (work_of_text text))
+    >>= λ second. of_result (told_apart (plan_of_both first) (plan_of_both second)) >>=
+    λ text. value (work_of_text text))
     site book other more second.given (depot_state g.D.Depot c.args.depot.now) q now steps (io_state r now steps)
     (c.in_ok-site.site, c.in_ok-site.book) status c.requires.sites.0 c.requires.sites.1 c.requires.books.0
     c.requires.books.1 c.in_ok-site.ensures.value second.is_given
@@ -102,7 +105,8 @@ returns g c steps =
     pair_follows (λ both. record { site = site_fields_of both.0; commands = both.1.commands })
     (both_by site.number book.number)
     (λ first got got_more. both_by other.number more.number got got_more
-    >>= λ second. of_result (told_apart (plan_of_both first) (plan_of_both second)) >>= λ text. value (work_of_text text))
+    >>= λ second. of_result (told_apart (plan_of_both first) (plan_of_both second)) >>=
+    λ text. value (work_of_text text))
     site book other more second.given (depot_state g.D.Depot c.args.depot.now) q before steps (io_state r now steps)
     (c.in_ok-site.site, c.in_ok-site.book) status c.requires.sites.0 c.requires.sites.1 c.requires.books.0
     c.requires.books.1 c.in_ok-site.ensures.value second.is_given

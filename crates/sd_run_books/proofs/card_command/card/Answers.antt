@@ -39,7 +39,8 @@ returns-in_err-bytes g c page =
     rw (p.1, p.2) (looked_follows site_fields_of (site_of_file site.number)
     (λ fields. of_result (made_card fields leaf) >>= λ bytes. value (making Uncounted out bytes)) site
     a q page c.args.steps.now (io_state q page c.card_of.new.steps) c.in_ok-site.site status looked
-    (card_obeys (made_card (site_fields_of c.in_ok-site.site) leaf) out a q (site_of_file site.number looked.got).calls page
+    (card_obeys (made_card (site_fields_of c.in_ok-site.site) leaf) out a q (site_of_file site.number looked.got).calls
+    page
     c.args.steps.now c.card_of.new.steps status looked.gives.1 c.in_err-bytes.ensures.value
     c.in_err-bytes.ensures.steps))
 

@@ -22,7 +22,8 @@ returns-in_err-site g c page =
     let leaf = shown_number c.args.leaf in
     let width = shown_number c.args.width in
     let out = shown_word c.args.out in
-    rw (p.1, p.2) (looks_follows site_fields_of (site_of_file site.number) (λ fields. carding fields leaf width out) site
+    rw (p.1, p.2) (looks_follows site_fields_of (site_of_file site.number) (λ fields. carding fields leaf width out)
+    site
     (depot_state g.D.Depot c.args.depot.now) (depot_state g.D.Depot c.read_site.new.depot) page c.args.steps.now
     c.in_err-site.field-0.0 c.in_err-site.ensures)
 
@@ -36,8 +37,10 @@ returns-in_err-u g c page =
     let q = depot_state g.D.Depot c.read_site.new.depot in
     let status = c.in_err-u.field-0.0 in
     let f = site_fields_of c.in_ok-site.site in
-    rw (p.1, p.2) (looked_follows site_fields_of (site_of_file site.number) (λ fields. carding fields leaf width out) site
-    (depot_state g.D.Depot c.args.depot.now) q page c.args.steps.now (io_state q page c.args.steps.now) c.in_ok-site.site
+    rw (p.1, p.2) (looked_follows site_fields_of (site_of_file site.number) (λ fields. carding fields leaf width out)
+    site
+    (depot_state g.D.Depot c.args.depot.now) q page c.args.steps.now (io_state q page c.args.steps.now)
+    c.in_ok-site.site
     status c.in_ok-site.ensures
     (judged_refused (λ (u : ℕ). u) (told_leaf f.height leaf)
     (λ u. of_result (told_width f.height width)
@@ -56,7 +59,8 @@ returns-in_err-w g c page =
     let status = c.in_err-w.field-0.0 in
     let f = site_fields_of c.in_ok-site.site in
     let u = c.in_ok-u.u in
-    rw (p.1, p.2) (looked_follows site_fields_of (site_of_file site.number) (λ fields. carding fields leaf width out) site
+    rw (p.1, p.2) (looked_follows site_fields_of (site_of_file site.number) (λ fields. carding fields leaf width out)
+    site
     (depot_state g.D.Depot c.args.depot.now) q page c.args.steps.now b c.in_ok-site.site status c.in_ok-site.ensures
     (judged_obeys (told_leaf f.height leaf) u
     (λ u. of_result (told_width f.height width)
@@ -81,7 +85,8 @@ returns-in_err-bytes g c page =
     let u = c.in_ok-u.u in
     let w = c.in_ok-w.w in
     let bytes = layer_bytes (layer_card_of f.master f.ca f.height w u) in
-    rw (p.1, p.2) (looked_follows site_fields_of (site_of_file site.number) (λ fields. carding fields leaf width out) site
+    rw (p.1, p.2) (looked_follows site_fields_of (site_of_file site.number) (λ fields. carding fields leaf width out)
+    site
     (depot_state g.D.Depot c.args.depot.now) q page c.args.steps.now b c.in_ok-site.site status c.in_ok-site.ensures
     (judged_obeys (told_leaf f.height leaf) u
     (λ u. of_result (told_width f.height width)

@@ -3,7 +3,8 @@ use Rattle.std.specs.Prelude.{filter, flat_map}
 use Rattle.std.specs.List.{range_with_len}
 use Rattle.sd_book.specs.Commands.{last_period}
 use Rattle.sd_site_cards.specs.SiteFields.{site_fields_of}
-use Rattle.sd_run_books.specs.Status.{change_periods, entitled_line, is_change, is_entitled, fingerprint_line, status_text}
+use Rattle.sd_run_books.specs.Status.{change_periods, entitled_line, is_change, is_entitled, fingerprint_line}
+use Rattle.sd_run_books.specs.Status.{status_text}
 use Rattle.sd_run_books.proofs.StatusLines.{before_more, now_is, text_more}
 use Rattle.sd_run_books.proofs.status_lines.status_text.Goals as goal
 
@@ -71,4 +72,5 @@ returns c =
     told.text
     ∙ ap (λ (n : ℕ). fingerprint_line site.master
     ++ flat_map (λ q. entitled_line u (is_entitled site.height commands u q) q)
-    (filter (is_change site.first_period (is_entitled site.height commands u)) (range_with_len site.first_period n))) all
+    (filter (is_change site.first_period (is_entitled site.height commands u)) (range_with_len site.first_period n)))
+    all

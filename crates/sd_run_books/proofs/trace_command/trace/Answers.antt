@@ -26,7 +26,8 @@ returns-in_err-site g c steps =
     rw (p.1, p.2) (not_both (λ both. record { site = site_fields_of both.0; commands = both.1.commands })
     (both_by site.number book.number)
     (λ both got. leaves_of_file leaves.number both.site.height got
-    >>= λ coalition. of_result (trace_outcome both.site.height coalition both.commands) >>= λ text. value (work_of_text text))
+    >>= λ coalition. of_result (trace_outcome both.site.height coalition both.commands) >>=
+    λ text. value (work_of_text text))
     site book leaves (depot_state g.D.Depot c.args.depot.now) (depot_state g.D.Depot c.read_both.new.depot)
     (page_state g.P.Sink c.args.print.now) steps c.in_err-site.field-0.0 c.in_err-site.ensures.value)
 
@@ -41,7 +42,8 @@ returns-in_err-leaves g c steps =
     rw (p.1, p.2) (not_third (λ both. record { site = site_fields_of both.0; commands = both.1.commands })
     (both_by site.number book.number) (λ leaves. leaves.items)
     (λ both got. leaves_of_file leaves.number both.site.height got)
-    (λ both coalition. of_result (trace_outcome both.site.height coalition both.commands) >>= λ text. value (work_of_text text))
+    (λ both coalition. of_result (trace_outcome both.site.height coalition both.commands) >>=
+    λ text. value (work_of_text text))
     site book leaves (depot_state g.D.Depot c.args.depot.now) (depot_state g.D.Depot c.read_both.new.depot)
     (depot_state g.D.Depot c.read_leaves.new.depot) (page_state g.P.Sink c.args.print.now) steps
     (c.in_ok-site.site, c.in_ok-site.book) c.in_err-leaves.field-0.0 c.requires.1 c.requires.2
@@ -63,7 +65,8 @@ returns-in_err-text g c steps =
     rw (p.1, p.2) (third_looked (λ both. record { site = site_fields_of both.0; commands = both.1.commands })
     (both_by site.number book.number) (λ leaves. leaves.items)
     (λ both got. leaves_of_file leaves.number both.site.height got)
-    (λ both coalition. of_result (trace_outcome both.site.height coalition both.commands) >>= λ text. value (work_of_text text))
+    (λ both coalition. of_result (trace_outcome both.site.height coalition both.commands) >>=
+    λ text. value (work_of_text text))
     site book leaves (depot_state g.D.Depot c.args.depot.now) (depot_state g.D.Depot c.read_both.new.depot) r before
     steps (io_state r before steps) (c.in_ok-site.site, c.in_ok-site.book) c.in_ok-leaves.leaves status c.requires.1
     c.requires.2 c.in_ok-site.ensures.value c.in_ok-leaves.ensures.value
@@ -91,7 +94,8 @@ returns g c steps =
     third_looked (λ both. record { site = site_fields_of both.0; commands = both.1.commands })
     (both_by site.number book.number) (λ leaves. leaves.items)
     (λ both got. leaves_of_file leaves.number both.site.height got)
-    (λ both coalition. of_result (trace_outcome both.site.height coalition both.commands) >>= λ text. value (work_of_text text))
+    (λ both coalition. of_result (trace_outcome both.site.height coalition both.commands) >>=
+    λ text. value (work_of_text text))
     site book leaves (depot_state g.D.Depot c.args.depot.now) (depot_state g.D.Depot c.read_both.new.depot) r
     before steps (io_state r now steps) (c.in_ok-site.site, c.in_ok-site.book) c.in_ok-leaves.leaves status
     c.requires.1 c.requires.2 c.in_ok-site.ensures.value c.in_ok-leaves.ensures.value

@@ -16,7 +16,8 @@ use Rattle.sd_run_books.proofs.twin_command.make_twin.Goals as goal
 pub returns-in_err-bytes : goal.returns-in_err-bytes
 returns-in_err-bytes g c page steps =
     let p = err_from_is_err_and c.from_residual.result c.from_residual.ensures.1 in
-    rw (p.1, p.2) (new_wanting (twin_made (site_fields_of c.args.site.now) c.args.line c.args.words) (shown_word c.args.out)
+    rw (p.1, p.2) (new_wanting (twin_made (site_fields_of c.args.site.now) c.args.line c.args.words)
+    (shown_word c.args.out)
     (depot_state g.D.Depot c.args.depot.now) page steps NoMemory refl)
 
 pub returns : goal.returns

@@ -45,7 +45,11 @@ returns-in_err-live-clause-value g c =
     let q = depot_state g.D.Depot c.read_air_plan.new.depot in
     let page = page_state g.P.Sink c.args.print.now in
     let any = any_given q.files in
-    let plan : Plan = record { site = site_fields_of c.in_ok-fields.fields; commands = c.in_ok-fields.commands.commands } in
+    let plan : Plan = record {
+      site = site_fields_of c.in_ok-fields.fields;
+      commands =
+          c.in_ok-fields.commands.commands;
+    } in
     rw (p.1, p.2) (plan_aired (λ plan. record { site = site_fields_of plan.0; commands = plan.1.commands }) site
     (shown_word c.args.book) clear out (depot_state g.D.Depot c.args.depot.now) q page c.args.steps.now
     (io_state q page c.args.steps.now) (c.in_ok-fields.fields, c.in_ok-fields.commands) NoMemory c.requires.0

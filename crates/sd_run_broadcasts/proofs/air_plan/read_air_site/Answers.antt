@@ -26,5 +26,6 @@ returns g c =
     (λ bytes. told_air_site c.args.word.number bytes (site_of_chain none_fewer bytes)) c.args.word.text.now
     (depot_state g.D.Depot c.args.depot.now) (depot_state g.D.Depot c.read_bytes.new.depot) c.in_ok-bytes.bytes
     c.judge_air_site.result c.in_ok-bytes.ensures
-    (alone_judges said_of (told_air_site c.args.word.number c.in_ok-bytes.bytes.items (site_of_chain none_fewer c.in_ok-bytes.bytes.items))
+    (alone_judges said_of (told_air_site c.args.word.number c.in_ok-bytes.bytes.items
+    (site_of_chain none_fewer c.in_ok-bytes.bytes.items))
     c.judge_air_site.result judged_alone)

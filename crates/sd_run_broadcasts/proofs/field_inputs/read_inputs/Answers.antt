@@ -17,7 +17,11 @@ returns-in_err-site-clause-value g c =
     let p = err_from_is_err_and c.from_residual.result c.from_residual.ensures.1 in
     let site = shown_word c.args.site in
     let clear = shown_word c.args.clear in
-    rw (p.1, p.2) (reads_first site_fields_of (λ inputs. record { site = site_fields_of inputs.0; clear = inputs.1.items })
+    rw (p.1, p.2) (reads_first site_fields_of (λ inputs. record {
+      site = site_fields_of inputs.0;
+      clear =
+          inputs.1.items;
+    })
     (low_site_of_file site.number most_field_height FieldHeight)
     (λ given fields. clear_of_file clear.number (given clear)
     >>= λ packets. value (record { site = fields; clear = packets })) site

@@ -14,7 +14,8 @@ returns-in_err-bytes-clause-value g c =
     let p = err_from_is_err_and c.from_residual.result c.from_residual.ensures.1 in
     let word = c.args.word.number in
     rw (p.1, p.2) (looks_first (λ bytes. bytes.items) (λ events. events.items)
-    (within word most_book_bytes BookBytes) (λ bytes. of_result (script_or_status word c.args.h bytes (script_of c.args.h bytes)))
+    (within word most_book_bytes BookBytes) (λ bytes. of_result (script_or_status word c.args.h bytes
+    (script_of c.args.h bytes)))
     c.args.word.text.now (depot_state g.D.Depot c.args.depot.now) (depot_state g.D.Depot c.read_bytes.new.depot)
     c.in_err-bytes.field-0.0 c.in_err-bytes.ensures)
 

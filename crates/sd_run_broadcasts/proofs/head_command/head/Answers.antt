@@ -97,7 +97,8 @@ returns-clause-value g c page =
     plan_follows (λ plan. record { site = site_fields_of plan.0; commands = plan.1.commands }) (shown_word c.args.site)
     (shown_word c.args.book) clear out (Some sent.bytes) (depot_state g.D.Depot c.args.depot.now) q page
     c.args.steps.now
-    (io_state r page c.send-sent.new.steps) (c.in_ok-site.site, c.in_ok-site.book, c.in_ok-site.has_word) (status_of c.close_both.result)
+    (io_state r page c.send-sent.new.steps) (c.in_ok-site.site, c.in_ok-site.book, c.in_ok-site.has_word)
+    (status_of c.close_both.result)
     c.requires.1 c.requires.2
     c.in_ok-site.ensures.value
     (opened_got q.files clear.text _ sent.bytes opened.opens sent.is_left)

@@ -5,7 +5,8 @@ use Rattle.sd_run_broadcasts.proofs.head_command.send.Goals as goal
 
 pub returns-clause-value : goal.returns-clause-value
 returns-clause-value g c =
-    sends_left (plan_of_head c.args.head.now) _ _ c.drive.result (status_of c.told.result) c.requires c.drive.ensures.value
+    sends_left (plan_of_head c.args.head.now) _ _ c.drive.result (status_of c.told.result) c.requires
+    c.drive.ensures.value
     c.told.ensures
 
 pub returns-clause-cause : goal.returns-clause-cause

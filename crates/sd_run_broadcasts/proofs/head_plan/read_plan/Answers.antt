@@ -38,7 +38,8 @@ returns-in_err-book-clause-value g c =
     (site_and_line_of_file site.number) (λ said got. own_book_of_file book.number said.0.height said.1 got)
     (λ said commands. value (record { site = said.0; commands = commands })) site book
     (depot_state g.D.Depot c.args.depot.now) (depot_state g.D.Depot c.read_with_line.new.depot)
-    (depot_state g.D.Depot c.read_own.new.depot) (c.in_ok-site.site, c.in_ok-site.line, c.in_ok-site.has_word) c.in_err-book.field-0.0
+    (depot_state g.D.Depot c.read_own.new.depot) (c.in_ok-site.site, c.in_ok-site.line, c.in_ok-site.has_word)
+    c.in_err-book.field-0.0
     c.requires
     c.in_ok-site.ensures.value c.in_err-book.ensures.value))
 
@@ -56,5 +57,6 @@ returns-clause-value g c =
     (site_and_line_of_file site.number) (λ said got. own_book_of_file book.number said.0.height said.1 got)
     (λ said commands. record { site = said.0; commands = commands }) site book
     (depot_state g.D.Depot c.args.depot.now) (depot_state g.D.Depot c.read_with_line.new.depot)
-    (depot_state g.D.Depot c.read_own.new.depot) (c.in_ok-site.site, c.in_ok-site.line, c.in_ok-site.has_word) c.in_ok-book.book c.requires
+    (depot_state g.D.Depot c.read_own.new.depot) (c.in_ok-site.site, c.in_ok-site.line, c.in_ok-site.has_word)
+    c.in_ok-book.book c.requires
     c.in_ok-site.ensures.value c.in_ok-book.ensures.value refl)

@@ -29,7 +29,8 @@ returns-in_err-site-clause-value g c =
     let judged_alone = rw c.deref.ensures.value at c.in_err-site.ensures in
     rw (p.1, p.2) (looks_judged (λ bytes. bytes.items) said_with
     (within c.args.word.number most_site_bytes SiteBytes)
-    (λ bytes. with_line (book_line_of bytes) (site_or_status c.args.word.number bytes (site_of bytes))) c.args.word.text.now
+    (λ bytes. with_line (book_line_of bytes) (site_or_status c.args.word.number bytes (site_of bytes)))
+    c.args.word.text.now
     (depot_state g.D.Depot c.args.depot.now) (depot_state g.D.Depot c.read_bytes.new.depot) c.in_ok-bytes.bytes
     (Err c.in_err-site.field-0.0) c.in_ok-bytes.ensures
     (alone_judges said_with (with_line (book_line_of c.in_ok-bytes.bytes.items)
@@ -41,7 +42,8 @@ unfolding site_and_line_of_file
 returns-clause-value g c =
     let judged_alone = rw c.deref.ensures.value at c.in_ok-site.ensures in
     looks_judged (λ bytes. bytes.items) said_with (within c.args.word.number most_site_bytes SiteBytes)
-    (λ bytes. with_line (book_line_of bytes) (site_or_status c.args.word.number bytes (site_of bytes))) c.args.word.text.now
+    (λ bytes. with_line (book_line_of bytes) (site_or_status c.args.word.number bytes (site_of bytes)))
+    c.args.word.text.now
     (depot_state g.D.Depot c.args.depot.now) (depot_state g.D.Depot c.read_bytes.new.depot) c.in_ok-bytes.bytes
     (Ok (c.in_ok-site.site, c.in_ok-site.line, c.has_first_word.result)) c.in_ok-bytes.ensures
     (alone_judges said_with (with_line (book_line_of c.in_ok-bytes.bytes.items)

@@ -12,7 +12,8 @@ pub returns-in_err-bytes-clause-value : goal.returns-in_err-bytes-clause-value
 unfolding card_of_file
 returns-in_err-bytes-clause-value g c =
     let p = err_from_is_err_and c.from_residual.result c.from_residual.ensures.1 in
-    rw (p.1, p.2) (looks_first (λ bytes. bytes.items) receiver_card (within c.args.word.number most_card_bytes CardBytes)
+    rw (p.1, p.2) (looks_first (λ bytes. bytes.items) receiver_card
+    (within c.args.word.number most_card_bytes CardBytes)
     (λ bytes. of_result (card_refusal c.args.word.number bytes)) c.args.word.text.now
     (depot_state g.D.Depot c.args.depot.now) (depot_state g.D.Depot c.read_card_bytes.new.depot)
     c.in_err-bytes.field-0.0 c.in_err-bytes.ensures)

@@ -26,14 +26,16 @@ returns-clause-value g c page =
     let card = shown_word c.args.card in
     let stream = shown_word c.args.stream in
     then_follows receiver_card (card_of_file card.number)
-    (λ fields got. whole_file_bytes stream.number got >>= λ bytes. value (receiving fields (shown_word c.args.out) bytes)) card
+    (λ fields got. whole_file_bytes stream.number got >>= λ bytes. value
+    (receiving fields (shown_word c.args.out) bytes)) card
     stream
     (depot_state g.D.Depot c.args.depot.now) (depot_state g.D.Depot c.read_receiver.new.depot) page c.args.steps.now
     (io_state (depot_state g.D.Depot c.receive_file.new.depot) page c.receive_file.new.steps) c.in_ok-receiver.receiver
     (status_of c.receive_file.result) c.requires c.in_ok-receiver.ensures.value (c.receive_file.ensures.value page)
 
 pub returns-in_err-receiver-clause-memory : goal.returns-in_err-receiver-clause-memory
-returns-in_err-receiver-clause-memory g c = λ e. looked_made receiver_card (card_of_file (shown_word c.args.card).number)
+returns-in_err-receiver-clause-memory g c = λ e. looked_made receiver_card
+    (card_of_file (shown_word c.args.card).number)
     (shown_word c.args.card).text (depot_state g.D.Depot c.args.depot.now)
     (depot_state g.D.Depot c.read_receiver.new.depot) (Err c.in_err-receiver.field-0.0) c.in_err-receiver.ensures.value
 

@@ -43,7 +43,8 @@ returns-in_err-prefix g c =
     let book = shown_word c.args.book in
     let clear = shown_word c.args.clear in
     rw (p.1, p.2) (not_third (λ plan. record { site = site_fields_of plan.0; commands = plan.1.commands })
-    (trial_plan_by site.number book.number) (λ prefix. prefix) (λ plan got. prefix_of_file clear.number trial_clear_bytes got)
+    (trial_plan_by site.number book.number) (λ prefix. prefix)
+    (λ plan got. prefix_of_file clear.number trial_clear_bytes got)
     (λ plan prefix. value (trying plan prefix)) site book clear (depot_state g.D.Depot c.args.depot.now)
     (depot_state g.D.Depot c.read_plan.new.depot) (depot_state g.D.Depot c.read_prefix.new.depot)
     (page_state g.P.Sink c.args.print.now)
@@ -64,7 +65,8 @@ returns-in_err-text g c =
     let prefix = c.in_ok-prefix.prefix in
     let status = c.in_err-text.field-0.0 in
     rw (p.1, p.2) (third_looked (λ plan. record { site = site_fields_of plan.0; commands = plan.1.commands })
-    (trial_plan_by site.number book.number) (λ prefix. prefix) (λ plan got. prefix_of_file clear.number trial_clear_bytes got)
+    (trial_plan_by site.number book.number) (λ prefix. prefix)
+    (λ plan got. prefix_of_file clear.number trial_clear_bytes got)
     (λ plan prefix. value (trying plan prefix)) site book clear (depot_state g.D.Depot c.args.depot.now)
     (depot_state g.D.Depot c.read_plan.new.depot) r page_state c.args.steps.now
     (io_state r page_state c.text_of.new.steps)
@@ -90,7 +92,8 @@ returns g c =
     let status = status_of c.print_text.result in
     let prints = rw c.as_bytes.ensures.value at c.print_text.ensures.value in
     third_looked (λ plan. record { site = site_fields_of plan.0; commands = plan.1.commands })
-    (trial_plan_by site.number book.number) (λ prefix. prefix) (λ plan got. prefix_of_file clear.number trial_clear_bytes got)
+    (trial_plan_by site.number book.number) (λ prefix. prefix)
+    (λ plan got. prefix_of_file clear.number trial_clear_bytes got)
     (λ plan prefix. value (trying plan prefix)) site book clear (depot_state g.D.Depot c.args.depot.now)
     (depot_state g.D.Depot c.read_plan.new.depot) r before c.args.steps.now (io_state r now more)
     (c.in_ok-site.site, c.in_ok-site.book) prefix status c.requires.1 c.requires.2 c.in_ok-site.ensures.value

@@ -6,4 +6,5 @@ use Rattle.sd_run_broadcasts.proofs.trial_lines.lines.Given as goal
 -- the text so far has the first line and those of the leaves so far
 abbrev pub invariant-loop-u : goal.invariant-loop-u
 invariant-loop-u g l =
-    lines_of_trial (site_fields_of l.site) l.sent (trial_clear_line (l.clear / 188) (length l.sent / 188)) l.u ≡ Ok (string_bytes l.text)
+    lines_of_trial (site_fields_of l.site) l.sent (trial_clear_line (l.clear / 188) (length l.sent / 188)) l.u
+    ≡ Ok (string_bytes l.text)

@@ -8,7 +8,8 @@ use Rattle.sd_run_broadcasts.proofs.trial_lines.push_receiver.Goals as goal
 pub returns : goal.returns
 returns g c =
     let site = c.args.site.now in
-    heard_as (site_fields_of site) c.args.sent.now c.args.u c.in_ok-wrote.wrote (receiver_card c.in_ok-receiver.receiver)
+    heard_as (site_fields_of site) c.args.sent.now c.args.u c.in_ok-wrote.wrote
+    (receiver_card c.in_ok-receiver.receiver)
     c.in_ok-wrote.status _ _ c.push_line.result
     (ap card_fields_of c.in_ok-receiver.ensures.card ∙ (c.in_ok-card.ensures
     ∙ ap (site_card site) c.in-Some.ensures.value)) c.in_ok-wrote.ensures c.push_line.ensures

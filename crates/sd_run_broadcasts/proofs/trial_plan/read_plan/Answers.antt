@@ -17,7 +17,11 @@ returns-in_err-site-clause-value g c =
     let p = err_from_is_err_and c.from_residual.result c.from_residual.ensures.1 in
     let site = shown_word c.args.site in
     let book = shown_word c.args.book in
-    rw (p.1, p.2) (reads_first site_fields_of (λ plan. record { site = site_fields_of plan.0; commands = plan.1.commands })
+    rw (p.1, p.2) (reads_first site_fields_of (λ plan. record {
+      site = site_fields_of plan.0;
+      commands =
+          plan.1.commands;
+    })
     (low_site_of_file site.number most_trial_height TrialHeight)
     (λ given fields. book_of_file book.number fields.height (given book)
     >>= λ commands. value (record { site = fields; commands = commands })) site
@@ -35,7 +39,8 @@ returns-in_err-book-clause-value g c =
     (λ plan. record { site = site_fields_of plan.0; commands = plan.1.commands }) (trial_plan_meaning site book)
     (depot_state g.D.Depot c.args.depot.now) (depot_state g.D.Depot c.read_book.new.depot) c.in_err-book.field-0.0
     (reads_second site_fields_of (λ book. book.commands) (λ book. record { site = fields; commands = book.commands })
-    (low_site_of_file site.number most_trial_height TrialHeight) (λ fields got. book_of_file book.number fields.height got)
+    (low_site_of_file site.number most_trial_height TrialHeight) (λ fields got. book_of_file book.number fields.height
+    got)
     (λ fields commands. value (record { site = fields; commands = commands })) site book
     (depot_state g.D.Depot c.args.depot.now) (depot_state g.D.Depot c.read_low_site.new.depot)
     (depot_state g.D.Depot c.read_book.new.depot) c.in_ok-site.site c.in_err-book.field-0.0 c.requires
@@ -52,7 +57,8 @@ returns-clause-value g c =
     (depot_state g.D.Depot c.args.depot.now) (depot_state g.D.Depot c.read_book.new.depot) c.in_ok-book.book
     (c.in_ok-site.site, c.in_ok-book.book) refl
     (reads_two site_fields_of (λ book. book.commands) (λ book. record { site = fields; commands = book.commands })
-    (low_site_of_file site.number most_trial_height TrialHeight) (λ fields got. book_of_file book.number fields.height got)
+    (low_site_of_file site.number most_trial_height TrialHeight) (λ fields got. book_of_file book.number fields.height
+    got)
     (λ fields commands. record { site = fields; commands = commands }) site book
     (depot_state g.D.Depot c.args.depot.now) (depot_state g.D.Depot c.read_low_site.new.depot)
     (depot_state g.D.Depot c.read_book.new.depot) c.in_ok-site.site c.in_ok-book.book c.requires

@@ -17,7 +17,8 @@ returns-in-Err g c =
     let p = depot_state g.D.Depot c.args.depot.now in
     let q = depot_state g.D.Depot c.open_in.new.self in
     let h = c.in-Err.ensures in
-    looks_first bytes_seen (λ prefix. prefix) (whole_file_bytes word) (λ bytes. value (prefix_of c.args.most bytes)) name p q _
+    looks_first bytes_seen (λ prefix. prefix) (whole_file_bytes word) (λ bytes. value (prefix_of c.args.most bytes))
+    name p q _
     (rw c.opening_fault.ensures (opens_refused word name p q _ h.not_there h.cause h.stops
     (record { files = h.files; made = h.made; ports = h.ports.refused; calls = let n = h.calls in omega (arith, n) })))
 

@@ -26,7 +26,8 @@ returns g c =
     let card = shown_word c.args.card in
     let stream = shown_word c.args.stream in
     then_follows watcher_card (card_of_file card.number)
-    (λ fields got. whole_file_bytes stream.number got >>= λ bytes. value (watching fields (shown_word c.args.out) bytes)) card
+    (λ fields got. whole_file_bytes stream.number got >>= λ bytes. value
+    (watching fields (shown_word c.args.out) bytes)) card
     stream
     (depot_state g.D.Depot c.args.depot.now) (depot_state g.D.Depot c.read_watcher.new.depot)
     (page_state g.P.Sink c.args.print.now) c.args.steps.now

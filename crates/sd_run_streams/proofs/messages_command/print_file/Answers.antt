@@ -20,7 +20,8 @@ returns-in-Err g c steps =
     let p = depot_state g.D.Depot c.args.depot.now in
     let q = depot_state g.D.Depot c.open_in.new.self in
     let h = c.in-Err.ensures in
-    looks_follows bytes_seen (whole_file_bytes stream.number) (λ bytes. value (monitoring (site_fields_of c.args.site.now) bytes))
+    looks_follows bytes_seen (whole_file_bytes stream.number)
+    (λ bytes. value (monitoring (site_fields_of c.args.site.now) bytes))
     stream p q (page_state g.P.Sink c.args.print.now) steps _
     (rw c.opening_fault.ensures (opens_refused stream.number stream.text p q _ h.not_there h.cause h.stops
     (record { files = h.files; made = h.made; ports = h.ports.refused; calls = let n = h.calls in omega (arith, n) })))

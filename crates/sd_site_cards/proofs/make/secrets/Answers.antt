@@ -16,7 +16,8 @@ returns g c =
     record {
       value = value;
       length = ap length value
-          ∙ (length-map (names_of_receiver site.height c.args.u) (secret_of site.master) ∙ length_given site.height c.args.u);
+          ∙ (length-map (names_of_receiver site.height c.args.u) (secret_of site.master)
+          ∙ length_given site.height c.args.u);
       fits = (
         omega (arith, c.get.ensures.value, c.get.ensures.low),
         omega (arith, c.get.ensures.value, c.get.ensures.high),

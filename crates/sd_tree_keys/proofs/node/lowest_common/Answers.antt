@@ -1,7 +1,8 @@
 use Rattle.std.proofs.Common.{◌-◌, ◌/◌, ◌^◌, ◌≤◌, arith}
 use Rattle.sd_tree_keys.specs.Node.{IsAbove}
 use Rattle.sd_tree_keys.proofs.Levels.{IsAtLevel, level_rises}
-use Rattle.sd_tree_keys.proofs.Meeting.{meeting, bits_within_level, meeting_is_node, meeting_above_high, meeting_above_deep}
+use Rattle.sd_tree_keys.proofs.Meeting.{meeting, bits_within_level, meeting_is_node, meeting_above_high}
+use Rattle.sd_tree_keys.proofs.Meeting.{meeting_above_deep}
 use Rattle.sd_tree_keys.proofs.Meeting.{meeting_is_deepest, both_ordered, ordered_both}
 use Rattle.sd_tree_keys.proofs.node.lowest_common.Goals as goal
 

@@ -6,7 +6,8 @@ use Rattle.sd_cover_tracing.proofs.Tables.{count_in_table, placed_count, raised_
 use Rattle.sd_cover_tracing.proofs.counts.Counts.raise.Goals as goal
 
 -- the node has a place, and its count is above 0 or there is room
-room_for : (t : Tally) (ns : List ℕ) (room v : ℕ) → record { counts = map_of ns; room = room } ≡ t → IsProbeTable ns room →
+room_for : (t : Tally) (ns : List ℕ) (room v : ℕ) → record { counts = map_of ns; room = room } ≡ t →
+    IsProbeTable ns room →
     v < NODES → (0 < tally_at t.counts v) ⊎ (0 < t.room) → (v < length ns) × ((0 < get_or ns v 0) ⊎ (0 < room))
 room_for t ns room v is table h some =
     let same = count_in_table ns v in

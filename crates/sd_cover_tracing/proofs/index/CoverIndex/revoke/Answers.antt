@@ -12,7 +12,8 @@ raise_path-requires-clause-fits g c = λ v low high. count_within c.self.inside.
     c.self.invariant low high
 
 raised : (g : Over) (c : goal.After-raise_path g) → (v : ℕ) → tally_at c.raise_path.new.counts.counts v
-    ≡ tally_at c.self.inside.counts.counts v + path_visit_count (2 ^ c.self.inside.height + c.args.u) (c.self.inside.height + 1) v
+    ≡ tally_at c.self.inside.counts.counts v + path_visit_count (2 ^ c.self.inside.height + c.args.u)
+    (c.self.inside.height + 1) v
 raised g c = rw (← c.lowest_node-node.ensures.value) c.raise_path.ensures.value
 
 pub invariant_of-self : goal.invariant_of-self

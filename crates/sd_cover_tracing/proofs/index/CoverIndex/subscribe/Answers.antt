@@ -17,7 +17,8 @@ lower_path-requires-clause-some g c =
     c.self.invariant old low high)
 
 lowered : (g : Over) (c : goal.After-lower_path g) → (v : ℕ) → tally_at c.lower_path.new.counts.counts v
-    + path_visit_count (2 ^ c.self.inside.height + c.args.u) (c.self.inside.height + 1) v ≡ tally_at c.self.inside.counts.counts v
+    + path_visit_count (2 ^ c.self.inside.height + c.args.u) (c.self.inside.height + 1) v
+    ≡ tally_at c.self.inside.counts.counts v
 lowered g c = rw (← c.lowest_node-node.ensures.value) c.lower_path.ensures.value
 
 pub invariant_of-self : goal.invariant_of-self

@@ -64,7 +64,10 @@ invariant_of-self c =
     let same : get_or seats u to ≡ seat =
     get_or_default seats u to seat inside ∙ sym c.index_mut-seat.ensures.value in
     field_next v (Lose u) c.self.inside.book c.self.inside.station seats u to next (lose_at u) calm low field
-    (λ all seated. subst (λ (held : List ℕ). IsSeated (plan_of_field v) (field_card v u) (field_clear_packets v) (188 * length v.clear)
+    (λ all seated. subst (λ (held : List ℕ). IsSeated (plan_of_field v) (field_card v u) (field_clear_packets v)
+    (188 * length v.clear)
     (watch_after_event u (length (packets_of held)) (Lose u) (watch_of u v)) to) c.bytes.ensures
-    (c.lose_next.ensures.seated (plan_of_field v) (field_card v u) (field_clear_packets v) (188 * length v.clear) u (watch_of u v)
-    (subst (IsSeated (plan_of_field v) (field_card v u) (field_clear_packets v) (188 * length v.clear) (watch_of u v)) same seated)))
+    (c.lose_next.ensures.seated (plan_of_field v) (field_card v u) (field_clear_packets v) (188 * length v.clear) u
+    (watch_of u v)
+    (subst (IsSeated (plan_of_field v) (field_card v u) (field_clear_packets v) (188 * length v.clear) (watch_of u v))
+    same seated)))

@@ -34,6 +34,8 @@ invariant_of-self c =
     let same : get_or seats u to ≡ seat =
     get_or_default seats u to seat inside ∙ sym c.index_mut-seat.ensures.value in
     field_next v (Off u) c.self.inside.book c.self.inside.station seats u to next (off_at u) calm low field
-    (λ all seated. c.turn_off.ensures.seated (plan_of_field v) (field_card v u) (field_clear_packets v) (188 * length v.clear) u
+    (λ all seated. c.turn_off.ensures.seated (plan_of_field v) (field_card v u) (field_clear_packets v)
+    (188 * length v.clear) u
     (length (packets_of c.self.inside.station.sent.held)) (watch_of u v)
-    (subst (IsSeated (plan_of_field v) (field_card v u) (field_clear_packets v) (188 * length v.clear) (watch_of u v)) same seated))
+    (subst (IsSeated (plan_of_field v) (field_card v u) (field_clear_packets v) (188 * length v.clear) (watch_of u v))
+    same seated))

@@ -71,9 +71,11 @@ invariant_of-self g c =
     field_next v (Offer u) c.self.inside.book c.self.inside.station seats u to next (offer_at u) calm low field
     (λ all seated. subst (λ (held : List ℕ). IsSeated (plan_of_field v) (field_card v u) (field_clear_packets v)
     (188 * length v.clear) (watch_after_event u (length (packets_of held)) (Offer u) (watch_of u v)) to) c.bytes.ensures
-    (c.in-Ok.ensures.seated (plan_of_field v) (field_card v u) (field_clear_packets v) (188 * length v.clear) u (watch_of u v) few
+    (c.in-Ok.ensures.seated (plan_of_field v) (field_card v u) (field_clear_packets v) (188 * length v.clear) u
+    (watch_of u v) few
     (ap packets_of c.bytes.ensures ∙ all)
-    (subst (IsSeated (plan_of_field v) (field_card v u) (field_clear_packets v) (188 * length v.clear) (watch_of u v)) same seated)))
+    (subst (IsSeated (plan_of_field v) (field_card v u) (field_clear_packets v) (188 * length v.clear) (watch_of u v))
+    same seated)))
 
 pub invariant_of-self-in-Err : goal.invariant_of-self-in-Err
 invariant_of-self-in-Err g c =
@@ -102,9 +104,11 @@ invariant_of-self-in-Err g c =
     let all : packets_of c.self.inside.station.sent.held ≡ stream (plan_of_field v) (field_clear_packets v) =
     stream_sent v c.self.inside.book c.self.inside.station seats calm field in
     let over : IsWrittenOver u v = over_next v u (packets_of c.self.inside.station.sent.held) next all
-    (subst (λ (held : List ℕ). 188 * length v.clear < length (concat (written (plan_of_field v) (field_card v u) (field_clear_packets v)
+    (subst (λ (held : List ℕ). 188 * length v.clear < length (concat (written (plan_of_field v) (field_card v u)
+    (field_clear_packets v)
     (watch_after_event u (length (packets_of held)) (Offer u) (watch_of u v))))) c.bytes.ensures
-    (c.in-Err.ensures.full (plan_of_field v) (field_card v u) (field_clear_packets v) (188 * length v.clear) u (watch_of u v) refl few
+    (c.in-Err.ensures.full (plan_of_field v) (field_card v u) (field_clear_packets v) (188 * length v.clear) u
+    (watch_of u v) refl few
     (ap packets_of c.bytes.ensures ∙ all) (seat_stands v seats u seat calm field.seated there))) in
     let to = c.pass_next.new.seat in
     let same = c.in-Err.ensures.there refl in
@@ -139,8 +143,10 @@ returns-in-Err-clause-full g c failed =
     let all : packets_of c.self.inside.station.sent.held ≡ stream (plan_of_field v) (field_clear_packets v) =
     stream_sent v c.self.inside.book c.self.inside.station seats calm field in
     let over : IsWrittenOver u v = over_next v u (packets_of c.self.inside.station.sent.held) next all
-    (subst (λ (held : List ℕ). 188 * length v.clear < length (concat (written (plan_of_field v) (field_card v u) (field_clear_packets v)
+    (subst (λ (held : List ℕ). 188 * length v.clear < length (concat (written (plan_of_field v) (field_card v u)
+    (field_clear_packets v)
     (watch_after_event u (length (packets_of held)) (Offer u) (watch_of u v))))) c.bytes.ensures
-    (c.in-Err.ensures.full (plan_of_field v) (field_card v u) (field_clear_packets v) (188 * length v.clear) u (watch_of u v) refl few
+    (c.in-Err.ensures.full (plan_of_field v) (field_card v u) (field_clear_packets v) (188 * length v.clear) u
+    (watch_of u v) refl few
     (ap packets_of c.bytes.ensures ∙ all) (seat_stands v seats u seat calm field.seated there))) in
     subst (IsWrittenOver c.args.u) c.self.view_is (subst (λ (k : ℕ). IsWrittenOver k v) c.get.ensures.value over)

@@ -38,14 +38,17 @@ invariant_of-self g c =
     let same : get_or seats u to ≡ seat =
     get_or_default seats u to seat inside ∙ sym c.index_mut-seat.ensures.value in
     field_next v (On u) c.self.inside.book c.self.inside.station seats u to next (on_at u) calm low field
-    (λ all seated. subst (λ (k : ℕ). IsSeated (plan_of_field v) (field_card v k) (field_clear_packets v) (188 * length v.clear)
+    (λ all seated. subst (λ (k : ℕ). IsSeated (plan_of_field v) (field_card v k) (field_clear_packets v)
+    (188 * length v.clear)
     (watch_after_event k (length (packets_of c.self.inside.station.sent.held)) (On k) (watch_of k v)) to)
     (sym c.get.ensures.value)
     (c.in-Ok.ensures.seated (plan_of_field v) (field_card v c.args.u) (field_clear_packets v) (188 * length v.clear)
     (length (packets_of c.self.inside.station.sent.held)) (watch_of c.args.u v) refl
-    (subst (λ (k : ℕ). IsSeated (plan_of_field v) (field_card v k) (field_clear_packets v) (188 * length v.clear) (watch_of k v) seat)
+    (subst (λ (k : ℕ). IsSeated (plan_of_field v) (field_card v k) (field_clear_packets v) (188 * length v.clear)
+    (watch_of k v) seat)
     c.get.ensures.value
-    (subst (IsSeated (plan_of_field v) (field_card v u) (field_clear_packets v) (188 * length v.clear) (watch_of u v)) same seated))))
+    (subst (IsSeated (plan_of_field v) (field_card v u) (field_clear_packets v) (188 * length v.clear) (watch_of u v))
+    same seated))))
 
 pub invariant_of-self-in-Err : goal.invariant_of-self-in-Err
 invariant_of-self-in-Err g c =
@@ -97,7 +100,8 @@ returns-in-Err-clause-was_off g c failed =
     let inside : u < length seats = omega (arith, low, field.many) in
     let there = slice_get-get_or seats u seat inside
     ∙ ap (λ (x : Seat). Some x) (sym c.index_mut-seat.ensures.value) in
-    let off = off_if_none (plan_of_field v) (field_card v u) (field_clear_packets v) (188 * length v.clear) (watch_of u v) seat
+    let off = off_if_none (plan_of_field v) (field_card v u) (field_clear_packets v) (188 * length v.clear)
+    (watch_of u v) seat
     (c.in-Err.ensures.was_off refl) (seat_stands v seats u seat calm field.seated there) in
     subst (λ (x : FieldValue). (watch_of c.args.u x).on ≡ false) c.self.view_is
     (subst (λ (k : ℕ). (watch_of k v).on ≡ false) c.get.ensures.value off)

@@ -82,7 +82,8 @@ invariant_of-self-in-Ok g c =
     let stands = field_station v book station seats calm low field in
     let long : length (field_clear_packets v) ≡ sends_of v = length-take-le (sends_of v) v.clear low in
     field_sent v book station c.send.new.self seats next left calm field
-    (subst (λ (p : List ℕ). IsStation (plan_of_field v) (field_clear_packets v ++ p ∷ []) (188 * 72 * length v.clear) c.send.new.self)
+    (subst (λ (p : List ℕ). IsStation (plan_of_field v) (field_clear_packets v ++ p ∷ []) (188 * 72 * length v.clear)
+    c.send.new.self)
     packet_is (c.in-Ok.ensures.sent (plan_of_field v) (field_clear_packets v) (188 * 72 * length v.clear) stands))
 
 pub invariant_of-self-in-Err : goal.invariant_of-self-in-Err
@@ -117,9 +118,11 @@ invariant_of-self-in-Err g c =
     one_refused v next left ∙ ap (refusal_of v.site (field_clear_packets v)) (sym packet_is) in
     send_failed v c.in-Err.fault book station c.send.new.self seats next calm (c.in-Err.ensures.count refl)
     (held_kept v c.in-Err.fault c.in-Some.packet.now (c.send.new.self.sent.held ≡ station.sent.held) next left packet_is
-    (λ fault same. (c.in-Err.ensures.refused (plan_of_field v) (field_clear_packets v) (188 * 72 * length v.clear) fault stands
+    (λ fault same. (c.in-Err.ensures.refused (plan_of_field v) (field_clear_packets v) (188 * 72 * length v.clear)
+    fault stands
     (ap (λ x. Err x) same)).1)
-    (λ same. c.in-Err.ensures.memory (plan_of_field v) (field_clear_packets v) (188 * 72 * length v.clear) stands (ap (λ x. Err x) same)))
+    (λ same. c.in-Err.ensures.memory (plan_of_field v) (field_clear_packets v) (188 * 72 * length v.clear) stands
+    (ap (λ x. Err x) same)))
     field
 
 pub returns-in-Ok-clause-allowed : goal.returns-in-Ok-clause-allowed
@@ -186,7 +189,8 @@ returns-in-Err-clause-clear g c fault is =
     let refused_is : next_refusal v ≡ refusal_of v.site (field_clear_packets v) c.in-Some.packet.now =
     one_refused v next left ∙ ap (refusal_of v.site (field_clear_packets v)) (sym packet_is) in
     subst (λ (x : FieldValue). next_refusal x ≡ Some fault) c.self.view_is
-    (refused_is ∙ (c.in-Err.ensures.refused (plan_of_field v) (field_clear_packets v) (188 * 72 * length v.clear) fault stands is).0)
+    (refused_is ∙ (c.in-Err.ensures.refused (plan_of_field v) (field_clear_packets v) (188 * 72 * length v.clear) fault
+    stands is).0)
 
 pub returns-in-Err-clause-memory : goal.returns-in-Err-clause-memory
 returns-in-Err-clause-memory g c is =

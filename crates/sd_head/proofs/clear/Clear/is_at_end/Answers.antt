@@ -9,4 +9,5 @@ returns-else-self c =
     let site = c.args.site.now in
     let count = c.args.self.now.count in
     rw (ne_eqb count (2 ^ 32 - 1) c.if-self.false) (ap₂ nat_le c.most_packets.ensures c.from.ensures
-    ∙ words_used (site_fields_of site) count (mul-pos (omega (arith, site.every_in.0)) (omega (arith, site.cryptos_in.0))))
+    ∙ words_used (site_fields_of site) count (mul-pos (omega (arith, site.every_in.0))
+    (omega (arith, site.cryptos_in.0))))

@@ -19,7 +19,8 @@ returns-in-Some c =
 
 pub returns-in-None : goal.returns-in-None
 returns-in-None c =
-    λ rule. scrambled_judged rule (site_fields_of c.args.site.now) c.args.self.now c.args.packet.now c.next_move-next.result
+    λ rule. scrambled_judged rule (site_fields_of c.args.site.now) c.args.self.now c.args.packet.now
+    c.next_move-next.result
     c.requires.number c.next_move-next.ensures
     (ap (λ (p : ℕ). get_or c.args.self.now.pmts.items p false) (sym c.next_move-next.ensures.pid)
     ∙ (sym c.is_pmt.ensures ∙ c.if-is_pmt.false))

@@ -18,6 +18,7 @@ returns-in-Some-limit c =
 
 pub returns-in-None : goal.returns-in-None
 returns-in-None c =
-    λ rule. pmt_judged rule (site_fields_of c.args.site.now) c.args.self.now c.args.packet.now c.in-Some.carried c.args.next
+    λ rule. pmt_judged rule (site_fields_of c.args.site.now) c.args.self.now c.args.packet.now c.in-Some.carried
+    c.args.next
     c.requires.number c.requires.moves c.requires.pmt c.requires.clear c.requires.free c.in-Some.ensures.0
     c.in-Some.ensures.1 (sym c.limit.ensures ∙ c.in-None.is)

@@ -34,7 +34,8 @@ invariant_of-self c =
       pids_few = c.move_position.ensures.few;
       pids_room = c.move_position.ensures.capacity;
       pids_known = c.move_position.ensures.known;
-      positions_near = subst (AreReachablePositions (clear.count + 1)) (sym positions) (c.move_position.ensures.near clear.count
+      positions_near = subst (AreReachablePositions (clear.count + 1)) (sym positions)
+          (c.move_position.ensures.near clear.count
           (rw c.next.ensures (near_if_moved clear.count c.requires.1 clear.positions.items
           (move_in c.args.judged.now) learned.moves clear.positions_near))
           (subst (AreReachablePositions clear.count) (sym c.deref_mut-2.ensures.value) clear.positions_near));

@@ -35,7 +35,8 @@ returns-in-Ok-send_packet-clause-value g c = record {
         at_work = still_of (plan_of_head c.args.self.now)
             (crypto_of (site_fields_of c.args.self.now.site) c.args.self.now.clear.count)
             c.begin.new.entitling c.emms-emms.result.now c.send_packet.new.emms
-            (subst (λ (n : ℕ). IsPeriodState (plan_of_head c.args.self.now) (crypto_of (site_fields_of c.args.self.now.site) n)
+            (subst (λ (n : ℕ). IsPeriodState (plan_of_head c.args.self.now)
+            (crypto_of (site_fields_of c.args.self.now.site) n)
             c.begin.new.entitling) c.count-count.ensures c.in-Ok.ensures.value)
             c.emms-emms.ensures.value c.send_packet.auto.emms c.in-Ok-send_packet.ensures.alike;
         placed = c.prepare-message.ensures.unchanged;
@@ -83,7 +84,8 @@ returns-in-Ok-send_packet-clause-on g c = ready c.args.self.now (record {
       at_work = still_of (plan_of_head c.args.self.now)
           (crypto_of (site_fields_of c.args.self.now.site) c.args.self.now.clear.count)
           c.begin.new.entitling c.emms-emms.result.now c.send_packet.new.emms
-          (subst (λ (n : ℕ). IsPeriodState (plan_of_head c.args.self.now) (crypto_of (site_fields_of c.args.self.now.site) n)
+          (subst (λ (n : ℕ). IsPeriodState (plan_of_head c.args.self.now)
+          (crypto_of (site_fields_of c.args.self.now.site) n)
           c.begin.new.entitling) c.count-count.ensures c.in-Ok.ensures.value)
           c.emms-emms.ensures.value c.send_packet.auto.emms c.in-Ok-send_packet.ensures.alike;
       placed = c.prepare-message.ensures.unchanged;
@@ -161,14 +163,16 @@ returns-in-Err-clause-prefix g c = λ fails. record {
           (record {
             judged = λ before kept. judged_sendable c.requires.judged.0 (site_fields_of c.args.self.now.site) before
                 c.args.packet.now (c.requires.judged.1.value before kept);
-            at_work = subst (λ (n : ℕ). IsPeriodState (plan_of_head c.args.self.now) (crypto_of (site_fields_of c.args.self.now.site) n)
+            at_work = subst (λ (n : ℕ). IsPeriodState (plan_of_head c.args.self.now)
+                (crypto_of (site_fields_of c.args.self.now.site) n)
                 c.begin.new.entitling) c.count-count.ensures c.in-Ok.ensures.value;
             placed = c.prepare-message.ensures.unchanged;
             due_is = c.in-Ok.ensures.begins
                 ∙ ap (λ (n : ℕ). n % crypto_length (site_fields_of c.args.self.now.site) == 0) c.count-count.ensures;
             emms_of = ap (map uncounted) c.emms-emms.ensures.value;
             message_of = c.prepare-message.ensures.value
-                ∙ ap (λ (x : CryptoPeriod). message_due (site_fields_of c.args.self.now.site) x c.args.self.now.clear.count)
+                ∙ ap (λ (x : CryptoPeriod). message_due (site_fields_of c.args.self.now.site) x
+                c.args.self.now.clear.count)
                 c.crypto-crypto.ensures;
             places_are = c.prepare-message.ensures.places;
             carried_is = λ before kept number word. c.carry.ensures (site_fields_of c.args.self.now.site)

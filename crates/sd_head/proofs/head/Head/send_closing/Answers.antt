@@ -28,9 +28,11 @@ returns-in-Ok-clause-value g c = record {
       (c.count-count.result == 0) c.emms-emms.result.now
       c.prepare_closing-message.result c.finish.new.steps
       (record {
-        at_work = subst (λ (n : ℕ). IsPeriodState (plan_of_head c.args.self.now) (crypto_of (site_fields_of c.args.self.now.site) (n - 1))
+        at_work = subst (λ (n : ℕ). IsPeriodState (plan_of_head c.args.self.now)
+            (crypto_of (site_fields_of c.args.self.now.site) (n - 1))
             (with_emms c.finish.new.entitling c.send_inserted.new.emms)) c.count-count.ensures
-            (still_of (plan_of_head c.args.self.now) (crypto_of (site_fields_of c.args.self.now.site) (c.count-count.result - 1))
+            (still_of (plan_of_head c.args.self.now) (crypto_of (site_fields_of c.args.self.now.site)
+            (c.count-count.result - 1))
             c.finish.new.entitling c.emms-emms.result.now c.send_inserted.new.emms c.in_default.ensures.value
             c.emms-emms.ensures.value c.send_inserted.auto.emms c.in-Ok.ensures.alike);
         placed = c.prepare_closing-message.ensures.unchanged;
@@ -39,7 +41,8 @@ returns-in-Ok-clause-value g c = record {
             c.emms-emms.ensures.value c.send_inserted.auto.emms c.in-Ok.ensures.alike);
         head_is = c.prepare_closing-message.ensures.value
             ∙ ap (λ (x : CryptoPeriod). head_of_ecm (site_fields_of c.args.self.now.site) x c.args.self.now.clear.count
-            (closing_number (site_fields_of c.args.self.now.site) c.args.self.now.clear.count) true) c.crypto-crypto.ensures;
+            (closing_number (site_fields_of c.args.self.now.site) c.args.self.now.clear.count) true)
+            c.crypto-crypto.ensures;
         places_are = c.prepare_closing-message.ensures.places;
       });
   taken = c.in-Ok.ensures.value.taken;
@@ -80,7 +83,8 @@ returns-in-Err-send_inserted-clause-prefix g c = λ fails. record {
             due_is = ap (λ (n : ℕ). n == 0) c.count-count.ensures;
             emms_of = ap (map uncounted) c.emms-emms.ensures.value;
             head_is = c.prepare_closing-message.ensures.value
-                ∙ ap (λ (x : CryptoPeriod). head_of_ecm (site_fields_of c.args.self.now.site) x c.args.self.now.clear.count
+                ∙ ap (λ (x : CryptoPeriod). head_of_ecm (site_fields_of c.args.self.now.site) x
+                c.args.self.now.clear.count
                 (closing_number (site_fields_of c.args.self.now.site) c.args.self.now.clear.count) true)
                 c.crypto-crypto.ensures;
             places_are = c.prepare_closing-message.ensures.places;

@@ -17,6 +17,7 @@ pub returns-in-Err-NoMemory-clause-fault : goal.returns-in-Err-NoMemory-clause-f
 returns-in-Err-NoMemory-clause-fault g c = λ fault same.
     let why = c.in-Err-NoMemory.ensures.memory (ap Err c.in-Err-NoMemory.field-0-is) in
     grown_nothing (λ bytes steps. RefusesClearPacket c.args.self.now None fault bytes)
-    (sink_state_of g.K.Sink c.args.out.now) (sink_state_of g.K.Sink c.send_closing.new.out) c.args.steps.now c.send_closing.new.steps
+    (sink_state_of g.K.Sink c.args.out.now) (sink_state_of g.K.Sink c.send_closing.new.out) c.args.steps.now
+    c.send_closing.new.steps
     why.0 (wants_end c.args.self.now c.judge_end.result c.judge_end.ensures fault
     (none_found c.judge_end.result c.in_default-judge_end.not-Some) why.1 (same_refusal NoMemory fault same))

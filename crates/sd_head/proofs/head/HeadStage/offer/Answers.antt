@@ -11,7 +11,8 @@ use Rattle.sd_head.proofs.head.HeadStage.offer.Goals as goal
 pub returns-in-Err-clause-fault : goal.returns-in-Err-clause-fault
 returns-in-Err-clause-fault g c = λ fault same.
     grown_nothing (λ bytes steps. RefusesClearPacket c.args.self.now (Some c.args.packet.now) fault bytes)
-    (sink_state_of g.K.Sink c.args.out.now) (sink_state_of g.K.Sink c.args.out.now) c.args.steps.now c.args.steps.now refl
+    (sink_state_of g.K.Sink c.args.out.now) (sink_state_of g.K.Sink c.args.out.now) c.args.steps.now c.args.steps.now
+    refl
     (refuses_clear c.args.self.now c.args.packet.now c.judge-judgement.result c.in-Err.fault fault
     c.judge-judgement.ensures c.in-Err.is (same_refusal (Clear c.in-Err.fault) fault same))
 
@@ -31,6 +32,7 @@ pub returns-in-Err-NoMemory-clause-fault : goal.returns-in-Err-NoMemory-clause-f
 returns-in-Err-NoMemory-clause-fault g c = λ fault same.
     let why = c.in-Err-NoMemory.ensures.memory (ap Err c.in-Err-NoMemory.field-0-is) in
     grown_nothing (λ bytes steps. RefusesClearPacket c.args.self.now (Some c.args.packet.now) fault bytes)
-    (sink_state_of g.K.Sink c.args.out.now) (sink_state_of g.K.Sink c.send.new.out) c.args.steps.now c.send.new.steps why.0
+    (sink_state_of g.K.Sink c.args.out.now) (sink_state_of g.K.Sink c.send.new.out) c.args.steps.now c.send.new.steps
+    why.0
     (refuses_memory c.args.self.now c.args.packet.now c.judge-judgement.result c.in-Ok.judged fault
     c.judge-judgement.ensures c.in-Ok.is why.1 (same_refusal NoMemory fault same))

@@ -9,7 +9,8 @@ use Rattle.sd_head.proofs.sender.Sender.send_tables.Goals as goal
 pub returns-in_err-send_counted-clause-value : goal.returns-in_err-send_counted-clause-value
 returns-in_err-send_counted-clause-value g c =
     sends_err c.from_residual.result _ _ _ c.from_residual.ensures.0
-    (subst (λ (due : Bool). FailsWithin (sink_state_of g.K.Sink c.args.out.now) (sink_state_of g.K.Sink c.send_counted.new.out)
+    (subst (λ (due : Bool). FailsWithin (sink_state_of g.K.Sink c.args.out.now)
+    (sink_state_of g.K.Sink c.send_counted.new.out)
     (tables_bytes c.args.self.now due c.args.emms.now))
     (sym c.if-not-due.false)
     (cuts_sooner _ _ (recounted c.args.self.now.cat c.args.self.now.cats)
@@ -18,7 +19,8 @@ returns-in_err-send_counted-clause-value g c =
 
 pub returns-clause-value : goal.returns-clause-value
 returns-clause-value g c =
-    subst (λ (due : Bool). SendsBytes (sink_state_of g.K.Sink c.args.out.now) (sink_state_of g.K.Sink c.send_all.new.out)
+    subst (λ (due : Bool). SendsBytes (sink_state_of g.K.Sink c.args.out.now)
+    (sink_state_of g.K.Sink c.send_all.new.out)
     (tables_bytes c.args.self.now due c.args.emms.now) c.send_all.result)
     (sym c.if-not-due.false)
     (sends_on c.send_all.result _ (sink_state_of g.K.Sink c.send_counted.new.out) _

@@ -16,4 +16,5 @@ returns c = λ past after.
     let r = c.args.self.now in
     let some : is_none r.tuning ≡ false = grind (arith, c.is_none.ensures, c.if-is_none.false) in
     c.with.ensures ∙ all_runs r past c.ending.result after some
-    (c.ending.ensures (receiver_card r) (heard (receiver_card r) past) (run_wrote (receiver_card r) past) after.follows after.written)
+    (c.ending.ensures (receiver_card r) (heard (receiver_card r) past) (run_wrote (receiver_card r) past) after.follows
+    after.written)

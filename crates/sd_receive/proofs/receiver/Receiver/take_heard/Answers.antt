@@ -14,8 +14,10 @@ use Rattle.sd_receive.specs.Session.{RefusesHeard, CutsHeard, SessionOutcome}
 use Rattle.sd_receive.specs.Receiving.{receiver_card, receiver_does, RefusesBy}
 use Rattle.sd_receive.specs.declared.receiver.ended.EndedRuns.{EndedRuns}
 use Rattle.sd_receive.proofs.Receiving.{counted, listening, thing_of, found_of, idle_closed, over_parts, heard_does}
-use Rattle.sd_receive.proofs.Receiving.{heard_refuses, judged_refuses, turned_follows, turned_open, begins_none, stands_after}
-use Rattle.sd_receive.proofs.Receiving.{fit_after, of_taken, grew_of, refused_of, cut_of, cuts_by, grew_none, grew_by_steps}
+use Rattle.sd_receive.proofs.Receiving.{heard_refuses, judged_refuses, turned_follows, turned_open, begins_none}
+use Rattle.sd_receive.proofs.Receiving.{stands_after}
+use Rattle.sd_receive.proofs.Receiving.{fit_after, of_taken, grew_of, refused_of, cut_of, cuts_by, grew_none}
+use Rattle.sd_receive.proofs.Receiving.{grew_by_steps}
 use Rattle.sd_receive.proofs.receiver.Receiver.take_heard.Goals as goal
 
 -- the run is over
@@ -49,7 +51,8 @@ returns-in-Err-clause-fault g c = λ fault same.
     let found = found_of s packet kept thing c.name_of-name.result begins from to c.requires.tuned is
     (c.name_of-name.ensures s.count packet) c.differ-begins.ensures (sym c.is_over.ensures ∙ c.if-is_over.false)
     (λ past follows. c.judge.ensures.steps packet past follows) in
-    subst (λ (f : StreamFault). HasGrown (sink_state_of g.K.Sink c.args.out.now) (sink_state_of g.K.Sink c.args.out.now) from to
+    subst (λ (f : StreamFault). HasGrown (sink_state_of g.K.Sink c.args.out.now)
+    (sink_state_of g.K.Sink c.args.out.now) from to
     (RefusesBy strict s packet f)) (same_refusal c.in-Err.fault fault same)
     (grew_by_steps (sink_state_of g.K.Sink c.args.out.now) from to (RefusesBy strict s packet c.in-Err.fault)
     (judged_refuses strict s packet kept begins c.judge.new.key c.in-Err.fault from to found
@@ -58,7 +61,8 @@ returns-in-Err-clause-fault g c = λ fault same.
 
 pub take-requires-clause-open : goal.take-requires-clause-open
 take-requires-clause-open g c =
-    turned_open (receiver_card c.args.self.now) c.differ-begins.result c.args.self.now.name c.args.self.now.ended c.turn.new.self
+    turned_open (receiver_card c.args.self.now) c.differ-begins.result c.args.self.now.name c.args.self.now.ended
+    c.turn.new.self
     c.args.self.now.session c.turn.new.session c.turn.ensures c.requires.fit.follows
     (sym c.is_over.ensures ∙ c.if-is_over.false)
 
@@ -85,7 +89,8 @@ returns-in-Err-take-clause-fault g c = λ fault why.
     IsJudgedAs card s.count (heard_of_run begins past) h key) is
     (λ past follows. c.in-Ok.ensures.value packet past follows) in
     let comes = subst (λ (h : Heard). SessionOutcome (TakesHeard true card kept s.count h key u)
-    (RefusesHeard strict card kept s.count h u) (CutsHeard strict card kept s.count h key u) (sink_state_of g.K.Sink c.args.out.now) (sink_state_of g.K.Sink c.take.new.out) t
+    (RefusesHeard strict card kept s.count h u) (CutsHeard strict card kept s.count h key u)
+    (sink_state_of g.K.Sink c.args.out.now) (sink_state_of g.K.Sink c.take.new.out) t
     c.take.result) is c.take.ensures.value in
     refused_of (TakesHeard true card kept s.count (thing_of s kept packet) key u)
     (RefusesHeard strict card kept s.count (thing_of s kept packet) u)
@@ -160,7 +165,8 @@ returns-in-Err-take-clause-prefix g c = λ failed.
     IsJudgedAs card s.count (heard_of_run begins past) h key) is
     (λ past follows. c.in-Ok.ensures.value packet past follows) in
     let comes = subst (λ (h : Heard). SessionOutcome (TakesHeard true card kept s.count h key u)
-    (RefusesHeard strict card kept s.count h u) (CutsHeard strict card kept s.count h key u) (sink_state_of g.K.Sink c.args.out.now) (sink_state_of g.K.Sink c.take.new.out) t
+    (RefusesHeard strict card kept s.count h u) (CutsHeard strict card kept s.count h key u)
+    (sink_state_of g.K.Sink c.args.out.now) (sink_state_of g.K.Sink c.take.new.out) t
     c.take.result) is c.take.ensures.value in
     let name = option_or (run_name_heard (thing_of s kept packet)) s.name in
     cut_of strict (TakesHeard true card kept s.count (thing_of s kept packet) key u)
@@ -173,7 +179,8 @@ returns-in-Err-take-clause-prefix g c = λ failed.
     (λ fault. RefusesHeard strict card kept s.count (thing_of s kept packet) u fault bytes)
     (λ x takes. (
       listening s (capped_count (s.count + 1)) name c.turn.new.self x,
-      heard_does strict s packet kept begins key (capped_count (s.count + 1)) name c.turn.new.self u x bytes from to found
+      heard_does strict s packet kept begins key (capped_count (s.count + 1)) name c.turn.new.self u x bytes from to
+          found
           c.turn.ensures judged refl refl takes,
     ))
     (λ fault refuses. heard_refuses strict s packet kept begins c.turn.new.self u fault bytes from to found
@@ -203,7 +210,8 @@ returns-clause-value g c =
     IsJudgedAs card s.count (heard_of_run begins past) h key) is
     (λ past follows. c.in-Ok.ensures.value packet past follows) in
     let comes = subst (λ (h : Heard). SessionOutcome (TakesHeard true card kept s.count h key u)
-    (RefusesHeard strict card kept s.count h u) (CutsHeard strict card kept s.count h key u) (sink_state_of g.K.Sink c.args.out.now) (sink_state_of g.K.Sink c.take.new.out) t
+    (RefusesHeard strict card kept s.count h u) (CutsHeard strict card kept s.count h key u)
+    (sink_state_of g.K.Sink c.args.out.now) (sink_state_of g.K.Sink c.take.new.out) t
     c.take.result) is c.take.ensures.value in
     let added : c.saturating_add-self-2.result ≡ capped_count (s.count + 1) = omega arith in
     let named : c.or-self.result ≡ option_or (run_name_heard (thing_of s kept packet)) s.name = c.or-self.ensures
@@ -240,13 +248,15 @@ returns-clause-ok g c =
     IsJudgedAs card s.count (heard_of_run begins past) h key) is
     (λ past follows. c.in-Ok.ensures.value packet past follows) in
     let comes = subst (λ (h : Heard). SessionOutcome (TakesHeard true card kept s.count h key u)
-    (RefusesHeard strict card kept s.count h u) (CutsHeard strict card kept s.count h key u) (sink_state_of g.K.Sink c.args.out.now) (sink_state_of g.K.Sink c.take.new.out) t
+    (RefusesHeard strict card kept s.count h u) (CutsHeard strict card kept s.count h key u)
+    (sink_state_of g.K.Sink c.args.out.now) (sink_state_of g.K.Sink c.take.new.out) t
     c.take.result) is c.take.ensures.value in
     let l = c.requires.fit.follows in
     of_taken c.take.result c.in_default.not-Err
     (fit_after s c.saturating_add-self-2.result c.or-self.result c.turn.new.self u t kept s.count
     (thing_of s kept packet) key (RefusesHeard strict card kept s.count (thing_of s kept packet) u)
-    (CutsHeard strict card kept s.count (thing_of s kept packet) key u) (sink_state_of g.K.Sink c.args.out.now) (sink_state_of g.K.Sink c.take.new.out) c.take.result (
+    (CutsHeard strict card kept s.count (thing_of s kept packet) key u) (sink_state_of g.K.Sink c.args.out.now)
+    (sink_state_of g.K.Sink c.take.new.out) c.take.result (
       heard_of_run begins l.0,
       turned_follows card begins s.name s.ended c.turn.new.self s.session u c.turn.ensures l.0 l.1,
       judged l.0 l.1,

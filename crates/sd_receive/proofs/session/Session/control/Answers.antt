@@ -82,7 +82,8 @@ returns-in-Ok-Complete-clause-value g c =
     comes_weaker (TakesMessage true card tuning n head t) (TakesHeard true card tuning n (Controls part) None s)
     (RefusesHeardMessage strict card tuning n head t) (RefusesHeard strict card tuning n (Controls part) s)
     (CutsMessage strict card tuning n head t) (CutsHeard strict card tuning n (Controls part) None s)
-    (sink_state_of g.K.Sink c.args.out.now) (sink_state_of g.K.Sink c.complete.new.out) c.complete.new.self c.complete.result
+    (sink_state_of g.K.Sink c.args.out.now) (sink_state_of g.K.Sink c.complete.new.out) c.complete.new.self
+    c.complete.result
     (λ x bytes takes past follows unclosed judged. takes past part (at past follows unclosed))
     (λ fault bytes refuses past follows unclosed. refuses past part (at past follows unclosed))
     (λ bytes cuts. elim cuts [

@@ -75,7 +75,8 @@ returns-in-BadEmm-clause-value g c =
     let card = card_fields_of c.args.card.now in
     let why = BadEmm c.args.number c.in-BadEmm.fault in
     took_nothing (sink_state_of g.K.Sink c.args.out.now)
-    (RefusesHeard c.args.strict card c.args.tuning c.args.number (heard_as c.args.number c.args.packet.now c.args.heard) s why)
+    (RefusesHeard c.args.strict card c.args.tuning c.args.number
+    (heard_as c.args.number c.args.packet.now c.args.heard) s why)
     (subst (λ (h : Heard). RefusesHeard c.args.strict card c.args.tuning c.args.number h s why [])
     (ap (heard_as c.args.number c.args.packet.now) (sym c.in-BadEmm.is))
     (bad_section c.args.strict card c.args.tuning c.args.number c.in-BadEmm.fault s))
@@ -86,7 +87,8 @@ returns-in-BadEcm-clause-value g c =
     let card = card_fields_of c.args.card.now in
     let why = BadEcm c.args.number c.in-BadEcm.fault in
     took_nothing (sink_state_of g.K.Sink c.args.out.now)
-    (RefusesHeard c.args.strict card c.args.tuning c.args.number (heard_as c.args.number c.args.packet.now c.args.heard) s why)
+    (RefusesHeard c.args.strict card c.args.tuning c.args.number
+    (heard_as c.args.number c.args.packet.now c.args.heard) s why)
     (subst (λ (h : Heard). RefusesHeard c.args.strict card c.args.tuning c.args.number h s why [])
     (ap (heard_as c.args.number c.args.packet.now) (sym c.in-BadEcm.is))
     (bad_part c.args.strict card c.args.tuning c.args.number c.in-BadEcm.fault s))

@@ -34,7 +34,8 @@ returns-in-Err-clause-value g c =
     (pair_wrote s.assembler.last s.buffer head.since c.args.card.now.ca c.args.tuning.ecm
     s.assembler.coming.places.items)
     c.in-Err.fault
-    c.in-Ok.count (sink_state_of g.K.Sink c.args.out.now) (sink_state_of g.K.Sink c.write.new.out) refl c.in-Ok.ensures.value
+    c.in-Ok.count (sink_state_of g.K.Sink c.args.out.now) (sink_state_of g.K.Sink c.write.new.out) refl
+    c.in-Ok.ensures.value
     (λ past part done. c.in-Err.ensures.value c.args.number (card_fields_of c.args.card.now) past part done
     c.requires.word)
 

@@ -18,7 +18,8 @@ loop-line-init c =
         all = refl;
         count = ap length (sym none);
         kept = c.in_ok-new-2.ensures.kept;
-        same = ap (λ commands. account_commands c.args.h [] commands (said_by_accounts c.args.h c.args.bytes.now)) (sym none);
+        same = ap (λ commands. account_commands c.args.h [] commands (said_by_accounts c.args.h c.args.bytes.now))
+            (sym none);
       };
     }
 
@@ -31,7 +32,8 @@ pub returns-in_err-take-clause-value : goal.returns-in_err-take-clause-value
 returns-in_err-take-clause-value c =
     let read = c.loop-line.invariant.read in
     let p = err_from_is_err_and c.from_residual-in_err-take.result c.from_residual-in_err-take.ensures.1 in
-    let why : (c.in_err-take.field-0.0 ≡ NoMemory) ⊎ (accounts_book c.args.h c.args.bytes.now ≡ Err c.in_err-take.field-0.0) =
+    let why : (c.in_err-take.field-0.0 ≡ NoMemory) ⊎ (accounts_book c.args.h c.args.bytes.now
+    ≡ Err c.in_err-take.field-0.0) =
     elim (c.in_err-take.ensures.value read.before read.kept read.count) [
       | inl none ↦ inl none
       | inr refused ↦ inr (read_refused c.args.h c.args.bytes.now c.loop-line.rest.now c.in-Some.line.now

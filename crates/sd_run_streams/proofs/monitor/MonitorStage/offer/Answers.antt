@@ -14,7 +14,8 @@ pub returns-then-self : goal.returns-then-self
 returns-then-self g c = record {
   value = tt;
   ok = tt;
-  fault = λ fault same. grew_none (RefusesMonitored c.args.self.now) (sink_state_of g.K.Sink c.args.out.now) c.args.steps.now
+  fault = λ fault same. grew_none (RefusesMonitored c.args.self.now) (sink_state_of g.K.Sink c.args.out.now)
+      c.args.steps.now
       (record { nothing = refl; kept = c.if-self.true; no_steps = refl });
   keeps = λ fault same. (tt, rw c.if-self.true refl);
   again = λ fault kept. (refl, refl, refl);

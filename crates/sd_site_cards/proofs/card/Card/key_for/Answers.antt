@@ -31,7 +31,8 @@ pub returns-in-Whole-clause-value : goal.returns-in-Whole-clause-value
 returns-in-Whole-clause-value g c =
     let card = c.args.self.now in
     let first = first_read card.secrets.items c.index.result.now (omega (arith, card.count)) c.index.ensures in
-    rw c.in-Whole.is (first_is_held (names_of_receiver card.height card.leaf) card.secrets.items c.index.result.now first)
+    rw c.in-Whole.is (first_is_held (names_of_receiver card.height card.leaf) card.secrets.items c.index.result.now
+    first)
 
 -- it is the first secret, and no step is taken
 pub returns-in-Whole-clause-sound : goal.returns-in-Whole-clause-sound

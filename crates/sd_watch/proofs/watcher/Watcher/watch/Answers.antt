@@ -11,11 +11,13 @@ returns-in-Some-clause-value g c =
 -- src/watching.rt:57:5
 pub returns-in-None-clause-value : goal.returns-in-None-clause-value
 returns-in-None-clause-value g c =
-    taken_if_ok (sink_state_of g.K.Sink c.args.out.now) (sink_state_of g.K.Sink c.take.new.out) c.args.steps.now c.take.new.steps
+    taken_if_ok (sink_state_of g.K.Sink c.args.out.now) (sink_state_of g.K.Sink c.take.new.out) c.args.steps.now
+    c.take.new.steps
     c.args.self.now c.take.new.self c.args.packet.now c.take.result c.in-None.ensures c.take.ensures.value
 
 -- src/watching.rt:57:5
 pub returns-in-None-clause-prefix : goal.returns-in-None-clause-prefix
 returns-in-None-clause-prefix g c is =
-    cut_watched (sink_state_of g.K.Sink c.args.out.now) (sink_state_of g.K.Sink c.take.new.out) c.args.steps.now c.take.new.steps
+    cut_watched (sink_state_of g.K.Sink c.args.out.now) (sink_state_of g.K.Sink c.take.new.out) c.args.steps.now
+    c.take.new.steps
     c.args.self.now c.args.packet.now c.in-None.ensures (c.take.ensures.prefix is)

@@ -132,7 +132,8 @@ loop-held-preserved g c =
           let far : judged_packet (segment_in s) (before_in s k) (h.number, h.packet) ≡ Ok [] =
           told ∙ ap (λ (b : Bool). Ok (if b then c.judge.new.packet ∷ [] else [])) w.if-written.false in
           rw w.out-is (rw w.count-is (record {
-            written = written_still s k h (sink_state_of g.K.Sink c.args.out.now) (sink_state_of g.K.Sink c.loop-held.out)
+            written = written_still s k h (sink_state_of g.K.Sink c.args.out.now)
+                (sink_state_of g.K.Sink c.loop-held.out)
                 c.loop-held.count
                 within c.loop-held.invariant.written (at_place s k h (Ok []) at far);
             few = none_more c.loop-held.count k c.loop-held.invariant.few;
