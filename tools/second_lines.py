@@ -16,7 +16,7 @@ NUMBERS = {"d": "D", "leaf": "U", "line": "M", "packet": "K"}
 # What a definition with many texts is called.
 HELD = {"cause_text": "CAUSE", "range_form": "FORM", "site_form": "FORM"}
 # The name of the argument, by the word that says which it is, or else by the status.
-NAMES = {"book_word": "BOOK", "card_word": "CARD", "clear_word": "CLEAR", "site_word": "SITE", "stream_word": "STREAM",
+NAMES = {"book_argument": "BOOK", "card_word": "CARD", "clear_word": "CLEAR", "site_word": "SITE", "stream_word": "STREAM",
          "BadCard": "CARD", "BadOut": "OUT", "BadSite": "SITE", "Usage": "OUT"}
 # The variables that have the first word of a command line, or the word after help.
 WORDS = {"name", "topic", "word"}
