@@ -10,7 +10,7 @@ use Rattle.std.proofs.lemmas.List.Folds.{concat-append}
 use Rattle.std.proofs.lemmas.Option.{get_or_from_slice_get, slice_get_within}
 use Rattle.sd_site_cards.specs.declared.site.Site.{Site}
 use Rattle.sd_site_cards.specs.declared.card.Card.{Card}
-use Rattle.sd_site_cards.specs.CardFields.{CardFields, card_fields_of, site_card}
+use Rattle.sd_site_cards.specs.CardFields.{CardFields, card_fields_of, card_of}
 use Rattle.sd_spec.specs.Plan.{Plan}
 use Rattle.sd_ports.specs.Memory.{Store}
 use Rattle.sd_spec.specs.Offered.{out_from, break_from}
@@ -283,12 +283,13 @@ first_seat card total receiver store held room new live same plan clear =
 
 -- a new seat more
 pub seats_more : (site : Site) (total : ℕ) (seats : List Seat) (more : Seat) → AreNew site total seats →
-    IsNewSeat (site_card site (length seats)) total more → AreNew site total (seats ++ more ∷ [])
+    IsNewSeat (card_of site.master site.ca site.height (length seats)) total more →
+    AreNew site total (seats ++ more ∷ [])
 seats_more site total seats more old new u seat there = elim (before_or_last seats u there) [
   | inl before ↦ old u seat before
   | inr last ↦
-      subst (λ (s : Seat). IsNewSeat (site_card site u) total s) last.1
-      (subst (λ (k : ℕ). IsNewSeat (site_card site k) total more) last.0 new)
+      subst (λ (s : Seat). IsNewSeat (card_of site.master site.ca site.height u) total s) last.1
+      (subst (λ (k : ℕ). IsNewSeat (card_of site.master site.ca site.height k) total more) last.0 new)
 ]
   where
     before_or_last : (xs : List Seat) (k : ℕ) → slice_get (xs ++ more ∷ []) k ≡ Some seat →

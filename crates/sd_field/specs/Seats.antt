@@ -3,7 +3,7 @@
 use Rattle.std.specs.Prelude.{◌≡◌, ◌↔◌, ℕ, true, List, [], map, reverse, slice_get, IsSome, Some}
 use Rattle.std.specs.List.{concat, flat_map}
 use Rattle.sd_site_cards.specs.declared.site.Site.{Site}
-use Rattle.sd_site_cards.specs.CardFields.{CardFields, site_card}
+use Rattle.sd_site_cards.specs.CardFields.{CardFields, card_of}
 use Rattle.sd_spec.specs.Plan.{Plan}
 use Rattle.sd_spec.specs.Offered.{out_from}
 use Rattle.sd_receive.specs.declared.receiver.Receiver.{Receiver}
@@ -34,4 +34,4 @@ IsNewSeat card total seat = (plan : Plan) (clear : List (List ℕ)) →
 -- each of these seats is new: seat u is that of leaf u
 abbrev pub AreNew : Site → ℕ → List Seat → Type 0
 AreNew site total seats = (u : ℕ) (seat : Seat) → slice_get seats u ≡ Some seat →
-    IsNewSeat (site_card site u) total seat
+    IsNewSeat (card_of site.master site.ca site.height u) total seat

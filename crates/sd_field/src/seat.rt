@@ -1,7 +1,7 @@
 ghost use Rattle.std.specs.Prelude.{◌≡◌, ◌↔◌, ◌-◌, ◌^◌, ◌<◌, ◌≤◌, ◌++◌, ◌∷◌, [], ℕ, List, get_or, length, slice_get};
 ghost use Rattle.std.specs.Prelude.{IfOk, IfSome, IsSome, IsErr, OnOk, false, is_some};
 ghost use Rattle.std.specs.List.{concat};
-ghost use Rattle.sd_site_cards.specs.CardFields.{CardFields, site_card};
+ghost use Rattle.sd_site_cards.specs.CardFields.{CardFields, card_of};
 ghost use Rattle.sd_engine.specs.Stream.{packets_of};
 ghost use Rattle.sd_spec.specs.Plan.{Plan};
 ghost use Rattle.sd_receive.specs.Receiving.{HasReceived, IsCountable, MayReceive, receiver_card};
@@ -47,7 +47,7 @@ fn receiver_of<L: Ledger>(
     requires leaf { u < 2 ^ site.now.height }
     ensures value { IfOk result (HasReceived []) }
     ensures card { IfOk result (λ receiver. receiver_card receiver
-        ≡ site_card site.now u) }
+        ≡ card_of site.now.master site.now.ca site.now.height u) }
     ensures live { IfOk result MayReceive }
 {
     let card = Card::make(alloc, site, u, steps)?;
@@ -64,7 +64,7 @@ impl Seat {
         steps: &mut Steps<L>,
     ) -> Result<Seat, NoMemory>
         requires leaf { u < 2 ^ site.now.height }
-        ensures { IfOk result (IsNewSeat (site_card site.now u) room) }
+        ensures { IfOk result (IsNewSeat (card_of site.now.master site.now.ca site.now.height u) room) }
     {
         Ok(Seat {
             receiver: Some(receiver_of(alloc, site, u, steps)?),
@@ -158,7 +158,7 @@ impl Seat {
     ) -> Result<(), NoMemory>
         requires leaf { u < 2 ^ site.now.height }
         ensures seated { (plan : Plan) (card : CardFields) (clear : List (List ℕ)) (total n : ℕ) (w : Watch) →
-            card ≡ site_card site.now u →
+            card ≡ card_of site.now.master site.now.ca site.now.height u →
             IsSeated plan card clear total w self.old →
             OnOk result (IsSeated plan card clear total (watch_after_event u n (On u) w) self.new) }
         ensures same { IsErr result → self.new ≡ self.old }

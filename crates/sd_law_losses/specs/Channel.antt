@@ -25,7 +25,7 @@ pub record Channel : Type 0 where
 
 -- the card of a leaf of a channel
 abbrev pub channel_card : Channel → LeafNumber → CardFields
-channel_card channel = channel_card channel
+channel_card channel = card_of channel.master channel.ca channel.height
 
 -- the broadcast is of the channel, and each of its clear packets can be sent
 pub record IsRunOf (channel : Channel) (run : Arrival) : Type 0 where

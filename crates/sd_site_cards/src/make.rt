@@ -1,7 +1,7 @@
 ghost use Rattle.std.specs.Prelude.{◌≡◌, ◌+◌, ◌/◌, ◌^◌, ◌<◌, ◌≤◌, ◌*◌, length, IfOk, map};
 ghost use Rattle.sd_tree_keys.specs.Names.{names_of_receiver};
 ghost use Rattle.sd_site_cards.specs.Secrets.{secret_of};
-ghost use Rattle.sd_site_cards.specs.CardFields.{card_fields_of, card_of, site_card};
+ghost use Rattle.sd_site_cards.specs.CardFields.{card_fields_of, card_of};
 
 use crate::card::Card;
 use crate::count::count_at;
@@ -21,7 +21,7 @@ impl Card {
         steps: &mut Steps<L>,
     ) -> Result<Card, NoMemory>
         requires { u < 2 ^ site.now.height }
-        ensures { IfOk result (λ card. card_fields_of card ≡ site_card site.now u) }
+        ensures { IfOk result (λ card. card_fields_of card ≡ card_of site.now.master site.now.ca site.now.height u) }
     {
         let secrets = secrets(alloc, site, u, steps)?;
         Ok(Card {

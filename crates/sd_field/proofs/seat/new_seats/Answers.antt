@@ -1,6 +1,6 @@
 use Rattle.std.proofs.Common.{arith, ◌≡◌, ◌∙◌, ◌+◌, ◌++◌, ◌∷◌, [], ℕ, List, ap, sym, subst}
 use Rattle.std.proofs.Common.{length, length-append}
-use Rattle.sd_site_cards.specs.CardFields.{site_card}
+use Rattle.sd_site_cards.specs.CardFields.{card_of}
 use Rattle.sd_field.specs.Seats.{AreNew, IsNewSeat}
 use Rattle.sd_field.specs.declared.seat.Seat.{Seat}
 use Rattle.sd_field.proofs.Seats.{seats_more, some_there}
@@ -17,7 +17,7 @@ loop-number-preserved g c = elim c.match-new.branch [
       let items : c.match-new.seats.items ≡ before ++ more ∷ [] =
       ap (λ seats. seats.items) w.seats-is ∙ w.in_ok-add.ensures in
       let here : w.in-Some.u ≡ length before = w.in-Some.ensures.value ∙ sym invariant.many in
-      let new = subst (λ (u : ℕ). IsNewSeat (site_card site u) c.args.room more) here
+      let new = subst (λ (u : ℕ). IsNewSeat (card_of site.master site.ca site.height u) c.args.room more) here
       w.in_ok-seat.ensures in
       record {
         many = ap length items ∙ (length-append before (more ∷ [])

@@ -1,6 +1,6 @@
 use Rattle.std.proofs.Common.{ap, ◌∙◌}
 use Rattle.sd_site_cards.specs.SiteFields.{site_fields_of}
-use Rattle.sd_site_cards.specs.CardFields.{card_fields_of, site_card}
+use Rattle.sd_site_cards.specs.CardFields.{card_fields_of, card_of}
 use Rattle.sd_receive.specs.Receiving.{receiver_card}
 use Rattle.sd_run_broadcasts.proofs.Trying.{heard_as}
 use Rattle.sd_run_broadcasts.proofs.trial_lines.push_receiver.Goals as goal
@@ -12,4 +12,4 @@ returns g c =
     (receiver_card c.in_ok-receiver.receiver)
     c.in_ok-wrote.status _ _ c.push_line.result
     (ap card_fields_of c.in_ok-receiver.ensures.card ∙ (c.in_ok-card.ensures
-    ∙ ap (site_card site) c.in-Some.ensures.value)) c.in_ok-wrote.ensures c.push_line.ensures
+    ∙ ap (card_of site.master site.ca site.height) c.in-Some.ensures.value)) c.in_ok-wrote.ensures c.push_line.ensures
