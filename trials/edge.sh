@@ -102,6 +102,7 @@ row "a refusal in the stream, into a file" same got X9
 row "its line" is "$(lines_of err)" "clear packet 299: torn"
 
 # --- what head warns of
+site_lines="a site's lines have one order, and none before the last is left out"
 twice="it has no line first-word; sent twice, it repeats its control words; make sites by next"
 older="its messages are of version 1; a box that stays on loses the next broadcast; take messages 3"
 { cat S && printf '%s\n' 'messages 1' 'first-word 0'; } >S10
@@ -322,7 +323,7 @@ row "a closed standard output: OUT is whole" same K K5
 for pair in "cover S no:sdca: BOOK no: no such file" "card S 5 no/x:sdca: OUT no/x: no such folder" \
     "card S 9 K:sdca: LEAF 9: out of its range; LEAF is the receiver's number, from 0 to 2^height - 1" \
     "card S x K:sdca: LEAF x: not a decimal number; LEAF is the receiver's number, from 0 to 2^height - 1" \
-    "cover B B:sdca: SITE B: line 1 is \"period\"; it must be height N, N from 1 to 20" \
+    "cover B B:sdca: SITE B: line 1 is \"period\"; it must be height N, N from 1 to 20; $site_lines" \
     "receive S X K:sdca: CARD S: it is no card of the command card; a card of lcard (a layer card) can't receive" \
     "cover S:sdca: cover: wrong number of arguments; see sdca help cover" \
     "card S 5 S:sdca: OUT S: it is one of the inputs" "frob:sdca: frob: unknown command; see sdca help" \
